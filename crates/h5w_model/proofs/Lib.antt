@@ -1,0 +1,17 @@
+pub mod HeaderExamples
+pub mod NumberLemmas
+pub mod IntegerLemmas
+pub mod MessageLemmas
+pub mod Writes
+pub mod ChecksumLemmas
+pub mod CheckedLemmas
+pub mod SuperLemmas
+pub mod ImageLemmas
+pub mod HeaderLemmas
+pub mod ArrayLemmas
+pub mod PutLemmas
+pub mod ArrayLaws
+pub mod ArrayGeometry
+pub mod LayoutLemmas
+pub mod HeaderRoundTrip
+pub mod LinkLemmas

@@ -1,0 +1,205 @@
+-- From the bytes of a file to a dataset: superblock, root header, link, dataset header.
+use Rattle.std.specs.Prelude.{ℕ, zero, suc, ◌+◌, ◌-◌, ◌/◌, ◌%◌, Bool, true, false, ◌||◌, List, [], ◌∷◌, ◌++◌, length, map, find, nat_le, nat_lt, ◌==◌, if◌then◌else◌, Option, Some, None, option_map, Result, Ok, Err}
+use Rattle.std.specs.List.{list_any}
+use Rattle.h5w_model.specs.Numbers.{field}
+use Rattle.h5w_model.specs.Programs.{Prog, ret, whole, counted, bind, and_then}
+use Rattle.h5w_model.specs.Superblock.{super_at}
+use Rattle.h5w_model.specs.Headers.{prefix_at, messages_at, block_at, header_view, has}
+use Rattle.h5w_model.specs.Links.{links_at, find_link}
+use Rattle.h5w_model.specs.Messages.{ShapeFields, IntTypeFields, FillFields, LayoutFields, shape_at, int_type_at, fill_at, layout_at}
+use Rattle.h5w_model.specs.declared.root.Super.{Super}
+use Rattle.h5w_model.specs.declared.message.Msg.{Msg}
+use Rattle.h5w_model.specs.declared.message.Prefix.{Prefix}
+use Rattle.h5w_model.specs.declared.refusal.Unsupported.{Unsupported}
+use Rattle.h5w_model.specs.declared.refusal.ReadError.{ReadError}
+use Rattle.h5w_model.specs.declared.refusal.ReadError.TheVariants.{Damaged, NotSwmr, Header, Link}
+use Rattle.h5w_model.specs.declared.refusal.ReadError.TheVariants as read_errors
+use Rattle.h5w_model.specs.declared.refusal.BlockFault.TheVariants as faults
+use Rattle.h5w_model.specs.declared.refusal.SuperError.{SuperError}
+use Rattle.h5w_model.specs.declared.refusal.SuperError.TheVariants as super_errors
+use Rattle.h5w_model.specs.declared.refusal.HeaderError.{HeaderError}
+use Rattle.h5w_model.specs.declared.refusal.HeaderError.TheVariants as header_errors
+
+-- what comes next where this was answered, and the refusal otherwise
+abbrev pub then_also : {A B E : Type 0} → Result A E → (A → Result B E) → Result B E
+then_also (Ok a) f = f a
+then_also (Err e) f = Err e
+
+-- the answer, or this refusal
+abbrev pub or_refuse : {A E : Type 0} → Option A → E → Result A E
+or_refuse (Some a) e = Ok a
+or_refuse None e = Err e
+
+-- the answer, or the refusal as a reader words it
+abbrev pub refused_as : {A E F : Type 0} → (E → F) → Result A E → Result A F
+refused_as f (Ok a) = Ok a
+refused_as f (Err e) = Err (f e)
+
+-- ---- The superblock
+
+-- a superblock that is cut or whose sum is wrong is damaged
+abbrev pub super_refusal : SuperError → ReadError
+super_refusal super_errors.NotHdf5 = read_errors.NotHdf5
+super_refusal (super_errors.Short got) = Damaged 0 (faults.Cut 48 got)
+super_refusal (super_errors.Sum sums) = Damaged 0 (faults.Sum sums)
+super_refusal e = read_errors.Super e
+
+-- open for writing and open for SWMR writing stand together
+abbrev pub is_swmr : ℕ → Bool
+is_swmr flags = (flags % 2) == (flags / 4 % 2)
+
+abbrev pub super_of : List ℕ → Result Super ReadError
+super_of b = then_also (refused_as super_refusal (super_at b)) (λ s. if is_swmr s.flags then Ok s else Err (NotSwmr s.flags))
+
+abbrev pub superblock : Prog (Result Super ReadError)
+superblock = whole 0 48 (λ b. ret (super_of b))
+
+-- ---- Object headers with their continuation blocks
+
+-- a message, its place in the image, and whether it stands in chunk 0
+pub record Found : Type 0 where
+  pub kind : ℕ
+  pub flags : ℕ
+  pub place : ℕ
+  pub body : List ℕ
+  pub in_chunk : Bool
+
+-- a range of the image
+pub record Range : Type 0 where
+  pub place : ℕ
+  pub len : ℕ
+
+-- the messages of a header, each continuation's in place of its message, and its ranges in the order of visit
+pub record HeaderFields : Type 0 where
+  pub messages : List Found
+  pub ranges : List Range
+
+abbrev pub found_at : ℕ → Bool → List Msg → List Found
+found_at base chunk ms = map (λ m. record { kind = m.kind; flags = m.flags; place = base + m.at; body = m.body; in_chunk = chunk }) ms
+
+-- A header or continuation block that is cut or whose sum is wrong is damaged. The place of a message that passes
+-- the end is that in the image.
+abbrev pub header_refusal : ℕ → HeaderError → ReadError
+header_refusal place (header_errors.Short need got) = Damaged place (faults.Cut need got)
+header_refusal place (header_errors.Sum sums) = Damaged place (faults.Sum sums)
+header_refusal place (header_errors.Overrun at) = Header place (header_errors.Overrun (place + at))
+header_refusal place e = Header place e
+
+-- a message's address and length of a continuation block
+abbrev pub block_place : Found → ℕ
+block_place m = field m.body 0 8
+
+abbrev pub block_len : Found → ℕ
+block_len m = field m.body 8 8
+
+-- the messages of a continuation block of this length, given the bytes found
+abbrev pub block_messages : Bool → ℕ → ℕ → List ℕ → Result (List Found) ReadError
+block_messages tracked place len b =
+    if nat_lt (length b) len then Err (header_refusal place (header_errors.Short len (length b)))
+    else then_also (refused_as (header_refusal place) (block_at tracked b)) (λ ms. Ok (found_at place false ms))
+
+-- the messages up to the next continuation are done; at it `visit` goes on
+abbrev pub splice : (List Found → Found → List Found → Prog (Result HeaderFields ReadError)) → List Range → List Found → List Found → Prog (Result HeaderFields ReadError)
+splice visit visited done [] = ret (Ok (record { messages = done; ranges = visited }))
+splice visit visited done (m ∷ ms) = if m.kind == 0x10 then visit done m ms else splice visit visited (done ++ m ∷ []) ms
+
+-- a header's messages, with at most so many continuation blocks more
+abbrev pub walk : ℕ → ℕ → Bool → List Range → List Found → List Found → Prog (Result HeaderFields ReadError)
+walk zero header tracked visited done ms = splice (λ done m rest. ret (Err (Header header header_errors.Continuations))) visited done ms
+walk (suc more) header tracked visited done ms =
+    splice (λ done m rest.
+    if nat_lt (block_len m) 8 then ret (Err (header_refusal (block_place m) (header_errors.Short 8 (block_len m))))
+    else whole (block_place m) (block_len m) (λ b.
+    elim (block_messages tracked (block_place m) (block_len m) b) [
+      | Ok inside ↦ walk more header tracked (visited ++ record { place = block_place m; len = block_len m } ∷ []) done (inside ++ rest)
+      | Err e ↦ ret (Err e)
+    ])) visited done ms
+
+-- the messages from chunk 0 on
+abbrev pub from_chunk : ℕ → Prefix → List ℕ → Prog (Result HeaderFields ReadError)
+from_chunk place p b =
+    elim (messages_at b) [
+      | Ok ms ↦ walk 32 place p.tracked (record { place = place; len = p.total } ∷ []) [] (found_at place true ms)
+      | Err e ↦ ret (Err (header_refusal place e))
+    ]
+
+-- what counts of the first look at the root header: all of it where chunk 0 is longer
+abbrev pub root_view : List ℕ → List ℕ
+root_view b = elim (prefix_at b) [ Ok p ↦ (if nat_lt 512 p.total then b else header_view b) | Err e ↦ header_view b ]
+
+abbrev pub root_header : ℕ → Prog (Result HeaderFields ReadError)
+root_header place = counted place root_view (λ first.
+    elim (prefix_at first) [
+      | Ok p ↦ (if nat_lt 512 p.total then whole (place + 512) (p.total - 512) (λ rest. from_chunk place p (first ++ rest)) else from_chunk place p first)
+      | Err e ↦ ret (Err (header_refusal place e))
+    ])
+
+-- the address that the root's link of this name gives
+abbrev pub linked : List ℕ → List Found → Result ℕ ReadError
+linked name ms = refused_as Link
+    (then_also (links_at (map (λ m. record { kind = m.kind; flags = m.flags; at = m.place; body = m.body }) ms)) (λ ls. find_link ls name))
+
+-- ---- The dataset header
+
+-- the first message of a kind
+abbrev pub first_of : ℕ → List Found → Option Found
+first_of kind ms = find (λ m. m.kind == kind) ms
+
+-- the data of the first message of a kind
+abbrev pub body_of : ℕ → List Found → Option (List ℕ)
+body_of kind ms = option_map (λ m. m.body) (first_of kind ms)
+
+abbrev pub is_shared : Option Found → Bool
+is_shared None = false
+is_shared (Some m) = has m.flags 2
+
+-- what a dataset's messages say
+pub record Described : Type 0 where
+  pub shape : ShapeFields
+  pub int_type : IntTypeFields
+  pub fill : FillFields
+  pub layout : LayoutFields
+
+-- the data of the first dataspace message, which stands in chunk 0
+abbrev pub dataspace_of : List Found → Result (List ℕ) Unsupported
+dataspace_of ms =
+    elim (first_of 0x01 ms) [
+      | Some m ↦ (if m.in_chunk then Ok m.body else Err (record { 0 = 4 }))
+      | None ↦ Err (record { 0 = 4 })
+    ]
+
+-- without a fill value message the fill is 0
+abbrev pub fill_of : List Found → IntTypeFields → Result FillFields Unsupported
+fill_of ms t = elim (body_of 0x05 ms) [ Some b ↦ fill_at b t | None ↦ Ok (record { value = None }) ]
+
+-- what the messages say, or the least number of what is unsupported
+abbrev pub described : List Found → Result Described Unsupported
+described ms =
+    if list_any (λ m. m.kind == 0x0b) ms then Err (record { 0 = 2 })
+    else if is_shared (first_of 0x01 ms) || is_shared (first_of 0x03 ms) || is_shared (first_of 0x05 ms) || is_shared (first_of 0x08 ms) then Err (record { 0 = 3 })
+    else then_also (dataspace_of ms) (λ space.
+    then_also (or_refuse (body_of 0x03 ms) (record { 0 = 4 })) (λ datatype.
+    then_also (or_refuse (body_of 0x08 ms) (record { 0 = 4 })) (λ layout.
+    then_also (shape_at space) (λ s.
+    then_also (int_type_at datatype) (λ t.
+    then_also (fill_of ms t) (λ f.
+    then_also (layout_at layout s t) (λ l. Ok (record { shape = s; int_type = t; fill = f; layout = l }))))))))
+
+-- chunk 0 of a dataset header; more than 512 bytes are unsupported right after what stands before the messages
+abbrev pub dataset_messages : ℕ → List ℕ → Prog (Result HeaderFields ReadError)
+dataset_messages place b =
+    elim (prefix_at b) [
+      | Ok p ↦ (if nat_lt 512 p.total then ret (Err (read_errors.Unsupported (record { 0 = 1 }))) else from_chunk place p b)
+      | Err e ↦ ret (Err (header_refusal place e))
+    ]
+
+-- the dataset header, given what counts of a look at it
+abbrev pub dataset_from : ℕ → List ℕ → Prog (Result Described ReadError)
+dataset_from place b = and_then (dataset_messages place b) (λ h. ret (refused_as read_errors.Unsupported (described h.messages)))
+
+abbrev pub dataset : ℕ → Prog (Result Described ReadError)
+dataset place = counted place header_view (dataset_from place)
+
+-- from the superblock to the place of the dataset header
+abbrev pub dataset_place : List ℕ → Prog (Result ℕ ReadError)
+dataset_place name = and_then superblock (λ s. and_then (root_header s.root) (λ h. ret (linked name h.messages)))
