@@ -1,0 +1,145 @@
+//! Numbers in bytes, the least significant byte first, at a place and of a width from 1 to 8 bytes.
+//! Takes no memory.
+//!
+//! What a number of bytes is stands in h5w_model, specs/Numbers.antt: `num`, `le`, `field`, `width_of`.
+#![tactic(auto)]
+
+ghost use Rattle.std.specs.Prelude.{◌≡◌, ◌+◌, ◌-◌, ◌<◌, ◌≤◌, ◌^◌, ◌++◌, length, take, drop, Option, Some, None, if◌then◌else◌, nat_le};
+ghost use Rattle.h5w_model.specs.Numbers.{field, le, width_of};
+
+use byteorder::{ByteOrder, LittleEndian};
+
+mod several;
+
+pub use several::{put_bytes, put_each};
+
+/// The address of nothing: eight bytes ff.
+pub const UNDEFINED: u64 = u64::MAX;
+
+const _: () = prove!(UNDEFINED == 0xffff_ffff_ffff_ffff);
+
+/// The number in the `width` bytes from place `at` on, or None where they are not all inside.
+pub fn get(b: &[u8], at: usize, width: usize) -> Option<u64>
+    requires low { 1 ≤ width }
+    requires high { width ≤ 8 }
+    ensures exact { result ≡ (if nat_le (at + width) (length b.now) then Some (field b.now at width) else None) }
+{
+    match at.checked_add(width) {
+        Some(end) if end <= b.len() => Some(number(b, at, width)),
+        _ => None,
+    }
+}
+
+/// The number in the `width` bytes from place `at` on, which are all inside.
+pub fn number(b: &[u8], at: usize, width: usize) -> u64
+    requires low { 1 ≤ width }
+    requires high { width ≤ 8 }
+    requires inside { at + width ≤ length b.now }
+    ensures { result ≡ field b.now at width }
+{
+    LittleEndian::read_uint(&b[at..], width)
+}
+
+/// The word of four bytes from place `at` on, which are all inside.
+pub fn word(b: &[u8], at: usize) -> u32
+    requires { at + 4 ≤ length b.now }
+    ensures { result ≡ field b.now at 4 }
+{
+    LittleEndian::read_u32(&b[at..])
+}
+
+/// The byte at place `at`, as the field of one byte that it is.
+pub fn byte(b: &[u8], at: usize) -> u8
+    requires { at < length b.now }
+    ensures { result ≡ field b.now at 1 }
+{
+    b[at]
+}
+
+/// Writes `v` into the `width` bytes from place `at` on, and leaves every other byte.
+pub fn put(b: &mut [u8], at: usize, width: usize, v: u64)
+    requires low { 1 ≤ width }
+    requires high { width ≤ 8 }
+    requires inside { at + width ≤ length b.old }
+    requires fits { v < 256 ^ width }
+    ensures written { b.new ≡ (take at b.old ++ le width v) ++ drop (at + width) b.old }
+{
+    LittleEndian::write_uint(&mut b[at..], v, width);
+}
+
+/// How many bytes the number `m` needs: the base-2 logarithm of `m`, rounded down, divided by 8, plus 1.
+pub fn width_of(m: u64) -> usize
+    requires { 1 ≤ m }
+    ensures exact { result ≡ width_of m }
+    ensures fits { m < 256 ^ result }
+    ensures least { 256 ^ (result - 1) ≤ m }
+    ensures low { 1 ≤ result }
+    ensures high { result ≤ 8 }
+{
+    m.ilog2() as usize / 8 + 1
+}
+
+#[cfg(test)]
+mod tests {
+    use super::*;
+
+    // the end-of-file address, the root header's address and the checksum of a new file's superblock
+    const TAIL: [u8; 20] = [
+        0x2e, 0x02, 0, 0, 0, 0, 0, 0, 0x30, 0, 0, 0, 0, 0, 0, 0, 0x04, 0x03, 0x78, 0xd1,
+    ];
+
+    #[test]
+    fn the_first_byte_counts_least(rt: HostRuntime) {
+        let cases = [
+            // place, width, number
+            (0, 1, Some(0x2e)),
+            (0, 2, Some(558)),
+            (16, 3, Some(0x78_03_04)),
+            (12, 8, Some(0xd178_0304_0000_0000)),
+            (19, 1, Some(0xd1)),
+            // one byte past the end, and a place that no slice has
+            (13, 8, None),
+            (usize::MAX, 8, None),
+        ];
+        for (at, width, want) in cases {
+            assert_eq!(rt; get(&TAIL, at, width), want, "{width} bytes at {at}");
+        }
+        assert_eq!(rt; number(&TAIL, 16, 4), 0xd178_0304);
+        assert_eq!(rt; word(&TAIL, 16), 0xd178_0304);
+        assert_eq!(rt; byte(&TAIL, 19), 0xd1);
+        assert_eq!(rt; get(&[0xff; 8], 0, 8), Some(UNDEFINED));
+    }
+
+    #[test]
+    fn only_the_number_is_written(rt: HostRuntime) {
+        let cases = [
+            // place, width, number, the five bytes afterwards
+            (0, 1, 7, [7, 9, 9, 9, 9]),
+            (1, 3, 0x01_02_03, [9, 3, 2, 1, 9]),
+            (3, 2, 0, [9, 9, 9, 0, 0]),
+            (0, 5, 0xff_00_00_00_01, [1, 0, 0, 0, 0xff]),
+        ];
+        for (at, width, v, want) in cases {
+            let mut bytes = [9; 5];
+            put(&mut bytes, at, width, v);
+            assert_eq!(rt; bytes, want, "{v} in {width} bytes at {at}");
+        }
+    }
+
+    #[test]
+    fn a_width_grows_at_powers_of_256(rt: HostRuntime) {
+        let cases = [
+            (1, 1),
+            (255, 1),
+            (256, 2),
+            (65_535, 2),
+            (65_536, 3),
+            (1 << 31, 4),
+            (1 << 32, 5),
+            (u64::MAX, 8),
+        ];
+        for (m, want) in cases {
+            assert_eq!(rt; width_of(m), want, "{m}");
+        }
+    }
+}
