@@ -1,0 +1,6 @@
+pub mod ViewLemmas
+pub mod DiskLemmas
+pub mod Names
+pub mod Overwrite
+pub mod Files
+pub mod MemoryDiskLemmas
