@@ -1,0 +1,1 @@
+pub use Rattle.h5w_model.specs.Superblock
