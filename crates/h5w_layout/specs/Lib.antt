@@ -1,0 +1,5 @@
+pub use Rattle.h5w_model.specs.Numbers
+pub use Rattle.h5w_model.specs.Messages
+pub use Rattle.h5w_model.specs.Integers
+pub use Rattle.h5w_types.specs.Fields
+pub mod Layouts

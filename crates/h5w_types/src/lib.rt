@@ -1,0 +1,16 @@
+//! The shape of a dataset and the type of its integers: two messages, read and written, and the values
+//! of a cell's bytes. Takes no memory.
+//!
+//! docs/FORMAT.md, "Dataspace" and "Datatype" (HDF5 File Format Specification 3.0, "Disk Format:
+//! Level 2A2 - Data Object Header Messages": "The Dataspace Message", "The Datatype Message").
+#![tactic(auto)]
+
+mod int_type;
+mod shape;
+
+pub use h5w_model::{Cell, Unsupported};
+pub use int_type::{IntType, bytes_of, value_of};
+pub use shape::Shape;
+
+#[cfg(test)]
+mod tests;
