@@ -1,0 +1,5 @@
+pub use Rattle.h5w_model.specs.Arrays
+pub use Rattle.h5w_model.specs.Blocks
+pub use Rattle.h5w_model.specs.Checked
+pub use Rattle.h5w_model.specs.Numbers
+pub mod Fields
