@@ -1,0 +1,16 @@
+pub mod ProgramLemmas
+pub mod LoweringLemmas
+pub mod LookLemmas
+pub mod AnswerLemmas
+pub mod LogLemmas
+pub mod EventLemmas
+pub mod StaysLemmas
+pub mod HeldLemmas
+pub mod ResultLemmas
+pub mod ReachLemmas
+pub mod ValidLemmas
+pub mod SlotLemmas
+pub mod SpliceLemmas
+pub mod SpliceReads
+pub mod PrefixLemmas
+pub mod DatasetReads

@@ -1,0 +1,5 @@
+pub mod Programs
+pub mod Answers
+pub mod Logs
+pub mod Held
+pub mod Relations
