@@ -1,0 +1,5 @@
+pub mod StreamLemmas
+pub mod WordLemmas
+pub mod LineLemmas
+pub mod NumberLemmas
+pub mod ScriptLemmas

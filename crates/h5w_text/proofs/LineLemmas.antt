@@ -1,0 +1,244 @@
+-- How an input is cut into lines.
+use Rattle.std.proofs.Common.{ℕ, zero, suc, ◌+◌, ◌-◌, ◌<◌, ◌≤◌, ◌≡◌, Bool, true, false, List, [], ◌∷◌, ◌++◌, length, take, drop, Option, Some, None, Result, Ok, Err, MatchBool, sym, refl, ap, ◌∙◌, subst, arith, rules, length-append, length-drop}
+use Rattle.std.specs.Prelude.{IfOk, IfSome, MatchOption, option_map, slice_range}
+use Rattle.std.proofs.lemmas.List.{append_assoc, append-nil, length-take-le, take_all, take-append-drop, drop-drop, drop-take, take-append-le}
+use Rattle.std.proofs.Math.Seq.{take-append_seam}
+use Rattle.h5w_text.specs.Streams.{SourceView, Took}
+use Rattle.h5w_text.specs.Reading.{Cut, Ended, Given, IntakeView, IsLine, IsOver, Keeps, Passed, Reading, Stays, lines_left, reading}
+use Rattle.h5w_text.specs.declared.line.Line.{Line}
+use Rattle.h5w_text.specs.declared.line.Partial.{Partial}
+use Rattle.h5w_text.specs.Bytes.{Lacks}
+use Rattle.h5w_text.specs.Lines.{last_line, lines_from, lines_of}
+
+pub lines_lacks : (front xs : List ℕ) → Lacks 10 xs → lines_from front xs ≡ last_line (front ++ xs)
+lines_lacks front [] h = ap last_line (sym (append-nil front))
+lines_lacks front (x ∷ xs) h = rw h.0 (lines_lacks (front ++ x ∷ []) xs h.1 ∙ ap last_line (append_assoc front (x ∷ []) xs))
+
+pub lines_cut : (front xs rest : List ℕ) → Lacks 10 xs → lines_from front (xs ++ 10 ∷ rest) ≡ (front ++ xs) ∷ lines_of rest
+lines_cut front [] rest h = ap (λ l. l ∷ lines_of rest) (sym (append-nil front))
+lines_cut front (x ∷ xs) rest h = rw h.0 (lines_cut (front ++ x ∷ []) xs rest h.1 ∙ ap (λ l. l ∷ lines_of rest) (append_assoc front (x ∷ []) xs))
+
+pub lacks_append : (byte : ℕ) (xs ys : List ℕ) → Lacks byte xs → Lacks byte ys → Lacks byte (xs ++ ys)
+lacks_append byte [] ys h k = k
+lacks_append byte (x ∷ xs) ys h k = (h.0, lacks_append byte xs ys h.1 k)
+
+-- the line under way has these bytes so far
+pub record Before (line : Partial) (v w : Reading) : Type 0 where
+  pub front : List ℕ
+  pub keeps : Keeps line front
+  pub lacks : Lacks 10 front
+  pub passed : Passed front v w
+
+same_left : (b : Option (List ℕ)) → b ≡ option_map (λ rest. [] ++ rest) b
+same_left None = refl
+same_left (Some b) = refl
+
+both_left : (xs ys : List ℕ) (a b c : Option (List ℕ)) → a ≡ option_map (λ rest. xs ++ rest) b → b ≡ option_map (λ rest. ys ++ rest) c → a ≡ option_map (λ rest. (xs ++ ys) ++ rest) c
+both_left xs ys a b None p q = p ∙ ap (option_map (λ rest. xs ++ rest)) q
+both_left xs ys a b (Some c) p q = p ∙ ap (option_map (λ rest. xs ++ rest)) q ∙ ap Some (sym (append_assoc xs ys c))
+
+pub stays_itself : (v : Reading) → Stays v v
+stays_itself v = record { limit = refl; faults = omega arith; through = refl }
+
+pub stays_twice : {u v w : Reading} → Stays u v → Stays v w → Stays u w
+stays_twice p q = record { limit = q.limit ∙ p.limit; faults = omega arith; through = q.through ∙ p.through }
+
+pub passed_nothing : (v : Reading) → Passed [] v v
+passed_nothing v = record { left = same_left v.left; room = omega arith; stays = stays_itself v }
+
+pub passed_twice : {u v w : Reading} (xs ys : List ℕ) → Passed xs u v → Passed ys v w → Passed (xs ++ ys) u w
+passed_twice {u} {v} {w} xs ys p q = record {
+  left = both_left xs ys u.left v.left w.left p.left q.left;
+  room = omega (arith, length-append xs ys);
+  stays = stays_twice p.stays q.stays;
+}
+
+left_of_pieces : (piece held : List ℕ) (s : Option (List ℕ)) (whole : List ℕ) → whole ≡ piece ++ held → option_map (λ rest. whole ++ rest) s ≡ option_map (λ rest. piece ++ rest) (option_map (λ rest. held ++ rest) s)
+left_of_pieces piece held None whole e = refl
+left_of_pieces piece held (Some s) whole e = ap (λ l. Some (l ++ s)) e ∙ ap Some (append_assoc piece held s)
+
+-- all that was held belongs to the line
+pub cut_open : (s : SourceView) (piece : List ℕ) (i j : IntakeView) → Cut piece false i j → Passed piece (reading s i) (reading s j)
+cut_open s piece i j c = let none : j.held ≡ [] = c.rest refl in
+    let all : i.held ≡ piece ++ j.held = c.held ∙ sym (append-nil piece) ∙ ap (λ l. piece ++ l) (sym none) in record {
+      left = left_of_pieces piece j.held s.left i.held all;
+      room = omega (arith, ap length all, length-append piece j.held, c.more);
+      stays = record { limit = c.limit; faults = omega arith; through = refl };
+    }
+
+-- the line is ended, and its end was passed over
+pub cut_ended : (s : SourceView) (piece : List ℕ) (i j : IntakeView) → Cut piece true i j → Passed (piece ++ 10 ∷ []) (reading s i) (reading s j)
+cut_ended s piece i j c = let all : i.held ≡ (piece ++ 10 ∷ []) ++ j.held = c.held ∙ sym (append_assoc piece (10 ∷ []) j.held) in record {
+  left = left_of_pieces (piece ++ 10 ∷ []) j.held s.left i.held all;
+  room = omega (arith, ap length all, length-append (piece ++ 10 ∷ []) j.held, c.more);
+  stays = record { limit = c.limit; faults = omega arith; through = refl };
+}
+
+lines_of_whole : (line : List ℕ) (b : Option (List ℕ)) → Lacks 10 line → option_map lines_of (option_map (λ rest. (line ++ 10 ∷ []) ++ rest) b) ≡ option_map (λ ls. line ∷ ls) (option_map lines_of b)
+lines_of_whole line None h = refl
+lines_of_whole line (Some b) h = ap Some (ap lines_of (append_assoc line (10 ∷ []) b) ∙ lines_cut [] line b h)
+
+not_over : (line rest : List ℕ) (room : ℕ) → length line < room → Lacks 10 (take room ((line ++ 10 ∷ []) ++ rest)) → ⊥
+not_over line rest zero h lacks = absurd (omega arith)
+not_over [] rest (suc room) h lacks = absurd (search (rules, lacks.0))
+not_over (b ∷ line) rest (suc room) h lacks = not_over line rest room (omega arith) lacks.1
+
+whole_within : (line : List ℕ) (room : ℕ) (b : Option (List ℕ)) → length line < room → IfSome (option_map (λ rest. (line ++ 10 ∷ []) ++ rest) b) (λ left. (room < length left) × Lacks 10 (take room left) → ⊥)
+whole_within line room None h = tt
+whole_within line room (Some b) h = λ over. not_over line b room h over.1
+
+last_within : (line : List ℕ) (room : ℕ) (b : Option (List ℕ)) → length line ≤ room → IfSome b (λ rest. rest ≡ []) → IfSome (option_map (λ rest. line ++ rest) b) (λ left. (room < length left) × Lacks 10 (take room left) → ⊥)
+last_within line room None h none = tt
+last_within line room (Some b) h none = λ over. absurd (omega (arith, over.0, length-append line b, ap length none))
+
+-- a line with its end was passed over
+pub given_whole : (line : List ℕ) (v w : Reading) → Lacks 10 line → Passed (line ++ 10 ∷ []) v w → Given line v w
+given_whole line v w h p = record {
+  lines = ap (option_map lines_of) p.left ∙ lines_of_whole line w.left h;
+  room = omega (arith, length-append line (10 ∷ []), p.room);
+  within = subst (λ (a : Option (List ℕ)). IfSome a (λ left. (v.room < length left) × Lacks 10 (take v.room left) → ⊥)) (sym p.left) (whole_within line v.room w.left (omega (arith, length-append line (10 ∷ []), p.room)));
+}
+
+lines_of_last : (line : List ℕ) (b : Option (List ℕ)) → Lacks 10 line → last_line line ≡ line ∷ [] → IfSome b (λ rest. rest ≡ []) → option_map lines_of (option_map (λ rest. line ++ rest) b) ≡ option_map (λ ls. line ∷ ls) (option_map lines_of b)
+lines_of_last line None h e none = refl
+lines_of_last line (Some b) h e none = ap Some (ap (λ l. lines_of (line ++ l)) none ∙ ap lines_of (append-nil line) ∙ lines_lacks [] line h ∙ e ∙ ap (λ l. line ∷ lines_of l) (sym none))
+
+-- the last line has no end
+pub given_last : (line : List ℕ) (v w : Reading) → Lacks 10 line → last_line line ≡ line ∷ [] → Passed line v w → 1 ≤ length line → IfSome w.left (λ rest. rest ≡ []) → Given line v w
+given_last line v w h e p some none = record {
+  lines = ap (option_map lines_of) p.left ∙ lines_of_last line w.left h e none;
+  room = omega (arith, p.room);
+  within = subst (λ (a : Option (List ℕ)). IfSome a (λ left. (v.room < length left) × Lacks 10 (take v.room left) → ⊥)) (sym p.left) (last_within line v.room w.left (omega (arith, p.room)) none);
+}
+
+over_left : (front : List ℕ) (room : ℕ) (b : Option (List ℕ)) → room ≡ length front → Lacks 10 front → IfSome b (λ rest. 1 ≤ length rest) → IfSome (option_map (λ rest. front ++ rest) b) (λ left. (room < length left) × Lacks 10 (take room left))
+over_left front room None e h some = tt
+over_left front room (Some b) e h some = rw e (omega (arith, length-append front b), rw (take-append_seam front b) h)
+
+-- no byte more may be taken, and there is one
+pub is_over : (front : List ℕ) (v w : Reading) → Lacks 10 front → Passed front v w → w.room ≡ 0 → IfSome w.left (λ rest. 1 ≤ length rest) → IsOver v
+is_over front v w h p full some = let P : Option (List ℕ) → Type 0 = λ b. IfSome b (λ left. (v.room < length left) × Lacks 10 (take v.room left)) in
+    subst P (sym p.left) (over_left front v.room w.left (omega (arith, p.room)) h some)
+
+slice_front : (xs : List ℕ) (n : ℕ) → slice_range xs 0 n ≡ take n xs
+slice_front xs n = let e : n - 0 ≡ n = omega arith in ap (λ k. take k xs) e
+
+pub slice_none : (at end : ℕ) (xs : List ℕ) → end ≤ at → slice_range xs at end ≡ []
+slice_none at end xs h = let e : end - at ≡ 0 = omega arith in ap (λ k. take k (drop at xs)) e
+
+left_of_filled : (bytes held new : List ℕ) (a b : Option (List ℕ)) → a ≡ option_map (λ rest. bytes ++ rest) b → held ≡ [] → new ≡ bytes → option_map (λ rest. held ++ rest) a ≡ option_map (λ rest. [] ++ rest) (option_map (λ rest. new ++ rest) b)
+left_of_filled bytes held new a b p e f = ap (λ l. option_map (λ rest. l ++ rest) a) e ∙ sym (same_left a) ∙ p ∙ ap (λ l. option_map (λ rest. l ++ rest) b) (sym f) ∙ same_left (option_map (λ rest. new ++ rest) b)
+
+-- bytes were taken from the source where none were held
+pub filled : (s t : SourceView) (i : IntakeView) (buffer : List ℕ) (n more limit : ℕ) → Took (take n buffer) s t → i.held ≡ [] → n ≤ length buffer → n ≤ i.more → more ≡ i.more - n → limit ≡ i.limit → Passed [] (reading s i) (reading t (record { held = slice_range buffer 0 n; more = more; limit = limit }))
+filled s t i buffer n more limit took none bound within fewer same = record {
+  left = left_of_filled (take n buffer) i.held (slice_range buffer 0 n) s.left t.left took.left none (slice_front buffer n);
+  room = omega (arith, ap length none, ap length (slice_front buffer n), length-take-le n buffer bound);
+  stays = record { limit = same; faults = took.faults; through = took.through };
+}
+
+-- all held bytes are of the line
+pub cut_all : (at end place : ℕ) (buffer : List ℕ) (more limit : ℕ) → place ≡ length (take (end - at) (drop at buffer)) → Lacks 10 (take place (take (end - at) (drop at buffer)))
+    → Cut (take place (take (end - at) (drop at buffer))) false (record { held = slice_range buffer at end; more = more; limit = limit }) (record { held = slice_range buffer end end; more = more; limit = limit })
+cut_all at end place buffer more limit e h = record {
+  lacks = h;
+  held = sym (take_all place (take (end - at) (drop at buffer)) (omega arith));
+  rest = λ _. slice_none end end buffer (omega arith);
+  more = refl;
+  limit = refl;
+}
+
+rest_of_slice : (at end k : ℕ) (buffer : List ℕ) → at + k ≤ end → drop k (take (end - at) (drop at buffer)) ≡ slice_range buffer (at + k) end
+rest_of_slice at end k buffer h = let e : end - at ≡ k + (end - (at + k)) = omega arith in
+    ap (λ n. drop k (take n (drop at buffer))) e ∙ drop-take k (end - (at + k)) (drop at buffer) ∙ ap (take (end - (at + k))) (drop-drop k at buffer)
+
+-- the held bytes up to a line end are of the line
+pub cut_here : (at end place : ℕ) (buffer : List ℕ) (more limit : ℕ) → at + (place + 1) ≤ end → Lacks 10 (take place (take (end - at) (drop at buffer)))
+    → drop place (take (end - at) (drop at buffer)) ≡ 10 ∷ drop (place + 1) (take (end - at) (drop at buffer))
+    → Cut (take place (take (end - at) (drop at buffer))) true (record { held = slice_range buffer at end; more = more; limit = limit }) (record { held = slice_range buffer (at + (place + 1)) end; more = more; limit = limit })
+cut_here at end place buffer more limit bound h cut = record {
+  lacks = h;
+  held = sym (take-append-drop place (take (end - at) (drop at buffer))) ∙ ap (λ l. take place (take (end - at) (drop at buffer)) ++ l) (cut ∙ ap (λ l. 10 ∷ l) (rest_of_slice at end (place + 1) buffer bound));
+  rest = λ e. absurd (search (rules, e));
+  more = refl;
+  limit = refl;
+}
+
+-- what was read into the front of a buffer
+pub read_took : {E : Type 0} (r : Result ℕ E) (out items : List ℕ) (len : ℕ) (s t : SourceView) → IfOk r (λ n. n ≤ length out) → IfOk r (λ n. Took (take n out) s t) → length items ≡ len → length out ≤ length items
+    → IfOk r (λ n. Took (take n (take len (out ++ drop (length out) items))) s t)
+read_took (Err e) out items len s t bound took same short = tt
+read_took (Ok n) out items len s t bound took same short =
+    let all : take len (out ++ drop (length out) items) ≡ out ++ drop (length out) items = take_all len (out ++ drop (length out) items) (omega (arith, length-append out (drop (length out) items), length-drop (length out) items)) in
+    let front : take n (take len (out ++ drop (length out) items)) ≡ take n out = ap (take n) all ∙ take-append-le n out (drop (length out) items) bound in
+    subst (λ (l : List ℕ). Took l s t) (sym front) took
+
+none_mapped : (xs : List ℕ) (b : Option (List ℕ)) → xs ≡ [] → IfSome b (λ l. l ≡ []) → IfSome (option_map (λ rest. xs ++ rest) b) (λ l. l ≡ [])
+none_mapped xs None h none = tt
+none_mapped xs (Some b) h none = ap (λ l. l ++ b) h ∙ none
+
+none_left : (xs : List ℕ) (a b : Option (List ℕ)) → a ≡ option_map (λ rest. xs ++ rest) b → xs ≡ [] → IfSome b (λ l. l ≡ []) → IfSome a (λ l. l ≡ [])
+none_left xs a b e h none = subst (λ (o : Option (List ℕ)). IfSome o (λ l. l ≡ [])) (sym e) (none_mapped xs b h none)
+
+nonempty : (xs : List ℕ) → last_line xs ≡ xs ∷ [] → 1 ≤ length xs
+nonempty [] e = absurd (omega (arith, ap length e))
+nonempty (x ∷ xs) e = omega arith
+
+passed_more : {u v w : Reading} (xs : List ℕ) → Passed xs u v → Passed [] v w → Passed xs u w
+passed_more {u} {v} {w} xs p q = subst (λ (l : List ℕ). Passed l u w) (append-nil xs) (passed_twice xs [] p q)
+
+last_from : (line : Partial) (o : Option Line) (v u : Reading) (t : SourceView) (j : IntakeView) → Before line v u → Passed [] u (reading t j) → (j.held ≡ []) × IfSome t.left (λ rest. rest ≡ [])
+    → ((front : List ℕ) → Keeps line front → MatchOption o (front ≡ []) (λ l. IsLine l front × (last_line front ≡ front ∷ []))) → MatchOption o (Ended v (reading t j)) (λ l. (x : List ℕ) × IsLine l x × Given x v (reading t j))
+last_from line None v u t j b p none k = let now : IfSome (reading t j).left (λ l. l ≡ []) = none_mapped j.held t.left none.0 none.1 in record {
+  before = none_left b.front v.left (reading t j).left (passed_more b.front b.passed p).left (k b.front b.keeps) now;
+  now = now;
+}
+last_from line (Some l) v u t j b p none k = let r = k b.front b.keeps in
+    (b.front, r.0, given_last b.front v (reading t j) b.lacks r.1 (passed_more b.front b.passed p) (nonempty b.front r.1) (none_mapped j.held t.left none.0 none.1))
+
+-- the input ends: what was kept is its last line
+pub last_of : (line : Partial) (o : Option Line) (more : Bool) (v u : Reading) (t : SourceView) (j : IntakeView) → Before line v u → Passed [] u (reading t j) → more ≡ false
+    → MatchBool more (1 ≤ length j.held) ((j.held ≡ []) × IfSome t.left (λ rest. rest ≡ []))
+    → ((front : List ℕ) → Keeps line front → MatchOption o (front ≡ []) (λ l. IsLine l front × (last_line front ≡ front ∷ []))) → MatchOption o (Ended v (reading t j)) (λ l. (x : List ℕ) × IsLine l x × Given x v (reading t j))
+last_of line o more v u t j b p is m k =
+    last_from line o v u t j b p (subst (λ (e : Bool). MatchBool e (1 ≤ length j.held) ((j.held ≡ []) × IfSome t.left (λ rest. rest ≡ []))) is m) k
+
+abbrev Advance : Partial → Partial → Bool → IntakeView → IntakeView → Type 0
+Advance line kept ended j k = (piece : List ℕ) × Cut piece ended j k × ((front : List ℕ) → Keeps line front → Keeps kept (front ++ piece))
+
+-- the line is ended
+pub whole_of : (line kept : Partial) (l : Line) (ended : Bool) (v u : Reading) (t : SourceView) (j k : IntakeView) → Before line v u → Passed [] u (reading t j) → ended ≡ true → Advance line kept ended j k
+    → ((front : List ℕ) → Keeps kept front → IsLine l front) → (x : List ℕ) × IsLine l x × Given x v (reading t k)
+whole_of line kept l ended v u t j k b p is a finish =
+    let cut : Cut a.0 true j k = subst (λ (e : Bool). Cut a.0 e j k) is a.1 in
+    let all : Passed (b.front ++ (a.0 ++ 10 ∷ [])) v (reading t k) = passed_twice b.front (a.0 ++ 10 ∷ []) (passed_more b.front b.passed p) (cut_ended t a.0 j k cut) in (
+      b.front ++ a.0,
+      finish (b.front ++ a.0) (a.2 b.front b.keeps),
+      given_whole (b.front ++ a.0) v (reading t k) (lacks_append 10 b.front a.0 b.lacks cut.lacks)
+          (subst (λ (x : List ℕ). Passed x v (reading t k)) (sym (append_assoc b.front a.0 (10 ∷ []))) all),
+    )
+
+-- the line goes on
+pub open_of : (line kept : Partial) (ended : Bool) (v u : Reading) (t : SourceView) (j k : IntakeView) → Before line v u → Passed [] u (reading t j) → ended ≡ false → Advance line kept ended j k → Before kept v (reading t k)
+open_of line kept ended v u t j k b p is a = let cut : Cut a.0 false j k = subst (λ (e : Bool). Cut a.0 e j k) is a.1 in record {
+  front = b.front ++ a.0;
+  keeps = a.2 b.front b.keeps;
+  lacks = lacks_append 10 b.front a.0 b.lacks cut.lacks;
+  passed = passed_twice b.front a.0 (passed_more b.front b.passed p) (cut_open t a.0 j k cut);
+}
+
+more_cases : (given : List (List ℕ)) (line : List ℕ) (o : Option (List (List ℕ))) → option_map (λ ls. given ++ ls) (option_map (λ ls. line ∷ ls) o) ≡ option_map (λ ls. (given ++ line ∷ []) ++ ls) o
+more_cases given line None = refl
+more_cases given line (Some ls) = ap Some (sym (append_assoc given (line ∷ []) ls))
+
+done_cases : (given : List (List ℕ)) (left : Option (List ℕ)) → IfSome left (λ l. l ≡ []) → IfSome (option_map (λ ls. given ++ ls) (option_map lines_of left)) (λ ls. ls ≡ given)
+done_cases given None h = tt
+done_cases given (Some l) h = ap (λ x. given ++ lines_of x) h ∙ append-nil given
+
+-- for a loop over the lines: those given so far and those that are left are all of them
+pub lines_more : (all : Option (List (List ℕ))) (given : List (List ℕ)) (line : List ℕ) (v w : Reading) → all ≡ option_map (λ ls. given ++ ls) (lines_left v) → Given line v w → all ≡ option_map (λ ls. (given ++ line ∷ []) ++ ls) (lines_left w)
+lines_more all given line v w e g = e ∙ ap (option_map (λ ls. given ++ ls)) g.lines ∙ more_cases given line (lines_left w)
+
+-- at the end those given are all of them
+pub lines_done : (all : Option (List (List ℕ))) (given : List (List ℕ)) (v w : Reading) → all ≡ option_map (λ ls. given ++ ls) (lines_left v) → Ended v w → IfSome all (λ ls. ls ≡ given)
+lines_done all given v w e ended = subst (λ (o : Option (List (List ℕ))). IfSome o (λ ls. ls ≡ given)) (sym e) (done_cases given v.left ended.before)

@@ -1,0 +1,71 @@
+-- Lines of a script, word by word.
+use Rattle.std.proofs.Common.{ℕ, suc, ◌%◌, ◌<◌, ◌≤◌, ◌≡◌, true, false, cond, eqb, leb, eq-eqb, List, [], ◌∷◌, ◌++◌, length, Option, Some, None, ℤ, sym, refl, ap, ◌∙◌, arith, rules}
+use Rattle.std.proofs.lemmas.Bool.{ne_eqb}
+use Rattle.std.proofs.lemmas.Bool.Decides.{nat_tests}
+use Rattle.std.specs.Prelude.{◌≢◌, option_map, option_and_then, unwrap_or}
+use Rattle.std.proofs.lemmas.List.{append_assoc}
+use Rattle.h5w_model.specs.Lawful.{Line, adds, shows_up_to}
+use Rattle.h5w_text.specs.Lines.{line_limit, value_of, values_of, words_of}
+use Rattle.h5w_text.specs.Scripts.{alone, append_of, by_word, of_words, on_reader_of, positive_of, reader_of, script_line_of, write_of}
+
+write_cases : (k : List ℕ) (o : Option ℕ) → positive_of k ≡ o → (ws : List (List ℕ)) → write_of (k ∷ ws) ≡ option_and_then (λ n. alone (shows_up_to n) ws) o
+write_cases k None e [] = ap (option_map shows_up_to) e
+write_cases k (Some n) e [] = ap (option_map shows_up_to) e
+write_cases k None e (w ∷ ws) = refl
+write_cases k (Some n) e (w ∷ ws) = refl
+
+pub write_is : (k : List ℕ) (ws : List (List ℕ)) → write_of (k ∷ ws) ≡ option_and_then (λ n. alone (shows_up_to n) ws) (positive_of k)
+write_is k ws = write_cases k (positive_of k) refl ws
+
+reader_cases : (line : ℕ → Line) (r : List ℕ) (o : Option ℕ) → reader_of r ≡ o → (ws : List (List ℕ)) → on_reader_of line (r ∷ ws) ≡ option_and_then (λ n. alone (line n) ws) o
+reader_cases line r None e [] = ap (option_map line) e
+reader_cases line r (Some n) e [] = ap (option_map line) e
+reader_cases line r None e (w ∷ ws) = refl
+reader_cases line r (Some n) e (w ∷ ws) = refl
+
+pub on_reader_is : (line : ℕ → Line) (r : List ℕ) (ws : List (List ℕ)) → on_reader_of line (r ∷ ws) ≡ option_and_then (λ n. alone (line n) ws) (reader_of r)
+on_reader_is line r ws = reader_cases line r (reader_of r) refl ws
+
+-- the values of a list's first word and of the others
+pub values_more : (front : List ℤ) (v : ℤ) (o : Option (List ℤ)) → option_map (λ vs. front ++ vs) (option_map (λ vs. v ∷ vs) o) ≡ option_map (λ vs. (front ++ v ∷ []) ++ vs) o
+values_more front v None = refl
+values_more front v (Some vs) = ap Some (sym (append_assoc front (v ∷ []) vs))
+
+some_same : {X : Type 0} (d x y : X) → Some x ≡ Some y → x ≡ y
+some_same d x y e = ap (λ o. unwrap_or o d) e
+
+length_values_cases : (ws : List (List ℕ)) (v : Option ℤ) (o : Option (List ℤ)) (vs : List ℤ) → ((us : List ℤ) → o ≡ Some us → length us ≡ length ws) → option_and_then (λ x. option_map (λ us. x ∷ us) o) v ≡ Some vs → length vs ≡ suc (length ws)
+length_values_cases ws None o vs h e = absurd (search (rules, e))
+length_values_cases ws (Some v) None vs h e = absurd (search (rules, e))
+length_values_cases ws (Some v) (Some us) vs h e = ap length (sym (some_same [] (v ∷ us) vs e)) ∙ ap suc (h us refl)
+
+pub length_values : (ws : List (List ℕ)) (vs : List ℤ) → values_of ws ≡ Some vs → length vs ≡ length ws
+length_values [] vs e = ap length (sym (some_same [] [] vs e))
+length_values (w ∷ ws) vs e = length_values_cases ws (value_of w) (values_of ws) vs (λ us. length_values ws us) e
+
+pub append_empty : (columns : ℕ) (ws : List (List ℕ)) (vs : List ℤ) → values_of ws ≡ Some vs → length vs ≡ 0 → append_of columns ws ≡ None
+append_empty columns [] vs e none = refl
+append_empty columns (w ∷ ws) vs e none = absurd (omega (arith, length_values (w ∷ ws) vs e))
+
+pub append_uneven : (columns : ℕ) (ws : List (List ℕ)) (vs : List ℤ) → values_of ws ≡ Some vs → length vs % columns ≢ 0 → append_of columns ws ≡ None
+append_uneven columns [] vs e uneven = refl
+append_uneven columns (w ∷ ws) vs e uneven =
+    let test : eqb (length (w ∷ ws) % columns) 0 ≡ false = ne_eqb _ _ (λ z. uneven (ap (λ n. n % columns) (length_values (w ∷ ws) vs e) ∙ z)) in rw test refl
+
+pub append_even : (columns : ℕ) (ws : List (List ℕ)) (vs : List ℤ) → values_of ws ≡ Some vs → 1 ≤ length vs → length vs % columns ≡ 0 → append_of columns ws ≡ Some (adds vs)
+append_even columns [] vs e some even = absurd (omega (arith, length_values [] vs e))
+append_even columns (w ∷ ws) vs e some even =
+    let test : eqb (length (w ∷ ws) % columns) 0 ≡ true = eq-eqb _ _ (sym (ap (λ n. n % columns) (length_values (w ∷ ws) vs e)) ∙ even) in rw test (ap (option_map adds) e)
+
+-- a line that is too long
+pub script_long : (columns : ℕ) (line : List ℕ) → line_limit < length line → script_line_of columns line ≡ None
+unfolding script_line_of
+script_long columns line h = let test : leb (length line) line_limit ≡ false = grind (arith, nat_tests) in rw test refl
+
+pub script_none : (columns : ℕ) (line : List ℕ) → words_of line ≡ [] → script_line_of columns line ≡ None
+unfolding script_line_of
+script_none columns line e = elim (leb (length line) line_limit) as (λ t. cond t (of_words columns (words_of line)) None ≡ None) [ true ↦ ap (of_words columns) e | false ↦ refl ]
+
+pub script_some : (columns : ℕ) (line name : List ℕ) (ws : List (List ℕ)) → length line ≤ line_limit → words_of line ≡ name ∷ ws → script_line_of columns line ≡ by_word columns name ws
+unfolding script_line_of
+script_some columns line name ws h e = let test : leb (length line) line_limit ≡ true = grind (arith, nat_tests) in rw test (ap (of_words columns) e)

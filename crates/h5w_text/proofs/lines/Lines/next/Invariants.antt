@@ -1,0 +1,13 @@
+use Rattle.std.proofs.Common.{◌≡◌, ◌+◌, length}
+use Rattle.h5w_text.specs.Reading.{reading}
+use Rattle.h5w_text.proofs.LineLemmas.{Before}
+use Rattle.h5w_text.proofs.lines.Lines.next.Given as goal
+
+abbrev pub invariant-loop-line : goal.invariant-loop-line
+invariant-loop-line g l = record {
+  before : Before l.line (reading (g.S.Source.view l.fn.self.source.now) l.fn.self.intake) (reading (g.S.Source.view l.self.source.now) l.self.intake);
+  same_reference : l.self.source.ghost_name ≡ l.fn.self.source.ghost_name;
+}
+
+abbrev pub decreases-loop-line : goal.decreases-loop-line
+decreases-loop-line g l = length l.self.intake.held + l.self.intake.more

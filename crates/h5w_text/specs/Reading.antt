@@ -1,0 +1,85 @@
+-- What a reader of lines has before it, and what taking a line leaves.
+use Rattle.std.specs.Prelude.{◌≡◌, ℕ, ◌+◌, ◌<◌, ◌≤◌, Bool, false, List, [], ◌∷◌, ◌++◌, length, take, if◌then◌else◌, MatchBool, Option, IfSome, option_map}
+use Rattle.h5w_text.specs.Bytes.{Lacks}
+use Rattle.h5w_text.specs.Lines.{line_limit, lines_of}
+use Rattle.h5w_text.specs.Streams.{SourceView}
+use Rattle.h5w_text.specs.declared.line.Line.{Line}
+use Rattle.h5w_text.specs.declared.line.Line.TheVariants.{Whole, Long}
+use Rattle.h5w_text.specs.declared.line.Partial.{Partial}
+
+-- the bytes that were taken from a source and not given yet, how many more may be taken, and the limit of all
+pub record IntakeView : Type 0 where
+  pub held : List ℕ
+  pub more : ℕ
+  pub limit : ℕ
+
+-- what a reader of lines has before it
+pub record Reading : Type 0 where
+  -- the bytes that are not given yet, where the source tells its own
+  pub left : Option (List ℕ)
+  -- how many of them may be given
+  pub room : ℕ
+  -- the most bytes that may be taken from the source in all
+  pub limit : ℕ
+  -- how often the source failed
+  pub faults : ℕ
+  -- the references that the source works through
+  pub through : List ℕ
+
+abbrev pub reading : SourceView → IntakeView → Reading
+reading s i = record {
+  left = option_map (λ rest. i.held ++ rest) s.left;
+  room = length i.held + i.more;
+  limit = i.limit;
+  faults = s.faults;
+  through = s.through;
+}
+
+-- the lines that are left
+abbrev pub lines_left : Reading → Option (List (List ℕ))
+lines_left v = option_map lines_of v.left
+
+-- the line, or that it is longer than the limit
+abbrev pub IsLine : Line → List ℕ → Type 0
+IsLine (Whole bytes) line = (bytes ≡ line) × (length line ≤ line_limit)
+IsLine Long line = line_limit < length line
+
+-- the outside is the same, but for more faults
+pub record Stays (v w : Reading) : Type 0 where
+  pub limit : w.limit ≡ v.limit
+  pub faults : v.faults ≤ w.faults
+  pub through : w.through ≡ v.through
+
+-- these bytes were given
+pub record Passed (bytes : List ℕ) (v w : Reading) : Type 0 where
+  pub left : v.left ≡ option_map (λ rest. bytes ++ rest) w.left
+  pub room : v.room ≡ w.room + length bytes
+  pub stays : Stays v w
+
+-- this line was given
+pub record Given (line : List ℕ) (v w : Reading) : Type 0 where
+  pub lines : lines_left v ≡ option_map (λ ls. line ∷ ls) (lines_left w)
+  pub room : w.room < v.room
+  -- the line and its end are within the room
+  pub within : IfSome v.left (λ left. (v.room < length left) × Lacks 10 (take v.room left) → ⊥)
+
+-- nothing was left
+pub record Ended (v w : Reading) : Type 0 where
+  pub before : IfSome v.left (λ left. left ≡ [])
+  pub now : IfSome w.left (λ left. left ≡ [])
+
+-- the line under way has more bytes than may be given
+abbrev pub IsOver : Reading → Type 0
+IsOver v = IfSome v.left (λ left. (v.room < length left) × Lacks 10 (take v.room left))
+
+-- what is kept of a line: its bytes, none once it is too long
+abbrev pub Keeps : Partial → List ℕ → Type 0
+Keeps p front = MatchBool p.long (line_limit < length front) ((p.bytes.items ≡ front) × (length front ≤ line_limit))
+
+-- a piece of a line was taken, and the line's end if it is there
+pub record Cut (piece : List ℕ) (ended : Bool) (i j : IntakeView) : Type 0 where
+  pub lacks : Lacks 10 piece
+  pub held : i.held ≡ (if ended then piece ++ 10 ∷ j.held else piece)
+  pub rest : ended ≡ false → j.held ≡ []
+  pub more : j.more ≡ i.more
+  pub limit : j.limit ≡ i.limit

@@ -1,0 +1,143 @@
+ghost use Rattle.std.specs.Prelude.{◌≡◌, ◌≤◌, ◌++◌, ◌+◌, ℕ, List, [], length, take, Ok, Err, IfOk, OnOk, OnErr, IfSome, MatchBool};
+ghost use Rattle.h5w_model.specs.Causes.{Rose};
+ghost use Rattle.h5w_text.specs.Streams.{Took};
+ghost use Rattle.h5w_text.specs.Reading.{Cut, Keeps, Passed, Stays, reading};
+
+use crate::line::{LineError, Partial};
+use crate::places::first_place;
+use crate::streams::Source;
+use h5w_image::Failed;
+use h5w_model::OutOfMemory;
+use std::alloc::Global;
+use std::marker::Model;
+
+/// How many bytes are asked for at once.
+const BUFFER: usize = 8192;
+
+/// Bytes that were taken from a source and not given yet.
+#[derive(Drop)]
+pub struct Intake {
+    buffer: Vec<u8>,
+    at: usize,
+    end: usize,
+    more: u64,
+    limit: u64,
+}
+
+impl Model for Intake {
+    ghost use Rattle.std.specs.Prelude.{◌≤◌, slice_range, length};
+    ghost use Rattle.h5w_text.specs.Reading.{IntakeView};
+
+    ghost Value = { IntakeView };
+
+    ghost view = { λ i. record { held = slice_range i.buffer.items i.at i.end; more = i.more; limit = i.limit } };
+
+    ghost invariant = { λ i. (i.at ≤ i.end) × (i.end ≤ length i.buffer.items) };
+}
+
+/// How many bytes to ask for: no more than may be taken, and one where none may.
+fn how_many(more: u64) -> usize
+    ensures some { 1 ≤ result }
+    ensures most { result ≤ 8192 }
+    ensures within { 1 ≤ more → result ≤ more }
+{
+    if more == 0 {
+        1
+    } else {
+        more.min(BUFFER as u64) as usize
+    }
+}
+
+fn make_room(buffer: &mut Vec<u8>) -> Result<(), OutOfMemory>
+    ensures { OnOk result (8192 ≤ length buffer.new.items) }
+{
+    if buffer.len() < BUFFER {
+        buffer.resize(BUFFER, 0)?;
+    }
+    Ok(())
+}
+
+/// Reads into the first `most` bytes of a slice.
+fn read_slice<S: Source>(source: &mut S, buffer: &mut [u8], most: usize) -> Result<usize, Failed>
+    requires some { 1 ≤ most }
+    requires room { most ≤ length buffer.old }
+    ensures bound { IfOk result (λ n. n ≤ most) }
+    ensures took { IfOk result (λ n. Took (take n buffer.new) (S.view source.old) (S.view source.new)) }
+    ensures end { result ≡ Ok 0 → IfSome (S.view source.new).left (λ rest. rest ≡ []) }
+    ensures failed { OnErr result (Took [] (S.view source.old) (S.view source.new)) }
+    ensures cause { OnErr result (Rose (S.view source.old).faults (S.view source.new).faults) }
+{
+    source.read(&mut buffer[..most])
+}
+
+/// Reads into the first `most` bytes of the buffer.
+fn read_front<S: Source>(source: &mut S, buffer: &mut Vec<u8>, most: usize) -> Result<usize, Failed>
+    requires some { 1 ≤ most }
+    requires room { most ≤ length buffer.old.items }
+    ensures bound { IfOk result (λ n. n ≤ most) }
+    ensures took { IfOk result (λ n. Took (take n buffer.new.items) (S.view source.old) (S.view source.new)) }
+    ensures end { result ≡ Ok 0 → IfSome (S.view source.new).left (λ rest. rest ≡ []) }
+    ensures failed { OnErr result (Took [] (S.view source.old) (S.view source.new)) }
+    ensures cause { OnErr result (Rose (S.view source.old).faults (S.view source.new).faults) }
+    ensures length { length buffer.new.items ≡ length buffer.old.items }
+{
+    read_slice(source, buffer, most)
+}
+
+impl Intake {
+    /// Nothing was taken yet; `limit` bytes may be taken.
+    pub fn new(alloc: Global, limit: u64) -> Intake
+        ensures { result ≡ record { held = []; more = limit; limit = limit } }
+    {
+        Intake {
+            buffer: Vec::new(alloc),
+            at: 0,
+            end: 0,
+            more: limit,
+            limit,
+        }
+    }
+
+    /// Takes bytes from the source where none are held. False: the source is at its end.
+    pub fn fill<S: Source>(&mut self, source: &mut S) -> Result<bool, LineError>
+        ensures stays { Stays (reading (S.view source.old) self.old) (reading (S.view source.new) self.new) }
+        ensures passed { IfOk result (λ more. Passed [] (reading (S.view source.old) self.old) (reading (S.view source.new) self.new)) }
+        ensures more { IfOk result (λ more. MatchBool more (1 ≤ length self.new.held) ((self.new.held ≡ []) × IfSome (S.view source.new).left (λ rest. rest ≡ []))) }
+        ensures input { (limit : ℕ) → result ≡ Err (LineError.Input limit) → (limit ≡ self.old.limit) × (self.old.held ≡ []) × (self.old.more ≡ 0) × IfSome (S.view source.old).left (λ rest. 1 ≤ length rest) }
+        ensures cause { result ≡ Err LineError.Failed → Rose (S.view source.old).faults (S.view source.new).faults }
+    {
+        if self.at < self.end {
+            return Ok(true);
+        }
+        self.at = 0;
+        self.end = 0;
+        make_room(&mut self.buffer)?;
+        let n = read_front(source, &mut self.buffer, how_many(self.more))?;
+        if n == 0 {
+            return Ok(false);
+        }
+        if self.more == 0 {
+            return Err(LineError::Input { limit: self.limit });
+        }
+        self.end = n;
+        self.more -= n as u64;
+        Ok(true)
+    }
+
+    /// Moves the held bytes before the first line end into `line`, and passes over the line end.
+    /// False: there is no line end, and all of them were moved.
+    pub fn advance(&mut self, line: &mut Partial) -> Result<bool, OutOfMemory>
+        ensures cut { IfOk result (λ ended. (piece : List ℕ) × Cut piece ended self.old self.new × ((front : List ℕ) → Keeps line.old front → Keeps line.new (front ++ piece))) }
+        ensures limit { self.new.limit ≡ self.old.limit }
+    {
+        let held = &self.buffer[self.at..self.end];
+        let place = first_place(b'\n', held);
+        line.add(&held[..place])?;
+        if place == held.len() {
+            self.at = self.end;
+            return Ok(false);
+        }
+        self.at += place + 1;
+        Ok(true)
+    }
+}

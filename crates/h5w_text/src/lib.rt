@@ -1,0 +1,28 @@
+//! Lines, scripts, replies: text in and text out.
+#![tactic(auto)]
+
+mod digits;
+mod error;
+mod intake;
+mod line;
+mod lines;
+mod memory;
+mod number;
+mod places;
+mod reply;
+mod script;
+mod streams;
+mod words;
+
+pub use error::{ErrorLine, write_error};
+pub use h5w_image::Failed;
+pub use h5w_model::{Bytes, OutOfMemory, Reply, Values};
+pub use line::{Line, LineError};
+pub use lines::Lines;
+pub use memory::{MemSink, MemSource};
+pub use reply::write_reply;
+pub use script::{LINE_LIMIT, ScriptLine, TextError, script_line};
+pub use streams::{Sink, Source};
+
+#[cfg(test)]
+mod tests;

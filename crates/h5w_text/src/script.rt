@@ -1,0 +1,216 @@
+ghost use Rattle.std.specs.Prelude.{◌≡◌, ◌≤◌, ℕ, Some, None, option_map};
+ghost use Rattle.std.specs.Result.{MatchResult};
+ghost use Rattle.h5w_model.specs.Lawful.{opens, refreshes};
+ghost use Rattle.h5w_text.specs.Lines.{values_of};
+ghost use Rattle.h5w_text.specs.Scripts.{alone, append_of, by_word, look_of, on_reader_of, positive_of, read_of, reader_of, script_line_of, write_of};
+ghost use Rattle.h5w_text.specs.Words.{Spells, line_of_script};
+
+use crate::number::{count, value};
+use crate::words::Words;
+use h5w_model::{OutOfMemory, Values};
+use std::alloc::{AllocError, AllocFailed, Global};
+use thiserror::Error;
+
+/// The most bytes of a line.
+pub const LINE_LIMIT: usize = 65_536;
+
+/// A line of a script.
+#[derive(Debug, Drop)]
+pub enum ScriptLine {
+    /// Appends rows.
+    Append(Values),
+    Flush,
+    /// Makes up to so many pending pieces visible.
+    Write(u64),
+    Stop,
+    /// Opens a reader.
+    Open(u64),
+    /// Begins a refresh of a reader.
+    Refresh(u64),
+    /// Begins a read of rows.
+    Read { reader: u64, from: u64, count: u64 },
+    /// Takes up to so many looks of a reader.
+    Look { reader: u64, most: u64 },
+}
+
+/// Why a line has no meaning.
+#[derive(Clone, Copy, Debug, PartialEq, Eq, Error)]
+pub enum TextError {
+    /// No line of a script is spelled so.
+    #[error("grammar")]
+    Grammar,
+    #[error("out of memory")]
+    OutOfMemory,
+}
+
+impl From<AllocError> for TextError {
+    ghost use Rattle.std.specs.Prelude.{◌≡◌};
+    ghost use Rattle.h5w_text.specs.declared.script.TextError.TheVariants.{OutOfMemory as no_memory};
+
+    ghost from_gives = { λ _ e. e ≡ no_memory };
+
+    fn from(_e: AllocError) -> TextError {
+        TextError::OutOfMemory
+    }
+}
+
+impl<T: Drop> From<AllocFailed<T>> for TextError {
+    ghost use Rattle.std.specs.Prelude.{◌≡◌};
+    ghost use Rattle.h5w_text.specs.declared.script.TextError.TheVariants.{OutOfMemory as no_memory};
+
+    ghost from_gives = { λ _ e. e ≡ no_memory };
+
+    fn from(_e: AllocFailed<T>) -> TextError {
+        TextError::OutOfMemory
+    }
+}
+
+/// A reader's number, 1 to 16.
+fn reader(word: &[u8]) -> Option<u64>
+    ensures { result ≡ reader_of word.now }
+{
+    let reader = count(word)?;
+    if 1 <= reader && reader <= 16 {
+        Some(reader)
+    } else {
+        None
+    }
+}
+
+/// How many pieces or looks, 1 or more.
+fn positive(word: &[u8]) -> Option<u64>
+    ensures { result ≡ positive_of word.now }
+{
+    let n = count(word)?;
+    if 1 <= n { Some(n) } else { None }
+}
+
+/// The line, where no word is left.
+fn at_end(mut words: Words, line: ScriptLine) -> Option<ScriptLine>
+    ensures { option_map line_of_script result ≡ alone (line_of_script line) words.entry }
+{
+    match words.next() {
+        None => Some(line),
+        Some(_) => None,
+    }
+}
+
+/// The values of words, each of them a value.
+#[tactic(auto, using(crate::proofs::ScriptLemmas::values_more))]
+fn values(alloc: Global, mut words: Words) -> Result<Vec<i128>, TextError>
+    ensures { MatchResult result (λ values. values_of words.entry ≡ Some values.items) (λ e. e ≡ TextError.Grammar → values_of words.entry ≡ None) }
+{
+    let mut values = Vec::new(alloc);
+    while let Some(word) = words.next() {
+        let Some(value) = value(word) else {
+            return Err(TextError::Grammar);
+        };
+        values.push(value)?;
+    }
+    Ok(values)
+}
+
+fn append(alloc: Global, words: Words, columns: u64) -> Result<ScriptLine, TextError>
+    requires { 1 ≤ columns }
+    ensures { Spells (append_of columns words.entry) result }
+{
+    let values = values(alloc, words)?;
+    if values.is_empty() {
+        return Err(TextError::Grammar);
+    }
+    if values.len() as u64 % columns != 0 {
+        return Err(TextError::Grammar);
+    }
+    Ok(ScriptLine::Append(Values::from_vec(values)))
+}
+
+#[tactic(auto, using(crate::proofs::ScriptLemmas::write_is))]
+fn write(mut words: Words) -> Option<ScriptLine>
+    ensures { option_map line_of_script result ≡ write_of words.entry }
+{
+    let pieces = positive(words.next()?)?;
+    at_end(words, ScriptLine::Write(pieces))
+}
+
+#[tactic(auto, using(crate::proofs::ScriptLemmas::on_reader_is))]
+fn open(mut words: Words) -> Option<ScriptLine>
+    ensures { option_map line_of_script result ≡ on_reader_of opens words.entry }
+{
+    let reader = reader(words.next()?)?;
+    at_end(words, ScriptLine::Open(reader))
+}
+
+#[tactic(auto, using(crate::proofs::ScriptLemmas::on_reader_is))]
+fn refresh(mut words: Words) -> Option<ScriptLine>
+    ensures { option_map line_of_script result ≡ on_reader_of refreshes words.entry }
+{
+    let reader = reader(words.next()?)?;
+    at_end(words, ScriptLine::Refresh(reader))
+}
+
+fn read(mut words: Words) -> Option<ScriptLine>
+    ensures { option_map line_of_script result ≡ read_of words.entry }
+{
+    let reader = reader(words.next()?)?;
+    let from = count(words.next()?)?;
+    let count = count(words.next()?)?;
+    at_end(
+        words,
+        ScriptLine::Read {
+            reader,
+            from,
+            count,
+        },
+    )
+}
+
+fn look(mut words: Words) -> Option<ScriptLine>
+    ensures { option_map line_of_script result ≡ look_of words.entry }
+{
+    let reader = reader(words.next()?)?;
+    let most = positive(words.next()?)?;
+    at_end(words, ScriptLine::Look { reader, most })
+}
+
+/// What a line asks for, by its first word and the others.
+fn command(alloc: Global, columns: u64, name: &[u8], words: Words) -> Result<ScriptLine, TextError>
+    requires { 1 ≤ columns }
+    ensures { Spells (by_word columns name.now words.entry) result }
+{
+    if name == b"append".as_slice() {
+        return append(alloc, words, columns);
+    }
+    let line = if name == b"flush".as_slice() {
+        at_end(words, ScriptLine::Flush)
+    } else if name == b"write".as_slice() {
+        write(words)
+    } else if name == b"stop".as_slice() {
+        at_end(words, ScriptLine::Stop)
+    } else if name == b"open".as_slice() {
+        open(words)
+    } else if name == b"refresh".as_slice() {
+        refresh(words)
+    } else if name == b"read".as_slice() {
+        read(words)
+    } else if name == b"look".as_slice() {
+        look(words)
+    } else {
+        None
+    };
+    line.ok_or(TextError::Grammar)
+}
+
+/// The line of a script that some bytes spell, without the byte 0a. Grammar: they spell none.
+pub fn script_line(alloc: Global, line: &[u8], columns: u64) -> Result<ScriptLine, TextError>
+    requires { 1 ≤ columns }
+    ensures { Spells (script_line_of columns line.now) result }
+{
+    if line.len() > LINE_LIMIT {
+        return Err(TextError::Grammar);
+    }
+    let mut words = Words::of(line);
+    match words.next() {
+        Some(name) => command(alloc, columns, name, words),
+        None => Err(TextError::Grammar),
+    }
+}

@@ -1,0 +1,45 @@
+ghost use Rattle.std.specs.Prelude.{◌≡◌, ◌∷◌, [], None, MatchOption};
+ghost use Rattle.h5w_text.specs.Lines.{words_of};
+
+use crate::places::first_place;
+use std::marker::Model;
+
+/// The words of a line that are left; they are separated by one space.
+#[derive(Drop)]
+pub struct Words<'a> {
+    rest: Option<&'a [u8]>,
+}
+
+impl<'a> Model for Words<'a> {
+    ghost use Rattle.std.specs.Prelude.{ℕ, List, option_map};
+    ghost use Rattle.h5w_text.specs.WordLists.{words_left};
+
+    ghost Value = { List (List ℕ) };
+
+    ghost view = { λ w. words_left (option_map (λ rest. rest.now) w.rest) };
+}
+
+impl<'a> Words<'a> {
+    /// The words of a line.
+    pub fn of(line: &'a [u8]) -> Words<'a>
+        ensures { result ≡ words_of line.now }
+    {
+        Words { rest: Some(line) }
+    }
+
+    /// Takes the next word.
+    #[tactic(auto, using(crate::proofs::WordLemmas::words_cut, crate::proofs::WordLemmas::words_end))]
+    pub fn next(&mut self) -> Option<&'a [u8]>
+        ensures words { MatchOption result (self.old ≡ []) (λ word. self.old ≡ word.now ∷ self.new) }
+        ensures none { result ≡ None → self.new ≡ [] }
+    {
+        let line = self.rest?;
+        let place = first_place(b' ', line);
+        if place == line.len() {
+            self.rest = None;
+            return Some(line);
+        }
+        self.rest = Some(&line[place + 1..]);
+        Some(&line[..place])
+    }
+}
