@@ -1,0 +1,525 @@
+-- A session's relation to its log, event by event.
+use Rattle.std.proofs.Common.{◌≡◌, ◌≢◌, ◌⊎◌, ℕ, zero, suc, ◌+◌, ◌-◌, ◌<◌, ◌≤◌, List, [], ◌∷◌, ◌++◌, length, take, Ok, Option, Some, Result, ℤ, Bool, true, false, cond, if◌then◌else◌, nat_lt, nat_le, sym, refl, ap, ◌∙◌, subst, inl, inr, arith, length-append}
+use Rattle.std.proofs.lemmas.List.{append_assoc, append-nil, take-append-le, take_all, nil_from_length, get_or_append_left}
+use Rattle.std.proofs.lemmas.Option.{slice_get-get_or}
+use Rattle.std.proofs.Math.Seq.{take-length}
+use Rattle.std.specs.List.{slice_get}
+use Rattle.std.proofs.lemmas.Bool.{cases_lt, cond-true, cond-false, lt-ltb, le-ltb, le-leb, lt-leb}
+use Rattle.h5w_model.specs.Images.{apply, image}
+use Rattle.h5w_model.specs.Logs.{Log, Happening, appends, plans, shows, hist, shown, appended, appended_in, flushed, flushed_in, and_now, div_up}
+use Rattle.h5w_model.specs.Prefixed.{EachReads, PrefixedEach, Still, StillAt, Stays, MissesBehind, MissesAll, ReadsNow, IsKey}
+use Rattle.h5w_model.specs.Tables.{Reading, Shows, Reads, reading, address_behind, format_limits}
+use Rattle.h5w_model.specs.Programs.{Visit, eval, visits}
+use Rattle.h5w_model.specs.declared.piece.Write.{Write}
+use Rattle.h5w_model.proofs.ImageLemmas.{image-push}
+use Rattle.h5w_writer.specs.Files.{FileFields, AllFit, Moment, Represents, dataset_name, reading_of, summary_of}
+use Rattle.h5w_writer.specs.Plans.{Step, creation_writes, first_moment, new_file}
+use Rattle.h5w_writer.specs.Sessions.{Session, IsSession, Creating, Running, Stands, Flushing, log_of, rows_of, created, after_piece, with_values, planned}
+use Rattle.h5w_writer.specs.Flushes.{grown, after_rows, flush_writes}
+use Rattle.h5w_writer.proofs.PlanLemmas.{plan_flushes}
+use Rattle.h5w_writer.proofs.ValidNow.{valid_now}
+use Rattle.h5w_writer.proofs.ReadsNow.{reads_now}
+use Rattle.h5w_writer.proofs.StepKept.{step_kept}
+use Rattle.h5w_writer.proofs.StepStays.{step_stays}
+use Rattle.h5w_writer.proofs.Shown.{shown_is, misses_shown}
+use Rattle.h5w_writer.proofs.Created.{created_represents}
+
+pub shown-length : (es : List Happening) → shown es ≡ length (hist es)
+shown-length [] = refl
+shown-length (appends vs ∷ es) = shown-length es
+shown-length (plans k ∷ es) = shown-length es
+shown-length (shows w ∷ es) = ap (λ n. n + 1) (shown-length es) ∙ sym (length-append (hist es) (w ∷ []))
+
+-- what is said of each event does not rest on later ones
+EachReads-later : (log : Log) (e : Happening) (es : List Happening) → EachReads dataset_name log es → EachReads dataset_name (and_now e log) es
+EachReads-later log e [] each = each
+EachReads-later log e (x ∷ es) each = (each.0, EachReads-later log e es each.1)
+
+-- ---- What a piece does to what stood
+
+creating_few : (s : Session) (es : List Happening) → Creating s es → length (hist es) + length s.pending ≡ 5
+creating_few s es c = sym (length-append (hist es) s.pending) ∙ ap length c.pieces
+
+length_pos : (ws : List Write) → ws ≢ [] → 1 ≤ length ws
+length_pos [] some = absurd (some refl)
+length_pos (w ∷ ws) some = omega arith
+
+-- before the superblock nothing is read
+reads_later : (log : Log) (w : Write) → log.first ≡ 5 → length (hist log.events) + 1 ≤ 4 → PrefixedEach dataset_name log → PrefixedEach dataset_name (and_now (shows w) log)
+reads_later log w first few each =
+    (λ h. absurd (omega (arith, shown-length log.events)), EachReads-later log (shows w) log.events each)
+
+-- at the position now and after each event the image is valid and reads as the flushed rows
+reads_more : (e : Happening) (es : List Happening) (m : Moment) → Represents (image [] (hist (e ∷ es))) m → m.values ≡ flushed_in 0 [] (e ∷ es)
+    → PrefixedEach dataset_name (log_of es) → PrefixedEach dataset_name (log_of (e ∷ es))
+reads_more e es m r flushed each =
+    let img = image [] (hist (e ∷ es)) in (
+      λ h. record {
+        summary = summary_of m.file;
+        valid = valid_now img m r;
+        reads = subst (λ (vs : List ℤ). Reads img dataset_name vs) flushed (reads_now img m r);
+      },
+      EachReads-later (log_of es) e es each,
+    )
+
+-- what is said of one piece, by the images before and after it and at each earlier position
+record StillOf (images : ℕ → List ℕ) (k : ℕ) (at_k : Option Write) : Type 0 where
+  steps : (r s : Reading) → Shows format_limits (images k) dataset_name r → Shows format_limits (images (k + 1)) dataset_name s
+      → Stays (images k) r (images (k + 1)) s
+  misses : (w : Write) (p : ℕ) (r s : Reading) → at_k ≡ Some w → 5 ≤ p → p ≤ k
+      → Shows format_limits (images p) dataset_name r → Shows format_limits (images k) dataset_name s
+      → r.dataset.shape.rows ≡ s.dataset.shape.rows → MissesBehind w (images p) r
+
+-- it rests on the images up to the next position alone
+StillOf-same : (images others : ℕ → List ℕ) (k : ℕ) (a b : Option Write) → ((p : ℕ) → p ≤ k + 1 → others p ≡ images p) → b ≡ a → StillOf images k a → StillOf others k b
+StillOf-same images others k a b same is still =
+    record {
+      steps = λ r s shown next.
+          let e : others k ≡ images k = same k (omega arith) in
+          let f : others (k + 1) ≡ images (k + 1) = same (k + 1) (omega arith) in
+          let P : List ℕ → List ℕ → Type 0 = λ x y. Shows format_limits x dataset_name r → Shows format_limits y dataset_name s → Stays x r y s in
+          subst (λ x. P x (others (k + 1))) (sym e) (subst (λ y. P (images k) y) (sym f) (still.steps r s)) shown next;
+      misses = λ w p r s found low high shown next rows.
+          let e : others p ≡ images p = same p (omega arith) in
+          let f : others k ≡ images k = same k (omega arith) in
+          let shown_there : Shows format_limits (images p) dataset_name r = subst (λ (x : List ℕ). Shows format_limits x dataset_name r) e shown in
+          let next_there : Shows format_limits (images k) dataset_name s = subst (λ (x : List ℕ). Shows format_limits x dataset_name s) f next in
+          subst (λ (x : List ℕ). MissesBehind w x r) (sym e) (still.misses w p r s (sym is ∙ found) low high shown_there next_there rows);
+    }
+
+abbrev images_of : List Happening → ℕ → List ℕ
+images_of es p = image [] (take p (hist es))
+
+of_still : (es : List Happening) (k : ℕ) → StillAt dataset_name (log_of es) k → StillOf (images_of es) k (slice_get (hist es) k)
+of_still es k still = record { steps = still.steps; misses = still.misses }
+
+to_still : (es : List Happening) (k : ℕ) → StillOf (images_of es) k (slice_get (hist es) k) → StillAt dataset_name (log_of es) k
+to_still es k still = record { steps = still.steps; misses = still.misses }
+
+-- what makes no piece visible leaves it
+pub still_appends : (vs : List ℤ) (es : List Happening) → Still dataset_name (log_of es) → Still dataset_name (log_of (appends vs ∷ es))
+still_appends vs es still k low high = to_still (appends vs ∷ es) k (of_still es k (still k low high))
+
+pub still_plans : (n : ℕ) (es : List Happening) → Still dataset_name (log_of es) → Still dataset_name (log_of (plans n ∷ es))
+still_plans n es still k low high = to_still (plans n ∷ es) k (of_still es k (still k low high))
+
+slice_get_front : {A : Type 0} (xs ys : List A) (k : ℕ) (d : A) → k < length xs → slice_get (xs ++ ys) k ≡ slice_get xs k
+slice_get_front xs ys k d h =
+    slice_get-get_or (xs ++ ys) k d (omega (arith, length-append xs ys)) ∙ ap Some (get_or_append_left xs ys d k h) ∙ sym (slice_get-get_or xs k d h)
+
+-- the earlier images
+images_before : (es : List Happening) (w : Write) (p : ℕ) → p ≤ length (hist es) → images_of (shows w ∷ es) p ≡ images_of es p
+images_before es w p h = ap (image []) (take-append-le p (hist es) (w ∷ []) h)
+
+-- each position has a file
+abbrev Past : List Happening → Type 0
+Past es = (p : ℕ) → 5 ≤ p → p ≤ length (hist es) → (m : Moment) × Represents (images_of es p) m
+
+image_now : (es : List Happening) → images_of es (length (hist es)) ≡ image [] (hist es)
+image_now es = ap (image []) (take-length (hist es))
+
+image_next : (es : List Happening) (w : Write) → images_of (shows w ∷ es) (length (hist es) + 1) ≡ apply w (image [] (hist es))
+image_next es w =
+    ap (λ n. image [] (take n (hist es ++ w ∷ []))) (sym (length-append (hist es) (w ∷ [])))
+    ∙ ap (image []) (take-length (hist es ++ w ∷ [])) ∙ image-push [] (hist es) w
+
+-- the last piece of a plan, by the images before and after it
+still_last : (es : List Happening) (w : Write) (m n : Moment) (k : ℕ) → images_of (shows w ∷ es) k ≡ image [] (hist es)
+    → images_of (shows w ∷ es) (k + 1) ≡ apply w (image [] (hist es)) → k ≡ length (hist es) → Represents (image [] (hist es)) m → Step m w n → Past es
+    → StillOf (images_of (shows w ∷ es)) k (slice_get (hist es ++ w ∷ []) k)
+still_last es w m n k now next is file step past =
+    let img = image [] (hist es) in
+    record {
+      steps = λ r s shown after.
+          let shown_now : Shows format_limits img dataset_name r = subst (λ (x : List ℕ). Shows format_limits x dataset_name r) now shown in
+          let after_now : Shows format_limits (apply w img) dataset_name s = subst (λ (x : List ℕ). Shows format_limits x dataset_name s) next after in
+          let first : reading_of m.file ≡ r = sym (shown_is img m r file shown_now) in
+          let second : reading_of n.file ≡ s = sym (shown_is (apply w img) n s (step_kept img m w n file step) after_now) in
+          let stays : Stays img r (apply w img) s =
+          subst (λ (x : Reading). Stays img x (apply w img) s) first (subst (λ (x : Reading). Stays img (reading_of m.file) (apply w img) x) second (step_stays img m w n file step)) in
+          subst (λ (x : List ℕ). Stays x r (images_of (shows w ∷ es) (k + 1)) s) (sym now) (subst (λ (x : List ℕ). Stays img r x s) (sym next) stays);
+      misses = λ v p r s found low high shown after rows.
+          let same : images_of (shows w ∷ es) p ≡ images_of es p = images_before es w p (omega arith) in
+          let there = past p low (omega arith) in
+          let file_there : Represents (images_of (shows w ∷ es) p) there.0 = subst (λ (x : List ℕ). Represents x there.0) (sym same) there.1 in
+          misses_shown (images_of (shows w ∷ es) p) there.0 v r file_there shown;
+    }
+
+-- one more piece of a plan
+pub still_shows : (es : List Happening) (w : Write) (m n : Moment) → Represents (image [] (hist es)) m → Step m w n → Past es
+    → Still dataset_name (log_of es) → Still dataset_name (log_of (shows w ∷ es))
+still_shows es w m n file step past still k low high =
+    let last = length (hist es) in
+    elim (cases_lt k last) [
+      | inl before ↦
+          to_still (shows w ∷ es) k
+          (StillOf-same (images_of es) (images_of (shows w ∷ es)) k (slice_get (hist es) k) (slice_get (hist es ++ w ∷ []) k)
+          (λ p h. images_before es w p (omega arith)) (slice_get_front (hist es) (w ∷ []) k w before) (of_still es k (still k low before)))
+      | inr not_before ↦
+          let is : k ≡ last = omega (arith, length-append (hist es) (w ∷ [])) in
+          let now : images_of (shows w ∷ es) k ≡ image [] (hist es) = ap (images_of (shows w ∷ es)) is ∙ images_before es w last (omega arith) ∙ image_now es in
+          let next : images_of (shows w ∷ es) (k + 1) ≡ apply w (image [] (hist es)) = ap (λ j. images_of (shows w ∷ es) (j + 1)) is ∙ image_next es w in
+          to_still (shows w ∷ es) k (still_last es w m n k now next is file step past)
+    ]
+
+-- a session begins with the creation's pieces
+pub creation_begins : (rows : ℕ) → 1 ≤ rows → rows ≤ 65536 → Stands (created rows) (log_of [])
+creation_begins rows low high = record {
+  is = refl;
+  phase = inl (record { pieces = refl; some = λ e. cc; some_rows = low; chunk_bound = high; file = refl; committed = refl; waiting = refl; appended = refl; flushed = λ k. refl });
+  prefixed = λ h. absurd (omega arith);
+  still = λ k low high. absurd (omega arith);
+}
+
+-- ---- A piece that becomes visible
+
+lt_choice : {A : Type 0} (k n : ℕ) (a b : A) → k < n → (if nat_lt k n then a else b) ≡ a
+lt_choice k n a b h = cond-true (nat_lt k n) a b (lt-ltb k n h)
+
+ge_choice : {A : Type 0} (k n : ℕ) (a b : A) → n ≤ k → (if nat_lt k n then a else b) ≡ b
+ge_choice k n a b h = cond-false (nat_lt k n) a b (le-ltb k n h)
+
+same_choice : {A : Type 0} (c : Bool) (a : A) → (if c then a else a) ≡ a
+same_choice true a = refl
+same_choice false a = refl
+
+after_pending : (s : Session) (ws : List Write) → (after_piece s ws).pending ≡ ws
+after_pending s [] = refl
+after_pending s (w ∷ ws) = refl
+
+after_file : (s : Session) (ws : List Write) → (after_piece s ws).file ≡ s.file
+after_file s [] = refl
+after_file s (w ∷ ws) = refl
+
+after_waiting : (s : Session) (ws : List Write) → (after_piece s ws).waiting ≡ s.waiting
+after_waiting s [] = refl
+after_waiting s (w ∷ ws) = refl
+
+cons_some : (w : Write) (ws : List Write) → w ∷ ws ≡ [] → ⊥
+cons_some w ws e = cc
+
+creating_piece : (s : Session) (w x : Write) (ws : List Write) (es : List Happening) → s.pending ≡ w ∷ x ∷ ws → Creating s es → Creating (after_piece s (x ∷ ws)) (shows w ∷ es)
+creating_piece s w x ws es pending c =
+    record {
+      pieces = append_assoc (hist es) (w ∷ []) (x ∷ ws) ∙ ap (λ p. hist es ++ p) (sym pending) ∙ c.pieces;
+      some = λ e. cc;
+      some_rows = c.some_rows;
+      chunk_bound = c.chunk_bound;
+      file = c.file;
+      committed = c.committed;
+      waiting = c.waiting;
+      appended = c.appended;
+      flushed = λ k. c.flushed (k + 1);
+    }
+
+-- the superblock is the creation's last piece
+creating_last : (s : Session) (w : Write) (es : List Happening) → s.pending ≡ w ∷ [] → Creating s es → Running (after_piece s []) (shows w ∷ es)
+creating_last s w es pending c =
+    let rows = s.file.chunk_rows in
+    let all : hist es ++ w ∷ [] ≡ creation_writes rows = ap (λ p. hist es ++ p) (sym pending) ∙ c.pieces in
+    let file : Represents (image [] (hist es ++ w ∷ [])) (first_moment rows) =
+    subst (λ (ws : List Write). Represents (image [] ws) (first_moment rows)) (sym all) (created_represents rows c.some_rows c.chunk_bound) in
+    record {
+      before = first_moment rows;
+      after = first_moment rows;
+      represents = file;
+      flush = refl;
+      file = sym c.file;
+      further = refl;
+      committed = ap (λ (f : FileFields). f.rows) c.file;
+      appended = c.waiting ∙ sym c.appended;
+      flushed = λ k. c.flushed (k + 1) ∙ sym (same_choice (nat_lt k 0) []);
+      past = λ p low high.
+          let whole : take p (hist es ++ w ∷ []) ≡ hist es ++ w ∷ [] = take_all p (hist es ++ w ∷ []) (omega (arith, ap length all)) in
+          (first_moment rows, subst (λ (ws : List Write). Represents (image [] ws) (first_moment rows)) (sym whole) file);
+    }
+
+-- the values that are flushed after k more pieces, with one piece less to come
+flushed_step : (k : ℕ) (a b c x : List ℤ) (ws : List Write) → (ws ≢ [] → b ≡ a) → (ws ≡ [] → c ≡ b) → x ≡ (if nat_lt (k + 1) (length ws + 1) then a else c) → x ≡ (if nat_lt k (length ws) then b else c)
+flushed_step k a b c x [] keep last is = is ∙ ge_choice (k + 1) 1 a c (omega arith) ∙ sym (ge_choice k 0 b c (omega arith))
+flushed_step k a b c x (w ∷ ws) keep last is =
+    elim (cases_lt k (length (w ∷ ws))) [
+      | inl below ↦
+          is ∙ lt_choice (k + 1) (length (w ∷ ws) + 1) a c (omega arith) ∙ sym (keep (λ e. cc)) ∙ sym (lt_choice k (length (w ∷ ws)) b c below)
+      | inr above ↦ is ∙ ge_choice (k + 1) (length (w ∷ ws) + 1) a c (omega arith) ∙ sym (ge_choice k (length (w ∷ ws)) b c above)
+    ]
+
+past_piece : (es : List Happening) (w : Write) (n : Moment) → Represents (apply w (image [] (hist es))) n → Past es → Past (shows w ∷ es)
+past_piece es w n file past p low high =
+    let last = length (hist es) in
+    elim (cases_lt last p) [
+      | inl next ↦
+          let is : p ≡ last + 1 = omega (arith, length-append (hist es) (w ∷ [])) in
+          let same : images_of (shows w ∷ es) p ≡ apply w (image [] (hist es)) = ap (images_of (shows w ∷ es)) is ∙ image_next es w in
+          (n, subst (λ (x : List ℕ). Represents x n) (sym same) file)
+      | inr before ↦
+          let there = past p low before in
+          (there.0, subst (λ (x : List ℕ). Represents x there.0) (sym (images_before es w p before)) there.1)
+    ]
+
+-- the rows that a session has before its next piece
+abbrev committed_after : Session → List Write → ℕ
+committed_after s ws = (after_piece s ws).committed
+
+running_committed : (s : Session) (ws : List Write) (m n b : Moment) → s.committed ≡ length m.values → n.file ≡ s.file → length b.values ≡ b.file.rows
+    → (ws ≢ [] → b.values ≡ m.values) → Flushing b ws n → committed_after s ws ≡ length b.values
+running_committed s [] m n b before file count keep rest =
+    sym (ap (λ (f : FileFields). f.rows) file) ∙ ap (λ (x : Moment). x.file.rows) rest ∙ sym count
+running_committed s (w ∷ ws) m n b before file count keep rest = before ∙ ap length (sym (keep (λ e. cc)))
+
+last_piece : (ws : List Write) (b n : Moment) → Flushing b ws n → ws ≡ [] → n.values ≡ b.values
+last_piece [] b n rest is = ap (λ (x : Moment). x.values) rest
+last_piece (w ∷ ws) b n rest is = absurd (cons_some w ws is)
+
+running_piece : (s : Session) (w : Write) (ws : List Write) (es : List Happening) → s.pending ≡ w ∷ ws → Running s es → Running (after_piece s ws) (shows w ∷ es)
+running_piece s w ws es pending r =
+    let flush : Flushing r.before (w ∷ ws) r.after = subst (λ (ps : List Write). Flushing r.before ps r.after) pending r.flush in
+    let between = flush.0 in
+    let file : Represents (apply w (image [] (hist es))) between = step_kept (image [] (hist es)) r.before w between r.represents flush.1 in
+    record {
+      before = between;
+      after = r.after;
+      represents = subst (λ (img : List ℕ). Represents img between) (sym (image-push [] (hist es) w)) file;
+      flush = subst (λ (ps : List Write). Flushing between ps r.after) (sym (after_pending s ws)) flush.3;
+      file = r.file ∙ sym (after_file s ws);
+      further = r.further;
+      committed = running_committed s ws r.before r.after between r.committed r.file file.count flush.2 flush.3;
+      appended = ap (λ (vs : List ℤ). r.after.values ++ vs) (after_waiting s ws) ∙ r.appended;
+      flushed = λ k.
+          let is : flushed_in (k + 1) [] es ≡ (if nat_lt (k + 1) (length ws + 1) then r.before.values else r.after.values) =
+          r.flushed (k + 1) ∙ ap (λ (n : ℕ). if nat_lt (k + 1) n then r.before.values else r.after.values) (ap length pending ∙ omega arith) in
+          flushed_step k r.before.values between.values r.after.values (flushed_in (k + 1) [] es) ws flush.2 (last_piece ws between r.after flush.3) is
+          ∙ ap (λ (ps : List Write). if nat_lt k (length ps) then between.values else r.after.values) (sym (after_pending s ws));
+      past = past_piece es w between file r.past;
+    }
+
+-- what the image reads as is what is flushed
+flushed_now : (s : Session) (es : List Happening) → (r : Running s es) → r.before.values ≡ flushed_in 0 [] es
+flushed_now s es r =
+    elim (cases_lt 0 (length s.pending)) [
+      | inl some ↦ sym (r.flushed 0 ∙ lt_choice 0 (length s.pending) r.before.values r.after.values some)
+      | inr none_left ↦
+          let none : s.pending ≡ [] = nil_from_length s.pending (omega arith) in
+          let same : r.after ≡ r.before = subst (λ (ps : List Write). Flushing r.before ps r.after) none r.flush in
+          ap (λ (m : Moment). m.values) (sym same) ∙ sym (r.flushed 0 ∙ ge_choice 0 (length s.pending) r.before.values r.after.values none_left)
+    ]
+
+reads_running : (e : Happening) (s : Session) (es : List Happening) → Running s (e ∷ es) → PrefixedEach dataset_name (log_of es) → PrefixedEach dataset_name (log_of (e ∷ es))
+reads_running e s es r each = reads_more e es r.before r.represents (flushed_now s (e ∷ es) r) each
+
+creating_size : (s : Session) (es : List Happening) → Creating s es → length (hist es) + length s.pending ≡ 5
+creating_size s es c = sym (length-append (hist es) s.pending) ∙ ap length c.pieces
+
+shows_creating : (s : Session) (w : Write) (ws : List Write) (es : List Happening) → s.pending ≡ w ∷ ws → Creating s es → PrefixedEach dataset_name (log_of es) → Stands (after_piece s ws) (log_of (shows w ∷ es))
+shows_creating s w [] es pending c each =
+    let r = creating_last s w es pending c in
+    let size = creating_size s es c in
+    record {
+      is = refl;
+      phase = inr r;
+      prefixed = reads_running (shows w) (after_piece s []) es r each;
+      still = λ k low high. absurd (omega (arith, length-append (hist es) (w ∷ []), ap length pending));
+    }
+shows_creating s w (x ∷ ws) es pending c each =
+    let size = creating_size s es c in
+    record {
+      is = refl;
+      phase = inl (creating_piece s w x ws es pending c);
+      prefixed = (λ h. absurd (omega (arith, shown-length es, ap length pending)), EachReads-later (log_of es) (shows w) es each);
+      still = λ k low high. absurd (omega (arith, length-append (hist es) (w ∷ []), ap length pending));
+    }
+
+shows_running : (s : Session) (w : Write) (ws : List Write) (es : List Happening) → s.pending ≡ w ∷ ws → Running s es
+    → PrefixedEach dataset_name (log_of es) → Still dataset_name (log_of es) → Stands (after_piece s ws) (log_of (shows w ∷ es))
+shows_running s w ws es pending r each still =
+    let flush : Flushing r.before (w ∷ ws) r.after = subst (λ (ps : List Write). Flushing r.before ps r.after) pending r.flush in
+    record {
+      is = refl;
+      phase = inr (running_piece s w ws es pending r);
+      prefixed = reads_running (shows w) (after_piece s ws) es (running_piece s w ws es pending r) each;
+      still = still_shows es w r.before flush.0 r.represents flush.1 r.past still;
+    }
+
+stands_shows : (s : Session) (w : Write) (ws : List Write) (es : List Happening) → s.pending ≡ w ∷ ws → Stands s (log_of es) → Stands (after_piece s ws) (log_of (shows w ∷ es))
+stands_shows s w ws es pending stands =
+    elim stands.phase [
+      | inl creating ↦ shows_creating s w ws es pending creating stands.prefixed
+      | inr running ↦ shows_running s w ws es pending running stands.prefixed stands.still
+    ]
+
+-- over every log
+over_log : (s t : Session) (e : Happening) → ((es : List Happening) → Stands s (log_of es) → Stands t (log_of (e ∷ es))) → (log : Log) → Stands s log → Stands t (and_now e log)
+over_log s t e step log stands =
+    let P : Log → Type 0 = λ l. Stands t (and_now e l) in
+    subst P (sym stands.is) (step log.events (subst (λ (l : Log). Stands s l) stands.is stands))
+
+-- a piece that became visible
+pub piece_shown : (s : Session) (w : Write) (ws : List Write) → s.pending ≡ w ∷ ws → (log : Log) → Stands s log → Stands (after_piece s ws) (and_now (shows w) log)
+piece_shown s w ws pending = over_log s (after_piece s ws) (shows w) (λ es. stands_shows s w ws es pending)
+
+-- ---- Rows that are added
+
+running_idle : (s : Session) (es : List Happening) → s.pending ≡ [] → Stands s (log_of es) → Running s es
+running_idle s es none stands = elim stands.phase [ inl creating ↦ absurd (creating.some none) | inr running ↦ running ]
+
+running_added : (s : Session) (vs : List ℤ) (es : List Happening) → Running s es → Running (with_values s vs) (appends vs ∷ es)
+running_added s vs es r =
+    record {
+      before = r.before;
+      after = r.after;
+      represents = r.represents;
+      flush = r.flush;
+      file = r.file;
+      further = r.further;
+      committed = r.committed;
+      appended = sym (append_assoc r.after.values s.waiting vs) ∙ ap (λ (xs : List ℤ). xs ++ vs) r.appended;
+      flushed = r.flushed;
+      past = r.past;
+    }
+
+stands_added : (s : Session) (vs : List ℤ) (es : List Happening) → s.pending ≡ [] → Stands s (log_of es) → Stands (with_values s vs) (log_of (appends vs ∷ es))
+stands_added s vs es none stands =
+    let r = running_added s vs es (running_idle s es none stands) in
+    record {
+      is = refl;
+      phase = inr r;
+      prefixed = reads_running (appends vs) (with_values s vs) es r stands.prefixed;
+      still = still_appends vs es stands.still;
+    }
+
+-- an append that was accepted
+pub rows_added : (s : Session) (vs : List ℤ) → s.pending ≡ [] → (log : Log) → Stands s log → Stands (with_values s vs) (and_now (appends vs) log)
+rows_added s vs none = over_log s (with_values s vs) (appends vs) (λ es. stands_added s vs es none)
+
+-- ---- A flush that is planned
+
+-- what is flushed while nothing is pending
+flushed_idle : (s : Session) (es : List Happening) → s.pending ≡ [] → (r : Running s es) → (k : ℕ) → flushed_in k [] es ≡ r.after.values
+flushed_idle s es none r k = r.flushed k ∙ ge_choice k (length s.pending) r.before.values r.after.values (omega (arith, ap length none))
+
+idle_same : (s : Session) (es : List Happening) → s.pending ≡ [] → (r : Running s es) → r.after ≡ r.before
+idle_same s es none r = subst (λ (ps : List Write). Flushing r.before ps r.after) none r.flush
+
+moment_is : (m : Moment) (f : FileFields) → m.file ≡ f → m.further ≡ [] → m ≡ record { file = f; values = m.values; further = [] }
+moment_is m f file further = λ i. record { file = file i; values = m.values; further = further i }
+
+-- without rows that wait nothing is planned
+running_empty : (s : Session) (es : List Happening) → s.pending ≡ [] → s.waiting ≡ [] → Running s es → Running s (plans 0 ∷ es)
+running_empty s es none no_rows r =
+    let all : r.after.values ≡ appended_in es = sym (append-nil r.after.values) ∙ ap (λ (vs : List ℤ). r.after.values ++ vs) (sym no_rows) ∙ r.appended in
+    record {
+      before = r.before;
+      after = r.after;
+      represents = r.represents;
+      flush = r.flush;
+      file = r.file;
+      further = r.further;
+      committed = r.committed;
+      appended = r.appended;
+      flushed = λ k.
+          cond-true (nat_le 0 k) (appended_in es) (flushed_in k [] es) (le-leb 0 k (omega arith)) ∙ sym all
+          ∙ sym (ge_choice k (length s.pending) r.before.values r.after.values (omega (arith, ap length none)));
+      past = r.past;
+    }
+
+-- the session once these values were planned
+abbrev planned_of : Session → List ℤ → Session
+planned_of s rows = record { file = after_rows rows s.file; committed = s.committed; waiting = []; pending = flush_writes s.file rows }
+
+running_planned : (s : Session) (v : ℤ) (vs : List ℤ) (es : List Happening) → IsSession s → s.pending ≡ [] → s.waiting ≡ v ∷ vs → Running s es
+    → Running (planned_of s (v ∷ vs)) (plans (length (flush_writes s.file (v ∷ vs))) ∷ es)
+running_planned s v vs es is none rows r =
+    let p = length (flush_writes s.file (v ∷ vs)) in
+    let same = idle_same s es none r in
+    let idle : r.before ≡ record { file = s.file; values = r.before.values; further = [] } =
+    moment_is r.before s.file (ap (λ (m : Moment). m.file) (sym same) ∙ r.file) (ap (λ (m : Moment). m.further) (sym same) ∙ r.further) in
+    let after : Moment = record { file = grown (length (v ∷ vs)) s.file; values = r.before.values ++ v ∷ vs; further = [] } in
+    let values : r.after.values ≡ r.before.values = ap (λ (m : Moment). m.values) same in
+    let all : after.values ≡ appended_in es = ap (λ (xs : List ℤ). xs ++ v ∷ vs) (sym values) ∙ ap (λ (xs : List ℤ). r.after.values ++ xs) (sym rows) ∙ r.appended in
+    let plan : Flushing (record { file = s.file; values = r.before.values; further = [] }) (flush_writes s.file (v ∷ vs)) after =
+    plan_flushes s.file r.before.values v vs is.is_file is.needed is.counted is.end (subst (λ (xs : List ℤ). div_up (s.file.rows + length xs) s.file.chunk_rows ≤ 4) rows is.room) (subst AllFit rows is.fit) in
+    record {
+      before = r.before;
+      after = after;
+      represents = r.represents;
+      flush = subst (λ (m : Moment). Flushing m (flush_writes s.file (v ∷ vs)) after) (sym idle) plan;
+      file = refl;
+      further = refl;
+      committed = r.committed;
+      appended = append-nil after.values ∙ all;
+      flushed = λ k.
+          elim (cases_lt k p) [
+            | inl below ↦
+                cond-false (nat_le p k) (appended_in es) (flushed_in k [] es) (lt-leb p k below) ∙ flushed_idle s es none r k ∙ values
+                ∙ sym (lt_choice k p r.before.values after.values below)
+            | inr above ↦
+                cond-true (nat_le p k) (appended_in es) (flushed_in k [] es) (le-leb p k above) ∙ sym all ∙ sym (ge_choice k p r.before.values after.values above)
+          ];
+      past = r.past;
+    }
+
+none_planned : (s : Session) → s.pending ≡ [] → s.waiting ≡ [] → s ≡ planned_of s []
+none_planned s none rows = λ i. record { file = s.file; committed = s.committed; waiting = rows i; pending = none i }
+
+stands_planned : (s : Session) (rows : List ℤ) (es : List Happening) → IsSession s → s.pending ≡ [] → s.waiting ≡ rows → Stands s (log_of es)
+    → Stands (planned_of s rows) (log_of (plans (length (planned_of s rows).pending) ∷ es))
+stands_planned s [] es is none rows stands =
+    let r = running_empty s es none rows (running_idle s es none stands) in
+    let empty : Stands s (log_of (plans 0 ∷ es)) =
+    record { is = refl; phase = inr r; prefixed = reads_running (plans 0) s es r stands.prefixed; still = still_plans 0 es stands.still } in
+    subst (λ (t : Session). Stands t (log_of (plans 0 ∷ es))) (none_planned s none rows) empty
+stands_planned s (v ∷ vs) es is none rows stands =
+    let r = running_planned s v vs es is none rows (running_idle s es none stands) in
+    let p = length (flush_writes s.file (v ∷ vs)) in
+    record {
+      is = refl;
+      phase = inr r;
+      prefixed = reads_running (plans p) (planned_of s (v ∷ vs)) es r stands.prefixed;
+      still = still_plans p es stands.still;
+    }
+
+-- a flush that was accepted
+pub flush_planned : (s : Session) → IsSession s → s.pending ≡ [] → (log : Log) → Stands s log → Stands (planned s) (and_now (plans (length (planned s).pending)) log)
+flush_planned s is none = over_log s (planned s) (plans (length (planned s).pending)) (λ es. stands_planned s s.waiting es is none refl)
+
+-- ---- What a session tells of its log
+
+-- what the image is once all pieces of a flush became visible
+flushing_kept : (img : List ℕ) (m : Moment) (ws : List Write) (n : Moment) → Represents img m → Flushing m ws n → Represents (image img ws) n
+flushing_kept img m [] n file flush = subst (λ (x : Moment). Represents img x) (sym flush) file
+flushing_kept img m (w ∷ ws) n file flush = flushing_kept (apply w img) flush.0 ws n (step_kept img m w flush.0 file flush.1) flush.3
+
+rows_creating : (s : Session) (es : List Happening) → Creating s es → rows_of s ≡ length (appended_in es)
+rows_creating s es c =
+    ap (λ (f : FileFields). f.rows + length s.waiting) c.file ∙ ap (λ (vs : List ℤ). 0 + length vs) c.waiting ∙ omega arith ∙ sym (ap length c.appended)
+
+rows_running : (s : Session) (es : List Happening) → Running s es → rows_of s ≡ length (appended_in es)
+rows_running s es r =
+    let last = flushing_kept (image [] (hist es)) r.before s.pending r.after r.represents r.flush in
+    let count : length r.after.values ≡ s.file.rows = last.count ∙ ap (λ (f : FileFields). f.rows) r.file in
+    let all : length r.after.values + length s.waiting ≡ length (appended_in es) = sym (length-append r.after.values s.waiting) ∙ ap length r.appended in
+    omega arith
+
+pub rows_are : (s : Session) (log : Log) → Stands s log → rows_of s ≡ length (appended log)
+rows_are s log stands =
+    let es = log.events in
+    let rows : rows_of s ≡ length (appended_in es) = elim stands.phase [ inl creating ↦ rows_creating s es creating | inr running ↦ rows_running s es running ] in
+    rows ∙ ap (λ (l : Log). length (l.values ++ appended_in es)) (sym stands.is)
+
+-- where nothing is pending, the image reads as the flushed rows
+pub stands_reads : (s : Session) (log : Log) → Stands s log → s.pending ≡ [] → Reads (image log.start (hist log.events)) dataset_name (flushed log)
+stands_reads s log stands none =
+    let es = log.events in
+    let r : Running s es = elim stands.phase [ inl creating ↦ absurd (creating.some none) | inr running ↦ running ] in
+    let now : Reads (image [] (hist es)) dataset_name (flushed_in 0 [] es) =
+    subst (λ (vs : List ℤ). Reads (image [] (hist es)) dataset_name vs) (flushed_now s es r) (reads_now (image [] (hist es)) r.before r.represents) in
+    let P : Log → Type 0 = λ l. Reads (image l.start (hist es)) dataset_name (flushed_in 0 l.values es) in
+    subst P (sym stands.is) now
+
+-- and the file has these rows
+pub flushed_rows : (s : Session) (log : Log) → Stands s log → s.pending ≡ [] → length (flushed log) ≡ s.file.rows
+flushed_rows s log stands none =
+    let es = log.events in
+    let r : Running s es = elim stands.phase [ inl creating ↦ absurd (creating.some none) | inr running ↦ running ] in
+    let count : length r.before.values ≡ s.file.rows = r.represents.count ∙ ap (λ (m : Moment). m.file.rows) (sym (idle_same s es none r)) ∙ ap (λ (f : FileFields). f.rows) r.file in
+    ap (λ (l : Log). length (flushed_in 0 l.values es)) stands.is ∙ sym (ap length (flushed_now s es r)) ∙ count

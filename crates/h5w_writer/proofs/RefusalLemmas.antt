@@ -1,0 +1,152 @@
+-- Which refusal applies.
+use Rattle.std.proofs.Common.{◌≡◌, ℕ, suc, ◌+◌, ◌-◌, ◌*◌, ◌/◌, ◌%◌, ◌<◌, ◌≤◌, min, List, [], ◌∷◌, ◌++◌, length, take, drop, ℤ, if◌then◌else◌, Option, Some, None, Result, Ok, Err, Bool, true, false, nat_lt, sym, refl, ap, ◌∙◌, subst, inl, inr, arith}
+use Rattle.std.proofs.lemmas.List.{nil_from_length}
+use Rattle.std.proofs.lemmas.Bool.{cases_lt, lt-ltb, le-ltb, cond-true, cond-false}
+use Rattle.std.specs.Int.{div_ceil}
+use Rattle.std.specs.Option.{MatchOption}
+use Rattle.h5w_model.specs.Logs.{div_up}
+use Rattle.h5w_model.specs.Lawful.{first_outside}
+use Rattle.h5w_model.specs.Integers.{cell_bytes_of}
+use Rattle.h5w_writer.specs.Files.{FileFields, int_type, AllFit}
+use Rattle.h5w_model.specs.Logs.{Log, and_now, appends}
+use Rattle.h5w_model.specs.declared.piece.Write.{Write}
+use Rattle.h5w_writer.specs.Sessions.{Session, IsSession, Stands, session_of, with_values, rows_of, chunk_limit}
+use Rattle.h5w_writer.specs.Refusals.{append_refusal, flush_refusal, chunks_with}
+use Rattle.h5w_writer.specs.declared.refusal.AppendError.{AppendError}
+use Rattle.h5w_writer.specs.declared.refusal.AppendError.TheVariants as answers
+use Rattle.h5w_writer.proofs.ChunkLemmas.{div_up_is}
+use Rattle.h5w_writer.proofs.PlanLemmas.{in_chunk}
+use Rattle.h5w_writer.proofs.EventLemmas.{rows_added}
+use Rattle.h5w_writer.proofs.SessionLemmas.{values_is}
+use Rattle.h5w_writer.proofs.CellLemmas.{fit_cons, none_fit}
+
+-- the quotient rounded up
+pub div_ceil-up : (rows per : ℕ) → 1 ≤ per → div_ceil rows per ≡ div_up rows per
+div_ceil-up rows per some =
+    let split = in_chunk rows per some in
+    let q = rows / per + min 1 (rows % per) in
+    elim (cases_lt 0 (rows % per)) [
+      | inl rest ↦
+          let is : q ≡ rows / per + 1 = omega arith in
+          let product : q * per ≡ rows / per * per + per = ap (λ (n : ℕ). n * per) is ∙ grind arith in
+          sym (div_up_is rows per q some (omega (arith, split.0)) (omega (arith, split.0)))
+      | inr none ↦
+          let is : q ≡ rows / per = omega arith in
+          let product : q * per ≡ rows / per * per = ap (λ (n : ℕ). n * per) is in
+          sym (div_up_is rows per q some (omega (arith, split.0)) (omega (arith, split.0)))
+    ]
+
+pub chunks_are : (s : Session) (rows per more : ℕ) → rows ≡ rows_of s → per ≡ s.file.chunk_rows → 1 ≤ per → div_ceil (rows + more) per ≡ chunks_with s more
+chunks_are s rows per more counted size some = div_ceil-up (rows + more) per some ∙ ap (λ (n : ℕ). div_up (n + more) per) counted ∙ ap (λ (n : ℕ). div_up (rows_of s + more) n) size
+
+pub too_many : (s : Session) (values : List ℤ) (chunks : ℕ) → length s.pending ≤ 0 → None ≡ first_outside int_type 0 values → chunks ≡ chunks_with s (length values) → 4 < chunks
+    → append_refusal s values ≡ Some (answers.Chunks chunks 4)
+too_many s values chunks idle inside is many =
+    let test : nat_lt chunk_limit (chunks_with s (length values)) ≡ true = lt-ltb 4 (chunks_with s (length values)) (omega arith) in
+    rw (le-ltb 0 (length s.pending) idle, ← inside, test) (ap (λ (n : ℕ). Some (answers.Chunks n 4)) (sym is))
+
+pub not_refused : (s : Session) (values : List ℤ) (chunks : ℕ) → length s.pending ≤ 0 → None ≡ first_outside int_type 0 values → chunks ≡ chunks_with s (length values) → chunks ≤ 4 → append_refusal s values ≡ None
+not_refused s values chunks idle inside is few =
+    let test : nat_lt chunk_limit (chunks_with s (length values)) ≡ false = le-ltb 4 (chunks_with s (length values)) (omega arith) in
+    rw (le-ltb 0 (length s.pending) idle, ← inside, test) refl
+
+-- ---- What is not refused
+
+-- an answer of this kind comes where nothing is refused
+some_none : (e : AppendError) → Some e ≡ None → ⊥
+some_none e clash = cc
+
+pub accepted : (refusal : Option AppendError) (r : Result (Unit {0}) AppendError) → MatchOption refusal (r ≡ Ok tt) (λ e. r ≡ Err e) → r ≡ Ok tt → refusal ≡ None
+accepted None r is ok = refl
+accepted (Some e) r is ok = let clash : Err e ≡ Ok tt = sym is ∙ ok in cc
+
+-- the first value that is outside, by whether this one has a cell
+abbrev by_cell : ℕ → ℤ → List ℤ → Option (List ℕ) → Option (ℕ × ℤ)
+by_cell i v vs (Some b) = first_outside int_type (i + 1) vs
+by_cell i v vs None = Some (i, v)
+
+first_outside-cons : (i : ℕ) (v : ℤ) (vs : List ℤ) → first_outside int_type i (v ∷ vs) ≡ by_cell i v vs (cell_bytes_of v int_type)
+first_outside-cons i v vs = refl
+
+record HasCell (i : ℕ) (v : ℤ) (vs : List ℤ) : Type 0 where
+  bytes : List ℕ
+  is : cell_bytes_of v int_type ≡ Some bytes
+  rest : first_outside int_type (i + 1) vs ≡ None
+
+has_cell : (i : ℕ) (v : ℤ) (vs : List ℤ) (o : Option (List ℕ)) → cell_bytes_of v int_type ≡ o → by_cell i v vs o ≡ None → HasCell i v vs
+has_cell i v vs (Some b) is inside = record { bytes = b; is = is; rest = inside }
+has_cell i v vs None is inside = cc
+
+pub fit_from_none : (i : ℕ) (vs : List ℤ) → first_outside int_type i vs ≡ None → AllFit vs
+fit_from_none i [] inside = none_fit
+fit_from_none i (v ∷ vs) inside =
+    let first = has_cell i v vs (cell_bytes_of v int_type) refl (sym (first_outside-cons i v vs) ∙ inside) in
+    fit_cons v vs first.bytes first.is (fit_from_none (i + 1) vs first.rest)
+
+-- what holds where an append is not refused
+pub record Accepted (s : Session) (values : List ℤ) : Type 0 where
+  pub idle : s.pending ≡ []
+  pub fit : AllFit values
+  pub room : chunks_with s (length values) ≤ chunk_limit
+
+no_pending : (s : Session) (values : List ℤ) → append_refusal s values ≡ None → length s.pending ≤ 0
+no_pending s values none =
+    elim (cases_lt 0 (length s.pending)) [
+      | inl some ↦
+          let test : append_refusal s values ≡ Some (answers.Busy (length s.pending)) = rw (lt-ltb 0 (length s.pending) some) refl in
+          let clash : Some (answers.Busy (length s.pending)) ≡ None = sym test ∙ none in
+          absurd (some_none (answers.Busy (length s.pending)) clash)
+      | inr idle ↦ idle
+    ]
+
+-- the part of the refusal that speaks of the values
+abbrev value_refusal : Session → List ℤ → Option (ℕ × ℤ) → Option AppendError
+value_refusal s values (Some x) = Some (answers.OutOfRange x.0 x.1)
+value_refusal s values None = if nat_lt chunk_limit (chunks_with s (length values)) then Some (answers.Chunks (chunks_with s (length values)) chunk_limit) else None
+
+refusal-idle : (s : Session) (values : List ℤ) → length s.pending ≤ 0 → append_refusal s values ≡ value_refusal s values (first_outside int_type 0 values)
+refusal-idle s values idle = rw (le-ltb 0 (length s.pending) idle) refl
+
+none_outside : (s : Session) (values : List ℤ) (o : Option (ℕ × ℤ)) → value_refusal s values o ≡ None → o ≡ None
+none_outside s values None is = refl
+none_outside s values (Some x) is = absurd (some_none (answers.OutOfRange x.0 x.1) is)
+
+few_chunks : (s : Session) (values : List ℤ) → value_refusal s values None ≡ None → chunks_with s (length values) ≤ chunk_limit
+few_chunks s values is =
+    elim (cases_lt chunk_limit (chunks_with s (length values))) [
+      | inl many ↦
+          let test : value_refusal s values None ≡ Some (answers.Chunks (chunks_with s (length values)) chunk_limit) = rw (lt-ltb chunk_limit (chunks_with s (length values)) many) refl in
+          absurd (some_none (answers.Chunks (chunks_with s (length values)) chunk_limit) (sym test ∙ is))
+      | inr few ↦ few
+    ]
+
+pub is_accepted : (s : Session) (values : List ℤ) → append_refusal s values ≡ None → Accepted s values
+is_accepted s values none =
+    let idle = no_pending s values none in
+    let left : value_refusal s values (first_outside int_type 0 values) ≡ None = sym (refusal-idle s values idle) ∙ none in
+    let inside : first_outside int_type 0 values ≡ None = none_outside s values (first_outside int_type 0 values) left in
+    record {
+      idle = nil_from_length s.pending (omega arith);
+      fit = fit_from_none 0 values inside;
+      room = few_chunks s values (ap (value_refusal s values) (sym inside) ∙ left);
+    }
+
+-- ---- An append that was accepted
+
+pub appended_session : (old : Session) (f : FileFields) (rows : ℕ) (values items more : List ℤ) (plan : List Write) (shown : ℕ) → session_of f rows values plan shown ≡ old → items ≡ values ++ more
+    → session_of f rows items plan shown ≡ with_values old more
+appended_session old f rows values items more plan shown view is =
+    (λ i. record { file = f; committed = rows; waiting = is i; pending = drop shown plan }) ∙ ap (λ (s : Session). with_values s more) view
+
+pub appended_is : (old : Session) (f : FileFields) (rows : ℕ) (values items more : List ℤ) (plan : List Write) (shown : ℕ) → session_of f rows values plan shown ≡ old → items ≡ values ++ more
+    → append_refusal old more ≡ None → IsSession (session_of f rows values plan shown) → IsSession (session_of f rows items plan shown)
+appended_is old f rows values items more plan shown view added none is =
+    let free = is_accepted old more none in
+    let was : IsSession old = subst IsSession view is in
+    subst IsSession (sym (appended_session old f rows values items more plan shown view added)) (values_is old more free.fit free.room was)
+
+pub appended_stands : (old : Session) (f : FileFields) (rows : ℕ) (values items more : List ℤ) (plan : List Write) (shown : ℕ) → session_of f rows values plan shown ≡ old → items ≡ values ++ more
+    → append_refusal old more ≡ None → (log : Log) → Stands old log → Stands (session_of f rows items plan shown) (and_now (appends more) log)
+appended_stands old f rows values items more plan shown view added none log stands =
+    let free = is_accepted old more none in
+    subst (λ (s : Session). Stands s (and_now (appends more) log)) (sym (appended_session old f rows values items more plan shown view added)) (rows_added old more free.idle log stands)

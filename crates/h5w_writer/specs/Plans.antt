@@ -1,0 +1,79 @@
+-- What each piece of a plan does to a file, and what the file is once all of them became visible.
+use Rattle.std.specs.Prelude.{◌≡◌, ◌⊎◌, ℕ, ◌+◌, ◌<◌, ◌≤◌, ◌^◌, List, [], ◌∷◌, ◌++◌, length, ℤ}
+use Rattle.h5w_model.specs.Images.{Holds, ApartEach, Misses}
+use Rattle.h5w_model.specs.declared.piece.Write.{Write}
+use Rattle.h5w_writer.specs.Files.{FileFields, Moment, IsFile, AllFit, CellsAt, Rising, blocks, super_block, root_block, header_block, array_block, index_block, cell_place, first_end, chunk_len}
+
+-- the write of a block at its place
+pub record Writes (w : Write) (block : ℕ × List ℕ) : Type 0 where
+  pub place : w.at ≡ block.0
+  pub bytes : w.piece ≡ block.1
+
+-- a piece meets no cell of the file's rows
+abbrev pub MissesCells : Write → FileFields → Type 0
+MissesCells w f = (row : ℕ) → row < f.rows → Misses w (cell_place f row) 4
+
+-- bytes of chunks, which meet nothing that is read, and stand there from now on
+pub record ChunkPiece (m : Moment) (w : Write) (n : Moment) : Type 0 where
+  pub is : n ≡ record m { further = (w.at, w.piece) ∷ m.further }
+  pub off_blocks : ApartEach w.at (length w.piece) (blocks m.file)
+  pub off_cells : MissesCells w m.file
+  pub off_further : ApartEach w.at (length w.piece) m.further
+
+-- the end-of-file address rises, over bytes that are there
+pub record RaisesEnd (m : Moment) (w : Write) (n : Moment) : Type 0 where
+  pub is : n ≡ record m { file = record (m.file) { end = n.file.end } }
+  pub writes : Writes w (super_block n.file)
+  pub rises : m.file.end ≤ n.file.end
+  pub bound : n.file.end < 2 ^ 63
+  pub there : (img : List ℕ) → Holds img m.further → n.file.end ≤ length img
+
+-- the index block names more chunks, below the end-of-file address
+pub record NamesChunks (m : Moment) (w : Write) (n : Moment) : Type 0 where
+  pub more : List ℕ
+  pub is : n ≡ record m { file = record (m.file) { addresses = m.file.addresses ++ more } }
+  pub writes : Writes w (index_block n.file)
+  pub few : length n.file.addresses ≤ 4
+  pub apart : Rising (first_end m.file.chunk_rows) (chunk_len m.file.chunk_rows) n.file.addresses n.file.end
+
+-- the array's header counts them
+pub record CountsChunks (m : Moment) (w : Write) (n : Moment) : Type 0 where
+  pub is : n ≡ record m { file = record (m.file) { top = length (m.file.addresses) } }
+  pub writes : Writes w (array_block n.file)
+
+-- the dataset's rows rise, over cells that are there
+pub record Commits (m : Moment) (w : Write) (n : Moment) : Type 0 where
+  pub more : List ℤ
+  pub is : n ≡ record { file = record (m.file) { rows = m.file.rows + length more }; values = m.values ++ more; further = [] }
+  pub writes : Writes w (header_block n.file)
+  pub some : 0 < length more
+  pub fit : AllFit more
+  pub is_file : IsFile n.file
+  pub there : (img : List ℕ) → Holds img m.further → CellsAt img m.file m.file.rows more
+
+-- what one piece does
+abbrev pub Step : Moment → Write → Moment → Type 0
+Step m w n = ChunkPiece m w n ⊎ (RaisesEnd m w n ⊎ (NamesChunks m w n ⊎ (CountsChunks m w n ⊎ Commits m w n)))
+
+-- what these pieces do, one after another
+abbrev pub Plan : Moment → List Write → Moment → Type 0
+Plan m [] n = n ≡ m
+Plan m (w ∷ ws) n = (between : Moment) × Step m w between × Plan between ws n
+
+-- ---- A new file
+
+-- a file without chunks and rows
+abbrev pub new_file : ℕ → FileFields
+new_file rows_of_chunk = record { chunk_rows = rows_of_chunk; end = first_end rows_of_chunk; addresses = []; top = 0; rows = 0 }
+
+abbrev pub first_moment : ℕ → Moment
+first_moment rows_of_chunk = record { file = new_file rows_of_chunk; values = []; further = [] }
+
+-- the pieces of a new file: the index, the dataset header, the root header, and last the superblock
+abbrev pub block_write : ℕ × List ℕ → Write
+block_write b = record { at = b.0; piece = b.1 }
+
+abbrev pub creation_writes : ℕ → List Write
+creation_writes rows_of_chunk =
+    block_write (index_block (new_file rows_of_chunk)) ∷ block_write (array_block (new_file rows_of_chunk))
+    ∷ block_write (header_block (new_file rows_of_chunk)) ∷ block_write root_block ∷ block_write (super_block (new_file rows_of_chunk)) ∷ []
