@@ -1,0 +1,24 @@
+use Rattle.std.proofs.Common.{length}
+use Rattle.h5w_reader.specs.Looks.{fed}
+use Rattle.h5w_reader.specs.Walking.{block_left, walked, walking}
+use Rattle.h5w_reader.proofs.WalkLemmas.{fed_more, fed_whole, fits_gather}
+use Rattle.h5w_reader.proofs.PieceLemmas.{along}
+use Rattle.h5w_reader.proofs.walk.Block.feed.Goals as goal
+
+pub feed-requires : goal.feed-requires
+feed-requires c =
+    let s = c.args.self in
+    fits_gather s.gather (block_left s.walk s.gather.start s.len) (length c.args.piece.now) c.requires
+
+pub returns-in-More : goal.returns-in-More
+returns-in-More c =
+    let s = c.args.self in
+    let e = rw c.in-More.is at c.in_ok-gather.ensures in
+    rw e.start (fed_more s.gather c.in-More.gather c.args.piece.now (block_left s.walk s.gather.start s.len) e.left)
+
+pub returns-in-Whole : goal.returns-in-Whole
+returns-in-Whole c =
+    let s = c.args.self in
+    let e = rw c.in-Whole.is at c.in_ok-gather.ensures in
+    along walked c.enter.result (block_left s.walk c.start-place.result s.len c.deref.result.now) (fed c.args.piece.now (walking s)) c.enter.ensures
+    (rw (c.start-place.ensures, c.deref.ensures.value) (fed_whole s.gather c.in-Whole.bytes.items c.args.piece.now (block_left s.walk s.gather.start s.len) e.left))

@@ -1,0 +1,57 @@
+//! The chunks that a dataset's rows need.
+ghost use Rattle.std.specs.Prelude.{◌≡◌, ◌<◌, ◌≤◌, ◌^◌};
+ghost use Rattle.h5w_model.specs.Logs.{div_up};
+ghost use Rattle.h5w_model.specs.Tables.{bands, chunks_across, needed};
+ghost use Rattle.h5w_reader.specs.Described.{described_of};
+
+use crate::dataset::Dataset;
+
+/// How many slots an array's index block has.
+const SLOTS: u64 = 4;
+
+/// How many parts of size `d` it takes for `n`.
+#[tactic(auto, using(crate::proofs::ChunkLemmas::div_up_even, crate::proofs::ChunkLemmas::div_up_odd, crate::proofs::ChunkLemmas::div_up_within))]
+fn div_up(n: u64, d: u64) -> u128
+    requires { 0 < d }
+    ensures exact { result ≡ div_up n d }
+    ensures within { result ≤ n }
+{
+    let whole = u128::from(n / d);
+    if n % d == 0 { whole } else { whole + 1 }
+}
+
+impl Dataset {
+    ghost use Rattle.h5w_model.specs.Tables.{limit_of};
+    ghost use Rattle.h5w_reader.specs.Attempts.{reader_limits};
+
+    /// How many bands of chunks its rows take.
+    pub fn bands(&self) -> u128
+        ensures exact { result ≡ bands (described_of self.now) }
+        ensures fits { result < 2 ^ 64 }
+    {
+        div_up(self.shape.rows, self.layout.chunk.0)
+    }
+
+    /// How many chunks stand side by side.
+    pub fn across(&self) -> u128
+        ensures exact { result ≡ chunks_across (described_of self.now) }
+        ensures fits { result < 2 ^ 64 }
+    {
+        div_up(self.shape.cols, self.layout.chunk.1)
+    }
+
+    /// How many chunks its rows need.
+    #[tactic(auto, using(crate::proofs::ChunkLemmas::product_fits))]
+    pub fn needed(&self) -> u128
+        ensures { result ≡ needed (described_of self.now) }
+    {
+        self.bands() * self.across()
+    }
+
+    /// How many chunks are read at most: those of the slots of an array's index block.
+    pub fn limit(&self) -> u64
+        ensures { result ≡ limit_of reader_limits (described_of self.now).layout.index }
+    {
+        if self.shape.growing { 0 } else { SLOTS }
+    }
+}

@@ -1,0 +1,20 @@
+//! What the messages of a dataset's header say.
+ghost use Rattle.std.specs.Prelude.{◌≡◌, ◌<◌, false};
+ghost use Rattle.h5w_model.specs.Messages.{index_of};
+ghost use Rattle.h5w_types.specs.Fields.{shape_of};
+
+use h5w_layout::{Fill, Layout};
+use h5w_types::{IntType, Shape};
+
+/// A dataset that can be read.
+#[derive(Clone, Copy)]
+pub struct Dataset {
+    pub shape: Shape,
+    pub int_type: IntType,
+    pub fill: Fill,
+    pub layout: Layout,
+    ghost tall: { 0 < layout.chunk.0 },
+    ghost wide: { 0 < layout.chunk.1 },
+    ghost indexed: { layout.index ≡ index_of (shape_of shape) },
+    ghost line: { shape.growing ≡ false → (shape.cols ≡ 1) × (layout.chunk.1 ≡ 1) },
+}

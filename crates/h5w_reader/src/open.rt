@@ -1,0 +1,144 @@
+//! The way from the superblock to the messages of the root header.
+ghost use Rattle.std.specs.Prelude.{◌≡◌, ◌+◌, ◌<◌, ◌≤◌, ◌^◌, min, length, Some, Ok, IfOk};
+ghost use Rattle.h5w_model.specs.Datasets.{super_of};
+
+use crate::found::Found;
+use crate::gather::{Gather, Gathered, below_end};
+use crate::look::Look;
+use crate::refusal::{header_refusal, super_refusal};
+use crate::view::root_view;
+use crate::walk::{Block, Walk, Walked};
+use h5w_model::{OutOfMemory, PIECE, Piece, Prefix, ReadError};
+use h5w_ohdr::prefix;
+use h5w_super::{LEN, Super, decode};
+use std::alloc::Global;
+
+/// What is awaited.
+#[derive(Drop)]
+pub enum Opening {
+    /// The superblock.
+    Super(Gather),
+    /// The first look at the root header, which is at this place.
+    Root(u64),
+    /// What of the root header's chunk 0 is behind its first look.
+    Rest(Prefix, Gather),
+    /// A continuation block of it.
+    Visit(Block),
+}
+
+/// What an opening comes to.
+#[derive(Drop)]
+pub enum Opened {
+    /// The messages of the root header.
+    Found(Vec<Found>),
+    Refused(ReadError),
+    Looks(Opening),
+}
+
+/// The superblock of a file that readers may open, or its refusal.
+fn read_super(bytes: &[u8]) -> Result<Super, ReadError>
+    ensures exact { result ≡ super_of bytes.now }
+{
+    let s = match decode(bytes) {
+        Ok(s) => s,
+        Err(error) => return Err(super_refusal(error)),
+    };
+    if s.flags % 2 != s.flags / 4 % 2 {
+        return Err(ReadError::NotSwmr { flags: s.flags });
+    }
+    Ok(s)
+}
+
+impl Opened {
+    ghost use Rattle.h5w_reader.specs.Opening.{opened, first_rest};
+    ghost use Rattle.h5w_reader.specs.Walking.{walked, chunk_rest};
+
+    /// What the visit of the root header's messages comes to.
+    fn of(w: Walked) -> Opened
+        ensures { opened result ≡ walked w }
+    {
+        match w {
+            Walked::Done(found) => Opened::Found(found),
+            Walked::Refused(error) => Opened::Refused(error),
+            Walked::Visit(block) => Opened::Looks(Opening::Visit(block)),
+        }
+    }
+
+    /// Goes on from what counts of the first look at the root header.
+    fn after_look(alloc: Global, place: u64, first: &Piece) -> Result<Opened, OutOfMemory>
+        requires { place + length first.now ≤ 2 ^ 64 }
+        ensures { IfOk result (λ o. opened o ≡ first_rest place first.now) }
+    {
+        let bytes = first.as_slice();
+        let p = match prefix(bytes) {
+            Ok(p) => p,
+            Err(error) => return Ok(Opened::Refused(header_refusal(place, 0, error)?)),
+        };
+        if p.total <= PIECE as u64 {
+            return Ok(Opened::of(Walk::start(alloc, place, &p, bytes)?));
+        }
+        if u64::MAX - place < PIECE as u64 {
+            return Ok(Opened::of(Walk::start(alloc, place, &p, bytes)?));
+        }
+        let behind = place + PIECE as u64;
+        let got = Vec::from_slice(alloc, bytes)?;
+        let rest = Gather::new(place, got, behind, p.total - PIECE as u64);
+        Ok(Opened::Looks(Opening::Rest(p, rest)))
+    }
+}
+
+impl Opening {
+    ghost use Rattle.h5w_reader.specs.Looks.{next_look, fed, look_of, Fits};
+    ghost use Rattle.h5w_reader.specs.Opening.{opening, opened, root_messages};
+
+    /// From the superblock on.
+    pub fn new(alloc: Global) -> Opening
+        ensures { opening result ≡ root_messages }
+    {
+        Opening::Super(Gather::new(0, Vec::new(alloc), 0, LEN as u64))
+    }
+
+    /// The next look.
+    pub fn want(&self) -> Look
+        ensures next { next_look (opening self.now) ≡ Some (look_of result) }
+        ensures low { 1 ≤ result.len }
+        ensures high { result.len ≤ 512 }
+        ensures inside { result.at + result.len ≤ 2 ^ 64 }
+    {
+        match self {
+            Opening::Super(gather) | Opening::Rest(_, gather) => gather.want(),
+            Opening::Root(place) => Look {
+                at: *place,
+                len: below_end(*place, PIECE as u64) as usize,
+            },
+            Opening::Visit(block) => block.want(),
+        }
+    }
+
+    /// Goes on with the piece that the look gave.
+    pub fn feed(self, alloc: Global, piece: &Piece) -> Result<Opened, OutOfMemory>
+        requires { Fits (next_look (opening self)) (length piece.now) }
+        ensures { IfOk result (λ o. opened o ≡ fed piece.now (opening self)) }
+    {
+        match self {
+            Opening::Super(gather) => match gather.feed(piece)? {
+                Gathered::More(gather) => Ok(Opened::Looks(Opening::Super(gather))),
+                Gathered::Whole(bytes) => Ok(match read_super(&bytes) {
+                    Ok(s) => Opened::Looks(Opening::Root(s.root)),
+                    Err(error) => Opened::Refused(error),
+                }),
+            },
+            Opening::Root(place) => Opened::after_look(alloc, place, &root_view(piece)),
+            Opening::Rest(p, gather) => {
+                let place = gather.start();
+                match gather.feed(piece)? {
+                    Gathered::More(gather) => Ok(Opened::Looks(Opening::Rest(p, gather))),
+                    Gathered::Whole(bytes) => {
+                        Ok(Opened::of(Walk::start(alloc, place, &p, &bytes)?))
+                    }
+                }
+            }
+            Opening::Visit(block) => Ok(Opened::of(block.feed(alloc, piece)?)),
+        }
+    }
+}

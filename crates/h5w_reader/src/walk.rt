@@ -1,0 +1,210 @@
+//! The messages of a header and of its continuation blocks, visited in order.
+ghost use Rattle.std.specs.Prelude.{◌≡◌, ◌+◌, ◌-◌, ◌<◌, ◌≤◌, ◌^◌, ◌∷◌, length, Some, IfOk};
+
+use crate::found::Found;
+use crate::gather::{Gather, Gathered};
+use crate::look::Look;
+use crate::refusal::header_refusal;
+use crate::stack::put_before;
+use h5w_bytes::number;
+use h5w_model::{BlockFault, HeaderError, OutOfMemory, Piece, Prefix, ReadError};
+use h5w_ohdr::{block, messages};
+use std::alloc::Global;
+
+/// The type of a continuation message.
+const CONTINUATION: u8 = 0x10;
+
+/// The fewest bytes of a continuation block.
+const LEAST: u64 = 8;
+
+/// The most continuation blocks of a header.
+const BLOCKS: u8 = 32;
+
+/// How far the visit of a header's messages came.
+#[derive(Drop)]
+pub struct Walk {
+    /// The place of the header.
+    pub header: u64,
+    /// Whether its messages have creation orders.
+    pub tracked: bool,
+    /// How many continuation blocks may still come.
+    pub more: u8,
+    /// The messages that were visited.
+    pub done: Vec<Found>,
+    /// The messages that come next, the last of all first.
+    pub next: Vec<Found>,
+}
+
+/// A visit that waits for a continuation block.
+#[derive(Drop)]
+pub struct Block {
+    walk: Walk,
+    /// How many bytes the block has.
+    len: u64,
+    gather: Gather,
+}
+
+/// What a visit comes to.
+#[derive(Drop)]
+pub enum Walked {
+    /// All messages, in order.
+    Done(Vec<Found>),
+    Refused(ReadError),
+    /// A block is to be looked at first.
+    Visit(Block),
+}
+
+impl Walk {
+    ghost use Rattle.h5w_model.specs.Headers.{block_at, messages_at};
+    ghost use Rattle.h5w_reader.specs.Walking.{walked, walk_left, walk_rest, block_left, chunk_rest, found_of, founds, stack};
+
+    /// Begins with the messages of chunk 0 of the header at `place`, of which these bytes were found.
+    pub fn start(alloc: Global, place: u64, p: &Prefix, bytes: &[u8]) -> Result<Walked, OutOfMemory>
+        requires { place + length bytes.now ≤ 2 ^ 64 }
+        ensures { IfOk result (λ w. walked w ≡ chunk_rest place p.now bytes.now) }
+    {
+        let got = bytes.len();
+        match messages(alloc, bytes) {
+            Ok(msgs) => {
+                let mut next = Vec::new(alloc);
+                put_before(&mut next, msgs, place, got, true)?;
+                let walk = Walk {
+                    header: place,
+                    tracked: p.tracked,
+                    more: BLOCKS,
+                    done: Vec::new(alloc),
+                    next,
+                };
+                walk.go_on(alloc)
+            }
+            Err(error) => Ok(Walked::Refused(header_refusal(place, got, error)?)),
+        }
+    }
+
+    /// Goes on up to the next continuation message, or to the end.
+    pub fn go_on(self, alloc: Global) -> Result<Walked, OutOfMemory>
+        ensures { IfOk result (λ w. walked w ≡ walk_left self) }
+    {
+        let Walk {
+            header,
+            tracked,
+            more,
+            mut done,
+            mut next,
+        } = self;
+        while let Some(m) = next.pop() {
+            if m.kind == CONTINUATION {
+                let walk = Walk {
+                    header,
+                    tracked,
+                    more,
+                    done,
+                    next,
+                };
+                return Ok(walk.visit(alloc, &m));
+            }
+            done.push(m)?;
+        }
+        Ok(Walked::Done(done))
+    }
+
+    /// Goes on at a continuation message.
+    fn visit(self, alloc: Global, m: &Found) -> Walked
+        requires { m.now.kind ≡ 16 }
+        ensures { walked result ≡ walk_rest self.more self.header self.tracked (founds self.done.items) (found_of m.now ∷ stack self.next.items) }
+    {
+        if self.more == 0 {
+            return Walked::Refused(ReadError::Header {
+                at: self.header,
+                error: HeaderError::Continuations,
+            });
+        }
+        let body = m.body.as_slice();
+        let (place, len) = (number(body, 0, 8), number(body, 8, 8));
+        if len < LEAST {
+            return Walked::Refused(ReadError::Damaged {
+                at: place,
+                fault: BlockFault::Cut {
+                    need: LEAST,
+                    got: len,
+                },
+            });
+        }
+        let Walk {
+            header,
+            tracked,
+            more,
+            done,
+            next,
+        } = self;
+        Walked::Visit(Block {
+            walk: Walk {
+                header,
+                tracked,
+                more: more - 1,
+                done,
+                next,
+            },
+            len,
+            gather: Gather::new(place, Vec::new(alloc), place, len),
+        })
+    }
+
+    /// Goes on with the continuation block of `len` bytes at `place`, of which these were found.
+    fn enter(
+        mut self,
+        alloc: Global,
+        place: u64,
+        len: u64,
+        bytes: &[u8],
+    ) -> Result<Walked, OutOfMemory>
+        requires { place + length bytes.now ≤ 2 ^ 64 }
+        ensures { IfOk result (λ w. walked w ≡ block_left self place len bytes.now) }
+    {
+        let got = bytes.len();
+        if (got as u64) < len {
+            return Ok(Walked::Refused(ReadError::Damaged {
+                at: place,
+                fault: BlockFault::Cut {
+                    need: len,
+                    got: got as u64,
+                },
+            }));
+        }
+        match block(alloc, bytes, self.tracked) {
+            Ok(msgs) => {
+                put_before(&mut self.next, msgs, place, got, false)?;
+                self.go_on(alloc)
+            }
+            Err(error) => Ok(Walked::Refused(header_refusal(place, got, error)?)),
+        }
+    }
+}
+
+impl Block {
+    ghost use Rattle.h5w_reader.specs.Looks.{next_look, fed, look_of, Fits};
+    ghost use Rattle.h5w_reader.specs.Walking.{walked, walking};
+
+    /// The next look.
+    pub fn want(&self) -> Look
+        ensures next { next_look (walking self.now) ≡ Some (look_of result) }
+        ensures low { 1 ≤ result.len }
+        ensures high { result.len ≤ 512 }
+        ensures inside { result.at + result.len ≤ 2 ^ 64 }
+    {
+        self.gather.want()
+    }
+
+    /// Goes on with the piece that the look gave.
+    pub fn feed(self, alloc: Global, piece: &Piece) -> Result<Walked, OutOfMemory>
+        requires { Fits (next_look (walking self)) (length piece.now) }
+        ensures { IfOk result (λ w. walked w ≡ fed piece.now (walking self)) }
+    {
+        let Block { walk, len, gather } = self;
+        let place = gather.start();
+        match gather.feed(piece)? {
+            Gathered::More(gather) => Ok(Walked::Visit(Block { walk, len, gather })),
+            Gathered::Whole(bytes) => walk.enter(alloc, place, len, &bytes),
+        }
+    }
+}
