@@ -1,0 +1,4 @@
+pub mod Headline
+pub mod Bounds
+pub mod Still
+pub mod Examples

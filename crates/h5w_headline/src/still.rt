@@ -1,0 +1,13 @@
+//! What is answered over looks at one image, as where no writer is at work.
+
+ghost use Rattle.h5w_headline.specs.Still.{StillCalls, StillReads};
+
+/// On a still image an open and a refresh answer what the image gives.
+pub fn still_calls()
+    ensures { StillCalls }
+{}
+
+/// A read of rows in a still image gives the rows that it reads as.
+pub fn still_reads()
+    ensures { StillReads }
+{}

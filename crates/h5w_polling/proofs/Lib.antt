@@ -1,0 +1,9 @@
+pub mod AnswerLemmas
+pub mod EventLemmas
+pub mod CallLemmas
+pub mod PlainLemmas
+pub mod ListLemmas
+pub mod LookLemmas
+pub mod ScriptLemmas
+pub mod BoundLemmas
+pub mod ReadLemmas

@@ -1,0 +1,4 @@
+pub mod Polling
+pub mod Premises
+pub mod Laws
+pub mod Scripts

@@ -1,0 +1,13 @@
+//! A reader that polls within a script of one writer: how what it knows, and what is left of its call, goes with what the
+//! script keeps of it, from its call's beginning over each event of the log to its answer. Each law is the clause of a
+//! function without parameters, its statement a definition in specs/, and the lemmas in proofs/ are for the crates above
+//! to cite. Nothing here runs.
+#![tactic(auto)]
+
+mod calls;
+mod looks;
+mod scripts;
+
+pub use calls::{call_begins, other_events};
+pub use looks::looks_reply;
+pub use scripts::{begin_lines, look_lines, writer_lines};
