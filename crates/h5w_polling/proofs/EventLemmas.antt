@@ -87,7 +87,7 @@ more_level log p q (x ∷ xs) e h = omega (arith, e, h)
 abbrev pub Counts : Log → Log → (from before after : ℕ) → Type 0
 Counts old new from before after = ((ps : List ℕ) → Rising old from (now old) ps → length ps ≤ before + 1) → (ps : List ℕ) → Rising new from (now new) ps → length ps ≤ after + 1
 
-counts_same : (old new : Log) (from n : ℕ) → GoesOn old new → now new ≡ now old → Counts old new from n n
+pub counts_same : (old new : Log) (from n : ℕ) → GoesOn old new → now new ≡ now old → Counts old new from n n
 counts_same old new from n on e counted ps h =
     counted ps (rising_back old new from (now old) ps on (omega arith) (subst (λ (to : ℕ). Rising new from to ps) e h))
 
@@ -126,7 +126,7 @@ positions_counted : (log : Log) → now log ≡ shown log.events
 positions_counted log = length_hist log.events
 
 -- an event that is no piece, and leaves what is flushed
-goes_on_still : (e : Happening) (log : Log) → shown (e ∷ log.events) ≡ shown log.events → length (flushed (and_now e log)) ≡ length (flushed log) → GoesOn log (and_now e log)
+pub goes_on_still : (e : Happening) (log : Log) → shown (e ∷ log.events) ≡ shown log.events → length (flushed (and_now e log)) ≡ length (flushed log) → GoesOn log (and_now e log)
 goes_on_still e log same level =
     let before : now log ≡ shown log.events = positions_counted log in
     let after : now (and_now e log) ≡ shown (e ∷ log.events) = positions_counted (and_now e log) in
@@ -172,7 +172,7 @@ calls_on g old new seen known c left n on counts h = record {
   rises = counts h.from h.within h.rises;
 }
 
-polls_on : (g : Polling) (old new : Log) (seen : ℕ) (known : Option Reading) (call : Option Calling) (left : Option Unfinished) → GoesOn old new
+pub polls_on : (g : Polling) (old new : Log) (seen : ℕ) (known : Option Reading) (call : Option Calling) (left : Option Unfinished) → GoesOn old new
     → ((from n : ℕ) → from ≤ now old → Counts old new from n n) → CallPolls g old seen known call left → CallPolls g new seen known call left
 polls_on g old new seen known None None on counts h = knows_later g new (now old) (now new) seen known on.longer (knows_on g old new (now old) seen known on h)
 polls_on g old new seen known (Some c) (Some left) on counts h = calls_on g old new seen known c left c.rises on (λ from within. counts from c.rises within) h

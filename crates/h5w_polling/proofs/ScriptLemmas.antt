@@ -46,7 +46,7 @@ may_rise g old new (Some x) (Some p) each h = each x p h
 may_rise g old new None (Some p) each h = h
 may_rise g old new (Some x) None each h = h
 
-all_kept : (g : Polling) (old new : Log) (s t : ScriptState) (ps : ℕ → Option Poller) → t.readers ≡ s.readers → ((x : ReaderState) (p : Poller) → Polls g old x p → Polls g new x p)
+pub all_kept : (g : Polling) (old new : Log) (s t : ScriptState) (ps : ℕ → Option Poller) → t.readers ≡ s.readers → ((x : ReaderState) (p : Poller) → Polls g old x p → Polls g new x p)
     → AllPoll g old s ps → AllPoll g new t ps
 all_kept g old new s t ps same each all r =
     subst (λ (xs : List (ℕ × ReaderState)). MayPoll g new (reader_in r xs) (ps r)) (sym same) (may_poll g old new (reader_in r s.readers) (ps r) each (all r))

@@ -1,5 +1,5 @@
 -- How an input is cut into lines.
-use Rattle.std.proofs.Common.{ℕ, zero, suc, ◌+◌, ◌-◌, ◌<◌, ◌≤◌, ◌≡◌, Bool, true, false, List, [], ◌∷◌, ◌++◌, length, take, drop, Option, Some, None, Result, Ok, Err, MatchBool, sym, refl, ap, ◌∙◌, subst, arith, rules, length-append, length-drop}
+use Rattle.std.proofs.Common.{ℕ, zero, suc, ◌+◌, ◌-◌, ◌<◌, ◌≤◌, ◌≡◌, Bool, true, false, List, [], ◌∷◌, ◌++◌, length, take, drop, Option, Some, None, Result, Ok, Err, MatchBool, sym, refl, ap, ◌∙◌, subst, inl, inr, arith, rules, length-append, length-drop}
 use Rattle.std.specs.Prelude.{IfOk, IfSome, MatchOption, option_map, slice_range}
 use Rattle.std.proofs.lemmas.List.{append_assoc, append-nil, length-take-le, take_all, take-append-drop, drop-drop, drop-take, take-append-le}
 use Rattle.std.proofs.Math.Seq.{take-append_seam}
@@ -97,6 +97,7 @@ given_whole line v w h p = record {
   lines = ap (option_map lines_of) p.left ∙ lines_of_whole line w.left h;
   room = omega (arith, length-append line (10 ∷ []), p.room);
   within = subst (λ (a : Option (List ℕ)). IfSome a (λ left. (v.room < length left) × Lacks 10 (take v.room left) → ⊥)) (sym p.left) (whole_within line v.room w.left (omega (arith, length-append line (10 ∷ []), p.room)));
+  passed = inr p;
 }
 
 lines_of_last : (line : List ℕ) (b : Option (List ℕ)) → Lacks 10 line → last_line line ≡ line ∷ [] → IfSome b (λ rest. rest ≡ []) → option_map lines_of (option_map (λ rest. line ++ rest) b) ≡ option_map (λ ls. line ∷ ls) (option_map lines_of b)
@@ -109,6 +110,7 @@ given_last line v w h e p some none = record {
   lines = ap (option_map lines_of) p.left ∙ lines_of_last line w.left h e none;
   room = omega (arith, p.room);
   within = subst (λ (a : Option (List ℕ)). IfSome a (λ left. (v.room < length left) × Lacks 10 (take v.room left) → ⊥)) (sym p.left) (last_within line v.room w.left (omega (arith, p.room)) none);
+  passed = inl p;
 }
 
 over_left : (front : List ℕ) (room : ℕ) (b : Option (List ℕ)) → room ≡ length front → Lacks 10 front → IfSome b (λ rest. 1 ≤ length rest) → IfSome (option_map (λ rest. front ++ rest) b) (λ left. (room < length left) × Lacks 10 (take room left))

@@ -1,5 +1,5 @@
 -- What a reader of lines has before it, and what taking a line leaves.
-use Rattle.std.specs.Prelude.{◌≡◌, ℕ, ◌+◌, ◌<◌, ◌≤◌, Bool, false, List, [], ◌∷◌, ◌++◌, length, take, if◌then◌else◌, MatchBool, Option, IfSome, option_map}
+use Rattle.std.specs.Prelude.{◌≡◌, ◌⊎◌, ℕ, ◌+◌, ◌<◌, ◌≤◌, Bool, false, List, [], ◌∷◌, ◌++◌, length, take, if◌then◌else◌, MatchBool, Option, IfSome, option_map}
 use Rattle.h5w_text.specs.Bytes.{Lacks}
 use Rattle.h5w_text.specs.Lines.{line_limit, lines_of}
 use Rattle.h5w_text.specs.Streams.{SourceView}
@@ -62,6 +62,8 @@ pub record Given (line : List ℕ) (v w : Reading) : Type 0 where
   pub room : w.room < v.room
   -- the line and its end are within the room
   pub within : IfSome v.left (λ left. (v.room < length left) × Lacks 10 (take v.room left) → ⊥)
+  -- the line was passed over, and its end where it has one
+  pub passed : Passed line v w ⊎ Passed (line ++ 10 ∷ []) v w
 
 -- nothing was left
 pub record Ended (v w : Reading) : Type 0 where

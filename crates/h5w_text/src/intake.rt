@@ -14,7 +14,7 @@ use std::marker::Model;
 /// How many bytes are asked for at once.
 const BUFFER: usize = 8192;
 
-/// Bytes that were taken from a source and not given yet.
+/// Bytes that were taken from a source and not given yet, and how many more may be taken.
 #[derive(Drop)]
 pub struct Intake {
     buffer: Vec<u8>,

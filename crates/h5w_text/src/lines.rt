@@ -1,4 +1,4 @@
-ghost use Rattle.std.specs.Prelude.{◌≡◌, ◌+◌, ℕ, List, [], length, Ok, Err, IfOk, MatchOption};
+ghost use Rattle.std.specs.Prelude.{◌≡◌, ℕ, List, Err, IfOk, MatchOption};
 ghost use Rattle.h5w_model.specs.Causes.{Rose};
 ghost use Rattle.h5w_text.specs.Reading.{Ended, Given, IsLine, IsOver, Stays, reading};
 
@@ -7,25 +7,27 @@ use crate::line::{Line, LineError, Partial};
 use crate::streams::Source;
 use std::alloc::Global;
 
-/// The lines of a source, one after another, with a limit on the bytes that are taken from it.
+/// The lines of a source, one after another, with a limit on the bytes that are taken from it. What is taken and
+/// not given yet stands in an intake that is lent, so that source and intake are known again once the lines are let go.
 #[derive(Drop)]
 pub struct Lines<'a, S> {
     alloc: Global,
     source: &'a mut S,
-    intake: Intake,
+    intake: &'a mut Intake,
 }
 
 impl<'a, S: Source> Lines<'a, S> {
-    /// The lines of a source, of which at most `limit` bytes are taken. It takes no memory.
-    pub fn new(alloc: Global, source: &'a mut S, limit: u64) -> Lines<'a, S>
+    /// The lines of what the intake holds and of the source behind it. It takes no memory.
+    pub fn new(alloc: Global, source: &'a mut S, intake: &'a mut Intake) -> Lines<'a, S>
         ensures source { result.source.now ≡ source.old }
         ensures same_reference { result.source.ghost_name ≡ source.entry.ghost_name }
-        ensures nothing_held { result.intake ≡ record { held = []; more = limit; limit = limit } }
+        ensures intake { result.intake.now ≡ intake.old }
+        ensures same_intake { result.intake.ghost_name ≡ intake.entry.ghost_name }
     {
         Lines {
             alloc,
             source,
-            intake: Intake::new(alloc, limit),
+            intake,
         }
     }
 
@@ -33,11 +35,12 @@ impl<'a, S: Source> Lines<'a, S> {
     /// a loop over all of them ends. Input: the line that begins here is not ended within the limit.
     /// After an error it is not said where in the input it stands.
     pub fn next(&mut self) -> Result<Option<Line>, LineError>
-        ensures line { IfOk result (λ o. MatchOption o (Ended (reading (S.view self.old.source.now) self.old.intake) (reading (S.view self.new.source.now) self.new.intake)) (λ l. (line : List ℕ) × IsLine l line × Given line (reading (S.view self.old.source.now) self.old.intake) (reading (S.view self.new.source.now) self.new.intake))) }
-        ensures stays { Stays (reading (S.view self.old.source.now) self.old.intake) (reading (S.view self.new.source.now) self.new.intake) }
-        ensures input { (limit : ℕ) → result ≡ Err (LineError.Input limit) → (limit ≡ self.old.intake.limit) × IsOver (reading (S.view self.old.source.now) self.old.intake) }
+        ensures line { IfOk result (λ o. MatchOption o (Ended (reading (S.view self.old.source.now) self.old.intake.now) (reading (S.view self.new.source.now) self.new.intake.now)) (λ l. (line : List ℕ) × IsLine l line × Given line (reading (S.view self.old.source.now) self.old.intake.now) (reading (S.view self.new.source.now) self.new.intake.now))) }
+        ensures stays { Stays (reading (S.view self.old.source.now) self.old.intake.now) (reading (S.view self.new.source.now) self.new.intake.now) }
+        ensures input { (limit : ℕ) → result ≡ Err (LineError.Input limit) → (limit ≡ self.old.intake.now.limit) × IsOver (reading (S.view self.old.source.now) self.old.intake.now) }
         ensures cause { result ≡ Err LineError.Failed → Rose (S.view self.old.source.now).faults (S.view self.new.source.now).faults }
         ensures same_reference { self.new.source.ghost_name ≡ self.old.source.ghost_name }
+        ensures same_intake { self.new.intake.ghost_name ≡ self.old.intake.ghost_name }
     {
         let mut line = Partial::new(self.alloc);
         loop {

@@ -4,7 +4,8 @@ use std::test::Fail;
 /// The lines of an input; a long one as a question mark.
 fn lines(rt: &HostRuntime, input: &[u8], limit: u64) -> Result<Vec<u8>, LineError> {
     let mut source = MemSource::of(rt.alloc(), input)?;
-    let mut lines = Lines::new(rt.alloc(), &mut source, limit);
+    let mut intake = Intake::new(rt.alloc(), limit);
+    let mut lines = Lines::new(rt.alloc(), &mut source, &mut intake);
     let mut all = Vec::new(rt.alloc());
     for _ in 0..100 {
         let Some(line) = lines.next()? else { break };
@@ -54,7 +55,8 @@ fn more_bytes_than_the_limit_are_refused_where_they_come(rt: HostRuntime) -> Res
         )
     );
     let mut source = MemSource::of(rt.alloc(), b"ab\ncd")?;
-    let mut lines = Lines::new(rt.alloc(), &mut source, 4);
+    let mut intake = Intake::new(rt.alloc(), 4);
+    let mut lines = Lines::new(rt.alloc(), &mut source, &mut intake);
     assert!(rt; matches!(lines.next(), Ok(Some(Line::Whole(_)))));
     assert!(rt; matches!(lines.next(), Err(LineError::Input { limit: 4 })));
     Ok(())
@@ -64,7 +66,8 @@ fn more_bytes_than_the_limit_are_refused_where_they_come(rt: HostRuntime) -> Res
 fn a_source_fails_at_each_call(rt: HostRuntime) -> Result<(), Fail> {
     for call in 1..=2 {
         let mut source = MemSource::with_faults(rt.alloc(), b"ab\n", &[call])?;
-        let mut lines = Lines::new(rt.alloc(), &mut source, 99);
+        let mut intake = Intake::new(rt.alloc(), 99);
+        let mut lines = Lines::new(rt.alloc(), &mut source, &mut intake);
         if call == 2 {
             assert!(rt; matches!(lines.next(), Ok(Some(Line::Whole(_)))));
         }

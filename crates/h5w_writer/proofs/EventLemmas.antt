@@ -1,5 +1,5 @@
 -- A session's relation to its log, event by event.
-use Rattle.std.proofs.Common.{◌≡◌, ◌≢◌, ◌⊎◌, ℕ, zero, suc, ◌+◌, ◌-◌, ◌<◌, ◌≤◌, List, [], ◌∷◌, ◌++◌, length, take, Ok, Option, Some, Result, ℤ, Bool, true, false, cond, if◌then◌else◌, nat_lt, nat_le, sym, refl, ap, ◌∙◌, subst, inl, inr, arith, length-append}
+use Rattle.std.proofs.Common.{◌≡◌, ◌≢◌, ℕ, ◌+◌, ◌<◌, ◌≤◌, List, [], ◌∷◌, ◌++◌, length, take, Option, Some, ℤ, Bool, true, false, if◌then◌else◌, nat_lt, nat_le, sym, refl, ap, ◌∙◌, subst, inl, inr, arith, length-append}
 use Rattle.std.proofs.lemmas.List.{append_assoc, append-nil, take-append-le, take_all, nil_from_length, get_or_append_left}
 use Rattle.std.proofs.lemmas.Option.{slice_get-get_or}
 use Rattle.std.proofs.Math.Seq.{take-length}
@@ -7,14 +7,14 @@ use Rattle.std.specs.List.{slice_get}
 use Rattle.std.proofs.lemmas.Bool.{cases_lt, cond-true, cond-false, lt-ltb, le-ltb, le-leb, lt-leb}
 use Rattle.h5w_model.specs.Images.{apply, image}
 use Rattle.h5w_model.specs.Logs.{Log, Happening, appends, plans, shows, hist, shown, appended, appended_in, flushed, flushed_in, and_now, div_up}
-use Rattle.h5w_model.specs.Prefixed.{EachReads, PrefixedEach, Still, StillAt, Stays, MissesBehind, MissesAll, ReadsNow, IsKey}
-use Rattle.h5w_model.specs.Tables.{Reading, Shows, Reads, reading, address_behind, format_limits}
-use Rattle.h5w_model.specs.Programs.{Visit, eval, visits}
+use Rattle.h5w_model.specs.Prefixed.{EachReads, PrefixedEach, Still, StillAt, Stays, MissesBehind}
+use Rattle.h5w_model.specs.Tables.{Reading, Shows, Reads, format_limits}
 use Rattle.h5w_model.specs.declared.piece.Write.{Write}
 use Rattle.h5w_model.proofs.ImageLemmas.{image-push}
 use Rattle.h5w_writer.specs.Files.{FileFields, AllFit, Moment, Represents, dataset_name, reading_of, summary_of}
-use Rattle.h5w_writer.specs.Plans.{Step, creation_writes, first_moment, new_file}
-use Rattle.h5w_writer.specs.Sessions.{Session, IsSession, Creating, Running, Stands, Flushing, log_of, rows_of, created, after_piece, with_values, planned}
+use Rattle.h5w_writer.specs.Plans.{Step, creation_writes, first_moment}
+use Rattle.h5w_writer.specs.Kept.{space_limit}
+use Rattle.h5w_writer.specs.Sessions.{Session, IsSession, Creating, Running, Goes, Stands, Flushing, AllEndBy, log_of, rows_of, created, after_piece, with_values, planned, going, stopped_of}
 use Rattle.h5w_writer.specs.Flushes.{grown, after_rows, flush_writes}
 use Rattle.h5w_writer.proofs.PlanLemmas.{plan_flushes}
 use Rattle.h5w_writer.proofs.ValidNow.{valid_now}
@@ -23,6 +23,7 @@ use Rattle.h5w_writer.proofs.StepKept.{step_kept}
 use Rattle.h5w_writer.proofs.StepStays.{step_stays}
 use Rattle.h5w_writer.proofs.Shown.{shown_is, misses_shown}
 use Rattle.h5w_writer.proofs.Created.{created_represents}
+use Rattle.h5w_writer.proofs.SessionLemmas.{AllEndBy-append, AllEndBy-more, not_both, created_is, end_few, planned_by}
 
 pub shown-length : (es : List Happening) → shown es ≡ length (hist es)
 shown-length [] = refl
@@ -37,10 +38,10 @@ EachReads-later log e (x ∷ es) each = (each.0, EachReads-later log e es each.1
 
 -- ---- What a piece does to what stood
 
-creating_few : (s : Session) (es : List Happening) → Creating s es → length (hist es) + length s.pending ≡ 5
+pub creating_few : (s : Session) (es : List Happening) → Creating s es → length (hist es) + length s.pending ≡ 5
 creating_few s es c = sym (length-append (hist es) s.pending) ∙ ap length c.pieces
 
-length_pos : (ws : List Write) → ws ≢ [] → 1 ≤ length ws
+pub length_pos : (ws : List Write) → ws ≢ [] → 1 ≤ length ws
 length_pos [] some = absurd (some refl)
 length_pos (w ∷ ws) some = omega arith
 
@@ -115,7 +116,7 @@ images_before es w p h = ap (image []) (take-append-le p (hist es) (w ∷ []) h)
 abbrev Past : List Happening → Type 0
 Past es = (p : ℕ) → 5 ≤ p → p ≤ length (hist es) → (m : Moment) × Represents (images_of es p) m
 
-image_now : (es : List Happening) → images_of es (length (hist es)) ≡ image [] (hist es)
+pub image_now : (es : List Happening) → images_of es (length (hist es)) ≡ image [] (hist es)
 image_now es = ap (image []) (take-length (hist es))
 
 image_next : (es : List Happening) (w : Write) → images_of (shows w ∷ es) (length (hist es) + 1) ≡ apply w (image [] (hist es))
@@ -163,8 +164,8 @@ still_shows es w m n file step past still k low high =
     ]
 
 -- a session begins with the creation's pieces
-pub creation_begins : (rows : ℕ) → 1 ≤ rows → rows ≤ 65536 → Stands (created rows) (log_of [])
-creation_begins rows low high = record {
+creation_goes : (rows : ℕ) → 1 ≤ rows → rows ≤ 65536 → Goes (created rows) (log_of [])
+creation_goes rows low high = record {
   is = refl;
   phase = inl (record { pieces = refl; some = λ e. cc; some_rows = low; chunk_bound = high; file = refl; committed = refl; waiting = refl; appended = refl; flushed = λ k. refl });
   prefixed = λ h. absurd (omega arith);
@@ -232,6 +233,9 @@ creating_last s w es pending c =
       past = λ p low high.
           let whole : take p (hist es ++ w ∷ []) ≡ hist es ++ w ∷ [] = take_all p (hist es ++ w ∷ []) (omega (arith, ap length all)) in
           (first_moment rows, subst (λ (ws : List Write). Represents (image [] ws) (first_moment rows)) (sym whole) file);
+      ends =
+          let is = created_is rows c.some_rows c.chunk_bound in
+          subst (AllEndBy space_limit) (sym (append-nil (hist es ++ w ∷ []) ∙ all)) (AllEndBy-more (created rows).file.end space_limit (creation_writes rows) (end_few (created rows) is) is.within);
     }
 
 -- the values that are flushed after k more pieces, with one piece less to come
@@ -291,6 +295,10 @@ running_piece s w ws es pending r =
           flushed_step k r.before.values between.values r.after.values (flushed_in (k + 1) [] es) ws flush.2 (last_piece ws between r.after flush.3) is
           ∙ ap (λ (ps : List Write). if nat_lt k (length ps) then between.values else r.after.values) (sym (after_pending s ws));
       past = past_piece es w between file r.past;
+      ends =
+          let same : (hist es ++ w ∷ []) ++ (after_piece s ws).pending ≡ hist es ++ s.pending =
+          ap (λ (ps : List Write). (hist es ++ w ∷ []) ++ ps) (after_pending s ws) ∙ append_assoc (hist es) (w ∷ []) ws ∙ ap (λ (ps : List Write). hist es ++ ps) (sym pending) in
+          subst (AllEndBy space_limit) (sym same) r.ends;
     }
 
 -- what the image reads as is what is flushed
@@ -310,7 +318,7 @@ reads_running e s es r each = reads_more e es r.before r.represents (flushed_now
 creating_size : (s : Session) (es : List Happening) → Creating s es → length (hist es) + length s.pending ≡ 5
 creating_size s es c = sym (length-append (hist es) s.pending) ∙ ap length c.pieces
 
-shows_creating : (s : Session) (w : Write) (ws : List Write) (es : List Happening) → s.pending ≡ w ∷ ws → Creating s es → PrefixedEach dataset_name (log_of es) → Stands (after_piece s ws) (log_of (shows w ∷ es))
+shows_creating : (s : Session) (w : Write) (ws : List Write) (es : List Happening) → s.pending ≡ w ∷ ws → Creating s es → PrefixedEach dataset_name (log_of es) → Goes (after_piece s ws) (log_of (shows w ∷ es))
 shows_creating s w [] es pending c each =
     let r = creating_last s w es pending c in
     let size = creating_size s es c in
@@ -330,7 +338,7 @@ shows_creating s w (x ∷ ws) es pending c each =
     }
 
 shows_running : (s : Session) (w : Write) (ws : List Write) (es : List Happening) → s.pending ≡ w ∷ ws → Running s es
-    → PrefixedEach dataset_name (log_of es) → Still dataset_name (log_of es) → Stands (after_piece s ws) (log_of (shows w ∷ es))
+    → PrefixedEach dataset_name (log_of es) → Still dataset_name (log_of es) → Goes (after_piece s ws) (log_of (shows w ∷ es))
 shows_running s w ws es pending r each still =
     let flush : Flushing r.before (w ∷ ws) r.after = subst (λ (ps : List Write). Flushing r.before ps r.after) pending r.flush in
     record {
@@ -340,7 +348,7 @@ shows_running s w ws es pending r each still =
       still = still_shows es w r.before flush.0 r.represents flush.1 r.past still;
     }
 
-stands_shows : (s : Session) (w : Write) (ws : List Write) (es : List Happening) → s.pending ≡ w ∷ ws → Stands s (log_of es) → Stands (after_piece s ws) (log_of (shows w ∷ es))
+stands_shows : (s : Session) (w : Write) (ws : List Write) (es : List Happening) → s.pending ≡ w ∷ ws → Goes s (log_of es) → Goes (after_piece s ws) (log_of (shows w ∷ es))
 stands_shows s w ws es pending stands =
     elim stands.phase [
       | inl creating ↦ shows_creating s w ws es pending creating stands.prefixed
@@ -348,18 +356,18 @@ stands_shows s w ws es pending stands =
     ]
 
 -- over every log
-over_log : (s t : Session) (e : Happening) → ((es : List Happening) → Stands s (log_of es) → Stands t (log_of (e ∷ es))) → (log : Log) → Stands s log → Stands t (and_now e log)
+over_log : (s t : Session) (e : Happening) → ((es : List Happening) → Goes s (log_of es) → Goes t (log_of (e ∷ es))) → (log : Log) → Goes s log → Goes t (and_now e log)
 over_log s t e step log stands =
-    let P : Log → Type 0 = λ l. Stands t (and_now e l) in
-    subst P (sym stands.is) (step log.events (subst (λ (l : Log). Stands s l) stands.is stands))
+    let P : Log → Type 0 = λ l. Goes t (and_now e l) in
+    subst P (sym stands.is) (step log.events (subst (λ (l : Log). Goes s l) stands.is stands))
 
 -- a piece that became visible
-pub piece_shown : (s : Session) (w : Write) (ws : List Write) → s.pending ≡ w ∷ ws → (log : Log) → Stands s log → Stands (after_piece s ws) (and_now (shows w) log)
-piece_shown s w ws pending = over_log s (after_piece s ws) (shows w) (λ es. stands_shows s w ws es pending)
+piece_goes : (s : Session) (w : Write) (ws : List Write) → s.pending ≡ w ∷ ws → (log : Log) → Goes s log → Goes (after_piece s ws) (and_now (shows w) log)
+piece_goes s w ws pending = over_log s (after_piece s ws) (shows w) (λ es. stands_shows s w ws es pending)
 
 -- ---- Rows that are added
 
-running_idle : (s : Session) (es : List Happening) → s.pending ≡ [] → Stands s (log_of es) → Running s es
+running_idle : (s : Session) (es : List Happening) → s.pending ≡ [] → Goes s (log_of es) → Running s es
 running_idle s es none stands = elim stands.phase [ inl creating ↦ absurd (creating.some none) | inr running ↦ running ]
 
 running_added : (s : Session) (vs : List ℤ) (es : List Happening) → Running s es → Running (with_values s vs) (appends vs ∷ es)
@@ -375,9 +383,10 @@ running_added s vs es r =
       appended = sym (append_assoc r.after.values s.waiting vs) ∙ ap (λ (xs : List ℤ). xs ++ vs) r.appended;
       flushed = r.flushed;
       past = r.past;
+      ends = r.ends;
     }
 
-stands_added : (s : Session) (vs : List ℤ) (es : List Happening) → s.pending ≡ [] → Stands s (log_of es) → Stands (with_values s vs) (log_of (appends vs ∷ es))
+stands_added : (s : Session) (vs : List ℤ) (es : List Happening) → s.pending ≡ [] → Goes s (log_of es) → Goes (with_values s vs) (log_of (appends vs ∷ es))
 stands_added s vs es none stands =
     let r = running_added s vs es (running_idle s es none stands) in
     record {
@@ -388,8 +397,8 @@ stands_added s vs es none stands =
     }
 
 -- an append that was accepted
-pub rows_added : (s : Session) (vs : List ℤ) → s.pending ≡ [] → (log : Log) → Stands s log → Stands (with_values s vs) (and_now (appends vs) log)
-rows_added s vs none = over_log s (with_values s vs) (appends vs) (λ es. stands_added s vs es none)
+added_goes : (s : Session) (vs : List ℤ) → s.pending ≡ [] → (log : Log) → Goes s log → Goes (with_values s vs) (and_now (appends vs) log)
+added_goes s vs none = over_log s (with_values s vs) (appends vs) (λ es. stands_added s vs es none)
 
 -- ---- A flush that is planned
 
@@ -420,15 +429,16 @@ running_empty s es none no_rows r =
           cond-true (nat_le 0 k) (appended_in es) (flushed_in k [] es) (le-leb 0 k (omega arith)) ∙ sym all
           ∙ sym (ge_choice k (length s.pending) r.before.values r.after.values (omega (arith, ap length none)));
       past = r.past;
+      ends = r.ends;
     }
 
 -- the session once these values were planned
 abbrev planned_of : Session → List ℤ → Session
-planned_of s rows = record { file = after_rows rows s.file; committed = s.committed; waiting = []; pending = flush_writes s.file rows }
+planned_of s rows = record { file = after_rows rows s.file; committed = s.committed; waiting = []; pending = flush_writes s.file rows; stopped = s.stopped }
 
-running_planned : (s : Session) (v : ℤ) (vs : List ℤ) (es : List Happening) → IsSession s → s.pending ≡ [] → s.waiting ≡ v ∷ vs → Running s es
+running_planned : (s : Session) (v : ℤ) (vs : List ℤ) (es : List Happening) → IsSession s → s.stopped ≡ false → s.pending ≡ [] → s.waiting ≡ v ∷ vs → Running s es
     → Running (planned_of s (v ∷ vs)) (plans (length (flush_writes s.file (v ∷ vs))) ∷ es)
-running_planned s v vs es is none rows r =
+running_planned s v vs es is running none rows r =
     let p = length (flush_writes s.file (v ∷ vs)) in
     let same = idle_same s es none r in
     let idle : r.before ≡ record { file = s.file; values = r.before.values; further = [] } =
@@ -456,20 +466,25 @@ running_planned s v vs es is none rows r =
                 cond-true (nat_le p k) (appended_in es) (flushed_in k [] es) (le-leb p k above) ∙ sym all ∙ sym (ge_choice k p r.before.values after.values above)
           ];
       past = r.past;
+      ends =
+          let next = planned_by s (v ∷ vs) rows running is in
+          let before : AllEndBy space_limit (hist es) = subst (AllEndBy space_limit) (ap (λ (ps : List Write). hist es ++ ps) none ∙ append-nil (hist es)) r.ends in
+          AllEndBy-append space_limit (hist es) (flush_writes s.file (v ∷ vs)) before
+          (AllEndBy-more (grown (length (v ∷ vs)) s.file).end space_limit (flush_writes s.file (v ∷ vs)) (end_few (planned_of s (v ∷ vs)) next) next.within);
     }
 
 none_planned : (s : Session) → s.pending ≡ [] → s.waiting ≡ [] → s ≡ planned_of s []
-none_planned s none rows = λ i. record { file = s.file; committed = s.committed; waiting = rows i; pending = none i }
+none_planned s none rows = λ i. record { file = s.file; committed = s.committed; waiting = rows i; pending = none i; stopped = s.stopped }
 
-stands_planned : (s : Session) (rows : List ℤ) (es : List Happening) → IsSession s → s.pending ≡ [] → s.waiting ≡ rows → Stands s (log_of es)
-    → Stands (planned_of s rows) (log_of (plans (length (planned_of s rows).pending) ∷ es))
-stands_planned s [] es is none rows stands =
+stands_planned : (s : Session) (rows : List ℤ) (es : List Happening) → IsSession s → s.stopped ≡ false → s.pending ≡ [] → s.waiting ≡ rows → Goes s (log_of es)
+    → Goes (planned_of s rows) (log_of (plans (length (planned_of s rows).pending) ∷ es))
+stands_planned s [] es is running none rows stands =
     let r = running_empty s es none rows (running_idle s es none stands) in
-    let empty : Stands s (log_of (plans 0 ∷ es)) =
+    let empty : Goes s (log_of (plans 0 ∷ es)) =
     record { is = refl; phase = inr r; prefixed = reads_running (plans 0) s es r stands.prefixed; still = still_plans 0 es stands.still } in
-    subst (λ (t : Session). Stands t (log_of (plans 0 ∷ es))) (none_planned s none rows) empty
-stands_planned s (v ∷ vs) es is none rows stands =
-    let r = running_planned s v vs es is none rows (running_idle s es none stands) in
+    subst (λ (t : Session). Goes t (log_of (plans 0 ∷ es))) (none_planned s none rows) empty
+stands_planned s (v ∷ vs) es is running none rows stands =
+    let r = running_planned s v vs es is running none rows (running_idle s es none stands) in
     let p = length (flush_writes s.file (v ∷ vs)) in
     record {
       is = refl;
@@ -479,8 +494,8 @@ stands_planned s (v ∷ vs) es is none rows stands =
     }
 
 -- a flush that was accepted
-pub flush_planned : (s : Session) → IsSession s → s.pending ≡ [] → (log : Log) → Stands s log → Stands (planned s) (and_now (plans (length (planned s).pending)) log)
-flush_planned s is none = over_log s (planned s) (plans (length (planned s).pending)) (λ es. stands_planned s s.waiting es is none refl)
+planned_goes : (s : Session) → IsSession s → s.stopped ≡ false → s.pending ≡ [] → (log : Log) → Goes s log → Goes (planned s) (and_now (plans (length (planned s).pending)) log)
+planned_goes s is running none = over_log s (planned s) (plans (length (planned s).pending)) (λ es. stands_planned s s.waiting es is running none refl)
 
 -- ---- What a session tells of its log
 
@@ -500,15 +515,22 @@ rows_running s es r =
     let all : length r.after.values + length s.waiting ≡ length (appended_in es) = sym (length-append r.after.values s.waiting) ∙ ap length r.appended in
     omega arith
 
-pub rows_are : (s : Session) (log : Log) → Stands s log → rows_of s ≡ length (appended log)
-rows_are s log stands =
+rows_go : (s : Session) (log : Log) → Goes s log → rows_of s ≡ length (appended log)
+rows_go s log stands =
     let es = log.events in
     let rows : rows_of s ≡ length (appended_in es) = elim stands.phase [ inl creating ↦ rows_creating s es creating | inr running ↦ rows_running s es running ] in
     rows ∙ ap (λ (l : Log). length (l.values ++ appended_in es)) (sym stands.is)
 
+committed_go : (s : Session) (log : Log) → Goes s log → s.committed ≡ length (flushed log)
+committed_go s log stands =
+    let es = log.events in
+    let rows : s.committed ≡ length (flushed_in 0 [] es) =
+    elim stands.phase [ inl c ↦ c.committed ∙ sym (ap length (c.flushed 0)) | inr r ↦ r.committed ∙ ap length (flushed_now s es r) ] in
+    rows ∙ ap (λ (l : Log). length (flushed_in 0 l.values es)) (sym stands.is)
+
 -- where nothing is pending, the image reads as the flushed rows
-pub stands_reads : (s : Session) (log : Log) → Stands s log → s.pending ≡ [] → Reads (image log.start (hist log.events)) dataset_name (flushed log)
-stands_reads s log stands none =
+reads_go : (s : Session) (log : Log) → Goes s log → s.pending ≡ [] → Reads (image log.start (hist log.events)) dataset_name (flushed log)
+reads_go s log stands none =
     let es = log.events in
     let r : Running s es = elim stands.phase [ inl creating ↦ absurd (creating.some none) | inr running ↦ running ] in
     let now : Reads (image [] (hist es)) dataset_name (flushed_in 0 [] es) =
@@ -517,9 +539,55 @@ stands_reads s log stands none =
     subst P (sym stands.is) now
 
 -- and the file has these rows
-pub flushed_rows : (s : Session) (log : Log) → Stands s log → s.pending ≡ [] → length (flushed log) ≡ s.file.rows
-flushed_rows s log stands none =
+flushed_go : (s : Session) (log : Log) → Goes s log → s.pending ≡ [] → length (flushed log) ≡ s.file.rows
+flushed_go s log stands none =
     let es = log.events in
     let r : Running s es = elim stands.phase [ inl creating ↦ absurd (creating.some none) | inr running ↦ running ] in
     let count : length r.before.values ≡ s.file.rows = r.represents.count ∙ ap (λ (m : Moment). m.file.rows) (sym (idle_same s es none r)) ∙ ap (λ (f : FileFields). f.rows) r.file in
     ap (λ (l : Log). length (flushed_in 0 l.values es)) stands.is ∙ sym (ap length (flushed_now s es r)) ∙ count
+
+-- ---- A session that may have been stopped
+
+as_going : (s : Session) → s.stopped ≡ false → s ≡ going s s.pending
+as_going s running = λ i. record { file = s.file; committed = s.committed; waiting = s.waiting; pending = s.pending; stopped = running i }
+
+goes_of : (s : Session) (log : Log) → s.stopped ≡ false → Stands s log → Goes s log
+goes_of s log running stands =
+    subst (λ (t : Session). Goes t log) (sym (as_going s running)) (subst (λ (ws : List Write). Goes (going s ws) log) (stands.none_dropped running) stands.goes)
+
+stands_of : (s : Session) (log : Log) → s.stopped ≡ false → Goes s log → Stands s log
+stands_of s log running goes = record { left = s.pending; none_dropped = λ e. refl; goes = subst (λ (t : Session). Goes t log) (as_going s running) goes }
+
+after_stopped : (s : Session) (ws : List Write) → (after_piece s ws).stopped ≡ s.stopped
+after_stopped s [] = refl
+after_stopped s (w ∷ ws) = refl
+
+pub creation_begins : (rows : ℕ) → 1 ≤ rows → rows ≤ 65536 → Stands (created rows) (log_of [])
+creation_begins rows low high = stands_of (created rows) (log_of []) refl (creation_goes rows low high)
+
+pub piece_shown : (s : Session) (w : Write) (ws : List Write) → s.pending ≡ w ∷ ws → s.stopped ≡ false → (log : Log) → Stands s log → Stands (after_piece s ws) (and_now (shows w) log)
+piece_shown s w ws pending running log stands =
+    stands_of (after_piece s ws) (and_now (shows w) log) (after_stopped s ws ∙ running) (piece_goes s w ws pending log (goes_of s log running stands))
+
+pub rows_added : (s : Session) (vs : List ℤ) → s.pending ≡ [] → s.stopped ≡ false → (log : Log) → Stands s log → Stands (with_values s vs) (and_now (appends vs) log)
+rows_added s vs none running log stands = stands_of (with_values s vs) (and_now (appends vs) log) running (added_goes s vs none log (goes_of s log running stands))
+
+pub flush_planned : (s : Session) → IsSession s → s.stopped ≡ false → s.pending ≡ [] → (log : Log) → Stands s log → Stands (planned s) (and_now (plans (length (planned s).pending)) log)
+flush_planned s is running none log stands =
+    stands_of (planned s) (and_now (plans (length (planned s).pending)) log) running (planned_goes s is running none log (goes_of s log running stands))
+
+-- what was pending is dropped, and nothing happened
+pub stop_stands : (s : Session) (log : Log) → Stands s log → Stands (stopped_of s) log
+stop_stands s log stands = record { left = stands.left; none_dropped = λ e. absurd (not_both true e refl); goes = stands.goes }
+
+pub rows_are : (s : Session) (log : Log) → Stands s log → rows_of s ≡ length (appended log)
+rows_are s log stands = rows_go (going s stands.left) log stands.goes
+
+pub committed_are : (s : Session) (log : Log) → Stands s log → s.committed ≡ length (flushed log)
+committed_are s log stands = committed_go (going s stands.left) log stands.goes
+
+pub stands_reads : (s : Session) (log : Log) → Stands s log → s.stopped ≡ false → s.pending ≡ [] → Reads (image log.start (hist log.events)) dataset_name (flushed log)
+stands_reads s log stands running none = reads_go s log (goes_of s log running stands) none
+
+pub flushed_rows : (s : Session) (log : Log) → Stands s log → s.stopped ≡ false → s.pending ≡ [] → length (flushed log) ≡ s.file.rows
+flushed_rows s log stands running none = flushed_go s log (goes_of s log running stands) none

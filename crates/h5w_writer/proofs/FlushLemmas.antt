@@ -1,16 +1,16 @@
 -- What a flush that was planned leaves, and how many pieces it has.
-use Rattle.std.proofs.Common.{◌≡◌, ◌⊎◌, ◌↔◌, ℕ, zero, suc, ◌+◌, ◌-◌, ◌*◌, ◌/◌, ◌%◌, ◌<◌, ◌≤◌, min, List, [], ◌∷◌, ◌++◌, length, take, drop, ℤ, true, false, nat_lt, cond, if◌then◌else◌, sym, refl, ap, ◌∙◌, subst, inl, inr, arith, length-append}
-use Rattle.std.proofs.lemmas.Bool.{cases_lt, lt-ltb, le-ltb, cond-true, cond-false}
+use Rattle.std.proofs.Common.{◌≡◌, ◌↔◌, ℕ, Bool, false, zero, suc, ◌+◌, ◌-◌, ◌*◌, ◌/◌, ◌<◌, ◌≤◌, min, List, [], ◌∷◌, length, take, drop, ℤ, true, nat_lt, sym, refl, ap, ◌∙◌, subst, inl, inr, arith, length-append}
+use Rattle.std.proofs.lemmas.Bool.{cases_lt, lt-ltb}
 use Rattle.std.proofs.lemmas.List.{nil_from_length, length-take}
 use Rattle.std.proofs.lemmas.Nat.{mul-le, div-mul-add}
 use Rattle.h5w_model.specs.Images.{pieces}
-use Rattle.h5w_model.specs.Logs.{Log, Cutting, load, touched_chunks, appended, flushed, and_now, plans, div_up}
+use Rattle.h5w_model.specs.Logs.{Log, load, touched_chunks, appended, flushed, and_now, plans, div_up}
 use Rattle.h5w_model.specs.declared.piece.Write.{Write}
 use Rattle.h5w_model.proofs.ImageLemmas.{length-pieces}
 use Rattle.h5w_writer.specs.Files.{FileFields, IsFile, AllFit, chunk_len, cell_place, header_block}
 use Rattle.h5w_writer.specs.Plans.{block_write}
 use Rattle.h5w_writer.specs.Flushes.{cell_list, chunk_values, chunk_writes, free_rows, missing_chunks, own_writes, new_writes, row_writes, naming_writes, block_writes, grown, after_rows, flush_writes}
-use Rattle.h5w_writer.specs.Sessions.{Session, IsSession, Stands, session_of, planned, rows_of, cutting_of}
+use Rattle.h5w_writer.specs.Sessions.{Session, IsSession, Stands, session_of, planned, cutting_of}
 use Rattle.h5w_writer.proofs.CellLemmas.{AllFit-take, AllFit-drop, length-cell_list, length-chunk}
 use Rattle.h5w_writer.proofs.ChunkLemmas.{is_needed}
 use Rattle.h5w_writer.proofs.PlanLemmas.{partly}
@@ -19,25 +19,25 @@ use Rattle.h5w_writer.proofs.SessionLemmas.{planned_is, needed_after}
 
 -- ---- The session after it
 
-pub planned_session : (old : Session) (f next : FileFields) (rows : ℕ) (values items : List ℤ) (plan writes : List Write) (shown : ℕ) → session_of f rows values plan shown ≡ old → next ≡ after_rows values f → items ≡ []
-    → writes ≡ flush_writes f values → session_of next rows items writes 0 ≡ planned old
-planned_session old f next rows values items plan writes shown view file none is =
-    (λ i. record { file = file i; committed = rows; waiting = none i; pending = is i }) ∙ ap planned view
+pub planned_session : (old : Session) (f next : FileFields) (rows : ℕ) (values items : List ℤ) (plan writes : List Write) (shown : ℕ) (stop : Bool) → session_of f rows values plan shown stop ≡ old → next ≡ after_rows values f → items ≡ []
+    → writes ≡ flush_writes f values → session_of next rows items writes 0 stop ≡ planned old
+planned_session old f next rows values items plan writes shown stop view file none is =
+    (λ i. record { file = file i; committed = rows; waiting = none i; pending = is i; stopped = stop }) ∙ ap planned view
 
-pub planned_session_is : (old : Session) (f next : FileFields) (rows : ℕ) (values items : List ℤ) (plan writes : List Write) (shown : ℕ) → session_of f rows values plan shown ≡ old → next ≡ after_rows values f → items ≡ []
-    → writes ≡ flush_writes f values → IsSession (session_of f rows values plan shown) → IsSession (session_of next rows items writes 0)
-planned_session_is old f next rows values items plan writes shown view file none is session =
-    subst IsSession (sym (planned_session old f next rows values items plan writes shown view file none is)) (planned_is old (subst IsSession view session))
+pub planned_session_is : (old : Session) (f next : FileFields) (rows : ℕ) (values items : List ℤ) (plan writes : List Write) (shown : ℕ) (stop : Bool) → session_of f rows values plan shown stop ≡ old → next ≡ after_rows values f → items ≡ []
+    → writes ≡ flush_writes f values → old.stopped ≡ false → IsSession (session_of f rows values plan shown stop) → IsSession (session_of next rows items writes 0 stop)
+planned_session_is old f next rows values items plan writes shown stop view file none is running session =
+    subst IsSession (sym (planned_session old f next rows values items plan writes shown stop view file none is)) (planned_is old running (subst IsSession view session))
 
-pub planned_session_stands : (old : Session) (f next : FileFields) (rows : ℕ) (values items : List ℤ) (plan writes : List Write) (shown count : ℕ) → session_of f rows values plan shown ≡ old → next ≡ after_rows values f
-    → items ≡ [] → writes ≡ flush_writes f values → count ≡ length writes → length old.pending ≤ 0 → IsSession (session_of f rows values plan shown)
-    → (log : Log) → Stands old log → Stands (session_of next rows items writes 0) (and_now (plans count) log)
-planned_session_stands old f next rows values items plan writes shown count view file none is counted idle session log stands =
-    let same = planned_session old f next rows values items plan writes shown view file none is in
+pub planned_session_stands : (old : Session) (f next : FileFields) (rows : ℕ) (values items : List ℤ) (plan writes : List Write) (shown count : ℕ) (stop : Bool) → session_of f rows values plan shown stop ≡ old → next ≡ after_rows values f
+    → items ≡ [] → writes ≡ flush_writes f values → count ≡ length writes → old.stopped ≡ false → length old.pending ≤ 0 → IsSession (session_of f rows values plan shown stop)
+    → (log : Log) → Stands old log → Stands (session_of next rows items writes 0 stop) (and_now (plans count) log)
+planned_session_stands old f next rows values items plan writes shown count stop view file none is counted running idle session log stands =
+    let same = planned_session old f next rows values items plan writes shown stop view file none is in
     let pending : old.pending ≡ [] = nil_from_length old.pending (omega arith) in
     let number : length (planned old).pending ≡ count = sym (ap (λ (s : Session). length s.pending) same) ∙ sym counted in
-    let stood = flush_planned old (subst IsSession view session) pending log stands in
-    subst (λ (n : ℕ). Stands (session_of next rows items writes 0) (and_now (plans n) log)) number
+    let stood = flush_planned old (subst IsSession view session) running pending log stands in
+    subst (λ (n : ℕ). Stands (session_of next rows items writes 0 stop) (and_now (plans n) log)) number
     (subst (λ (s : Session). Stands s (and_now (plans (length (planned old).pending)) log)) (sym same) stood)
 
 -- ---- How many pieces it has
@@ -141,19 +141,19 @@ load_is s log old new flushed_rows appended_rows more =
     let bytes : per * 1 * 4 + 20000 ≡ 4 * per + 20000 = omega arith in
     ap (λ (n : ℕ). 1000 + n * (per * 1 * 4 + 20000)) chunks ∙ ap (λ (n : ℕ). 1000 + (div_up new per - old / per) * n) bytes
 
-within_load : (s : Session) (values : List ℤ) (log : Log) → s.waiting ≡ values → IsSession s → s.pending ≡ [] → Stands s log → length (flush_writes s.file values) ≤ load (cutting_of s) log
-within_load s [] log rows is none stands = omega arith
-within_load s (v ∷ vs) log rows is none stands =
+within_load : (s : Session) (values : List ℤ) (log : Log) → s.waiting ≡ values → IsSession s → s.stopped ≡ false → s.pending ≡ [] → Stands s log → length (flush_writes s.file values) ≤ load (cutting_of s) log
+within_load s [] log rows is running none stands = omega arith
+within_load s (v ∷ vs) log rows is running none stands =
     let f = s.file in
     let fit : AllFit (v ∷ vs) = subst AllFit rows is.fit in
-    let old : length (flushed log) ≡ f.rows = flushed_rows s log stands none in
+    let old : length (flushed log) ≡ f.rows = flushed_rows s log stands running none in
     let new : length (appended log) ≡ f.rows + length (v ∷ vs) = sym (rows_are s log stands) ∙ ap (λ (xs : List ℤ). f.rows + length xs) rows in
     subst (λ (n : ℕ). length (flush_writes f (v ∷ vs)) ≤ n) (sym (load_is s log f.rows (f.rows + length (v ∷ vs)) old new (omega arith))) (few_pieces f v vs is.is_file is.needed fit)
 
-pub plan_within : (old : Session) (f : FileFields) (rows : ℕ) (values : List ℤ) (plan writes : List Write) (shown count : ℕ) → session_of f rows values plan shown ≡ old → writes ≡ flush_writes f values
-    → count ≡ length writes → length old.pending ≤ 0 → IsSession (session_of f rows values plan shown) → (log : Log) → Stands old log → count ≤ load (cutting_of old) log
-plan_within old f rows values plan writes shown count view is counted idle session log stands =
+pub plan_within : (old : Session) (f : FileFields) (rows : ℕ) (values : List ℤ) (plan writes : List Write) (shown count : ℕ) (stop : Bool) → session_of f rows values plan shown stop ≡ old → writes ≡ flush_writes f values
+    → count ≡ length writes → old.stopped ≡ false → length old.pending ≤ 0 → IsSession (session_of f rows values plan shown stop) → (log : Log) → Stands old log → count ≤ load (cutting_of old) log
+plan_within old f rows values plan writes shown count stop view is counted running idle session log stands =
     let pending : old.pending ≡ [] = nil_from_length old.pending (omega arith) in
-    let bound = within_load old old.waiting log refl (subst IsSession view session) pending stands in
+    let bound = within_load old old.waiting log refl (subst IsSession view session) running pending stands in
     let same : length (flush_writes old.file old.waiting) ≡ count = sym (ap (λ (s : Session). length (flush_writes s.file s.waiting)) view) ∙ sym (ap length is) ∙ sym counted in
     subst (λ (n : ℕ). n ≤ load (cutting_of old) log) same bound

@@ -1,8 +1,6 @@
 -- How long headers and messages are as they are written.
-use Rattle.std.proofs.Common.{◌≡◌, ℕ, ◌+◌, ◌*◌, ◌^◌, ◌<◌, ◌≤◌, List, length, refl, ap, ◌∙◌, inl, inr, arith}
-use Rattle.std.specs.Prelude.{max}
-use Rattle.h5w_model.specs.Numbers.{width_of}
-use Rattle.h5w_model.specs.Messages.{LayoutFields, layout_bytes}
+use Rattle.std.proofs.Common.{◌≡◌, ◌^◌, ◌<◌, ◌≤◌, length, refl, inl, inr, arith}
+use Rattle.h5w_model.specs.Messages.{layout_bytes}
 use Rattle.h5w_model.specs.Headers.{header_bytes, msgs_bytes}
 use Rattle.h5w_model.specs.declared.cell.IndexKind.TheVariants.{Array}
 use Rattle.h5w_writer.specs.Files.{FileFields, array_place, dataset_messages, root_messages, int_type, layout_of, shape_of}

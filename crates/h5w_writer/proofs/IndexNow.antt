@@ -11,7 +11,7 @@ use Rattle.h5w_model.specs.Programs.{Prog, ret, whole, eval, and_then}
 use Rattle.h5w_model.specs.Arrays.{EahdFields, EaibFields, eahd_at, eaib_at, eahd_bytes, eaib_bytes, eahd_len, eaib_len, place_of}
 use Rattle.h5w_model.specs.Logs.{div_up}
 use Rattle.h5w_model.specs.Datasets.{Described, then_also, refused_as}
-use Rattle.h5w_model.specs.Tables.{InPlace, nowhere, in_array, array_in_place, in_place, array_slot, address_behind, each_of, table_of, needed_keys, needed_table, format_limits}
+use Rattle.h5w_model.specs.Tables.{InPlace, nowhere, in_array, array_in_place, in_place, array_slot, address_behind, each_of, table_of, needed_keys, needed_table, Limits}
 use Rattle.h5w_model.specs.declared.cell.Key.{Key}
 use Rattle.h5w_model.specs.declared.cell.IndexKind.TheVariants.{Array}
 use Rattle.h5w_model.specs.declared.cell.Place.TheVariants.{Index}
@@ -99,13 +99,14 @@ slots_are f n h =
     sym (fill_by_all (λ i. get_or (index_block_of f).slots i undefined) (take n f.addresses) n undefined (length-take-le n f.addresses h)
     (λ k lt. get_or-take n f.addresses k undefined lt ∙ sym (get_or_append_left f.addresses (replicate (4 - length f.addresses) undefined) undefined k (omega arith))))
 
-pub table_now : (img : List ℕ) (f : FileFields) → IsFile f → eval img (in_place (described_of f)) ≡ Ok (in_array (index_block_of f))
-    → eval img (needed_table format_limits (described_of f)) ≡ Ok (take (div_up f.rows f.chunk_rows) f.addresses)
-table_now img f k h =
+-- within any limits that allow the slots of an index block
+pub table_within : (limits : Limits) (img : List ℕ) (f : FileFields) → 4 ≤ limits.array → IsFile f → eval img (in_place (described_of f)) ≡ Ok (in_array (index_block_of f))
+    → eval img (needed_table limits (described_of f)) ≡ Ok (take (div_up f.rows f.chunk_rows) f.addresses)
+table_within limits img f most k h =
     let n = div_up f.rows f.chunk_rows in
     let few : n ≤ length f.addresses = k.rows_have_chunks in
     let four = k.few in
-    let within : ltb 131060 (n * 1) ≡ false = le-ltb 131060 (n * 1) (omega arith) in
+    let within : ltb limits.array (n * 1) ≡ false = le-ltb limits.array (n * 1) (omega arith) in
     rw within
     (table_of-by img (described_of f) (in_array (index_block_of f)) (needed_keys (described_of f)) h
     ∙ each_now img (index_block_of f) 0 n (omega arith)

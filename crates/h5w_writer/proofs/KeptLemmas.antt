@@ -1,19 +1,18 @@
 -- What a session keeps of its file, as chunks and rows are added.
-use Rattle.std.proofs.Common.{◌≡◌, ◌⊎◌, ℕ, zero, suc, ◌+◌, ◌-◌, ◌*◌, ◌/◌, ◌%◌, ◌^◌, ◌<◌, ◌≤◌, List, [], ◌∷◌, ◌++◌, length, take, drop, set, get_or, replicate, Result, Ok, Err, Bool, true, false, nat_lt, sym, refl, ap, ◌∙◌, subst, inl, inr, arith, rules, length-append}
-use Rattle.std.proofs.lemmas.List.{append_assoc, append-nil, length-take, length-replicate, take_all, get_or-take, get_or_default}
+use Rattle.std.proofs.Common.{◌≡◌, ℕ, suc, ◌+◌, ◌-◌, ◌*◌, ◌/◌, ◌%◌, ◌^◌, ◌<◌, ◌≤◌, List, [], ◌∷◌, ◌++◌, length, take, set, get_or, replicate, Result, Ok, Err, false, nat_lt, sym, refl, ap, ◌∙◌, subst, inl, inr, arith, rules, length-append}
+use Rattle.std.proofs.lemmas.List.{append_assoc, length-take, length-replicate, get_or-take, get_or_default}
 use Rattle.std.proofs.lemmas.List.Sorted.{length_permutation}
 use Rattle.std.proofs.lemmas.Bool.{le-ltb}
 use Rattle.std.proofs.lemmas.Nat.{mul-le, div_below}
 use Rattle.std.proofs.Math.Seq.{take-suc-set, set-append_seam}
 use Rattle.std.specs.Result.{IsOk, is_err, IfOk}
 use Rattle.h5w_model.specs.Numbers.{undefined}
-use Rattle.h5w_space.specs.Space.{Space, Takes, TakesFree, TakesEnd, extent, has_size}
-use Rattle.h5w_space.specs.declared.Extent.{Extent}
+use Rattle.h5w_space.specs.Space.{Space, Takes, extent}
 use Rattle.h5w_writer.specs.Files.{FileFields, Rising, first_end, chunk_len, cell_place, dataset_messages}
 use Rattle.h5w_model.specs.Headers.{header_bytes}
 use Rattle.h5w_writer.specs.Flushes.{chunk_places, with_chunks}
 use Rattle.h5w_writer.specs.Kept.{IsKept, fields_of, places_to, space_limit}
-use Rattle.h5w_writer.proofs.PlanLemmas.{with_chunks_rise, rising_end, cell_ends, div_up_spans, times_lt}
+use Rattle.h5w_writer.proofs.PlanLemmas.{with_chunks_rise, cell_ends}
 use Rattle.h5w_writer.proofs.BlockSizes.{first_end_small}
 
 -- where nothing is free, a place is taken at the end

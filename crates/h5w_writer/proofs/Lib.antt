@@ -29,3 +29,4 @@ pub mod EventLemmas
 pub mod SessionLemmas
 pub mod RefusalLemmas
 pub mod FlushLemmas
+pub mod LawLemmas

@@ -1,7 +1,7 @@
 -- The four messages of a dataset as they are written are read back.
 use Rattle.std.proofs.Common.{◌≡◌, ℕ, zero, suc, ◌+◌, ◌-◌, ◌*◌, ◌^◌, ◌<◌, ◌≤◌, true, false, ltb, List, [], ◌∷◌, ◌++◌, length, Ok, refl, ap, sym, ◌∙◌, subst, ◌⊎◌, inl, inr, arith, length-append}
 use Rattle.std.specs.Prelude.{max}
-use Rattle.std.specs.List.{fold, flat_map}
+use Rattle.std.specs.List.{flat_map}
 use Rattle.std.proofs.lemmas.Bool.{lt-ltb, cases_lt}
 use Rattle.std.proofs.Math.Nat.{pow-le-pow_right}
 use Rattle.h5w_model.specs.Numbers.{num, le, width_of}

@@ -1,21 +1,20 @@
 -- The plan of a flush takes the file from the rows of before to the new ones, and no piece of it but the last changes what
 -- is read.
-use Rattle.std.proofs.Common.{◌≡◌, ◌≢◌, ◌⊎◌, ℕ, zero, suc, ◌+◌, ◌-◌, ◌*◌, ◌/◌, ◌%◌, ◌^◌, ◌<◌, ◌≤◌, min, max, List, [], ◌∷◌, ◌++◌, length, take, drop, get_or, replicate, Option, Some, None, ℤ, pos, Bool, true, false, cond, sym, refl, ap, ◌∙◌, subst, inl, inr, arith, length-append, length-drop}
-use Rattle.std.proofs.lemmas.List.{append_assoc, append-nil, length-take, take_all, drop_all, nil_from_length, get_or_append_left, get_or-append-add}
+use Rattle.std.proofs.Common.{◌≡◌, ℕ, zero, suc, ◌+◌, ◌-◌, ◌*◌, ◌/◌, ◌%◌, ◌^◌, ◌<◌, ◌≤◌, max, List, [], ◌∷◌, ◌++◌, length, take, drop, get_or, Some, ℤ, sym, refl, ap, ◌∙◌, subst, inl, inr, arith, length-append}
+use Rattle.std.proofs.lemmas.List.{append-nil, length-take, get_or_append_left, get_or-append-add}
 use Rattle.std.proofs.lemmas.Bool.{cases_lt}
 use Rattle.std.proofs.lemmas.Nat.{div-mul-add, mod-mul-add, mod_below, div_below, div-add-mod', mul-le}
 use Rattle.std.proofs.Math.Nat.{lt-div-mul-add, div-mul-le_self, lt_of_mul-lt-mul_left}
 use Rattle.std.proofs.lemmas.Option.{slice_get_within}
 use Rattle.std.specs.List.{slice_get}
 use Rattle.h5w_model.specs.Images.{At, Holds, ApartEach, pieces, first_pieces}
-use Rattle.h5w_model.specs.Integers.{cell_bytes_of}
 use Rattle.h5w_model.specs.Numbers.{undefined}
 use Rattle.h5w_model.specs.Logs.{div_up}
 use Rattle.h5w_model.specs.declared.piece.Write.{Write}
-use Rattle.h5w_model.proofs.ImageLemmas.{Holds-append, Holds-front, Holds-rest}
-use Rattle.h5w_writer.specs.Files.{FileFields, Moment, IsFile, Rising, AllFit, CellsAt, int_type, blocks, cell_place, chunk_len, first_end, super_block, index_block, array_block, header_block}
-use Rattle.h5w_writer.specs.Plans.{Step, ChunkPiece, RaisesEnd, NamesChunks, CountsChunks, Commits, Writes, MissesCells, block_write}
-use Rattle.h5w_writer.specs.Flushes.{cell_list, chunk_places, chunk_writes, free_rows, missing_chunks, with_chunks, grown, naming_writes, own_writes, new_writes, flush_writes}
+use Rattle.h5w_model.proofs.ImageLemmas.{Holds-front, Holds-rest}
+use Rattle.h5w_writer.specs.Files.{FileFields, Moment, IsFile, Rising, AllFit, CellsAt, blocks, cell_place, chunk_len, first_end, super_block, index_block, array_block, header_block}
+use Rattle.h5w_writer.specs.Plans.{Step, ChunkPiece, RaisesEnd, NamesChunks, CountsChunks, Commits, block_write}
+use Rattle.h5w_writer.specs.Flushes.{cell_list, chunk_places, chunk_writes, free_rows, missing_chunks, with_chunks, grown, naming_writes, own_writes, flush_writes}
 use Rattle.h5w_writer.specs.Sessions.{Flushing}
 use Rattle.h5w_writer.proofs.BlockSizes.{apart_blocks, first_end_small}
 use Rattle.h5w_writer.proofs.CellLemmas.{blocks_of, blocks_of-append, RisingWrites, RisingWrites-append, length-cell_list, AllFit-take, AllFit-drop, cell_there, pieces_there, pieces_rise, chunk_writes_rise, chunks_there, chunks_within, length-chunk_places, get_or-chunk_places, slice_get_take, slice_get_drop}

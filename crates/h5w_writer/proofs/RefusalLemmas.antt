@@ -1,7 +1,7 @@
 -- Which refusal applies.
-use Rattle.std.proofs.Common.{◌≡◌, ℕ, suc, ◌+◌, ◌-◌, ◌*◌, ◌/◌, ◌%◌, ◌<◌, ◌≤◌, min, List, [], ◌∷◌, ◌++◌, length, take, drop, ℤ, if◌then◌else◌, Option, Some, None, Result, Ok, Err, Bool, true, false, nat_lt, sym, refl, ap, ◌∙◌, subst, inl, inr, arith}
+use Rattle.std.proofs.Common.{◌≡◌, ℕ, ◌+◌, ◌*◌, ◌/◌, ◌%◌, ◌<◌, ◌≤◌, min, List, [], ◌∷◌, ◌++◌, length, drop, ℤ, if◌then◌else◌, Option, Some, None, Result, Ok, Err, Bool, true, false, nat_lt, sym, refl, ap, ◌∙◌, subst, inl, inr, arith}
 use Rattle.std.proofs.lemmas.List.{nil_from_length}
-use Rattle.std.proofs.lemmas.Bool.{cases_lt, lt-ltb, le-ltb, cond-true, cond-false}
+use Rattle.std.proofs.lemmas.Bool.{cases_lt, lt-ltb, le-ltb}
 use Rattle.std.specs.Int.{div_ceil}
 use Rattle.std.specs.Option.{MatchOption}
 use Rattle.h5w_model.specs.Logs.{div_up}
@@ -14,10 +14,12 @@ use Rattle.h5w_writer.specs.Sessions.{Session, IsSession, Stands, session_of, wi
 use Rattle.h5w_writer.specs.Refusals.{append_refusal, flush_refusal, chunks_with}
 use Rattle.h5w_writer.specs.declared.refusal.AppendError.{AppendError}
 use Rattle.h5w_writer.specs.declared.refusal.AppendError.TheVariants as answers
+use Rattle.h5w_writer.specs.declared.refusal.FlushError.{FlushError}
+use Rattle.h5w_writer.specs.declared.refusal.FlushError.TheVariants as flushes
 use Rattle.h5w_writer.proofs.ChunkLemmas.{div_up_is}
 use Rattle.h5w_writer.proofs.PlanLemmas.{in_chunk}
 use Rattle.h5w_writer.proofs.EventLemmas.{rows_added}
-use Rattle.h5w_writer.proofs.SessionLemmas.{values_is}
+use Rattle.h5w_writer.proofs.SessionLemmas.{not_so, values_is}
 use Rattle.h5w_writer.proofs.CellLemmas.{fit_cons, none_fit}
 
 -- the quotient rounded up
@@ -39,16 +41,16 @@ div_ceil-up rows per some =
 pub chunks_are : (s : Session) (rows per more : ℕ) → rows ≡ rows_of s → per ≡ s.file.chunk_rows → 1 ≤ per → div_ceil (rows + more) per ≡ chunks_with s more
 chunks_are s rows per more counted size some = div_ceil-up (rows + more) per some ∙ ap (λ (n : ℕ). div_up (n + more) per) counted ∙ ap (λ (n : ℕ). div_up (rows_of s + more) n) size
 
-pub too_many : (s : Session) (values : List ℤ) (chunks : ℕ) → length s.pending ≤ 0 → None ≡ first_outside int_type 0 values → chunks ≡ chunks_with s (length values) → 4 < chunks
+pub too_many : (s : Session) (values : List ℤ) (chunks : ℕ) → s.stopped ≡ false → length s.pending ≤ 0 → None ≡ first_outside int_type 0 values → chunks ≡ chunks_with s (length values) → 4 < chunks
     → append_refusal s values ≡ Some (answers.Chunks chunks 4)
-too_many s values chunks idle inside is many =
+too_many s values chunks running idle inside is many =
     let test : nat_lt chunk_limit (chunks_with s (length values)) ≡ true = lt-ltb 4 (chunks_with s (length values)) (omega arith) in
-    rw (le-ltb 0 (length s.pending) idle, ← inside, test) (ap (λ (n : ℕ). Some (answers.Chunks n 4)) (sym is))
+    rw (running, le-ltb 0 (length s.pending) idle, ← inside, test) (ap (λ (n : ℕ). Some (answers.Chunks n 4)) (sym is))
 
-pub not_refused : (s : Session) (values : List ℤ) (chunks : ℕ) → length s.pending ≤ 0 → None ≡ first_outside int_type 0 values → chunks ≡ chunks_with s (length values) → chunks ≤ 4 → append_refusal s values ≡ None
-not_refused s values chunks idle inside is few =
+pub not_refused : (s : Session) (values : List ℤ) (chunks : ℕ) → s.stopped ≡ false → length s.pending ≤ 0 → None ≡ first_outside int_type 0 values → chunks ≡ chunks_with s (length values) → chunks ≤ 4 → append_refusal s values ≡ None
+not_refused s values chunks running idle inside is few =
     let test : nat_lt chunk_limit (chunks_with s (length values)) ≡ false = le-ltb 4 (chunks_with s (length values)) (omega arith) in
-    rw (le-ltb 0 (length s.pending) idle, ← inside, test) refl
+    rw (running, le-ltb 0 (length s.pending) idle, ← inside, test) refl
 
 -- ---- What is not refused
 
@@ -56,7 +58,7 @@ not_refused s values chunks idle inside is few =
 some_none : (e : AppendError) → Some e ≡ None → ⊥
 some_none e clash = cc
 
-pub accepted : (refusal : Option AppendError) (r : Result (Unit {0}) AppendError) → MatchOption refusal (r ≡ Ok tt) (λ e. r ≡ Err e) → r ≡ Ok tt → refusal ≡ None
+pub accepted : {E : Type 0} (refusal : Option E) (r : Result (Unit {0}) E) → MatchOption refusal (r ≡ Ok tt) (λ e. r ≡ Err e) → r ≡ Ok tt → refusal ≡ None
 accepted None r is ok = refl
 accepted (Some e) r is ok = let clash : Err e ≡ Ok tt = sym is ∙ ok in cc
 
@@ -85,15 +87,22 @@ fit_from_none i (v ∷ vs) inside =
 
 -- what holds where an append is not refused
 pub record Accepted (s : Session) (values : List ℤ) : Type 0 where
+  pub running : s.stopped ≡ false
   pub idle : s.pending ≡ []
   pub fit : AllFit values
   pub room : chunks_with s (length values) ≤ chunk_limit
 
-no_pending : (s : Session) (values : List ℤ) → append_refusal s values ≡ None → length s.pending ≤ 0
-no_pending s values none =
+not_stopped : (s : Session) (values : List ℤ) → append_refusal s values ≡ None → s.stopped ≡ false
+not_stopped s values none =
+    not_so s.stopped (λ e.
+    let test : append_refusal s values ≡ Some answers.Stopped = rw e refl in
+    some_none answers.Stopped (sym test ∙ none))
+
+no_pending : (s : Session) (values : List ℤ) → s.stopped ≡ false → append_refusal s values ≡ None → length s.pending ≤ 0
+no_pending s values running none =
     elim (cases_lt 0 (length s.pending)) [
       | inl some ↦
-          let test : append_refusal s values ≡ Some (answers.Busy (length s.pending)) = rw (lt-ltb 0 (length s.pending) some) refl in
+          let test : append_refusal s values ≡ Some (answers.Busy (length s.pending)) = rw (running, lt-ltb 0 (length s.pending) some) refl in
           let clash : Some (answers.Busy (length s.pending)) ≡ None = sym test ∙ none in
           absurd (some_none (answers.Busy (length s.pending)) clash)
       | inr idle ↦ idle
@@ -104,8 +113,8 @@ abbrev value_refusal : Session → List ℤ → Option (ℕ × ℤ) → Option A
 value_refusal s values (Some x) = Some (answers.OutOfRange x.0 x.1)
 value_refusal s values None = if nat_lt chunk_limit (chunks_with s (length values)) then Some (answers.Chunks (chunks_with s (length values)) chunk_limit) else None
 
-refusal-idle : (s : Session) (values : List ℤ) → length s.pending ≤ 0 → append_refusal s values ≡ value_refusal s values (first_outside int_type 0 values)
-refusal-idle s values idle = rw (le-ltb 0 (length s.pending) idle) refl
+refusal-idle : (s : Session) (values : List ℤ) → s.stopped ≡ false → length s.pending ≤ 0 → append_refusal s values ≡ value_refusal s values (first_outside int_type 0 values)
+refusal-idle s values running idle = rw (running, le-ltb 0 (length s.pending) idle) refl
 
 none_outside : (s : Session) (values : List ℤ) (o : Option (ℕ × ℤ)) → value_refusal s values o ≡ None → o ≡ None
 none_outside s values None is = refl
@@ -122,10 +131,12 @@ few_chunks s values is =
 
 pub is_accepted : (s : Session) (values : List ℤ) → append_refusal s values ≡ None → Accepted s values
 is_accepted s values none =
-    let idle = no_pending s values none in
-    let left : value_refusal s values (first_outside int_type 0 values) ≡ None = sym (refusal-idle s values idle) ∙ none in
+    let running = not_stopped s values none in
+    let idle = no_pending s values running none in
+    let left : value_refusal s values (first_outside int_type 0 values) ≡ None = sym (refusal-idle s values running idle) ∙ none in
     let inside : first_outside int_type 0 values ≡ None = none_outside s values (first_outside int_type 0 values) left in
     record {
+      running = running;
       idle = nil_from_length s.pending (omega arith);
       fit = fit_from_none 0 values inside;
       room = few_chunks s values (ap (value_refusal s values) (sym inside) ∙ left);
@@ -133,20 +144,48 @@ is_accepted s values none =
 
 -- ---- An append that was accepted
 
-pub appended_session : (old : Session) (f : FileFields) (rows : ℕ) (values items more : List ℤ) (plan : List Write) (shown : ℕ) → session_of f rows values plan shown ≡ old → items ≡ values ++ more
-    → session_of f rows items plan shown ≡ with_values old more
-appended_session old f rows values items more plan shown view is =
-    (λ i. record { file = f; committed = rows; waiting = is i; pending = drop shown plan }) ∙ ap (λ (s : Session). with_values s more) view
+pub appended_session : (old : Session) (f : FileFields) (rows : ℕ) (values items more : List ℤ) (plan : List Write) (shown : ℕ) (stop : Bool) → session_of f rows values plan shown stop ≡ old → items ≡ values ++ more
+    → session_of f rows items plan shown stop ≡ with_values old more
+appended_session old f rows values items more plan shown stop view is =
+    (λ i. record { file = f; committed = rows; waiting = is i; pending = drop shown plan; stopped = stop }) ∙ ap (λ (s : Session). with_values s more) view
 
-pub appended_is : (old : Session) (f : FileFields) (rows : ℕ) (values items more : List ℤ) (plan : List Write) (shown : ℕ) → session_of f rows values plan shown ≡ old → items ≡ values ++ more
-    → append_refusal old more ≡ None → IsSession (session_of f rows values plan shown) → IsSession (session_of f rows items plan shown)
-appended_is old f rows values items more plan shown view added none is =
+pub appended_is : (old : Session) (f : FileFields) (rows : ℕ) (values items more : List ℤ) (plan : List Write) (shown : ℕ) (stop : Bool) → session_of f rows values plan shown stop ≡ old → items ≡ values ++ more
+    → append_refusal old more ≡ None → IsSession (session_of f rows values plan shown stop) → IsSession (session_of f rows items plan shown stop)
+appended_is old f rows values items more plan shown stop view added none is =
     let free = is_accepted old more none in
     let was : IsSession old = subst IsSession view is in
-    subst IsSession (sym (appended_session old f rows values items more plan shown view added)) (values_is old more free.fit free.room was)
+    subst IsSession (sym (appended_session old f rows values items more plan shown stop view added)) (values_is old more free.fit free.room was)
 
-pub appended_stands : (old : Session) (f : FileFields) (rows : ℕ) (values items more : List ℤ) (plan : List Write) (shown : ℕ) → session_of f rows values plan shown ≡ old → items ≡ values ++ more
-    → append_refusal old more ≡ None → (log : Log) → Stands old log → Stands (session_of f rows items plan shown) (and_now (appends more) log)
-appended_stands old f rows values items more plan shown view added none log stands =
+pub appended_stands : (old : Session) (f : FileFields) (rows : ℕ) (values items more : List ℤ) (plan : List Write) (shown : ℕ) (stop : Bool) → session_of f rows values plan shown stop ≡ old → items ≡ values ++ more
+    → append_refusal old more ≡ None → (log : Log) → Stands old log → Stands (session_of f rows items plan shown stop) (and_now (appends more) log)
+appended_stands old f rows values items more plan shown stop view added none log stands =
     let free = is_accepted old more none in
-    subst (λ (s : Session). Stands s (and_now (appends more) log)) (sym (appended_session old f rows values items more plan shown view added)) (rows_added old more free.idle log stands)
+    subst (λ (s : Session). Stands s (and_now (appends more) log)) (sym (appended_session old f rows values items more plan shown stop view added)) (rows_added old more free.idle free.running log stands)
+
+-- ---- A flush that is not refused
+
+no_flush : (e : FlushError) → Some e ≡ None → ⊥
+no_flush e clash = cc
+
+pub record Ready (s : Session) : Type 0 where
+  pub running : s.stopped ≡ false
+  pub idle : length s.pending ≤ 0
+
+flush_running : (s : Session) → flush_refusal s ≡ None → s.stopped ≡ false
+flush_running s none =
+    not_so s.stopped (λ e.
+    let test : flush_refusal s ≡ Some flushes.Stopped = rw e refl in
+    no_flush flushes.Stopped (sym test ∙ none))
+
+flush_idle : (s : Session) → s.stopped ≡ false → flush_refusal s ≡ None → length s.pending ≤ 0
+flush_idle s running none =
+    elim (cases_lt 0 (length s.pending)) [
+      | inl some ↦
+          let test : flush_refusal s ≡ Some (flushes.Busy (length s.pending)) = rw (running, lt-ltb 0 (length s.pending) some) refl in
+          absurd (no_flush (flushes.Busy (length s.pending)) (sym test ∙ none))
+      | inr idle ↦ idle
+    ]
+
+-- what holds where a flush is not refused
+pub is_ready : (s : Session) → flush_refusal s ≡ None → Ready s
+is_ready s none = let running = flush_running s none in record { running = running; idle = flush_idle s running none }

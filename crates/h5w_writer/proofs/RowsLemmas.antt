@@ -1,14 +1,12 @@
 -- A dataset header whose number of rows is written anew is that of the file with these rows.
-use Rattle.std.proofs.Common.{◌≡◌, ℕ, ◌+◌, ◌-◌, ◌*◌, ◌≤◌, List, [], ◌∷◌, ◌++◌, length, take, drop, Option, Some, None, Result, Ok, refl, ap, sym, ◌∙◌, subst, arith, rules, length-append}
+use Rattle.std.proofs.Common.{◌≡◌, ℕ, ◌+◌, ◌-◌, ◌≤◌, List, [], ◌∷◌, ◌++◌, length, take, drop, Option, Some, None, Result, Ok, refl, ap, sym, ◌∙◌, arith, rules}
 use Rattle.std.proofs.lemmas.List.{append-nil, take_at, drop_all}
-use Rattle.std.specs.List.{flat_map}
-use Rattle.std.specs.Option.{unwrap_or, IsSome, option_and_then}
+use Rattle.std.specs.Option.{unwrap_or, IsSome}
 use Rattle.std.specs.Result.{IsOk}
 use Rattle.h5w_model.specs.Numbers.{num, le}
 use Rattle.h5w_model.specs.Checksum.{sum_of, sealed_block}
-use Rattle.h5w_model.specs.Headers.{msg_bytes, msgs_bytes, header_bytes, header_length, header_flags, placed, messages_at, first_of, data_in_header, rows_in_data, rows_in_header, rows_changed, with_number, with_number_if, with_rows_bytes, index_in_header}
+use Rattle.h5w_model.specs.Headers.{msgs_bytes, header_bytes, header_length, header_flags, placed, messages_at, first_of, data_in_header, rows_in_header, rows_changed, with_number, with_rows_bytes}
 use Rattle.h5w_model.specs.Messages.{unlimited, shape_bytes, int_type_bytes, fill_bytes, layout_bytes}
-use Rattle.h5w_model.specs.declared.message.Msg.{Msg}
 use Rattle.h5w_writer.specs.Files.{FileFields, dataset_messages, message, shape_of, int_type, fill, layout_of}
 use Rattle.h5w_writer.proofs.HeaderReads.{front, header_bytes-is, header_length_block, length_block, messages_at-alone}
 use Rattle.h5w_writer.proofs.DatasetNow.{length_messages, length_messages-small}

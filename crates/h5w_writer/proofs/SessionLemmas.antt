@@ -1,29 +1,50 @@
 -- What holds of every session is kept by each call.
-use Rattle.std.proofs.Common.{◌≡◌, ◌≢◌, ℕ, zero, suc, ◌+◌, ◌-◌, ◌*◌, ◌/◌, ◌^◌, ◌<◌, ◌≤◌, max, List, [], ◌∷◌, ◌++◌, length, drop, get_or, ℤ, Some, sym, refl, ap, ◌∙◌, subst, arith, length-append, length-drop}
-use Rattle.std.proofs.lemmas.List.{append-nil, drop_all}
+use Rattle.std.proofs.Common.{◌≡◌, ℕ, Bool, true, false, zero, suc, ◌+◌, ◌*◌, ◌^◌, ◌<◌, ◌≤◌, List, [], ◌∷◌, ◌++◌, length, take, drop, get_or, ℤ, Some, sym, refl, ap, ◌∙◌, subst, arith, length-append, length-drop}
+use Rattle.std.proofs.lemmas.List.{drop_all}
 use Rattle.std.proofs.Math.Seq.{drop-cons}
 use Rattle.std.proofs.lemmas.Nat.{mul-le}
 use Rattle.std.specs.List.{slice_get}
-use Rattle.h5w_model.specs.Images.{AllSized, pieces}
+use Rattle.h5w_model.specs.Images.{AllSized, apply, image, pieces}
 use Rattle.h5w_model.specs.Logs.{div_up}
 use Rattle.h5w_model.specs.declared.piece.Write.{Write}
-use Rattle.h5w_model.proofs.ImageLemmas.{pieces-sized, AllSized-append}
+use Rattle.h5w_model.proofs.ImageLemmas.{length-apply, pieces-sized, AllSized-append}
 use Rattle.h5w_writer.specs.Files.{FileFields, IsFile, AllFit, first_end, chunk_len, array_place, index_place, root_place, header_place, super_block, root_block, header_block, array_block, index_block}
-use Rattle.h5w_writer.specs.Plans.{block_write, new_file, creation_writes}
-use Rattle.h5w_writer.specs.Flushes.{cell_list, chunk_values, chunk_writes, free_rows, missing_chunks, with_chunks, grown, after_rows, naming_writes, own_writes, new_writes, row_writes, block_writes, flush_writes}
-use Rattle.h5w_writer.specs.Sessions.{Session, IsSession, AllEndBy, chunk_limit, session_of, rows_of, created, after_piece, with_values, planned}
+use Rattle.h5w_writer.specs.Plans.{new_file}
+use Rattle.h5w_writer.specs.Flushes.{cell_list, chunk_values, chunk_writes, free_rows, missing_chunks, grown, after_rows, own_writes, new_writes, row_writes, block_writes, flush_writes}
+use Rattle.h5w_writer.specs.Sessions.{Session, IsSession, AllEndBy, chunk_limit, session_of, rows_of, created, after_piece, with_values, planned, stopped_of}
 use Rattle.h5w_writer.proofs.CellLemmas.{RisingWrites, RisingWrites-append, AllFit-append, AllFit-drop, chunk_writes_rise}
 use Rattle.h5w_writer.proofs.ChunkLemmas.{is_needed, div_up-grows, div_up_none}
-use Rattle.h5w_writer.proofs.PlanLemmas.{with_chunks_count, with_chunks_rise, end_small, grown_is, own_rows, div_up_spans}
-use Rattle.h5w_writer.proofs.BlockSizes.{Lengths, lengths, first_end_small}
-use Rattle.h5w_writer.proofs.FileFacts.{places, rows_small}
+use Rattle.h5w_writer.proofs.PlanLemmas.{with_chunks_count, end_small, grown_is, own_rows, div_up_spans}
+use Rattle.h5w_writer.proofs.BlockSizes.{lengths, first_end_small}
+use Rattle.h5w_writer.proofs.FileFacts.{places}
 use Rattle.h5w_writer.proofs.Created.{new_is_file}
 
 -- ---- Where writes end, and their sizes
 
-AllEndBy-append : (end : ℕ) (ws vs : List Write) → AllEndBy end ws → AllEndBy end vs → AllEndBy end (ws ++ vs)
+pub AllEndBy-append : (end : ℕ) (ws vs : List Write) → AllEndBy end ws → AllEndBy end vs → AllEndBy end (ws ++ vs)
 AllEndBy-append end [] vs first second = second
 AllEndBy-append end (w ∷ ws) vs first second = (first.0, AllEndBy-append end ws vs first.1 second)
+
+-- the first of these, and so many of them
+pub AllEndBy-front : (end : ℕ) (ws vs : List Write) → AllEndBy end (ws ++ vs) → AllEndBy end ws
+AllEndBy-front end [] vs h = tt
+AllEndBy-front end (w ∷ ws) vs h = (h.0, AllEndBy-front end ws vs h.1)
+
+pub AllEndBy-take : (end p : ℕ) (ws : List Write) → AllEndBy end ws → AllEndBy end (take p ws)
+AllEndBy-take end zero [] h = tt
+AllEndBy-take end zero (w ∷ ws) h = tt
+AllEndBy-take end (suc p) [] h = tt
+AllEndBy-take end (suc p) (w ∷ ws) h = (h.0, AllEndBy-take end p ws h.1)
+
+-- a greater end
+pub AllEndBy-more : (end more : ℕ) (ws : List Write) → end ≤ more → AllEndBy end ws → AllEndBy more ws
+AllEndBy-more end more [] le h = tt
+AllEndBy-more end more (w ∷ ws) le h = (omega (arith, h.0), AllEndBy-more end more ws le h.1)
+
+-- so the image ends there
+pub image_ends : (end : ℕ) (start : List ℕ) (ws : List Write) → length start ≤ end → AllEndBy end ws → length (image start ws) ≤ end
+image_ends end start [] short h = short
+image_ends end start (w ∷ ws) short h = image_ends end (apply w start) ws (omega (arith, length-apply w start, h.0)) h.1
 
 rises_most : (from to : ℕ) (ws : List Write) → RisingWrites from ws to → from ≤ to
 rises_most from to [] rises = rises
@@ -75,6 +96,22 @@ block_writes-fit (suc n) f is behind =
       within = (b.of_super.2, (b.of_index.2, (b.of_array.2, (b.of_header.2, tt))));
     }
 
+-- ---- Whether a session was stopped
+
+pub not_both : (b : Bool) → b ≡ false → b ≡ true → ⊥
+not_both b first second = let clash : false ≡ true = sym first ∙ second in cc
+
+pub not_so : (b : Bool) → (b ≡ true → ⊥) → b ≡ false
+not_so true never = absurd (never refl)
+not_so false never = refl
+
+some_is : (w : Write) (ws : List Write) → w ∷ ws ≡ [] → ⊥
+some_is w ws e = cc
+
+-- where something is pending it was not
+pub runs : (s : Session) (w : Write) (ws : List Write) → s.pending ≡ w ∷ ws → IsSession s → s.stopped ≡ false
+runs s w ws pending is = not_so s.stopped (λ e. some_is w ws (sym pending ∙ is.none_left e))
+
 -- ---- The session that creates a file
 
 no_value : (k : ℕ) (v : ℤ) → slice_get [] k ≡ Some v → ⊥
@@ -94,18 +131,19 @@ created_is rows low high =
       fit = λ k v e. absurd (no_value k v e);
       sized = ((b.of_index.0, b.of_index.1), ((b.of_array.0, b.of_array.1), ((b.of_header.0, b.of_header.1), ((b.of_root.0, b.of_root.1), ((b.of_super.0, b.of_super.1), tt)))));
       within = (b.of_index.2, (b.of_array.2, (b.of_header.2, (b.of_root.2, (b.of_super.2, tt)))));
+      none_left = λ e. absurd (not_both false refl e);
     }
 
 -- ---- A piece that became visible
 
-after_is : (s : Session) (ws : List Write) → IsSession s → AllSized ws → AllEndBy s.file.end ws → IsSession (after_piece s ws)
-after_is s [] is sized within =
-    record { is_file = is.is_file; needed = is.needed; counted = is.counted; end = is.end; room = is.room; fit = is.fit; sized = tt; within = tt }
-after_is s (w ∷ ws) is sized within =
-    record { is_file = is.is_file; needed = is.needed; counted = is.counted; end = is.end; room = is.room; fit = is.fit; sized = sized; within = within }
+after_is : (s : Session) (ws : List Write) → s.stopped ≡ false → IsSession s → AllSized ws → AllEndBy s.file.end ws → IsSession (after_piece s ws)
+after_is s [] running is sized within =
+    record { is_file = is.is_file; needed = is.needed; counted = is.counted; end = is.end; room = is.room; fit = is.fit; sized = tt; within = tt; none_left = λ e. refl }
+after_is s (w ∷ ws) running is sized within =
+    record { is_file = is.is_file; needed = is.needed; counted = is.counted; end = is.end; room = is.room; fit = is.fit; sized = sized; within = within; none_left = λ e. absurd (not_both s.stopped running e) }
 
 pub piece_is : (s : Session) (w : Write) (ws : List Write) → s.pending ≡ w ∷ ws → IsSession s → IsSession (after_piece s ws)
-piece_is s w ws pending is = after_is s ws is (subst AllSized pending is.sized).1 (subst (AllEndBy s.file.end) pending is.within).1
+piece_is s w ws pending is = after_is s ws (runs s w ws pending is) is (subst AllSized pending is.sized).1 (subst (AllEndBy s.file.end) pending is.within).1
 
 -- the oldest piece has its bounds
 pub piece_bounds : (s : Session) (w : Write) (ws : List Write) → s.pending ≡ w ∷ ws → IsSession s → (1 ≤ length w.piece) × (length w.piece ≤ 512) × (w.at + length w.piece ≤ s.file.end)
@@ -127,7 +165,23 @@ values_is s vs fit room is =
       fit = AllFit-append s.waiting vs is.fit fit;
       sized = is.sized;
       within = is.within;
+      none_left = is.none_left;
     }
+
+-- ---- A session that is stopped
+
+pub stopped_is : (s : Session) → IsSession s → IsSession (stopped_of s)
+stopped_is s is =
+    record { is_file = is.is_file; needed = is.needed; counted = is.counted; end = is.end; room = is.room; fit = is.fit; sized = tt; within = tt; none_left = λ e. refl }
+
+pub stopped_session : (old : Session) (f : FileFields) (rows : ℕ) (values : List ℤ) (plan items : List Write) (shown : ℕ) (stop : Bool) → session_of f rows values plan shown stop ≡ old → items ≡ []
+    → session_of f rows values items 0 true ≡ stopped_of old
+stopped_session old f rows values plan items shown stop view none = (λ i. record { file = f; committed = rows; waiting = values; pending = none i; stopped = true }) ∙ ap stopped_of view
+
+pub stopped_session_is : (old : Session) (f : FileFields) (rows : ℕ) (values : List ℤ) (plan items : List Write) (shown : ℕ) (stop : Bool) → session_of f rows values plan shown stop ≡ old → items ≡ []
+    → IsSession (session_of f rows values plan shown stop) → IsSession (session_of f rows values items 0 true)
+stopped_session_is old f rows values plan items shown stop view none is =
+    subst IsSession (sym (stopped_session old f rows values plan items shown stop view none)) (stopped_is old (subst IsSession view is))
 
 -- ---- A flush that is planned
 
@@ -150,8 +204,9 @@ needed_after f k some needed =
     let few : div_up f.rows f.chunk_rows ≤ div_up (f.rows + k) f.chunk_rows = div_up-grows f.rows (f.rows + k) f.chunk_rows some (omega arith) in
     omega arith
 
-planned_some : (s : Session) (v : ℤ) (vs : List ℤ) → s.waiting ≡ v ∷ vs → IsSession s → IsSession (record { file = grown (length (v ∷ vs)) s.file; committed = s.committed; waiting = []; pending = flush_writes s.file (v ∷ vs) })
-planned_some s v vs rows is =
+planned_some : (s : Session) (v : ℤ) (vs : List ℤ) → s.waiting ≡ v ∷ vs → s.stopped ≡ false → IsSession s
+    → IsSession (record { file = grown (length (v ∷ vs)) s.file; committed = s.committed; waiting = []; pending = flush_writes s.file (v ∷ vs); stopped = s.stopped })
+planned_some s v vs rows running is =
     let f = s.file in
     let values = v ∷ vs in
     let k = length values in
@@ -178,16 +233,18 @@ planned_some s v vs rows is =
       fit = λ j x e. absurd (no_value j x e);
       sized = AllSized-append (row_writes f values) (block_writes c g) row_pieces.sized blocks.sized;
       within = AllEndBy-append g.end (row_writes f values) (block_writes c g) row_pieces.within blocks.within;
+      none_left = λ e. absurd (not_both s.stopped running e);
     }
 
-planned_by : (s : Session) (rows : List ℤ) → s.waiting ≡ rows → IsSession s → IsSession (record { file = after_rows rows s.file; committed = s.committed; waiting = []; pending = flush_writes s.file rows })
-planned_by s [] rows is =
+pub planned_by : (s : Session) (rows : List ℤ) → s.waiting ≡ rows → s.stopped ≡ false → IsSession s
+    → IsSession (record { file = after_rows rows s.file; committed = s.committed; waiting = []; pending = flush_writes s.file rows; stopped = s.stopped })
+planned_by s [] rows running is =
     let room : div_up (s.file.rows + length (let none : List ℤ = [] in none)) s.file.chunk_rows ≤ chunk_limit = subst (λ (xs : List ℤ). div_up (s.file.rows + length xs) s.file.chunk_rows ≤ 4) rows is.room in
-    record { is_file = is.is_file; needed = is.needed; counted = is.counted; end = is.end; room = room; fit = λ j x e. absurd (no_value j x e); sized = tt; within = tt }
-planned_by s (v ∷ vs) rows is = planned_some s v vs rows is
+    record { is_file = is.is_file; needed = is.needed; counted = is.counted; end = is.end; room = room; fit = λ j x e. absurd (no_value j x e); sized = tt; within = tt; none_left = λ e. refl }
+planned_by s (v ∷ vs) rows running is = planned_some s v vs rows running is
 
-pub planned_is : (s : Session) → IsSession s → IsSession (planned s)
-planned_is s is = planned_by s s.waiting refl is
+pub planned_is : (s : Session) → s.stopped ≡ false → IsSession s → IsSession (planned s)
+planned_is s running is = planned_by s s.waiting refl running is
 
 -- ---- The pieces of a plan, of which some became visible
 
@@ -202,8 +259,9 @@ behind_first : (w x : Write) (ws xs : List Write) → w ∷ ws ≡ x ∷ xs → 
 behind_first w x ws xs e = cc
 
 -- one more of them
-pub shown_is : (f : FileFields) (rows later : ℕ) (values : List ℤ) (plan : List Write) (shown : ℕ) → shown < length plan → IsSession (session_of f rows values plan shown) → IsSession (session_of f later values plan (shown + 1))
-shown_is f rows later values plan shown inside is =
+pub shown_is : (f : FileFields) (rows later : ℕ) (values : List ℤ) (plan : List Write) (shown : ℕ) (stop : Bool) → shown < length plan → IsSession (session_of f rows values plan shown stop)
+    → IsSession (session_of f later values plan (shown + 1) stop)
+shown_is f rows later values plan shown stop inside is =
     let split = next_piece plan shown inside in
     let sized : AllSized (get_or plan shown no_write ∷ drop (shown + 1) plan) = subst AllSized split is.sized in
     let within : AllEndBy f.end (get_or plan shown no_write ∷ drop (shown + 1) plan) = subst (AllEndBy f.end) split is.within in
@@ -216,40 +274,49 @@ shown_is f rows later values plan shown inside is =
       fit = is.fit;
       sized = sized.1;
       within = within.1;
+      none_left = λ e. absurd (some_is (get_or plan shown no_write) (drop (shown + 1) plan) (sym split ∙ is.none_left e));
     }
 
 left_are : (plan : List Write) (shown : ℕ) (w : Write) (ws : List Write) → shown < length plan → drop shown plan ≡ w ∷ ws → ws ≡ drop (shown + 1) plan
 left_are plan shown w ws inside pending = behind_first w (get_or plan shown no_write) ws (drop (shown + 1) plan) (sym pending ∙ next_piece plan shown inside)
 
-cons_is : (w : Write) (ws : List Write) → w ∷ ws ≡ [] → ⊥
-cons_is w ws e = cc
+after_none : (f : FileFields) (rows : ℕ) (values : List ℤ) (plan : List Write) (shown : ℕ) (stop : Bool) (ws : List Write) → ws ≡ []
+    → after_piece (session_of f rows values plan shown stop) ws ≡ record { file = f; committed = f.rows; waiting = values; pending = ws; stopped = stop }
+after_none f rows values plan shown stop [] none = refl
+after_none f rows values plan shown stop (w ∷ ws) none = absurd (some_is w ws none)
 
-after_none : (f : FileFields) (rows : ℕ) (values : List ℤ) (plan : List Write) (shown : ℕ) (ws : List Write) → ws ≡ [] → after_piece (session_of f rows values plan shown) ws ≡ record { file = f; committed = f.rows; waiting = values; pending = ws }
-after_none f rows values plan shown [] none = refl
-after_none f rows values plan shown (w ∷ ws) none = absurd (cons_is w ws none)
-
-after_some : (f : FileFields) (rows : ℕ) (values : List ℤ) (plan : List Write) (shown : ℕ) (ws : List Write) → 0 < length ws → after_piece (session_of f rows values plan shown) ws ≡ record { file = f; committed = rows; waiting = values; pending = ws }
-after_some f rows values plan shown [] some = absurd (omega arith)
-after_some f rows values plan shown (w ∷ ws) some = refl
+after_some : (f : FileFields) (rows : ℕ) (values : List ℤ) (plan : List Write) (shown : ℕ) (stop : Bool) (ws : List Write) → 0 < length ws
+    → after_piece (session_of f rows values plan shown stop) ws ≡ record { file = f; committed = rows; waiting = values; pending = ws; stopped = stop }
+after_some f rows values plan shown stop [] some = absurd (omega arith)
+after_some f rows values plan shown stop (w ∷ ws) some = refl
 
 -- the last piece brings the rows
-pub shown_last : (f : FileFields) (rows later : ℕ) (values : List ℤ) (plan : List Write) (shown : ℕ) (w : Write) (ws : List Write) → shown < length plan → shown + 1 ≡ length plan → later ≡ f.rows
-    → drop shown plan ≡ w ∷ ws → session_of f later values plan (shown + 1) ≡ after_piece (session_of f rows values plan shown) ws
-shown_last f rows later values plan shown w ws inside last is pending =
+pub shown_last : (f : FileFields) (rows later : ℕ) (values : List ℤ) (plan : List Write) (shown : ℕ) (stop : Bool) (w : Write) (ws : List Write) → shown < length plan → shown + 1 ≡ length plan → later ≡ f.rows
+    → drop shown plan ≡ w ∷ ws → session_of f later values plan (shown + 1) stop ≡ after_piece (session_of f rows values plan shown stop) ws
+shown_last f rows later values plan shown stop w ws inside last is pending =
     let left = left_are plan shown w ws inside pending in
     let none : ws ≡ [] = left ∙ drop_all (shown + 1) plan (omega arith) in
-    (λ i. record { file = f; committed = is i; waiting = values; pending = sym left i }) ∙ sym (after_none f rows values plan shown ws none)
+    (λ i. record { file = f; committed = is i; waiting = values; pending = sym left i; stopped = stop }) ∙ sym (after_none f rows values plan shown stop ws none)
 
 -- the others do not
-pub shown_more : (f : FileFields) (rows : ℕ) (values : List ℤ) (plan : List Write) (shown : ℕ) (w : Write) (ws : List Write) → shown < length plan → (shown + 1 ≡ length plan → ⊥)
-    → drop shown plan ≡ w ∷ ws → session_of f rows values plan (shown + 1) ≡ after_piece (session_of f rows values plan shown) ws
-shown_more f rows values plan shown w ws inside more pending =
+pub shown_more : (f : FileFields) (rows : ℕ) (values : List ℤ) (plan : List Write) (shown : ℕ) (stop : Bool) (w : Write) (ws : List Write) → shown < length plan → (shown + 1 ≡ length plan → ⊥)
+    → drop shown plan ≡ w ∷ ws → session_of f rows values plan (shown + 1) stop ≡ after_piece (session_of f rows values plan shown stop) ws
+shown_more f rows values plan shown stop w ws inside more pending =
     let left = left_are plan shown w ws inside pending in
     let some : 0 < length ws = omega (arith, ap length left, length-drop (shown + 1) plan) in
-    (λ i. record { file = f; committed = rows; waiting = values; pending = sym left i }) ∙ sym (after_some f rows values plan shown ws some)
+    (λ i. record { file = f; committed = rows; waiting = values; pending = sym left i; stopped = stop }) ∙ sym (after_some f rows values plan shown stop ws some)
 
 pub some_left : (plan pending : List Write) (shown : ℕ) → drop shown plan ≡ pending → 0 < length pending → shown < length plan
 some_left plan pending shown is some = omega (arith, ap length is, length-drop shown plan)
+
+-- where its file ends
+pub end_few : (s : Session) → IsSession s → s.file.end ≤ 2 ^ 40
+end_few s is =
+    let per = s.file.chunk_rows in
+    let count = length s.file.addresses in
+    let first : first_end per ≤ 600 = first_end_small per is.is_file.some_rows is.is_file.chunk_bound in
+    let most : count * chunk_len per ≤ 4 * (4 * 65536) = mul-le count (chunk_len per) 4 (4 * 65536) is.is_file.few (omega (arith, is.is_file.chunk_bound)) in
+    omega (arith, is.end)
 
 -- how many rows a session can have
 pub rows_few : (s : Session) → IsSession s → rows_of s ≤ 262144

@@ -36,7 +36,7 @@ pub record Follows (m n : Moment) : Type 0 where
 
 -- ---- The root
 
-root_address_now : (img : List ℕ) (m : Moment) → Represents img m → root_address img ≡ root_place
+pub root_address_now : (img : List ℕ) (m : Moment) → Represents img m → root_address img ≡ root_place
 unfolding le num
 root_address_now img m r =
     ap (λ (b : List ℕ). (super_fields b).root) (look_at img 0 48 (super_bytes (super_of m.file)) r.standing.0 (length-super_bytes (super_of m.file)))
@@ -50,7 +50,7 @@ same_root old new m n r s =
 -- ---- The dataset header
 
 -- it names no continuation block
-no_continuations : (img : List ℕ) (m : Moment) → Represents img m → continuation_blocks img (reading_of m.file) ≡ []
+pub no_continuations : (img : List ℕ) (m : Moment) → Represents img m → continuation_blocks img (reading_of m.file) ≡ []
 no_continuations img m r =
     ap (λ (b : List ℕ). visits img (dataset_from header_place b)) (dataset_look img m.file r.is_file.chunk_bound r.standing.1.1.0) ∙ dataset_visits img m.file r.is_file.chunk_bound
 

@@ -1,3 +1,11 @@
+pub use Rattle.h5w_model.specs.Numbers
+pub use Rattle.h5w_model.specs.Images
+pub use Rattle.h5w_model.specs.Logs
+pub use Rattle.h5w_model.specs.Lawful
+pub use Rattle.h5w_model.specs.Prefixed
+pub use Rattle.h5w_model.specs.Tables
+pub use Rattle.h5w_model.specs.Causes
+pub use Rattle.h5w_image.specs.View
 pub mod Files
 pub mod Plans
 pub mod Flushes
@@ -5,3 +13,4 @@ pub mod Kept
 pub mod Sessions
 pub mod Refusals
 pub mod Room
+pub mod Laws

@@ -15,18 +15,19 @@ use Rattle.h5w_writer.specs.declared.refusal.FlushError.TheVariants as flushes
 abbrev pub chunks_with : Session → ℕ → ℕ
 chunks_with s more = div_up (rows_of s + more) s.file.chunk_rows
 
--- the first of these that applies: pieces are pending, a value is outside the type, the rows need too many chunks
+-- the first of these that applies: the session was stopped, pieces are pending, a value is outside the type, the rows need too many chunks
 abbrev pub append_refusal : Session → List ℤ → Option AppendError
 append_refusal s values =
-    if nat_lt 0 (length s.pending) then Some (appends.Busy (length s.pending))
+    if s.stopped then Some appends.Stopped
+    else if nat_lt 0 (length s.pending) then Some (appends.Busy (length s.pending))
     else elim (first_outside int_type 0 values) [
       | Some x ↦ Some (appends.OutOfRange x.0 x.1)
       | None ↦ (if nat_lt chunk_limit (chunks_with s (length values)) then Some (appends.Chunks (chunks_with s (length values)) chunk_limit) else None)
     ]
 
--- pieces are pending
+-- the session was stopped, or pieces are pending
 abbrev pub flush_refusal : Session → Option FlushError
-flush_refusal s = if nat_lt 0 (length s.pending) then Some (flushes.Busy (length s.pending)) else None
+flush_refusal s = if s.stopped then Some flushes.Stopped else if nat_lt 0 (length s.pending) then Some (flushes.Busy (length s.pending)) else None
 
 -- what is answered where the image made no room
 abbrev pub append_fault : ImageError → AppendError

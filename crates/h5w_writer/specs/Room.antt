@@ -1,5 +1,5 @@
 -- The room that a session has in its image.
-use Rattle.std.specs.Prelude.{ℕ, ◌+◌, ◌≤◌, length}
+use Rattle.std.specs.Prelude.{◌+◌, ◌≤◌, length}
 use Rattle.h5w_image.specs.View.{ImageView}
 use Rattle.h5w_writer.specs.Sessions.{Session}
 

@@ -1,5 +1,5 @@
 -- A session: what its values are, and of which logs it can be the session.
-use Rattle.std.specs.Prelude.{◌≡◌, ◌≢◌, ◌⊎◌, ℕ, ◌+◌, ◌*◌, ◌≤◌, List, [], ◌∷◌, ◌++◌, length, take, drop, ℤ, nat_lt, if◌then◌else◌}
+use Rattle.std.specs.Prelude.{◌≡◌, ◌≢◌, ◌⊎◌, ℕ, ◌+◌, ◌*◌, ◌≤◌, Bool, true, false, List, [], ◌∷◌, ◌++◌, length, take, drop, ℤ, nat_lt, if◌then◌else◌}
 use Rattle.h5w_model.specs.Images.{image, AllSized}
 use Rattle.h5w_model.specs.Logs.{Log, Cutting, Happening, hist, appended_in, flushed_in, div_up}
 use Rattle.h5w_model.specs.Prefixed.{PrefixedEach, Still}
@@ -7,14 +7,16 @@ use Rattle.h5w_model.specs.declared.piece.Write.{Write}
 use Rattle.h5w_writer.specs.Files.{FileFields, Moment, IsFile, AllFit, Represents, dataset_name, first_end, chunk_len}
 use Rattle.h5w_writer.specs.Plans.{Step, new_file, creation_writes}
 use Rattle.h5w_writer.specs.Flushes.{after_rows, flush_writes}
+use Rattle.h5w_writer.specs.Kept.{space_limit}
 
--- What the file is once all pending pieces became visible, the rows that it has until the last of them does, the
--- values of the rows that no flush has planned, and the pending pieces, the oldest first.
+-- What the file is once all planned pieces became visible, the rows that it has until the last of them does, the values
+-- of the rows that no flush has planned, the pending pieces, the oldest first, and whether it was stopped.
 pub record Session : Type 0 where
   pub file : FileFields
   pub committed : ℕ
   pub waiting : List ℤ
   pub pending : List Write
+  pub stopped : Bool
 
 -- the most chunks of a file, those in the slots of the index block
 abbrev pub chunk_limit : ℕ
@@ -36,10 +38,12 @@ pub record IsSession (s : Session) : Type 0 where
   pub fit : AllFit s.waiting
   pub sized : AllSized s.pending
   pub within : AllEndBy s.file.end s.pending
+  -- of a stopped session nothing is pending
+  pub none_left : s.stopped ≡ true → s.pending ≡ []
 
 -- a session by its parts: of the last plan's pieces some became visible
-abbrev pub session_of : FileFields → ℕ → List ℤ → List Write → ℕ → Session
-session_of f rows values plan shown = record { file = f; committed = rows; waiting = values; pending = drop shown plan }
+abbrev pub session_of : FileFields → ℕ → List ℤ → List Write → ℕ → Bool → Session
+session_of f rows values plan shown stop = record { file = f; committed = rows; waiting = values; pending = drop shown plan; stopped = stop }
 
 -- the rows appended in all
 abbrev pub rows_of : Session → ℕ
@@ -84,25 +88,37 @@ pub record Running (s : Session) (es : List Happening) : Type 0 where
   pub appended : after.values ++ s.waiting ≡ appended_in es
   pub flushed : (k : ℕ) → flushed_in k [] es ≡ (if nat_lt k (length s.pending) then before.values else after.values)
   pub past : (p : ℕ) → 5 ≤ p → p ≤ length (hist es) → (m : Moment) × Represents (image [] (take p (hist es))) m
+  -- all pieces end within the greatest end of a file
+  pub ends : AllEndBy space_limit (hist es ++ s.pending)
 
--- the session is that of this log, at every position of which the image is valid, reads as the flushed rows, and keeps
--- what readers rest on
-pub record Stands (s : Session) (log : Log) : Type 0 where
+-- the session, whose pending pieces are all that its last plan left, is that of this log, at every position of which the
+-- image is valid, reads as the flushed rows, and keeps what readers rest on
+pub record Goes (s : Session) (log : Log) : Type 0 where
   pub is : log ≡ log_of log.events
   pub phase : Creating s log.events ⊎ Running s log.events
   pub prefixed : PrefixedEach dataset_name log
   pub still : Still dataset_name log
 
+-- the session with other pieces pending, as if it had not been stopped
+abbrev pub going : Session → List Write → Session
+going s ws = record { file = s.file; committed = s.committed; waiting = s.waiting; pending = ws; stopped = false }
+
+-- The session is that of this log. Where it was stopped, some pieces that its last plan left were dropped.
+pub record Stands (s : Session) (log : Log) : Type 0 where
+  pub left : List Write
+  pub none_dropped : s.stopped ≡ false → left ≡ s.pending
+  pub goes : Goes (going s left) log
+
 -- ---- What events make of a session
 
 -- a session that creates a file with so many rows in a chunk
 abbrev pub created : ℕ → Session
-created rows = record { file = new_file rows; committed = 0; waiting = []; pending = creation_writes rows }
+created rows = record { file = new_file rows; committed = 0; waiting = []; pending = creation_writes rows; stopped = false }
 
 -- the session once its oldest piece became visible, with these left: the last brings the rows
 abbrev pub after_piece : Session → List Write → Session
-after_piece s [] = record { file = s.file; committed = s.file.rows; waiting = s.waiting; pending = [] }
-after_piece s (w ∷ ws) = record { file = s.file; committed = s.committed; waiting = s.waiting; pending = w ∷ ws }
+after_piece s [] = record { file = s.file; committed = s.file.rows; waiting = s.waiting; pending = []; stopped = s.stopped }
+after_piece s (w ∷ ws) = record { file = s.file; committed = s.committed; waiting = s.waiting; pending = w ∷ ws; stopped = s.stopped }
 
 -- the session with some more values that wait
 abbrev pub with_values : Session → List ℤ → Session
@@ -110,4 +126,8 @@ with_values s values = record s { waiting = s.waiting ++ values }
 
 -- the session once the rows that wait were planned
 abbrev pub planned : Session → Session
-planned s = record { file = after_rows s.waiting s.file; committed = s.committed; waiting = []; pending = flush_writes s.file s.waiting }
+planned s = record { file = after_rows s.waiting s.file; committed = s.committed; waiting = []; pending = flush_writes s.file s.waiting; stopped = s.stopped }
+
+-- the session once it was stopped: what was pending is dropped
+abbrev pub stopped_of : Session → Session
+stopped_of s = record { file = s.file; committed = s.committed; waiting = s.waiting; pending = []; stopped = true }

@@ -5,12 +5,17 @@ mod blocks;
 mod cells;
 mod file;
 mod header;
+mod laws;
 mod options;
 mod plan;
 mod refusal;
 mod session;
 
 pub use h5w_model::{OutOfMemory, Write};
+pub use laws::{room_stays, shown_laws, standing_laws};
 pub use options::Options;
 pub use refusal::{AppendError, FlushError};
 pub use session::WriterCore;
+
+#[cfg(test)]
+mod tests;

@@ -6,6 +6,9 @@ use thiserror::Error;
 /// Why rows were not appended, tried in this order. The session is as before.
 #[derive(Clone, Copy, Debug, PartialEq, Eq, Error)]
 pub enum AppendError {
+    /// The session was stopped.
+    #[error("the session was stopped")]
+    Stopped,
     /// So many pieces are pending.
     #[error("{pending} pieces are pending")]
     Busy { pending: u64 },
@@ -25,6 +28,9 @@ pub enum AppendError {
 /// Why a flush was not planned, tried in this order. The session is as before.
 #[derive(Clone, Copy, Debug, PartialEq, Eq, Error)]
 pub enum FlushError {
+    /// The session was stopped.
+    #[error("the session was stopped")]
+    Stopped,
     /// So many pieces are pending.
     #[error("{pending} pieces are pending")]
     Busy { pending: u64 },

@@ -6,7 +6,7 @@ ghost use Rattle.h5w_model.specs.declared.piece.Write.{Write};
 ghost use Rattle.h5w_model.specs.Causes.{Rose};
 ghost use Rattle.h5w_image.specs.View.{Same};
 ghost use Rattle.h5w_writer.specs.Room.{HasRoomFor};
-ghost use Rattle.h5w_writer.specs.Sessions.{Stands, after_piece, created, cutting_of, log_of, planned, rows_of, with_values};
+ghost use Rattle.h5w_writer.specs.Sessions.{Stands, after_piece, created, cutting_of, log_of, planned, rows_of, stopped_of, with_values};
 ghost use Rattle.h5w_writer.specs.Refusals.{append_refusal, flush_refusal};
 ghost use Rattle.h5w_writer.specs.declared.refusal.AppendError.{AppendError};
 ghost use Rattle.h5w_writer.specs.declared.refusal.FlushError.{FlushError};
@@ -22,10 +22,11 @@ use std::alloc::Global;
 use std::marker::Model;
 
 /// A writer of one file with one dataset: rows are appended, a flush plans the pieces that make them
-/// visible, and whoever drives it puts these into the image, one after another.
+/// visible, and whoever drives it puts these into the image, one after another. A session that was stopped takes no
+/// rows and plans nothing.
 #[derive(Drop)]
 pub struct WriterCore {
-    /// The file once all pending pieces became visible.
+    /// The file once all planned pieces became visible.
     file: File,
     /// The rows that it has before the last of them does.
     committed: u64,
@@ -34,6 +35,7 @@ pub struct WriterCore {
     /// The pieces of the last plan, and how many of them became visible.
     plan: Vec<Write>,
     shown: usize,
+    stopped: bool,
 }
 
 impl Model for WriterCore {
@@ -42,9 +44,9 @@ impl Model for WriterCore {
 
     ghost Value = { Session };
 
-    ghost view = { λ w. session_of w.file w.committed w.waiting.items w.plan.items w.shown };
+    ghost view = { λ w. session_of w.file w.committed w.waiting.items w.plan.items w.shown w.stopped };
 
-    ghost invariant = { λ w. IsSession (session_of w.file w.committed w.waiting.items w.plan.items w.shown) × (w.shown ≤ length w.plan.items) };
+    ghost invariant = { λ w. IsSession (session_of w.file w.committed w.waiting.items w.plan.items w.shown w.stopped) × (w.shown ≤ length w.plan.items) };
 }
 
 impl WriterCore {
@@ -63,6 +65,7 @@ impl WriterCore {
             waiting: Vec::new(alloc),
             plan,
             shown: 0,
+            stopped: false,
         })
     }
 
@@ -93,6 +96,9 @@ impl WriterCore {
     fn check(&self, values: &[i128]) -> Result<(), AppendError>
         ensures { MatchOption (append_refusal self.now values.now) (result ≡ Ok tt) (λ e. result ≡ Err e) }
     {
+        if self.stopped {
+            return Err(AppendError::Stopped);
+        }
         let pending = self.pending();
         if pending > 0 {
             return Err(AppendError::Busy { pending });
@@ -127,10 +133,7 @@ impl WriterCore {
         ensures image { Same (W.view image.old) (W.view image.new) }
         ensures room { OnOk result (HasRoomFor self.new (W.view image.new)) }
     {
-        let pending = self.pending();
-        if pending > 0 {
-            return Err(FlushError::Busy { pending });
-        }
+        self.ready()?;
         let plan = plan_flush(*self.plan.allocator(), &self.file, &self.waiting)?;
         let pieces = plan.writes.len() as u64;
         image.reserve(pieces + 1, plan.file.end())?;
@@ -139,6 +142,20 @@ impl WriterCore {
         self.plan = plan.writes;
         self.shown = 0;
         Ok(pieces)
+    }
+
+    /// Why no flush is planned, but for the image and memory.
+    fn ready(&self) -> Result<(), FlushError>
+        ensures { MatchOption (flush_refusal self.now) (result ≡ Ok tt) (λ e. result ≡ Err e) }
+    {
+        if self.stopped {
+            return Err(FlushError::Stopped);
+        }
+        let pending = self.pending();
+        if pending > 0 {
+            return Err(FlushError::Busy { pending });
+        }
+        Ok(())
     }
 
     /// How many pieces are pending.
@@ -151,6 +168,8 @@ impl WriterCore {
     /// The oldest pending piece; None exactly where nothing is pending.
     pub fn next(&self) -> Option<&Write>
         ensures oldest { option_copied result ≡ slice_get self.now.pending 0 }
+        ensures some { IfSome result (λ w. 1 ≤ length w.now.piece) }
+        ensures within { IfSome result (λ w. w.now.at + length w.now.piece ≤ self.now.file.end) }
     {
         self.plan.get(self.shown)
     }
@@ -165,6 +184,25 @@ impl WriterCore {
         if self.shown == self.plan.len() {
             self.committed = self.file.rows();
         }
+    }
+
+    /// Drops the pending pieces. The session is stopped from then on: nothing is pending, and what was flushed stays.
+    /// Takes no memory.
+    pub fn stop(&mut self)
+        ensures session { self.new ≡ stopped_of self.old }
+        ensures stands { (log : Log) → Stands self.old log → Stands self.new log }
+    {
+        self.plan.clear();
+        self.shown = 0;
+        self.stopped = true;
+    }
+
+    /// The image failed at a piece, so that the pieces behind it cannot become visible: the session is stopped.
+    pub fn failed(&mut self)
+        ensures session { self.new ≡ stopped_of self.old }
+        ensures stands { (log : Log) → Stands self.old log → Stands self.new log }
+    {
+        self.stop();
     }
 
     /// How many rows were appended.
@@ -182,6 +220,13 @@ impl WriterCore {
         ensures flushed { (log : Log) → Stands self.now log → result ≡ length (flushed log) }
     {
         self.committed
+    }
+
+    /// How many bytes the file has once all planned pieces became visible.
+    pub fn end(&self) -> u64
+        ensures { result ≡ self.now.file.end }
+    {
+        self.file.end()
     }
 
     /// How many columns the dataset has.

@@ -1,4 +1,4 @@
-use Rattle.std.proofs.Common.{◌≡◌, ◌==◌, not, Bool, List, subst, ap, ◌∙◌, rules}
+use Rattle.std.proofs.Common.{◌==◌, not, Bool, List, subst, ap, ◌∙◌, rules}
 use Rattle.std.specs.List.{Contains, filter}
 use Rattle.std.proofs.lemmas.Fn.{filter_same}
 use Rattle.h5w_deps.specs.declared.Edge.{Edge}

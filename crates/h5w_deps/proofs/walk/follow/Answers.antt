@@ -2,8 +2,8 @@ use Rattle.std.proofs.Common.{◌≡◌, ◌+◌, List, ℕ, ◌++◌, ◌∷◌
 use Rattle.std.proofs.lemmas.List.{take_more}
 use Rattle.h5w_deps.specs.declared.Edge.{Edge}
 use Rattle.h5w_deps.specs.Edges.{edge}
-use Rattle.h5w_deps.specs.Walk.{Follows, noted}
-use Rattle.h5w_deps.proofs.WalkLemmas.{Follows-none, Follows-other, Follows-parent}
+use Rattle.h5w_deps.specs.Walk.{Follows}
+use Rattle.h5w_deps.proofs.WalkLemmas.{Follows-other, Follows-parent}
 use Rattle.h5w_deps.proofs.walk.follow.Goals as goal
 use Rattle.h5w_deps.proofs.walk.follow.Goals.{then-edge-block+in_ok-note, else-edge-block}
 

@@ -1,4 +1,4 @@
-use Rattle.std.proofs.Common.{◌≡◌, ◌+◌, ◌-◌, ◌<◌, ◌≤◌, ◌^◌, List, ℕ, ◌∷◌, [], length, get_or, subst, sym, ◌∙◌, arith, rules}
+use Rattle.std.proofs.Common.{◌≡◌, ◌<◌, ◌≤◌, ◌^◌, List, ℕ, length, get_or, subst, ◌∙◌, arith, rules}
 use Rattle.h5w_deps.proofs.WalkLemmas.{IsWalked, IsWalked-none, IsWalked-more, IsWalked-not_found, IsWalked-few, get_or-any}
 use Rattle.h5w_deps.specs.declared.Edge.{Edge}
 use Rattle.h5w_deps.specs.Walk.{Follows}

@@ -1,4 +1,4 @@
-use Rattle.std.proofs.Common.{◌≡◌, ◌∙◌, ◌∷◌, [], ◌++◌, ap, ℕ}
+use Rattle.std.proofs.Common.{◌≡◌, ◌∙◌, ◌∷◌, [], ap, ℕ}
 use Rattle.std.proofs.lemmas.List.{append-nil}
 use Rattle.h5w_model.specs.Arrays.{eahd_bytes}
 use Rattle.h5w_writer.specs.Files.{array_place, index_place}

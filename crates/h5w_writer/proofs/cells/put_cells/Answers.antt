@@ -1,6 +1,5 @@
-use Rattle.std.proofs.Common.{arith, rules, to_z, of_z, ◌≡◌, ◌<◌, ◌≤◌, ◌++◌, length, get_or, take, pos, ℤ, ◌∙◌, ap, sym, Some}
+use Rattle.std.proofs.Common.{arith, rules, to_z, of_z, ◌≡◌, ◌<◌, ◌≤◌, ◌++◌, length, get_or, take, pos, ◌∙◌, sym}
 use Rattle.std.specs.Int.{w128}
-use Rattle.std.proofs.lemmas.Int.{to_z-of_z}
 use Rattle.h5w_writer.specs.Flushes.{cell_list}
 use Rattle.h5w_writer.proofs.CellLemmas.{cells_more, cells_all}
 use Rattle.h5w_writer.proofs.cells.put_cells.Goals as goal

@@ -1,4 +1,4 @@
-use Rattle.std.proofs.Common.{rules, arith, vec_len, ◌≡◌, ◌*◌, ◌-◌, ◌∙◌, ◌++◌, [], ap, sym, subst, List, ℕ, length, take, replicate, OnOk, refl}
+use Rattle.std.proofs.Common.{rules, arith, vec_len, ◌≡◌, ◌*◌, ◌∙◌, ◌++◌, ap, subst, List, ℕ, OnOk}
 use Rattle.h5w_model.specs.Images.{pieces}
 use Rattle.h5w_writer.specs.Flushes.{cell_list, chunk_values}
 use Rattle.h5w_writer.proofs.CellLemmas.{cells_filled}

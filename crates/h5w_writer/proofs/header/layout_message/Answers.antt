@@ -1,4 +1,4 @@
-use Rattle.std.proofs.Common.{◌≡◌, ◌≤◌, ◌++◌, length, take, drop, replicate, ℕ, ◌∙◌, ap, sym, subst, List}
+use Rattle.std.proofs.Common.{◌≡◌, ◌≤◌, length, take, drop, replicate, ℕ, ◌∙◌, ap, sym, subst, List}
 use Rattle.std.proofs.lemmas.List.{take_at}
 use Rattle.std.specs.Result.{IfOk}
 use Rattle.h5w_model.specs.Messages.{layout_bytes}

@@ -1,7 +1,6 @@
-use Rattle.std.proofs.Common.{arith, rules, ◌≡◌, ◌+◌, ◌<◌, ◌≤◌, ◌++◌, ◌∙◌, min, length, take, drop, ap, sym, subst, ℕ, ℤ, List, refl}
+use Rattle.std.proofs.Common.{arith, ◌≡◌, ◌≤◌, ◌++◌, ◌∙◌, min, length, ap, sym, subst, ℕ}
 use Rattle.h5w_model.specs.Images.{pieces}
 use Rattle.h5w_model.specs.Logs.{div_up}
-use Rattle.h5w_model.specs.declared.piece.Write.{Write}
 use Rattle.h5w_writer.specs.Files.{FileFields, AllFit}
 use Rattle.h5w_writer.specs.Flushes.{cell_list, chunk_values, chunk_writes, with_chunks}
 use Rattle.h5w_writer.proofs.CellLemmas.{part_of, AllFit-drop}

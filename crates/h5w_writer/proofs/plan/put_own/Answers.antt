@@ -1,4 +1,4 @@
-use Rattle.std.proofs.Common.{arith, rules, eqb-true, ◌≡◌, ◌++◌, ◌∙◌, ap, sym, length, List}
+use Rattle.std.proofs.Common.{rules, ◌≡◌, ◌++◌, ◌∙◌, ap, sym, length, List}
 use Rattle.std.proofs.lemmas.List.{append-nil}
 use Rattle.h5w_model.specs.declared.piece.Write.{Write}
 use Rattle.h5w_writer.specs.Files.{cell_place}

@@ -1,10 +1,10 @@
-use Rattle.std.proofs.Common.{arith, ◌≡◌, ◌+◌, ◌-◌, ◌*◌, ◌≤◌, ◌++◌, ◌∙◌, min, length, take, drop, ap, sym, subst, ℕ, ℤ, List, OnOk, length-drop}
+use Rattle.std.proofs.Common.{arith, ◌≡◌, ◌+◌, ◌≤◌, ◌++◌, ◌∙◌, min, length, ap, sym, subst, ℕ, ℤ, List, OnOk}
 use Rattle.std.proofs.lemmas.List.{append_assoc}
 use Rattle.h5w_model.specs.Images.{pieces}
 use Rattle.h5w_model.specs.Logs.{div_up}
 use Rattle.h5w_model.specs.declared.piece.Write.{Write}
-use Rattle.h5w_writer.specs.Files.{FileFields, AllFit, cell_place}
-use Rattle.h5w_writer.specs.Flushes.{cell_list, chunk_writes, free_rows, missing_chunks, own_writes, new_writes, row_writes, with_chunks}
+use Rattle.h5w_writer.specs.Files.{AllFit, cell_place}
+use Rattle.h5w_writer.specs.Flushes.{cell_list, chunk_writes, free_rows, missing_chunks, own_writes, new_writes, with_chunks}
 use Rattle.h5w_writer.proofs.CellLemmas.{AllFit-drop}
 use Rattle.h5w_writer.proofs.ChunkLemmas.{is_needed, new_count, room-split, take-least, drop-least}
 use Rattle.h5w_writer.proofs.plan.put_rows.Goals as goal

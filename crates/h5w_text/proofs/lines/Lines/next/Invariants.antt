@@ -5,9 +5,10 @@ use Rattle.h5w_text.proofs.lines.Lines.next.Given as goal
 
 abbrev pub invariant-loop-line : goal.invariant-loop-line
 invariant-loop-line g l = record {
-  before : Before l.line (reading (g.S.Source.view l.fn.self.source.now) l.fn.self.intake) (reading (g.S.Source.view l.self.source.now) l.self.intake);
+  before : Before l.line (reading (g.S.Source.view l.fn.self.source.now) l.fn.self.intake.now) (reading (g.S.Source.view l.self.source.now) l.self.intake.now);
   same_reference : l.self.source.ghost_name ≡ l.fn.self.source.ghost_name;
+  same_intake : l.self.intake.ghost_name ≡ l.fn.self.intake.ghost_name;
 }
 
 abbrev pub decreases-loop-line : goal.decreases-loop-line
-decreases-loop-line g l = length l.self.intake.held + l.self.intake.more
+decreases-loop-line g l = length l.self.intake.now.held + l.self.intake.now.more

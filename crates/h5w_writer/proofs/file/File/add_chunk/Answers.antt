@@ -1,7 +1,7 @@
-use Rattle.std.proofs.Common.{arith, ◌^◌, ◌≡◌, ◌<◌, ◌+◌, ◌*◌, ◌∙◌, ap, sym, subst, length, Ok, ℕ, false}
+use Rattle.std.proofs.Common.{arith, ◌^◌, ◌≡◌, ◌<◌, ◌+◌, ◌*◌, ◌∙◌, ap, sym, ℕ, false}
 use Rattle.std.proofs.lemmas.Bool.{and_right}
-use Rattle.std.specs.Prelude.{not, ◌&&◌, nat_lt}
-use Rattle.std.specs.Result.{IfOk, is_err}
+use Rattle.std.specs.Prelude.{not, nat_lt}
+use Rattle.std.specs.Result.{is_err}
 use Rattle.h5w_space.specs.Space.{Space, Takes, extent, has_size}
 use Rattle.h5w_writer.specs.Files.{FileFields}
 use Rattle.h5w_writer.specs.Flushes.{with_chunks}

@@ -2,7 +2,7 @@ use Rattle.std.proofs.Common.{◌≡◌, ◌+◌, ◌∙◌, ap, sym, subst, Lis
 use Rattle.std.specs.Option.{IsSome}
 use Rattle.std.specs.Result.{IsOk}
 use Rattle.h5w_model.specs.Headers.{messages_at, rows_in_header, with_rows_bytes, header_bytes}
-use Rattle.h5w_writer.specs.Files.{FileFields, dataset_messages}
+use Rattle.h5w_writer.specs.Files.{dataset_messages}
 use Rattle.h5w_writer.specs.Kept.{fields_of}
 use Rattle.h5w_writer.proofs.KeptLemmas.{kept_rows}
 use Rattle.h5w_writer.proofs.RowsLemmas.{header_read, rows_found, with_rows_is}

@@ -1,9 +1,5 @@
-use Rattle.std.proofs.Common.{arith, ◌≡◌, ◌-◌, ◌+◌, ◌*◌, ◌<◌, ◌≤◌, ◌∙◌, ap, sym, subst, length, take, ℕ}
-use Rattle.h5w_model.specs.Logs.{div_up}
-use Rattle.h5w_writer.specs.Files.{FileFields}
+use Rattle.std.proofs.Common.{◌-◌, ◌*◌, ◌∙◌, ap, sym, ℕ}
 use Rattle.h5w_writer.specs.Flushes.{free_rows}
-use Rattle.h5w_writer.specs.Kept.{fields_of}
-use Rattle.h5w_writer.proofs.ChunkLemmas.{Needed, is_needed}
 use Rattle.h5w_writer.proofs.file.File.free_rows.Goals as goal
 
 pub returns-clause-value : goal.returns-clause-value

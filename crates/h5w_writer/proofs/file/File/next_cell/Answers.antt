@@ -1,4 +1,4 @@
-use Rattle.std.proofs.Common.{arith, ◌≡◌, ◌<◌, ◌+◌, ◌*◌, ◌/◌, ◌%◌, ◌^◌, ◌∙◌, ap, sym, length, take, get_or, subst, ℕ, List}
+use Rattle.std.proofs.Common.{arith, ◌<◌, ◌+◌, ◌*◌, ◌/◌, ◌%◌, ◌^◌, sym, length, take, get_or, subst}
 use Rattle.h5w_writer.specs.Files.{FileFields}
 use Rattle.h5w_writer.proofs.KeptLemmas.{next_cell_bound}
 use Rattle.h5w_writer.proofs.file.File.next_cell.Goals as goal

@@ -7,7 +7,7 @@ pub invariant_of-self-2 : goal.invariant_of-self-2
 invariant_of-self-2 g c =
     let i = c.self.inside in
     let none = accepted (append_refusal c.args.self.now c.args.values.now) (Ok tt) c.in_ok-check.ensures refl in (
-      appended_is c.args.self.now i.file i.committed i.waiting.items c.extend_from_slice.new.self.items c.args.values.now i.plan.items i.shown c.self.view_is c.in_ok-extend_from_slice.ensures.items none
+      appended_is c.args.self.now i.file i.committed i.waiting.items c.extend_from_slice.new.self.items c.args.values.now i.plan.items i.shown i.stopped c.self.view_is c.in_ok-extend_from_slice.ensures.items none
           c.self.invariant.0,
       c.self.invariant.1,
     )
@@ -16,4 +16,4 @@ pub returns-clause-stands : goal.returns-clause-stands
 returns-clause-stands g c log stands =
     let i = c.self.inside in
     let none = accepted (append_refusal c.args.self.now c.args.values.now) (Ok tt) c.in_ok-check.ensures refl in
-    appended_stands c.args.self.now i.file i.committed i.waiting.items c.extend_from_slice.new.self.items c.args.values.now i.plan.items i.shown c.self.view_is c.in_ok-extend_from_slice.ensures.items none log stands
+    appended_stands c.args.self.now i.file i.committed i.waiting.items c.extend_from_slice.new.self.items c.args.values.now i.plan.items i.shown i.stopped c.self.view_is c.in_ok-extend_from_slice.ensures.items none log stands

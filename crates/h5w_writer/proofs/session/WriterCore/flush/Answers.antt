@@ -1,8 +1,8 @@
-use Rattle.std.proofs.Common.{arith, rules, vec_len, ◌≡◌, ◌≤◌, ◌∙◌, ◌↔◌, [], ap, sym, subst, length, ℕ, ℤ, List}
-use Rattle.h5w_model.specs.declared.piece.Write.{Write}
-use Rattle.h5w_writer.specs.Files.{FileFields}
+use Rattle.std.proofs.Common.{arith, rules, Ok, refl, ◌≡◌, ◌∙◌, ◌↔◌, [], ap, subst, length, ℤ, List}
 use Rattle.h5w_writer.specs.Flushes.{after_rows, flush_writes}
 use Rattle.h5w_writer.specs.Sessions.{Session}
+use Rattle.h5w_writer.specs.Refusals.{flush_refusal}
+use Rattle.h5w_writer.proofs.RefusalLemmas.{is_ready, accepted}
 use Rattle.h5w_writer.proofs.FlushLemmas.{planned_session_is, planned_session_stands, none_planned, plan_within}
 use Rattle.h5w_writer.proofs.session.WriterCore.flush.Goals as goal
 
@@ -10,9 +10,10 @@ pub invariant_of-self : goal.invariant_of-self
 invariant_of-self g c =
     let i = c.self.inside in
     let file = c.in_ok-plan.ensures.file ∙ ap (λ (vs : List ℤ). after_rows vs i.file) c.deref.ensures.value in
+    let free = is_ready c.args.self.now (accepted (flush_refusal c.args.self.now) (Ok tt) c.in_ok-ready.ensures refl) in
     let writes = c.in_ok-plan.ensures.writes ∙ ap (λ (vs : List ℤ). flush_writes i.file vs) c.deref.ensures.value in (
-      planned_session_is c.args.self.now i.file c.in_ok-plan.plan.file i.committed i.waiting.items c.clear.new.self.items i.plan.items c.in_ok-plan.plan.writes.items i.shown c.self.view_is file
-          c.clear.ensures.items writes c.self.invariant.0,
+      planned_session_is c.args.self.now i.file c.in_ok-plan.plan.file i.committed i.waiting.items c.clear.new.self.items i.plan.items c.in_ok-plan.plan.writes.items i.shown i.stopped c.self.view_is file
+          c.clear.ensures.items writes free.running c.self.invariant.0,
       omega arith,
     )
 
@@ -28,8 +29,8 @@ returns-clause-load g c log stands =
     let i = c.self.inside in
     let writes = c.in_ok-plan.ensures.writes ∙ ap (λ (vs : List ℤ). flush_writes i.file vs) c.deref.ensures.value in
     let count : c.len-pieces.result ≡ length c.in_ok-plan.plan.writes.items = search rules in
-    let idle : length c.args.self.now.pending ≤ 0 = omega (arith, c.pending-pending.ensures) in
-    plan_within c.args.self.now i.file i.committed i.waiting.items i.plan.items c.in_ok-plan.plan.writes.items i.shown c.len-pieces.result c.self.view_is writes count idle c.self.invariant.0 log stands
+    let free = is_ready c.args.self.now (accepted (flush_refusal c.args.self.now) (Ok tt) c.in_ok-ready.ensures refl) in
+    plan_within c.args.self.now i.file i.committed i.waiting.items i.plan.items c.in_ok-plan.plan.writes.items i.shown c.len-pieces.result i.stopped c.self.view_is writes count free.running free.idle c.self.invariant.0 log stands
 
 pub returns-clause-stands : goal.returns-clause-stands
 returns-clause-stands g c log stands =
@@ -37,6 +38,6 @@ returns-clause-stands g c log stands =
     let file = c.in_ok-plan.ensures.file ∙ ap (λ (vs : List ℤ). after_rows vs i.file) c.deref.ensures.value in
     let writes = c.in_ok-plan.ensures.writes ∙ ap (λ (vs : List ℤ). flush_writes i.file vs) c.deref.ensures.value in
     let count : c.len-pieces.result ≡ length c.in_ok-plan.plan.writes.items = search rules in
-    let idle : length c.args.self.now.pending ≤ 0 = omega (arith, c.pending-pending.ensures) in
-    planned_session_stands c.args.self.now i.file c.in_ok-plan.plan.file i.committed i.waiting.items c.clear.new.self.items i.plan.items c.in_ok-plan.plan.writes.items i.shown c.len-pieces.result c.self.view_is file
-    c.clear.ensures.items writes count idle c.self.invariant.0 log stands
+    let free = is_ready c.args.self.now (accepted (flush_refusal c.args.self.now) (Ok tt) c.in_ok-ready.ensures refl) in
+    planned_session_stands c.args.self.now i.file c.in_ok-plan.plan.file i.committed i.waiting.items c.clear.new.self.items i.plan.items c.in_ok-plan.plan.writes.items i.shown c.len-pieces.result i.stopped c.self.view_is file
+    c.clear.ensures.items writes count free.running free.idle c.self.invariant.0 log stands

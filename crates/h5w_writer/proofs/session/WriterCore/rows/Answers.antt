@@ -1,5 +1,5 @@
-use Rattle.std.proofs.Common.{rules, vec_len, ◌≡◌, ◌+◌, ◌∙◌, ap, length, ℕ}
-use Rattle.h5w_writer.specs.Sessions.{Session, rows_of}
+use Rattle.std.proofs.Common.{rules, ◌≡◌, ◌+◌, ◌∙◌}
+use Rattle.h5w_writer.specs.Sessions.{rows_of}
 use Rattle.h5w_writer.proofs.EventLemmas.{rows_are}
 use Rattle.h5w_writer.proofs.session.WriterCore.rows.Goals as goal
 

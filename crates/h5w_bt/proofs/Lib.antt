@@ -1,0 +1,5 @@
+pub mod Tables
+pub mod Reading
+pub mod Refusals
+pub mod Writing
+pub mod Spelling

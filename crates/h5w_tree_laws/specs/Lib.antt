@@ -1,0 +1,3 @@
+pub mod Relations
+pub mod Files
+pub mod Readings

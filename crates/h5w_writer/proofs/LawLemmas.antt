@@ -1,0 +1,152 @@
+-- What a session's relation to its log gives.
+use Rattle.std.proofs.Common.{◌≡◌, ℕ, suc, ◌+◌, ◌*◌, ◌≤◌, List, [], ◌∷◌, length, take, refl, ap, sym, ◌∙◌, subst, inl, inr, arith}
+use Rattle.h5w_model.specs.Programs.{Visit, visits}
+use Rattle.h5w_model.specs.Logs.{Log, Happening, hist, div_up}
+use Rattle.h5w_model.specs.Datasets.{Described, root_header, root_view}
+use Rattle.h5w_model.specs.Tables.{Limits, Reading, Shows, format_limits, limit_of, needed}
+use Rattle.h5w_model.specs.Prefixed.{image_at, IsPosition, Held, Keeps, Prefixed, root_address, continuation_blocks}
+use Rattle.h5w_model.specs.declared.piece.Write.{Write}
+use Rattle.h5w_image.specs.View.{ImageView}
+use Rattle.h5w_laws.proofs.HeldLemmas.{still_gives_held}
+use Rattle.h5w_laws.proofs.LogLemmas.{each_gives_prefixed}
+use Rattle.h5w_writer.specs.Files.{FileFields, IsFile, Moment, Represents, dataset_name, root_place, described_of, reading_of}
+use Rattle.h5w_writer.specs.Kept.{space_limit}
+use Rattle.h5w_writer.specs.Laws.{StandingLaws, ShownLaws, IsDatasetOf, RoomStays}
+use Rattle.h5w_writer.specs.Room.{HasRoomFor}
+use Rattle.h5w_writer.specs.Sessions.{Session, Creating, Running, Flushing, Goes, Stands, going, after_piece, log_of}
+use Rattle.h5w_writer.proofs.EventLemmas.{committed_are, rows_are, stands_reads, flushed_rows, creating_few, length_pos, image_now}
+use Rattle.h5w_writer.proofs.HeadersNow.{root_visits}
+use Rattle.h5w_writer.proofs.SessionLemmas.{AllEndBy-front, AllEndBy-take, image_ends}
+use Rattle.h5w_writer.proofs.Shown.{shown_is}
+use Rattle.h5w_writer.proofs.ShowsNow.{shows_within, shows_now}
+use Rattle.h5w_writer.proofs.StaysNow.{Follows, root_address_now, no_continuations}
+use Rattle.h5w_writer.proofs.StepStays.{step_follows, follows_itself, follows_on}
+
+stands_prefixed : (s : Session) (log : Log) → Stands s log → Prefixed dataset_name log
+stands_prefixed s log stands = each_gives_prefixed dataset_name log stands.goes.prefixed
+
+stands_held : (s : Session) (log : Log) → Stands s log → Held dataset_name log
+stands_held s log stands = still_gives_held dataset_name log (stands_prefixed s log stands) stands.goes.still
+
+pub standing_laws : StandingLaws
+standing_laws =
+    record {
+      flushed_rows = committed_are;
+      appended_rows = rows_are;
+      prefixed = stands_prefixed;
+      still = λ s log stands. stands.goes.still;
+      held = stands_held;
+      reads = stands_reads;
+      planned_rows = flushed_rows;
+    }
+
+-- ---- What an image shows at a position
+
+flushing_follows : (m : Moment) (ws : List Write) (n : Moment) → Flushing m ws n → Follows m n
+flushing_follows m [] n flush = subst (λ (x : Moment). Follows m x) (sym flush) (follows_itself m)
+flushing_follows m (w ∷ ws) n flush = follows_on m flush.0 n (step_follows m w flush.0 flush.1) (flushing_follows flush.0 ws n flush.3)
+
+-- the file at a position
+record FileAt (per : ℕ) (log : Log) (p : ℕ) : Type 0 where
+  moment : Moment
+  represents : Represents (image_at log p) moment
+  chunk_rows : moment.file.chunk_rows ≡ per
+  size : length (image_at log p) ≤ space_limit
+
+none_yet : (s : Session) (es : List Happening) (p : ℕ) → Creating s es → 5 ≤ p → p ≤ length (hist es) → ⊥
+none_yet s es p c low high = let some = length_pos s.pending c.some in let few = creating_few s es c in omega arith
+
+-- chunks are as long as they are now
+same_chunks : (s : Session) (es : List Happening) (p : ℕ) (m : Moment) → Running s es → Held dataset_name (log_of es) → 5 ≤ p → p ≤ length (hist es)
+    → Represents (image_at (log_of es) p) m → m.file.chunk_rows ≡ s.file.chunk_rows
+same_chunks s es p m r held low high file =
+    let log = log_of es in
+    let last = length (hist es) in
+    let now : Represents (image_at log last) r.before = subst (λ (img : List ℕ). Represents img r.before) (sym (image_now es)) r.represents in
+    let keeps : Keeps (image_at log p) (reading_of m.file) (image_at log last) (reading_of r.before.file) =
+    held p last (reading_of m.file) (reading_of r.before.file) (record { begun = low; reached = high }) (record { begun = omega arith; reached = omega arith }) high
+    (shows_now (image_at log p) m file) (shows_now (image_at log last) r.before now) in
+    let before : r.before.file.chunk_rows ≡ m.file.chunk_rows = ap (λ (d : Described). d.layout.chunk_rows) keeps.stays.described.rows_alone in
+    let follows = flushing_follows r.before s.pending r.after r.flush in
+    sym before ∙ sym follows.chunk_rows ∙ ap (λ (f : FileFields). f.chunk_rows) r.file
+
+file_at_running : (s : Session) (es : List Happening) (p : ℕ) → Running s es → Held dataset_name (log_of es) → 5 ≤ p → p ≤ length (hist es) → FileAt s.file.chunk_rows (log_of es) p
+file_at_running s es p r held low high =
+    let there = r.past p low high in
+    record {
+      moment = there.0;
+      represents = there.1;
+      chunk_rows = same_chunks s es p there.0 r held low high there.1;
+      size = image_ends space_limit [] (take p (hist es)) (omega arith) (AllEndBy-take space_limit p (hist es) (AllEndBy-front space_limit (hist es) s.pending r.ends));
+    }
+
+file_at_of : (s : Session) (es : List Happening) (p : ℕ) → Goes s (log_of es) → IsPosition (log_of es) p → FileAt s.file.chunk_rows (log_of es) p
+file_at_of s es p goes at =
+    let held : Held dataset_name (log_of es) = still_gives_held dataset_name (log_of es) (each_gives_prefixed dataset_name (log_of es) goes.prefixed) goes.still in
+    elim goes.phase [
+      | inl creating ↦ absurd (none_yet s es p creating at.begun at.reached)
+      | inr running ↦ file_at_running s es p running held at.begun at.reached
+    ]
+
+file_at : (s : Session) (log : Log) (p : ℕ) → Stands s log → IsPosition log p → FileAt s.file.chunk_rows log p
+file_at s log p stands at =
+    let t = going s stands.left in
+    let is = stands.goes.is in
+    subst (λ (l : Log). FileAt s.file.chunk_rows l p) (sym is)
+    (file_at_of t log.events p (subst (λ (l : Log). Goes t l) is stands.goes) (subst (λ (l : Log). IsPosition l p) is at))
+
+-- what holds of the file's reading holds of any that is shown
+of_shown : (P : Reading → Type 0) (s : Session) (log : Log) (p : ℕ) (r : Reading) → (f : FileAt s.file.chunk_rows log p) → Shows format_limits (image_at log p) dataset_name r → P (reading_of f.moment.file) → P r
+of_shown P s log p r f shows holds = subst P (sym (shown_is (image_at log p) f.moment r f.represents shows)) holds
+
+dataset_is : (s : Session) (f : FileFields) → f.chunk_rows ≡ s.file.chunk_rows → IsDatasetOf s (reading_of f)
+dataset_is s f same =
+    record {
+      place = refl;
+      rank = refl;
+      columns = refl;
+      growing = refl;
+      int_type = refl;
+      fill = refl;
+      index = refl;
+      chunk_rows = same;
+      chunk_columns = refl;
+      needed = ap (λ (n : ℕ). div_up f.rows n * div_up 1 1) same;
+    }
+
+needed_few : (limits : Limits) (f : FileFields) → 4 ≤ limits.array → IsFile f → needed (described_of f) ≤ limits.array
+needed_few limits f most is = omega (arith, is.rows_have_chunks, is.few)
+
+root_one : (img : List ℕ) (m : Moment) → Represents img m → (v : Visit) × (visits img (root_header (root_address img)) ≡ v ∷ [])
+root_one img m r = (record { place = root_place; len = 512; counts = root_view }, ap (λ (a : ℕ). visits img (root_header a)) (root_address_now img m r) ∙ root_visits img r.standing.1.0)
+
+pub shown_laws : ShownLaws
+shown_laws =
+    record {
+      dataset = λ s log p r stands at shows. let f = file_at s log p stands at in of_shown (IsDatasetOf s) s log p r f shows (dataset_is s f.moment.file f.chunk_rows);
+      shown = λ s log limits p r stands most at shows.
+          let f = file_at s log p stands at in
+          of_shown (λ (x : Reading). Shows limits (image_at log p) dataset_name x) s log p r f shows (shows_within limits (image_at log p) f.moment most f.represents);
+      within = λ s log limits p r stands most at shows.
+          let f = file_at s log p stands at in
+          of_shown (λ (x : Reading). needed x.dataset ≤ limit_of limits x.dataset.layout.index) s log p r f shows (needed_few limits f.moment.file most f.represents.is_file);
+      few = λ s log p r stands at shows.
+          let f = file_at s log p stands at in
+          of_shown (λ (x : Reading). needed x.dataset ≤ 4) s log p r f shows (needed_few (record { array = 4; tree = 0 }) f.moment.file (omega arith) f.represents.is_file);
+      root_header = λ s log p stands at. let f = file_at s log p stands at in root_one (image_at log p) f.moment f.represents;
+      dataset_header = λ s log p r stands at shows.
+          let f = file_at s log p stands at in
+          of_shown (λ (x : Reading). continuation_blocks (image_at log p) x ≡ []) s log p r f shows (no_continuations (image_at log p) f.moment f.represents);
+      fits = λ s log p stands at. let f = file_at s log p stands at in f.size;
+    }
+
+-- ---- Room
+
+room_after : (s : Session) (ws : List Write) (u : ImageView) → length ws + 1 ≤ u.pieces → s.file.end ≤ u.end → HasRoomFor (after_piece s ws) u
+room_after s [] u pieces end = record { pieces = pieces; end = end }
+room_after s (w ∷ ws) u pieces end = record { pieces = pieces; end = end }
+
+pub room_stays : RoomStays
+room_stays s w ws v u pending room wrote =
+    let count : length s.pending ≡ suc (length ws) = ap length pending in
+    room_after s ws u (omega (arith, count, room.pieces, wrote.pieces)) (omega (arith, room.end, wrote.end))

@@ -1,0 +1,60 @@
+-- What is true of a log of which a session is the session.
+use Rattle.std.specs.Prelude.{◌≡◌, ℕ, ◌≤◌, false, List, [], ◌∷◌, length}
+use Rattle.h5w_model.specs.Images.{image}
+use Rattle.h5w_model.specs.Programs.{Visit, visits}
+use Rattle.h5w_model.specs.Logs.{Log, hist, appended, flushed, needed_chunks}
+use Rattle.h5w_model.specs.Datasets.{root_header}
+use Rattle.h5w_model.specs.Tables.{Limits, Reading, Shows, Reads, format_limits, limit_of, needed}
+use Rattle.h5w_model.specs.Prefixed.{image_at, IsPosition, Prefixed, Still, Held, root_address, continuation_blocks}
+use Rattle.h5w_model.specs.declared.cell.IndexKind.TheVariants.{Array}
+use Rattle.h5w_model.specs.declared.piece.Write.{Write}
+use Rattle.h5w_image.specs.View.{ImageView, Wrote}
+use Rattle.h5w_writer.specs.Files.{dataset_name, header_place, int_type, fill}
+use Rattle.h5w_writer.specs.Kept.{space_limit}
+use Rattle.h5w_writer.specs.Room.{HasRoomFor}
+use Rattle.h5w_writer.specs.Sessions.{Session, Stands, after_piece, chunk_limit, cutting_of, rows_of}
+
+-- The session tells of its log how many rows are flushed and appended. At each position the image is valid and reads as
+-- the rows that are flushed there, and what readers rest on stays from each position to each later one. Where nothing is
+-- pending in a session that was not stopped, the image reads as all rows that were planned.
+pub record StandingLaws : Type 0 where
+  pub flushed_rows : (s : Session) (log : Log) → Stands s log → s.committed ≡ length (flushed log)
+  pub appended_rows : (s : Session) (log : Log) → Stands s log → rows_of s ≡ length (appended log)
+  pub prefixed : (s : Session) (log : Log) → Stands s log → Prefixed dataset_name log
+  pub still : (s : Session) (log : Log) → Stands s log → Still dataset_name log
+  pub held : (s : Session) (log : Log) → Stands s log → Held dataset_name log
+  pub reads : (s : Session) (log : Log) → Stands s log → s.stopped ≡ false → s.pending ≡ [] → Reads (image log.start (hist log.events)) dataset_name (flushed log)
+  pub planned_rows : (s : Session) (log : Log) → Stands s log → s.stopped ≡ false → s.pending ≡ [] → length (flushed log) ≡ s.file.rows
+
+-- ---- What readers find
+
+-- What every reading of a session's image says, but for its rows and addresses.
+pub record IsDatasetOf (s : Session) (r : Reading) : Type 0 where
+  pub place : r.place ≡ header_place
+  pub rank : r.dataset.shape.rank ≡ 1
+  pub columns : r.dataset.shape.cols ≡ 1
+  pub growing : r.dataset.shape.growing ≡ false
+  pub int_type : r.dataset.int_type ≡ int_type
+  pub fill : r.dataset.fill ≡ fill
+  pub index : r.dataset.layout.index ≡ Array
+  pub chunk_rows : r.dataset.layout.chunk_rows ≡ s.file.chunk_rows
+  pub chunk_columns : r.dataset.layout.chunk_cols ≡ 1
+  pub needed : needed r.dataset ≡ needed_chunks (cutting_of s) r.dataset.shape.rows
+
+-- At each position of the session's log: whatever the image shows is a dataset of the session's shape, and is shown
+-- within all limits that allow the chunks of a session, of which few are needed; the root header is one look, the dataset header names no
+-- further block; and the image ends within the greatest end of a file.
+pub record ShownLaws : Type 0 where
+  pub dataset : (s : Session) (log : Log) (p : ℕ) (r : Reading) → Stands s log → IsPosition log p → Shows format_limits (image_at log p) dataset_name r → IsDatasetOf s r
+  pub shown : (s : Session) (log : Log) (limits : Limits) (p : ℕ) (r : Reading) → Stands s log → chunk_limit ≤ limits.array → IsPosition log p
+      → Shows format_limits (image_at log p) dataset_name r → Shows limits (image_at log p) dataset_name r
+  pub within : (s : Session) (log : Log) (limits : Limits) (p : ℕ) (r : Reading) → Stands s log → chunk_limit ≤ limits.array → IsPosition log p
+      → Shows format_limits (image_at log p) dataset_name r → needed r.dataset ≤ limit_of limits r.dataset.layout.index
+  pub few : (s : Session) (log : Log) (p : ℕ) (r : Reading) → Stands s log → IsPosition log p → Shows format_limits (image_at log p) dataset_name r → needed r.dataset ≤ chunk_limit
+  pub root_header : (s : Session) (log : Log) (p : ℕ) → Stands s log → IsPosition log p → (v : Visit) × (visits (image_at log p) (root_header (root_address (image_at log p))) ≡ v ∷ [])
+  pub dataset_header : (s : Session) (log : Log) (p : ℕ) (r : Reading) → Stands s log → IsPosition log p → Shows format_limits (image_at log p) dataset_name r → continuation_blocks (image_at log p) r ≡ []
+  pub fits : (s : Session) (log : Log) (p : ℕ) → Stands s log → IsPosition log p → length (image_at log p) ≤ space_limit
+
+-- an image with room for a session has room for it after the oldest piece was written
+abbrev pub RoomStays : Type 0
+RoomStays = (s : Session) (w : Write) (ws : List Write) (v u : ImageView) → s.pending ≡ w ∷ ws → HasRoomFor s v → Wrote (w ∷ []) v u → HasRoomFor (after_piece s ws) u
