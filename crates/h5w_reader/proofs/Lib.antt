@@ -6,3 +6,14 @@ pub mod OpenLemmas
 pub mod DescribedLemmas
 pub mod ChunkLemmas
 pub mod TableLemmas
+pub mod PlaceLemmas
+pub mod HeaderLemmas
+pub mod CallLemmas
+pub mod StageLemmas
+pub mod FillLemmas
+pub mod CellLemmas
+pub mod BandLemmas
+pub mod ValueLemmas
+pub mod ReadLemmas
+pub mod AskedLemmas
+pub mod CoreLemmas

@@ -5,3 +5,10 @@ pub mod Walking
 pub mod Opening
 pub mod Described
 pub mod Attempts
+pub mod Headers
+pub mod Calling
+pub mod Cells
+pub mod Values
+pub mod Readers
+pub mod Cores
+pub mod Asked

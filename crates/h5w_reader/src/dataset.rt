@@ -1,7 +1,8 @@
 //! What the messages of a dataset's header say.
-ghost use Rattle.std.specs.Prelude.{◌≡◌, ◌<◌, false};
-ghost use Rattle.h5w_model.specs.Messages.{index_of};
-ghost use Rattle.h5w_types.specs.Fields.{shape_of};
+ghost use Rattle.std.specs.Prelude.{◌≡◌, ◌*◌, ◌^◌, ◌<◌, false};
+ghost use Rattle.std.specs.Option.{ForSome};
+ghost use Rattle.h5w_model.specs.Messages.{index_of, IsIntType};
+ghost use Rattle.h5w_types.specs.Fields.{shape_of, int_type_of};
 
 use h5w_layout::{Fill, Layout};
 use h5w_types::{IntType, Shape};
@@ -15,6 +16,9 @@ pub struct Dataset {
     pub layout: Layout,
     ghost tall: { 0 < layout.chunk.0 },
     ghost wide: { 0 < layout.chunk.1 },
+    ghost small: { layout.chunk.0 * layout.chunk.1 * int_type.size < 2 ^ 32 },
+    ghost typed: { IsIntType (int_type_of int_type) },
+    ghost filled: { ForSome fill.value (λ c. c.size ≡ int_type.size) },
     ghost indexed: { layout.index ≡ index_of (shape_of shape) },
     ghost line: { shape.growing ≡ false → (shape.cols ≡ 1) × (layout.chunk.1 ≡ 1) },
 }

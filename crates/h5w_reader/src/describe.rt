@@ -1,5 +1,6 @@
 //! What the messages of a dataset's header say.
-ghost use Rattle.std.specs.Prelude.{◌≡◌, ◌==◌, ℕ, List, find, option_copied, option_map};
+ghost use Rattle.std.specs.Prelude.{◌≡◌, ◌==◌, ℕ, List, find, option_copied, option_map, IfOk};
+ghost use Rattle.std.specs.Option.{ForSome};
 ghost use Rattle.h5w_model.specs.Checked.{viewed};
 ghost use Rattle.h5w_model.specs.Datasets as model;
 ghost use Rattle.h5w_model.specs.Messages.{IsIntType};
@@ -94,7 +95,8 @@ fn is_filtered(found: &[Found]) -> bool
 /// What cells are before they are written: 0 without a fill value message.
 fn fill(found: &[Found], t: &IntType) -> Result<Fill, Unsupported>
     requires { IsIntType (int_type_of t.now) }
-    ensures { viewed fill_of result ≡ model.fill_of (founds found.now) (int_type_of t.now) }
+    ensures exact { viewed fill_of result ≡ model.fill_of (founds found.now) (int_type_of t.now) }
+    ensures sized { IfOk result (λ f. ForSome f.value (λ c. c.size ≡ t.now.size)) }
 {
     match body(found, FILL) {
         Some(b) => Fill::decode(b, t),

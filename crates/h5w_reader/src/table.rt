@@ -1,5 +1,5 @@
 //! The addresses of the chunks that a dataset's rows need.
-ghost use Rattle.std.specs.Prelude.{◌≡◌, ◌+◌, ◌≤◌, ◌^◌, length, ℕ, Ok, Some, IfOk};
+ghost use Rattle.std.specs.Prelude.{◌≡◌, ◌+◌, ◌≤◌, ◌^◌, length, ℕ, true, Ok, Some, IfOk};
 ghost use Rattle.h5w_model.specs.Programs.{ret};
 ghost use Rattle.h5w_model.specs.Tables.{needed};
 ghost use Rattle.h5w_reader.specs.Described.{described_of};
@@ -21,6 +21,7 @@ const SLOTS: usize = 4;
 pub struct Small {
     pub dataset: Dataset,
     ghost few: { needed (described_of dataset) ≤ 4 },
+    ghost none: { dataset.shape.growing ≡ true → needed (described_of dataset) ≡ 0 },
 }
 
 /// What is awaited.
@@ -51,7 +52,8 @@ impl LookedUp {
         d: &Dataset,
         slots: &[u64; SLOTS],
     ) -> Result<LookedUp, OutOfMemory>
-        requires { needed (described_of d.now) ≤ 4 }
+        requires few { needed (described_of d.now) ≤ 4 }
+        requires none { d.now.shape.growing ≡ true → needed (described_of d.now) ≡ 0 }
         ensures { IfOk result (λ l. looked_up place l ≡ ret (Ok (reading_by place (described_of d.now) slots.now))) }
     {
         let table = Vec::from_slice(alloc, &slots[..d.needed() as usize])?;
@@ -64,7 +66,8 @@ impl LookedUp {
 
     /// From the dataset's index on. Without needed chunks nothing is looked at, nor without an index.
     pub fn begin(alloc: Global, place: u64, d: &Dataset) -> Result<LookedUp, OutOfMemory>
-        requires { needed (described_of d.now) ≤ 4 }
+        requires few { needed (described_of d.now) ≤ 4 }
+        requires none { d.now.shape.growing ≡ true → needed (described_of d.now) ≡ 0 }
         ensures { IfOk result (λ l. looked_up place l ≡ table_rest place (described_of d.now)) }
     {
         let address = d.layout.address;
@@ -87,6 +90,7 @@ impl LookedUp {
         bytes: &[u8],
     ) -> Result<LookedUp, OutOfMemory>
         requires few { needed (described_of d.now) ≤ 4 }
+        requires none { d.now.shape.growing ≡ true → needed (described_of d.now) ≡ 0 }
         requires inside { at + length bytes.now ≤ 2 ^ 64 }
         ensures { IfOk result (λ l. looked_up place l ≡ array_rest place (described_of d.now) at bytes.now) }
     {
@@ -111,6 +115,7 @@ impl LookedUp {
         bytes: &[u8],
     ) -> Result<LookedUp, OutOfMemory>
         requires few { needed (described_of d.now) ≤ 4 }
+        requires none { d.now.shape.growing ≡ true → needed (described_of d.now) ≡ 0 }
         requires inside { at + length bytes.now ≤ 2 ^ 64 }
         ensures { IfOk result (λ l. looked_up place l ≡ index_rest place (described_of d.now) at bytes.now) }
     {

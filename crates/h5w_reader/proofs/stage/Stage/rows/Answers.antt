@@ -1,0 +1,6 @@
+use Rattle.h5w_reader.specs.Attempts.{rules_of}
+use Rattle.h5w_reader.proofs.CallLemmas.{rows_are}
+use Rattle.h5w_reader.proofs.stage.Stage.rows.Goals as goal
+
+pub returns : goal.returns
+returns c = λ most name. rows_are (rules_of c.args.rules)

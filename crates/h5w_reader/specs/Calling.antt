@@ -1,0 +1,102 @@
+-- What is left of a reader's call for rows.
+use Rattle.std.specs.Prelude.{◌≡◌, ℕ, zero, suc, ◌+◌, ◌-◌, ◌^◌, ◌<◌, ◌≤◌, ◌⊎◌, List, [], length, nat_eq, if◌then◌else◌, Some, None, Result, Ok, Err}
+use Rattle.std.specs.Cmp.Lexicographic.{pointwise}
+use Rattle.h5w_model.specs.Programs.{Prog, ret, bind, and_then, lowered}
+use Rattle.h5w_model.specs.Headers.{header_view}
+use Rattle.h5w_model.specs.Checked.{viewed}
+use Rattle.h5w_model.specs.Datasets.{linked}
+use Rattle.h5w_model.specs.Datasets as model
+use Rattle.h5w_model.specs.Calls.{CallRules, cut_header, behind_header, confirmed, again, attempts_from, rows_call, open_rules}
+use Rattle.h5w_model.specs.Tables.{Reading}
+use Rattle.h5w_model.specs.declared.message.Msg.{Msg}
+use Rattle.h5w_model.specs.declared.message.Prefix.{Prefix}
+use Rattle.h5w_model.specs.declared.refusal.HeaderError.{HeaderError}
+use Rattle.h5w_model.specs.declared.refusal.LinkError.{LinkError}
+use Rattle.h5w_model.specs.declared.refusal.LinkError.TheVariants as link_errors
+use Rattle.h5w_model.specs.declared.refusal.ReadError.{ReadError}
+use Rattle.h5w_model.specs.declared.refusal.ReadError.TheVariants as read_errors
+use Rattle.h5w_reader.specs.Walking.{walking, walked}
+use Rattle.h5w_reader.specs.Opening.{opening}
+use Rattle.h5w_reader.specs.Attempts.{reader_limits, reading_of, looking_up, described_rest, rules_of}
+use Rattle.h5w_reader.specs.declared.behind.Behind.{Behind}
+use Rattle.h5w_reader.specs.declared.behind.Behind.TheVariants as behind_by
+use Rattle.h5w_reader.specs.declared.behind.Reached.{Reached}
+use Rattle.h5w_reader.specs.declared.behind.Reached.TheVariants as reached_by
+use Rattle.h5w_reader.specs.declared.stage.Stage.{Stage}
+use Rattle.h5w_reader.specs.declared.stage.Stage.TheVariants as stages
+use Rattle.h5w_reader.specs.declared.stage.Came.{Came}
+use Rattle.h5w_reader.specs.declared.stage.Came.TheVariants as came_by
+
+-- ---- The dataset header's place
+
+-- a message as links are read from
+abbrev pub listed : model.Found → Msg
+listed m = record { kind = m.kind; flags = m.flags; at = m.place; body = m.body }
+
+-- a link's refusal, unless memory was wanting
+abbrev pub link_refusal : LinkError → ReadError
+link_refusal link_errors.OutOfMemory = read_errors.OutOfMemory
+link_refusal e = read_errors.Link e
+
+-- given the messages of the root header
+unfoldable pub place_rest : ℕ → List ℕ → List model.Found → Prog (Result Reading ReadError)
+place_rest most name ms = elim (linked name ms) [ Ok at ↦ rows_call (open_rules reader_limits 0 most at) | Err e ↦ ret (Err e) ]
+
+-- ---- Behind the dataset header
+
+-- given what counts of a look at the dataset header
+unfoldable pub behind_rest : CallRules → List ℕ → Prog (Result Reading ReadError)
+behind_rest g v = lowered g.keeps [] (behind_header g v)
+
+-- its messages are known
+abbrev pub messages_rest : CallRules → Prog (Result (List model.Found) ReadError) → Prog (Result Reading ReadError)
+messages_rest g p = and_then p (described_rest g)
+
+abbrev pub behind_left : CallRules → Behind → Prog (Result Reading ReadError)
+behind_left g (behind_by.Visit b) = messages_rest g (walking b)
+behind_left g (behind_by.Lookup l) = looking_up g.place l
+
+abbrev pub reached : CallRules → Reached → Prog (Result Reading ReadError)
+reached g (reached_by.Answer r) = ret (viewed reading_of r)
+reached g (reached_by.Looks b) = behind_left g b
+
+-- ---- Attempts
+
+-- where the last look at the header is another than the first
+abbrev pub differs : CallRules → ℕ → List ℕ → List ℕ → Prog (Result Reading ReadError)
+differs g zero v w = ret (Err (again g v w))
+differs g (suc more) v w = attempts_from g more w
+
+-- from what counts of an attempt's first look on
+unfoldable pub attempt_rest : CallRules → ℕ → List ℕ → Prog (Result Reading ReadError)
+attempt_rest g more v = attempts_from g more v
+
+-- from an attempt's last look on
+unfoldable pub confirm_rest : CallRules → ℕ → List ℕ → Result Reading ReadError → Prog (Result Reading ReadError)
+confirm_rest g more v answer = confirmed g v (differs g more v) answer
+
+-- given what counts of that look
+unfoldable pub confirm_given : CallRules → ℕ → List ℕ → Result Reading ReadError → List ℕ → Prog (Result Reading ReadError)
+confirm_given g more v answer w =
+    elim (cut_header g.place w) [
+      | Some e ↦ ret (Err e)
+      | None ↦ (if pointwise nat_eq w v then ret answer else differs g more v w)
+    ]
+
+-- from the first look at the dataset header on
+unfoldable pub rows_rest : CallRules → Prog (Result Reading ReadError)
+rows_rest g = rows_call g
+
+-- given that look
+unfoldable pub rows_given : CallRules → List ℕ → Prog (Result Reading ReadError)
+rows_given g b = attempt_rest g (g.attempts - 1) (header_view b)
+
+abbrev pub stage_left : ℕ → List ℕ → Stage → Prog (Result Reading ReadError)
+stage_left most name (stages.Open o) = and_then (opening o) (place_rest most name)
+stage_left most name (stages.Header r) = rows_rest (rules_of r)
+stage_left most name (stages.Behind a b) = bind (behind_left (rules_of a.rules) b) (confirm_rest (rules_of a.rules) a.more a.view)
+stage_left most name (stages.Confirm a r) = confirm_rest (rules_of a.rules) a.more a.view (viewed reading_of r)
+
+abbrev pub came : ℕ → List ℕ → Came → Prog (Result Reading ReadError)
+came most name (came_by.Answer r) = ret (viewed reading_of r)
+came most name (came_by.Looks s) = stage_left most name s

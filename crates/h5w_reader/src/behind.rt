@@ -1,0 +1,109 @@
+//! What an attempt looks at behind the dataset header.
+ghost use Rattle.std.specs.Prelude.{◌≡◌, ◌+◌, ◌≤◌, ◌^◌, length, Some, IfOk};
+ghost use Rattle.h5w_reader.specs.Attempts.{rules_of};
+
+use crate::known::{Known, Rules};
+use crate::look::Look;
+use crate::refusal::header_refusal;
+use crate::settle::settle;
+use crate::table::{LookedUp, Lookup};
+use crate::walk::{Block, Walk, Walked};
+use h5w_model::{OutOfMemory, PIECE, Piece, ReadError, Unsupported};
+use h5w_ohdr::prefix;
+use std::alloc::Global;
+
+/// What is awaited.
+#[derive(Drop)]
+pub enum Behind {
+    /// A continuation block of the dataset header.
+    Visit(Block),
+    /// A block in place.
+    Lookup(Lookup),
+}
+
+/// What it comes to.
+#[derive(Drop)]
+pub enum Reached {
+    Answer(Result<Known, ReadError>),
+    Looks(Behind),
+}
+
+impl Reached {
+    ghost use Rattle.h5w_reader.specs.Walking.{walked};
+    ghost use Rattle.h5w_reader.specs.Attempts.{looked_up};
+    ghost use Rattle.h5w_reader.specs.Headers.{IsView};
+    ghost use Rattle.h5w_reader.specs.Calling.{reached, messages_rest, behind_rest};
+
+    /// What the lookup of addresses comes to.
+    fn of(l: LookedUp, rules: &Rules) -> Reached
+        ensures { reached (rules_of rules.now) result ≡ looked_up rules.now.place l }
+    {
+        match l {
+            LookedUp::Ready(known) => Reached::Answer(Ok(known)),
+            LookedUp::Refused(error) => Reached::Answer(Err(error)),
+            LookedUp::Looks(lookup) => Reached::Looks(Behind::Lookup(lookup)),
+        }
+    }
+
+    /// Goes on from what the visit of the dataset header's messages comes to.
+    fn after_walk(alloc: Global, rules: &Rules, w: Walked) -> Result<Reached, OutOfMemory>
+        ensures { IfOk result (λ r. reached (rules_of rules.now) r ≡ messages_rest (rules_of rules.now) (walked w)) }
+    {
+        match w {
+            Walked::Done(found) => Ok(Reached::of(settle(alloc, rules, &found)?, rules)),
+            Walked::Refused(error) => Ok(Reached::Answer(Err(error))),
+            Walked::Visit(block) => Ok(Reached::Looks(Behind::Visit(block))),
+        }
+    }
+
+    /// Begins with what counts of a look at the dataset header.
+    pub fn begin(alloc: Global, rules: &Rules, view: &Piece) -> Result<Reached, OutOfMemory>
+        requires { IsView rules.now.place view.now }
+        ensures { IfOk result (λ r. reached (rules_of rules.now) r ≡ behind_rest (rules_of rules.now) view.now) }
+    {
+        let bytes = view.as_slice();
+        let p = match prefix(bytes) {
+            Ok(p) => p,
+            Err(error) => {
+                let error = header_refusal(rules.place, 0, error)?;
+                return Ok(Reached::Answer(Err(error)));
+            }
+        };
+        if p.total > PIECE as u64 {
+            return Ok(Reached::Answer(Err(ReadError::Unsupported(Unsupported(1)))));
+        }
+        Reached::after_walk(alloc, rules, Walk::start(alloc, rules.place, &p, bytes)?)
+    }
+}
+
+impl Behind {
+    ghost use Rattle.h5w_model.specs.Calls.{CallRules};
+    ghost use Rattle.h5w_reader.specs.Looks.{next_look, fed, look_of, Fits};
+    ghost use Rattle.h5w_reader.specs.Calling.{behind_left, reached};
+
+    /// The next look.
+    pub fn want(&self) -> Look
+        ensures next { (g : CallRules) → next_look (behind_left g self.now) ≡ Some (look_of result) }
+        ensures low { 1 ≤ result.len }
+        ensures high { result.len ≤ 512 }
+        ensures inside { result.at + result.len ≤ 2 ^ 64 }
+    {
+        match self {
+            Behind::Visit(block) => block.want(),
+            Behind::Lookup(lookup) => lookup.want(),
+        }
+    }
+
+    /// Goes on with the piece that the look gave.
+    pub fn feed(self, alloc: Global, rules: &Rules, piece: &Piece) -> Result<Reached, OutOfMemory>
+        requires { Fits (next_look (behind_left (rules_of rules.now) self)) (length piece.now) }
+        ensures { IfOk result (λ r. reached (rules_of rules.now) r ≡ fed piece.now (behind_left (rules_of rules.now) self)) }
+    {
+        match self {
+            Behind::Visit(block) => Reached::after_walk(alloc, rules, block.feed(alloc, piece)?),
+            Behind::Lookup(lookup) => {
+                Ok(Reached::of(lookup.feed(alloc, rules.place, piece)?, rules))
+            }
+        }
+    }
+}

@@ -1,0 +1,53 @@
+//! The values of cells.
+ghost use Rattle.std.specs.Prelude.{◌≡◌, ◌/◌, ◌++◌, length, replicate, OnOk};
+ghost use Rattle.std.specs.Option.{ForSome};
+ghost use Rattle.h5w_model.specs.Integers.{fill_value};
+ghost use Rattle.h5w_model.specs.Messages.{IsIntType};
+ghost use Rattle.h5w_types.specs.Fields.{int_type_of};
+ghost use Rattle.h5w_layout.specs.Layouts.{fill_of};
+ghost use Rattle.h5w_reader.specs.Cells.{cell_values};
+
+use h5w_layout::Fill;
+use h5w_model::OutOfMemory;
+use h5w_types::{IntType, value_of};
+
+/// Puts the values of some whole cells behind those of `out`.
+pub fn put_cells(bytes: &[u8], t: &IntType, out: &mut Vec<i128>) -> Result<(), OutOfMemory>
+    requires { IsIntType (int_type_of t.now) }
+    ensures { OnOk result (out.new.items ≡ out.old.items ++ cell_values (int_type_of t.now) (length bytes.now / t.now.size) bytes.now) }
+{
+    for cell in bytes.chunks_exact(usize::from(t.size)) {
+        out.push(value_of(cell, t))?;
+    }
+    Ok(())
+}
+
+/// The value of cells that were never written.
+fn fill_value(fill: &Fill, t: &IntType) -> i128
+    requires typed { IsIntType (int_type_of t.now) }
+    requires filled { ForSome fill.now.value (λ c. c.size ≡ t.now.size) }
+    ensures { result ≡ fill_value (fill_of fill.now) (int_type_of t.now) }
+{
+    match &fill.value {
+        Some(cell) => value_of(&cell.bytes[..usize::from(cell.size)], t),
+        None => 0,
+    }
+}
+
+/// Puts the value of `count` cells that were never written behind those of `out`.
+pub fn put_fill(
+    fill: &Fill,
+    t: &IntType,
+    count: u64,
+    out: &mut Vec<i128>,
+) -> Result<(), OutOfMemory>
+    requires typed { IsIntType (int_type_of t.now) }
+    requires filled { ForSome fill.now.value (λ c. c.size ≡ t.now.size) }
+    ensures { OnOk result (out.new.items ≡ out.old.items ++ replicate count (fill_value (fill_of fill.now) (int_type_of t.now))) }
+{
+    let value = fill_value(fill, t);
+    for _ in 0..count {
+        out.push(value)?;
+    }
+    Ok(())
+}

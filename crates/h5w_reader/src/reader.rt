@@ -1,0 +1,196 @@
+//! A reader of one dataset.
+ghost use Rattle.std.specs.Prelude.{◌≡◌, ◌≢◌, ◌⊎◌, ℕ, ◌+◌, ◌≤◌, ◌^◌, length, Some, None, Ok, Err, IfOk, IfErr, IfSome, OnOk, OnErr, MatchOption, option_map};
+ghost use Rattle.h5w_model.specs.Calls.{open_call};
+ghost use Rattle.h5w_reader.specs.Looks.{look_of, Fits};
+ghost use Rattle.h5w_reader.specs.Attempts.{reader_limits};
+ghost use Rattle.h5w_reader.specs.Readers.{BegunRead, IsRefusedRead, Reader, Told, begin_refusal, valued_left, values_left, fed_left, for_rows, for_values, read_refusal, rows_program, rows_seen, values_program, wanted, with_left};
+ghost use Rattle.h5w_reader.specs.declared.call.Call.TheVariants as calls;
+ghost use Rattle.h5w_reader.specs.declared.values.Reads.{Reads};
+ghost use Rattle.h5w_reader.specs.declared.step.ReadBegin.{ReadBegin};
+
+use crate::call::Call;
+use crate::known::{Known, Rules};
+use crate::look::Look;
+use crate::stage::{Came, Stage};
+use crate::step::{ReadBegin, Step};
+use crate::values::{Reads, Valued};
+use h5w_model::{Bytes, OutOfMemory, Piece, ReadError, Values};
+use std::alloc::Global;
+
+/// A reader of the dataset that a root link names. It holds no image: [`ReaderCore::want`] says the next look of its
+/// unfinished call, and [`ReaderCore::give`] takes what that look gave.
+#[derive(Drop)]
+pub struct ReaderCore {
+    alloc: Global,
+    name: Bytes,
+    /// How often a call may look at a dataset header that changes.
+    attempts: u32,
+    /// What the last call that was answered with rows found.
+    known: Option<Known>,
+    call: Option<Call>,
+    ghost known_first: { (reads : Reads) → call ≡ Some (calls.Values reads) → known ≢ None },
+}
+
+/// Goes on with a read of the known dataset.
+fn feed_read(
+    alloc: Global,
+    known: &Option<Known>,
+    reads: Reads,
+    piece: &Piece,
+) -> Result<Valued, OutOfMemory>
+    requires { Fits (wanted (values_left known.now reads)) (length piece.now) }
+    ensures { IfOk result (λ v. valued_left known.now v ≡ option_map (fed_left piece.now) (values_left known.now reads)) }
+{
+    match known {
+        Some(known) => reads.feed(alloc, known, piece),
+        None => unreachable!(),
+    }
+}
+
+impl ReaderCore {
+    ghost use Rattle.h5w_model.specs.Programs as model;
+    ghost use Rattle.h5w_reader.specs.Cores.{reader};
+    ghost use Rattle.h5w_reader.specs.Asked.{Asked, Asks, IsWanted, beginning, looking, no_asks, reading, without};
+
+    /// A reader that begins to open the dataset of this name. Where a dataset header changes between its looks, a call tries so often.
+    pub fn open(alloc: Global, name: &[u8], attempts: u32) -> Result<ReaderCore, OutOfMemory>
+        ensures begun { IfOk result (λ r. reader r ≡ record { name = name.now; attempts = attempts; known = None; left = Some (for_rows (open_call reader_limits 0 attempts name.now)) }) }
+        ensures asked { IfOk result (λ r. Asked (reader r) (beginning (for_rows (open_call reader_limits 0 attempts name.now)) no_asks)) }
+    {
+        let name = Bytes::from_vec(Vec::from_slice(alloc, name)?);
+        Ok(ReaderCore {
+            alloc,
+            name,
+            attempts,
+            known: None,
+            call: Some(Call::Rows(Stage::open(alloc))),
+        })
+    }
+
+    /// The rows of the last call that was answered with rows, 0 before it.
+    pub fn seen(&self) -> u64
+        ensures { result ≡ rows_seen (reader self.now).known }
+    {
+        match &self.known {
+            Some(known) => known.dataset.shape.rows,
+            None => 0,
+        }
+    }
+
+    /// Begins a refresh; as long as no dataset is known, an open again. Busy where a call is unfinished.
+    pub fn refresh(&mut self) -> Result<(), ReadBegin>
+        ensures begun { OnOk result (reader self.new ≡ with_left (reader self.old) (Some (for_rows (rows_program (reader self.old).attempts (reader self.old).name (reader self.old).known)))) }
+        ensures idle { OnOk result (begin_refusal (reader self.old).left ≡ None) }
+        ensures refused { IfErr result (λ e. begin_refusal (reader self.old).left ≡ Some e) }
+        ensures err { OnErr result (reader self.new ≡ reader self.old) }
+        ensures asked { OnOk result ((asks : Asks) → Asked (reader self.old) asks → Asked (reader self.new) (beginning (for_rows (rows_program (reader self.old).attempts (reader self.old).name (reader self.old).known)) asks)) }
+    {
+        if self.call.is_some() {
+            return Err(ReadBegin::Busy);
+        }
+        let stage = match &self.known {
+            Some(known) => Stage::rows(Rules {
+                seen: known.dataset.shape.rows,
+                attempts: self.attempts,
+                place: known.place,
+            }),
+            None => Stage::open(self.alloc),
+        };
+        self.call = Some(Call::Rows(stage));
+        Ok(())
+    }
+
+    /// Begins a read of `count` rows from row `from` on. Some where no look is needed: no row is asked for, or the chunks of all are
+    /// known not to be there.
+    pub fn read(&mut self, from: u64, count: u64) -> Result<Option<Values>, ReadBegin>
+        ensures begun { IfOk result (λ values. BegunRead (values_program (reader self.old).known from count) (reader self.old) values (reader self.new)) }
+        ensures refused { (e : ReadBegin) → read_refusal (reader self.old) from count ≡ Some e → result ≡ Err e }
+        ensures causes { IfErr result (λ e. IsRefusedRead (values_program (reader self.old).known from count) (read_refusal (reader self.old) from count) e) }
+        ensures err { OnErr result (reader self.new ≡ reader self.old) }
+        ensures asked { IfOk result (λ values. (asks : Asks) → Asked (reader self.old) asks → Asked (reader self.new) (reading values (for_values (values_program (reader self.old).known from count)) asks)) }
+    {
+        if self.call.is_some() {
+            return Err(ReadBegin::Busy);
+        }
+        let rows = self.seen();
+        if rows < from || rows - from < count {
+            return Err(ReadBegin::OutOfRows { from, count, rows });
+        }
+        let begun = match &self.known {
+            Some(known) if count > 0 => Valued::begin(self.alloc, known, from, count)?,
+            _ => return Ok(Some(Values::from_vec(Vec::new(self.alloc)))),
+        };
+        match begun {
+            Valued::Done(values) => Ok(Some(values)),
+            Valued::Refused(error) => Err(ReadBegin::Refused(error)),
+            Valued::Looks(reads) => {
+                self.call = Some(Call::Values(reads));
+                Ok(None)
+            }
+        }
+    }
+
+    /// The next look of the unfinished call; None where no call is unfinished.
+    pub fn want(&self) -> Option<Look>
+        ensures next { MatchOption result ((reader self.now).left ≡ None) (λ look. wanted (reader self.now).left ≡ Some (look_of look)) }
+        ensures low { IfSome result (λ look. 1 ≤ look.len) }
+        ensures high { IfSome result (λ look. look.len ≤ 512) }
+        ensures inside { IfSome result (λ look. look.at + look.len ≤ 2 ^ 64) }
+    {
+        match &self.call {
+            Some(Call::Rows(stage)) => Some(stage.want()),
+            Some(Call::Values(reads)) => Some(reads.want()),
+            None => None,
+        }
+    }
+
+    /// Goes on with the piece that the wanted look gave.
+    fn go_on(&mut self, piece: &Piece) -> Step
+        requires { Fits (wanted (reader self.old).left) (length piece.now) }
+        ensures { Told (option_map (fed_left piece.now) (reader self.old).left) (reader self.old) result (reader self.new) }
+    {
+        let name = self.name.as_slice();
+        match self.call.take() {
+            Some(Call::Rows(stage)) => match stage.feed(self.alloc, self.attempts, name, piece) {
+                Ok(Came::Answer(Ok(known))) => {
+                    let rows = known.dataset.shape.rows;
+                    self.known = Some(known);
+                    Step::Rows(rows)
+                }
+                Ok(Came::Answer(Err(error))) => Step::Refused(error),
+                Ok(Came::Looks(stage)) => {
+                    self.call = Some(Call::Rows(stage));
+                    Step::More
+                }
+                Err(OutOfMemory) => Step::Refused(ReadError::OutOfMemory),
+            },
+            Some(Call::Values(reads)) => match feed_read(self.alloc, &self.known, reads, piece) {
+                Ok(Valued::Done(values)) => Step::Values(values),
+                Ok(Valued::Refused(error)) => Step::Refused(error),
+                Ok(Valued::Looks(reads)) => {
+                    self.call = Some(Call::Values(reads));
+                    Step::More
+                }
+                Err(OutOfMemory) => Step::Refused(ReadError::OutOfMemory),
+            },
+            None => unreachable!(),
+        }
+    }
+
+    /// Goes on with the piece that the wanted look gave.
+    pub fn give(&mut self, piece: &Piece) -> Step
+        requires { Fits (wanted (reader self.old).left) (length piece.now) }
+        ensures told { Told (option_map (fed_left piece.now) (reader self.old).left) (reader self.old) result (reader self.new) }
+        ensures asked { (asks : Asks) (look : model.Look) → Asked (reader self.old) asks → IsWanted (wanted (reader self.old).left) piece.now look → Asked (reader self.new) (looking look result (reader self.new).known asks) }
+    {
+        self.go_on(piece)
+    }
+
+    /// Ends the unfinished call, if there is one, as if it had not begun.
+    pub fn quit(&mut self)
+        ensures ended { reader self.new ≡ with_left (reader self.old) None }
+        ensures asked { (asks : Asks) → Asked (reader self.old) asks → Asked (reader self.new) (without asks) }
+    {
+        self.call = None;
+    }
+}

@@ -1,0 +1,247 @@
+//! A half-done read of rows, chunk by chunk, of a dataset of one column.
+ghost use Rattle.std.specs.Prelude.{◌≡◌, ◌≢◌, ◌+◌, ◌-◌, ◌*◌, ◌/◌, ◌^◌, ◌<◌, ◌≤◌, get_or, length, ℕ, false, Some, IfOk};
+ghost use Rattle.h5w_model.specs.Numbers.{undefined};
+ghost use Rattle.h5w_model.specs.Calls.{first_in_band, last_in_band};
+ghost use Rattle.h5w_reader.specs.Described.{described_of};
+
+use crate::cells::{put_cells, put_fill};
+use crate::dataset::Dataset;
+use crate::gather::{Gather, Gathered};
+use crate::known::Known;
+use crate::look::Look;
+use h5w_bytes::UNDEFINED;
+use h5w_model::{BlockFault, OutOfMemory, Piece, ReadError, Values};
+use std::alloc::Global;
+
+/// Rows of a dataset of one column.
+#[derive(Clone, Copy)]
+pub struct Span {
+    dataset: Dataset,
+    /// The first row.
+    from: u64,
+    /// The row behind the last.
+    to: u64,
+    ghost line: { dataset.shape.growing ≡ false },
+    ghost some: { from < to },
+}
+
+/// A read that waits for the range of a chunk.
+#[derive(Drop)]
+pub struct Reads {
+    span: Span,
+    /// The number of the band of rows that the chunk holds.
+    band: u64,
+    /// The values of the rows of the bands before.
+    values: Vec<i128>,
+    gather: Gather,
+    ghost low: { span.from / span.dataset.layout.chunk.0 ≤ band },
+    ghost high: { band ≤ (span.to - 1) / span.dataset.layout.chunk.0 },
+}
+
+/// What a read comes to.
+#[derive(Drop)]
+pub enum Valued {
+    /// The values of the rows, one after another.
+    Done(Values),
+    Refused(ReadError),
+    Looks(Reads),
+}
+
+/// The address of the chunk of a band; undefined where it is not there.
+fn address(known: &Known, band: u64) -> u64
+    ensures { result ≡ get_or known.now.table.items band undefined }
+{
+    match known.table.get(band as usize) {
+        Some(address) => *address,
+        None => UNDEFINED,
+    }
+}
+
+impl Span {
+    ghost use Rattle.h5w_reader.specs.Values.{valued, rows_rest, band_rest, reading_with};
+
+    /// The number of the band behind the last.
+    fn end(&self) -> u64
+        ensures { result ≡ (self.now.to - 1) / self.now.dataset.layout.chunk.0 + 1 }
+    {
+        (self.to - 1) / self.dataset.layout.chunk.0 + 1
+    }
+
+    /// How many cells of a band's chunk stand before the first that is asked for, and how many are asked for.
+    fn touched(&self, band: u64) -> (u64, u64)
+        requires low { self.now.from / self.now.dataset.layout.chunk.0 ≤ band }
+        requires high { band ≤ (self.now.to - 1) / self.now.dataset.layout.chunk.0 }
+        ensures before { result.0 ≡ first_in_band (described_of self.now.dataset) band self.now.from - band * self.now.dataset.layout.chunk.0 }
+        ensures count { result.1 ≡ last_in_band (described_of self.now.dataset) band self.now.to - first_in_band (described_of self.now.dataset) band self.now.from }
+        ensures some { 0 < result.1 }
+        ensures inside { result.0 + result.1 ≤ self.now.dataset.layout.chunk.0 }
+    {
+        let rows = self.dataset.layout.chunk.0;
+        let start = band * rows;
+        let first = self.from.max(start);
+        let last = if self.to - start < rows {
+            self.to
+        } else {
+            start + rows
+        };
+        (first - start, last - first)
+    }
+
+    /// Where the range that is asked for begins in a band's chunk, and its length, in bytes.
+    fn range(&self, band: u64) -> (u64, u64)
+        requires low { self.now.from / self.now.dataset.layout.chunk.0 ≤ band }
+        requires high { band ≤ (self.now.to - 1) / self.now.dataset.layout.chunk.0 }
+        ensures start { result.0 ≡ (first_in_band (described_of self.now.dataset) band self.now.from - band * self.now.dataset.layout.chunk.0) * self.now.dataset.int_type.size }
+        ensures len { result.1 ≡ (last_in_band (described_of self.now.dataset) band self.now.to - first_in_band (described_of self.now.dataset) band self.now.from) * self.now.dataset.int_type.size }
+        ensures some { 0 < result.1 }
+        ensures small { result.0 + result.1 < 2 ^ 32 }
+    {
+        let size = u64::from(self.dataset.int_type.size);
+        let (before, count) = self.touched(band);
+        (before * size, count * size)
+    }
+
+    /// Goes on from a band up to the next chunk that is looked at, or to the end.
+    fn go_on(
+        self,
+        alloc: Global,
+        known: &Known,
+        mut band: u64,
+        mut values: Vec<i128>,
+    ) -> Result<Valued, OutOfMemory>
+        requires { self.from / self.dataset.layout.chunk.0 ≤ band }
+        ensures { IfOk result (λ v. valued known.now v ≡ rows_rest (reading_with known.now self.dataset) self.from self.to band values.items) }
+    {
+        let end = self.end();
+        while band < end {
+            let address = address(known, band);
+            if address != UNDEFINED {
+                return Ok(self.visit(alloc, band, values, address));
+            }
+            let (_, count) = self.touched(band);
+            put_fill(
+                &self.dataset.fill,
+                &self.dataset.int_type,
+                count,
+                &mut values,
+            )?;
+            band += 1;
+        }
+        Ok(Valued::Done(Values::from_vec(values)))
+    }
+
+    /// Goes on at the chunk of a band, which stands at `address`. A range that passes 2^64 is not looked at.
+    fn visit(self, alloc: Global, band: u64, values: Vec<i128>, address: u64) -> Valued
+        requires low { self.from / self.dataset.layout.chunk.0 ≤ band }
+        requires high { band ≤ (self.to - 1) / self.dataset.layout.chunk.0 }
+        requires there { address ≢ undefined }
+        ensures { (k : Known) → get_or k.table.items band undefined ≡ address → valued k result ≡ rows_rest (reading_with k self.dataset) self.from self.to band values.items }
+    {
+        let (start, len) = self.range(band);
+        if u64::MAX - address < start + len - 1 {
+            return Valued::Refused(ReadError::Damaged {
+                at: address,
+                fault: BlockFault::Cut { need: len, got: 0 },
+            });
+        }
+        let place = address + start;
+        let gather = Gather::new(place, Vec::new(alloc), place, len);
+        Valued::Looks(Reads {
+            span: self,
+            band,
+            values,
+            gather,
+        })
+    }
+
+    /// Goes on with the range of a band's chunk, which begins at `place` and of which these bytes were found.
+    fn enter(
+        self,
+        alloc: Global,
+        known: &Known,
+        band: u64,
+        mut values: Vec<i128>,
+        place: u64,
+        bytes: &[u8],
+    ) -> Result<Valued, OutOfMemory>
+        requires low { self.from / self.dataset.layout.chunk.0 ≤ band }
+        requires high { band ≤ (self.to - 1) / self.dataset.layout.chunk.0 }
+        ensures { IfOk result (λ v. valued known.now v ≡ band_rest (reading_with known.now self.dataset) self.from self.to band values.items place bytes.now) }
+    {
+        let (_, len) = self.range(band);
+        let got = bytes.len() as u64;
+        if got < len {
+            return Ok(Valued::Refused(ReadError::Damaged {
+                at: place,
+                fault: BlockFault::Cut { need: len, got },
+            }));
+        }
+        put_cells(&bytes[..len as usize], &self.dataset.int_type, &mut values)?;
+        self.go_on(alloc, known, band + 1, values)
+    }
+}
+
+impl Valued {
+    ghost use Rattle.h5w_model.specs.Calls.{values_call};
+    ghost use Rattle.h5w_reader.specs.Attempts.{reading_of};
+    ghost use Rattle.h5w_reader.specs.Values.{valued};
+
+    /// Begins a read of `count` rows from row `from` on. Chunks that are not there are not looked at.
+    pub fn begin(alloc: Global, known: &Known, from: u64, count: u64) -> Result<Valued, OutOfMemory>
+        requires some { 1 ≤ count }
+        requires inside { from + count ≤ known.now.dataset.shape.rows }
+        ensures { IfOk result (λ v. valued known.now v ≡ values_call (reading_of known.now) from count) }
+    {
+        // from + count is at most these
+        let _rows = known.dataset.shape.rows;
+        let dataset = known.dataset;
+        if dataset.shape.growing {
+            // it needs no chunk, so it has no columns
+            return Ok(Valued::Done(Values::from_vec(Vec::new(alloc))));
+        }
+        let span = Span {
+            dataset,
+            from,
+            to: from + count,
+        };
+        span.go_on(alloc, known, from / dataset.layout.chunk.0, Vec::new(alloc))
+    }
+}
+
+impl Reads {
+    ghost use Rattle.h5w_reader.specs.Looks.{next_look, fed, look_of, Fits};
+    ghost use Rattle.h5w_reader.specs.Values.{reading_values, valued};
+
+    /// The next look.
+    pub fn want(&self) -> Look
+        ensures next { (k : Known) → next_look (reading_values k self.now) ≡ Some (look_of result) }
+        ensures low { 1 ≤ result.len }
+        ensures high { result.len ≤ 512 }
+        ensures inside { result.at + result.len ≤ 2 ^ 64 }
+    {
+        self.gather.want()
+    }
+
+    /// Goes on with the piece that the look gave.
+    pub fn feed(self, alloc: Global, known: &Known, piece: &Piece) -> Result<Valued, OutOfMemory>
+        requires { Fits (next_look (reading_values known.now self)) (length piece.now) }
+        ensures { IfOk result (λ v. valued known.now v ≡ fed piece.now (reading_values known.now self)) }
+    {
+        let Reads {
+            span,
+            band,
+            values,
+            gather,
+        } = self;
+        let place = gather.start();
+        match gather.feed(piece)? {
+            Gathered::More(gather) => Ok(Valued::Looks(Reads {
+                span,
+                band,
+                values,
+                gather,
+            })),
+            Gathered::Whole(bytes) => span.enter(alloc, known, band, values, place, &bytes),
+        }
+    }
+}
