@@ -1,5 +1,7 @@
 -- What a session's relation to its log gives.
-use Rattle.std.proofs.Common.{◌≡◌, ℕ, suc, ◌+◌, ◌*◌, ◌≤◌, List, [], ◌∷◌, length, take, refl, ap, sym, ◌∙◌, subst, inl, inr, arith}
+use Rattle.std.proofs.Common.{◌≡◌, get_or, ◌<◌, ◌≢◌, ℕ, suc, ◌+◌, ◌*◌, ◌≤◌, List, [], ◌∷◌, length, take, refl, ap, sym, ◌∙◌, subst, inl, inr, arith}
+use Rattle.std.proofs.lemmas.List.{get_or-take}
+use Rattle.h5w_model.specs.Numbers.{undefined}
 use Rattle.h5w_model.specs.Programs.{Visit, visits}
 use Rattle.h5w_model.specs.Logs.{Log, Happening, hist, div_up}
 use Rattle.h5w_model.specs.Datasets.{Described, root_header, root_view}
@@ -9,12 +11,13 @@ use Rattle.h5w_model.specs.declared.piece.Write.{Write}
 use Rattle.h5w_image.specs.View.{ImageView}
 use Rattle.h5w_laws.proofs.HeldLemmas.{still_gives_held}
 use Rattle.h5w_laws.proofs.LogLemmas.{each_gives_prefixed}
-use Rattle.h5w_writer.specs.Files.{FileFields, IsFile, Moment, Represents, dataset_name, root_place, described_of, reading_of}
+use Rattle.h5w_writer.specs.Files.{FileFields, IsFile, Moment, Represents, dataset_name, root_place, described_of, reading_of, first_end, chunk_len}
 use Rattle.h5w_writer.specs.Kept.{space_limit}
 use Rattle.h5w_writer.specs.Laws.{StandingLaws, ShownLaws, IsDatasetOf, RoomStays}
 use Rattle.h5w_writer.specs.Room.{HasRoomFor}
 use Rattle.h5w_writer.specs.Sessions.{Session, Creating, Running, Flushing, Goes, Stands, going, after_piece, log_of}
 use Rattle.h5w_writer.proofs.EventLemmas.{committed_are, rows_are, stands_reads, flushed_rows, creating_few, length_pos, image_now}
+use Rattle.h5w_writer.proofs.FileFacts.{Rising-high}
 use Rattle.h5w_writer.proofs.HeadersNow.{root_visits}
 use Rattle.h5w_writer.proofs.SessionLemmas.{AllEndBy-front, AllEndBy-take, image_ends}
 use Rattle.h5w_writer.proofs.Shown.{shown_is}
@@ -117,6 +120,16 @@ dataset_is s f same =
 needed_few : (limits : Limits) (f : FileFields) → 4 ≤ limits.array → IsFile f → needed (described_of f) ≤ limits.array
 needed_few limits f most is = omega (arith, is.rows_have_chunks, is.few)
 
+addressed_of : (f : FileFields) → IsFile f → (k : ℕ) → k < needed (described_of f) → get_or (reading_of f).table k undefined ≢ undefined
+addressed_of f is k below = λ e.
+    let n = div_up f.rows f.chunk_rows in
+    let inside : k < n = omega (arith, below) in
+    let have = is.rows_have_chunks in
+    let same : get_or (take n f.addresses) k undefined ≡ get_or f.addresses k undefined = get_or-take n f.addresses k undefined inside in
+    let most = Rising-high (first_end f.chunk_rows) (chunk_len f.chunk_rows) f.addresses f.end k undefined is.apart (omega arith) in
+    let is_undefined : get_or f.addresses k undefined ≡ undefined = sym same ∙ e in
+    absurd (omega (arith, is.end_bound))
+
 root_one : (img : List ℕ) (m : Moment) → Represents img m → (v : Visit) × (visits img (root_header (root_address img)) ≡ v ∷ [])
 root_one img m r = (record { place = root_place; len = 512; counts = root_view }, ap (λ (a : ℕ). visits img (root_header a)) (root_address_now img m r) ∙ root_visits img r.standing.1.0)
 
@@ -133,6 +146,9 @@ shown_laws =
       few = λ s log p r stands at shows.
           let f = file_at s log p stands at in
           of_shown (λ (x : Reading). needed x.dataset ≤ 4) s log p r f shows (needed_few (record { array = 4; tree = 0 }) f.moment.file (omega arith) f.represents.is_file);
+      addressed = λ s log p r stands at shows.
+          let f = file_at s log p stands at in
+          of_shown (λ (x : Reading). (k : ℕ) → k < needed x.dataset → get_or x.table k undefined ≢ undefined) s log p r f shows (addressed_of f.moment.file f.represents.is_file);
       root_header = λ s log p stands at. let f = file_at s log p stands at in root_one (image_at log p) f.moment f.represents;
       dataset_header = λ s log p r stands at shows.
           let f = file_at s log p stands at in

@@ -1,5 +1,6 @@
 -- What is true of a log of which a session is the session.
-use Rattle.std.specs.Prelude.{◌≡◌, ℕ, ◌≤◌, false, List, [], ◌∷◌, length}
+use Rattle.std.specs.Prelude.{◌≡◌, ◌≢◌, ℕ, ◌<◌, ◌≤◌, false, List, [], ◌∷◌, length, get_or}
+use Rattle.h5w_model.specs.Numbers.{undefined}
 use Rattle.h5w_model.specs.Images.{image}
 use Rattle.h5w_model.specs.Programs.{Visit, visits}
 use Rattle.h5w_model.specs.Logs.{Log, hist, appended, flushed, needed_chunks}
@@ -42,7 +43,7 @@ pub record IsDatasetOf (s : Session) (r : Reading) : Type 0 where
   pub needed : needed r.dataset ≡ needed_chunks (cutting_of s) r.dataset.shape.rows
 
 -- At each position of the session's log: whatever the image shows is a dataset of the session's shape, and is shown
--- within all limits that allow the chunks of a session, of which few are needed; the root header is one look, the dataset header names no
+-- within all limits that allow the chunks of a session, of which few are needed, each with an address; the root header is one look, the dataset header names no
 -- further block; and the image ends within the greatest end of a file.
 pub record ShownLaws : Type 0 where
   pub dataset : (s : Session) (log : Log) (p : ℕ) (r : Reading) → Stands s log → IsPosition log p → Shows format_limits (image_at log p) dataset_name r → IsDatasetOf s r
@@ -51,6 +52,8 @@ pub record ShownLaws : Type 0 where
   pub within : (s : Session) (log : Log) (limits : Limits) (p : ℕ) (r : Reading) → Stands s log → chunk_limit ≤ limits.array → IsPosition log p
       → Shows format_limits (image_at log p) dataset_name r → needed r.dataset ≤ limit_of limits r.dataset.layout.index
   pub few : (s : Session) (log : Log) (p : ℕ) (r : Reading) → Stands s log → IsPosition log p → Shows format_limits (image_at log p) dataset_name r → needed r.dataset ≤ chunk_limit
+  pub addressed : (s : Session) (log : Log) (p : ℕ) (r : Reading) → Stands s log → IsPosition log p → Shows format_limits (image_at log p) dataset_name r
+      → (k : ℕ) → k < needed r.dataset → get_or r.table k undefined ≢ undefined
   pub root_header : (s : Session) (log : Log) (p : ℕ) → Stands s log → IsPosition log p → (v : Visit) × (visits (image_at log p) (root_header (root_address (image_at log p))) ≡ v ∷ [])
   pub dataset_header : (s : Session) (log : Log) (p : ℕ) (r : Reading) → Stands s log → IsPosition log p → Shows format_limits (image_at log p) dataset_name r → continuation_blocks (image_at log p) r ≡ []
   pub fits : (s : Session) (log : Log) (p : ℕ) → Stands s log → IsPosition log p → length (image_at log p) ≤ space_limit
