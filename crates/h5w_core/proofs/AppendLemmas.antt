@@ -1,0 +1,225 @@
+-- The writer appends values.
+use Rattle.std.proofs.Common.{◌≡◌, ◌≢◌, ◌⊎◌, ℕ, ◌+◌, ◌*◌, ◌/◌, ◌<◌, List, [], ◌∷◌, ◌++◌, length, ℤ, Bool, true, false, nat_lt, if◌then◌else◌, Option, Some, None, Result, Ok, Err, sym, refl, ap, ◌∙◌, subst, inl, inr, arith, append_assoc, length-append}
+use Rattle.std.proofs.lemmas.Bool.{lt-ltb}
+use Rattle.h5w_model.specs.declared.piece.Write.{Write}
+use Rattle.h5w_model.specs.Logs.{Log, Happening, appends, appended, appended_in, flushed, load, and_now, div_up, needed_chunks}
+use Rattle.h5w_model.specs.Lawful.{Rules, ScriptState, Allowed, adds, append_reply, first_outside, fitting_reply, line_of, load_of, next_state, rows_in}
+use Rattle.h5w_model.specs.declared.event.Event.TheVariants as events
+use Rattle.h5w_model.specs.declared.reply.Reply.{Reply}
+use Rattle.h5w_model.specs.declared.reply.Reply.TheVariants as replies
+use Rattle.h5w_polling.specs.Polling.{Poller}
+use Rattle.h5w_polling.proofs.ScriptLemmas.{writer_line_laws}
+use Rattle.h5w_writer.specs.Files.{int_type}
+use Rattle.h5w_writer.specs.Refusals.{append_refusal, chunks_with}
+use Rattle.h5w_writer.specs.Sessions.{Session, Stands, chunk_limit, cutting_of, rows_of, with_values}
+use Rattle.h5w_writer.specs.declared.refusal.AppendError.{AppendError}
+use Rattle.h5w_writer.specs.declared.refusal.AppendError.TheVariants as errors
+use Rattle.h5w_writer.proofs.EventLemmas.{rows_are}
+use Rattle.h5w_core.specs.Worlds.{WorldView, Fits, IsStateOf, StandsFor, Steps, polling_of, rules_of}
+use Rattle.h5w_core.proofs.StateLemmas.{rows_in-length, load_of-log, spent_in-events}
+use Rattle.h5w_core.proofs.WorldLemmas.{world_of, changed}
+use Rattle.h5w_image.specs.Memory.{MemView}
+use Rattle.h5w_image.specs.View.{Same}
+use Rattle.h5w_reader.specs.declared.reader.ReaderCore.{ReaderCore}
+use Rattle.h5w_core.specs.Readers.{pollers}
+use Rattle.h5w_core.specs.Steady.{steady}
+
+-- what is answered to a refusal, and where nothing is refused
+abbrev pub append_answer : Option AppendError → ℕ → Reply
+append_answer None rows = replies.Appended rows 0
+append_answer (Some errors.Stopped) rows = replies.Stopped
+append_answer (Some (errors.Busy pending)) rows = replies.Busy pending
+append_answer (Some (errors.OutOfRange index value)) rows = replies.OutOfRange index value
+append_answer (Some (errors.Chunks chunks limit)) rows = replies.FullChunks chunks limit
+append_answer (Some errors.Failed) rows = replies.Stopped
+append_answer (Some errors.OutOfMemory) rows = replies.Stopped
+
+-- the rows of a state with these values, by the session
+rows_with : (w : WorldView) (s : ScriptState) (log : Log) (vs : List ℤ) → Stands w.session log → IsStateOf w s log
+    → rows_in (rules_of w) (s.appended ++ vs) ≡ rows_of w.session + length vs
+rows_with w s log vs stands state =
+    rows_in-length w.session.file.chunk_rows w.attempts (s.appended ++ vs) ∙ length-append s.appended vs
+    ∙ ap (λ n. n + length vs) (ap length state.appended ∙ sym (rows_are w.session log stands))
+
+chosen : (b : Bool) (chunks rows : ℕ) → (if b then replies.FullChunks chunks chunk_limit else replies.Appended rows 0)
+    ≡ append_answer (if b then Some (errors.Chunks chunks chunk_limit) else None) rows
+chosen true chunks rows = refl
+chosen false chunks rows = refl
+
+fitting : (w : WorldView) (s : ScriptState) (log : Log) (vs : List ℤ) → Stands w.session log → IsStateOf w s log
+    → fitting_reply (rules_of w) (s.appended ++ vs)
+    ≡ append_answer (if nat_lt chunk_limit (chunks_with w.session (length vs)) then Some (errors.Chunks (chunks_with w.session (length vs)) chunk_limit) else None) (rows_of w.session + length vs)
+fitting w s log vs stands state =
+    let rows = rows_with w s log vs stands state in
+    let n = rows_of w.session + length vs in
+    let chunks : needed_chunks (rules_of w).cutting n ≡ chunks_with w.session (length vs) = omega arith in
+    ap (λ (m : ℕ). if nat_lt chunk_limit (needed_chunks (rules_of w).cutting m) then replies.FullChunks (needed_chunks (rules_of w).cutting m) chunk_limit else replies.Appended m 0) rows
+    ∙ ap (λ (m : ℕ). if nat_lt chunk_limit m then replies.FullChunks m chunk_limit else replies.Appended n 0) chunks
+    ∙ chosen (nat_lt chunk_limit (chunks_with w.session (length vs))) (chunks_with w.session (length vs)) n
+
+inside : (o : Option (ℕ × ℤ)) (rest : Reply) (refusal : Option AppendError) (rows : ℕ) → rest ≡ append_answer refusal rows
+    → elim o as (λ _. Reply) [ Some x ↦ replies.OutOfRange x.0 x.1 | None ↦ rest ]
+    ≡ append_answer (elim o as (λ _. Option AppendError) [ Some x ↦ Some (errors.OutOfRange x.0 x.1) | None ↦ refusal ]) rows
+inside None rest refusal rows is = is
+inside (Some x) rest refusal rows is = refl
+
+busy_or : (b : Bool) (pending : ℕ) (rest : Reply) (refusal : Option AppendError) (rows : ℕ) → rest ≡ append_answer refusal rows
+    → (if b then replies.Busy pending else rest) ≡ append_answer (if b then Some (errors.Busy pending) else refusal) rows
+busy_or true pending rest refusal rows is = refl
+busy_or false pending rest refusal rows is = is
+
+stopped_or : (b : Bool) (rest : Reply) (refusal : Option AppendError) (rows : ℕ) → rest ≡ append_answer refusal rows
+    → (if b then replies.Stopped else rest) ≡ append_answer (if b then Some errors.Stopped else refusal) rows
+stopped_or true rest refusal rows is = refl
+stopped_or false rest refusal rows is = is
+
+-- the lawful reply is the one to the session's refusal
+pub append_reply-answer : (w : WorldView) (s : ScriptState) (log : Log) (vs : List ℤ) → Stands w.session log → IsStateOf w s log
+    → append_reply (rules_of w) s vs ≡ append_answer (append_refusal w.session vs) (rows_of w.session + length vs)
+append_reply-answer w s log vs stands state =
+    let g = rules_of w in
+    let rows = rows_of w.session + length vs in
+    let within : Option AppendError = if nat_lt chunk_limit (chunks_with w.session (length vs)) then Some (errors.Chunks (chunks_with w.session (length vs)) chunk_limit) else None in
+    let outside : Option AppendError = elim (first_outside int_type 0 vs) [ Some x ↦ Some (errors.OutOfRange x.0 x.1) | None ↦ within ] in
+    let rest : Reply = elim (first_outside g.int_type 0 vs) [ Some x ↦ replies.OutOfRange x.0 x.1 | None ↦ fitting_reply g (s.appended ++ vs) ] in
+    let n = length w.session.pending in
+    let busy : Option AppendError = if nat_lt 0 n then Some (errors.Busy n) else outside in
+    ap (λ (b : Bool). if b then replies.Stopped else (if nat_lt 0 s.pending then replies.Busy s.pending else rest)) state.stopped
+    ∙ ap (λ (k : ℕ). if w.session.stopped then replies.Stopped else (if nat_lt 0 k then replies.Busy k else rest)) state.pending
+    ∙ stopped_or w.session.stopped (if nat_lt 0 n then replies.Busy n else rest) busy rows
+    (busy_or (nat_lt 0 n) n rest outside rows
+    (inside (first_outside int_type 0 vs) (fitting_reply g (s.appended ++ vs)) within rows (fitting w s log vs stands state)))
+
+-- ---- Refused
+
+-- a refusal of the session's own, not of the image or of memory
+abbrev pub IsOwn : AppendError → Type 0
+IsOwn errors.Stopped = Unit {0}
+IsOwn (errors.Busy pending) = Unit {0}
+IsOwn (errors.OutOfRange index value) = Unit {0}
+IsOwn (errors.Chunks chunks limit) = Unit {0}
+IsOwn errors.Failed = ⊥
+IsOwn errors.OutOfMemory = ⊥
+
+-- its reply leaves the state, and tells no rows
+refused_state : (g : Rules) (s : ScriptState) (vs : List ℤ) (e : AppendError) → IsOwn e → next_state g s (adds vs) (append_answer (Some e) 0) ≡ s
+refused_state g s vs errors.Stopped own = refl
+refused_state g s vs (errors.Busy pending) own = refl
+refused_state g s vs (errors.OutOfRange index value) own = refl
+refused_state g s vs (errors.Chunks chunks limit) own = refl
+refused_state g s vs errors.Failed own = absurd own
+refused_state g s vs errors.OutOfMemory own = absurd own
+
+refused_rows : (e : AppendError) (rows : ℕ) → append_answer (Some e) rows ≡ append_answer (Some e) 0
+refused_rows errors.Stopped rows = refl
+refused_rows (errors.Busy pending) rows = refl
+refused_rows (errors.OutOfRange index value) rows = refl
+refused_rows (errors.Chunks chunks limit) rows = refl
+refused_rows errors.Failed rows = refl
+refused_rows errors.OutOfMemory rows = refl
+
+-- a refusal leaves the world
+refused_steps : (w : WorldView) (vs : List ℤ) (e : AppendError) → append_refusal w.session vs ≡ Some e → IsOwn e → Steps w (events.Append vs) (append_answer (Some e) 0) w
+refused_steps w vs e refusal own =
+    record {
+      rules = refl;
+      lawful = λ s fits. (
+        sym (refused_rows e (rows_of w.session + length vs)) ∙ ap (λ (r : Option AppendError). append_answer r (rows_of w.session + length vs)) (sym refusal)
+            ∙ sym (append_reply-answer w s fits.log vs fits.stands.stands fits.state),
+        subst (λ (t : ScriptState). Fits w t) (sym (refused_state (rules_of w) s vs e own)) fits,
+      );
+    }
+
+-- why a session refuses
+abbrev Causes : Session → List ℤ → AppendError → Type 0
+Causes s vs e = (append_refusal s vs ≡ Some e) ⊎ ((e ≡ errors.Failed) ⊎ (e ≡ errors.OutOfMemory))
+
+own_cause : (s : Session) (vs : List ℤ) (e f : AppendError) → Causes s vs e → e ≡ f → IsOwn f → append_refusal s vs ≡ Some f
+own_cause s vs e f (inl refusal) is own = refusal ∙ ap Some is
+own_cause s vs e f (inr (inl failed)) is own = absurd (subst IsOwn (sym is ∙ failed) own)
+own_cause s vs e f (inr (inr memory)) is own = absurd (subst IsOwn (sym is ∙ memory) own)
+
+pub refused_done : (s t : Session) (m n : MemView) (attempts : ℕ) (readers : List (Option ReaderCore)) (w : WorldView) (vs : List ℤ) (e f : AppendError) → world_of s m attempts readers ≡ w → Same (steady m) (steady n) → t ≡ s
+    → Causes s vs e → e ≡ f → IsOwn f → Steps w (events.Append vs) (append_answer (Some f) 0) (world_of t n attempts readers)
+refused_done s t m n attempts readers w vs e f view same kept causes is own =
+    let old = world_of s m attempts readers in
+    let reply = append_answer (Some f) 0 in
+    let unchanged : world_of t n attempts readers ≡ old = changed s t m n attempts readers same (λ x. x) kept in
+    subst (λ (x : WorldView). Steps x (events.Append vs) reply (world_of t n attempts readers)) view
+    (subst (λ (x : WorldView). Steps old (events.Append vs) reply x) (sym unchanged) (refused_steps old vs f (own_cause s vs e f causes is own) own))
+
+-- ---- Appended
+
+-- nothing is refused to a session that goes on
+going_rest : (b : Bool) (rest : Option AppendError) → (if b then Some errors.Stopped else rest) ≡ None → rest ≡ None
+going_rest true rest accepted = cc
+going_rest false rest accepted = accepted
+
+busy_none : (ws : List Write) (rest : Option AppendError) → (if nat_lt 0 (length ws) then Some (errors.Busy (length ws)) else rest) ≡ None → ws ≢ [] → ⊥
+busy_none [] rest accepted some = some refl
+busy_none (w ∷ ws) rest accepted some =
+    let busy : Some (errors.Busy (length (w ∷ ws))) ≡ None =
+    ap (λ (b : Bool). if b then Some (errors.Busy (length (w ∷ ws))) else rest) (sym (lt-ltb 0 (length (w ∷ ws)) (omega arith))) ∙ accepted in
+    cc
+
+abbrev pub CarriesValues : Session → List ℤ → Type 0
+CarriesValues s vs = (log : Log) → Stands s log → Stands (with_values s vs) (and_now (appends vs) log)
+
+-- the world after it
+abbrev pub appended_world : WorldView → List ℤ → WorldView
+appended_world w vs = record w { session = with_values w.session vs }
+
+appended_state : (w : WorldView) (vs : List ℤ) (s : ScriptState) (log : Log) → append_refusal w.session vs ≡ None → IsStateOf w s log
+    → IsStateOf (appended_world w vs) (record s { appended = s.appended ++ vs; spent = s.spent + load_of (rules_of w) s (s.appended ++ vs) }) (and_now (appends vs) log)
+appended_state w vs s log accepted state =
+    let more : s.appended ++ vs ≡ appended (and_now (appends vs) log) = ap (λ (xs : List ℤ). xs ++ vs) state.appended ∙ append_assoc log.values (appended_in log.events) vs in
+    record {
+      appended = more;
+      flushed = state.flushed;
+      pending = state.pending;
+      ends_flush = state.ends_flush;
+      taken = λ some. absurd (busy_none w.session.pending _ (going_rest w.session.stopped _ accepted) some);
+      spent =
+          (λ i. state.spent i + load_of-log w.session.file.chunk_rows w.attempts s (s.appended ++ vs) (and_now (appends vs) log) state.flushed more i)
+          ∙ ap (λ n. n + load (cutting_of w.session) (and_now (appends vs) log)) (sym (spent_in-events (cutting_of w.session) log (appends vs ∷ log.events) log.events));
+      stopped = state.stopped;
+      tries = state.tries;
+      ours = state.ours;
+      begun = state.begun;
+      polls = writer_line_laws.appended (polling_of w) log s (pollers w.readers) vs state.polls;
+    }
+
+pub appended_steps : (w : WorldView) (vs : List ℤ) → append_refusal w.session vs ≡ None → CarriesValues w.session vs
+    → Steps w (events.Append vs) (replies.Appended (rows_of w.session + length vs) 0) (appended_world w vs)
+appended_steps w vs accepted carries =
+    record {
+      rules = refl;
+      lawful = λ s fits. (
+        ap (λ (r : Option AppendError). append_answer r (rows_of w.session + length vs)) (sym accepted)
+            ∙ sym (append_reply-answer w s fits.log vs fits.stands.stands fits.state),
+        record {
+          log = and_now (appends vs) fits.log;
+          stands = record { stands = carries fits.log fits.stands.stands; journal = fits.stands.journal; bytes = fits.stands.bytes };
+          state = appended_state w vs s fits.log accepted fits.state;
+        },
+      );
+    }
+
+ok_err : (e : AppendError) (r : Result ℕ AppendError) (rows : ℕ) → r ≡ Ok rows → r ≡ Err e → ⊥
+ok_err e r rows ok err = cc
+
+not_refused : (refusal : Option AppendError) (r : Result ℕ AppendError) (rows : ℕ) → ((e : AppendError) → refusal ≡ Some e → r ≡ Err e) → r ≡ Ok rows → refusal ≡ None
+not_refused None r rows refused ok = refl
+not_refused (Some e) r rows refused ok = absurd (ok_err e r rows ok (refused e refl))
+
+pub append_done : (s t : Session) (m n : MemView) (attempts rows : ℕ) (readers : List (Option ReaderCore)) (w : WorldView) (vs : List ℤ) (r : Result ℕ AppendError) → world_of s m attempts readers ≡ w → Same (steady m) (steady n)
+    → t ≡ with_values s vs → rows ≡ rows_of t → ((e : AppendError) → append_refusal s vs ≡ Some e → r ≡ Err e) → r ≡ Ok rows
+    → ((log : Log) → Stands s log → Stands t (and_now (appends vs) log)) → Steps w (events.Append vs) (replies.Appended rows 0) (world_of t n attempts readers)
+append_done s t m n attempts rows readers w vs r view same is count refused ok stands =
+    let old = world_of s m attempts readers in
+    let accepted = not_refused (append_refusal s vs) r rows refused ok in
+    let carries : CarriesValues s vs = λ log stood. subst (λ (x : Session). Stands x (and_now (appends vs) log)) is (stands log stood) in
+    let all : rows ≡ rows_of s + length vs = count ∙ ap rows_of is ∙ ap (λ n. s.file.rows + n) (length-append s.waiting vs) ∙ omega arith in
+    subst (λ (x : WorldView). Steps x (events.Append vs) (replies.Appended rows 0) (world_of t n attempts readers)) view
+    (subst (λ (x : WorldView). Steps old (events.Append vs) (replies.Appended rows 0) x) (sym (changed s t m n attempts readers same (λ x. with_values x vs) is))
+    (subst (λ (k : ℕ). Steps old (events.Append vs) (replies.Appended k 0) (appended_world old vs)) (sym all) (appended_steps old vs accepted carries)))

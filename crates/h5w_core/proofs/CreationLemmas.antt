@@ -1,0 +1,163 @@
+-- The pieces of a new file become visible, one after another.
+use Rattle.std.proofs.Common.{◌≡◌, ℕ, zero, suc, ◌+◌, ◌<◌, ◌≤◌, List, [], ◌∷◌, ◌++◌, length, replicate, get_or, sym, refl, ap, ◌∙◌, subst, arith, append_assoc, length-append, nat_lt, Option, Some, None, option_map}
+use Rattle.std.proofs.lemmas.List.{append-nil, nil_from_length}
+use Rattle.std.specs.Option.{unwrap_or}
+use Rattle.h5w_model.specs.Images.{image}
+use Rattle.h5w_model.specs.Logs.{Log, and_now, appended, flushed, hist, spent, shows}
+use Rattle.h5w_model.specs.Lawful.{at_first}
+use Rattle.h5w_model.specs.declared.piece.Write.{Write}
+use Rattle.h5w_model.proofs.ImageLemmas.{image-push}
+use Rattle.h5w_image.specs.Memory.{MemView, fresh}
+use Rattle.h5w_image.specs.View.{Same, Wrote}
+use Rattle.h5w_polling.specs.Polling.{MayPoll}
+use Rattle.h5w_reader.specs.Readers.{Reader}
+use Rattle.h5w_reader.specs.declared.reader.ReaderCore.{ReaderCore}
+use Rattle.h5w_writer.specs.Files.{FileFields}
+use Rattle.h5w_writer.specs.Plans.{creation_writes, new_file}
+use Rattle.h5w_writer.specs.Room.{HasRoomFor}
+use Rattle.h5w_writer.specs.Sessions.{Session, Stands, after_piece, created, cutting_of, log_of}
+use Rattle.h5w_writer.proofs.EventLemmas.{committed_are, rows_are}
+use Rattle.h5w_core.specs.Creation.{Creates}
+use Rattle.h5w_core.specs.Readers.{IsOurs, placed, poller, reader_at}
+use Rattle.h5w_core.specs.Steady.{steady}
+use Rattle.h5w_core.specs.Worlds.{WorldView, Fits, HoldsTogether, IsStateOf, StandsFor, nobody, polling_of, rules_for, rules_of}
+use Rattle.h5w_core.proofs.ShowLemmas.{after_file, after_stopped, after_waiting, after_pending}
+use Rattle.h5w_core.proofs.StateLemmas.{spent_in-events}
+use Rattle.h5w_core.proofs.WorldLemmas.{world_of}
+
+some_is : {A : Type 0} (a b : A) → Some a ≡ Some b → a ≡ b
+some_is a b same = ap (λ o. unwrap_or o a) same
+
+-- the loads with so many rows in a chunk
+abbrev spent_for : ℕ → Log → ℕ
+spent_for chunk_rows log = spent (record { chunk_rows = chunk_rows; chunk_columns = 1; columns = 1; value_size = 4 }) log
+
+-- none is visible yet
+pub begins : (rows : ℕ) (s : Session) (m n : MemView) → s ≡ created rows → Stands s (log_of []) → m ≡ fresh [] [] → Same (steady m) (steady n) → length s.pending + 1 ≤ n.pieces → s.file.end ≤ n.end
+    → Creates rows 0 s n
+begins rows s m n is stands empty same pieces end =
+    let history : n.history ≡ [] = some_is n.history m.history same.history ∙ ap (λ (v : MemView). v.history) empty in
+    record {
+      log = log_of [];
+      stands = stands;
+      history = history;
+      bytes = some_is n.bytes m.bytes same.bytes ∙ ap (λ (v : MemView). v.bytes) empty;
+      file = ap (λ (x : Session). x.file) is;
+      committed = ap (λ (x : Session). x.committed) is;
+      waiting = ap (λ (x : Session). x.waiting) is;
+      going = ap (λ (x : Session). x.stopped) is;
+      loads = refl;
+      pieces = ap (λ (ws : List Write). ws ++ s.pending) history ∙ ap (λ (x : Session). x.pending) is;
+      shown = ap length history;
+      room = record { pieces = pieces; end = end };
+    }
+
+-- a piece is left as long as not all five are visible
+some_left : (rows count : ℕ) (s : Session) (m : MemView) → Creates rows count s m → length s.pending + count ≡ 5
+some_left rows count s m start = omega (arith, length-append m.history s.pending, ap length start.pieces, start.shown)
+
+-- one more
+new_committed : (s : Session) (ws : List Write) (rows : ℕ) → s.file ≡ new_file rows → s.committed ≡ 0 → (after_piece s ws).committed ≡ 0
+new_committed s [] rows file none = ap (λ (f : FileFields). f.rows) file
+new_committed s (w ∷ ws) rows file none = none
+
+piece_more : (rows count : ℕ) (s t : Session) (m n : MemView) (piece : Write) (pieces : List Write) → s.pending ≡ piece ∷ pieces → Creates rows count s m → t ≡ after_piece s pieces
+    → Wrote (piece ∷ []) (steady m) (steady n) → ((log : Log) → Stands s log → Stands t (and_now (shows piece) log)) → HasRoomFor t (steady n) → Creates rows (count + 1) t n
+piece_more rows count s t m n piece pieces pending start is wrote stands room =
+    let log = start.log in
+    let history : n.history ≡ m.history ++ piece ∷ [] = some_is n.history (m.history ++ piece ∷ []) wrote.history in
+    let file : t.file ≡ s.file = ap (λ (x : Session). x.file) is ∙ after_file s pieces in
+    record {
+      log = and_now (shows piece) log;
+      stands = stands log start.stands;
+      history = history ∙ ap (λ (ws : List Write). ws ++ piece ∷ []) start.history;
+      bytes = some_is n.bytes (image m.bytes (piece ∷ [])) wrote.bytes ∙ ap (λ (b : List ℕ). image b (piece ∷ [])) start.bytes ∙ sym (image-push [] (hist log.events) piece);
+      file = file ∙ start.file;
+      committed = ap (λ (x : Session). x.committed) is ∙ new_committed s pieces rows start.file start.committed;
+      waiting = ap (λ (x : Session). x.waiting) is ∙ after_waiting s pieces ∙ start.waiting;
+      going = ap (λ (x : Session). x.stopped) is ∙ after_stopped s pieces ∙ start.going;
+      loads =
+          ap (λ (f : FileFields). spent_for f.chunk_rows (and_now (shows piece) log)) file ∙ spent_in-events (cutting_of s) log (shows piece ∷ log.events) log.events ∙ start.loads;
+      pieces =
+          ap (λ (ws : List Write). ws ++ t.pending) history
+          ∙ ap (λ (ws : List Write). (m.history ++ piece ∷ []) ++ ws) (ap (λ (x : Session). x.pending) is ∙ after_pending s pieces)
+          ∙ append_assoc m.history (piece ∷ []) pieces ∙ ap (λ (ws : List Write). m.history ++ ws) (sym pending) ∙ start.pieces;
+      shown = ap length history ∙ length-append m.history (piece ∷ []) ∙ ap (λ n. n + 1) start.shown;
+      room = room;
+    }
+
+-- what a shown piece leaves, where there is one
+abbrev pub Shows : Session → Session → MemView → MemView → Type 0
+Shows s t m n = (w : Write) (ws : List Write) → s.pending ≡ w ∷ ws → (t ≡ after_piece s ws) × Wrote (w ∷ []) (steady m) (steady n) × ((log : Log) → Stands s log → Stands t (and_now (shows w) log))
+
+pieces_more : (rows count : ℕ) (s t : Session) (m n : MemView) (ws : List Write) → s.pending ≡ ws → 1 ≤ length ws → Creates rows count s m → Shows s t m n → HasRoomFor t (steady n) → Creates rows (count + 1) t n
+pieces_more rows count s t m n [] pending some start shown room = absurd (omega arith)
+pieces_more rows count s t m n (w ∷ ws) pending some start shown room =
+    let h = shown w ws pending in piece_more rows count s t m n w ws pending start h.0 h.1 h.2 room
+
+pub shows_more : (rows count : ℕ) (s t : Session) (m n : MemView) → count < 5 → Creates rows count s m → Shows s t m n → HasRoomFor t (steady n) → Creates rows (count + 1) t n
+shows_more rows count s t m n few start shown room = pieces_more rows count s t m n s.pending refl (omega (arith, some_left rows count s m start)) start shown room
+
+-- ---- All five are visible
+
+all_shown : (rows : ℕ) (s : Session) (m : MemView) → Creates rows 5 s m → s.pending ≡ []
+all_shown rows s m start = nil_from_length s.pending (omega (arith, some_left rows 5 s m start))
+
+pub all_created : (rows : ℕ) (s : Session) (m : MemView) → Creates rows 5 s m → m.history ≡ creation_writes rows
+all_created rows s m start = sym (append-nil m.history) ∙ ap (λ (ws : List Write). m.history ++ ws) (sym (all_shown rows s m start)) ∙ start.pieces
+
+-- no place has a reader
+abbrev nobody_there : Option ReaderCore
+nobody_there = None
+
+nowhere : (n r : ℕ) → get_or (replicate n nobody_there) r nobody_there ≡ nobody_there
+nowhere zero r = refl
+nowhere (suc n) zero = refl
+nowhere (suc n) (suc r) = nowhere n r
+
+nobody_at : (r : ℕ) → reader_at nobody r ≡ None
+nobody_at r = ap placed (nowhere 17 r)
+
+created_fits : (rows attempts : ℕ) (s : Session) (m : MemView) → 1 ≤ attempts → Creates rows 5 s m → Fits (world_of s m attempts nobody) at_first
+created_fits rows attempts s m some start =
+    let w = world_of s m attempts nobody in
+    let shown = all_shown rows s m start in
+    let rows_none : s.file.rows ≡ 0 = ap (λ (f : FileFields). f.rows) start.file in
+    let waits : length s.waiting ≡ 0 = ap length start.waiting in
+    let values : s.file.rows + length s.waiting ≡ length (appended start.log) = rows_are s start.log start.stands in
+    let pieces : length (hist start.log.events) ≡ 5 = ap length (sym start.history) ∙ start.shown in
+    record {
+      log = start.log;
+      stands = record { stands = start.stands; journal = start.history; bytes = start.bytes };
+      state = record {
+        appended = sym (nil_from_length (appended start.log) (omega arith));
+        flushed = sym start.committed ∙ committed_are s start.log start.stands;
+        pending = ap length (sym shown);
+        ends_flush = ap (λ (ws : List Write). nat_lt 0 (length ws)) (sym shown);
+        taken = λ some. start.waiting;
+        spent = sym start.loads;
+        stopped = sym start.going;
+        tries = some;
+        begun = omega (arith, pieces, ap (λ (l : Log). l.first) start.stands.goes.is);
+        ours = λ r. subst (λ (o : Option Reader). IsOurs attempts o) (sym (nobody_at r)) tt;
+        polls = λ r. subst (λ (o : Option Reader). MayPoll (polling_of w) start.log None (option_map poller o)) (sym (nobody_at r)) tt;
+      };
+    }
+
+pub created_rules : (rows attempts : ℕ) (s : Session) (m : MemView) (readers : List (Option ReaderCore)) → Creates rows 5 s m → rules_of (world_of s m attempts readers) ≡ rules_for rows attempts
+created_rules rows attempts s m readers start = ap (λ (f : FileFields). rules_for f.chunk_rows attempts) start.file
+
+pub created_world_fits : (rows attempts : ℕ) (s : Session) (m : MemView) (readers : List (Option ReaderCore)) → 1 ≤ attempts → Creates rows 5 s m → readers ≡ nobody
+    → Fits (world_of s m attempts readers) at_first
+created_world_fits rows attempts s m readers some start none =
+    subst (λ (places : List (Option ReaderCore)). Fits (world_of s m attempts places) at_first) (sym none) (created_fits rows attempts s m some start)
+
+pub created_holds : (rows attempts : ℕ) (s : Session) (m : MemView) (readers : List (Option ReaderCore)) → 1 ≤ attempts → Creates rows 5 s m → readers ≡ nobody → HoldsTogether s m attempts readers
+created_holds rows attempts s m readers some start none =
+    record {
+      room = start.room;
+      folds = start.bytes ∙ ap (image []) (sym start.history);
+      places = ap length none;
+      script = at_first;
+      fits = created_world_fits rows attempts s m readers some start none;
+    }

@@ -1,0 +1,14 @@
+pub mod WantLemmas
+pub mod PlaceLemmas
+pub mod HoldsLemmas
+pub mod StateLemmas
+pub mod WorldLemmas
+pub mod AppendLemmas
+pub mod FlushLemmas
+pub mod ShowLemmas
+pub mod CreationLemmas
+pub mod StepLemmas
+pub mod RunLemmas
+pub mod PollLemmas
+pub mod HoldLemmas
+pub mod ReaderLemmas

@@ -1,0 +1,18 @@
+-- The reply to an event, from that of the call that did it.
+use Rattle.std.proofs.Common.{◌≡◌, Result, Ok, Err, subst}
+use Rattle.std.specs.Result.{IfOk}
+use Rattle.h5w_model.specs.Lawful.{ScriptState, Allowed, line_of, next_state}
+use Rattle.h5w_model.specs.declared.event.Event.{Event}
+use Rattle.h5w_model.specs.declared.reply.Reply.{Reply}
+use Rattle.h5w_core.specs.Worlds.{WorldView, Fits, Steps, rules_of}
+
+-- what a step says of a reply
+abbrev pub IsLawful : WorldView → Event → WorldView → Reply → Type 0
+IsLawful old event new reply = (s : ScriptState) → Fits old s → Allowed (rules_of old) s (line_of event) reply × Fits new (next_state (rules_of old) s (line_of event) reply)
+
+pub step_lawful : (old new : WorldView) (event done : Event) (reply : Reply) → done ≡ event → Steps old done reply new → IsLawful old event new reply
+step_lawful old new event done reply is steps = subst (λ (e : Event). IsLawful old e new reply) is steps.lawful
+
+pub lawful_if_ok : {E : Type 0} (old new : WorldView) (event done : Event) (r : Result Reply E) → done ≡ event → IfOk r (λ reply. Steps old done reply new) → IfOk r (λ reply. IsLawful old event new reply)
+lawful_if_ok old new event done (Ok reply) is steps = step_lawful old new event done reply is steps
+lawful_if_ok old new event done (Err e) is steps = tt

@@ -1,0 +1,53 @@
+-- What a call of the session, or a write, leaves of the world.
+use Rattle.std.proofs.Common.{◌≡◌, ℕ, List, [], ◌∷◌, ◌++◌, length, drop, ℤ, Option, Some, None, sym, refl, ap, ◌∙◌}
+use Rattle.std.specs.List.{slice_get}
+use Rattle.std.specs.Option.{unwrap_or}
+use Rattle.h5w_model.specs.Images.{image}
+use Rattle.h5w_model.specs.declared.piece.Write.{Write}
+use Rattle.h5w_model.proofs.ImageLemmas.{image-push}
+use Rattle.h5w_image.specs.Memory.{MemView}
+use Rattle.h5w_image.specs.View.{Same, Wrote}
+use Rattle.h5w_writer.specs.Sessions.{Session, after_piece}
+use Rattle.h5w_polling.specs.Polling.{Poller}
+use Rattle.h5w_reader.specs.declared.reader.ReaderCore.{ReaderCore}
+use Rattle.h5w_core.specs.Readers.{pollers}
+use Rattle.h5w_core.specs.Steady.{steady}
+use Rattle.h5w_core.specs.Worlds.{WorldView, shown_world}
+
+-- a world by its parts
+abbrev pub world_of : Session → MemView → ℕ → List (Option ReaderCore) → WorldView
+world_of s m attempts readers = record { session = s; bytes = m.bytes; journal = m.history; attempts = attempts; readers = readers }
+
+some_is : {A : Type 0} (a b : A) → Some a ≡ Some b → a ≡ b
+some_is a b same = ap (λ o. unwrap_or o a) same
+
+-- the image is as before, and the session is changed
+pub changed : (s t : Session) (m n : MemView) (attempts : ℕ) (readers : List (Option ReaderCore)) → Same (steady m) (steady n) → (next : Session → Session) → t ≡ next s
+    → world_of t n attempts readers ≡ record (world_of s m attempts readers) { session = next s }
+changed s t m n attempts readers same next is =
+    let bytes = some_is n.bytes m.bytes same.bytes in
+    let journal = some_is n.history m.history same.history in
+    λ i. record { session = is i; bytes = bytes i; journal = journal i; attempts = attempts; readers = readers }
+
+-- the oldest of some writes
+pub oldest : (w : Write) (ws : List Write) → Some w ≡ slice_get ws 0 → ws ≡ w ∷ drop 1 ws
+oldest w [] none = cc
+oldest w (x ∷ xs) same = ap (λ y. y ∷ xs) (sym (some_is w x same))
+
+-- a piece became visible
+pub shown_is : (s t : Session) (m n : MemView) (attempts : ℕ) (readers : List (Option ReaderCore)) (piece : Write) (pieces : List Write) → Wrote (piece ∷ []) (steady m) (steady n) → t ≡ after_piece s pieces
+    → world_of t n attempts readers ≡ shown_world (world_of s m attempts readers) piece pieces
+shown_is s t m n attempts readers piece pieces wrote is =
+    let bytes = some_is n.bytes (image m.bytes (piece ∷ [])) wrote.bytes in
+    let journal = some_is n.history (m.history ++ piece ∷ []) wrote.history in
+    λ i. record { session = is i; bytes = bytes i; journal = journal i; attempts = attempts; readers = readers }
+
+-- the image is what its journal makes of no bytes
+pub still_folded : (m n : MemView) (piece : Write) → Wrote (piece ∷ []) (steady m) (steady n) → m.bytes ≡ image [] m.history → n.bytes ≡ image [] n.history
+still_folded m n piece wrote folds =
+    let bytes = some_is n.bytes (image m.bytes (piece ∷ [])) wrote.bytes in
+    let journal = some_is n.history (m.history ++ piece ∷ []) wrote.history in
+    bytes ∙ ap (λ (b : List ℕ). image b (piece ∷ [])) folds ∙ sym (image-push [] m.history piece) ∙ ap (image []) (sym journal)
+
+pub same_folded : (m n : MemView) → Same (steady m) (steady n) → m.bytes ≡ image [] m.history → n.bytes ≡ image [] n.history
+same_folded m n same folds = some_is n.bytes m.bytes same.bytes ∙ folds ∙ ap (image []) (sym (some_is n.history m.history same.history))

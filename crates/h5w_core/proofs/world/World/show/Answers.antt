@@ -1,0 +1,24 @@
+use Rattle.h5w_core.proofs.HoldLemmas.{Shows, show_hold, show_logs, show_steps}
+use Rattle.h5w_model.specs.declared.reply.Reply.TheVariants as replies
+use Rattle.h5w_core.proofs.world.World.show.Goals as goal
+
+pub invariant_of-self : goal.invariant_of-self
+invariant_of-self c =
+    let i = c.self.inside in
+    let e = c.show-pieces.ensures in
+    show_hold i.session c.show-pieces.new.session i.image c.show-pieces.new.image i.attempts c.show-pieces.result i.readers.items c.self.invariant
+    (record { nothing = e.nothing; piece = e.piece; stands = e.stands }) e.room
+
+pub returns-clause-steps : goal.returns-clause-steps
+returns-clause-steps c =
+    let i = c.self.inside in
+    let e = c.show-pieces.ensures in
+    show_steps i.session c.show-pieces.new.session i.image c.show-pieces.new.image i.attempts c.show-pieces.result c.pending.result i.readers.items c.args.self.now c.self.view_is
+    (record { nothing = e.nothing; piece = e.piece; stands = e.stands }) c.pending.ensures
+
+pub returns-clause-logged : goal.returns-clause-logged
+returns-clause-logged c =
+    let i = c.self.inside in
+    let e = c.show-pieces.ensures in
+    show_logs i.session c.show-pieces.new.session i.image c.show-pieces.new.image i.attempts c.show-pieces.result i.readers.items c.args.self.now (replies.Written c.show-pieces.result c.pending.result) c.self.view_is
+    (record { nothing = e.nothing; piece = e.piece; stands = e.stands })

@@ -1,0 +1,9 @@
+pub use Rattle.h5w_model.specs.Logs
+pub use Rattle.h5w_model.specs.Lawful
+pub use Rattle.h5w_image.specs.View
+pub use Rattle.h5w_writer.specs.Sessions
+pub mod Steady
+pub mod Readers
+pub mod Creation
+pub mod Worlds
+pub mod Runs

@@ -1,0 +1,151 @@
+-- A world of one writer and one image: what its value is, of which logs it can be the world, and of which states of a
+-- script.
+use Rattle.std.specs.Prelude.{◌≡◌, ◌≢◌, ℕ, ◌≤◌, List, [], ◌∷◌, ◌++◌, length, replicate, nat_lt, ◌==◌, if◌then◌else◌, Option, None, option_map}
+use Rattle.h5w_model.specs.Images.{image}
+use Rattle.h5w_model.specs.Logs.{Log, appends, plans, shows, hist, appended, flushed, spent, and_now}
+use Rattle.h5w_model.specs.Lawful.{Rules, ScriptState, Allowed, Lawful, line_of, next_state}
+use Rattle.h5w_model.specs.declared.event.Event.{Event}
+use Rattle.h5w_model.specs.declared.event.Event.TheVariants as events
+use Rattle.h5w_model.specs.declared.piece.Write.{Write}
+use Rattle.h5w_model.specs.declared.reply.Reply.{Reply}
+use Rattle.h5w_model.specs.declared.reply.Reply.TheVariants as replies
+use Rattle.h5w_polling.specs.Polling.{Polling, Poller, now}
+use Rattle.h5w_polling.specs.Scripts.{AllPoll}
+use Rattle.h5w_image.specs.Memory.{MemView}
+use Rattle.h5w_reader.specs.Readers.{Reader}
+use Rattle.h5w_reader.specs.declared.reader.ReaderCore.{ReaderCore}
+use Rattle.h5w_core.specs.Readers.{AreOurs, IsCalling, MayRead, ended, pollers, reader_at}
+use Rattle.h5w_core.specs.Steady.{steady}
+use Rattle.h5w_writer.specs.Files.{dataset_name, int_type}
+use Rattle.h5w_writer.specs.Kept.{space_limit}
+use Rattle.h5w_writer.specs.Refusals.{append_refusal}
+use Rattle.h5w_writer.specs.Room.{HasRoomFor}
+use Rattle.h5w_writer.specs.Sessions.{Session, Stands, after_piece, chunk_limit, cutting_of}
+
+-- The session, the bytes of its image, the pieces that became visible, the oldest first, the most attempts of a
+-- reader's call, and the readers that were opened, by number.
+pub record WorldView : Type 0 where
+  pub session : Session
+  pub bytes : List ℕ
+  pub journal : List Write
+  pub attempts : ℕ
+  pub readers : List (Option ReaderCore)
+
+-- the rules for so many rows in a chunk and attempts in a call
+abbrev pub rules_for : (chunk_rows attempts : ℕ) → Rules
+rules_for chunk_rows attempts = record {
+  cutting = record { chunk_rows = chunk_rows; chunk_columns = 1; columns = 1; value_size = 4 };
+  int_type = int_type;
+  chunk_limit = chunk_limit;
+  space_limit = space_limit;
+  attempts = attempts;
+}
+
+-- the rules by which a world's replies are lawful
+abbrev pub rules_of : WorldView → Rules
+rules_of w = rules_for w.session.file.chunk_rows w.attempts
+
+-- what readers poll for by some rules: a dataset of at most four chunks, of which they keep no block
+abbrev pub polling_by : Rules → Polling
+polling_by g = record { name = dataset_name; limits = record { array = chunk_limit; tree = 0 }; keeps = 0; rules = g }
+
+abbrev pub polling_of : WorldView → Polling
+polling_of w = polling_by (rules_of w)
+
+-- places for readers 0 to 16, of which none was opened
+abbrev pub nobody : List (Option ReaderCore)
+nobody = replicate 17 None
+
+-- The world is that of this log: its session stands for it, its journal is the log's, and its image is what the journal
+-- makes of no bytes.
+pub record StandsFor (w : WorldView) (log : Log) : Type 0 where
+  pub stands : Stands w.session log
+  pub journal : w.journal ≡ hist log.events
+  pub bytes : w.bytes ≡ image [] (hist log.events)
+
+-- The state of the script is that of a log: its values, rows flushed and loads are the log's, and what is pending are the
+-- pieces of a flush that took all rows. The new file is there, and what the script keeps of each reader is true of it.
+pub record IsStateOf (w : WorldView) (s : ScriptState) (log : Log) : Type 0 where
+  pub appended : s.appended ≡ appended log
+  pub flushed : s.flushed ≡ length (flushed log)
+  pub pending : s.pending ≡ length w.session.pending
+  pub ends_flush : s.ends_flush ≡ nat_lt 0 (length w.session.pending)
+  pub taken : w.session.pending ≢ [] → w.session.waiting ≡ []
+  pub spent : s.spent ≡ spent (cutting_of w.session) log
+  pub stopped : s.stopped ≡ w.session.stopped
+  pub tries : 1 ≤ w.attempts
+  pub begun : log.first ≤ now log
+  pub ours : AreOurs w.attempts w.readers
+  pub polls : AllPoll (polling_of w) log s (pollers w.readers)
+
+-- the world and the state of a script that was run on it are those of one log
+pub record Fits (w : WorldView) (s : ScriptState) : Type 0 where
+  pub log : Log
+  pub stands : StandsFor w log
+  pub state : IsStateOf w s log
+
+-- What holds of each world, by its session, its image, its attempts and its readers: the image has room for what is
+-- pending, it is what its journal makes of no bytes, readers 0 to 16 have a place, and some state of a script fits.
+pub record HoldsTogether (s : Session) (m : MemView) (attempts : ℕ) (readers : List (Option ReaderCore)) : Type 0 where
+  pub room : HasRoomFor s (steady m)
+  pub folds : m.bytes ≡ image [] m.history
+  pub places : length readers ≡ 17
+  pub script : ScriptState
+  pub fits : Fits (record { session = s; bytes = m.bytes; journal = m.history; attempts = attempts; readers = readers }) script
+
+-- what a log is after an event that was given a reply: a refused one adds nothing
+abbrev pub logged : WorldView → Event → Reply → Log → Log
+logged w (events.Append values) (replies.Appended rows pending) log = and_now (appends values) log
+logged w events.Flush (replies.Flushing pieces) log = and_now (plans pieces) log
+logged w events.Visible reply log = elim w.session.pending [ [] ↦ log | piece ∷ pieces ↦ and_now (shows piece) log ]
+logged w event reply log = log
+
+-- the world once its oldest pending piece became visible, with these left
+abbrev pub shown_world : WorldView → Write → List Write → WorldView
+shown_world w piece pieces = record w { session = after_piece w.session pieces; bytes = image w.bytes (piece ∷ []); journal = w.journal ++ piece ∷ [] }
+
+-- the world once its oldest pending piece became visible, where there is one
+abbrev pub after_show : WorldView → WorldView
+after_show w = elim w.session.pending [ [] ↦ w | piece ∷ pieces ↦ shown_world w piece pieces ]
+
+-- an event of the writer, or of a reader that has a place
+abbrev pub IsHeard : Event → Type 0
+IsHeard (events.Append values) = Unit {0}
+IsHeard events.Flush = Unit {0}
+IsHeard events.Visible = Unit {0}
+IsHeard events.Stop = Unit {0}
+IsHeard (events.Open reader) = reader ≤ 16
+IsHeard (events.Refresh reader) = reader ≤ 16
+IsHeard (events.Read reader from count) = reader ≤ 16
+IsHeard (events.Look reader) = reader ≤ 16
+
+-- an event that is not refused and may want memory
+abbrev pub MayWantMemory : WorldView → Event → Type 0
+MayWantMemory w (events.Append values) = append_refusal w.session values ≡ None
+MayWantMemory w events.Flush = w.session.pending ≡ []
+MayWantMemory w (events.Open reader) = reader_at w.readers reader ≡ None
+MayWantMemory w (events.Read reader from count) = MayRead from count (reader_at w.readers reader)
+MayWantMemory w (events.Look reader) = IsCalling (reader_at w.readers reader)
+MayWantMemory w event = ⊥
+
+-- the world as before, but for a reader whose call was taken away
+pub record IsKept (old new : WorldView) (r : ℕ) (reader : Option Reader) : Type 0 where
+  pub session : new.session ≡ old.session
+  pub bytes : new.bytes ≡ old.bytes
+  pub journal : new.journal ≡ old.journal
+  pub attempts : new.attempts ≡ old.attempts
+  pub readers : (q : ℕ) → reader_at new.readers q ≡ (if r == q then reader else reader_at old.readers q)
+
+-- What want of memory leaves: all as before; a look's call is taken away.
+abbrev pub IsLeft : WorldView → Event → WorldView → Type 0
+IsLeft old (events.Open reader) new = IsKept old new reader (reader_at old.readers reader)
+IsLeft old (events.Refresh reader) new = new ≡ old
+IsLeft old (events.Read reader from count) new = IsKept old new reader (reader_at old.readers reader)
+IsLeft old (events.Look reader) new = IsKept old new reader (option_map ended (reader_at old.readers reader))
+IsLeft old event new = new ≡ old
+
+-- an event that was given a reply between two worlds: for each state that fits the world before, the reply is lawful and
+-- the next state fits the world after
+pub record Steps (old : WorldView) (event : Event) (reply : Reply) (new : WorldView) : Type 0 where
+  pub rules : rules_of new ≡ rules_of old
+  pub lawful : (s : ScriptState) → Fits old s → Allowed (rules_of old) s (line_of event) reply × Fits new (next_state (rules_of old) s (line_of event) reply)

@@ -1,0 +1,66 @@
+-- What `clap` finds in words.
+use Rattle.std.proofs.Common.{◌≡◌, ◌≢◌, ◌||◌, ◌∙◌, Bool, true, false, List, [], ◌∷◌, Option, Some, None, refl, sym, ap, ap₂, inl, inr, option_map}
+use Rattle.std.specs.Prelude.{Box}
+use Rattle.std.specs.Box.{box_value}
+use Rattle.clap.specs.Words.{AddsArg, HasKind, Kinds, Row, Text, fault_of, first_of, first_value, is_simple_and_free, kind_of, rows_of, subcommand_name_of, subcommand_of, subcommand_rows, subcommand_rows_of}
+use Rattle.clap.specs.declared.builder.arg.Arg.{Arg}
+use Rattle.clap.specs.declared.builder.command.Command.{Command}
+use Rattle.clap.specs.declared.error.Error.{Error}
+use Rattle.clap.specs.declared.error.kind.ErrorKind.TheVariants.{OutOfMemory}
+use Rattle.clap.specs.declared.parser.matches.ArgMatches.{ArgMatches}
+use Rattle.clap.specs.declared.parser.matches.ArgMatches.TheViews.{out-ArgMatches, out-SubCommand}
+use Rattle.clap.specs.declared.parser.matches.Found.{Found}
+use Rattle.clap.specs.declared.parser.matches.SubCommand.{SubCommand}
+use Rattle.clap.proofs.OnLiterals.{clap_on_literals}
+use Rattle.clap.proofs.WalkLemmas.{first_value-rows}
+use Rattle.h5w_words.specs.Arguments.{has_globals}
+use Rattle.h5w_words.specs.Commands.{asked_of, job_of, program, without_fault}
+use Rattle.h5w_words.specs.declared.job.Job.{Job}
+
+or_false : (a b : Bool) → b ≡ false → (a || b) ≡ a
+or_false true b h = refl
+or_false false b h = h
+
+-- an argument that is not global leaves a command so
+pub added_globals : (old : Command) (a : Arg) (new : Command) → AddsArg old a new → a.global ≡ false → has_globals new ≡ has_globals old
+added_globals old a new added local = added.globals ∙ or_false (has_globals old) a.global local
+
+-- the text that is found for an id is that of its row
+pub first_text : (f : Found) (id : Text) → first_value f id ≡ first_of id (rows_of f)
+first_text f id = first_value-rows f id
+
+-- the commands are such that `clap` says of them just which words it takes
+pub free : is_simple_and_free program ≡ true
+unfolding clap_on_literals
+free = refl
+
+-- an error that is no want of memory is a fault of the words
+pub some_fault : (kinds : Kinds) (e : Error) → HasKind kinds e → kind_of e ≢ OutOfMemory → kinds ≢ []
+some_fault [] e (inl memory) other = absurd (other memory)
+some_fault [] e (inr h) other = absurd h
+some_fault (k ∷ ks) e h other = λ none. cc
+
+-- the command that was found
+pub entered : (m : ArgMatches) (name : Text) (rows : List Row) → Some name ≡ subcommand_name_of m → Some rows ≡ option_map (λ p. p.1) (subcommand_rows_of m)
+    → subcommand_rows_of m ≡ Some (name, rows)
+entered m name rows named found = go (out-ArgMatches m).subcommand named found
+  where
+    go : {Z : Type 0} (o : Option (Box SubCommand Z)) → Some name ≡ option_map (λ b. (out-SubCommand (box_value b)).name.now) o
+        → Some rows ≡ option_map (λ p. p.1) (subcommand_rows o) → subcommand_rows o ≡ Some (name, rows)
+    go None named found = cc
+    go (Some b) named found = cc
+
+outside : (kinds : Kinds) (job : Option Job) → kinds ≢ [] → without_fault kinds job ≡ None
+outside [] job h = absurd (h refl)
+outside (k ∷ ks) job h = refl
+
+-- words with a fault ask for nothing
+pub no_job : (words : List Text) → fault_of program words ≢ [] → job_of words ≡ None
+unfolding job_of
+no_job words h = outside (fault_of program words) (asked_of (subcommand_of program words)) h
+
+-- the others ask for what was found
+pub known_job : (words : List Text) (m : ArgMatches) → fault_of program words ≡ [] → subcommand_rows_of m ≡ subcommand_of program words
+    → job_of words ≡ asked_of (subcommand_rows_of m)
+unfolding job_of
+known_job words m good same = ap₂ without_fault good (ap asked_of (sym same))

@@ -1,0 +1,23 @@
+-- The kinds of argument that a command may have, and their values.
+use Rattle.std.specs.Prelude.{ℕ, Bool, Option, Some, None, option_and_then}
+use Rattle.clap.specs.Words.{Rule, Text, new_rule}
+use Rattle.clap.specs.declared.builder.command.Command.{Command}
+use Rattle.clap.specs.declared.builder.command.Command.TheViews.{out-Command}
+use Rattle.h5w_text.specs.Scripts.{count_in}
+
+-- an option --name VALUE, which is required or may be left out
+abbrev pub option_rule : Text → Bool → Rule
+option_rule name required = record (new_rule name) { long = Some name; required = required }
+
+-- an argument holds for the command's subcommands too
+abbrev pub has_globals : Command → Bool
+has_globals c = (out-Command c).has_globals
+
+-- a number from least to most, which has to be given
+abbrev pub count_given : (least most : ℕ) → Option Text → Option ℕ
+count_given least most given = option_and_then (count_in least most) given
+
+-- a number from least to most, where one is given
+abbrev pub count_or : (default least most : ℕ) → Option Text → Option ℕ
+count_or default least most None = Some default
+count_or default least most (Some text) = count_in least most text

@@ -1,0 +1,25 @@
+-- The command set, and what words of it ask for.
+use Rattle.std.specs.Prelude.{List, [], ◌∷◌, if◌then◌else◌, Option, Some, None, codes}
+use Rattle.clap.specs.Words.{App, Kinds, Row, Text, fault_of, new_app, subcommand_of, with_subcommand}
+use Rattle.h5w_text.specs.Scripts.{is_word}
+use Rattle.h5w_words.specs.Play.{play_app, play_of}
+use Rattle.h5w_words.specs.declared.job.Job.{Job}
+
+-- the program with its commands
+abbrev pub program : App
+program = with_subcommand (new_app (codes "h5swmr")) play_app.top
+
+-- what a command asks for, by its name and its options; without a command nothing
+abbrev pub asked_of : Option (Text × List Row) → Option Job
+asked_of None = None
+asked_of (Some command) = if is_word (codes "play") command.0 then play_of command.1 else None
+
+-- the job, where no fault is found
+abbrev pub without_fault : Kinds → Option Job → Option Job
+without_fault [] job = job
+without_fault (kind ∷ kinds) job = None
+
+-- The job of some words, of which the first is the program's name. The command set is all words that have one: those that
+-- the program's commands take, and whose values are within their limits.
+unfoldable pub job_of : List Text → Option Job
+job_of words = without_fault (fault_of program words) (asked_of (subcommand_of program words))

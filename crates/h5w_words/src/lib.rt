@@ -1,0 +1,17 @@
+//! The words of the command line, read by `clap`. Nothing of its texts is printed.
+//!
+//! A command has a file with its arguments and what their values ask for.
+#![tactic(auto)]
+
+mod arguments;
+mod job;
+mod number;
+mod play;
+mod values;
+mod words;
+
+pub use job::{Job, WordsError};
+pub use words::read_words;
+
+#[cfg(test)]
+mod tests;

@@ -1,0 +1,41 @@
+//! The values of a command's options.
+ghost use Rattle.std.specs.Prelude.{◌≡◌, ◌≤◌, IfSome, option_map};
+ghost use Rattle.clap.specs.Words.{first_of, found_of, rows_of};
+ghost use Rattle.h5w_words.specs.Arguments.{count_given, count_or};
+
+use crate::number::count_in;
+use clap::ArgMatches;
+
+/// The text of an option, where it was given.
+#[tactic(auto, using(crate::proofs::WordLemmas::first_text))]
+pub fn text<'a>(options: &ArgMatches<'a>, name: &str) -> Option<&'a str>
+    ensures { option_map (λ s. s.now) result ≡ first_of name.now (rows_of (found_of options.now)) }
+{
+    options.get_str(name)
+}
+
+/// The number that an option gives, from `least` to `most`.
+pub fn count(options: &ArgMatches<'_>, name: &str, least: u64, most: u64) -> Option<u64>
+    ensures number { result ≡ count_given least most (first_of name.now (rows_of (found_of options.now))) }
+    ensures bounds { IfSome result (λ n. (least ≤ n) × (n ≤ most)) }
+{
+    count_in(text(options, name)?.as_bytes(), least, most)
+}
+
+/// The number that an option gives, from `least` to `most`, or `default` where it was not given.
+pub fn count_or(
+    options: &ArgMatches<'_>,
+    name: &str,
+    default: u64,
+    least: u64,
+    most: u64,
+) -> Option<u64>
+    requires { (least ≤ default) × (default ≤ most) }
+    ensures number { result ≡ count_or default least most (first_of name.now (rows_of (found_of options.now))) }
+    ensures bounds { IfSome result (λ n. (least ≤ n) × (n ≤ most)) }
+{
+    match text(options, name) {
+        Some(text) => count_in(text.as_bytes(), least, most),
+        None => Some(default),
+    }
+}

@@ -1,0 +1,53 @@
+ghost use Rattle.std.specs.Prelude.{◌≡◌, ◌≢◌, ◌⊎◌, [], Some, None, map, string_bytes, IfOk, IfErr, IfSome};
+ghost use Rattle.clap.specs.Words.{app_of, fault_of, subcommand_of, subcommand_rows_of};
+ghost use Rattle.h5w_words.specs.Commands.{asked_of, job_of, program};
+ghost use Rattle.h5w_words.specs.Limits.{IsWithinLimits};
+
+use crate::job::{Job, WordsError};
+use crate::play::{play, play_job};
+use clap::{ArgMatches, Command};
+use std::alloc::{AllocError, Global};
+
+/// The program with its commands.
+fn program<'a>(alloc: Global) -> Result<Command<'a>, AllocError>
+    ensures { IfOk result (λ c. app_of c ≡ program) }
+{
+    let play = play(alloc)?;
+    let command = Command::new(alloc, "h5swmr").subcommand(play)?;
+    Ok(command)
+}
+
+/// What the program's commands make of the words.
+#[tactic(auto, using(crate::proofs::WordLemmas::free, crate::proofs::WordLemmas::some_fault))]
+fn matches_for<'a>(alloc: Global, words: &'a [String]) -> Result<ArgMatches<'a>, WordsError>
+    ensures ok { IfOk result (λ m. (fault_of program (map string_bytes words.now) ≡ []) × (subcommand_rows_of m ≡ subcommand_of program (map string_bytes words.now))) }
+    ensures usage { IfErr result (λ e. (e ≡ WordsError.OutOfMemory) ⊎ (fault_of program (map string_bytes words.now) ≢ [])) }
+{
+    let command = program(alloc)?;
+    let matches = command.try_get_matches_from(words)?;
+    Ok(matches)
+}
+
+/// What the command that was found asks for, by its options.
+#[tactic(auto, using(crate::proofs::WordLemmas::entered))]
+fn asked(matches: &ArgMatches<'_>) -> Option<Job>
+    ensures job { result ≡ asked_of (subcommand_rows_of matches.now) }
+    ensures limits { IfSome result IsWithinLimits }
+{
+    match matches.subcommand() {
+        Some((name, options)) if name == "play" => play_job(options),
+        _ => None,
+    }
+}
+
+/// What the words ask for, the first of which is the program's name; `Usage` where they are outside
+/// the command set.
+#[tactic(auto, using(crate::proofs::WordLemmas::known_job, crate::proofs::WordLemmas::no_job))]
+pub fn read_words(alloc: Global, words: &[String]) -> Result<Job, WordsError>
+    ensures ok { IfOk result (λ job. job_of (map string_bytes words.now) ≡ Some job) }
+    ensures usage { IfErr result (λ e. (e ≡ WordsError.OutOfMemory) ⊎ (job_of (map string_bytes words.now) ≡ None)) }
+    ensures limits { IfOk result IsWithinLimits }
+{
+    let matches = matches_for(alloc, words)?;
+    asked(&matches).ok_or(WordsError::Usage)
+}
