@@ -1,5 +1,5 @@
--- A world of one writer and one image: what its value is, of which logs it can be the world, and of which states of a
--- script.
+-- A world of one writer, one image and some readers: what its value is, of which logs it can be the world, and of which
+-- states of a script.
 use Rattle.std.specs.Prelude.{◌≡◌, ◌≢◌, ℕ, ◌≤◌, List, [], ◌∷◌, ◌++◌, length, replicate, nat_lt, ◌==◌, if◌then◌else◌, Option, None, option_map}
 use Rattle.h5w_model.specs.Images.{image}
 use Rattle.h5w_model.specs.Logs.{Log, appends, plans, shows, hist, appended, flushed, spent, and_now}
@@ -18,7 +18,7 @@ use Rattle.h5w_core.specs.Readers.{AreOurs, IsCalling, MayRead, ended, pollers, 
 use Rattle.h5w_core.specs.Steady.{steady}
 use Rattle.h5w_writer.specs.Files.{dataset_name, int_type}
 use Rattle.h5w_writer.specs.Kept.{space_limit}
-use Rattle.h5w_writer.specs.Refusals.{append_refusal}
+use Rattle.h5w_writer.specs.Refusals.{append_refusal, flush_refusal}
 use Rattle.h5w_writer.specs.Room.{HasRoomFor}
 use Rattle.h5w_writer.specs.Sessions.{Session, Stands, after_piece, chunk_limit, cutting_of}
 
@@ -104,10 +104,6 @@ logged w event reply log = log
 abbrev pub shown_world : WorldView → Write → List Write → WorldView
 shown_world w piece pieces = record w { session = after_piece w.session pieces; bytes = image w.bytes (piece ∷ []); journal = w.journal ++ piece ∷ [] }
 
--- the world once its oldest pending piece became visible, where there is one
-abbrev pub after_show : WorldView → WorldView
-after_show w = elim w.session.pending [ [] ↦ w | piece ∷ pieces ↦ shown_world w piece pieces ]
-
 -- an event of the writer, or of a reader that has a place
 abbrev pub IsHeard : Event → Type 0
 IsHeard (events.Append values) = Unit {0}
@@ -122,7 +118,7 @@ IsHeard (events.Look reader) = reader ≤ 16
 -- an event that is not refused and may want memory
 abbrev pub MayWantMemory : WorldView → Event → Type 0
 MayWantMemory w (events.Append values) = append_refusal w.session values ≡ None
-MayWantMemory w events.Flush = w.session.pending ≡ []
+MayWantMemory w events.Flush = flush_refusal w.session ≡ None
 MayWantMemory w (events.Open reader) = reader_at w.readers reader ≡ None
 MayWantMemory w (events.Read reader from count) = MayRead from count (reader_at w.readers reader)
 MayWantMemory w (events.Look reader) = IsCalling (reader_at w.readers reader)
