@@ -126,6 +126,12 @@ fn a_gap_is_shorter_than_what_stands_before_data(rt: HostRuntime) -> Result<(), 
             .ok_or("it is read")?;
         is_list(&rt, "gap", msgs.as_slice(), &told[..count]);
     }
+    // one byte more is said to stand there than does
+    let mut bytes = [0; 59];
+    bytes[..55].copy_from_slice(&CONTINUED[..55]);
+    bytes[6] = 0x31;
+    let answer = messages(rt.alloc(), &bytes);
+    assert!(rt; answer.is_err_and(|e| e == HeaderError::Short { need: 60, got: 59 }));
     Ok(())
 }
 
