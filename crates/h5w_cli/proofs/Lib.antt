@@ -1,0 +1,7 @@
+pub mod ShowLemmas
+pub mod LineLemmas
+pub mod PlayLemmas
+pub mod TellLemmas
+pub mod AlikeLemmas
+pub mod LookLemmas
+pub mod RangeLemmas

@@ -1,0 +1,321 @@
+-- A script under way: its first lines were answered.
+use Rattle.std.proofs.Common.{ℕ, ◌+◌, ◌-◌, ◌^◌, ◌≤◌, ◌<◌, ◌≡◌, ◌⊎◌, min, List, [], ◌∷◌, ◌++◌, length, map, take, Option, Some, None, Result, Ok, Err, sym, refl, ap, ◌∙◌, subst, inl, inr, arith, append_assoc, append-nil, length-append}
+use Rattle.std.specs.Prelude.{IfSome, flat_map, option_map}
+use Rattle.std.proofs.lemmas.List.{map-append, flat_map_more}
+use Rattle.std.proofs.Math.Seq.{take-append-add}
+use Rattle.h5w_model.specs.Causes.{Rose}
+use Rattle.h5w_model.specs.Lawful.{Line, Rules, ScriptState, Allowed, Lawful, at_first, next_state}
+use Rattle.h5w_model.specs.declared.reply.Reply.{Reply}
+use Rattle.h5w_text.specs.Streams.{SourceView, SinkView, Gave, GaveSome, Grows}
+use Rattle.h5w_text.specs.Bytes.{Lacks}
+use Rattle.h5w_text.specs.Lines.{lines_of}
+use Rattle.h5w_text.specs.Reading.{Ended, Given, IntakeView, IsOver, Passed, Reading, lines_left, reading}
+use Rattle.h5w_text.specs.Replies.{reply_text}
+use Rattle.h5w_text.specs.Errors.{error_text}
+use Rattle.h5w_text.specs.declared.error.ErrorLine.TheVariants as errors
+use Rattle.h5w_text.specs.declared.line.LineError.{LineError}
+use Rattle.h5w_text.specs.declared.line.LineError.TheVariants.{Failed, Input, OutOfMemory}
+use Rattle.h5w_text.proofs.LineLemmas.{lines_more, lines_done, passed_nothing, passed_twice}
+use Rattle.h5w_core.specs.Worlds.{WorldView, Fits, rules_of}
+use Rattle.h5w_cli.specs.Alike.{Alike}
+use Rattle.h5w_cli.specs.Answers.{Answers, play_line_of}
+use Rattle.h5w_cli.proofs.AlikeLemmas.{alike_itself}
+use Rattle.h5w_cli.specs.Endings.{Answered, EndsAt, Leaves, Runs, ending_of, outside}
+use Rattle.h5w_cli.specs.Plays.{Begun, Finished, Replied, SameSource, Writes, input_limit}
+use Rattle.h5w_cli.specs.declared.ending.Ending.{Ending}
+use Rattle.h5w_cli.specs.declared.ending.Ending.TheVariants as endings
+use Rattle.h5w_cli.specs.declared.status.Status.{Status}
+use Rattle.h5w_cli.specs.declared.status.Status.TheVariants as statuses
+
+-- ---- What sinks were given
+
+pub grows_nothing : (o : Option (List ℕ)) → Grows [] o o
+grows_nothing None = inl refl
+grows_nothing (Some l) = inr (ap Some (sym (append-nil l)))
+
+then_cases : (xs ys : List ℕ) (o : Option (List ℕ)) → option_map (λ front. front ++ ys) (option_map (λ front. front ++ xs) o) ≡ option_map (λ front. front ++ (xs ++ ys)) o
+then_cases xs ys None = refl
+then_cases xs ys (Some l) = ap Some (append_assoc l xs ys)
+
+grows_both : (xs ys : List ℕ) (o p q : Option (List ℕ)) → Grows xs o p → Grows ys p q → Grows (xs ++ ys) o q
+grows_both xs ys o p q g (inl none) = inl none
+grows_both xs ys o p q (inl none) (inr e) = inl (e ∙ ap (option_map (λ front. front ++ ys)) none)
+grows_both xs ys o p q (inr d) (inr e) = inr (e ∙ ap (option_map (λ front. front ++ ys)) d ∙ then_cases xs ys o)
+
+pub gave_both : {k l m : SinkView} (xs ys : List ℕ) → Gave xs k l → Gave ys l m → Gave (xs ++ ys) k m
+gave_both {k} {l} {m} xs ys p q = record {
+  written = grows_both xs ys k.written l.written m.written p.written q.written;
+  faults = omega arith;
+  through = q.through ∙ p.through;
+}
+
+pub gave_nothing : (k : SinkView) → Gave [] k k
+gave_nothing k = record { written = grows_nothing k.written; faults = omega arith; through = refl }
+
+pub gave_then_some : {k l m : SinkView} (xs ys : List ℕ) → Gave xs k l → GaveSome ys l m → GaveSome (xs ++ ys) k m
+gave_then_some {k} {l} {m} xs ys p q = (length xs + q.0, subst (λ (bytes : List ℕ). Gave bytes k m) (sym (take-append-add xs ys q.0)) (gave_both xs (take q.0 ys) p q.1))
+
+pub rose_before : (a b c : ℕ) → a ≤ b → Rose b c → Rose a c
+rose_before a b c h r = omega arith
+
+-- ---- First lines
+
+-- replies that may be given to some lines, with their text, lead to a state
+pub record SoFar (g : Rules) (lines : List (List ℕ)) (text : List ℕ) (state : ScriptState) : Type 0 where
+  pub script : List Line
+  pub replies : List Reply
+  pub spelled : map play_line_of lines ≡ map Some script
+  pub lawful : (ls : List Line) (rs : List Reply) → Lawful g state ls rs → Lawful g at_first (script ++ ls) (replies ++ rs)
+  pub is : text ≡ flat_map reply_text replies
+
+nothing_so_far : (g : Rules) → SoFar g [] [] at_first
+nothing_so_far g = record { script = []; replies = []; spelled = refl; lawful = λ ls rs h. h; is = refl }
+
+pub replied_nothing : (g : Rules) → Replied g [] []
+replied_nothing g = record { script = []; replies = []; spelled = refl; lawful = tt; is = refl }
+
+lawful_behind : (g : Rules) (script ls : List Line) (replies rs : List Reply) (l : Line) (r : Reply) → Lawful g at_first (script ++ (l ∷ ls)) (replies ++ (r ∷ rs)) → Lawful g at_first ((script ++ l ∷ []) ++ ls) ((replies ++ r ∷ []) ++ rs)
+lawful_behind g script ls replies rs l r h =
+    subst (λ (x : List Line). Lawful g at_first x ((replies ++ r ∷ []) ++ rs)) (sym (append_assoc script (l ∷ []) ls))
+    (subst (λ (y : List Reply). Lawful g at_first (script ++ (l ∷ ls)) y) (sym (append_assoc replies (r ∷ []) rs)) h)
+
+more_so_far : (g : Rules) (lines : List (List ℕ)) (text : List ℕ) (state : ScriptState) (line : List ℕ) (l : Line) (r : Reply)
+    → SoFar g lines text state → play_line_of line ≡ Some l → Allowed g state l r → SoFar g (lines ++ line ∷ []) (text ++ reply_text r) (next_state g state l r)
+more_so_far g lines text state line l r x spelled allowed = record {
+  script = x.script ++ l ∷ [];
+  replies = x.replies ++ r ∷ [];
+  spelled = map-append play_line_of lines (line ∷ []) ∙ ap (λ ls. ls ++ play_line_of line ∷ []) x.spelled ∙ ap (λ o. map Some x.script ++ o ∷ []) spelled ∙ sym (map-append Some x.script (l ∷ []));
+  lawful = λ ls rs h. lawful_behind g x.script ls x.replies rs l r (x.lawful (l ∷ ls) (r ∷ rs) (allowed, h));
+  is = ap (λ t. t ++ reply_text r) x.is ∙ flat_map_more reply_text [] x.replies r;
+}
+
+replied_of : (g : Rules) (lines : List (List ℕ)) (text : List ℕ) (state : ScriptState) → SoFar g lines text state → Replied g lines text
+replied_of g lines text state x = record {
+  script = x.script;
+  replies = x.replies;
+  spelled = x.spelled;
+  lawful = subst (λ (ls : List Line). Lawful g at_first ls x.replies) (append-nil x.script)
+      (subst (λ (rs : List Reply). Lawful g at_first (x.script ++ []) rs) (append-nil x.replies) (x.lawful [] [] tt));
+  is = x.is;
+}
+
+-- so many first lines of the input were answered
+pub record Going (v w : Reading) (begun world : WorldView) (number : ℕ) (k l : SinkView) : Type 0 where
+  pub lines : List (List ℕ)
+  pub text : List ℕ
+  pub state : ScriptState
+  pub so_far : SoFar (rules_of begun) lines text state
+  pub count : number ≡ length lines
+  pub room : w.room + number ≤ v.room
+  pub taken : List ℕ
+  pub passed : Passed taken v w
+  pub first : lines_left v ≡ option_map (λ ls. lines ++ ls) (lines_left w)
+  pub rules : rules_of world ≡ rules_of begun
+  pub by_events : ScriptState
+  pub fits : Fits world by_events
+  pub alike : Alike by_events state
+  pub gave : Gave text k l
+
+all_left : (o : Option (List ℕ)) → option_map lines_of o ≡ option_map (λ ls. [] ++ ls) (option_map lines_of o)
+all_left None = refl
+all_left (Some ls) = refl
+
+-- before the first line
+pub going_first : (v : Reading) (world : WorldView) (l : SinkView) → Fits world at_first → Going v v world world 0 l l
+going_first v world l fits = record {
+  lines = [];
+  text = [];
+  state = at_first;
+  so_far = nothing_so_far (rules_of world);
+  count = refl;
+  room = omega arith;
+  taken = [];
+  passed = passed_nothing v;
+  first = all_left v.left;
+  rules = refl;
+  by_events = at_first;
+  fits = fits;
+  alike = alike_itself at_first;
+  gave = gave_nothing l;
+}
+
+abbrev Stepped : WorldView → WorldView → WorldView → ScriptState → Line → Reply → Type 0
+Stepped begun old new t l r = Allowed (rules_of begun) t l r × ((u : ScriptState) × Fits new u × Alike u (next_state (rules_of begun) t l r))
+
+stepped : (begun old new : WorldView) (s t : ScriptState) (l : Line) (r : Reply) → rules_of old ≡ rules_of begun → Fits old s → Alike s t → Answers old l r new → Stepped begun old new t l r
+stepped begun old new s t l r e fits alike a =
+    subst (λ (g : Rules). Allowed g t l r × ((u : ScriptState) × Fits new u × Alike u (next_state g t l r))) e (a.lawful s t fits alike)
+
+-- the bytes taken, and those of one more line
+one_taken : {v u w : Reading} (taken line : List ℕ) → Passed taken v u → Passed line u w ⊎ Passed (line ++ 10 ∷ []) u w → (bytes : List ℕ) × Passed bytes v w
+one_taken taken line p (inl q) = (taken ++ line, passed_twice taken line p q)
+one_taken taken line p (inr q) = (taken ++ (line ++ 10 ∷ []), passed_twice taken (line ++ 10 ∷ []) p q)
+
+-- after one more line
+pub going_more : {v u w : Reading} {begun old new : WorldView} {number : ℕ} {k l m : SinkView} (line : List ℕ) → Going v u begun old number k l → Given line u w → Answered line old new l m → Going v w begun new (number + 1) k m
+going_more {v} {u} {w} {begun} {old} {new} {number} {k} {l} {m} line x given a =
+    let s = stepped begun old new x.by_events x.state a.line a.reply x.rules x.fits x.alike a.answers in record {
+      lines = x.lines ++ line ∷ [];
+      text = x.text ++ reply_text a.reply;
+      state = next_state (rules_of begun) x.state a.line a.reply;
+      so_far = more_so_far (rules_of begun) x.lines x.text x.state line a.line a.reply x.so_far a.spelled s.0;
+      count = omega (arith, x.count, length-append x.lines (line ∷ []));
+      room = omega (arith, x.room, given.room);
+      taken = (one_taken x.taken line x.passed given.passed).0;
+      passed = (one_taken x.taken line x.passed given.passed).1;
+      first = lines_more (lines_left v) x.lines line u w x.first given;
+      rules = a.answers.rules ∙ x.rules;
+      by_events = s.1.0;
+      fits = s.1.1;
+      alike = s.1.2;
+      gave = gave_both x.text (reply_text a.reply) x.gave a.gave;
+    }
+
+first_cases : (a b : Option (List ℕ)) (lines : List (List ℕ)) → option_map lines_of a ≡ option_map (λ ls. lines ++ ls) (option_map lines_of b) → IfSome a (λ input. (more : List (List ℕ)) × (lines_of input ≡ lines ++ more))
+first_cases None b lines e = tt
+first_cases (Some a) None lines e = absurd (cc)
+first_cases (Some a) (Some b) lines e = (lines_of b, cc)
+
+begun_of : {v w : Reading} {begun world : WorldView} {number : ℕ} {k l : SinkView} (x : Going v w begun world number k l) (last text : List ℕ) → text ≡ x.text ++ last → Begun (rules_of begun) (outside v) last text
+begun_of {v} {w} {begun} x last text e = record {
+  lines = x.lines;
+  first = first_cases v.left w.left x.lines x.first;
+  answers = x.text;
+  replied = replied_of (rules_of begun) x.lines x.text x.state x.so_far;
+  is = e;
+}
+
+-- ---- Endings
+
+too_long : (taken : List ℕ) (a b : Option (List ℕ)) (room all : ℕ) → a ≡ option_map (λ rest. taken ++ rest) b → all ≡ room + length taken → IfSome b (λ left. (room < length left) × Lacks 10 (take room left)) → IfSome a (λ input. all < length input)
+too_long taken a None room all e f over = subst (λ (o : Option (List ℕ)). IfSome o (λ input. all < length input)) (sym e) tt
+too_long taken a (Some b) room all e f over = subst (λ (o : Option (List ℕ)). IfSome o (λ input. all < length input)) (sym e) (omega (arith, length-append taken b, over.0))
+
+-- the next line is not there
+pub ended_at_source : {v u : Reading} (w : Reading) {begun world : WorldView} {number : ℕ} {k l : SinkView} (e : LineError) → Going v u begun world number k l → v.room ≡ input_limit → (e ≡ Failed → Rose u.faults w.faults) → ((limit : ℕ) → e ≡ Input limit → IsOver u) → Runs {A = Unit {0}} (rules_of begun) (Err (ending_of e)) (outside v) (outside w) k l
+ended_at_source {v} {u} w Failed x room rose over = record {
+  text = x.text;
+  begun = begun_of x [] x.text (sym (append-nil x.text));
+  writes = (rose_before v.faults u.faults w.faults x.passed.stays.faults (rose refl), begun_of x (error_text errors.Source) (x.text ++ error_text errors.Source) refl);
+  gave = x.gave;
+}
+ended_at_source {v} {u} w (Input limit) x room rose over = record {
+  text = x.text;
+  begun = begun_of x [] x.text (sym (append-nil x.text));
+  writes = inr (too_long x.taken v.left u.left u.room input_limit x.passed.left (sym room ∙ x.passed.room) (over limit refl), begun_of x (error_text (errors.Input input_limit)) (x.text ++ error_text (errors.Input input_limit)) refl);
+  gave = x.gave;
+}
+ended_at_source w OutOfMemory x room rose over = record {
+  text = x.text;
+  begun = begun_of x [] x.text (sym (append-nil x.text));
+  writes = begun_of x (error_text errors.Memory) (x.text ++ error_text errors.Memory) refl;
+  gave = x.gave;
+}
+
+-- the next line is given no reply, or its reply is not written
+pub ended_at_line : {v u w : Reading} {begun world : WorldView} {number : ℕ} {k l : SinkView} (m : SinkView) (line : List ℕ) (e : Ending) → Going v u begun world number k l → Given line u w → EndsAt line (number + 1) world l m e
+    → Runs {A = Unit {0}} (rules_of begun) (Err e) (outside v) (outside w) k m
+ended_at_line {v} {u} {w} {begun} {world} {number} {k} {l} m line (endings.Line n) x given h = record {
+  text = x.text;
+  begun = begun_of x [] x.text (sym (append-nil x.text));
+  writes = inl (record {
+    lines = x.lines;
+    line = line;
+    first = first_cases v.left w.left (x.lines ++ line ∷ []) (lines_more (lines_left v) x.lines line u w x.first given);
+    outside = h.1;
+    answers = x.text;
+    replied = replied_of (rules_of begun) x.lines x.text x.state x.so_far;
+    is = ap (λ i. x.text ++ error_text (errors.Line i)) (h.0 ∙ ap (λ i. i + 1) x.count);
+  });
+  gave = subst (λ (s : SinkView). Gave x.text k s) (sym h.2) x.gave;
+}
+ended_at_line m line endings.Input x given h = absurd h
+ended_at_line m line endings.Source x given h = absurd h
+ended_at_line {v} {u} {w} {begun} {world} {number} {k} {l} m line endings.Sink x given h =
+    let s = stepped begun world h.new x.by_events x.state h.line h.reply x.rules x.fits x.alike h.answers in record {
+      rose = rose_before k.faults l.faults m.faults x.gave.faults h.rose;
+      status = statuses.Sink;
+      text = x.text ++ reply_text h.reply;
+      writes = record {
+        lines = x.lines ++ line ∷ [];
+        first = first_cases v.left w.left (x.lines ++ line ∷ []) (lines_more (lines_left v) x.lines line u w x.first given);
+        answers = x.text ++ reply_text h.reply;
+        replied = replied_of (rules_of begun) (x.lines ++ line ∷ []) (x.text ++ reply_text h.reply) (next_state (rules_of begun) x.state h.line h.reply)
+            (more_so_far (rules_of begun) x.lines x.text x.state line h.line h.reply x.so_far h.spelled s.0);
+        is = sym (append-nil (x.text ++ reply_text h.reply));
+      };
+      gave = gave_then_some x.text (reply_text h.reply) x.gave h.gave;
+    }
+ended_at_line {k = k} m line endings.Memory x given h = record {
+  text = x.text;
+  begun = begun_of x [] x.text (sym (append-nil x.text));
+  writes = begun_of x (error_text errors.Memory) (x.text ++ error_text errors.Memory) refl;
+  gave = subst (λ (s : SinkView). Gave x.text k s) (sym h) x.gave;
+}
+
+all_cases : (a : Option (List ℕ)) (lines : List (List ℕ)) → IfSome (option_map lines_of a) (λ ls. ls ≡ lines) → IfSome a (λ input. lines_of input ≡ lines)
+all_cases None lines h = tt
+all_cases (Some a) lines h = h
+
+-- no line is left
+pub ended_whole : {v u w : Reading} {begun world : WorldView} {number : ℕ} {k l : SinkView} → Going v u begun world number k l → Ended u w → Finished (rules_of begun) statuses.Done (outside v) (outside w) k l
+ended_whole {v} {u} {w} {begun} x e = record {
+  text = x.text;
+  writes = record {
+    lines = x.lines;
+    all = all_cases v.left x.lines (lines_done (lines_left v) x.lines u w x.first e);
+    read = e.now;
+    replied = replied_of (rules_of begun) x.lines x.text x.state x.so_far;
+  };
+  gave = x.gave;
+}
+
+-- ---- The lines of a source
+
+all_of_left : (a : Option (List ℕ)) (held : List ℕ) → held ≡ [] → option_map (λ rest. held ++ rest) a ≡ a
+all_of_left None held e = refl
+all_of_left (Some a) held e = ap (λ h. Some (h ++ a)) e
+
+-- nothing is held at first
+starts : (s : SourceView) (i : IntakeView) → i.held ≡ [] → outside (reading s i) ≡ s
+starts s i e = ap (λ o. record s { left = o }) (all_of_left s.left i.held e)
+
+empty_behind : (held rest : List ℕ) → held ++ rest ≡ [] → rest ≡ []
+empty_behind [] rest e = e
+empty_behind (b ∷ held) rest e = absurd (cc)
+
+none_behind : (a : Option (List ℕ)) (held : List ℕ) → IfSome (option_map (λ rest. held ++ rest) a) (λ rest. rest ≡ []) → IfSome a (λ rest. rest ≡ [])
+none_behind None held h = tt
+none_behind (Some a) held h = empty_behind held a h
+
+writes_of : (g : Rules) (status : Status) (s t : SourceView) (i : IntakeView) (text : List ℕ) → Writes g status s (outside (reading t i)) text → Writes g status s t text
+writes_of g statuses.Done s t i text h = record { lines = h.lines; all = h.all; read = none_behind t.left i.held h.read; replied = h.replied }
+writes_of g statuses.Usage s t i text h = h
+writes_of g statuses.Input s t i text h = h
+writes_of g statuses.Source s t i text h = h
+writes_of g statuses.Sink s t i text h = h
+writes_of g statuses.Memory s t i text h = h
+
+leaves_of : (g : Rules) (status : Status) (last : List ℕ) (s t : SourceView) (i : IntakeView) (k l : SinkView) → Leaves g status last s (outside (reading t i)) k l → Leaves g status last s t k l
+leaves_of g status last s t i k l h = record { text = h.text; begun = h.begun; writes = writes_of g status s t i (h.text ++ last) h.writes; gave = h.gave }
+
+finished_of : (g : Rules) (status : Status) (s t : SourceView) (i : IntakeView) (k l : SinkView) → Finished g status s (outside (reading t i)) k l → Finished g status s t k l
+finished_of g status s t i k l h = record { text = h.text; writes = writes_of g status s t i h.text h.writes; gave = h.gave }
+
+runs_to : (g : Rules) (r : Result (Unit {0}) Ending) (s t : SourceView) (i : IntakeView) (k l : SinkView) → Runs g r s (outside (reading t i)) k l → Runs g r s t k l
+runs_to g (Ok a) s t i k l h = finished_of g statuses.Done s t i k l h
+runs_to g (Err (endings.Line n)) s t i k l h = leaves_of g statuses.Input (error_text (errors.Line n)) s t i k l h
+runs_to g (Err endings.Input) s t i k l h = leaves_of g statuses.Input (error_text (errors.Input input_limit)) s t i k l h
+runs_to g (Err endings.Source) s t i k l h = leaves_of g statuses.Source (error_text errors.Source) s t i k l h
+runs_to g (Err endings.Sink) s t i k l h = record { rose = h.rose; status = h.status; text = h.text; writes = writes_of g h.status s t i h.text h.writes; gave = h.gave }
+runs_to g (Err endings.Memory) s t i k l h = leaves_of g statuses.Memory (error_text errors.Memory) s t i k l h
+
+-- from the lines to the source, which is given back
+pub runs_of : (g : Rules) (r : Result (Unit {0}) Ending) (a s b t : SourceView) (i j : IntakeView) (k l : SinkView) → Runs g r (outside (reading a i)) (outside (reading b j)) k l → i.held ≡ [] → a ≡ s → b ≡ t → Runs g r s t k l
+runs_of g r a s b t i j k l h none same given =
+    subst (λ (x : SourceView). Runs g r x t k l) same
+    (subst (λ (y : SourceView). Runs g r a y k l) given
+    (runs_to g r a b j k l (subst (λ (x : SourceView). Runs g r x (outside (reading b j)) k l) (starts a i none) h)))
+
+pub same_source_of : {a s b t : SourceView} → SameSource a b → a ≡ s → b ≡ t → SameSource s t
+same_source_of {a} {s} {b} {t} h same given = subst (λ (x : SourceView). SameSource x t) same (subst (λ (y : SourceView). SameSource a y) given h)

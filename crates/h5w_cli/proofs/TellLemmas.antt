@@ -1,0 +1,88 @@
+-- The last line of a script.
+use Rattle.std.proofs.Common.{ℕ, ◌≡◌, ◌≢◌, ◌⊎◌, List, [], ◌++◌, Option, Some, None, Err, refl, ap, ◌∙◌, subst, sym, inl, inr, append-nil}
+use Rattle.std.specs.Prelude.{IfSome}
+use Rattle.h5w_model.specs.Lawful.{Rules}
+use Rattle.h5w_text.specs.Streams.{SourceView, SinkView}
+use Rattle.h5w_text.specs.Lines.{lines_of}
+use Rattle.h5w_text.specs.Errors.{error_text}
+use Rattle.h5w_text.specs.declared.error.ErrorLine.TheVariants as errors
+use Rattle.h5w_cli.specs.Endings.{Leaves, Runs, Said, Told, whole, failed}
+use Rattle.h5w_cli.specs.declared.ending.Ending.{Ending}
+use Rattle.h5w_core.specs.Worlds.{rules_for}
+use Rattle.h5w_words.specs.declared.job.WordsError.{WordsError}
+use Rattle.h5w_words.specs.declared.job.Job.{Job}
+use Rattle.h5w_words.specs.declared.job.Job.TheVariants.{Play}
+use Rattle.h5w_cli.specs.Runs.{Does, Ran}
+use Rattle.h5w_cli.specs.Plays.{Begun, Finished, Plays}
+use Rattle.h5w_cli.specs.declared.status.Status.{Status}
+use Rattle.h5w_cli.specs.declared.status.Status.TheVariants.{Done, Usage, Input, Source, Sink, Memory}
+use Rattle.h5w_cli.proofs.PlayLemmas.{gave_both, gave_nothing, gave_then_some, replied_nothing, rose_before}
+
+-- any other bytes behind the answers
+begun_with : (g : Rules) (s : SourceView) (last text : List ℕ) → Begun g s [] text → Begun g s last (text ++ last)
+begun_with g s last text b = record {
+  lines = b.lines;
+  first = b.first;
+  answers = b.answers;
+  replied = b.replied;
+  is = ap (λ x. x ++ last) (b.is ∙ append-nil b.answers);
+}
+
+all_first : (o : Option (List ℕ)) → IfSome o (λ input. (more : List (List ℕ)) × (lines_of input ≡ [] ++ more))
+all_first None = tt
+all_first (Some input) = (lines_of input, refl)
+
+-- before the first line
+begun_first : (g : Rules) (s : SourceView) (last : List ℕ) → Begun g s last last
+begun_first g s last = record { lines = []; first = all_first s.left; answers = []; replied = replied_nothing g; is = refl }
+
+pub leaves_first : (g : Rules) (s : SourceView) (k : SinkView) → Leaves g Memory (error_text errors.Memory) s s k k
+leaves_first g s k = record { text = []; begun = begun_first g s []; writes = begun_first g s (error_text errors.Memory); gave = gave_nothing k }
+
+pub plays_finished : (g : Rules) (status : Status) (s t : SourceView) (k l : SinkView) → status ≢ Sink → Finished g status s t k l → Plays g status s t k l
+plays_finished g Done s t k l n h = h
+plays_finished g Usage s t k l n h = h
+plays_finished g Input s t k l n h = h
+plays_finished g Source s t k l n h = h
+plays_finished g Sink s t k l n h = absurd (n refl)
+plays_finished g Memory s t k l n h = h
+
+-- a script that ended, and its last line
+ends_said : (g : Rules) (status result : Status) (last : List ℕ) (s t : SourceView) (k l m : SinkView) → status ≢ Sink → Leaves g status last s t k l → Said last status result l m → Plays g result s t k m
+ends_said g status result last s t k l m n h (whole e gave) = subst (λ (r : Status). Plays g r s t k m) (sym e)
+    (plays_finished g status s t k m n (record { text = h.text ++ last; writes = h.writes; gave = gave_both h.text last h.gave gave }))
+ends_said g status result last s t k l m n h (failed e rose some) = subst (λ (r : Status). Plays g r s t k m) (sym e) (record {
+  rose = rose_before k.faults l.faults m.faults h.gave.faults rose;
+  status = status;
+  text = h.text ++ last;
+  writes = h.writes;
+  gave = gave_then_some h.text last h.gave some;
+})
+
+pub ends : (g : Rules) (status result : Status) (last : List ℕ) (s t : SourceView) (k l m : SinkView) → status ≢ Sink → Leaves g status last s t k l → Told last status result l m → Plays g result s t k m
+ends g status result last s t k l m n h (inl said) = ends_said g status result last s t k l m n h said
+ends g status result last s t k l m n h (inr said) = ends_said g Memory result (error_text errors.Memory) s t k l m (λ e. cc)
+    (record { text = h.text; begun = h.begun; writes = begun_with g s (error_text errors.Memory) h.text h.begun; gave = h.gave }) said
+
+-- by the rules of the world, at an ending that is known
+pub runs_at : (g h : Rules) (e x : Ending) (s t : SourceView) (k l : SinkView) → g ≡ h → e ≡ x → Runs {A = Unit {0}} g (Err e) s t k l → Runs {A = Unit {0}} h (Err x) s t k l
+runs_at g h e x s t k l p q r = subst (λ (h : Rules). Runs {A = Unit {0}} h (Err x) s t k l) p (subst (λ (x : Ending). Runs {A = Unit {0}} g (Err x) s t k l) q r)
+
+-- ---- Words
+
+-- memory was refused before the words were known
+pub ran_wanting : (o : Option Job) (status : Status) (s : SourceView) (k l : SinkView) → Said (error_text errors.Memory) Memory status k l → Ran o status s s k l
+ran_wanting None status s k l said = record { unread = refl; told = inr said }
+ran_wanting (Some (Play chunk_rows attempts)) status s k l said =
+    let g = rules_for chunk_rows attempts in ends_said g Memory status (error_text errors.Memory) s s k k l (λ e. cc) (leaves_first g s k) said
+
+-- the words are outside the command set
+pub ran_outside : (o : Option Job) (status : Status) (s : SourceView) (k l : SinkView) → o ≡ None → Said (error_text errors.Usage) Usage status k l → Ran o status s s k l
+ran_outside o status s k l e said = subst (λ (x : Option Job). Ran x status s s k l) (sym e) (record { unread = refl; told = inl said })
+
+pub ran_job : (o : Option Job) (job : Job) (status : Status) (s t : SourceView) (k l : SinkView) → o ≡ Some job → Does job status s t k l → Ran o status s t k l
+ran_job o job status s t k l e does = subst (λ (x : Option Job). Ran x status s t k l) (sym e) does
+
+pub not_wanting : (e : WordsError) (P : Type 0) → e ≡ WordsError.Usage → (e ≡ WordsError.OutOfMemory) ⊎ P → P
+not_wanting e P is (inl wanting) = let clash : WordsError.Usage ≡ WordsError.OutOfMemory = sym is ∙ wanting in absurd (cc)
+not_wanting e P is (inr outside) = outside

@@ -1,0 +1,6 @@
+use Rattle.std.proofs.Common.{◌≡◌, ◌≤◌, min, length}
+use Rattle.h5w_cli.proofs.ShowLemmas.{Shown}
+use Rattle.h5w_cli.proofs.answer.show.Given as goal
+
+abbrev pub invariant-loop : goal.invariant-loop
+invariant-loop l = Shown l.fn.world l.world l.counter

@@ -1,0 +1,12 @@
+use Rattle.h5w_cli.proofs.TellLemmas.{not_wanting, ran_job, ran_outside, ran_wanting}
+use Rattle.h5w_cli.proofs.run.run.Goals as goal
+
+pub returns-in-Ok-clause-ran : goal.returns-in-Ok-clause-ran
+returns-in-Ok-clause-ran g c = ran_job _ c.in-Ok.job _ _ _ _ _ c.in-Ok.ensures.ok c.plain.ensures.does
+
+pub returns-in-Err-Usage-clause-ran : goal.returns-in-Err-Usage-clause-ran
+returns-in-Err-Usage-clause-ran g c =
+    ran_outside _ _ _ _ _ (not_wanting c.in-Err-Usage.field-0 _ c.in-Err-Usage.field-0-is c.in-Err-Usage.ensures.usage) c.say.ensures
+
+pub returns-in-Err-OutOfMemory-clause-ran : goal.returns-in-Err-OutOfMemory-clause-ran
+returns-in-Err-OutOfMemory-clause-ran g c = ran_wanting _ _ _ _ _ c.say-in-Err-OutOfMemory.ensures

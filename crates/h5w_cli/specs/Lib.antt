@@ -1,0 +1,16 @@
+pub use Rattle.h5w_model.specs.Causes
+pub use Rattle.h5w_model.specs.Lawful
+pub use Rattle.h5w_text.specs.Streams
+pub use Rattle.h5w_text.specs.Lines
+pub use Rattle.h5w_text.specs.Scripts
+pub use Rattle.h5w_text.specs.Replies
+pub use Rattle.h5w_text.specs.Errors
+pub use Rattle.h5w_words.specs.Commands
+pub use Rattle.h5w_words.specs.Limits
+pub use Rattle.h5w_core.specs.Worlds
+pub mod Statuses
+pub mod Answers
+pub mod Plays
+pub mod Endings
+pub mod Runs
+pub mod Alike

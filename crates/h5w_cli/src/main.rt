@@ -1,0 +1,52 @@
+//! The program `h5swmr`: it makes a source and a sink of the standard streams, and runs what its words ask for.
+#![tactic(auto)]
+
+mod answer;
+mod ending;
+mod plain;
+mod play;
+mod run;
+mod status;
+mod streams;
+
+use crate::play::say;
+use crate::run::run;
+use crate::status::Status;
+use crate::streams::{StdSink, StdSource};
+use h5w_image::{MemDisk, OpenGate};
+use std::alloc::AllocError;
+use std::env;
+use std::io::ErrorKind;
+use std::process::ExitCode;
+
+/// The words of the command line. Where they are not all text there are none, so that they are outside
+/// the command set.
+fn words(rt: &HostRuntime) -> Result<Vec<String>, AllocError> {
+    match env::args(rt) {
+        Ok(args) => args.collect(rt.alloc()),
+        Err(e) if e.kind() == ErrorKind::OutOfMemory => Err(AllocError),
+        Err(_) => Ok(Vec::new(rt.alloc())),
+    }
+}
+
+fn main(rt: HostRuntime) -> ExitCode {
+    let mut source = StdSource::new(rt.stdin());
+    let mut sink = StdSink::new(rt.stdout());
+    let mut disk = MemDisk::new(rt.alloc());
+    let status = match words(&rt) {
+        Ok(words) => run(
+            &rt,
+            rt.alloc(),
+            &words,
+            &mut source,
+            &mut sink,
+            &mut disk,
+            &OpenGate,
+        ),
+        Err(_) => say(b"error memory\n", Status::Memory, &mut sink),
+    };
+    ExitCode::from(status.number())
+}
+
+#[cfg(test)]
+mod tests;

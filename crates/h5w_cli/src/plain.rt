@@ -1,0 +1,33 @@
+//! The commands that wait for nobody.
+ghost use Rattle.std.specs.Prelude.{◌≡◌};
+ghost use Rattle.h5w_cli.specs.Plays.{SameSource};
+ghost use Rattle.h5w_cli.specs.Runs.{Does};
+ghost use Rattle.h5w_words.specs.Limits.{IsWithinLimits};
+
+use crate::play::play;
+use crate::status::Status;
+use h5w_image::Disk;
+use h5w_text::{Sink, Source};
+use h5w_words::Job;
+use std::alloc::Global;
+
+/// Does what was asked, by a source, a sink and a disk. It returns whatever they do.
+pub fn plain<S: Source, K: Sink, D: Disk>(
+    alloc: Global,
+    job: &Job,
+    source: &mut S,
+    sink: &mut K,
+    _disk: &mut D,
+) -> Status
+    requires { IsWithinLimits job.now }
+    ensures does { Does job.now result (S.view source.old) (S.view source.new) (K.view sink.old) (K.view sink.new) }
+    ensures source { SameSource (S.view source.old) (S.view source.new) }
+    ensures disk { D.view _disk.new ≡ D.view _disk.old }
+{
+    match job {
+        Job::Play {
+            chunk_rows,
+            attempts,
+        } => play(alloc, *chunk_rows, *attempts, source, sink),
+    }
+}

@@ -1,0 +1,135 @@
+//! A script of a writer and readers.
+ghost use Rattle.std.specs.Prelude.{◌≡◌, ◌≤◌, ◌+◌, ℕ, List, [], length, OnOk, IfErr};
+ghost use Rattle.h5w_model.specs.Lawful.{at_first};
+ghost use Rattle.h5w_text.specs.Errors.{error_text};
+ghost use Rattle.h5w_text.specs.Reading.{IsLine, reading};
+ghost use Rattle.h5w_core.specs.Worlds.{Fits, rules_for, rules_of};
+ghost use Rattle.h5w_cli.specs.Endings.{Answered, EndsAt, Runs, Said, Told, outside};
+ghost use Rattle.h5w_cli.specs.Plays.{Plays, SameSource, input_limit};
+
+use crate::answer::{Refusal, answer};
+use crate::ending::Ending;
+use crate::status::Status;
+use h5w_core::{Options, World};
+use h5w_text::{ErrorLine, Intake, Line, Lines, Sink, Source, write_error, write_reply};
+use std::alloc::Global;
+
+/// The most bytes of an input.
+const INPUT_LIMIT: u64 = 1 << 40;
+
+/// Answers a line of the input, and writes the reply's text. What `text` had before is let go.
+fn answer_line<K: Sink>(
+    alloc: Global,
+    world: &mut World,
+    line: &Line,
+    number: u64,
+    text: &mut Vec<u8>,
+    sink: &mut K,
+) -> Result<(), Ending>
+    ensures answered { OnOk result ((bytes : List ℕ) → IsLine line.now bytes → Answered bytes world.old world.new (K.view sink.old) (K.view sink.new)) }
+    ensures ended { IfErr result (λ e. (bytes : List ℕ) → IsLine line.now bytes → EndsAt bytes number world.old (K.view sink.old) (K.view sink.new) e) }
+{
+    let reply = match answer(alloc, world, line) {
+        Ok(reply) => reply,
+        Err(Refusal::Line) => return Err(Ending::Line(number)),
+        Err(Refusal::Memory) => return Err(Ending::Memory),
+    };
+    text.clear();
+    if write_reply(text, &reply).is_err() {
+        return Err(Ending::Memory);
+    }
+    sink.write(text)?;
+    Ok(())
+}
+
+/// Answers lines, one after another, to their end.
+fn answer_lines<S: Source, K: Sink>(
+    alloc: Global,
+    world: &mut World,
+    lines: &mut Lines<'_, S>,
+    sink: &mut K,
+) -> Result<(), Ending>
+    requires fits { Fits world.old at_first }
+    requires room { length lines.old.intake.now.held + lines.old.intake.now.more ≡ input_limit }
+    ensures runs { Runs (rules_of world.old) result (outside (reading (S.view lines.old.source.now) lines.old.intake.now)) (outside (reading (S.view lines.new.source.now) lines.new.intake.now)) (K.view sink.old) (K.view sink.new) }
+    ensures source { SameSource (S.view lines.old.source.now) (S.view lines.new.source.now) }
+    ensures same_reference { lines.new.source.ghost_name ≡ lines.old.source.ghost_name }
+    ensures same_intake { lines.new.intake.ghost_name ≡ lines.old.intake.ghost_name }
+{
+    let mut text = Vec::new(alloc);
+    let mut number = 0;
+    while let Some(line) = lines.next()? {
+        number += 1;
+        answer_line(alloc, world, &line, number, &mut text, sink)?;
+    }
+    Ok(())
+}
+
+/// Answers the lines of the input, one after another.
+fn script<S: Source, K: Sink>(
+    alloc: Global,
+    world: &mut World,
+    source: &mut S,
+    sink: &mut K,
+) -> Result<(), Ending>
+    requires { Fits world.old at_first }
+    ensures runs { Runs (rules_of world.old) result (S.view source.old) (S.view source.new) (K.view sink.old) (K.view sink.new) }
+    ensures source { SameSource (S.view source.old) (S.view source.new) }
+{
+    let mut intake = Intake::new(alloc, INPUT_LIMIT);
+    let mut lines = Lines::new(alloc, source, &mut intake);
+    answer_lines(alloc, world, &mut lines, sink)
+}
+
+/// Writes these bytes as the last ones.
+pub fn say<K: Sink>(bytes: &[u8], status: Status, sink: &mut K) -> Status
+    ensures { Said bytes.now status result (K.view sink.old) (K.view sink.new) }
+{
+    match sink.write(bytes) {
+        Ok(()) => status,
+        Err(_) => Status::Sink,
+    }
+}
+
+/// Writes the line of an error as the last one.
+fn tell<K: Sink>(alloc: Global, error: &ErrorLine, status: Status, sink: &mut K) -> Status
+    ensures { Told (error_text error.now) status result (K.view sink.old) (K.view sink.new) }
+{
+    let mut text = Vec::new(alloc);
+    match write_error(&mut text, error) {
+        Ok(()) => say(&text, status, sink),
+        Err(_) => say(b"error memory\n", Status::Memory, sink),
+    }
+}
+
+/// Runs the script from the source on a new world with chunks of so many rows, whose readers' calls make up
+/// to so many attempts.
+pub fn play<S: Source, K: Sink>(
+    alloc: Global,
+    chunk_rows: u64,
+    attempts: u32,
+    source: &mut S,
+    sink: &mut K,
+) -> Status
+    requires some_rows { 1 ≤ chunk_rows }
+    requires chunk_bound { chunk_rows ≤ 65536 }
+    requires some_attempts { 1 ≤ attempts }
+    requires attempts_bound { attempts ≤ 1000 }
+    ensures plays { Plays (rules_for chunk_rows attempts) result (S.view source.old) (S.view source.new) (K.view sink.old) (K.view sink.new) }
+    ensures source { SameSource (S.view source.old) (S.view source.new) }
+{
+    let Ok(mut world) = World::new(alloc, &Options { chunk_rows }, attempts) else {
+        return say(b"error memory\n", Status::Memory, sink);
+    };
+    match script(alloc, &mut world, source, sink) {
+        Ok(()) => Status::Done,
+        Err(Ending::Line(number)) => { tell(alloc, &ErrorLine::Line(number), Status::Input, sink) }
+        Err(Ending::Input) => {
+            let limit = INPUT_LIMIT;
+            tell(alloc, &ErrorLine::Input { limit }, Status::Input, sink)
+        }
+        Err(Ending::Source) => tell(alloc, &ErrorLine::Source, Status::Source, sink),
+        Err(Ending::Memory) => tell(alloc, &ErrorLine::Memory, Status::Memory, sink),
+        Err(Ending::Sink) => Status::Sink,
+    }
+}
