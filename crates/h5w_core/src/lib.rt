@@ -14,4 +14,6 @@ pub use laws::runs_lawfully;
 pub use world::World;
 
 #[cfg(test)]
+mod interleaved;
+#[cfg(test)]
 mod tests;
