@@ -1,7 +1,7 @@
 -- What a line may be given in one state it may be given in each that is alike, and the states after it are alike.
-use Rattle.std.proofs.Common.{ℕ, ◌+◌, ◌-◌, ◌<◌, ◌≤◌, ◌≡◌, ◌⊎◌, Bool, true, false, if◌then◌else◌, nat_lt, nat_eq, List, [], ◌∷◌, length, Option, Some, None, sym, refl, ap, ◌∙◌, subst, inl, inr, arith, tests}
+use Rattle.std.proofs.Common.{ℕ, ◌+◌, ◌-◌, ◌≡◌, ◌⊎◌, Bool, true, false, if◌then◌else◌, nat_lt, nat_eq, List, [], ◌∷◌, Option, Some, None, sym, refl, ap, ◌∙◌, subst, inl, inr, arith}
 use Rattle.std.specs.Prelude.{Contains, MatchBool, ◌==◌}
-use Rattle.h5w_model.specs.Lawful.{Line, adds, flushes, shows_up_to, ends, opens, refreshes, reads, looks, Rules, CallKind, for_rows, for_values, Calling, ReaderState, ScriptState, reader_in, with_reader, risen, begun_call, on_reader, after_shows, after_looks, looked, committed, Allowed, AnswerAllowed, CallAllowed, LookAllowed, IsRows, IsAgain, IsLooking, IsPlanned, IsFull, FlushAllowed, rows_of, next_state, idle_or, begin_reply}
+use Rattle.h5w_model.specs.Lawful.{Line, adds, flushes, shows_up_to, ends, opens, refreshes, reads, looks, Rules, CallKind, for_rows, for_values, Calling, ReaderState, ScriptState, reader_in, with_reader, risen, begun_call, after_looks, looked, committed, Allowed, AnswerAllowed, CallAllowed, LookAllowed, IsRows, IsAgain, IsLooking, IsPlanned, IsFull, FlushAllowed, rows_of, next_state, idle_or, begin_reply}
 use Rattle.std.proofs.lemmas.List.Elements.{Contains-append_cases, Contains-append_left, Contains-append_right, Contains-push, Contains-push_cases}
 use Rattle.h5w_model.specs.declared.reply.Reply.{Reply}
 use Rattle.h5w_model.specs.declared.reply.Reply.TheVariants as replies

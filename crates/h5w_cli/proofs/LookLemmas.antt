@@ -1,13 +1,13 @@
 -- Looks that are taken one by one are the looks of one line.
-use Rattle.std.proofs.Common.{ℕ, ◌+◌, ◌-◌, ◌<◌, ◌≤◌, ◌≡◌, ◌⊎◌, Bool, true, false, if◌then◌else◌, nat_eq, List, ◌∷◌, Option, Some, None, Result, Ok, Err, sym, refl, ap, ◌∙◌, subst, inl, inr, arith, tests}
+use Rattle.std.proofs.Common.{ℕ, ◌+◌, ◌≡◌, ◌⊎◌, true, false, if◌then◌else◌, nat_eq, List, ◌∷◌, Option, Some, None, Result, Ok, Err, sym, refl, ap, ◌∙◌, subst, inl, inr, arith, tests}
 use Rattle.std.specs.Prelude.{IfOk}
-use Rattle.h5w_model.specs.Lawful.{Line, looks, Rules, CallKind, for_rows, for_values, Calling, ReaderState, ScriptState, reader_in, with_reader, after_looks, looked, Allowed, AnswerAllowed, CallAllowed, LookAllowed, IsRows, IsAgain, IsLooking, next_state}
+use Rattle.h5w_model.specs.Lawful.{looks, Rules, CallKind, for_rows, for_values, Calling, ReaderState, ScriptState, reader_in, with_reader, after_looks, looked, Allowed, AnswerAllowed, CallAllowed, LookAllowed, next_state}
 use Rattle.h5w_model.specs.declared.reply.Reply.{Reply}
 use Rattle.h5w_model.specs.declared.reply.Reply.TheVariants as replies
 use Rattle.h5w_core.specs.Worlds.{WorldView, Fits, rules_of}
 use Rattle.h5w_cli.specs.Alike.{Alike, AlikeReaders, MayAlikeCalls, MayAlikeReaders, Twins}
 use Rattle.h5w_cli.specs.Answers.{Answers}
-use Rattle.h5w_cli.proofs.AlikeLemmas.{alike_itself, alike_twice, allowed_alike, calls_itself, contains_once, may_itself, next_alike, reader_itself, twins_more}
+use Rattle.h5w_cli.proofs.AlikeLemmas.{alike_itself, alike_twice, allowed_alike, contains_once, may_itself, next_alike, twins_more}
 
 -- a reader of a state has an unfinished call, and after j looks of it the state is this
 pub record Under (t shown : ScriptState) (r j : ℕ) : Type 0 where

@@ -1,6 +1,6 @@
 -- A script under way: its first lines were answered.
-use Rattle.std.proofs.Common.{ℕ, ◌+◌, ◌-◌, ◌^◌, ◌≤◌, ◌<◌, ◌≡◌, ◌⊎◌, min, List, [], ◌∷◌, ◌++◌, length, map, take, Option, Some, None, Result, Ok, Err, sym, refl, ap, ◌∙◌, subst, inl, inr, arith, append_assoc, append-nil, length-append}
-use Rattle.std.specs.Prelude.{IfSome, flat_map, option_map}
+use Rattle.std.proofs.Common.{ℕ, ◌+◌, ◌≤◌, ◌<◌, ◌≡◌, ◌⊎◌, List, [], ◌∷◌, ◌++◌, length, map, take, Option, Some, None, Result, Ok, Err, sym, refl, ap, ◌∙◌, subst, inl, inr, arith, append_assoc, append-nil, length-append}
+use Rattle.std.specs.Prelude.{IfErr, IfSome, OnOk, flat_map, option_map}
 use Rattle.std.proofs.lemmas.List.{map-append, flat_map_more}
 use Rattle.std.proofs.Math.Seq.{take-append-add}
 use Rattle.h5w_model.specs.Causes.{Rose}
@@ -8,23 +8,23 @@ use Rattle.h5w_model.specs.Lawful.{Line, Rules, ScriptState, Allowed, Lawful, at
 use Rattle.h5w_model.specs.declared.reply.Reply.{Reply}
 use Rattle.h5w_text.specs.Streams.{SourceView, SinkView, Gave, GaveSome, Grows}
 use Rattle.h5w_text.specs.Bytes.{Lacks}
-use Rattle.h5w_text.specs.Lines.{lines_of}
-use Rattle.h5w_text.specs.Reading.{Ended, Given, IntakeView, IsOver, Passed, Reading, lines_left, reading}
+use Rattle.h5w_text.specs.Lines.{lines_of, whole_lines_of}
+use Rattle.h5w_text.specs.Reading.{Ended, Given, GivenUp, IntakeView, IsLine, IsOver, IsWhole, Passed, Reading, lines_left, reading}
 use Rattle.h5w_text.specs.Replies.{reply_text}
 use Rattle.h5w_text.specs.Errors.{error_text}
 use Rattle.h5w_text.specs.declared.error.ErrorLine.TheVariants as errors
+use Rattle.h5w_text.specs.declared.line.Line as text_lines
 use Rattle.h5w_text.specs.declared.line.LineError.{LineError}
 use Rattle.h5w_text.specs.declared.line.LineError.TheVariants.{Failed, Input, OutOfMemory}
-use Rattle.h5w_text.proofs.LineLemmas.{lines_more, lines_done, passed_nothing, passed_twice}
+use Rattle.h5w_text.proofs.LineLemmas.{lines_more, lines_done, passed_nothing, passed_twice, whole_cut, whole_lacks}
 use Rattle.h5w_core.specs.Worlds.{WorldView, Fits, rules_of}
 use Rattle.h5w_cli.specs.Alike.{Alike}
 use Rattle.h5w_cli.specs.Answers.{Answers, play_line_of}
 use Rattle.h5w_cli.proofs.AlikeLemmas.{alike_itself}
-use Rattle.h5w_cli.specs.Endings.{Answered, EndsAt, Leaves, Runs, ending_of, outside}
-use Rattle.h5w_cli.specs.Plays.{Begun, Finished, Replied, SameSource, Writes, input_limit}
+use Rattle.h5w_cli.specs.Endings.{Answered, EndsAt, Runs, ending_of, outside}
+use Rattle.h5w_cli.specs.Plays.{Begun, Finished, Replied, SameSource, Stopped, input_limit}
 use Rattle.h5w_cli.specs.declared.ending.Ending.{Ending}
 use Rattle.h5w_cli.specs.declared.ending.Ending.TheVariants as endings
-use Rattle.h5w_cli.specs.declared.status.Status.{Status}
 use Rattle.h5w_cli.specs.declared.status.Status.TheVariants as statuses
 
 -- ---- What sinks were given
@@ -146,14 +146,9 @@ stepped : (begun old new : WorldView) (s t : ScriptState) (l : Line) (r : Reply)
 stepped begun old new s t l r e fits alike a =
     subst (λ (g : Rules). Allowed g t l r × ((u : ScriptState) × Fits new u × Alike u (next_state g t l r))) e (a.lawful s t fits alike)
 
--- the bytes taken, and those of one more line
-one_taken : {v u w : Reading} (taken line : List ℕ) → Passed taken v u → Passed line u w ⊎ Passed (line ++ 10 ∷ []) u w → (bytes : List ℕ) × Passed bytes v w
-one_taken taken line p (inl q) = (taken ++ line, passed_twice taken line p q)
-one_taken taken line p (inr q) = (taken ++ (line ++ 10 ∷ []), passed_twice taken (line ++ 10 ∷ []) p q)
-
--- after one more line
-pub going_more : {v u w : Reading} {begun old new : WorldView} {number : ℕ} {k l m : SinkView} (line : List ℕ) → Going v u begun old number k l → Given line u w → Answered line old new l m → Going v w begun new (number + 1) k m
-going_more {v} {u} {w} {begun} {old} {new} {number} {k} {l} {m} line x given a =
+-- after one more line, whose bytes were passed over
+pub going_more : {v u w : Reading} {begun old new : WorldView} {number : ℕ} {k l m : SinkView} (line bytes : List ℕ) → Going v u begun old number k l → Given line u w → Passed bytes u w → Answered line old new l m → Going v w begun new (number + 1) k m
+going_more {v} {u} {w} {begun} {old} {new} {number} {k} {l} {m} line bytes x given passed a =
     let s = stepped begun old new x.by_events x.state a.line a.reply x.rules x.fits x.alike a.answers in record {
       lines = x.lines ++ line ∷ [];
       text = x.text ++ reply_text a.reply;
@@ -161,8 +156,8 @@ going_more {v} {u} {w} {begun} {old} {new} {number} {k} {l} {m} line x given a =
       so_far = more_so_far (rules_of begun) x.lines x.text x.state line a.line a.reply x.so_far a.spelled s.0;
       count = omega (arith, x.count, length-append x.lines (line ∷ []));
       room = omega (arith, x.room, given.room);
-      taken = (one_taken x.taken line x.passed given.passed).0;
-      passed = (one_taken x.taken line x.passed given.passed).1;
+      taken = x.taken ++ bytes;
+      passed = passed_twice x.taken bytes x.passed passed;
       first = lines_more (lines_left v) x.lines line u w x.first given;
       rules = a.answers.rules ∙ x.rules;
       by_events = s.1.0;
@@ -170,6 +165,32 @@ going_more {v} {u} {w} {begun} {old} {new} {number} {k} {l} {m} line x given a =
       alike = s.1.2;
       gave = gave_both x.text (reply_text a.reply) x.gave a.gave;
     }
+
+-- so many first lines were answered, and they are the whole lines of what was taken
+pub record GoingWhole (v w : Reading) (begun world : WorldView) (number : ℕ) (k l : SinkView) : Type 0 where
+  pub going : Going v w begun world number k l
+  pub whole : (rest : List ℕ) → whole_lines_of (going.taken ++ rest) ≡ going.lines ++ whole_lines_of rest
+
+pub whole_first : (v : Reading) (world : WorldView) (l : SinkView) → Fits world at_first → GoingWhole v v world world 0 l l
+unfolding going_first
+whole_first v world l fits = record { going = going_first v world l fits; whole = λ rest. refl }
+
+one_whole : (taken line rest : List ℕ) (lines : List (List ℕ)) → Lacks 10 line → ((more : List ℕ) → whole_lines_of (taken ++ more) ≡ lines ++ whole_lines_of more)
+    → whole_lines_of ((taken ++ (line ++ 10 ∷ [])) ++ rest) ≡ (lines ++ line ∷ []) ++ whole_lines_of rest
+one_whole taken line rest lines lacks whole =
+    ap whole_lines_of (append_assoc taken (line ++ 10 ∷ []) rest ∙ ap (λ l. taken ++ l) (append_assoc line (10 ∷ []) rest)) ∙ whole (line ++ 10 ∷ rest)
+    ∙ ap (λ ls. lines ++ ls) (whole_cut [] line rest lacks) ∙ sym (append_assoc lines (line ∷ []) (whole_lines_of rest))
+
+pub whole_more : {v u w : Reading} {begun old new : WorldView} {number : ℕ} {k l m : SinkView} (line : List ℕ) → GoingWhole v u begun old number k l → Given line u w → IsWhole line u w → Answered line old new l m → GoingWhole v w begun new (number + 1) k m
+unfolding going_more
+whole_more line x given is a = record {
+  going = going_more line (line ++ 10 ∷ []) x.going given is.passed a;
+  whole = λ rest. one_whole x.going.taken line rest x.going.lines is.lacks x.whole;
+}
+
+-- bytes without an end behind what was taken
+none_more : (taken front : List ℕ) (lines : List (List ℕ)) → Lacks 10 front → ((more : List ℕ) → whole_lines_of (taken ++ more) ≡ lines ++ whole_lines_of more) → lines ≡ whole_lines_of (taken ++ front)
+none_more taken front lines lacks whole = sym (whole front ∙ ap (λ ls. lines ++ ls) (whole_lacks [] front lacks) ∙ append-nil lines)
 
 first_cases : (a b : Option (List ℕ)) (lines : List (List ℕ)) → option_map lines_of a ≡ option_map (λ ls. lines ++ ls) (option_map lines_of b) → IfSome a (λ input. (more : List (List ℕ)) × (lines_of input ≡ lines ++ more))
 first_cases None b lines e = tt
@@ -187,35 +208,67 @@ begun_of {v} {w} {begun} x last text e = record {
 
 -- ---- Endings
 
-too_long : (taken : List ℕ) (a b : Option (List ℕ)) (room all : ℕ) → a ≡ option_map (λ rest. taken ++ rest) b → all ≡ room + length taken → IfSome b (λ left. (room < length left) × Lacks 10 (take room left)) → IfSome a (λ input. all < length input)
-too_long taken a None room all e f over = subst (λ (o : Option (List ℕ)). IfSome o (λ input. all < length input)) (sym e) tt
-too_long taken a (Some b) room all e f over = subst (λ (o : Option (List ℕ)). IfSome o (λ input. all < length input)) (sym e) (omega (arith, length-append taken b, over.0))
+abbrev Long : ℕ → List (List ℕ) → List ℕ → Type 0
+Long all lines input = (all < length input) × (whole_lines_of (take all input) ≡ lines)
+
+first_of_long : (taken b : List ℕ) (room all : ℕ) → all ≡ room + length taken → take all (taken ++ b) ≡ taken ++ take room b
+first_of_long taken b room all e = let f : all ≡ length taken + room = omega (arith, e) in ap (λ n. take n (taken ++ b)) f ∙ take-append-add taken b room
+
+too_long : (taken : List ℕ) (lines : List (List ℕ)) (a b : Option (List ℕ)) (room all : ℕ) → ((more : List ℕ) → whole_lines_of (taken ++ more) ≡ lines ++ whole_lines_of more) → a ≡ option_map (λ rest. taken ++ rest) b → all ≡ room + length taken
+    → IfSome b (λ left. (room < length left) × Lacks 10 (take room left)) → IfSome a (Long all lines)
+too_long taken lines a None room all whole e f over = subst (λ (o : Option (List ℕ)). IfSome o (Long all lines)) (sym e) tt
+too_long taken lines a (Some b) room all whole e f over = subst (λ (o : Option (List ℕ)). IfSome o (Long all lines)) (sym e) (
+  omega (arith, length-append taken b, over.0),
+  ap whole_lines_of (first_of_long taken b room all f) ∙ sym (none_more taken (take room b) lines over.1 whole),
+)
+
+all_of_left : (a : Option (List ℕ)) (held : List ℕ) → held ≡ [] → option_map (λ rest. held ++ rest) a ≡ a
+all_of_left None held e = refl
+all_of_left (Some a) held e = ap (λ h. Some (h ++ a)) e
+
+-- the source failed behind whole lines
+stopped_of : {v u : Reading} {begun world : WorldView} {number : ℕ} {k l : SinkView} (t : SourceView) (j : IntakeView) (last : List ℕ) (x : GoingWhole v u begun world number k l) → GivenUp u (reading t j) j.held
+    → Stopped (rules_of begun) (outside v) t last (x.going.text ++ last)
+stopped_of {v} {u} {begun} t j last x up = let both = passed_twice x.going.taken up.front x.going.passed up.passed in record {
+  taken = x.going.taken ++ up.front;
+  read = both.left ∙ ap (option_map (λ rest. (x.going.taken ++ up.front) ++ rest)) (all_of_left t.left j.held up.none);
+  answers = x.going.text;
+  replied = subst (λ (ls : List (List ℕ)). Replied (rules_of begun) ls x.going.text) (none_more x.going.taken up.front x.going.lines up.lacks x.whole) (replied_of (rules_of begun) x.going.lines x.going.text x.going.state x.going.so_far);
+  is = refl;
+}
 
 -- the next line is not there
-pub ended_at_source : {v u : Reading} (w : Reading) {begun world : WorldView} {number : ℕ} {k l : SinkView} (e : LineError) → Going v u begun world number k l → v.room ≡ input_limit → (e ≡ Failed → Rose u.faults w.faults) → ((limit : ℕ) → e ≡ Input limit → IsOver u) → Runs {A = Unit {0}} (rules_of begun) (Err (ending_of e)) (outside v) (outside w) k l
-ended_at_source {v} {u} w Failed x room rose over = record {
-  text = x.text;
-  begun = begun_of x [] x.text (sym (append-nil x.text));
-  writes = (rose_before v.faults u.faults w.faults x.passed.stays.faults (rose refl), begun_of x (error_text errors.Source) (x.text ++ error_text errors.Source) refl);
-  gave = x.gave;
+pub ended_at_source : {v u : Reading} {begun world : WorldView} {number : ℕ} {k l : SinkView} (t : SourceView) (j : IntakeView) (e : LineError) → GoingWhole v u begun world number k l → v.room ≡ input_limit → (e ≡ Failed → Rose u.faults t.faults)
+    → (e ≡ Failed → GivenUp u (reading t j) j.held) → ((limit : ℕ) → e ≡ Input limit → IsOver u) → Runs {A = Unit {0}} (rules_of begun) (Err (ending_of e)) (outside v) t k l
+ended_at_source {v} {u} t j Failed x room rose up over = record {
+  text = x.going.text;
+  begun = begun_of x.going [] x.going.text (sym (append-nil x.going.text));
+  writes = (rose_before v.faults u.faults t.faults x.going.passed.stays.faults (rose refl), stopped_of t j (error_text errors.Source) x (up refl));
+  gave = x.going.gave;
 }
-ended_at_source {v} {u} w (Input limit) x room rose over = record {
-  text = x.text;
-  begun = begun_of x [] x.text (sym (append-nil x.text));
-  writes = inr (too_long x.taken v.left u.left u.room input_limit x.passed.left (sym room ∙ x.passed.room) (over limit refl), begun_of x (error_text (errors.Input input_limit)) (x.text ++ error_text (errors.Input input_limit)) refl);
-  gave = x.gave;
+ended_at_source {v} {u} {begun} t j (Input limit) x room rose up over = record {
+  text = x.going.text;
+  begun = begun_of x.going [] x.going.text (sym (append-nil x.going.text));
+  writes = inr (record {
+    lines = x.going.lines;
+    long = too_long x.going.taken x.going.lines v.left u.left u.room input_limit x.whole x.going.passed.left (sym room ∙ x.going.passed.room) (over limit refl);
+    answers = x.going.text;
+    replied = replied_of (rules_of begun) x.going.lines x.going.text x.going.state x.going.so_far;
+    is = refl;
+  });
+  gave = x.going.gave;
 }
-ended_at_source w OutOfMemory x room rose over = record {
-  text = x.text;
-  begun = begun_of x [] x.text (sym (append-nil x.text));
-  writes = begun_of x (error_text errors.Memory) (x.text ++ error_text errors.Memory) refl;
-  gave = x.gave;
+ended_at_source t j OutOfMemory x room rose up over = record {
+  text = x.going.text;
+  begun = begun_of x.going [] x.going.text (sym (append-nil x.going.text));
+  writes = begun_of x.going (error_text errors.Memory) (x.going.text ++ error_text errors.Memory) refl;
+  gave = x.going.gave;
 }
 
 -- the next line is given no reply, or its reply is not written
-pub ended_at_line : {v u w : Reading} {begun world : WorldView} {number : ℕ} {k l : SinkView} (m : SinkView) (line : List ℕ) (e : Ending) → Going v u begun world number k l → Given line u w → EndsAt line (number + 1) world l m e
-    → Runs {A = Unit {0}} (rules_of begun) (Err e) (outside v) (outside w) k m
-ended_at_line {v} {u} {w} {begun} {world} {number} {k} {l} m line (endings.Line n) x given h = record {
+pub ended_at_line : {v u w : Reading} {begun world : WorldView} {number : ℕ} {k l : SinkView} (t : SourceView) (m : SinkView) (line : List ℕ) (e : Ending) → Going v u begun world number k l → Given line u w → EndsAt line (number + 1) world l m e
+    → Runs {A = Unit {0}} (rules_of begun) (Err e) (outside v) t k m
+ended_at_line {v} {u} {w} {begun} {world} {number} {k} {l} t m line (endings.Line n) x given h = record {
   text = x.text;
   begun = begun_of x [] x.text (sym (append-nil x.text));
   writes = inl (record {
@@ -229,9 +282,9 @@ ended_at_line {v} {u} {w} {begun} {world} {number} {k} {l} m line (endings.Line 
   });
   gave = subst (λ (s : SinkView). Gave x.text k s) (sym h.2) x.gave;
 }
-ended_at_line m line endings.Input x given h = absurd h
-ended_at_line m line endings.Source x given h = absurd h
-ended_at_line {v} {u} {w} {begun} {world} {number} {k} {l} m line endings.Sink x given h =
+ended_at_line t m line endings.Input x given h = absurd h
+ended_at_line t m line endings.Source x given h = absurd h
+ended_at_line {v} {u} {w} {begun} {world} {number} {k} {l} t m line endings.Sink x given h =
     let s = stepped begun world h.new x.by_events x.state h.line h.reply x.rules x.fits x.alike h.answers in record {
       rose = rose_before k.faults l.faults m.faults x.gave.faults h.rose;
       status = statuses.Sink;
@@ -246,7 +299,7 @@ ended_at_line {v} {u} {w} {begun} {world} {number} {k} {l} m line endings.Sink x
       };
       gave = gave_then_some x.text (reply_text h.reply) x.gave h.gave;
     }
-ended_at_line {k = k} m line endings.Memory x given h = record {
+ended_at_line {k = k} t m line endings.Memory x given h = record {
   text = x.text;
   begun = begun_of x [] x.text (sym (append-nil x.text));
   writes = begun_of x (error_text errors.Memory) (x.text ++ error_text errors.Memory) refl;
@@ -257,29 +310,6 @@ all_cases : (a : Option (List ℕ)) (lines : List (List ℕ)) → IfSome (option
 all_cases None lines h = tt
 all_cases (Some a) lines h = h
 
--- no line is left
-pub ended_whole : {v u w : Reading} {begun world : WorldView} {number : ℕ} {k l : SinkView} → Going v u begun world number k l → Ended u w → Finished (rules_of begun) statuses.Done (outside v) (outside w) k l
-ended_whole {v} {u} {w} {begun} x e = record {
-  text = x.text;
-  writes = record {
-    lines = x.lines;
-    all = all_cases v.left x.lines (lines_done (lines_left v) x.lines u w x.first e);
-    read = e.now;
-    replied = replied_of (rules_of begun) x.lines x.text x.state x.so_far;
-  };
-  gave = x.gave;
-}
-
--- ---- The lines of a source
-
-all_of_left : (a : Option (List ℕ)) (held : List ℕ) → held ≡ [] → option_map (λ rest. held ++ rest) a ≡ a
-all_of_left None held e = refl
-all_of_left (Some a) held e = ap (λ h. Some (h ++ a)) e
-
--- nothing is held at first
-starts : (s : SourceView) (i : IntakeView) → i.held ≡ [] → outside (reading s i) ≡ s
-starts s i e = ap (λ o. record s { left = o }) (all_of_left s.left i.held e)
-
 empty_behind : (held rest : List ℕ) → held ++ rest ≡ [] → rest ≡ []
 empty_behind [] rest e = e
 empty_behind (b ∷ held) rest e = absurd (cc)
@@ -288,34 +318,44 @@ none_behind : (a : Option (List ℕ)) (held : List ℕ) → IfSome (option_map (
 none_behind None held h = tt
 none_behind (Some a) held h = empty_behind held a h
 
-writes_of : (g : Rules) (status : Status) (s t : SourceView) (i : IntakeView) (text : List ℕ) → Writes g status s (outside (reading t i)) text → Writes g status s t text
-writes_of g statuses.Done s t i text h = record { lines = h.lines; all = h.all; read = none_behind t.left i.held h.read; replied = h.replied }
-writes_of g statuses.Usage s t i text h = h
-writes_of g statuses.Input s t i text h = h
-writes_of g statuses.Source s t i text h = h
-writes_of g statuses.Sink s t i text h = h
-writes_of g statuses.Memory s t i text h = h
+-- no line is left
+pub ended_whole : {v u : Reading} {begun world : WorldView} {number : ℕ} {k l : SinkView} (t : SourceView) (j : IntakeView) → Going v u begun world number k l → Ended u (reading t j) → Finished (rules_of begun) statuses.Done (outside v) t k l
+ended_whole {v} {u} {begun} t j x e = record {
+  text = x.text;
+  writes = record {
+    lines = x.lines;
+    all = all_cases v.left x.lines (lines_done (lines_left v) x.lines u (reading t j) x.first e);
+    read = none_behind t.left j.held e.now;
+    replied = replied_of (rules_of begun) x.lines x.text x.state x.so_far;
+  };
+  gave = x.gave;
+}
 
-leaves_of : (g : Rules) (status : Status) (last : List ℕ) (s t : SourceView) (i : IntakeView) (k l : SinkView) → Leaves g status last s (outside (reading t i)) k l → Leaves g status last s t k l
-leaves_of g status last s t i k l h = record { text = h.text; begun = h.begun; writes = writes_of g status s t i (h.text ++ last) h.writes; gave = h.gave }
+-- the last line was answered
+last_more : {v u w : Reading} {begun old new : WorldView} {number : ℕ} {k l m : SinkView} (line : List ℕ) → Going v u begun old number k l → Given line u w → Passed line u w ⊎ Passed (line ++ 10 ∷ []) u w → Answered line old new l m → Going v w begun new (number + 1) k m
+last_more line x given (inl p) a = going_more line line x given p a
+last_more line x given (inr p) a = going_more line (line ++ 10 ∷ []) x given p a
 
-finished_of : (g : Rules) (status : Status) (s t : SourceView) (i : IntakeView) (k l : SinkView) → Finished g status s (outside (reading t i)) k l → Finished g status s t k l
-finished_of g status s t i k l h = record { text = h.text; writes = writes_of g status s t i h.text h.writes; gave = h.gave }
+-- the last line, which no end follows, is answered, or the script ends at it
+pub ended_at_last : {v u : Reading} {begun old : WorldView} {number : ℕ} {k l : SinkView} (new : WorldView) (t : SourceView) (j : IntakeView) (m : SinkView) (line : text_lines.Line) (r : Result (Unit {0}) Ending) → Going v u begun old number k l
+    → (bytes : List ℕ) × IsLine line bytes × Given bytes u (reading t j) × IfSome (reading t j).left (λ left. left ≡ [])
+    → OnOk r ((bytes : List ℕ) → IsLine line bytes → Answered bytes old new l m) → IfErr r (λ e. (bytes : List ℕ) → IsLine line bytes → EndsAt bytes (number + 1) old l m e) → Runs (rules_of begun) r (outside v) t k m
+ended_at_last new t j m line (Ok a) x given answered ended =
+    ended_whole t j (last_more given.0 x given.2 given.2.passed (answered given.0 given.1)) (record { before = given.3; now = given.3 })
+ended_at_last new t j m line (Err e) x given answered ended = ended_at_line t m given.0 e x given.2 (ended given.0 given.1)
 
-runs_to : (g : Rules) (r : Result (Unit {0}) Ending) (s t : SourceView) (i : IntakeView) (k l : SinkView) → Runs g r s (outside (reading t i)) k l → Runs g r s t k l
-runs_to g (Ok a) s t i k l h = finished_of g statuses.Done s t i k l h
-runs_to g (Err (endings.Line n)) s t i k l h = leaves_of g statuses.Input (error_text (errors.Line n)) s t i k l h
-runs_to g (Err endings.Input) s t i k l h = leaves_of g statuses.Input (error_text (errors.Input input_limit)) s t i k l h
-runs_to g (Err endings.Source) s t i k l h = leaves_of g statuses.Source (error_text errors.Source) s t i k l h
-runs_to g (Err endings.Sink) s t i k l h = record { rose = h.rose; status = h.status; text = h.text; writes = writes_of g h.status s t i h.text h.writes; gave = h.gave }
-runs_to g (Err endings.Memory) s t i k l h = leaves_of g statuses.Memory (error_text errors.Memory) s t i k l h
+-- ---- The lines of a source
+
+-- nothing is held at first
+starts : (s : SourceView) (i : IntakeView) → i.held ≡ [] → outside (reading s i) ≡ s
+starts s i e = ap (λ o. record s { left = o }) (all_of_left s.left i.held e)
 
 -- from the lines to the source, which is given back
-pub runs_of : (g : Rules) (r : Result (Unit {0}) Ending) (a s b t : SourceView) (i j : IntakeView) (k l : SinkView) → Runs g r (outside (reading a i)) (outside (reading b j)) k l → i.held ≡ [] → a ≡ s → b ≡ t → Runs g r s t k l
-runs_of g r a s b t i j k l h none same given =
+pub runs_of : (g : Rules) (r : Result (Unit {0}) Ending) (a s b t : SourceView) (i : IntakeView) (k l : SinkView) → Runs g r (outside (reading a i)) b k l → i.held ≡ [] → a ≡ s → b ≡ t → Runs g r s t k l
+runs_of g r a s b t i k l h none same given =
     subst (λ (x : SourceView). Runs g r x t k l) same
     (subst (λ (y : SourceView). Runs g r a y k l) given
-    (runs_to g r a b j k l (subst (λ (x : SourceView). Runs g r x (outside (reading b j)) k l) (starts a i none) h)))
+    (subst (λ (x : SourceView). Runs g r x b k l) (starts a i none) h))
 
 pub same_source_of : {a s b t : SourceView} → SameSource a b → a ≡ s → b ≡ t → SameSource s t
 same_source_of {a} {s} {b} {t} h same given = subst (λ (x : SourceView). SameSource x t) same (subst (λ (y : SourceView). SameSource a y) given h)

@@ -1,5 +1,5 @@
 -- Pieces that become visible one by one are the pieces of one line.
-use Rattle.std.proofs.Common.{ℕ, zero, suc, ◌+◌, ◌-◌, ◌<◌, ◌≤◌, ◌≡◌, min, Bool, true, false, if◌then◌else◌, nat_lt, List, length, sym, refl, ap, ◌∙◌, subst, arith, tests}
+use Rattle.std.proofs.Common.{ℕ, zero, suc, ◌+◌, ◌-◌, ◌<◌, ◌≡◌, min, Bool, true, false, if◌then◌else◌, nat_lt, length, sym, refl, ap, ◌∙◌, subst, arith, tests}
 use Rattle.h5w_model.specs.Lawful.{Rules, ScriptState, Allowed, after_shows, committed, next_state, shows_up_to}
 use Rattle.h5w_model.specs.declared.reply.Reply.{Reply}
 use Rattle.h5w_model.specs.declared.reply.Reply.TheVariants.{Written}

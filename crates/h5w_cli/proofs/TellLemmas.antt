@@ -73,8 +73,8 @@ runs_at g h e x s t k l p q r = subst (λ (h : Rules). Runs {A = Unit {0}} h (Er
 -- memory was refused before the words were known
 pub ran_wanting : (o : Option Job) (status : Status) (s : SourceView) (k l : SinkView) → Said (error_text errors.Memory) Memory status k l → Ran o status s s k l
 ran_wanting None status s k l said = record { unread = refl; told = inr said }
-ran_wanting (Some (Play chunk_rows attempts)) status s k l said =
-    let g = rules_for chunk_rows attempts in ends_said g Memory status (error_text errors.Memory) s s k k l (λ e. cc) (leaves_first g s k) said
+ran_wanting (Some (Play name chunk_rows limit attempts)) status s k l said =
+    let g = rules_for chunk_rows limit attempts in ends_said g Memory status (error_text errors.Memory) s s k k l (λ e. cc) (leaves_first g s k) said
 
 -- the words are outside the command set
 pub ran_outside : (o : Option Job) (status : Status) (s : SourceView) (k l : SinkView) → o ≡ None → Said (error_text errors.Usage) Usage status k l → Ran o status s s k l

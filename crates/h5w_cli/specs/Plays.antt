@@ -1,11 +1,11 @@
 -- What a run of a script writes, and why it ends: the lines of its input spell the lines of a script, these are given
 -- replies, and the text of the replies is written.
-use Rattle.std.specs.Prelude.{◌≡◌, ◌⊎◌, ℕ, ◌+◌, ◌^◌, ◌≤◌, ◌<◌, List, [], ◌∷◌, ◌++◌, length, map, flat_map, Option, Some, None, IfSome}
+use Rattle.std.specs.Prelude.{◌≡◌, ◌⊎◌, ℕ, ◌+◌, ◌^◌, ◌≤◌, ◌<◌, List, [], ◌∷◌, ◌++◌, length, map, take, flat_map, option_map, Some, None, IfSome}
 use Rattle.h5w_model.specs.Causes.{Rose}
 use Rattle.h5w_model.specs.Lawful.{Line, Rules, Lawful, at_first}
 use Rattle.h5w_model.specs.declared.reply.Reply.{Reply}
 use Rattle.h5w_text.specs.Streams.{SourceView, SinkView, Gave, GaveSome}
-use Rattle.h5w_text.specs.Lines.{lines_of}
+use Rattle.h5w_text.specs.Lines.{lines_of, whole_lines_of}
 use Rattle.h5w_text.specs.Replies.{reply_text}
 use Rattle.h5w_text.specs.Errors.{error_text}
 use Rattle.h5w_text.specs.declared.error.ErrorLine.TheVariants as errors
@@ -55,16 +55,30 @@ pub record Refused (g : Rules) (s : SourceView) (text : List ℕ) : Type 0 where
   pub replied : Replied g lines answers
   pub is : text ≡ answers ++ error_text (errors.Line (length lines + 1))
 
--- the source had more bytes than an input may have, where it tells them
-abbrev pub TooLong : SourceView → Type 0
-TooLong s = IfSome s.left (λ input. input_limit < length input)
+-- all whole lines that were read between two states of the source were answered, and the text ends with these bytes; of a
+-- last piece that was read without its end nothing is answered
+pub record Stopped (g : Rules) (s t : SourceView) (last text : List ℕ) : Type 0 where
+  pub taken : List ℕ
+  pub read : s.left ≡ option_map (λ rest. taken ++ rest) t.left
+  pub answers : List ℕ
+  pub replied : Replied g (whole_lines_of taken) answers
+  pub is : text ≡ answers ++ last
+
+-- the source had more bytes than an input may have, where it tells them; all whole lines among so many first ones were
+-- answered, and that is said behind
+pub record TooLong (g : Rules) (s : SourceView) (text : List ℕ) : Type 0 where
+  pub lines : List (List ℕ)
+  pub long : IfSome s.left (λ input. (input_limit < length input) × (whole_lines_of (take input_limit input) ≡ lines))
+  pub answers : List ℕ
+  pub replied : Replied g lines answers
+  pub is : text ≡ answers ++ error_text (errors.Input input_limit)
 
 -- What a run of a script has to write, by the status with which it ends. Its sink may fail before, or in the last line.
 abbrev pub Writes : Rules → Status → SourceView → SourceView → List ℕ → Type 0
 Writes g Done s t text = Whole g s t text
 Writes g Usage s t text = ⊥
-Writes g Input s t text = Refused g s text ⊎ (TooLong s × Begun g s (error_text (errors.Input input_limit)) text)
-Writes g Source s t text = Rose s.faults t.faults × Begun g s (error_text errors.Source) text
+Writes g Input s t text = Refused g s text ⊎ TooLong g s text
+Writes g Source s t text = Rose s.faults t.faults × Stopped g s t (error_text errors.Source) text
 Writes g Sink s t text = Begun g s [] text
 Writes g Memory s t text = Begun g s (error_text errors.Memory) text
 
@@ -91,3 +105,15 @@ Plays g status s t k l = Finished g status s t k l
 pub record SameSource (s t : SourceView) : Type 0 where
   pub faults : s.faults ≤ t.faults
   pub through : t.through ≡ s.through
+
+-- a source tells an input, which is not too long, and whose lines spell the lines of a script
+pub record HasScript (s : SourceView) : Type 0 where
+  pub input : List ℕ
+  pub told : s.left ≡ Some input
+  pub bound : length input ≤ input_limit
+  pub script : List Line
+  pub spelled : map play_line_of (lines_of input) ≡ map Some script
+
+-- a run of a script that neither source nor sink failed in ends when all is done, or for want of memory
+abbrev pub Completes : Status → SourceView → SourceView → SinkView → SinkView → Type 0
+Completes status s t k l = HasScript s → (Rose s.faults t.faults → ⊥) → (Rose k.faults l.faults → ⊥) → (status ≡ Done) ⊎ (status ≡ Memory)

@@ -7,13 +7,13 @@ use Rattle.h5w_core.specs.Worlds.{rules_for}
 use Rattle.h5w_words.specs.declared.job.Job.{Job}
 use Rattle.h5w_words.specs.declared.job.Job.TheVariants.{Play}
 use Rattle.h5w_cli.specs.Endings.{Told}
-use Rattle.h5w_cli.specs.Plays.{Plays}
+use Rattle.h5w_cli.specs.Plays.{Completes, Plays}
 use Rattle.h5w_cli.specs.declared.status.Status.{Status}
 use Rattle.h5w_cli.specs.declared.status.Status.TheVariants as statuses
 
 -- what a job leaves of source and sink
 abbrev pub Does : Job → Status → SourceView → SourceView → SinkView → SinkView → Type 0
-Does (Play chunk_rows attempts) status s t k l = Plays (rules_for chunk_rows attempts) status s t k l
+Does (Play name chunk_rows limit attempts) status s t k l = Plays (rules_for chunk_rows limit attempts) status s t k l
 
 -- the words are outside the command set: nothing is read, and that is said
 pub record Refuses (status : Status) (s t : SourceView) (k l : SinkView) : Type 0 where
@@ -24,3 +24,12 @@ pub record Refuses (status : Status) (s t : SourceView) (k l : SinkView) : Type 
 abbrev pub Ran : Option Job → Status → SourceView → SourceView → SinkView → SinkView → Type 0
 Ran None status s t k l = Refuses status s t k l
 Ran (Some job) status s t k l = Does job status s t k l
+
+-- a job is done, or memory is wanted, where nothing else stands in its way
+abbrev pub DoesWhole : Job → Status → SourceView → SourceView → SinkView → SinkView → Type 0
+DoesWhole (Play name chunk_rows limit attempts) status s t k l = Completes status s t k l
+
+-- the same of the job that words of the command set have
+abbrev pub RanWhole : Option Job → Status → SourceView → SourceView → SinkView → SinkView → Type 0
+RanWhole None status s t k l = Unit {0}
+RanWhole (Some job) status s t k l = DoesWhole job status s t k l

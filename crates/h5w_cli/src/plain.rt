@@ -1,7 +1,7 @@
 //! The commands that wait for nobody.
 ghost use Rattle.std.specs.Prelude.{◌≡◌};
 ghost use Rattle.h5w_cli.specs.Plays.{SameSource};
-ghost use Rattle.h5w_cli.specs.Runs.{Does};
+ghost use Rattle.h5w_cli.specs.Runs.{Does, DoesWhole};
 ghost use Rattle.h5w_words.specs.Limits.{IsWithinLimits};
 
 use crate::play::play;
@@ -21,13 +21,16 @@ pub fn plain<S: Source, K: Sink, D: Disk>(
 ) -> Status
     requires { IsWithinLimits job.now }
     ensures does { Does job.now result (S.view source.old) (S.view source.new) (K.view sink.old) (K.view sink.new) }
+    ensures completes { DoesWhole job.now result (S.view source.old) (S.view source.new) (K.view sink.old) (K.view sink.new) }
     ensures source { SameSource (S.view source.old) (S.view source.new) }
     ensures disk { D.view _disk.new ≡ D.view _disk.old }
 {
     match job {
         Job::Play {
+            name,
             chunk_rows,
+            limit,
             attempts,
-        } => play(alloc, *chunk_rows, *attempts, source, sink),
+        } => play(alloc, name, *chunk_rows, *limit, *attempts, source, sink),
     }
 }

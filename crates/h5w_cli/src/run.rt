@@ -2,7 +2,7 @@
 ghost use Rattle.std.specs.Prelude.{◌≡◌, map, string_bytes};
 ghost use Rattle.h5w_words.specs.Commands.{job_of};
 ghost use Rattle.h5w_cli.specs.Plays.{SameSource};
-ghost use Rattle.h5w_cli.specs.Runs.{Ran};
+ghost use Rattle.h5w_cli.specs.Runs.{Ran, RanWhole};
 
 use crate::plain::plain;
 use crate::play::say;
@@ -25,6 +25,7 @@ pub fn run<R: Threads + Wait + Sync, S: Source, K: Sink, D: Disk, G: Gate>(
     _gate: &G,
 ) -> Status
     ensures ran { Ran (job_of (map string_bytes words.now)) result (S.view source.old) (S.view source.new) (K.view sink.old) (K.view sink.new) }
+    ensures completes { RanWhole (job_of (map string_bytes words.now)) result (S.view source.old) (S.view source.new) (K.view sink.old) (K.view sink.new) }
     ensures source { SameSource (S.view source.old) (S.view source.new) }
     ensures disk { D.view disk.new ≡ D.view disk.old }
 {

@@ -1,6 +1,8 @@
+ghost use Rattle.std.specs.Prelude.{◌≤◌, ◌^◌};
+
 use super::*;
 use crate::plain::plain;
-use h5w_text::{MemSink, MemSource, Sink, Source};
+use h5w_text::{Bytes, MemSink, MemSource, Sink, Source};
 use h5w_words::Job;
 use std::io;
 use std::io::{Read, Write};
@@ -154,13 +156,17 @@ fn a_line_of_65536_bytes_is_read_and_no_longer_one(rt: HostRuntime) -> Result<()
 #[test]
 fn a_source_fails_at_each_call(rt: HostRuntime) -> Result<(), Fail> {
     let two = "h5swmr play --type i32le --chunk 2";
-    let table: [(u64, &[u8], u8); 3] = [
-        (1, b"error source\n", 11),
-        (2, b"appended 1\nerror source\n", 11),
-        (3, b"appended 1\n", 0),
+    let table: [(&[u8], u64, &[u8], u8); 6] = [
+        (b"append 1\n", 1, b"error source\n", 11),
+        (b"append 1\n", 2, b"appended 1\nerror source\n", 11),
+        (b"append 1\n", 3, b"appended 1\n", 0),
+        // of a last piece without its end nothing is answered, until the end of the input is known
+        (b"append 1\nflush", 2, b"appended 1\nerror source\n", 11),
+        (b"append 1\nflush", 3, b"appended 1\nflushing 5\n", 0),
+        (b"flush", 2, b"error source\n", 11),
     ];
-    for (call, want, number) in table {
-        let mut source = MemSource::with_faults(rt.alloc(), b"append 1\n", &[call])?;
+    for (input, call, want, number) in table {
+        let mut source = MemSource::with_faults(rt.alloc(), input, &[call])?;
         let mut sink = MemSink::new(rt.alloc());
         check_run(&rt, two, &mut source, &mut sink, want, number)?;
     }
@@ -187,20 +193,36 @@ fn a_sink_fails_at_each_call(rt: HostRuntime) -> Result<(), Fail> {
 }
 
 #[test]
-fn other_words_are_refused(rt: HostRuntime) -> Result<(), Fail> {
+fn other_words_are_refused_and_nothing_is_read(rt: HostRuntime) -> Result<(), Fail> {
     let table = [
+        // no command, another one, help
         "",
         "h5swmr",
+        "h5swmr stop --type i32le --chunk 2",
         "h5swmr --help",
+        "h5swmr play --help",
+        "h5swmr --version",
+        // an unknown word, an option twice, without its value, not there
+        "h5swmr play --type i32le --chunk 2 now",
+        "h5swmr play --type i32le --chunk 2 --rows 2",
+        "h5swmr play --type i32le --chunk 2 --chunk 2",
+        "h5swmr play --type i32le --chunk",
         "h5swmr play --type i32le",
+        // values out of form or range
         "h5swmr play --type i32be --chunk 2",
+        "h5swmr play --type i32le --chunk 02",
         "h5swmr play --type i32le --chunk 0",
         "h5swmr play --type i32le --chunk 65537",
         "h5swmr play --type i32le --chunk 2 --attempts 1001",
-        "h5swmr stop --type i32le --chunk 2",
+        "h5swmr play --type i32le --chunk 2 --name a/b",
+        "h5swmr play --type i32le --chunk 2 --limit 1023",
     ];
     for words in table {
-        check_input(&rt, words, b"flush\n", b"error usage\n", 2)?;
+        // the first call of the source fails, so that it was not called before where it fails now
+        let mut source = MemSource::with_faults(rt.alloc(), b"flush\n", &[1])?;
+        let mut sink = MemSink::new(rt.alloc());
+        check_run(&rt, words, &mut source, &mut sink, b"error usage\n", 2)?;
+        assert!(rt; source.read(&mut [0; 6]).is_err(), "{words}");
     }
     Ok(())
 }
@@ -230,18 +252,94 @@ fn a_reader_makes_so_many_attempts(rt: HostRuntime) -> Result<(), Fail> {
 }
 
 #[test]
-fn a_job_is_done_without_a_runtime(rt: HostRuntime) -> Result<(), Fail> {
-    let mut source = MemSource::of(rt.alloc(), b"append 7\n")?;
+fn a_name_moves_what_stands_behind_it(rt: HostRuntime) -> Result<(), Fail> {
+    let table: [(&str, &[u8]); 2] = [
+        (
+            "h5swmr play --type i32le --chunk 128 --limit 1024 --name data",
+            b"full space 558 512 1024\n",
+        ),
+        (
+            "h5swmr play --type i32le --chunk 128 --limit 1024 --name d",
+            b"full space 555 512 1024\n",
+        ),
+    ];
+    for (words, last) in table {
+        let mut want = Vec::from_slice(rt.alloc(), b"appended 1\n")?;
+        want.extend_from_slice(last)?;
+        check_input(&rt, words, b"append 1\nflush\n", &want, 0)?;
+    }
+    Ok(())
+}
+
+/// Asserts what a job writes that is done without a runtime, on a dataset `data`.
+fn check_plain(
+    rt: &(impl Abort + AllocGlobal),
+    chunk_rows: u64,
+    limit: u64,
+    attempts: u32,
+    input: &[u8],
+    want: &[u8],
+) -> Result<(), Fail>
+    requires rows { (1 ≤ chunk_rows) × (chunk_rows ≤ 65536) }
+    requires bytes { (1024 ≤ limit) × (limit ≤ 2 ^ 40) }
+    requires looks { (1 ≤ attempts) × (attempts ≤ 1000) }
+{
+    let name = Bytes::from_vec(Vec::from_slice(rt.alloc(), b"data")?);
+    let job = Job::Play {
+        name,
+        chunk_rows,
+        limit,
+        attempts,
+    };
+    let mut source = MemSource::of(rt.alloc(), input)?;
     let mut sink = MemSink::new(rt.alloc());
     let mut disk = MemDisk::new(rt.alloc());
-    let job = Job::Play {
-        chunk_rows: 256,
-        attempts: 8,
-    };
     let status = plain(rt.alloc(), &job, &mut source, &mut sink, &mut disk);
     assert_eq!(rt; status, Status::Done);
-    assert_eq!(rt; sink.written(), Some(b"appended 1\n".as_slice()));
+    assert_eq!(rt; sink.written(), Some(want));
     Ok(())
+}
+
+#[test]
+fn jobs_are_done_without_a_runtime(rt: HostRuntime) -> Result<(), Fail> {
+    let most = 1 << 40;
+    check_plain(&rt, 256, most, 8, b"append 7\n", b"appended 1\n")?;
+    // a flush has no place
+    check_plain(
+        &rt,
+        128,
+        1_024,
+        8,
+        b"append 1\nflush\nflush\n",
+        b"appended 1\nfull space 558 512 1024\nfull space 558 512 1024\n",
+    )?;
+    // a flush adds no rows between a reader's looks
+    check_plain(
+        &rt,
+        2,
+        most,
+        1,
+        b"append 1 2 3\nopen 1\nlook 1 9\nflush\nwrite 9\nrefresh 1\nlook 1 1\nflush\nwrite 2\nlook 1 9\n",
+        b"appended 3\nreader 1 open\nreader 1 rows 0\nflushing 6\nwritten 6 pending 0\nreader 1 refresh\nreader 1 looking\nflushing 0\nwritten 0 pending 0\nreader 1 rows 3\n",
+    )?;
+    // a flush adds one
+    check_plain(
+        &rt,
+        2,
+        most,
+        1,
+        b"append 1 2 3\nopen 1\nlook 1 9\nflush\nwrite 9\nrefresh 1\nlook 1 1\nappend 4\nflush\nwrite 2\nlook 1 9\n",
+        b"appended 3\nreader 1 open\nreader 1 rows 0\nflushing 6\nwritten 6 pending 0\nreader 1 refresh\nreader 1 looking\nappended 4\nflushing 2\nwritten 2 pending 0\nreader 1 again 1\n",
+    )?;
+    // a stop before the last piece
+    check_plain(
+        &rt,
+        2,
+        most,
+        8,
+        b"append 1 2 3\nflush\nwrite 5\nstop\nwrite 1\nappend 9\nopen 1\nlook 1 9\n",
+        b"appended 3\nflushing 6\nwritten 5 pending 1\nstopped\nwritten 0 pending 0\nstopped\nreader 1 open\nreader 1 rows 0\n",
+    )
 }
 
 /// A reader and a writer that fail.

@@ -38,7 +38,7 @@ append_answer (Some errors.OutOfMemory) rows = replies.Stopped
 rows_with : (w : WorldView) (s : ScriptState) (log : Log) (vs : List ℤ) → Stands w.session log → IsStateOf w s log
     → rows_in (rules_of w) (s.appended ++ vs) ≡ rows_of w.session + length vs
 rows_with w s log vs stands state =
-    rows_in-length w.session.file.chunk_rows w.attempts (s.appended ++ vs) ∙ length-append s.appended vs
+    rows_in-length w.session.file.chunk_rows w.session.file.limit w.attempts (s.appended ++ vs) ∙ length-append s.appended vs
     ∙ ap (λ n. n + length vs) (ap length state.appended ∙ sym (rows_are w.session log stands))
 
 chosen : (b : Bool) (chunks rows : ℕ) → (if b then replies.FullChunks chunks chunk_limit else replies.Appended rows 0)
@@ -180,7 +180,7 @@ appended_state w vs s log accepted state =
       ends_flush = state.ends_flush;
       taken = λ some. absurd (busy_none w.session.pending _ (going_rest w.session.stopped _ accepted) some);
       spent =
-          (λ i. state.spent i + load_of-log w.session.file.chunk_rows w.attempts s (s.appended ++ vs) (and_now (appends vs) log) state.flushed more i)
+          (λ i. state.spent i + load_of-log w.session.file.chunk_rows w.session.file.limit w.attempts s (s.appended ++ vs) (and_now (appends vs) log) state.flushed more i)
           ∙ ap (λ n. n + load (cutting_of w.session) (and_now (appends vs) log)) (sym (spent_in-events (cutting_of w.session) log (appends vs ∷ log.events) log.events));
       stopped = state.stopped;
       tries = state.tries;

@@ -16,6 +16,7 @@ use Rattle.h5w_writer.specs.Files.{FileFields}
 use Rattle.h5w_writer.specs.Plans.{creation_writes, new_file}
 use Rattle.h5w_writer.specs.Room.{HasRoomFor}
 use Rattle.h5w_writer.specs.Sessions.{Session, Stands, after_piece, created, cutting_of, log_of}
+use Rattle.h5w_writer.specs.declared.options.Options.{Options}
 use Rattle.h5w_writer.proofs.EventLemmas.{committed_are, rows_are}
 use Rattle.h5w_core.specs.Creation.{Creates}
 use Rattle.h5w_core.specs.Readers.{IsOurs, placed, poller, reader_at}
@@ -33,9 +34,9 @@ abbrev spent_for : ℕ → Log → ℕ
 spent_for chunk_rows log = spent (record { chunk_rows = chunk_rows; chunk_columns = 1; columns = 1; value_size = 4 }) log
 
 -- none is visible yet
-pub begins : (rows : ℕ) (s : Session) (m n : MemView) → s ≡ created rows → Stands s (log_of []) → m ≡ fresh [] [] → Same (steady m) (steady n) → length s.pending + 1 ≤ n.pieces → s.file.end ≤ n.end
-    → Creates rows 0 s n
-begins rows s m n is stands empty same pieces end =
+pub begins : (o : Options) (s : Session) (m n : MemView) → s ≡ created o → Stands s (log_of []) → m ≡ fresh [] [] → Same (steady m) (steady n) → length s.pending + 1 ≤ n.pieces → s.file.end ≤ n.end
+    → Creates o 0 s n
+begins o s m n is stands empty same pieces end =
     let history : n.history ≡ [] = some_is n.history m.history same.history ∙ ap (λ (v : MemView). v.history) empty in
     record {
       log = log_of [];
@@ -53,17 +54,17 @@ begins rows s m n is stands empty same pieces end =
     }
 
 -- a piece is left as long as not all five are visible
-some_left : (rows count : ℕ) (s : Session) (m : MemView) → Creates rows count s m → length s.pending + count ≡ 5
-some_left rows count s m start = omega (arith, length-append m.history s.pending, ap length start.pieces, start.shown)
+some_left : (o : Options) (count : ℕ) (s : Session) (m : MemView) → Creates o count s m → length s.pending + count ≡ 5
+some_left o count s m start = omega (arith, length-append m.history s.pending, ap length start.pieces, start.shown)
 
 -- one more
-new_committed : (s : Session) (ws : List Write) (rows : ℕ) → s.file ≡ new_file rows → s.committed ≡ 0 → (after_piece s ws).committed ≡ 0
-new_committed s [] rows file none = ap (λ (f : FileFields). f.rows) file
-new_committed s (w ∷ ws) rows file none = none
+new_committed : (s : Session) (ws : List Write) (o : Options) → s.file ≡ new_file o → s.committed ≡ 0 → (after_piece s ws).committed ≡ 0
+new_committed s [] o file none = ap (λ (f : FileFields). f.rows) file
+new_committed s (w ∷ ws) o file none = none
 
-piece_more : (rows count : ℕ) (s t : Session) (m n : MemView) (piece : Write) (pieces : List Write) → s.pending ≡ piece ∷ pieces → Creates rows count s m → t ≡ after_piece s pieces
-    → Wrote (piece ∷ []) (steady m) (steady n) → ((log : Log) → Stands s log → Stands t (and_now (shows piece) log)) → HasRoomFor t (steady n) → Creates rows (count + 1) t n
-piece_more rows count s t m n piece pieces pending start is wrote stands room =
+piece_more : (o : Options) (count : ℕ) (s t : Session) (m n : MemView) (piece : Write) (pieces : List Write) → s.pending ≡ piece ∷ pieces → Creates o count s m → t ≡ after_piece s pieces
+    → Wrote (piece ∷ []) (steady m) (steady n) → ((log : Log) → Stands s log → Stands t (and_now (shows piece) log)) → HasRoomFor t (steady n) → Creates o (count + 1) t n
+piece_more o count s t m n piece pieces pending start is wrote stands room =
     let log = start.log in
     let history : n.history ≡ m.history ++ piece ∷ [] = some_is n.history (m.history ++ piece ∷ []) wrote.history in
     let file : t.file ≡ s.file = ap (λ (x : Session). x.file) is ∙ after_file s pieces in
@@ -73,7 +74,7 @@ piece_more rows count s t m n piece pieces pending start is wrote stands room =
       history = history ∙ ap (λ (ws : List Write). ws ++ piece ∷ []) start.history;
       bytes = some_is n.bytes (image m.bytes (piece ∷ [])) wrote.bytes ∙ ap (λ (b : List ℕ). image b (piece ∷ [])) start.bytes ∙ sym (image-push [] (hist log.events) piece);
       file = file ∙ start.file;
-      committed = ap (λ (x : Session). x.committed) is ∙ new_committed s pieces rows start.file start.committed;
+      committed = ap (λ (x : Session). x.committed) is ∙ new_committed s pieces o start.file start.committed;
       waiting = ap (λ (x : Session). x.waiting) is ∙ after_waiting s pieces ∙ start.waiting;
       going = ap (λ (x : Session). x.stopped) is ∙ after_stopped s pieces ∙ start.going;
       loads =
@@ -90,21 +91,21 @@ piece_more rows count s t m n piece pieces pending start is wrote stands room =
 abbrev pub Shows : Session → Session → MemView → MemView → Type 0
 Shows s t m n = (w : Write) (ws : List Write) → s.pending ≡ w ∷ ws → (t ≡ after_piece s ws) × Wrote (w ∷ []) (steady m) (steady n) × ((log : Log) → Stands s log → Stands t (and_now (shows w) log))
 
-pieces_more : (rows count : ℕ) (s t : Session) (m n : MemView) (ws : List Write) → s.pending ≡ ws → 1 ≤ length ws → Creates rows count s m → Shows s t m n → HasRoomFor t (steady n) → Creates rows (count + 1) t n
-pieces_more rows count s t m n [] pending some start shown room = absurd (omega arith)
-pieces_more rows count s t m n (w ∷ ws) pending some start shown room =
-    let h = shown w ws pending in piece_more rows count s t m n w ws pending start h.0 h.1 h.2 room
+pieces_more : (o : Options) (count : ℕ) (s t : Session) (m n : MemView) (ws : List Write) → s.pending ≡ ws → 1 ≤ length ws → Creates o count s m → Shows s t m n → HasRoomFor t (steady n) → Creates o (count + 1) t n
+pieces_more o count s t m n [] pending some start shown room = absurd (omega arith)
+pieces_more o count s t m n (w ∷ ws) pending some start shown room =
+    let h = shown w ws pending in piece_more o count s t m n w ws pending start h.0 h.1 h.2 room
 
-pub shows_more : (rows count : ℕ) (s t : Session) (m n : MemView) → count < 5 → Creates rows count s m → Shows s t m n → HasRoomFor t (steady n) → Creates rows (count + 1) t n
-shows_more rows count s t m n few start shown room = pieces_more rows count s t m n s.pending refl (omega (arith, some_left rows count s m start)) start shown room
+pub shows_more : (o : Options) (count : ℕ) (s t : Session) (m n : MemView) → count < 5 → Creates o count s m → Shows s t m n → HasRoomFor t (steady n) → Creates o (count + 1) t n
+shows_more o count s t m n few start shown room = pieces_more o count s t m n s.pending refl (omega (arith, some_left o count s m start)) start shown room
 
 -- ---- All five are visible
 
-all_shown : (rows : ℕ) (s : Session) (m : MemView) → Creates rows 5 s m → s.pending ≡ []
-all_shown rows s m start = nil_from_length s.pending (omega (arith, some_left rows 5 s m start))
+all_shown : (o : Options) (s : Session) (m : MemView) → Creates o 5 s m → s.pending ≡ []
+all_shown o s m start = nil_from_length s.pending (omega (arith, some_left o 5 s m start))
 
-pub all_created : (rows : ℕ) (s : Session) (m : MemView) → Creates rows 5 s m → m.history ≡ creation_writes rows
-all_created rows s m start = sym (append-nil m.history) ∙ ap (λ (ws : List Write). m.history ++ ws) (sym (all_shown rows s m start)) ∙ start.pieces
+pub all_created : (o : Options) (s : Session) (m : MemView) → Creates o 5 s m → m.history ≡ creation_writes o
+all_created o s m start = sym (append-nil m.history) ∙ ap (λ (ws : List Write). m.history ++ ws) (sym (all_shown o s m start)) ∙ start.pieces
 
 -- no place has a reader
 abbrev nobody_there : Option ReaderCore
@@ -118,10 +119,10 @@ nowhere (suc n) (suc r) = nowhere n r
 nobody_at : (r : ℕ) → reader_at nobody r ≡ None
 nobody_at r = ap placed (nowhere 17 r)
 
-created_fits : (rows attempts : ℕ) (s : Session) (m : MemView) → 1 ≤ attempts → Creates rows 5 s m → Fits (world_of s m attempts nobody) at_first
-created_fits rows attempts s m some start =
+created_fits : (o : Options) (attempts : ℕ) (s : Session) (m : MemView) → 1 ≤ attempts → Creates o 5 s m → Fits (world_of s m attempts nobody) at_first
+created_fits o attempts s m some start =
     let w = world_of s m attempts nobody in
-    let shown = all_shown rows s m start in
+    let shown = all_shown o s m start in
     let rows_none : s.file.rows ≡ 0 = ap (λ (f : FileFields). f.rows) start.file in
     let waits : length s.waiting ≡ 0 = ap length start.waiting in
     let values : s.file.rows + length s.waiting ≡ length (appended start.log) = rows_are s start.log start.stands in
@@ -139,25 +140,25 @@ created_fits rows attempts s m some start =
         stopped = sym start.going;
         tries = some;
         begun = omega (arith, pieces, ap (λ (l : Log). l.first) start.stands.goes.is);
-        ours = λ r. subst (λ (o : Option Reader). IsOurs attempts o) (sym (nobody_at r)) tt;
+        ours = λ r. subst (λ (place : Option Reader). IsOurs s.file.name attempts place) (sym (nobody_at r)) tt;
         polls = λ r. subst (λ (o : Option Reader). MayPoll (polling_of w) start.log None (option_map poller o)) (sym (nobody_at r)) tt;
       };
     }
 
-pub created_rules : (rows attempts : ℕ) (s : Session) (m : MemView) (readers : List (Option ReaderCore)) → Creates rows 5 s m → rules_of (world_of s m attempts readers) ≡ rules_for rows attempts
-created_rules rows attempts s m readers start = ap (λ (f : FileFields). rules_for f.chunk_rows attempts) start.file
+pub created_rules : (o : Options) (attempts : ℕ) (s : Session) (m : MemView) (readers : List (Option ReaderCore)) → Creates o 5 s m → rules_of (world_of s m attempts readers) ≡ rules_for o.chunk_rows o.limit attempts
+created_rules o attempts s m readers start = ap (λ (f : FileFields). rules_for f.chunk_rows f.limit attempts) start.file
 
-pub created_world_fits : (rows attempts : ℕ) (s : Session) (m : MemView) (readers : List (Option ReaderCore)) → 1 ≤ attempts → Creates rows 5 s m → readers ≡ nobody
+pub created_world_fits : (o : Options) (attempts : ℕ) (s : Session) (m : MemView) (readers : List (Option ReaderCore)) → 1 ≤ attempts → Creates o 5 s m → readers ≡ nobody
     → Fits (world_of s m attempts readers) at_first
-created_world_fits rows attempts s m readers some start none =
-    subst (λ (places : List (Option ReaderCore)). Fits (world_of s m attempts places) at_first) (sym none) (created_fits rows attempts s m some start)
+created_world_fits o attempts s m readers some start none =
+    subst (λ (places : List (Option ReaderCore)). Fits (world_of s m attempts places) at_first) (sym none) (created_fits o attempts s m some start)
 
-pub created_holds : (rows attempts : ℕ) (s : Session) (m : MemView) (readers : List (Option ReaderCore)) → 1 ≤ attempts → Creates rows 5 s m → readers ≡ nobody → HoldsTogether s m attempts readers
-created_holds rows attempts s m readers some start none =
+pub created_holds : (o : Options) (attempts : ℕ) (s : Session) (m : MemView) (readers : List (Option ReaderCore)) → 1 ≤ attempts → Creates o 5 s m → readers ≡ nobody → HoldsTogether s m attempts readers
+created_holds o attempts s m readers some start none =
     record {
       room = start.room;
       folds = start.bytes ∙ ap (image []) (sym start.history);
       places = ap length none;
       script = at_first;
-      fits = created_world_fits rows attempts s m readers some start none;
+      fits = created_world_fits o attempts s m readers some start none;
     }

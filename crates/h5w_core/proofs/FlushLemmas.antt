@@ -8,7 +8,10 @@ use Rattle.h5w_polling.specs.Polling.{Polling, Poller}
 use Rattle.h5w_polling.specs.Scripts.{AllPoll}
 use Rattle.h5w_polling.proofs.EventLemmas.{counts_same, goes_on_still, polls_on}
 use Rattle.h5w_polling.proofs.ScriptLemmas.{all_kept}
+use Rattle.h5w_space.specs.declared.Full.{Full}
 use Rattle.h5w_writer.specs.Files.{FileFields}
+use Rattle.h5w_writer.specs.Plans.{options_of}
+use Rattle.h5w_writer.specs.declared.options.Options.{Options}
 use Rattle.h5w_writer.specs.Flushes.{after_rows}
 use Rattle.h5w_model.specs.Lawful.{Rules, ScriptState, Allowed, FlushAllowed, IsPlanned, IsFull, line_of, load_of, next_state, rows_of}
 use Rattle.h5w_model.specs.declared.event.Event.TheVariants as events
@@ -23,12 +26,13 @@ use Rattle.h5w_core.proofs.WorldLemmas.{world_of, changed}
 use Rattle.h5w_image.specs.Memory.{MemView}
 use Rattle.h5w_image.specs.View.{Same}
 use Rattle.h5w_reader.specs.declared.reader.ReaderCore.{ReaderCore}
-use Rattle.h5w_core.specs.Readers.{pollers}
+use Rattle.h5w_core.specs.Readers.{AreOurs, pollers}
 use Rattle.h5w_core.specs.Steady.{steady}
-use Rattle.h5w_writer.specs.Refusals.{flush_refusal}
+use Rattle.h5w_writer.specs.Refusals.{NoPlace, flush_refusal, full_for}
 use Rattle.h5w_writer.specs.declared.refusal.FlushError.{FlushError}
 use Rattle.h5w_writer.specs.declared.refusal.FlushError.TheVariants as errors
-use Rattle.std.proofs.Common.{Option, Some, None, Result, Ok, Err, if◌then◌else◌}
+use Rattle.std.proofs.Common.{Option, Some, None, Result, Ok, Err, option_map, if◌then◌else◌}
+use Rattle.std.specs.Option.{unwrap_or}
 
 -- ---- Busy
 
@@ -72,16 +76,16 @@ unflushed w s log going idle stands state =
     let all : w.session.file.rows + length w.session.waiting ≡ length (appended log) = rows_are w.session log stands in
     let old : length (flushed log) ≡ w.session.file.rows = flushed_rows w.session log stands going idle in
     let values : length s.appended ≡ length (appended log) = ap length state.appended in
-    rows_in-length w.session.file.chunk_rows w.attempts s.appended ∙ omega (arith, state.flushed)
+    rows_in-length w.session.file.chunk_rows w.session.file.limit w.attempts s.appended ∙ omega (arith, state.flushed)
 
 some_pieces : (waiting : List ℤ) (pieces : ℕ) → (pieces ≡ 0 → waiting ≡ []) → 0 < length waiting → 1 ≤ pieces
 some_pieces waiting pieces none some =
     elim (cases_lt 0 pieces) [ inl more ↦ more | inr few ↦ (let waits : length waiting ≡ 0 = ap length (none (omega arith)) in absurd (omega arith)) ]
 
--- a flush leaves how rows are cut
-planned_cut : (f : FileFields) (waiting : List ℤ) → (after_rows waiting f).chunk_rows ≡ f.chunk_rows
-planned_cut f [] = refl
-planned_cut f (v ∷ vs) = refl
+-- a flush leaves by what the file was created
+planned_options : (f : FileFields) (waiting : List ℤ) → options_of (after_rows waiting f) ≡ options_of f
+planned_options f [] = refl
+planned_options f (v ∷ vs) = refl
 
 planned_allowed : (w : WorldView) (s : ScriptState) (log : Log) (pieces : ℕ) → IsFlush w.session pieces → Stands w.session log → IsStateOf w s log
     → MatchBool (nat_lt s.flushed (rows_of (rules_of w) s)) (IsPlanned (rules_of w) s (replies.Flushing pieces) ⊎ IsFull (rules_of w) s (replies.Flushing pieces)) (replies.Flushing pieces ≡ replies.Flushing 0)
@@ -92,7 +96,7 @@ planned_allowed w s log pieces flush stands state =
     elim (cases_lt 0 (length w.session.waiting)) [
       | inl some ↦
           let bound : pieces ≤ load_of g s s.appended =
-          subst (λ (n : ℕ). pieces ≤ n) (sym (load_of-log w.session.file.chunk_rows w.attempts s s.appended log state.flushed state.appended)) (flush.load_bound log stands) in
+          subst (λ (n : ℕ). pieces ≤ n) (sym (load_of-log w.session.file.chunk_rows w.session.file.limit w.attempts s s.appended log state.flushed state.appended)) (flush.load_bound log stands) in
           subst (λ (b : Bool). MatchBool b (IsPlanned g s reply ⊎ IsFull g s reply) (reply ≡ replies.Flushing 0)) (sym (lt-ltb s.flushed (rows_of g s) (omega (arith, rows))))
           (inl (record { pieces = pieces; is = refl; positive = some_pieces w.session.waiting pieces flush.none.0 some; bound = bound }))
       | inr none ↦
@@ -138,22 +142,22 @@ planned_state w s log pieces flush stands state =
       ends_flush = ap (λ n. nat_lt 0 n) flush.count;
       taken = λ some. refl;
       spent =
-          (λ i. state.spent i + load_of-log w.session.file.chunk_rows w.attempts s s.appended log state.flushed state.appended i)
+          (λ i. state.spent i + load_of-log w.session.file.chunk_rows w.session.file.limit w.attempts s s.appended log state.flushed state.appended i)
           ∙ ap (λ n. n + load (cutting_of w.session) log) (sym (spent_in-events (cutting_of w.session) log (plans pieces ∷ log.events) log.events))
-          ∙ ap (λ (c : Cutting). spent_in c (and_now (plans pieces) log) log.events + load c log) (sym (ap cutting_for (planned_cut w.session.file w.session.waiting)));
+          ∙ ap (λ (c : Cutting). spent_in c (and_now (plans pieces) log) log.events + load c log) (sym (ap (λ (o : Options). cutting_for o.chunk_rows) (planned_options w.session.file w.session.waiting)));
       stopped = state.stopped;
       tries = state.tries;
-      ours = state.ours;
+      ours = subst (λ (o : Options). AreOurs o.name w.attempts w.readers) (sym (planned_options w.session.file w.session.waiting)) state.ours;
       begun = state.begun;
       polls =
-          subst (λ (n : ℕ). AllPoll (polling_by (rules_for n w.attempts)) (and_now (plans pieces) log) (record s { pending = pieces; ends_flush = nat_lt 0 pieces; spent = s.spent + load_of (rules_of w) s s.appended }) (pollers w.readers))
-          (sym (planned_cut w.session.file w.session.waiting)) polls;
+          subst (λ (o : Options). AllPoll (polling_by o.name (rules_for o.chunk_rows o.limit w.attempts)) (and_now (plans pieces) log) (record s { pending = pieces; ends_flush = nat_lt 0 pieces; spent = s.spent + load_of (rules_of w) s s.appended }) (pollers w.readers))
+          (sym (planned_options w.session.file w.session.waiting)) polls;
     }
 
 pub planned_steps : (w : WorldView) (pieces : ℕ) → IsFlush w.session pieces → Steps w events.Flush (replies.Flushing pieces) (planned_world w)
 planned_steps w pieces flush =
     record {
-      rules = ap (λ n. rules_for n w.attempts) (planned_cut w.session.file w.session.waiting);
+      rules = ap (λ (o : Options). rules_for o.chunk_rows o.limit w.attempts) (planned_options w.session.file w.session.waiting);
       lawful = λ s fits. (
         flush_allowed w s fits.log pieces flush fits.stands.stands fits.state,
         record {
@@ -162,6 +166,48 @@ planned_steps w pieces flush =
           state = planned_state w s fits.log pieces flush fits.stands.stands fits.state;
         },
       );
+    }
+
+-- ---- Without a place
+
+full_free : (w : WorldView) (s : ScriptState) (log : Log) (full : Full) → NoPlace w.session log full → s.flushed < rows_of (rules_of w) s → IsStateOf w s log
+    → MatchBool (nat_lt s.flushed (rows_of (rules_of w) s))
+    (IsPlanned (rules_of w) s (replies.FullSpace full.at full.size full.limit) ⊎ IsFull (rules_of w) s (replies.FullSpace full.at full.size full.limit)) (replies.FullSpace full.at full.size full.limit ≡ replies.Flushing 0)
+full_free w s log full none some state =
+    let g = rules_of w in
+    let reply = replies.FullSpace full.at full.size full.limit in
+    let load_is = load_of-log w.session.file.chunk_rows w.session.file.limit w.attempts s s.appended log state.flushed state.appended in
+    let size : full.size ≤ load_of g s s.appended = subst (λ (n : ℕ). full.size ≤ n) (sym load_is) none.size_bound in
+    let place : full.at ≤ 1024 + s.spent + load_of g s s.appended =
+    subst (λ (n : ℕ). full.at ≤ 1024 + s.spent + n) (sym load_is) (subst (λ (n : ℕ). full.at ≤ 1024 + n + load g.cutting log) (sym state.spent) none.at_bound) in
+    subst (λ (b : Bool). MatchBool b (IsPlanned g s reply ⊎ IsFull g s reply) (reply ≡ replies.Flushing 0)) (sym (lt-ltb s.flushed (rows_of g s) some))
+    (inr (record {
+      place = full.at;
+      size = full.size;
+      is = ap (λ n. replies.FullSpace full.at full.size n) none.limit;
+      positive = none.some;
+      size_bound = size;
+      place_bound = place;
+      full = subst (λ (n : ℕ). n < full.at + full.size) none.limit none.past;
+    }))
+
+full_allowed : (w : WorldView) (s : ScriptState) (log : Log) (full : Full) → w.session.stopped ≡ false → w.session.pending ≡ [] → NoPlace w.session log full → Stands w.session log → IsStateOf w s log
+    → FlushAllowed (rules_of w) s (replies.FullSpace full.at full.size full.limit)
+full_allowed w s log full going idle none stands state =
+    let g = rules_of w in
+    let rows = unflushed w s log going idle stands state in
+    let empty : s.pending ≡ 0 = state.pending ∙ ap length idle in
+    let reply = replies.FullSpace full.at full.size full.limit in
+    let free : Type 0 = MatchBool (nat_lt s.flushed (rows_of g s)) (IsPlanned g s reply ⊎ IsFull g s reply) (reply ≡ replies.Flushing 0) in
+    subst (λ (b : Bool). MatchBool b (reply ≡ replies.Stopped) (MatchBool (nat_lt 0 s.pending) (reply ≡ replies.Busy s.pending) free)) (sym (state.stopped ∙ going))
+    (subst (λ (n : ℕ). MatchBool (nat_lt 0 n) (reply ≡ replies.Busy n) free) (sym empty) (full_free w s log full none (omega (arith, rows, none.waits)) state))
+
+pub full_steps : (w : WorldView) (full : Full) → w.session.stopped ≡ false → w.session.pending ≡ [] → ((log : Log) → Stands w.session log → NoPlace w.session log full)
+    → Steps w events.Flush (replies.FullSpace full.at full.size full.limit) w
+full_steps w full going idle none =
+    record {
+      rules = refl;
+      lawful = λ s fits. (full_allowed w s fits.log full going idle (none fits.log fits.stands.stands) fits.stands.stands fits.state, fits);
     }
 
 -- ---- By the parts of a world
@@ -189,31 +235,54 @@ none_of : (b : Bool) (rest : Option FlushError) → (if b then Some errors.Stopp
 none_of true rest is = absurd (some_none errors.Stopped (sym is))
 none_of false rest is = (refl, is)
 
+-- nothing is pending, so that a flush is refused for want of a place alone
+no_other : (o : Option Full) (e : FlushError) → ((full : Full) → e ≡ errors.Space full → ⊥) → option_map errors.Space o ≡ Some e → ⊥
+no_other None e other is = some_none e is
+no_other (Some full) e other is = other full (sym (ap (λ (x : Option FlushError). unwrap_or x e) is))
+
+-- what is answered with so many pieces pending
+abbrev pending_or : ℕ → Option Full → Option FlushError
+pending_or k o = if nat_lt 0 k then Some (errors.Busy k) else option_map errors.Space o
+
+is_pending : (k : ℕ) (o : Option Full) → 0 < k → pending_or k o ≡ Some (errors.Busy k)
+is_pending k o some = ap (λ (b : Bool). if b then Some (errors.Busy k) else option_map errors.Space o) (lt-ltb 0 k some)
+
+is_free : (k : ℕ) (o : Option Full) → k ≤ 0 → pending_or k o ≡ option_map errors.Space o
+is_free k o none = ap (λ (b : Bool). if b then Some (errors.Busy k) else option_map errors.Space o) (le-ltb 0 k none)
+
+busy_full : (n : ℕ) (full : Full) → errors.Busy n ≡ errors.Space full → ⊥
+busy_full n full e = cc
+
+stopped_full : (full : Full) → errors.Stopped ≡ errors.Space full → ⊥
+stopped_full full e = cc
+
 -- and of one that was stopped
-stopped_by : (b : Bool) (k : ℕ) → (if b then Some errors.Stopped else (if nat_lt 0 k then Some (errors.Busy k) else None)) ≡ Some errors.Stopped → b ≡ true
-stopped_by true k is = refl
-stopped_by false k is =
+stopped_by : (b : Bool) (k : ℕ) (o : Option Full) → (if b then Some errors.Stopped else pending_or k o) ≡ Some errors.Stopped → b ≡ true
+stopped_by true k o is = refl
+stopped_by false k o is =
     elim (cases_lt 0 k) [
-      | inl some ↦
-          let clash : Some (errors.Busy k) ≡ Some errors.Stopped = ap (λ (b : Bool). if b then Some (errors.Busy k) else None) (sym (lt-ltb 0 k some)) ∙ is in
-          absurd (stopped_busy k (sym clash))
-      | inr none ↦
-          let clash : None ≡ Some errors.Stopped = ap (λ (b : Bool). if b then Some (errors.Busy k) else None) (sym (le-ltb 0 k none)) ∙ is in
-          absurd (some_none errors.Stopped clash)
+      | inl some ↦ absurd (stopped_busy k (sym is ∙ is_pending k o some))
+      | inr none ↦ absurd (no_other o errors.Stopped (λ full e. stopped_full full e) (sym (is_free k o none) ∙ is))
     ]
 
-is_busy : (k n : ℕ) → (if nat_lt 0 k then Some (errors.Busy k) else None) ≡ Some (errors.Busy n) → (n ≡ k) × (0 < n)
+is_busy : (k n : ℕ) (o : Option Full) → pending_or k o ≡ Some (errors.Busy n) → (n ≡ k) × (0 < n)
 unfolding pending_of
-is_busy k n refusal =
+is_busy k n o refusal =
     elim (cases_lt 0 k) [
       | inl some ↦
-          let busy : Some (errors.Busy k) ≡ Some (errors.Busy n) = ap (λ (b : Bool). if b then Some (errors.Busy k) else None) (sym (lt-ltb 0 k some)) ∙ refusal in
-          let same : k ≡ n = ap pending_of busy in
+          let same : k ≡ n = ap pending_of (sym (is_pending k o some) ∙ refusal) in
           (sym same, omega arith)
-      | inr none ↦
-          let clash : None ≡ Some (errors.Busy n) = ap (λ (b : Bool). if b then Some (errors.Busy k) else None) (sym (le-ltb 0 k none)) ∙ refusal in
-          absurd (some_none (errors.Busy n) clash)
+      | inr none ↦ absurd (no_other o (errors.Busy n) (λ full e. busy_full n full e) (sym (is_free k o none) ∙ refusal))
     ]
+
+-- without a place the session goes on, and nothing is pending
+is_full : (b : Bool) (ws : List Write) (o : Option Full) (full : Full) → (if b then Some errors.Stopped else pending_or (length ws) o) ≡ Some (errors.Space full) → (b ≡ false) × (ws ≡ [])
+is_full true ws o full is = absurd (stopped_full full (ap (λ (x : Option FlushError). unwrap_or x errors.Stopped) is))
+is_full false [] o full is = (refl, refl)
+is_full false (w ∷ ws) o full is =
+    let busy : errors.Busy (length (w ∷ ws)) ≡ errors.Space full =
+    ap (λ (x : Option FlushError). unwrap_or x errors.Stopped) (sym (is_pending (length (w ∷ ws)) o (omega arith)) ∙ is) in
+    absurd (busy_full (length (w ∷ ws)) full busy)
 
 busy_cause : (s : Session) (n : ℕ) (e : FlushError) → FlushCauses s e → e ≡ errors.Busy n → flush_refusal s ≡ Some (errors.Busy n)
 busy_cause s n e (inl refusal) is = refusal ∙ ap Some is
@@ -225,7 +294,7 @@ pub busy_done : (s t : Session) (m k : MemView) (attempts n : ℕ) (readers : Li
 busy_done s t m k attempts n readers w e view same kept causes is =
     let old = world_of s m attempts readers in
     let going = going_of s.stopped n _ (busy_cause s n e causes is) in
-    let busy = is_busy (length s.pending) n going.1 in
+    let busy = is_busy (length s.pending) n (full_for s.file (length s.waiting)) going.1 in
     subst (λ (x : WorldView). Steps x events.Flush (replies.Busy n) (world_of t k attempts readers)) view
     (subst (λ (x : WorldView). Steps old events.Flush (replies.Busy n) x) (sym (changed s t m k attempts readers same (λ x. x) kept)) (busy_steps old n going.0 busy.0 busy.1))
 
@@ -238,15 +307,29 @@ pub stopped_done : (s t : Session) (m k : MemView) (attempts : ℕ) (readers : L
     → FlushCauses s e → e ≡ errors.Stopped → Steps w events.Flush replies.Stopped (world_of t k attempts readers)
 stopped_done s t m k attempts readers w e view same kept causes is =
     let old = world_of s m attempts readers in
-    let stopped = stopped_by s.stopped (length s.pending) (stopped_cause s e causes is) in
+    let stopped = stopped_by s.stopped (length s.pending) (full_for s.file (length s.waiting)) (stopped_cause s e causes is) in
     subst (λ (x : WorldView). Steps x events.Flush replies.Stopped (world_of t k attempts readers)) view
     (subst (λ (x : WorldView). Steps old events.Flush replies.Stopped x) (sym (changed s t m k attempts readers same (λ x. x) kept)) (stopped_steps old stopped))
 
-idle_list : (ws : List Write) → (if nat_lt 0 (length ws) then Some (errors.Busy (length ws)) else None) ≡ None → ws ≡ []
-idle_list [] none = refl
-idle_list (w ∷ ws) none =
-    let busy : Some (errors.Busy (length (w ∷ ws))) ≡ None = ap (λ (b : Bool). if b then Some (errors.Busy (length (w ∷ ws))) else None) (sym (lt-ltb 0 (length (w ∷ ws)) (omega arith))) ∙ none in
-    cc
+space_cause : (s : Session) (full : Full) (e : FlushError) → FlushCauses s e → e ≡ errors.Space full → flush_refusal s ≡ Some (errors.Space full)
+space_cause s full e (inl refusal) is = refusal ∙ ap Some is
+space_cause s full e (inr (inl failed)) is = let clash : errors.Failed ≡ errors.Space full = sym failed ∙ is in cc
+space_cause s full e (inr (inr memory)) is = let clash : errors.OutOfMemory ≡ errors.Space full = sym memory ∙ is in cc
+
+pub full_done : (s t : Session) (m k : MemView) (attempts : ℕ) (readers : List (Option ReaderCore)) (w : WorldView) (e : FlushError) (full : Full) (r : Result ℕ FlushError) → world_of s m attempts readers ≡ w → Same (steady m) (steady k) → t ≡ s
+    → FlushCauses s e → e ≡ errors.Space full → r ≡ Err e → ((f : Full) → r ≡ Err (errors.Space f) → (log : Log) → Stands s log → NoPlace s log f)
+    → Steps w events.Flush (replies.FullSpace full.at full.size full.limit) (world_of t k attempts readers)
+full_done s t m k attempts readers w e full r view same kept causes is result space =
+    let old = world_of s m attempts readers in
+    let free = is_full s.stopped s.pending (full_for s.file (length s.waiting)) full (space_cause s full e causes is) in
+    let answered : r ≡ Err (errors.Space full) = result ∙ ap Err is in
+    let reply = replies.FullSpace full.at full.size full.limit in
+    subst (λ (x : WorldView). Steps x events.Flush reply (world_of t k attempts readers)) view
+    (subst (λ (x : WorldView). Steps old events.Flush reply x) (sym (changed s t m k attempts readers same (λ x. x) kept)) (full_steps old full free.0 free.1 (space full answered)))
+
+idle_list : (ws : List Write) (o : Option Full) → pending_or (length ws) o ≡ None → ws ≡ []
+idle_list [] o none = refl
+idle_list (w ∷ ws) o none = absurd (some_none (errors.Busy (length (w ∷ ws))) (sym none ∙ is_pending (length (w ∷ ws)) o (omega arith)))
 
 ok_err : (e : FlushError) (r : Result ℕ FlushError) (pieces : ℕ) → r ≡ Ok pieces → r ≡ Err e → ⊥
 ok_err e r pieces ok err = cc
@@ -264,7 +347,7 @@ flush_done s t m k attempts pieces readers w r view same is count none bound sta
     let free = none_of s.stopped _ (not_refused (flush_refusal s) r pieces refused ok) in
     let flush : IsFlush s pieces = record {
       going = free.0;
-      idle = idle_list s.pending free.1;
+      idle = idle_list s.pending (full_for s.file (length s.waiting)) free.1;
       count = count ∙ ap (λ (x : Session). length x.pending) is;
       none = none;
       load_bound = bound;

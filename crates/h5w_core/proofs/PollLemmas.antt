@@ -25,7 +25,6 @@ use Rattle.h5w_polling.proofs.ScriptLemmas.{begin_line_laws, look_line_laws}
 use Rattle.h5w_reader.specs.Looks.{next_look}
 use Rattle.h5w_reader.specs.Readers.{Left, Reader, fed_left, rows_program, rows_seen, wanted, with_left}
 use Rattle.h5w_reader.specs.Readers as core
-use Rattle.h5w_writer.specs.Files.{dataset_name}
 use Rattle.h5w_core.specs.Readers.{IsOurs, LookGives, LooksOn, LooksTo, LookReplies, CallReplies, OpenGives, ReadGives, ReadLooks, ReadsTo, ReadsPast, ReadsNothing, ReadBegins, RefreshGives, RefreshesTo, ended, looked, poller, pollers, unfinished}
 use Rattle.h5w_core.specs.Worlds.{WorldView, IsStateOf, StandsFor, polling_of}
 
@@ -125,7 +124,7 @@ module _ (w : WorldView) (s : ScriptState) (log : Log) (at : PollsAt w s log) (r
 
   -- ---- Open
 
-  pub open_acts : (old new : Option Reader) (reply : Reply) → pollers w.readers r ≡ option_map poller old → OpenGives r w.attempts old reply new
+  pub open_acts : (old new : Option Reader) (reply : Reply) → pollers w.readers r ≡ option_map poller old → OpenGives r w.session.file.name w.attempts old reply new
       → Acts (polling_of w) log s (opens r) reply (with_reader_at new)
   open_acts None new reply there gives =
       given (opens r) reply (replies.Opening r) new gives.0
@@ -137,11 +136,11 @@ module _ (w : WorldView) (s : ScriptState) (log : Log) (at : PollsAt w s log) (r
   -- ---- Refresh
 
   -- a call for rows begins as the laws of polling say
-  same_program : (x : Reader) (known : Option Reading) → IsOurs w.attempts (Some x) → rows_program x.attempts x.name known ≡ polling.rows_program (polling_of w) (seen_by known) known
+  same_program : (x : Reader) (known : Option Reading) → IsOurs w.session.file.name w.attempts (Some x) → rows_program x.attempts x.name known ≡ polling.rows_program (polling_of w) (seen_by known) known
   same_program x None ours = λ i. rows_program (ours.1 i) (ours.0 i) None
   same_program x (Some what) ours = λ i. rows_program (ours.1 i) (ours.0 i) (Some what)
 
-  refresh_to : (x : Reader) (left : Option Left) (new : Option Reader) (reply : Reply) → x.left ≡ left → pollers w.readers r ≡ Some (poller x) → IsOurs w.attempts (Some x) → RefreshesTo r x left reply new
+  refresh_to : (x : Reader) (left : Option Left) (new : Option Reader) (reply : Reply) → x.left ≡ left → pollers w.readers r ≡ Some (poller x) → IsOurs w.session.file.name w.attempts (Some x) → RefreshesTo r x left reply new
       → Acts (polling_of w) log s (refreshes r) reply (with_reader_at new)
   refresh_to x None new reply is there ours gives =
       let still : pollers w.readers r ≡ Some (idle x.known) = there ∙ ap (λ (l : Option Left). Some (record { known = x.known; left = option_map unfinished l })) is in
@@ -154,7 +153,7 @@ module _ (w : WorldView) (s : ScriptState) (log : Log) (at : PollsAt w s log) (r
       given (refreshes r) reply (replies.ReaderBusy r) new gives.0
       (refuse (refreshes r) (replies.ReaderBusy r) (Some x) new there gives.1 (begin_line_laws.refreshing_busy (polling_of w) log s (pollers w.readers) r x.known (unfinished l) (polled w s log at.state) busy))
 
-  pub refresh_acts : (old new : Option Reader) (reply : Reply) → pollers w.readers r ≡ option_map poller old → IsOurs w.attempts old → RefreshGives r old reply new
+  pub refresh_acts : (old new : Option Reader) (reply : Reply) → pollers w.readers r ≡ option_map poller old → IsOurs w.session.file.name w.attempts old → RefreshGives r old reply new
       → Acts (polling_of w) log s (refreshes r) reply (with_reader_at new)
   refresh_acts None new reply there ours gives =
       given (refreshes r) reply (replies.NoReader r) new gives.0

@@ -50,15 +50,15 @@ set_pollers : (places : List (Option ReaderCore)) (r : ℕ) (new : Option Reader
     → pollers (slice_set places r new) q ≡ with_place r (option_map poller (placed new)) (pollers places) q
 set_pollers places r new q inside = ap (option_map poller) (set_at places r new q inside) ∙ map_cond (r == q) (placed new) (reader_at places q)
 
-set_ours : (attempts : ℕ) (places : List (Option ReaderCore)) (r : ℕ) (new : Option ReaderCore) → r < length places → AreOurs attempts places → IsOurs attempts (placed new) → AreOurs attempts (slice_set places r new)
-set_ours attempts places r new inside all ours q =
-    subst (λ (o : Option Reader). IsOurs attempts o) (sym (set_at places r new q inside))
-    (cond_both (r == q) (placed new) (reader_at places q) (λ (o : Option Reader). IsOurs attempts o) (λ t. ours) (λ t. all q))
+set_ours : (name : List ℕ) (attempts : ℕ) (places : List (Option ReaderCore)) (r : ℕ) (new : Option ReaderCore) → r < length places → AreOurs name attempts places → IsOurs name attempts (placed new) → AreOurs name attempts (slice_set places r new)
+set_ours name attempts places r new inside all ours q =
+    subst (λ (o : Option Reader). IsOurs name attempts o) (sym (set_at places r new q inside))
+    (cond_both (r == q) (placed new) (reader_at places q) (λ (o : Option Reader). IsOurs name attempts o) (λ t. ours) (λ t. all q))
 
 -- ---- What an event makes of a world
 
 -- the state after it fits the world with the new reader
-acts_fit : (w : WorldView) (s : ScriptState) (log : Log) (r : ℕ) (new : Option ReaderCore) (event : Event) (reply : Reply) → r < length w.readers → IsOurs w.attempts (placed new) → PollsAt w s log
+acts_fit : (w : WorldView) (s : ScriptState) (log : Log) (r : ℕ) (new : Option ReaderCore) (event : Event) (reply : Reply) → r < length w.readers → IsOurs w.session.file.name w.attempts (placed new) → PollsAt w s log
     → Acts (polling_of w) log s (line_of event) reply (with_place r (option_map poller (placed new)) (pollers w.readers))
     → Fits (record w { readers = slice_set w.readers r new }) (next_state (polling_of w).rules s (line_of event) reply)
 acts_fit w s log r new event reply inside ours at acts =
@@ -78,7 +78,7 @@ acts_fit w s log r new event reply inside ours at acts =
         stopped = state.stopped;
         tries = state.tries;
         begun = state.begun;
-        ours = set_ours w.attempts w.readers r new inside state.ours ours;
+        ours = set_ours w.session.file.name w.attempts w.readers r new inside state.ours ours;
         polls = λ q. subst (λ (o : Option Poller). MayPoll (polling_of w) log (reader_in q acts.states) o) (sym (set_pollers w.readers r new q inside)) (acts.polls q);
       };
     })
@@ -90,7 +90,7 @@ polls_at w s fits = record { holds = log_holds w fits.log fits.state.tries fits.
 abbrev pub ActsAt : WorldView → ℕ → Option ReaderCore → Event → Reply → Type 0
 ActsAt w r new event reply = (s : ScriptState) (log : Log) → PollsAt w s log → Acts (polling_of w) log s (line_of event) reply (with_place r (option_map poller (placed new)) (pollers w.readers))
 
-acts_steps : (w : WorldView) (r : ℕ) (new : Option ReaderCore) (event : Event) (reply : Reply) → r < length w.readers → IsOurs w.attempts (placed new) → ActsAt w r new event reply
+acts_steps : (w : WorldView) (r : ℕ) (new : Option ReaderCore) (event : Event) (reply : Reply) → r < length w.readers → IsOurs w.session.file.name w.attempts (placed new) → ActsAt w r new event reply
     → Steps w event reply (record w { readers = slice_set w.readers r new })
 acts_steps w r new event reply inside ours acts = record {
   rules = refl;
@@ -99,14 +99,14 @@ acts_steps w r new event reply inside ours acts = record {
 
 -- by the parts of a world, over looks at its image
 pub place_steps : (s : Session) (m n : MemView) (attempts r : ℕ) (places : List (Option ReaderCore)) (new : Option ReaderCore) (event : Event) (reply : Reply) → HoldsTogether s m attempts places → r ≤ 16
-    → Same (steady m) (steady n) → IsOurs attempts (placed new) → ActsAt (world_of s m attempts places) r new event reply
+    → Same (steady m) (steady n) → IsOurs s.file.name attempts (placed new) → ActsAt (world_of s m attempts places) r new event reply
     → Steps (world_of s m attempts places) event reply (world_of s n attempts (slice_set places r new))
 place_steps s m n attempts r places new event reply h few same ours acts =
     subst (λ (x : WorldView). Steps (world_of s m attempts places) event reply x) (sym (changed s s m n attempts (slice_set places r new) same (λ x. x) refl))
     (acts_steps (world_of s m attempts places) r new event reply (omega (arith, h.places)) ours acts)
 
 pub place_hold : (s : Session) (m n : MemView) (attempts r : ℕ) (places : List (Option ReaderCore)) (new : Option ReaderCore) (event : Event) (reply : Reply) → HoldsTogether s m attempts places → r ≤ 16
-    → Same (steady m) (steady n) → IsOurs attempts (placed new) → ActsAt (world_of s m attempts places) r new event reply → HoldsTogether s n attempts (slice_set places r new)
+    → Same (steady m) (steady n) → IsOurs s.file.name attempts (placed new) → ActsAt (world_of s m attempts places) r new event reply → HoldsTogether s n attempts (slice_set places r new)
 place_hold s m n attempts r places new event reply h few same ours acts =
     steps_hold s s m n attempts places (slice_set places r new) event reply h (place_steps s m n attempts r places new event reply h few same ours acts) (same_room s s m n same refl h.room)
     (same_folded m n same h.folds) (length-set places r new ∙ h.places)
@@ -114,7 +114,7 @@ place_hold s m n attempts r places new event reply h few same ours acts =
 -- ---- A place that stays, or whose call is taken away
 
 -- the world with a reader that polls as before at this state
-other_fits : (w : WorldView) (s : ScriptState) (states : List (ℕ × ReaderState)) (r : ℕ) (new : Option ReaderCore) → r < length w.readers → IsOurs w.attempts (placed new) → (fits : Fits w s)
+other_fits : (w : WorldView) (s : ScriptState) (states : List (ℕ × ReaderState)) (r : ℕ) (new : Option ReaderCore) → r < length w.readers → IsOurs w.session.file.name w.attempts (placed new) → (fits : Fits w s)
     → AllPoll (polling_of w) fits.log (record s { readers = states }) (with_place r (option_map poller (placed new)) (pollers w.readers))
     → Fits (record w { readers = slice_set w.readers r new }) (record s { readers = states })
 other_fits w s states r new inside ours fits polls =
@@ -132,7 +132,7 @@ other_fits w s states r new inside ours fits polls =
         stopped = state.stopped;
         tries = state.tries;
         begun = state.begun;
-        ours = set_ours w.attempts w.readers r new inside state.ours ours;
+        ours = set_ours w.session.file.name w.attempts w.readers r new inside state.ours ours;
         polls = λ q. subst (λ (o : Option Poller). MayPoll (polling_of w) fits.log (reader_in q states) o) (sym (set_pollers w.readers r new q inside)) (polls q);
       };
     }
@@ -176,9 +176,9 @@ ends_at g log s r ps (Some x) there all =
       polls = λ q. both_poll g log (r == q) (reader_in q s.readers) (ps q) ended_there.0 (poller (ended x)) ended_there.1 (all q);
     }
 
-ended_ours : (attempts : ℕ) (old : Option Reader) → IsOurs attempts old → IsOurs attempts (option_map ended old)
-ended_ours attempts None ours = tt
-ended_ours attempts (Some x) ours = ours
+ended_ours : (name : List ℕ) (attempts : ℕ) (old : Option Reader) → IsOurs name attempts old → IsOurs name attempts (option_map ended old)
+ended_ours name attempts None ours = tt
+ended_ours name attempts (Some x) ours = ours
 
 -- a place whose call was taken away
 pub place_ends : (s : Session) (m n : MemView) (attempts r : ℕ) (places : List (Option ReaderCore)) (new : Option ReaderCore) → HoldsTogether s m attempts places → r ≤ 16 → Same (steady m) (steady n)
@@ -186,7 +186,7 @@ pub place_ends : (s : Session) (m n : MemView) (attempts r : ℕ) (places : List
 place_ends s m n attempts r places new h few same is =
     let w = world_of s m attempts places in
     let e = ends_at (polling_of w) h.fits.log h.script r (pollers places) (reader_at places r) refl h.fits.state.polls in
-    let ours : IsOurs attempts (placed new) = subst (λ (o : Option Reader). IsOurs attempts o) (sym is) (ended_ours attempts (reader_at places r) (h.fits.state.ours r)) in
+    let ours : IsOurs s.file.name attempts (placed new) = subst (λ (o : Option Reader). IsOurs s.file.name attempts o) (sym is) (ended_ours s.file.name attempts (reader_at places r) (h.fits.state.ours r)) in
     let polls = subst (λ (o : Option Reader). AllPoll (polling_of w) h.fits.log (record (h.script) { readers = e.states }) (with_place r (option_map poller o) (pollers places))) (sym is) e.polls in
     record {
       room = same_room s s m n same refl h.room;
@@ -202,7 +202,7 @@ pub place_keeps : (s : Session) (m : MemView) (attempts r : ℕ) (places : List 
     → placed new ≡ reader_at places r → HoldsTogether s m attempts (slice_set places r new)
 place_keeps s m attempts r places new h few is =
     let w = world_of s m attempts places in
-    let ours : IsOurs attempts (placed new) = subst (λ (o : Option Reader). IsOurs attempts o) (sym is) (h.fits.state.ours r) in
+    let ours : IsOurs s.file.name attempts (placed new) = subst (λ (o : Option Reader). IsOurs s.file.name attempts o) (sym is) (h.fits.state.ours r) in
     record {
       room = h.room;
       folds = h.folds;
@@ -232,41 +232,41 @@ kept_place s m n attempts r places new o w view inside same is =
 
 -- ---- Each event
 
-ours_kept : (attempts : ℕ) (x y : Reader) → y.name ≡ x.name → y.attempts ≡ x.attempts → IsOurs attempts (Some x) → IsOurs attempts (Some y)
-ours_kept attempts x y name tries ours = (name ∙ ours.0, tries ∙ ours.1)
+ours_kept : (name : List ℕ) (attempts : ℕ) (x y : Reader) → y.name ≡ x.name → y.attempts ≡ x.attempts → IsOurs name attempts (Some x) → IsOurs name attempts (Some y)
+ours_kept name attempts x y same tries ours = (same ∙ ours.0, tries ∙ ours.1)
 
-ours_by : (attempts : ℕ) (new old : Option Reader) → new ≡ old → IsOurs attempts old → IsOurs attempts new
-ours_by attempts new old is ours = subst (λ (o : Option Reader). IsOurs attempts o) (sym is) ours
+ours_by : (name : List ℕ) (attempts : ℕ) (new old : Option Reader) → new ≡ old → IsOurs name attempts old → IsOurs name attempts new
+ours_by name attempts new old is ours = subst (λ (o : Option Reader). IsOurs name attempts o) (sym is) ours
 
-open_ours : (r attempts : ℕ) (old new : Option Reader) (reply : Reply) → OpenGives r attempts old reply new → IsOurs attempts old → IsOurs attempts new
-open_ours r attempts None new reply gives ours = ours_by attempts new _ gives.1 (refl, refl)
-open_ours r attempts (Some x) new reply gives ours = ours_by attempts new (Some x) gives.1 ours
+open_ours : (r : ℕ) (name : List ℕ) (attempts : ℕ) (old new : Option Reader) (reply : Reply) → OpenGives r name attempts old reply new → IsOurs name attempts old → IsOurs name attempts new
+open_ours r name attempts None new reply gives ours = ours_by name attempts new _ gives.1 (refl, refl)
+open_ours r name attempts (Some x) new reply gives ours = ours_by name attempts new (Some x) gives.1 ours
 
-refreshes_ours : (r attempts : ℕ) (x : Reader) (left : Option Left) (new : Option Reader) (reply : Reply) → RefreshesTo r x left reply new → IsOurs attempts (Some x) → IsOurs attempts new
-refreshes_ours r attempts x None new reply gives ours = ours_by attempts new _ gives.1 (ours.0, ours.1)
-refreshes_ours r attempts x (Some l) new reply gives ours = ours_by attempts new (Some x) gives.1 ours
+refreshes_ours : (r : ℕ) (name : List ℕ) (attempts : ℕ) (x : Reader) (left : Option Left) (new : Option Reader) (reply : Reply) → RefreshesTo r x left reply new → IsOurs name attempts (Some x) → IsOurs name attempts new
+refreshes_ours r name attempts x None new reply gives ours = ours_by name attempts new _ gives.1 (ours.0, ours.1)
+refreshes_ours r name attempts x (Some l) new reply gives ours = ours_by name attempts new (Some x) gives.1 ours
 
-refresh_ours : (r attempts : ℕ) (old new : Option Reader) (reply : Reply) → RefreshGives r old reply new → IsOurs attempts old → IsOurs attempts new
-refresh_ours r attempts None new reply gives ours = ours_by attempts new None gives.1 tt
-refresh_ours r attempts (Some x) new reply gives ours = refreshes_ours r attempts x x.left new reply gives ours
+refresh_ours : (r : ℕ) (name : List ℕ) (attempts : ℕ) (old new : Option Reader) (reply : Reply) → RefreshGives r old reply new → IsOurs name attempts old → IsOurs name attempts new
+refresh_ours r name attempts None new reply gives ours = ours_by name attempts new None gives.1 tt
+refresh_ours r name attempts (Some x) new reply gives ours = refreshes_ours r name attempts x x.left new reply gives ours
 
-reads_ours : (r from count attempts : ℕ) (x : Reader) (left : Option Left) (new : Option Reader) (reply : Reply) → ReadsTo r from count x left reply new → IsOurs attempts (Some x) → IsOurs attempts new
-reads_ours r from count attempts x None new reply (inl past) ours = ours_by attempts new (Some x) past.same ours
-reads_ours r from count attempts x None new reply (inr (inl none)) ours = ours_by attempts new (Some x) none.same ours
-reads_ours r from count attempts x None new reply (inr (inr some)) ours = ours_by attempts new _ some.begun (ours.0, ours.1)
-reads_ours r from count attempts x (Some l) new reply gives ours = ours_by attempts new (Some x) gives.1 ours
+reads_ours : (r from count : ℕ) (name : List ℕ) (attempts : ℕ) (x : Reader) (left : Option Left) (new : Option Reader) (reply : Reply) → ReadsTo r from count x left reply new → IsOurs name attempts (Some x) → IsOurs name attempts new
+reads_ours r from count name attempts x None new reply (inl past) ours = ours_by name attempts new (Some x) past.same ours
+reads_ours r from count name attempts x None new reply (inr (inl none)) ours = ours_by name attempts new (Some x) none.same ours
+reads_ours r from count name attempts x None new reply (inr (inr some)) ours = ours_by name attempts new _ some.begun (ours.0, ours.1)
+reads_ours r from count name attempts x (Some l) new reply gives ours = ours_by name attempts new (Some x) gives.1 ours
 
-read_ours : (r from count attempts : ℕ) (old new : Option Reader) (reply : Reply) → ReadGives r from count old reply new → IsOurs attempts old → IsOurs attempts new
-read_ours r from count attempts None new reply gives ours = ours_by attempts new None gives.1 tt
-read_ours r from count attempts (Some x) new reply gives ours = reads_ours r from count attempts x x.left new reply gives ours
+read_ours : (r from count : ℕ) (name : List ℕ) (attempts : ℕ) (old new : Option Reader) (reply : Reply) → ReadGives r from count old reply new → IsOurs name attempts old → IsOurs name attempts new
+read_ours r from count name attempts None new reply gives ours = ours_by name attempts new None gives.1 tt
+read_ours r from count name attempts (Some x) new reply gives ours = reads_ours r from count name attempts x x.left new reply gives ours
 
-looks_ours : (r attempts : ℕ) (b : List ℕ) (x : Reader) (left : Option Left) (new : Option Reader) (reply : Reply) → LooksTo r b x left reply new → IsOurs attempts (Some x) → IsOurs attempts new
-looks_ours r attempts b x None new reply gives ours = ours_by attempts new (Some x) gives.1 ours
-looks_ours r attempts b x (Some l) new reply gives ours = ours_by attempts new (Some gives.reader) gives.new_is (ours_kept attempts x gives.reader gives.name gives.attempts ours)
+looks_ours : (r : ℕ) (name : List ℕ) (attempts : ℕ) (b : List ℕ) (x : Reader) (left : Option Left) (new : Option Reader) (reply : Reply) → LooksTo r b x left reply new → IsOurs name attempts (Some x) → IsOurs name attempts new
+looks_ours r name attempts b x None new reply gives ours = ours_by name attempts new (Some x) gives.1 ours
+looks_ours r name attempts b x (Some l) new reply gives ours = ours_by name attempts new (Some gives.reader) gives.new_is (ours_kept name attempts x gives.reader gives.name gives.attempts ours)
 
-look_ours : (r attempts : ℕ) (b : List ℕ) (old new : Option Reader) (reply : Reply) → LookGives r b old reply new → IsOurs attempts old → IsOurs attempts new
-look_ours r attempts b None new reply gives ours = ours_by attempts new None gives.1 tt
-look_ours r attempts b (Some x) new reply gives ours = looks_ours r attempts b x x.left new reply gives ours
+look_ours : (r : ℕ) (name : List ℕ) (attempts : ℕ) (b : List ℕ) (old new : Option Reader) (reply : Reply) → LookGives r b old reply new → IsOurs name attempts old → IsOurs name attempts new
+look_ours r name attempts b None new reply gives ours = ours_by name attempts new None gives.1 tt
+look_ours r name attempts b (Some x) new reply gives ours = looks_ours r name attempts b x x.left new reply gives ours
 
 -- within a list no default is taken
 any_default : (places : List (Option ReaderCore)) (r : ℕ) (d e : Option ReaderCore) → r < length places → get_or places r d ≡ get_or places r e
@@ -280,21 +280,21 @@ module _ (s : Session) (m : MemView) (attempts r : ℕ) (places : List (Option R
   polls_here : pollers places r ≡ option_map poller (placed place)
   polls_here = ap (option_map poller) here
 
-  ours_here : IsOurs attempts (placed place)
-  ours_here = subst (λ (o : Option Reader). IsOurs attempts o) here (h.fits.state.ours r)
+  ours_here : IsOurs s.file.name attempts (placed place)
+  ours_here = subst (λ (o : Option Reader). IsOurs s.file.name attempts o) here (h.fits.state.ours r)
 
   itself : Same (steady m) (steady m)
   itself = same_itself (steady m)
 
-  pub open_steps : (reply : Reply) → OpenGives r attempts (placed place) reply (placed new) → Steps (world_of s m attempts places) (events.Open r) reply (world_of s m attempts (slice_set places r new))
+  pub open_steps : (reply : Reply) → OpenGives r s.file.name attempts (placed place) reply (placed new) → Steps (world_of s m attempts places) (events.Open r) reply (world_of s m attempts (slice_set places r new))
   open_steps reply gives =
-      place_steps s m m attempts r places new (events.Open r) reply h few itself (open_ours r attempts (placed place) (placed new) reply gives ours_here)
+      place_steps s m m attempts r places new (events.Open r) reply h few itself (open_ours r s.file.name attempts (placed place) (placed new) reply gives ours_here)
       (λ t log at. open_acts (world_of s m attempts places) t log at r (placed place) (placed new) reply polls_here gives)
 
-  pub open_hold : (result : Result Reply OutOfMemory) → IfOk result (λ reply. OpenGives r attempts (placed place) reply (placed new)) → OnErr result (placed new ≡ placed place)
+  pub open_hold : (result : Result Reply OutOfMemory) → IfOk result (λ reply. OpenGives r s.file.name attempts (placed place) reply (placed new)) → OnErr result (placed new ≡ placed place)
       → HoldsTogether s m attempts (slice_set places r new)
   open_hold (Ok reply) gives kept =
-      place_hold s m m attempts r places new (events.Open r) reply h few itself (open_ours r attempts (placed place) (placed new) reply gives ours_here)
+      place_hold s m m attempts r places new (events.Open r) reply h few itself (open_ours r s.file.name attempts (placed place) (placed new) reply gives ours_here)
       (λ t log at. open_acts (world_of s m attempts places) t log at r (placed place) (placed new) reply polls_here gives)
   open_hold (Err e) gives kept = place_keeps s m attempts r places new h few (kept ∙ sym here)
 
@@ -303,11 +303,11 @@ module _ (s : Session) (m : MemView) (attempts r : ℕ) (places : List (Option R
 
   pub refresh_steps : (reply : Reply) → RefreshGives r (placed place) reply (placed new) → Steps (world_of s m attempts places) (events.Refresh r) reply (world_of s m attempts (slice_set places r new))
   refresh_steps reply gives =
-      place_steps s m m attempts r places new (events.Refresh r) reply h few itself (refresh_ours r attempts (placed place) (placed new) reply gives ours_here) (refresh_all reply gives)
+      place_steps s m m attempts r places new (events.Refresh r) reply h few itself (refresh_ours r s.file.name attempts (placed place) (placed new) reply gives ours_here) (refresh_all reply gives)
 
   pub refresh_hold : (reply : Reply) → RefreshGives r (placed place) reply (placed new) → HoldsTogether s m attempts (slice_set places r new)
   refresh_hold reply gives =
-      place_hold s m m attempts r places new (events.Refresh r) reply h few itself (refresh_ours r attempts (placed place) (placed new) reply gives ours_here) (refresh_all reply gives)
+      place_hold s m m attempts r places new (events.Refresh r) reply h few itself (refresh_ours r s.file.name attempts (placed place) (placed new) reply gives ours_here) (refresh_all reply gives)
 
   read_all : (from count : ℕ) (reply : Reply) → ReadGives r from count (placed place) reply (placed new) → ActsAt (world_of s m attempts places) r new (events.Read r from count) reply
   read_all from count reply gives = λ t log at. read_acts (world_of s m attempts places) t log at r from count (placed place) (placed new) reply polls_here gives
@@ -315,12 +315,12 @@ module _ (s : Session) (m : MemView) (attempts r : ℕ) (places : List (Option R
   pub read_steps : (from count : ℕ) (reply : Reply) → ReadGives r from count (placed place) reply (placed new)
       → Steps (world_of s m attempts places) (events.Read r from count) reply (world_of s m attempts (slice_set places r new))
   read_steps from count reply gives =
-      place_steps s m m attempts r places new (events.Read r from count) reply h few itself (read_ours r from count attempts (placed place) (placed new) reply gives ours_here) (read_all from count reply gives)
+      place_steps s m m attempts r places new (events.Read r from count) reply h few itself (read_ours r from count s.file.name attempts (placed place) (placed new) reply gives ours_here) (read_all from count reply gives)
 
   pub read_hold : (from count : ℕ) (result : Result Reply OutOfMemory) → IfOk result (λ reply. ReadGives r from count (placed place) reply (placed new)) → OnErr result (placed new ≡ placed place)
       → HoldsTogether s m attempts (slice_set places r new)
   read_hold from count (Ok reply) gives kept =
-      place_hold s m m attempts r places new (events.Read r from count) reply h few itself (read_ours r from count attempts (placed place) (placed new) reply gives ours_here) (read_all from count reply gives)
+      place_hold s m m attempts r places new (events.Read r from count) reply h few itself (read_ours r from count s.file.name attempts (placed place) (placed new) reply gives ours_here) (read_all from count reply gives)
   read_hold from count (Err e) gives kept = place_keeps s m attempts r places new h few (kept ∙ sym here)
 
   look_all : (reply : Reply) → LookGives r m.bytes (placed place) reply (placed new) → ActsAt (world_of s m attempts places) r new (events.Look r) reply
@@ -329,12 +329,12 @@ module _ (s : Session) (m : MemView) (attempts r : ℕ) (places : List (Option R
   pub look_steps : (n : MemView) (reply : Reply) → Same (steady m) (steady n) → LookGives r m.bytes (placed place) reply (placed new)
       → Steps (world_of s m attempts places) (events.Look r) reply (world_of s n attempts (slice_set places r new))
   look_steps n reply same gives =
-      place_steps s m n attempts r places new (events.Look r) reply h few same (look_ours r attempts m.bytes (placed place) (placed new) reply gives ours_here) (look_all reply gives)
+      place_steps s m n attempts r places new (events.Look r) reply h few same (look_ours r s.file.name attempts m.bytes (placed place) (placed new) reply gives ours_here) (look_all reply gives)
 
   pub look_hold : (n : MemView) (result : Result Reply OutOfMemory) → Same (steady m) (steady n) → IfOk result (λ reply. LookGives r m.bytes (placed place) reply (placed new))
       → OnErr result (placed new ≡ option_map ended (placed place)) → HoldsTogether s n attempts (slice_set places r new)
   look_hold n (Ok reply) same gives kept =
-      place_hold s m n attempts r places new (events.Look r) reply h few same (look_ours r attempts m.bytes (placed place) (placed new) reply gives ours_here) (look_all reply gives)
+      place_hold s m n attempts r places new (events.Look r) reply h few same (look_ours r s.file.name attempts m.bytes (placed place) (placed new) reply gives ours_here) (look_all reply gives)
   look_hold n (Err e) same gives kept = place_ends s m n attempts r places new h few same (kept ∙ ap (option_map ended) (sym here))
 
   -- ---- What the calls rest on
@@ -346,7 +346,7 @@ module _ (s : Session) (m : MemView) (attempts r : ℕ) (places : List (Option R
   look_may = look_replies (world_of s m attempts places) h.script h.fits.log (polls_at (world_of s m attempts places) h.script h.fits) r (placed place) polls_here
 
   -- by the value of the world, and the call's result
-  pub open_answers : (w : WorldView) (result : Result Reply OutOfMemory) → world_of s m attempts places ≡ w → IfOk result (λ reply. OpenGives r attempts (placed place) reply (placed new))
+  pub open_answers : (w : WorldView) (result : Result Reply OutOfMemory) → world_of s m attempts places ≡ w → IfOk result (λ reply. OpenGives r s.file.name attempts (placed place) reply (placed new))
       → IfOk result (λ reply. Steps w (events.Open r) reply (world_of s m attempts (slice_set places r new)))
   open_answers w (Ok reply) view gives = subst (λ (x : WorldView). Steps x (events.Open r) reply (world_of s m attempts (slice_set places r new))) view (open_steps reply gives)
   open_answers w (Err e) view gives = tt

@@ -13,9 +13,10 @@ use Rattle.h5w_model.proofs.ImageLemmas.{image-push}
 use Rattle.h5w_polling.specs.Polling.{Poller, now}
 use Rattle.h5w_polling.specs.Scripts.{AllPoll}
 use Rattle.h5w_polling.proofs.ScriptLemmas.{writer_line_laws}
+use Rattle.h5w_writer.specs.Files.{FileFields}
 use Rattle.h5w_writer.specs.Sessions.{Session, Stands, after_piece, cutting_of}
 use Rattle.h5w_writer.proofs.EventLemmas.{committed_are, rows_are}
-use Rattle.h5w_core.specs.Worlds.{WorldView, Fits, IsStateOf, StandsFor, Steps, logged, polling_of, rules_of, shown_world}
+use Rattle.h5w_core.specs.Worlds.{WorldView, Fits, IsStateOf, StandsFor, Steps, logged, polling_of, rules_for, rules_of, shown_world}
 use Rattle.h5w_core.proofs.StateLemmas.{rows_in-length, spent_in-events}
 use Rattle.h5w_core.proofs.WorldLemmas.{world_of, shown_is}
 use Rattle.h5w_image.specs.Memory.{MemView}
@@ -125,7 +126,7 @@ last_shown w piece s log pending stood stands state =
     let all : length s.appended ≡ w.session.file.rows = omega arith in
     record {
       appended = state.appended;
-      flushed = rows_in-length w.session.file.chunk_rows w.attempts s.appended ∙ all ∙ committed_are (after_piece w.session []) (and_now (shows piece) log) stands;
+      flushed = rows_in-length w.session.file.chunk_rows w.session.file.limit w.attempts s.appended ∙ all ∙ committed_are (after_piece w.session []) (and_now (shows piece) log) stands;
       pending = refl;
       ends_flush = refl;
       taken = λ some. absurd (some refl);
@@ -184,7 +185,7 @@ pub piece_steps : (w : WorldView) (piece : Write) (pieces : List Write) → w.se
     → Steps w events.Visible (replies.Written 1 (length pieces)) (shown_world w piece pieces)
 piece_steps w piece pieces pending carries =
     record {
-      rules = ap (λ n. rules_of (record w { session = record (w.session) { file = record (w.session.file) { chunk_rows = n } } })) (ap (λ f. f.chunk_rows) (after_file w.session pieces));
+      rules = ap (λ (f : FileFields). rules_for f.chunk_rows f.limit w.attempts) (after_file w.session pieces);
       lawful = λ s fits.
           let count : s.pending ≡ suc (length pieces) = fits.state.pending ∙ ap length pending in
           let one : 1 ≡ min 1 s.pending = omega arith in

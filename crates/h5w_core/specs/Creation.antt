@@ -6,19 +6,20 @@ use Rattle.h5w_image.specs.Memory.{MemView}
 use Rattle.h5w_writer.specs.Plans.{creation_writes, new_file}
 use Rattle.h5w_writer.specs.Room.{HasRoomFor}
 use Rattle.h5w_writer.specs.Sessions.{Session, Stands, cutting_of}
+use Rattle.h5w_writer.specs.declared.options.Options.{Options}
 use Rattle.h5w_core.specs.Steady.{steady}
 
 -- So many of the creation's pieces are visible in its image, and nothing was appended.
-pub record Creates (rows count : ℕ) (s : Session) (m : MemView) : Type 0 where
+pub record Creates (options : Options) (count : ℕ) (s : Session) (m : MemView) : Type 0 where
   pub log : Log
   pub stands : Stands s log
   pub history : m.history ≡ hist log.events
   pub bytes : m.bytes ≡ image [] (hist log.events)
-  pub file : s.file ≡ new_file rows
+  pub file : s.file ≡ new_file options
   pub committed : s.committed ≡ 0
   pub waiting : s.waiting ≡ []
   pub going : s.stopped ≡ false
   pub loads : spent (cutting_of s) log ≡ 0
-  pub pieces : m.history ++ s.pending ≡ creation_writes rows
+  pub pieces : m.history ++ s.pending ≡ creation_writes options
   pub shown : length m.history ≡ count
   pub room : HasRoomFor s (steady m)

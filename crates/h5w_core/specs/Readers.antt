@@ -12,7 +12,6 @@ use Rattle.h5w_reader.specs.Cores.{reader}
 use Rattle.h5w_reader.specs.Looks.{next_look}
 use Rattle.h5w_reader.specs.Readers.{Reader, Left, for_rows, for_values, fed_left, read_refusal, rows_program, rows_seen, wanted, with_left}
 use Rattle.h5w_reader.specs.declared.reader.ReaderCore.{ReaderCore}
-use Rattle.h5w_writer.specs.Files.{dataset_name}
 
 -- what is left of a reader's call, as the laws of polling tell it
 abbrev pub unfinished : Left → Unfinished
@@ -34,23 +33,23 @@ reader_at places r = placed (get_or places r None)
 abbrev pub pollers : List (Option ReaderCore) → ℕ → Option Poller
 pollers places r = option_map poller (reader_at places r)
 
--- a reader of the dataset that the session makes, with so many attempts
-abbrev pub IsOurs : ℕ → Option Reader → Type 0
-IsOurs attempts None = Unit {0}
-IsOurs attempts (Some x) = (x.name ≡ dataset_name) × (x.attempts ≡ attempts)
+-- a reader of the dataset of this name, with so many attempts
+abbrev pub IsOurs : List ℕ → ℕ → Option Reader → Type 0
+IsOurs name attempts None = Unit {0}
+IsOurs name attempts (Some x) = (x.name ≡ name) × (x.attempts ≡ attempts)
 
-abbrev pub AreOurs : ℕ → List (Option ReaderCore) → Type 0
-AreOurs attempts places = (r : ℕ) → IsOurs attempts (reader_at places r)
+abbrev pub AreOurs : List ℕ → ℕ → List (Option ReaderCore) → Type 0
+AreOurs name attempts places = (r : ℕ) → IsOurs name attempts (reader_at places r)
 
 -- ---- What an event makes of a place
 
 -- a reader that begins to open
-abbrev pub opened : ℕ → Reader
-opened attempts = record { name = dataset_name; attempts = attempts; known = None; left = Some (for_rows (open_call reader_limits 0 attempts dataset_name)) }
+abbrev pub opened : List ℕ → ℕ → Reader
+opened name attempts = record { name = name; attempts = attempts; known = None; left = Some (for_rows (open_call reader_limits 0 attempts name)) }
 
-abbrev pub OpenGives : (r attempts : ℕ) → Option Reader → Reply → Option Reader → Type 0
-OpenGives r attempts None reply new = (reply ≡ replies.Opening r) × (new ≡ Some (opened attempts))
-OpenGives r attempts (Some x) reply new = (reply ≡ replies.ReaderExists r) × (new ≡ Some x)
+abbrev pub OpenGives : ℕ → List ℕ → ℕ → Option Reader → Reply → Option Reader → Type 0
+OpenGives r name attempts None reply new = (reply ≡ replies.Opening r) × (new ≡ Some (opened name attempts))
+OpenGives r name attempts (Some x) reply new = (reply ≡ replies.ReaderExists r) × (new ≡ Some x)
 
 abbrev pub RefreshesTo : ℕ → Reader → Option Left → Reply → Option Reader → Type 0
 RefreshesTo r x None reply new = (reply ≡ replies.Refreshing r) × (new ≡ Some (with_left x (Some (for_rows (rows_program x.attempts x.name x.known)))))

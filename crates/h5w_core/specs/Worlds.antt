@@ -16,8 +16,7 @@ use Rattle.h5w_reader.specs.Readers.{Reader}
 use Rattle.h5w_reader.specs.declared.reader.ReaderCore.{ReaderCore}
 use Rattle.h5w_core.specs.Readers.{AreOurs, IsCalling, MayRead, ended, pollers, reader_at}
 use Rattle.h5w_core.specs.Steady.{steady}
-use Rattle.h5w_writer.specs.Files.{dataset_name, int_type}
-use Rattle.h5w_writer.specs.Kept.{space_limit}
+use Rattle.h5w_writer.specs.Files.{int_type}
 use Rattle.h5w_writer.specs.Refusals.{append_refusal, flush_refusal}
 use Rattle.h5w_writer.specs.Room.{HasRoomFor}
 use Rattle.h5w_writer.specs.Sessions.{Session, Stands, after_piece, chunk_limit, cutting_of}
@@ -31,26 +30,26 @@ pub record WorldView : Type 0 where
   pub attempts : ℕ
   pub readers : List (Option ReaderCore)
 
--- the rules for so many rows in a chunk and attempts in a call
-abbrev pub rules_for : (chunk_rows attempts : ℕ) → Rules
-rules_for chunk_rows attempts = record {
+-- the rules for so many rows in a chunk, bytes in a file and attempts in a call
+abbrev pub rules_for : (chunk_rows limit attempts : ℕ) → Rules
+rules_for chunk_rows limit attempts = record {
   cutting = record { chunk_rows = chunk_rows; chunk_columns = 1; columns = 1; value_size = 4 };
   int_type = int_type;
   chunk_limit = chunk_limit;
-  space_limit = space_limit;
+  space_limit = limit;
   attempts = attempts;
 }
 
 -- the rules by which a world's replies are lawful
 abbrev pub rules_of : WorldView → Rules
-rules_of w = rules_for w.session.file.chunk_rows w.attempts
+rules_of w = rules_for w.session.file.chunk_rows w.session.file.limit w.attempts
 
--- what readers poll for by some rules: a dataset of at most four chunks, of which they keep no block
-abbrev pub polling_by : Rules → Polling
-polling_by g = record { name = dataset_name; limits = record { array = chunk_limit; tree = 0 }; keeps = 0; rules = g }
+-- what readers poll for by some rules: the dataset of this name, of at most four chunks, of which they keep no block
+abbrev pub polling_by : List ℕ → Rules → Polling
+polling_by name g = record { name = name; limits = record { array = chunk_limit; tree = 0 }; keeps = 0; rules = g }
 
 abbrev pub polling_of : WorldView → Polling
-polling_of w = polling_by (rules_of w)
+polling_of w = polling_by w.session.file.name (rules_of w)
 
 -- places for readers 0 to 16, of which none was opened
 abbrev pub nobody : List (Option ReaderCore)
@@ -75,7 +74,7 @@ pub record IsStateOf (w : WorldView) (s : ScriptState) (log : Log) : Type 0 wher
   pub stopped : s.stopped ≡ w.session.stopped
   pub tries : 1 ≤ w.attempts
   pub begun : log.first ≤ now log
-  pub ours : AreOurs w.attempts w.readers
+  pub ours : AreOurs w.session.file.name w.attempts w.readers
   pub polls : AllPoll (polling_of w) log s (pollers w.readers)
 
 -- the world and the state of a script that was run on it are those of one log

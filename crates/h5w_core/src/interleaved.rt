@@ -1,5 +1,6 @@
 ghost use Rattle.std.specs.Prelude.{◌≤◌};
 
+use crate::tests::data_world;
 use crate::*;
 use h5w_model::Values;
 use std::alloc::Global;
@@ -111,7 +112,7 @@ fn run(rt: &impl Abort, alloc: Global, attempts: u32) -> Result<(u64, u64), OutO
     requires some { 1 ≤ attempts }
     requires most { attempts ≤ 1000 }
 {
-    let mut world = World::new(alloc, &Options { chunk_rows: 2 }, attempts)?;
+    let mut world = data_world(alloc, 2, attempts)?;
     let mut slow = Watched::new(alloc, 1);
     let mut fast = Watched::new(alloc, 2);
     world.step(Event::Open { reader: 1 })?;
@@ -165,7 +166,7 @@ fn held(alloc: Global, attempts: u32) -> Result<Option<u64>, OutOfMemory>
     requires most { attempts ≤ 1000 }
 {
     let reader = 1;
-    let mut world = World::new(alloc, &Options { chunk_rows: 2 }, attempts)?;
+    let mut world = data_world(alloc, 2, attempts)?;
     commit(alloc, &mut world, &[1, 2, 3])?;
     world.step(Event::Open { reader })?;
     for _ in 0..3 {

@@ -9,21 +9,22 @@ use h5w_model::{OutOfMemory, ReadError, Reply};
 use h5w_reader::{ReadBegin, ReaderCore, Step};
 use std::alloc::Global;
 
-/// Begins to open a reader, where none is there.
+/// Begins to open a reader of the dataset of this name, where none is there.
 pub fn open(
     place: &mut Option<ReaderCore>,
     alloc: Global,
     reader: u64,
+    name: &[u8],
     attempts: u32,
 ) -> Result<Reply, OutOfMemory>
-    ensures gives { IfOk result (λ reply. OpenGives reader attempts (placed place.old) reply (placed place.new)) }
+    ensures gives { IfOk result (λ reply. OpenGives reader name.now attempts (placed place.old) reply (placed place.new)) }
     ensures kept { OnErr result (placed place.new ≡ placed place.old) }
     ensures memory { OnErr result (placed place.old ≡ None) }
 {
     if place.is_some() {
         return Ok(Reply::ReaderExists { reader });
     }
-    *place = Some(ReaderCore::open(alloc, b"data", attempts)?);
+    *place = Some(ReaderCore::open(alloc, name, attempts)?);
     Ok(Reply::Opening { reader })
 }
 

@@ -1,7 +1,7 @@
-ghost use Rattle.std.specs.Prelude.{◌≤◌};
+ghost use Rattle.std.specs.Prelude.{◌≤◌, ◌^◌, length};
 
 use crate::*;
-use h5w_model::Values;
+use h5w_model::{Bytes, Values};
 use std::alloc::Global;
 use std::test::Fail;
 
@@ -18,6 +18,7 @@ fn told(reply: &Reply) -> Told {
         Reply::Stopped => ("stopped", 0, 0),
         Reply::OutOfRange { index, .. } => ("out of range", *index, 0),
         Reply::FullChunks { chunks, limit } => ("full chunks", *chunks, *limit),
+        Reply::FullSpace { at, size, .. } => ("full space", *at, *size),
         Reply::Opening { reader } => ("open", *reader, 0),
         Reply::Refreshing { reader } => ("refresh", *reader, 0),
         Reply::Reading { reader } => ("read", *reader, 0),
@@ -32,6 +33,42 @@ fn told(reply: &Reply) -> Told {
         Reply::OutOfRows { reader, rows, .. } => ("out of rows", *reader, *rows),
         _ => ("another", 0, 0),
     }
+}
+
+/// A world of a dataset of this name in a file of so many bytes at most, with so many rows in a chunk.
+fn named(
+    alloc: Global,
+    name: &[u8],
+    limit: u64,
+    chunk_rows: u64,
+    attempts: u32,
+) -> Result<World, OutOfMemory>
+    requires named { 1 ≤ length name.now }
+    requires name_bound { length name.now ≤ 64 }
+    requires some_bytes { 1024 ≤ limit }
+    requires byte_bound { limit ≤ 2 ^ 40 }
+    requires some_rows { 1 ≤ chunk_rows }
+    requires chunk_bound { chunk_rows ≤ 65536 }
+    requires some { 1 ≤ attempts }
+    requires most { attempts ≤ 1000 }
+{
+    let name = Bytes::from_vec(Vec::from_slice(alloc, name)?);
+    let options = Options {
+        name,
+        chunk_rows,
+        limit,
+    };
+    World::new(alloc, &options, attempts)
+}
+
+/// A world of the dataset `data`, with so many rows in a chunk.
+pub fn data_world(alloc: Global, chunk_rows: u64, attempts: u32) -> Result<World, OutOfMemory>
+    requires some_rows { 1 ≤ chunk_rows }
+    requires chunk_bound { chunk_rows ≤ 65536 }
+    requires some { 1 ≤ attempts }
+    requires most { attempts ≤ 1000 }
+{
+    named(alloc, b"data", 1 << 40, chunk_rows, attempts)
 }
 
 fn append(alloc: Global, world: &mut World, values: &[i128]) -> Result<Told, OutOfMemory> {
@@ -88,7 +125,7 @@ fn flushed(alloc: Global, attempts: u32, values: &[i128]) -> Result<World, OutOf
     requires some { 1 ≤ attempts }
     requires most { attempts ≤ 1000 }
 {
-    let mut world = World::new(alloc, &Options { chunk_rows: 2 }, attempts)?;
+    let mut world = data_world(alloc, 2, attempts)?;
     append(alloc, &mut world, values)?;
     flush(&mut world)?;
     show_all(&mut world)?;
@@ -105,7 +142,7 @@ fn last_piece(world: &World) -> Option<(u64, usize)> {
 #[test]
 fn three_rows_by_twos(rt: HostRuntime) -> Result<(), Fail> {
     let alloc = rt.alloc();
-    let mut world = World::new(alloc, &Options { chunk_rows: 2 }, 8)?;
+    let mut world = data_world(alloc, 2, 8)?;
     assert_eq!(rt;
         (world.journal().len(), world.rows(), world.pending()),
         (5, 0, 0)
@@ -142,7 +179,7 @@ fn three_rows_by_twos(rt: HostRuntime) -> Result<(), Fail> {
 #[test]
 fn refused_rows_change_nothing(rt: HostRuntime) -> Result<(), Fail> {
     let alloc = rt.alloc();
-    let mut world = World::new(alloc, &Options { chunk_rows: 1 }, 1)?;
+    let mut world = data_world(alloc, 1, 1)?;
     assert_eq!(rt;
         append(alloc, &mut world, &[1, 2, 3, 4, 5])?,
         ("full chunks", 5, 4)
@@ -159,6 +196,36 @@ fn refused_rows_change_nothing(rt: HostRuntime) -> Result<(), Fail> {
 }
 
 #[test]
+fn a_flush_without_a_place_changes_nothing(rt: HostRuntime) -> Result<(), Fail> {
+    let alloc = rt.alloc();
+    let mut world = named(alloc, b"data", 1024, 128, 8)?;
+    assert_eq!(rt; append(alloc, &mut world, &[1])?, ("appended", 1, 0));
+    for _ in 0..2 {
+        assert_eq!(rt; flush(&mut world)?, ("full space", 558, 512));
+        assert_eq!(rt;
+            (world.journal().len(), world.rows(), world.pending()),
+            (5, 1, 0)
+        );
+    }
+    Ok(())
+}
+
+#[test]
+fn the_length_of_the_name_moves_the_places(rt: HostRuntime) -> Result<(), Fail> {
+    let table = [(b"a".as_slice(), 103), (&[b'n'; 64], 166)];
+    for (name, header) in table {
+        let mut world = named(rt.alloc(), name, 1 << 40, 2, 8)?;
+        append(rt.alloc(), &mut world, &[5])?;
+        flush(&mut world)?;
+        show_all(&mut world)?;
+        assert_eq!(rt; last_piece(&world), Some((header, 82)));
+        assert_eq!(rt; open(&mut world)?, ("open", 1, 0));
+        assert_eq!(rt; look_on(&mut world)?.1, ("rows", 1, 1));
+    }
+    Ok(())
+}
+
+#[test]
 fn a_chunk_of_each_width(rt: HostRuntime) -> Result<(), Fail> {
     let table = [
         (255, 558, 6, 82),
@@ -167,7 +234,7 @@ fn a_chunk_of_each_width(rt: HostRuntime) -> Result<(), Fail> {
         (65_536, 562, 516, 86),
     ];
     for (chunk_rows, begin, pieces, header) in table {
-        let mut world = World::new(rt.alloc(), &Options { chunk_rows }, 1000)?;
+        let mut world = data_world(rt.alloc(), chunk_rows, 1000)?;
         assert_eq!(rt; append(rt.alloc(), &mut world, &[7])?, ("appended", 1, 0));
         assert_eq!(rt; flush(&mut world)?, ("flushing", pieces, 0), "{chunk_rows}");
         show(&mut world)?;
@@ -183,7 +250,7 @@ fn a_chunk_of_each_width(rt: HostRuntime) -> Result<(), Fail> {
 #[test]
 fn a_reader_before_and_after_the_last_piece(rt: HostRuntime) -> Result<(), Fail> {
     let alloc = rt.alloc();
-    let mut world = World::new(alloc, &Options { chunk_rows: 2 }, 8)?;
+    let mut world = data_world(alloc, 2, 8)?;
     append(alloc, &mut world, &[1, 2, 3])?;
     flush(&mut world)?;
     for _ in 0..5 {
@@ -224,7 +291,7 @@ fn values_are_those_that_were_appended(rt: HostRuntime) -> Result<(), Fail> {
 #[test]
 fn a_stop_between_two_pieces(rt: HostRuntime) -> Result<(), Fail> {
     let alloc = rt.alloc();
-    let mut world = World::new(alloc, &Options { chunk_rows: 2 }, 8)?;
+    let mut world = data_world(alloc, 2, 8)?;
     append(alloc, &mut world, &[1, 2, 3])?;
     flush(&mut world)?;
     for _ in 0..5 {

@@ -1,5 +1,5 @@
 //! The world of one writer and its readers.
-ghost use Rattle.std.specs.Prelude.{◌≡◌, ◌≤◌, [], ◌∷◌, List, length, IfOk, IsOk, None, OnErr, option_map};
+ghost use Rattle.std.specs.Prelude.{◌≡◌, ◌≤◌, [], ◌∷◌, ◌^◌, List, length, IfOk, IsOk, None, OnErr, option_map};
 ghost use Rattle.h5w_model.specs.Images.{image};
 ghost use Rattle.h5w_model.specs.Lawful.{ScriptState, Allowed, at_first, line_of, next_state};
 ghost use Rattle.h5w_model.specs.Logs.{Log, and_now, shows};
@@ -18,7 +18,7 @@ use crate::steady::SteadyImage;
 use h5w_image::Journal;
 use h5w_model::{Event, OutOfMemory, Reply};
 use h5w_reader::ReaderCore;
-use h5w_writer::{AppendError, FlushError, Options, WriterCore};
+use h5w_writer::{AppendError, FlushError, Full, Options, WriterCore};
 use std::alloc::Global;
 use std::marker::Model;
 
@@ -77,9 +77,13 @@ fn places(alloc: Global) -> Result<Vec<Option<ReaderCore>>, OutOfMemory>
 
 /// A writer that created a file, all of whose pieces are visible.
 fn create(alloc: Global, options: &Options) -> Result<(WriterCore, SteadyImage), OutOfMemory>
+    requires named { 1 ≤ length options.now.name }
+    requires name_bound { length options.now.name ≤ 64 }
     requires some_rows { 1 ≤ options.now.chunk_rows }
     requires chunk_bound { options.now.chunk_rows ≤ 65536 }
-    ensures { IfOk result (λ made. Creates options.now.chunk_rows 5 made.0 made.1) }
+    requires some_bytes { 1024 ≤ options.now.limit }
+    requires byte_bound { options.now.limit ≤ 2 ^ 40 }
+    ensures { IfOk result (λ made. Creates options.now 5 made.0 made.1) }
 {
     let mut session = WriterCore::create(alloc, options)?;
     let mut image = SteadyImage::new(alloc)?;
@@ -94,13 +98,17 @@ fn create(alloc: Global, options: &Options) -> Result<(WriterCore, SteadyImage),
 impl World {
     /// A world whose writer created a file. Its five pieces are visible, and nothing is pending.
     pub fn new(alloc: Global, options: &Options, attempts: u32) -> Result<World, OutOfMemory>
+        requires named { 1 ≤ length options.now.name }
+        requires name_bound { length options.now.name ≤ 64 }
         requires some_rows { 1 ≤ options.now.chunk_rows }
         requires chunk_bound { options.now.chunk_rows ≤ 65536 }
+        requires some_bytes { 1024 ≤ options.now.limit }
+        requires byte_bound { options.now.limit ≤ 2 ^ 40 }
         requires some_attempts { 1 ≤ attempts }
         requires most_attempts { attempts ≤ 1000 }
         ensures fits { IfOk result (λ w. Fits w at_first) }
-        ensures rules { IfOk result (λ w. rules_of w ≡ rules_for options.now.chunk_rows attempts) }
-        ensures created { IfOk result (λ w. w.journal ≡ creation_writes options.now.chunk_rows) }
+        ensures rules { IfOk result (λ w. rules_of w ≡ rules_for options.now.chunk_rows options.now.limit attempts) }
+        ensures created { IfOk result (λ w. w.journal ≡ creation_writes options.now) }
     {
         let readers = places(alloc)?;
         let (session, image) = create(alloc, options)?;
@@ -172,6 +180,11 @@ impl World {
             Ok(pieces) => Ok(Reply::Flushing { pieces }),
             Err(FlushError::Stopped) => Ok(Reply::Stopped),
             Err(FlushError::Busy { pending }) => Ok(Reply::Busy { pending }),
+            Err(FlushError::Space(Full { at, size, limit })) => Ok(Reply::FullSpace {
+                at,
+                size,
+                limit,
+            }),
             Err(FlushError::Failed) => unreachable!(),
             Err(FlushError::OutOfMemory) => Err(OutOfMemory),
         }
@@ -211,6 +224,7 @@ impl World {
             &mut self.readers[reader as usize],
             self.alloc,
             reader,
+            self.session.name(),
             self.attempts,
         )
     }

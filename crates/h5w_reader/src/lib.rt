@@ -31,6 +31,8 @@ pub use reader::ReaderCore;
 pub use step::{ReadBegin, Step};
 
 #[cfg(test)]
+mod header_tests;
+#[cfg(test)]
 mod tests;
 #[cfg(test)]
 mod values_tests;

@@ -70,7 +70,7 @@ fn front(image: &[u8], n: usize) -> &[u8] {
 }
 
 /// What the unfinished call comes to, and its looks: so many are at the first image, the others at the last.
-fn answer(
+pub fn answer(
     alloc: Global,
     reader: &mut ReaderCore,
     (first, n, last): (&[u8], usize, &[u8]),
@@ -91,7 +91,7 @@ fn answer(
 }
 
 /// The rows that a step tells, or its refusal.
-fn rows(step: Step) -> Result<u64, ReadError> {
+pub fn rows(step: Step) -> Result<u64, ReadError> {
     match step {
         Step::Rows(rows) => Ok(rows),
         Step::Refused(error) => Err(error),
@@ -99,45 +99,46 @@ fn rows(step: Step) -> Result<u64, ReadError> {
     }
 }
 
+/// The refusal of an array's header of which one byte is another.
+const BAD: ReadError = ReadError::Damaged {
+    at: 188,
+    fault: BlockFault::Sum(Sums {
+        stored: 0xb60f_70a1,
+        computed: 0xb932_c122,
+    }),
+};
+
+/// The refusals where the rows change from 3 to 4, and of a file of 150 bytes.
+const AGAIN: ReadError = ReadError::Again {
+    attempts: 1,
+    at: 121,
+    first: 3,
+    last: 4,
+};
+
+const CUT: ReadError = ReadError::Damaged {
+    at: 106,
+    fault: BlockFault::Cut { need: 82, got: 44 },
+};
+
+/// The places of the looks of an open that finds rows, and what a second attempt adds to them.
+const OPENED: &[u64] = &[0, 48, 106, 188, 260, 106];
+
+const TWICE: &[u64] = &[0, 48, 106, 188, 260, 106, 188, 260, 106];
+
 #[test]
 fn opens_files(rt: HostRuntime) -> Result<(), Fail> {
     let alloc = rt.alloc();
     let (new, three, four) = (file(alloc, &NEW)?, file(alloc, &[])?, file(alloc, &FOUR)?);
     let damaged = file(alloc, &[(232, b"\x03")])?;
-    let bad = ReadError::Damaged {
-        at: 188,
-        fault: BlockFault::Sum(Sums {
-            stored: 0xb60f_70a1,
-            computed: 0xb932_c122,
-        }),
-    };
-    let again = ReadError::Again {
-        attempts: 1,
-        at: 121,
-        first: 3,
-        last: 4,
-    };
+    let short = front(&three, 150);
     // attempts, looks at the first file, the first file, the other; the answer, and the places of the looks
     let cases: [(u32, usize, &[u8], &[u8], Result<u64, ReadError>, &[u64]); 8] = [
         (1, 0, &new, &new, Ok(0), &[0, 48, 106]),
-        (1, 0, &three, &three, Ok(3), &[0, 48, 106, 188, 260, 106]),
-        (
-            1,
-            5,
-            &three,
-            &four,
-            Err(again),
-            &[0, 48, 106, 188, 260, 106],
-        ),
-        (
-            2,
-            5,
-            &three,
-            &four,
-            Ok(4),
-            &[0, 48, 106, 188, 260, 106, 188, 260, 106],
-        ),
-        (1, 0, &three, &damaged, Err(bad), &[0, 48, 106, 188, 106]),
+        (1, 0, &three, &three, Ok(3), OPENED),
+        (1, 5, &three, &four, Err(AGAIN), OPENED),
+        (2, 5, &three, &four, Ok(4), TWICE),
+        (1, 0, &new, &damaged, Err(BAD), &[0, 48, 106, 188, 106]),
         (
             2,
             4,
@@ -146,18 +147,8 @@ fn opens_files(rt: HostRuntime) -> Result<(), Fail> {
             Ok(4),
             &[0, 48, 106, 188, 106, 188, 260, 106],
         ),
-        (1, 0, &three, &[], Err(ReadError::NotHdf5), &[0]),
-        (
-            1,
-            0,
-            &three,
-            front(&three, 150),
-            Err(ReadError::Damaged {
-                at: 106,
-                fault: BlockFault::Cut { need: 82, got: 44 },
-            }),
-            &[0, 48, 106],
-        ),
+        (1, 0, &new, &[], Err(ReadError::NotHdf5), &[0]),
+        (1, 0, &new, short, Err(CUT), &[0, 48, 106]),
     ];
     for (attempts, n, first, last, expected, places) in cases {
         let mut reader = ReaderCore::open(alloc, b"data", attempts)?;
@@ -171,7 +162,7 @@ fn opens_files(rt: HostRuntime) -> Result<(), Fail> {
 }
 
 #[test]
-fn refreshes_and_reads(rt: HostRuntime) -> Result<(), Fail> {
+fn refreshes(rt: HostRuntime) -> Result<(), Fail> {
     let alloc = rt.alloc();
     let (new, three, four) = (file(alloc, &NEW)?, file(alloc, &[])?, file(alloc, &FOUR)?);
     let mut reader = ReaderCore::open(alloc, b"data", 3)?;
@@ -179,13 +170,10 @@ fn refreshes_and_reads(rt: HostRuntime) -> Result<(), Fail> {
     assert_eq!(rt; reader.want(), Some(Look { at: 0, len: 48 }));
     reader.quit();
     assert_eq!(rt; reader.want(), None);
-    reader.refresh()?;
-    assert_eq!(rt; reader.want(), Some(Look { at: 0, len: 48 }));
-    let (step, _) = answer(alloc, &mut reader, (&three, 9, &three))?;
-    assert_eq!(rt; rows(step), Ok(3));
     // the file, the answer, and the places of the looks; what was seen stays where the answer is a refusal
     let shrunk = ReadError::Shrunk { seen: 3, found: 0 };
-    let cases: [(&[u8], Result<u64, ReadError>, &[u64]); 3] = [
+    let cases: [(&[u8], Result<u64, ReadError>, &[u64]); 4] = [
+        (&three, Ok(3), OPENED),
         (&three, Ok(3), &[106, 188, 260, 106]),
         (&new, Err(shrunk), &[106, 106]),
         (&four, Ok(4), &[106, 188, 260, 106]),
@@ -197,6 +185,16 @@ fn refreshes_and_reads(rt: HostRuntime) -> Result<(), Fail> {
         assert_eq!(rt; taken.as_slice(), places);
         assert_eq!(rt; reader.seen(), expected.unwrap_or(3));
     }
+    Ok(())
+}
+
+#[test]
+fn reads(rt: HostRuntime) -> Result<(), Fail> {
+    let alloc = rt.alloc();
+    let four = file(alloc, &FOUR)?;
+    let mut reader = ReaderCore::open(alloc, b"data", 1)?;
+    let (step, _) = answer(alloc, &mut reader, (&four, 9, &four))?;
+    assert_eq!(rt; rows(step), Ok(4));
     let past = ReadBegin::OutOfRows {
         from: 2,
         count: 3,

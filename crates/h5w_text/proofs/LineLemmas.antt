@@ -1,14 +1,16 @@
 -- How an input is cut into lines.
 use Rattle.std.proofs.Common.{ℕ, zero, suc, ◌+◌, ◌-◌, ◌<◌, ◌≤◌, ◌≡◌, Bool, true, false, List, [], ◌∷◌, ◌++◌, length, take, drop, Option, Some, None, Result, Ok, Err, MatchBool, sym, refl, ap, ◌∙◌, subst, inl, inr, arith, rules, length-append, length-drop}
-use Rattle.std.specs.Prelude.{IfOk, IfSome, MatchOption, option_map, slice_range}
+use Rattle.std.specs.Prelude.{IfOk, IfSome, option_map, slice_range}
 use Rattle.std.proofs.lemmas.List.{append_assoc, append-nil, length-take-le, take_all, take-append-drop, drop-drop, drop-take, take-append-le}
 use Rattle.std.proofs.Math.Seq.{take-append_seam}
 use Rattle.h5w_text.specs.Streams.{SourceView, Took}
-use Rattle.h5w_text.specs.Reading.{Cut, Ended, Given, IntakeView, IsLine, IsOver, Keeps, Passed, Reading, Stays, lines_left, reading}
+use Rattle.h5w_text.specs.Reading.{Cut, Ended, Given, Gives, IntakeView, IsLast, IsLine, IsOver, Keeps, Passed, Reading, Stays, lines_left, reading}
 use Rattle.h5w_text.specs.declared.line.Line.{Line}
+use Rattle.h5w_text.specs.declared.line.Next.{Next}
+use Rattle.h5w_text.specs.declared.line.Next.TheVariants as nexts
 use Rattle.h5w_text.specs.declared.line.Partial.{Partial}
 use Rattle.h5w_text.specs.Bytes.{Lacks}
-use Rattle.h5w_text.specs.Lines.{last_line, lines_from, lines_of}
+use Rattle.h5w_text.specs.Lines.{last_line, lines_from, lines_of, whole_from, whole_lines_of}
 
 pub lines_lacks : (front xs : List ℕ) → Lacks 10 xs → lines_from front xs ≡ last_line (front ++ xs)
 lines_lacks front [] h = ap last_line (sym (append-nil front))
@@ -17,6 +19,16 @@ lines_lacks front (x ∷ xs) h = rw h.0 (lines_lacks (front ++ x ∷ []) xs h.1 
 pub lines_cut : (front xs rest : List ℕ) → Lacks 10 xs → lines_from front (xs ++ 10 ∷ rest) ≡ (front ++ xs) ∷ lines_of rest
 lines_cut front [] rest h = ap (λ l. l ∷ lines_of rest) (sym (append-nil front))
 lines_cut front (x ∷ xs) rest h = rw h.0 (lines_cut (front ++ x ∷ []) xs rest h.1 ∙ ap (λ l. l ∷ lines_of rest) (append_assoc front (x ∷ []) xs))
+
+-- bytes without an end are no whole line
+pub whole_lacks : (front xs : List ℕ) → Lacks 10 xs → whole_from front xs ≡ []
+whole_lacks front [] h = refl
+whole_lacks front (x ∷ xs) h = rw h.0 (whole_lacks (front ++ x ∷ []) xs h.1)
+
+-- a line with its end is one, before those of the rest
+pub whole_cut : (front xs rest : List ℕ) → Lacks 10 xs → whole_from front (xs ++ 10 ∷ rest) ≡ (front ++ xs) ∷ whole_lines_of rest
+whole_cut front [] rest h = ap (λ l. l ∷ whole_lines_of rest) (sym (append-nil front))
+whole_cut front (x ∷ xs) rest h = rw h.0 (whole_cut (front ++ x ∷ []) xs rest h.1 ∙ ap (λ l. l ∷ whole_lines_of rest) (append_assoc front (x ∷ []) xs))
 
 pub lacks_append : (byte : ℕ) (xs ys : List ℕ) → Lacks byte xs → Lacks byte ys → Lacks byte (xs ++ ys)
 lacks_append byte [] ys h k = k
@@ -189,35 +201,38 @@ nonempty (x ∷ xs) e = omega arith
 passed_more : {u v w : Reading} (xs : List ℕ) → Passed xs u v → Passed [] v w → Passed xs u w
 passed_more {u} {v} {w} xs p q = subst (λ (l : List ℕ). Passed l u w) (append-nil xs) (passed_twice xs [] p q)
 
-last_from : (line : Partial) (o : Option Line) (v u : Reading) (t : SourceView) (j : IntakeView) → Before line v u → Passed [] u (reading t j) → (j.held ≡ []) × IfSome t.left (λ rest. rest ≡ [])
-    → ((front : List ℕ) → Keeps line front → MatchOption o (front ≡ []) (λ l. IsLine l front × (last_line front ≡ front ∷ []))) → MatchOption o (Ended v (reading t j)) (λ l. (x : List ℕ) × IsLine l x × Given x v (reading t j))
-last_from line None v u t j b p none k = let now : IfSome (reading t j).left (λ l. l ≡ []) = none_mapped j.held t.left none.0 none.1 in record {
+last_from : (line : Partial) (next : Next) (v u : Reading) (t : SourceView) (j : IntakeView) → Before line v u → Passed [] u (reading t j) → (j.held ≡ []) × IfSome t.left (λ rest. rest ≡ [])
+    → ((front : List ℕ) → Keeps line front → IsLast next front) → Gives next v (reading t j)
+last_from line (nexts.Line l) v u t j b p none k = absurd (k b.front b.keeps)
+last_from line nexts.End v u t j b p none k = let now : IfSome (reading t j).left (λ l. l ≡ []) = none_mapped j.held t.left none.0 none.1 in record {
   before = none_left b.front v.left (reading t j).left (passed_more b.front b.passed p).left (k b.front b.keeps) now;
   now = now;
 }
-last_from line (Some l) v u t j b p none k = let r = k b.front b.keeps in
-    (b.front, r.0, given_last b.front v (reading t j) b.lacks r.1 (passed_more b.front b.passed p) (nonempty b.front r.1) (none_mapped j.held t.left none.0 none.1))
+last_from line (nexts.Last l) v u t j b p none k = let r = k b.front b.keeps in
+    let now : IfSome (reading t j).left (λ l. l ≡ []) = none_mapped j.held t.left none.0 none.1 in
+    (b.front, r.0, given_last b.front v (reading t j) b.lacks r.1 (passed_more b.front b.passed p) (nonempty b.front r.1) now, now)
 
 -- the input ends: what was kept is its last line
-pub last_of : (line : Partial) (o : Option Line) (more : Bool) (v u : Reading) (t : SourceView) (j : IntakeView) → Before line v u → Passed [] u (reading t j) → more ≡ false
-    → MatchBool more (1 ≤ length j.held) ((j.held ≡ []) × IfSome t.left (λ rest. rest ≡ []))
-    → ((front : List ℕ) → Keeps line front → MatchOption o (front ≡ []) (λ l. IsLine l front × (last_line front ≡ front ∷ []))) → MatchOption o (Ended v (reading t j)) (λ l. (x : List ℕ) × IsLine l x × Given x v (reading t j))
-last_of line o more v u t j b p is m k =
-    last_from line o v u t j b p (subst (λ (e : Bool). MatchBool e (1 ≤ length j.held) ((j.held ≡ []) × IfSome t.left (λ rest. rest ≡ []))) is m) k
+pub last_of : (line : Partial) (next : Next) (more : Bool) (v u : Reading) (t : SourceView) (j : IntakeView) → Before line v u → Passed [] u (reading t j) → more ≡ false
+    → MatchBool more (1 ≤ length j.held) ((j.held ≡ []) × IfSome t.left (λ rest. rest ≡ [])) → ((front : List ℕ) → Keeps line front → IsLast next front) → Gives next v (reading t j)
+last_of line next more v u t j b p is m k =
+    last_from line next v u t j b p (subst (λ (e : Bool). MatchBool e (1 ≤ length j.held) ((j.held ≡ []) × IfSome t.left (λ rest. rest ≡ []))) is m) k
 
 abbrev Advance : Partial → Partial → Bool → IntakeView → IntakeView → Type 0
 Advance line kept ended j k = (piece : List ℕ) × Cut piece ended j k × ((front : List ℕ) → Keeps line front → Keeps kept (front ++ piece))
 
 -- the line is ended
 pub whole_of : (line kept : Partial) (l : Line) (ended : Bool) (v u : Reading) (t : SourceView) (j k : IntakeView) → Before line v u → Passed [] u (reading t j) → ended ≡ true → Advance line kept ended j k
-    → ((front : List ℕ) → Keeps kept front → IsLine l front) → (x : List ℕ) × IsLine l x × Given x v (reading t k)
+    → ((front : List ℕ) → Keeps kept front → IsLine l front) → Gives (nexts.Line l) v (reading t k)
 whole_of line kept l ended v u t j k b p is a finish =
     let cut : Cut a.0 true j k = subst (λ (e : Bool). Cut a.0 e j k) is a.1 in
-    let all : Passed (b.front ++ (a.0 ++ 10 ∷ [])) v (reading t k) = passed_twice b.front (a.0 ++ 10 ∷ []) (passed_more b.front b.passed p) (cut_ended t a.0 j k cut) in (
+    let all : Passed (b.front ++ (a.0 ++ 10 ∷ [])) v (reading t k) = passed_twice b.front (a.0 ++ 10 ∷ []) (passed_more b.front b.passed p) (cut_ended t a.0 j k cut) in
+    let lacks : Lacks 10 (b.front ++ a.0) = lacks_append 10 b.front a.0 b.lacks cut.lacks in
+    let passed : Passed ((b.front ++ a.0) ++ 10 ∷ []) v (reading t k) = subst (λ (x : List ℕ). Passed x v (reading t k)) (sym (append_assoc b.front a.0 (10 ∷ []))) all in (
       b.front ++ a.0,
       finish (b.front ++ a.0) (a.2 b.front b.keeps),
-      given_whole (b.front ++ a.0) v (reading t k) (lacks_append 10 b.front a.0 b.lacks cut.lacks)
-          (subst (λ (x : List ℕ). Passed x v (reading t k)) (sym (append_assoc b.front a.0 (10 ∷ []))) all),
+      given_whole (b.front ++ a.0) v (reading t k) lacks passed,
+      record { lacks = lacks; passed = passed },
     )
 
 -- the line goes on

@@ -21,6 +21,15 @@ lines_from front (b ∷ bs) = if b == 10 then front ∷ lines_from [] bs else li
 abbrev pub lines_of : List ℕ → List (List ℕ)
 lines_of bytes = lines_from [] bytes
 
+-- the lines that are ended; those bytes of the first of them that came before are given
+abbrev pub whole_from : List ℕ → List ℕ → List (List ℕ)
+whole_from front [] = []
+whole_from front (b ∷ bs) = if b == 10 then front ∷ whole_from [] bs else whole_from (front ++ b ∷ []) bs
+
+-- the whole lines of some bytes: those that the byte 0a ends, without it; what stands behind the last of them is none
+abbrev pub whole_lines_of : List ℕ → List (List ℕ)
+whole_lines_of bytes = whole_from [] bytes
+
 -- the most bytes of a line
 abbrev pub line_limit : ℕ
 line_limit = 65536

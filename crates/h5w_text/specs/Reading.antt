@@ -1,10 +1,12 @@
 -- What a reader of lines has before it, and what taking a line leaves.
 use Rattle.std.specs.Prelude.{◌≡◌, ◌⊎◌, ℕ, ◌+◌, ◌<◌, ◌≤◌, Bool, false, List, [], ◌∷◌, ◌++◌, length, take, if◌then◌else◌, MatchBool, Option, IfSome, option_map}
 use Rattle.h5w_text.specs.Bytes.{Lacks}
-use Rattle.h5w_text.specs.Lines.{line_limit, lines_of}
+use Rattle.h5w_text.specs.Lines.{last_line, line_limit, lines_of}
 use Rattle.h5w_text.specs.Streams.{SourceView}
-use Rattle.h5w_text.specs.declared.line.Line.{Line}
+use Rattle.h5w_text.specs.declared.line.Line as lines
 use Rattle.h5w_text.specs.declared.line.Line.TheVariants.{Whole, Long}
+use Rattle.h5w_text.specs.declared.line.Next.{Next}
+use Rattle.h5w_text.specs.declared.line.Next.TheVariants.{Line, Last, End}
 use Rattle.h5w_text.specs.declared.line.Partial.{Partial}
 
 -- the bytes that were taken from a source and not given yet, how many more may be taken, and the limit of all
@@ -40,7 +42,7 @@ abbrev pub lines_left : Reading → Option (List (List ℕ))
 lines_left v = option_map lines_of v.left
 
 -- the line, or that it is longer than the limit
-abbrev pub IsLine : Line → List ℕ → Type 0
+abbrev pub IsLine : lines.Line → List ℕ → Type 0
 IsLine (Whole bytes) line = (bytes ≡ line) × (length line ≤ line_limit)
 IsLine Long line = line_limit < length line
 
@@ -65,6 +67,11 @@ pub record Given (line : List ℕ) (v w : Reading) : Type 0 where
   -- the line was passed over, and its end where it has one
   pub passed : Passed line v w ⊎ Passed (line ++ 10 ∷ []) v w
 
+-- this line has an end, and was passed over with it
+pub record IsWhole (line : List ℕ) (v w : Reading) : Type 0 where
+  pub lacks : Lacks 10 line
+  pub passed : Passed (line ++ 10 ∷ []) v w
+
 -- nothing was left
 pub record Ended (v w : Reading) : Type 0 where
   pub before : IfSome v.left (λ left. left ≡ [])
@@ -74,9 +81,41 @@ pub record Ended (v w : Reading) : Type 0 where
 abbrev pub IsOver : Reading → Type 0
 IsOver v = IfSome v.left (λ left. (v.room < length left) × Lacks 10 (take v.room left))
 
+-- What the next step of a reader of lines is: a line that is ended, the last one that is not, or the end of the input. Behind
+-- the last two nothing is left.
+abbrev pub Gives : Next → Reading → Reading → Type 0
+Gives (Line l) v w = (line : List ℕ) × IsLine l line × Given line v w × IsWhole line v w
+Gives (Last l) v w = (line : List ℕ) × IsLine l line × Given line v w × IfSome w.left (λ left. left ≡ [])
+Gives End v w = Ended v w
+
+-- The line under way was given up: these bytes of it were taken, and its end is not among them. Nothing more is held, so that
+-- the source stands right behind them.
+pub record GivenUp (v w : Reading) (held : List ℕ) : Type 0 where
+  pub front : List ℕ
+  pub lacks : Lacks 10 front
+  pub passed : Passed front v w
+  pub none : held ≡ []
+
+-- The same where no more bytes may be given: the byte behind them was taken too.
+pub record GivenUpOver (v w : Reading) (held : List ℕ) : Type 0 where
+  pub front : List ℕ
+  pub lacks : Lacks 10 front
+  pub all : length front ≡ v.room
+  pub behind : ℕ
+  pub left : v.left ≡ option_map (λ rest. (front ++ behind ∷ []) ++ rest) w.left
+  pub room : w.room ≡ 0
+  pub stays : Stays v w
+  pub none : held ≡ []
+
 -- what is kept of a line: its bytes, none once it is too long
 abbrev pub Keeps : Partial → List ℕ → Type 0
 Keeps p front = MatchBool p.long (line_limit < length front) ((p.bytes.items ≡ front) × (length front ≤ line_limit))
+
+-- what these bytes are at the end of an input: its last line, where there are any
+abbrev pub IsLast : Next → List ℕ → Type 0
+IsLast (Line l) front = ⊥
+IsLast (Last l) front = IsLine l front × (last_line front ≡ front ∷ [])
+IsLast End front = front ≡ []
 
 -- a piece of a line was taken, and the line's end if it is there
 pub record Cut (piece : List ℕ) (ended : Bool) (i j : IntakeView) : Type 0 where

@@ -1,4 +1,4 @@
-ghost use Rattle.std.specs.Prelude.{◌≡◌, ◌≤◌, ◌++◌, ◌+◌, ℕ, List, [], length, take, Ok, Err, IfOk, OnOk, OnErr, IfSome, MatchBool};
+ghost use Rattle.std.specs.Prelude.{◌≡◌, ◌≤◌, ◌++◌, ◌+◌, ℕ, List, [], ◌∷◌, length, take, Ok, Err, IfOk, OnOk, OnErr, IfSome, MatchBool};
 ghost use Rattle.h5w_model.specs.Causes.{Rose};
 ghost use Rattle.h5w_text.specs.Streams.{Took};
 ghost use Rattle.h5w_text.specs.Reading.{Cut, Keeps, Passed, Stays, reading};
@@ -40,6 +40,7 @@ fn how_many(more: u64) -> usize
     ensures some { 1 ≤ result }
     ensures most { result ≤ 8192 }
     ensures within { 1 ≤ more → result ≤ more }
+    ensures one { more ≡ 0 → result ≡ 1 }
 {
     if more == 0 {
         1
@@ -103,6 +104,8 @@ impl Intake {
         ensures stays { Stays (reading (S.view source.old) self.old) (reading (S.view source.new) self.new) }
         ensures passed { IfOk result (λ more. Passed [] (reading (S.view source.old) self.old) (reading (S.view source.new) self.new)) }
         ensures more { IfOk result (λ more. MatchBool more (1 ≤ length self.new.held) ((self.new.held ≡ []) × IfSome (S.view source.new).left (λ rest. rest ≡ []))) }
+        ensures over { (limit : ℕ) → result ≡ Err (LineError.Input limit) → ((byte : ℕ) × Took (byte ∷ []) (S.view source.old) (S.view source.new)) × (self.new.held ≡ []) × (self.new.more ≡ 0) }
+        ensures failed { result ≡ Err LineError.Failed → Passed [] (reading (S.view source.old) self.old) (reading (S.view source.new) self.new) × (self.new.held ≡ []) }
         ensures input { (limit : ℕ) → result ≡ Err (LineError.Input limit) → (limit ≡ self.old.limit) × (self.old.held ≡ []) × (self.old.more ≡ 0) × IfSome (S.view source.old).left (λ rest. 1 ≤ length rest) }
         ensures cause { result ≡ Err LineError.Failed → Rose (S.view source.old).faults (S.view source.new).faults }
     {

@@ -1,5 +1,4 @@
-ghost use Rattle.std.specs.Prelude.{◌≡◌, ◌++◌, ℕ, List, [], IfOk, MatchOption, ◌∷◌};
-ghost use Rattle.h5w_text.specs.Lines.{last_line};
+ghost use Rattle.std.specs.Prelude.{◌≡◌, ◌++◌, ℕ, List, [], IfOk};
 
 use crate::script::LINE_LIMIT;
 use h5w_image::Failed;
@@ -14,6 +13,17 @@ pub enum Line {
     Whole(Bytes),
     /// It has more bytes.
     Long,
+}
+
+/// What comes next in an input.
+#[derive(Debug, Drop)]
+pub enum Next {
+    /// A line, which the byte 0a ends.
+    Line(Line),
+    /// The last line, which no byte 0a ends: the input ends behind it.
+    Last(Line),
+    /// No line: the input has ended.
+    End,
 }
 
 /// Why the next line was not given.
@@ -70,7 +80,7 @@ pub struct Partial {
 }
 
 impl Partial {
-    ghost use Rattle.h5w_text.specs.Reading.{IsLine, Keeps};
+    ghost use Rattle.h5w_text.specs.Reading.{IsLast, IsLine, Keeps};
 
     /// No bytes.
     pub fn new(alloc: Global) -> Partial
@@ -106,14 +116,14 @@ impl Partial {
         }
     }
 
-    /// The last line of an input that ends here, if there are bytes.
-    pub fn last(self) -> Option<Line>
-        ensures { (front : List ℕ) → Keeps self front → MatchOption result (front ≡ []) (λ line. IsLine line front × (last_line front ≡ front ∷ [])) }
+    /// The end of an input that ends here: its last line, if there are bytes.
+    pub fn last(self) -> Next
+        ensures { (front : List ℕ) → Keeps self front → IsLast result front }
     {
         if !self.long && self.bytes.is_empty() {
-            None
+            Next::End
         } else {
-            Some(self.finish())
+            Next::Last(self.finish())
         }
     }
 }

@@ -1,9 +1,9 @@
-ghost use Rattle.std.specs.Prelude.{◌≡◌, ℕ, List, Err, IfOk, MatchOption};
+ghost use Rattle.std.specs.Prelude.{◌≡◌, ℕ, Err, IfOk};
 ghost use Rattle.h5w_model.specs.Causes.{Rose};
-ghost use Rattle.h5w_text.specs.Reading.{Ended, Given, IsLine, IsOver, Stays, reading};
+ghost use Rattle.h5w_text.specs.Reading.{GivenUp, GivenUpOver, Gives, IsOver, Stays, reading};
 
 use crate::intake::Intake;
-use crate::line::{Line, LineError, Partial};
+use crate::line::{LineError, Next, Partial};
 use crate::streams::Source;
 use std::alloc::Global;
 
@@ -31,13 +31,16 @@ impl<'a, S: Source> Lines<'a, S> {
         }
     }
 
-    /// The next line; None at the end of the input. Where a line is given the room falls, so that
-    /// a loop over all of them ends. Input: the line that begins here is not ended within the limit.
-    /// After an error it is not said where in the input it stands.
-    pub fn next(&mut self) -> Result<Option<Line>, LineError>
-        ensures line { IfOk result (λ o. MatchOption o (Ended (reading (S.view self.old.source.now) self.old.intake.now) (reading (S.view self.new.source.now) self.new.intake.now)) (λ l. (line : List ℕ) × IsLine l line × Given line (reading (S.view self.old.source.now) self.old.intake.now) (reading (S.view self.new.source.now) self.new.intake.now))) }
+    /// The next line, or the end of the input; once the input has ended, the source need not be asked again.
+    /// Where a line is given the room falls, so that a loop over all of them ends. Failed: what was taken of the
+    /// line that begins here is given up. Input: this line is not ended within the limit; what was taken of it is
+    /// given up, with the byte behind the limit. After want of memory it is not said where in the input it stands.
+    pub fn next(&mut self) -> Result<Next, LineError>
+        ensures line { IfOk result (λ next. Gives next (reading (S.view self.old.source.now) self.old.intake.now) (reading (S.view self.new.source.now) self.new.intake.now)) }
         ensures stays { Stays (reading (S.view self.old.source.now) self.old.intake.now) (reading (S.view self.new.source.now) self.new.intake.now) }
         ensures input { (limit : ℕ) → result ≡ Err (LineError.Input limit) → (limit ≡ self.old.intake.now.limit) × IsOver (reading (S.view self.old.source.now) self.old.intake.now) }
+        ensures over { (limit : ℕ) → result ≡ Err (LineError.Input limit) → GivenUpOver (reading (S.view self.old.source.now) self.old.intake.now) (reading (S.view self.new.source.now) self.new.intake.now) self.new.intake.now.held }
+        ensures failed { result ≡ Err LineError.Failed → GivenUp (reading (S.view self.old.source.now) self.old.intake.now) (reading (S.view self.new.source.now) self.new.intake.now) self.new.intake.now.held }
         ensures cause { result ≡ Err LineError.Failed → Rose (S.view self.old.source.now).faults (S.view self.new.source.now).faults }
         ensures same_reference { self.new.source.ghost_name ≡ self.old.source.ghost_name }
         ensures same_intake { self.new.intake.ghost_name ≡ self.old.intake.ghost_name }
@@ -48,7 +51,7 @@ impl<'a, S: Source> Lines<'a, S> {
                 return Ok(line.last());
             }
             if self.intake.advance(&mut line)? {
-                return Ok(Some(line.finish()));
+                return Ok(Next::Line(line.finish()));
             }
         }
     }

@@ -1,19 +1,31 @@
 use super::*;
 use std::test::Fail;
 
-/// The lines of an input; a long one as a question mark.
+/// Adds a line and a mark behind it; a long line as a question mark.
+fn add_line(all: &mut Vec<u8>, line: &Line, mark: u8) -> Result<(), LineError> {
+    match line {
+        Line::Whole(bytes) => all.extend_from_slice(bytes.as_slice())?,
+        Line::Long => all.extend_from_slice(b"?")?,
+    }
+    all.extend_from_slice(&[mark])?;
+    Ok(())
+}
+
+/// The lines of an input, with a stroke behind each that is ended and a point behind the last if it is not.
 fn lines(rt: &HostRuntime, input: &[u8], limit: u64) -> Result<Vec<u8>, LineError> {
     let mut source = MemSource::of(rt.alloc(), input)?;
     let mut intake = Intake::new(rt.alloc(), limit);
     let mut lines = Lines::new(rt.alloc(), &mut source, &mut intake);
     let mut all = Vec::new(rt.alloc());
     for _ in 0..100 {
-        let Some(line) = lines.next()? else { break };
-        match line {
-            Line::Whole(bytes) => all.extend_from_slice(bytes.as_slice())?,
-            Line::Long => all.extend_from_slice(b"?")?,
+        match lines.next()? {
+            Next::Line(line) => add_line(&mut all, &line, b'|')?,
+            Next::Last(line) => {
+                add_line(&mut all, &line, b'.')?;
+                break;
+            }
+            Next::End => break,
         }
-        all.extend_from_slice(b"|")?;
     }
     Ok(all)
 }
@@ -22,10 +34,10 @@ fn lines(rt: &HostRuntime, input: &[u8], limit: u64) -> Result<Vec<u8>, LineErro
 fn an_input_is_cut_at_line_ends(rt: HostRuntime) -> Result<(), Fail> {
     let table: [(&[u8], &[u8]); 6] = [
         (b"", b""),
-        (b"a", b"a|"),
+        (b"a", b"a."),
         (b"a\n", b"a|"),
         (b"\n", b"|"),
-        (b"a\n\nbc", b"a||bc|"),
+        (b"a\n\nbc", b"a||bc."),
         (b"\n\n", b"||"),
     ];
     for (input, want) in table {
@@ -47,7 +59,7 @@ fn a_line_of_more_than_the_limit_is_long(rt: HostRuntime) -> Result<(), Fail> {
 
 #[test]
 fn more_bytes_than_the_limit_are_refused_where_they_come(rt: HostRuntime) -> Result<(), Fail> {
-    assert_eq!(rt; lines(&rt, b"ab\ncd", 5)?.as_slice(), b"ab|cd|".as_slice());
+    assert_eq!(rt; lines(&rt, b"ab\ncd", 5)?.as_slice(), b"ab|cd.".as_slice());
     assert!(rt;
         matches!(
             lines(&rt, b"ab\ncd\n", 5),
@@ -57,7 +69,7 @@ fn more_bytes_than_the_limit_are_refused_where_they_come(rt: HostRuntime) -> Res
     let mut source = MemSource::of(rt.alloc(), b"ab\ncd")?;
     let mut intake = Intake::new(rt.alloc(), 4);
     let mut lines = Lines::new(rt.alloc(), &mut source, &mut intake);
-    assert!(rt; matches!(lines.next(), Ok(Some(Line::Whole(_)))));
+    assert!(rt; matches!(lines.next(), Ok(Next::Line(Line::Whole(_)))));
     assert!(rt; matches!(lines.next(), Err(LineError::Input { limit: 4 })));
     Ok(())
 }
@@ -69,7 +81,7 @@ fn a_source_fails_at_each_call(rt: HostRuntime) -> Result<(), Fail> {
         let mut intake = Intake::new(rt.alloc(), 99);
         let mut lines = Lines::new(rt.alloc(), &mut source, &mut intake);
         if call == 2 {
-            assert!(rt; matches!(lines.next(), Ok(Some(Line::Whole(_)))));
+            assert!(rt; matches!(lines.next(), Ok(Next::Line(Line::Whole(_)))));
         }
         assert!(rt; matches!(lines.next(), Err(LineError::Failed)));
     }

@@ -1,9 +1,10 @@
 -- The kinds of argument that a command may have, and their values.
-use Rattle.std.specs.Prelude.{ℕ, Bool, Option, Some, None, option_and_then}
+use Rattle.std.specs.Prelude.{ℕ, Bool, if◌then◌else◌, Option, Some, None, option_and_then}
 use Rattle.clap.specs.Words.{Rule, Text, new_rule}
 use Rattle.clap.specs.declared.builder.command.Command.{Command}
 use Rattle.clap.specs.declared.builder.command.Command.TheViews.{out-Command}
 use Rattle.h5w_text.specs.Scripts.{count_in}
+use Rattle.h5w_words.specs.Names.{is_name}
 
 -- an option --name VALUE, which is required or may be left out
 abbrev pub option_rule : Text → Bool → Rule
@@ -21,3 +22,8 @@ count_given least most given = option_and_then (count_in least most) given
 abbrev pub count_or : (default least most : ℕ) → Option Text → Option ℕ
 count_or default least most None = Some default
 count_or default least most (Some text) = count_in least most text
+
+-- a name, where one is given
+abbrev pub name_or : Text → Option Text → Option Text
+name_or default None = Some default
+name_or default (Some text) = if is_name text then Some text else None

@@ -1,5 +1,6 @@
 pub use Rattle.h5w_text.specs.Lines
 pub use Rattle.h5w_text.specs.Scripts
+pub mod Names
 pub mod Arguments
 pub mod Limits
 pub mod Play

@@ -1,14 +1,19 @@
 use clap::error::ErrorKind;
+use h5w_model::Bytes;
 use std::alloc::AllocError;
 use thiserror::Error;
 
 /// What the words of a command line ask for.
-#[derive(Clone, Copy, Debug, PartialEq, Eq)]
+#[derive(Debug, Drop)]
 pub enum Job {
     /// Runs a script of a writer and readers of 32-bit integers.
     Play {
+        /// The dataset's name: 1 to 64 letters, digits and underscores.
+        name: Bytes,
         /// How many rows a chunk has.
         chunk_rows: u64,
+        /// How many bytes the file may have: 1,024 to 2^40.
+        limit: u64,
         /// How many attempts a reader's call makes at most.
         attempts: u32,
     },

@@ -5,11 +5,13 @@
 
 mod arguments;
 mod job;
+mod name;
 mod number;
 mod play;
 mod values;
 mod words;
 
+pub use h5w_model::Bytes;
 pub use job::{Job, WordsError};
 pub use words::read_words;
 

@@ -1,8 +1,10 @@
 //! The values of a command's options.
-ghost use Rattle.std.specs.Prelude.{◌≡◌, ◌≤◌, IfSome, option_map};
+ghost use Rattle.std.specs.Prelude.{◌≡◌, ◌≤◌, IfSome, IsTrue, length, option_map};
 ghost use Rattle.clap.specs.Words.{first_of, found_of, rows_of};
-ghost use Rattle.h5w_words.specs.Arguments.{count_given, count_or};
+ghost use Rattle.h5w_words.specs.Arguments.{count_given, count_or, name_or};
+ghost use Rattle.h5w_words.specs.Names.{is_name};
 
+use crate::name::is_name;
 use crate::number::count_in;
 use clap::ArgMatches;
 
@@ -36,6 +38,19 @@ pub fn count_or(
 {
     match text(options, name) {
         Some(text) => count_in(text.as_bytes(), least, most),
+        None => Some(default),
+    }
+}
+
+/// The name that an option gives, or `default` where it was not given.
+pub fn name_or<'a>(options: &ArgMatches<'a>, name: &str, default: &'a str) -> Option<&'a str>
+    requires { IsTrue (is_name default.now) }
+    ensures name { option_map (λ s. s.now) result ≡ name_or default.now (first_of name.now (rows_of (found_of options.now))) }
+    ensures bounds { IfSome result (λ s. (1 ≤ length s.now) × (length s.now ≤ 64)) }
+{
+    match text(options, name) {
+        Some(text) if is_name(text.as_bytes()) => Some(text),
+        Some(_) => None,
         None => Some(default),
     }
 }

@@ -1,4 +1,4 @@
-ghost use Rattle.std.specs.Prelude.{◌≡◌, ◌≢◌, ◌⊎◌, [], Some, None, map, string_bytes, IfOk, IfErr, IfSome};
+ghost use Rattle.std.specs.Prelude.{◌≡◌, ◌≢◌, ◌⊎◌, [], Some, None, map, string_bytes, IfOk, IfErr};
 ghost use Rattle.clap.specs.Words.{app_of, fault_of, subcommand_of, subcommand_rows_of};
 ghost use Rattle.h5w_words.specs.Commands.{asked_of, job_of, program};
 ghost use Rattle.h5w_words.specs.Limits.{IsWithinLimits};
@@ -30,13 +30,14 @@ fn matches_for<'a>(alloc: Global, words: &'a [String]) -> Result<ArgMatches<'a>,
 
 /// What the command that was found asks for, by its options.
 #[tactic(auto, using(crate::proofs::WordLemmas::entered))]
-fn asked(matches: &ArgMatches<'_>) -> Option<Job>
-    ensures job { result ≡ asked_of (subcommand_rows_of matches.now) }
-    ensures limits { IfSome result IsWithinLimits }
+fn asked(alloc: Global, matches: &ArgMatches<'_>) -> Result<Job, WordsError>
+    ensures ok { IfOk result (λ job. asked_of (subcommand_rows_of matches.now) ≡ Some job) }
+    ensures usage { IfErr result (λ e. (e ≡ WordsError.OutOfMemory) ⊎ (asked_of (subcommand_rows_of matches.now) ≡ None)) }
+    ensures limits { IfOk result IsWithinLimits }
 {
     match matches.subcommand() {
-        Some((name, options)) if name == "play" => play_job(options),
-        _ => None,
+        Some((name, options)) if name == "play" => play_job(alloc, options),
+        _ => Err(WordsError::Usage),
     }
 }
 
@@ -49,5 +50,5 @@ pub fn read_words(alloc: Global, words: &[String]) -> Result<Job, WordsError>
     ensures limits { IfOk result IsWithinLimits }
 {
     let matches = matches_for(alloc, words)?;
-    asked(&matches).ok_or(WordsError::Usage)
+    asked(alloc, &matches)
 }

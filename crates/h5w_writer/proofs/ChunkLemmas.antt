@@ -42,8 +42,8 @@ div_up_more rows per some any =
       | inr long ↦ omega arith
     ])
 
-with_chunks_same : (f g : FileFields) → f.chunk_rows ≡ g.chunk_rows → f.end ≡ g.end → f.addresses ≡ g.addresses → f.top ≡ g.top → f.rows ≡ g.rows → f ≡ g
-with_chunks_same f g per end addresses top rows = λ i. record { chunk_rows = per i; end = end i; addresses = addresses i; top = top i; rows = rows i }
+with_chunks_same : (f g : FileFields) → f.name ≡ g.name → f.limit ≡ g.limit → f.chunk_rows ≡ g.chunk_rows → f.end ≡ g.end → f.addresses ≡ g.addresses → f.top ≡ g.top → f.rows ≡ g.rows → f ≡ g
+with_chunks_same f g name limit per end addresses top rows = λ i. record { name = name i; limit = limit i; chunk_rows = per i; end = end i; addresses = addresses i; top = top i; rows = rows i }
 
 -- a chunk, and then more
 pub with_chunks_suc : (f : FileFields) (d : ℕ) → with_chunks d (with_chunks 1 f) ≡ with_chunks (suc d) f
@@ -53,7 +53,7 @@ with_chunks_suc f d =
     let one : f.end + 1 * len ≡ f.end + len = omega arith in
     let addresses : (f.addresses ++ f.end ∷ []) ++ chunk_places d (f.end + 1 * len) len ≡ f.addresses ++ f.end ∷ chunk_places d (f.end + len) len =
     append_assoc f.addresses (f.end ∷ []) (chunk_places d (f.end + 1 * len) len) ∙ ap (λ (p : ℕ). f.addresses ++ f.end ∷ chunk_places d p len) one in
-    with_chunks_same (with_chunks d (with_chunks 1 f)) (with_chunks (suc d) f) refl (grind arith) addresses (ap length addresses) refl
+    with_chunks_same (with_chunks d (with_chunks 1 f)) (with_chunks (suc d) f) refl refl refl (grind arith) addresses (ap length addresses) refl
 
 chunk_values-part : (per : ℕ) (rest part : List ℤ) → take per rest ≡ part → length part ≡ min per (length rest) → chunk_values per part ≡ chunk_values per rest
 chunk_values-part per rest part is count =

@@ -15,7 +15,7 @@ use Rattle.h5w_model.specs.declared.message.Msg.{Msg}
 use Rattle.h5w_model.specs.declared.message.Prefix.{Prefix}
 use Rattle.h5w_writer.specs.Files.{FileFields, message, header_place, dataset_messages, shape_of, int_type, fill, layout_of, described_of}
 use Rattle.h5w_writer.proofs.Evaluation.{eval-and_then}
-use Rattle.h5w_writer.proofs.HeaderReads.{length-header_bytes, header_view-header_bytes, prefix_of, prefix_at-alone, messages_at-alone}
+use Rattle.h5w_writer.proofs.HeaderReads.{length_more, length-header_bytes, header_view-header_bytes, prefix_of, prefix_at-alone, messages_at-alone}
 use Rattle.h5w_writer.proofs.MessageReads.{shape_reads, int_type_reads, fill_reads, layout_reads, widths, length_shape, length_int_type, length_fill, length_layout}
 use Rattle.h5w_writer.proofs.Looks.{look_behind}
 use Rattle.h5w_writer.proofs.HeadersNow.{from_chunk-by}
@@ -23,10 +23,6 @@ use Rattle.h5w_writer.proofs.HeadersNow.{from_chunk-by}
 -- the bytes of the messages
 abbrev pub messages_len : ℕ → ℕ
 messages_len rows = 69 + 2 * width_of (max rows 4)
-
-length_more : (m : Msg) (ms : List Msg) → length (msgs_bytes (m ∷ ms)) ≡ 4 + (length m.body + length (msgs_bytes ms))
-unfolding le
-length_more m ms = omega (arith, length-append m.body (msgs_bytes ms))
 
 length_four : (a b c d : Msg) → length (msgs_bytes (a ∷ b ∷ c ∷ d ∷ [])) ≡ length a.body + length b.body + length c.body + length d.body + 16
 length_four a b c d =
@@ -48,48 +44,48 @@ length_messages-small f high = let w = widths f.chunk_rows high in omega (arith,
 
 -- the messages that are found, and the range
 abbrev pub dataset_found : FileFields → HeaderFields
-dataset_found f = record { messages = found_at header_place true (placed 7 (dataset_messages f)); ranges = record { place = header_place; len = messages_len f.chunk_rows + 11 } ∷ [] }
+dataset_found f = record { messages = found_at (header_place (length f.name)) true (placed 7 (dataset_messages f)); ranges = record { place = (header_place (length f.name)); len = messages_len f.chunk_rows + 11 } ∷ [] }
 
-pub described_now : (f : FileFields) → f.rows < 2 ^ 64 → 1 ≤ f.chunk_rows → f.chunk_rows ≤ 65536 → described (dataset_found f).messages ≡ Ok (described_of f)
-described_now f rows low high = rw (shape_reads f rows, int_type_reads, fill_reads, layout_reads f low high) refl
+pub described_now : (f : FileFields) → f.rows < 2 ^ 64 → length f.name ≤ 64 → 1 ≤ f.chunk_rows → f.chunk_rows ≤ 65536 → described (dataset_found f).messages ≡ Ok (described_of f)
+described_now f rows short low high = rw (shape_reads f rows, int_type_reads, fill_reads, layout_reads f short low high) refl
 
-pub dataset_look : (img : List ℕ) (f : FileFields) → f.chunk_rows ≤ 65536 → At img header_place (header_bytes (dataset_messages f)) → header_view (range img header_place 512) ≡ header_bytes (dataset_messages f)
+pub dataset_look : (img : List ℕ) (f : FileFields) → f.chunk_rows ≤ 65536 → At img (header_place (length f.name)) (header_bytes (dataset_messages f)) → header_view (range img (header_place (length f.name)) 512) ≡ header_bytes (dataset_messages f)
 dataset_look img f high stands =
     let small = length_messages-small f high in
-    ap header_view (look_behind img header_place 512 (header_bytes (dataset_messages f)) stands (omega (arith, length-header_bytes (dataset_messages f))))
+    ap header_view (look_behind img (header_place (length f.name)) 512 (header_bytes (dataset_messages f)) stands (omega (arith, length-header_bytes (dataset_messages f))))
     ∙ header_view-header_bytes (dataset_messages f) _ (omega arith)
 
 -- the messages of a dataset header within 512 bytes
 messages-by : (place : ℕ) (b : List ℕ) (p : Prefix) → prefix_at b ≡ Ok p → p.total ≤ 512 → datasets.dataset_messages place b ≡ from_chunk place p b
 messages-by place b p prefix short = rw (prefix, datasets.dataset_messages, le-ltb 512 p.total short) refl
 
-messages_are : (f : FileFields) → f.chunk_rows ≤ 65536 → datasets.dataset_messages header_place (header_bytes (dataset_messages f))
-    ≡ walk 32 header_place false (dataset_found f).ranges [] (dataset_found f).messages
+messages_are : (f : FileFields) → f.chunk_rows ≤ 65536 → datasets.dataset_messages (header_place (length f.name)) (header_bytes (dataset_messages f))
+    ≡ walk 32 (header_place (length f.name)) false (dataset_found f).ranges [] (dataset_found f).messages
 messages_are f high =
     let b = header_bytes (dataset_messages f) in
     let small = length_messages-small f high in
     let prefix : prefix_at b ≡ Ok (prefix_of (messages_len f.chunk_rows)) =
     prefix_at-alone (dataset_messages f) (omega arith) ∙ ap (λ (n : ℕ). Ok (prefix_of n)) (length_messages f) in
     let read : messages_at b ≡ Ok (placed 7 (dataset_messages f)) = messages_at-alone (dataset_messages f) (omega arith) refl refl in
-    messages-by header_place b (prefix_of (messages_len f.chunk_rows)) prefix (omega (arith, length_messages f))
-    ∙ from_chunk-by header_place (prefix_of (messages_len f.chunk_rows)) b (placed 7 (dataset_messages f)) read
+    messages-by (header_place (length f.name)) b (prefix_of (messages_len f.chunk_rows)) prefix (omega (arith, length_messages f))
+    ∙ from_chunk-by (header_place (length f.name)) (prefix_of (messages_len f.chunk_rows)) b (placed 7 (dataset_messages f)) read
 
-pub messages_now : (img : List ℕ) (f : FileFields) → f.chunk_rows ≤ 65536 → eval img (datasets.dataset_messages header_place (header_bytes (dataset_messages f))) ≡ Ok (dataset_found f)
+pub messages_now : (img : List ℕ) (f : FileFields) → f.chunk_rows ≤ 65536 → eval img (datasets.dataset_messages (header_place (length f.name)) (header_bytes (dataset_messages f))) ≡ Ok (dataset_found f)
 messages_now img f high = ap (eval img) (messages_are f high)
 
-pub dataset_from_now : (img : List ℕ) (f : FileFields) → f.rows < 2 ^ 64 → 1 ≤ f.chunk_rows → f.chunk_rows ≤ 65536
-    → eval img (dataset_from header_place (header_bytes (dataset_messages f))) ≡ Ok (described_of f)
-dataset_from_now img f rows low high =
-    eval-and_then img (datasets.dataset_messages header_place (header_bytes (dataset_messages f))) (λ h. ret (refused_as read_errors.Unsupported (described h.messages)))
+pub dataset_from_now : (img : List ℕ) (f : FileFields) → f.rows < 2 ^ 64 → length f.name ≤ 64 → 1 ≤ f.chunk_rows → f.chunk_rows ≤ 65536
+    → eval img (dataset_from (header_place (length f.name)) (header_bytes (dataset_messages f))) ≡ Ok (described_of f)
+dataset_from_now img f rows short low high =
+    eval-and_then img (datasets.dataset_messages (header_place (length f.name)) (header_bytes (dataset_messages f))) (λ h. ret (refused_as read_errors.Unsupported (described h.messages)))
     (dataset_found f) (messages_now img f high)
-    ∙ ap (refused_as read_errors.Unsupported) (described_now f rows low high)
+    ∙ ap (refused_as read_errors.Unsupported) (described_now f rows short low high)
 
-pub dataset_now : (img : List ℕ) (f : FileFields) → f.rows < 2 ^ 64 → 1 ≤ f.chunk_rows → f.chunk_rows ≤ 65536 → At img header_place (header_bytes (dataset_messages f))
-    → eval img (dataset header_place) ≡ Ok (described_of f)
-dataset_now img f rows low high stands =
-    ap (λ (b : List ℕ). eval img (dataset_from header_place b)) (dataset_look img f high stands) ∙ dataset_from_now img f rows low high
+pub dataset_now : (img : List ℕ) (f : FileFields) → f.rows < 2 ^ 64 → length f.name ≤ 64 → 1 ≤ f.chunk_rows → f.chunk_rows ≤ 65536 → At img (header_place (length f.name)) (header_bytes (dataset_messages f))
+    → eval img (dataset (header_place (length f.name))) ≡ Ok (described_of f)
+dataset_now img f rows short low high stands =
+    ap (λ (b : List ℕ). eval img (dataset_from (header_place (length f.name)) b)) (dataset_look img f high stands) ∙ dataset_from_now img f rows short low high
 
 -- nothing is looked at behind it
-pub dataset_visits : (img : List ℕ) (f : FileFields) → f.chunk_rows ≤ 65536 → visits img (dataset_from header_place (header_bytes (dataset_messages f))) ≡ []
+pub dataset_visits : (img : List ℕ) (f : FileFields) → f.chunk_rows ≤ 65536 → visits img (dataset_from (header_place (length f.name)) (header_bytes (dataset_messages f))) ≡ []
 dataset_visits img f high =
     ap (λ (p : Prog (Result HeaderFields ReadError)). visits img (and_then p (λ h. ret (refused_as read_errors.Unsupported (described h.messages))))) (messages_are f high)

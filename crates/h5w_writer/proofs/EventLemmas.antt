@@ -1,29 +1,33 @@
 -- A session's relation to its log, event by event.
-use Rattle.std.proofs.Common.{◌≡◌, ◌≢◌, ℕ, ◌+◌, ◌<◌, ◌≤◌, List, [], ◌∷◌, ◌++◌, length, take, Option, Some, ℤ, Bool, true, false, if◌then◌else◌, nat_lt, nat_le, sym, refl, ap, ◌∙◌, subst, inl, inr, arith, length-append}
+use Rattle.std.proofs.Common.{◌≡◌, ◌≢◌, ℕ, ◌+◌, ◌*◌, ◌<◌, ◌≤◌, List, [], ◌∷◌, ◌++◌, length, take, Option, Some, ℤ, Bool, true, false, if◌then◌else◌, nat_lt, nat_le, sym, refl, ap, ◌∙◌, subst, inl, inr, arith, length-append}
 use Rattle.std.proofs.lemmas.List.{append_assoc, append-nil, take-append-le, take_all, nil_from_length, get_or_append_left}
 use Rattle.std.proofs.lemmas.Option.{slice_get-get_or}
 use Rattle.std.proofs.Math.Seq.{take-length}
 use Rattle.std.specs.List.{slice_get}
 use Rattle.std.proofs.lemmas.Bool.{cases_lt, cond-true, cond-false, lt-ltb, le-ltb, le-leb, lt-leb}
 use Rattle.h5w_model.specs.Images.{apply, image}
-use Rattle.h5w_model.specs.Logs.{Log, Happening, appends, plans, shows, hist, shown, appended, appended_in, flushed, flushed_in, and_now, div_up}
+use Rattle.h5w_model.specs.Logs.{Log, Happening, appends, plans, shows, hist, shown, appended, appended_in, flushed, flushed_in, and_now, div_up, load, spent}
 use Rattle.h5w_model.specs.Prefixed.{EachReads, PrefixedEach, Still, StillAt, Stays, MissesBehind}
+use Rattle.h5w_model.specs.Findings.{Valid}
 use Rattle.h5w_model.specs.Tables.{Reading, Shows, Reads, format_limits}
 use Rattle.h5w_model.specs.declared.piece.Write.{Write}
 use Rattle.h5w_model.proofs.ImageLemmas.{image-push}
-use Rattle.h5w_writer.specs.Files.{FileFields, AllFit, Moment, Represents, dataset_name, reading_of, summary_of}
-use Rattle.h5w_writer.specs.Plans.{Step, creation_writes, first_moment}
-use Rattle.h5w_writer.specs.Kept.{space_limit}
-use Rattle.h5w_writer.specs.Sessions.{Session, IsSession, Creating, Running, Goes, Stands, Flushing, AllEndBy, log_of, rows_of, created, after_piece, with_values, planned, going, stopped_of}
-use Rattle.h5w_writer.specs.Flushes.{grown, after_rows, flush_writes}
-use Rattle.h5w_writer.proofs.PlanLemmas.{plan_flushes}
+use Rattle.h5w_writer.specs.declared.options.Options.{Options}
+use Rattle.h5w_writer.specs.Files.{FileFields, chunk_len, AllFit, Moment, Represents, reading_of, summary_of}
+use Rattle.h5w_writer.specs.Plans.{AreOptions, Step, options_of, creation_writes, first_moment}
+use Rattle.h5w_writer.specs.Sessions.{Session, IsSession, cutting_of, Creating, Running, Goes, Stands, Flushing, AllEndBy, log_of, rows_of, created, after_piece, with_values, planned, going, stopped_of}
+use Rattle.h5w_writer.specs.Flushes.{grown, after_rows, flush_writes, missing_chunks}
+use Rattle.h5w_writer.proofs.PlanLemmas.{Fits, plan_flushes}
 use Rattle.h5w_writer.proofs.ValidNow.{valid_now}
 use Rattle.h5w_writer.proofs.ReadsNow.{reads_now}
 use Rattle.h5w_writer.proofs.StepKept.{step_kept}
-use Rattle.h5w_writer.proofs.StepStays.{step_stays}
+use Rattle.h5w_writer.proofs.StepStays.{step_stays, step_follows, follows_itself, follows_on}
 use Rattle.h5w_writer.proofs.Shown.{shown_is, misses_shown}
+use Rattle.h5w_writer.proofs.StaysNow.{Follows}
+use Rattle.h5w_writer.proofs.BlockSizes.{first_end_small}
+use Rattle.h5w_writer.proofs.LoadLemmas.{cutting, spent_in-events, chunks_loaded}
 use Rattle.h5w_writer.proofs.Created.{created_represents}
-use Rattle.h5w_writer.proofs.SessionLemmas.{AllEndBy-append, AllEndBy-more, not_both, created_is, end_few, planned_by}
+use Rattle.h5w_writer.proofs.SessionLemmas.{AllEndBy-append, AllEndBy-more, not_both, created_is, planned_by}
 
 pub shown-length : (es : List Happening) → shown es ≡ length (hist es)
 shown-length [] = refl
@@ -32,9 +36,9 @@ shown-length (plans k ∷ es) = shown-length es
 shown-length (shows w ∷ es) = ap (λ n. n + 1) (shown-length es) ∙ sym (length-append (hist es) (w ∷ []))
 
 -- what is said of each event does not rest on later ones
-EachReads-later : (log : Log) (e : Happening) (es : List Happening) → EachReads dataset_name log es → EachReads dataset_name (and_now e log) es
-EachReads-later log e [] each = each
-EachReads-later log e (x ∷ es) each = (each.0, EachReads-later log e es each.1)
+EachReads-later : (name : List ℕ) (log : Log) (e : Happening) (es : List Happening) → EachReads name log es → EachReads name (and_now e log) es
+EachReads-later name log e [] each = each
+EachReads-later name log e (x ∷ es) each = (each.0, EachReads-later name log e es each.1)
 
 -- ---- What a piece does to what stood
 
@@ -46,63 +50,63 @@ length_pos [] some = absurd (some refl)
 length_pos (w ∷ ws) some = omega arith
 
 -- before the superblock nothing is read
-reads_later : (log : Log) (w : Write) → log.first ≡ 5 → length (hist log.events) + 1 ≤ 4 → PrefixedEach dataset_name log → PrefixedEach dataset_name (and_now (shows w) log)
-reads_later log w first few each =
-    (λ h. absurd (omega (arith, shown-length log.events)), EachReads-later log (shows w) log.events each)
+reads_later : (name : List ℕ) (log : Log) (w : Write) → log.first ≡ 5 → length (hist log.events) + 1 ≤ 4 → PrefixedEach name log → PrefixedEach name (and_now (shows w) log)
+reads_later name log w first few each =
+    (λ h. absurd (omega (arith, shown-length log.events)), EachReads-later name log (shows w) log.events each)
 
 -- at the position now and after each event the image is valid and reads as the flushed rows
-reads_more : (e : Happening) (es : List Happening) (m : Moment) → Represents (image [] (hist (e ∷ es))) m → m.values ≡ flushed_in 0 [] (e ∷ es)
-    → PrefixedEach dataset_name (log_of es) → PrefixedEach dataset_name (log_of (e ∷ es))
-reads_more e es m r flushed each =
+reads_more : (name : List ℕ) (e : Happening) (es : List Happening) (m : Moment) → m.file.name ≡ name → Represents (image [] (hist (e ∷ es))) m → m.values ≡ flushed_in 0 [] (e ∷ es)
+    → PrefixedEach name (log_of es) → PrefixedEach name (log_of (e ∷ es))
+reads_more name e es m named r flushed each =
     let img = image [] (hist (e ∷ es)) in (
       λ h. record {
         summary = summary_of m.file;
-        valid = valid_now img m r;
-        reads = subst (λ (vs : List ℤ). Reads img dataset_name vs) flushed (reads_now img m r);
+        valid = subst (λ (xs : List ℕ). Valid img xs (summary_of m.file)) named (valid_now img m r);
+        reads = subst (λ (vs : List ℤ). Reads img name vs) flushed (subst (λ (xs : List ℕ). Reads img xs m.values) named (reads_now img m r));
       },
-      EachReads-later (log_of es) e es each,
+      EachReads-later name (log_of es) e es each,
     )
 
 -- what is said of one piece, by the images before and after it and at each earlier position
-record StillOf (images : ℕ → List ℕ) (k : ℕ) (at_k : Option Write) : Type 0 where
-  steps : (r s : Reading) → Shows format_limits (images k) dataset_name r → Shows format_limits (images (k + 1)) dataset_name s
+record StillOf (name : List ℕ) (images : ℕ → List ℕ) (k : ℕ) (at_k : Option Write) : Type 0 where
+  steps : (r s : Reading) → Shows format_limits (images k) name r → Shows format_limits (images (k + 1)) name s
       → Stays (images k) r (images (k + 1)) s
   misses : (w : Write) (p : ℕ) (r s : Reading) → at_k ≡ Some w → 5 ≤ p → p ≤ k
-      → Shows format_limits (images p) dataset_name r → Shows format_limits (images k) dataset_name s
+      → Shows format_limits (images p) name r → Shows format_limits (images k) name s
       → r.dataset.shape.rows ≡ s.dataset.shape.rows → MissesBehind w (images p) r
 
 -- it rests on the images up to the next position alone
-StillOf-same : (images others : ℕ → List ℕ) (k : ℕ) (a b : Option Write) → ((p : ℕ) → p ≤ k + 1 → others p ≡ images p) → b ≡ a → StillOf images k a → StillOf others k b
-StillOf-same images others k a b same is still =
+StillOf-same : (name : List ℕ) (images others : ℕ → List ℕ) (k : ℕ) (a b : Option Write) → ((p : ℕ) → p ≤ k + 1 → others p ≡ images p) → b ≡ a → StillOf name images k a → StillOf name others k b
+StillOf-same name images others k a b same is still =
     record {
       steps = λ r s shown next.
           let e : others k ≡ images k = same k (omega arith) in
           let f : others (k + 1) ≡ images (k + 1) = same (k + 1) (omega arith) in
-          let P : List ℕ → List ℕ → Type 0 = λ x y. Shows format_limits x dataset_name r → Shows format_limits y dataset_name s → Stays x r y s in
+          let P : List ℕ → List ℕ → Type 0 = λ x y. Shows format_limits x name r → Shows format_limits y name s → Stays x r y s in
           subst (λ x. P x (others (k + 1))) (sym e) (subst (λ y. P (images k) y) (sym f) (still.steps r s)) shown next;
       misses = λ w p r s found low high shown next rows.
           let e : others p ≡ images p = same p (omega arith) in
           let f : others k ≡ images k = same k (omega arith) in
-          let shown_there : Shows format_limits (images p) dataset_name r = subst (λ (x : List ℕ). Shows format_limits x dataset_name r) e shown in
-          let next_there : Shows format_limits (images k) dataset_name s = subst (λ (x : List ℕ). Shows format_limits x dataset_name s) f next in
+          let shown_there : Shows format_limits (images p) name r = subst (λ (x : List ℕ). Shows format_limits x name r) e shown in
+          let next_there : Shows format_limits (images k) name s = subst (λ (x : List ℕ). Shows format_limits x name s) f next in
           subst (λ (x : List ℕ). MissesBehind w x r) (sym e) (still.misses w p r s (sym is ∙ found) low high shown_there next_there rows);
     }
 
 abbrev images_of : List Happening → ℕ → List ℕ
 images_of es p = image [] (take p (hist es))
 
-of_still : (es : List Happening) (k : ℕ) → StillAt dataset_name (log_of es) k → StillOf (images_of es) k (slice_get (hist es) k)
-of_still es k still = record { steps = still.steps; misses = still.misses }
+of_still : (name : List ℕ) (es : List Happening) (k : ℕ) → StillAt name (log_of es) k → StillOf name (images_of es) k (slice_get (hist es) k)
+of_still name es k still = record { steps = still.steps; misses = still.misses }
 
-to_still : (es : List Happening) (k : ℕ) → StillOf (images_of es) k (slice_get (hist es) k) → StillAt dataset_name (log_of es) k
-to_still es k still = record { steps = still.steps; misses = still.misses }
+to_still : (name : List ℕ) (es : List Happening) (k : ℕ) → StillOf name (images_of es) k (slice_get (hist es) k) → StillAt name (log_of es) k
+to_still name es k still = record { steps = still.steps; misses = still.misses }
 
 -- what makes no piece visible leaves it
-pub still_appends : (vs : List ℤ) (es : List Happening) → Still dataset_name (log_of es) → Still dataset_name (log_of (appends vs ∷ es))
-still_appends vs es still k low high = to_still (appends vs ∷ es) k (of_still es k (still k low high))
+pub still_appends : (name : List ℕ) (vs : List ℤ) (es : List Happening) → Still name (log_of es) → Still name (log_of (appends vs ∷ es))
+still_appends name vs es still k low high = to_still name (appends vs ∷ es) k (of_still name es k (still k low high))
 
-pub still_plans : (n : ℕ) (es : List Happening) → Still dataset_name (log_of es) → Still dataset_name (log_of (plans n ∷ es))
-still_plans n es still k low high = to_still (plans n ∷ es) k (of_still es k (still k low high))
+pub still_plans : (name : List ℕ) (n : ℕ) (es : List Happening) → Still name (log_of es) → Still name (log_of (plans n ∷ es))
+still_plans name n es still k low high = to_still name (plans n ∷ es) k (of_still name es k (still k low high))
 
 slice_get_front : {A : Type 0} (xs ys : List A) (k : ℕ) (d : A) → k < length xs → slice_get (xs ++ ys) k ≡ slice_get xs k
 slice_get_front xs ys k d h =
@@ -112,9 +116,9 @@ slice_get_front xs ys k d h =
 images_before : (es : List Happening) (w : Write) (p : ℕ) → p ≤ length (hist es) → images_of (shows w ∷ es) p ≡ images_of es p
 images_before es w p h = ap (image []) (take-append-le p (hist es) (w ∷ []) h)
 
--- each position has a file
-abbrev Past : List Happening → Type 0
-Past es = (p : ℕ) → 5 ≤ p → p ≤ length (hist es) → (m : Moment) × Represents (images_of es p) m
+-- each position has a file of this name
+abbrev Past : List ℕ → List Happening → Type 0
+Past name es = (p : ℕ) → 5 ≤ p → p ≤ length (hist es) → (m : Moment) × Represents (images_of es p) m × (m.file.name ≡ name)
 
 pub image_now : (es : List Happening) → images_of es (length (hist es)) ≡ image [] (hist es)
 image_now es = ap (image []) (take-length (hist es))
@@ -125,17 +129,18 @@ image_next es w =
     ∙ ap (image []) (take-length (hist es ++ w ∷ [])) ∙ image-push [] (hist es) w
 
 -- the last piece of a plan, by the images before and after it
-still_last : (es : List Happening) (w : Write) (m n : Moment) (k : ℕ) → images_of (shows w ∷ es) k ≡ image [] (hist es)
-    → images_of (shows w ∷ es) (k + 1) ≡ apply w (image [] (hist es)) → k ≡ length (hist es) → Represents (image [] (hist es)) m → Step m w n → Past es
-    → StillOf (images_of (shows w ∷ es)) k (slice_get (hist es ++ w ∷ []) k)
-still_last es w m n k now next is file step past =
+still_last : (name : List ℕ) (es : List Happening) (w : Write) (m n : Moment) (k : ℕ) → m.file.name ≡ name → images_of (shows w ∷ es) k ≡ image [] (hist es)
+    → images_of (shows w ∷ es) (k + 1) ≡ apply w (image [] (hist es)) → k ≡ length (hist es) → Represents (image [] (hist es)) m → Step m w n → Past name es
+    → StillOf name (images_of (shows w ∷ es)) k (slice_get (hist es ++ w ∷ []) k)
+still_last name es w m n k named now next is file step past =
     let img = image [] (hist es) in
+    let named_after : n.file.name ≡ name = (step_follows m w n step).name ∙ named in
     record {
       steps = λ r s shown after.
-          let shown_now : Shows format_limits img dataset_name r = subst (λ (x : List ℕ). Shows format_limits x dataset_name r) now shown in
-          let after_now : Shows format_limits (apply w img) dataset_name s = subst (λ (x : List ℕ). Shows format_limits x dataset_name s) next after in
-          let first : reading_of m.file ≡ r = sym (shown_is img m r file shown_now) in
-          let second : reading_of n.file ≡ s = sym (shown_is (apply w img) n s (step_kept img m w n file step) after_now) in
+          let shown_now : Shows format_limits img name r = subst (λ (x : List ℕ). Shows format_limits x name r) now shown in
+          let after_now : Shows format_limits (apply w img) name s = subst (λ (x : List ℕ). Shows format_limits x name s) next after in
+          let first : reading_of m.file ≡ r = sym (shown_is name img m r named file shown_now) in
+          let second : reading_of n.file ≡ s = sym (shown_is name (apply w img) n s named_after (step_kept img m w n file step) after_now) in
           let stays : Stays img r (apply w img) s =
           subst (λ (x : Reading). Stays img x (apply w img) s) first (subst (λ (x : Reading). Stays img (reading_of m.file) (apply w img) x) second (step_stays img m w n file step)) in
           subst (λ (x : List ℕ). Stays x r (images_of (shows w ∷ es) (k + 1)) s) (sym now) (subst (λ (x : List ℕ). Stays img r x s) (sym next) stays);
@@ -143,33 +148,34 @@ still_last es w m n k now next is file step past =
           let same : images_of (shows w ∷ es) p ≡ images_of es p = images_before es w p (omega arith) in
           let there = past p low (omega arith) in
           let file_there : Represents (images_of (shows w ∷ es) p) there.0 = subst (λ (x : List ℕ). Represents x there.0) (sym same) there.1 in
-          misses_shown (images_of (shows w ∷ es) p) there.0 v r file_there shown;
+          misses_shown name (images_of (shows w ∷ es) p) there.0 v r there.2 file_there shown;
     }
 
 -- one more piece of a plan
-pub still_shows : (es : List Happening) (w : Write) (m n : Moment) → Represents (image [] (hist es)) m → Step m w n → Past es
-    → Still dataset_name (log_of es) → Still dataset_name (log_of (shows w ∷ es))
-still_shows es w m n file step past still k low high =
+pub still_shows : (name : List ℕ) (es : List Happening) (w : Write) (m n : Moment) → m.file.name ≡ name → Represents (image [] (hist es)) m → Step m w n → Past name es
+    → Still name (log_of es) → Still name (log_of (shows w ∷ es))
+still_shows name es w m n named file step past still k low high =
     let last = length (hist es) in
     elim (cases_lt k last) [
       | inl before ↦
-          to_still (shows w ∷ es) k
-          (StillOf-same (images_of es) (images_of (shows w ∷ es)) k (slice_get (hist es) k) (slice_get (hist es ++ w ∷ []) k)
-          (λ p h. images_before es w p (omega arith)) (slice_get_front (hist es) (w ∷ []) k w before) (of_still es k (still k low before)))
+          to_still name (shows w ∷ es) k
+          (StillOf-same name (images_of es) (images_of (shows w ∷ es)) k (slice_get (hist es) k) (slice_get (hist es ++ w ∷ []) k)
+          (λ p h. images_before es w p (omega arith)) (slice_get_front (hist es) (w ∷ []) k w before) (of_still name es k (still k low before)))
       | inr not_before ↦
           let is : k ≡ last = omega (arith, length-append (hist es) (w ∷ [])) in
           let now : images_of (shows w ∷ es) k ≡ image [] (hist es) = ap (images_of (shows w ∷ es)) is ∙ images_before es w last (omega arith) ∙ image_now es in
           let next : images_of (shows w ∷ es) (k + 1) ≡ apply w (image [] (hist es)) = ap (λ j. images_of (shows w ∷ es) (j + 1)) is ∙ image_next es w in
-          to_still (shows w ∷ es) k (still_last es w m n k now next is file step past)
+          to_still name (shows w ∷ es) k (still_last name es w m n k named now next is file step past)
     ]
 
 -- a session begins with the creation's pieces
-creation_goes : (rows : ℕ) → 1 ≤ rows → rows ≤ 65536 → Goes (created rows) (log_of [])
-creation_goes rows low high = record {
+creation_goes : (o : Options) → AreOptions o → Goes (created o) (log_of [])
+creation_goes o by = record {
   is = refl;
-  phase = inl (record { pieces = refl; some = λ e. cc; some_rows = low; chunk_bound = high; file = refl; committed = refl; waiting = refl; appended = refl; flushed = λ k. refl });
+  phase = inl (record { pieces = refl; some = λ e. cc; by = by; file = refl; committed = refl; waiting = refl; appended = refl; flushed = λ k. refl });
   prefixed = λ h. absurd (omega arith);
   still = λ k low high. absurd (omega arith);
+  grew = omega (arith, first_end_small (length o.name) o.chunk_rows by.name_bound by.chunk_bound);
 }
 
 -- ---- A piece that becomes visible
@@ -204,8 +210,7 @@ creating_piece s w x ws es pending c =
     record {
       pieces = append_assoc (hist es) (w ∷ []) (x ∷ ws) ∙ ap (λ p. hist es ++ p) (sym pending) ∙ c.pieces;
       some = λ e. cc;
-      some_rows = c.some_rows;
-      chunk_bound = c.chunk_bound;
+      by = c.by;
       file = c.file;
       committed = c.committed;
       waiting = c.waiting;
@@ -216,13 +221,13 @@ creating_piece s w x ws es pending c =
 -- the superblock is the creation's last piece
 creating_last : (s : Session) (w : Write) (es : List Happening) → s.pending ≡ w ∷ [] → Creating s es → Running (after_piece s []) (shows w ∷ es)
 creating_last s w es pending c =
-    let rows = s.file.chunk_rows in
-    let all : hist es ++ w ∷ [] ≡ creation_writes rows = ap (λ p. hist es ++ p) (sym pending) ∙ c.pieces in
-    let file : Represents (image [] (hist es ++ w ∷ [])) (first_moment rows) =
-    subst (λ (ws : List Write). Represents (image [] ws) (first_moment rows)) (sym all) (created_represents rows c.some_rows c.chunk_bound) in
+    let o = options_of s.file in
+    let all : hist es ++ w ∷ [] ≡ creation_writes o = ap (λ p. hist es ++ p) (sym pending) ∙ c.pieces in
+    let file : Represents (image [] (hist es ++ w ∷ [])) (first_moment o) =
+    subst (λ (ws : List Write). Represents (image [] ws) (first_moment o)) (sym all) (created_represents o c.by) in
     record {
-      before = first_moment rows;
-      after = first_moment rows;
+      before = first_moment o;
+      after = first_moment o;
       represents = file;
       flush = refl;
       file = sym c.file;
@@ -232,10 +237,10 @@ creating_last s w es pending c =
       flushed = λ k. c.flushed (k + 1) ∙ sym (same_choice (nat_lt k 0) []);
       past = λ p low high.
           let whole : take p (hist es ++ w ∷ []) ≡ hist es ++ w ∷ [] = take_all p (hist es ++ w ∷ []) (omega (arith, ap length all)) in
-          (first_moment rows, subst (λ (ws : List Write). Represents (image [] ws) (first_moment rows)) (sym whole) file);
+          (first_moment o, subst (λ (ws : List Write). Represents (image [] ws) (first_moment o)) (sym whole) file, refl);
       ends =
-          let is = created_is rows c.some_rows c.chunk_bound in
-          subst (AllEndBy space_limit) (sym (append-nil (hist es ++ w ∷ []) ∙ all)) (AllEndBy-more (created rows).file.end space_limit (creation_writes rows) (end_few (created rows) is) is.within);
+          let is = created_is o c.by in
+          subst (AllEndBy s.file.limit) (sym (append-nil (hist es ++ w ∷ []) ∙ all)) (AllEndBy-more (created o).file.end s.file.limit (creation_writes o) is.is_file.end_bound is.within);
     }
 
 -- the values that are flushed after k more pieces, with one piece less to come
@@ -248,17 +253,17 @@ flushed_step k a b c x (w ∷ ws) keep last is =
       | inr above ↦ is ∙ ge_choice (k + 1) (length (w ∷ ws) + 1) a c (omega arith) ∙ sym (ge_choice k (length (w ∷ ws)) b c above)
     ]
 
-past_piece : (es : List Happening) (w : Write) (n : Moment) → Represents (apply w (image [] (hist es))) n → Past es → Past (shows w ∷ es)
-past_piece es w n file past p low high =
+past_piece : (name : List ℕ) (es : List Happening) (w : Write) (n : Moment) → n.file.name ≡ name → Represents (apply w (image [] (hist es))) n → Past name es → Past name (shows w ∷ es)
+past_piece name es w n named file past p low high =
     let last = length (hist es) in
     elim (cases_lt last p) [
       | inl next ↦
           let is : p ≡ last + 1 = omega (arith, length-append (hist es) (w ∷ [])) in
           let same : images_of (shows w ∷ es) p ≡ apply w (image [] (hist es)) = ap (images_of (shows w ∷ es)) is ∙ image_next es w in
-          (n, subst (λ (x : List ℕ). Represents x n) (sym same) file)
+          (n, subst (λ (x : List ℕ). Represents x n) (sym same) file, named)
       | inr before ↦
           let there = past p low before in
-          (there.0, subst (λ (x : List ℕ). Represents x there.0) (sym (images_before es w p before)) there.1)
+          (there.0, subst (λ (x : List ℕ). Represents x there.0) (sym (images_before es w p before)) there.1, there.2)
     ]
 
 -- the rows that a session has before its next piece
@@ -275,11 +280,20 @@ last_piece : (ws : List Write) (b n : Moment) → Flushing b ws n → ws ≡ [] 
 last_piece [] b n rest is = ap (λ (x : Moment). x.values) rest
 last_piece (w ∷ ws) b n rest is = absurd (cons_some w ws is)
 
+-- the name stays
+pub flushing_follows : (m : Moment) (ws : List Write) (n : Moment) → Flushing m ws n → Follows m n
+flushing_follows m [] n flush = subst (λ (x : Moment). Follows m x) (sym flush) (follows_itself m)
+flushing_follows m (w ∷ ws) n flush = follows_on m flush.0 n (step_follows m w flush.0 flush.1) (flushing_follows flush.0 ws n flush.3)
+
+pub before_named : (s : Session) (es : List Happening) → (r : Running s es) → r.before.file.name ≡ s.file.name
+before_named s es r = sym (flushing_follows r.before s.pending r.after r.flush).name ∙ ap (λ (f : FileFields). f.name) r.file
+
 running_piece : (s : Session) (w : Write) (ws : List Write) (es : List Happening) → s.pending ≡ w ∷ ws → Running s es → Running (after_piece s ws) (shows w ∷ es)
 running_piece s w ws es pending r =
     let flush : Flushing r.before (w ∷ ws) r.after = subst (λ (ps : List Write). Flushing r.before ps r.after) pending r.flush in
     let between = flush.0 in
     let file : Represents (apply w (image [] (hist es))) between = step_kept (image [] (hist es)) r.before w between r.represents flush.1 in
+    let named : between.file.name ≡ s.file.name = (step_follows r.before w between flush.1).name ∙ before_named s es r in
     record {
       before = between;
       after = r.after;
@@ -294,11 +308,11 @@ running_piece s w ws es pending r =
           r.flushed (k + 1) ∙ ap (λ (n : ℕ). if nat_lt (k + 1) n then r.before.values else r.after.values) (ap length pending ∙ omega arith) in
           flushed_step k r.before.values between.values r.after.values (flushed_in (k + 1) [] es) ws flush.2 (last_piece ws between r.after flush.3) is
           ∙ ap (λ (ps : List Write). if nat_lt k (length ps) then between.values else r.after.values) (sym (after_pending s ws));
-      past = past_piece es w between file r.past;
+      past = subst (λ (f : FileFields). Past f.name (shows w ∷ es)) (sym (after_file s ws)) (past_piece s.file.name es w between named file r.past);
       ends =
           let same : (hist es ++ w ∷ []) ++ (after_piece s ws).pending ≡ hist es ++ s.pending =
           ap (λ (ps : List Write). (hist es ++ w ∷ []) ++ ps) (after_pending s ws) ∙ append_assoc (hist es) (w ∷ []) ws ∙ ap (λ (ps : List Write). hist es ++ ps) (sym pending) in
-          subst (AllEndBy space_limit) (sym same) r.ends;
+          subst (λ (f : FileFields). AllEndBy f.limit ((hist es ++ w ∷ []) ++ (after_piece s ws).pending)) (sym (after_file s ws)) (subst (AllEndBy s.file.limit) (sym same) r.ends);
     }
 
 -- what the image reads as is what is flushed
@@ -312,14 +326,22 @@ flushed_now s es r =
           ap (λ (m : Moment). m.values) (sym same) ∙ sym (r.flushed 0 ∙ ge_choice 0 (length s.pending) r.before.values r.after.values none_left)
     ]
 
-reads_running : (e : Happening) (s : Session) (es : List Happening) → Running s (e ∷ es) → PrefixedEach dataset_name (log_of es) → PrefixedEach dataset_name (log_of (e ∷ es))
-reads_running e s es r each = reads_more e es r.before r.represents (flushed_now s (e ∷ es) r) each
+reads_running : (e : Happening) (s : Session) (es : List Happening) → Running s (e ∷ es) → PrefixedEach s.file.name (log_of es) → PrefixedEach s.file.name (log_of (e ∷ es))
+reads_running e s es r each = reads_more s.file.name e es r.before (before_named s (e ∷ es) r) r.represents (flushed_now s (e ∷ es) r) each
 
 creating_size : (s : Session) (es : List Happening) → Creating s es → length (hist es) + length s.pending ≡ 5
 creating_size s es c = sym (length-append (hist es) s.pending) ∙ ap length c.pieces
 
-shows_creating : (s : Session) (w : Write) (ws : List Write) (es : List Happening) → s.pending ≡ w ∷ ws → Creating s es → PrefixedEach dataset_name (log_of es) → Goes (after_piece s ws) (log_of (shows w ∷ es))
-shows_creating s w [] es pending c each =
+-- a piece that becomes visible spends nothing
+grew_shown : (s : Session) (w : Write) (ws : List Write) (es : List Happening) → s.file.end ≤ 1024 + spent (cutting_of s) (log_of es)
+    → (after_piece s ws).file.end ≤ 1024 + spent (cutting_of (after_piece s ws)) (log_of (shows w ∷ es))
+grew_shown s w ws es grew =
+    subst (λ (f : FileFields). f.end ≤ 1024 + spent (cutting f) (log_of (shows w ∷ es))) (sym (after_file s ws))
+    (subst (λ (n : ℕ). s.file.end ≤ 1024 + n) (sym (spent_in-events (cutting_of s) (log_of es) (shows w ∷ es) es)) grew)
+
+shows_creating : (s : Session) (w : Write) (ws : List Write) (es : List Happening) → s.pending ≡ w ∷ ws → Creating s es → PrefixedEach s.file.name (log_of es)
+    → s.file.end ≤ 1024 + spent (cutting_of s) (log_of es) → Goes (after_piece s ws) (log_of (shows w ∷ es))
+shows_creating s w [] es pending c each grew =
     let r = creating_last s w es pending c in
     let size = creating_size s es c in
     record {
@@ -327,32 +349,36 @@ shows_creating s w [] es pending c each =
       phase = inr r;
       prefixed = reads_running (shows w) (after_piece s []) es r each;
       still = λ k low high. absurd (omega (arith, length-append (hist es) (w ∷ []), ap length pending));
+      grew = grew_shown s w [] es grew;
     }
-shows_creating s w (x ∷ ws) es pending c each =
+shows_creating s w (x ∷ ws) es pending c each grew =
     let size = creating_size s es c in
     record {
       is = refl;
       phase = inl (creating_piece s w x ws es pending c);
-      prefixed = (λ h. absurd (omega (arith, shown-length es, ap length pending)), EachReads-later (log_of es) (shows w) es each);
+      prefixed = (λ h. absurd (omega (arith, shown-length es, ap length pending)), EachReads-later s.file.name (log_of es) (shows w) es each);
       still = λ k low high. absurd (omega (arith, length-append (hist es) (w ∷ []), ap length pending));
+      grew = grew_shown s w (x ∷ ws) es grew;
     }
 
 shows_running : (s : Session) (w : Write) (ws : List Write) (es : List Happening) → s.pending ≡ w ∷ ws → Running s es
-    → PrefixedEach dataset_name (log_of es) → Still dataset_name (log_of es) → Goes (after_piece s ws) (log_of (shows w ∷ es))
-shows_running s w ws es pending r each still =
+    → PrefixedEach s.file.name (log_of es) → Still s.file.name (log_of es) → s.file.end ≤ 1024 + spent (cutting_of s) (log_of es) → Goes (after_piece s ws) (log_of (shows w ∷ es))
+shows_running s w ws es pending r each still grew =
+    let same : s.file.name ≡ (after_piece s ws).file.name = ap (λ (f : FileFields). f.name) (sym (after_file s ws)) in
     let flush : Flushing r.before (w ∷ ws) r.after = subst (λ (ps : List Write). Flushing r.before ps r.after) pending r.flush in
     record {
       is = refl;
       phase = inr (running_piece s w ws es pending r);
-      prefixed = reads_running (shows w) (after_piece s ws) es (running_piece s w ws es pending r) each;
-      still = still_shows es w r.before flush.0 r.represents flush.1 r.past still;
+      prefixed = reads_running (shows w) (after_piece s ws) es (running_piece s w ws es pending r) (subst (λ (name : List ℕ). PrefixedEach name (log_of es)) same each);
+      still = subst (λ (name : List ℕ). Still name (log_of (shows w ∷ es))) same (still_shows s.file.name es w r.before flush.0 (before_named s es r) r.represents flush.1 r.past still);
+      grew = grew_shown s w ws es grew;
     }
 
 stands_shows : (s : Session) (w : Write) (ws : List Write) (es : List Happening) → s.pending ≡ w ∷ ws → Goes s (log_of es) → Goes (after_piece s ws) (log_of (shows w ∷ es))
 stands_shows s w ws es pending stands =
     elim stands.phase [
-      | inl creating ↦ shows_creating s w ws es pending creating stands.prefixed
-      | inr running ↦ shows_running s w ws es pending running stands.prefixed stands.still
+      | inl creating ↦ shows_creating s w ws es pending creating stands.prefixed stands.grew
+      | inr running ↦ shows_running s w ws es pending running stands.prefixed stands.still stands.grew
     ]
 
 -- over every log
@@ -393,7 +419,8 @@ stands_added s vs es none stands =
       is = refl;
       phase = inr r;
       prefixed = reads_running (appends vs) (with_values s vs) es r stands.prefixed;
-      still = still_appends vs es stands.still;
+      still = still_appends s.file.name vs es stands.still;
+      grew = omega (arith, stands.grew, spent_in-events (cutting_of s) (log_of es) (appends vs ∷ es) es);
     }
 
 -- an append that was accepted
@@ -436,9 +463,9 @@ running_empty s es none no_rows r =
 abbrev planned_of : Session → List ℤ → Session
 planned_of s rows = record { file = after_rows rows s.file; committed = s.committed; waiting = []; pending = flush_writes s.file rows; stopped = s.stopped }
 
-running_planned : (s : Session) (v : ℤ) (vs : List ℤ) (es : List Happening) → IsSession s → s.stopped ≡ false → s.pending ≡ [] → s.waiting ≡ v ∷ vs → Running s es
+running_planned : (s : Session) (v : ℤ) (vs : List ℤ) (es : List Happening) → IsSession s → s.stopped ≡ false → s.pending ≡ [] → s.waiting ≡ v ∷ vs → Fits s.file (length (v ∷ vs)) → Running s es
     → Running (planned_of s (v ∷ vs)) (plans (length (flush_writes s.file (v ∷ vs))) ∷ es)
-running_planned s v vs es is running none rows r =
+running_planned s v vs es is running none rows fits r =
     let p = length (flush_writes s.file (v ∷ vs)) in
     let same = idle_same s es none r in
     let idle : r.before ≡ record { file = s.file; values = r.before.values; further = [] } =
@@ -447,7 +474,7 @@ running_planned s v vs es is running none rows r =
     let values : r.after.values ≡ r.before.values = ap (λ (m : Moment). m.values) same in
     let all : after.values ≡ appended_in es = ap (λ (xs : List ℤ). xs ++ v ∷ vs) (sym values) ∙ ap (λ (xs : List ℤ). r.after.values ++ xs) (sym rows) ∙ r.appended in
     let plan : Flushing (record { file = s.file; values = r.before.values; further = [] }) (flush_writes s.file (v ∷ vs)) after =
-    plan_flushes s.file r.before.values v vs is.is_file is.needed is.counted is.end (subst (λ (xs : List ℤ). div_up (s.file.rows + length xs) s.file.chunk_rows ≤ 4) rows is.room) (subst AllFit rows is.fit) in
+    plan_flushes s.file r.before.values v vs is.is_file is.needed is.counted fits (subst (λ (xs : List ℤ). div_up (s.file.rows + length xs) s.file.chunk_rows ≤ 4) rows is.room) (subst AllFit rows is.fit) in
     record {
       before = r.before;
       after = after;
@@ -467,37 +494,12 @@ running_planned s v vs es is running none rows r =
           ];
       past = r.past;
       ends =
-          let next = planned_by s (v ∷ vs) rows running is in
-          let before : AllEndBy space_limit (hist es) = subst (AllEndBy space_limit) (ap (λ (ps : List Write). hist es ++ ps) none ∙ append-nil (hist es)) r.ends in
-          AllEndBy-append space_limit (hist es) (flush_writes s.file (v ∷ vs)) before
-          (AllEndBy-more (grown (length (v ∷ vs)) s.file).end space_limit (flush_writes s.file (v ∷ vs)) (end_few (planned_of s (v ∷ vs)) next) next.within);
+          let next = planned_by s (v ∷ vs) rows running fits is in
+          let most = s.file.limit in
+          let before : AllEndBy most (hist es) = subst (AllEndBy most) (ap (λ (ps : List Write). hist es ++ ps) none ∙ append-nil (hist es)) r.ends in
+          AllEndBy-append most (hist es) (flush_writes s.file (v ∷ vs)) before
+          (AllEndBy-more (grown (length (v ∷ vs)) s.file).end most (flush_writes s.file (v ∷ vs)) fits next.within);
     }
-
-none_planned : (s : Session) → s.pending ≡ [] → s.waiting ≡ [] → s ≡ planned_of s []
-none_planned s none rows = λ i. record { file = s.file; committed = s.committed; waiting = rows i; pending = none i; stopped = s.stopped }
-
-stands_planned : (s : Session) (rows : List ℤ) (es : List Happening) → IsSession s → s.stopped ≡ false → s.pending ≡ [] → s.waiting ≡ rows → Goes s (log_of es)
-    → Goes (planned_of s rows) (log_of (plans (length (planned_of s rows).pending) ∷ es))
-stands_planned s [] es is running none rows stands =
-    let r = running_empty s es none rows (running_idle s es none stands) in
-    let empty : Goes s (log_of (plans 0 ∷ es)) =
-    record { is = refl; phase = inr r; prefixed = reads_running (plans 0) s es r stands.prefixed; still = still_plans 0 es stands.still } in
-    subst (λ (t : Session). Goes t (log_of (plans 0 ∷ es))) (none_planned s none rows) empty
-stands_planned s (v ∷ vs) es is running none rows stands =
-    let r = running_planned s v vs es is running none rows (running_idle s es none stands) in
-    let p = length (flush_writes s.file (v ∷ vs)) in
-    record {
-      is = refl;
-      phase = inr r;
-      prefixed = reads_running (plans p) (planned_of s (v ∷ vs)) es r stands.prefixed;
-      still = still_plans p es stands.still;
-    }
-
--- a flush that was accepted
-planned_goes : (s : Session) → IsSession s → s.stopped ≡ false → s.pending ≡ [] → (log : Log) → Goes s log → Goes (planned s) (and_now (plans (length (planned s).pending)) log)
-planned_goes s is running none = over_log s (planned s) (plans (length (planned s).pending)) (λ es. stands_planned s s.waiting es is running none refl)
-
--- ---- What a session tells of its log
 
 -- what the image is once all pieces of a flush became visible
 flushing_kept : (img : List ℕ) (m : Moment) (ws : List Write) (n : Moment) → Represents img m → Flushing m ws n → Represents (image img ws) n
@@ -521,23 +523,6 @@ rows_go s log stands =
     let rows : rows_of s ≡ length (appended_in es) = elim stands.phase [ inl creating ↦ rows_creating s es creating | inr running ↦ rows_running s es running ] in
     rows ∙ ap (λ (l : Log). length (l.values ++ appended_in es)) (sym stands.is)
 
-committed_go : (s : Session) (log : Log) → Goes s log → s.committed ≡ length (flushed log)
-committed_go s log stands =
-    let es = log.events in
-    let rows : s.committed ≡ length (flushed_in 0 [] es) =
-    elim stands.phase [ inl c ↦ c.committed ∙ sym (ap length (c.flushed 0)) | inr r ↦ r.committed ∙ ap length (flushed_now s es r) ] in
-    rows ∙ ap (λ (l : Log). length (flushed_in 0 l.values es)) (sym stands.is)
-
--- where nothing is pending, the image reads as the flushed rows
-reads_go : (s : Session) (log : Log) → Goes s log → s.pending ≡ [] → Reads (image log.start (hist log.events)) dataset_name (flushed log)
-reads_go s log stands none =
-    let es = log.events in
-    let r : Running s es = elim stands.phase [ inl creating ↦ absurd (creating.some none) | inr running ↦ running ] in
-    let now : Reads (image [] (hist es)) dataset_name (flushed_in 0 [] es) =
-    subst (λ (vs : List ℤ). Reads (image [] (hist es)) dataset_name vs) (flushed_now s es r) (reads_now (image [] (hist es)) r.before r.represents) in
-    let P : Log → Type 0 = λ l. Reads (image l.start (hist es)) dataset_name (flushed_in 0 l.values es) in
-    subst P (sym stands.is) now
-
 -- and the file has these rows
 flushed_go : (s : Session) (log : Log) → Goes s log → s.pending ≡ [] → length (flushed log) ≡ s.file.rows
 flushed_go s log stands none =
@@ -546,12 +531,70 @@ flushed_go s log stands none =
     let count : length r.before.values ≡ s.file.rows = r.represents.count ∙ ap (λ (m : Moment). m.file.rows) (sym (idle_same s es none r)) ∙ ap (λ (f : FileFields). f.rows) r.file in
     ap (λ (l : Log). length (flushed_in 0 l.values es)) stands.is ∙ sym (ap length (flushed_now s es r)) ∙ count
 
+-- new chunks are no more than the load
+chunks_within : (s : Session) (rows : List ℤ) (es : List Happening) → IsSession s → s.pending ≡ [] → s.waiting ≡ rows → Goes s (log_of es)
+    → missing_chunks s.file (length rows) * chunk_len s.file.chunk_rows ≤ load (cutting_of s) (log_of es)
+chunks_within s rows es is none are stands =
+    chunks_loaded s (log_of es) (length rows) is.is_file is.needed (flushed_go s (log_of es) stands none)
+    (sym (rows_go s (log_of es) stands) ∙ ap (λ (vs : List ℤ). s.file.rows + length vs) are)
+
+none_planned : (s : Session) → s.pending ≡ [] → s.waiting ≡ [] → s ≡ planned_of s []
+none_planned s none rows = λ i. record { file = s.file; committed = s.committed; waiting = rows i; pending = none i; stopped = s.stopped }
+
+stands_planned : (s : Session) (rows : List ℤ) (es : List Happening) → IsSession s → s.stopped ≡ false → s.pending ≡ [] → s.waiting ≡ rows → Fits s.file (length rows) → Goes s (log_of es)
+    → Goes (planned_of s rows) (log_of (plans (length (planned_of s rows).pending) ∷ es))
+stands_planned s [] es is running none rows fits stands =
+    let r = running_empty s es none rows (running_idle s es none stands) in
+    let empty : Goes s (log_of (plans 0 ∷ es)) =
+    record {
+      is = refl;
+      phase = inr r;
+      prefixed = reads_running (plans 0) s es r stands.prefixed;
+      still = still_plans s.file.name 0 es stands.still;
+      grew = omega (arith, stands.grew, spent_in-events (cutting_of s) (log_of es) (plans 0 ∷ es) es);
+    } in
+    subst (λ (t : Session). Goes t (log_of (plans 0 ∷ es))) (none_planned s none rows) empty
+stands_planned s (v ∷ vs) es is running none rows fits stands =
+    let r = running_planned s v vs es is running none rows fits (running_idle s es none stands) in
+    let p = length (flush_writes s.file (v ∷ vs)) in
+    record {
+      is = refl;
+      phase = inr r;
+      prefixed = reads_running (plans p) (planned_of s (v ∷ vs)) es r stands.prefixed;
+      still = still_plans s.file.name p es stands.still;
+      grew = omega (arith, stands.grew, spent_in-events (cutting_of s) (log_of es) (plans p ∷ es) es, chunks_within s (v ∷ vs) es is none rows stands);
+    }
+
+-- a flush that was accepted
+planned_goes : (s : Session) → IsSession s → s.stopped ≡ false → s.pending ≡ [] → Fits s.file (length s.waiting) → (log : Log) → Goes s log → Goes (planned s) (and_now (plans (length (planned s).pending)) log)
+planned_goes s is running none fits = over_log s (planned s) (plans (length (planned s).pending)) (λ es. stands_planned s s.waiting es is running none refl fits)
+
+-- ---- What a session tells of its log
+
+committed_go : (s : Session) (log : Log) → Goes s log → s.committed ≡ length (flushed log)
+committed_go s log stands =
+    let es = log.events in
+    let rows : s.committed ≡ length (flushed_in 0 [] es) =
+    elim stands.phase [ inl c ↦ c.committed ∙ sym (ap length (c.flushed 0)) | inr r ↦ r.committed ∙ ap length (flushed_now s es r) ] in
+    rows ∙ ap (λ (l : Log). length (flushed_in 0 l.values es)) (sym stands.is)
+
+-- where nothing is pending, the image reads as the flushed rows
+reads_go : (s : Session) (log : Log) → Goes s log → s.pending ≡ [] → Reads (image log.start (hist log.events)) s.file.name (flushed log)
+reads_go s log stands none =
+    let es = log.events in
+    let r : Running s es = elim stands.phase [ inl creating ↦ absurd (creating.some none) | inr running ↦ running ] in
+    let img = image [] (hist es) in
+    let now : Reads img s.file.name (flushed_in 0 [] es) =
+    subst (λ (vs : List ℤ). Reads img s.file.name vs) (flushed_now s es r) (subst (λ (name : List ℕ). Reads img name r.before.values) (before_named s es r) (reads_now img r.before r.represents)) in
+    let P : Log → Type 0 = λ l. Reads (image l.start (hist es)) s.file.name (flushed_in 0 l.values es) in
+    subst P (sym stands.is) now
+
 -- ---- A session that may have been stopped
 
 as_going : (s : Session) → s.stopped ≡ false → s ≡ going s s.pending
 as_going s running = λ i. record { file = s.file; committed = s.committed; waiting = s.waiting; pending = s.pending; stopped = running i }
 
-goes_of : (s : Session) (log : Log) → s.stopped ≡ false → Stands s log → Goes s log
+pub goes_of : (s : Session) (log : Log) → s.stopped ≡ false → Stands s log → Goes s log
 goes_of s log running stands =
     subst (λ (t : Session). Goes t log) (sym (as_going s running)) (subst (λ (ws : List Write). Goes (going s ws) log) (stands.none_dropped running) stands.goes)
 
@@ -562,8 +605,8 @@ after_stopped : (s : Session) (ws : List Write) → (after_piece s ws).stopped �
 after_stopped s [] = refl
 after_stopped s (w ∷ ws) = refl
 
-pub creation_begins : (rows : ℕ) → 1 ≤ rows → rows ≤ 65536 → Stands (created rows) (log_of [])
-creation_begins rows low high = stands_of (created rows) (log_of []) refl (creation_goes rows low high)
+pub creation_begins : (o : Options) → AreOptions o → Stands (created o) (log_of [])
+creation_begins o by = stands_of (created o) (log_of []) refl (creation_goes o by)
 
 pub piece_shown : (s : Session) (w : Write) (ws : List Write) → s.pending ≡ w ∷ ws → s.stopped ≡ false → (log : Log) → Stands s log → Stands (after_piece s ws) (and_now (shows w) log)
 piece_shown s w ws pending running log stands =
@@ -572,9 +615,9 @@ piece_shown s w ws pending running log stands =
 pub rows_added : (s : Session) (vs : List ℤ) → s.pending ≡ [] → s.stopped ≡ false → (log : Log) → Stands s log → Stands (with_values s vs) (and_now (appends vs) log)
 rows_added s vs none running log stands = stands_of (with_values s vs) (and_now (appends vs) log) running (added_goes s vs none log (goes_of s log running stands))
 
-pub flush_planned : (s : Session) → IsSession s → s.stopped ≡ false → s.pending ≡ [] → (log : Log) → Stands s log → Stands (planned s) (and_now (plans (length (planned s).pending)) log)
-flush_planned s is running none log stands =
-    stands_of (planned s) (and_now (plans (length (planned s).pending)) log) running (planned_goes s is running none log (goes_of s log running stands))
+pub flush_planned : (s : Session) → IsSession s → s.stopped ≡ false → s.pending ≡ [] → Fits s.file (length s.waiting) → (log : Log) → Stands s log → Stands (planned s) (and_now (plans (length (planned s).pending)) log)
+flush_planned s is running none fits log stands =
+    stands_of (planned s) (and_now (plans (length (planned s).pending)) log) running (planned_goes s is running none fits log (goes_of s log running stands))
 
 -- what was pending is dropped, and nothing happened
 pub stop_stands : (s : Session) (log : Log) → Stands s log → Stands (stopped_of s) log
@@ -586,7 +629,7 @@ rows_are s log stands = rows_go (going s stands.left) log stands.goes
 pub committed_are : (s : Session) (log : Log) → Stands s log → s.committed ≡ length (flushed log)
 committed_are s log stands = committed_go (going s stands.left) log stands.goes
 
-pub stands_reads : (s : Session) (log : Log) → Stands s log → s.stopped ≡ false → s.pending ≡ [] → Reads (image log.start (hist log.events)) dataset_name (flushed log)
+pub stands_reads : (s : Session) (log : Log) → Stands s log → s.stopped ≡ false → s.pending ≡ [] → Reads (image log.start (hist log.events)) s.file.name (flushed log)
 stands_reads s log stands running none = reads_go s log (goes_of s log running stands) none
 
 pub flushed_rows : (s : Session) (log : Log) → Stands s log → s.stopped ≡ false → s.pending ≡ [] → length (flushed log) ≡ s.file.rows

@@ -43,12 +43,13 @@ fit-undefined n = All-replicate (λ (n : ℕ). n < 2 ^ 64) n undefined (lit< tt)
 
 -- ---- Places
 
-pub record Places (rows : ℕ) : Type 0 where
-  pub low : 188 ≤ array_place rows
-  pub high : array_place rows ≤ 192
+pub record Places (named rows : ℕ) : Type 0 where
+  pub short : named ≤ 64
+  pub low : 184 + named ≤ array_place named rows
+  pub high : array_place named rows ≤ 188 + named
 
-pub places : (rows : ℕ) → rows ≤ 65536 → Places rows
-places rows h = let w = widths rows h in record { low = omega arith; high = omega arith }
+pub places : (named rows : ℕ) → named ≤ 64 → rows ≤ 65536 → Places named rows
+places named rows short h = let w = widths rows h in record { short = short; low = omega arith; high = omega arith }
 
 pub has_counts : (f : FileFields) → length f.addresses ≤ 4 → HasCounts (index_block_of f)
 has_counts f few =
@@ -60,23 +61,23 @@ has_counts f few =
 
 pub is_index_block : (f : FileFields) → IsFile f → IsIndexBlock (index_block_of f)
 is_index_block f k =
-    let p = places f.chunk_rows k.chunk_bound in
+    let p = places (length f.name) f.chunk_rows k.name_bound k.chunk_bound in
     record {
       counts = has_counts f k.few;
       header_fits = omega arith;
       slots_fit = All-append (λ (n : ℕ). n < 2 ^ 64) f.addresses (replicate (4 - length f.addresses) undefined)
-          (Rising-fit (first_end f.chunk_rows) (chunk_len f.chunk_rows) f.addresses f.end k.apart k.end_bound) (fit-undefined (4 - length f.addresses));
+          (Rising-fit (first_end (length f.name) f.chunk_rows) (chunk_len f.chunk_rows) f.addresses f.end k.apart (omega (arith, k.end_bound, k.limit_high))) (fit-undefined (4 - length f.addresses));
       first_fit = fit-undefined 6;
       second_fit = fit-undefined 25;
     }
 
 pub array_header_reads : (f : FileFields) (place : ℕ) → IsFile f → eahd_at (eahd_bytes (array_header_of f)) place ≡ Ok (array_header_of f)
 array_header_reads f place k =
-    let p = places f.chunk_rows k.chunk_bound in
-    header_reads f.top (index_place f.chunk_rows) place (omega arith) (omega arith)
+    let p = places (length f.name) f.chunk_rows k.name_bound k.chunk_bound in
+    header_reads f.top (index_place (length f.name) f.chunk_rows) place (omega arith) (omega arith)
 
 pub length_array_header : (f : FileFields) → length (eahd_bytes (array_header_of f)) ≡ 72
-length_array_header f = length-header f.top (index_place f.chunk_rows)
+length_array_header f = length-header f.top (index_place (length f.name) f.chunk_rows)
 
 pub index_block_reads : (f : FileFields) (place : ℕ) → IsFile f → eaib_at (eaib_bytes (index_block_of f)) place ≡ Ok (index_block_of f)
 index_block_reads f place k = index_reads (index_block_of f) place (is_index_block f k)

@@ -13,9 +13,10 @@ use Rattle.h5w_writer.specs.Flushes.{cell_list, chunk_values, chunk_writes, free
 use Rattle.h5w_writer.specs.Sessions.{Session, IsSession, Stands, session_of, planned, cutting_of}
 use Rattle.h5w_writer.proofs.CellLemmas.{AllFit-take, AllFit-drop, length-cell_list, length-chunk}
 use Rattle.h5w_writer.proofs.ChunkLemmas.{is_needed}
-use Rattle.h5w_writer.proofs.PlanLemmas.{partly}
+use Rattle.h5w_writer.proofs.PlanLemmas.{Fits}
 use Rattle.h5w_writer.proofs.EventLemmas.{flush_planned, rows_are, flushed_rows}
-use Rattle.h5w_writer.proofs.SessionLemmas.{planned_is, needed_after}
+use Rattle.h5w_writer.proofs.SessionLemmas.{planned_is}
+use Rattle.h5w_writer.proofs.LoadLemmas.{Touches, touches, load_is}
 
 -- ---- The session after it
 
@@ -25,18 +26,18 @@ planned_session old f next rows values items plan writes shown stop view file no
     (λ i. record { file = file i; committed = rows; waiting = none i; pending = is i; stopped = stop }) ∙ ap planned view
 
 pub planned_session_is : (old : Session) (f next : FileFields) (rows : ℕ) (values items : List ℤ) (plan writes : List Write) (shown : ℕ) (stop : Bool) → session_of f rows values plan shown stop ≡ old → next ≡ after_rows values f → items ≡ []
-    → writes ≡ flush_writes f values → old.stopped ≡ false → IsSession (session_of f rows values plan shown stop) → IsSession (session_of next rows items writes 0 stop)
-planned_session_is old f next rows values items plan writes shown stop view file none is running session =
-    subst IsSession (sym (planned_session old f next rows values items plan writes shown stop view file none is)) (planned_is old running (subst IsSession view session))
+    → writes ≡ flush_writes f values → old.stopped ≡ false → Fits old.file (length old.waiting) → IsSession (session_of f rows values plan shown stop) → IsSession (session_of next rows items writes 0 stop)
+planned_session_is old f next rows values items plan writes shown stop view file none is running fits session =
+    subst IsSession (sym (planned_session old f next rows values items plan writes shown stop view file none is)) (planned_is old running fits (subst IsSession view session))
 
 pub planned_session_stands : (old : Session) (f next : FileFields) (rows : ℕ) (values items : List ℤ) (plan writes : List Write) (shown count : ℕ) (stop : Bool) → session_of f rows values plan shown stop ≡ old → next ≡ after_rows values f
-    → items ≡ [] → writes ≡ flush_writes f values → count ≡ length writes → old.stopped ≡ false → length old.pending ≤ 0 → IsSession (session_of f rows values plan shown stop)
+    → items ≡ [] → writes ≡ flush_writes f values → count ≡ length writes → old.stopped ≡ false → length old.pending ≤ 0 → Fits old.file (length old.waiting) → IsSession (session_of f rows values plan shown stop)
     → (log : Log) → Stands old log → Stands (session_of next rows items writes 0 stop) (and_now (plans count) log)
-planned_session_stands old f next rows values items plan writes shown count stop view file none is counted running idle session log stands =
+planned_session_stands old f next rows values items plan writes shown count stop view file none is counted running idle fits session log stands =
     let same = planned_session old f next rows values items plan writes shown stop view file none is in
     let pending : old.pending ≡ [] = nil_from_length old.pending (omega arith) in
     let number : length (planned old).pending ≡ count = sym (ap (λ (s : Session). length s.pending) same) ∙ sym counted in
-    let stood = flush_planned old (subst IsSession view session) running pending log stands in
+    let stood = flush_planned old (subst IsSession view session) running pending fits log stands in
     subst (λ (n : ℕ). Stands (session_of next rows items writes 0 stop) (and_now (plans n) log)) number
     (subst (λ (s : Session). Stands s (and_now (plans (length (planned old).pending)) log)) (sym same) stood)
 
@@ -83,26 +84,6 @@ own_few f values fit =
     length-cell_list (take (free_rows f) values) (AllFit-take (free_rows f) values fit) ∙ ap (λ (n : ℕ). 4 * n) (length-take (free_rows f) values) in
     omega (arith, ceil_small (length cells))
 
--- the chunks that hold some row from the old ones up to the new
-record Touches (f : FileFields) (k : ℕ) : Type 0 where
-  own : 0 < free_rows f → div_up (f.rows + k) f.chunk_rows - f.rows / f.chunk_rows ≡ missing_chunks f k + 1
-  new : free_rows f ≤ 0 → div_up (f.rows + k) f.chunk_rows - f.rows / f.chunk_rows ≡ missing_chunks f k
-  short : free_rows f ≤ f.chunk_rows
-
-touches : (f : FileFields) (k : ℕ) → IsFile f → length f.addresses ≡ div_up f.rows f.chunk_rows → Touches f k
-touches f k is needed =
-    let per = f.chunk_rows in
-    let n = is_needed f is.some_rows needed in
-    let all : length f.addresses + missing_chunks f k ≡ div_up (f.rows + k) per = needed_after f k is.some_rows needed in
-    record {
-      own = λ free. let p = partly f is.some_rows n.rows n.full free in omega (arith, p.chunk);
-      new = λ none.
-          let whole : f.rows ≡ length f.addresses * per = omega (arith, n.rows) in
-          let quotient : f.rows / per ≡ length f.addresses = ap (λ (x : ℕ). x / per) (whole ∙ omega arith) ∙ div-mul-add (length f.addresses) per 0 (omega (arith, is.some_rows)) in
-          omega arith;
-      short = omega (arith, n.full);
-    }
-
 -- the pieces of a plan are fewer than its load
 few_pieces : (f : FileFields) (v : ℤ) (vs : List ℤ) → IsFile f → length f.addresses ≡ div_up f.rows f.chunk_rows → AllFit (v ∷ vs)
     → length (flush_writes f (v ∷ vs)) ≤ 1000 + (div_up (f.rows + length (v ∷ vs)) f.chunk_rows - f.rows / f.chunk_rows) * (4 * f.chunk_rows + 20000)
@@ -128,18 +109,6 @@ few_pieces f v vs is needed fit =
           let chunks = t.new none in
           subst (λ (n : ℕ). length (flush_writes f values) ≤ 1000 + n * (4 * per + 20000)) (sym chunks) (omega arith)
     ]
-
--- the load of a log whose rows are these
-load_is : (s : Session) (log : Log) (old new : ℕ) → length (flushed log) ≡ old → length (appended log) ≡ new → old < new
-    → load (cutting_of s) log ≡ 1000 + (div_up new s.file.chunk_rows - old / s.file.chunk_rows) * (4 * s.file.chunk_rows + 20000)
-load_is s log old new flushed_rows appended_rows more =
-    let per = s.file.chunk_rows in
-    let before : length (flushed log) / 1 ≡ old = omega arith in
-    let after : length (appended log) / 1 ≡ new = omega arith in
-    let test : nat_lt (length (flushed log) / 1) (length (appended log) / 1) ≡ true = lt-ltb (length (flushed log) / 1) (length (appended log) / 1) (omega arith) in
-    let chunks : touched_chunks (cutting_of s) (length (flushed log) / 1) (length (appended log) / 1) ≡ div_up new per - old / per = rw (test, before, after) (omega arith) in
-    let bytes : per * 1 * 4 + 20000 ≡ 4 * per + 20000 = omega arith in
-    ap (λ (n : ℕ). 1000 + n * (per * 1 * 4 + 20000)) chunks ∙ ap (λ (n : ℕ). 1000 + (div_up new per - old / per) * n) bytes
 
 within_load : (s : Session) (values : List ℤ) (log : Log) → s.waiting ≡ values → IsSession s → s.stopped ≡ false → s.pending ≡ [] → Stands s log → length (flush_writes s.file values) ≤ load (cutting_of s) log
 within_load s [] log rows is running none stands = omega arith

@@ -109,3 +109,9 @@ prefix_at-alone ms h = ap prefix_at (sym (append-nil (header_bytes ms))) ∙ pre
 
 pub messages_at-alone : (ms : List Msg) → length (msgs_bytes ms) ≤ 255 → list_all names_block ms ≡ true → all_known (placed 7 ms) ≡ Ok (placed 7 ms) → messages_at (header_bytes ms) ≡ Ok (placed 7 ms)
 messages_at-alone ms h named known = ap messages_at (sym (append-nil (header_bytes ms))) ∙ messages_at-header_bytes ms [] h named known
+
+-- ---- How long messages are as they are written
+
+pub length_more : (m : Msg) (ms : List Msg) → length (msgs_bytes (m ∷ ms)) ≡ 4 + (length m.body + length (msgs_bytes ms))
+unfolding le
+length_more m ms = omega (arith, length-append m.body (msgs_bytes ms))

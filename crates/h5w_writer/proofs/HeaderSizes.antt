@@ -1,16 +1,16 @@
 -- How long headers and messages are as they are written.
-use Rattle.std.proofs.Common.{◌≡◌, ◌^◌, ◌<◌, ◌≤◌, length, refl, inl, inr, arith}
+use Rattle.std.proofs.Common.{◌≡◌, ℕ, List, ◌^◌, ◌<◌, ◌≤◌, length, refl, inl, inr, arith}
 use Rattle.h5w_model.specs.Messages.{layout_bytes}
 use Rattle.h5w_model.specs.Headers.{header_bytes, msgs_bytes}
 use Rattle.h5w_model.specs.declared.cell.IndexKind.TheVariants.{Array}
 use Rattle.h5w_writer.specs.Files.{FileFields, array_place, dataset_messages, root_messages, int_type, layout_of, shape_of}
 use Rattle.h5w_writer.proofs.MessageReads.{widths, length_layout}
 use Rattle.h5w_writer.proofs.HeaderReads.{length-header_bytes}
-use Rattle.h5w_writer.proofs.HeadersNow.{length_root}
+use Rattle.h5w_writer.proofs.HeadersNow.{length_root, root_small}
 use Rattle.h5w_writer.proofs.DatasetNow.{length_messages-small}
 
 -- writing does not look at the place of the address
-pub layout_spelled : (f : FileFields) → layout_bytes (record { chunk_rows = f.chunk_rows; chunk_cols = 1; index = Array; address = array_place f.chunk_rows; place = 0 }) (shape_of f) int_type ≡ layout_bytes (layout_of f) (shape_of f) int_type
+pub layout_spelled : (f : FileFields) → layout_bytes (record { chunk_rows = f.chunk_rows; chunk_cols = 1; index = Array; address = array_place (length f.name) f.chunk_rows; place = 0 }) (shape_of f) int_type ≡ layout_bytes (layout_of f) (shape_of f) int_type
 unfolding layout_bytes
 layout_spelled f = refl
 
@@ -30,8 +30,8 @@ dataset_header_short f bound =
     let messages = length_messages-small f bound in
     omega (arith, length-header_bytes (dataset_messages f) (omega arith))
 
-pub root_messages_short : length (msgs_bytes root_messages) < 2 ^ 16
-root_messages_short = omega (arith, length_root)
+pub root_messages_short : (name : List ℕ) → length name ≤ 64 → length (msgs_bytes (root_messages name)) < 2 ^ 16
+root_messages_short name short = omega (arith, root_small name short)
 
-pub root_header_short : length (header_bytes root_messages) ≤ 512
-root_header_short = omega (arith, length_root, length-header_bytes root_messages (omega (arith, length_root)))
+pub root_header_short : (name : List ℕ) → length name ≤ 64 → length (header_bytes (root_messages name)) ≤ 512
+root_header_short name short = omega (arith, root_small name short, length-header_bytes (root_messages name) (root_small name short))

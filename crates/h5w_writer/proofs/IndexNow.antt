@@ -47,12 +47,12 @@ in_place-by : (d : Described) → (d.layout.address == undefined) ≡ false → 
 in_place-by d known kind = rw (known, in_place, kind) refl
 
 pub in_place_now : (img : List ℕ) (f : FileFields) → IsFile f
-    → At img (array_place f.chunk_rows) (eahd_bytes (array_header_of f)) → At img (index_place f.chunk_rows) (eaib_bytes (index_block_of f))
+    → At img (array_place (length f.name) f.chunk_rows) (eahd_bytes (array_header_of f)) → At img (index_place (length f.name) f.chunk_rows) (eaib_bytes (index_block_of f))
     → eval img (in_place (described_of f)) ≡ Ok (in_array (index_block_of f))
 in_place_now img f k header block =
-    let p = places f.chunk_rows k.chunk_bound in
-    let at = array_place f.chunk_rows in
-    let to = index_place f.chunk_rows in
+    let p = places (length f.name) f.chunk_rows k.name_bound k.chunk_bound in
+    let at = array_place (length f.name) f.chunk_rows in
+    let to = index_place (length f.name) f.chunk_rows in
     let known : (at == undefined) ≡ false = defined at (omega arith) in
     let known_block : (to == undefined) ≡ false = defined to (omega arith) in
     let look = look_at img at eahd_len (eahd_bytes (array_header_of f)) header (length_array_header f) in

@@ -25,6 +25,8 @@ pub mod HeaderSizes
 pub mod RowsLemmas
 pub mod KeptLemmas
 pub mod ChunkLemmas
+pub mod LoadLemmas
+pub mod FullLemmas
 pub mod EventLemmas
 pub mod SessionLemmas
 pub mod RefusalLemmas

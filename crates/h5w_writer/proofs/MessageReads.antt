@@ -104,16 +104,16 @@ by_width w n rows address (inr (inr e)) fits low bound high =
     subst (λ (w : ℕ). layout_at (spelled w rows address) (line n) int_type ≡ Ok (said w rows address)) (sym e)
     (spelled_3-reads n rows address (subst (λ (w : ℕ). rows < 256 ^ w) e fits) low bound high)
 
-layout_bytes-is : (f : FileFields) → layout_bytes (layout_of f) (shape_of f) int_type ≡ spelled (width_of (max f.chunk_rows 4)) f.chunk_rows (array_place f.chunk_rows)
+layout_bytes-is : (f : FileFields) → layout_bytes (layout_of f) (shape_of f) int_type ≡ spelled (width_of (max f.chunk_rows 4)) f.chunk_rows (array_place (length f.name) f.chunk_rows)
 unfolding layout_bytes
 layout_bytes-is f = refl
 
-pub layout_reads : (f : FileFields) → 1 ≤ f.chunk_rows → f.chunk_rows ≤ 65536
+pub layout_reads : (f : FileFields) → length f.name ≤ 64 → 1 ≤ f.chunk_rows → f.chunk_rows ≤ 65536
     → layout_at (layout_bytes (layout_of f) (shape_of f) int_type) (shape_of f) int_type ≡ Ok (layout_of f)
-layout_reads f low bound =
+layout_reads f short low bound =
     let w = widths f.chunk_rows bound in
     ap (λ (b : List ℕ). layout_at b (shape_of f) int_type) (layout_bytes-is f)
-    ∙ by_width (width_of (max f.chunk_rows 4)) f.rows f.chunk_rows (array_place f.chunk_rows) w (rows_fit f.chunk_rows bound) low bound (omega arith)
+    ∙ by_width (width_of (max f.chunk_rows 4)) f.rows f.chunk_rows (array_place (length f.name) f.chunk_rows) w (rows_fit f.chunk_rows bound) low bound (omega arith)
 
 -- ---- Lengths
 
@@ -138,4 +138,4 @@ length-spelled w rows address =
     omega (arith, length-le w rows, length-le w 4, length-le 8 address)
 
 pub length_layout : (f : FileFields) → length (layout_bytes (layout_of f) (shape_of f) int_type) ≡ 19 + 2 * width_of (max f.chunk_rows 4)
-length_layout f = ap length (layout_bytes-is f) ∙ length-spelled (width_of (max f.chunk_rows 4)) f.chunk_rows (array_place f.chunk_rows)
+length_layout f = ap length (layout_bytes-is f) ∙ length-spelled (width_of (max f.chunk_rows 4)) f.chunk_rows (array_place (length f.name) f.chunk_rows)

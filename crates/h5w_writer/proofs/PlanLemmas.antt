@@ -16,7 +16,7 @@ use Rattle.h5w_writer.specs.Files.{FileFields, Moment, IsFile, Rising, AllFit, C
 use Rattle.h5w_writer.specs.Plans.{Step, ChunkPiece, RaisesEnd, NamesChunks, CountsChunks, Commits, block_write}
 use Rattle.h5w_writer.specs.Flushes.{cell_list, chunk_places, chunk_writes, free_rows, missing_chunks, with_chunks, grown, naming_writes, own_writes, flush_writes}
 use Rattle.h5w_writer.specs.Sessions.{Flushing}
-use Rattle.h5w_writer.proofs.BlockSizes.{apart_blocks, first_end_small}
+use Rattle.h5w_writer.proofs.BlockSizes.{apart_blocks}
 use Rattle.h5w_writer.proofs.CellLemmas.{blocks_of, blocks_of-append, RisingWrites, RisingWrites-append, length-cell_list, AllFit-take, AllFit-drop, cell_there, pieces_there, pieces_rise, chunk_writes_rise, chunks_there, chunks_within, length-chunk_places, get_or-chunk_places, slice_get_take, slice_get_drop}
 
 -- ---- Chunks and rows
@@ -95,17 +95,17 @@ chunk_places_rise (suc n) place bytes =
 -- ---- Places of cells
 
 -- a row whose chunk has an address
-pub cell_ends : (f : FileFields) (row : ℕ) → 1 ≤ f.chunk_rows → Rising (first_end f.chunk_rows) (chunk_len f.chunk_rows) f.addresses f.end → row < length f.addresses * f.chunk_rows → cell_place f row + 4 ≤ f.end
+pub cell_ends : (f : FileFields) (row : ℕ) → 1 ≤ f.chunk_rows → Rising (first_end (length f.name) f.chunk_rows) (chunk_len f.chunk_rows) f.addresses f.end → row < length f.addresses * f.chunk_rows → cell_place f row + 4 ≤ f.end
 cell_ends f row some rising inside =
     let place : get_or f.addresses (row / f.chunk_rows) undefined + chunk_len f.chunk_rows ≤ f.end =
-    rising_end (first_end f.chunk_rows) (chunk_len f.chunk_rows) f.addresses f.end (row / f.chunk_rows) undefined rising (div_below row f.chunk_rows (length f.addresses) some inside) in
+    rising_end (first_end (length f.name) f.chunk_rows) (chunk_len f.chunk_rows) f.addresses f.end (row / f.chunk_rows) undefined rising (div_below row f.chunk_rows (length f.addresses) some inside) in
     let short : row % f.chunk_rows < f.chunk_rows = mod_below row f.chunk_rows some in
     omega arith
 
-cell_begins : (f : FileFields) (row : ℕ) → 1 ≤ f.chunk_rows → Rising (first_end f.chunk_rows) (chunk_len f.chunk_rows) f.addresses f.end → row < length f.addresses * f.chunk_rows → first_end f.chunk_rows ≤ cell_place f row
+cell_begins : (f : FileFields) (row : ℕ) → 1 ≤ f.chunk_rows → Rising (first_end (length f.name) f.chunk_rows) (chunk_len f.chunk_rows) f.addresses f.end → row < length f.addresses * f.chunk_rows → first_end (length f.name) f.chunk_rows ≤ cell_place f row
 cell_begins f row some rising inside =
-    let place : first_end f.chunk_rows ≤ get_or f.addresses (row / f.chunk_rows) undefined =
-    rising_first (first_end f.chunk_rows) (chunk_len f.chunk_rows) f.addresses f.end (row / f.chunk_rows) undefined rising (div_below row f.chunk_rows (length f.addresses) some inside) in
+    let place : first_end (length f.name) f.chunk_rows ≤ get_or f.addresses (row / f.chunk_rows) undefined =
+    rising_first (first_end (length f.name) f.chunk_rows) (chunk_len f.chunk_rows) f.addresses f.end (row / f.chunk_rows) undefined rising (div_below row f.chunk_rows (length f.addresses) some inside) in
     omega arith
 
 -- a quotient and a remainder in place of a row
@@ -119,7 +119,7 @@ div_rises a b per some h =
     let below : a / per < b / per + 1 = times_lt (a / per) (b / per + 1) per (grind (arith, first.0, second.0, second.1, h)) in
     omega arith
 
-cells_rise : (f : FileFields) (row later : ℕ) → 1 ≤ f.chunk_rows → Rising (first_end f.chunk_rows) (chunk_len f.chunk_rows) f.addresses f.end → row < later → later < length f.addresses * f.chunk_rows
+cells_rise : (f : FileFields) (row later : ℕ) → 1 ≤ f.chunk_rows → Rising (first_end (length f.name) f.chunk_rows) (chunk_len f.chunk_rows) f.addresses f.end → row < later → later < length f.addresses * f.chunk_rows
     → cell_place f row + 4 ≤ cell_place f later
 cells_rise f row later some rising before inside =
     let per = f.chunk_rows in
@@ -128,7 +128,7 @@ cells_rise f row later some rising before inside =
     elim (cases_lt (row / per) (later / per)) [
       | inl chunks ↦
           let places : get_or f.addresses (row / per) undefined + chunk_len per ≤ get_or f.addresses (later / per) undefined =
-          rising_order (first_end per) (chunk_len per) f.addresses f.end (row / per) (later / per) undefined rising chunks (div_below later per (length f.addresses) some inside) in
+          rising_order (first_end (length f.name) per) (chunk_len per) f.addresses f.end (row / per) (later / per) undefined rising chunks (div_below later per (length f.addresses) some inside) in
           omega arith
       | inr same_or_less ↦
           let not_less : row / per ≤ later / per = div_rises row later per some (omega arith) in
@@ -198,7 +198,7 @@ end_by_later place later (b ∷ bs) h ends = (omega arith, end_by_later place la
 
 -- from this place on there are no blocks and no cells of rows
 pub record Behind (f : FileFields) (from : ℕ) : Type 0 where
-  pub blocks : first_end f.chunk_rows ≤ from
+  pub blocks : first_end (length f.name) f.chunk_rows ≤ from
   pub cells : (row : ℕ) → row < f.rows → cell_place f row + 4 ≤ from
 
 chunk_pieces : (f : FileFields) (values : List ℤ) (ws : List Write) (others : List (ℕ × List ℕ)) (from to : ℕ) → IsFile f → Behind f from → EndBy from others → RisingWrites from ws to
@@ -209,7 +209,7 @@ chunk_pieces f values (w ∷ ws) others from to is behind ends rises =
     let piece : ChunkPiece (record { file = f; values = values; further = others }) w (record { file = f; values = values; further = (w.at, w.piece) ∷ others }) =
     record {
       is = refl;
-      off_blocks = apart_blocks f w.at (length w.piece) is.some_rows is.chunk_bound is.few (omega (arith, behind.blocks));
+      off_blocks = apart_blocks f w.at (length w.piece) is.name_bound is.chunk_bound is.few (omega (arith, behind.blocks));
       off_cells = λ row h. inr (omega (arith, behind.cells row h));
       off_further = end_by_apart w.at (length w.piece) others later;
     } in
@@ -262,7 +262,7 @@ own_rows f more is rows full fit =
           let bytes = cell_list (take (free_rows f) more) in
           let size : length bytes ≤ 4 * free_rows f = omega (arith, length-cell_list (take (free_rows f) more) (AllFit-take (free_rows f) more fit), length-take (free_rows f) more) in
           let ends : get_or f.addresses (f.rows / per) undefined + chunk_len per ≤ f.end =
-          rising_end (first_end per) (chunk_len per) f.addresses f.end (f.rows / per) undefined is.apart (omega (arith, p.chunk)) in (
+          rising_end (first_end (length f.name) per) (chunk_len per) f.addresses f.end (f.rows / per) undefined is.apart (omega (arith, p.chunk)) in (
             cell_place f f.rows,
             record {
               behind = record { blocks = cell_begins f f.rows is.some_rows is.apart inside; cells = λ row h. cells_rise f row f.rows is.some_rows is.apart h inside };
@@ -273,7 +273,7 @@ own_rows f more is rows full fit =
           let no : own_writes f more ≡ [] = no_pieces (cell_place f f.rows) (free_rows f) more (omega arith) in (
             f.end,
             record {
-              behind = record { blocks = rising_least (first_end per) (chunk_len per) f.addresses f.end is.apart; cells = λ row h. cell_ends f row is.some_rows is.apart (omega arith) };
+              behind = record { blocks = rising_least (first_end (length f.name) per) (chunk_len per) f.addresses f.end is.apart; cells = λ row h. cell_ends f row is.some_rows is.apart (omega arith) };
               rises = subst (λ (ws : List Write). RisingWrites f.end ws f.end) (sym no) (omega arith);
             },
           )
@@ -322,19 +322,19 @@ with_none f counted =
     let end : f.end + 0 * chunk_len f.chunk_rows ≡ f.end = omega arith in
     let addresses : f.addresses ++ [] ≡ f.addresses = append-nil f.addresses in
     let top : length (f.addresses ++ []) ≡ f.top = ap length addresses ∙ sym counted in
-    λ i. record { chunk_rows = f.chunk_rows; end = end i; addresses = addresses i; top = top i; rows = f.rows }
+    λ i. record { name = f.name; limit = f.limit; chunk_rows = f.chunk_rows; end = end i; addresses = addresses i; top = top i; rows = f.rows }
 
 -- the file with more chunks is in bounds
-pub with_chunks_rise : (f : FileFields) (c : ℕ) → Rising (first_end f.chunk_rows) (chunk_len f.chunk_rows) f.addresses f.end → Rising (first_end f.chunk_rows) (chunk_len f.chunk_rows) (with_chunks c f).addresses (with_chunks c f).end
+pub with_chunks_rise : (f : FileFields) (c : ℕ) → Rising (first_end (length f.name) f.chunk_rows) (chunk_len f.chunk_rows) f.addresses f.end → Rising (first_end (length f.name) f.chunk_rows) (chunk_len f.chunk_rows) (with_chunks c f).addresses (with_chunks c f).end
 with_chunks_rise f c apart =
-    rising_append (first_end f.chunk_rows) (chunk_len f.chunk_rows) f.addresses f.end (chunk_places c f.end (chunk_len f.chunk_rows)) (f.end + c * chunk_len f.chunk_rows) apart
+    rising_append (first_end (length f.name) f.chunk_rows) (chunk_len f.chunk_rows) f.addresses f.end (chunk_places c f.end (chunk_len f.chunk_rows)) (f.end + c * chunk_len f.chunk_rows) apart
     (chunk_places_rise c f.end (chunk_len f.chunk_rows))
 
 pub with_chunks_count : (f : FileFields) (c : ℕ) → length (with_chunks c f).addresses ≡ length f.addresses + c
 with_chunks_count f c =
     length-append f.addresses (chunk_places c f.end (chunk_len f.chunk_rows)) ∙ ap (λ (n : ℕ). length f.addresses + n) (length-chunk_places c f.end (chunk_len f.chunk_rows))
 
-naming : (f : FileFields) (values : List ℤ) (others : List (ℕ × List ℕ)) (c rows : ℕ) → IsFile f → f.top ≡ length f.addresses → length f.addresses + c ≤ 4 → f.end + c * chunk_len f.chunk_rows < 2 ^ 63
+naming : (f : FileFields) (values : List ℤ) (others : List (ℕ × List ℕ)) (c rows : ℕ) → IsFile f → f.top ≡ length f.addresses → length f.addresses + c ≤ 4 → f.end + c * chunk_len f.chunk_rows ≤ f.limit
     → (1 ≤ c → (img : List ℕ) → Holds img others → f.end + c * chunk_len f.chunk_rows ≤ length img)
     → Quiet (record { file = f; values = values; further = others }) (naming_writes c (record (with_chunks c f) { rows = rows })) (record { file = with_chunks c f; values = values; further = others })
 naming f values others zero rows is counted few bound there = ap (λ (g : FileFields). let m : Moment = record { file = g; values = values; further = others } in m) (with_none f counted)
@@ -353,11 +353,19 @@ naming f values others (suc d) rows is counted few bound there =
 
 -- ---- The plan
 
-pub grown_is : (f : FileFields) (k : ℕ) → IsFile f → length f.addresses + missing_chunks f k ≤ 4 → f.end + missing_chunks f k * chunk_len f.chunk_rows < 2 ^ 63 → IsFile (grown k f)
+-- the chunks that so many more rows need end within the limit
+abbrev pub Fits : FileFields → ℕ → Type 0
+Fits f k = f.end + missing_chunks f k * chunk_len f.chunk_rows ≤ f.limit
+
+pub grown_is : (f : FileFields) (k : ℕ) → IsFile f → length f.addresses + missing_chunks f k ≤ 4 → Fits f k → IsFile (grown k f)
 grown_is f k is few bound =
     let c = missing_chunks f k in
     let count = with_chunks_count f c in
     record {
+      named = is.named;
+      name_bound = is.name_bound;
+      limit_low = is.limit_low;
+      limit_high = is.limit_high;
       some_rows = is.some_rows;
       chunk_bound = is.chunk_bound;
       few = omega arith;
@@ -380,18 +388,10 @@ commits f values others c v vs is fit there =
 needed_less : (f : FileFields) (k : ℕ) → length f.addresses ≡ div_up f.rows f.chunk_rows → length f.addresses + missing_chunks f k ≡ max (length f.addresses) (div_up (f.rows + k) f.chunk_rows)
 needed_less f k needed = omega arith
 
-pub end_small : (f : FileFields) (c : ℕ) → IsFile f → length f.addresses + c ≤ 4 → f.end ≡ first_end f.chunk_rows + length f.addresses * chunk_len f.chunk_rows → f.end + c * chunk_len f.chunk_rows < 2 ^ 63
-end_small f c is few end =
-    let n = length f.addresses in
-    let first : first_end f.chunk_rows ≤ 600 = first_end_small f.chunk_rows is.some_rows is.chunk_bound in
-    let all : (n + c) * chunk_len f.chunk_rows ≤ 4 * (4 * 65536) = mul-le (n + c) (chunk_len f.chunk_rows) 4 (4 * 65536) few (omega (arith, is.chunk_bound)) in
-    let sum : n * chunk_len f.chunk_rows + c * chunk_len f.chunk_rows ≡ (n + c) * chunk_len f.chunk_rows = grind arith in
-    omega arith
-
 pub plan_flushes : (f : FileFields) (values : List ℤ) (v : ℤ) (vs : List ℤ) → IsFile f → length f.addresses ≡ div_up f.rows f.chunk_rows → f.top ≡ length f.addresses
-    → f.end ≡ first_end f.chunk_rows + length f.addresses * chunk_len f.chunk_rows → div_up (f.rows + length (v ∷ vs)) f.chunk_rows ≤ 4 → AllFit (v ∷ vs)
+    → Fits f (length (v ∷ vs)) → div_up (f.rows + length (v ∷ vs)) f.chunk_rows ≤ 4 → AllFit (v ∷ vs)
     → Flushing (record { file = f; values = values; further = [] }) (flush_writes f (v ∷ vs)) (record { file = grown (length (v ∷ vs)) f; values = values ++ v ∷ vs; further = [] })
-plan_flushes f values v vs is needed counted end room fit =
+plan_flushes f values v vs is needed counted bound room fit =
     let more = v ∷ vs in
     let c = missing_chunks f (length more) in
     let l = lies f.rows (length f.addresses) (length more) f.chunk_rows is.some_rows needed in
@@ -401,7 +401,6 @@ plan_flushes f values v vs is needed counted end room fit =
     let rise : RisingWrites own.0 ws (f.end + c * chunk_len f.chunk_rows) =
     RisingWrites-append own.0 f.end (f.end + c * chunk_len f.chunk_rows) (own_writes f more) news own.1.rises (chunk_writes_rise c f.end f.chunk_rows (drop (free_rows f) more) (AllFit-drop (free_rows f) more fit)) in
     let few : length f.addresses + c ≤ 4 = omega (arith, needed_less f (length more) needed) in
-    let bound : f.end + c * chunk_len f.chunk_rows < 2 ^ 63 = end_small f c is few end in
     let chunks = chunk_pieces f values ws [] own.0 (f.end + c * chunk_len f.chunk_rows) is own.1.behind tt rise in
     let reach : 1 ≤ c → (img : List ℕ) → Holds img (put_all ws []) → f.end + c * chunk_len f.chunk_rows ≤ length img =
     λ h img holds.

@@ -10,7 +10,7 @@ use Rattle.h5w_model.specs.Logs.{div_up}
 use Rattle.h5w_model.specs.Integers.{cell_bytes_of}
 use Rattle.h5w_model.specs.Tables.{Reads, cell, chunk_address, cell_offset, value_in}
 use Rattle.h5w_model.proofs.IntegerLemmas.{length-cell_bytes_of, value_at-cell_bytes_of}
-use Rattle.h5w_writer.specs.Files.{FileFields, IsFile, Moment, Represents, dataset_name, int_type, cell_place, first_end, chunk_len, described_of, reading_of}
+use Rattle.h5w_writer.specs.Files.{FileFields, IsFile, Moment, Represents, int_type, cell_place, first_end, chunk_len, described_of, reading_of}
 use Rattle.h5w_writer.proofs.Looks.{look_at}
 use Rattle.h5w_writer.proofs.FileFacts.{div_up-holds, Rising-high}
 use Rattle.h5w_writer.proofs.IndexNow.{defined}
@@ -58,7 +58,7 @@ pub cell_now : (img : List ℕ) (f : FileFields) (row column : ℕ) (v : ℤ) (b
 cell_now img f row column v b k h g bytes stands =
     let address = chunk_address_is f row column k h g in
     let offset = cell_offset_is f row column g in
-    let below = Rising-high (first_end f.chunk_rows) (chunk_len f.chunk_rows) f.addresses f.end (row / f.chunk_rows) undefined k.apart (band-has_chunk f row k h) in
+    let below = Rising-high (first_end (length f.name) f.chunk_rows) (chunk_len f.chunk_rows) f.addresses f.end (row / f.chunk_rows) undefined k.apart (band-has_chunk f row k h) in
     let bound = k.end_bound in
     rw (address, defined (get_or f.addresses (row / f.chunk_rows) undefined) (omega arith), offset) (value_in-by img f (cell_place f row) v b bytes stands)
 
@@ -78,7 +78,7 @@ values_now img m k r h =
     let row : k / 1 ≡ k = omega arith in
     ap (λ (i : ℕ). cell img (reading_of m.file) i (k % 1)) row ∙ value_now img m k (k % 1) v r (omega arith) (omega arith) is ∙ sym is
 
-pub reads_now : (img : List ℕ) (m : Moment) → Represents img m → Reads img dataset_name m.values
+pub reads_now : (img : List ℕ) (m : Moment) → Represents img m → Reads img m.file.name m.values
 reads_now img m r =
     let count = r.count in
     record {

@@ -1,24 +1,29 @@
 -- Which refusal applies.
-use Rattle.std.proofs.Common.{◌≡◌, ℕ, ◌+◌, ◌*◌, ◌/◌, ◌%◌, ◌<◌, ◌≤◌, min, List, [], ◌∷◌, ◌++◌, length, drop, ℤ, if◌then◌else◌, Option, Some, None, Result, Ok, Err, Bool, true, false, nat_lt, sym, refl, ap, ◌∙◌, subst, inl, inr, arith}
+use Rattle.std.proofs.Common.{◌≡◌, ◌⊎◌, ℕ, zero, suc, ◌+◌, ◌*◌, ◌/◌, ◌%◌, ◌<◌, ◌≤◌, min, List, [], ◌∷◌, ◌++◌, length, drop, ℤ, if◌then◌else◌, Option, Some, None, Result, Ok, Err, Bool, true, false, nat_lt, sym, refl, ap, ◌∙◌, subst, inl, inr, arith}
 use Rattle.std.proofs.lemmas.List.{nil_from_length}
 use Rattle.std.proofs.lemmas.Bool.{cases_lt, lt-ltb, le-ltb}
 use Rattle.std.specs.Int.{div_ceil}
-use Rattle.std.specs.Option.{MatchOption}
+use Rattle.std.specs.Option.{MatchOption, option_map}
+use Rattle.std.specs.Result.{IfErr}
 use Rattle.h5w_model.specs.Logs.{div_up}
 use Rattle.h5w_model.specs.Lawful.{first_outside}
 use Rattle.h5w_model.specs.Integers.{cell_bytes_of}
-use Rattle.h5w_writer.specs.Files.{FileFields, int_type, AllFit}
-use Rattle.h5w_model.specs.Logs.{Log, and_now, appends}
+use Rattle.h5w_space.specs.declared.Full.{Full}
+use Rattle.h5w_writer.specs.Files.{FileFields, int_type, AllFit, chunk_len}
+use Rattle.h5w_writer.specs.Flushes.{missing_chunks}
+use Rattle.h5w_model.specs.Logs.{Log, and_now, appends, load, spent}
 use Rattle.h5w_model.specs.declared.piece.Write.{Write}
-use Rattle.h5w_writer.specs.Sessions.{Session, IsSession, Stands, session_of, with_values, rows_of, chunk_limit}
-use Rattle.h5w_writer.specs.Refusals.{append_refusal, flush_refusal, chunks_with}
+use Rattle.h5w_writer.specs.Sessions.{Session, IsSession, Stands, cutting_of, session_of, with_values, rows_of, chunk_limit}
+use Rattle.h5w_writer.specs.Refusals.{NoPlace, append_refusal, flush_refusal, full_for, chunks_with}
 use Rattle.h5w_writer.specs.declared.refusal.AppendError.{AppendError}
 use Rattle.h5w_writer.specs.declared.refusal.AppendError.TheVariants as answers
 use Rattle.h5w_writer.specs.declared.refusal.FlushError.{FlushError}
 use Rattle.h5w_writer.specs.declared.refusal.FlushError.TheVariants as flushes
 use Rattle.h5w_writer.proofs.ChunkLemmas.{div_up_is}
-use Rattle.h5w_writer.proofs.PlanLemmas.{in_chunk}
-use Rattle.h5w_writer.proofs.EventLemmas.{rows_added}
+use Rattle.h5w_writer.proofs.PlanLemmas.{Fits, in_chunk}
+use Rattle.h5w_writer.proofs.EventLemmas.{rows_added, rows_are, flushed_rows, goes_of}
+use Rattle.h5w_writer.proofs.FullLemmas.{all_fit, is_full}
+use Rattle.h5w_writer.proofs.LoadLemmas.{none_missing, chunks_loaded}
 use Rattle.h5w_writer.proofs.SessionLemmas.{not_so, values_is}
 use Rattle.h5w_writer.proofs.CellLemmas.{fit_cons, none_fit}
 
@@ -170,6 +175,7 @@ no_flush e clash = cc
 pub record Ready (s : Session) : Type 0 where
   pub running : s.stopped ≡ false
   pub idle : length s.pending ≤ 0
+  pub fits : full_for s.file (length s.waiting) ≡ None
 
 flush_running : (s : Session) → flush_refusal s ≡ None → s.stopped ≡ false
 flush_running s none =
@@ -186,6 +192,100 @@ flush_idle s running none =
       | inr idle ↦ idle
     ]
 
+pub flush_left : (s : Session) → s.stopped ≡ false → length s.pending ≤ 0 → flush_refusal s ≡ option_map flushes.Space (full_for s.file (length s.waiting))
+flush_left s running idle = rw (running, le-ltb 0 (length s.pending) idle) refl
+
+none_full : (o : Option Full) → option_map flushes.Space o ≡ None → o ≡ None
+none_full None none = refl
+none_full (Some full) none = absurd (no_flush (flushes.Space full) none)
+
 -- what holds where a flush is not refused
 pub is_ready : (s : Session) → flush_refusal s ≡ None → Ready s
-is_ready s none = let running = flush_running s none in record { running = running; idle = flush_idle s running none }
+is_ready s none =
+    let running = flush_running s none in
+    let idle = flush_idle s running none in
+    record { running = running; idle = idle; fits = none_full (full_for s.file (length s.waiting)) (sym (flush_left s running idle) ∙ none) }
+
+-- the new chunks end within the limit
+pub ready_fits : (s : Session) (r : Result (Unit {0}) FlushError) → MatchOption (flush_refusal s) (r ≡ Ok tt) (λ e. r ≡ Err e) → r ≡ Ok tt → IsSession s → Fits s.file (length s.waiting)
+ready_fits s r ready ok is = all_fit s.file (length s.waiting) is.is_file (is_ready s (accepted (flush_refusal s) r ready ok)).fits
+
+-- ---- A flush for which there is no place
+
+one_refusal : (o : Option FlushError) (e f : FlushError) → o ≡ Some e → o ≡ Some f → e ≡ f
+one_refusal o e f h g = cc
+
+not_stopped_error : (full : Full) → flushes.Stopped ≡ flushes.Space full → ⊥
+not_stopped_error full e = cc
+
+not_busy_error : (n : ℕ) (full : Full) → flushes.Busy n ≡ flushes.Space full → ⊥
+not_busy_error n full e = cc
+
+not_failed_error : (full : Full) → flushes.Failed ≡ flushes.Space full → ⊥
+not_failed_error full e = cc
+
+not_memory_error : (full : Full) → flushes.OutOfMemory ≡ flushes.Space full → ⊥
+not_memory_error full e = cc
+
+-- of the causes of an error only the refusal is one of space
+pub space_cause : (s : Session) (r : Result ℕ FlushError) (full : Full) → IfErr r (λ e. (flush_refusal s ≡ Some e) ⊎ (e ≡ flushes.Failed) ⊎ (e ≡ flushes.OutOfMemory)) → r ≡ Err (flushes.Space full) → flush_refusal s ≡ Some (flushes.Space full)
+space_cause s r full causes err =
+    elim (subst (λ (x : Result ℕ FlushError). IfErr x (λ e. (flush_refusal s ≡ Some e) ⊎ (e ≡ flushes.Failed) ⊎ (e ≡ flushes.OutOfMemory))) err causes) [
+      | inl refused ↦ refused
+      | inr other ↦ elim other [ inl failed ↦ absurd (not_failed_error full (sym failed)) | inr memory ↦ absurd (not_memory_error full (sym memory)) ]
+    ]
+
+space_running : (s : Session) (full : Full) → flush_refusal s ≡ Some (flushes.Space full) → s.stopped ≡ false
+space_running s full refused =
+    not_so s.stopped (λ e.
+    let test : flush_refusal s ≡ Some flushes.Stopped = rw e refl in
+    not_stopped_error full (one_refusal (flush_refusal s) flushes.Stopped (flushes.Space full) test refused))
+
+space_idle : (s : Session) (full : Full) → s.stopped ≡ false → flush_refusal s ≡ Some (flushes.Space full) → length s.pending ≤ 0
+space_idle s full running refused =
+    elim (cases_lt 0 (length s.pending)) [
+      | inl some ↦
+          let test : flush_refusal s ≡ Some (flushes.Busy (length s.pending)) = rw (running, lt-ltb 0 (length s.pending) some) refl in
+          absurd (not_busy_error (length s.pending) full (one_refusal (flush_refusal s) (flushes.Busy (length s.pending)) (flushes.Space full) test refused))
+      | inr idle ↦ idle
+    ]
+
+full_of : (o : Option Full) (full : Full) → option_map flushes.Space o ≡ Some (flushes.Space full) → o ≡ Some full
+full_of None full is = cc
+full_of (Some x) full is = cc
+
+-- a product that is not 0 has its second factor at least once
+times_some : (n len : ℕ) → 1 ≤ n * len → len ≤ n * len
+times_some zero len some = let none : 0 * len ≡ 0 = omega arith in absurd (omega arith)
+times_some (suc n) len some = let more : suc n * len ≡ n * len + len = grind arith in omega arith
+
+-- the numbers that are told are within those of the log
+pub no_place : (s : Session) (full : Full) → IsSession s → flush_refusal s ≡ Some (flushes.Space full) → (log : Log) → Stands s log → NoPlace s log full
+no_place s full is refused log stands =
+    let f = s.file in
+    let k = length s.waiting in
+    let running = space_running s full refused in
+    let idle = space_idle s full running refused in
+    let none : s.pending ≡ [] = nil_from_length s.pending (omega arith) in
+    let answer : full_for f k ≡ Some full = full_of (full_for f k) full (sym (flush_left s running idle) ∙ refused) in
+    let told = is_full f k full is.is_file answer in
+    let len = chunk_len f.chunk_rows in
+    let grew : f.end ≤ 1024 + spent (cutting_of s) log = (goes_of s log running stands).grew in
+    let loaded : missing_chunks f k * len ≤ load (cutting_of s) log = chunks_loaded s log k is.is_file is.needed (flushed_rows s log stands running none) (sym (rows_are s log stands)) in
+    let end : f.end ≤ f.limit = is.is_file.end_bound in
+    let waits : 0 < k = elim (cases_lt 0 k) [
+      | inl some ↦ some
+      | inr none ↦
+          let e : k ≡ 0 = omega arith in
+          let no_chunk : missing_chunks f k * len ≡ 0 = ap (λ (n : ℕ). missing_chunks f n * len) e ∙ ap (λ (n : ℕ). n * len) (none_missing f is.needed) ∙ (let z : 0 * len ≡ 0 = omega arith in z) in
+          absurd (omega (arith, told.past))
+    ] in
+    let one : len ≤ missing_chunks f k * len = times_some (missing_chunks f k) len (omega (arith, told.past)) in
+    record {
+      waits = waits;
+      some = omega (arith, told.size, is.is_file.some_rows);
+      limit = told.limit;
+      past = omega (arith, told.limit, told.ends);
+      size_bound = omega (arith, told.size);
+      at_bound = omega (arith, told.begins, told.past);
+    }

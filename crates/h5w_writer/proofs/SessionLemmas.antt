@@ -8,14 +8,15 @@ use Rattle.h5w_model.specs.Images.{AllSized, apply, image, pieces}
 use Rattle.h5w_model.specs.Logs.{div_up}
 use Rattle.h5w_model.specs.declared.piece.Write.{Write}
 use Rattle.h5w_model.proofs.ImageLemmas.{length-apply, pieces-sized, AllSized-append}
+use Rattle.h5w_writer.specs.declared.options.Options.{Options}
 use Rattle.h5w_writer.specs.Files.{FileFields, IsFile, AllFit, first_end, chunk_len, array_place, index_place, root_place, header_place, super_block, root_block, header_block, array_block, index_block}
-use Rattle.h5w_writer.specs.Plans.{new_file}
+use Rattle.h5w_writer.specs.Plans.{AreOptions, new_file}
 use Rattle.h5w_writer.specs.Flushes.{cell_list, chunk_values, chunk_writes, free_rows, missing_chunks, grown, after_rows, own_writes, new_writes, row_writes, block_writes, flush_writes}
 use Rattle.h5w_writer.specs.Sessions.{Session, IsSession, AllEndBy, chunk_limit, session_of, rows_of, created, after_piece, with_values, planned, stopped_of}
 use Rattle.h5w_writer.proofs.CellLemmas.{RisingWrites, RisingWrites-append, AllFit-append, AllFit-drop, chunk_writes_rise}
 use Rattle.h5w_writer.proofs.ChunkLemmas.{is_needed, div_up-grows, div_up_none}
-use Rattle.h5w_writer.proofs.PlanLemmas.{with_chunks_count, end_small, grown_is, own_rows, div_up_spans}
-use Rattle.h5w_writer.proofs.BlockSizes.{lengths, first_end_small}
+use Rattle.h5w_writer.proofs.PlanLemmas.{Fits, with_chunks_count, grown_is, own_rows, div_up_spans}
+use Rattle.h5w_writer.proofs.BlockSizes.{lengths}
 use Rattle.h5w_writer.proofs.FileFacts.{places}
 use Rattle.h5w_writer.proofs.Created.{new_is_file}
 
@@ -64,15 +65,15 @@ chunk_writes-sized (suc n) place rows vs =
 -- the blocks' writes
 record BlocksFit (f : FileFields) : Type 0 where
   of_super : (1 ≤ length (super_block f).1) × (length (super_block f).1 ≤ 512) × (0 + length (super_block f).1 ≤ f.end)
-  of_root : (1 ≤ length root_block.1) × (length root_block.1 ≤ 512) × (root_place + length root_block.1 ≤ f.end)
-  of_header : (1 ≤ length (header_block f).1) × (length (header_block f).1 ≤ 512) × (header_place + length (header_block f).1 ≤ f.end)
-  of_array : (1 ≤ length (array_block f).1) × (length (array_block f).1 ≤ 512) × (array_place f.chunk_rows + length (array_block f).1 ≤ f.end)
-  of_index : (1 ≤ length (index_block f).1) × (length (index_block f).1 ≤ 512) × (index_place f.chunk_rows + length (index_block f).1 ≤ f.end)
+  of_root : (1 ≤ length (root_block f).1) × (length (root_block f).1 ≤ 512) × (root_place + length (root_block f).1 ≤ f.end)
+  of_header : (1 ≤ length (header_block f).1) × (length (header_block f).1 ≤ 512) × (header_place (length f.name) + length (header_block f).1 ≤ f.end)
+  of_array : (1 ≤ length (array_block f).1) × (length (array_block f).1 ≤ 512) × (array_place (length f.name) f.chunk_rows + length (array_block f).1 ≤ f.end)
+  of_index : (1 ≤ length (index_block f).1) × (length (index_block f).1 ≤ 512) × (index_place (length f.name) f.chunk_rows + length (index_block f).1 ≤ f.end)
 
-blocks_fit : (f : FileFields) → IsFile f → first_end f.chunk_rows ≤ f.end → BlocksFit f
+blocks_fit : (f : FileFields) → IsFile f → first_end (length f.name) f.chunk_rows ≤ f.end → BlocksFit f
 blocks_fit f is behind =
     let l = lengths f is in
-    let p = places f.chunk_rows is.chunk_bound in
+    let p = places (length f.name) f.chunk_rows is.name_bound is.chunk_bound in
     record {
       of_super = (omega (arith, l.of_super), omega (arith, l.of_super), omega (arith, l.of_super));
       of_root = (omega (arith, l.of_root), omega (arith, l.of_root), omega (arith, l.of_root));
@@ -85,7 +86,7 @@ record WritesFit (end : ℕ) (ws : List Write) : Type 0 where
   sized : AllSized ws
   within : AllEndBy end ws
 
-block_writes-fit : (n : ℕ) (f : FileFields) → IsFile f → first_end f.chunk_rows ≤ f.end → WritesFit f.end (block_writes n f)
+block_writes-fit : (n : ℕ) (f : FileFields) → IsFile f → first_end (length f.name) f.chunk_rows ≤ f.end → WritesFit f.end (block_writes n f)
 block_writes-fit zero f is behind =
     let b = blocks_fit f is behind in
     record { sized = ((b.of_header.0, b.of_header.1), tt); within = (b.of_header.2, tt) }
@@ -117,17 +118,17 @@ runs s w ws pending is = not_so s.stopped (λ e. some_is w ws (sym pending ∙ i
 no_value : (k : ℕ) (v : ℤ) → slice_get [] k ≡ Some v → ⊥
 no_value k v e = cc
 
-pub created_is : (rows : ℕ) → 1 ≤ rows → rows ≤ 65536 → IsSession (created rows)
-created_is rows low high =
-    let f = new_file rows in
-    let is = new_is_file rows low high in
+pub created_is : (o : Options) → AreOptions o → IsSession (created o)
+created_is o by =
+    let f = new_file o in
+    let is = new_is_file o by in
     let b = blocks_fit f is (omega arith) in
     record {
       is_file = is;
-      needed = sym (div_up_none rows low);
+      needed = sym (div_up_none o.chunk_rows by.some_rows);
       counted = refl;
       end = omega arith;
-      room = omega (arith, div_up_none rows low);
+      room = omega (arith, div_up_none o.chunk_rows by.some_rows);
       fit = λ k v e. absurd (no_value k v e);
       sized = ((b.of_index.0, b.of_index.1), ((b.of_array.0, b.of_array.1), ((b.of_header.0, b.of_header.1), ((b.of_root.0, b.of_root.1), ((b.of_super.0, b.of_super.1), tt)))));
       within = (b.of_index.2, (b.of_array.2, (b.of_header.2, (b.of_root.2, (b.of_super.2, tt)))));
@@ -204,9 +205,9 @@ needed_after f k some needed =
     let few : div_up f.rows f.chunk_rows ≤ div_up (f.rows + k) f.chunk_rows = div_up-grows f.rows (f.rows + k) f.chunk_rows some (omega arith) in
     omega arith
 
-planned_some : (s : Session) (v : ℤ) (vs : List ℤ) → s.waiting ≡ v ∷ vs → s.stopped ≡ false → IsSession s
+planned_some : (s : Session) (v : ℤ) (vs : List ℤ) → s.waiting ≡ v ∷ vs → s.stopped ≡ false → Fits s.file (length (v ∷ vs)) → IsSession s
     → IsSession (record { file = grown (length (v ∷ vs)) s.file; committed = s.committed; waiting = []; pending = flush_writes s.file (v ∷ vs); stopped = s.stopped })
-planned_some s v vs rows running is =
+planned_some s v vs rows running fits is =
     let f = s.file in
     let values = v ∷ vs in
     let k = length values in
@@ -218,10 +219,10 @@ planned_some s v vs rows running is =
     let all : length f.addresses + c ≡ div_up (f.rows + k) f.chunk_rows = needed_after f k some is.needed in
     let few : length f.addresses + c ≤ 4 = omega arith in
     let count = with_chunks_count f c in
-    let file : IsFile g = grown_is f k is.is_file few (end_small f c is.is_file few is.end) in
-    let end : g.end ≡ first_end f.chunk_rows + length g.addresses * chunk_len f.chunk_rows = grind (arith, is.end, count) in
+    let file : IsFile g = grown_is f k is.is_file few fits in
+    let end : g.end ≡ first_end (length f.name) f.chunk_rows + length g.addresses * chunk_len f.chunk_rows = grind (arith, is.end, count) in
     let row_pieces = row_writes-fit f values is.is_file is.needed fit in
-    let behind : first_end g.chunk_rows ≤ g.end = omega (arith, is.end) in
+    let behind : first_end (length g.name) g.chunk_rows ≤ g.end = omega (arith, is.end) in
     let blocks = block_writes-fit c g file behind in
     let same : g.rows + length (let none : List ℤ = [] in none) ≡ f.rows + k = omega arith in
     record {
@@ -236,15 +237,15 @@ planned_some s v vs rows running is =
       none_left = λ e. absurd (not_both s.stopped running e);
     }
 
-pub planned_by : (s : Session) (rows : List ℤ) → s.waiting ≡ rows → s.stopped ≡ false → IsSession s
+pub planned_by : (s : Session) (rows : List ℤ) → s.waiting ≡ rows → s.stopped ≡ false → Fits s.file (length rows) → IsSession s
     → IsSession (record { file = after_rows rows s.file; committed = s.committed; waiting = []; pending = flush_writes s.file rows; stopped = s.stopped })
-planned_by s [] rows running is =
+planned_by s [] rows running fits is =
     let room : div_up (s.file.rows + length (let none : List ℤ = [] in none)) s.file.chunk_rows ≤ chunk_limit = subst (λ (xs : List ℤ). div_up (s.file.rows + length xs) s.file.chunk_rows ≤ 4) rows is.room in
     record { is_file = is.is_file; needed = is.needed; counted = is.counted; end = is.end; room = room; fit = λ j x e. absurd (no_value j x e); sized = tt; within = tt; none_left = λ e. refl }
-planned_by s (v ∷ vs) rows running is = planned_some s v vs rows running is
+planned_by s (v ∷ vs) rows running fits is = planned_some s v vs rows running fits is
 
-pub planned_is : (s : Session) → s.stopped ≡ false → IsSession s → IsSession (planned s)
-planned_is s running is = planned_by s s.waiting refl running is
+pub planned_is : (s : Session) → s.stopped ≡ false → Fits s.file (length s.waiting) → IsSession s → IsSession (planned s)
+planned_is s running fits is = planned_by s s.waiting refl running fits is
 
 -- ---- The pieces of a plan, of which some became visible
 
@@ -308,15 +309,6 @@ shown_more f rows values plan shown stop w ws inside more pending =
 
 pub some_left : (plan pending : List Write) (shown : ℕ) → drop shown plan ≡ pending → 0 < length pending → shown < length plan
 some_left plan pending shown is some = omega (arith, ap length is, length-drop shown plan)
-
--- where its file ends
-pub end_few : (s : Session) → IsSession s → s.file.end ≤ 2 ^ 40
-end_few s is =
-    let per = s.file.chunk_rows in
-    let count = length s.file.addresses in
-    let first : first_end per ≤ 600 = first_end_small per is.is_file.some_rows is.is_file.chunk_bound in
-    let most : count * chunk_len per ≤ 4 * (4 * 65536) = mul-le count (chunk_len per) 4 (4 * 65536) is.is_file.few (omega (arith, is.is_file.chunk_bound)) in
-    omega (arith, is.end)
 
 -- how many rows a session can have
 pub rows_few : (s : Session) → IsSession s → rows_of s ≤ 262144

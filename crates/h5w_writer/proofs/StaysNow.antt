@@ -17,7 +17,7 @@ use Rattle.h5w_model.specs.Prefixed.{root_address, continuation_blocks, StaysDef
 use Rattle.h5w_model.specs.declared.cell.IndexKind.TheVariants.{Array}
 use Rattle.h5w_model.specs.declared.refusal.BlockFault.{BlockFault}
 use Rattle.h5w_model.proofs.SuperLemmas.{length-super_bytes}
-use Rattle.h5w_writer.specs.Files.{IsFile, Moment, Represents, root_place, header_place, dataset_messages, super_of, array_header_of, array_place, index_place, shape_of, described_of, reading_of}
+use Rattle.h5w_writer.specs.Files.{IsFile, Moment, Represents, root_place, header_place, root_messages, dataset_messages, super_of, array_header_of, array_place, index_place, shape_of, described_of, reading_of}
 use Rattle.h5w_writer.proofs.Looks.{look_at}
 use Rattle.h5w_writer.proofs.HeadersNow.{root_look, root_visits}
 use Rattle.h5w_writer.proofs.DatasetNow.{dataset_look, dataset_visits}
@@ -27,6 +27,7 @@ use Rattle.h5w_writer.proofs.Behind.{same_behind}
 
 -- A later file: more rows, more values, more chunks behind those that were there.
 pub record Follows (m n : Moment) : Type 0 where
+  pub name : n.file.name ≡ m.file.name
   pub chunk_rows : n.file.chunk_rows ≡ m.file.chunk_rows
   pub rows : m.file.rows ≤ n.file.rows
   pub more_chunks : length m.file.addresses ≤ length n.file.addresses
@@ -41,41 +42,46 @@ unfolding le num
 root_address_now img m r =
     ap (λ (b : List ℕ). (super_fields b).root) (look_at img 0 48 (super_bytes (super_of m.file)) r.standing.0 (length-super_bytes (super_of m.file)))
 
-same_root : (old new : List ℕ) (m n : Moment) → Represents old m → Represents new n → Same old new (visits old (root_header (root_address old)))
-same_root old new m n r s =
+same_root : (old new : List ℕ) (m n : Moment) → Represents old m → Represents new n → n.file.name ≡ m.file.name → Same old new (visits old (root_header (root_address old)))
+same_root old new m n r s same =
     let visited : visits old (root_header (root_address old)) ≡ record { place = root_place; len = 512; counts = root_view } ∷ [] =
-    ap (λ (a : ℕ). visits old (root_header a)) (root_address_now old m r) ∙ root_visits old r.standing.1.0 in
-    subst (λ (vs : List Visit). Same old new vs) (sym visited) (root_look new s.standing.1.0 ∙ sym (root_look old r.standing.1.0), tt)
+    ap (λ (a : ℕ). visits old (root_header a)) (root_address_now old m r) ∙ root_visits old m.file.name r.is_file.name_bound r.standing.1.0 in
+    subst (λ (vs : List Visit). Same old new vs) (sym visited) (root_look new n.file.name s.is_file.name_bound s.standing.1.0 ∙ ap (λ (name : List ℕ). header_bytes (root_messages name)) same ∙ sym (root_look old m.file.name r.is_file.name_bound r.standing.1.0), tt)
 
 -- ---- The dataset header
 
 -- it names no continuation block
 pub no_continuations : (img : List ℕ) (m : Moment) → Represents img m → continuation_blocks img (reading_of m.file) ≡ []
 no_continuations img m r =
-    ap (λ (b : List ℕ). visits img (dataset_from header_place b)) (dataset_look img m.file r.is_file.chunk_bound r.standing.1.1.0) ∙ dataset_visits img m.file r.is_file.chunk_bound
+    ap (λ (b : List ℕ). visits img (dataset_from (header_place (length m.file.name)) b)) (dataset_look img m.file r.is_file.chunk_bound r.standing.1.1.0) ∙ dataset_visits img m.file r.is_file.chunk_bound
 
 same_continuations : (old new : List ℕ) (m : Moment) → Represents old m → Same old new (continuation_blocks old (reading_of m.file))
 same_continuations old new m r = subst (λ (vs : List Visit). Same old new vs) (sym (no_continuations old m r)) tt
 
--- it depends on the rows of a chunk and the dataset's rows alone
-abbrev spelled : ℕ → ℕ → List ℕ
-spelled size count = header_bytes (dataset_messages (record { chunk_rows = size; end = 0; addresses = []; top = 0; rows = count }))
+-- it depends on the name, the rows of a chunk and the dataset's rows alone
+abbrev spelled : List ℕ → ℕ → ℕ → List ℕ
+spelled text size count = header_bytes (dataset_messages (record { name = text; limit = 0; chunk_rows = size; end = 0; addresses = []; top = 0; rows = count }))
 
 same_header : (old new : List ℕ) (m n : Moment) → Represents old m → Represents new n → Follows m n → m.file.rows ≡ n.file.rows
-    → header_view (range new header_place 512) ≡ header_view (range old header_place 512)
+    → header_view (range new (header_place (length m.file.name)) 512) ≡ header_view (range old (header_place (length m.file.name)) 512)
 same_header old new m n r s follows rows =
-    dataset_look new n.file s.is_file.chunk_bound s.standing.1.1.0
-    ∙ (λ i. spelled (follows.chunk_rows i) (sym rows i))
+    ap (λ (name : List ℕ). header_view (range new (header_place (length name)) 512)) (sym follows.name)
+    ∙ dataset_look new n.file s.is_file.chunk_bound s.standing.1.1.0
+    ∙ (λ i. spelled (follows.name i) (follows.chunk_rows i) (sym rows i))
     ∙ sym (dataset_look old m.file r.is_file.chunk_bound r.standing.1.1.0)
 
 abbrev layout_from : ℕ → ℕ → LayoutFields
 layout_from size where_to = record { chunk_rows = size; chunk_cols = 1; index = Array; address = where_to; place = 11 + 2 * width_of (max size 4) }
 
+-- places that depend on the name's length and the rows of a chunk
+same_place : (place : ℕ → ℕ → ℕ) (m n : Moment) → Follows m n → place (length n.file.name) n.file.chunk_rows ≡ place (length m.file.name) m.file.chunk_rows
+same_place place m n follows = λ i. place (length (follows.name i)) (follows.chunk_rows i)
+
 same_described : (m n : Moment) → Follows m n → SameDescribed (described_of m.file) (described_of n.file)
 same_described m n follows =
     record {
-      rows_alone = λ i. record { shape = shape_of n.file; int_type = (described_of m.file).int_type; fill = (described_of m.file).fill; layout = layout_from (follows.chunk_rows i) (array_place n.file.chunk_rows) };
-      address = λ known. ap array_place follows.chunk_rows;
+      rows_alone = λ i. record { shape = shape_of n.file; int_type = (described_of m.file).int_type; fill = (described_of m.file).fill; layout = layout_from (follows.chunk_rows i) (array_place (length n.file.name) n.file.chunk_rows) };
+      address = λ known. same_place array_place m n follows;
     }
 
 -- ---- The index block
@@ -85,17 +91,17 @@ names_block-by img address a b h look read names =
     let P : Result EahdFields BlockFault → Type 0 = λ r. elim r [ Ok h ↦ h.block ≡ a | Err f ↦ a ≡ undefined ] in
     subst P (ap (λ (b : List ℕ). eahd_at b address) look ∙ read) names
 
-index_block_now : (img : List ℕ) (m : Moment) (a : ℕ) → Represents img m → NamesBlock img (array_place m.file.chunk_rows) a → index_place m.file.chunk_rows ≡ a
+index_block_now : (img : List ℕ) (m : Moment) (a : ℕ) → Represents img m → NamesBlock img (array_place (length m.file.name) m.file.chunk_rows) a → index_place (length m.file.name) m.file.chunk_rows ≡ a
 index_block_now img m a r names =
     let f = m.file in
-    let at = array_place f.chunk_rows in
+    let at = array_place (length f.name) f.chunk_rows in
     names_block-by img at a (eahd_bytes (array_header_of f)) (array_header_of f) (look_at img at eahd_len (eahd_bytes (array_header_of f)) r.standing.1.1.1.0 (length_array_header f)) (array_header_reads f at r.is_file) names
 
 same_index_block : (old new : List ℕ) (m n : Moment) (a b : ℕ) → Represents old m → Represents new n → Follows m n
-    → NamesBlock old (array_place m.file.chunk_rows) a → NamesBlock new (array_place m.file.chunk_rows) b → StaysDefined a b
+    → NamesBlock old (array_place (length m.file.name) m.file.chunk_rows) a → NamesBlock new (array_place (length m.file.name) m.file.chunk_rows) b → StaysDefined a b
 same_index_block old new m n a b r s follows was is = λ known.
-    let there : NamesBlock new (array_place n.file.chunk_rows) b = subst (λ (c : ℕ). NamesBlock new (array_place c) b) (sym follows.chunk_rows) is in
-    sym (index_block_now new n b s there) ∙ ap index_place follows.chunk_rows ∙ index_block_now old m a r was
+    let there : NamesBlock new (array_place (length n.file.name) n.file.chunk_rows) b = subst (λ (c : ℕ). NamesBlock new c b) (sym (same_place array_place m n follows)) is in
+    sym (index_block_now new n b s there) ∙ same_place index_place m n follows ∙ index_block_now old m a r was
 
 -- ---- The chunks and their cells
 
@@ -133,8 +139,8 @@ pub stays_between : (old new : List ℕ) (m n : Moment) → Represents old m →
 stays_between old new m n r s follows =
     record {
       root = root_address_now new n s ∙ sym (root_address_now old m r);
-      root_header = same_root old new m n r s;
-      place = refl;
+      root_header = same_root old new m n r s follows.name;
+      place = ap (λ (name : List ℕ). header_place (length name)) follows.name;
       named = no_continuations new n s ∙ sym (no_continuations old m r);
       continuations = same_continuations old new m r;
       described = same_described m n follows;

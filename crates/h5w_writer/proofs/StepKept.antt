@@ -26,9 +26,9 @@ stays_at : (w : Write) (img : List ℕ) (place : ℕ) (bytes : List ℕ) (n : �
 stays_at w img place bytes n e misses stands = At-apply_missed w img place bytes (subst (λ (k : ℕ). Misses w place k) (sym e) misses) stands
 
 -- no cell of a row stands before the first chunk
-pub cell_low : (f : FileFields) (row : ℕ) → IsFile f → row < f.rows → first_end f.chunk_rows ≤ cell_place f row
+pub cell_low : (f : FileFields) (row : ℕ) → IsFile f → row < f.rows → first_end (length f.name) f.chunk_rows ≤ cell_place f row
 cell_low f row k h =
-    let low = Rising-low (first_end f.chunk_rows) (chunk_len f.chunk_rows) f.addresses f.end (row / f.chunk_rows) undefined k.apart (band-has_chunk f row k h) in
+    let low = Rising-low (first_end (length f.name) f.chunk_rows) (chunk_len f.chunk_rows) f.addresses f.end (row / f.chunk_rows) undefined k.apart (band-has_chunk f row k h) in
     omega arith
 
 cells_apply : (w : Write) (img : List ℕ) (f : FileFields) (from : ℕ) (values : List ℤ) → ((i : ℕ) → i < length values → Misses w (cell_place f (from + i)) 4)
@@ -37,7 +37,7 @@ cells_apply w img f from values missed cells = λ i v b is bytes.
     stays_at w img (cell_place f (from + i)) b 4 (length-cell_bytes_of v int_type b bytes) (missed i (slice_get_within values i v is)) (cells i v b is bytes)
 
 -- a write before the first chunk meets no cell of the values
-cells_missed : (w : Write) (f : FileFields) (from n : ℕ) → IsFile f → w.at + length w.piece ≤ first_end f.chunk_rows → from + n ≤ f.rows
+cells_missed : (w : Write) (f : FileFields) (from n : ℕ) → IsFile f → w.at + length w.piece ≤ first_end (length f.name) f.chunk_rows → from + n ≤ f.rows
     → (i : ℕ) → i < n → Misses w (cell_place f (from + i)) 4
 cells_missed w f from n k before within i h =
     let low = cell_low f (from + i) k (omega arith) in
@@ -62,23 +62,27 @@ chunk_kept img m w r off_blocks off_cells off_further =
 
 -- ---- The end of the file
 
-raise_kept : (img : List ℕ) (m : Moment) (w : Write) (more : ℕ) → Represents img m → m.file.end ≤ more → more < 2 ^ 63 → more ≤ length img
+raise_kept : (img : List ℕ) (m : Moment) (w : Write) (more : ℕ) → Represents img m → m.file.end ≤ more → more ≤ m.file.limit → more ≤ length img
     → Writes w (super_block (record (m.file) { end = more })) → Represents (apply w img) (record m { file = record (m.file) { end = more } })
 raise_kept img m w more r rises bound there writes =
     let f = m.file in
     let g : FileFields = record f { end = more } in
     let k = r.is_file in
     let j : IsFile g = record {
+      named = k.named;
+      name_bound = k.name_bound;
+      limit_low = k.limit_low;
+      limit_high = k.limit_high;
       some_rows = k.some_rows;
       chunk_bound = k.chunk_bound;
       few = k.few;
       counted = k.counted;
       rows_have_chunks = k.rows_have_chunks;
-      apart = Rising-more (first_end f.chunk_rows) (chunk_len f.chunk_rows) f.addresses f.end more k.apart rises;
+      apart = Rising-more (first_end (length f.name) f.chunk_rows) (chunk_len f.chunk_rows) f.addresses f.end more k.apart rises;
       end_bound = bound;
     } in
     let l = lengths f k in
-    let p = places f.chunk_rows k.chunk_bound in
+    let p = places (length f.name) f.chunk_rows k.name_bound k.chunk_bound in
     let count = r.count in
     let standing = r.standing in
     let at_place : w.at ≡ 0 = writes.place in
@@ -88,12 +92,12 @@ raise_kept img m w more r rises bound there writes =
       standing = (
         at_written w img 0 (super_block g).1 writes.place writes.bytes,
         (
-          stays_at w img root_place root_block.1 58 l.of_root (inl (omega arith)) standing.1.0,
+          stays_at w img root_place (root_block f).1 (54 + length f.name) l.of_root (inl (omega arith)) standing.1.0,
           (
-            stays_at w img header_place (header_block f).1 _ l.of_header (inl (omega arith)) standing.1.1.0,
+            stays_at w img (header_place (length f.name)) (header_block f).1 _ l.of_header (inl (omega arith)) standing.1.1.0,
             (
-              stays_at w img (array_place f.chunk_rows) (array_block f).1 72 l.of_array (inl (omega arith)) standing.1.1.1.0,
-              (stays_at w img (index_place f.chunk_rows) (index_block f).1 298 l.of_index (inl (omega arith)) standing.1.1.1.1.0, tt),
+              stays_at w img (array_place (length f.name) f.chunk_rows) (array_block f).1 72 l.of_array (inl (omega arith)) standing.1.1.1.0,
+              (stays_at w img (index_place (length f.name) f.chunk_rows) (index_block f).1 298 l.of_index (inl (omega arith)) standing.1.1.1.1.0, tt),
             ),
           ),
         ),
@@ -103,7 +107,7 @@ raise_kept img m w more r rises bound there writes =
       fit = r.fit;
       cells = cells_apply w img f 0 m.values (cells_missed w f 0 (length m.values) k (omega arith) (omega arith)) r.cells;
       further = Holds-apply_missed w img m.further (further_missed w 0 48 m.further f k at_place size (λ p n five. five.from_super) r.clear) r.further;
-      clear = clear_again m.further f g k j refl r.clear;
+      clear = clear_again m.further f g k j refl refl r.clear;
     }
 
 -- ---- The chunks that the index block names
@@ -118,7 +122,7 @@ more_addresses f more row k h =
     ap (λ (a : ℕ). a + 4 * (row % f.chunk_rows)) (get_or_append_left f.addresses more undefined (row / f.chunk_rows) (band-has_chunk f row k h))
 
 names_kept : (img : List ℕ) (m : Moment) (w : Write) (more : List ℕ) → Represents img m → length (m.file.addresses ++ more) ≤ 4
-    → Rising (first_end m.file.chunk_rows) (chunk_len m.file.chunk_rows) (m.file.addresses ++ more) m.file.end
+    → Rising (first_end (length m.file.name) m.file.chunk_rows) (chunk_len m.file.chunk_rows) (m.file.addresses ++ more) m.file.end
     → Writes w (index_block (record (m.file) { addresses = m.file.addresses ++ more })) → Represents (apply w img) (record m { file = record (m.file) { addresses = m.file.addresses ++ more } })
 names_kept img m w more r few apart writes =
     let f = m.file in
@@ -127,24 +131,24 @@ names_kept img m w more r few apart writes =
     let both = length-append f.addresses more in
     let counted = k.counted in
     let have = k.rows_have_chunks in
-    let j : IsFile g = record { some_rows = k.some_rows; chunk_bound = k.chunk_bound; few = few; counted = omega arith; rows_have_chunks = omega arith; apart = apart; end_bound = k.end_bound } in
+    let j : IsFile g = record { named = k.named; name_bound = k.name_bound; limit_low = k.limit_low; limit_high = k.limit_high; some_rows = k.some_rows; chunk_bound = k.chunk_bound; few = few; counted = omega arith; rows_have_chunks = omega arith; apart = apart; end_bound = k.end_bound } in
     let l = lengths f k in
-    let p = places f.chunk_rows k.chunk_bound in
+    let p = places (length f.name) f.chunk_rows k.name_bound k.chunk_bound in
     let count = r.count in
     let standing = r.standing in
-    let at_place : w.at ≡ index_place f.chunk_rows = writes.place in
+    let at_place : w.at ≡ index_place (length f.name) f.chunk_rows = writes.place in
     let size : length w.piece ≡ 298 = ap length writes.bytes ∙ (lengths g j).of_index in
     record {
       is_file = j;
       standing = (
         stays_at w img 0 (super_block f).1 48 l.of_super (inr (omega arith)) standing.0,
         (
-          stays_at w img root_place root_block.1 58 l.of_root (inr (omega arith)) standing.1.0,
+          stays_at w img root_place (root_block f).1 (54 + length f.name) l.of_root (inr (omega arith)) standing.1.0,
           (
-            stays_at w img header_place (header_block f).1 _ l.of_header (inr (omega arith)) standing.1.1.0,
+            stays_at w img (header_place (length f.name)) (header_block f).1 _ l.of_header (inr (omega arith)) standing.1.1.0,
             (
-              stays_at w img (array_place f.chunk_rows) (array_block f).1 72 l.of_array (inr (omega arith)) standing.1.1.1.0,
-              (at_written w img (index_place f.chunk_rows) (index_block g).1 writes.place writes.bytes, tt),
+              stays_at w img (array_place (length f.name) f.chunk_rows) (array_block f).1 72 l.of_array (inr (omega arith)) standing.1.1.1.0,
+              (at_written w img (index_place (length f.name) f.chunk_rows) (index_block g).1 writes.place writes.bytes, tt),
             ),
           ),
         ),
@@ -154,8 +158,8 @@ names_kept img m w more r few apart writes =
       fit = r.fit;
       cells = cells_same (apply w img) f g 0 m.values (λ i h. more_addresses f more (0 + i) k (omega arith))
           (cells_apply w img f 0 m.values (cells_missed w f 0 (length m.values) k (omega arith) (omega arith)) r.cells);
-      further = Holds-apply_missed w img m.further (further_missed w (index_place f.chunk_rows) 298 m.further f k at_place size (λ p n five. five.from_index) r.clear) r.further;
-      clear = clear_again m.further f g k j refl r.clear;
+      further = Holds-apply_missed w img m.further (further_missed w (index_place (length f.name) f.chunk_rows) 298 m.further f k at_place size (λ p n five. five.from_index) r.clear) r.further;
+      clear = clear_again m.further f g k j refl refl r.clear;
     }
 
 -- ---- The array's header
@@ -166,24 +170,24 @@ counts_kept img m w r writes =
     let f = m.file in
     let g : FileFields = record f { top = length (f.addresses) } in
     let k = r.is_file in
-    let j : IsFile g = record { some_rows = k.some_rows; chunk_bound = k.chunk_bound; few = k.few; counted = omega arith; rows_have_chunks = k.rows_have_chunks; apart = k.apart; end_bound = k.end_bound } in
+    let j : IsFile g = record { named = k.named; name_bound = k.name_bound; limit_low = k.limit_low; limit_high = k.limit_high; some_rows = k.some_rows; chunk_bound = k.chunk_bound; few = k.few; counted = omega arith; rows_have_chunks = k.rows_have_chunks; apart = k.apart; end_bound = k.end_bound } in
     let l = lengths f k in
-    let p = places f.chunk_rows k.chunk_bound in
+    let p = places (length f.name) f.chunk_rows k.name_bound k.chunk_bound in
     let count = r.count in
     let standing = r.standing in
-    let at_place : w.at ≡ array_place f.chunk_rows = writes.place in
+    let at_place : w.at ≡ array_place (length f.name) f.chunk_rows = writes.place in
     let size : length w.piece ≡ 72 = ap length writes.bytes ∙ (lengths g j).of_array in
     record {
       is_file = j;
       standing = (
         stays_at w img 0 (super_block f).1 48 l.of_super (inr (omega arith)) standing.0,
         (
-          stays_at w img root_place root_block.1 58 l.of_root (inr (omega arith)) standing.1.0,
+          stays_at w img root_place (root_block f).1 (54 + length f.name) l.of_root (inr (omega arith)) standing.1.0,
           (
-            stays_at w img header_place (header_block f).1 _ l.of_header (inr (omega arith)) standing.1.1.0,
+            stays_at w img (header_place (length f.name)) (header_block f).1 _ l.of_header (inr (omega arith)) standing.1.1.0,
             (
-              at_written w img (array_place f.chunk_rows) (array_block g).1 writes.place writes.bytes,
-              (stays_at w img (index_place f.chunk_rows) (index_block f).1 298 l.of_index (inl (omega arith)) standing.1.1.1.1.0, tt),
+              at_written w img (array_place (length f.name) f.chunk_rows) (array_block g).1 writes.place writes.bytes,
+              (stays_at w img (index_place (length f.name) f.chunk_rows) (index_block f).1 298 l.of_index (inl (omega arith)) standing.1.1.1.1.0, tt),
             ),
           ),
         ),
@@ -192,8 +196,8 @@ counts_kept img m w r writes =
       count = r.count;
       fit = r.fit;
       cells = cells_apply w img f 0 m.values (cells_missed w f 0 (length m.values) k (omega arith) (omega arith)) r.cells;
-      further = Holds-apply_missed w img m.further (further_missed w (array_place f.chunk_rows) 72 m.further f k at_place size (λ p n five. five.from_array) r.clear) r.further;
-      clear = clear_again m.further f g k j refl r.clear;
+      further = Holds-apply_missed w img m.further (further_missed w (array_place (length f.name) f.chunk_rows) 72 m.further f k at_place size (λ p n five. five.from_array) r.clear) r.further;
+      clear = clear_again m.further f g k j refl refl r.clear;
     }
 
 -- ---- The rows
@@ -238,11 +242,11 @@ commit_kept img m w more r j fit there writes =
     let g : FileFields = record f { rows = f.rows + length more } in
     let k = r.is_file in
     let l = lengths f k in
-    let p = places f.chunk_rows k.chunk_bound in
+    let p = places (length f.name) f.chunk_rows k.name_bound k.chunk_bound in
     let count = r.count in
     let both = length-append m.values more in
     let standing = r.standing in
-    let at_place : w.at ≡ header_place = writes.place in
+    let at_place : w.at ≡ (header_place (length f.name)) = writes.place in
     let size : length w.piece ≡ messages_len f.chunk_rows + 11 = ap length writes.bytes ∙ (lengths g j).of_header in
     let old = cells_apply w img f 0 m.values (cells_missed w f 0 (length m.values) k (omega arith) (omega arith)) r.cells in
     let new = cells_apply w img g f.rows more (cells_missed w g f.rows (length more) j (omega arith) (omega arith)) there in
@@ -251,12 +255,12 @@ commit_kept img m w more r j fit there writes =
       standing = (
         stays_at w img 0 (super_block f).1 48 l.of_super (inr (omega arith)) standing.0,
         (
-          stays_at w img root_place root_block.1 58 l.of_root (inr (omega arith)) standing.1.0,
+          stays_at w img root_place (root_block f).1 (54 + length f.name) l.of_root (inr (omega arith)) standing.1.0,
           (
-            at_written w img header_place (header_block g).1 writes.place writes.bytes,
+            at_written w img (header_place (length f.name)) (header_block g).1 writes.place writes.bytes,
             (
-              stays_at w img (array_place f.chunk_rows) (array_block f).1 72 l.of_array (inl (omega arith)) standing.1.1.1.0,
-              (stays_at w img (index_place f.chunk_rows) (index_block f).1 298 l.of_index (inl (omega arith)) standing.1.1.1.1.0, tt),
+              stays_at w img (array_place (length f.name) f.chunk_rows) (array_block f).1 72 l.of_array (inl (omega arith)) standing.1.1.1.0,
+              (stays_at w img (index_place (length f.name) f.chunk_rows) (index_block f).1 298 l.of_index (inl (omega arith)) standing.1.1.1.1.0, tt),
             ),
           ),
         ),
@@ -281,8 +285,8 @@ step_kept img m w n r (inr (inr (inl s))) =
     let names : n.file.addresses ≡ m.file.addresses ++ s.more = ap (λ (x : Moment). x.file.addresses) s.is in
     subst (λ (x : Moment). Represents (apply w img) x) (sym s.is)
     (names_kept img m w s.more r (subst (λ (xs : List ℕ). length xs ≤ 4) names s.few)
-    (subst (λ (xs : List ℕ). Rising (first_end m.file.chunk_rows) (chunk_len m.file.chunk_rows) xs m.file.end) names
-    (subst (λ (end : ℕ). Rising (first_end m.file.chunk_rows) (chunk_len m.file.chunk_rows) n.file.addresses end) same s.apart))
+    (subst (λ (xs : List ℕ). Rising (first_end (length m.file.name) m.file.chunk_rows) (chunk_len m.file.chunk_rows) xs m.file.end) names
+    (subst (λ (end : ℕ). Rising (first_end (length m.file.name) m.file.chunk_rows) (chunk_len m.file.chunk_rows) n.file.addresses end) same s.apart))
     (subst (λ (x : Moment). Writes w (index_block x.file)) s.is s.writes))
 step_kept img m w n r (inr (inr (inr (inl s)))) =
     subst (λ (x : Moment). Represents (apply w img) x) (sym s.is) (counts_kept img m w r (subst (λ (x : Moment). Writes w (array_block x.file)) s.is s.writes))

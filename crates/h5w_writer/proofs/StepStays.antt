@@ -14,10 +14,11 @@ use Rattle.h5w_writer.proofs.StaysNow.{Follows, stays_between}
 -- ---- A later file
 
 -- the same rows, chunks and values
-follows_same : (m : Moment) (f : FileFields) (bytes : List (ℕ × List ℕ)) → f.chunk_rows ≡ m.file.chunk_rows → f.rows ≡ m.file.rows → f.addresses ≡ m.file.addresses
+follows_same : (m : Moment) (f : FileFields) (bytes : List (ℕ × List ℕ)) → f.name ≡ m.file.name → f.chunk_rows ≡ m.file.chunk_rows → f.rows ≡ m.file.rows → f.addresses ≡ m.file.addresses
     → Follows m (record { file = f; values = m.values; further = bytes })
-follows_same m f bytes size rows addresses =
+follows_same m f bytes named size rows addresses =
     record {
+      name = named;
       chunk_rows = size;
       rows = omega arith;
       more_chunks = omega (arith, ap length addresses);
@@ -27,11 +28,12 @@ follows_same m f bytes size rows addresses =
     }
 
 pub follows_itself : (m : Moment) → Follows m m
-follows_itself m = follows_same m m.file m.further refl refl refl
+follows_itself m = follows_same m m.file m.further refl refl refl refl
 
 names_follows : (m : Moment) (more : List ℕ) → Follows m (record m { file = record (m.file) { addresses = m.file.addresses ++ more } })
 names_follows m more =
     record {
+      name = refl;
       chunk_rows = refl;
       rows = omega arith;
       more_chunks = omega (arith, length-append m.file.addresses more);
@@ -43,6 +45,7 @@ names_follows m more =
 commit_follows : (m : Moment) (more : List ℤ) → Follows m (record { file = record (m.file) { rows = m.file.rows + length more }; values = m.values ++ more; further = [] })
 commit_follows m more =
     record {
+      name = refl;
       chunk_rows = refl;
       rows = omega arith;
       more_chunks = omega arith;
@@ -52,10 +55,10 @@ commit_follows m more =
     }
 
 pub step_follows : (m : Moment) (w : Write) (n : Moment) → Step m w n → Follows m n
-step_follows m w n (inl s) = subst (λ (x : Moment). Follows m x) (sym s.is) (follows_same m m.file ((w.at, w.piece) ∷ m.further) refl refl refl)
-step_follows m w n (inr (inl s)) = subst (λ (x : Moment). Follows m x) (sym s.is) (follows_same m (record (m.file) { end = n.file.end }) m.further refl refl refl)
+step_follows m w n (inl s) = subst (λ (x : Moment). Follows m x) (sym s.is) (follows_same m m.file ((w.at, w.piece) ∷ m.further) refl refl refl refl)
+step_follows m w n (inr (inl s)) = subst (λ (x : Moment). Follows m x) (sym s.is) (follows_same m (record (m.file) { end = n.file.end }) m.further refl refl refl refl)
 step_follows m w n (inr (inr (inl s))) = subst (λ (x : Moment). Follows m x) (sym s.is) (names_follows m s.more)
-step_follows m w n (inr (inr (inr (inl s)))) = subst (λ (x : Moment). Follows m x) (sym s.is) (follows_same m (record (m.file) { top = length (m.file.addresses) }) m.further refl refl refl)
+step_follows m w n (inr (inr (inr (inl s)))) = subst (λ (x : Moment). Follows m x) (sym s.is) (follows_same m (record (m.file) { top = length (m.file.addresses) }) m.further refl refl refl refl)
 step_follows m w n (inr (inr (inr (inr s)))) = subst (λ (x : Moment). Follows m x) (sym s.is) (commit_follows m s.more)
 
 pub follows_on : (m n o : Moment) → Follows m n → Follows n o → Follows m o
@@ -63,6 +66,7 @@ follows_on m n o h g =
     let chunks = h.more_chunks in
     let values = h.more_values in
     record {
+      name = g.name ∙ h.name;
       chunk_rows = g.chunk_rows ∙ h.chunk_rows;
       rows = omega (arith, h.rows, g.rows);
       more_chunks = omega (arith, g.more_chunks);

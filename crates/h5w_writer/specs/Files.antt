@@ -1,6 +1,6 @@
 -- A file with one dataset of rank 1, all of whose chunks' addresses stand in the index block: its blocks, where its
 -- cells stand, and what it reads as.
-use Rattle.std.specs.Prelude.{◌≡◌, ℕ, ◌+◌, ◌-◌, ◌*◌, ◌/◌, ◌%◌, ◌^◌, ◌<◌, ◌≤◌, max, true, false, List, [], ◌∷◌, ◌++◌, length, take, replicate, get_or, slice_get, ℤ, Some, None, codes}
+use Rattle.std.specs.Prelude.{◌≡◌, ℕ, ◌+◌, ◌-◌, ◌*◌, ◌/◌, ◌%◌, ◌^◌, ◌<◌, ◌≤◌, max, true, false, List, [], ◌∷◌, ◌++◌, length, take, replicate, get_or, slice_get, ℤ, Some, None}
 use Rattle.h5w_model.specs.Numbers.{width_of, undefined}
 use Rattle.h5w_model.specs.Images.{At, Holds, ApartEach}
 use Rattle.h5w_model.specs.Superblock.{super_bytes}
@@ -17,41 +17,40 @@ use Rattle.h5w_model.specs.declared.message.Msg.{Msg}
 use Rattle.h5w_model.specs.declared.root.Super.{Super}
 use Rattle.h5w_model.specs.declared.cell.IndexKind.TheVariants.{Array}
 
--- the dataset's name
-abbrev pub dataset_name : List ℕ
-dataset_name = codes "data"
-
 -- its integers: four bytes, the least significant first, signed
 abbrev pub int_type : IntTypeFields
 int_type = record { size = 4; big = false; signed = true }
 
--- What of a file changes: the rows of a chunk, the end-of-file address, the chunks' addresses in the index block, how
--- many of them the array's header counts, and the dataset's rows.
+-- What tells a file from others: the dataset's name, the most bytes of the file, the rows of a chunk, the end-of-file
+-- address, the chunks' addresses in the index block, how many of them the array's header counts, and the dataset's rows.
 pub record FileFields : Type 0 where
+  pub name : List ℕ
+  pub limit : ℕ
   pub chunk_rows : ℕ
   pub end : ℕ
   pub addresses : List ℕ
   pub top : ℕ
   pub rows : ℕ
 
--- ---- Where the blocks stand, one behind the other
+-- ---- Where the blocks stand, one behind the other, in a file whose dataset's name has so many bytes
 
 abbrev pub root_place : ℕ
 root_place = 48
 
-abbrev pub header_place : ℕ
-header_place = 106
+-- the root header has 54 bytes beside the name
+abbrev pub header_place : ℕ → ℕ
+header_place named = root_place + 54 + named
 
 -- the dataset header is as long as the chunk sizes are wide
-abbrev pub array_place : ℕ → ℕ
-array_place rows = header_place + 80 + 2 * width_of (max rows 4)
+abbrev pub array_place : ℕ → ℕ → ℕ
+array_place named rows = header_place named + 80 + 2 * width_of (max rows 4)
 
-abbrev pub index_place : ℕ → ℕ
-index_place rows = array_place rows + eahd_len
+abbrev pub index_place : ℕ → ℕ → ℕ
+index_place named rows = array_place named rows + eahd_len
 
 -- the end-of-file address of a file without chunks
-abbrev pub first_end : ℕ → ℕ
-first_end rows = index_place rows + eaib_len
+abbrev pub first_end : ℕ → ℕ → ℕ
+first_end named rows = index_place named rows + eaib_len
 
 abbrev pub chunk_len : ℕ → ℕ
 chunk_len rows = 4 * rows
@@ -61,8 +60,8 @@ chunk_len rows = 4 * rows
 abbrev pub message : ℕ → List ℕ → Msg
 message number data_bytes = record { kind = number; flags = 0; at = 0; body = data_bytes }
 
-abbrev pub root_messages : List Msg
-root_messages = message 0x02 link_info_bytes ∷ message 0x0a group_info_bytes ∷ message 0x06 (link_bytes dataset_name header_place) ∷ []
+abbrev pub root_messages : List ℕ → List Msg
+root_messages name = message 0x02 link_info_bytes ∷ message 0x0a group_info_bytes ∷ message 0x06 (link_bytes name (header_place (length name))) ∷ []
 
 abbrev pub shape_of : FileFields → ShapeFields
 shape_of f = record { rank = 1; rows = f.rows; cols = 1; growing = false }
@@ -72,7 +71,7 @@ abbrev pub fill : FillFields
 fill = record { value = None }
 
 abbrev pub layout_of : FileFields → LayoutFields
-layout_of f = record { chunk_rows = f.chunk_rows; chunk_cols = 1; index = Array; address = array_place f.chunk_rows; place = 11 + 2 * width_of (max f.chunk_rows 4) }
+layout_of f = record { chunk_rows = f.chunk_rows; chunk_cols = 1; index = Array; address = array_place (length f.name) f.chunk_rows; place = 11 + 2 * width_of (max f.chunk_rows 4) }
 
 abbrev pub dataset_messages : FileFields → List Msg
 dataset_messages f =
@@ -83,11 +82,11 @@ abbrev pub super_of : FileFields → Super
 super_of f = record { version = 3; flags = 5; end = f.end; root = root_place }
 
 abbrev pub array_header_of : FileFields → EahdFields
-array_header_of f = record { numbers = 0 ∷ 0 ∷ 0 ∷ 0 ∷ f.top ∷ 4 ∷ []; block = index_place f.chunk_rows }
+array_header_of f = record { numbers = 0 ∷ 0 ∷ 0 ∷ 0 ∷ f.top ∷ 4 ∷ []; block = index_place (length f.name) f.chunk_rows }
 
 abbrev pub index_block_of : FileFields → EaibFields
 index_block_of f = record {
-  header = array_place f.chunk_rows;
+  header = array_place (length f.name) f.chunk_rows;
   slots = f.addresses ++ replicate (4 - length f.addresses) undefined;
   first = replicate 6 undefined;
   second = replicate 25 undefined;
@@ -97,20 +96,20 @@ index_block_of f = record {
 abbrev pub super_block : FileFields → ℕ × List ℕ
 super_block f = (0, super_bytes (super_of f))
 
-abbrev pub root_block : ℕ × List ℕ
-root_block = (root_place, header_bytes root_messages)
+abbrev pub root_block : FileFields → ℕ × List ℕ
+root_block f = (root_place, header_bytes (root_messages f.name))
 
 abbrev pub header_block : FileFields → ℕ × List ℕ
-header_block f = (header_place, header_bytes (dataset_messages f))
+header_block f = (header_place (length f.name), header_bytes (dataset_messages f))
 
 abbrev pub array_block : FileFields → ℕ × List ℕ
-array_block f = (array_place f.chunk_rows, eahd_bytes (array_header_of f))
+array_block f = (array_place (length f.name) f.chunk_rows, eahd_bytes (array_header_of f))
 
 abbrev pub index_block : FileFields → ℕ × List ℕ
-index_block f = (index_place f.chunk_rows, eaib_bytes (index_block_of f))
+index_block f = (index_place (length f.name) f.chunk_rows, eaib_bytes (index_block_of f))
 
 abbrev pub blocks : FileFields → List (ℕ × List ℕ)
-blocks f = super_block f ∷ root_block ∷ header_block f ∷ array_block f ∷ index_block f ∷ []
+blocks f = super_block f ∷ root_block f ∷ header_block f ∷ array_block f ∷ index_block f ∷ []
 
 -- ---- What makes a file
 
@@ -120,13 +119,17 @@ Rising from bytes [] end = from ≤ end
 Rising from bytes (a ∷ rest) end = (from ≤ a) × Rising (a + bytes) bytes rest end
 
 pub record IsFile (f : FileFields) : Type 0 where
+  pub named : 1 ≤ length f.name
+  pub name_bound : length f.name ≤ 64
+  pub limit_low : 1024 ≤ f.limit
+  pub limit_high : f.limit ≤ 2 ^ 40
   pub some_rows : 1 ≤ f.chunk_rows
   pub chunk_bound : f.chunk_rows ≤ 65536
   pub few : length f.addresses ≤ 4
   pub counted : f.top ≤ length f.addresses
   pub rows_have_chunks : div_up f.rows f.chunk_rows ≤ length f.addresses
-  pub apart : Rising (first_end f.chunk_rows) (chunk_len f.chunk_rows) f.addresses f.end
-  pub end_bound : f.end < 2 ^ 63
+  pub apart : Rising (first_end (length f.name) f.chunk_rows) (chunk_len f.chunk_rows) f.addresses f.end
+  pub end_bound : f.end ≤ f.limit
 
 -- where the cell of a row stands
 abbrev pub cell_place : FileFields → ℕ → ℕ
@@ -168,7 +171,7 @@ abbrev pub described_of : FileFields → Described
 described_of f = record { shape = shape_of f; int_type = int_type; fill = fill; layout = layout_of f }
 
 abbrev pub reading_of : FileFields → Reading
-reading_of f = record { place = header_place; dataset = described_of f; table = take (div_up f.rows f.chunk_rows) f.addresses }
+reading_of f = record { place = header_place (length f.name); dataset = described_of f; table = take (div_up f.rows f.chunk_rows) f.addresses }
 
 -- what a check of it gives; lost are the bytes below the end that belong to no block and no chunk
 abbrev pub summary_of : FileFields → Summary
@@ -177,5 +180,5 @@ summary_of f = record {
   chunks = length f.addresses;
   blocks = 5;
   end = f.end;
-  lost = f.end - (first_end f.chunk_rows + length f.addresses * chunk_len f.chunk_rows);
+  lost = f.end - (first_end (length f.name) f.chunk_rows + length f.addresses * chunk_len f.chunk_rows);
 }

@@ -2,6 +2,7 @@
 use Rattle.std.specs.Prelude.{◌≡◌, ◌⊎◌, ℕ, ◌+◌, ◌<◌, ◌≤◌, ◌^◌, List, [], ◌∷◌, ◌++◌, length, ℤ}
 use Rattle.h5w_model.specs.Images.{Holds, ApartEach, Misses}
 use Rattle.h5w_model.specs.declared.piece.Write.{Write}
+use Rattle.h5w_writer.specs.declared.options.Options.{Options}
 use Rattle.h5w_writer.specs.Files.{FileFields, Moment, IsFile, AllFit, CellsAt, Rising, blocks, super_block, root_block, header_block, array_block, index_block, cell_place, first_end, chunk_len}
 
 -- the write of a block at its place
@@ -25,7 +26,7 @@ pub record RaisesEnd (m : Moment) (w : Write) (n : Moment) : Type 0 where
   pub is : n ≡ record m { file = record (m.file) { end = n.file.end } }
   pub writes : Writes w (super_block n.file)
   pub rises : m.file.end ≤ n.file.end
-  pub bound : n.file.end < 2 ^ 63
+  pub bound : n.file.end ≤ m.file.limit
   pub there : (img : List ℕ) → Holds img m.further → n.file.end ≤ length img
 
 -- the index block names more chunks, below the end-of-file address
@@ -34,7 +35,7 @@ pub record NamesChunks (m : Moment) (w : Write) (n : Moment) : Type 0 where
   pub is : n ≡ record m { file = record (m.file) { addresses = m.file.addresses ++ more } }
   pub writes : Writes w (index_block n.file)
   pub few : length n.file.addresses ≤ 4
-  pub apart : Rising (first_end m.file.chunk_rows) (chunk_len m.file.chunk_rows) n.file.addresses n.file.end
+  pub apart : Rising (first_end (length m.file.name) m.file.chunk_rows) (chunk_len m.file.chunk_rows) n.file.addresses n.file.end
 
 -- the array's header counts them
 pub record CountsChunks (m : Moment) (w : Write) (n : Moment) : Type 0 where
@@ -63,17 +64,38 @@ Plan m (w ∷ ws) n = (between : Moment) × Step m w between × Plan between ws 
 -- ---- A new file
 
 -- a file without chunks and rows
-abbrev pub new_file : ℕ → FileFields
-new_file rows_of_chunk = record { chunk_rows = rows_of_chunk; end = first_end rows_of_chunk; addresses = []; top = 0; rows = 0 }
+abbrev pub new_file : Options → FileFields
+new_file o = record {
+  name = o.name;
+  limit = o.limit;
+  chunk_rows = o.chunk_rows;
+  end = first_end (length o.name) o.chunk_rows;
+  addresses = [];
+  top = 0;
+  rows = 0;
+}
 
-abbrev pub first_moment : ℕ → Moment
-first_moment rows_of_chunk = record { file = new_file rows_of_chunk; values = []; further = [] }
+-- by what a session would create such a file
+abbrev pub options_of : FileFields → Options
+options_of f = record { name = f.name; chunk_rows = f.chunk_rows; limit = f.limit }
+
+-- a file can be created by these
+pub record AreOptions (o : Options) : Type 0 where
+  pub named : 1 ≤ length o.name
+  pub name_bound : length o.name ≤ 64
+  pub some_rows : 1 ≤ o.chunk_rows
+  pub chunk_bound : o.chunk_rows ≤ 65536
+  pub limit_low : 1024 ≤ o.limit
+  pub limit_high : o.limit ≤ 2 ^ 40
+
+abbrev pub first_moment : Options → Moment
+first_moment o = record { file = new_file o; values = []; further = [] }
 
 -- the pieces of a new file: the index, the dataset header, the root header, and last the superblock
 abbrev pub block_write : ℕ × List ℕ → Write
 block_write b = record { at = b.0; piece = b.1 }
 
-abbrev pub creation_writes : ℕ → List Write
-creation_writes rows_of_chunk =
-    block_write (index_block (new_file rows_of_chunk)) ∷ block_write (array_block (new_file rows_of_chunk))
-    ∷ block_write (header_block (new_file rows_of_chunk)) ∷ block_write root_block ∷ block_write (super_block (new_file rows_of_chunk)) ∷ []
+abbrev pub creation_writes : Options → List Write
+creation_writes o =
+    block_write (index_block (new_file o)) ∷ block_write (array_block (new_file o))
+    ∷ block_write (header_block (new_file o)) ∷ block_write (root_block (new_file o)) ∷ block_write (super_block (new_file o)) ∷ []

@@ -1,13 +1,13 @@
 -- A session: what its values are, and of which logs it can be the session.
 use Rattle.std.specs.Prelude.{◌≡◌, ◌≢◌, ◌⊎◌, ℕ, ◌+◌, ◌*◌, ◌≤◌, Bool, true, false, List, [], ◌∷◌, ◌++◌, length, take, drop, ℤ, nat_lt, if◌then◌else◌}
 use Rattle.h5w_model.specs.Images.{image, AllSized}
-use Rattle.h5w_model.specs.Logs.{Log, Cutting, Happening, hist, appended_in, flushed_in, div_up}
+use Rattle.h5w_model.specs.Logs.{Log, Cutting, Happening, hist, appended_in, flushed_in, div_up, spent}
 use Rattle.h5w_model.specs.Prefixed.{PrefixedEach, Still}
 use Rattle.h5w_model.specs.declared.piece.Write.{Write}
-use Rattle.h5w_writer.specs.Files.{FileFields, Moment, IsFile, AllFit, Represents, dataset_name, first_end, chunk_len}
-use Rattle.h5w_writer.specs.Plans.{Step, new_file, creation_writes}
+use Rattle.h5w_writer.specs.declared.options.Options.{Options}
+use Rattle.h5w_writer.specs.Files.{FileFields, Moment, IsFile, AllFit, Represents, first_end, chunk_len}
+use Rattle.h5w_writer.specs.Plans.{Step, AreOptions, new_file, options_of, creation_writes}
 use Rattle.h5w_writer.specs.Flushes.{after_rows, flush_writes}
-use Rattle.h5w_writer.specs.Kept.{space_limit}
 
 -- What the file is once all planned pieces became visible, the rows that it has until the last of them does, the values
 -- of the rows that no flush has planned, the pending pieces, the oldest first, and whether it was stopped.
@@ -33,7 +33,7 @@ pub record IsSession (s : Session) : Type 0 where
   -- the chunks are those that the rows need, one behind the other up to the end
   pub needed : length s.file.addresses ≡ div_up s.file.rows s.file.chunk_rows
   pub counted : s.file.top ≡ length s.file.addresses
-  pub end : s.file.end ≡ first_end s.file.chunk_rows + length s.file.addresses * chunk_len s.file.chunk_rows
+  pub end : s.file.end ≡ first_end (length s.file.name) s.file.chunk_rows + length s.file.addresses * chunk_len s.file.chunk_rows
   pub room : div_up (s.file.rows + length s.waiting) s.file.chunk_rows ≤ chunk_limit
   pub fit : AllFit s.waiting
   pub sized : AllSized s.pending
@@ -66,11 +66,10 @@ Flushing m (w ∷ ws) n = (between : Moment) × Step m w between × (ws ≢ [] �
 
 -- the creation's pieces are pending, and nothing else happened but that some of them became visible
 pub record Creating (s : Session) (es : List Happening) : Type 0 where
-  pub pieces : hist es ++ s.pending ≡ creation_writes s.file.chunk_rows
+  pub pieces : hist es ++ s.pending ≡ creation_writes (options_of s.file)
   pub some : s.pending ≢ []
-  pub some_rows : 1 ≤ s.file.chunk_rows
-  pub chunk_bound : s.file.chunk_rows ≤ 65536
-  pub file : s.file ≡ new_file s.file.chunk_rows
+  pub by : AreOptions (options_of s.file)
+  pub file : s.file ≡ new_file (options_of s.file)
   pub committed : s.committed ≡ 0
   pub waiting : s.waiting ≡ []
   pub appended : appended_in es ≡ []
@@ -87,17 +86,19 @@ pub record Running (s : Session) (es : List Happening) : Type 0 where
   pub committed : s.committed ≡ length before.values
   pub appended : after.values ++ s.waiting ≡ appended_in es
   pub flushed : (k : ℕ) → flushed_in k [] es ≡ (if nat_lt k (length s.pending) then before.values else after.values)
-  pub past : (p : ℕ) → 5 ≤ p → p ≤ length (hist es) → (m : Moment) × Represents (image [] (take p (hist es))) m
-  -- all pieces end within the greatest end of a file
-  pub ends : AllEndBy space_limit (hist es ++ s.pending)
+  pub past : (p : ℕ) → 5 ≤ p → p ≤ length (hist es) → (m : Moment) × Represents (image [] (take p (hist es))) m × (m.file.name ≡ s.file.name)
+  -- all pieces end within the limit
+  pub ends : AllEndBy s.file.limit (hist es ++ s.pending)
 
 -- the session, whose pending pieces are all that its last plan left, is that of this log, at every position of which the
 -- image is valid, reads as the flushed rows, and keeps what readers rest on
 pub record Goes (s : Session) (log : Log) : Type 0 where
   pub is : log ≡ log_of log.events
   pub phase : Creating s log.events ⊎ Running s log.events
-  pub prefixed : PrefixedEach dataset_name log
-  pub still : Still dataset_name log
+  pub prefixed : PrefixedEach s.file.name log
+  pub still : Still s.file.name log
+  -- the file grew by no more than what its plans were bound to
+  pub grew : s.file.end ≤ 1024 + spent (cutting_of s) log
 
 -- the session with other pieces pending, as if it had not been stopped
 abbrev pub going : Session → List Write → Session
@@ -111,9 +112,9 @@ pub record Stands (s : Session) (log : Log) : Type 0 where
 
 -- ---- What events make of a session
 
--- a session that creates a file with so many rows in a chunk
-abbrev pub created : ℕ → Session
-created rows = record { file = new_file rows; committed = 0; waiting = []; pending = creation_writes rows; stopped = false }
+-- a session that creates a file by these options
+abbrev pub created : Options → Session
+created o = record { file = new_file o; committed = 0; waiting = []; pending = creation_writes o; stopped = false }
 
 -- the session once its oldest piece became visible, with these left: the last brings the rows
 abbrev pub after_piece : Session → List Write → Session

@@ -1,28 +1,34 @@
 //! The file of a session, as it is once all pending pieces became visible.
 ghost use Rattle.std.specs.Prelude.{◌≡◌, ◌+◌, ◌*◌, ◌<◌, ◌≤◌, ◌^◌, length, IfOk};
 ghost use Rattle.h5w_model.specs.Logs.{div_up};
-ghost use Rattle.h5w_writer.specs.Files.{array_block, cell_place, header_block, index_block, super_block};
-ghost use Rattle.h5w_writer.specs.Plans.{block_write, new_file};
+ghost use Rattle.h5w_writer.specs.Files.{array_block, cell_place, chunk_len, header_block, index_block, super_block};
+ghost use Rattle.h5w_writer.specs.Plans.{AreOptions, block_write, new_file};
 ghost use Rattle.h5w_writer.specs.Flushes.{free_rows, with_chunks};
+ghost use Rattle.h5w_writer.specs.Refusals.{full_for};
 
-use crate::blocks::{HEADER_PLACE, array_header, first_end, index_block, superblock};
+use crate::blocks::{array_header, first_end, header_place, index_block, superblock};
 use crate::cells::CELL;
 use crate::header::{dataset_header, header_with_rows};
+use crate::options::Options;
 use h5w_bytes::UNDEFINED;
 use h5w_model::{OutOfMemory, Piece, Write};
-use h5w_space::Places;
+use h5w_space::{Full, Places};
 use std::alloc::Global;
 use std::marker::Model;
 
 /// The most chunks of a file: those in the slots of the index block.
 pub const CHUNKS: usize = 4;
 
-/// The most bytes of a file.
-const LIMIT: u64 = 1 << 40;
+/// The most bytes of a dataset's name.
+pub const NAME: usize = 64;
 
-/// What of the file changes, and where its next chunk goes.
+/// By what the file was created, what of it changes, and where its next chunk goes.
 #[derive(Drop)]
 pub struct File {
+    /// The dataset's name.
+    name: Piece,
+    /// The most bytes of the file.
+    limit: u64,
     chunk_rows: u64,
     rows: u64,
     places: Places,
@@ -39,27 +45,38 @@ impl Model for File {
 
     ghost Value = { FileFields };
 
-    ghost view = { λ f. fields_of f.chunk_rows f.places.end f.chunks f.rows f.slots };
+    ghost view = { λ f. fields_of f.name f.limit f.chunk_rows f.places.end f.chunks f.rows f.slots };
 
-    ghost invariant = { λ f. IsKept (fields_of f.chunk_rows f.places.end f.chunks f.rows f.slots) f.chunks f.slots f.places f.header };
+    ghost invariant = { λ f. IsKept (fields_of f.name f.limit f.chunk_rows f.places.end f.chunks f.rows f.slots) f.chunks f.slots f.places f.header };
 }
 
 impl File {
     /// A file without chunks and rows.
-    pub fn new(alloc: Global, chunk_rows: u64) -> Result<File, OutOfMemory>
-        requires low { 1 ≤ chunk_rows }
-        requires high { chunk_rows ≤ 65536 }
-        ensures { IfOk result (λ f. f ≡ new_file chunk_rows) }
+    pub fn new(alloc: Global, options: &Options) -> Result<File, OutOfMemory>
+        requires { AreOptions options.now }
+        ensures { IfOk result (λ f. f ≡ new_file options.now) }
     {
-        let header = dataset_header(alloc, chunk_rows)?;
+        let header = dataset_header(alloc, options)?;
+        let name = Piece::of(options.name.as_slice());
+        let end = first_end(name.len() as u64, options.chunk_rows);
         Ok(File {
-            chunk_rows,
+            name,
+            limit: options.limit,
+            chunk_rows: options.chunk_rows,
             rows: 0,
-            places: Places::new(alloc, first_end(chunk_rows), LIMIT),
+            places: Places::new(alloc, end, options.limit),
             chunks: 0,
             slots: [UNDEFINED; CHUNKS],
             header,
         })
+    }
+
+    /// The dataset's name.
+    pub fn name(&self) -> &[u8]
+        ensures value { result.now ≡ self.now.name }
+        ensures bound { length self.now.name ≤ 64 }
+    {
+        self.name.as_slice()
     }
 
     /// How many rows a chunk has.
@@ -103,6 +120,25 @@ impl File {
         self.chunks as u64 * self.chunk_rows - self.rows
     }
 
+    /// For so many more rows: the first of the new chunks that does not end within the limit.
+    pub fn full_for(&self, more: u64) -> Option<Full>
+        requires needed { length self.now.addresses ≡ div_up self.now.rows self.now.chunk_rows }
+        requires bound { self.now.rows + more < 2 ^ 62 }
+        ensures { result ≡ full_for self.now more }
+    {
+        let missing = (self.rows + more).div_ceil(self.chunk_rows) - self.chunks as u64;
+        let size = self.chunk_rows * CELL;
+        let fit = (self.limit - self.places.end()) / size;
+        if missing <= fit {
+            return None;
+        }
+        Some(Full {
+            at: self.places.end() + fit * size,
+            size,
+            limit: self.limit,
+        })
+    }
+
     /// Where the next row's cell stands, in a chunk that has an address.
     pub fn next_cell(&self) -> u64
         requires { self.now.rows < length self.now.addresses * self.now.chunk_rows }
@@ -115,7 +151,8 @@ impl File {
 
     /// The end-of-file address moves behind one more chunk, which begins where it was.
     pub fn add_chunk(&mut self) -> u64
-        requires { length self.old.addresses < 4 }
+        requires few { length self.old.addresses < 4 }
+        requires fits { self.old.end + chunk_len self.old.chunk_rows ≤ self.old.limit }
         ensures place { result ≡ self.old.end }
         ensures bound { result < 2 ^ 61 }
         ensures file { self.new ≡ with_chunks 1 self.old }
@@ -131,6 +168,8 @@ impl File {
         ensures { IfOk result (λ f. f ≡ self.now) }
     {
         Ok(File {
+            name: Piece::of(self.name.as_slice()),
+            limit: self.limit,
             chunk_rows: self.chunk_rows,
             rows: self.rows,
             places: self.places.copy()?,
@@ -160,14 +199,14 @@ impl File {
     pub fn index_block(&self) -> Write
         ensures { result ≡ block_write (index_block self.now) }
     {
-        index_block(self.chunk_rows, self.slots)
+        index_block(self.name.len() as u64, self.chunk_rows, self.slots)
     }
 
     /// The write of the array's header.
     pub fn array_header(&self) -> Write
         ensures { result ≡ block_write (array_block self.now) }
     {
-        array_header(self.chunk_rows, self.chunks as u64)
+        array_header(self.name.len() as u64, self.chunk_rows, self.chunks as u64)
     }
 
     /// The write of the dataset header.
@@ -175,7 +214,7 @@ impl File {
         ensures { result ≡ block_write (header_block self.now) }
     {
         Write {
-            at: HEADER_PLACE,
+            at: header_place(self.name.len() as u64),
             piece: Piece::of(self.header.as_slice()),
         }
     }

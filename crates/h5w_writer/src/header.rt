@@ -1,22 +1,21 @@
 //! The headers of a file with one dataset: that of the root group, and that of the dataset.
-ghost use Rattle.std.specs.Prelude.{◌≡◌, ◌+◌, ◌<◌, ◌≤◌, ◌^◌, ◌++◌, length, IfOk, IsOk, IsSome, None};
+ghost use Rattle.std.specs.Prelude.{◌≡◌, ◌+◌, ◌<◌, ◌≤◌, ◌^◌, ◌++◌, length, false, IfOk, IsOk, IsSome, None};
 ghost use Rattle.h5w_model.specs.Headers.{header_bytes, messages_at, msgs_bytes, rows_in_header, with_rows_bytes};
 ghost use Rattle.h5w_model.specs.Links.{group_info_bytes, link_bytes, link_info_bytes};
 ghost use Rattle.h5w_model.specs.Messages.{fill_bytes, int_type_bytes, layout_bytes, shape_bytes};
-ghost use Rattle.h5w_writer.specs.Files.{array_place, dataset_messages, dataset_name, fill, header_place, int_type, layout_of, message, root_block, root_messages, shape_of};
-ghost use Rattle.h5w_writer.specs.Plans.{block_write, new_file};
+ghost use Rattle.h5w_writer.specs.Files.{array_place, dataset_messages, fill, header_place, int_type, layout_of, message, root_messages, root_place, shape_of};
+ghost use Rattle.h5w_writer.specs.Plans.{AreOptions, block_write, new_file};
 
-use crate::blocks::{HEADER_PLACE, ROOT_PLACE, array_place};
+use crate::blocks::{ROOT_PLACE, array_place, header_place};
 use crate::cells::INT_TYPE;
+use crate::file::NAME;
+use crate::options::Options;
 use h5w_layout::{Fill, IndexKind, Layout};
 use h5w_links::{encode_group_info, encode_link, encode_link_info};
 use h5w_model::{Bytes, OutOfMemory, PIECE, Piece, Write};
 use h5w_ohdr::{Msg, Msgs, with_rows};
 use h5w_types::Shape;
 use std::alloc::Global;
-
-/// The dataset's name.
-const NAME: [u8; 4] = *b"data";
 
 /// The dataset's shape before it has rows.
 const SHAPE: Shape = Shape {
@@ -27,14 +26,15 @@ const SHAPE: Shape = Shape {
 };
 
 /// Chunks in one dimension, whose index is an extensible array.
-fn layout(chunk_rows: u64) -> Layout
-    requires { chunk_rows ≤ 65536 }
-    ensures { result ≡ record { chunk = record { 0 = chunk_rows; 1 = 1 }; index = IndexKind.Array; address = array_place chunk_rows; at = 0 } }
+fn layout(options: &Options) -> Layout
+    requires { AreOptions options.now }
+    ensures { result ≡ record { chunk = record { 0 = options.now.chunk_rows; 1 = 1 }; index = IndexKind.Array; address = array_place (length options.now.name) options.now.chunk_rows; at = 0 } }
 {
+    let named = options.name.as_slice().len() as u64;
     Layout {
-        chunk: (chunk_rows, 1),
+        chunk: (options.chunk_rows, 1),
         index: IndexKind::Array,
-        address: array_place(chunk_rows),
+        address: array_place(named, options.chunk_rows),
         at: 0,
     }
 }
@@ -70,18 +70,19 @@ fn group_info_message(alloc: Global) -> Result<Msg, OutOfMemory>
     message(alloc, 0x0a, &bytes[..len])
 }
 
-/// The link to the dataset.
-fn link_message(alloc: Global) -> Result<Msg, OutOfMemory>
-    ensures { IfOk result (λ m. m ≡ message 0x06 (link_bytes dataset_name header_place)) }
+/// The link to the dataset of this name.
+fn link_message(alloc: Global, name: &[u8]) -> Result<Msg, OutOfMemory>
+    requires { length name.now ≤ 64 }
+    ensures { IfOk result (λ m. m ≡ message 0x06 (link_bytes name.now (header_place (length name.now)))) }
 {
-    let mut bytes = [0; 15];
-    let len = encode_link(&NAME, HEADER_PLACE, &mut bytes);
+    let mut bytes = [0; 11 + NAME];
+    let len = encode_link(name, header_place(name.len() as u64), &mut bytes);
     message(alloc, 0x06, &bytes[..len])
 }
 
 /// The dataspace message of a dataset without rows.
 fn shape_message(alloc: Global) -> Result<Msg, OutOfMemory>
-    ensures { IfOk result (λ m. m ≡ message 0x01 (shape_bytes (shape_of (new_file 1)))) }
+    ensures { IfOk result (λ m. m ≡ message 0x01 (shape_bytes (record { rank = 1; rows = 0; cols = 1; growing = false }))) }
 {
     let mut bytes = [0; 20];
     let len = SHAPE.encode(&mut bytes);
@@ -107,38 +108,37 @@ fn fill_message(alloc: Global) -> Result<Msg, OutOfMemory>
 }
 
 /// The layout message.
-fn layout_message(alloc: Global, chunk_rows: u64) -> Result<Msg, OutOfMemory>
-    requires low { 1 ≤ chunk_rows }
-    requires high { chunk_rows ≤ 65536 }
-    ensures { IfOk result (λ m. m ≡ message 0x08 (layout_bytes (layout_of (new_file chunk_rows)) (shape_of (new_file chunk_rows)) int_type)) }
+fn layout_message(alloc: Global, options: &Options) -> Result<Msg, OutOfMemory>
+    requires { AreOptions options.now }
+    ensures { IfOk result (λ m. m ≡ message 0x08 (layout_bytes (layout_of (new_file options.now)) (shape_of (new_file options.now)) int_type)) }
 {
     let mut bytes = [0; 25];
-    let len = layout(chunk_rows).encode(&SHAPE, &INT_TYPE, &mut bytes);
+    let len = layout(options).encode(&SHAPE, &INT_TYPE, &mut bytes);
     message(alloc, 0x08, &bytes[..len])
 }
 
 /// The messages of the root header.
-fn root_messages(alloc: Global) -> Result<Msgs, OutOfMemory>
-    ensures { IfOk result (λ ms. ms ≡ root_messages) }
+fn root_messages(alloc: Global, name: &[u8]) -> Result<Msgs, OutOfMemory>
+    requires { length name.now ≤ 64 }
+    ensures { IfOk result (λ ms. ms ≡ root_messages name.now) }
 {
     let mut list = Msgs::new(alloc);
     list.push(link_info_message(alloc)?)?;
     list.push(group_info_message(alloc)?)?;
-    list.push(link_message(alloc)?)?;
+    list.push(link_message(alloc, name)?)?;
     Ok(list)
 }
 
 /// The messages of the header of a dataset without rows.
-fn dataset_messages(alloc: Global, chunk_rows: u64) -> Result<Msgs, OutOfMemory>
-    requires low { 1 ≤ chunk_rows }
-    requires high { chunk_rows ≤ 65536 }
-    ensures { IfOk result (λ ms. ms ≡ dataset_messages (new_file chunk_rows)) }
+fn dataset_messages(alloc: Global, options: &Options) -> Result<Msgs, OutOfMemory>
+    requires { AreOptions options.now }
+    ensures { IfOk result (λ ms. ms ≡ dataset_messages (new_file options.now)) }
 {
     let mut list = Msgs::new(alloc);
     list.push(shape_message(alloc)?)?;
     list.push(int_type_message(alloc)?)?;
     list.push(fill_message(alloc)?)?;
-    list.push(layout_message(alloc, chunk_rows)?)?;
+    list.push(layout_message(alloc, options)?)?;
     Ok(list)
 }
 
@@ -153,23 +153,23 @@ fn chunk_0(list: &Msgs) -> Piece
     Piece::of(&bytes[..len])
 }
 
-/// The write of the root header.
-pub fn root_block(alloc: Global) -> Result<Write, OutOfMemory>
-    ensures { IfOk result (λ w. w ≡ block_write root_block) }
+/// The write of the root header, which links this name.
+pub fn root_block(alloc: Global, name: &[u8]) -> Result<Write, OutOfMemory>
+    requires { length name.now ≤ 64 }
+    ensures { IfOk result (λ w. w ≡ block_write (root_place, header_bytes (root_messages name.now))) }
 {
     Ok(Write {
         at: ROOT_PLACE,
-        piece: chunk_0(&root_messages(alloc)?),
+        piece: chunk_0(&root_messages(alloc, name)?),
     })
 }
 
 /// The header of a dataset without rows.
-pub fn dataset_header(alloc: Global, chunk_rows: u64) -> Result<Piece, OutOfMemory>
-    requires low { 1 ≤ chunk_rows }
-    requires high { chunk_rows ≤ 65536 }
-    ensures { IfOk result (λ p. p ≡ header_bytes (dataset_messages (new_file chunk_rows))) }
+pub fn dataset_header(alloc: Global, options: &Options) -> Result<Piece, OutOfMemory>
+    requires { AreOptions options.now }
+    ensures { IfOk result (λ p. p ≡ header_bytes (dataset_messages (new_file options.now))) }
 {
-    Ok(chunk_0(&dataset_messages(alloc, chunk_rows)?))
+    Ok(chunk_0(&dataset_messages(alloc, options)?))
 }
 
 /// A dataset's header with another number of rows.

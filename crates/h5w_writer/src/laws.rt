@@ -1,6 +1,6 @@
 //! What is true of every log of which a session is the session.
 
-ghost use Rattle.h5w_writer.specs.Laws.{RoomStays, ShownLaws, StandingLaws};
+ghost use Rattle.h5w_writer.specs.Laws.{FullLaws, RoomStays, ShownLaws, StandingLaws};
 
 /// The session knows how many rows are flushed and appended; at each position of its log the image is valid and reads
 /// as the rows that are flushed there, and what readers rest on stays from each position to each later one.
@@ -20,4 +20,11 @@ pub fn shown_laws()
 #[tactic(auto, using(crate::proofs::LawLemmas::room_stays))]
 pub fn room_stays()
     ensures { RoomStays }
+{}
+
+/// A flush is refused for want of space exactly where the end behind all its new chunks is past the limit, and tells the
+/// first chunk that passes it.
+#[tactic(auto, using(crate::proofs::FullLemmas::full_laws))]
+pub fn full_laws()
+    ensures { FullLaws }
 {}

@@ -11,8 +11,9 @@ mod plan;
 mod refusal;
 mod session;
 
-pub use h5w_model::{OutOfMemory, Write};
-pub use laws::{room_stays, shown_laws, standing_laws};
+pub use h5w_model::{Bytes, OutOfMemory, Write};
+pub use h5w_space::Full;
+pub use laws::{full_laws, room_stays, shown_laws, standing_laws};
 pub use options::Options;
 pub use refusal::{AppendError, FlushError};
 pub use session::WriterCore;

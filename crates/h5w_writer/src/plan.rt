@@ -2,8 +2,8 @@
 ghost use Rattle.std.specs.Prelude.{◌≡◌, ◌≢◌, ◌+◌, ◌*◌, ◌<◌, ◌≤◌, ◌^◌, [], ◌∷◌, ◌++◌, length, take, OnOk, IfOk};
 ghost use Rattle.h5w_model.specs.Logs.{div_up};
 ghost use Rattle.h5w_model.specs.Images.{pieces};
-ghost use Rattle.h5w_writer.specs.Files.{AllFit, cell_place};
-ghost use Rattle.h5w_writer.specs.Plans.{creation_writes, new_file};
+ghost use Rattle.h5w_writer.specs.Files.{AllFit, cell_place, chunk_len};
+ghost use Rattle.h5w_writer.specs.Plans.{creation_writes, new_file, options_of};
 ghost use Rattle.h5w_writer.specs.Flushes.{after_rows, block_writes, cell_list, chunk_writes, flush_writes, free_rows, missing_chunks, row_writes, with_chunks};
 
 use crate::cells::put_values;
@@ -36,6 +36,7 @@ fn put_own(file: &File, values: &[i128], out: &mut Vec<Write>) -> Result<(), Out
 fn put_chunks(file: &mut File, values: &[i128], out: &mut Vec<Write>) -> Result<(), OutOfMemory>
     requires fit { AllFit values.now }
     requires room { length file.old.addresses + div_up (length values.now) file.old.chunk_rows ≤ 4 }
+    requires fits { file.old.end + div_up (length values.now) file.old.chunk_rows * chunk_len file.old.chunk_rows ≤ file.old.limit }
     ensures file { OnOk result (file.new ≡ with_chunks (div_up (length values.now) file.old.chunk_rows) file.old) }
     ensures writes { OnOk result (out.new.items ≡ out.old.items ++ chunk_writes (div_up (length values.now) file.old.chunk_rows) file.old.end file.old.chunk_rows values.now) }
 {
@@ -52,6 +53,7 @@ fn put_rows(file: &mut File, values: &[i128], out: &mut Vec<Write>) -> Result<()
     requires fit { AllFit values.now }
     requires needed { length file.old.addresses ≡ div_up file.old.rows file.old.chunk_rows }
     requires room { div_up (file.old.rows + length values.now) file.old.chunk_rows ≤ 4 }
+    requires fits { file.old.end + missing_chunks file.old (length values.now) * chunk_len file.old.chunk_rows ≤ file.old.limit }
     ensures file { OnOk result (file.new ≡ with_chunks (missing_chunks file.old (length values.now)) file.old) }
     ensures writes { OnOk result (out.new.items ≡ out.old.items ++ row_writes file.old values.now) }
 {
@@ -80,6 +82,7 @@ fn put_plan(file: &mut File, values: &[i128], out: &mut Vec<Write>) -> Result<()
     requires some { 0 < length values.now }
     requires needed { length file.old.addresses ≡ div_up file.old.rows file.old.chunk_rows }
     requires room { div_up (file.old.rows + length values.now) file.old.chunk_rows ≤ 4 }
+    requires fits { file.old.end + missing_chunks file.old (length values.now) * chunk_len file.old.chunk_rows ≤ file.old.limit }
     requires bound { file.old.rows + length values.now < 2 ^ 63 }
     ensures file { OnOk result (file.new ≡ after_rows values.now file.old) }
     ensures writes { OnOk result (out.new.items ≡ out.old.items ++ flush_writes file.old values.now) }
@@ -95,6 +98,7 @@ pub fn plan_flush(alloc: Global, file: &File, values: &[i128]) -> Result<Plan, O
     requires fit { AllFit values.now }
     requires needed { length file.now.addresses ≡ div_up file.now.rows file.now.chunk_rows }
     requires room { div_up (file.now.rows + length values.now) file.now.chunk_rows ≤ 4 }
+    requires fits { file.now.end + missing_chunks file.now (length values.now) * chunk_len file.now.chunk_rows ≤ file.now.limit }
     requires bound { file.now.rows + length values.now < 2 ^ 63 }
     ensures file { IfOk result (λ p. p.file ≡ after_rows values.now file.now) }
     ensures writes { IfOk result (λ p. p.writes.items ≡ flush_writes file.now values.now) }
@@ -109,10 +113,10 @@ pub fn plan_flush(alloc: Global, file: &File, values: &[i128]) -> Result<Plan, O
 
 /// The pieces of a new file: the index, the dataset header, the root header, and last the superblock.
 pub fn creation(alloc: Global, file: &File) -> Result<Vec<Write>, OutOfMemory>
-    requires { file.now ≡ new_file file.now.chunk_rows }
-    ensures { IfOk result (λ ws. ws.items ≡ creation_writes file.now.chunk_rows) }
+    requires { file.now ≡ new_file (options_of file.now) }
+    ensures { IfOk result (λ ws. ws.items ≡ creation_writes (options_of file.now)) }
 {
-    let root = root_block(alloc)?;
+    let root = root_block(alloc, file.name())?;
     let mut writes = Vec::with_capacity(alloc, 5)?;
     writes.push(file.index_block())?;
     writes.push(file.array_header())?;

@@ -1,5 +1,6 @@
 use h5w_image::ImageError;
 use h5w_model::OutOfMemory;
+use h5w_space::Full;
 use std::alloc::AllocError;
 use thiserror::Error;
 
@@ -34,6 +35,9 @@ pub enum FlushError {
     /// So many pieces are pending.
     #[error("{pending} pieces are pending")]
     Busy { pending: u64 },
+    /// The first new chunk that does not end within the file's limit.
+    #[error("{0}")]
+    Space(Full),
     /// The image's count of faults rose in this call.
     #[error("image failed")]
     Failed,

@@ -7,9 +7,10 @@ ghost use Rattle.h5w_model.specs.Causes.{Rose};
 ghost use Rattle.h5w_image.specs.View.{Same};
 ghost use Rattle.h5w_writer.specs.Room.{HasRoomFor};
 ghost use Rattle.h5w_writer.specs.Sessions.{Stands, after_piece, created, cutting_of, log_of, planned, rows_of, stopped_of, with_values};
-ghost use Rattle.h5w_writer.specs.Refusals.{append_refusal, flush_refusal};
+ghost use Rattle.h5w_writer.specs.Refusals.{NoPlace, append_refusal, flush_refusal};
 ghost use Rattle.h5w_writer.specs.declared.refusal.AppendError.{AppendError};
 ghost use Rattle.h5w_writer.specs.declared.refusal.FlushError.{FlushError};
+ghost use Rattle.h5w_space.specs.declared.Full.{Full};
 
 use crate::cells::first_outside;
 use crate::file::{CHUNKS, File};
@@ -52,12 +53,16 @@ impl Model for WriterCore {
 impl WriterCore {
     /// A session that creates a file. The creation's pieces are pending; they end by the file's end.
     pub fn create(alloc: Global, options: &Options) -> Result<WriterCore, OutOfMemory>
+        requires named { 1 ≤ length options.now.name }
+        requires name_bound { length options.now.name ≤ 64 }
         requires low { 1 ≤ options.now.chunk_rows }
         requires high { options.now.chunk_rows ≤ 65536 }
-        ensures session { IfOk result (λ s. s ≡ created options.now.chunk_rows) }
+        requires limit_low { 1024 ≤ options.now.limit }
+        requires limit_high { options.now.limit ≤ 2 ^ 40 }
+        ensures session { IfOk result (λ s. s ≡ created options.now) }
         ensures stands { IfOk result (λ s. Stands s (log_of [])) }
     {
-        let file = File::new(alloc, options.chunk_rows)?;
+        let file = File::new(alloc, options)?;
         let plan = creation(alloc, &file)?;
         Ok(WriterCore {
             file,
@@ -118,7 +123,8 @@ impl WriterCore {
     }
 
     /// Plans the pieces that make the waiting rows visible, which are pending then, and answers how many they
-    /// are: none exactly where no row waits. All memory and all places are taken here, so that nothing after it
+    /// are: none exactly where no row waits. Where the file has no place for a new chunk, the first such chunk is
+    /// told, before any memory is taken. All memory and all places are taken here, so that nothing after it
     /// fails. Room is reserved in the image for these pieces and one more, up to the file's new end.
     pub fn flush<W: PieceWrite>(&mut self, image: &mut W) -> Result<u64, FlushError>
         ensures planned { OnOk result (self.new ≡ planned self.old) }
@@ -128,6 +134,7 @@ impl WriterCore {
         ensures stands { IfOk result (λ pieces. (log : Log) → Stands self.old log → Stands self.new (and_now (plans pieces) log)) }
         ensures refused { (e : FlushError) → flush_refusal self.old ≡ Some e → result ≡ Err e }
         ensures causes { IfErr result (λ e. (flush_refusal self.old ≡ Some e) ⊎ (e ≡ FlushError.Failed) ⊎ (e ≡ FlushError.OutOfMemory)) }
+        ensures space { (full : Full) → result ≡ Err (FlushError.Space full) → (log : Log) → Stands self.old log → NoPlace self.old log full }
         ensures fault { result ≡ Err FlushError.Failed → Rose (W.view image.old).faults (W.view image.new).faults }
         ensures kept { OnErr result (self.new ≡ self.old) }
         ensures image { Same (W.view image.old) (W.view image.new) }
@@ -155,7 +162,10 @@ impl WriterCore {
         if pending > 0 {
             return Err(FlushError::Busy { pending });
         }
-        Ok(())
+        match self.file.full_for(self.waiting.len() as u64) {
+            Some(full) => Err(FlushError::Space(full)),
+            None => Ok(()),
+        }
     }
 
     /// How many pieces are pending.
@@ -227,6 +237,13 @@ impl WriterCore {
         ensures { result ≡ self.now.file.end }
     {
         self.file.end()
+    }
+
+    /// The dataset's name.
+    pub fn name(&self) -> &[u8]
+        ensures { result.now ≡ self.now.file.name }
+    {
+        self.file.name()
     }
 
     /// How many columns the dataset has.

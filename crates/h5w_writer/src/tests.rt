@@ -1,4 +1,4 @@
-ghost use Rattle.std.specs.Prelude.{◌≡◌, ◌≤◌, Err};
+ghost use Rattle.std.specs.Prelude.{◌≡◌, ◌≤◌, ◌^◌, length, Err};
 ghost use Rattle.h5w_model.specs.Causes.{Rose};
 ghost use Rattle.h5w_image.specs.declared.fault.ImageError.{ImageError};
 
@@ -31,6 +31,49 @@ const THREE_ROWS: [Told; 6] = [
 
 /// Row 4: its cell, and 4 rows.
 const A_FOURTH_ROW: [Told; 2] = [(570, 4, [4, 0, 0, 0]), (106, 82, [0x36, 0x08, 0x8e, 0x9f])];
+
+/// A session that creates a file of this name and limit, with so many rows in a chunk.
+fn create_as(rt: &HostRuntime, name: &[u8], chunk_rows: u64, limit: u64) -> Result<WriterCore, Fail>
+    requires named { 1 ≤ length name.now }
+    requires name_bound { length name.now ≤ 64 }
+    requires low { 1 ≤ chunk_rows }
+    requires high { chunk_rows ≤ 65536 }
+    requires limit_low { 1024 ≤ limit }
+    requires limit_high { limit ≤ 2 ^ 40 }
+{
+    let name = Bytes::from_vec(Vec::from_slice(rt.alloc(), name)?);
+    let options = Options {
+        name,
+        chunk_rows,
+        limit,
+    };
+    Ok(WriterCore::create(rt.alloc(), &options)?)
+}
+
+/// A session that creates a file with so many rows in a chunk.
+fn create(rt: &HostRuntime, chunk_rows: u64) -> Result<WriterCore, Fail>
+    requires low { 1 ≤ chunk_rows }
+    requires high { chunk_rows ≤ 65536 }
+{
+    create_as(rt, b"data", chunk_rows, 1 << 40)
+}
+
+/// The creation's pieces where the dataset's name is `a`, which end by 555, and where it is 64 times `n`, by 618.
+const ONE_LETTER: [Told; 5] = [
+    (257, 298, [0x20, 0xab, 0xce, 0x74]),
+    (185, 72, [0xa5, 0xe0, 0xaf, 0x89]),
+    (103, 82, [0x8f, 0xe3, 0xe8, 0xaf]),
+    (48, 55, [0x58, 0xeb, 0xbd, 0x4b]),
+    (0, 48, [0x65, 0x1d, 0xac, 0xee]),
+];
+
+const MOST_LETTERS: [Told; 5] = [
+    (320, 298, [0x67, 0x0b, 0x3d, 0xed]),
+    (248, 72, [0x52, 0x0e, 0x2a, 0xec]),
+    (166, 82, [0xa9, 0xce, 0x91, 0x6f]),
+    (48, 118, [0xad, 0xbb, 0x20, 0x72]),
+    (0, 48, [0xcb, 0x0d, 0xc4, 0x96]),
+];
 
 /// Makes the oldest pending piece visible and tells it; None where nothing is pending.
 fn show<W: PieceWrite>(core: &mut WriterCore, image: &mut W) -> Result<Option<Told>, ImageError>
@@ -75,7 +118,7 @@ fn show_all(
 #[test]
 fn three_rows_by_twos_and_a_fourth(rt: HostRuntime) -> Result<(), Fail> {
     let mut image = MemImage::new(rt.alloc())?;
-    let mut core = WriterCore::create(rt.alloc(), &Options { chunk_rows: 2 })?;
+    let mut core = create(&rt, 2)?;
     show_all(&rt, &mut core, &mut image, &CREATION)?;
     assert_eq!(rt; (image.len(), core.end(), core.columns()), (558, 558, 1));
     assert_eq!(rt; core.flush(&mut image), Ok(0));
@@ -103,7 +146,7 @@ fn three_rows_by_twos_and_a_fourth(rt: HostRuntime) -> Result<(), Fail> {
 #[test]
 fn refused_rows_change_nothing(rt: HostRuntime) -> Result<(), Fail> {
     let mut image = MemImage::with_faults(rt.alloc(), &[], &[11, 13])?;
-    let mut core = WriterCore::create(rt.alloc(), &Options { chunk_rows: 1 })?;
+    let mut core = create(&rt, 1)?;
     show_rest(&mut core, &mut image)?;
     let full = AppendError::Chunks {
         chunks: 5,
@@ -129,7 +172,7 @@ fn refused_rows_change_nothing(rt: HostRuntime) -> Result<(), Fail> {
 #[test]
 fn a_stopped_session_takes_nothing(rt: HostRuntime) -> Result<(), Fail> {
     let mut image = MemImage::new(rt.alloc())?;
-    let mut core = WriterCore::create(rt.alloc(), &Options { chunk_rows: 2 })?;
+    let mut core = create(&rt, 2)?;
     show_all(&rt, &mut core, &mut image, &CREATION)?;
     assert_eq!(rt; core.append(&[1, 2, 3], &mut image), Ok(3));
     assert_eq!(rt; core.flush(&mut image), Ok(6));
@@ -156,7 +199,7 @@ fn the_width_of_chunk_rows_moves_the_places(rt: HostRuntime) -> Result<(), Fail>
     ];
     for (chunk_rows, begin, pieces, end) in table {
         let mut image = MemImage::new(rt.alloc())?;
-        let mut core = WriterCore::create(rt.alloc(), &Options { chunk_rows })?;
+        let mut core = create(&rt, chunk_rows)?;
         show_rest(&mut core, &mut image)?;
         assert_eq!(rt; image.len(), begin, "{chunk_rows}");
         assert_eq!(rt; core.append(&[7], &mut image), Ok(1));
@@ -166,5 +209,69 @@ fn the_width_of_chunk_rows_moves_the_places(rt: HostRuntime) -> Result<(), Fail>
         show_rest(&mut core, &mut image)?;
         assert_eq!(rt; image.len(), end, "{chunk_rows}");
     }
+    Ok(())
+}
+
+#[test]
+fn the_name_moves_the_places(rt: HostRuntime) -> Result<(), Fail> {
+    let table: [(&[u8], [Told; 5], u64); 2] = [
+        (b"a", ONE_LETTER, 555),
+        (&[b'n'; 64], MOST_LETTERS, 618),
+    ];
+    for (name, pieces, end) in table {
+        let mut image = MemImage::new(rt.alloc())?;
+        let mut core = create_as(&rt, name, 2, 1024)?;
+        assert_eq!(rt; core.name(), name);
+        show_all(&rt, &mut core, &mut image, &pieces)?;
+        assert_eq!(rt; (image.len(), core.end()), (end, end));
+    }
+    Ok(())
+}
+
+#[test]
+fn a_flush_is_refused_where_a_chunk_has_no_place(rt: HostRuntime) -> Result<(), Fail> {
+    // how far the limit is past 1,024; chunks have 256 bytes, from byte 558 on
+    let table: [(u16, usize, Result<u64, u64>); 11] = [
+        (0, 64, Ok(5)),
+        (0, 65, Err(814)),
+        (0, 256, Err(814)),
+        (45, 65, Err(814)),
+        (46, 128, Ok(6)),
+        (46, 129, Err(1070)),
+        (301, 129, Err(1070)),
+        (302, 192, Ok(7)),
+        (302, 193, Err(1326)),
+        (557, 193, Err(1326)),
+        (558, 256, Ok(8)),
+    ];
+    for (past, rows, answer) in table {
+        let limit = 1024 + u64::from(past);
+        let mut image = MemImage::new(rt.alloc())?;
+        let mut core = create_as(&rt, b"data", 64, limit)?;
+        show_rest(&mut core, &mut image)?;
+        core.append(&[7; 256][..rows.min(256)], &mut image)?;
+        let size = 256;
+        let answer = answer.map_err(|at| FlushError::Space(Full { at, size, limit }));
+        assert_eq!(rt; core.flush(&mut image), answer, "{limit} {rows}");
+    }
+    Ok(())
+}
+
+#[test]
+fn a_full_file_stays_as_it_is(rt: HostRuntime) -> Result<(), Fail> {
+    let mut image = MemImage::new(rt.alloc())?;
+    let mut core = create_as(&rt, b"data", 128, 1024)?;
+    show_rest(&mut core, &mut image)?;
+    assert_eq!(rt; core.append(&[7], &mut image), Ok(1));
+    let full = FlushError::Space(Full {
+        at: 558,
+        size: 512,
+        limit: 1024,
+    });
+    assert_eq!(rt; core.flush(&mut image), Err(full));
+    assert_eq!(rt; core.append(&[8], &mut image), Ok(2));
+    assert_eq!(rt; core.flush(&mut image), Err(full));
+    assert_eq!(rt; (core.rows(), core.committed(), core.pending()), (2, 0, 0));
+    assert_eq!(rt; (image.len(), core.end()), (558, 558));
     Ok(())
 }

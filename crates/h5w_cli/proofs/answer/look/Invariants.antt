@@ -1,4 +1,4 @@
-use Rattle.std.proofs.Common.{◌≤◌, ◌-◌, ◌+◌}
+use Rattle.std.proofs.Common.{◌-◌}
 use Rattle.h5w_cli.proofs.LookLemmas.{Looked}
 use Rattle.h5w_cli.proofs.answer.look.Given as goal
 

@@ -1,4 +1,4 @@
-use Rattle.std.proofs.Common.{ℕ, ◌-◌, ◌≡◌, length, min, subst, sym, ap, ◌∙◌, arith}
+use Rattle.std.proofs.Common.{ℕ, ◌-◌, ◌≡◌, length, min, subst, sym, arith}
 use Rattle.h5w_model.specs.Lawful.{shows_up_to}
 use Rattle.h5w_model.specs.declared.reply.Reply.TheVariants.{Written}
 use Rattle.h5w_cli.specs.Answers.{Answers}

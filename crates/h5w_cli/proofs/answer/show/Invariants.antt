@@ -1,4 +1,3 @@
-use Rattle.std.proofs.Common.{◌≡◌, ◌≤◌, min, length}
 use Rattle.h5w_cli.proofs.ShowLemmas.{Shown}
 use Rattle.h5w_cli.proofs.answer.show.Given as goal
 

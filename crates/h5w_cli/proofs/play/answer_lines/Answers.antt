@@ -3,12 +3,12 @@ use Rattle.h5w_text.specs.Reading.{reading}
 use Rattle.h5w_cli.specs.Endings.{Runs, ending_of, outside}
 use Rattle.h5w_cli.specs.declared.ending.Ending.{Ending}
 use Rattle.h5w_core.specs.Worlds.{rules_of}
-use Rattle.h5w_cli.proofs.PlayLemmas.{ended_at_line, ended_at_source, ended_whole, going_first, going_more}
+use Rattle.h5w_cli.proofs.PlayLemmas.{ended_at_last, ended_at_line, ended_at_source, ended_whole, whole_first, whole_more}
 use Rattle.h5w_cli.proofs.play.answer_lines.Goals as goal
 
 pub loop-text-init : goal.loop-text-init
 loop-text-init g c = record {
-  going = going_first (reading (g.S.Source.view c.args.lines.now.source.now) c.args.lines.now.intake.now) c.args.world.now (g.K.Sink.view c.args.sink.now) c.requires.fits;
+  going = whole_first (reading (g.S.Source.view c.args.lines.now.source.now) c.args.lines.now.intake.now) c.args.world.now (g.K.Sink.view c.args.sink.now) c.requires.fits;
   same_reference = search rules;
   same_intake = search rules;
 }
@@ -16,34 +16,40 @@ loop-text-init g c = record {
 pub returns-in_err-line-clause-runs : goal.returns-in_err-line-clause-runs
 returns-in_err-line-clause-runs g c =
     let is : c.from_residual.result ≡ Err (ending_of c.in_err-line.field-0.0) = search rules in
-    let w = reading (g.S.Source.view c.next.new.self.source.now) c.next.new.self.intake.now in
-    subst (λ (r : Result (Unit {0}) Ending). Runs (rules_of c.args.world.now) r (outside (reading (g.S.Source.view c.args.lines.now.source.now) c.args.lines.now.intake.now)) (outside w) (g.K.Sink.view c.args.sink.now) (g.K.Sink.view c.loop-text.sink)) (sym is)
-    (ended_at_source w c.in_err-line.field-0.0 c.loop-text.invariant.going c.requires.room (λ e. c.in_err-line.ensures.cause (ap Err e)) (λ limit e. (c.in_err-line.ensures.input limit (ap Err e)).1))
+    let t = g.S.Source.view c.next.new.self.source.now in
+    subst (λ (r : Result (Unit {0}) Ending). Runs (rules_of c.args.world.now) r (outside (reading (g.S.Source.view c.args.lines.now.source.now) c.args.lines.now.intake.now)) t (g.K.Sink.view c.args.sink.now) (g.K.Sink.view c.loop-text.sink)) (sym is)
+    (ended_at_source t c.next.new.self.intake.now c.in_err-line.field-0.0 c.loop-text.invariant.going c.requires.room (λ e. c.in_err-line.ensures.cause (ap Err e)) (λ e. c.in_err-line.ensures.failed (ap Err e)) (λ limit e. (c.in_err-line.ensures.input limit (ap Err e)).1))
 
-pub returns-in_err-answer_line-clause-runs : goal.returns-in_err-answer_line-clause-runs
-returns-in_err-answer_line-clause-runs g c =
-    let is : c.from_residual-in_err-answer_line.result ≡ Err c.in_err-answer_line.field-0.0 = search rules in
-    let given = rw c.in-Some.is at c.in_ok-line.ensures.line in
-    subst (λ (r : Result (Unit {0}) Ending). Runs (rules_of c.args.world.now) r (outside (reading (g.S.Source.view c.args.lines.now.source.now) c.args.lines.now.intake.now)) (outside (reading (g.S.Source.view c.next.new.self.source.now) c.next.new.self.intake.now)) (g.K.Sink.view c.args.sink.now) (g.K.Sink.view c.answer_line.new.sink)) (sym is)
-    (ended_at_line (g.K.Sink.view c.answer_line.new.sink) given.0 c.in_err-answer_line.field-0.0 c.loop-text.invariant.going given.2 (c.in_err-answer_line.ensures.ended given.0 given.1))
+pub returns-in_err-answer_line-in-Line-clause-runs : goal.returns-in_err-answer_line-in-Line-clause-runs
+returns-in_err-answer_line-in-Line-clause-runs g c =
+    let is : c.from_residual-in_err-answer_line-in-Line.result ≡ Err c.in_err-answer_line-in-Line.field-0.0 = search rules in
+    let given = rw c.in-Line.is at c.in_ok-line.ensures.line in
+    subst (λ (r : Result (Unit {0}) Ending). Runs (rules_of c.args.world.now) r (outside (reading (g.S.Source.view c.args.lines.now.source.now) c.args.lines.now.intake.now)) (g.S.Source.view c.next.new.self.source.now) (g.K.Sink.view c.args.sink.now) (g.K.Sink.view c.answer_line.new.sink)) (sym is)
+    (ended_at_line {w = reading (g.S.Source.view c.next.new.self.source.now) c.next.new.self.intake.now} (g.S.Source.view c.next.new.self.source.now) (g.K.Sink.view c.answer_line.new.sink) given.0 c.in_err-answer_line-in-Line.field-0.0 c.loop-text.invariant.going.going given.2 (c.in_err-answer_line-in-Line.ensures.ended given.0 given.1))
 
-pub loop-text-preserved-in_ok-answer_line : goal.loop-text-preserved-in_ok-answer_line
-loop-text-preserved-in_ok-answer_line g c =
-    let given = rw c.in-Some.is at c.in_ok-line.ensures.line in record {
-      going = going_more given.0 c.loop-text.invariant.going given.2 (c.in_ok-answer_line.ensures.answered given.0 given.1);
+pub loop-text-preserved-in_ok-answer_line-in-Line : goal.loop-text-preserved-in_ok-answer_line-in-Line
+loop-text-preserved-in_ok-answer_line-in-Line g c =
+    let given = rw c.in-Line.is at c.in_ok-line.ensures.line in record {
+      going = whole_more given.0 c.loop-text.invariant.going given.2 given.3 (c.in_ok-answer_line-in-Line.ensures.answered given.0 given.1);
       same_reference = search rules;
       same_intake = search rules;
     }
 
 pub loop-text-preserved : goal.loop-text-preserved
 loop-text-preserved g c =
-    let given = rw c.in-Some.is at c.in_ok-line.ensures.line in record {
-      going = going_more given.0 c.loop-text.invariant.going given.2 (c.in_ok-answer_line.ensures.answered given.0 given.1);
+    let given = rw c.in-Line.is at c.in_ok-line.ensures.line in record {
+      going = whole_more given.0 c.loop-text.invariant.going given.2 given.3 (c.in_ok-answer_line-in-Line.ensures.answered given.0 given.1);
       same_reference = search rules;
       same_intake = search rules;
     }
 
-pub returns-clause-runs : goal.returns-clause-runs
-returns-clause-runs g c =
-    let ended = rw c.in_default.is at c.in_ok-line.ensures.line in
-    ended_whole c.loop-text.invariant.going ended
+pub returns-in-Last-clause-runs : goal.returns-in-Last-clause-runs
+returns-in-Last-clause-runs g c =
+    let given = rw c.in-Last.is at c.in_ok-line.ensures.line in
+    ended_at_last _ (g.S.Source.view c.next.new.self.source.now) c.next.new.self.intake.now (g.K.Sink.view c.answer_line-in-Last.new.sink) c.in-Last.line c.answer_line-in-Last.result c.loop-text.invariant.going.going given
+    c.answer_line-in-Last.ensures.answered c.answer_line-in-Last.ensures.ended
+
+pub returns-in-End-clause-runs : goal.returns-in-End-clause-runs
+returns-in-End-clause-runs g c =
+    let ended = rw c.in-End.is at c.in_ok-line.ensures.line in
+    ended_whole (g.S.Source.view c.next.new.self.source.now) c.next.new.self.intake.now c.loop-text.invariant.going.going ended

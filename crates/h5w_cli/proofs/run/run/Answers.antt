@@ -1,3 +1,4 @@
+use Rattle.h5w_cli.proofs.CompleteLemmas.{ran_whole}
 use Rattle.h5w_cli.proofs.TellLemmas.{not_wanting, ran_job, ran_outside, ran_wanting}
 use Rattle.h5w_cli.proofs.run.run.Goals as goal
 
@@ -10,3 +11,12 @@ returns-in-Err-Usage-clause-ran g c =
 
 pub returns-in-Err-OutOfMemory-clause-ran : goal.returns-in-Err-OutOfMemory-clause-ran
 returns-in-Err-OutOfMemory-clause-ran g c = ran_wanting _ _ _ _ _ c.say-in-Err-OutOfMemory.ensures
+
+pub returns-in-Ok-clause-completes : goal.returns-in-Ok-clause-completes
+returns-in-Ok-clause-completes g c = ran_whole _ _ _ _ _ _ (returns-in-Ok-clause-ran g c)
+
+pub returns-in-Err-Usage-clause-completes : goal.returns-in-Err-Usage-clause-completes
+returns-in-Err-Usage-clause-completes g c = ran_whole _ _ _ _ _ _ (returns-in-Err-Usage-clause-ran g c)
+
+pub returns-in-Err-OutOfMemory-clause-completes : goal.returns-in-Err-OutOfMemory-clause-completes
+returns-in-Err-OutOfMemory-clause-completes g c = ran_whole _ _ _ _ _ _ (returns-in-Err-OutOfMemory-clause-ran g c)

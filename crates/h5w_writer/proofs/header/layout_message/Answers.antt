@@ -10,16 +10,16 @@ use Rattle.h5w_writer.proofs.HeaderSizes.{layout_spelled, layout_short}
 use Rattle.h5w_writer.proofs.header.layout_message.Goals as goal
 
 -- what is written
-spelled : (c : goal.After-bytes-1) → layout_bytes (fields_of c.layout.result) (shape_of (new_file c.args.chunk_rows)) int_type ≡ layout_bytes (layout_of (new_file c.args.chunk_rows)) (shape_of (new_file c.args.chunk_rows)) int_type
+spelled : (c : goal.After-bytes-1) → layout_bytes (fields_of c.layout.result) (shape_of (new_file c.args.options.now)) int_type ≡ layout_bytes (layout_of (new_file c.args.options.now)) (shape_of (new_file c.args.options.now)) int_type
 spelled c =
-    ap (λ (l : Layout). layout_bytes (fields_of l) (shape_of (new_file c.args.chunk_rows)) int_type) c.layout.ensures ∙ layout_spelled (new_file c.args.chunk_rows)
+    ap (λ (l : Layout). layout_bytes (fields_of l) (shape_of (new_file c.args.options.now)) int_type) c.layout.ensures ∙ layout_spelled (new_file c.args.options.now)
 
 pub encode-len-requires-clause-room : goal.encode-len-requires-clause-room
-encode-len-requires-clause-room c = subst (λ (b : List ℕ). length b ≤ 25) (sym (spelled c)) (layout_short (new_file c.args.chunk_rows) c.requires.high)
+encode-len-requires-clause-room c = subst (λ (b : List ℕ). length b ≤ 25) (sym (spelled c)) (layout_short (new_file c.args.options.now) c.requires.chunk_bound)
 
 pub returns : goal.returns
 returns c =
-    let f = new_file c.args.chunk_rows in
+    let f = new_file c.args.options.now in
     let bytes = layout_bytes (fields_of c.layout.result) (shape_of f) int_type in
     let is : bytes ≡ layout_bytes (layout_of f) (shape_of f) int_type =
     ap (λ (l : Layout). layout_bytes (fields_of l) (shape_of f) int_type) c.layout.ensures ∙ layout_spelled f in

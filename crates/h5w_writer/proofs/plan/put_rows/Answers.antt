@@ -1,9 +1,9 @@
-use Rattle.std.proofs.Common.{arith, ◌≡◌, ◌+◌, ◌≤◌, ◌++◌, ◌∙◌, min, length, ap, sym, subst, ℕ, ℤ, List, OnOk}
+use Rattle.std.proofs.Common.{arith, ◌≡◌, ◌+◌, ◌*◌, ◌≤◌, ◌++◌, ◌∙◌, min, length, ap, sym, subst, ℕ, ℤ, List, OnOk}
 use Rattle.std.proofs.lemmas.List.{append_assoc}
 use Rattle.h5w_model.specs.Images.{pieces}
 use Rattle.h5w_model.specs.Logs.{div_up}
 use Rattle.h5w_model.specs.declared.piece.Write.{Write}
-use Rattle.h5w_writer.specs.Files.{AllFit, cell_place}
+use Rattle.h5w_writer.specs.Files.{AllFit, cell_place, chunk_len}
 use Rattle.h5w_writer.specs.Flushes.{cell_list, chunk_writes, free_rows, missing_chunks, own_writes, new_writes, with_chunks}
 use Rattle.h5w_writer.proofs.CellLemmas.{AllFit-drop}
 use Rattle.h5w_writer.proofs.ChunkLemmas.{is_needed, new_count, room-split, take-least, drop-least}
@@ -27,6 +27,14 @@ put_chunks-requires-clause-room c =
     let same : div_up (length c.split_at.result.1.now) c.args.file.now.chunk_rows ≡ missing_chunks c.args.file.now (length c.args.values.now) =
     new_count c.args.file.now (length c.args.values.now) c.min-own.result c.split_at.result.1.now c.free_rows.ensures.some_rows c.requires.needed own_is c.split_at.ensures.back_len in
     subst (λ (n : ℕ). length f.addresses + n ≤ 4) (sym same) room
+
+pub put_chunks-requires-clause-fits : goal.put_chunks-requires-clause-fits
+put_chunks-requires-clause-fits c =
+    let f = c.args.file.now in
+    let own_is : c.min-own.result ≡ min (length c.args.values.now) (free_rows f) = c.min-own.ensures ∙ ap (λ (n : ℕ). min (length c.args.values.now) n) c.free_rows.ensures.value in
+    let same : div_up (length c.split_at.result.1.now) f.chunk_rows ≡ missing_chunks f (length c.args.values.now) =
+    new_count f (length c.args.values.now) c.min-own.result c.split_at.result.1.now c.free_rows.ensures.some_rows c.requires.needed own_is c.split_at.ensures.back_len in
+    subst (λ (n : ℕ). f.end + n * chunk_len f.chunk_rows ≤ f.limit) (sym same) c.requires.fits
 
 pub returns-clause-file : goal.returns-clause-file
 returns-clause-file c =

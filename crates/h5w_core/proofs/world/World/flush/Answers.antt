@@ -1,8 +1,8 @@
-use Rattle.std.proofs.Common.{Ok, refl}
-use Rattle.h5w_core.proofs.FlushLemmas.{busy_done, flush_done, stopped_done}
+use Rattle.std.proofs.Common.{Ok, Err, refl}
+use Rattle.h5w_core.proofs.FlushLemmas.{busy_done, flush_done, full_done, stopped_done}
 use Rattle.h5w_core.proofs.HoldLemmas.{flush_hold, planned_stands, same_stands}
 use Rattle.h5w_core.proofs.world.World.flush.Goals as goal
-use Rattle.h5w_core.proofs.world.World.flush.Goals.{in-Ok, in-Err-Stopped, in-Err-Busy, in-Err-OutOfMemory}
+use Rattle.h5w_core.proofs.world.World.flush.Goals.{in-Ok, in-Err-Stopped, in-Err-Busy, in-Err-Space, in-Err-OutOfMemory}
 
 pub returns-clause-steps : goal.returns-clause-steps
 returns-clause-steps c =
@@ -21,6 +21,9 @@ returns-clause-steps c =
       | in-Err-Busy w ↦
           let e = w.in-Err-Busy in
           rw w.result-is (busy_done s t m n attempts e.pending c.self.inside.readers.items c.args.self.now e.field-0 c.self.view_is e.ensures.image e.ensures.kept e.ensures.causes e.field-0-is)
+      | in-Err-Space w ↦
+          let e = w.in-Err-Space in
+          rw w.result-is (full_done s t m n attempts c.self.inside.readers.items c.args.self.now e.field-0 e.field-0-0 (Err e.field-0) c.self.view_is e.ensures.image e.ensures.kept e.ensures.causes e.field-0-is refl e.ensures.space)
       | in-Err-OutOfMemory w ↦ rw w.result-is tt
     ]
 
@@ -42,6 +45,9 @@ returns-clause-logged c =
           rw w.result-is (λ log stood. same_stands i.session c.flush.new.self i.image c.flush.new.image i.attempts i.readers.items i.readers.items c.args.self.now log c.self.view_is e.image e.kept stood)
       | in-Err-Busy w ↦
           let e = w.in-Err-Busy.ensures in
+          rw w.result-is (λ log stood. same_stands i.session c.flush.new.self i.image c.flush.new.image i.attempts i.readers.items i.readers.items c.args.self.now log c.self.view_is e.image e.kept stood)
+      | in-Err-Space w ↦
+          let e = w.in-Err-Space.ensures in
           rw w.result-is (λ log stood. same_stands i.session c.flush.new.self i.image c.flush.new.image i.attempts i.readers.items i.readers.items c.args.self.now log c.self.view_is e.image e.kept stood)
       | in-Err-OutOfMemory w ↦ rw w.result-is tt
     ]

@@ -1,0 +1,52 @@
+-- Scripts that end only when all is done, or for want of memory.
+use Rattle.std.proofs.Common.{ℕ, ◌≡◌, ◌⊎◌, List, [], ◌∷◌, ◌++◌, length, map, take, Option, Some, None, sym, refl, ap, ◌∙◌, subst, inl, inr, arith, append_assoc}
+use Rattle.std.specs.Prelude.{◌<◌, IfSome}
+use Rattle.h5w_model.specs.Lawful.{Line, Rules}
+use Rattle.h5w_text.specs.Lines.{lines_of, whole_lines_of}
+use Rattle.h5w_text.specs.Streams.{SourceView, SinkView}
+use Rattle.h5w_words.specs.declared.job.Job.{Job}
+use Rattle.h5w_words.specs.declared.job.Job.TheVariants.{Play}
+use Rattle.h5w_core.specs.Worlds.{rules_for}
+use Rattle.h5w_cli.specs.Answers.{play_line_of}
+use Rattle.h5w_cli.specs.Plays.{Completes, HasScript, Plays, Refused, TooLong, input_limit}
+use Rattle.h5w_cli.specs.Runs.{Does, DoesWhole, Ran, RanWhole}
+use Rattle.h5w_cli.specs.declared.status.Status.{Status}
+use Rattle.h5w_cli.specs.declared.status.Status.TheVariants.{Done, Usage, Input, Source, Sink, Memory}
+
+-- each line of a script spells one
+no_gap : (lines more : List (List ℕ)) (line : List ℕ) (script : List Line) → play_line_of line ≡ None → map play_line_of (lines ++ line ∷ more) ≡ map Some script → ⊥
+no_gap [] more line [] none e = cc
+no_gap [] more line (l ∷ script) none e = cc
+no_gap (x ∷ lines) more line [] none e = cc
+no_gap (x ∷ lines) more line (l ∷ script) none e = let f : map play_line_of (lines ++ line ∷ more) ≡ map Some script = cc in no_gap lines more line script none f
+
+not_refused : (g : Rules) (s : SourceView) (text : List ℕ) → HasScript s → Refused g s text → ⊥
+not_refused g s text h r =
+    let first : (more : List (List ℕ)) × (lines_of h.input ≡ (r.lines ++ r.line ∷ []) ++ more) = subst (λ (o : Option (List ℕ)). IfSome o (λ input. (more : List (List ℕ)) × (lines_of input ≡ (r.lines ++ r.line ∷ []) ++ more))) h.told r.first in
+    no_gap r.lines first.0 r.line h.script r.outside (sym (ap (map play_line_of) (first.1 ∙ append_assoc r.lines (r.line ∷ []) first.0)) ∙ h.spelled)
+
+not_long : (g : Rules) (s : SourceView) (text : List ℕ) → HasScript s → TooLong g s text → ⊥
+not_long g s text h r =
+    let long : (input_limit < length h.input) × (whole_lines_of (take input_limit h.input) ≡ r.lines) = subst (λ (o : Option (List ℕ)). IfSome o (λ input. (input_limit < length input) × (whole_lines_of (take input_limit input) ≡ r.lines))) h.told r.long in
+    let bound = h.bound in let over = long.0 in omega (arith, bound, over)
+
+no_input : (g : Rules) (s : SourceView) (text : List ℕ) → HasScript s → Refused g s text ⊎ TooLong g s text → ⊥
+no_input g s text h (inl r) = not_refused g s text h r
+no_input g s text h (inr r) = not_long g s text h r
+
+plays_whole : (g : Rules) (status : Status) (s t : SourceView) (k l : SinkView) → Plays g status s t k l → Completes status s t k l
+plays_whole g Done s t k l p = λ h source sink. inl refl
+plays_whole g Usage s t k l p = absurd p.writes
+plays_whole g Input s t k l p = λ h source sink. absurd (no_input g s p.text h p.writes)
+plays_whole g Source s t k l p = λ h source sink. absurd (source p.writes.0)
+plays_whole g Sink s t k l p = λ h source sink. absurd (sink p.rose)
+plays_whole g Memory s t k l p = λ h source sink. inr refl
+
+-- a job
+pub does_whole : (job : Job) (status : Status) (s t : SourceView) (k l : SinkView) → Does job status s t k l → DoesWhole job status s t k l
+does_whole (Play name chunk_rows limit attempts) status s t k l does = plays_whole (rules_for chunk_rows limit attempts) status s t k l does
+
+-- a run, by its words
+pub ran_whole : (o : Option Job) (status : Status) (s t : SourceView) (k l : SinkView) → Ran o status s t k l → RanWhole o status s t k l
+ran_whole None status s t k l ran = tt
+ran_whole (Some job) status s t k l ran = does_whole job status s t k l ran
