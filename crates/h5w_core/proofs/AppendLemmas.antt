@@ -1,13 +1,12 @@
 -- The writer appends values.
-use Rattle.std.proofs.Common.{◌≡◌, ◌≢◌, ◌⊎◌, ℕ, ◌+◌, ◌*◌, ◌/◌, ◌<◌, List, [], ◌∷◌, ◌++◌, length, ℤ, Bool, true, false, nat_lt, if◌then◌else◌, Option, Some, None, Result, Ok, Err, sym, refl, ap, ◌∙◌, subst, inl, inr, arith, append_assoc, length-append}
+use Rattle.std.proofs.Common.{◌≡◌, ◌≢◌, ◌⊎◌, ℕ, ◌+◌, List, [], ◌∷◌, ◌++◌, length, ℤ, Bool, true, false, nat_lt, if◌then◌else◌, Option, Some, None, Result, Ok, Err, sym, refl, ap, ◌∙◌, subst, inl, inr, arith, append_assoc, length-append}
 use Rattle.std.proofs.lemmas.Bool.{lt-ltb}
 use Rattle.h5w_model.specs.declared.piece.Write.{Write}
-use Rattle.h5w_model.specs.Logs.{Log, Happening, appends, appended, appended_in, flushed, load, and_now, div_up, needed_chunks}
-use Rattle.h5w_model.specs.Lawful.{Rules, ScriptState, Allowed, adds, append_reply, first_outside, fitting_reply, line_of, load_of, next_state, rows_in}
+use Rattle.h5w_model.specs.Logs.{Log, appends, appended, appended_in, load, and_now, needed_chunks}
+use Rattle.h5w_model.specs.Lawful.{Rules, ScriptState, adds, append_reply, first_outside, fitting_reply, load_of, next_state, rows_in}
 use Rattle.h5w_model.specs.declared.event.Event.TheVariants as events
 use Rattle.h5w_model.specs.declared.reply.Reply.{Reply}
 use Rattle.h5w_model.specs.declared.reply.Reply.TheVariants as replies
-use Rattle.h5w_polling.specs.Polling.{Poller}
 use Rattle.h5w_polling.proofs.ScriptLemmas.{writer_line_laws}
 use Rattle.h5w_writer.specs.Files.{int_type}
 use Rattle.h5w_writer.specs.Refusals.{append_refusal, chunks_with}
@@ -15,7 +14,7 @@ use Rattle.h5w_writer.specs.Sessions.{Session, Stands, chunk_limit, cutting_of, 
 use Rattle.h5w_writer.specs.declared.refusal.AppendError.{AppendError}
 use Rattle.h5w_writer.specs.declared.refusal.AppendError.TheVariants as errors
 use Rattle.h5w_writer.proofs.EventLemmas.{rows_are}
-use Rattle.h5w_core.specs.Worlds.{WorldView, Fits, IsStateOf, StandsFor, Steps, polling_of, rules_of}
+use Rattle.h5w_core.specs.Worlds.{WorldView, Fits, IsStateOf, Steps, polling_of, rules_of}
 use Rattle.h5w_core.proofs.StateLemmas.{rows_in-length, load_of-log, spent_in-events}
 use Rattle.h5w_core.proofs.WorldLemmas.{world_of, changed}
 use Rattle.h5w_image.specs.Memory.{MemView}

@@ -3,7 +3,7 @@ use Rattle.std.proofs.Common.{◌≡◌, ℕ, zero, suc, ◌+◌, ◌<◌, ◌�
 use Rattle.std.proofs.lemmas.List.{append-nil, nil_from_length}
 use Rattle.std.specs.Option.{unwrap_or}
 use Rattle.h5w_model.specs.Images.{image}
-use Rattle.h5w_model.specs.Logs.{Log, and_now, appended, flushed, hist, spent, shows}
+use Rattle.h5w_model.specs.Logs.{Log, and_now, appended, hist, spent, shows}
 use Rattle.h5w_model.specs.Lawful.{at_first}
 use Rattle.h5w_model.specs.declared.piece.Write.{Write}
 use Rattle.h5w_model.proofs.ImageLemmas.{image-push}
@@ -21,7 +21,7 @@ use Rattle.h5w_writer.proofs.EventLemmas.{committed_are, rows_are}
 use Rattle.h5w_core.specs.Creation.{Creates}
 use Rattle.h5w_core.specs.Readers.{IsOurs, placed, poller, reader_at}
 use Rattle.h5w_core.specs.Steady.{steady}
-use Rattle.h5w_core.specs.Worlds.{WorldView, Fits, HoldsTogether, IsStateOf, StandsFor, nobody, polling_of, rules_for, rules_of}
+use Rattle.h5w_core.specs.Worlds.{Fits, HoldsTogether, nobody, polling_of, rules_for, rules_of}
 use Rattle.h5w_core.proofs.ShowLemmas.{after_file, after_stopped, after_waiting, after_pending}
 use Rattle.h5w_core.proofs.StateLemmas.{spent_in-events}
 use Rattle.h5w_core.proofs.WorldLemmas.{world_of}

@@ -1,9 +1,9 @@
 -- The writer plans a flush.
-use Rattle.std.proofs.Common.{◌≡◌, ◌≢◌, ◌⊎◌, ◌↔◌, ℕ, ◌+◌, ◌<◌, ◌≤◌, List, [], ◌∷◌, length, ℤ, Bool, true, false, nat_lt, sym, refl, ap, ◌∙◌, subst, inl, inr, arith}
+use Rattle.std.proofs.Common.{◌≡◌, ◌⊎◌, ◌↔◌, ℕ, ◌+◌, ◌<◌, ◌≤◌, List, [], ◌∷◌, length, ℤ, Bool, true, false, nat_lt, sym, refl, ap, ◌∙◌, subst, inl, inr, arith}
 use Rattle.std.specs.Prelude.{MatchBool}
 use Rattle.std.proofs.lemmas.Bool.{cases_lt, lt-ltb, le-ltb}
 use Rattle.std.proofs.lemmas.List.{nil_from_length}
-use Rattle.h5w_model.specs.Logs.{Log, Cutting, appends, plans, appended, flushed, load, spent_in, and_now}
+use Rattle.h5w_model.specs.Logs.{Log, Cutting, plans, appended, flushed, load, spent_in, and_now}
 use Rattle.h5w_polling.specs.Polling.{Polling, Poller}
 use Rattle.h5w_polling.specs.Scripts.{AllPoll}
 use Rattle.h5w_polling.proofs.EventLemmas.{counts_same, goes_on_still, polls_on}
@@ -13,14 +13,13 @@ use Rattle.h5w_writer.specs.Files.{FileFields}
 use Rattle.h5w_writer.specs.Plans.{options_of}
 use Rattle.h5w_writer.specs.declared.options.Options.{Options}
 use Rattle.h5w_writer.specs.Flushes.{after_rows}
-use Rattle.h5w_model.specs.Lawful.{Rules, ScriptState, Allowed, FlushAllowed, IsPlanned, IsFull, line_of, load_of, next_state, rows_of}
+use Rattle.h5w_model.specs.Lawful.{Rules, ScriptState, FlushAllowed, IsPlanned, IsFull, load_of, rows_of}
 use Rattle.h5w_model.specs.declared.event.Event.TheVariants as events
 use Rattle.h5w_model.specs.declared.piece.Write.{Write}
-use Rattle.h5w_model.specs.declared.reply.Reply.{Reply}
 use Rattle.h5w_model.specs.declared.reply.Reply.TheVariants as replies
 use Rattle.h5w_writer.specs.Sessions.{Session, Stands, cutting_of, planned}
 use Rattle.h5w_writer.proofs.EventLemmas.{committed_are, flushed_rows, rows_are}
-use Rattle.h5w_core.specs.Worlds.{WorldView, Fits, IsStateOf, StandsFor, Steps, polling_by, polling_of, rules_for, rules_of}
+use Rattle.h5w_core.specs.Worlds.{WorldView, IsStateOf, Steps, polling_by, polling_of, rules_for, rules_of}
 use Rattle.h5w_core.proofs.StateLemmas.{rows_in-length, load_of-log, spent_in-events}
 use Rattle.h5w_core.proofs.WorldLemmas.{world_of, changed}
 use Rattle.h5w_image.specs.Memory.{MemView}

@@ -1,7 +1,7 @@
 -- A session's log is one that readers can poll.
-use Rattle.std.proofs.Common.{ℕ, ◌≤◌, ap, arith}
+use Rattle.std.proofs.Common.{◌≤◌, ap, arith}
 use Rattle.h5w_model.specs.Logs.{Log}
-use Rattle.h5w_polling.specs.Premises.{IsCut, LogHolds}
+use Rattle.h5w_polling.specs.Premises.{LogHolds}
 use Rattle.h5w_writer.specs.Sessions.{Stands}
 use Rattle.h5w_writer.proofs.LawLemmas.{shown_laws, standing_laws}
 use Rattle.h5w_core.specs.Worlds.{WorldView, polling_of}

@@ -1,21 +1,20 @@
 -- What a reader's calls make of its place.
-use Rattle.std.proofs.Common.{◌≡◌, ℕ, ◌+◌, ◌<◌, ◌≤◌, List, [], Option, Some, None, Result, Ok, Err, ℤ, Bool, true, false, nat_lt, cond, option_map, sym, refl, ap, ◌∙◌, subst, inl, inr, arith}
-use Rattle.std.specs.Prelude.{IsSome, MatchOption, ◌==◌, if◌then◌else◌}
+use Rattle.std.proofs.Common.{◌≡◌, ℕ, ◌+◌, ◌≤◌, List, [], Option, Some, None, Result, Ok, Err, ℤ, Bool, true, false, nat_lt, option_map, sym, refl, ap, ◌∙◌, subst, inl, inr, arith}
+use Rattle.std.specs.Prelude.{IsSome, ◌==◌, if◌then◌else◌}
 use Rattle.std.specs.Option.{unwrap_or}
-use Rattle.std.proofs.lemmas.Bool.{cases_lt, cond-true, cond-false, lt-ltb, le-ltb, ltb-true, eq-eqb, ne_eqb}
+use Rattle.std.proofs.lemmas.Bool.{cases_lt, cond-true, cond-false, lt-ltb, ne_eqb}
 use Rattle.h5w_model.specs.Numbers.{range}
 use Rattle.h5w_model.specs.Programs.{Prog, ret, whole, counted, stored}
 use Rattle.h5w_model.specs.Tables.{Reading}
 use Rattle.h5w_model.specs.Calls.{values_call}
 use Rattle.h5w_model.specs.declared.refusal.ReadError.{ReadError}
-use Rattle.h5w_model.specs.declared.reply.Reply.{Reply}
 use Rattle.h5w_model.specs.declared.reply.Reply.TheVariants as replies
 use Rattle.h5w_polling.specs.Laws.{reply_to, after_look, calling}
 use Rattle.h5w_reader.specs.Looks.{next_look}
 use Rattle.h5w_reader.specs.Readers.{BegunRead, Left, Reader, for_rows, for_values, fed_left, read_refusal, rows_seen, values_program, wanted, with_left}
 use Rattle.h5w_reader.specs.declared.step.ReadBegin.{ReadBegin}
 use Rattle.h5w_reader.specs.declared.step.ReadBegin.TheVariants as begins
-use Rattle.h5w_core.specs.Readers.{LooksOn, LooksTo, ReadGives, ReadsTo, ReadLooks, looked, poller, unfinished}
+use Rattle.h5w_core.specs.Readers.{LooksTo, ReadGives, ReadsTo, ReadLooks, looked, poller, unfinished}
 
 -- ---- Reads
 

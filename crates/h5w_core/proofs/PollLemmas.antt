@@ -1,8 +1,7 @@
 -- The readers of a world poll its log: what each event of a reader is answered, and how they poll on.
-use Rattle.std.proofs.Common.{◌≡◌, ℕ, ◌+◌, ◌/◌, ◌<◌, ◌≤◌, cond, Bool, true, false, List, [], ◌∷◌, length, Option, Some, None, option_map, Result, ℤ, refl, sym, ◌∙◌, ap, subst, inl, inr, arith}
+use Rattle.std.proofs.Common.{◌≡◌, ℕ, cond, Bool, true, List, [], ◌∷◌, Option, Some, None, option_map, Result, ℤ, refl, sym, ◌∙◌, ap, subst, inl, inr, arith}
 use Rattle.std.specs.Prelude.{IsSome, ◌==◌}
-use Rattle.std.specs.Option.{unwrap_or}
-use Rattle.std.proofs.lemmas.Bool.{cond_both, cond-true, eq-eqb, eqb-true}
+use Rattle.std.proofs.lemmas.Bool.{cond_both, eq-eqb, eqb-true}
 use Rattle.h5w_model.specs.Numbers.{range}
 use Rattle.h5w_model.specs.Images.{image}
 use Rattle.h5w_model.specs.Programs.{Prog, Look, ret, whole, counted, stored}
@@ -10,7 +9,7 @@ use Rattle.h5w_model.specs.Logs.{Log, hist}
 use Rattle.h5w_model.specs.Readers.{looks_of}
 use Rattle.h5w_model.specs.Tables.{Reading}
 use Rattle.h5w_model.specs.Calls.{values_call}
-use Rattle.h5w_model.specs.Lawful.{Line, opens, refreshes, reads, looks, ScriptState, ReaderState, Calling, CallKind, for_rows, for_values, Allowed, next_state, reader_in, with_reader}
+use Rattle.h5w_model.specs.Lawful.{Line, opens, refreshes, reads, looks, ScriptState, ReaderState, Calling, CallKind, for_rows, for_values, Allowed, next_state, reader_in}
 use Rattle.h5w_model.specs.declared.refusal.ReadError.{ReadError}
 use Rattle.h5w_model.specs.declared.reply.Reply.{Reply}
 use Rattle.h5w_model.specs.declared.reply.Reply.TheVariants as replies
@@ -19,13 +18,12 @@ use Rattle.h5w_polling.specs.Polling as polling
 use Rattle.h5w_polling.specs.Premises.{LogHolds}
 use Rattle.h5w_polling.specs.Laws.{Wants, idle, calling, reply_to, after_look}
 use Rattle.h5w_polling.specs.Scripts.{AllPoll, Moves, Polled, Refuses, looked_now, seen_by, with_poller}
-use Rattle.h5w_polling.proofs.EventLemmas.{knows_later}
 use Rattle.h5w_polling.proofs.LookLemmas.{look_laws}
 use Rattle.h5w_polling.proofs.ScriptLemmas.{begin_line_laws, look_line_laws}
 use Rattle.h5w_reader.specs.Looks.{next_look}
 use Rattle.h5w_reader.specs.Readers.{Left, Reader, fed_left, rows_program, rows_seen, wanted, with_left}
 use Rattle.h5w_reader.specs.Readers as core
-use Rattle.h5w_core.specs.Readers.{IsOurs, LookGives, LooksOn, LooksTo, LookReplies, CallReplies, OpenGives, ReadGives, ReadLooks, ReadsTo, ReadsPast, ReadsNothing, ReadBegins, RefreshGives, RefreshesTo, ended, looked, poller, pollers, unfinished}
+use Rattle.h5w_core.specs.Readers.{IsOurs, LookGives, LooksTo, LookReplies, CallReplies, OpenGives, ReadGives, ReadLooks, ReadsTo, ReadsPast, ReadsNothing, ReadBegins, RefreshGives, RefreshesTo, looked, poller, pollers, unfinished}
 use Rattle.h5w_core.specs.Worlds.{WorldView, IsStateOf, StandsFor, polling_of}
 
 -- the readers with another in the place of this number

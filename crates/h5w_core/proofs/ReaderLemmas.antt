@@ -1,15 +1,14 @@
 -- An event of a reader, by its place.
-use Rattle.std.proofs.Common.{◌≡◌, ◌⊎◌, ℕ, ◌+◌, ◌<◌, ◌≤◌, cond, Bool, true, false, List, [], ◌∷◌, length, get_or, Option, Some, None, option_map, Result, Ok, Err, sym, refl, ap, ◌∙◌, subst, inl, inr, arith}
-use Rattle.std.specs.Prelude.{IsSome, ◌==◌, slice_set}
+use Rattle.std.proofs.Common.{◌≡◌, ℕ, ◌<◌, ◌≤◌, cond, Bool, true, false, List, ◌∷◌, length, get_or, Option, Some, None, option_map, Result, Ok, Err, sym, refl, ap, ◌∙◌, subst, inl, inr, arith}
+use Rattle.std.specs.Prelude.{◌==◌, slice_set}
 use Rattle.std.specs.Result.{IfOk, OnErr}
-use Rattle.std.proofs.lemmas.Bool.{cond_both, cond-true, eq-eqb, eqb-true}
+use Rattle.std.proofs.lemmas.Bool.{cond_both, eq-eqb, eqb-true}
 use Rattle.std.proofs.lemmas.List.{get_or-set_same, get_or-set_other, length-set}
 use Rattle.std.proofs.lemmas.Option.{slice_get-get_or}
 use Rattle.std.specs.Option.{unwrap_or}
-use Rattle.h5w_model.specs.Images.{image}
 use Rattle.h5w_model.specs.Logs.{Log}
 use Rattle.h5w_model.specs.Tables.{Reading}
-use Rattle.h5w_model.specs.Lawful.{ScriptState, ReaderState, Calling, line_of, next_state, reader_in, with_reader}
+use Rattle.h5w_model.specs.Lawful.{ScriptState, ReaderState, Calling, line_of, next_state, reader_in}
 use Rattle.h5w_model.specs.declared.event.Event.{Event}
 use Rattle.h5w_model.specs.declared.event.Event.TheVariants as events
 use Rattle.h5w_model.specs.declared.memory.OutOfMemory.{OutOfMemory}
@@ -18,7 +17,6 @@ use Rattle.h5w_image.specs.Memory.{MemView}
 use Rattle.h5w_image.specs.View.{Same}
 use Rattle.h5w_image.proofs.ViewLemmas.{same_itself}
 use Rattle.h5w_polling.specs.Polling.{Polling, Poller, Unfinished, CallPolls, MayPoll, Knows, now}
-use Rattle.h5w_polling.specs.Laws.{idle, calling}
 use Rattle.h5w_polling.specs.Scripts.{AllPoll}
 use Rattle.h5w_polling.proofs.EventLemmas.{knows_later}
 use Rattle.h5w_reader.specs.Readers.{Left, Reader}
@@ -26,8 +24,8 @@ use Rattle.h5w_reader.specs.declared.reader.ReaderCore.{ReaderCore}
 use Rattle.h5w_writer.specs.Sessions.{Session}
 use Rattle.h5w_core.specs.Readers.{AreOurs, IsOurs, LookGives, LooksTo, LookReplies, OpenGives, ReadGives, ReadsTo, ReadLooks, RefreshGives, RefreshesTo, ended, placed, poller, pollers, reader_at, unfinished}
 use Rattle.h5w_core.specs.Steady.{steady}
-use Rattle.h5w_core.specs.Worlds.{Fits, HoldsTogether, IsKept, IsStateOf, StandsFor, Steps, WorldView, polling_of}
-use Rattle.h5w_core.proofs.HoldLemmas.{same_hold, same_room, same_stands, steps_hold}
+use Rattle.h5w_core.specs.Worlds.{Fits, HoldsTogether, IsKept, Steps, WorldView, polling_of}
+use Rattle.h5w_core.proofs.HoldLemmas.{same_room, steps_hold}
 use Rattle.h5w_core.proofs.HoldsLemmas.{log_holds}
 use Rattle.h5w_core.proofs.PollLemmas.{Acts, PollsAt, look_acts, look_replies, open_acts, read_acts, read_looks, refresh_acts, with_place}
 use Rattle.h5w_core.proofs.WorldLemmas.{changed, same_folded, world_of}

@@ -1,10 +1,10 @@
 -- Events one after another.
-use Rattle.std.proofs.Common.{◌≡◌, List, [], ◌∷◌, map, sym, refl, ap, ◌∙◌, subst}
+use Rattle.std.proofs.Common.{◌≡◌, List, [], ◌∷◌, map, sym, ap, subst}
 use Rattle.h5w_model.specs.Lawful.{Rules, ScriptState, Lawful, line_of, next_state}
 use Rattle.h5w_model.specs.declared.event.Event.{Event}
 use Rattle.h5w_model.specs.declared.reply.Reply.{Reply}
-use Rattle.h5w_core.specs.Worlds.{WorldView, Fits, Steps, rules_of}
-use Rattle.h5w_core.specs.Runs.{Runs, RunsLawfully, state_after}
+use Rattle.h5w_core.specs.Worlds.{WorldView, Fits, rules_of}
+use Rattle.h5w_core.specs.Runs.{RunsLawfully, state_after}
 
 -- what is to be shown, for the rules g
 abbrev Ends : Rules → WorldView → List Event → List Reply → ScriptState → Type 0

@@ -1,16 +1,16 @@
 -- The oldest pending piece becomes visible.
-use Rattle.std.proofs.Common.{◌≡◌, ◌≢◌, ◌⊎◌, ℕ, suc, ◌+◌, ◌-◌, ◌<◌, ◌≤◌, List, [], ◌∷◌, ◌++◌, length, ℤ, Bool, true, false, nat_lt, if◌then◌else◌, min, sym, refl, ap, ◌∙◌, subst, inl, inr, arith, length-append, Option, None}
+use Rattle.std.proofs.Common.{◌≡◌, ◌≢◌, ◌⊎◌, ℕ, suc, ◌+◌, ◌-◌, ◌<◌, ◌≤◌, List, [], ◌∷◌, ◌++◌, length, Bool, true, false, nat_lt, if◌then◌else◌, min, sym, refl, ap, ◌∙◌, subst, inl, inr, arith, length-append, Option, None}
 use Rattle.std.specs.List.{slice_get}
 use Rattle.std.proofs.lemmas.Bool.{lt-ltb}
 use Rattle.h5w_model.specs.Images.{image}
-use Rattle.h5w_model.specs.Logs.{Log, Happening, appends, plans, shows, hist, appended, flushed, spent, and_now}
-use Rattle.h5w_model.specs.Lawful.{Rules, ScriptState, Allowed, after_shows, committed, line_of, next_state, rows_of}
+use Rattle.h5w_model.specs.Logs.{Log, Happening, appends, plans, shows, hist, appended, flushed, and_now}
+use Rattle.h5w_model.specs.Lawful.{Rules, ScriptState, after_shows, committed}
 use Rattle.h5w_model.specs.declared.event.Event.TheVariants as events
 use Rattle.h5w_model.specs.declared.piece.Write.{Write}
 use Rattle.h5w_model.specs.declared.reply.Reply.{Reply}
 use Rattle.h5w_model.specs.declared.reply.Reply.TheVariants as replies
 use Rattle.h5w_model.proofs.ImageLemmas.{image-push}
-use Rattle.h5w_polling.specs.Polling.{Poller, now}
+use Rattle.h5w_polling.specs.Polling.{now}
 use Rattle.h5w_polling.specs.Scripts.{AllPoll}
 use Rattle.h5w_polling.proofs.ScriptLemmas.{writer_line_laws}
 use Rattle.h5w_writer.specs.Files.{FileFields}

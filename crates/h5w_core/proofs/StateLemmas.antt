@@ -1,7 +1,7 @@
 -- What a world's state in a script is worth: its loads and rows by the log.
-use Rattle.std.proofs.Common.{◌≡◌, ℕ, ◌+◌, ◌*◌, ◌/◌, List, [], ◌∷◌, ◌++◌, length, ℤ, sym, refl, ap, ◌∙◌, arith}
-use Rattle.h5w_model.specs.Logs.{Log, Happening, Cutting, appends, plans, shows, appended, flushed, load, spent_in, touched_chunks, and_now}
-use Rattle.h5w_model.specs.Lawful.{Rules, ScriptState, load_of, rows_in}
+use Rattle.std.proofs.Common.{◌≡◌, ℕ, ◌+◌, ◌*◌, ◌/◌, List, [], ◌∷◌, length, ℤ, refl, ap, ◌∙◌, arith}
+use Rattle.h5w_model.specs.Logs.{Log, Happening, Cutting, appends, plans, shows, appended, flushed, load, spent_in, touched_chunks}
+use Rattle.h5w_model.specs.Lawful.{ScriptState, load_of, rows_in}
 use Rattle.h5w_core.specs.Worlds.{rules_for}
 
 -- with one column there are as many rows as values

@@ -1,11 +1,9 @@
 -- A reader whose call is unfinished wants a look.
-use Rattle.std.proofs.Common.{◌≡◌, ℕ, min, List, Option, Some, None, Result, Ok, Err, sym, refl, ap, ◌∙◌, subst}
+use Rattle.std.proofs.Common.{◌≡◌, ℕ, min, List, Option, Some, None, sym, refl, ap, subst}
 use Rattle.std.specs.Prelude.{IsSome}
 use Rattle.std.specs.Option.{unwrap_or}
-use Rattle.h5w_model.specs.Programs.{Prog, ret, below_end}
+use Rattle.h5w_model.specs.Programs.{Prog, below_end}
 use Rattle.h5w_model.specs.Checked.{viewed}
-use Rattle.h5w_model.specs.Tables.{Reading}
-use Rattle.h5w_model.specs.declared.refusal.ReadError.{ReadError}
 use Rattle.h5w_reader.specs.Attempts.{rules_of, reading_of}
 use Rattle.h5w_reader.specs.Calling.{stage_left}
 use Rattle.h5w_reader.specs.Cores.{reader}

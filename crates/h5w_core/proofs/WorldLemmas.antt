@@ -1,5 +1,5 @@
 -- What a call of the session, or a write, leaves of the world.
-use Rattle.std.proofs.Common.{◌≡◌, ℕ, List, [], ◌∷◌, ◌++◌, length, drop, ℤ, Option, Some, None, sym, refl, ap, ◌∙◌}
+use Rattle.std.proofs.Common.{◌≡◌, ℕ, List, [], ◌∷◌, ◌++◌, drop, Option, Some, sym, ap, ◌∙◌}
 use Rattle.std.specs.List.{slice_get}
 use Rattle.std.specs.Option.{unwrap_or}
 use Rattle.h5w_model.specs.Images.{image}
@@ -8,9 +8,7 @@ use Rattle.h5w_model.proofs.ImageLemmas.{image-push}
 use Rattle.h5w_image.specs.Memory.{MemView}
 use Rattle.h5w_image.specs.View.{Same, Wrote}
 use Rattle.h5w_writer.specs.Sessions.{Session, after_piece}
-use Rattle.h5w_polling.specs.Polling.{Poller}
 use Rattle.h5w_reader.specs.declared.reader.ReaderCore.{ReaderCore}
-use Rattle.h5w_core.specs.Readers.{pollers}
 use Rattle.h5w_core.specs.Steady.{steady}
 use Rattle.h5w_core.specs.Worlds.{WorldView, shown_world}
 

@@ -1,5 +1,5 @@
 -- A session that creates its file.
-use Rattle.std.specs.Prelude.{◌≡◌, ℕ, false, List, [], ◌++◌, length}
+use Rattle.std.specs.Prelude.{◌≡◌, ℕ, false, [], ◌++◌, length}
 use Rattle.h5w_model.specs.Images.{image}
 use Rattle.h5w_model.specs.Logs.{Log, hist, spent}
 use Rattle.h5w_image.specs.Memory.{MemView}

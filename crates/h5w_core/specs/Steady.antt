@@ -1,5 +1,4 @@
 -- An image in memory that does not fail.
-use Rattle.std.specs.Prelude.{ℕ}
 use Rattle.h5w_image.specs.Memory.{MemView, in_memory}
 use Rattle.h5w_image.specs.View.{ImageView}
 

@@ -3,13 +3,13 @@
 use Rattle.std.specs.Prelude.{◌≡◌, ◌≢◌, ℕ, ◌≤◌, List, [], ◌∷◌, ◌++◌, length, replicate, nat_lt, ◌==◌, if◌then◌else◌, Option, None, option_map}
 use Rattle.h5w_model.specs.Images.{image}
 use Rattle.h5w_model.specs.Logs.{Log, appends, plans, shows, hist, appended, flushed, spent, and_now}
-use Rattle.h5w_model.specs.Lawful.{Rules, ScriptState, Allowed, Lawful, line_of, next_state}
+use Rattle.h5w_model.specs.Lawful.{Rules, ScriptState, Allowed, line_of, next_state}
 use Rattle.h5w_model.specs.declared.event.Event.{Event}
 use Rattle.h5w_model.specs.declared.event.Event.TheVariants as events
 use Rattle.h5w_model.specs.declared.piece.Write.{Write}
 use Rattle.h5w_model.specs.declared.reply.Reply.{Reply}
 use Rattle.h5w_model.specs.declared.reply.Reply.TheVariants as replies
-use Rattle.h5w_polling.specs.Polling.{Polling, Poller, now}
+use Rattle.h5w_polling.specs.Polling.{Polling, now}
 use Rattle.h5w_polling.specs.Scripts.{AllPoll}
 use Rattle.h5w_image.specs.Memory.{MemView}
 use Rattle.h5w_reader.specs.Readers.{Reader}

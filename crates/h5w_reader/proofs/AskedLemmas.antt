@@ -1,13 +1,12 @@
 -- What a reader was asked.
-use Rattle.std.proofs.Common.{◌≡◌, ◌≢◌, ℕ, ◌+◌, ◌≤◌, Bool, true, false, cond, List, [], ◌∷◌, ◌++◌, Option, Some, None, Result, Ok, Err, ℤ, refl, sym, ◌∙◌, ap, subst, ◌⊎◌, inl, inr}
-use Rattle.std.specs.Prelude.{option_map, ◌==◌, ◌&&◌, IsSome}
+use Rattle.std.proofs.Common.{◌≡◌, ℕ, Bool, true, false, cond, List, [], ◌∷◌, ◌++◌, Option, Some, None, Result, Ok, Err, ℤ, refl, sym, ◌∙◌, ap, subst, ◌⊎◌, inl, inr}
+use Rattle.std.specs.Prelude.{option_map, ◌==◌, ◌&&◌}
 use Rattle.std.proofs.lemmas.Bool.{eq-eqb}
-use Rattle.h5w_model.specs.Programs.{Prog, ret, whole, counted, stored, Look, Takes, rest_after}
+use Rattle.h5w_model.specs.Programs.{Prog, ret, whole, counted, stored, Look, rest_after}
 use Rattle.h5w_model.specs.Tables.{Reading}
 use Rattle.h5w_model.specs.declared.refusal.ReadError.{ReadError}
-use Rattle.h5w_model.specs.declared.refusal.ReadError.TheVariants as read_errors
 use Rattle.h5w_reader.specs.Looks.{next_look, fed}
-use Rattle.h5w_reader.specs.Readers.{Left, for_rows, for_values, Reader, Told, IsRows, IsRefused, wanted, fed_left, with_left, rows_program}
+use Rattle.h5w_reader.specs.Readers.{Left, for_rows, for_values, Reader, Told, IsRefused, wanted, fed_left, with_left, rows_program}
 use Rattle.h5w_reader.specs.Asked.{Answer, told_rows, told_values, told_refusal, Asking, Answered, Asks, Asked, AreCalls, Begins, Gives, IsAsking, IsWanted, known_by, left_after, beginning, without, and_look, answering, refusing, finding, stepping, looking, is_want_of_memory}
 use Rattle.h5w_reader.specs.declared.step.Step.{Step}
 use Rattle.h5w_reader.specs.declared.step.Step.TheVariants as steps

@@ -1,14 +1,14 @@
 -- A reader's call for rows.
-use Rattle.std.proofs.Common.{◌≡◌, ◌≢◌, ℕ, zero, suc, ◌+◌, ◌-◌, ◌<◌, ◌≤◌, Bool, true, false, cond, ltb, List, [], length, Option, Some, None, Result, Ok, Err, refl, sym, ◌∙◌, ap, arith, subst}
+use Rattle.std.proofs.Common.{◌≡◌, ◌≢◌, ℕ, zero, suc, ◌-◌, ◌<◌, ◌≤◌, Bool, true, false, cond, ltb, List, Option, Some, None, Result, Ok, Err, refl, sym, ◌∙◌, ap, arith, subst}
 use Rattle.std.specs.Prelude.{nat_eq}
 use Rattle.std.specs.Result.{IfOk}
 use Rattle.std.specs.Cmp.Lexicographic.{pointwise}
 use Rattle.std.proofs.lemmas.Bool.{lt-ltb, le-ltb}
-use Rattle.h5w_model.specs.Programs.{Prog, ret, whole, counted, stored, bind, and_then, lowered, below_end}
+use Rattle.h5w_model.specs.Programs.{Prog, ret, whole, counted, stored, bind, and_then, below_end}
 use Rattle.h5w_model.specs.Headers.{prefix_at, header_view}
 use Rattle.h5w_model.specs.Datasets.{HeaderFields, superblock, root_header, linked, dataset_place, from_chunk, header_refusal, described, refused_as}
 use Rattle.h5w_model.specs.Datasets as model
-use Rattle.h5w_model.specs.Calls.{CallRules, cut_header, not_shrunk, behind_header, one_attempt, attempts_from, confirmed, again, is_settled, rows_call, open_call, open_rules}
+use Rattle.h5w_model.specs.Calls.{CallRules, cut_header, not_shrunk, again, is_settled, rows_call, open_call, open_rules}
 use Rattle.h5w_model.specs.Tables.{Reading, needed_table}
 use Rattle.h5w_model.specs.declared.message.Prefix.{Prefix}
 use Rattle.h5w_model.specs.declared.root.Super.{Super}

@@ -1,18 +1,17 @@
 -- A reader's calls.
-use Rattle.std.proofs.Common.{◌≡◌, ℕ, zero, suc, ◌+◌, ◌<◌, ◌≤◌, min, List, [], Option, Some, None, Result, Ok, Err, ℤ, refl, sym, ◌∙◌, ap, subst, arith, false, cond}
-use Rattle.std.specs.Prelude.{option_map, ◌==◌}
+use Rattle.std.proofs.Common.{◌≡◌, ℕ, ◌<◌, List, [], Option, Some, None, Result, Ok, sym, ◌∙◌, ap, subst, arith, cond}
+use Rattle.std.specs.Prelude.{option_map}
 use Rattle.std.proofs.lemmas.Bool.{ne_eqb}
 use Rattle.h5w_model.specs.Programs.{Prog, ret}
 use Rattle.h5w_model.specs.Tables.{Reading}
 use Rattle.h5w_model.specs.Calls.{open_call, rows_call, values_call}
 use Rattle.h5w_model.specs.declared.refusal.ReadError.{ReadError}
-use Rattle.h5w_reader.specs.Looks.{next_look, fed}
+use Rattle.h5w_reader.specs.Looks.{fed}
 use Rattle.h5w_reader.specs.Attempts.{reader_limits, reading_of, rules_of}
 use Rattle.h5w_reader.specs.Calling.{stage_left, came}
 use Rattle.h5w_reader.specs.Values.{reading_values}
-use Rattle.h5w_reader.specs.Readers.{Reader, for_rows, for_values, reader_of, known_of, left_of, values_left, fed_left, with_left, rows_program, values_program}
+use Rattle.h5w_reader.specs.Readers.{Reader, for_rows, for_values, reader_of, known_of, left_of, values_left, fed_left, rows_program, values_program}
 use Rattle.h5w_reader.specs.declared.known.Known.{Known}
-use Rattle.h5w_reader.specs.declared.known.Rules.{Rules}
 use Rattle.h5w_reader.specs.declared.stage.Stage.{Stage}
 use Rattle.h5w_reader.specs.declared.stage.Came.TheVariants as came_by
 use Rattle.h5w_reader.specs.declared.values.Reads.{Reads}

@@ -1,5 +1,5 @@
 -- The place of the dataset header, by the messages of the root header.
-use Rattle.std.proofs.Common.{◌≡◌, ℕ, List, [], ◌∷◌, map, Result, Ok, Err, refl, sym, ◌∙◌, ap}
+use Rattle.std.proofs.Common.{◌≡◌, ℕ, List, [], ◌∷◌, map, Result, Ok, Err, refl, ap}
 use Rattle.h5w_model.specs.Datasets.{linked, then_also, refused_as}
 use Rattle.h5w_model.specs.Datasets as model
 use Rattle.h5w_model.specs.Links.{LinkFields, links_at, find_link}

@@ -1,13 +1,13 @@
 -- What is awaited in a call for rows.
-use Rattle.std.proofs.Common.{◌≡◌, ℕ, ◌+◌, ◌-◌, ◌<◌, ◌≤◌, min, List, length, Some, Result, Ok, Err, refl, sym, ◌∙◌, ap, arith}
+use Rattle.std.proofs.Common.{◌≡◌, ℕ, min, Some, refl}
 use Rattle.h5w_model.specs.Programs.{Prog, below_end}
 use Rattle.h5w_model.specs.Calls.{CallRules}
-use Rattle.h5w_reader.specs.Looks.{next_look, Fits}
+use Rattle.h5w_reader.specs.Looks.{next_look}
 use Rattle.h5w_reader.specs.Walking.{walking, block_left, chunk_rest}
 use Rattle.h5w_reader.specs.Opening.{opening, super_rest}
 use Rattle.h5w_reader.specs.Described.{described_of}
 use Rattle.h5w_reader.specs.Attempts.{array_rest, index_rest}
-use Rattle.h5w_reader.specs.Calling.{behind_left, rows_rest, confirm_rest}
+use Rattle.h5w_reader.specs.Calling.{behind_left}
 use Rattle.h5w_reader.specs.declared.walk.Block.{Block}
 use Rattle.h5w_reader.specs.declared.open.Opening.{Opening}
 use Rattle.h5w_reader.specs.declared.open.Opening.TheVariants.{Super, Root, Rest, Visit}
@@ -15,7 +15,7 @@ use Rattle.h5w_reader.specs.declared.table.Lookup.TheVariants as lookup_by
 use Rattle.h5w_reader.specs.declared.behind.Behind.{Behind}
 use Rattle.h5w_reader.specs.declared.behind.Behind.TheVariants as behind_by
 use Rattle.h5w_reader.proofs.PieceLemmas.{wants_gather}
-use Rattle.h5w_reader.proofs.CallLemmas.{wants_bind, rows_begin, confirm_begins}
+use Rattle.h5w_reader.proofs.CallLemmas.{wants_bind}
 
 pub walking_looks : (b : Block) → next_look (walking b) ≡ Some (b.gather.place, min 512 b.gather.rest)
 walking_looks b = wants_gather b.gather.place b.gather.rest (min 512 b.gather.rest) b.gather.got.items (block_left b.walk b.gather.start b.len) b.gather.more refl

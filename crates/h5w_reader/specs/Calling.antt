@@ -1,5 +1,5 @@
 -- What is left of a reader's call for rows.
-use Rattle.std.specs.Prelude.{◌≡◌, ℕ, zero, suc, ◌+◌, ◌-◌, ◌^◌, ◌<◌, ◌≤◌, ◌⊎◌, List, [], length, nat_eq, if◌then◌else◌, Some, None, Result, Ok, Err}
+use Rattle.std.specs.Prelude.{ℕ, zero, suc, ◌-◌, List, [], nat_eq, if◌then◌else◌, Some, None, Result, Ok, Err}
 use Rattle.std.specs.Cmp.Lexicographic.{pointwise}
 use Rattle.h5w_model.specs.Programs.{Prog, ret, bind, and_then, lowered}
 use Rattle.h5w_model.specs.Headers.{header_view}
@@ -9,13 +9,11 @@ use Rattle.h5w_model.specs.Datasets as model
 use Rattle.h5w_model.specs.Calls.{CallRules, cut_header, behind_header, confirmed, again, attempts_from, rows_call, open_rules}
 use Rattle.h5w_model.specs.Tables.{Reading}
 use Rattle.h5w_model.specs.declared.message.Msg.{Msg}
-use Rattle.h5w_model.specs.declared.message.Prefix.{Prefix}
-use Rattle.h5w_model.specs.declared.refusal.HeaderError.{HeaderError}
 use Rattle.h5w_model.specs.declared.refusal.LinkError.{LinkError}
 use Rattle.h5w_model.specs.declared.refusal.LinkError.TheVariants as link_errors
 use Rattle.h5w_model.specs.declared.refusal.ReadError.{ReadError}
 use Rattle.h5w_model.specs.declared.refusal.ReadError.TheVariants as read_errors
-use Rattle.h5w_reader.specs.Walking.{walking, walked}
+use Rattle.h5w_reader.specs.Walking.{walking}
 use Rattle.h5w_reader.specs.Opening.{opening}
 use Rattle.h5w_reader.specs.Attempts.{reader_limits, reading_of, looking_up, described_rest, rules_of}
 use Rattle.h5w_reader.specs.declared.behind.Behind.{Behind}

@@ -1,5 +1,5 @@
 -- A reader as contracts see it, and what its calls make of it.
-use Rattle.std.specs.Prelude.{◌≡◌, ◌⊎◌, ℕ, ◌+◌, ◌<◌, ◌≤◌, List, [], nat_lt, ◌==◌, if◌then◌else◌, Option, Some, None, Result, Ok, Err, ℤ}
+use Rattle.std.specs.Prelude.{◌≡◌, ◌⊎◌, ℕ, ◌+◌, List, [], nat_lt, ◌==◌, if◌then◌else◌, Option, Some, None, Result, Ok, Err, ℤ}
 use Rattle.h5w_model.specs.Programs.{Prog, ret}
 use Rattle.h5w_model.specs.Tables.{Reading}
 use Rattle.h5w_model.specs.Calls.{CallRules, open_call, rows_call, values_call}
@@ -7,10 +7,9 @@ use Rattle.h5w_model.specs.declared.refusal.ReadError.{ReadError}
 use Rattle.h5w_model.specs.declared.refusal.ReadError.TheVariants as read_errors
 use Rattle.h5w_reader.specs.Looks.{next_look, fed}
 use Rattle.h5w_reader.specs.Attempts.{reader_limits, reading_of}
-use Rattle.h5w_reader.specs.Calling.{stage_left, came}
+use Rattle.h5w_reader.specs.Calling.{stage_left}
 use Rattle.h5w_reader.specs.Values.{reading_values, valued}
 use Rattle.h5w_reader.specs.declared.known.Known.{Known}
-use Rattle.h5w_reader.specs.declared.stage.Came.{Came}
 use Rattle.h5w_reader.specs.declared.values.Reads.{Reads}
 use Rattle.h5w_reader.specs.declared.values.Valued.{Valued}
 use Rattle.h5w_reader.specs.declared.call.Call.{Call}

@@ -1,8 +1,8 @@
 -- What the dataset header of a file says, where it stands in the image.
-use Rattle.std.proofs.Common.{◌≡◌, ℕ, ◌+◌, ◌*◌, ◌^◌, ◌<◌, ◌≤◌, true, false, List, [], ◌∷◌, length, Result, Ok, refl, ap, ◌∙◌, arith, length-append}
+use Rattle.std.proofs.Common.{◌≡◌, ℕ, ◌+◌, ◌*◌, ◌^◌, ◌<◌, ◌≤◌, true, false, List, [], ◌∷◌, length, Result, Ok, refl, ap, ◌∙◌, arith}
 use Rattle.std.specs.Prelude.{max}
 use Rattle.std.proofs.lemmas.Bool.{le-ltb}
-use Rattle.h5w_model.specs.Numbers.{le, range, width_of}
+use Rattle.h5w_model.specs.Numbers.{range, width_of}
 use Rattle.h5w_model.specs.Images.{At}
 use Rattle.h5w_model.specs.Programs.{Prog, ret, eval, and_then, visits}
 use Rattle.h5w_model.specs.Headers.{prefix_at, header_view, messages_at, msgs_bytes, header_bytes, placed}

@@ -1,10 +1,10 @@
 -- What a flush that was planned leaves, and how many pieces it has.
-use Rattle.std.proofs.Common.{◌≡◌, ◌↔◌, ℕ, Bool, false, zero, suc, ◌+◌, ◌-◌, ◌*◌, ◌/◌, ◌<◌, ◌≤◌, min, List, [], ◌∷◌, length, take, drop, ℤ, true, nat_lt, sym, refl, ap, ◌∙◌, subst, inl, inr, arith, length-append}
-use Rattle.std.proofs.lemmas.Bool.{cases_lt, lt-ltb}
+use Rattle.std.proofs.Common.{◌≡◌, ◌↔◌, ℕ, Bool, false, zero, suc, ◌+◌, ◌-◌, ◌*◌, ◌/◌, ◌≤◌, min, List, [], ◌∷◌, length, take, drop, ℤ, sym, refl, ap, ◌∙◌, subst, inl, inr, arith, length-append}
+use Rattle.std.proofs.lemmas.Bool.{cases_lt}
 use Rattle.std.proofs.lemmas.List.{nil_from_length, length-take}
-use Rattle.std.proofs.lemmas.Nat.{mul-le, div-mul-add}
+use Rattle.std.proofs.lemmas.Nat.{mul-le}
 use Rattle.h5w_model.specs.Images.{pieces}
-use Rattle.h5w_model.specs.Logs.{Log, load, touched_chunks, appended, flushed, and_now, plans, div_up}
+use Rattle.h5w_model.specs.Logs.{Log, load, appended, flushed, and_now, plans, div_up}
 use Rattle.h5w_model.specs.declared.piece.Write.{Write}
 use Rattle.h5w_model.proofs.ImageLemmas.{length-pieces}
 use Rattle.h5w_writer.specs.Files.{FileFields, IsFile, AllFit, chunk_len, cell_place, header_block}
@@ -12,11 +12,10 @@ use Rattle.h5w_writer.specs.Plans.{block_write}
 use Rattle.h5w_writer.specs.Flushes.{cell_list, chunk_values, chunk_writes, free_rows, missing_chunks, own_writes, new_writes, row_writes, naming_writes, block_writes, grown, after_rows, flush_writes}
 use Rattle.h5w_writer.specs.Sessions.{Session, IsSession, Stands, session_of, planned, cutting_of}
 use Rattle.h5w_writer.proofs.CellLemmas.{AllFit-take, AllFit-drop, length-cell_list, length-chunk}
-use Rattle.h5w_writer.proofs.ChunkLemmas.{is_needed}
 use Rattle.h5w_writer.proofs.PlanLemmas.{Fits}
 use Rattle.h5w_writer.proofs.EventLemmas.{flush_planned, rows_are, flushed_rows}
 use Rattle.h5w_writer.proofs.SessionLemmas.{planned_is}
-use Rattle.h5w_writer.proofs.LoadLemmas.{Touches, touches, load_is}
+use Rattle.h5w_writer.proofs.LoadLemmas.{touches, load_is}
 
 -- ---- The session after it
 

@@ -6,7 +6,7 @@ use Rattle.h5w_model.specs.declared.cell.IndexKind.TheVariants.{Array}
 use Rattle.h5w_writer.specs.Files.{FileFields, array_place, dataset_messages, root_messages, int_type, layout_of, shape_of}
 use Rattle.h5w_writer.proofs.MessageReads.{widths, length_layout}
 use Rattle.h5w_writer.proofs.HeaderReads.{length-header_bytes}
-use Rattle.h5w_writer.proofs.HeadersNow.{length_root, root_small}
+use Rattle.h5w_writer.proofs.HeadersNow.{root_small}
 use Rattle.h5w_writer.proofs.DatasetNow.{length_messages-small}
 
 -- writing does not look at the place of the address

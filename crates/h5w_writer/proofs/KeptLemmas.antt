@@ -3,7 +3,7 @@ use Rattle.std.proofs.Common.{◌≡◌, ℕ, suc, ◌+◌, ◌-◌, ◌*◌, �
 use Rattle.std.proofs.lemmas.List.{append_assoc, length-take, length-replicate, get_or-take, get_or_default}
 use Rattle.std.proofs.lemmas.List.Sorted.{length_permutation}
 use Rattle.std.proofs.lemmas.Bool.{le-ltb}
-use Rattle.std.proofs.lemmas.Nat.{mul-le, div_below}
+use Rattle.std.proofs.lemmas.Nat.{div_below}
 use Rattle.std.proofs.Math.Seq.{take-suc-set, set-append_seam}
 use Rattle.std.specs.Result.{IsOk, is_err, IfOk}
 use Rattle.h5w_model.specs.Numbers.{undefined}

@@ -1,6 +1,6 @@
 -- A file with one dataset of rank 1, all of whose chunks' addresses stand in the index block: its blocks, where its
 -- cells stand, and what it reads as.
-use Rattle.std.specs.Prelude.{◌≡◌, ℕ, ◌+◌, ◌-◌, ◌*◌, ◌/◌, ◌%◌, ◌^◌, ◌<◌, ◌≤◌, max, true, false, List, [], ◌∷◌, ◌++◌, length, take, replicate, get_or, slice_get, ℤ, Some, None}
+use Rattle.std.specs.Prelude.{◌≡◌, ℕ, ◌+◌, ◌-◌, ◌*◌, ◌/◌, ◌%◌, ◌^◌, ◌≤◌, max, true, false, List, [], ◌∷◌, ◌++◌, length, take, replicate, get_or, slice_get, ℤ, Some, None}
 use Rattle.h5w_model.specs.Numbers.{width_of, undefined}
 use Rattle.h5w_model.specs.Images.{At, Holds, ApartEach}
 use Rattle.h5w_model.specs.Superblock.{super_bytes}

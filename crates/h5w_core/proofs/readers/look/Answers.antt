@@ -1,4 +1,3 @@
-use Rattle.std.proofs.Common.{sym, ◌∙◌}
 use Rattle.h5w_reader.specs.Cores.{reader}
 use Rattle.h5w_core.proofs.PlaceLemmas.{look_goes_on}
 use Rattle.h5w_core.proofs.WantLemmas.{core_wants}

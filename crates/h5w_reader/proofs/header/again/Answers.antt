@@ -1,4 +1,4 @@
-use Rattle.std.proofs.Common.{◌+◌, ◌<◌, ◌^◌, rules, arith}
+use Rattle.std.proofs.Common.{◌+◌, ◌<◌, ◌^◌, arith}
 use Rattle.h5w_reader.proofs.HeaderLemmas.{differ_below}
 use Rattle.h5w_reader.proofs.header.again.Goals as goal
 

@@ -1,8 +1,8 @@
-use Rattle.std.proofs.Common.{◌≡◌, ◌+◌, ◌++◌, ◌∙◌, length, take, drop, replicate, ℕ, List, ap, sym, subst, arith}
+use Rattle.std.proofs.Common.{◌≡◌, ◌+◌, ◌∙◌, length, take, drop, replicate, ℕ, List, ap, sym, subst}
 use Rattle.std.proofs.lemmas.List.{take_at}
 use Rattle.std.specs.Result.{IfOk}
 use Rattle.h5w_model.specs.Links.{link_bytes}
-use Rattle.h5w_writer.specs.Files.{header_place, message}
+use Rattle.h5w_writer.specs.Files.{message}
 use Rattle.h5w_writer.proofs.HeadersNow.{length_link}
 use Rattle.h5w_writer.proofs.header.link_message.Goals as goal
 

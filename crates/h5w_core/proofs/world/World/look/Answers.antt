@@ -1,8 +1,3 @@
-use Rattle.std.proofs.Common.{Result, Ok, Err, List, Option, subst}
-use Rattle.std.specs.Result.{IfOk}
-use Rattle.h5w_model.specs.declared.event.Event.TheVariants as events
-use Rattle.h5w_model.specs.declared.reply.Reply.{Reply}
-use Rattle.h5w_core.specs.Worlds.{Steps, WorldView}
 use Rattle.h5w_core.proofs.ReaderLemmas.{look_answers, look_hold, look_kept, look_may}
 use Rattle.h5w_core.proofs.world.World.look.Goals as goal
 

@@ -1,9 +1,7 @@
-use Rattle.std.proofs.Common.{ℕ, Result, Ok, Err, List, Option, subst}
+use Rattle.std.proofs.Common.{ℕ, List, subst}
 use Rattle.std.specs.Result.{IfOk}
-use Rattle.h5w_model.specs.declared.event.Event.TheVariants as events
 use Rattle.h5w_model.specs.declared.reply.Reply.{Reply}
 use Rattle.h5w_core.specs.Readers.{OpenGives, placed}
-use Rattle.h5w_core.specs.Worlds.{Steps, WorldView}
 use Rattle.h5w_core.proofs.ReaderLemmas.{open_answers, open_hold}
 use Rattle.h5w_core.proofs.world.World.open.Goals as goal
 

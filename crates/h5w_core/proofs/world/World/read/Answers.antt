@@ -1,8 +1,3 @@
-use Rattle.std.proofs.Common.{Result, Ok, Err, List, Option, subst}
-use Rattle.std.specs.Result.{IfOk}
-use Rattle.h5w_model.specs.declared.event.Event.TheVariants as events
-use Rattle.h5w_model.specs.declared.reply.Reply.{Reply}
-use Rattle.h5w_core.specs.Worlds.{Steps, WorldView}
 use Rattle.h5w_core.proofs.ReaderLemmas.{read_answers, read_hold, read_may}
 use Rattle.h5w_core.proofs.world.World.read.Goals as goal
 

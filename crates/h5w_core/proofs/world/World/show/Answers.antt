@@ -1,4 +1,4 @@
-use Rattle.h5w_core.proofs.HoldLemmas.{Shows, show_hold, show_logs, show_steps}
+use Rattle.h5w_core.proofs.HoldLemmas.{show_hold, show_logs, show_steps}
 use Rattle.h5w_model.specs.declared.reply.Reply.TheVariants as replies
 use Rattle.h5w_core.proofs.world.World.show.Goals as goal
 

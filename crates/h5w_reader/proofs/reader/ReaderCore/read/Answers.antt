@@ -1,4 +1,4 @@
-use Rattle.std.proofs.Common.{◌≡◌, ◌≤◌, ◌+◌, ◌∙◌, sym, subst, ap, arith, Option, Some}
+use Rattle.std.proofs.Common.{◌≡◌, ◌≤◌, ◌+◌, ◌∙◌, sym, subst, ap, arith, Option}
 use Rattle.h5w_reader.specs.Attempts.{reading_of}
 use Rattle.h5w_reader.specs.Asked.{Asked, IsRead, beginning}
 use Rattle.h5w_reader.specs.Readers.{Left, Reader, for_values, known_of, rows_seen, values_program}

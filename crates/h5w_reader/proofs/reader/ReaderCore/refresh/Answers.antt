@@ -1,4 +1,4 @@
-use Rattle.std.proofs.Common.{◌≡◌, ◌∙◌, sym, subst, refl}
+use Rattle.std.proofs.Common.{sym, subst, refl}
 use Rattle.h5w_reader.specs.Asked.{Asked, beginning}
 use Rattle.h5w_reader.specs.Readers.{Reader, for_rows, known_of, rows_program}
 use Rattle.h5w_reader.specs.Cores.{reader}

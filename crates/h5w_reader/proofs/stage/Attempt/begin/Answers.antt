@@ -1,7 +1,7 @@
-use Rattle.std.proofs.Common.{◌≡◌, ◌∙◌, sym, ap, None}
+use Rattle.std.proofs.Common.{◌≡◌, ◌∙◌, sym, None}
 use Rattle.h5w_model.specs.Calls.{cut_header}
 use Rattle.h5w_reader.specs.Attempts.{rules_of, reading_of}
-use Rattle.h5w_reader.specs.Calling.{reached, behind_left}
+use Rattle.h5w_reader.specs.Calling.{behind_left}
 use Rattle.h5w_reader.proofs.CallLemmas.{attempt_cut, attempt_settled, attempt_refused, attempt_looks}
 use Rattle.h5w_reader.proofs.StageLemmas.{behind_looks}
 use Rattle.h5w_reader.proofs.stage.Attempt.begin.Goals as goal

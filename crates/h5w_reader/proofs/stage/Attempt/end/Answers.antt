@@ -1,6 +1,4 @@
-use Rattle.std.proofs.Common.{◌≡◌, ◌∙◌, ◌-◌, sym, ap, refl, None, true, false}
-use Rattle.std.specs.Prelude.{nat_eq}
-use Rattle.std.specs.Cmp.Lexicographic.{pointwise}
+use Rattle.std.proofs.Common.{◌≡◌, ◌∙◌, ◌-◌, sym, refl, None}
 use Rattle.h5w_model.specs.Calls.{cut_header}
 use Rattle.h5w_model.specs.Checked.{viewed}
 use Rattle.h5w_reader.specs.Attempts.{rules_of, reading_of}

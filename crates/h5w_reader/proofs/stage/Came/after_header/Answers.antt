@@ -1,4 +1,4 @@
-use Rattle.std.proofs.Common.{◌≡◌, ◌∙◌, ◌-◌, sym, ap, refl}
+use Rattle.std.proofs.Common.{sym}
 use Rattle.h5w_reader.specs.Attempts.{rules_of}
 use Rattle.h5w_reader.specs.Calling.{came, attempt_rest, rows_given}
 use Rattle.h5w_reader.proofs.PieceLemmas.{along}

@@ -1,4 +1,4 @@
-use Rattle.std.proofs.Common.{◌≡◌, ◌⊎◌, inl, inr, ◌∙◌, sym, ap, Ok, Err}
+use Rattle.std.proofs.Common.{◌≡◌, inl, inr, ◌∙◌, sym, Ok, Err}
 use Rattle.h5w_model.specs.Datasets.{linked}
 use Rattle.h5w_reader.specs.Walking.{founds}
 use Rattle.h5w_reader.specs.Calling.{place_rest}

@@ -1,11 +1,10 @@
-use Rattle.std.proofs.Common.{◌≡◌, ◌≤◌, ◌∙◌, sym, ap, refl, length, subst}
+use Rattle.std.proofs.Common.{◌∙◌, sym, ap, length, subst}
 use Rattle.h5w_model.specs.Checked.{viewed}
-use Rattle.h5w_model.specs.Headers.{header_view}
-use Rattle.h5w_model.specs.Programs.{bind, and_then, below_end}
+use Rattle.h5w_model.specs.Programs.{bind, and_then}
 use Rattle.h5w_reader.specs.Looks.{next_look, fed, Fits}
 use Rattle.h5w_reader.specs.Opening.{opening, opened}
 use Rattle.h5w_reader.specs.Attempts.{rules_of, reading_of}
-use Rattle.h5w_reader.specs.Calling.{came, stage_left, place_rest, behind_left, reached, confirm_rest, confirm_given, rows_given}
+use Rattle.h5w_reader.specs.Calling.{came, stage_left, place_rest, behind_left, confirm_rest, confirm_given, rows_given}
 use Rattle.h5w_reader.proofs.PieceLemmas.{along}
 use Rattle.h5w_reader.proofs.CallLemmas.{fed_bind, fits_bind, rows_begin, confirm_begins}
 use Rattle.h5w_reader.proofs.StageLemmas.{opening_looks, behind_looks}

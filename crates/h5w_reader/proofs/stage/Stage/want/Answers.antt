@@ -1,8 +1,8 @@
-use Rattle.std.proofs.Common.{◌∙◌, ap, Some, sym, refl}
+use Rattle.std.proofs.Common.{ap}
 use Rattle.h5w_model.specs.Checked.{viewed}
-use Rattle.h5w_reader.specs.Looks.{next_look, look_of}
+use Rattle.h5w_reader.specs.Looks.{next_look}
 use Rattle.h5w_reader.specs.Attempts.{rules_of, reading_of}
-use Rattle.h5w_reader.proofs.CallLemmas.{rows_begin, confirm_begins, wants_bind}
+use Rattle.h5w_reader.proofs.CallLemmas.{rows_begin, confirm_begins}
 use Rattle.h5w_reader.proofs.stage.Stage.want.Goals as goal
 
 pub returns-in-Header-clause-next : goal.returns-in-Header-clause-next

@@ -1,7 +1,7 @@
-use Rattle.std.proofs.Common.{arith, ◌≡◌, ◌+◌, ◌-◌, ◌*◌, ◌/◌, ◌∙◌, length, Some, ℕ, ap, sym}
+use Rattle.std.proofs.Common.{arith, ◌≡◌, ◌+◌, ◌-◌, ◌*◌, ◌/◌, ◌∙◌, Some, ℕ, ap, sym}
 use Rattle.h5w_space.specs.declared.Full.{Full}
 use Rattle.h5w_model.specs.Logs.{div_up}
-use Rattle.h5w_writer.specs.Files.{FileFields, chunk_len}
+use Rattle.h5w_writer.specs.Files.{FileFields}
 use Rattle.h5w_writer.specs.Flushes.{missing_chunks}
 use Rattle.h5w_writer.specs.Kept.{fields_of}
 use Rattle.h5w_writer.specs.Refusals.{full_for}
