@@ -1,5 +1,5 @@
-/* The checksum of the format in C: Bob Jenkins' lookup3 with initial value 0, as the standard library computes it, over
-   the bytes of a flush's blocks but their sums: superblock, array header, index block, dataset header. */
+/* The checksum of the format in C, as the standard library computes it: Bob Jenkins' lookup3 with initial value 0.
+   `lookup3 LENGTH COUNT` sums so many bytes, at most 4,096, so often. */
 #include <stdint.h>
 #include <stdio.h>
 #include <stdlib.h>
@@ -43,17 +43,18 @@ __attribute__((noinline)) uint32_t lookup3(const uint8_t *b, size_t n)
 
 int main(int count, char **words)
 {
-    static const size_t lengths[4] = {44, 68, 294, 78};
-    uint8_t bytes[294];
+    uint8_t bytes[4096];
+    size_t length = count > 1 ? (size_t)atol(words[1]) : 0;
+    long times = count > 2 ? atol(words[2]) : 1;
     uint32_t sum = 0;
-    long times = count > 1 ? atol(words[1]) : 1;
+    if (length > sizeof bytes || lookup3((const uint8_t *)"Four score and seven years ago", 30) != 0x17770551)
+        return 1;
     for (size_t k = 0; k < sizeof bytes; k++)
         bytes[k] = (uint8_t)(37 * k + 1);
-    if (lookup3((const uint8_t *)"Four score and seven years ago", 30) != 0x17770551)
-        return 1;
-    for (long t = 0; t < times; t++)
-        for (size_t k = 0; k < 4; k++)
-            sum ^= lookup3(bytes, lengths[k]);
+    for (long t = 0; t < times; t++) {
+        bytes[0] = (uint8_t)t;
+        sum ^= lookup3(bytes, length);
+    }
     printf("%08x\n", sum);
     return 0;
 }
