@@ -32,12 +32,12 @@ pub lengths : (f : FileFields) → IsFile f → Lengths f
 lengths f k = lengths_by f k.name_bound k.chunk_bound k.few
 
 -- n bytes from a place on meet no block of a file whose name has so many bytes, with so many rows in a chunk
-pub record ApartFive (place n named rows : ℕ) : Type 0 where
+pub record ApartFive (place n name_length rows : ℕ) : Type 0 where
   pub from_super : Apart place n 0 48
-  pub from_root : Apart place n root_place (54 + named)
-  pub from_header : Apart place n (header_place named) (messages_len rows + 11)
-  pub from_array : Apart place n (array_place named rows) 72
-  pub from_index : Apart place n (index_place named rows) 298
+  pub from_root : Apart place n root_place (54 + name_length)
+  pub from_header : Apart place n (header_place name_length) (messages_len rows + 11)
+  pub from_array : Apart place n (array_place name_length rows) 72
+  pub from_index : Apart place n (index_place name_length rows) 298
 
 apart_at : (place n other k j : ℕ) → k ≡ j → Apart place n other k → Apart place n other j
 apart_at place n other k j e h = subst (λ (x : ℕ). Apart place n other x) e h
@@ -90,8 +90,8 @@ further_missed w place n (b ∷ rest) f k at_place size choose h =
 
 -- ---- Behind the blocks
 
-pub first_end_small : (named rows : ℕ) → named ≤ 64 → rows ≤ 65536 → first_end named rows ≤ 622
-first_end_small named rows short high = let p = places named rows short high in omega arith
+pub first_end_small : (name_length rows : ℕ) → name_length ≤ 64 → rows ≤ 65536 → first_end name_length rows ≤ 622
+first_end_small name_length rows short high = let p = places name_length rows short high in omega arith
 
 -- a range behind the blocks meets none of them
 pub apart_blocks : (f : FileFields) (place n : ℕ) → length f.name ≤ 64 → f.chunk_rows ≤ 65536 → length f.addresses ≤ 4 → first_end (length f.name) f.chunk_rows ≤ place → ApartEach place n (blocks f)

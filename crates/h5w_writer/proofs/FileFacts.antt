@@ -43,13 +43,13 @@ fit-undefined n = All-replicate (λ (n : ℕ). n < 2 ^ 64) n undefined (lit< tt)
 
 -- ---- Places
 
-pub record Places (named rows : ℕ) : Type 0 where
-  pub short : named ≤ 64
-  pub low : 184 + named ≤ array_place named rows
-  pub high : array_place named rows ≤ 188 + named
+pub record Places (name_length rows : ℕ) : Type 0 where
+  pub short : name_length ≤ 64
+  pub low : 184 + name_length ≤ array_place name_length rows
+  pub high : array_place name_length rows ≤ 188 + name_length
 
-pub places : (named rows : ℕ) → named ≤ 64 → rows ≤ 65536 → Places named rows
-places named rows short h = let w = widths rows h in record { short = short; low = omega arith; high = omega arith }
+pub places : (name_length rows : ℕ) → name_length ≤ 64 → rows ≤ 65536 → Places name_length rows
+places name_length rows short h = let w = widths rows h in record { short = short; low = omega arith; high = omega arith }
 
 pub has_counts : (f : FileFields) → length f.addresses ≤ 4 → HasCounts (index_block_of f)
 has_counts f few =

@@ -32,7 +32,7 @@ superblock_now img f h stands =
 
 -- the bytes of its messages, by how many the name has
 abbrev pub root_len : ℕ → ℕ
-root_len named = 43 + named
+root_len name_length = 43 + name_length
 
 abbrev pub root_found : List ℕ → HeaderFields
 root_found name = record { messages = found_at root_place true (placed 7 (root_messages name)); ranges = record { place = root_place; len = root_len (length name) + 11 } ∷ [] }

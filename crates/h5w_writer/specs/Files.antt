@@ -39,18 +39,18 @@ root_place = 48
 
 -- the root header has 54 bytes beside the name
 abbrev pub header_place : ℕ → ℕ
-header_place named = root_place + 54 + named
+header_place name_length = root_place + 54 + name_length
 
 -- the dataset header is as long as the chunk sizes are wide
 abbrev pub array_place : ℕ → ℕ → ℕ
-array_place named rows = header_place named + 80 + 2 * width_of (max rows 4)
+array_place name_length rows = header_place name_length + 80 + 2 * width_of (max rows 4)
 
 abbrev pub index_place : ℕ → ℕ → ℕ
-index_place named rows = array_place named rows + eahd_len
+index_place name_length rows = array_place name_length rows + eahd_len
 
 -- the end-of-file address of a file without chunks
 abbrev pub first_end : ℕ → ℕ → ℕ
-first_end named rows = index_place named rows + eaib_len
+first_end name_length rows = index_place name_length rows + eaib_len
 
 abbrev pub chunk_len : ℕ → ℕ
 chunk_len rows = 4 * rows

@@ -30,11 +30,11 @@ fn layout(options: &Options) -> Layout
     requires { AreOptions options.now }
     ensures { result ≡ record { chunk = record { 0 = options.now.chunk_rows; 1 = 1 }; index = IndexKind.Array; address = array_place (length options.now.name) options.now.chunk_rows; at = 0 } }
 {
-    let named = options.name.as_slice().len() as u64;
+    let name_length = options.name.as_slice().len() as u64;
     Layout {
         chunk: (options.chunk_rows, 1),
         index: IndexKind::Array,
-        address: array_place(named, options.chunk_rows),
+        address: array_place(name_length, options.chunk_rows),
         at: 0,
     }
 }

@@ -75,6 +75,18 @@ const MOST_LETTERS: [Told; 5] = [
     (0, 48, [0xcb, 0x0d, 0xc4, 0x96]),
 ];
 
+fn append(
+    core: &mut WriterCore,
+    values: &[i128],
+    image: &mut MemImage,
+) -> Result<u64, AppendError> {
+    core.append(values, image)
+}
+
+fn flush(core: &mut WriterCore, image: &mut MemImage) -> Result<u64, FlushError> {
+    core.flush(image)
+}
+
 /// Makes the oldest pending piece visible and tells it; None where nothing is pending.
 fn show<W: PieceWrite>(core: &mut WriterCore, image: &mut W) -> Result<Option<Told>, ImageError>
     ensures cause { result ≡ Err ImageError.Failed → Rose (W.view image.old).faults (W.view image.new).faults }
@@ -121,23 +133,23 @@ fn three_rows_by_twos_and_a_fourth(rt: HostRuntime) -> Result<(), Fail> {
     let mut core = create(&rt, 2)?;
     show_all(&rt, &mut core, &mut image, &CREATION)?;
     assert_eq!(rt; (image.len(), core.end(), core.columns()), (558, 558, 1));
-    assert_eq!(rt; core.flush(&mut image), Ok(0));
-    assert_eq!(rt; core.append(&[1, 2, 3], &mut image), Ok(3));
+    assert_eq!(rt; flush(&mut core, &mut image), Ok(0));
+    assert_eq!(rt; append(&mut core, &[1, 2, 3], &mut image), Ok(3));
     assert_eq!(rt; (core.committed(), core.pending()), (0, 0));
-    assert_eq!(rt; core.flush(&mut image), Ok(6));
+    assert_eq!(rt; flush(&mut core, &mut image), Ok(6));
     assert_eq!(rt;
-        core.append(&[5], &mut image),
+        append(&mut core, &[5], &mut image),
         Err(AppendError::Busy { pending: 6 })
     );
     assert_eq!(rt;
-        core.flush(&mut image),
+        flush(&mut core, &mut image),
         Err(FlushError::Busy { pending: 6 })
     );
     assert_eq!(rt; (core.rows(), core.committed()), (3, 0));
     show_all(&rt, &mut core, &mut image, &THREE_ROWS)?;
     assert_eq!(rt; (image.len(), core.end()), (574, 574));
-    assert_eq!(rt; core.append(&[4], &mut image), Ok(4));
-    assert_eq!(rt; core.flush(&mut image), Ok(2));
+    assert_eq!(rt; append(&mut core, &[4], &mut image), Ok(4));
+    assert_eq!(rt; flush(&mut core, &mut image), Ok(2));
     show_all(&rt, &mut core, &mut image, &A_FOURTH_ROW)?;
     assert_eq!(rt; image.len(), 574);
     Ok(())
@@ -152,18 +164,21 @@ fn refused_rows_change_nothing(rt: HostRuntime) -> Result<(), Fail> {
         chunks: 5,
         limit: 4,
     };
-    assert_eq!(rt; core.append(&[1, 2, 3, 4, 5], &mut image), Err(full));
+    assert_eq!(rt; append(&mut core, &[1, 2, 3, 4, 5], &mut image), Err(full));
     let value = 0x8000_0000;
     let outside = AppendError::OutOfRange { index: 1, value };
     assert_eq!(rt;
-        core.append(&[1, value, -value - 1, 4, 5], &mut image),
+        append(&mut core, &[1, value, -value - 1, 4, 5], &mut image),
         Err(outside)
     );
-    assert_eq!(rt; core.append(&[1], &mut image), Err(AppendError::Failed));
-    assert_eq!(rt; core.append(&[1 - value, -value], &mut image), Ok(2));
-    assert_eq!(rt; core.flush(&mut image), Err(FlushError::Failed));
+    assert_eq!(rt;
+        append(&mut core, &[1], &mut image),
+        Err(AppendError::Failed)
+    );
+    assert_eq!(rt; append(&mut core, &[1 - value, -value], &mut image), Ok(2));
+    assert_eq!(rt; flush(&mut core, &mut image), Err(FlushError::Failed));
     assert_eq!(rt; (core.rows(), core.pending()), (2, 0));
-    assert_eq!(rt; core.flush(&mut image), Ok(6));
+    assert_eq!(rt; flush(&mut core, &mut image), Ok(6));
     let first = show(&mut core, &mut image)?.ok_or("first")?;
     assert_eq!(rt; first, (558, 4, [1, 0, 0, 0x80]));
     Ok(())
@@ -174,18 +189,18 @@ fn a_stopped_session_takes_nothing(rt: HostRuntime) -> Result<(), Fail> {
     let mut image = MemImage::new(rt.alloc())?;
     let mut core = create(&rt, 2)?;
     show_all(&rt, &mut core, &mut image, &CREATION)?;
-    assert_eq!(rt; core.append(&[1, 2, 3], &mut image), Ok(3));
-    assert_eq!(rt; core.flush(&mut image), Ok(6));
+    assert_eq!(rt; append(&mut core, &[1, 2, 3], &mut image), Ok(3));
+    assert_eq!(rt; flush(&mut core, &mut image), Ok(6));
     show(&mut core, &mut image)?;
     core.stop();
     assert_eq!(rt; (core.pending(), core.rows(), core.committed()), (0, 3, 0));
     assert_eq!(rt; show(&mut core, &mut image), Ok(None));
     assert_eq!(rt;
-        core.append(&[1 << 40], &mut image),
+        append(&mut core, &[1 << 40], &mut image),
         Err(AppendError::Stopped)
     );
     core.failed();
-    assert_eq!(rt; core.flush(&mut image), Err(FlushError::Stopped));
+    assert_eq!(rt; flush(&mut core, &mut image), Err(FlushError::Stopped));
     Ok(())
 }
 
@@ -202,8 +217,8 @@ fn the_width_of_chunk_rows_moves_the_places(rt: HostRuntime) -> Result<(), Fail>
         let mut core = create(&rt, chunk_rows)?;
         show_rest(&mut core, &mut image)?;
         assert_eq!(rt; image.len(), begin, "{chunk_rows}");
-        assert_eq!(rt; core.append(&[7], &mut image), Ok(1));
-        assert_eq!(rt; core.flush(&mut image), Ok(pieces), "{chunk_rows}");
+        assert_eq!(rt; append(&mut core, &[7], &mut image), Ok(1));
+        assert_eq!(rt; flush(&mut core, &mut image), Ok(pieces), "{chunk_rows}");
         let first = show(&mut core, &mut image)?.ok_or("first")?;
         assert_eq!(rt; first, (begin, 512, [0; 4]), "{chunk_rows}");
         show_rest(&mut core, &mut image)?;
@@ -249,10 +264,10 @@ fn a_flush_is_refused_where_a_chunk_has_no_place(rt: HostRuntime) -> Result<(), 
         let mut image = MemImage::new(rt.alloc())?;
         let mut core = create_as(&rt, b"data", 64, limit)?;
         show_rest(&mut core, &mut image)?;
-        core.append(&[7; 256][..rows.min(256)], &mut image)?;
+        append(&mut core, &[7; 256][..rows.min(256)], &mut image)?;
         let size = 256;
         let answer = answer.map_err(|at| FlushError::Space(Full { at, size, limit }));
-        assert_eq!(rt; core.flush(&mut image), answer, "{limit} {rows}");
+        assert_eq!(rt; flush(&mut core, &mut image), answer, "{limit} {rows}");
     }
     Ok(())
 }
@@ -262,15 +277,15 @@ fn a_full_file_stays_as_it_is(rt: HostRuntime) -> Result<(), Fail> {
     let mut image = MemImage::new(rt.alloc())?;
     let mut core = create_as(&rt, b"data", 128, 1024)?;
     show_rest(&mut core, &mut image)?;
-    assert_eq!(rt; core.append(&[7], &mut image), Ok(1));
+    assert_eq!(rt; append(&mut core, &[7], &mut image), Ok(1));
     let full = FlushError::Space(Full {
         at: 558,
         size: 512,
         limit: 1024,
     });
-    assert_eq!(rt; core.flush(&mut image), Err(full));
-    assert_eq!(rt; core.append(&[8], &mut image), Ok(2));
-    assert_eq!(rt; core.flush(&mut image), Err(full));
+    assert_eq!(rt; flush(&mut core, &mut image), Err(full));
+    assert_eq!(rt; append(&mut core, &[8], &mut image), Ok(2));
+    assert_eq!(rt; flush(&mut core, &mut image), Err(full));
     assert_eq!(rt; (core.rows(), core.committed(), core.pending()), (2, 0, 0));
     assert_eq!(rt; (image.len(), core.end()), (558, 558));
     Ok(())
