@@ -34,7 +34,7 @@ impl From<TextError> for Refusal {
     ghost use Rattle.h5w_text.specs.declared.script.TextError.TheVariants.{Grammar};
     ghost use Rattle.h5w_cli.specs.declared.answer.Refusal.TheVariants.{Line as outside};
 
-    ghost from_gives = { λ e r. r ≡ outside → e ≡ Grammar };
+    ghost from_gives = { λ e r. (r ≡ outside → e ≡ Grammar) × (e ≡ Grammar → r ≡ outside) };
 
     fn from(e: TextError) -> Refusal {
         match e {
