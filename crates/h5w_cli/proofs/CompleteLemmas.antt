@@ -8,7 +8,7 @@ use Rattle.h5w_words.specs.declared.job.Job.{Job}
 use Rattle.h5w_words.specs.declared.job.Job.TheVariants.{Play}
 use Rattle.h5w_core.specs.Worlds.{rules_for}
 use Rattle.h5w_cli.specs.Answers.{play_line_of}
-use Rattle.h5w_cli.specs.Plays.{Completes, HasScript, Plays, Refused, TooLong, input_limit}
+use Rattle.h5w_cli.specs.Plays.{Completes, HasFirst, HasScript, Plays, Refused, TooLong, input_limit}
 use Rattle.h5w_cli.specs.Runs.{Does, DoesWhole, Ran, RanWhole}
 use Rattle.h5w_cli.specs.declared.status.Status.{Status}
 use Rattle.h5w_cli.specs.declared.status.Status.TheVariants.{Done, Usage, Input, Source, Sink, Memory}
@@ -22,8 +22,8 @@ no_gap (x ∷ lines) more line (l ∷ script) none e = let f : map play_line_of 
 
 not_refused : (g : Rules) (s : SourceView) (text : List ℕ) → HasScript s → Refused g s text → ⊥
 not_refused g s text h r =
-    let first : (more : List (List ℕ)) × (lines_of h.input ≡ (r.lines ++ r.line ∷ []) ++ more) = subst (λ (o : Option (List ℕ)). IfSome o (λ input. (more : List (List ℕ)) × (lines_of input ≡ (r.lines ++ r.line ∷ []) ++ more))) h.told r.first in
-    no_gap r.lines first.0 r.line h.script r.outside (sym (ap (map play_line_of) (first.1 ∙ append_assoc r.lines (r.line ∷ []) first.0)) ∙ h.spelled)
+    let first : HasFirst (r.lines ++ r.line ∷ []) h.input = subst (λ (o : Option (List ℕ)). IfSome o (HasFirst (r.lines ++ r.line ∷ []))) h.told r.first in
+    no_gap r.lines (lines_of first.rest) r.line h.script r.outside (sym (ap (map play_line_of) (first.lines_are ∙ append_assoc r.lines (r.line ∷ []) (lines_of first.rest))) ∙ h.spelled)
 
 not_long : (g : Rules) (s : SourceView) (text : List ℕ) → HasScript s → TooLong g s text → ⊥
 not_long g s text h r =
@@ -44,7 +44,7 @@ plays_whole g Memory s t k l p = λ h source sink. inr refl
 
 -- a job
 pub does_whole : (job : Job) (status : Status) (s t : SourceView) (k l : SinkView) → Does job status s t k l → DoesWhole job status s t k l
-does_whole (Play name chunk_rows limit attempts) status s t k l does = plays_whole (rules_for chunk_rows limit attempts) status s t k l does
+does_whole (Play options attempts) status s t k l does = plays_whole (rules_for options attempts) status s t k l does
 
 -- a run, by its words
 pub ran_whole : (o : Option Job) (status : Status) (s t : SourceView) (k l : SinkView) → Ran o status s t k l → RanWhole o status s t k l

@@ -2,7 +2,6 @@ pub mod ShowLemmas
 pub mod LineLemmas
 pub mod PlayLemmas
 pub mod TellLemmas
-pub mod AlikeLemmas
 pub mod LookLemmas
 pub mod RangeLemmas
 pub mod CompleteLemmas

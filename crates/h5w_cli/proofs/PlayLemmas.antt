@@ -18,11 +18,9 @@ use Rattle.h5w_text.specs.declared.line.LineError.{LineError}
 use Rattle.h5w_text.specs.declared.line.LineError.TheVariants.{Failed, Input, OutOfMemory}
 use Rattle.h5w_text.proofs.LineLemmas.{lines_more, lines_done, passed_nothing, passed_twice, whole_cut, whole_lacks}
 use Rattle.h5w_core.specs.Worlds.{WorldView, Fits, rules_of}
-use Rattle.h5w_cli.specs.Alike.{Alike}
 use Rattle.h5w_cli.specs.Answers.{Answers, play_line_of}
-use Rattle.h5w_cli.proofs.AlikeLemmas.{alike_itself}
 use Rattle.h5w_cli.specs.Endings.{Answered, EndsAt, Runs, ending_of, outside}
-use Rattle.h5w_cli.specs.Plays.{Begun, Finished, Replied, SameSource, Stopped, input_limit}
+use Rattle.h5w_cli.specs.Plays.{Begun, Finished, HasFirst, Replied, SameSource, Stopped, input_limit}
 use Rattle.h5w_cli.specs.declared.ending.Ending.{Ending}
 use Rattle.h5w_cli.specs.declared.ending.Ending.TheVariants as endings
 use Rattle.h5w_cli.specs.declared.status.Status.TheVariants as statuses
@@ -111,9 +109,7 @@ pub record Going (v w : Reading) (begun world : WorldView) (number : ℕ) (k l :
   pub passed : Passed taken v w
   pub first : lines_left v ≡ option_map (λ ls. lines ++ ls) (lines_left w)
   pub rules : rules_of world ≡ rules_of begun
-  pub by_events : ScriptState
-  pub fits : Fits world by_events
-  pub alike : Alike by_events state
+  pub fits : Fits world state
   pub gave : Gave text k l
 
 all_left : (o : Option (List ℕ)) → option_map lines_of o ≡ option_map (λ ls. [] ++ ls) (option_map lines_of o)
@@ -133,23 +129,21 @@ going_first v world l fits = record {
   passed = passed_nothing v;
   first = all_left v.left;
   rules = refl;
-  by_events = at_first;
   fits = fits;
-  alike = alike_itself at_first;
   gave = gave_nothing l;
 }
 
 abbrev Stepped : WorldView → WorldView → WorldView → ScriptState → Line → Reply → Type 0
-Stepped begun old new t l r = Allowed (rules_of begun) t l r × ((u : ScriptState) × Fits new u × Alike u (next_state (rules_of begun) t l r))
+Stepped begun old new s l r = Allowed (rules_of begun) s l r × Fits new (next_state (rules_of begun) s l r)
 
-stepped : (begun old new : WorldView) (s t : ScriptState) (l : Line) (r : Reply) → rules_of old ≡ rules_of begun → Fits old s → Alike s t → Answers old l r new → Stepped begun old new t l r
-stepped begun old new s t l r e fits alike a =
-    subst (λ (g : Rules). Allowed g t l r × ((u : ScriptState) × Fits new u × Alike u (next_state g t l r))) e (a.lawful s t fits alike)
+stepped : (begun old new : WorldView) (s : ScriptState) (l : Line) (r : Reply) → rules_of old ≡ rules_of begun → Fits old s → Answers old l r new → Stepped begun old new s l r
+stepped begun old new s l r e fits a =
+    subst (λ (g : Rules). Allowed g s l r × Fits new (next_state g s l r)) e (a.lawful s fits)
 
 -- after one more line, whose bytes were passed over
 pub going_more : {v u w : Reading} {begun old new : WorldView} {number : ℕ} {k l m : SinkView} (line bytes : List ℕ) → Going v u begun old number k l → Given line u w → Passed bytes u w → Answered line old new l m → Going v w begun new (number + 1) k m
 going_more {v} {u} {w} {begun} {old} {new} {number} {k} {l} {m} line bytes x given passed a =
-    let s = stepped begun old new x.by_events x.state a.line a.reply x.rules x.fits x.alike a.answers in record {
+    let s = stepped begun old new x.state a.line a.reply x.rules x.fits a.answers in record {
       lines = x.lines ++ line ∷ [];
       text = x.text ++ reply_text a.reply;
       state = next_state (rules_of begun) x.state a.line a.reply;
@@ -160,9 +154,7 @@ going_more {v} {u} {w} {begun} {old} {new} {number} {k} {l} {m} line bytes x giv
       passed = passed_twice x.taken bytes x.passed passed;
       first = lines_more (lines_left v) x.lines line u w x.first given;
       rules = a.answers.rules ∙ x.rules;
-      by_events = s.1.0;
-      fits = s.1.1;
-      alike = s.1.2;
+      fits = s.1;
       gave = gave_both x.text (reply_text a.reply) x.gave a.gave;
     }
 
@@ -192,15 +184,25 @@ whole_more line x given is a = record {
 none_more : (taken front : List ℕ) (lines : List (List ℕ)) → Lacks 10 front → ((more : List ℕ) → whole_lines_of (taken ++ more) ≡ lines ++ whole_lines_of more) → lines ≡ whole_lines_of (taken ++ front)
 none_more taken front lines lacks whole = sym (whole front ∙ ap (λ ls. lines ++ ls) (whole_lacks [] front lacks) ∙ append-nil lines)
 
-first_cases : (a b : Option (List ℕ)) (lines : List (List ℕ)) → option_map lines_of a ≡ option_map (λ ls. lines ++ ls) (option_map lines_of b) → IfSome a (λ input. (more : List (List ℕ)) × (lines_of input ≡ lines ++ more))
-first_cases None b lines e = tt
-first_cases (Some a) None lines e = absurd (cc)
-first_cases (Some a) (Some b) lines e = (lines_of b, cc)
+first_cases : (a b : Option (List ℕ)) (taken : List ℕ) (lines : List (List ℕ)) → length taken ≤ input_limit → a ≡ option_map (λ rest. taken ++ rest) b
+    → option_map lines_of a ≡ option_map (λ ls. lines ++ ls) (option_map lines_of b) → IfSome a (HasFirst lines)
+first_cases None b taken lines bound cut e = tt
+first_cases (Some a) None taken lines bound cut e = absurd (cc)
+first_cases (Some a) (Some b) taken lines bound cut e = record { taken = taken; rest = b; is = cc; bound = bound; lines_are = cc }
 
-begun_of : {v w : Reading} {begun world : WorldView} {number : ℕ} {k l : SinkView} (x : Going v w begun world number k l) (last text : List ℕ) → text ≡ x.text ++ last → Begun (rules_of begun) (outside v) last text
-begun_of {v} {w} {begun} x last text e = record {
+-- the bytes of a line that was given, behind those that were taken before
+more_first : {v u w : Reading} (taken line : List ℕ) (lines : List (List ℕ)) → v.room ≡ input_limit → Passed taken v u → Given line u w → lines_left v ≡ option_map (λ ls. lines ++ ls) (lines_left w)
+    → IfSome v.left (HasFirst lines)
+more_first {v} {u} {w} taken line lines room passed given first = elim given.passed [
+  | inl p ↦ (let both = passed_twice taken line passed p in first_cases v.left w.left (taken ++ line) lines (omega (arith, both.room, room)) both.left first)
+  | inr p ↦ (let both = passed_twice taken (line ++ 10 ∷ []) passed p in first_cases v.left w.left (taken ++ (line ++ 10 ∷ [])) lines (omega (arith, both.room, room)) both.left first)
+]
+
+begun_of : {v w : Reading} {begun world : WorldView} {number : ℕ} {k l : SinkView} (x : Going v w begun world number k l) (last text : List ℕ) → v.room ≡ input_limit → text ≡ x.text ++ last
+    → Begun (rules_of begun) (outside v) last text
+begun_of {v} {w} {begun} x last text room e = record {
   lines = x.lines;
-  first = first_cases v.left w.left x.lines x.first;
+  first = first_cases v.left w.left x.taken x.lines (omega (arith, x.passed.room, room)) x.passed.left x.first;
   answers = x.text;
   replied = replied_of (rules_of begun) x.lines x.text x.state x.so_far;
   is = e;
@@ -227,10 +229,11 @@ all_of_left None held e = refl
 all_of_left (Some a) held e = ap (λ h. Some (h ++ a)) e
 
 -- the source failed behind whole lines
-stopped_of : {v u : Reading} {begun world : WorldView} {number : ℕ} {k l : SinkView} (t : SourceView) (j : IntakeView) (last : List ℕ) (x : GoingWhole v u begun world number k l) → GivenUp u (reading t j) j.held
+stopped_of : {v u : Reading} {begun world : WorldView} {number : ℕ} {k l : SinkView} (t : SourceView) (j : IntakeView) (last : List ℕ) (x : GoingWhole v u begun world number k l) → v.room ≡ input_limit → GivenUp u (reading t j) j.held
     → Stopped (rules_of begun) (outside v) t last (x.going.text ++ last)
-stopped_of {v} {u} {begun} t j last x up = let both = passed_twice x.going.taken up.front x.going.passed up.passed in record {
+stopped_of {v} {u} {begun} t j last x room up = let both = passed_twice x.going.taken up.front x.going.passed up.passed in record {
   taken = x.going.taken ++ up.front;
+  bound = omega (arith, both.room, room);
   read = both.left ∙ ap (option_map (λ rest. (x.going.taken ++ up.front) ++ rest)) (all_of_left t.left j.held up.none);
   answers = x.going.text;
   replied = subst (λ (ls : List (List ℕ)). Replied (rules_of begun) ls x.going.text) (none_more x.going.taken up.front x.going.lines up.lacks x.whole) (replied_of (rules_of begun) x.going.lines x.going.text x.going.state x.going.so_far);
@@ -242,13 +245,13 @@ pub ended_at_source : {v u : Reading} {begun world : WorldView} {number : ℕ} {
     → (e ≡ Failed → GivenUp u (reading t j) j.held) → ((limit : ℕ) → e ≡ Input limit → IsOver u) → Runs {A = Unit {0}} (rules_of begun) (Err (ending_of e)) (outside v) t k l
 ended_at_source {v} {u} t j Failed x room rose up over = record {
   text = x.going.text;
-  begun = begun_of x.going [] x.going.text (sym (append-nil x.going.text));
-  writes = (rose_before v.faults u.faults t.faults x.going.passed.stays.faults (rose refl), stopped_of t j (error_text errors.Source) x (up refl));
+  begun = begun_of x.going [] x.going.text room (sym (append-nil x.going.text));
+  writes = (rose_before v.faults u.faults t.faults x.going.passed.stays.faults (rose refl), stopped_of t j (error_text errors.Source) x room (up refl));
   gave = x.going.gave;
 }
 ended_at_source {v} {u} {begun} t j (Input limit) x room rose up over = record {
   text = x.going.text;
-  begun = begun_of x.going [] x.going.text (sym (append-nil x.going.text));
+  begun = begun_of x.going [] x.going.text room (sym (append-nil x.going.text));
   writes = inr (record {
     lines = x.going.lines;
     long = too_long x.going.taken x.going.lines v.left u.left u.room input_limit x.whole x.going.passed.left (sym room ∙ x.going.passed.room) (over limit refl);
@@ -260,21 +263,21 @@ ended_at_source {v} {u} {begun} t j (Input limit) x room rose up over = record {
 }
 ended_at_source t j OutOfMemory x room rose up over = record {
   text = x.going.text;
-  begun = begun_of x.going [] x.going.text (sym (append-nil x.going.text));
-  writes = begun_of x.going (error_text errors.Memory) (x.going.text ++ error_text errors.Memory) refl;
+  begun = begun_of x.going [] x.going.text room (sym (append-nil x.going.text));
+  writes = begun_of x.going (error_text errors.Memory) (x.going.text ++ error_text errors.Memory) room refl;
   gave = x.going.gave;
 }
 
 -- the next line is given no reply, or its reply is not written
-pub ended_at_line : {v u w : Reading} {begun world : WorldView} {number : ℕ} {k l : SinkView} (t : SourceView) (m : SinkView) (line : List ℕ) (e : Ending) → Going v u begun world number k l → Given line u w → EndsAt line (number + 1) world l m e
+pub ended_at_line : {v u w : Reading} {begun world : WorldView} {number : ℕ} {k l : SinkView} (t : SourceView) (m : SinkView) (line : List ℕ) (e : Ending) → v.room ≡ input_limit → Going v u begun world number k l → Given line u w → EndsAt line (number + 1) world l m e
     → Runs {A = Unit {0}} (rules_of begun) (Err e) (outside v) t k m
-ended_at_line {v} {u} {w} {begun} {world} {number} {k} {l} t m line (endings.Line n) x given h = record {
+ended_at_line {v} {u} {w} {begun} {world} {number} {k} {l} t m line (endings.Line n) room x given h = record {
   text = x.text;
-  begun = begun_of x [] x.text (sym (append-nil x.text));
+  begun = begun_of x [] x.text room (sym (append-nil x.text));
   writes = inl (record {
     lines = x.lines;
     line = line;
-    first = first_cases v.left w.left (x.lines ++ line ∷ []) (lines_more (lines_left v) x.lines line u w x.first given);
+    first = more_first x.taken line (x.lines ++ line ∷ []) room x.passed given (lines_more (lines_left v) x.lines line u w x.first given);
     outside = h.1;
     answers = x.text;
     replied = replied_of (rules_of begun) x.lines x.text x.state x.so_far;
@@ -282,16 +285,16 @@ ended_at_line {v} {u} {w} {begun} {world} {number} {k} {l} t m line (endings.Lin
   });
   gave = subst (λ (s : SinkView). Gave x.text k s) (sym h.2) x.gave;
 }
-ended_at_line t m line endings.Input x given h = absurd h
-ended_at_line t m line endings.Source x given h = absurd h
-ended_at_line {v} {u} {w} {begun} {world} {number} {k} {l} t m line endings.Sink x given h =
-    let s = stepped begun world h.new x.by_events x.state h.line h.reply x.rules x.fits x.alike h.answers in record {
+ended_at_line t m line endings.Input room x given h = absurd h
+ended_at_line t m line endings.Source room x given h = absurd h
+ended_at_line {v} {u} {w} {begun} {world} {number} {k} {l} t m line endings.Sink room x given h =
+    let s = stepped begun world h.new x.state h.line h.reply x.rules x.fits h.answers in record {
       rose = rose_before k.faults l.faults m.faults x.gave.faults h.rose;
       status = statuses.Sink;
       text = x.text ++ reply_text h.reply;
       writes = record {
         lines = x.lines ++ line ∷ [];
-        first = first_cases v.left w.left (x.lines ++ line ∷ []) (lines_more (lines_left v) x.lines line u w x.first given);
+        first = more_first x.taken line (x.lines ++ line ∷ []) room x.passed given (lines_more (lines_left v) x.lines line u w x.first given);
         answers = x.text ++ reply_text h.reply;
         replied = replied_of (rules_of begun) (x.lines ++ line ∷ []) (x.text ++ reply_text h.reply) (next_state (rules_of begun) x.state h.line h.reply)
             (more_so_far (rules_of begun) x.lines x.text x.state line h.line h.reply x.so_far h.spelled s.0);
@@ -299,10 +302,10 @@ ended_at_line {v} {u} {w} {begun} {world} {number} {k} {l} t m line endings.Sink
       };
       gave = gave_then_some x.text (reply_text h.reply) x.gave h.gave;
     }
-ended_at_line {k = k} t m line endings.Memory x given h = record {
+ended_at_line {k = k} t m line endings.Memory room x given h = record {
   text = x.text;
-  begun = begun_of x [] x.text (sym (append-nil x.text));
-  writes = begun_of x (error_text errors.Memory) (x.text ++ error_text errors.Memory) refl;
+  begun = begun_of x [] x.text room (sym (append-nil x.text));
+  writes = begun_of x (error_text errors.Memory) (x.text ++ error_text errors.Memory) room refl;
   gave = subst (λ (s : SinkView). Gave x.text k s) (sym h) x.gave;
 }
 
@@ -318,11 +321,21 @@ none_behind : (a : Option (List ℕ)) (held : List ℕ) → IfSome (option_map (
 none_behind None held h = tt
 none_behind (Some a) held h = empty_behind held a h
 
+-- where nothing is left all that there was was taken
+all_taken : (a b : Option (List ℕ)) (taken : List ℕ) → a ≡ option_map (λ rest. taken ++ rest) b → IfSome b (λ rest. rest ≡ []) → length taken ≤ input_limit → IfSome a (λ input. length input ≤ input_limit)
+all_taken None b taken e none bound = tt
+all_taken (Some a) None taken e none bound = absurd (cc)
+all_taken (Some a) (Some b) taken e none bound =
+    let is : a ≡ taken ++ b = cc in
+    let same : length a ≡ length taken = ap length is ∙ ap (λ rest. length (taken ++ rest)) none ∙ ap length (append-nil taken) in
+    omega (arith, same, bound)
+
 -- no line is left
-pub ended_whole : {v u : Reading} {begun world : WorldView} {number : ℕ} {k l : SinkView} (t : SourceView) (j : IntakeView) → Going v u begun world number k l → Ended u (reading t j) → Finished (rules_of begun) statuses.Done (outside v) t k l
-ended_whole {v} {u} {begun} t j x e = record {
+pub ended_whole : {v u : Reading} {begun world : WorldView} {number : ℕ} {k l : SinkView} (t : SourceView) (j : IntakeView) → v.room ≡ input_limit → Going v u begun world number k l → Ended u (reading t j) → Finished (rules_of begun) statuses.Done (outside v) t k l
+ended_whole {v} {u} {begun} t j room x e = record {
   text = x.text;
   writes = record {
+    bound = all_taken v.left u.left x.taken x.passed.left e.before (omega (arith, x.passed.room, room));
     lines = x.lines;
     all = all_cases v.left x.lines (lines_done (lines_left v) x.lines u (reading t j) x.first e);
     read = none_behind t.left j.held e.now;
@@ -337,12 +350,12 @@ last_more line x given (inl p) a = going_more line line x given p a
 last_more line x given (inr p) a = going_more line (line ++ 10 ∷ []) x given p a
 
 -- the last line, which no end follows, is answered, or the script ends at it
-pub ended_at_last : {v u : Reading} {begun old : WorldView} {number : ℕ} {k l : SinkView} (new : WorldView) (t : SourceView) (j : IntakeView) (m : SinkView) (line : text_lines.Line) (r : Result (Unit {0}) Ending) → Going v u begun old number k l
+pub ended_at_last : {v u : Reading} {begun old : WorldView} {number : ℕ} {k l : SinkView} (new : WorldView) (t : SourceView) (j : IntakeView) (m : SinkView) (line : text_lines.Line) (r : Result (Unit {0}) Ending) → v.room ≡ input_limit → Going v u begun old number k l
     → (bytes : List ℕ) × IsLine line bytes × Given bytes u (reading t j) × IfSome (reading t j).left (λ left. left ≡ [])
     → OnOk r ((bytes : List ℕ) → IsLine line bytes → Answered bytes old new l m) → IfErr r (λ e. (bytes : List ℕ) → IsLine line bytes → EndsAt bytes (number + 1) old l m e) → Runs (rules_of begun) r (outside v) t k m
-ended_at_last new t j m line (Ok a) x given answered ended =
-    ended_whole t j (last_more given.0 x given.2 given.2.passed (answered given.0 given.1)) (record { before = given.3; now = given.3 })
-ended_at_last new t j m line (Err e) x given answered ended = ended_at_line t m given.0 e x given.2 (ended given.0 given.1)
+ended_at_last new t j m line (Ok a) room x given answered ended =
+    ended_whole t j room (last_more given.0 x given.2 given.2.passed (answered given.0 given.1)) (record { before = given.3; now = given.3 })
+ended_at_last new t j m line (Err e) room x given answered ended = ended_at_line t m given.0 e room x given.2 (ended given.0 given.1)
 
 -- ---- The lines of a source
 

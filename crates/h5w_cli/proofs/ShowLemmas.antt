@@ -5,7 +5,6 @@ use Rattle.h5w_model.specs.declared.reply.Reply.{Reply}
 use Rattle.h5w_model.specs.declared.reply.Reply.TheVariants.{Written}
 use Rattle.h5w_core.specs.Worlds.{WorldView, Fits, rules_of}
 use Rattle.h5w_cli.specs.Answers.{Answers}
-use Rattle.h5w_cli.proofs.AlikeLemmas.{event_answers}
 
 -- the state where so many pieces are pending
 abbrev with_pending : ScriptState → ℕ → ScriptState
@@ -68,6 +67,9 @@ more_shown old now new j reply h bound same step = record {
 
 -- the pieces that one line asks for
 pub line_shown : (old now : WorldView) (most pieces : ℕ) → Shown old now pieces → pieces ≡ min most (length old.session.pending) → Answers old (shows_up_to most) (Written pieces (length old.session.pending - pieces)) now
-line_shown old now most pieces h e = event_answers old now (shows_up_to most) (Written pieces (length old.session.pending - pieces)) h.rules (λ s f.
-    let whole : pieces ≡ min most s.pending = e ∙ ap (min most) (sym f.state.pending) in
-    (ap (λ q. Written pieces (q - pieces)) (sym f.state.pending) ∙ ap (λ p. Written p (s.pending - p)) whole, h.fits s f))
+line_shown old now most pieces h e = record {
+  rules = h.rules;
+  lawful = λ s f.
+      let whole : pieces ≡ min most s.pending = e ∙ ap (min most) (sym f.state.pending) in
+      (ap (λ q. Written pieces (q - pieces)) (sym f.state.pending) ∙ ap (λ p. Written p (s.pending - p)) whole, h.fits s f);
+}

@@ -1,9 +1,8 @@
 -- The last line of a script.
-use Rattle.std.proofs.Common.{ℕ, ◌≡◌, ◌≢◌, ◌⊎◌, List, [], ◌++◌, Option, Some, None, Err, refl, ap, ◌∙◌, subst, sym, inl, inr, append-nil}
+use Rattle.std.proofs.Common.{ℕ, ◌≡◌, ◌≢◌, ◌⊎◌, List, [], ◌++◌, Option, Some, None, Err, refl, ap, ◌∙◌, subst, sym, inl, inr, arith, append-nil}
 use Rattle.std.specs.Prelude.{IfSome}
 use Rattle.h5w_model.specs.Lawful.{Rules}
 use Rattle.h5w_text.specs.Streams.{SourceView, SinkView}
-use Rattle.h5w_text.specs.Lines.{lines_of}
 use Rattle.h5w_text.specs.Errors.{error_text}
 use Rattle.h5w_text.specs.declared.error.ErrorLine.TheVariants as errors
 use Rattle.h5w_cli.specs.Endings.{Leaves, Runs, Said, Told, whole, failed}
@@ -13,7 +12,7 @@ use Rattle.h5w_words.specs.declared.job.WordsError.{WordsError}
 use Rattle.h5w_words.specs.declared.job.Job.{Job}
 use Rattle.h5w_words.specs.declared.job.Job.TheVariants.{Play}
 use Rattle.h5w_cli.specs.Runs.{Does, Ran}
-use Rattle.h5w_cli.specs.Plays.{Begun, Finished, Plays}
+use Rattle.h5w_cli.specs.Plays.{Begun, Finished, HasFirst, Plays}
 use Rattle.h5w_cli.specs.declared.status.Status.{Status}
 use Rattle.h5w_cli.specs.declared.status.Status.TheVariants.{Done, Usage, Input, Source, Sink, Memory}
 use Rattle.h5w_cli.proofs.PlayLemmas.{gave_both, gave_nothing, gave_then_some, replied_nothing, rose_before}
@@ -28,9 +27,9 @@ begun_with g s last text b = record {
   is = ap (λ x. x ++ last) (b.is ∙ append-nil b.answers);
 }
 
-all_first : (o : Option (List ℕ)) → IfSome o (λ input. (more : List (List ℕ)) × (lines_of input ≡ [] ++ more))
+all_first : (o : Option (List ℕ)) → IfSome o (HasFirst [])
 all_first None = tt
-all_first (Some input) = (lines_of input, refl)
+all_first (Some input) = record { taken = []; rest = input; is = refl; bound = omega arith; lines_are = refl }
 
 -- before the first line
 begun_first : (g : Rules) (s : SourceView) (last : List ℕ) → Begun g s last last
@@ -73,8 +72,8 @@ runs_at g h e x s t k l p q r = subst (λ (h : Rules). Runs {A = Unit {0}} h (Er
 -- memory was refused before the words were known
 pub ran_wanting : (o : Option Job) (status : Status) (s : SourceView) (k l : SinkView) → Said (error_text errors.Memory) Memory status k l → Ran o status s s k l
 ran_wanting None status s k l said = record { unread = refl; told = inr said }
-ran_wanting (Some (Play name chunk_rows limit attempts)) status s k l said =
-    let g = rules_for chunk_rows limit attempts in ends_said g Memory status (error_text errors.Memory) s s k k l (λ e. cc) (leaves_first g s k) said
+ran_wanting (Some (Play options attempts)) status s k l said =
+    let g = rules_for options attempts in ends_said g Memory status (error_text errors.Memory) s s k k l (λ e. cc) (leaves_first g s k) said
 
 -- the words are outside the command set
 pub ran_outside : (o : Option Job) (status : Status) (s : SourceView) (k l : SinkView) → o ≡ None → Said (error_text errors.Usage) Usage status k l → Ran o status s s k l

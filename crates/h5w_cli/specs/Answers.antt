@@ -3,7 +3,6 @@ use Rattle.std.specs.Prelude.{◌≡◌, ℕ, ◌≤◌, List, Option}
 use Rattle.h5w_model.specs.Lawful.{Line, opens, refreshes, reads, looks, ScriptState, Allowed, next_state}
 use Rattle.h5w_model.specs.declared.reply.Reply.{Reply}
 use Rattle.h5w_text.specs.Scripts.{script_line_of}
-use Rattle.h5w_cli.specs.Alike.{Alike}
 use Rattle.h5w_core.specs.Worlds.{WorldView, Fits, rules_of}
 
 -- its reader is one of 16, and it asks for a look at least
@@ -18,8 +17,8 @@ InRange line = Unit {0}
 abbrev pub play_line_of : List ℕ → Option Line
 play_line_of bytes = script_line_of 1 bytes
 
--- A line that was given a reply between two worlds: for each state that is alike to one that fits the world before, the reply
--- is lawful, and the next state is alike to one that fits the world after.
+-- A line that was given a reply between two worlds: for each state that fits the world before, the reply is lawful, and the
+-- next state fits the world after.
 pub record Answers (old : WorldView) (line : Line) (reply : Reply) (new : WorldView) : Type 0 where
   pub rules : rules_of new ≡ rules_of old
-  pub lawful : (s t : ScriptState) → Fits old s → Alike s t → Allowed (rules_of old) t line reply × ((u : ScriptState) × Fits new u × Alike u (next_state (rules_of old) t line reply))
+  pub lawful : (s : ScriptState) → Fits old s → Allowed (rules_of old) s line reply × Fits new (next_state (rules_of old) s line reply)

@@ -13,4 +13,3 @@ pub mod Answers
 pub mod Plays
 pub mod Endings
 pub mod Runs
-pub mod Alike

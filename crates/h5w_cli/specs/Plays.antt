@@ -25,12 +25,22 @@ pub record Replied (g : Rules) (lines : List (List ℕ)) (text : List ℕ) : Typ
   pub lawful : Lawful g at_first script replies
   pub is : text ≡ flat_map reply_text replies
 
+-- these lines are the first of an input: they stand in its first bytes, of which there are no more than an input may have,
+-- and the others stand behind these bytes
+pub record HasFirst (lines : List (List ℕ)) (input : List ℕ) : Type 0 where
+  pub taken : List ℕ
+  pub rest : List ℕ
+  pub is : input ≡ taken ++ rest
+  pub bound : length taken ≤ input_limit
+  pub lines_are : lines_of input ≡ lines ++ lines_of rest
+
 -- these lines are the first of those that a source had left, where it tells its bytes
 abbrev pub AreFirst : List (List ℕ) → SourceView → Type 0
-AreFirst lines s = IfSome s.left (λ input. (more : List (List ℕ)) × (lines_of input ≡ lines ++ more))
+AreFirst lines s = IfSome s.left (HasFirst lines)
 
--- the whole input was read and answered
+-- the whole input, which is not too long, was read and answered
 pub record Whole (g : Rules) (s t : SourceView) (text : List ℕ) : Type 0 where
+  pub bound : IfSome s.left (λ input. length input ≤ input_limit)
   pub lines : List (List ℕ)
   pub all : IfSome s.left (λ input. lines_of input ≡ lines)
   pub read : IfSome t.left (λ rest. rest ≡ [])
@@ -59,6 +69,7 @@ pub record Refused (g : Rules) (s : SourceView) (text : List ℕ) : Type 0 where
 -- last piece that was read without its end nothing is answered
 pub record Stopped (g : Rules) (s t : SourceView) (last text : List ℕ) : Type 0 where
   pub taken : List ℕ
+  pub bound : length taken ≤ input_limit
   pub read : s.left ≡ option_map (λ rest. taken ++ rest) t.left
   pub answers : List ℕ
   pub replied : Replied g (whole_lines_of taken) answers

@@ -13,7 +13,7 @@ use Rattle.h5w_cli.specs.declared.status.Status.TheVariants as statuses
 
 -- what a job leaves of source and sink
 abbrev pub Does : Job → Status → SourceView → SourceView → SinkView → SinkView → Type 0
-Does (Play name chunk_rows limit attempts) status s t k l = Plays (rules_for chunk_rows limit attempts) status s t k l
+Does (Play options attempts) status s t k l = Plays (rules_for options attempts) status s t k l
 
 -- the words are outside the command set: nothing is read, and that is said
 pub record Refuses (status : Status) (s t : SourceView) (k l : SinkView) : Type 0 where
@@ -27,7 +27,7 @@ Ran (Some job) status s t k l = Does job status s t k l
 
 -- a job is done, or memory is wanted, where nothing else stands in its way
 abbrev pub DoesWhole : Job → Status → SourceView → SourceView → SinkView → SinkView → Type 0
-DoesWhole (Play name chunk_rows limit attempts) status s t k l = Completes status s t k l
+DoesWhole (Play options attempts) status s t k l = Completes status s t k l
 
 -- the same of the job that words of the command set have
 abbrev pub RanWhole : Option Job → Status → SourceView → SourceView → SinkView → SinkView → Type 0

@@ -26,11 +26,6 @@ pub fn plain<S: Source, K: Sink, D: Disk>(
     ensures disk { D.view _disk.new ≡ D.view _disk.old }
 {
     match job {
-        Job::Play {
-            name,
-            chunk_rows,
-            limit,
-            attempts,
-        } => play(alloc, name, *chunk_rows, *limit, *attempts, source, sink),
+        Job::Play { options, attempts } => play(alloc, options, *attempts, source, sink),
     }
 }

@@ -1,6 +1,7 @@
 //! A script of a writer and readers.
 ghost use Rattle.std.specs.Prelude.{◌≡◌, ◌≤◌, ◌+◌, ◌^◌, ℕ, List, [], length, OnOk, IfErr, IfOk};
 ghost use Rattle.h5w_model.specs.Lawful.{at_first};
+ghost use Rattle.h5w_model.specs.Options.{AreAttempts, AreOptions};
 ghost use Rattle.h5w_text.specs.Errors.{error_text};
 ghost use Rattle.h5w_text.specs.Reading.{IsLine, reading};
 ghost use Rattle.h5w_core.specs.Worlds.{Fits, rules_for, rules_of};
@@ -10,10 +11,8 @@ ghost use Rattle.h5w_cli.specs.Plays.{Plays, SameSource, input_limit};
 use crate::answer::{Refusal, answer};
 use crate::ending::Ending;
 use crate::status::Status;
-use h5w_core::{Options, OutOfMemory, World};
-use h5w_text::{
-    Bytes, ErrorLine, Intake, Line, Lines, Next, Sink, Source, write_error, write_reply,
-};
+use h5w_core::{Options, World};
+use h5w_text::{ErrorLine, Intake, Line, Lines, Next, Sink, Source, write_error, write_reply};
 use std::alloc::Global;
 
 /// The most bytes of an input.
@@ -111,57 +110,20 @@ fn tell<K: Sink>(alloc: Global, error: &ErrorLine, status: Status, sink: &mut K)
     }
 }
 
-/// A new world, whose dataset has this name and chunks of so many rows, whose file has at most so many bytes, and
-/// whose readers' calls make up to so many attempts.
-fn new_world(
-    alloc: Global,
-    name: &Bytes,
-    chunk_rows: u64,
-    limit: u64,
-    attempts: u32,
-) -> Result<World, OutOfMemory>
-    requires named { 1 ≤ length name.now }
-    requires name_bound { length name.now ≤ 64 }
-    requires some_rows { 1 ≤ chunk_rows }
-    requires chunk_bound { chunk_rows ≤ 65536 }
-    requires some_bytes { 1024 ≤ limit }
-    requires byte_bound { limit ≤ 2 ^ 40 }
-    requires some_attempts { 1 ≤ attempts }
-    requires attempts_bound { attempts ≤ 1000 }
-    ensures fits { IfOk result (λ w. Fits w at_first) }
-    ensures rules { IfOk result (λ w. rules_of w ≡ rules_for chunk_rows limit attempts) }
-{
-    let name = Bytes::from_vec(Vec::from_slice(alloc, name.as_slice())?);
-    let options = Options {
-        name,
-        chunk_rows,
-        limit,
-    };
-    World::new(alloc, &options, attempts)
-}
-
-/// Runs the script from the source on a new world, as these numbers and this name say.
+/// Runs the script from the source on a new world, by these options.
 pub fn play<S: Source, K: Sink>(
     alloc: Global,
-    name: &Bytes,
-    chunk_rows: u64,
-    limit: u64,
+    options: &Options,
     attempts: u32,
     source: &mut S,
     sink: &mut K,
 ) -> Status
-    requires named { 1 ≤ length name.now }
-    requires name_bound { length name.now ≤ 64 }
-    requires some_rows { 1 ≤ chunk_rows }
-    requires chunk_bound { chunk_rows ≤ 65536 }
-    requires some_bytes { 1024 ≤ limit }
-    requires byte_bound { limit ≤ 2 ^ 40 }
-    requires some_attempts { 1 ≤ attempts }
-    requires attempts_bound { attempts ≤ 1000 }
-    ensures plays { Plays (rules_for chunk_rows limit attempts) result (S.view source.old) (S.view source.new) (K.view sink.old) (K.view sink.new) }
+    requires options { AreOptions options.now }
+    requires attempts { AreAttempts attempts }
+    ensures plays { Plays (rules_for options.now attempts) result (S.view source.old) (S.view source.new) (K.view sink.old) (K.view sink.new) }
     ensures source { SameSource (S.view source.old) (S.view source.new) }
 {
-    let Ok(mut world) = new_world(alloc, name, chunk_rows, limit, attempts) else {
+    let Ok(mut world) = World::new(alloc, options, attempts) else {
         return say(b"error memory\n", Status::Memory, sink);
     };
     match script(alloc, &mut world, source, sink) {

@@ -13,14 +13,15 @@ use Rattle.h5w_writer.specs.Refusals.{append_refusal, chunks_with}
 use Rattle.h5w_writer.specs.Sessions.{Session, Stands, chunk_limit, cutting_of, rows_of, with_values}
 use Rattle.h5w_writer.specs.declared.refusal.AppendError.{AppendError}
 use Rattle.h5w_writer.specs.declared.refusal.AppendError.TheVariants as errors
-use Rattle.h5w_writer.proofs.EventLemmas.{rows_are}
+use Rattle.h5w_writer.specs.Plans.{options_of}
+use Rattle.h5w_writer.proofs.LawLemmas.{standing_laws}
 use Rattle.h5w_core.specs.Worlds.{WorldView, Fits, IsStateOf, Steps, polling_of, rules_of}
-use Rattle.h5w_core.proofs.StateLemmas.{rows_in-length, load_of-log, spent_in-events}
+use Rattle.h5w_core.proofs.StateLemmas.{rows_in-length, in_rows, load_of-log, spent_in-events}
 use Rattle.h5w_core.proofs.WorldLemmas.{world_of, changed}
 use Rattle.h5w_image.specs.Memory.{MemView}
 use Rattle.h5w_image.specs.View.{Same}
 use Rattle.h5w_reader.specs.declared.reader.ReaderCore.{ReaderCore}
-use Rattle.h5w_core.specs.Readers.{pollers}
+use Rattle.h5w_core.specs.Readers.{reader_at}
 use Rattle.h5w_core.specs.Steady.{steady}
 
 -- what is answered to a refusal, and where nothing is refused
@@ -37,8 +38,8 @@ append_answer (Some errors.OutOfMemory) rows = replies.Stopped
 rows_with : (w : WorldView) (s : ScriptState) (log : Log) (vs : List ℤ) → Stands w.session log → IsStateOf w s log
     → rows_in (rules_of w) (s.appended ++ vs) ≡ rows_of w.session + length vs
 rows_with w s log vs stands state =
-    rows_in-length w.session.file.chunk_rows w.session.file.limit w.attempts (s.appended ++ vs) ∙ length-append s.appended vs
-    ∙ ap (λ n. n + length vs) (ap length state.appended ∙ sym (rows_are w.session log stands))
+    rows_in-length (options_of w.session.file) w.attempts (s.appended ++ vs) ∙ length-append s.appended vs
+    ∙ ap (λ n. n + length vs) (ap length state.appended ∙ sym (standing_laws.appended_rows w.session log stands ∙ in_rows w.session log (appended log) stands))
 
 chosen : (b : Bool) (chunks rows : ℕ) → (if b then replies.FullChunks chunks chunk_limit else replies.Appended rows 0)
     ≡ append_answer (if b then Some (errors.Chunks chunks chunk_limit) else None) rows
@@ -168,9 +169,9 @@ CarriesValues s vs = (log : Log) → Stands s log → Stands (with_values s vs) 
 abbrev pub appended_world : WorldView → List ℤ → WorldView
 appended_world w vs = record w { session = with_values w.session vs }
 
-appended_state : (w : WorldView) (vs : List ℤ) (s : ScriptState) (log : Log) → append_refusal w.session vs ≡ None → IsStateOf w s log
+appended_state : (w : WorldView) (vs : List ℤ) (s : ScriptState) (log : Log) → append_refusal w.session vs ≡ None → Stands w.session log → IsStateOf w s log
     → IsStateOf (appended_world w vs) (record s { appended = s.appended ++ vs; spent = s.spent + load_of (rules_of w) s (s.appended ++ vs) }) (and_now (appends vs) log)
-appended_state w vs s log accepted state =
+appended_state w vs s log accepted stands state =
     let more : s.appended ++ vs ≡ appended (and_now (appends vs) log) = ap (λ (xs : List ℤ). xs ++ vs) state.appended ∙ append_assoc log.values (appended_in log.events) vs in
     record {
       appended = more;
@@ -179,13 +180,12 @@ appended_state w vs s log accepted state =
       ends_flush = state.ends_flush;
       taken = λ some. absurd (busy_none w.session.pending _ (going_rest w.session.stopped _ accepted) some);
       spent =
-          (λ i. state.spent i + load_of-log w.session.file.chunk_rows w.session.file.limit w.attempts s (s.appended ++ vs) (and_now (appends vs) log) state.flushed more i)
+          (λ i. state.spent i + load_of-log (options_of w.session.file) w.attempts s (s.appended ++ vs) (and_now (appends vs) log) (standing_laws.columns w.session log stands) state.flushed more i)
           ∙ ap (λ n. n + load (cutting_of w.session) (and_now (appends vs) log)) (sym (spent_in-events (cutting_of w.session) log (appends vs ∷ log.events) log.events));
       stopped = state.stopped;
       tries = state.tries;
-      ours = state.ours;
       begun = state.begun;
-      polls = writer_line_laws.appended (polling_of w) log s (pollers w.readers) vs state.polls;
+      polls = writer_line_laws.appended (polling_of w) log s (reader_at w.readers) vs state.polls;
     }
 
 pub appended_steps : (w : WorldView) (vs : List ℤ) → append_refusal w.session vs ≡ None → CarriesValues w.session vs
@@ -199,7 +199,7 @@ appended_steps w vs accepted carries =
         record {
           log = and_now (appends vs) fits.log;
           stands = record { stands = carries fits.log fits.stands.stands; journal = fits.stands.journal; bytes = fits.stands.bytes };
-          state = appended_state w vs s fits.log accepted fits.state;
+          state = appended_state w vs s fits.log accepted fits.stands.stands fits.state;
         },
       );
     }

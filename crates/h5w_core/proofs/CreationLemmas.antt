@@ -10,20 +10,20 @@ use Rattle.h5w_model.proofs.ImageLemmas.{image-push}
 use Rattle.h5w_image.specs.Memory.{MemView, fresh}
 use Rattle.h5w_image.specs.View.{Same, Wrote}
 use Rattle.h5w_polling.specs.Polling.{MayPoll}
-use Rattle.h5w_reader.specs.Readers.{Reader}
+use Rattle.h5w_model.specs.Unfinished.{Reader}
 use Rattle.h5w_reader.specs.declared.reader.ReaderCore.{ReaderCore}
 use Rattle.h5w_writer.specs.Files.{FileFields}
-use Rattle.h5w_writer.specs.Plans.{creation_writes, new_file}
+use Rattle.h5w_writer.specs.Plans.{creation_writes, new_file, options_of}
 use Rattle.h5w_writer.specs.Room.{HasRoomFor}
 use Rattle.h5w_writer.specs.Sessions.{Session, Stands, after_piece, created, cutting_of, log_of}
-use Rattle.h5w_writer.specs.declared.options.Options.{Options}
-use Rattle.h5w_writer.proofs.EventLemmas.{committed_are, rows_are}
+use Rattle.h5w_model.specs.declared.options.Options.{Options}
+use Rattle.h5w_writer.proofs.LawLemmas.{standing_laws}
 use Rattle.h5w_core.specs.Creation.{Creates}
-use Rattle.h5w_core.specs.Readers.{IsOurs, placed, poller, reader_at}
+use Rattle.h5w_core.specs.Readers.{placed, reader_at}
 use Rattle.h5w_core.specs.Steady.{steady}
 use Rattle.h5w_core.specs.Worlds.{Fits, HoldsTogether, nobody, polling_of, rules_for, rules_of}
 use Rattle.h5w_core.proofs.ShowLemmas.{after_file, after_stopped, after_waiting, after_pending}
-use Rattle.h5w_core.proofs.StateLemmas.{spent_in-events}
+use Rattle.h5w_core.proofs.StateLemmas.{in_rows, spent_in-events}
 use Rattle.h5w_core.proofs.WorldLemmas.{world_of}
 
 some_is : {A : Type 0} (a b : A) → Some a ≡ Some b → a ≡ b
@@ -125,28 +125,27 @@ created_fits o attempts s m some start =
     let shown = all_shown o s m start in
     let rows_none : s.file.rows ≡ 0 = ap (λ (f : FileFields). f.rows) start.file in
     let waits : length s.waiting ≡ 0 = ap length start.waiting in
-    let values : s.file.rows + length s.waiting ≡ length (appended start.log) = rows_are s start.log start.stands in
+    let values : s.file.rows + length s.waiting ≡ length (appended start.log) = standing_laws.appended_rows s start.log start.stands ∙ in_rows s start.log (appended start.log) start.stands in
     let pieces : length (hist start.log.events) ≡ 5 = ap length (sym start.history) ∙ start.shown in
     record {
       log = start.log;
       stands = record { stands = start.stands; journal = start.history; bytes = start.bytes };
       state = record {
         appended = sym (nil_from_length (appended start.log) (omega arith));
-        flushed = sym start.committed ∙ committed_are s start.log start.stands;
+        flushed = sym start.committed ∙ standing_laws.flushed_rows s start.log start.stands;
         pending = ap length (sym shown);
         ends_flush = ap (λ (ws : List Write). nat_lt 0 (length ws)) (sym shown);
         taken = λ some. start.waiting;
         spent = sym start.loads;
         stopped = sym start.going;
         tries = some;
-        begun = omega (arith, pieces, ap (λ (l : Log). l.first) start.stands.goes.is);
-        ours = λ r. subst (λ (place : Option Reader). IsOurs s.file.name attempts place) (sym (nobody_at r)) tt;
-        polls = λ r. subst (λ (o : Option Reader). MayPoll (polling_of w) start.log None (option_map poller o)) (sym (nobody_at r)) tt;
+        begun = omega (arith, pieces, standing_laws.first s start.log start.stands);
+        polls = λ r. subst (λ (o : Option Reader). MayPoll (polling_of w) start.log None o) (sym (nobody_at r)) tt;
       };
     }
 
-pub created_rules : (o : Options) (attempts : ℕ) (s : Session) (m : MemView) (readers : List (Option ReaderCore)) → Creates o 5 s m → rules_of (world_of s m attempts readers) ≡ rules_for o.chunk_rows o.limit attempts
-created_rules o attempts s m readers start = ap (λ (f : FileFields). rules_for f.chunk_rows f.limit attempts) start.file
+pub created_rules : (o : Options) (attempts : ℕ) (s : Session) (m : MemView) (readers : List (Option ReaderCore)) → Creates o 5 s m → rules_of (world_of s m attempts readers) ≡ rules_for o attempts
+created_rules o attempts s m readers start = ap (λ (f : FileFields). rules_for (options_of f) attempts) start.file
 
 pub created_world_fits : (o : Options) (attempts : ℕ) (s : Session) (m : MemView) (readers : List (Option ReaderCore)) → 1 ≤ attempts → Creates o 5 s m → readers ≡ nobody
     → Fits (world_of s m attempts readers) at_first

@@ -3,31 +3,31 @@ use Rattle.std.proofs.Common.{◌≡◌, ◌⊎◌, ◌↔◌, ℕ, ◌+◌, ◌
 use Rattle.std.specs.Prelude.{MatchBool}
 use Rattle.std.proofs.lemmas.Bool.{cases_lt, lt-ltb, le-ltb}
 use Rattle.std.proofs.lemmas.List.{nil_from_length}
-use Rattle.h5w_model.specs.Logs.{Log, Cutting, plans, appended, flushed, load, spent_in, and_now}
-use Rattle.h5w_polling.specs.Polling.{Polling, Poller}
-use Rattle.h5w_polling.specs.Scripts.{AllPoll}
+use Rattle.h5w_model.specs.Logs.{Log, Cutting, plans, appended, flushed_rows, load, spent_in, and_now}
+use Rattle.h5w_polling.specs.Polling.{Polling}
+use Rattle.h5w_polling.specs.Scripts.{AllPoll, Readers}
 use Rattle.h5w_polling.proofs.EventLemmas.{counts_same, goes_on_still, polls_on}
 use Rattle.h5w_polling.proofs.ScriptLemmas.{all_kept}
 use Rattle.h5w_space.specs.declared.Full.{Full}
 use Rattle.h5w_writer.specs.Files.{FileFields}
 use Rattle.h5w_writer.specs.Plans.{options_of}
-use Rattle.h5w_writer.specs.declared.options.Options.{Options}
+use Rattle.h5w_model.specs.declared.options.Options.{Options}
 use Rattle.h5w_writer.specs.Flushes.{after_rows}
 use Rattle.h5w_model.specs.Lawful.{Rules, ScriptState, FlushAllowed, IsPlanned, IsFull, load_of, rows_of}
 use Rattle.h5w_model.specs.declared.event.Event.TheVariants as events
 use Rattle.h5w_model.specs.declared.piece.Write.{Write}
 use Rattle.h5w_model.specs.declared.reply.Reply.TheVariants as replies
 use Rattle.h5w_writer.specs.Sessions.{Session, Stands, cutting_of, planned}
-use Rattle.h5w_writer.proofs.EventLemmas.{committed_are, flushed_rows, rows_are}
-use Rattle.h5w_core.specs.Worlds.{WorldView, IsStateOf, Steps, polling_by, polling_of, rules_for, rules_of}
-use Rattle.h5w_core.proofs.StateLemmas.{rows_in-length, load_of-log, spent_in-events}
+use Rattle.h5w_writer.proofs.LawLemmas.{standing_laws}
+use Rattle.h5w_core.specs.Worlds.{WorldView, IsStateOf, MayBeFull, Steps, polling_by, polling_of, rules_for, rules_of}
+use Rattle.h5w_core.proofs.StateLemmas.{rows_in-length, in_rows, load_of-log, spent_in-events}
 use Rattle.h5w_core.proofs.WorldLemmas.{world_of, changed}
 use Rattle.h5w_image.specs.Memory.{MemView}
 use Rattle.h5w_image.specs.View.{Same}
 use Rattle.h5w_reader.specs.declared.reader.ReaderCore.{ReaderCore}
-use Rattle.h5w_core.specs.Readers.{AreOurs, pollers}
+use Rattle.h5w_core.specs.Readers.{reader_at}
 use Rattle.h5w_core.specs.Steady.{steady}
-use Rattle.h5w_writer.specs.Refusals.{NoPlace, flush_refusal, full_for}
+use Rattle.h5w_writer.specs.Refusals.{IsRefused, NoPlace, flush_refusal, full_for}
 use Rattle.h5w_writer.specs.declared.refusal.FlushError.{FlushError}
 use Rattle.h5w_writer.specs.declared.refusal.FlushError.TheVariants as errors
 use Rattle.std.proofs.Common.{Option, Some, None, Result, Ok, Err, option_map, if◌then◌else◌}
@@ -72,10 +72,10 @@ pub record IsFlush (s : Session) (pieces : ℕ) : Type 0 where
 unflushed : (w : WorldView) (s : ScriptState) (log : Log) → w.session.stopped ≡ false → w.session.pending ≡ [] → Stands w.session log → IsStateOf w s log
     → rows_of (rules_of w) s ≡ s.flushed + length w.session.waiting
 unflushed w s log going idle stands state =
-    let all : w.session.file.rows + length w.session.waiting ≡ length (appended log) = rows_are w.session log stands in
-    let old : length (flushed log) ≡ w.session.file.rows = flushed_rows w.session log stands going idle in
+    let all : w.session.file.rows + length w.session.waiting ≡ length (appended log) = standing_laws.appended_rows w.session log stands ∙ in_rows w.session log (appended log) stands in
+    let old : flushed_rows log ≡ w.session.file.rows = standing_laws.planned_rows w.session log stands going idle in
     let values : length s.appended ≡ length (appended log) = ap length state.appended in
-    rows_in-length w.session.file.chunk_rows w.session.file.limit w.attempts s.appended ∙ omega (arith, state.flushed)
+    rows_in-length (options_of w.session.file) w.attempts s.appended ∙ omega (arith, state.flushed)
 
 some_pieces : (waiting : List ℤ) (pieces : ℕ) → (pieces ≡ 0 → waiting ≡ []) → 0 < length waiting → 1 ≤ pieces
 some_pieces waiting pieces none some =
@@ -95,7 +95,7 @@ planned_allowed w s log pieces flush stands state =
     elim (cases_lt 0 (length w.session.waiting)) [
       | inl some ↦
           let bound : pieces ≤ load_of g s s.appended =
-          subst (λ (n : ℕ). pieces ≤ n) (sym (load_of-log w.session.file.chunk_rows w.session.file.limit w.attempts s s.appended log state.flushed state.appended)) (flush.load_bound log stands) in
+          subst (λ (n : ℕ). pieces ≤ n) (sym (load_of-log (options_of w.session.file) w.attempts s s.appended log (standing_laws.columns w.session log stands) state.flushed state.appended)) (flush.load_bound log stands) in
           subst (λ (b : Bool). MatchBool b (IsPlanned g s reply ⊎ IsFull g s reply) (reply ≡ replies.Flushing 0)) (sym (lt-ltb s.flushed (rows_of g s) (omega (arith, rows))))
           (inl (record { pieces = pieces; is = refl; positive = some_pieces w.session.waiting pieces flush.none.0 some; bound = bound }))
       | inr none ↦
@@ -121,19 +121,19 @@ abbrev pub planned_world : WorldView → WorldView
 planned_world w = record w { session = planned w.session }
 
 -- readers poll on over a plan that flushes nothing by itself
-plan_polls : (g : Polling) (log : Log) (s t : ScriptState) (ps : ℕ → Option Poller) (pieces : ℕ) → t.readers ≡ s.readers → length (flushed (and_now (plans pieces) log)) ≡ length (flushed log)
-    → AllPoll g log s ps → AllPoll g (and_now (plans pieces) log) t ps
-plan_polls g log s t ps pieces same level all =
+plan_polls : (g : Polling) (log : Log) (s t : ScriptState) (rs : Readers) (pieces : ℕ) → t.readers ≡ s.readers → flushed_rows (and_now (plans pieces) log) ≡ flushed_rows log
+    → AllPoll g log s rs → AllPoll g (and_now (plans pieces) log) t rs
+plan_polls g log s t rs pieces same level all =
     let new = and_now (plans pieces) log in
     let on = goes_on_still (plans pieces) log refl level in
-    all_kept g log new s t ps same (λ x p h. polls_on g log new x.seen p.known x.call p.left on (λ from n within. counts_same log new from n on refl) h) all
+    all_kept g log new s t rs same (λ x r h. polls_on g log new x r on (λ from n within. counts_same log new from n on refl) h) all
 
 planned_state : (w : WorldView) (s : ScriptState) (log : Log) (pieces : ℕ) → IsFlush w.session pieces → Stands w.session log → IsStateOf w s log
     → IsStateOf (planned_world w) (record s { pending = pieces; ends_flush = nat_lt 0 pieces; spent = s.spent + load_of (rules_of w) s s.appended }) (and_now (plans pieces) log)
 planned_state w s log pieces flush stands state =
-    let level : length (flushed (and_now (plans pieces) log)) ≡ length (flushed log) =
-    sym (committed_are (planned w.session) (and_now (plans pieces) log) (flush.carries log stands)) ∙ committed_are w.session log stands in
-    let polls = plan_polls (polling_of w) log s (record s { pending = pieces; ends_flush = nat_lt 0 pieces; spent = s.spent + load_of (rules_of w) s s.appended }) (pollers w.readers) pieces refl level state.polls in
+    let level : flushed_rows (and_now (plans pieces) log) ≡ flushed_rows log =
+    sym (standing_laws.flushed_rows (planned w.session) (and_now (plans pieces) log) (flush.carries log stands)) ∙ standing_laws.flushed_rows w.session log stands in
+    let polls = plan_polls (polling_of w) log s (record s { pending = pieces; ends_flush = nat_lt 0 pieces; spent = s.spent + load_of (rules_of w) s s.appended }) (reader_at w.readers) pieces refl level state.polls in
     record {
       appended = state.appended;
       flushed = state.flushed ∙ sym level;
@@ -141,22 +141,21 @@ planned_state w s log pieces flush stands state =
       ends_flush = ap (λ n. nat_lt 0 n) flush.count;
       taken = λ some. refl;
       spent =
-          (λ i. state.spent i + load_of-log w.session.file.chunk_rows w.session.file.limit w.attempts s s.appended log state.flushed state.appended i)
+          (λ i. state.spent i + load_of-log (options_of w.session.file) w.attempts s s.appended log (standing_laws.columns w.session log stands) state.flushed state.appended i)
           ∙ ap (λ n. n + load (cutting_of w.session) log) (sym (spent_in-events (cutting_of w.session) log (plans pieces ∷ log.events) log.events))
           ∙ ap (λ (c : Cutting). spent_in c (and_now (plans pieces) log) log.events + load c log) (sym (ap (λ (o : Options). cutting_for o.chunk_rows) (planned_options w.session.file w.session.waiting)));
       stopped = state.stopped;
       tries = state.tries;
-      ours = subst (λ (o : Options). AreOurs o.name w.attempts w.readers) (sym (planned_options w.session.file w.session.waiting)) state.ours;
       begun = state.begun;
       polls =
-          subst (λ (o : Options). AllPoll (polling_by o.name (rules_for o.chunk_rows o.limit w.attempts)) (and_now (plans pieces) log) (record s { pending = pieces; ends_flush = nat_lt 0 pieces; spent = s.spent + load_of (rules_of w) s s.appended }) (pollers w.readers))
+          subst (λ (o : Options). AllPoll (polling_by o.name (rules_for o w.attempts)) (and_now (plans pieces) log) (record s { pending = pieces; ends_flush = nat_lt 0 pieces; spent = s.spent + load_of (rules_of w) s s.appended }) (reader_at w.readers))
           (sym (planned_options w.session.file w.session.waiting)) polls;
     }
 
 pub planned_steps : (w : WorldView) (pieces : ℕ) → IsFlush w.session pieces → Steps w events.Flush (replies.Flushing pieces) (planned_world w)
 planned_steps w pieces flush =
     record {
-      rules = ap (λ (o : Options). rules_for o.chunk_rows o.limit w.attempts) (planned_options w.session.file w.session.waiting);
+      rules = ap (λ (o : Options). rules_for o w.attempts) (planned_options w.session.file w.session.waiting);
       lawful = λ s fits. (
         flush_allowed w s fits.log pieces flush fits.stands.stands fits.state,
         record {
@@ -169,13 +168,13 @@ planned_steps w pieces flush =
 
 -- ---- Without a place
 
-full_free : (w : WorldView) (s : ScriptState) (log : Log) (full : Full) → NoPlace w.session log full → s.flushed < rows_of (rules_of w) s → IsStateOf w s log
+full_free : (w : WorldView) (s : ScriptState) (log : Log) (full : Full) → NoPlace w.session log full → s.flushed < rows_of (rules_of w) s → Stands w.session log → IsStateOf w s log
     → MatchBool (nat_lt s.flushed (rows_of (rules_of w) s))
     (IsPlanned (rules_of w) s (replies.FullSpace full.at full.size full.limit) ⊎ IsFull (rules_of w) s (replies.FullSpace full.at full.size full.limit)) (replies.FullSpace full.at full.size full.limit ≡ replies.Flushing 0)
-full_free w s log full none some state =
+full_free w s log full none some stands state =
     let g = rules_of w in
     let reply = replies.FullSpace full.at full.size full.limit in
-    let load_is = load_of-log w.session.file.chunk_rows w.session.file.limit w.attempts s s.appended log state.flushed state.appended in
+    let load_is = load_of-log (options_of w.session.file) w.attempts s s.appended log (standing_laws.columns w.session log stands) state.flushed state.appended in
     let size : full.size ≤ load_of g s s.appended = subst (λ (n : ℕ). full.size ≤ n) (sym load_is) none.size_bound in
     let place : full.at ≤ 1024 + s.spent + load_of g s s.appended =
     subst (λ (n : ℕ). full.at ≤ 1024 + s.spent + n) (sym load_is) (subst (λ (n : ℕ). full.at ≤ 1024 + n + load g.cutting log) (sym state.spent) none.at_bound) in
@@ -199,7 +198,7 @@ full_allowed w s log full going idle none stands state =
     let reply = replies.FullSpace full.at full.size full.limit in
     let free : Type 0 = MatchBool (nat_lt s.flushed (rows_of g s)) (IsPlanned g s reply ⊎ IsFull g s reply) (reply ≡ replies.Flushing 0) in
     subst (λ (b : Bool). MatchBool b (reply ≡ replies.Stopped) (MatchBool (nat_lt 0 s.pending) (reply ≡ replies.Busy s.pending) free)) (sym (state.stopped ∙ going))
-    (subst (λ (n : ℕ). MatchBool (nat_lt 0 n) (reply ≡ replies.Busy n) free) (sym empty) (full_free w s log full none (omega (arith, rows, none.waits)) state))
+    (subst (λ (n : ℕ). MatchBool (nat_lt 0 n) (reply ≡ replies.Busy n) free) (sym empty) (full_free w s log full none (omega (arith, rows, none.waits)) stands state))
 
 pub full_steps : (w : WorldView) (full : Full) → w.session.stopped ≡ false → w.session.pending ≡ [] → ((log : Log) → Stands w.session log → NoPlace w.session log full)
     → Steps w events.Flush (replies.FullSpace full.at full.size full.limit) w
@@ -333,13 +332,33 @@ idle_list (w ∷ ws) o none = absurd (some_none (errors.Busy (length (w ∷ ws))
 ok_err : (e : FlushError) (r : Result ℕ FlushError) (pieces : ℕ) → r ≡ Ok pieces → r ≡ Err e → ⊥
 ok_err e r pieces ok err = cc
 
-not_refused : (refusal : Option FlushError) (r : Result ℕ FlushError) (pieces : ℕ) → ((e : FlushError) → refusal ≡ Some e → r ≡ Err e) → r ≡ Ok pieces → refusal ≡ None
+error_is : (e f : FlushError) → ◌≡◌ {A = Result ℕ FlushError} (Err e) (Err f) → e ≡ f
+error_is e f h = cc
+
+refused_ok : (e : FlushError) (pieces : ℕ) → IsRefused e (Ok pieces) → ⊥
+refused_ok errors.Stopped pieces h = cc
+refused_ok (errors.Busy n) pieces h = cc
+refused_ok (errors.Space full) pieces (inl h) = cc
+refused_ok (errors.Space full) pieces (inr h) = cc
+refused_ok errors.Failed pieces h = cc
+refused_ok errors.OutOfMemory pieces h = cc
+
+not_refused : (refusal : Option FlushError) (r : Result ℕ FlushError) (pieces : ℕ) → ((e : FlushError) → refusal ≡ Some e → IsRefused e r) → r ≡ Ok pieces → refusal ≡ None
 not_refused None r pieces refused ok = refl
-not_refused (Some e) r pieces refused ok = absurd (ok_err e r pieces ok (refused e refl))
+not_refused (Some e) r pieces refused ok = absurd (refused_ok e pieces (subst (λ (x : Result ℕ FlushError). IsRefused e x) ok (refused e refl)))
+
+-- memory is wanted where nothing but a place may be wanting
+pub memory_only : (refusal : Option FlushError) (r : Result ℕ FlushError) → ((e : FlushError) → refusal ≡ Some e → IsRefused e r) → r ≡ Err errors.OutOfMemory → MayBeFull refusal
+memory_only None r refused is = tt
+memory_only (Some errors.Stopped) r refused is = absurd (let clash : errors.Stopped ≡ errors.OutOfMemory = error_is errors.Stopped errors.OutOfMemory (sym (refused errors.Stopped refl) ∙ is) in cc)
+memory_only (Some (errors.Busy n)) r refused is = absurd (let clash : errors.Busy n ≡ errors.OutOfMemory = error_is (errors.Busy n) errors.OutOfMemory (sym (refused (errors.Busy n) refl) ∙ is) in cc)
+memory_only (Some (errors.Space full)) r refused is = tt
+memory_only (Some errors.Failed) r refused is = absurd (let clash : errors.Failed ≡ errors.OutOfMemory = error_is errors.Failed errors.OutOfMemory (sym (refused errors.Failed refl) ∙ is) in cc)
+memory_only (Some errors.OutOfMemory) r refused is = tt
 
 pub flush_done : (s t : Session) (m k : MemView) (attempts pieces : ℕ) (readers : List (Option ReaderCore)) (w : WorldView) (r : Result ℕ FlushError) → world_of s m attempts readers ≡ w → Same (steady m) (steady k) → t ≡ planned s
     → pieces ≡ length t.pending → (pieces ≡ 0) ↔ (s.waiting ≡ []) → ((log : Log) → Stands s log → pieces ≤ load (cutting_of s) log)
-    → ((log : Log) → Stands s log → Stands t (and_now (plans pieces) log)) → ((e : FlushError) → flush_refusal s ≡ Some e → r ≡ Err e) → r ≡ Ok pieces
+    → ((log : Log) → Stands s log → Stands t (and_now (plans pieces) log)) → ((e : FlushError) → flush_refusal s ≡ Some e → IsRefused e r) → r ≡ Ok pieces
     → Steps w events.Flush (replies.Flushing pieces) (world_of t k attempts readers)
 flush_done s t m k attempts pieces readers w r view same is count none bound stands refused ok =
     let old = world_of s m attempts readers in

@@ -12,7 +12,7 @@ use Rattle.h5w_model.specs.declared.reply.Reply.TheVariants as replies
 use Rattle.h5w_image.specs.Memory.{MemView}
 use Rattle.h5w_image.specs.View.{Same, Wrote}
 use Rattle.h5w_reader.specs.declared.reader.ReaderCore.{ReaderCore}
-use Rattle.h5w_writer.specs.Refusals.{append_refusal, flush_refusal}
+use Rattle.h5w_writer.specs.Refusals.{IsRefused, append_refusal, flush_refusal}
 use Rattle.h5w_writer.specs.Room.{HasRoomFor}
 use Rattle.h5w_writer.specs.Sessions.{Session, Stands, after_piece, cutting_of, planned, rows_of, stopped_of, with_values}
 use Rattle.h5w_writer.specs.declared.refusal.AppendError.{AppendError}
@@ -64,7 +64,7 @@ append_hold s t m n attempts places vs (Err e) h same added count stands refused
 pub flush_hold : (s t : Session) (m n : MemView) (attempts : ℕ) (places : List (Option ReaderCore)) (r : Result ℕ FlushError) → HoldsTogether s m attempts places → Same (steady m) (steady n)
     → OnOk r (t ≡ planned s) → IfOk r (λ pieces. pieces ≡ length t.pending) → IfOk r (λ pieces. (pieces ≡ 0) ↔ (s.waiting ≡ []))
     → IfOk r (λ pieces. (log : Log) → Stands s log → pieces ≤ load (cutting_of s) log) → IfOk r (λ pieces. (log : Log) → Stands s log → Stands t (and_now (plans pieces) log))
-    → ((e : FlushError) → flush_refusal s ≡ Some e → r ≡ Err e) → OnErr r (t ≡ s) → OnOk r (HasRoomFor t (steady n)) → HoldsTogether t n attempts places
+    → ((e : FlushError) → flush_refusal s ≡ Some e → IsRefused e r) → OnErr r (t ≡ s) → OnOk r (HasRoomFor t (steady n)) → HoldsTogether t n attempts places
 flush_hold s t m n attempts places (Ok pieces) h same is count none bound stands refused kept room =
     steps_hold s t m n attempts places places events.Flush (replies.Flushing pieces) h
     (flush_done s t m n attempts pieces places (world_of s m attempts places) (Ok pieces) refl same is count none bound stands refused refl) room (same_folded m n same h.folds) h.places
@@ -86,7 +86,6 @@ stop_state w s log state = record {
   stopped = refl;
   tries = state.tries;
   begun = state.begun;
-  ours = state.ours;
   polls = state.polls;
 }
 

@@ -23,12 +23,12 @@ log_holds w log tries stands =
       cut = λ p r at shows.
           let d = shown_laws.dataset s log p r stands at shows in
           record {
-            columns = d.columns;
             chunk_rows = d.chunk_rows;
             chunk_columns = d.chunk_columns;
             value_size = ap (λ t. t.size) d.int_type;
             addressed = λ k below. shown_laws.addressed s log p r stands at shows k below;
           };
+      columns = standing_laws.columns s log stands;
       some_columns = omega arith;
       some_attempts = tries;
     }

@@ -1,4 +1,3 @@
-pub mod WantLemmas
 pub mod PlaceLemmas
 pub mod HoldsLemmas
 pub mod StateLemmas

@@ -1,64 +1,60 @@
 -- The readers of a world poll its log: what each event of a reader is answered, and how they poll on.
-use Rattle.std.proofs.Common.{◌≡◌, ℕ, cond, Bool, true, List, [], ◌∷◌, Option, Some, None, option_map, Result, ℤ, refl, sym, ◌∙◌, ap, subst, inl, inr, arith}
+use Rattle.std.proofs.Common.{◌≡◌, ◌⊎◌, ℕ, ◌≤◌, cond, Bool, true, List, [], Option, Some, None, Result, ℤ, refl, sym, ◌∙◌, ap, subst, inl, inr, arith}
 use Rattle.std.specs.Prelude.{IsSome, ◌==◌}
 use Rattle.std.proofs.lemmas.Bool.{cond_both, eq-eqb, eqb-true}
 use Rattle.h5w_model.specs.Numbers.{range}
 use Rattle.h5w_model.specs.Images.{image}
-use Rattle.h5w_model.specs.Programs.{Prog, Look, ret, whole, counted, stored}
 use Rattle.h5w_model.specs.Logs.{Log, hist}
-use Rattle.h5w_model.specs.Readers.{looks_of}
 use Rattle.h5w_model.specs.Tables.{Reading}
 use Rattle.h5w_model.specs.Calls.{values_call}
-use Rattle.h5w_model.specs.Lawful.{Line, opens, refreshes, reads, looks, ScriptState, ReaderState, Calling, CallKind, for_rows, for_values, Allowed, next_state, reader_in}
-use Rattle.h5w_model.specs.declared.refusal.ReadError.{ReadError}
+use Rattle.h5w_model.specs.Unfinished.{Unfinished, values_left, next_look_of, wanted, fed_left, Reader}
+use Rattle.h5w_model.specs.Lawful.{Line, opens, refreshes, reads, looks, ScriptState, ReaderState, Calling, Allowed, next_state, reader_in, put_reader}
 use Rattle.h5w_model.specs.declared.reply.Reply.{Reply}
 use Rattle.h5w_model.specs.declared.reply.Reply.TheVariants as replies
-use Rattle.h5w_polling.specs.Polling.{Polling, Poller, Unfinished, rows_left, values_left, WantsMore, IsLeft, next_look_of, CallPolls, Polls, MayPoll, Knows, now}
-use Rattle.h5w_polling.specs.Polling as polling
+use Rattle.h5w_polling.specs.Polling.{Polling, CallPolls, MayPoll, Wants}
 use Rattle.h5w_polling.specs.Premises.{LogHolds}
-use Rattle.h5w_polling.specs.Laws.{Wants, idle, calling, reply_to, after_look}
-use Rattle.h5w_polling.specs.Scripts.{AllPoll, Moves, Polled, Refuses, looked_now, seen_by, with_poller}
+use Rattle.h5w_polling.specs.Laws.{reading, reply_to, after_look}
+use Rattle.h5w_polling.specs.Scripts.{AllPoll, Moves, Polled, Readers, Refuses, looked_now, and_reader}
 use Rattle.h5w_polling.proofs.LookLemmas.{look_laws}
 use Rattle.h5w_polling.proofs.ScriptLemmas.{begin_line_laws, look_line_laws}
-use Rattle.h5w_reader.specs.Looks.{next_look}
-use Rattle.h5w_reader.specs.Readers.{Left, Reader, fed_left, rows_program, rows_seen, wanted, with_left}
-use Rattle.h5w_reader.specs.Readers as core
-use Rattle.h5w_core.specs.Readers.{IsOurs, LookGives, LooksTo, LookReplies, CallReplies, OpenGives, ReadGives, ReadLooks, ReadsTo, ReadsPast, ReadsNothing, ReadBegins, RefreshGives, RefreshesTo, looked, poller, pollers, unfinished}
+use Rattle.h5w_reader.specs.Readers.{reader_rules}
+use Rattle.h5w_writer.proofs.LawLemmas.{standing_laws}
+use Rattle.h5w_core.specs.Readers.{LookGives, LooksTo, LookReplies, CallReplies, OpenGives, ReadGives, ReadLooks, ReadsTo, ReadsPast, ReadsNothing, ReadBegins, RefreshGives, RefreshesTo, looked, reader_at}
 use Rattle.h5w_core.specs.Worlds.{WorldView, IsStateOf, StandsFor, polling_of}
 
 -- the readers with another in the place of this number
-abbrev pub with_place : ℕ → Option Poller → (ℕ → Option Poller) → ℕ → Option Poller
-with_place r o ps q = cond (r == q) o (ps q)
+abbrev pub with_place : ℕ → Option Reader → Readers → Readers
+with_place n o rs k = cond (n == k) o (rs k)
 
 -- A line of a reader may be given this reply; it changes the script's readers alone, and they poll so.
-pub record Acts (g : Polling) (log : Log) (s : ScriptState) (line : Line) (reply : Reply) (qs : ℕ → Option Poller) : Type 0 where
+pub record Acts (g : Polling) (log : Log) (s : ScriptState) (line : Line) (reply : Reply) (rs : Readers) : Type 0 where
   pub allowed : Allowed g.rules s line reply
   pub states : List (ℕ × ReaderState)
   pub is : next_state g.rules s line reply ≡ record s { readers = states }
-  pub polls : AllPoll g log (record s { readers = states }) qs
+  pub polls : AllPoll g log (record s { readers = states }) rs
 
-acts_move : (g : Polling) (log : Log) (s : ScriptState) (ps qs : ℕ → Option Poller) (line : Line) (reply : Reply) (r : ℕ) (p : Poller) → ((q : ℕ) → qs q ≡ with_poller r p ps q)
-    → Moves g log s ps line reply r p → Acts g log s line reply qs
-acts_move g log s ps qs line reply r p same m = record {
+acts_move : (g : Polling) (log : Log) (s : ScriptState) (rs qs : Readers) (line : Line) (reply : Reply) (n : ℕ) (r : Reader) → ((k : ℕ) → qs k ≡ and_reader n r rs k)
+    → Moves g log s rs line reply n r → Acts g log s line reply qs
+acts_move g log s rs qs line reply n r same m = record {
   allowed = m.allowed;
-  states = (r, m.reader) ∷ s.readers;
+  states = put_reader n m.state s.readers;
   is = m.is;
-  polls = λ q. subst (λ (o : Option Poller). MayPoll g log (reader_in q ((r, m.reader) ∷ s.readers)) o) (sym (same q)) (m.polls q);
+  polls = λ k. subst (λ (o : Option Reader). MayPoll g log (reader_in k (put_reader n m.state s.readers)) o) (sym (same k)) (m.polls k);
 }
 
-acts_refuse : (g : Polling) (log : Log) (s : ScriptState) (ps qs : ℕ → Option Poller) (line : Line) (reply : Reply) → ((q : ℕ) → qs q ≡ ps q) → AllPoll g log s ps → Refuses g s line reply
+acts_refuse : (g : Polling) (log : Log) (s : ScriptState) (rs qs : Readers) (line : Line) (reply : Reply) → ((k : ℕ) → qs k ≡ rs k) → AllPoll g log s rs → Refuses g s line reply
     → Acts g log s line reply qs
-acts_refuse g log s ps qs line reply same all m = record {
+acts_refuse g log s rs qs line reply same all m = record {
   allowed = m.allowed;
   states = s.readers;
   is = m.same;
-  polls = λ q. subst (λ (o : Option Poller). MayPoll g log (reader_in q s.readers) o) (sym (same q)) (all q);
+  polls = λ k. subst (λ (o : Option Reader). MayPoll g log (reader_in k s.readers) o) (sym (same k)) (all k);
 }
 
 -- a reader that was there is put back
-same_place : (r : ℕ) (o : Option Poller) (ps : ℕ → Option Poller) → ps r ≡ o → (q : ℕ) → with_place r o ps q ≡ ps q
-same_place r o ps is q =
-    cond_both (r == q) o (ps q) (λ (p : Option Poller). p ≡ ps q) (λ t. sym is ∙ ap ps (eqb-true r q t)) (λ t. refl)
+same_place : (n : ℕ) (o : Option Reader) (rs : Readers) → rs n ≡ o → (k : ℕ) → with_place n o rs k ≡ rs k
+same_place n o rs is k =
+    cond_both (n == k) o (rs k) (λ (p : Option Reader). p ≡ rs k) (λ t. sym is ∙ ap rs (eqb-true n k t)) (λ t. refl)
 
 -- ---- A world at a state
 
@@ -68,220 +64,166 @@ pub record PollsAt (w : WorldView) (s : ScriptState) (log : Log) : Type 0 where
   pub stands : StandsFor w log
   pub state : IsStateOf w s log
 
-polled : (w : WorldView) (s : ScriptState) (log : Log) → IsStateOf w s log → Polled (polling_of w) log s (pollers w.readers)
+polled : (w : WorldView) (s : ScriptState) (log : Log) → IsStateOf w s log → Polled (polling_of w) log s (reader_at w.readers)
 polled w s log state = record {
-  follows = record { appended = state.appended; flushed = omega (arith, state.flushed) };
+  follows = record { appended = state.appended; flushed = state.flushed };
   begun = state.begun;
   all = state.polls;
 }
 
-elim_none : (g : Polling) (log : Log) (p : Option Poller) (known : Option Reading) (left : Unfinished) → p ≡ Some (calling known left) → MayPoll g log None p → ⊥
-elim_none g log None known left is polls = cc
-elim_none g log (Some p) known left is polls = polls
+-- a reader with an unfinished call wants a look
+some_wants : (left : Option Unfinished) → Wants left → IsSome (wanted left)
+some_wants left wants = subst (λ (o : Option (ℕ × ℕ)). IsSome o) (sym wants.is) refl
 
--- a read of values that is unfinished wants a look
-kind_wants : (g : Polling) (seen : ℕ) (what : Reading) (kind : CallKind) (ls : List Look) (p : Prog (Result (List ℤ) ReadError)) → IsLeft g seen (Some what) kind ls (values_left p) → WantsMore p
-kind_wants g seen what for_rows ls p left = absurd left
-kind_wants g seen what (for_values from count) ls p left = left.1
+call_wants : (g : Polling) (log : Log) (r : Reader) (left : Unfinished) (c : Option Calling) → r.left ≡ Some left → CallPolls g log r c → IsSome (wanted r.left)
+call_wants g log r left None is polls = absurd (let clash : Some left ≡ None = sym is ∙ polls.0 in cc)
+call_wants g log r left (Some c) is polls = some_wants r.left polls.wants
 
-call_wants_more : (g : Polling) (log : Log) (seen : ℕ) (what : Reading) (call : Option Calling) (p : Prog (Result (List ℤ) ReadError)) → CallPolls g log seen (Some what) call (Some (values_left p)) → WantsMore p
-call_wants_more g log seen what None p polls = absurd polls
-call_wants_more g log seen what (Some c) p polls = kind_wants g seen what c.kind (looks_of polls.looks) p polls.left_is
+may_wants : (g : Polling) (log : Log) (x : Option ReaderState) (o : Option Reader) (r : Reader) (left : Unfinished) → o ≡ Some r → r.left ≡ Some left → MayPoll g log x o → IsSome (next_look_of left)
+may_wants g log None None r left there is polls = absurd cc
+may_wants g log None (Some y) r left there is polls = absurd polls
+may_wants g log (Some x) None r left there is polls = absurd cc
+may_wants g log (Some x) (Some y) r left there is polls =
+    let same : y.left ≡ Some left = ap (λ (o : Option Reader). elim o as (λ _. Option Unfinished) [ None ↦ None | Some z ↦ z.left ]) there ∙ is in
+    subst (λ (l : Option Unfinished). IsSome (wanted l)) same (call_wants g log y left x.call same polls.call)
 
-moved_wants : (g : Polling) (log : Log) (r : ℕ) (p : Prog (Result (List ℤ) ReadError)) (x : ReaderState) (xs : List (ℕ × ReaderState)) (ps : ℕ → Option Poller) (what : Reading)
-    → MayPoll g log (reader_in r ((r, x) ∷ xs)) (with_poller r (calling (Some what) (values_left p)) ps r) → WantsMore p
-moved_wants g log r p x xs ps what polls =
-    let same : (r == r) ≡ true = eq-eqb r r refl in
-    let there : MayPoll g log (Some x) (Some (calling (Some what) (values_left p))) = subst (λ (b : Bool). MayPoll g log (cond b (Some x) (reader_in r xs)) (cond b (Some (calling (Some what) (values_left p))) (ps r))) same polls in
-    call_wants_more g log x.seen what x.call p there
+module _ (w : WorldView) (s : ScriptState) (log : Log) (at : PollsAt w s log) (n : ℕ) where
+  -- the readers with another one in the place of this number
+  abbrev pub with_reader_at : Option Reader → Readers
+  with_reader_at new = with_place n new (reader_at w.readers)
 
-wants_some : {A : Type 0} (p : Prog A) → WantsMore p → IsSome (next_look p)
-wants_some (ret a) more = absurd more
-wants_some (whole place len next) more = refl
-wants_some (counted place counts next) more = absurd more
-wants_some (stored kind place len next) more = absurd more
-
-module _ (w : WorldView) (s : ScriptState) (log : Log) (at : PollsAt w s log) (r : ℕ) where
-  -- what a place of this number polls, with another reader in it
-  abbrev pub with_reader_at : Option Reader → ℕ → Option Poller
-  with_reader_at new = with_place r (option_map poller new) (pollers w.readers)
-
-  refuse : (line : Line) (reply : Reply) (old new : Option Reader) → pollers w.readers r ≡ option_map poller old → new ≡ old → Refuses (polling_of w) s line reply
+  refuse : (line : Line) (reply : Reply) (old new : Option Reader) → reader_at w.readers n ≡ old → new ≡ old → Refuses (polling_of w) s line reply
       → Acts (polling_of w) log s line reply (with_reader_at new)
   refuse line reply old new there same m =
-      acts_refuse (polling_of w) log s (pollers w.readers) (with_reader_at new) line reply (same_place r (option_map poller new) (pollers w.readers) (there ∙ ap (λ (o : Option Reader). option_map poller o) (sym same)))
-      at.state.polls m
+      acts_refuse (polling_of w) log s (reader_at w.readers) (with_reader_at new) line reply (same_place n new (reader_at w.readers) (there ∙ sym same)) at.state.polls m
 
-  move : (line : Line) (reply : Reply) (new : Option Reader) (p : Poller) → option_map poller new ≡ Some p → Moves (polling_of w) log s (pollers w.readers) line reply r p
+  move : (line : Line) (reply : Reply) (new : Option Reader) (r : Reader) → new ≡ Some r → Moves (polling_of w) log s (reader_at w.readers) line reply n r
       → Acts (polling_of w) log s line reply (with_reader_at new)
-  move line reply new p is m =
-      acts_move (polling_of w) log s (pollers w.readers) (with_reader_at new) line reply r p (λ q. ap (λ (o : Option Poller). with_place r o (pollers w.readers) q) is) m
+  move line reply new r is m =
+      acts_move (polling_of w) log s (reader_at w.readers) (with_reader_at new) line reply n r (λ k. ap (λ (o : Option Reader). with_place n o (reader_at w.readers) k) is) m
 
   given : (line : Line) (reply other : Reply) (new : Option Reader) → reply ≡ other → Acts (polling_of w) log s line other (with_reader_at new) → Acts (polling_of w) log s line reply (with_reader_at new)
   given line reply other new is acts = subst (λ (x : Reply). Acts (polling_of w) log s line x (with_reader_at new)) (sym is) acts
 
   -- ---- Open
 
-  pub open_acts : (old new : Option Reader) (reply : Reply) → pollers w.readers r ≡ option_map poller old → OpenGives r w.session.file.name w.attempts old reply new
-      → Acts (polling_of w) log s (opens r) reply (with_reader_at new)
+  pub open_acts : (old new : Option Reader) (reply : Reply) → reader_at w.readers n ≡ old → OpenGives n (reader_rules w.session.file.name w.attempts) old reply new
+      → Acts (polling_of w) log s (opens n) reply (with_reader_at new)
   open_acts None new reply there gives =
-      given (opens r) reply (replies.Opening r) new gives.0
-      (move (opens r) (replies.Opening r) new _ (ap (λ (o : Option Reader). option_map poller o) gives.1) (begin_line_laws.opening (polling_of w) log s (pollers w.readers) r (polled w s log at.state) there))
-  open_acts (Some x) new reply there gives =
-      given (opens r) reply (replies.ReaderExists r) new gives.0
-      (refuse (opens r) (replies.ReaderExists r) (Some x) new there gives.1 (begin_line_laws.opening_again (polling_of w) log s (pollers w.readers) r (poller x) (polled w s log at.state) there))
+      given (opens n) reply (replies.Opening n) new gives.0
+      (move (opens n) (replies.Opening n) new _ gives.1 (begin_line_laws.opens_one (polling_of w) log s (reader_at w.readers) n (polled w s log at.state) there))
+  open_acts (Some r) new reply there gives =
+      given (opens n) reply (replies.ReaderExists n) new gives.0
+      (refuse (opens n) (replies.ReaderExists n) (Some r) new there gives.1 (begin_line_laws.opens_again (polling_of w) log s (reader_at w.readers) n r (polled w s log at.state) there))
 
   -- ---- Refresh
 
-  -- a call for rows begins as the laws of polling say
-  same_program : (x : Reader) (known : Option Reading) → IsOurs w.session.file.name w.attempts (Some x) → rows_program x.attempts x.name known ≡ polling.rows_program (polling_of w) (seen_by known) known
-  same_program x None ours = λ i. rows_program (ours.1 i) (ours.0 i) None
-  same_program x (Some what) ours = λ i. rows_program (ours.1 i) (ours.0 i) (Some what)
+  refresh_to : (r : Reader) (left : Option Unfinished) (new : Option Reader) (reply : Reply) → r.left ≡ left → reader_at w.readers n ≡ Some r → RefreshesTo n r left reply new
+      → Acts (polling_of w) log s (refreshes n) reply (with_reader_at new)
+  refresh_to r None new reply is there gives =
+      given (refreshes n) reply (replies.Refreshing n) new gives.0
+      (move (refreshes n) (replies.Refreshing n) new _ gives.1 (begin_line_laws.refreshes_one (polling_of w) log s (reader_at w.readers) n r (polled w s log at.state) there is))
+  refresh_to r (Some left) new reply is there gives =
+      given (refreshes n) reply (replies.ReaderBusy n) new gives.0
+      (refuse (refreshes n) (replies.ReaderBusy n) (Some r) new there gives.1 (begin_line_laws.refreshes_busy (polling_of w) log s (reader_at w.readers) n r left (polled w s log at.state) there is))
 
-  refresh_to : (x : Reader) (left : Option Left) (new : Option Reader) (reply : Reply) → x.left ≡ left → pollers w.readers r ≡ Some (poller x) → IsOurs w.session.file.name w.attempts (Some x) → RefreshesTo r x left reply new
-      → Acts (polling_of w) log s (refreshes r) reply (with_reader_at new)
-  refresh_to x None new reply is there ours gives =
-      let still : pollers w.readers r ≡ Some (idle x.known) = there ∙ ap (λ (l : Option Left). Some (record { known = x.known; left = option_map unfinished l })) is in
-      let begun : option_map poller new ≡ Some (calling x.known (rows_left (polling.rows_program (polling_of w) (seen_by x.known) x.known))) =
-      ap (λ (o : Option Reader). option_map poller o) gives.1 ∙ ap (λ p. Some (calling x.known (rows_left p))) (same_program x x.known ours) in
-      given (refreshes r) reply (replies.Refreshing r) new gives.0
-      (move (refreshes r) (replies.Refreshing r) new _ begun (begin_line_laws.refreshing (polling_of w) log s (pollers w.readers) r x.known (polled w s log at.state) still))
-  refresh_to x (Some l) new reply is there ours gives =
-      let busy : pollers w.readers r ≡ Some (calling x.known (unfinished l)) = there ∙ ap (λ (o : Option Left). Some (record { known = x.known; left = option_map unfinished o })) is in
-      given (refreshes r) reply (replies.ReaderBusy r) new gives.0
-      (refuse (refreshes r) (replies.ReaderBusy r) (Some x) new there gives.1 (begin_line_laws.refreshing_busy (polling_of w) log s (pollers w.readers) r x.known (unfinished l) (polled w s log at.state) busy))
-
-  pub refresh_acts : (old new : Option Reader) (reply : Reply) → pollers w.readers r ≡ option_map poller old → IsOurs w.session.file.name w.attempts old → RefreshGives r old reply new
-      → Acts (polling_of w) log s (refreshes r) reply (with_reader_at new)
-  refresh_acts None new reply there ours gives =
-      given (refreshes r) reply (replies.NoReader r) new gives.0
-      (refuse (refreshes r) (replies.NoReader r) None new there gives.1 (begin_line_laws.refreshing_none (polling_of w) log s (pollers w.readers) r (polled w s log at.state) there))
-  refresh_acts (Some x) new reply there ours gives = refresh_to x x.left new reply refl there ours gives
+  pub refresh_acts : (old new : Option Reader) (reply : Reply) → reader_at w.readers n ≡ old → RefreshGives n old reply new
+      → Acts (polling_of w) log s (refreshes n) reply (with_reader_at new)
+  refresh_acts None new reply there gives =
+      given (refreshes n) reply (replies.NoReader n) new gives.0
+      (refuse (refreshes n) (replies.NoReader n) None new there gives.1 (begin_line_laws.refreshes_none (polling_of w) log s (reader_at w.readers) n (polled w s log at.state) there))
+  refresh_acts (Some r) new reply there gives = refresh_to r r.left new reply refl there gives
 
   -- ---- Read
 
-  rows_seen_is : (known : Option Reading) → rows_seen known ≡ seen_by known
-  rows_seen_is None = refl
-  rows_seen_is (Some what) = refl
+  module _ (from count : ℕ) where
+    reads_on : (r : Reader) (new : Option Reader) (reply : Reply) → r.left ≡ None → reader_at w.readers n ≡ Some r
+        → ReadsPast n from count r reply new ⊎ (ReadsNothing n from count r reply new ⊎ ReadBegins n from count r reply new)
+        → Acts (polling_of w) log s (reads n from count) reply (with_reader_at new)
+    reads_on r new reply is there (inl h) =
+        given (reads n from count) reply _ new h.is
+        (refuse (reads n from count) _ (Some r) new there h.same (begin_line_laws.reads_past (polling_of w) log s (reader_at w.readers) n from count r (polled w s log at.state) there is h.past))
+    reads_on r new reply is there (inr (inl h)) =
+        given (reads n from count) reply _ new h.is
+        (refuse (reads n from count) _ (Some r) new there h.same
+        (subst (λ (c : ℕ). Refuses (polling_of w) s (reads n from c) (replies.Values n [])) (sym h.none)
+        (begin_line_laws.reads_nothing (polling_of w) log s (reader_at w.readers) n from r (polled w s log at.state) there is h.inside)))
+    reads_on r new reply is there (inr (inr h)) =
+        given (reads n from count) reply _ new h.is
+        (move (reads n from count) (replies.Reading n) new _ h.begun
+        (begin_line_laws.reads_some (polling_of w) log s (reader_at w.readers) n from count r h.what at.holds (polled w s log at.state) there is h.known h.some h.inside))
 
-  read_past : (from count : ℕ) (x : Reader) (new : Option Reader) (reply : Reply) → pollers w.readers r ≡ Some (poller x) → pollers w.readers r ≡ Some (idle x.known) → ReadsPast r from count x reply new
-      → Acts (polling_of w) log s (reads r from count) reply (with_reader_at new)
-  read_past from count x new reply there still h =
-      let seen = rows_seen_is x.known in
-      given (reads r from count) reply (replies.OutOfRows r from count (seen_by x.known)) new (h.is ∙ ap (replies.OutOfRows r from count) seen)
-      (refuse (reads r from count) (replies.OutOfRows r from count (seen_by x.known)) (Some x) new there h.same
-      (begin_line_laws.reading_past (polling_of w) log s (pollers w.readers) r from count x.known (polled w s log at.state) still (omega (arith, h.past, seen))))
+    read_to : (r : Reader) (left : Option Unfinished) (new : Option Reader) (reply : Reply) → r.left ≡ left → reader_at w.readers n ≡ Some r → ReadsTo n from count r left reply new
+        → Acts (polling_of w) log s (reads n from count) reply (with_reader_at new)
+    read_to r None new reply is there gives = reads_on r new reply is there gives
+    read_to r (Some left) new reply is there gives =
+        given (reads n from count) reply (replies.ReaderBusy n) new gives.0
+        (refuse (reads n from count) (replies.ReaderBusy n) (Some r) new there gives.1 (begin_line_laws.reads_busy (polling_of w) log s (reader_at w.readers) n from count r left (polled w s log at.state) there is))
 
-  read_none : (from count : ℕ) (x : Reader) (new : Option Reader) (reply : Reply) → pollers w.readers r ≡ Some (poller x) → pollers w.readers r ≡ Some (idle x.known) → ReadsNothing r from count x reply new
-      → Acts (polling_of w) log s (reads r from count) reply (with_reader_at new)
-  read_none from count x new reply there still h =
-      let seen = rows_seen_is x.known in
-      subst (λ (n : ℕ). Acts (polling_of w) log s (reads r from n) reply (with_reader_at new)) (sym h.none)
-      (given (reads r from 0) reply (replies.Values r []) new h.is
-      (refuse (reads r from 0) (replies.Values r []) (Some x) new there h.same
-      (begin_line_laws.reading_nothing (polling_of w) log s (pollers w.readers) r from x.known (polled w s log at.state) still (omega (arith, h.inside, seen)))))
+    pub read_acts : (old new : Option Reader) (reply : Reply) → reader_at w.readers n ≡ old → ReadGives n from count old reply new
+        → Acts (polling_of w) log s (reads n from count) reply (with_reader_at new)
+    read_acts None new reply there gives =
+        given (reads n from count) reply (replies.NoReader n) new gives.0
+        (refuse (reads n from count) (replies.NoReader n) None new there gives.1 (begin_line_laws.reads_none (polling_of w) log s (reader_at w.readers) n from count (polled w s log at.state) there))
+    read_acts (Some r) new reply there gives = read_to r r.left new reply refl there gives
 
-  read_some : (from count : ℕ) (x : Reader) (new : Option Reader) (reply : Reply) → pollers w.readers r ≡ Some (idle x.known) → ReadBegins r from count x reply new
-      → Acts (polling_of w) log s (reads r from count) reply (with_reader_at new)
-  read_some from count x new reply still h =
-      let known : pollers w.readers r ≡ Some (idle (Some h.what)) = still ∙ ap (λ (k : Option Reading). Some (idle k)) h.known in
-      let begun : option_map poller new ≡ Some (calling (Some h.what) (values_left (values_call h.what from count))) =
-      ap (λ (o : Option Reader). option_map poller o) h.begun ∙ ap (λ (k : Option Reading). Some (calling k (values_left (values_call h.what from count)))) h.known in
-      given (reads r from count) reply (replies.Reading r) new h.is
-      (move (reads r from count) (replies.Reading r) new _ begun
-      (begin_line_laws.reading (polling_of w) log s (pollers w.readers) r from count h.what at.holds (polled w s log at.state) known h.some h.inside))
-
-  read_to : (from count : ℕ) (x : Reader) (left : Option Left) (new : Option Reader) (reply : Reply) → x.left ≡ left → pollers w.readers r ≡ Some (poller x) → ReadsTo r from count x left reply new
-      → Acts (polling_of w) log s (reads r from count) reply (with_reader_at new)
-  read_to from count x None new reply is there gives =
-      let still : pollers w.readers r ≡ Some (idle x.known) = there ∙ ap (λ (l : Option Left). Some (record { known = x.known; left = option_map unfinished l })) is in
-      elim gives [
-        | inl past ↦ read_past from count x new reply there still past
-        | inr inside ↦ elim inside [ inl none ↦ read_none from count x new reply there still none | inr some ↦ read_some from count x new reply still some ]
-      ]
-  read_to from count x (Some l) new reply is there gives =
-      let busy : pollers w.readers r ≡ Some (calling x.known (unfinished l)) = there ∙ ap (λ (o : Option Left). Some (record { known = x.known; left = option_map unfinished o })) is in
-      given (reads r from count) reply (replies.ReaderBusy r) new gives.0
-      (refuse (reads r from count) (replies.ReaderBusy r) (Some x) new there gives.1
-      (begin_line_laws.reading_busy (polling_of w) log s (pollers w.readers) r from count x.known (unfinished l) (polled w s log at.state) busy))
-
-  pub read_acts : (from count : ℕ) (old new : Option Reader) (reply : Reply) → pollers w.readers r ≡ option_map poller old → ReadGives r from count old reply new
-      → Acts (polling_of w) log s (reads r from count) reply (with_reader_at new)
-  read_acts from count None new reply there gives =
-      given (reads r from count) reply (replies.NoReader r) new gives.0
-      (refuse (reads r from count) (replies.NoReader r) None new there gives.1 (begin_line_laws.reading_none (polling_of w) log s (pollers w.readers) r from count (polled w s log at.state) there))
-  read_acts from count (Some x) new reply there gives = read_to from count x x.left new reply refl there gives
+    -- a read of rows that were seen needs a look
+    pub read_looks : (old : Option Reader) → reader_at w.readers n ≡ old → ReadLooks from count old
+    read_looks None there = tt
+    read_looks (Some r) there = λ what left known some inside.
+        let m = begin_line_laws.reads_some (polling_of w) log s (reader_at w.readers) n from count r what at.holds (polled w s log at.state) there left known some inside in
+        let own : and_reader n (reading r what from count) (reader_at w.readers) n ≡ Some (reading r what from count) =
+        ap (λ (b : Bool). cond b (Some (reading r what from count)) (reader_at w.readers n)) (eq-eqb n n refl) in
+        may_wants (polling_of w) log (reader_in n (put_reader n m.state s.readers)) (and_reader n (reading r what from count) (reader_at w.readers) n) (reading r what from count) (values_left (values_call what from count))
+        own refl (m.polls n)
 
   -- ---- Look
 
-  looks_same : (l : Left) → next_look_of (unfinished l) ≡ wanted (Some l)
-  looks_same (core.for_rows p) = refl
-  looks_same (core.for_values p) = refl
+  left_wants : (o : Option Reader) (x : Option ReaderState) (r : Reader) (left : Unfinished) → o ≡ Some r → r.left ≡ Some left → MayPoll (polling_of w) log x o → Wants (Some left)
+  left_wants None None r left there is polls = absurd cc
+  left_wants None (Some x) r left there is polls = absurd polls
+  left_wants (Some y) None r left there is polls = absurd polls
+  left_wants (Some y) (Some x) r left there is polls =
+      look_laws.wants (polling_of w) log x y left polls (ap (λ (o : Option Reader). elim o as (λ _. Option Unfinished) [ None ↦ None | Some z ↦ z.left ]) there ∙ is)
 
-  fed_same : (b : List ℕ) (l : Left) → unfinished (fed_left b l) ≡ polling.fed_left b (unfinished l)
-  fed_same b (core.for_rows p) = refl
-  fed_same b (core.for_values p) = refl
-
-  wants_look : (o : Option ReaderState) (p : Option Poller) (known : Option Reading) (left : Unfinished) → p ≡ Some (calling known left) → MayPoll (polling_of w) log o p → Wants left
-  wants_look None p known left is polls = absurd (elim_none (polling_of w) log p known left is polls)
-  wants_look (Some x) p known left is polls =
-      look_laws.wants (polling_of w) log x known left (subst (λ (q : Option Poller). MayPoll (polling_of w) log (Some x) q) is polls)
+  wants_look : (r : Reader) (left : Unfinished) → r.left ≡ Some left → reader_at w.readers n ≡ Some r → Wants (Some left)
+  wants_look r left is there = left_wants (reader_at w.readers n) (reader_in n s.readers) r left there is (at.state.polls n)
 
   -- the image's bytes are those of the log's last image
-  looked_is_now : (l : Left) (place len : ℕ) → next_look_of (unfinished l) ≡ Some (place, len) → unfinished (looked w.bytes l) ≡ looked_now log place len (unfinished l)
-  looked_is_now l place len wants =
+  looked_is_now : (left : Unfinished) (place len : ℕ) → next_look_of left ≡ Some (place, len) → looked w.bytes left ≡ looked_now log place len left
+  looked_is_now left place len wants =
       let bytes : range w.bytes place len ≡ range (image log.start (hist log.events)) place len =
-      ap (λ (b : List ℕ). range b place len) (at.stands.bytes ∙ ap (λ (b : List ℕ). image b (hist log.events)) (sym (ap (λ (g : Log). g.start) at.stands.stands.goes.is))) in
-      ap (λ (o : Option (ℕ × ℕ)). unfinished (elim o as (λ _. Left) [ None ↦ l | Some x ↦ fed_left (range w.bytes x.0 x.1) l ])) (sym (looks_same l) ∙ wants)
-      ∙ fed_same (range w.bytes place len) l ∙ ap (λ (b : List ℕ). polling.fed_left b (unfinished l)) bytes
+      ap (λ (b : List ℕ). range b place len) (at.stands.bytes ∙ ap (λ (b : List ℕ). image b (hist log.events)) (sym (standing_laws.start w.session log at.stands.stands))) in
+      ap (λ (o : Option (ℕ × ℕ)). elim o as (λ _. Unfinished) [ None ↦ left | Some x ↦ fed_left (range w.bytes x.0 x.1) left ]) wants
+      ∙ ap (λ (b : List ℕ). fed_left b left) bytes
 
-  call_there : (x : Reader) (l : Left) → x.left ≡ Some l → pollers w.readers r ≡ Some (poller x) → pollers w.readers r ≡ Some (calling x.known (unfinished l))
-  call_there x l is there = there ∙ ap (λ (o : Option Left). Some (record { known = x.known; left = option_map unfinished o })) is
+  look_to : (r : Reader) (left : Option Unfinished) (new : Option Reader) (reply : Reply) → r.left ≡ left → reader_at w.readers n ≡ Some r → LooksTo n w.bytes r left reply new
+      → Acts (polling_of w) log s (looks n 1) reply (with_reader_at new)
+  look_to r None new reply is there gives =
+      given (looks n 1) reply (replies.Idle n) new gives.0
+      (refuse (looks n 1) (replies.Idle n) (Some r) new there gives.1 (look_line_laws.looks_idle (polling_of w) log s (reader_at w.readers) n r (polled w s log at.state) there is))
+  look_to r (Some left) new reply is there gives =
+      let wants = wants_look r left is there in
+      let now_is = looked_is_now left wants.place wants.len wants.is in
+      move (looks n 1) reply new _ (gives.new_is ∙ ap (λ (u : Unfinished). Some (after_look r u)) now_is)
+      (look_line_laws.looks_on (polling_of w) log s (reader_at w.readers) n wants.place wants.len r left reply at.holds (polled w s log at.state) there is wants.is
+      (ap (reply_to n) (sym now_is) ∙ gives.is))
 
-  call_wants : (x : Reader) (l : Left) → x.left ≡ Some l → pollers w.readers r ≡ Some (poller x) → Wants (unfinished l)
-  call_wants x l is there = wants_look (reader_in r s.readers) (pollers w.readers r) x.known (unfinished l) (call_there x l is there) (at.state.polls r)
-
-  look_to : (x : Reader) (left : Option Left) (new : Option Reader) (reply : Reply) → x.left ≡ left → pollers w.readers r ≡ Some (poller x) → LooksTo r w.bytes x left reply new
-      → Acts (polling_of w) log s (looks r 1) reply (with_reader_at new)
-  look_to x None new reply is there gives =
-      let still : pollers w.readers r ≡ Some (idle x.known) = there ∙ ap (λ (l : Option Left). Some (record { known = x.known; left = option_map unfinished l })) is in
-      let same : option_map poller new ≡ Some (idle x.known) = ap (λ (o : Option Reader). option_map poller o) gives.1 ∙ ap (λ (l : Option Left). Some (record { known = x.known; left = option_map unfinished l })) is in
-      given (looks r 1) reply (replies.Idle r) new gives.0
-      (move (looks r 1) (replies.Idle r) new _ same (look_line_laws.idling (polling_of w) log s (pollers w.readers) r x.known (polled w s log at.state) still))
-  look_to x (Some l) new reply is there gives =
-      let wants = call_wants x l is there in
-      let now_is = looked_is_now l wants.place wants.len wants.is in
-      let after : option_map poller new ≡ Some (after_look x.known (looked_now log wants.place wants.len (unfinished l))) =
-      ap (λ (o : Option Reader). option_map poller o) gives.new_is ∙ ap Some gives.polls ∙ ap (λ (u : Unfinished). Some (after_look x.known u)) now_is in
-      move (looks r 1) reply new _ after
-      (look_line_laws.looking (polling_of w) log s (pollers w.readers) r wants.place wants.len x.known (unfinished l) reply at.holds (polled w s log at.state) (call_there x l is there) wants.is
-      (ap (reply_to r) (sym now_is) ∙ gives.is))
-
-  pub look_acts : (old new : Option Reader) (reply : Reply) → pollers w.readers r ≡ option_map poller old → LookGives r w.bytes old reply new
-      → Acts (polling_of w) log s (looks r 1) reply (with_reader_at new)
+  pub look_acts : (old new : Option Reader) (reply : Reply) → reader_at w.readers n ≡ old → LookGives n w.bytes old reply new
+      → Acts (polling_of w) log s (looks n 1) reply (with_reader_at new)
   look_acts None new reply there gives =
-      given (looks r 1) reply (replies.NoReader r) new gives.0
-      (refuse (looks r 1) (replies.NoReader r) None new there gives.1 (look_line_laws.looking_none (polling_of w) log s (pollers w.readers) r (polled w s log at.state) there))
-  look_acts (Some x) new reply there gives = look_to x x.left new reply refl there gives
+      given (looks n 1) reply (replies.NoReader n) new gives.0
+      (refuse (looks n 1) (replies.NoReader n) None new there gives.1 (look_line_laws.looks_none (polling_of w) log s (reader_at w.readers) n (polled w s log at.state) there))
+  look_acts (Some r) new reply there gives = look_to r r.left new reply refl there gives
 
-  -- ---- What the calls of a reader rest on
-
-  replies_by : (x : Reader) (left : Option Left) → x.left ≡ left → pollers w.readers r ≡ Some (poller x) → CallReplies r w.bytes left
-  replies_by x None is there = tt
-  replies_by x (Some l) is there =
-      let wants = call_wants x l is there in
+  replies_by : (r : Reader) (left : Option Unfinished) → r.left ≡ left → reader_at w.readers n ≡ Some r → CallReplies n w.bytes left
+  replies_by r None is there = tt
+  replies_by r (Some left) is there =
+      let wants = wants_look r left is there in
       let reply =
-      look_line_laws.replying (polling_of w) log s (pollers w.readers) r wants.place wants.len x.known (unfinished l) at.holds (polled w s log at.state) (call_there x l is there) wants.is in
-      subst (λ (o : Option Reply). IsSome o) (sym (ap (reply_to r) (looked_is_now l wants.place wants.len wants.is) ∙ reply.1)) refl
+      look_line_laws.replies_one (polling_of w) log s (reader_at w.readers) n wants.place wants.len r left at.holds (polled w s log at.state) there is wants.is in
+      subst (λ (o : Option Reply). IsSome o) (sym (ap (reply_to n) (looked_is_now left wants.place wants.len wants.is) ∙ reply.1)) refl
 
-  pub look_replies : (old : Option Reader) → pollers w.readers r ≡ option_map poller old → LookReplies r w.bytes old
+  pub look_replies : (old : Option Reader) → reader_at w.readers n ≡ old → LookReplies n w.bytes old
   look_replies None there = tt
-  look_replies (Some x) there = replies_by x x.left refl there
-
-  pub read_looks : (from count : ℕ) (old : Option Reader) → pollers w.readers r ≡ option_map poller old → ReadLooks from count old
-  read_looks from count None there = tt
-  read_looks from count (Some x) there = λ what left known some inside.
-      let still : pollers w.readers r ≡ Some (idle (Some what)) =
-      there ∙ ap (λ (l : Option Left). Some (record { known = x.known; left = option_map unfinished l })) left ∙ ap (λ (k : Option Reading). Some (idle k)) known in
-      let m = begin_line_laws.reading (polling_of w) log s (pollers w.readers) r from count what at.holds (polled w s log at.state) still some inside in
-      wants_some (values_call what from count) (moved_wants (polling_of w) log r (values_call what from count) m.reader s.readers (pollers w.readers) what (m.polls r))
+  look_replies (Some r) there = replies_by r r.left refl there

@@ -3,7 +3,7 @@ use Rattle.std.proofs.Common.{◌≡◌, ◌≢◌, ◌⊎◌, ℕ, suc, ◌+◌
 use Rattle.std.specs.List.{slice_get}
 use Rattle.std.proofs.lemmas.Bool.{lt-ltb}
 use Rattle.h5w_model.specs.Images.{image}
-use Rattle.h5w_model.specs.Logs.{Log, Happening, appends, plans, shows, hist, appended, flushed, and_now}
+use Rattle.h5w_model.specs.Logs.{Log, Happening, appends, plans, shows, hist, appended, flushed, flushed_rows, and_now}
 use Rattle.h5w_model.specs.Lawful.{Rules, ScriptState, after_shows, committed}
 use Rattle.h5w_model.specs.declared.event.Event.TheVariants as events
 use Rattle.h5w_model.specs.declared.piece.Write.{Write}
@@ -15,14 +15,15 @@ use Rattle.h5w_polling.specs.Scripts.{AllPoll}
 use Rattle.h5w_polling.proofs.ScriptLemmas.{writer_line_laws}
 use Rattle.h5w_writer.specs.Files.{FileFields}
 use Rattle.h5w_writer.specs.Sessions.{Session, Stands, after_piece, cutting_of}
-use Rattle.h5w_writer.proofs.EventLemmas.{committed_are, rows_are}
+use Rattle.h5w_writer.specs.Plans.{options_of}
+use Rattle.h5w_writer.proofs.LawLemmas.{standing_laws}
 use Rattle.h5w_core.specs.Worlds.{WorldView, Fits, IsStateOf, StandsFor, Steps, logged, polling_of, rules_for, rules_of, shown_world}
-use Rattle.h5w_core.proofs.StateLemmas.{rows_in-length, spent_in-events}
+use Rattle.h5w_core.proofs.StateLemmas.{rows_in-length, in_rows, spent_in-events}
 use Rattle.h5w_core.proofs.WorldLemmas.{world_of, shown_is}
 use Rattle.h5w_image.specs.Memory.{MemView}
 use Rattle.h5w_image.specs.View.{Wrote}
 use Rattle.h5w_reader.specs.declared.reader.ReaderCore.{ReaderCore}
-use Rattle.h5w_core.specs.Readers.{pollers}
+use Rattle.h5w_core.specs.Readers.{reader_at}
 use Rattle.h5w_core.specs.Steady.{steady}
 
 -- ---- Nothing is pending
@@ -43,7 +44,6 @@ idle_state w s log none state =
       spent = state.spent;
       stopped = state.stopped;
       tries = state.tries;
-      ours = state.ours;
       begun = state.begun;
       polls = state.polls;
     }
@@ -108,7 +108,7 @@ begun_on (shows w) log begun = omega (arith, length-append (hist log.events) (w 
 
 -- the last piece is the last, and ends a flush
 last_alone : (s : ScriptState) (log : Log) (piece : Write) → s.pending ≡ 1 → s.ends_flush ≡ true → (1 < s.pending) ⊎ (s.ends_flush ≡ false)
-    → length (flushed (and_now (shows piece) log)) ≡ length (flushed log)
+    → flushed_rows (and_now (shows piece) log) ≡ flushed_rows log
 last_alone s log piece one ends (inl more) = absurd (omega arith)
 last_alone s log piece one ends (inr open_still) = let clash : true ≡ false = sym ends ∙ open_still in cc
 
@@ -120,24 +120,23 @@ last_shown w piece s log pending stood stands state =
     let one : s.pending ≡ 1 = state.pending ∙ ap length pending in
     let ends : s.ends_flush ≡ true = state.ends_flush ∙ lt-ltb 0 (length w.session.pending) (omega (arith, ap length pending)) in
     let taken : w.session.waiting ≡ [] = state.taken (λ e. cons_some piece [] (sym pending ∙ e)) in
-    let rows : w.session.file.rows + length w.session.waiting ≡ length (appended log) = rows_are w.session log stood in
+    let rows : w.session.file.rows + length w.session.waiting ≡ length (appended log) = standing_laws.appended_rows w.session log stood ∙ in_rows w.session log (appended log) stood in
     let values : length s.appended ≡ length (appended log) = ap length state.appended in
     let none_wait : length w.session.waiting ≡ 0 = ap length taken in
     let all : length s.appended ≡ w.session.file.rows = omega arith in
     record {
       appended = state.appended;
-      flushed = rows_in-length w.session.file.chunk_rows w.session.file.limit w.attempts s.appended ∙ all ∙ committed_are (after_piece w.session []) (and_now (shows piece) log) stands;
+      flushed = rows_in-length (options_of w.session.file) w.attempts s.appended ∙ all ∙ standing_laws.flushed_rows (after_piece w.session []) (and_now (shows piece) log) stands;
       pending = refl;
       ends_flush = refl;
       taken = λ some. absurd (some refl);
       spent = state.spent ∙ sym (spent_in-events (cutting_of w.session) log (shows piece ∷ log.events) log.events);
       stopped = state.stopped;
       tries = state.tries;
-      ours = state.ours;
       begun = begun_on (shows piece) log state.begun;
       polls =
-          subst (λ (t : ScriptState). AllPoll (polling_of w) (and_now (shows piece) log) t (pollers w.readers)) (last_state (rules_of w) s one ends)
-          (writer_line_laws.shown (polling_of w) log s (pollers w.readers) piece 1 (last_alone s log piece one ends) state.polls);
+          subst (λ (t : ScriptState). AllPoll (polling_of w) (and_now (shows piece) log) t (reader_at w.readers)) (last_state (rules_of w) s one ends)
+          (writer_line_laws.shown (polling_of w) log s (reader_at w.readers) piece 1 (last_alone s log piece one ends) state.polls);
     }
 
 -- each other one leaves the rows
@@ -146,8 +145,8 @@ more_shown : (w : WorldView) (piece next : Write) (rest : List Write) (s : Scrip
     → IsStateOf (shown_world w piece (next ∷ rest)) (record s { pending = s.pending - 1 }) (and_now (shows piece) log)
 more_shown w piece next rest s log pending stood stands state =
     let count : s.pending ≡ suc (length (next ∷ rest)) = state.pending ∙ ap length pending in
-    let level : length (flushed log) ≡ length (flushed (and_now (shows piece) log)) =
-    sym (committed_are w.session log stood) ∙ committed_are (after_piece w.session (next ∷ rest)) (and_now (shows piece) log) stands in
+    let level : flushed_rows log ≡ flushed_rows (and_now (shows piece) log) =
+    sym (standing_laws.flushed_rows w.session log stood) ∙ standing_laws.flushed_rows (after_piece w.session (next ∷ rest)) (and_now (shows piece) log) stands in
     record {
       appended = state.appended;
       flushed = state.flushed ∙ level;
@@ -157,11 +156,10 @@ more_shown w piece next rest s log pending stood stands state =
       spent = state.spent ∙ sym (spent_in-events (cutting_of w.session) log (shows piece ∷ log.events) log.events);
       stopped = state.stopped;
       tries = state.tries;
-      ours = state.ours;
       begun = begun_on (shows piece) log state.begun;
       polls =
-          subst (λ (t : ScriptState). AllPoll (polling_of w) (and_now (shows piece) log) t (pollers w.readers)) (more_state (rules_of w) s (length rest) count)
-          (writer_line_laws.shown (polling_of w) log s (pollers w.readers) piece 1 (λ _. sym level) state.polls);
+          subst (λ (t : ScriptState). AllPoll (polling_of w) (and_now (shows piece) log) t (reader_at w.readers)) (more_state (rules_of w) s (length rest) count)
+          (writer_line_laws.shown (polling_of w) log s (reader_at w.readers) piece 1 (λ _. sym level) state.polls);
     }
 
 piece_fits : (w : WorldView) (piece : Write) (pieces : List Write) (s : ScriptState) (log : Log) → w.session.pending ≡ piece ∷ pieces → StandsFor w log
@@ -185,7 +183,7 @@ pub piece_steps : (w : WorldView) (piece : Write) (pieces : List Write) → w.se
     → Steps w events.Visible (replies.Written 1 (length pieces)) (shown_world w piece pieces)
 piece_steps w piece pieces pending carries =
     record {
-      rules = ap (λ (f : FileFields). rules_for f.chunk_rows f.limit w.attempts) (after_file w.session pieces);
+      rules = ap (λ (f : FileFields). rules_for (options_of f) w.attempts) (after_file w.session pieces);
       lawful = λ s fits.
           let count : s.pending ≡ suc (length pieces) = fits.state.pending ∙ ap length pending in
           let one : 1 ≡ min 1 s.pending = omega arith in

@@ -6,7 +6,7 @@ use Rattle.h5w_image.specs.Memory.{MemView}
 use Rattle.h5w_writer.specs.Plans.{creation_writes, new_file}
 use Rattle.h5w_writer.specs.Room.{HasRoomFor}
 use Rattle.h5w_writer.specs.Sessions.{Session, Stands, cutting_of}
-use Rattle.h5w_writer.specs.declared.options.Options.{Options}
+use Rattle.h5w_model.specs.declared.options.Options.{Options}
 use Rattle.h5w_core.specs.Steady.{steady}
 
 -- So many of the creation's pieces are visible in its image, and nothing was appended.

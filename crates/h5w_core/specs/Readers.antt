@@ -2,25 +2,14 @@
 use Rattle.std.specs.Prelude.{◌≡◌, ◌⊎◌, ℕ, ◌+◌, ◌<◌, ◌≤◌, List, [], get_or, Option, Some, None, IsSome, option_map}
 use Rattle.h5w_model.specs.Numbers.{range}
 use Rattle.h5w_model.specs.Tables.{Reading}
-use Rattle.h5w_model.specs.Calls.{open_call, values_call}
+use Rattle.h5w_model.specs.Calls.{rows_seen, values_call}
+use Rattle.h5w_model.specs.Unfinished.{Unfinished, values_left, next_look_of, wanted, fed_left, ReaderRules, Reader, with_left}
 use Rattle.h5w_model.specs.declared.reply.Reply.{Reply}
 use Rattle.h5w_model.specs.declared.reply.Reply.TheVariants as replies
-use Rattle.h5w_polling.specs.Polling.{Poller, Unfinished, rows_left, values_left}
-use Rattle.h5w_polling.specs.Laws.{reply_to, after_look}
-use Rattle.h5w_reader.specs.Attempts.{reader_limits}
+use Rattle.h5w_polling.specs.Laws.{refreshing, reading, reply_to, after_look}
 use Rattle.h5w_reader.specs.Cores.{reader}
-use Rattle.h5w_reader.specs.Looks.{next_look}
-use Rattle.h5w_reader.specs.Readers.{Reader, Left, for_rows, for_values, fed_left, read_refusal, rows_program, rows_seen, wanted, with_left}
+use Rattle.h5w_reader.specs.Readers.{new_reader, read_refusal}
 use Rattle.h5w_reader.specs.declared.reader.ReaderCore.{ReaderCore}
-
--- what is left of a reader's call, as the laws of polling tell it
-abbrev pub unfinished : Left → Unfinished
-unfinished (for_rows p) = rows_left p
-unfinished (for_values p) = values_left p
-
--- a reader as the laws of polling tell it
-abbrev pub poller : Reader → Poller
-poller x = record { known = x.known; left = option_map unfinished x.left }
 
 -- what contracts see of a place for a reader
 abbrev pub placed : Option ReaderCore → Option Reader
@@ -30,99 +19,82 @@ placed place = option_map reader place
 abbrev pub reader_at : List (Option ReaderCore) → ℕ → Option Reader
 reader_at places r = placed (get_or places r None)
 
-abbrev pub pollers : List (Option ReaderCore) → ℕ → Option Poller
-pollers places r = option_map poller (reader_at places r)
-
--- a reader of the dataset of this name, with so many attempts
-abbrev pub IsOurs : List ℕ → ℕ → Option Reader → Type 0
-IsOurs name attempts None = Unit {0}
-IsOurs name attempts (Some x) = (x.name ≡ name) × (x.attempts ≡ attempts)
-
-abbrev pub AreOurs : List ℕ → ℕ → List (Option ReaderCore) → Type 0
-AreOurs name attempts places = (r : ℕ) → IsOurs name attempts (reader_at places r)
-
 -- ---- What an event makes of a place
 
--- a reader that begins to open
-abbrev pub opened : List ℕ → ℕ → Reader
-opened name attempts = record { name = name; attempts = attempts; known = None; left = Some (for_rows (open_call reader_limits 0 attempts name)) }
+-- a reader begins to open, where none is there
+abbrev pub OpenGives : ℕ → ReaderRules → Option Reader → Reply → Option Reader → Type 0
+OpenGives n rules None reply new = (reply ≡ replies.Opening n) × (new ≡ Some (new_reader rules))
+OpenGives n rules (Some r) reply new = (reply ≡ replies.ReaderExists n) × (new ≡ Some r)
 
-abbrev pub OpenGives : ℕ → List ℕ → ℕ → Option Reader → Reply → Option Reader → Type 0
-OpenGives r name attempts None reply new = (reply ≡ replies.Opening r) × (new ≡ Some (opened name attempts))
-OpenGives r name attempts (Some x) reply new = (reply ≡ replies.ReaderExists r) × (new ≡ Some x)
-
-abbrev pub RefreshesTo : ℕ → Reader → Option Left → Reply → Option Reader → Type 0
-RefreshesTo r x None reply new = (reply ≡ replies.Refreshing r) × (new ≡ Some (with_left x (Some (for_rows (rows_program x.attempts x.name x.known)))))
-RefreshesTo r x (Some l) reply new = (reply ≡ replies.ReaderBusy r) × (new ≡ Some x)
+abbrev pub RefreshesTo : ℕ → Reader → Option Unfinished → Reply → Option Reader → Type 0
+RefreshesTo n r None reply new = (reply ≡ replies.Refreshing n) × (new ≡ Some (refreshing r))
+RefreshesTo n r (Some left) reply new = (reply ≡ replies.ReaderBusy n) × (new ≡ Some r)
 
 abbrev pub RefreshGives : ℕ → Option Reader → Reply → Option Reader → Type 0
-RefreshGives r None reply new = (reply ≡ replies.NoReader r) × (new ≡ None)
-RefreshGives r (Some x) reply new = RefreshesTo r x x.left reply new
+RefreshGives n None reply new = (reply ≡ replies.NoReader n) × (new ≡ None)
+RefreshGives n (Some r) reply new = RefreshesTo n r r.left reply new
 
 -- rows are asked for that were not seen
-pub record ReadsPast (r from count : ℕ) (x : Reader) (reply : Reply) (new : Option Reader) : Type 0 where
-  pub past : rows_seen x.known < from + count
-  pub is : reply ≡ replies.OutOfRows r from count (rows_seen x.known)
-  pub same : new ≡ Some x
+pub record ReadsPast (n from count : ℕ) (r : Reader) (reply : Reply) (new : Option Reader) : Type 0 where
+  pub past : rows_seen r.known < from + count
+  pub is : reply ≡ replies.OutOfRows n from count (rows_seen r.known)
+  pub same : new ≡ Some r
 
 -- no row is asked for
-pub record ReadsNothing (r from count : ℕ) (x : Reader) (reply : Reply) (new : Option Reader) : Type 0 where
+pub record ReadsNothing (n from count : ℕ) (r : Reader) (reply : Reply) (new : Option Reader) : Type 0 where
   pub none : count ≡ 0
-  pub inside : from ≤ rows_seen x.known
-  pub is : reply ≡ replies.Values r []
-  pub same : new ≡ Some x
+  pub inside : from ≤ rows_seen r.known
+  pub is : reply ≡ replies.Values n []
+  pub same : new ≡ Some r
 
 -- a read begins
-pub record ReadBegins (r from count : ℕ) (x : Reader) (reply : Reply) (new : Option Reader) : Type 0 where
+pub record ReadBegins (n from count : ℕ) (r : Reader) (reply : Reply) (new : Option Reader) : Type 0 where
   pub what : Reading
-  pub known : x.known ≡ Some what
+  pub known : r.known ≡ Some what
   pub some : 1 ≤ count
-  pub inside : from + count ≤ rows_seen (Some what)
-  pub is : reply ≡ replies.Reading r
-  pub begun : new ≡ Some (with_left x (Some (for_values (values_call what from count))))
+  pub inside : from + count ≤ rows_seen r.known
+  pub is : reply ≡ replies.Reading n
+  pub begun : new ≡ Some (reading r what from count)
 
-abbrev pub ReadsTo : (r from count : ℕ) → Reader → Option Left → Reply → Option Reader → Type 0
-ReadsTo r from count x None reply new = ReadsPast r from count x reply new ⊎ (ReadsNothing r from count x reply new ⊎ ReadBegins r from count x reply new)
-ReadsTo r from count x (Some l) reply new = (reply ≡ replies.ReaderBusy r) × (new ≡ Some x)
+abbrev pub ReadsTo : (n from count : ℕ) → Reader → Option Unfinished → Reply → Option Reader → Type 0
+ReadsTo n from count r None reply new = ReadsPast n from count r reply new ⊎ (ReadsNothing n from count r reply new ⊎ ReadBegins n from count r reply new)
+ReadsTo n from count r (Some left) reply new = (reply ≡ replies.ReaderBusy n) × (new ≡ Some r)
 
-abbrev pub ReadGives : (r from count : ℕ) → Option Reader → Reply → Option Reader → Type 0
-ReadGives r from count None reply new = (reply ≡ replies.NoReader r) × (new ≡ None)
-ReadGives r from count (Some x) reply new = ReadsTo r from count x x.left reply new
+abbrev pub ReadGives : (n from count : ℕ) → Option Reader → Reply → Option Reader → Type 0
+ReadGives n from count None reply new = (reply ≡ replies.NoReader n) × (new ≡ None)
+ReadGives n from count (Some r) reply new = ReadsTo n from count r r.left reply new
 
 -- a read of rows that were seen needs a look
 abbrev pub ReadLooks : (from count : ℕ) → Option Reader → Type 0
 ReadLooks from count None = Unit {0}
-ReadLooks from count (Some x) = (what : Reading) → x.left ≡ None → x.known ≡ Some what → 1 ≤ count → from + count ≤ rows_seen (Some what) → IsSome (next_look (values_call what from count))
+ReadLooks from count (Some r) = (what : Reading) → r.left ≡ None → r.known ≡ Some what → 1 ≤ count → from + count ≤ rows_seen r.known
+    → IsSome (next_look_of (values_left (values_call what from count)))
 
 -- what is left of a call once its look gave an image's bytes
-abbrev pub looked : List ℕ → Left → Left
-looked b l = elim (wanted (Some l)) [ None ↦ l | Some at ↦ fed_left (range b at.0 at.1) l ]
+abbrev pub looked : List ℕ → Unfinished → Unfinished
+looked b left = elim (next_look_of left) [ None ↦ left | Some at ↦ fed_left (range b at.0 at.1) left ]
 
--- the reader's call goes on, or was answered: it has its name and attempts
-pub record LooksOn (r : ℕ) (x : Reader) (left : Unfinished) (reply : Reply) (new : Option Reader) : Type 0 where
-  pub reader : Reader
-  pub new_is : new ≡ Some reader
-  pub is : reply_to r left ≡ Some reply
-  pub polls : poller reader ≡ after_look x.known left
-  pub name : reader.name ≡ x.name
-  pub attempts : reader.attempts ≡ x.attempts
+-- the reader's call goes on, or was answered
+pub record LooksOn (n : ℕ) (r : Reader) (left : Unfinished) (reply : Reply) (new : Option Reader) : Type 0 where
+  pub is : reply_to n left ≡ Some reply
+  pub new_is : new ≡ Some (after_look r left)
 
-abbrev pub LooksTo : ℕ → List ℕ → Reader → Option Left → Reply → Option Reader → Type 0
-LooksTo r b x None reply new = (reply ≡ replies.Idle r) × (new ≡ Some x)
-LooksTo r b x (Some l) reply new = LooksOn r x (unfinished (looked b l)) reply new
+abbrev pub LooksTo : ℕ → List ℕ → Reader → Option Unfinished → Reply → Option Reader → Type 0
+LooksTo n b r None reply new = (reply ≡ replies.Idle n) × (new ≡ Some r)
+LooksTo n b r (Some left) reply new = LooksOn n r (looked b left) reply new
 
 abbrev pub LookGives : ℕ → List ℕ → Option Reader → Reply → Option Reader → Type 0
-LookGives r b None reply new = (reply ≡ replies.NoReader r) × (new ≡ None)
-LookGives r b (Some x) reply new = LooksTo r b x x.left reply new
+LookGives n b None reply new = (reply ≡ replies.NoReader n) × (new ≡ None)
+LookGives n b (Some r) reply new = LooksTo n b r r.left reply new
 
 -- a look at these bytes comes to a reply
-abbrev pub CallReplies : ℕ → List ℕ → Option Left → Type 0
-CallReplies r b None = Unit {0}
-CallReplies r b (Some l) = IsSome (reply_to r (unfinished (looked b l)))
+abbrev pub CallReplies : ℕ → List ℕ → Option Unfinished → Type 0
+CallReplies n b None = Unit {0}
+CallReplies n b (Some left) = IsSome (reply_to n (looked b left))
 
 abbrev pub LookReplies : ℕ → List ℕ → Option Reader → Type 0
-LookReplies r b None = Unit {0}
-LookReplies r b (Some x) = CallReplies r b x.left
+LookReplies n b None = Unit {0}
+LookReplies n b (Some r) = CallReplies n b r.left
 
 -- a reader whose unfinished call was taken away
 abbrev pub ended : Reader → Reader

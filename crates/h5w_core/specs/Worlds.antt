@@ -1,9 +1,10 @@
 -- A world of one writer, one image and some readers: what its value is, of which logs it can be the world, and of which
 -- states of a script.
-use Rattle.std.specs.Prelude.{◌≡◌, ◌≢◌, ℕ, ◌≤◌, List, [], ◌∷◌, ◌++◌, length, replicate, nat_lt, ◌==◌, if◌then◌else◌, Option, None, option_map}
+use Rattle.std.specs.Prelude.{◌≡◌, ◌≢◌, ℕ, ◌≤◌, List, [], ◌∷◌, ◌++◌, length, replicate, nat_lt, ◌==◌, if◌then◌else◌, Option, Some, None, option_map}
 use Rattle.h5w_model.specs.Images.{image}
-use Rattle.h5w_model.specs.Logs.{Log, appends, plans, shows, hist, appended, flushed, spent, and_now}
+use Rattle.h5w_model.specs.Logs.{Log, appends, plans, shows, hist, appended, flushed_rows, spent, and_now}
 use Rattle.h5w_model.specs.Lawful.{Rules, ScriptState, Allowed, line_of, next_state}
+use Rattle.h5w_model.specs.declared.options.Options.{Options}
 use Rattle.h5w_model.specs.declared.event.Event.{Event}
 use Rattle.h5w_model.specs.declared.event.Event.TheVariants as events
 use Rattle.h5w_model.specs.declared.piece.Write.{Write}
@@ -12,13 +13,17 @@ use Rattle.h5w_model.specs.declared.reply.Reply.TheVariants as replies
 use Rattle.h5w_polling.specs.Polling.{Polling, now}
 use Rattle.h5w_polling.specs.Scripts.{AllPoll}
 use Rattle.h5w_image.specs.Memory.{MemView}
-use Rattle.h5w_reader.specs.Readers.{Reader}
+use Rattle.h5w_model.specs.Unfinished.{Reader}
+use Rattle.h5w_reader.specs.Readers.{reader_rules}
 use Rattle.h5w_reader.specs.declared.reader.ReaderCore.{ReaderCore}
-use Rattle.h5w_core.specs.Readers.{AreOurs, IsCalling, MayRead, ended, pollers, reader_at}
+use Rattle.h5w_core.specs.Readers.{IsCalling, MayRead, ended, reader_at}
 use Rattle.h5w_core.specs.Steady.{steady}
 use Rattle.h5w_writer.specs.Files.{int_type}
+use Rattle.h5w_writer.specs.Plans.{options_of}
 use Rattle.h5w_writer.specs.Refusals.{append_refusal, flush_refusal}
 use Rattle.h5w_writer.specs.Room.{HasRoomFor}
+use Rattle.h5w_writer.specs.declared.refusal.FlushError.{FlushError}
+use Rattle.h5w_writer.specs.declared.refusal.FlushError.TheVariants as errors
 use Rattle.h5w_writer.specs.Sessions.{Session, Stands, after_piece, chunk_limit, cutting_of}
 
 -- The session, the bytes of its image, the pieces that became visible, the oldest first, the most attempts of a
@@ -30,23 +35,23 @@ pub record WorldView : Type 0 where
   pub attempts : ℕ
   pub readers : List (Option ReaderCore)
 
--- the rules for so many rows in a chunk, bytes in a file and attempts in a call
-abbrev pub rules_for : (chunk_rows limit attempts : ℕ) → Rules
-rules_for chunk_rows limit attempts = record {
-  cutting = record { chunk_rows = chunk_rows; chunk_columns = 1; columns = 1; value_size = 4 };
+-- the rules of a script on a file that is created by these options, with so many attempts in a reader's call
+abbrev pub rules_for : Options → ℕ → Rules
+rules_for options attempts = record {
+  cutting = record { chunk_rows = options.chunk_rows; chunk_columns = 1; columns = 1; value_size = 4 };
   int_type = int_type;
   chunk_limit = chunk_limit;
-  space_limit = limit;
+  space_limit = options.limit;
   attempts = attempts;
 }
 
 -- the rules by which a world's replies are lawful
 abbrev pub rules_of : WorldView → Rules
-rules_of w = rules_for w.session.file.chunk_rows w.session.file.limit w.attempts
+rules_of w = rules_for (options_of w.session.file) w.attempts
 
--- what readers poll for by some rules: the dataset of this name, of at most four chunks, of which they keep no block
+-- what readers poll for by some rules: the dataset of this name, by what each reader calls
 abbrev pub polling_by : List ℕ → Rules → Polling
-polling_by name g = record { name = name; limits = record { array = chunk_limit; tree = 0 }; keeps = 0; rules = g }
+polling_by name g = let by = reader_rules name g.attempts in record { name = name; limits = by.limits; keeps = by.keeps; rules = g }
 
 abbrev pub polling_of : WorldView → Polling
 polling_of w = polling_by w.session.file.name (rules_of w)
@@ -66,7 +71,7 @@ pub record StandsFor (w : WorldView) (log : Log) : Type 0 where
 -- pieces of a flush that took all rows. The new file is there, and what the script keeps of each reader is true of it.
 pub record IsStateOf (w : WorldView) (s : ScriptState) (log : Log) : Type 0 where
   pub appended : s.appended ≡ appended log
-  pub flushed : s.flushed ≡ length (flushed log)
+  pub flushed : s.flushed ≡ flushed_rows log
   pub pending : s.pending ≡ length w.session.pending
   pub ends_flush : s.ends_flush ≡ nat_lt 0 (length w.session.pending)
   pub taken : w.session.pending ≢ [] → w.session.waiting ≡ []
@@ -74,8 +79,7 @@ pub record IsStateOf (w : WorldView) (s : ScriptState) (log : Log) : Type 0 wher
   pub stopped : s.stopped ≡ w.session.stopped
   pub tries : 1 ≤ w.attempts
   pub begun : log.first ≤ now log
-  pub ours : AreOurs w.session.file.name w.attempts w.readers
-  pub polls : AllPoll (polling_of w) log s (pollers w.readers)
+  pub polls : AllPoll (polling_of w) log s (reader_at w.readers)
 
 -- the world and the state of a script that was run on it are those of one log
 pub record Fits (w : WorldView) (s : ScriptState) : Type 0 where
@@ -114,10 +118,17 @@ IsHeard (events.Refresh reader) = reader ≤ 16
 IsHeard (events.Read reader from count) = reader ≤ 16
 IsHeard (events.Look reader) = reader ≤ 16
 
--- an event that is not refused and may want memory
+-- nothing stands before a flush but, maybe, want of a place
+abbrev pub MayBeFull : Option FlushError → Type 0
+MayBeFull None = Unit {0}
+MayBeFull (Some (errors.Space full)) = Unit {0}
+MayBeFull (Some errors.OutOfMemory) = Unit {0}
+MayBeFull (Some e) = ⊥
+
+-- an event that may want memory: one that is not refused, or a flush that has no place
 abbrev pub MayWantMemory : WorldView → Event → Type 0
 MayWantMemory w (events.Append values) = append_refusal w.session values ≡ None
-MayWantMemory w events.Flush = flush_refusal w.session ≡ None
+MayWantMemory w events.Flush = MayBeFull (flush_refusal w.session)
 MayWantMemory w (events.Open reader) = reader_at w.readers reader ≡ None
 MayWantMemory w (events.Read reader from count) = MayRead from count (reader_at w.readers reader)
 MayWantMemory w (events.Look reader) = IsCalling (reader_at w.readers reader)

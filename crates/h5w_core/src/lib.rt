@@ -1,5 +1,5 @@
-//! One writer and its image in one machine: an event is one piece made visible, or one call of the writer, and each is given
-//! a lawful reply.
+//! One writer, its image and up to 16 readers in one machine: an event is one piece made visible, a call of the writer or of a
+//! reader, or one look of a reader, and each is given a lawful reply.
 #![tactic(auto)]
 
 mod laws;
@@ -12,8 +12,3 @@ pub use h5w_model::{Event, OutOfMemory, Reply};
 pub use h5w_writer::Options;
 pub use laws::runs_lawfully;
 pub use world::World;
-
-#[cfg(test)]
-mod interleaved;
-#[cfg(test)]
-mod tests;

@@ -3,6 +3,7 @@ ghost use Rattle.std.specs.Prelude.{◌≡◌, None, IfOk, OnErr, option_map};
 ghost use Rattle.h5w_image.specs.View.{Same};
 ghost use Rattle.h5w_core.specs.Readers.{IsCalling, LookGives, LookReplies, MayRead, OpenGives, ReadGives, ReadLooks, RefreshGives, ended, placed};
 ghost use Rattle.h5w_core.specs.Steady.{steady};
+ghost use Rattle.h5w_reader.specs.Readers.{reader_rules};
 
 use crate::steady::SteadyImage;
 use h5w_model::{OutOfMemory, ReadError, Reply};
@@ -17,7 +18,7 @@ pub fn open(
     name: &[u8],
     attempts: u32,
 ) -> Result<Reply, OutOfMemory>
-    ensures gives { IfOk result (λ reply. OpenGives reader name.now attempts (placed place.old) reply (placed place.new)) }
+    ensures gives { IfOk result (λ reply. OpenGives reader (reader_rules name.now attempts) (placed place.old) reply (placed place.new)) }
     ensures kept { OnErr result (placed place.new ≡ placed place.old) }
     ensures memory { OnErr result (placed place.old ≡ None) }
 {
@@ -67,7 +68,6 @@ pub fn read(
             count,
             rows,
         }),
-        Err(ReadBegin::Refused(_)) => unreachable!(),
         Err(ReadBegin::OutOfMemory) => Err(OutOfMemory),
     }
 }

@@ -3,6 +3,7 @@ ghost use Rattle.std.specs.Prelude.{◌≡◌, ◌≤◌, [], ◌∷◌, ◌^◌
 ghost use Rattle.h5w_model.specs.Images.{image};
 ghost use Rattle.h5w_model.specs.Lawful.{ScriptState, Allowed, at_first, line_of, next_state};
 ghost use Rattle.h5w_model.specs.Logs.{Log, and_now, shows};
+ghost use Rattle.h5w_model.specs.Options.{AreAttempts, AreOptions};
 ghost use Rattle.h5w_model.specs.declared.piece.Write.{Write};
 ghost use Rattle.h5w_image.specs.View.{Wrote};
 ghost use Rattle.h5w_writer.specs.Plans.{creation_writes};
@@ -77,12 +78,7 @@ fn places(alloc: Global) -> Result<Vec<Option<ReaderCore>>, OutOfMemory>
 
 /// A writer that created a file, all of whose pieces are visible.
 fn create(alloc: Global, options: &Options) -> Result<(WriterCore, SteadyImage), OutOfMemory>
-    requires named { 1 ≤ length options.now.name }
-    requires name_bound { length options.now.name ≤ 64 }
-    requires some_rows { 1 ≤ options.now.chunk_rows }
-    requires chunk_bound { options.now.chunk_rows ≤ 65536 }
-    requires some_bytes { 1024 ≤ options.now.limit }
-    requires byte_bound { options.now.limit ≤ 2 ^ 40 }
+    requires { AreOptions options.now }
     ensures { IfOk result (λ made. Creates options.now 5 made.0 made.1) }
 {
     let mut session = WriterCore::create(alloc, options)?;
@@ -98,16 +94,10 @@ fn create(alloc: Global, options: &Options) -> Result<(WriterCore, SteadyImage),
 impl World {
     /// A world whose writer created a file. Its five pieces are visible, and nothing is pending.
     pub fn new(alloc: Global, options: &Options, attempts: u32) -> Result<World, OutOfMemory>
-        requires named { 1 ≤ length options.now.name }
-        requires name_bound { length options.now.name ≤ 64 }
-        requires some_rows { 1 ≤ options.now.chunk_rows }
-        requires chunk_bound { options.now.chunk_rows ≤ 65536 }
-        requires some_bytes { 1024 ≤ options.now.limit }
-        requires byte_bound { options.now.limit ≤ 2 ^ 40 }
-        requires some_attempts { 1 ≤ attempts }
-        requires most_attempts { attempts ≤ 1000 }
+        requires options { AreOptions options.now }
+        requires attempts { AreAttempts attempts }
         ensures fits { IfOk result (λ w. Fits w at_first) }
-        ensures rules { IfOk result (λ w. rules_of w ≡ rules_for options.now.chunk_rows options.now.limit attempts) }
+        ensures rules { IfOk result (λ w. rules_of w ≡ rules_for options.now attempts) }
         ensures created { IfOk result (λ w. w.journal ≡ creation_writes options.now) }
     {
         let readers = places(alloc)?;

@@ -9,7 +9,7 @@ use std::alloc::Global;
 const SIGNATURE: [u8; 4] = *b"EADB";
 
 /// A data block of an array ("The Extensible Array Index").
-#[derive(Debug, Drop)]
+#[derive(Drop)]
 pub struct Eadb {
     /// The address of the array's header.
     pub header: u64,

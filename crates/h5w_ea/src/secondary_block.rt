@@ -9,7 +9,7 @@ use std::alloc::Global;
 const SIGNATURE: [u8; 4] = *b"EASB";
 
 /// A secondary block of an array ("The Extensible Array Index").
-#[derive(Debug, Drop)]
+#[derive(Drop)]
 pub struct Easb {
     /// The address of the array's header.
     pub header: u64,

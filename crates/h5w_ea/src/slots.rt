@@ -20,7 +20,7 @@ const FIRST: usize = 18;
 const FRAME: usize = 22;
 
 /// A list of addresses; undefined is all ones.
-#[derive(Debug, Drop)]
+#[derive(Drop)]
 pub struct Slots {
     addresses: Vec<u64>,
 }

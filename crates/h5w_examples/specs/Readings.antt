@@ -46,6 +46,7 @@ piece_of file place n = record { at = place; piece = range file place n }
 abbrev pub two_flushes : Log
 two_flushes = record {
   start = [];
+  columns = 1;
   values = [];
   first = 5;
   events =
@@ -62,6 +63,7 @@ two_flushes = record {
 abbrev pub copied_block : Log
 copied_block = record {
   start = [];
+  columns = 1;
   values = [];
   first = 5;
   events =

@@ -2,7 +2,7 @@ ghost use Rattle.std.specs.Prelude.{◌≡◌, [], ◌∷◌, Some, pos};
 ghost use Rattle.h5w_model.specs.Numbers.{undefined};
 ghost use Rattle.h5w_model.specs.Tables.{Shows, format_limits, cells};
 ghost use Rattle.h5w_model.specs.Findings.{Valid};
-ghost use Rattle.h5w_examples.specs.Files.{created_file, file_of_three, file_of_four, standard_file};
+ghost use Rattle.h5w_examples.specs.Files.{created_file, file_of_three, file_of_four, file_with_times};
 ghost use Rattle.h5w_examples.specs.Readings.{data_name, reading_as, summary_as};
 
 /// A new file shows a dataset without rows, and is valid.
@@ -25,9 +25,9 @@ pub fn four_rows()
     ensures valid { Valid file_of_four data_name (summary_as 4 2 5 574) }
 {}
 
-/// Without an index the rows are the fill. Times, attribute info and nil messages are passed over.
-pub fn standard_library()
-    ensures shows { Shows format_limits standard_file data_name (reading_as 3 undefined (undefined ∷ undefined ∷ [])) }
-    ensures cells { cells standard_file (reading_as 3 undefined (undefined ∷ undefined ∷ [])) ≡ Some (pos 0) ∷ Some (pos 0) ∷ Some (pos 0) ∷ [] }
-    ensures valid { Valid standard_file data_name (summary_as 3 0 3 240) }
+/// In a file made by hand, without an index the rows are the fill. Times, attribute info and nil messages are passed over.
+pub fn with_times()
+    ensures shows { Shows format_limits file_with_times data_name (reading_as 3 undefined (undefined ∷ undefined ∷ [])) }
+    ensures cells { cells file_with_times (reading_as 3 undefined (undefined ∷ undefined ∷ [])) ≡ Some (pos 0) ∷ Some (pos 0) ∷ Some (pos 0) ∷ [] }
+    ensures valid { Valid file_with_times data_name (summary_as 3 0 3 240) }
 {}

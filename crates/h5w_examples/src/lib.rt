@@ -6,6 +6,6 @@ mod damaged;
 mod files;
 mod logs;
 
-pub use damaged::{bad_sum, cut_short, half_flagged, overlapping};
-pub use files::{four_rows, new_file, standard_library, three_rows};
+pub use damaged::{bad_sum, cut_short, half_open, overlapping};
+pub use files::{four_rows, new_file, three_rows, with_times};
 pub use logs::{copied_block_keep, copied_block_read, two_flushes_keep, two_flushes_read};

@@ -1,19 +1,19 @@
 -- Attempts: each ends with what some position of the call shows, or with a header that differs from its first.
-use Rattle.std.proofs.Common.{◌≡◌, ◌⊎◌, ℕ, ◌≤◌, true, cond, List, [], ◌∷◌, ◌++◌, length, take, drop, Option, Some, None, Result, Ok, Err, refl, sym, ◌∙◌, ap, subst, inl, inr, arith}
+use Rattle.std.proofs.Common.{◌≡◌, ◌⊎◌, ℕ, ◌≤◌, true, cond, List, [], ◌∷◌, ◌++◌, length, take, drop, get_or, Option, Some, None, Result, Ok, Err, refl, sym, ◌∙◌, ap, subst, inl, inr, arith}
 use Rattle.std.specs.Prelude.{nat_lt, nat_eq, if◌then◌else◌}
 use Rattle.std.specs.List.{Any}
 use Rattle.std.specs.Cmp.Lexicographic.{pointwise, bytes_decides}
 use Rattle.std.proofs.lemmas.Bool.{cond_both, cond-false, le-ltb, true≢false}
 use Rattle.std.proofs.lemmas.List.{take-take}
-use Rattle.h5w_model.specs.Numbers.{range}
+use Rattle.h5w_model.specs.Numbers.{range, undefined}
 use Rattle.h5w_model.specs.Programs.{Prog, ret, whole, counted, stored, bind, and_then, visits, below_end, lowered, Takes}
 use Rattle.h5w_model.specs.Headers.{prefix_at, header_view}
 use Rattle.h5w_model.specs.Logs.{Log}
 use Rattle.h5w_model.specs.Datasets.{Described, dataset_from}
-use Rattle.h5w_model.specs.Tables.{Limits, Reading, needed, needed_keys, needed_table, table_of, limit_of}
-use Rattle.h5w_model.specs.Prefixed.{image_at}
+use Rattle.h5w_model.specs.Tables.{Limits, Reading, needed, needed_keys, limit_of}
+use Rattle.h5w_model.specs.Prefixed.{image_at, StaysDefined}
 use Rattle.h5w_model.specs.Readers.{Placed, IsCall, looks_of, header_at, Quiet}
-use Rattle.h5w_model.specs.Calls.{header_look, cut_header, not_shrunk, is_settled}
+use Rattle.h5w_model.specs.Calls.{rows_seen, known_table, table_from, needed_from, header_look, cut_header, not_shrunk, is_settled}
 use Rattle.h5w_model.specs.Relations.{HasMessages}
 use Rattle.h5w_model.specs.declared.message.Prefix.{Prefix}
 use Rattle.h5w_model.specs.declared.refusal.ReadError.{ReadError}
@@ -30,7 +30,7 @@ use Rattle.h5w_headline.specs.Headline.{Served, WithinLimits, IsTakenAt, IsHeade
 use Rattle.h5w_headline.proofs.LookLemmas.{Until, AreSame, any_front, any_behind, call_front, call_rest, call_until, placed_parts, placed_behind}
 use Rattle.h5w_headline.proofs.MomentLemmas.{Moment, moment, keeps}
 use Rattle.h5w_headline.proofs.BlockLemmas.{onward}
-use Rattle.h5w_headline.proofs.SpanLemmas.{Span, inside, AnswerShown, told, table_taken}
+use Rattle.h5w_headline.proofs.SpanLemmas.{Span, Inside, inside, AnswerShown, told, table_taken}
 
 -- ---- A look at the header
 
@@ -97,30 +97,37 @@ header_taken name log from place next (t ∷ ts) a served begun call takes =
 
 -- ---- Behind a header that stays
 
--- no fewer rows than these are shown from a position on
-abbrev pub AreSeen : List ℕ → Log → ℕ → ℕ → Type 0
-AreSeen name log seen from = (u : ℕ) (m : Moment name log u) → from ≤ u → seen ≤ m.shown.dataset.shape.rows
+-- What is known of a reading: no more rows, and no address that is defined and another one.
+pub record IsSeen (known : Option Reading) (r : Reading) : Type 0 where
+  pub rows : rows_seen known ≤ r.dataset.shape.rows
+  pub addresses : (k : ℕ) → StaysDefined (get_or (known_table known r.dataset) k undefined) (get_or r.table k undefined)
 
-abbrev pub behind_of : Limits → ℕ → ℕ → List ℕ → Prog (Result Reading ReadError)
-behind_of limits seen place v =
+-- of what is shown from a position on
+abbrev pub AreSeen : List ℕ → Log → Option Reading → ℕ → Type 0
+AreSeen name log known from = (u : ℕ) (m : Moment name log u) → from ≤ u → IsSeen known m.shown
+
+abbrev pub behind_of : Limits → Option Reading → ℕ → List ℕ → Prog (Result Reading ReadError)
+behind_of limits known place v =
     and_then (dataset_from place v) (λ d.
-    and_then (ret (not_shrunk seen d)) (λ d.
-    and_then (needed_table limits d) (told place d)))
+    and_then (ret (not_shrunk (rows_seen known) d)) (λ d.
+    and_then (needed_from limits (known_table known d) d) (told place d)))
 
 until_rest : (q : ℕ) (xs ys : List Placed) → Until q (xs ++ ys) → Until q ys
 until_rest q [] ys h = h
 until_rest q (x ∷ xs) ys h = until_rest q xs ys h.1
 
-behind_taken : (name : List ℕ) (log : Log) (p q cap seen : ℕ) (limits : Limits) (s : Span name log p q) (ts : List Placed) (a : Result Reading ReadError)
-    → WithinLimits limits name log → AreSeen name log seen p → IsCall log p ts → Until q ts
-    → Takes (lowered cap [] (behind_of limits seen s.first.shown.place (header_at log s.first.shown.place p))) (looks_of ts) a → AnswerShown name log p q ts a
-behind_taken name log p q cap seen limits s ts a within seen_before call until takes =
+behind_taken : (name : List ℕ) (log : Log) (p q cap : ℕ) (known : Option Reading) (limits : Limits) (s : Span name log p q) (ts : List Placed) (a : Result Reading ReadError)
+    → WithinLimits limits name log → AreSeen name log known p → IsCall log p ts → Until q ts
+    → Takes (lowered cap [] (behind_of limits known s.first.shown.place (header_at log s.first.shown.place p))) (looks_of ts) a → AnswerShown name log p q ts a
+behind_taken name log p q cap known limits s ts a within seen_before call until takes =
     let m = s.first in
     let place : ℕ = m.shown.place in
     let v : List ℕ = header_at log place p in
     let img : List ℕ = image_at log p in
     let d : Described = m.shown.dataset in
-    let table : Described → Prog (Result Reading ReadError) = λ d. and_then (needed_table limits d) (told place d) in
+    let seen : ℕ = rows_seen known in
+    let addresses : List ℕ = known_table known d in
+    let table : Described → Prog (Result Reading ReadError) = λ d. and_then (needed_from limits (known_table known d) d) (told place d) in
     let after : Described → Prog (Result Reading ReadError) = λ d. and_then (ret (not_shrunk seen d)) table in
     let same : AreSame log p q img (visits img (dataset_from place v)) =
     (λ w low high.
@@ -128,13 +135,17 @@ behind_taken name log p q cap seen limits s ts a within seen_before call until t
     (i.here.fits, (keeps name log p w m i.here s.served low).stays.continuations)) in
     let b = placed_behind log p q img cap (dataset_from place v) (onward after) ts a m.fits (unstored_steps.header place v) call until same takes in
     let described = subst (λ (r : Result Described ReadError). Takes (lowered cap [] (onward after r)) (looks_of b.rest) a) m.steps.header b.takes in
-    let enough : not_shrunk seen d ≡ Ok d = cond-false (nat_lt d.shape.rows seen) (Err (Shrunk seen d.shape.rows)) (Ok d) (le-ltb d.shape.rows seen (seen_before p m (omega arith))) in
+    let enough : not_shrunk seen d ≡ Ok d = cond-false (nat_lt d.shape.rows seen) (Err (Shrunk seen d.shape.rows)) (Ok d) (le-ltb d.shape.rows seen (seen_before p m (omega arith)).rows) in
     let counted = subst (λ (r : Result Described ReadError). Takes (lowered cap [] (onward table r)) (looks_of b.rest) a) enough described in
-    let few : needed_table limits d ≡ table_of d (needed_keys d) =
-    cond-false (nat_lt (limit_of limits d.layout.index) (needed d)) (ret (Err (TooManyChunks (needed d) (limit_of limits d.layout.index)))) (table_of d (needed_keys d))
+    let few : needed_from limits addresses d ≡ table_from addresses d (needed_keys d) =
+    cond-false (nat_lt (limit_of limits d.layout.index) (needed d)) (ret (Err (TooManyChunks (needed d) (limit_of limits d.layout.index)))) (table_from addresses d (needed_keys d))
     (le-ltb (limit_of limits d.layout.index) (needed d) (within p m.shown m.position m.shows)) in
     let looked = subst (λ (x : Prog (Result (List ℕ) ReadError)). Takes (lowered cap [] (and_then x (told place d))) (looks_of b.rest) a) few counted in
-    let found = table_taken name log p q cap s b.rest a (call_rest log p b.front b.rest (subst (λ (xs : List Placed). IsCall log p xs) (sym (b.are)) call))
+    let known_there : (u : ℕ) (i : Inside name log p q u s) (k : ℕ) → StaysDefined (get_or addresses k undefined) (get_or i.here.shown.table k undefined) =
+    (λ u i k.
+    subst (λ (x : Described). StaysDefined (get_or (known_table known x) k undefined) (get_or i.here.shown.table k undefined)) i.same
+    ((seen_before u i.here i.low).addresses k)) in
+    let found = table_taken name log p q cap s addresses b.rest a known_there (call_rest log p b.front b.rest (subst (λ (xs : List Placed). IsCall log p xs) (sym (b.are)) call))
     (until_rest q b.front b.rest (subst (λ (xs : List Placed). Until q xs) (sym (b.are)) until)) looked in
     record {
       at = found.at;
@@ -198,16 +209,16 @@ settled_none (counted at counts next) (t ∷ ts) a is takes = cc
 settled_none (stored kind at n next) (t ∷ ts) a is takes = cc
 
 -- an attempt that looks at nothing
-settled_answer : (name : List ℕ) (log : Log) (p cap seen : ℕ) (limits : Limits) (m : Moment name log p) (ts : List Placed) (a : Result Reading ReadError)
-    → Served name log → WithinLimits limits name log → AreSeen name log seen p
-    → is_settled (lowered cap [] (behind_of limits seen m.shown.place (header_at log m.shown.place p))) ≡ true
-    → Takes (lowered cap [] (behind_of limits seen m.shown.place (header_at log m.shown.place p))) (looks_of ts) a → Answered name log m.shown.place p ts a
-settled_answer name log p cap seen limits m ts a served within seen_before settled takes =
-    let x : Prog (Result Reading ReadError) = lowered cap [] (behind_of limits seen m.shown.place (header_at log m.shown.place p)) in
+settled_answer : (name : List ℕ) (log : Log) (p cap : ℕ) (known : Option Reading) (limits : Limits) (m : Moment name log p) (ts : List Placed) (a : Result Reading ReadError)
+    → Served name log → WithinLimits limits name log → AreSeen name log known p
+    → is_settled (lowered cap [] (behind_of limits known m.shown.place (header_at log m.shown.place p))) ≡ true
+    → Takes (lowered cap [] (behind_of limits known m.shown.place (header_at log m.shown.place p))) (looks_of ts) a → Answered name log m.shown.place p ts a
+settled_answer name log p cap known limits m ts a served within seen_before settled takes =
+    let x : Prog (Result Reading ReadError) = lowered cap [] (behind_of limits known m.shown.place (header_at log m.shown.place p)) in
     let none : [] ≡ ts = settled_none x ts a settled takes in
     let s : Span name log p p = record { served = served; first = m; last = m; ordered = omega arith; quiet = refl } in
     answered_by name log p p s [] [] ts a none
-    (behind_taken name log p p cap seen limits s [] a within seen_before tt tt (subst (λ (xs : List Placed). Takes x (looks_of xs) a) (sym none) takes))
+    (behind_taken name log p p cap known limits s [] a within seen_before tt tt (subst (λ (xs : List Placed). Takes x (looks_of xs) a) (sym none) takes))
 
 abbrev pub ends_with : List ℕ → (List ℕ → Prog (Result Reading ReadError)) → Result Reading ReadError → List ℕ → Prog (Result Reading ReadError)
 ends_with v next answer w = cond (pointwise nat_eq w v) (ret answer) (next w)
@@ -215,13 +226,13 @@ ends_with v next answer w = cond (pointwise nat_eq w v) (ret answer) (next w)
 abbrev pub unless_cut : Option ReadError → Prog (Result Reading ReadError) → Prog (Result Reading ReadError)
 unless_cut o x = elim o as (λ _. Prog (Result Reading ReadError)) [ Some e ↦ ret (Err e) | None ↦ x ]
 
-confirmed_answer : (name : List ℕ) (log : Log) (p cap seen : ℕ) (limits : Limits) (m : Moment name log p) (next : List ℕ → Prog (Result Reading ReadError))
+confirmed_answer : (name : List ℕ) (log : Log) (p cap : ℕ) (known : Option Reading) (limits : Limits) (m : Moment name log p) (next : List ℕ → Prog (Result Reading ReadError))
     (ts front rest : List Placed) (a left : Result Reading ReadError)
-    → Served name log → WithinLimits limits name log → AreSeen name log seen p → IsCall log p (front ++ rest) → front ++ rest ≡ ts
-    → Takes (lowered cap [] (behind_of limits seen m.shown.place (header_at log m.shown.place p))) (looks_of front) left
+    → Served name log → WithinLimits limits name log → AreSeen name log known p → IsCall log p (front ++ rest) → front ++ rest ≡ ts
+    → Takes (lowered cap [] (behind_of limits known m.shown.place (header_at log m.shown.place p))) (looks_of front) left
     → Takes (header_look m.shown.place (λ w. unless_cut (cut_header m.shown.place w) (ends_with (header_at log m.shown.place p) next left w))) (looks_of rest) a
     → Answered name log m.shown.place p ts a ⊎ Differs name log m.shown.place p next ts a
-confirmed_answer name log p cap seen limits m next ts front rest a left served within seen_before call are first second =
+confirmed_answer name log p cap known limits m next ts front rest a left served within seen_before call are first second =
     let place : ℕ = m.shown.place in
     let v : List ℕ = header_at log place p in
     let h = header_taken name log p place (λ w. unless_cut (cut_header place w) (ends_with v next left w)) rest a served m.position.begun (call_rest log p front rest call) second in
@@ -245,8 +256,8 @@ confirmed_answer name log p cap seen limits m next ts front rest a left served w
         let span : Span name log p t.position = record { served = served; first = m; last = n; ordered = low; quiet = quiet } in
         let told_it : a ≡ left = (takes_ret left (looks_of more) a s).1 in
         inl (answered_by name log p t.position span front rest ts a are
-        (behind_taken name log p t.position cap seen limits span front a within seen_before (call_front log p front (t ∷ more) calls_all) (call_until log p front t more calls_all)
-        (subst (λ (x : Result Reading ReadError). Takes (lowered cap [] (behind_of limits seen place v)) (looks_of front) x) (sym told_it) first))))
+        (behind_taken name log p t.position cap known limits span front a within seen_before (call_front log p front (t ∷ more) calls_all) (call_until log p front t more calls_all)
+        (subst (λ (x : Result Reading ReadError). Takes (lowered cap [] (behind_of limits known place v)) (looks_of front) x) (sym told_it) first))))
         (λ other s. inr (record {
           front = front;
           look = t;
@@ -261,26 +272,26 @@ confirmed_answer name log p cap seen limits m next ts front rest a left served w
         }))
         ends
 
-abbrev pub attempt_of : Limits → ℕ → ℕ → ℕ → (List ℕ → Prog (Result Reading ReadError)) → List ℕ → Prog (Result Reading ReadError)
-attempt_of limits cap seen place next v =
-    unless_cut (cut_header place v) (let x = lowered cap [] (behind_of limits seen place v) in
+abbrev pub attempt_of : Limits → ℕ → Option Reading → ℕ → (List ℕ → Prog (Result Reading ReadError)) → List ℕ → Prog (Result Reading ReadError)
+attempt_of limits cap known place next v =
+    unless_cut (cut_header place v) (let x = lowered cap [] (behind_of limits known place v) in
     cond (is_settled x) x (bind x (λ answer. header_look place (λ w. unless_cut (cut_header place w) (ends_with v next answer w)))))
 
-pub attempt_answer : (name : List ℕ) (log : Log) (p cap seen : ℕ) (limits : Limits) (m : Moment name log p) (next : List ℕ → Prog (Result Reading ReadError)) (ts : List Placed) (a : Result Reading ReadError)
-    → Served name log → WithinLimits limits name log → AreSeen name log seen p → IsCall log p ts
-    → Takes (attempt_of limits cap seen m.shown.place next (header_at log m.shown.place p)) (looks_of ts) a
+pub attempt_answer : (name : List ℕ) (log : Log) (p cap : ℕ) (known : Option Reading) (limits : Limits) (m : Moment name log p) (next : List ℕ → Prog (Result Reading ReadError)) (ts : List Placed) (a : Result Reading ReadError)
+    → Served name log → WithinLimits limits name log → AreSeen name log known p → IsCall log p ts
+    → Takes (attempt_of limits cap known m.shown.place next (header_at log m.shown.place p)) (looks_of ts) a
     → Answered name log m.shown.place p ts a ⊎ Differs name log m.shown.place p next ts a
-attempt_answer name log p cap seen limits m next ts a served within seen_before call takes =
+attempt_answer name log p cap known limits m next ts a served within seen_before call takes =
     let place : ℕ = m.shown.place in
     let v : List ℕ = header_at log place p in
-    let x : Prog (Result Reading ReadError) = lowered cap [] (behind_of limits seen place v) in
+    let x : Prog (Result Reading ReadError) = lowered cap [] (behind_of limits known place v) in
     let confirms : Result Reading ReadError → Prog (Result Reading ReadError) = λ answer. header_look place (λ w. unless_cut (cut_header place w) (ends_with v next answer w)) in
     let goes = subst (λ (o : Option ReadError). Takes (unless_cut o (cond (is_settled x) x (bind x confirms))) (looks_of ts) a) (header_whole name log p m) takes in
     cond_both (is_settled x) x (bind x confirms)
     (λ (y : Prog (Result Reading ReadError)). Takes y (looks_of ts) a → Answered name log place p ts a ⊎ Differs name log place p next ts a)
-    (λ t s. inl (settled_answer name log p cap seen limits m ts a served within seen_before t s))
+    (λ t s. inl (settled_answer name log p cap known limits m ts a served within seen_before t s))
     (λ t s.
     let parts = placed_parts x confirms ts a s in
-    confirmed_answer name log p cap seen limits m next ts parts.front parts.rest a parts.left served within seen_before
+    confirmed_answer name log p cap known limits m next ts parts.front parts.rest a parts.left served within seen_before
     (subst (λ (xs : List Placed). IsCall log p xs) (sym (parts.are)) call) parts.are parts.first parts.second)
     goes

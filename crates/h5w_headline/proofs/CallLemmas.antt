@@ -1,16 +1,17 @@
 -- Calls for rows: attempts one after another, from a header's place that is known, or from the superblock on.
-use Rattle.std.proofs.Common.{◌≡◌, ◌⊎◌, ℕ, zero, suc, ◌+◌, ◌<◌, ◌-◌, ◌*◌, ◌≤◌, cond, List, [], ◌∷◌, ◌++◌, length, Result, Ok, Err, refl, sym, ◌∙◌, ap, subst, inl, inr, arith}
+use Rattle.std.proofs.Common.{◌≡◌, ◌⊎◌, ℕ, zero, suc, ◌+◌, ◌<◌, ◌-◌, ◌≤◌, cond, List, [], ◌∷◌, ◌++◌, length, get_or, Option, Some, None, Result, Ok, Err, refl, sym, ◌∙◌, ap, subst, inl, inr, arith}
 use Rattle.std.specs.List.{Any, AllByRecursion}
-use Rattle.std.proofs.lemmas.Bool.{cases_lt}
-use Rattle.h5w_model.specs.Numbers.{range}
+use Rattle.std.proofs.lemmas.Bool.{cond_both, cases_lt}
+use Rattle.std.proofs.lemmas.List.{get_or_past}
+use Rattle.h5w_model.specs.Numbers.{range, undefined}
 use Rattle.h5w_model.specs.Programs.{Prog, ret, and_then, visits, Same, lowered, Takes}
 use Rattle.h5w_model.specs.Superblock.{super_at, super_tests, super_fields}
 use Rattle.h5w_model.specs.Logs.{Log, hist, flushed_at}
 use Rattle.h5w_model.specs.Datasets.{Described, HeaderFields, is_swmr, super_of, super_refusal, superblock, root_header, linked, dataset_place, refused_as}
 use Rattle.h5w_model.specs.Tables.{Reading}
-use Rattle.h5w_model.specs.Prefixed.{image_at, root_address}
+use Rattle.h5w_model.specs.Prefixed.{image_at, root_address, StaysDefined}
 use Rattle.h5w_model.specs.Readers.{Placed, IsCall, looks_of, header_at, Quiet}
-use Rattle.h5w_model.specs.Calls.{CallRules, again, attempts_from, rows_call, open_rules}
+use Rattle.h5w_model.specs.Calls.{CallRules, rows_seen, same_cut, again, attempts_from, rows_call, open_rules}
 use Rattle.h5w_model.specs.declared.root.Super.{Super}
 use Rattle.h5w_model.specs.declared.refusal.ReadError.{ReadError}
 use Rattle.h5w_model.specs.declared.refusal.ReadError.TheVariants.{NotSwmr}
@@ -21,7 +22,7 @@ use Rattle.h5w_laws.proofs.LogLemmas.{flushed_laws}
 use Rattle.h5w_headline.specs.Headline.{Served, WithinLimits, IsTakenAt, IsHeaderLook, IsHeaderPlace, GetsRows, Changes, EachChanges, rises, again_between, GivesUp, IsAnswer, OpensOnRows, RefreshesToRows}
 use Rattle.h5w_headline.proofs.LookLemmas.{AreSame, any_here, any_there, any_behind, call_front, call_rest, until_end, one_look, placed_kept, placed_parts}
 use Rattle.h5w_headline.proofs.MomentLemmas.{Moment, moment, shown_is, keeps, same_dataset, changes}
-use Rattle.h5w_headline.proofs.RiseLemmas.{rises_onward, rise_between, same_columns}
+use Rattle.h5w_headline.proofs.RiseLemmas.{rises_onward, rise_between}
 use Rattle.h5w_headline.proofs.BlockLemmas.{onward}
 use Rattle.h5w_headline.proofs.SpanLemmas.{same_and_then}
 use Rattle.h5w_headline.proofs.AttemptLemmas.{AreSeen, Answered, Differs, attempt_of, attempt_answer, header_taken}
@@ -41,10 +42,6 @@ record Shown (name : List ℕ) (log : Log) (place p : ℕ) (ls : List Placed) (a
   here : Moment name log at
   answer : a ≡ Ok here.shown
 
--- at every position there are columns
-abbrev AreWide : List ℕ → Log → Type 0
-AreWide name log = (u : ℕ) (m : Moment name log u) → 0 < m.shown.dataset.shape.cols
-
 -- a header that changed in each attempt, among these looks, of which the first is at a position
 record Refused (name : List ℕ) (log : Log) (place attempts most p : ℕ) (ls : List Placed) (a : Result Reading ReadError) : Type 0 where
   earlier : List ℕ
@@ -58,7 +55,7 @@ record Refused (name : List ℕ) (log : Log) (place attempts most p : ℕ) (ls :
   low : p ≤ before
   between : before ≤ last
   ended : last ≤ length (hist log.events)
-  commits : AreWide name log → attempts + 1 ≤ rises log p (last - p)
+  commits : attempts + 1 ≤ rises log p (last - p)
   answer : a ≡ Err (again_between log most place before last)
 
 shown_answered : (name : List ℕ) (log : Log) (place p : ℕ) (m : Moment name log p) (l : Placed) (ts : List Placed) (a : Result Reading ReadError)
@@ -119,26 +116,26 @@ refused_before name log place attempts most p q m l xs ys a header change f =
       low = omega (arith, change.later, f.low);
       between = f.between;
       ended = f.ended;
-      commits = λ wide.
-          let one = rise_between log p q change.later (change.flushed m.shown m.shows (wide p m)) in
+      commits =
+          let one = rise_between log p q change.later change.flushed in
           let onward = rises_onward log p q f.last change.later (let l : q ≤ f.last = omega (arith, f.low, f.between) in l) in
-          omega (arith, one, onward, f.commits wide);
+          omega (arith, one, onward, f.commits);
       answer = f.answer;
     }
 
-seen_later : (name : List ℕ) (log : Log) (seen p q : ℕ) → p ≤ q → AreSeen name log seen p → AreSeen name log seen q
-seen_later name log seen p q h s u m low = s u m (omega arith)
+seen_later : (name : List ℕ) (log : Log) (known : Option Reading) (p q : ℕ) → p ≤ q → AreSeen name log known p → AreSeen name log known q
+seen_later name log known p q h s u m low = s u m (omega arith)
 
 -- the header looks of the attempts
 attempts_answer : (more : ℕ) (name : List ℕ) (log : Log) (g : CallRules) (p : ℕ) (m : Moment name log p) (l : Placed) (ts : List Placed) (a : Result Reading ReadError)
-    → Served name log → WithinLimits g.limits name log → IsHeaderPlace name log g.place → AreSeen name log g.seen p → IsHeaderLook g.place p l → IsCall log p ts
+    → Served name log → WithinLimits g.limits name log → IsHeaderPlace name log g.place → AreSeen name log g.known p → IsHeaderLook g.place p l → IsCall log p ts
     → Takes (attempts_from g more (header_at log g.place p)) (looks_of ts) a → Shown name log g.place p (l ∷ ts) a ⊎ Refused name log g.place more g.attempts p (l ∷ ts) a
 attempts_answer zero name log g p m l ts a served within found seen header call takes =
     let same : m.shown.place ≡ g.place = found p m.shown m.position m.shows in
     let last : List ℕ → Prog (Result Reading ReadError) = λ w. ret (Err (again g (header_at log g.place p) w)) in
     go (subst (λ x. Answered name log x p ts a ⊎ Differs name log x p last ts a) same
-    (attempt_answer name log p g.keeps g.seen g.limits m last ts a served within seen call
-    (subst (λ x. Takes (attempt_of g.limits g.keeps g.seen x last (header_at log x p)) (looks_of ts) a) (sym same) takes)))
+    (attempt_answer name log p g.keeps g.known g.limits m last ts a served within seen call
+    (subst (λ x. Takes (attempt_of g.limits g.keeps g.known x last (header_at log x p)) (looks_of ts) a) (sym same) takes)))
   where
     go : Answered name log g.place p ts a ⊎ Differs name log g.place p (λ w. ret (Err (again g (header_at log g.place p) w))) ts a
         → Shown name log g.place p (l ∷ ts) a ⊎ Refused name log g.place 0 g.attempts p (l ∷ ts) a
@@ -162,15 +159,15 @@ attempts_answer zero name log g p m l ts a served within found seen header call 
           low = omega arith;
           between = d.low;
           ended = d.here.position.reached;
-          commits = λ wide. rise_between log p q d.low (change.flushed m.shown m.shows (wide p m));
+          commits = rise_between log p q d.low change.flushed;
           answer = (takes_ret (Err (again g (header_at log g.place p) (header_at log g.place q))) (looks_of d.rest) a d.takes).1;
         })
 attempts_answer (suc more) name log g p m l ts a served within found seen header call takes =
     let same : m.shown.place ≡ g.place = found p m.shown m.position m.shows in
-    go (λ d. attempts_answer more name log g d.look.position d.here d.look d.rest a served within found (seen_later name log g.seen p d.look.position d.low seen) d.header d.call d.takes)
+    go (λ d. attempts_answer more name log g d.look.position d.here d.look d.rest a served within found (seen_later name log g.known p d.look.position d.low seen) d.header d.call d.takes)
     (subst (λ x. Answered name log x p ts a ⊎ Differs name log x p (attempts_from g more) ts a) same
-    (attempt_answer name log p g.keeps g.seen g.limits m (attempts_from g more) ts a served within seen call
-    (subst (λ x. Takes (attempt_of g.limits g.keeps g.seen x (attempts_from g more) (header_at log x p)) (looks_of ts) a) (sym same) takes)))
+    (attempt_answer name log p g.keeps g.known g.limits m (attempts_from g more) ts a served within seen call
+    (subst (λ x. Takes (attempt_of g.limits g.keeps g.known x (attempts_from g more) (header_at log x p)) (looks_of ts) a) (sym same) takes)))
   where
     again_from : (d : Differs name log g.place p (attempts_from g more) ts a)
         → Shown name log g.place d.look.position (d.look ∷ d.rest) a ⊎ Refused name log g.place more g.attempts d.look.position (d.look ∷ d.rest) a
@@ -195,22 +192,22 @@ attempts_answer (suc more) name log g p m l ts a served within found seen header
 
 -- ---- A call of a reader that knows the header's place
 
-gets_rows : (name : List ℕ) (log : Log) (place from seen p : ℕ) (ls : List Placed) (a : Result Reading ReadError) (f : Shown name log place p ls a)
-    → Served name log → IsHeaderPlace name log place → AreSeen name log seen from → from ≤ p → GetsRows name log from seen ls f.here.shown
-gets_rows name log place from seen p ls a f served found seen_before h =
+gets_rows : (name : List ℕ) (log : Log) (place from p : ℕ) (known : Option Reading) (ls : List Placed) (a : Result Reading ReadError) (f : Shown name log place p ls a)
+    → Served name log → IsHeaderPlace name log place → AreSeen name log known from → from ≤ p → GetsRows name log from (rows_seen known) ls f.here.shown
+gets_rows name log place from p known ls a f served found seen_before h =
     let r : Reading = f.here.shown in
     let there : r.place ≡ place = found f.at r f.here.position f.here.shows in
     let first : f.first.shown.place ≡ place = found f.header f.first.shown f.first.position f.first.shows in
     let same : r.dataset ≡ f.first.shown.dataset =
     same_dataset name log f.header f.at f.first f.here served f.later (subst (λ x. Quiet log x f.header f.at) (sym first) f.quiet) in
-    let rows : r.dataset.shape.rows * r.dataset.shape.cols ≡ flushed_at log f.header = ap (λ (d : Described). d.shape.rows * d.shape.cols) same ∙ f.first.rows in
+    let rows : r.dataset.shape.rows ≡ flushed_at log f.header = ap (λ (d : Described). d.shape.rows) same ∙ f.first.rows in
     record {
       header = f.header;
       begun = omega (arith, f.low);
       header_looked = subst (λ x. Any (IsHeaderLook x f.header) ls) (sym there) f.header_looked;
       rows = rows;
       since_begin = subst (λ n. flushed_at log from ≤ n) (sym rows) (flushed_laws.rises log from f.header (omega (arith, f.low)));
-      since_seen = seen_before f.at f.here (omega (arith, f.low, f.later));
+      since_seen = (seen_before f.at f.here (omega (arith, f.low, f.later))).rows;
       shown = f.at;
       position = f.here.position;
       looked = f.looked;
@@ -233,26 +230,22 @@ gives_up name log place from attempts p ls a some served found begun low f = rec
   changed = f.changed;
   begun = omega (arith, f.low);
   ended = f.ended;
-  commits = λ r shows wide.
-      let m = moment name log f.before served (record { begun = omega (arith, f.low); reached = omega (arith, f.between, f.ended) }) in
-      let here : 0 < m.shown.dataset.shape.cols = subst (λ (x : Reading). 0 < x.dataset.shape.cols) (shown_is name log f.before m r shows) wide in
-      let all : AreWide name log = (λ u n. subst (λ k. 0 < k) (sym (same_columns name log f.before u m n served)) here) in
-      omega (arith, f.commits all, rises_onward log from p f.last low (let l : p ≤ f.last = omega (arith, f.low, f.between) in l));
+  commits = omega (arith, f.commits, rises_onward log from p f.last low (let l : p ≤ f.last = omega (arith, f.low, f.between) in l));
   answer = f.answer;
 }
 
 rows_answer : (name : List ℕ) (log : Log) (g : CallRules) (from : ℕ) (ts : List Placed) (a : Result Reading ReadError)
-    → Served name log → WithinLimits g.limits name log → IsHeaderPlace name log g.place → AreSeen name log g.seen from → 1 ≤ g.attempts → log.first ≤ from → IsCall log from ts
-    → Takes (rows_call g) (looks_of ts) a → IsAnswer name log from g.seen g.attempts ts a
+    → Served name log → WithinLimits g.limits name log → IsHeaderPlace name log g.place → AreSeen name log g.known from → 1 ≤ g.attempts → log.first ≤ from → IsCall log from ts
+    → Takes (rows_call g) (looks_of ts) a → IsAnswer name log from (rows_seen g.known) g.attempts ts a
 rows_answer name log g from ts a served within found seen some begun call takes =
     let h = header_taken name log from g.place (attempts_from g (g.attempts - 1)) ts a served begun call takes in
-    subst (λ (xs : List Placed). IsAnswer name log from g.seen g.attempts xs a) (sym (h.are))
+    subst (λ (xs : List Placed). IsAnswer name log from (rows_seen g.known) g.attempts xs a) (sym (h.are))
     (go h.look h.rest h.low
-    (attempts_answer (g.attempts - 1) name log g h.look.position h.here h.look h.rest a served within found (seen_later name log g.seen from h.look.position h.low seen) h.header h.call h.takes))
+    (attempts_answer (g.attempts - 1) name log g h.look.position h.here h.look h.rest a served within found (seen_later name log g.known from h.look.position h.low seen) h.header h.call h.takes))
   where
     go : (l : Placed) (rest : List Placed) → from ≤ l.position → Shown name log g.place l.position (l ∷ rest) a ⊎ Refused name log g.place (g.attempts - 1) g.attempts l.position (l ∷ rest) a
-        → IsAnswer name log from g.seen g.attempts (l ∷ rest) a
-    go l rest low (inl f) = inl (f.here.shown, f.answer, gets_rows name log g.place from g.seen l.position (l ∷ rest) a f served found seen low)
+        → IsAnswer name log from (rows_seen g.known) g.attempts (l ∷ rest) a
+    go l rest low (inl f) = inl (f.here.shown, f.answer, gets_rows name log g.place from l.position g.known (l ∷ rest) a f served found seen low)
     go l rest low (inr f) = inr (gives_up name log g.place from g.attempts l.position (l ∷ rest) a some served found begun low f)
 
 -- the place is the same at every position
@@ -265,14 +258,36 @@ same_place name log p m served u r at shows =
       | inr more ↦ sym ((keeps name log u p n m served more).stays.place)
     ]
 
+-- what was shown at a position is seen from it on
+pub shown_seen : (name : List ℕ) (log : Log) (seen : ℕ) (m : Moment name log seen) → Served name log → AreSeen name log (Some m.shown) seen
+shown_seen name log seen m served u n low =
+    let k = (keeps name log seen u m n served low).stays in
+    record {
+      rows = k.rows;
+      addresses = λ i. cond_both (same_cut m.shown.dataset n.shown.dataset) m.shown.table [] (λ (known : List ℕ). StaysDefined (get_or known i undefined) (get_or n.shown.table i undefined))
+          (λ t. kept_address i k.addresses) (λ t some. absurd (some refl));
+    }
+  where
+    kept_address : (i : ℕ) → ((j : ℕ) → j < length m.shown.table → StaysDefined (get_or m.shown.table j undefined) (get_or n.shown.table j undefined))
+        → StaysDefined (get_or m.shown.table i undefined) (get_or n.shown.table i undefined)
+    kept_address i h =
+        elim (cases_lt i (length m.shown.table)) [
+          | inl inside ↦ h i inside
+          | inr past ↦ λ some. absurd (some (get_or_past m.shown.table i undefined past))
+        ]
+
+-- nothing is known
+nothing_seen : (name : List ℕ) (log : Log) (from : ℕ) → AreSeen name log None from
+nothing_seen name log from u m low = record { rows = omega arith; addresses = λ k some. absurd (some refl) }
+
 pub refreshes_to_rows : RefreshesToRows
-refreshes_to_rows name log g seen r from ls a served within some at before call shows place rows takes =
+refreshes_to_rows name log g seen r from ls a served within some at before call shows place known takes =
     let m = moment name log seen served at in
     let is : r ≡ m.shown = shown_is name log seen m r shows in
     let found : IsHeaderPlace name log g.place = subst (λ x. IsHeaderPlace name log x) (sym (place ∙ ap (λ (x : Reading). x.place) is)) (same_place name log seen m served) in
-    let seen_all : AreSeen name log g.seen from = (λ u n low.
-    subst (λ x. x ≤ n.shown.dataset.shape.rows) (sym (rows ∙ ap (λ (x : Reading). x.dataset.shape.rows) is)) (keeps name log seen u m n served (omega arith)).stays.rows) in
-    rows_answer name log g from ls a served within found seen_all some (omega (arith, at.begun)) call takes
+    let all : AreSeen name log g.known seen = subst (λ (o : Option Reading). AreSeen name log o seen) (sym (known ∙ ap (λ (x : Reading). Some x) is)) (shown_seen name log seen m served) in
+    subst (λ (o : Option Reading). IsAnswer name log from (rows_seen o) g.attempts ls a) known
+    (rows_answer name log g from ls a served within found (seen_later name log g.known seen from before all) some (omega (arith, at.begun)) call takes)
 
 -- ---- From the superblock on
 
@@ -366,5 +381,5 @@ opens_on_rows name log limits kept attempts from ls a served within some begun c
     let goes = subst (λ (r : Result ℕ ReadError). Takes (onward after r) (looks_of parts.rest) a) place.2 parts.second in
     subst (λ (xs : List Placed). IsAnswer name log from 0 attempts xs a) parts.are
     (answer_behind name log from 0 attempts parts.front parts.rest a
-    (rows_answer name log (open_rules limits kept attempts place.1.shown.place) from parts.rest a served within (same_place name log place.0 place.1 served) (λ u m low. omega arith) some begun
+    (rows_answer name log (open_rules limits kept attempts place.1.shown.place) from parts.rest a served within (same_place name log place.0 place.1 served) (nothing_seen name log from) some begun
     (call_rest log from parts.front parts.rest all) goes))

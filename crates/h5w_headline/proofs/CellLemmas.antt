@@ -1,5 +1,5 @@
 -- The cells of what was shown at a position, at later positions.
-use Rattle.std.proofs.Common.{◌≡◌, ◌≢◌, ℕ, ◌+◌, ◌*◌, ◌/◌, ◌%◌, ◌<◌, ◌≤◌, min, cond, List, length, get_or, Option, Some, None, sym, ◌∙◌, ap, subst, inl, inr, arith, length-take}
+use Rattle.std.proofs.Common.{◌≡◌, ◌≢◌, ℕ, ◌+◌, ◌*◌, ◌/◌, ◌%◌, ◌<◌, ◌≤◌, cond, List, length, get_or, Option, Some, None, sym, ◌∙◌, ap, subst, inl, inr, arith}
 use Rattle.std.specs.Prelude.{◌==◌, ℤ, slice_get, pos}
 use Rattle.std.proofs.lemmas.Bool.{cond_both, cond-false, cases_lt, eqb-true, ne_eqb}
 use Rattle.std.proofs.lemmas.List.{get_or_past}
@@ -8,12 +8,11 @@ use Rattle.std.proofs.lemmas.Option.{slice_get-get_or}
 use Rattle.std.proofs.Math.Nat.{mul-le-mul_right}
 use Rattle.h5w_model.specs.Numbers.{range, undefined}
 use Rattle.h5w_model.specs.Integers.{value_at, fill_value}
-use Rattle.h5w_model.specs.Logs.{Log, appended, flushed_at}
+use Rattle.h5w_model.specs.Logs.{Log, appended}
 use Rattle.h5w_model.specs.Datasets.{Described}
 use Rattle.h5w_model.specs.Tables.{Reading, chunks_across, cell, cell_offset, chunk_address, value_in}
 use Rattle.h5w_model.specs.Prefixed.{image_at, StaysDefined}
 use Rattle.h5w_laws.proofs.LoweringLemmas.{length_range}
-use Rattle.h5w_laws.proofs.LogLemmas.{flushed_laws}
 use Rattle.h5w_headline.specs.Headline.{Served}
 use Rattle.h5w_headline.proofs.MomentLemmas.{Moment, keeps}
 
@@ -52,9 +51,7 @@ has_cell img r xs row col values enough low inside =
 pub has_value : (name : List ℕ) (log : Log) (p : ℕ) (m : Moment name log p) (row col : ℕ) → row < m.shown.dataset.shape.rows → col < m.shown.dataset.shape.cols
     → HasCell (image_at log p) m.shown (appended log) row col
 has_value name log p m row col low inside =
-    let n : ℕ = flushed_at log p in
-    let l : min n (length (appended log)) ≡ n = sym (length-take n (appended log)) ∙ ap length (flushed_laws.begins_at log p) in
-    has_cell (image_at log p) m.shown (appended log) row col m.values (omega (arith, m.rows)) low inside
+    has_cell (image_at log p) m.shown (appended log) row col m.values m.enough low inside
 
 -- ---- At a later position
 

@@ -1,6 +1,6 @@
 -- How many looks the addresses of chunks take at most: two at the blocks in place of an array, one at those of a tree, and
 -- behind them 19 for a chunk.
-use Rattle.std.proofs.Common.{◌≡◌, ℕ, zero, suc, ◌+◌, ◌-◌, ◌*◌, ◌/◌, ◌<◌, ◌≤◌, List, [], ◌∷◌, ◌++◌, length, map, get_or, Result, Ok, Err, refl, sym, ◌∙◌, ap, subst, arith, length-append}
+use Rattle.std.proofs.Common.{◌≡◌, ℕ, zero, suc, ◌+◌, ◌-◌, ◌*◌, ◌/◌, ◌<◌, ◌≤◌, List, [], ◌∷◌, ◌++◌, length, map, take, get_or, Result, Ok, Err, refl, sym, ◌∙◌, ap, subst, arith, length-append}
 use Rattle.std.specs.Prelude.{◌==◌, nat_le, nat_lt, if◌then◌else◌, codes}
 use Rattle.std.specs.List.{AllByRecursion, range_with_len, flat_map}
 use Rattle.std.proofs.lemmas.Bool.{cond_both, leb-true, ltb-true, ltb-false}
@@ -11,8 +11,9 @@ use Rattle.h5w_model.specs.Arrays.{EaibFields, eahd_at, eaib_at, easb_at, eadb_a
 use Rattle.h5w_model.specs.Blocks.{block_tests}
 use Rattle.h5w_model.specs.Trees.{RecordFields, ChildFields, BthdFields, BtinFields, bthd_at, bthd_tests, bthd_fields, btin_at, btin_fields, btlf_len, btin_len, capacity_of, pointer_size, node_tests, child_tests, children_in}
 use Rattle.h5w_model.specs.Datasets.{Described, then_also, refused_as}
-use Rattle.h5w_model.specs.Tables.{InPlace, nowhere, in_array, in_tree, in_place, array_in_place, tree_in_place, address_behind, array_slot, data_slot, secondary_slot, data_block, secondary_block, super_block_of_first, in_node, key_below, key_equal, tree_lookup, each_of, table_of, bands, chunks_across, needed, needed_keys}
+use Rattle.h5w_model.specs.Tables.{InPlace, nowhere, in_array, in_tree, in_place, array_in_place, tree_in_place, address_behind, array_slot, data_slot, secondary_slot, data_block, secondary_block, super_block_of_first, in_node, key_below, key_equal, tree_lookup, bands, chunks_across, needed, needed_keys}
 use Rattle.h5w_model.specs.Prefixed.{IsKey}
+use Rattle.h5w_model.specs.Calls.{some_unknown, address_or, each_unknown, table_from}
 use Rattle.h5w_model.specs.declared.cell.Key.{Key}
 use Rattle.h5w_model.specs.declared.cell.Place.{Place}
 use Rattle.h5w_model.specs.declared.cell.Place.TheVariants.{Index, Direct, Second}
@@ -23,7 +24,7 @@ use Rattle.h5w_model.specs.declared.refusal.ReadError.TheVariants.{Damaged}
 use Rattle.h5w_model.proofs.ArrayGeometry.{slot_place-super}
 use Rattle.h5w_model.proofs.CheckedLemmas.{AllPass, checked-passed}
 use Rattle.h5w_laws.proofs.AnswerLemmas.{result_both}
-use Rattle.h5w_headline.proofs.CountLemmas.{AtMost, AnyOf, IsAnswered, at_most_more, at_most_then, at_most_each}
+use Rattle.h5w_headline.proofs.CountLemmas.{AtMost, AnyOf, IsAnswered, any_answered, at_most_more, at_most_then}
 
 -- ---- The array
 
@@ -218,14 +219,35 @@ behind_looks kind (in_tree t) key is named =
 
 -- ---- The addresses of the needed chunks
 
-keys_looks : (d : Described) (ks : List Key) → AllByRecursion (IsKey d.layout.index) ks → AtMost AnyOf (21 * length ks) (table_of d ks)
-keys_looks d [] all = tt
-keys_looks d (k ∷ ks) all =
+one_more : (ks : List Key) (p : Prog (Result ℕ ReadError)) (q : Prog (Result (List ℕ) ReadError)) → AtMost AnyOf 19 p → AtMost AnyOf (length ks * 19) q
+    → AtMost AnyOf (suc (length ks) * 19) (and_then p (λ a. and_then q (λ rest. ret (Ok (a ∷ rest)))))
+one_more ks p q first rest =
+    let n : ℕ = length ks in
+    let more : suc n ≡ n + 1 = omega arith in
+    at_most_more AnyOf (19 + (n * 19 + 0)) (suc n * 19) (and_then p (λ a. and_then q (λ rest. ret (Ok (a ∷ rest))))) (subst (λ m. 19 + (n * 19 + 0) ≤ m * 19) (sym more) (omega arith))
+    (at_most_then AnyOf 19 (n * 19 + 0) p (λ a. and_then q (λ rest. ret (Ok (a ∷ rest)))) (any_answered 19 p first)
+    (λ a any. at_most_then AnyOf (n * 19) 0 q (λ rest. ret (Ok (a ∷ rest))) (any_answered (n * 19) q rest) (λ rest any. tt)))
+
+unknown_looks : (d : Described) (b : InPlace) (known : List ℕ) (ks : List Key) → IsDecoded d.layout.index b → AllByRecursion (IsKey d.layout.index) ks
+    → AtMost AnyOf (length ks * 19) (each_unknown b known ks)
+unknown_looks d b [] [] is all = tt
+unknown_looks d b (a ∷ known) [] is all = tt
+unknown_looks d b [] (k ∷ ks) is all =
+    one_more ks (address_behind b k) (each_unknown b [] ks) (behind_looks d.layout.index b k is all.0) (unknown_looks d b [] ks is all.1)
+unknown_looks d b (a ∷ known) (k ∷ ks) is all =
+    one_more ks (address_or b a k) (each_unknown b known ks)
+    (cond_both (a == undefined) (address_behind b k) (ret (Ok a)) (λ (p : Prog (Result ℕ ReadError)). AtMost AnyOf 19 p) (λ t. behind_looks d.layout.index b k is all.0) (λ t. tt))
+    (unknown_looks d b known ks is all.1)
+
+keys_looks : (d : Described) (known : List ℕ) (ks : List Key) → AllByRecursion (IsKey d.layout.index) ks → AtMost AnyOf (21 * length ks) (table_from known d ks)
+keys_looks d known [] all = tt
+keys_looks d known (k ∷ ks) all =
     let n : ℕ = length (k ∷ ks) in
-    let rest : InPlace → Prog (Result (List ℕ) ReadError) = λ b. each_of (address_behind b) (k ∷ ks) in
-    at_most_more AnyOf (2 + n * 19) (21 * n) (and_then (in_place d) rest) (omega arith)
-    (at_most_then (IsDecoded d.layout.index) 2 (n * 19) (in_place d) rest (place_looks d)
-    (λ b is. at_most_each (address_behind b) (IsKey d.layout.index) 19 (k ∷ ks) all (λ key named. behind_looks d.layout.index b key is named)))
+    let rest : InPlace → Prog (Result (List ℕ) ReadError) = λ b. each_unknown b known (k ∷ ks) in
+    cond_both (some_unknown known (k ∷ ks)) (and_then (in_place d) rest) (ret (Ok (take n known))) (λ (p : Prog (Result (List ℕ) ReadError)). AtMost AnyOf (21 * n) p)
+    (λ t. at_most_more AnyOf (2 + n * 19) (21 * n) (and_then (in_place d) rest) (omega arith)
+    (at_most_then (IsDecoded d.layout.index) 2 (n * 19) (in_place d) rest (place_looks d) (λ b is. unknown_looks d b known (k ∷ ks) is all)))
+    (λ t. tt)
 
 pub grid_length : {X : Type 0} (f : ℕ → ℕ → X) (across from count : ℕ) → length (flat_map (λ i. map (f i) (range_with_len 0 across)) (range_with_len from count)) ≡ count * across
 grid_length f across from zero = let e : 0 ≡ 0 * across = omega arith in e
@@ -238,6 +260,6 @@ grid_length f across from (suc count) =
     ∙ ap (λ n. n + length (flat_map (λ i. map (f i) (range_with_len 0 across)) (range_with_len (from + 1) count))) l ∙ ap (λ n. across + n) rest
     ∙ (let e : across + count * across ≡ (count + 1) * across = omega arith in e) ∙ ap (λ n. n * across) (sym more)
 
-pub table_looks : (d : Described) → AllByRecursion (IsKey d.layout.index) (needed_keys d) → AtMost AnyOf (21 * needed d) (table_of d (needed_keys d))
-table_looks d all =
-    subst (λ n. AtMost AnyOf (21 * n) (table_of d (needed_keys d))) (grid_length (λ row column. record { i = row; j = column }) (chunks_across d) 0 (bands d)) (keys_looks d (needed_keys d) all)
+pub table_looks : (d : Described) (known : List ℕ) → AllByRecursion (IsKey d.layout.index) (needed_keys d) → AtMost AnyOf (21 * needed d) (table_from known d (needed_keys d))
+table_looks d known all =
+    subst (λ n. AtMost AnyOf (21 * n) (table_from known d (needed_keys d))) (grid_length (λ row column. record { i = row; j = column }) (chunks_across d) 0 (bands d)) (keys_looks d known (needed_keys d) all)

@@ -98,11 +98,11 @@ plain_unless : (o : Option ReadError) (x : Prog (Result Reading ReadError)) → 
 plain_unless (Some e) x h = tt
 plain_unless None x h = h
 
-plain_attempt : (g : CallRules) (next : List ℕ → Prog (Result Reading ReadError)) (v : List ℕ) → ((w : List ℕ) → IsPlain (next w)) → IsPlain (attempt_of g.limits g.keeps g.seen g.place next v)
+plain_attempt : (g : CallRules) (next : List ℕ → Prog (Result Reading ReadError)) (v : List ℕ) → ((w : List ℕ) → IsPlain (next w)) → IsPlain (attempt_of g.limits g.keeps g.known g.place next v)
 plain_attempt g next v h =
-    let x : Prog (Result Reading ReadError) = lowered g.keeps [] (behind_of g.limits g.seen g.place v) in
+    let x : Prog (Result Reading ReadError) = lowered g.keeps [] (behind_of g.limits g.known g.place v) in
     let confirms : Result Reading ReadError → Prog (Result Reading ReadError) = λ answer. header_look g.place (λ w. unless_cut (cut_header g.place w) (ends_with v next answer w)) in
-    let plain : IsPlain x = plain_lowered g.keeps [] (behind_of g.limits g.seen g.place v) in
+    let plain : IsPlain x = plain_lowered g.keeps [] (behind_of g.limits g.known g.place v) in
     plain_unless (cut_header g.place v) (cond (is_settled x) x (bind x confirms))
     (cond_both (is_settled x) x (bind x confirms) (λ (y : Prog (Result Reading ReadError)). IsPlain y) (λ t. plain)
     (λ t. plain_bind x confirms plain (λ answer b.

@@ -1,7 +1,9 @@
+pub mod TurnLemmas
 pub mod LookLemmas
 pub mod MomentLemmas
 pub mod RiseLemmas
 pub mod BlockLemmas
+pub mod KnownLemmas
 pub mod KeyLemmas
 pub mod SpanLemmas
 pub mod AttemptLemmas
@@ -14,8 +16,8 @@ pub mod CountLemmas
 pub mod DescentLemmas
 pub mod CallLemmas
 pub mod EndLemmas
+pub mod PremiseLemmas
 pub mod BoundLemmas
 pub mod ReadLooks
-pub mod PremiseLemmas
 pub mod StillLemmas
 pub mod StillReads

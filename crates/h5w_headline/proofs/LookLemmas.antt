@@ -4,14 +4,15 @@ use Rattle.std.specs.Prelude.{◌==◌}
 use Rattle.std.specs.List.{Any, AllByRecursion}
 use Rattle.std.proofs.lemmas.List.{take-append-drop, take-map, drop-map}
 use Rattle.std.proofs.lemmas.Bool.{cond_both}
-use Rattle.h5w_model.specs.Programs.{Prog, eval, bind, Visit, visits, Same, below_end, cut_up, pieces, Kept, lowered, Look, Takes}
+use Rattle.h5w_model.specs.Programs.{Prog, eval, bind, Visit, visits, Same, below_end, cut_up, pieces, lowered, Look, Takes}
 use Rattle.h5w_model.specs.Logs.{Log, hist}
 use Rattle.h5w_model.specs.Prefixed.{image_at}
 use Rattle.h5w_model.specs.Readers.{Placed, IsCall, looks_of}
 use Rattle.h5w_laws.specs.Programs.{AreRight, store_after, IsUnstored, Taken, IsTakenAs, AreTakenAs, KeptInTurn}
 use Rattle.h5w_laws.specs.Programs as laws
-use Rattle.h5w_laws.proofs.LookLemmas.{takes_whole, takes_split, taken_take, lowered_kept, lowered_kept_in_turn}
-use Rattle.h5w_laws.proofs.LoweringLemmas.{store_unchanged}
+use Rattle.h5w_laws.proofs.LookLemmas.{takes_whole, takes_split, lowered_kept}
+use Rattle.h5w_headline.specs.Bounds.{looks_in}
+use Rattle.h5w_headline.proofs.TurnLemmas.{few_before}
 
 -- ---- Lists of looks
 
@@ -113,28 +114,34 @@ placed_parts {A} {B} p f ts b h =
       second = subst (λ (ls : List Look). Takes (f s.left) ls b) (drop-map look s.first_looks ts) s.second;
     }
 
--- The looks of the second program, where what the first looks at is as in an old image.
+-- The looks of the second program, where what the first looks at is as in an old image, behind few looks of the first.
 pub record Behind (A B : Type 0) (cap : ℕ) (old : List ℕ) (p : Prog A) (f : A → Prog B) (ts : List Placed) (b : B) : Type 0 where
   pub front : List Placed
   pub rest : List Placed
   pub are : front ++ rest ≡ ts
+  pub few : length front ≤ looks_in (visits old p)
   pub takes : Takes (lowered cap [] (f (eval old p))) (looks_of rest) b
+
+length_front : (n : ℕ) (ts : List Placed) → length (take n ts) ≤ n
+length_front zero ts = omega arith
+length_front (suc n) [] = omega arith
+length_front (suc n) (t ∷ ts) = let l = length_front n ts in omega (arith, l)
 
 pub placed_behind : {A B : Type 0} (log : Log) (from to : ℕ) (old : List ℕ) (cap : ℕ) (p : Prog A) (f : A → Prog B) (ts : List Placed) (b : B)
     → length old ≤ 2 ^ 64 → IsUnstored p → IsCall log from ts → Until to ts → AreSame log from to old (visits old p)
     → Takes (lowered cap [] (bind p f)) (looks_of ts) b → Behind A B cap old p f ts b
 placed_behind {A} {B} log from to old cap p f ts b fits unstored c u same h =
-    let s = lowered_kept_in_turn cap [] p f (all_taken log ts) b (subst (λ (ls : List Look). Takes (lowered cap [] (bind p f)) ls b) (sym (looks_alike log ts)) h) in
-    let n : ℕ = s.first_looks in
-    let later = s.second old fits tt (taken_take old (visits old p) n (all_taken log ts) (are_taken log from to old (visits old p) ts c u same)) in
+    let s = few_before old cap [] p f (all_taken log ts) b fits unstored (are_taken log from to old (visits old p) ts c u same)
+    (subst (λ (ls : List Look). Takes (lowered cap [] (bind p f)) ls b) (sym (looks_alike log ts)) h) in
+    let n : ℕ = s.count in
     record {
       front = take n ts;
       rest = drop n ts;
       are = take-append-drop n ts;
+      few = let l : length (take n ts) ≤ n = length_front n ts in omega (arith, l, s.few);
       takes =
           subst (λ (ls : List Look). Takes (lowered cap [] (f (eval old p))) ls b)
-          (ap (λ (xs : List Taken). laws.looks_of xs) (drop-map (taken_of log) n ts) ∙ looks_alike log (drop n ts))
-          (subst (λ (ks : List Kept). Takes (lowered cap ks (f (eval old p))) (laws.looks_of (drop n (all_taken log ts))) b) (store_unchanged old cap [] p unstored) later);
+          (ap (λ (xs : List Taken). laws.looks_of xs) (drop-map (taken_of log) n ts) ∙ looks_alike log (drop n ts)) s.takes;
     }
 
 -- ---- A block that one look shows

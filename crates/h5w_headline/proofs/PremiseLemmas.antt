@@ -57,9 +57,9 @@ needs_at_most name log n r served shows few p s at shows_s = let l = needs_less 
 -- ---- Headers
 
 -- the headers at two positions are looked at alike
-record LookedAlike (name : List ℕ) (log : Log) (p q : ℕ) (r s : Reading) : Type 0 where
-  root : visits (image_at log q) (root_header (root_address (image_at log q))) ≡ visits (image_at log p) (root_header (root_address (image_at log p)))
-  dataset : continuation_blocks (image_at log q) s ≡ continuation_blocks (image_at log p) r
+pub record LookedAlike (name : List ℕ) (log : Log) (p q : ℕ) (r s : Reading) : Type 0 where
+  pub root : visits (image_at log q) (root_header (root_address (image_at log q))) ≡ visits (image_at log p) (root_header (root_address (image_at log p)))
+  pub dataset : continuation_blocks (image_at log q) s ≡ continuation_blocks (image_at log p) r
 
 stays_alike : (name : List ℕ) (log : Log) (p q : ℕ) (r s : Reading) → Stays (image_at log p) r (image_at log q) s → LookedAlike name log p q r s
 stays_alike name log p q r s k =
@@ -70,7 +70,7 @@ stays_alike name log p q r s k =
       dataset = k.named;
     }
 
-looked_alike : (name : List ℕ) (log : Log) (p q : ℕ) (m : Moment name log p) (n : Moment name log q) → Served name log → LookedAlike name log p q m.shown n.shown
+pub looked_alike : (name : List ℕ) (log : Log) (p q : ℕ) (m : Moment name log p) (n : Moment name log q) → Served name log → LookedAlike name log p q m.shown n.shown
 looked_alike name log p q m n served =
     elim (cases_lt p q) [
       | inl less ↦ stays_alike name log p q m.shown n.shown (keeps name log p q m n served (omega arith)).stays

@@ -5,11 +5,11 @@ use Rattle.std.specs.List.{AllByRecursion}
 use Rattle.std.proofs.lemmas.Bool.{cond_both, cond-true, lt-ltb}
 use Rattle.std.proofs.Math.Nat.{mul-le-mul_right, mod-lt, div-mul-le_self, lt-div-mul-add}
 use Rattle.h5w_model.specs.Numbers.{undefined}
-use Rattle.h5w_model.specs.Programs.{Prog, ret, whole, and_then}
+use Rattle.h5w_model.specs.Programs.{Prog, ret, whole, counted, and_then}
 use Rattle.h5w_model.specs.Logs.{div_up, touched_chunks}
 use Rattle.h5w_model.specs.Datasets.{Described}
-use Rattle.h5w_model.specs.Tables.{Reading, chunks_across, chunk_address, each_of}
-use Rattle.h5w_model.specs.Calls.{last_in_band, last_column, touched_from, touched_to, chunk_range, touched_keys, values_from, values_call}
+use Rattle.h5w_model.specs.Tables.{Reading, format_limits, chunks_across, chunk_address, each_of}
+use Rattle.h5w_model.specs.Calls.{last_in_band, last_column, touched_from, touched_to, none_of, chunk_range, touched_keys, values_from, values_call}
 use Rattle.h5w_model.specs.declared.refusal.ReadError.{ReadError}
 use Rattle.h5w_model.specs.declared.refusal.ReadError.TheVariants.{Damaged}
 use Rattle.h5w_model.specs.declared.refusal.BlockFault.TheVariants.{Cut}
@@ -44,18 +44,18 @@ chunk_looks r i j first to sound =
     let few : touched_to d i j to ≤ all = within_chunk d.layout.chunk_rows d.layout.chunk_cols d.int_type.size (last_in_band d i to - 1) (last_column d j - 1) sound.rows sound.cols in
     let reads : Prog (Result (Option (List ℕ)) ReadError) =
     whole (address + start) len (λ b. ret (cond (nat_lt (length b) len) (Err (Damaged (address + start) (Cut len (length b)))) (Ok (Some b)))) in
-    cond_both (address == undefined) (ret (Ok None)) (cond (nat_lt (2 ^ 64) (address + start + len)) (ret (Err (Damaged address (Cut len 0)))) reads)
+    cond_both (address == undefined) (ret (Ok None)) (cond (nat_lt (2 ^ 64) (address + start + len)) (counted address none_of (λ b. ret (Err (Damaged address (Cut len 0))))) reads)
     (λ (p : Prog (Result (Option (List ℕ)) ReadError)). AtMost AnyOf (all / 512 + 1) p)
     (λ t. tt)
-    (λ t. cond_both (nat_lt (2 ^ 64) (address + start + len)) (ret (Err (Damaged address (Cut len 0)))) reads (λ (p : Prog (Result (Option (List ℕ)) ReadError)). AtMost AnyOf (all / 512 + 1) p)
-    (λ u. tt) (λ u. (0, omega arith, λ b. tt)))
+    (λ t. cond_both (nat_lt (2 ^ 64) (address + start + len)) (counted address none_of (λ b. ret (Err (Damaged address (Cut len 0))))) reads (λ (p : Prog (Result (Option (List ℕ)) ReadError)). AtMost AnyOf (all / 512 + 1) p)
+    (λ u. (0, omega arith, λ b. tt)) (λ u. (0, omega arith, λ b. tt)))
 
 all_any : {X : Type 0} (xs : List X) → AllByRecursion AnyOf xs
 all_any [] = tt
 all_any (x ∷ xs) = (tt, all_any xs)
 
 -- rows up to one that is not counted, in bands
-up_to : (to n : ℕ) → 0 < n → 0 < to → (to + n - 1) / n ≡ (to - 1) / n + 1
+pub up_to : (to n : ℕ) → 0 < n → 0 < to → (to + n - 1) / n ≡ (to - 1) / n + 1
 up_to to n some more =
     let q : ℕ = (to - 1) / n in
     let a : q * n ≤ to - 1 = div-mul-le_self (to - 1) n in
@@ -75,7 +75,7 @@ pub reads_in_looks : ReadsInLooks
 reads_in_looks img name r first count ls q shows some left unfinished =
     let d : Described = r.dataset in
     let to : ℕ = first + count in
-    let s = steps img name r shows in
+    let s = steps format_limits img name r shows in
     let sound = sound_shown img name r.place d s.place s.header in
     let most : ℕ = d.layout.chunk_rows * d.layout.chunk_cols * d.int_type.size / 512 + 1 in
     let keys : List (ℕ × ℕ) = touched_keys r first to in

@@ -1,11 +1,9 @@
 -- How often the flushed rows become more between two positions.
-use Rattle.std.proofs.Common.{◌≡◌, ℕ, zero, suc, ◌+◌, ◌-◌, ◌<◌, ◌≤◌, List, sym, ◌∙◌, ap, subst, inl, inr, arith}
+use Rattle.std.proofs.Common.{◌≡◌, ℕ, zero, suc, ◌+◌, ◌-◌, ◌<◌, ◌≤◌, ◌∙◌, ap, subst, arith}
 use Rattle.std.specs.Prelude.{nat_lt, if◌then◌else◌}
-use Rattle.std.proofs.lemmas.Bool.{cond_both, cases_lt, ltb-false}
+use Rattle.std.proofs.lemmas.Bool.{cond_both, ltb-false}
 use Rattle.h5w_model.specs.Logs.{Log, flushed_at}
-use Rattle.h5w_model.specs.Datasets.{Described}
-use Rattle.h5w_headline.specs.Headline.{Served, rises}
-use Rattle.h5w_headline.proofs.MomentLemmas.{Moment, keeps}
+use Rattle.h5w_headline.specs.Headline.{rises}
 
 rises_joined : (log : Log) (from n m : ℕ) → rises log from (n + m) ≡ rises log from n + rises log (from + n) m
 rises_joined log from n zero = ap (rises log from) (let e : n + 0 ≡ n = omega arith in e) ∙ (let e : rises log from n ≡ rises log from n + 0 = omega arith in e)
@@ -45,11 +43,3 @@ pub rise_between : (log : Log) (p q : ℕ) → p ≤ q → flushed_at log p < fl
 rise_between log p q h more =
     let e : q ≡ p + (q - p) = omega arith in
     rise_within log p (q - p) (subst (λ x. flushed_at log p < flushed_at log x) e more)
-
--- there are as many columns at every position
-pub same_columns : (name : List ℕ) (log : Log) (p q : ℕ) (m : Moment name log p) (n : Moment name log q) → Served name log → n.shown.dataset.shape.cols ≡ m.shown.dataset.shape.cols
-same_columns name log p q m n served =
-    elim (cases_lt p q) [
-      | inl less ↦ ap (λ (d : Described). d.shape.cols) (keeps name log p q m n served (omega arith)).stays.described.rows_alone
-      | inr more ↦ sym (ap (λ (d : Described). d.shape.cols) (keeps name log q p n m served more).stays.described.rows_alone)
-    ]

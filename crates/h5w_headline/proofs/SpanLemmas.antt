@@ -1,13 +1,16 @@
 -- Between two positions at which the dataset header is the same: an attempt's answer is what some position in between shows.
-use Rattle.std.proofs.Common.{◌≡◌, ◌≢◌, ◌⊎◌, ℕ, ◌≤◌, List, [], ◌∷◌, Result, Ok, Err, refl, sym, ◌∙◌, ap, subst, inl, arith}
+use Rattle.std.proofs.Common.{◌≡◌, ◌≢◌, ◌⊎◌, ℕ, ◌≤◌, List, [], ◌∷◌, length, take, get_or, Result, Ok, Err, refl, sym, ◌∙◌, ap, subst, inl, arith}
+use Rattle.std.specs.Prelude.{◌==◌}
 use Rattle.std.specs.List.{Any, AllByRecursion}
+use Rattle.std.proofs.lemmas.Bool.{cond_both}
 use Rattle.h5w_model.specs.Numbers.{undefined}
 use Rattle.h5w_model.specs.Programs.{Prog, ret, whole, counted, stored, eval, bind, and_then, Visit, visits, Same, lowered, Takes}
 use Rattle.h5w_model.specs.Logs.{Log}
 use Rattle.h5w_model.specs.Datasets.{Described, then_also}
-use Rattle.h5w_model.specs.Tables.{Reading, InPlace, in_place, address_behind, each_of, needed_keys, table_of}
+use Rattle.h5w_model.specs.Tables.{Reading, InPlace, in_place, address_behind, needed_keys, table_of}
 use Rattle.h5w_model.specs.Prefixed.{image_at, IsKey, NamesBlock, StaysDefined}
 use Rattle.h5w_model.specs.Readers.{Placed, IsCall, looks_of, Quiet}
+use Rattle.h5w_model.specs.Calls.{some_unknown, address_or, each_unknown, table_from}
 use Rattle.h5w_model.specs.declared.cell.Key.{Key}
 use Rattle.h5w_model.specs.declared.cell.IndexKind.TheVariants.{Array}
 use Rattle.h5w_model.specs.declared.refusal.ReadError.{ReadError}
@@ -21,6 +24,7 @@ use Rattle.h5w_headline.proofs.LookLemmas.{Until, AreSame, placed_kept}
 use Rattle.h5w_headline.proofs.MomentLemmas.{Moment, moment, keeps, same_dataset, quiet_between}
 use Rattle.h5w_headline.proofs.BlockLemmas.{AreRead, KeepsName, BlocksFound, blocks_taken, onward}
 use Rattle.h5w_headline.proofs.KeyLemmas.{keys_named}
+use Rattle.h5w_headline.proofs.KnownLemmas.{gives_known, table_known}
 
 -- ---- Programs one after another
 
@@ -46,12 +50,20 @@ same_and_then {A} {B} old new p f h g =
     (same_joined old new (visits old p) (visits old (onward f (eval old p))) h
     (result_both (eval old p) f (λ e. ret (Err e)) (λ (q : Prog (Result B ReadError)). Same old new (visits old q)) (λ a e. g a) (λ e i. tt)))
 
-same_each : (old new : List ℕ) (f : Key → Prog (Result ℕ ReadError)) (P : Key → Type 0) (ks : List Key) → AllByRecursion P ks
-    → ((key : Key) → P key → Same old new (visits old (f key))) → Same old new (visits old (each_of f ks))
-same_each old new f P [] all h = tt
-same_each old new f P (k ∷ ks) all h =
-    same_and_then old new (f k) (λ a. and_then (each_of f ks) (λ rest. ret (Ok (a ∷ rest)))) (h k all.0)
-    (λ a. same_and_then old new (each_of f ks) (λ rest. ret (Ok (a ∷ rest))) (same_each old new f P ks all.1 h) (λ rest. tt))
+same_unknown : (old new : List ℕ) (b : InPlace) (known : List ℕ) (P : Key → Type 0) (ks : List Key) → AllByRecursion P ks
+    → ((key : Key) → P key → Same old new (visits old (address_behind b key))) → Same old new (visits old (each_unknown b known ks))
+same_unknown old new b known P [] all h = none_kept known
+  where
+    none_kept : (known : List ℕ) → Same old new (visits old (each_unknown b known []))
+    none_kept [] = tt
+    none_kept (a ∷ known) = tt
+same_unknown old new b [] P (k ∷ ks) all h =
+    same_and_then old new (address_behind b k) (λ a. and_then (each_unknown b [] ks) (λ rest. ret (Ok (a ∷ rest)))) (h k all.0)
+    (λ a. same_and_then old new (each_unknown b [] ks) (λ rest. ret (Ok (a ∷ rest))) (same_unknown old new b [] P ks all.1 h) (λ rest. tt))
+same_unknown old new b (a ∷ known) P (k ∷ ks) all h =
+    same_and_then old new (address_or b a k) (λ x. and_then (each_unknown b known ks) (λ rest. ret (Ok (x ∷ rest))))
+    (cond_both (a == undefined) (address_behind b k) (ret (Ok a)) (λ (p : Prog (Result ℕ ReadError)). Same old new (visits old p)) (λ t. h k all.0) (λ t. tt))
+    (λ x. same_and_then old new (each_unknown b known ks) (λ rest. ret (Ok (x ∷ rest))) (same_unknown old new b known P ks all.1 h) (λ rest. tt))
 
 -- ---- Between two positions
 
@@ -122,43 +134,48 @@ behind_kept name log p q u w s low mid high b key =
 abbrev pub reading_with : ℕ → Described → List ℕ → Reading
 reading_with at d t = record { place = at; dataset = d; table = t }
 
--- The addresses that some position has, and an answer of them.
-record TableFound (log : Log) (p q at_place : ℕ) (d : Described) (ks : List Key) (ts : List Placed) (a : Result Reading ReadError) : Type 0 where
+-- The addresses that a program gives at some position, and an answer of them.
+record TableFound (log : Log) (p q at_place : ℕ) (d : Described) (addresses : Prog (Result (List ℕ) ReadError)) (ts : List Placed) (a : Result Reading ReadError) : Type 0 where
   at : ℕ
   low : p ≤ at
   high : at ≤ q
   looked : (at ≡ p) ⊎ Any (IsTakenAt at) ts
   table : List ℕ
-  is : eval (image_at log at) (table_of d ks) ≡ Ok table
+  is : eval (image_at log at) addresses ≡ Ok table
   answer : a ≡ Ok (reading_with at_place d table)
 
 -- what the attempt does with them
 abbrev pub told : ℕ → Described → List ℕ → Prog (Result Reading ReadError)
 told at d t = ret (Ok (reading_with at d t))
 
+-- the addresses that are not known, from the blocks in place on
+abbrev looked_up : Described → List ℕ → List Key → Prog (Result (List ℕ) ReadError)
+looked_up d known ks = and_then (in_place d) (λ b. each_unknown b known ks)
+
 -- behind the blocks in place of some position all is as there
-behind_taken : (name : List ℕ) (log : Log) (p q cap at_place : ℕ) (s : Span name log p q) (k : Key) (ks : List Key) (ts : List Placed) (a : Result Reading ReadError)
-    → AllByRecursion (IsKey s.first.shown.dataset.layout.index) (k ∷ ks)
-    → ((u : ℕ) → p ≤ u → u ≤ q → Found (eval (image_at log u) (table_of s.first.shown.dataset (k ∷ ks))))
-    → BlocksFound Reading log p q cap (in_place s.first.shown.dataset) (λ b. and_then (each_of (address_behind b) (k ∷ ks)) (told at_place s.first.shown.dataset)) ts a
-    → TableFound log p q at_place s.first.shown.dataset (k ∷ ks) ts a
-behind_taken name log p q cap at_place s k ks ts a all found f =
+behind_taken : (name : List ℕ) (log : Log) (p q cap at_place : ℕ) (s : Span name log p q) (known : List ℕ) (ks : List Key) (ts : List Placed) (a : Result Reading ReadError)
+    → AllByRecursion (IsKey s.first.shown.dataset.layout.index) ks
+    → ((u : ℕ) → p ≤ u → u ≤ q → Found (eval (image_at log u) (looked_up s.first.shown.dataset known ks)))
+    → BlocksFound Reading log p q cap (in_place s.first.shown.dataset) (λ b. and_then (each_unknown b known ks) (told at_place s.first.shown.dataset)) ts a
+    → TableFound log p q at_place s.first.shown.dataset (looked_up s.first.shown.dataset known ks) ts a
+behind_taken name log p q cap at_place s known ks ts a all found f =
     let d : Described = s.first.shown.dataset in
     let img : List ℕ = image_at log f.at in
-    let each = each_of (address_behind f.blocks) (k ∷ ks) in
+    let each = each_unknown f.blocks known ks in
     let i = inside name log p q f.at s f.low f.high in
     let table = found f.at f.low f.high in
     let same : AreSame log f.at q img (visits img (and_then each (told at_place d))) =
-    (λ w low high. (
-      (inside name log p q w s (omega (arith, f.low)) high).here.fits,
+    (λ w low high.
+    let j = inside name log p q w s (omega (arith, f.low)) high in (
+      j.here.fits,
       same_and_then img (image_at log w) each (told at_place d)
-          (same_each img (image_at log w) (address_behind f.blocks) (IsKey d.layout.index) (k ∷ ks) all (λ key is. behind_kept name log p q f.at w s f.low low high f.blocks key f.read is))
+          (same_unknown img (image_at log w) f.blocks known (IsKey d.layout.index) ks all (λ key named. behind_kept name log p q f.at w s f.low low high f.blocks key f.read named))
           (λ t. tt),
     )) in
-    let gives : a ≡ eval img (and_then each (told at_place d)) = placed_kept log f.at q img cap (and_then each (told at_place d)) f.rest a i.here.fits f.call f.until same f.takes in
+    let gives = placed_kept log f.at q img cap (and_then each (told at_place d)) f.rest a i.here.fits f.call f.until same f.takes in
     let says : eval img each ≡ Ok table.0 =
-    sym (ap (λ (r : Result InPlace ReadError). then_also r (λ b. eval img (each_of (address_behind b) (k ∷ ks)))) f.read)
-    ∙ sym (eval_and_then img (in_place d) (λ b. each_of (address_behind b) (k ∷ ks))) ∙ table.1 in
+    sym (ap (λ (r : Result InPlace ReadError). then_also r (λ b. eval img (each_unknown b known ks))) f.read)
+    ∙ sym (eval_and_then img (in_place d) (λ b. each_unknown b known ks)) ∙ table.1 in
     record {
       at = f.at;
       low = f.low;
@@ -171,21 +188,31 @@ behind_taken name log p q cap at_place s k ks ts a all found f =
           ∙ then_from (eval img each) (λ t. eval img (told at_place d t)) table.0 (reading_with at_place d table.0) says refl;
     }
 
-keys_taken : (name : List ℕ) (log : Log) (p q cap at_place : ℕ) (s : Span name log p q) (ks : List Key) (ts : List Placed) (a : Result Reading ReadError)
+keys_taken : (name : List ℕ) (log : Log) (p q cap at_place : ℕ) (s : Span name log p q) (known : List ℕ) (ks : List Key) (ts : List Placed) (a : Result Reading ReadError)
     → AllByRecursion (IsKey s.first.shown.dataset.layout.index) ks
-    → ((u : ℕ) → p ≤ u → u ≤ q → Found (eval (image_at log u) (table_of s.first.shown.dataset ks)))
+    → ((u : ℕ) → p ≤ u → u ≤ q → Found (eval (image_at log u) (table_from known s.first.shown.dataset ks)))
     → IsCall log p ts → Until q ts
-    → Takes (lowered cap [] (and_then (table_of s.first.shown.dataset ks) (told at_place s.first.shown.dataset))) (looks_of ts) a
-    → TableFound log p q at_place s.first.shown.dataset ks ts a
-keys_taken name log p q cap at_place s [] ts a all found call until takes =
+    → Takes (lowered cap [] (and_then (table_from known s.first.shown.dataset ks) (told at_place s.first.shown.dataset))) (looks_of ts) a
+    → TableFound log p q at_place s.first.shown.dataset (table_from known s.first.shown.dataset ks) ts a
+keys_taken name log p q cap at_place s known ks ts a all found call until =
     let d : Described = s.first.shown.dataset in
-    record { at = p; low = omega arith; high = s.ordered; looked = inl refl; table = []; is = refl; answer = (takes_ret (Ok (reading_with at_place d [])) (looks_of ts) a takes).1 }
-keys_taken name log p q cap at_place s (k ∷ ks) ts a all found call until takes =
-    let d : Described = s.first.shown.dataset in
-    let each = λ (b : InPlace). each_of (address_behind b) (k ∷ ks) in
-    behind_taken name log p q cap at_place s k ks ts a all found
-    (blocks_taken log p q cap d (λ b. and_then (each_of (address_behind b) (k ∷ ks)) (told at_place d)) ts a (are_read name log p q s) (names_kept name log p q s) call until
-    (subst (λ (x : Prog (Result Reading ReadError)). Takes (lowered cap [] x) (looks_of ts) a) (and_then_twice (in_place d) (λ b. each_of (address_behind b) (k ∷ ks)) (told at_place d)) takes))
+    let settled : List ℕ = take (length ks) known in
+    cond_both (some_unknown known ks) (looked_up d known ks) (ret (Ok settled))
+    (λ (x : Prog (Result (List ℕ) ReadError)). ((u : ℕ) → p ≤ u → u ≤ q → Found (eval (image_at log u) x)) → Takes (lowered cap [] (and_then x (told at_place d))) (looks_of ts) a → TableFound log p q at_place d x ts a)
+    (λ t found takes.
+    behind_taken name log p q cap at_place s known ks ts a all found
+    (blocks_taken log p q cap d (λ b. and_then (each_unknown b known ks) (told at_place d)) ts a (are_read name log p q s) (names_kept name log p q s) call until
+    (subst (λ (x : Prog (Result Reading ReadError)). Takes (lowered cap [] x) (looks_of ts) a) (and_then_twice (in_place d) (λ b. each_unknown b known ks) (told at_place d)) takes)))
+    (λ t found takes. record {
+      at = p;
+      low = omega arith;
+      high = s.ordered;
+      looked = inl refl;
+      table = settled;
+      is = refl;
+      answer = (takes_ret (Ok (reading_with at_place d settled)) (looks_of ts) a takes).1;
+    })
+    found
 
 -- An answer that some position between them shows.
 pub record AnswerShown (name : List ℕ) (log : Log) (p q : ℕ) (ts : List Placed) (a : Result Reading ReadError) : Type 0 where
@@ -199,18 +226,22 @@ pub record AnswerShown (name : List ℕ) (log : Log) (p q : ℕ) (ts : List Plac
 same_table : (x : Result (List ℕ) ReadError) (t u : List ℕ) → x ≡ Ok t → x ≡ Ok u → t ≡ u
 same_table x t u h g = cc
 
-pub table_taken : (name : List ℕ) (log : Log) (p q cap : ℕ) (s : Span name log p q) (ts : List Placed) (a : Result Reading ReadError) → IsCall log p ts → Until q ts
-    → Takes (lowered cap [] (and_then (table_of s.first.shown.dataset (needed_keys s.first.shown.dataset)) (told s.first.shown.place s.first.shown.dataset))) (looks_of ts) a
+pub table_taken : (name : List ℕ) (log : Log) (p q cap : ℕ) (s : Span name log p q) (known : List ℕ) (ts : List Placed) (a : Result Reading ReadError)
+    → ((u : ℕ) (i : Inside name log p q u s) (k : ℕ) → StaysDefined (get_or known k undefined) (get_or i.here.shown.table k undefined)) → IsCall log p ts → Until q ts
+    → Takes (lowered cap [] (and_then (table_from known s.first.shown.dataset (needed_keys s.first.shown.dataset)) (told s.first.shown.place s.first.shown.dataset))) (looks_of ts) a
     → AnswerShown name log p q ts a
-table_taken name log p q cap s ts a call until takes =
+table_taken name log p q cap s known ts a are call until takes =
     let d : Described = s.first.shown.dataset in
     let steps = s.first.steps in
-    let shown : (u : ℕ) (i : Inside name log p q u s) → eval (image_at log u) (table_of d (needed_keys d)) ≡ Ok i.here.shown.table =
-    (λ u i. subst (λ (x : Described). eval (image_at log u) (table_of x (needed_keys x)) ≡ Ok i.here.shown.table) i.same i.here.steps.table) in
-    let t = keys_taken name log p q cap s.first.shown.place s (needed_keys d) ts a (keys_named (image_at log p) name s.first.shown.place d steps.place steps.header steps.within)
+    let shown : (u : ℕ) (i : Inside name log p q u s) → eval (image_at log u) (table_from known d (needed_keys d)) ≡ Ok i.here.shown.table =
+    (λ u i.
+    let is : eval (image_at log u) (table_of d (needed_keys d)) ≡ Ok i.here.shown.table =
+    subst (λ (x : Described). eval (image_at log u) (table_of x (needed_keys x)) ≡ Ok i.here.shown.table) i.same i.here.steps.table in
+    gives_known (image_at log u) d known (needed_keys d) (table_known (image_at log u) d known i.here.shown.table (needed_keys d) is (are u i)) ∙ is) in
+    let t = keys_taken name log p q cap s.first.shown.place s known (needed_keys d) ts a (keys_named (image_at log p) name s.first.shown.place d steps.place steps.header steps.within)
     (λ u low high. let i = inside name log p q u s low high in (i.here.shown.table, shown u i)) call until takes in
     let i = inside name log p q t.at s t.low t.high in
-    let same : t.table ≡ i.here.shown.table = same_table (eval (image_at log t.at) (table_of d (needed_keys d))) t.table i.here.shown.table t.is (shown t.at i) in
+    let same : t.table ≡ i.here.shown.table = same_table (eval (image_at log t.at) (table_from known d (needed_keys d))) t.table i.here.shown.table t.is (shown t.at i) in
     record {
       at = t.at;
       low = t.low;

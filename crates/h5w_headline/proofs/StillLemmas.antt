@@ -1,5 +1,5 @@
 -- Calls over looks at one image.
-use Rattle.std.proofs.Common.{◌≡◌, ℕ, zero, suc, ◌-◌, ◌^◌, ◌<◌, ◌≤◌, min, false, cond, List, [], ◌∷◌, length, Option, Some, None, Result, Ok, Err, refl, sym, ◌∙◌, ap, inl, inr, arith}
+use Rattle.std.proofs.Common.{◌≡◌, ℕ, zero, suc, ◌-◌, ◌^◌, ◌<◌, ◌≤◌, min, Bool, true, false, cond, List, [], ◌∷◌, length, Option, Some, None, Result, Ok, Err, refl, sym, ◌∙◌, ap, inl, inr, arith}
 use Rattle.std.specs.Prelude.{nat_lt, nat_le, nat_eq}
 use Rattle.std.specs.List.{AllByRecursion}
 use Rattle.std.specs.Cmp.Lexicographic.{pointwise, bytes_decides}
@@ -8,24 +8,28 @@ use Rattle.h5w_model.specs.Numbers.{range}
 use Rattle.h5w_model.specs.Programs.{Prog, ret, whole, counted, stored, eval, bind, and_then, below_end, Look, lowered, Takes, IsLookAt}
 use Rattle.h5w_model.specs.Headers.{prefix_at, prefix_tests, prefix_fields, header_length, end_of, header_at, messages_at, header_view}
 use Rattle.h5w_model.specs.Datasets.{Described, HeaderFields, header_refusal, from_chunk, dataset_messages, dataset_from, dataset, dataset_place, described, refused_as, then_also}
-use Rattle.h5w_model.specs.Tables.{Limits, Reading, reading, needed_table}
-use Rattle.h5w_model.specs.Calls.{CallRules, header_look, cut_header, not_shrunk, behind_header, again, is_settled, attempts_from, rows_call, open_rules, open_call}
+use Rattle.h5w_model.specs.Tables.{Limits, Reading, reading, limit_of, needed, needed_keys, needed_table, table_of}
+use Rattle.h5w_model.specs.Calls.{CallRules, rows_seen, known_table, same_cut, table_from, needed_from, header_look, cut_header, not_shrunk, behind_header, again, is_settled, attempts_from, rows_call, open_rules, open_call}
 use Rattle.h5w_model.specs.declared.message.Prefix.{Prefix}
 use Rattle.h5w_model.specs.declared.refusal.ReadError.{ReadError}
-use Rattle.h5w_model.specs.declared.refusal.ReadError.TheVariants.{Damaged, Shrunk, Unsupported}
+use Rattle.h5w_model.specs.declared.refusal.ReadError.TheVariants.{Damaged, Shrunk, TooManyChunks, Unsupported}
 use Rattle.h5w_model.specs.declared.refusal.BlockFault.TheVariants.{Cut}
 use Rattle.h5w_model.specs.declared.refusal.HeaderError.{HeaderError}
 use Rattle.h5w_model.specs.declared.refusal.HeaderError.TheVariants.{Short}
 use Rattle.h5w_model.proofs.CheckedLemmas.{checked-passed}
 use Rattle.h5w_laws.proofs.ProgramLemmas.{eval_bind, eval_and_then}
+use Rattle.h5w_laws.proofs.ResultLemmas.{and_then_from}
 use Rattle.h5w_laws.proofs.AnswerLemmas.{result_both}
 use Rattle.h5w_laws.proofs.LoweringLemmas.{range_below, option_both, lowered_still}
 use Rattle.h5w_laws.proofs.LookLemmas.{takes_whole, takes_ret, IsPlain}
-use Rattle.h5w_headline.specs.Still.{StillCalls}
+use Rattle.h5w_headline.specs.Known.{AreKnown}
+use Rattle.h5w_headline.specs.Still.{StillCalls, StillRefresh}
 use Rattle.h5w_headline.proofs.BlockLemmas.{onward}
 use Rattle.h5w_headline.proofs.SpanLemmas.{told}
 use Rattle.h5w_headline.proofs.AttemptLemmas.{cut_by, behind_of, unless_cut, ends_with, attempt_of}
 use Rattle.h5w_headline.proofs.EndLemmas.{plain_rows, plain_open}
+use Rattle.h5w_headline.proofs.KnownLemmas.{from_nothing, gives_known, table_known}
+use Rattle.h5w_headline.proofs.MomentLemmas.{steps}
 
 -- ---- Looks at one image
 
@@ -98,10 +102,10 @@ cut_says img place v e (Ok p) is h =
     ]
 
 -- where the header is cut, this is the refusal of all that comes behind it
-behind_cut : (img : List ℕ) (limits : Limits) (seen place : ℕ) (v : List ℕ) (e : ReadError) → cut_header place v ≡ Some e → eval img (behind_of limits seen place v) ≡ Err e
-behind_cut img limits seen place v e h =
-    let table : Described → Prog (Result Reading ReadError) = λ d. and_then (needed_table limits d) (told place d) in
-    let after : Described → Prog (Result Reading ReadError) = λ d. and_then (ret (not_shrunk seen d)) table in
+behind_cut : (img : List ℕ) (limits : Limits) (known : Option Reading) (place : ℕ) (v : List ℕ) (e : ReadError) → cut_header place v ≡ Some e → eval img (behind_of limits known place v) ≡ Err e
+behind_cut img limits known place v e h =
+    let table : Described → Prog (Result Reading ReadError) = λ d. and_then (needed_from limits (known_table known d) d) (told place d) in
+    let after : Described → Prog (Result Reading ReadError) = λ d. and_then (ret (not_shrunk (rows_seen known) d)) table in
     let says : HeaderFields → Prog (Result Described ReadError) = λ h. ret (refused_as Unsupported (described h.messages)) in
     let messages : eval img (dataset_messages place v) ≡ Err e = cut_says img place v e (prefix_at v) refl h in
     let header : eval img (dataset_from place v) ≡ Err e =
@@ -111,17 +115,17 @@ behind_cut img limits seen place v e h =
 -- ---- Attempts
 
 still_attempt : (img : List ℕ) (g : CallRules) (next : List ℕ → Prog (Result Reading ReadError)) (v : List ℕ) → length img ≤ 2 ^ 64 → header_view (range img g.place 512) ≡ v
-    → eval img (attempt_of g.limits g.keeps g.seen g.place next v) ≡ eval img (behind_of g.limits g.seen g.place v)
+    → eval img (attempt_of g.limits g.keeps g.known g.place next v) ≡ eval img (behind_of g.limits g.known g.place v)
 still_attempt img g next v fits view =
     let place : ℕ = g.place in
-    let behind : Prog (Result Reading ReadError) = behind_of g.limits g.seen place v in
+    let behind : Prog (Result Reading ReadError) = behind_of g.limits g.known place v in
     let x : Prog (Result Reading ReadError) = lowered g.keeps [] behind in
     let ends : Result Reading ReadError → List ℕ → Prog (Result Reading ReadError) = λ answer w. unless_cut (cut_header place w) (ends_with v next answer w) in
     let confirms : Result Reading ReadError → Prog (Result Reading ReadError) = λ answer. header_look place (ends answer) in
     let still : eval img x ≡ eval img behind = lowered_still img g.keeps [] behind fits tt in
     let again : header_view (range img place (below_end place 512)) ≡ v = ap header_view (range_below img place 512 fits) ∙ view in
     option_both (cut_header place v) (λ e. ret (Err e)) (cond (is_settled x) x (bind x confirms)) (λ (q : Prog (Result Reading ReadError)). eval img q ≡ eval img behind)
-    (λ e cut. sym (behind_cut img g.limits g.seen place v e cut))
+    (λ e cut. sym (behind_cut img g.limits g.known place v e cut))
     (λ cut.
     cond_both (is_settled x) x (bind x confirms) (λ (q : Prog (Result Reading ReadError)). eval img q ≡ eval img behind)
     (λ t. still)
@@ -134,7 +138,7 @@ still_attempt img g next v fits view =
     ∙ still))
 
 still_attempts : (img : List ℕ) (g : CallRules) (more : ℕ) (v : List ℕ) → length img ≤ 2 ^ 64 → header_view (range img g.place 512) ≡ v
-    → eval img (attempts_from g more v) ≡ eval img (behind_of g.limits g.seen g.place v)
+    → eval img (attempts_from g more v) ≡ eval img (behind_of g.limits g.known g.place v)
 still_attempts img g zero v fits view = still_attempt img g (λ w. ret (Err (again g v w))) v fits view
 still_attempts img g (suc more) v fits view = still_attempt img g (attempts_from g more) v fits view
 
@@ -145,10 +149,13 @@ still_rows img g fits =
 
 -- ---- From the superblock on
 
--- who has seen no rows is not refused for fewer
-none_seen : (limits : Limits) (place : ℕ) (d : Described) → and_then (ret (not_shrunk 0 d)) (λ d. and_then (needed_table limits d) (told place d)) ≡ and_then (needed_table limits d) (told place d)
-none_seen limits place d =
-    ap (onward (λ d. and_then (needed_table limits d) (told place d))) (cond-false (nat_lt d.shape.rows 0) (Err (Shrunk 0 d.shape.rows)) (Ok d) (le-ltb d.shape.rows 0 (omega arith)))
+-- who knows nothing is not refused for fewer rows, and looks up each address
+nothing_known : (limits : Limits) (place : ℕ) (d : Described)
+    → and_then (ret (not_shrunk 0 d)) (λ d. and_then (needed_from limits [] d) (told place d)) ≡ and_then (needed_table limits d) (told place d)
+nothing_known limits place d =
+    let refused : Prog (Result (List ℕ) ReadError) = ret (Err (TooManyChunks (needed d) (limit_of limits d.layout.index))) in
+    ap (onward (λ d. and_then (needed_from limits [] d) (told place d))) (cond-false (nat_lt d.shape.rows 0) (Err (Shrunk 0 d.shape.rows)) (Ok d) (le-ltb d.shape.rows 0 (omega arith)))
+    ∙ ap (λ (p : Prog (Result (List ℕ) ReadError)). and_then (cond (nat_lt (limit_of limits d.layout.index) (needed d)) refused p) (told place d)) (from_nothing d (needed_keys d))
 
 still_open : (img name : List ℕ) (limits : Limits) (kept attempts : ℕ) → length img ≤ 2 ^ 64 → eval img (open_call limits kept attempts name) ≡ eval img (reading limits name)
 still_open img name limits kept attempts fits =
@@ -157,7 +164,7 @@ still_open img name limits kept attempts fits =
     let shows : ℕ → Prog (Result Reading ReadError) = λ at. and_then (dataset at) (table at) in
     let alike : (at : ℕ) → eval img (rows at) ≡ eval img (shows at) = (λ at.
     still_rows img (open_rules limits kept attempts at) fits
-    ∙ ap (λ (f : Described → Prog (Result Reading ReadError)). eval img (and_then (dataset_from at (header_view (range img at 512))) f)) (λ i d. none_seen limits at d i)) in
+    ∙ ap (λ (f : Described → Prog (Result Reading ReadError)). eval img (and_then (dataset_from at (header_view (range img at 512))) f)) (λ i d. nothing_known limits at d i)) in
     eval_and_then img (lowered kept [] (dataset_place name)) rows
     ∙ ap (λ (r : Result ℕ ReadError). then_also r (λ at. eval img (rows at))) (lowered_still img kept [] (dataset_place name) fits tt)
     ∙ ap (λ (f : ℕ → Result Reading ReadError). then_also (eval img (dataset_place name)) f) (λ i at. alike at i)
@@ -169,3 +176,32 @@ still_calls = record {
       still_takes img (open_call limits kept attempts name) ls a (plain_open limits kept attempts name) all takes ∙ still_open img name limits kept attempts fits;
   refreshes = λ img g ls a fits all takes. still_takes img (rows_call g) ls a (plain_rows g) all takes ∙ still_rows img g fits;
 }
+
+-- ---- A refresh of what is shown
+
+-- what is known of an image that shows it is right there
+shown_known : (img : List ℕ) (d : Described) (table : List ℕ) (b : Bool) → eval img (table_of d (needed_keys d)) ≡ Ok table → AreKnown img d (cond b table []) (needed_keys d)
+shown_known img d table true is = table_known img d table table (needed_keys d) is (λ k some. refl)
+shown_known img d table false is = table_known img d [] table (needed_keys d) is (λ k some. absurd (some refl))
+
+pub still_refresh : StillRefresh
+still_refresh img name g r ls a fits shows known place all takes =
+    let s = steps g.limits img name r shows in
+    let d : Described = r.dataset in
+    let v : List ℕ = header_view (range img r.place 512) in
+    let table : Described → Prog (Result Reading ReadError) = λ d. and_then (needed_from g.limits (known_table (Some r) d) d) (told r.place d) in
+    let after : Described → Prog (Result Reading ReadError) = λ d. and_then (ret (not_shrunk d.shape.rows d)) table in
+    let addresses : List ℕ = known_table (Some r) d in
+    let few : needed_from g.limits addresses d ≡ table_from addresses d (needed_keys d) =
+    cond-false (nat_lt (limit_of g.limits d.layout.index) (needed d)) (ret (Err (TooManyChunks (needed d) (limit_of g.limits d.layout.index)))) (table_from addresses d (needed_keys d)) s.within in
+    let found : eval img (needed_from g.limits addresses d) ≡ Ok r.table =
+    ap (eval img) few ∙ gives_known img d addresses (needed_keys d) (shown_known img d r.table (same_cut d d) s.table) ∙ s.table in
+    let enough : not_shrunk d.shape.rows d ≡ Ok d = cond-false (nat_lt d.shape.rows d.shape.rows) (Err (Shrunk d.shape.rows d.shape.rows)) (Ok d) (le-ltb d.shape.rows d.shape.rows (omega arith)) in
+    let rows : eval img (and_then (ret (not_shrunk d.shape.rows d)) table) ≡ Ok r =
+    ap (λ (x : Result Described ReadError). eval img (onward table x)) enough ∙ and_then_from img (needed_from g.limits addresses d) (told r.place d) r.table r found refl in
+    let answer : eval img (behind_of g.limits (Some r) r.place v) ≡ Ok r =
+    and_then_from img (dataset_from r.place v) (λ d. and_then (ret (not_shrunk r.dataset.shape.rows d)) table) d r s.header rows in
+    still_takes img (rows_call g) ls a (plain_rows g) all takes ∙ still_rows img g fits
+    ∙ ap (λ (o : Option Reading). eval img (behind_of g.limits o g.place (header_view (range img g.place 512)))) known
+    ∙ ap (λ at. eval img (behind_of g.limits (Some r) at (header_view (range img at 512)))) place
+    ∙ answer

@@ -5,10 +5,10 @@ use Rattle.std.specs.List.{AllByRecursion}
 use Rattle.std.proofs.lemmas.Bool.{cond_both, cond-false, eqb-true, eqb-false, le-ltb, ne_eqb}
 use Rattle.h5w_model.specs.Numbers.{range, undefined}
 use Rattle.h5w_model.specs.Integers.{value_at, fill_value}
-use Rattle.h5w_model.specs.Programs.{Prog, ret, whole, eval, and_then}
+use Rattle.h5w_model.specs.Programs.{Prog, ret, whole, counted, eval, and_then}
 use Rattle.h5w_model.specs.Datasets.{Described}
-use Rattle.h5w_model.specs.Tables.{Reading, cell, cell_offset, chunk_address, value_in, each_of}
-use Rattle.h5w_model.specs.Calls.{first_in_band, last_in_band, last_column, touched_from, touched_to, chunk_range, touched_keys, values_from, values_call}
+use Rattle.h5w_model.specs.Tables.{Reading, format_limits, cell, cell_offset, chunk_address, value_in, each_of}
+use Rattle.h5w_model.specs.Calls.{first_in_band, last_in_band, last_column, touched_from, touched_to, none_of, chunk_range, touched_keys, values_from, values_call}
 use Rattle.h5w_model.specs.declared.refusal.ReadError.{ReadError}
 use Rattle.h5w_model.specs.declared.refusal.ReadError.TheVariants.{Damaged}
 use Rattle.h5w_model.specs.declared.refusal.BlockFault.TheVariants.{Cut}
@@ -73,7 +73,7 @@ chunk_here img r xs first to i j q touched =
     let bytes : List ℕ = range img (address + start) len in
     let told : List ℕ → Result (Option (List ℕ)) ReadError = λ b. cond (nat_lt (length b) len) (Err (Damaged (address + start) (Cut len (length b)))) (Ok (Some b)) in
     let reads : Prog (Result (Option (List ℕ)) ReadError) = whole (address + start) len (λ b. ret (told b)) in
-    let refuses : Prog (Result (Option (List ℕ)) ReadError) = ret (Err (Damaged address (Cut len 0))) in
+    let refuses : Prog (Result (Option (List ℕ)) ReadError) = counted address none_of (λ b. ret (Err (Damaged address (Cut len 0)))) in
     let outer : Prog (Result (Option (List ℕ)) ReadError) = cond (nat_lt (2 ^ 64) (address + start + len)) refuses reads in
     let good : Prog (Result (Option (List ℕ)) ReadError) → Type 0 = λ x. (o : Option (List ℕ)) × (eval img x ≡ Ok o) × IsPart img r first to (i, j) o in
     let found : good (cond (address == undefined) (ret (Ok None)) outer) = cond_both (address == undefined) (ret (Ok None)) outer good
@@ -131,15 +131,16 @@ still_values img r xs first count q =
     ∙ ap Ok (told ∙ ap (λ k. take (k * r.dataset.shape.cols) (drop (first * r.dataset.shape.cols) xs)) n)
 
 pub still_reads : StillReads
-still_reads img name values reads first count ls a fits some within all takes =
+still_reads img name rows columns values reads first count ls a fits some within all takes =
     let r : Reading = reads.shown in
-    let s = steps img name r reads.shows in
+    let s = steps format_limits img name r reads.shows in
     let q : AskedStill img r values first (first + count) = record {
       good = sound_shown img name r.place r.dataset s.place s.header;
       fits = fits;
       some = omega arith;
-      within = within;
+      within = omega (arith, within, reads.rows_are);
       has = λ row col low inside.
           has_cell img r values row col (λ k under. reads.values_are k (omega (arith, reads.count))) (omega (arith, reads.count)) low inside;
     } in
-    still_takes img (values_call r first count) ls a (plain_values r first count) all takes ∙ still_values img r values first count q
+    subst (λ c. a ≡ Ok (take (count * c) (drop (first * c) values))) reads.columns_are
+    (still_takes img (values_call r first count) ls a (plain_values r first count) all takes ∙ still_values img r values first count q)

@@ -5,13 +5,13 @@ use Rattle.std.specs.List.{AllByRecursion}
 use Rattle.std.proofs.lemmas.Bool.{cond_both, cond-false, eqb-true, eqb-false, le-ltb}
 use Rattle.h5w_model.specs.Numbers.{range, undefined}
 use Rattle.h5w_model.specs.Integers.{value_at}
-use Rattle.h5w_model.specs.Programs.{Prog, ret, whole, and_then, lowered, Takes}
+use Rattle.h5w_model.specs.Programs.{Prog, ret, whole, counted, and_then, lowered, Takes}
 use Rattle.h5w_model.specs.Logs.{Log, hist, appended}
 use Rattle.h5w_model.specs.Datasets.{Described}
 use Rattle.h5w_model.specs.Tables.{Reading, cell, cell_offset, chunk_address, each_of}
 use Rattle.h5w_model.specs.Prefixed.{image_at}
 use Rattle.h5w_model.specs.Readers.{Placed, IsCall, looks_of}
-use Rattle.h5w_model.specs.Calls.{first_in_band, last_in_band, last_column, touched_from, touched_to, chunk_range, touched_keys, values_from, values_call}
+use Rattle.h5w_model.specs.Calls.{first_in_band, last_in_band, last_column, touched_from, touched_to, none_of, chunk_range, touched_keys, values_from, values_call}
 use Rattle.h5w_model.specs.declared.refusal.ReadError.{ReadError}
 use Rattle.h5w_model.specs.declared.refusal.ReadError.TheVariants.{Damaged}
 use Rattle.h5w_model.specs.declared.refusal.BlockFault.TheVariants.{Cut}
@@ -95,7 +95,7 @@ chunk_taken {B} name log p from first to i j q f ts a touched call takes =
     let len : ℕ = touched_to d i j to - start in
     let told : List ℕ → Result (Option (List ℕ)) ReadError = λ b. cond (nat_lt (length b) len) (Err (Damaged (address + start) (Cut len (length b)))) (Ok (Some b)) in
     let reads : Prog (Result (Option (List ℕ)) ReadError) = whole (address + start) len (λ b. ret (told b)) in
-    let refuses : Prog (Result (Option (List ℕ)) ReadError) = ret (Err (Damaged address (Cut len 0))) in
+    let refuses : Prog (Result (Option (List ℕ)) ReadError) = counted address none_of (λ b. ret (Err (Damaged address (Cut len 0)))) in
     cond_both (address == undefined) (ret (Ok None)) (cond (nat_lt (2 ^ 64) (address + start + len)) refuses reads)
     (λ (x : Prog (Result (Option (List ℕ)) ReadError)). Takes (lowered 0 [] (and_then x f)) (looks_of ts) a → ChunkTaken B name log p from first to q.here (i, j) f a)
     (λ none s. record { part = None; is = none_part (image_at log p) r first to i j (sound name log p q.here) (eqb-true address undefined none); rest = ts; call = call; takes = s })

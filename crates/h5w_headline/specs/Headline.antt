@@ -49,8 +49,8 @@ pub record GetsRows (name : List ℕ) (log : Log) (from seen : ℕ) (ls : List P
   pub header : ℕ
   pub begun : from ≤ header
   pub header_looked : Any (IsHeaderLook r.place header) ls
-  pub rows : r.dataset.shape.rows * r.dataset.shape.cols ≡ flushed_at log header
-  pub since_begin : flushed_at log from ≤ r.dataset.shape.rows * r.dataset.shape.cols
+  pub rows : r.dataset.shape.rows ≡ flushed_at log header
+  pub since_begin : flushed_at log from ≤ r.dataset.shape.rows
   pub since_seen : seen ≤ r.dataset.shape.rows
   -- where it was shown: the header was as in the header look
   pub shown : ℕ
@@ -70,7 +70,7 @@ pub record Changes (name : List ℕ) (log : Log) (place p q : ℕ) : Type 0 wher
   pub differs : ¬ Quiet log place p q
   pub rises : (r s : Reading) → Shows format_limits (image_at log p) name r → Shows format_limits (image_at log q) name s
       → r.dataset.shape.rows < s.dataset.shape.rows
-  pub flushed : (r : Reading) → Shows format_limits (image_at log p) name r → 0 < r.dataset.shape.cols → flushed_at log p < flushed_at log q
+  pub flushed : flushed_at log p < flushed_at log q
 
 -- so it did between each two neighbours
 abbrev pub EachChanges : List ℕ → Log → ℕ → List ℕ → Type 0
@@ -101,7 +101,7 @@ pub record GivesUp (name : List ℕ) (log : Log) (from attempts : ℕ) (ls : Lis
   pub changed : EachChanges name log place (earlier ++ before ∷ last ∷ [])
   pub begun : from ≤ before
   pub ended : last ≤ length (hist log.events)
-  pub commits : (r : Reading) → Shows format_limits (image_at log before) name r → 0 < r.dataset.shape.cols → attempts ≤ rises log from (last - from)
+  pub commits : attempts ≤ rises log from (last - from)
   pub answer : a ≡ Err (again_between log attempts place before last)
 
 -- what a call for rows is answered: rows, or Again, and nothing else
@@ -116,12 +116,12 @@ OpensOnRows = (name : List ℕ) (log : Log) (limits : Limits) (keeps attempts fr
     → Served name log → WithinLimits limits name log → 1 ≤ attempts → log.first ≤ from → IsCall log from ls
     → Takes (open_call limits keeps attempts name) (looks_of ls) a → IsAnswer name log from 0 attempts ls a
 
--- a refresh, of a reader that has seen what was shown at an earlier position
+-- a refresh, of a reader that knows what was shown at an earlier position
 abbrev pub RefreshesToRows : Type 0
 RefreshesToRows = (name : List ℕ) (log : Log) (g : CallRules) (seen : ℕ) (r : Reading) (from : ℕ) (ls : List Placed) (a : Result Reading ReadError)
     → Served name log → WithinLimits g.limits name log → 1 ≤ g.attempts → IsPosition log seen → seen ≤ from → IsCall log from ls
-    → Shows format_limits (image_at log seen) name r → g.place ≡ r.place → g.seen ≡ r.dataset.shape.rows
-    → Takes (rows_call g) (looks_of ls) a → IsAnswer name log from g.seen g.attempts ls a
+    → Shows format_limits (image_at log seen) name r → g.place ≡ r.place → g.known ≡ Some r
+    → Takes (rows_call g) (looks_of ls) a → IsAnswer name log from r.dataset.shape.rows g.attempts ls a
 
 -- A read of rows that were seen gives the values that were appended for them: `count` rows from `first` on, at least one, of
 -- what was shown at an earlier position.

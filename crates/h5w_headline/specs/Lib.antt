@@ -1,4 +1,5 @@
 pub mod Headline
 pub mod Bounds
+pub mod Known
 pub mod Still
 pub mod Examples

@@ -6,11 +6,15 @@
 mod bounds;
 mod examples;
 mod headline;
+mod known;
 mod still;
 
-pub use bounds::{bounds_from_one, opens_in_looks, reads_in_looks, refreshes_in_looks};
+pub use bounds::{
+    bounds_from_one, one_look_bounds, opens_in_looks, reads_in_looks, refreshes_in_looks,
+};
 pub use examples::{during_a_flush, served_log};
 pub use headline::{
     ends_when_still, opens_on_rows, reads_values, refreshes_to_rows, within_from_last,
 };
-pub use still::{still_calls, still_reads};
+pub use known::known_addresses;
+pub use still::{still_calls, still_reads, still_refresh};

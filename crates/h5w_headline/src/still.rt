@@ -1,10 +1,15 @@
 //! What is answered over looks at one image, as where no writer is at work.
 
-ghost use Rattle.h5w_headline.specs.Still.{StillCalls, StillReads};
+ghost use Rattle.h5w_headline.specs.Still.{StillCalls, StillReads, StillRefresh};
 
 /// On a still image an open and a refresh answer what the image gives.
 pub fn still_calls()
     ensures { StillCalls }
+{}
+
+/// A refresh of a reader that knows what the image shows answers this again.
+pub fn still_refresh()
+    ensures { StillRefresh }
 {}
 
 /// A read of rows in a still image gives the rows that it reads as.

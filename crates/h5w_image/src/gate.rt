@@ -5,7 +5,7 @@ pub trait Gate: Sync {
 }
 
 /// The gate that is always open.
-#[derive(Clone, Copy, Debug)]
+#[derive(Clone, Copy)]
 pub struct OpenGate;
 
 impl Gate for OpenGate {

@@ -18,14 +18,14 @@ use Rattle.h5w_laws.specs.Programs.{IsUnstored}
 use Rattle.h5w_laws.specs.Answers.{ExactlyOne, OneAnswer, OneVerdict, UnstoredSteps}
 
 -- a result is one of its two
-one_of : {A E : Type 0} (r : Result A E) → ExactlyOne ((a : A) × (r ≡ Ok a)) ((e : E) × (r ≡ Err e))
+pub one_of : {A E : Type 0} (r : Result A E) → ExactlyOne ((a : A) × (r ≡ Ok a)) ((e : E) × (r ≡ Err e))
 one_of (Ok a) = inl ((a, refl), λ h. cc (h.1))
 one_of (Err e) = inr ((e, refl), λ h. cc (h.1))
 
-same_ok : {A E : Type 0} (r : Result A E) (a b : A) → r ≡ Ok a → r ≡ Ok b → a ≡ b
+pub same_ok : {A E : Type 0} (r : Result A E) (a b : A) → r ≡ Ok a → r ≡ Ok b → a ≡ b
 same_ok r a b h g = cc
 
-same_err : {A E : Type 0} (r : Result A E) (e f : E) → r ≡ Err e → r ≡ Err f → e ≡ f
+pub same_err : {A E : Type 0} (r : Result A E) (e f : E) → r ≡ Err e → r ≡ Err f → e ≡ f
 same_err r e f h g = cc
 
 pub one_answer : OneAnswer
@@ -60,14 +60,14 @@ unstored_and_then {A} {B} {E} p f h g =
     unstored_bind p (λ r. elim r [ Ok a ↦ f a | Err e ↦ ret (Err e) ]) h
     (λ r. result_both r f (λ e. ret (Err e)) (λ (q : Prog (Result B E)). IsUnstored q) (λ a e. g a) (λ e i. tt))
 
-unstored_splice : (visit : List Found → Found → List Found → Prog (Result HeaderFields ReadError)) (visited : List Range) (done ms : List Found)
+pub unstored_splice : (visit : List Found → Found → List Found → Prog (Result HeaderFields ReadError)) (visited : List Range) (done ms : List Found)
     → ((done : List Found) (m : Found) (rest : List Found) → IsUnstored (visit done m rest)) → IsUnstored (splice visit visited done ms)
 unstored_splice visit visited done [] h = tt
 unstored_splice visit visited done (m ∷ ms) h =
     cond_both (m.kind == 0x10) (visit done m ms) (splice visit visited (done ++ m ∷ []) ms) (λ (q : Prog (Result HeaderFields ReadError)). IsUnstored q)
     (λ t. h done m ms) (λ t. unstored_splice visit visited (done ++ m ∷ []) ms h)
 
-unstored_walk : (more header : ℕ) (tracked : Bool) (visited : List Range) (done ms : List Found) → IsUnstored (walk more header tracked visited done ms)
+pub unstored_walk : (more header : ℕ) (tracked : Bool) (visited : List Range) (done ms : List Found) → IsUnstored (walk more header tracked visited done ms)
 unstored_walk zero header tracked visited done ms = unstored_splice _ visited done ms (λ done m rest. tt)
 unstored_walk (suc more) header tracked visited done ms =
     unstored_splice _ visited done ms (λ done m rest.
@@ -78,13 +78,13 @@ unstored_walk (suc more) header tracked visited done ms =
     (λ inside e. unstored_walk more header tracked (visited ++ record { place = block_place m; len = block_len m } ∷ []) done (inside ++ rest))
     (λ e i. tt)))
 
-unstored_from_chunk : (place : ℕ) (p : Prefix) (b : List ℕ) → IsUnstored (from_chunk place p b)
+pub unstored_from_chunk : (place : ℕ) (p : Prefix) (b : List ℕ) → IsUnstored (from_chunk place p b)
 unstored_from_chunk place p b =
     result_both (messages_at b) _ _ (λ (q : Prog (Result HeaderFields ReadError)). IsUnstored q)
     (λ ms e. unstored_walk 32 place p.tracked (record { place = place; len = p.total } ∷ []) [] (found_at place true ms))
     (λ e i. tt)
 
-unstored_root_header : (place : ℕ) → IsUnstored (root_header place)
+pub unstored_root_header : (place : ℕ) → IsUnstored (root_header place)
 unstored_root_header place =
     λ first. result_both (prefix_at first) _ _ (λ (q : Prog (Result HeaderFields ReadError)). IsUnstored q)
     (λ p e.
@@ -93,7 +93,7 @@ unstored_root_header place =
     (λ t. unstored_from_chunk place p first))
     (λ e i. tt)
 
-unstored_dataset_messages : (place : ℕ) (b : List ℕ) → IsUnstored (dataset_messages place b)
+pub unstored_dataset_messages : (place : ℕ) (b : List ℕ) → IsUnstored (dataset_messages place b)
 unstored_dataset_messages place b =
     result_both (prefix_at b) _ _ (λ (q : Prog (Result HeaderFields ReadError)). IsUnstored q)
     (λ p e.
@@ -102,26 +102,26 @@ unstored_dataset_messages place b =
     (λ t. unstored_from_chunk place p b))
     (λ e i. tt)
 
-unstored_place : (name : List ℕ) → IsUnstored (dataset_place name)
+pub unstored_place : (name : List ℕ) → IsUnstored (dataset_place name)
 unstored_place name =
     unstored_and_then superblock (λ s. and_then (root_header s.root) (λ h. ret (linked name h.messages))) (λ b. tt)
     (λ s. unstored_and_then (root_header s.root) (λ h. ret (linked name h.messages)) (unstored_root_header s.root) (λ h. tt))
 
-unstored_dataset : (place : ℕ) → IsUnstored (dataset place)
+pub unstored_dataset : (place : ℕ) → IsUnstored (dataset place)
 unstored_dataset place =
     λ b. unstored_and_then (dataset_messages place b) (λ h. ret (refused_as errors.Unsupported (described h.messages))) (unstored_dataset_messages place b) (λ h. tt)
 
-unstored_array : (address : ℕ) → IsUnstored (array_in_place address)
+pub unstored_array : (address : ℕ) → IsUnstored (array_in_place address)
 unstored_array address =
     λ h. result_both (eahd_at h address) _ _ (λ (q : Prog (Result InPlace ReadError)). IsUnstored q)
     (λ a e. cond_both (a.block == undefined) _ _ (λ (q : Prog (Result InPlace ReadError)). IsUnstored q) (λ t. tt) (λ t b. tt))
     (λ e i. tt)
 
-by_kind : (kind : IndexKind) (address : ℕ) → IsUnstored (elim kind as (λ _. Prog (Result InPlace ReadError)) [ Array ↦ array_in_place address | Tree ↦ tree_in_place address ])
+pub by_kind : (kind : IndexKind) (address : ℕ) → IsUnstored (elim kind as (λ _. Prog (Result InPlace ReadError)) [ Array ↦ array_in_place address | Tree ↦ tree_in_place address ])
 by_kind Array address = unstored_array address
 by_kind Tree address = λ h. tt
 
-unstored_blocks : (d : Described) → IsUnstored (in_place d)
+pub unstored_blocks : (d : Described) → IsUnstored (in_place d)
 unstored_blocks d =
     cond_both (d.layout.address == undefined) _ _ (λ (q : Prog (Result InPlace ReadError)). IsUnstored q)
     (λ t. tt)

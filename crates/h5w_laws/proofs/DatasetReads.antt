@@ -27,7 +27,7 @@ use Rattle.h5w_laws.proofs.PrefixLemmas.{begins, prefix_front, prefix_whole, IsC
 -- ---- The bytes of chunk 0 and of the first look
 
 -- a first look and the bytes behind it
-look_and_rest : (img : List ℕ) (place n : ℕ) → 512 < n → range img place 512 ++ range img (place + 512) (n - 512) ≡ range img place n
+pub look_and_rest : (img : List ℕ) (place n : ℕ) → 512 < n → range img place 512 ++ range img (place + 512) (n - 512) ≡ range img place n
 look_and_rest img place n long =
     let b : 512 + (n - 512) ≡ n = omega arith in
     ap (λ (r : List ℕ). range img place 512 ++ take (n - 512) r) (sym (drop-drop 512 place img))
@@ -35,7 +35,7 @@ look_and_rest img place n long =
     ∙ ap (λ m. range img place m) b
 
 -- what stands before the messages is in the first look as in chunk 0
-look_says : (img : List ℕ) (place : ℕ) (p : Prefix) → prefix_at (range img place (p.total)) ≡ Ok p → prefix_at (range img place 512) ≡ Ok p
+pub look_says : (img : List ℕ) (place : ℕ) (p : Prefix) → prefix_at (range img place (p.total)) ≡ Ok p → prefix_at (range img place 512) ≡ Ok p
 look_says img place p e = go (cases_lt 512 p.total)
   where
     go : (512 < p.total) ⊎ (p.total ≤ 512) → prefix_at (range img place 512) ≡ Ok p
@@ -45,7 +45,7 @@ look_says img place p e = go (cases_lt 512 p.total)
         ap (λ (xs : List ℕ). prefix_at xs) (sym (take-take 512 (p.total) (drop place img) (omega arith))) ∙ prefix_front (range img place (p.total)) 512 p (omega arith) e
     go (inr short) = prefix_whole (range img place 512) (p.total) p (ap (λ (xs : List ℕ). prefix_at xs) (take-take (p.total) 512 (drop place img) short) ∙ e)
 
-chunk_says : (img : List ℕ) (place : ℕ) (p : Prefix) → prefix_at (range img place 512) ≡ Ok p → prefix_at (range img place (p.total)) ≡ Ok p
+pub chunk_says : (img : List ℕ) (place : ℕ) (p : Prefix) → prefix_at (range img place 512) ≡ Ok p → prefix_at (range img place (p.total)) ≡ Ok p
 chunk_says img place p e = go (cases_lt 512 p.total)
   where
     go : (512 < p.total) ⊎ (p.total ≤ 512) → prefix_at (range img place (p.total)) ≡ Ok p
@@ -55,11 +55,11 @@ chunk_says img place p e = go (cases_lt 512 p.total)
         ap (λ (xs : List ℕ). prefix_at xs) (sym (take-take (p.total) 512 (drop place img) short)) ∙ prefix_front (range img place 512) (p.total) p b.inside e
 
 -- a chunk 0 of at most 512 bytes is the front of the first look
-chunk_in_look : (img : List ℕ) (place n : ℕ) → n ≤ 512 → take n (range img place 512) ≡ range img place n
+pub chunk_in_look : (img : List ℕ) (place n : ℕ) → n ≤ 512 → take n (range img place 512) ≡ range img place n
 chunk_in_look img place n short = take-take n 512 (drop place img) short
 
 -- a chunk 0 whose messages are read has all its bytes
-chunk_whole : (img : List ℕ) (place : ℕ) (p : Prefix) (ms : List Msg) → prefix_at (range img place (p.total)) ≡ Ok p → messages_at (range img place (p.total)) ≡ Ok ms
+pub chunk_whole : (img : List ℕ) (place : ℕ) (p : Prefix) (ms : List Msg) → prefix_at (range img place (p.total)) ≡ Ok p → messages_at (range img place (p.total)) ≡ Ok ms
     → length (range img place (p.total)) ≡ p.total
 chunk_whole img place p ms e m =
     let read = messages_at-ok (range img place (p.total)) ms m in
@@ -73,14 +73,14 @@ chunk_whole img place p ms e m =
 
 -- ---- From chunk 0
 
-abbrev read_header : HeaderFields → Result HeaderFields ReadError
+abbrev pub read_header : HeaderFields → Result HeaderFields ReadError
 read_header h = Ok h
 
 -- the program that goes on with the messages
-walk_from : ℕ → Prefix → List Msg → Prog (Result HeaderFields ReadError)
+pub walk_from : ℕ → Prefix → List Msg → Prog (Result HeaderFields ReadError)
 walk_from place p ms = walk 32 place p.tracked (record { place = place; len = p.total } ∷ []) [] (found_at place true ms)
 
-chunk_found : (img : List ℕ) (place : ℕ) (p : Prefix) (h : HeaderFields) → prefix_at (range img place (p.total)) ≡ Ok p
+pub chunk_found : (img : List ℕ) (place : ℕ) (p : Prefix) (h : HeaderFields) → prefix_at (range img place (p.total)) ≡ Ok p
     → eval img (from_chunk place p (range img place (p.total))) ≡ Ok h → HasMessages img place h.messages
 unfolding walk_from WalkFound
 chunk_found img place p h e f =
@@ -98,12 +98,12 @@ chunk_found img place p h e f =
     }
 
 -- a header is read as these messages
-record ChunkReads (img : List ℕ) (place : ℕ) (p : Prefix) (ms : List Found) : Type 0 where
+pub record ChunkReads (img : List ℕ) (place : ℕ) (p : Prefix) (ms : List Found) : Type 0 where
   fields : HeaderFields
   is : eval img (from_chunk place p (range img place (p.total))) ≡ Ok fields
   messages : fields.messages ≡ ms
 
-chunk_reads : (img : List ℕ) (place : ℕ) (ms : List Found) (h : HasMessages img place ms) → ChunkReads img place h.prefix ms
+pub chunk_reads : (img : List ℕ) (place : ℕ) (ms : List Found) (h : HasMessages img place ms) → ChunkReads img place h.prefix ms
 unfolding walk_from ReadsAs
 chunk_reads img place ms h =
     let p = h.prefix in
@@ -117,11 +117,11 @@ chunk_reads img place ms h =
 -- ---- The root header
 
 -- the program that goes on with what stands before the messages
-root_from : ℕ → List ℕ → Prefix → Prog (Result HeaderFields ReadError)
+pub root_from : ℕ → List ℕ → Prefix → Prog (Result HeaderFields ReadError)
 root_from place first p =
     cond (nat_lt 512 p.total) (whole (place + 512) (p.total - 512) (λ rest. from_chunk place p (first ++ rest))) (from_chunk place p first)
 
-root_is_chunk : (img : List ℕ) (place : ℕ) (p : Prefix) → IsRootView (range img place 512) (root_view (range img place 512)) p
+pub root_is_chunk : (img : List ℕ) (place : ℕ) (p : Prefix) → IsRootView (range img place 512) (root_view (range img place 512)) p
     → eval img (root_from place (root_view (range img place 512)) p) ≡ eval img (from_chunk place p (range img place (p.total)))
 unfolding root_from
 root_is_chunk img place p (inl long) =
@@ -132,7 +132,7 @@ root_is_chunk img place p (inr short) =
     ap (λ (t : Bool). eval img (cond t (whole (place + 512) (p.total - 512) (λ rest. from_chunk place p (root_view (range img place 512) ++ rest))) (from_chunk place p (root_view (range img place 512))))) (le-ltb 512 p.total short.0)
     ∙ ap (λ (xs : List ℕ). eval img (from_chunk place p xs)) (short.1 ∙ chunk_in_look img place (p.total) short.0)
 
-root_found : (img : List ℕ) (place : ℕ) (h : HeaderFields) → eval img (root_header place) ≡ Ok h → HasMessages img place h.messages
+pub root_found : (img : List ℕ) (place : ℕ) (h : HeaderFields) → eval img (root_header place) ≡ Ok h → HasMessages img place h.messages
 unfolding root_from
 root_found img place h e =
     let p = choice_ok img (prefix_at (root_view (range img place 512))) (root_from place (root_view (range img place 512))) (header_refusal place) h e in
@@ -141,13 +141,13 @@ root_found img place h e =
     (sym (root_is_chunk img place p.0 (root_view_says (range img place 512) p.0 look)) ∙ p.2)
 
 -- what counts of the look says it too
-root_view_reads : (b : List ℕ) (p : Prefix) → prefix_at b ≡ Ok p → IsRootView b (root_view b) p → prefix_at (root_view b) ≡ Ok p
+pub root_view_reads : (b : List ℕ) (p : Prefix) → prefix_at b ≡ Ok p → IsRootView b (root_view b) p → prefix_at (root_view b) ≡ Ok p
 root_view_reads b p e (inl long) = ap (λ (xs : List ℕ). prefix_at xs) long.1 ∙ e
 root_view_reads b p e (inr short) =
     let start = begins b p e in
     ap (λ (xs : List ℕ). prefix_at xs) short.1 ∙ prefix_front b (p.total) p start.inside e
 
-root_reads : (img : List ℕ) (place : ℕ) (ms : List Found) → HasMessages img place ms → (h : HeaderFields) × (eval img (root_header place) ≡ Ok h) × (h.messages ≡ ms)
+pub root_reads : (img : List ℕ) (place : ℕ) (ms : List Found) → HasMessages img place ms → (h : HeaderFields) × (eval img (root_header place) ≡ Ok h) × (h.messages ≡ ms)
 unfolding root_from
 root_reads img place ms h =
     let p = h.prefix in
@@ -160,7 +160,7 @@ root_reads img place ms h =
       chunk.messages,
     )
 
-messages_found : (img : List ℕ) (place : ℕ) (ms : List Found) → (h : HeaderFields) × (eval img (root_header place) ≡ Ok h) × (h.messages ≡ ms) → HasMessages img place ms
+pub messages_found : (img : List ℕ) (place : ℕ) (ms : List Found) → (h : HeaderFields) × (eval img (root_header place) ≡ Ok h) × (h.messages ≡ ms) → HasMessages img place ms
 messages_found img place ms t = subst (λ (rs : List Found). HasMessages img place rs) t.2 (root_found img place t.0 t.1)
 
 pub finds_messages : FindsMessages
@@ -169,18 +169,18 @@ finds_messages img place ms = (messages_found img place ms, root_reads img place
 -- ---- The dataset header
 
 -- the program that goes on with what stands before the messages
-small_from : ℕ → List ℕ → Prefix → Prog (Result HeaderFields ReadError)
+pub small_from : ℕ → List ℕ → Prefix → Prog (Result HeaderFields ReadError)
 small_from place b p = cond (nat_lt 512 p.total) (ret (Err (read_errors.Unsupported (record { 0 = 1 })))) (from_chunk place p b)
 
 -- a header of at most 512 bytes with these messages
-record HasSmall (img : List ℕ) (place : ℕ) (messages : List Found) : Type 0 where
+pub record HasSmall (img : List ℕ) (place : ℕ) (messages : List Found) : Type 0 where
   header : HasMessages img place messages
   small : header.prefix.total ≤ 512
 
-abbrev refused_header : ReadError → Result HeaderFields ReadError
+abbrev pub refused_header : ReadError → Result HeaderFields ReadError
 refused_header e = Err e
 
-small_found : (img : List ℕ) (place : ℕ) (h : HeaderFields) → eval img (dataset_messages place (header_view (range img place 512))) ≡ Ok h → HasSmall img place h.messages
+pub small_found : (img : List ℕ) (place : ℕ) (h : HeaderFields) → eval img (dataset_messages place (header_view (range img place 512))) ≡ Ok h → HasSmall img place h.messages
 unfolding small_from chunk_found
 small_found img place h e =
     let view = header_view (range img place 512) in
@@ -203,7 +203,7 @@ small_found img place h e =
       small = cut.0;
     }
 
-small_reads : (img : List ℕ) (place : ℕ) (ms : List Found) (h : HasMessages img place ms) → h.prefix.total ≤ 512
+pub small_reads : (img : List ℕ) (place : ℕ) (ms : List Found) (h : HasMessages img place ms) → h.prefix.total ≤ 512
     → (f : HeaderFields) × (eval img (dataset_messages place (header_view (range img place 512))) ≡ Ok f) × (f.messages ≡ ms)
 unfolding small_from
 small_reads img place ms h small =
@@ -222,7 +222,7 @@ small_reads img place ms h small =
 -- ---- The dataset
 
 -- what the superblock says, open for writing and for SWMR writing, or for neither
-super_found : (img : List ℕ) (s : Super) → eval img superblock ≡ Ok s → (super_at (range img 0 48) ≡ Ok s) × (is_swmr (s.flags) ≡ true)
+pub super_found : (img : List ℕ) (s : Super) → eval img superblock ≡ Ok s → (super_at (range img 0 48) ≡ Ok s) × (is_swmr (s.flags) ≡ true)
 super_found img s e =
     let r = then_ok (refused_as super_refusal (super_at (range img 0 48))) swmr s e in
     let t = passes (is_swmr (r.0.flags)) (of_super r.0) (read_errors.NotSwmr (r.0.flags)) s r.2 in
@@ -238,7 +238,7 @@ super_found img s e =
     one_super : (p q : Super) → of_super p ≡ of_super q → p ≡ q
     one_super p q h = cc
 
-super_reads : (img : List ℕ) (s : Super) → super_at (range img 0 48) ≡ Ok s → is_swmr (s.flags) ≡ true → eval img superblock ≡ Ok s
+pub super_reads : (img : List ℕ) (s : Super) → super_at (range img 0 48) ≡ Ok s → is_swmr (s.flags) ≡ true → eval img superblock ≡ Ok s
 super_reads img s e f =
     then_from (refused_as super_refusal (super_at (range img 0 48))) swmr s s (refused_from super_refusal (super_at (range img 0 48)) s e)
     (ap (λ (t : Bool). of_test t) f)
@@ -250,16 +250,16 @@ super_reads img s e f =
     swmr q = cond (is_swmr (q.flags)) (Ok q) (Err (read_errors.NotSwmr (q.flags)))
 
 -- what the messages say, by a reader
-says_of : HeaderFields → Prog (Result Described ReadError)
+pub says_of : HeaderFields → Prog (Result Described ReadError)
 says_of h = ret (refused_as read_errors.Unsupported (described h.messages))
 
-link_of : List ℕ → HeaderFields → Prog (Result ℕ ReadError)
+pub link_of : List ℕ → HeaderFields → Prog (Result ℕ ReadError)
 link_of name h = ret (linked name h.messages)
 
-place_from : List ℕ → Super → Prog (Result ℕ ReadError)
+pub place_from : List ℕ → Super → Prog (Result ℕ ReadError)
 place_from name s = and_then (root_header s.root) (link_of name)
 
-dataset_found : (img name : List ℕ) (place : ℕ) (d : Described) → (eval img (dataset_place name) ≡ Ok place) × (eval img (dataset place) ≡ Ok d) → HasDataset img name place d
+pub dataset_found : (img name : List ℕ) (place : ℕ) (d : Described) → (eval img (dataset_place name) ≡ Ok place) × (eval img (dataset place) ≡ Ok d) → HasDataset img name place d
 unfolding says_of link_of place_from
 dataset_found img name place d t =
     let s = and_then_ok img superblock (place_from name) place t.0 in
@@ -280,7 +280,7 @@ dataset_found img name place d t =
       says = refused_ok read_errors.Unsupported (described m.0.messages) d m.2;
     }
 
-dataset_reads : (img name : List ℕ) (place : ℕ) (d : Described) → HasDataset img name place d → (eval img (dataset_place name) ≡ Ok place) × (eval img (dataset place) ≡ Ok d)
+pub dataset_reads : (img name : List ℕ) (place : ℕ) (d : Described) → HasDataset img name place d → (eval img (dataset_place name) ≡ Ok place) × (eval img (dataset place) ≡ Ok d)
 unfolding says_of link_of place_from
 dataset_reads img name place d h =
     let root = root_reads img (h.superblock.root) h.root h.root_header in
@@ -293,3 +293,15 @@ dataset_reads img name place d h =
 
 pub finds_dataset : FindsDataset
 finds_dataset img name place d = (dataset_found img name place d, dataset_reads img name place d)
+
+-- the walk that gave a header's fields, from its chunk 0 on
+pub root_walked : (img : List ℕ) (place : ℕ) (h : HeaderFields) → eval img (root_header place) ≡ Ok h
+    → (p : Prefix) × (ms : List Found) × (prefix_at (range img place (p.total)) ≡ Ok p) × (eval img (walk 32 place p.tracked (record { place = place; len = p.total } ∷ []) [] ms) ≡ Ok h)
+unfolding root_from walk_from
+root_walked img place h e =
+    let p = choice_ok img (prefix_at (root_view (range img place 512))) (root_from place (root_view (range img place 512))) (header_refusal place) h e in
+    let look = root_view_found (range img place 512) p.0 p.1 in
+    let begun = chunk_says img place p.0 look in
+    let chunk = sym (root_is_chunk img place p.0 (root_view_says (range img place 512) p.0 look)) ∙ p.2 in
+    let m = choice_ok img (messages_at (range img place (p.0.total))) (walk_from place p.0) (header_refusal place) h chunk in
+    (p.0, found_at place true m.0, begun, m.2)

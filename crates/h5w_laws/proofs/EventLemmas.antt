@@ -10,12 +10,12 @@ use Rattle.h5w_laws.specs.Logs.{EventLaws}
 use Rattle.h5w_laws.proofs.LogLemmas.{length_hist, image_earlier}
 
 -- what is said of earlier events is said of them in a longer log
-each_kept : (name : List ℕ) (e : Happening) (log : Log) (es : List Happening) → EachReads name log es → EachReads name (and_now e log) es
+pub each_kept : (name : List ℕ) (e : Happening) (log : Log) (es : List Happening) → EachReads name log es → EachReads name (and_now e log) es
 each_kept name e log [] h = h
 each_kept name e log (x ∷ es) h = (h.0, each_kept name e log es h.1)
 
 -- a piece of two logs, with the same images up to behind it
-still_alike : (name : List ℕ) (old new : Log) (k : ℕ) → old.first ≡ new.first → ((p : ℕ) → p ≤ k + 1 → image_at new p ≡ image_at old p)
+pub still_alike : (name : List ℕ) (old new : Log) (k : ℕ) → old.first ≡ new.first → ((p : ℕ) → p ≤ k + 1 → image_at new p ≡ image_at old p)
     → slice_get (hist new.events) k ≡ slice_get (hist old.events) k → StillAt name old k → StillAt name new k
 still_alike name old new k first same piece still = record {
   steps = λ r s shows_r shows_s.
@@ -31,17 +31,17 @@ still_alike name old new k first same piece still = record {
       (subst (λ (i : List ℕ). Shows format_limits i name s) here shows_s) rows);
 }
 
-still_more : (name : List ℕ) (e : Happening) (log : Log) → shown (e ∷ log.events) ≡ shown log.events → Still name log → Still name (and_now e log)
+pub still_more : (name : List ℕ) (e : Happening) (log : Log) → shown (e ∷ log.events) ≡ shown log.events → Still name log → Still name (and_now e log)
 still_more name (appends vs) log same still k begun below = still_alike name log (and_now (appends vs) log) k refl (λ p h. refl) refl (still k begun below)
 still_more name (plans n) log same still k begun below = still_alike name log (and_now (plans n) log) k refl (λ p h. refl) refl (still k begun below)
 still_more name (shows w) log same still k begun below = absurd (omega arith)
 
-slice_before : (ws : List Write) (w : Write) (k : ℕ) → k < length ws → slice_get (ws ++ w ∷ []) k ≡ slice_get ws k
+pub slice_before : (ws : List Write) (w : Write) (k : ℕ) → k < length ws → slice_get (ws ++ w ∷ []) k ≡ slice_get ws k
 slice_before [] w k h = absurd (omega arith)
 slice_before (x ∷ ws) w zero h = refl
 slice_before (x ∷ ws) w (suc k) h = slice_before ws w k (omega arith)
 
-still_piece : (name : List ℕ) (w : Write) (log : Log) → Still name log → (log.first ≤ shown log.events → StillAt name (and_now (shows w) log) (shown log.events))
+pub still_piece : (name : List ℕ) (w : Write) (log : Log) → Still name log → (log.first ≤ shown log.events → StillAt name (and_now (shows w) log) (shown log.events))
     → Still name (and_now (shows w) log)
 still_piece name w log still last k begun below =
     let count : length (hist log.events) ≡ shown log.events = length_hist log.events in

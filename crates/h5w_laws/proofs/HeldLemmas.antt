@@ -17,7 +17,7 @@ use Rattle.h5w_laws.proofs.ValidLemmas.{valid_shows}
 use Rattle.h5w_laws.proofs.StaysLemmas.{stays_itself, stays_onward}
 
 -- the piece behind the k-th
-next_piece : (k : ℕ) (ws : List Write) → k < length ws → (w : Write) × (slice_get ws k ≡ Some w) × (take (suc k) ws ≡ take k ws ++ w ∷ [])
+pub next_piece : (k : ℕ) (ws : List Write) → k < length ws → (w : Write) × (slice_get ws k ≡ Some w) × (take (suc k) ws ≡ take k ws ++ w ∷ [])
 next_piece k [] h = absurd (omega arith)
 next_piece zero (w ∷ ws) h = (w, refl, refl)
 next_piece (suc k) (w ∷ ws) h =
@@ -52,22 +52,22 @@ abbrev pub BehindInside : List ℕ → Reading → Type 0
 BehindInside img r =
     (p : InPlace) (key : Key) → eval img (in_place r.dataset) ≡ Ok p → IsKey r.dataset.layout.index key → AreInside img (visits img (address_behind p key))
 
-abbrev AllInside : List ℕ → Log → Type 0
+abbrev pub AllInside : List ℕ → Log → Type 0
 AllInside name log = (k : ℕ) (r : Reading) → IsPosition log k → Shows format_limits (image_at log k) name r → BehindInside (image_at log k) r
 
-behind_next : (w : Write) (old mid : List ℕ) (r : Reading) → SameBehind old r mid → MissesBehind w old r → BehindInside old r → length old ≤ length mid → SameBehind old r (apply w mid)
+pub behind_next : (w : Write) (old mid : List ℕ) (r : Reading) → SameBehind old r mid → MissesBehind w old r → BehindInside old r → length old ≤ length mid → SameBehind old r (apply w mid)
 behind_next w old mid r same misses inside longer p key shows is =
     same_missed w old mid (visits old (address_behind p key)) (same p key shows is) (misses p key shows is) (inside p key shows is) longer
 
 -- from a position to itself
-kept_itself : (img name : List ℕ) (r s : Reading) → Shows format_limits img name r → Shows format_limits img name s → Keeps img r img s
+pub kept_itself : (img name : List ℕ) (r s : Reading) → Shows format_limits img name r → Shows format_limits img name s → Keeps img r img s
 kept_itself img name r s h g =
     let e : r ≡ s = one_answer.reading format_limits img name r s h g in
     subst (λ (x : Reading). Keeps img r img x) e
     (record { stays = stays_itself img r; behind = λ rows p key shows is. same_itself img (visits img (address_behind p key)) })
 
 -- and on to the next position
-kept_next : (name : List ℕ) (log : Log) (i k : ℕ) (r t s : Reading) → AllInside name log → IsPosition log i → i ≤ k → k < length (hist log.events)
+pub kept_next : (name : List ℕ) (log : Log) (i k : ℕ) (r t s : Reading) → AllInside name log → IsPosition log i → i ≤ k → k < length (hist log.events)
     → Shows format_limits (image_at log i) name r → Shows format_limits (image_at log k) name t → Shows format_limits (image_at log (k + 1)) name s
     → StillAt name log k → Keeps (image_at log i) r (image_at log k) t → Keeps (image_at log i) r (image_at log (k + 1)) s
 kept_next name log i k r t s inside at below within shows_r shows_t shows_s still kept =
@@ -82,7 +82,7 @@ kept_next name log i k r t s inside at below within shows_r shows_t shows_s stil
           (inside i r at shows_r) (image_longer log i k below));
     }
 
-kept_from : (n i j : ℕ) (name : List ℕ) (log : Log) (r s : Reading) → AllInside name log → Prefixed name log → Still name log → IsPosition log i → i + n ≡ j → j ≤ length (hist log.events)
+pub kept_from : (n i j : ℕ) (name : List ℕ) (log : Log) (r s : Reading) → AllInside name log → Prefixed name log → Still name log → IsPosition log i → i + n ≡ j → j ≤ length (hist log.events)
     → Shows format_limits (image_at log i) name r → Shows format_limits (image_at log j) name s → Keeps (image_at log i) r (image_at log j) s
 kept_from zero i j name log r s inside prefixed still at e within shows_r shows_s =
     let same : i ≡ j = omega arith in
@@ -97,20 +97,20 @@ kept_from (suc m) i j name log r s inside prefixed still at e within shows_r sho
     subst (λ k. Keeps (image_at log i) r (image_at log k) s) same
     (kept_next name log i (i + m) r reads.shown s inside at (omega arith) (omega arith) shows_r reads.shows there (still (i + m) (omega (arith, at.begun)) (omega arith)) kept)
 
-held_from : (name : List ℕ) (log : Log) → AllInside name log → Prefixed name log → Still name log → Held name log
+pub held_from : (name : List ℕ) (log : Log) → AllInside name log → Prefixed name log → Still name log → Held name log
 held_from name log inside prefixed still i j r s at to below shows_r shows_s =
     kept_from (j - i) i j name log r s inside prefixed still at (omega arith) to.reached shows_r shows_s
 
-ok_is : {A E : Type 0} (a b : A) → ◌≡◌ {A = Result A E} (Ok a) (Ok b) → a ≡ b
+pub ok_is : {A E : Type 0} (a b : A) → ◌≡◌ {A = Result A E} (Ok a) (Ok b) → a ≡ b
 ok_is a b h = cc
 
-inside_reached : (img : List ℕ) (r : Reading) → IsReached img r.dataset → BehindInside img r
+pub inside_reached : (img : List ℕ) (r : Reading) → IsReached img r.dataset → BehindInside img r
 inside_reached img r reached p key is named =
     let same : reached.blocks ≡ p = ok_is reached.blocks p (sym (reached.read) ∙ is) in
     subst (λ (b : InPlace). AreInside img (visits img (address_behind b key))) same (reached.inside key named)
 
 -- a valid image's reading reaches nothing past its end
-inside_of : (img name : List ℕ) (r : Reading) (whole : (s : Reading) × Shows format_limits img name s × IsReached img s.dataset) → Shows format_limits img name r → BehindInside img r
+pub inside_of : (img name : List ℕ) (r : Reading) (whole : (s : Reading) × Shows format_limits img name s × IsReached img s.dataset) → Shows format_limits img name r → BehindInside img r
 inside_of img name r whole shows =
     let same : whole.0 ≡ r = one_answer.reading format_limits img name whole.0 r whole.1 shows in
     inside_reached img r (subst (λ (s : Reading). IsReached img s.dataset) same whole.2)

@@ -14,3 +14,7 @@ pub mod SpliceLemmas
 pub mod SpliceReads
 pub mod PrefixLemmas
 pub mod DatasetReads
+pub mod PlaceLemmas
+pub mod ApartLemmas
+pub mod EndLemmas
+pub mod RangeLemmas

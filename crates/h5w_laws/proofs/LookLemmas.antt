@@ -84,31 +84,31 @@ taken_take old vs (suc n) [] h = tt
 taken_take old vs (suc n) (t ∷ ts) h = (h.0, taken_take old vs n ts h.1)
 
 -- what is seen of the later visits
-taken_behind : (old : List ℕ) (v : Visit) (vs : List Visit) (ts : List Taken) → AreTakenAs old (v ∷ vs) ts → AreTakenAs old vs ts
+pub taken_behind : (old : List ℕ) (v : Visit) (vs : List Visit) (ts : List Taken) → AreTakenAs old (v ∷ vs) ts → AreTakenAs old vs ts
 taken_behind old v vs [] h = tt
 taken_behind old v vs (t ∷ ts) h = (record { gave = h.0.gave; fits = h.0.fits; same = h.0.same.1 }, taken_behind old v vs ts h.1)
 
 -- a look that gave what its image has, in which a range is the same
-record IsPart (old : List ℕ) (place len : ℕ) (t : Taken) : Type 0 where
+pub record IsPart (old : List ℕ) (place len : ℕ) (t : Taken) : Type 0 where
   gave : IsLookAt t.image t.look
   same : range t.image place len ≡ range old place len
 
-parts_of : (old : List ℕ) (place len : ℕ) (vs : List Visit) (ts : List Taken) → AreTakenAs old (record { place = place; len = len; counts = all_of } ∷ vs) ts → AllByRecursion (IsPart old place len) ts
+pub parts_of : (old : List ℕ) (place len : ℕ) (vs : List Visit) (ts : List Taken) → AreTakenAs old (record { place = place; len = len; counts = all_of } ∷ vs) ts → AllByRecursion (IsPart old place len) ts
 parts_of old place len vs [] h = tt
 parts_of old place len vs (t ∷ ts) h = (record { gave = h.0.gave; same = h.0.same.0 }, parts_of old place len vs ts h.1)
 
 -- what is left after the looks at a range
-record Left {A : Type 0} (p : Prog A) (ts : List Taken) (a : A) : Type 0 where
+pub record Left {A : Type 0} (p : Prog A) (ts : List Taken) (a : A) : Type 0 where
   count : ℕ
   takes : Takes p (drop count (looks_of ts)) a
 
-after : {A : Type 0} (p : Prog A) (t : Taken) (ts : List Taken) (a : A) → Left p ts a → Left p (t ∷ ts) a
+pub after : {A : Type 0} (p : Prog A) (t : Taken) (ts : List Taken) (a : A) → Left p ts a → Left p (t ∷ ts) a
 after p t ts a h = record { count = suc h.count; takes = h.takes }
 
-left_along : {A : Type 0} (next : List ℕ → Prog A) (b c : List ℕ) (ts : List Taken) (a : A) → b ≡ c → Left (next b) ts a → Left (next c) ts a
+pub left_along : {A : Type 0} (next : List ℕ → Prog A) (b c : List ℕ) (ts : List Taken) (a : A) → b ≡ c → Left (next b) ts a → Left (next c) ts a
 left_along next b c ts a e h = subst (λ (x : List ℕ). Left (next x) ts a) e h
 
-takes_pieces : {A : Type 0} (old : List ℕ) (P L fuel place len : ℕ) (got : List ℕ) (next : List ℕ → Prog A) (ts : List Taken) (a : A)
+pub takes_pieces : {A : Type 0} (old : List ℕ) (P L fuel place len : ℕ) (got : List ℕ) (next : List ℕ → Prog A) (ts : List Taken) (a : A)
     → len ≤ 512 * fuel → P ≤ place → (0 < len → place + len ≤ P + L) → AllByRecursion (IsPart old P L) ts
     → Takes (pieces fuel place len got next) (looks_of ts) a → Left (next (got ++ range old place len)) ts a
 takes_pieces old P L zero place len got next ts a enough low high parts h =
@@ -141,7 +141,7 @@ takes_pieces {A} old P L (suc fuel) place (suc rest) got next (t ∷ ts) a enoug
     (subst (λ (b : List ℕ). Takes (onward b) (looks_of ts) a) here now.1))
 
 -- the looks at a range come to its bytes in the old image
-takes_cut_up : {A : Type 0} (old : List ℕ) (place len : ℕ) (vs : List Visit) (next : List ℕ → Prog A) (ts : List Taken) (a : A)
+pub takes_cut_up : {A : Type 0} (old : List ℕ) (place len : ℕ) (vs : List Visit) (next : List ℕ → Prog A) (ts : List Taken) (a : A)
     → length old ≤ 2 ^ 64 → AreTakenAs old (record { place = place; len = len; counts = all_of } ∷ vs) ts
     → Takes (cut_up place len next) (looks_of ts) a → Left (next (range old place len)) ts a
 takes_cut_up old place len vs next ts a fits taken h =
@@ -149,7 +149,7 @@ takes_cut_up old place len vs next ts a fits taken h =
     left_along next (range old place n) (range old place len) ts a (range_below old place len fits)
     (takes_pieces old place len (n / 512 + 1) place n [] next ts a (omega arith) (omega arith) (λ some. omega arith) (parts_of old place len vs ts taken) h)
 
-takes_left : {A : Type 0} (p : Prog A) (ts : List Taken) (a : A) (left : Left p ts a) → Takes p (looks_of (drop left.count ts)) a
+pub takes_left : {A : Type 0} (p : Prog A) (ts : List Taken) (a : A) (left : Left p ts a) → Takes p (looks_of (drop left.count ts)) a
 takes_left p ts a left = subst (λ (ls : List Look). Takes p ls a) (drop-map (λ (t : Taken). t.look) left.count ts) left.takes
 
 pub leaving_kept : {A : Type 0} (old : List ℕ) (cap : ℕ) (ks : List Kept) (p : Prog A) (ts : List Taken) (left : A × List Kept)
@@ -223,7 +223,7 @@ IsPlain (whole at len next) = (b : List ℕ) → IsPlain (next b)
 IsPlain (counted at counts next) = ⊥
 IsPlain (stored kind at len next) = ⊥
 
-plain_pieces : {A : Type 0} (fuel place len : ℕ) (got : List ℕ) (next : List ℕ → Prog A) → ((b : List ℕ) → IsPlain (next b)) → IsPlain (pieces fuel place len got next)
+pub plain_pieces : {A : Type 0} (fuel place len : ℕ) (got : List ℕ) (next : List ℕ → Prog A) → ((b : List ℕ) → IsPlain (next b)) → IsPlain (pieces fuel place len got next)
 plain_pieces zero place len got next h = h got
 plain_pieces (suc fuel) place zero got next h = h got
 plain_pieces {A} (suc fuel) place (suc rest) got next h =
@@ -231,7 +231,7 @@ plain_pieces {A} (suc fuel) place (suc rest) got next h =
     (λ t. plain_pieces fuel (place + 512) (suc rest - 512) (got ++ b) next h)
     (λ t. h (got ++ b))
 
-plain_cut_up : {A : Type 0} (place len : ℕ) (next : List ℕ → Prog A) → ((b : List ℕ) → IsPlain (next b)) → IsPlain (cut_up place len next)
+pub plain_cut_up : {A : Type 0} (place len : ℕ) (next : List ℕ → Prog A) → ((b : List ℕ) → IsPlain (next b)) → IsPlain (cut_up place len next)
 plain_cut_up place len next h = plain_pieces (below_end place len / 512 + 1) place (below_end place len) [] next h
 
 pub plain_lowered : {A : Type 0} (cap : ℕ) (ks : List Kept) (p : Prog A) → IsPlain (lowered cap ks p)
@@ -245,7 +245,7 @@ plain_lowered {A} cap ks (stored kind at len next) =
     (λ e. plain_cut_up at len (λ b. lowered cap (used cap kind at len b ks) (next b)) (λ b. plain_lowered cap (used cap kind at len b ks) (next b)))
 
 -- what is left after a look is left of the next program
-rest_whole : {A : Type 0} (place len : ℕ) (next : List ℕ → Prog A) (l : Look) (ls : List Look) (q : Prog A)
+pub rest_whole : {A : Type 0} (place len : ℕ) (next : List ℕ → Prog A) (l : Look) (ls : List Look) (q : Prog A)
     → rest_after (whole place len next) (l ∷ ls) ≡ Some q → ((l.place == place) && (l.len == len) ≡ true) × (rest_after (next l.bytes) ls ≡ Some q)
 rest_whole {A} place len next l ls q h =
     cond_both ((l.place == place) && (l.len == len)) (rest_after (next l.bytes) ls) None
@@ -284,14 +284,14 @@ lowered_ends img cap ks p ls q e =
     rest_append (lowered cap ks p) ls (looks_on img q) q e ∙ takes_on img q (plain_rest (lowered cap ks p) ls q (plain_lowered cap ks p) e)
 
 -- a look at an image that differs from the old one where nothing was looked at
-abbrev seen : Taken
+abbrev pub seen : Taken
 seen = record { look = record { place = 1; len = 2; bytes = 5 ∷ 6 ∷ [] }; image = 9 ∷ 5 ∷ 6 ∷ 7 ∷ [] }
 
-abbrev two_bytes : Prog (List ℕ)
+abbrev pub two_bytes : Prog (List ℕ)
 two_bytes = whole 1 2 ret
 
-seen_is_alike : AreTakenAs (4 ∷ 5 ∷ 6 ∷ []) (visits (4 ∷ 5 ∷ 6 ∷ []) two_bytes) (seen ∷ [])
+pub seen_is_alike : AreTakenAs (4 ∷ 5 ∷ 6 ∷ []) (visits (4 ∷ 5 ∷ 6 ∷ []) two_bytes) (seen ∷ [])
 seen_is_alike = (record { gave = refl; fits = omega arith; same = (refl, tt) }, tt)
 
-seen_is_all : Takes (lowered 1 [] two_bytes) (looks_of (seen ∷ [])) (5 ∷ 6 ∷ [])
+pub seen_is_all : Takes (lowered 1 [] two_bytes) (looks_of (seen ∷ [])) (5 ∷ 6 ∷ [])
 seen_is_all = refl

@@ -75,11 +75,11 @@ range_short img place m n short h =
 
 -- ---- A range in looks of 512 bytes, on one image
 
-pieces_none : {A : Type 0} (fuel place : ℕ) (got : List ℕ) (next : List ℕ → Prog A) → pieces fuel place 0 got next ≡ next got
+pub pieces_none : {A : Type 0} (fuel place : ℕ) (got : List ℕ) (next : List ℕ → Prog A) → pieces fuel place 0 got next ≡ next got
 pieces_none zero place got next = refl
 pieces_none (suc fuel) place got next = refl
 
-eval_pieces : {A : Type 0} (img : List ℕ) (fuel place len : ℕ) (got : List ℕ) (next : List ℕ → Prog A) → len ≤ 512 * fuel
+pub eval_pieces : {A : Type 0} (img : List ℕ) (fuel place len : ℕ) (got : List ℕ) (next : List ℕ → Prog A) → len ≤ 512 * fuel
     → eval img (pieces fuel place len got next) ≡ eval img (next (got ++ range img place len))
 eval_pieces img zero place len got next enough =
     let e : 0 ≡ len = omega arith in
@@ -96,7 +96,7 @@ eval_pieces {A} img (suc fuel) place (suc rest) got next enough =
     ∙ ap (λ (r : List ℕ). eval img (next (got ++ r))) (range_cut img place (suc rest) (eqb-true (length b) m full)))
     (λ short. ap (λ (r : List ℕ). eval img (next (got ++ r))) (range_short img place m (suc rest) (eqb-false (length b) m short) (omega arith)))
 
-eval_cut_up : {A : Type 0} (img : List ℕ) (place len : ℕ) (next : List ℕ → Prog A) → length img ≤ 2 ^ 64 → eval img (cut_up place len next) ≡ eval img (next (range img place len))
+pub eval_cut_up : {A : Type 0} (img : List ℕ) (place len : ℕ) (next : List ℕ → Prog A) → length img ≤ 2 ^ 64 → eval img (cut_up place len next) ≡ eval img (next (range img place len))
 eval_cut_up img place len next fits =
     let n : ℕ = below_end place len in
     eval_pieces img (n / 512 + 1) place n [] next (omega arith) ∙ ap (λ (b : List ℕ). eval img (next b)) (range_below img place len fits)
@@ -108,7 +108,7 @@ pub option_both : {X Y : Type 0} (o : Option X) (f : X → Y) (y : Y) (P : Y →
 option_both (Some x) f y P h g = h x refl
 option_both None f y P h g = g refl
 
-is_of_place : (kind place len : ℕ) (k : Kept) → is_of kind place len k ≡ true → (k.place ≡ place) × (k.len ≡ len)
+pub is_of_place : (kind place len : ℕ) (k : Kept) → is_of kind place len k ≡ true → (k.place ≡ place) × (k.len ≡ len)
 is_of_place kind place len k h =
     let both = and_parts ((k.kind == kind) && (k.place == place)) (k.len == len) h in
     (eqb-true k.place place (and_parts (k.kind == kind) (k.place == place) both.0).1, eqb-true k.len len both.1)
@@ -125,14 +125,14 @@ found_right img kind place len (k ∷ ks) b right e =
     (λ t s. found_right img kind place len ks b right.1 s)
     e
 
-others_right : (img : List ℕ) (kind place len : ℕ) (ks : List Kept) → AreRight img ks → AreRight img (others kind place len ks)
+pub others_right : (img : List ℕ) (kind place len : ℕ) (ks : List Kept) → AreRight img ks → AreRight img (others kind place len ks)
 others_right img kind place len [] right = tt
 others_right img kind place len (k ∷ ks) right =
     cond_both (is_of kind place len k) (others kind place len ks) (k ∷ others kind place len ks) (AreRight img)
     (λ t. others_right img kind place len ks right.1)
     (λ t. (right.0, others_right img kind place len ks right.1))
 
-take_right : (img : List ℕ) (n : ℕ) (ks : List Kept) → AreRight img ks → AreRight img (take n ks)
+pub take_right : (img : List ℕ) (n : ℕ) (ks : List Kept) → AreRight img ks → AreRight img (take n ks)
 take_right img zero ks right = tt
 take_right img (suc n) [] right = tt
 take_right img (suc n) (k ∷ ks) right = (right.0, take_right img n ks right.1)
@@ -182,11 +182,11 @@ leaving_still {A} img cap ks (stored kind at len next) fits right =
 
 -- ---- One program after another, lowered
 
-cond_apply : {X Y : Type 0} (f : X → Y) (b : Bool) (x y : X) → f (cond b x y) ≡ cond b (f x) (f y)
+pub cond_apply : {X Y : Type 0} (f : X → Y) (b : Bool) (x y : X) → f (cond b x y) ≡ cond b (f x) (f y)
 cond_apply f true x y = refl
 cond_apply f false x y = refl
 
-pieces_bind : {A B : Type 0} (fuel place len : ℕ) (got : List ℕ) (next : List ℕ → Prog A) (g : A → Prog B)
+pub pieces_bind : {A B : Type 0} (fuel place len : ℕ) (got : List ℕ) (next : List ℕ → Prog A) (g : A → Prog B)
     → bind (pieces fuel place len got next) g ≡ pieces fuel place len got (λ b. bind (next b) g)
 pieces_bind zero place len got next g = refl
 pieces_bind (suc fuel) place zero got next g = refl
@@ -196,15 +196,15 @@ pieces_bind {A} {B} (suc fuel) place (suc rest) got next g =
     ∙ ap (λ (q : Prog B). cond (length b == min 512 (suc rest)) q (bind (next (got ++ b)) g)) (pieces_bind fuel (place + 512) (suc rest - 512) (got ++ b) next g)
     ) i)
 
-cut_up_bind : {A B : Type 0} (place len : ℕ) (next : List ℕ → Prog A) (g : A → Prog B) → bind (cut_up place len next) g ≡ cut_up place len (λ b. bind (next b) g)
+pub cut_up_bind : {A B : Type 0} (place len : ℕ) (next : List ℕ → Prog A) (g : A → Prog B) → bind (cut_up place len next) g ≡ cut_up place len (λ b. bind (next b) g)
 cut_up_bind place len next g = pieces_bind (below_end place len / 512 + 1) place (below_end place len) [] next g
 
-found_bind : {A B : Type 0} (o : Option (List ℕ)) (f : List ℕ → Prog A) (y : Prog A) (g : A → Prog B)
+pub found_bind : {A B : Type 0} (o : Option (List ℕ)) (f : List ℕ → Prog A) (y : Prog A) (g : A → Prog B)
     → bind (elim o as (λ _. Prog A) [ Some b ↦ f b | None ↦ y ]) g ≡ elim o as (λ _. Prog B) [ Some b ↦ bind (f b) g | None ↦ bind y g ]
 found_bind (Some b) f y g = refl
 found_bind None f y g = refl
 
-found_alike : {B : Type 0} (o : Option (List ℕ)) (f g : List ℕ → Prog B) (x y : Prog B) → ((b : List ℕ) → f b ≡ g b) → x ≡ y
+pub found_alike : {B : Type 0} (o : Option (List ℕ)) (f g : List ℕ → Prog B) (x y : Prog B) → ((b : List ℕ) → f b ≡ g b) → x ≡ y
     → elim o as (λ _. Prog B) [ Some b ↦ f b | None ↦ x ] ≡ elim o as (λ _. Prog B) [ Some b ↦ g b | None ↦ y ]
 found_alike (Some b) f g x y h e = h b
 found_alike None f g x y h e = e

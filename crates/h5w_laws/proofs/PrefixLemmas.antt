@@ -18,13 +18,13 @@ use Rattle.h5w_model.proofs.NumberLemmas.{field-take}
 -- ---- Where the messages begin
 
 -- 6 bytes or more stand before the size, and 20 more at most
-flag_bytes : (f g : Bool) → cond f 16 0 + cond g 4 0 ≤ 20
+pub flag_bytes : (f g : Bool) → cond f 16 0 + cond g 4 0 ≤ 20
 flag_bytes true true = lit≤ tt
 flag_bytes true false = lit≤ tt
 flag_bytes false true = lit≤ tt
 flag_bytes false false = lit≤ tt
 
-place_within : (flags : ℕ) → (7 ≤ messages_place flags) × (messages_place flags ≤ 34)
+pub place_within : (flags : ℕ) → (7 ≤ messages_place flags) × (messages_place flags ≤ 34)
 place_within flags =
     let few = flag_bytes (has flags 0x20) (has flags 0x10) in
     let width = size_width-within flags in
@@ -33,17 +33,17 @@ place_within flags =
 -- ---- The bytes that say it
 
 -- the same is said in both
-record Agree (b c : List ℕ) : Type 0 where
+pub record Agree (b c : List ℕ) : Type 0 where
   flags : header_flags c ≡ header_flags b
   signature : starts_with nat_eq c header_signature ≡ starts_with nat_eq b header_signature
   version : field c 4 1 ≡ field b 4 1
   size : chunk_size c ≡ chunk_size b
 
-agree_back : (b c : List ℕ) → Agree b c → Agree c b
+pub agree_back : (b c : List ℕ) → Agree b c → Agree c b
 agree_back b c a = record { flags = sym a.flags; signature = sym a.signature; version = sym a.version; size = sym a.size }
 
 -- the first bytes, up to the messages
-front_agrees : (b : List ℕ) (n : ℕ) → messages_place (header_flags b) ≤ n → Agree b (take n b)
+pub front_agrees : (b : List ℕ) (n : ℕ) → messages_place (header_flags b) ≤ n → Agree b (take n b)
 front_agrees b n enough =
     let within = place_within (header_flags b) in
     let six : 6 ≤ n = omega arith in
@@ -56,19 +56,19 @@ front_agrees b n enough =
     }
 
 -- the tests that pass, and what it says
-record Says (b : List ℕ) (p : Prefix) : Type 0 where
+pub record Says (b : List ℕ) (p : Prefix) : Type 0 where
   signature : starts_with nat_eq b header_signature ≡ true
   version : eqb (field b 4 1) 2 ≡ true
   long : messages_place (header_flags b) ≤ length b
   fields : prefix_fields b ≡ p
 
-says : (b : List ℕ) (p : Prefix) → prefix_at b ≡ Ok p → Says b p
+pub says : (b : List ℕ) (p : Prefix) → prefix_at b ≡ Ok p → Says b p
 unfolding prefix_at
 says b p e =
     let t = checked-passed (prefix_tests b) (prefix_fields b) p e in
     record { signature = t.0.1.0; version = t.0.1.1.0; long = leb-true (messages_place (header_flags b)) (length b) t.0.1.1.1.0; fields = t.1 }
 
-said : (b : List ℕ) (p : Prefix) → Says b p → prefix_at b ≡ Ok p
+pub said : (b : List ℕ) (p : Prefix) → Says b p → prefix_at b ≡ Ok p
 unfolding prefix_at
 said b p s =
     let within = place_within (header_flags b) in
@@ -76,10 +76,10 @@ said b p s =
     checked-ok (prefix_tests b) (prefix_fields b) (le-leb 6 (length b) (omega arith), (s.signature, (s.version, (le-leb (messages_place (header_flags b)) (length b) s.long, tt))))
     ∙ ap (λ (q : Prefix). Ok q) s.fields
 
-fields_by : ℕ → ℕ → Prefix
+pub fields_by : ℕ → ℕ → Prefix
 fields_by flags size = record { total = min (messages_place flags + size + 4) (2 ^ 64 - 1); at = messages_place flags; len = size; tracked = has flags 4 }
 
-says_too : (b c : List ℕ) (p : Prefix) → Agree b c → p.at ≤ length c → Says b p → Says c p
+pub says_too : (b c : List ℕ) (p : Prefix) → Agree b c → p.at ≤ length c → Says b p → Says c p
 unfolding fields_by
 says_too b c p a enough s =
     let place : messages_place (header_flags b) ≡ p.at = ap (λ (q : Prefix). q.at) s.fields in
@@ -130,14 +130,14 @@ prefix_whole b n p e =
 
 -- ---- What counts of a look
 
-abbrev is_prefix : Prefix → Result Prefix HeaderError
+abbrev pub is_prefix : Prefix → Result Prefix HeaderError
 is_prefix p = Ok p
 
-one_prefix : (p q : Prefix) → is_prefix q ≡ is_prefix p → q ≡ p
+pub one_prefix : (p q : Prefix) → is_prefix q ≡ is_prefix p → q ≡ p
 one_prefix p q e = cc
 
 -- the view of bytes by what they begin with
-view_by : List ℕ → Result Prefix HeaderError → List ℕ
+pub view_by : List ℕ → Result Prefix HeaderError → List ℕ
 view_by b r = elim r [
   | Err e ↦ elim e [
     | Signature ↦ take 5 b ++ 0 ∷ []
@@ -147,12 +147,12 @@ view_by b r = elim r [
   | Ok p ↦ cond (nat_lt 512 p.total) (b ++ zeros (512 - length b)) (take p.total b)
 ]
 
-view_is : (b : List ℕ) → header_view b ≡ view_by b (prefix_at b)
+pub view_is : (b : List ℕ) → header_view b ≡ view_by b (prefix_at b)
 unfolding header_view view_by
 view_is b = refl
 
 -- six bytes are less than what stands before the messages
-too_short : (b : List ℕ) (p : Prefix) → prefix_at (take 5 b ++ 0 ∷ []) ≡ Ok p → prefix_at b ≡ Ok p
+pub too_short : (b : List ℕ) (p : Prefix) → prefix_at (take 5 b ++ 0 ∷ []) ≡ Ok p → prefix_at b ≡ Ok p
 too_short b p e =
     let s = says (take 5 b ++ 0 ∷ []) p e in
     let within = place_within (header_flags (take 5 b ++ 0 ∷ [])) in
@@ -162,7 +162,7 @@ too_short b p e =
     absurd (omega arith)
 
 -- bytes that are refused have a view that is refused
-no_view : (b : List ℕ) (e : HeaderError) (p : Prefix) → prefix_at (view_by b (Err e)) ≡ Ok p → prefix_at b ≡ Ok p
+pub no_view : (b : List ℕ) (e : HeaderError) (p : Prefix) → prefix_at (view_by b (Err e)) ≡ Ok p → prefix_at b ≡ Ok p
 unfolding view_by
 no_view b Signature p h = too_short b p h
 no_view b (Version n) p h = too_short b p h
@@ -172,7 +172,7 @@ no_view b _ p h = h
 abbrev pub IsCut : List ℕ → List ℕ → Prefix → Type 0
 IsCut b view p = (512 < p.total) ⊎ (p.total ≤ 512) × (view ≡ take p.total b)
 
-view_cases : (b : List ℕ) (q p : Prefix) → prefix_at b ≡ Ok q → prefix_at (view_by b (Ok q)) ≡ Ok p → (prefix_at b ≡ Ok p) × IsCut b (view_by b (Ok q)) p
+pub view_cases : (b : List ℕ) (q p : Prefix) → prefix_at b ≡ Ok q → prefix_at (view_by b (Ok q)) ≡ Ok p → (prefix_at b ≡ Ok p) × IsCut b (view_by b (Ok q)) p
 unfolding view_by
 view_cases b q p e h = go (cases_lt 512 q.total)
   where
@@ -196,7 +196,7 @@ view_cases b q p e h = go (cases_lt 512 q.total)
         let w : prefix_at b ≡ Ok p = prefix_whole b q.total p (ap (λ (xs : List ℕ). prefix_at xs) (sym (short l)) ∙ h) in
         (w, inr (subst (λ (r : Prefix). (r.total ≤ 512) × (view_by b (Ok q) ≡ take r.total b)) (is_whole w) (l, short l)))
 
-view_found : (b : List ℕ) (r : Result Prefix HeaderError) (p : Prefix) → prefix_at b ≡ r → prefix_at (view_by b r) ≡ Ok p → (prefix_at b ≡ Ok p) × IsCut b (view_by b r) p
+pub view_found : (b : List ℕ) (r : Result Prefix HeaderError) (p : Prefix) → prefix_at b ≡ r → prefix_at (view_by b r) ≡ Ok p → (prefix_at b ≡ Ok p) × IsCut b (view_by b r) p
 view_found b (Ok q) p e h = view_cases b q p e h
 view_found b (Err f) p e h = refused (sym e ∙ no_view b f p h)
   where
@@ -220,14 +220,14 @@ header_view_short b p e short =
 abbrev pub IsRootView : List ℕ → List ℕ → Prefix → Type 0
 IsRootView b view p = (512 < p.total) × (view ≡ b) ⊎ (p.total ≤ 512) × (view ≡ take p.total b)
 
-root_by : List ℕ → Result Prefix HeaderError → List ℕ
+pub root_by : List ℕ → Result Prefix HeaderError → List ℕ
 root_by b r = elim r [ Ok p ↦ cond (nat_lt 512 p.total) b (header_view b) | Err e ↦ header_view b ]
 
-root_is : (b : List ℕ) → root_view b ≡ root_by b (prefix_at b)
+pub root_is : (b : List ℕ) → root_view b ≡ root_by b (prefix_at b)
 unfolding root_by
 root_is b = refl
 
-root_says : (b : List ℕ) (p : Prefix) → prefix_at b ≡ Ok p → IsRootView b (root_by b (Ok p)) p
+pub root_says : (b : List ℕ) (p : Prefix) → prefix_at b ≡ Ok p → IsRootView b (root_by b (Ok p)) p
 unfolding root_by
 root_says b p e = go (cases_lt 512 p.total)
   where
@@ -239,7 +239,7 @@ pub root_view_says : (b : List ℕ) (p : Prefix) → prefix_at b ≡ Ok p → Is
 root_view_says b p e = subst (λ (v : List ℕ). IsRootView b v p) (sym (root_is b ∙ ap (λ (r : Result Prefix HeaderError). root_by b r) e)) (root_says b p e)
 
 -- a view that says something says what the bytes say
-root_whole : (b : List ℕ) (r : Result Prefix HeaderError) (p : Prefix) → prefix_at b ≡ r → prefix_at (root_by b r) ≡ Ok p → prefix_at b ≡ Ok p
+pub root_whole : (b : List ℕ) (r : Result Prefix HeaderError) (p : Prefix) → prefix_at b ≡ r → prefix_at (root_by b r) ≡ Ok p → prefix_at b ≡ Ok p
 unfolding root_by
 root_whole b (Err e) p is h = (header_view_found b p h).0
 root_whole b (Ok q) p is h = go (cases_lt 512 q.total)

@@ -13,7 +13,7 @@ eval_bind img (whole at len next) f = eval_bind img (next (range img at len)) f
 eval_bind img (counted at counts next) f = eval_bind img (next (counts (range img at 512))) f
 eval_bind img (stored kind at len next) f = eval_bind img (next (range img at len)) f
 
-eval_choice : {A B E : Type 0} (img : List ℕ) (r : Result A E) (f : A → Prog (Result B E))
+pub eval_choice : {A B E : Type 0} (img : List ℕ) (r : Result A E) (f : A → Prog (Result B E))
     → eval img (elim r as (λ _. Prog (Result B E)) [ Ok a ↦ f a | Err e ↦ ret (Err e) ]) ≡ then_also r (λ a. eval img (f a))
 eval_choice img (Ok a) f = refl
 eval_choice img (Err e) f = refl

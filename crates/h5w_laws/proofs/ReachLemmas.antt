@@ -28,12 +28,12 @@ pub record Reaches {A : Type 0} (img : List ℕ) (p : Prog (Result A ReadError))
 pub reaches_ret : {A : Type 0} (img : List ℕ) (a : A) → Reaches img (ret (Ok a))
 reaches_ret img a = record { answer = a; is = refl; inside = tt }
 
-reaches_stored : {A : Type 0} (img : List ℕ) (kind place len : ℕ) (next : List ℕ → Prog (Result A ReadError)) → place + len ≤ length img
+pub reaches_stored : {A : Type 0} (img : List ℕ) (kind place len : ℕ) (next : List ℕ → Prog (Result A ReadError)) → place + len ≤ length img
     → Reaches img (next (range img place len)) → Reaches img (stored kind place len next)
 reaches_stored img kind place len next fits h = record { answer = h.answer; is = h.is; inside = (fits, h.inside) }
 
 -- a program that goes on with what was decoded
-along_ok : {A B E : Type 0} (img : List ℕ) (r : Result A E) (f : A → Prog (Result B ReadError)) (g : E → ReadError) (a : A) → r ≡ Ok a → Reaches img (f a)
+pub along_ok : {A B E : Type 0} (img : List ℕ) (r : Result A E) (f : A → Prog (Result B ReadError)) (g : E → ReadError) (a : A) → r ≡ Ok a → Reaches img (f a)
     → Reaches img (elim r as (λ _. Prog (Result B ReadError)) [ Ok a ↦ f a | Err e ↦ ret (Err (g e)) ])
 along_ok {A} {B} {E} img r f g a e h =
     subst (λ (x : Result A E). Reaches img (elim x as (λ _. Prog (Result B ReadError)) [ Ok a ↦ f a | Err e ↦ ret (Err (g e)) ])) (sym e) h
@@ -53,7 +53,7 @@ block_ok img end place n visit us h =
     h
 
 -- a node that is visited
-node_ok : (img : List ℕ) (end place len : ℕ) (visit : List ℕ → Prog (Result Under Finding)) (u : Under)
+pub node_ok : (img : List ℕ) (end place len : ℕ) (visit : List ℕ → Prog (Result Under Finding)) (u : Under)
     → eval img (if nat_lt end (place + node_size) then ret (Err (found 18 place)) else whole place len visit) ≡ Ok u → eval img (visit (range img place len)) ≡ Ok u
 node_ok img end place len visit u h =
     cond_both (nat_lt end (place + node_size)) (ret (Err (found 18 place))) (whole place len visit)
@@ -67,7 +67,7 @@ both_ok img p q us h =
     ((a.0, a.1), (b.0, b.1))
 
 -- each of several visits
-each_ok : (img : List ℕ) (visit : ℕ → Visited) (places : List ℕ) (us : List Used) (k : ℕ) → eval img (visit_each visit places) ≡ Ok us → k < length places
+pub each_ok : (img : List ℕ) (visit : ℕ → Visited) (places : List ℕ) (us : List Used) (k : ℕ) → eval img (visit_each visit places) ≡ Ok us → k < length places
     → Found (eval img (visit (get_or places k undefined)))
 each_ok img visit [] us k h lt = absurd (omega arith)
 each_ok img visit (a ∷ rest) us zero h lt = (both_ok img (visit a) (visit_each visit rest) us h).0
@@ -77,10 +77,10 @@ each_ok img visit (a ∷ rest) us (suc k) h lt =
 
 -- ---- The extensible array
 
-no_slot : (img : List ℕ) (n slot : ℕ) → Reaches img (data_slot undefined n slot)
+pub no_slot : (img : List ℕ) (n slot : ℕ) → Reaches img (data_slot undefined n slot)
 no_slot img n slot = reaches_ret img undefined
 
-slot_reached : (img : List ℕ) (end bytes n place : ℕ) (us : List Used) (slot : ℕ) → eval img (data_block_visit end bytes n place) ≡ Ok us → Reaches img (data_slot place n slot)
+pub slot_reached : (img : List ℕ) (end bytes n place : ℕ) (us : List Used) (slot : ℕ) → eval img (data_block_visit end bytes n place) ≡ Ok us → Reaches img (data_slot place n slot)
 slot_reached img end bytes n place us slot h =
     let b : List ℕ = range img place (slots_len n) in
     let visit : List ℕ → Visited = λ b. elim (eadb_at b place n) as (λ _. Visited) [ Ok d ↦ ret (chunk_ranges end bytes d.slots) | Err f ↦ ret (Err (found 13 place)) ] in
@@ -99,7 +99,7 @@ slot_reached img end bytes n place us slot h =
     }))
 
 -- the slot of an address in a list, where each of the list is visited
-listed_reached : (img : List ℕ) (n slot : ℕ) (places : List ℕ) (k : ℕ)
+pub listed_reached : (img : List ℕ) (n slot : ℕ) (places : List ℕ) (k : ℕ)
     → (k < length places → Reaches img (data_slot (get_or places k undefined) n slot)) → Reaches img (data_slot (get_or places k undefined) n slot)
 listed_reached img n slot places k h =
     elim (cases_lt k (length places)) [
@@ -107,7 +107,7 @@ listed_reached img n slot places k h =
       | inr past ↦ subst (λ a. Reaches img (data_slot a n slot)) (sym (get_or_past places k undefined past)) (no_slot img n slot)
     ]
 
-secondary_reached : (img : List ℕ) (end bytes sblock place : ℕ) (us : List Used) (block slot : ℕ) → eval img (secondary_block_visit end bytes sblock place) ≡ Ok us
+pub secondary_reached : (img : List ℕ) (end bytes sblock place : ℕ) (us : List Used) (block slot : ℕ) → eval img (secondary_block_visit end bytes sblock place) ≡ Ok us
     → Reaches img (secondary_slot place sblock block slot)
 secondary_reached img end bytes sblock place us block slot h =
     let n : ℕ = (super_block_of sblock).blocks in
@@ -131,7 +131,7 @@ secondary_reached img end bytes sblock place us block slot h =
     slot_reached img end bytes m (get_or decoded.0.slots block undefined) v.0 slot v.1))))
 
 -- the data blocks that the index block names
-first_ok : (img : List ℕ) (end bytes block : ℕ) (places : List ℕ) (us : List Used) (k : ℕ) → eval img (first_visits end bytes block places) ≡ Ok us → k < length places
+pub first_ok : (img : List ℕ) (end bytes block : ℕ) (places : List ℕ) (us : List Used) (k : ℕ) → eval img (first_visits end bytes block places) ≡ Ok us → k < length places
     → Found (eval img (data_block_visit end bytes (super_block_of (super_block_of_first (block + k))).slots (get_or places k undefined)))
 first_ok img end bytes block [] us k h lt = absurd (omega arith)
 first_ok img end bytes block (a ∷ rest) us zero h lt =
@@ -144,7 +144,7 @@ first_ok img end bytes block (a ∷ rest) us (suc k) h lt =
     subst (λ n. Found (eval img (data_block_visit end bytes (super_block_of (super_block_of_first n)).slots (get_or rest k undefined)))) e
     (first_ok img end bytes (block + 1) rest parts.1.0 k parts.1.1 (omega arith))
 
-second_parts : (img : List ℕ) (end bytes sblock a : ℕ) (rest : List ℕ) (us : List Used) → eval img (second_visits end bytes sblock (a ∷ rest)) ≡ Ok us → sblock ≤ 12
+pub second_parts : (img : List ℕ) (end bytes sblock a : ℕ) (rest : List ℕ) (us : List Used) → eval img (second_visits end bytes sblock (a ∷ rest)) ≡ Ok us → sblock ≤ 12
     → Found (eval img (secondary_block_visit end bytes sblock a)) × Found (eval img (second_visits end bytes (sblock + 1) rest))
 second_parts img end bytes sblock a rest us h low =
     let more : Visited = both (secondary_block_visit end bytes sblock a) (second_visits end bytes (sblock + 1) rest) in
@@ -152,7 +152,7 @@ second_parts img end bytes sblock a rest us h low =
     (ap (eval img) (sym (cond-false (nat_lt 12 sblock) (ret (Ok [])) more (le-ltb 12 sblock low))) ∙ h)
 
 -- the secondary blocks of super blocks up to 12
-second_ok : (img : List ℕ) (end bytes sblock : ℕ) (places : List ℕ) (us : List Used) (k : ℕ) → eval img (second_visits end bytes sblock places) ≡ Ok us → k < length places → sblock + k ≤ 12
+pub second_ok : (img : List ℕ) (end bytes sblock : ℕ) (places : List ℕ) (us : List Used) (k : ℕ) → eval img (second_visits end bytes sblock places) ≡ Ok us → k < length places → sblock + k ≤ 12
     → Found (eval img (secondary_block_visit end bytes (sblock + k) (get_or places k undefined)))
 second_ok img end bytes sblock [] us k h lt low = absurd (omega arith)
 second_ok img end bytes sblock (a ∷ rest) us zero h lt low =
@@ -165,12 +165,12 @@ second_ok img end bytes sblock (a ∷ rest) us (suc k) h lt low =
     (second_ok img end bytes (sblock + 1) rest later.0 k later.1 (omega arith) (omega arith))
 
 -- where the slot of a chunk stands: in a super block up to 12
-abbrev IsNear : Place → Type 0
+abbrev pub IsNear : Place → Type 0
 IsNear (Index slot) = Unit {0}
 IsNear (Direct block slot) = Unit {0}
 IsNear (Second sblock block slot) = (4 ≤ sblock) × (sblock ≤ 12)
 
-halvings_below : (n m k : ℕ) → m < 2 ^ suc k → halvings n m ≤ k
+pub halvings_below : (n m k : ℕ) → m < 2 ^ suc k → halvings n m ≤ k
 unfolding halvings
 halvings_below zero m k h = omega arith
 halvings_below (suc n) m zero h =
@@ -182,7 +182,7 @@ halvings_below (suc n) m (suc k) h =
     (λ t. omega arith)
     (λ t. omega (arith, halvings_below n (m / 2) k (omega arith)))
 
-near_place : (i : ℕ) → i < 131060 → IsNear (place_of i)
+pub near_place : (i : ℕ) → i < 131060 → IsNear (place_of i)
 near_place i h =
     let p = slot_place_of (i - 4) in
     cond_both (nat_lt i 4) (Index i) (named_place p) IsNear (λ t. tt)
@@ -194,7 +194,7 @@ pub record IndexVisits (img : List ℕ) (end bytes : ℕ) (e : EaibFields) : Typ
   pub first : Found (eval img (first_visits end bytes 0 e.first))
   pub second : Found (eval img (second_visits end bytes 4 e.second))
 
-slot_from : (img : List ℕ) (end bytes : ℕ) (e : EaibFields) → IndexVisits img end bytes e → (place : Place) → IsNear place
+pub slot_from : (img : List ℕ) (end bytes : ℕ) (e : EaibFields) → IndexVisits img end bytes e → (place : Place) → IsNear place
     → Reaches img (elim place as (λ _. Prog (Result ℕ ReadError)) [
       | Index slot ↦ ret (Ok (get_or e.slots slot undefined))
       | Direct block slot ↦ data_slot (get_or e.first block undefined) (super_block_of (super_block_of_first block)).slots slot
@@ -226,7 +226,7 @@ array_reached img end bytes e i v h = slot_from img end bytes e v (place_of i) (
 -- ---- The tree
 
 -- an inner node, each of whose children is visited
-node_reached : (img : List ℕ) (end bytes : ℕ) (visit : ChildFields → Prog (Result Under Finding)) (look : ChildFields → Prog (Result ℕ ReadError)) (key : Key) (rs : List RecordFields) (cs : List ChildFields)
+pub node_reached : (img : List ℕ) (end bytes : ℕ) (visit : ChildFields → Prog (Result Under Finding)) (look : ChildFields → Prog (Result ℕ ReadError)) (key : Key) (rs : List RecordFields) (cs : List ChildFields)
     → ((c : ChildFields) → Found (eval img (visit c)) → Reaches img (look c)) → Found (eval img (children_under end bytes visit rs cs)) → Reaches img (in_node look key rs cs)
 node_reached img end bytes visit look key [] [] go h = reaches_ret img undefined
 node_reached img end bytes visit look key (r ∷ rs) [] go h = reaches_ret img undefined

@@ -38,10 +38,10 @@ where_other {A} img a b p q x n h = go (eqb_tells a b)
     go (inr t) = ap (λ (c : Bool). eval img (cond c p q)) t.0 ∙ h
 
 -- an answer of a reader
-abbrev of_reader : ℕ → Result ℕ ReadError
+abbrev pub of_reader : ℕ → Result ℕ ReadError
 of_reader a = Ok a
 
-answered : (a b : ℕ) → of_reader a ≡ of_reader b → b ≡ a
+pub answered : (a b : ℕ) → of_reader a ≡ of_reader b → b ≡ a
 answered a b h = cc
 
 pub refused_from : {A E F : Type 0} (f : E → F) (r : Result A E) (a : A) → r ≡ Ok a → refused_as f r ≡ Ok a
@@ -49,7 +49,7 @@ refused_from f r a h = ap (refused_as f) h
 
 -- ---- A data block
 
-data_found : (img : List ℕ) (address n slot x : ℕ) → eval img (data_slot address n slot) ≡ Ok x → DataSlot img address n slot x
+pub data_found : (img : List ℕ) (address n slot x : ℕ) → eval img (data_slot address n slot) ≡ Ok x → DataSlot img address n slot x
 data_found img address n slot x h = go (by_test img address undefined (ret (Ok undefined)) (stored data_block address (slots_len n) (λ b. ret (then_also (refused_as (Damaged address) (eadb_at b address n)) (λ d. Ok (get_or d.slots slot undefined))))) (Ok x) h)
   where
     go : (address ≡ undefined) × (of_reader undefined ≡ of_reader x) ⊎ (address ≢ undefined) × (then_also (refused_as (Damaged address) (eadb_at (range img address (slots_len n)) address n)) (λ d. Ok (get_or d.slots slot undefined)) ≡ Ok x)
@@ -59,7 +59,7 @@ data_found img address n slot x h = go (by_test img address undefined (ret (Ok u
         let d = then_ok (refused_as (Damaged address) (eadb_at (range img address (slots_len n)) address n)) (λ d. Ok (get_or d.slots slot undefined)) x t.1 in
         inr (d.0, t.0, refused_ok (Damaged address) (eadb_at (range img address (slots_len n)) address n) d.0 d.1, answered (get_or (d.0).slots slot undefined) x d.2)
 
-data_read : (img : List ℕ) (address n slot x : ℕ) → DataSlot img address n slot x → eval img (data_slot address n slot) ≡ Ok x
+pub data_read : (img : List ℕ) (address n slot x : ℕ) → DataSlot img address n slot x → eval img (data_slot address n slot) ≡ Ok x
 data_read img address n slot x (inl t) = where_equal img address undefined (ret (Ok undefined)) (stored data_block address (slots_len n) (λ b. ret (then_also (refused_as (Damaged address) (eadb_at b address n)) (λ d. Ok (get_or d.slots slot undefined))))) (Ok x) t.0 (ap Ok (sym t.1))
 data_read img address n slot x (inr t) =
     where_other img address undefined (ret (Ok undefined)) (stored data_block address (slots_len n) (λ b. ret (then_also (refused_as (Damaged address) (eadb_at b address n)) (λ d. Ok (get_or d.slots slot undefined))))) (Ok x) t.1
@@ -68,7 +68,7 @@ data_read img address n slot x (inr t) =
 
 -- ---- A secondary block
 
-second_found : (img : List ℕ) (address sblock block slot x : ℕ) → eval img (secondary_slot address sblock block slot) ≡ Ok x → SecondarySlot img address sblock block slot x
+pub second_found : (img : List ℕ) (address sblock block slot x : ℕ) → eval img (secondary_slot address sblock block slot) ≡ Ok x → SecondarySlot img address sblock block slot x
 second_found img address sblock block slot x h = go (by_test img address undefined (ret (Ok undefined)) (stored secondary_block address (slots_len (super_block_of sblock).blocks) (λ b. elim (easb_at b address (super_block_of sblock).blocks) as (λ _. Prog (Result ℕ ReadError)) [ Ok s ↦ data_slot (get_or s.slots block undefined) (super_block_of sblock).slots slot | Err f ↦ ret (Err (Damaged address f)) ])) (Ok x) h)
   where
     go : (address ≡ undefined) × (of_reader undefined ≡ of_reader x)
@@ -84,7 +84,7 @@ second_found img address sblock block slot x h = go (by_test img address undefin
         (λ (s : SlotsFields). data_slot (get_or s.slots block undefined) (super_block_of sblock).slots slot) (Damaged address) x t.1 in
         inr (s.0, t.0, s.1, data_found img (get_or (s.0).slots block undefined) (super_block_of sblock).slots slot x s.2)
 
-second_read : (img : List ℕ) (address sblock block slot x : ℕ) → SecondarySlot img address sblock block slot x → eval img (secondary_slot address sblock block slot) ≡ Ok x
+pub second_read : (img : List ℕ) (address sblock block slot x : ℕ) → SecondarySlot img address sblock block slot x → eval img (secondary_slot address sblock block slot) ≡ Ok x
 second_read img address sblock block slot x (inl t) = where_equal img address undefined (ret (Ok undefined)) (stored secondary_block address (slots_len (super_block_of sblock).blocks) (λ b. elim (easb_at b address (super_block_of sblock).blocks) as (λ _. Prog (Result ℕ ReadError)) [ Ok s ↦ data_slot (get_or s.slots block undefined) (super_block_of sblock).slots slot | Err f ↦ ret (Err (Damaged address f)) ])) (Ok x) t.0 (ap Ok (sym t.1))
 second_read img address sblock block slot x (inr t) =
     where_other img address undefined (ret (Ok undefined)) (stored secondary_block address (slots_len (super_block_of sblock).blocks) (λ b. elim (easb_at b address (super_block_of sblock).blocks) as (λ _. Prog (Result ℕ ReadError)) [ Ok s ↦ data_slot (get_or s.slots block undefined) (super_block_of sblock).slots slot | Err f ↦ ret (Err (Damaged address f)) ])) (Ok x) t.1
@@ -94,51 +94,51 @@ second_read img address sblock block slot x (inr t) =
 
 -- ---- The slot at a place
 
-slot_program : EaibFields → Place → Prog (Result ℕ ReadError)
+pub slot_program : EaibFields → Place → Prog (Result ℕ ReadError)
 slot_program e p = elim p [
   | Index slot ↦ ret (Ok (get_or e.slots slot undefined))
   | Direct block slot ↦ data_slot (get_or e.first block undefined) (super_block_of (super_block_of_first block)).slots slot
   | Second sblock block slot ↦ secondary_slot (get_or e.second (sblock - 4) undefined) sblock block slot
 ]
 
-slot_found : (img : List ℕ) (e : EaibFields) (p : Place) (x : ℕ) → eval img (slot_program e p) ≡ Ok x → SlotAt img e p x
+pub slot_found : (img : List ℕ) (e : EaibFields) (p : Place) (x : ℕ) → eval img (slot_program e p) ≡ Ok x → SlotAt img e p x
 unfolding slot_program
 slot_found img e (Index slot) x h = answered (get_or e.slots slot undefined) x h
 slot_found img e (Direct block slot) x h = data_found img (get_or e.first block undefined) (super_block_of (super_block_of_first block)).slots slot x h
 slot_found img e (Second sblock block slot) x h = second_found img (get_or e.second (sblock - 4) undefined) sblock block slot x h
 
-slot_read : (img : List ℕ) (e : EaibFields) (p : Place) (x : ℕ) → SlotAt img e p x → eval img (slot_program e p) ≡ Ok x
+pub slot_read : (img : List ℕ) (e : EaibFields) (p : Place) (x : ℕ) → SlotAt img e p x → eval img (slot_program e p) ≡ Ok x
 unfolding slot_program
 slot_read img e (Index slot) x h = ap Ok (sym h)
 slot_read img e (Direct block slot) x h = data_read img (get_or e.first block undefined) (super_block_of (super_block_of_first block)).slots slot x h
 slot_read img e (Second sblock block slot) x h = second_read img (get_or e.second (sblock - 4) undefined) sblock block slot x h
 
-array_slot_is : (e : EaibFields) (i : ℕ) → array_slot e i ≡ slot_program e (place_of i)
+pub array_slot_is : (e : EaibFields) (i : ℕ) → array_slot e i ≡ slot_program e (place_of i)
 unfolding slot_program
 array_slot_is e i = refl
 
 -- ---- The array
 
 -- the blocks in place, from what the array's header says
-block_program : EahdFields → Prog (Result InPlace ReadError)
+pub block_program : EahdFields → Prog (Result InPlace ReadError)
 block_program a =
     cond (eqb a.block undefined) (ret (Ok nowhere))
     (whole a.block eaib_len (λ b. ret (then_also (refused_as (Damaged a.block) (eaib_at b a.block)) (λ e. Ok (in_array e)))))
 
-abbrev in_place_as : InPlace → Result InPlace ReadError
+abbrev pub in_place_as : InPlace → Result InPlace ReadError
 in_place_as p = Ok p
 
-same_place : (p q : InPlace) → in_place_as p ≡ in_place_as q → q ≡ p
+pub same_place : (p q : InPlace) → in_place_as p ≡ in_place_as q → q ≡ p
 same_place p q h = cc
 
-abbrev number_key : ℕ → Key
+abbrev pub number_key : ℕ → Key
 number_key i' = record { i = i'; j = 0 }
 
 -- what the blocks in place are, by the header
-BlockCases : List ℕ → EahdFields → InPlace → Type 0
+pub BlockCases : List ℕ → EahdFields → InPlace → Type 0
 BlockCases img a p = (a.block ≡ undefined) × (p ≡ nowhere) ⊎ (e : EaibFields) × (a.block ≢ undefined) × IsIndexBlock img a.block e × (p ≡ in_array e)
 
-block_found : (img : List ℕ) (a : EahdFields) (p : InPlace) → eval img (block_program a) ≡ Ok p → BlockCases img a p
+pub block_found : (img : List ℕ) (a : EahdFields) (p : InPlace) → eval img (block_program a) ≡ Ok p → BlockCases img a p
 unfolding block_program BlockCases
 block_found img a p h = go (by_test img a.block undefined (ret (Ok nowhere)) (whole a.block eaib_len (λ b. ret (then_also (refused_as (Damaged a.block) (eaib_at b a.block)) (λ e. Ok (in_array e))))) (Ok p) h)
   where
@@ -151,7 +151,7 @@ block_found img a p h = go (by_test img a.block undefined (ret (Ok nowhere)) (wh
         inr (e.0, t.0, refused_ok (Damaged a.block) (eaib_at (range img a.block eaib_len) a.block) e.0 e.1, same_place (in_array e.0) p e.2)
 
 -- the slot, once the blocks in place are known
-slot_behind : (img : List ℕ) (a : EahdFields) (p : InPlace) (i x : ℕ) → BlockCases img a p → eval img (address_behind p (number_key i)) ≡ Ok x
+pub slot_behind : (img : List ℕ) (a : EahdFields) (p : InPlace) (i x : ℕ) → BlockCases img a p → eval img (address_behind p (number_key i)) ≡ Ok x
     → (a.block ≡ undefined) × (x ≡ undefined) ⊎ (e : EaibFields) × (a.block ≢ undefined) × IsIndexBlock img a.block e × SlotAt img e (place_of i) x
 unfolding BlockCases slot_program
 slot_behind img a p i x (inl t) h =
@@ -159,14 +159,14 @@ slot_behind img a p i x (inl t) h =
 slot_behind img a p i x (inr t) h =
     inr (t.0, t.1, t.2, slot_found img t.0 (place_of i) x (subst (λ (q : InPlace). eval img (address_behind q (number_key i)) ≡ Ok x) t.3 h))
 
-array_found : (img : List ℕ) (address i x : ℕ) → eval img (array_chunk address i) ≡ Ok x → ArraySlot img address i x
+pub array_found : (img : List ℕ) (address i x : ℕ) → eval img (array_chunk address i) ≡ Ok x → ArraySlot img address i x
 unfolding block_program
 array_found img address i x h =
     let s = and_then_ok img (array_in_place address) (λ (p : InPlace). address_behind p (number_key i)) x h in
     let a = choice_ok img (eahd_at (range img address eahd_len) address) block_program (Damaged address) s.0 s.1 in
     (a.0, a.1, slot_behind img a.0 s.0 i x (block_found img a.0 s.0 a.2) s.2)
 
-array_read : (img : List ℕ) (address i x : ℕ) → ArraySlot img address i x → eval img (array_chunk address i) ≡ Ok x
+pub array_read : (img : List ℕ) (address i x : ℕ) → ArraySlot img address i x → eval img (array_chunk address i) ≡ Ok x
 unfolding block_program slot_program
 array_read img address i x t = go t.2
   where
@@ -186,3 +186,17 @@ array_read img address i x t = go t.2
 -- a chunk's address is found exactly where the blocks of the array say it
 pub finds_array_slots : FindsArraySlots
 finds_array_slots img address i x = (array_found img address i x, array_read img address i x)
+
+-- ---- The array's slot of a key
+
+-- an array's blocks in place find a chunk by dimension 0 alone
+pub by_row : (img : List ℕ) (a : EahdFields) (p : InPlace) (key : Key) → BlockCases img a p → address_behind p key ≡ address_behind p (number_key key.i)
+unfolding BlockCases
+by_row img a p key (inl t) = ap (λ (q : InPlace). address_behind q key) t.1 ∙ sym (ap (λ (q : InPlace). address_behind q (number_key key.i)) t.1)
+by_row img a p key (inr t) = ap (λ (q : InPlace). address_behind q key) t.3 ∙ sym (ap (λ (q : InPlace). address_behind q (number_key key.i)) t.3)
+
+pub array_by_row : (img : List ℕ) (address : ℕ) (p : InPlace) (key : Key) → eval img (array_in_place address) ≡ Ok p → address_behind p key ≡ address_behind p (number_key key.i)
+unfolding block_program
+array_by_row img address p key h =
+    let a = choice_ok img (eahd_at (range img address eahd_len) address) block_program (Damaged address) p h in
+    by_row img a.0 p key (block_found img a.0 p a.2)

@@ -23,12 +23,12 @@ pub record WalkReads (img : List ℕ) (header : ℕ) (tracked : Bool) (most : �
 unfoldable pub ReadsAs : List ℕ → ℕ → Bool → ℕ → List Found → List Found → Type 0
 ReadsAs img header tracked n ms rs = (most : ℕ) → n ≤ most → (visited : List Range) (done : List Found) → WalkReads img header tracked most visited done ms rs
 
-end_reads : (img : List ℕ) (header : ℕ) (tracked : Bool) (most : ℕ) (visited : List Range) (done : List Found) → WalkReads img header tracked most visited done [] []
+pub end_reads : (img : List ℕ) (header : ℕ) (tracked : Bool) (most : ℕ) (visited : List Range) (done : List Found) → WalkReads img header tracked most visited done [] []
 end_reads img header tracked zero visited done = record { fields = record { messages = done; ranges = visited }; is = refl; messages = sym (append-nil done) }
 end_reads img header tracked (suc more) visited done = record { fields = record { messages = done; ranges = visited }; is = refl; messages = sym (append-nil done) }
 
 -- what the walk does at a continuation
-abbrev at_continuation : ℕ → ℕ → Bool → List Range → List Found → Found → List Found → Prog (Result HeaderFields ReadError)
+abbrev pub at_continuation : ℕ → ℕ → Bool → List Range → List Found → Found → List Found → Prog (Result HeaderFields ReadError)
 at_continuation more header tracked visited done m ms =
     cond (nat_lt (block_len m) 8) (ret (Err (header_refusal (block_place m) (header_errors.Short 8 (block_len m)))))
     (whole (block_place m) (block_len m) (λ b.
@@ -37,7 +37,7 @@ at_continuation more header tracked visited done m ms =
       | Err e ↦ ret (Err e)
     ]))
 
-message_reads : (img : List ℕ) (header : ℕ) (tracked : Bool) (most : ℕ) (visited : List Range) (done : List Found) (m : Found) (ms rs : List Found)
+pub message_reads : (img : List ℕ) (header : ℕ) (tracked : Bool) (most : ℕ) (visited : List Range) (done : List Found) (m : Found) (ms rs : List Found)
     → m.kind ≢ 0x10 → WalkReads img header tracked most visited (done ++ m ∷ []) ms rs → WalkReads img header tracked most visited done (m ∷ ms) (m ∷ rs)
 message_reads img header tracked zero visited done m ms rs other w =
     record {
@@ -53,7 +53,7 @@ message_reads img header tracked (suc more) visited done m ms rs other w =
     }
 
 -- a continuation block is read as what it is
-block_reads : (img : List ℕ) (tracked : Bool) (place len : ℕ) (inside : List Found) → IsBlock img tracked place len inside → block_messages tracked place len (range img place len) ≡ Ok inside
+pub block_reads : (img : List ℕ) (tracked : Bool) (place len : ℕ) (inside : List Found) → IsBlock img tracked place len inside → block_messages tracked place len (range img place len) ≡ Ok inside
 block_reads img tracked place len inside b =
     ap (λ (t : Bool). cond t (Err (header_refusal place (header_errors.Short len (length (range img place len)))))
     (then_also (refused_as (header_refusal place) (block_at tracked (range img place len))) (λ ms. Ok (found_at place false ms))))
@@ -67,7 +67,7 @@ block_reads img tracked place len inside b =
     enough : length (range img place len) ≡ len → len ≤ length (range img place len)
     enough e = omega arith
 
-block_step : (img : List ℕ) (header : ℕ) (tracked : Bool) (more : ℕ) (visited : List Range) (done : List Found) (m : Found) (ms inside rs : List Found)
+pub block_step : (img : List ℕ) (header : ℕ) (tracked : Bool) (more : ℕ) (visited : List Range) (done : List Found) (m : Found) (ms inside rs : List Found)
     → m.kind ≡ 0x10 → IsBlock img tracked (block_place m) (block_len m) inside
     → WalkReads img header tracked more (visited ++ record { place = block_place m; len = block_len m } ∷ []) done (inside ++ ms) rs
     → WalkReads img header tracked (suc more) visited done (m ∷ ms) rs
@@ -91,7 +91,7 @@ block_step img header tracked more visited done m ms inside rs kind b w =
         inside w.fields (block_reads img tracked (block_place m) (block_len m) inside b) w.is
 
 -- with a block, more than none are left
-continuation_reads : (img : List ℕ) (header : ℕ) (tracked : Bool) (n most : ℕ) (visited : List Range) (done : List Found) (m : Found) (ms inside joined rs : List Found)
+pub continuation_reads : (img : List ℕ) (header : ℕ) (tracked : Bool) (n most : ℕ) (visited : List Range) (done : List Found) (m : Found) (ms inside joined rs : List Found)
     → m.kind ≡ 0x10 → IsBlock img tracked (block_place m) (block_len m) inside → joined ≡ inside ++ ms → ReadsAs img header tracked n joined rs → suc n ≤ most
     → WalkReads img header tracked most visited done (m ∷ ms) rs
 unfolding ReadsAs

@@ -29,22 +29,22 @@ use Rattle.h5w_laws.proofs.ReachLemmas.{Reaches, reaches_ret, block_ok, both_ok,
 -- ---- Behind the blocks in place
 
 -- what a visit of an index tells of its blocks in place, whose program this is
-record Behind (img : List ℕ) (p : Prog (Result InPlace ReadError)) (Named : Key → Type 0) : Type 0 where
+pub record Behind (img : List ℕ) (p : Prog (Result InPlace ReadError)) (Named : Key → Type 0) : Type 0 where
   blocks : InPlace
   read : eval img p ≡ Ok blocks
   reaches : (key : Key) → Named key → Reaches img (address_behind blocks key)
 
-abbrev InArray : Key → Type 0
+abbrev pub InArray : Key → Type 0
 InArray key = key.i < 131060
 
-abbrev Any : Key → Type 0
+abbrev pub Any : Key → Type 0
 Any key = Unit {0}
 
-no_blocks : (img : List ℕ) (p : Prog (Result InPlace ReadError)) (Named : Key → Type 0) → eval img p ≡ Ok nowhere → Behind img p Named
+pub no_blocks : (img : List ℕ) (p : Prog (Result InPlace ReadError)) (Named : Key → Type 0) → eval img p ≡ Ok nowhere → Behind img p Named
 no_blocks img p Named h = record { blocks = nowhere; read = h; reaches = λ key n. reaches_ret img undefined }
 
 -- the index block's fields
-index_behind : (img : List ℕ) (end bytes place : ℕ) (us : List Used) → eval img (index_block_visit end bytes place) ≡ Ok us
+pub index_behind : (img : List ℕ) (end bytes place : ℕ) (us : List Used) → eval img (index_block_visit end bytes place) ≡ Ok us
     → (e : EaibFields) × (eaib_at (range img place eaib_len) place ≡ Ok e) × IndexVisits img end bytes e
 index_behind img end bytes place us h =
     let visits_of : EaibFields → Visited = λ e. both (ret (chunk_ranges end bytes e.slots)) (both (first_visits end bytes 0 e.first) (second_visits end bytes 4 e.second)) in
@@ -55,7 +55,7 @@ index_behind img end bytes place us h =
     let inner = both_ok img (first_visits end bytes 0 e.first) (second_visits end bytes 4 e.second) outer.1.0 outer.1.1 in
     (e, decoded.1, record { first = inner.0; second = inner.1 })
 
-array_behind : (img : List ℕ) (end bytes place : ℕ) (us : List Used) → eval img (array_visit end bytes place) ≡ Ok us → Behind img (array_in_place place) InArray
+pub array_behind : (img : List ℕ) (end bytes place : ℕ) (us : List Used) → eval img (array_visit end bytes place) ≡ Ok us → Behind img (array_in_place place) InArray
 array_behind img end bytes place us h =
     let r = eahd_at (range img place eahd_len) place in
     let there = block_ok img end place eahd_len (λ b. elim (eahd_at b place) as (λ _. Visited) [
@@ -80,7 +80,7 @@ array_behind img end bytes place us h =
           }
     ]
 
-tree_behind : (img : List ℕ) (end bytes place : ℕ) (us : List Used) → eval img (tree_visit end bytes place) ≡ Ok us → Behind img (tree_in_place place) Any
+pub tree_behind : (img : List ℕ) (end bytes place : ℕ) (us : List Used) → eval img (tree_visit end bytes place) ≡ Ok us → Behind img (tree_in_place place) Any
 tree_behind img end bytes place us h =
     let r = bthd_at (range img place bthd_len) place in
     let there = block_ok img end place bthd_len (λ b. elim (bthd_at b place) as (λ _. Visited) [
@@ -103,10 +103,10 @@ tree_behind img end bytes place us h =
     }
 
 -- the keys that an index reaches: an array by dimension 0 alone
-abbrev Named : Described → Key → Type 0
+abbrev pub Named : Described → Key → Type 0
 Named d key = d.layout.index ≡ Array → key.i < 131060
 
-behind_kind : (img : List ℕ) (end bytes place : ℕ) (kind : IndexKind) (us : List Used)
+pub behind_kind : (img : List ℕ) (end bytes place : ℕ) (kind : IndexKind) (us : List Used)
     → eval img (elim kind as (λ _. Visited) [ Array ↦ array_visit end bytes place | Tree ↦ tree_visit end bytes place ]) ≡ Ok us
     → Behind img (elim kind as (λ _. Prog (Result InPlace ReadError)) [ Array ↦ array_in_place place | Tree ↦ tree_in_place place ]) (λ key. kind ≡ Array → key.i < 131060)
 behind_kind img end bytes place Array us h =
@@ -116,7 +116,7 @@ behind_kind img end bytes place Tree us h =
     let b = tree_behind img end bytes place us h in
     record { blocks = b.blocks; read = b.read; reaches = λ key n. b.reaches key tt }
 
-behind_of : (img : List ℕ) (end : ℕ) (d : Described) (us : List Used) → eval img (index_visit end d) ≡ Ok us → Behind img (in_place d) (Named d)
+pub behind_of : (img : List ℕ) (end : ℕ) (d : Described) (us : List Used) → eval img (index_visit end d) ≡ Ok us → Behind img (in_place d) (Named d)
 behind_of img end d us h =
     let a : ℕ = d.layout.address in
     let v : Visited = elim d.layout.index as (λ _. Visited) [ Array ↦ array_visit end (chunk_bytes d) a | Tree ↦ tree_visit end (chunk_bytes d) a ] in
@@ -127,14 +127,14 @@ behind_of img end d us h =
 
 -- ---- From the check to the reading
 
-ok_first : {A B E : Type 0} (a : A) (b : B) (p : A × B) → ◌≡◌ {A = Result (A × B) E} (Ok (a, b)) (Ok p) → a ≡ p.0
+pub ok_first : {A B E : Type 0} (a : A) (b : B) (p : A × B) → ◌≡◌ {A = Result (A × B) E} (Ok (a, b)) (Ok p) → a ≡ p.0
 ok_first {A} {B} a b p h = let e : ◌≡◌ {A = A × B} (a, b) p = cc in ap (λ x. x.0) e
 
-ok_same : {A E F : Type 0} (a b : A) → ◌≡◌ {A = Result A E} (Ok a) (Ok b) → ◌≡◌ {A = Result A F} (Ok a) (Ok b)
+pub ok_same : {A E F : Type 0} (a b : A) → ◌≡◌ {A = Result A E} (Ok a) (Ok b) → ◌≡◌ {A = Result A F} (Ok a) (Ok b)
 ok_same a b h = let e : a ≡ b = cc in ap Ok e
 
 -- the superblock that is checked is read
-super_ok : (size : ℕ) (b : List ℕ) (s : Super) → checked_super size b ≡ Ok s → super_of b ≡ Ok s
+pub super_ok : (size : ℕ) (b : List ℕ) (s : Super) → checked_super size b ≡ Ok s → super_of b ≡ Ok s
 super_ok size b s h =
     let read = then_ok (refused_as super_finding (super_at b)) (λ s. if not (is_swmr s.flags) then Err (found 4 0) else if nat_lt size s.end then Err (found 5 0) else Ok s) s h in
     let swmr = fails (not (is_swmr read.0.flags)) (if nat_lt size read.0.end then Err (found 5 0) else Ok read.0) (found 4 0) s read.2 in
@@ -144,7 +144,7 @@ super_ok size b s h =
     (cond-true (is_swmr read.0.flags) (Ok read.0) (Err (read_errors.NotSwmr read.0.flags)) (not-false (is_swmr read.0.flags) swmr.0) ∙ ok_same read.0 s whole.1)
 
 -- the dataset header's place that is checked is read
-root_ok : (img name : List ℕ) (s : Super) (root : ℕ × List Used) → eval img (checked_root name s) ≡ Ok root
+pub root_ok : (img name : List ℕ) (s : Super) (root : ℕ × List Used) → eval img (checked_root name s) ≡ Ok root
     → (h : HeaderFields) × (eval img (root_header s.root) ≡ Ok h) × (linked name h.messages ≡ Ok root.0)
 root_ok img name s root h =
     let r = eval img (root_header s.root) in
@@ -157,7 +157,7 @@ root_ok img name s root h =
     let same : link.0 ≡ root.0 = ok_first link.0 ranges.0 root link.2 in
     (header.0, refused_ok (λ e. found 6 s.root) r header.0 header.1, refused_ok (λ e. found 7 s.root) (linked name header.0.messages) link.0 link.1 ∙ ap Ok same)
 
-place_ok : (img name : List ℕ) (s : Super) (root : ℕ × List Used) → checked_super (length img) (range img 0 48) ≡ Ok s → eval img (checked_root name s) ≡ Ok root
+pub place_ok : (img name : List ℕ) (s : Super) (root : ℕ × List Used) → checked_super (length img) (range img 0 48) ≡ Ok s → eval img (checked_root name s) ≡ Ok root
     → eval img (dataset_place name) ≡ Ok root.0
 place_ok img name s root h g =
     let r = root_ok img name s root g in
@@ -165,7 +165,7 @@ place_ok img name s root h g =
     (and_then_from img (root_header s.root) (λ h. ret (linked name h.messages)) r.0 root.0 r.1 r.2)
 
 -- the dataset header that is checked is read, and its chunks are within the limits
-dataset_ok : (img : List ℕ) (s : Super) (place : ℕ) (d : Described × List Used) → eval img (checked_dataset format_limits s place) ≡ Ok d
+pub dataset_ok : (img : List ℕ) (s : Super) (place : ℕ) (d : Described × List Used) → eval img (checked_dataset format_limits s place) ≡ Ok d
     → (eval img (dataset place) ≡ Ok d.0) × (nat_lt (limit_of format_limits d.0.layout.index) (needed d.0) ≡ false)
 dataset_ok img s place d h =
     let b = header_view (range img place 512) in
@@ -188,20 +188,20 @@ dataset_ok img s place d h =
 -- ---- The needed keys
 
 -- a key of the grid of chunks
-record InGrid (bands across : ℕ) (key : Key) : Type 0 where
+pub record InGrid (bands across : ℕ) (key : Key) : Type 0 where
   row : key.i < bands
   column : key.j < across
 
-grid_row : (n across row from count : ℕ) → row < n → from + count ≤ across
+pub grid_row : (n across row from count : ℕ) → row < n → from + count ≤ across
     → AllByRecursion (InGrid n across) (map (λ column. record { i = row; j = column }) (range_with_len from count))
 grid_row n across row from zero lt fits = tt
 grid_row n across row from (suc count) lt fits = (record { row = lt; column = omega arith }, grid_row n across row (from + 1) count lt (omega arith))
 
-grid_append : (n across : ℕ) (front rest : List Key) → AllByRecursion (InGrid n across) front → AllByRecursion (InGrid n across) rest → AllByRecursion (InGrid n across) (front ++ rest)
+pub grid_append : (n across : ℕ) (front rest : List Key) → AllByRecursion (InGrid n across) front → AllByRecursion (InGrid n across) rest → AllByRecursion (InGrid n across) (front ++ rest)
 grid_append n across [] rest h g = g
 grid_append n across (k ∷ ks) rest h g = (h.0, grid_append n across ks rest h.1 g)
 
-grid_rows : (n across from count : ℕ) → from + count ≤ n
+pub grid_rows : (n across from count : ℕ) → from + count ≤ n
     → AllByRecursion (InGrid n across) (flat_map (λ row. map (λ column. record { i = row; j = column }) (range_with_len 0 across)) (range_with_len from count))
 grid_rows n across from zero fits = tt
 grid_rows n across from (suc count) fits =
@@ -209,11 +209,11 @@ grid_rows n across from (suc count) fits =
     (flat_map (λ row. map (λ column. record { i = row; j = column }) (range_with_len 0 across)) (range_with_len (from + 1) count))
     (grid_row n across from 0 across (omega arith) (omega arith)) (grid_rows n across (from + 1) count (omega arith))
 
-needed_grid : (d : Described) → AllByRecursion (InGrid (bands d) (chunks_across d)) (needed_keys d)
+pub needed_grid : (d : Described) → AllByRecursion (InGrid (bands d) (chunks_across d)) (needed_keys d)
 needed_grid d = grid_rows (bands d) (chunks_across d) 0 (bands d) (omega arith)
 
 -- a program for each key, where each answers
-each_answers : (img : List ℕ) (p : Key → Prog (Result ℕ ReadError)) (n across : ℕ) (ks : List Key) → AllByRecursion (InGrid n across) ks
+pub each_answers : (img : List ℕ) (p : Key → Prog (Result ℕ ReadError)) (n across : ℕ) (ks : List Key) → AllByRecursion (InGrid n across) ks
     → ((key : Key) → InGrid n across key → Found (eval img (p key))) → Found (eval img (each_of p ks))
 each_answers img p n across [] grid go = ([], refl)
 each_answers img p n across (k ∷ ks) grid go =
@@ -225,14 +225,14 @@ each_answers img p n across (k ∷ ks) grid go =
     )
 
 -- within the limit each needed key is one that the index reaches
-named_in_grid : (d : Described) (key : Key) → nat_lt (limit_of format_limits d.layout.index) (needed d) ≡ false → InGrid (bands d) (chunks_across d) key → Named d key
+pub named_in_grid : (d : Described) (key : Key) → nat_lt (limit_of format_limits d.layout.index) (needed d) ≡ false → InGrid (bands d) (chunks_across d) key → Named d key
 named_in_grid d key within grid is =
     let low : needed d ≤ 131060 = subst (λ kind. needed d ≤ limit_of format_limits kind) is (ltb-false (limit_of format_limits d.layout.index) (needed d) within) in
     let some : 1 ≤ chunks_across d = omega (arith, grid.column) in
     let under : bands d * 1 ≤ bands d * chunks_across d = mul-le-mul_left (bands d) some in
     omega (arith, grid.row)
 
-table_answers : (img : List ℕ) (d : Described) (b : Behind img (in_place d) (Named d)) (ks : List Key) → AllByRecursion (InGrid (bands d) (chunks_across d)) ks
+pub table_answers : (img : List ℕ) (d : Described) (b : Behind img (in_place d) (Named d)) (ks : List Key) → AllByRecursion (InGrid (bands d) (chunks_across d)) ks
     → nat_lt (limit_of format_limits d.layout.index) (needed d) ≡ false → Found (eval img (table_of d ks))
 table_answers img d b [] grid within = ([], refl)
 table_answers img d b (k ∷ ks) grid within =
@@ -240,7 +240,7 @@ table_answers img d b (k ∷ ks) grid within =
     (λ key g. let r = b.reaches key (named_in_grid d key within g) in (r.answer, r.is)) in
     (each.0, and_then_from img (in_place d) (λ p. each_of (address_behind p) (k ∷ ks)) b.blocks each.0 b.read each.1)
 
-needed_answers : (img : List ℕ) (d : Described) → Behind img (in_place d) (Named d) → nat_lt (limit_of format_limits d.layout.index) (needed d) ≡ false
+pub needed_answers : (img : List ℕ) (d : Described) → Behind img (in_place d) (Named d) → nat_lt (limit_of format_limits d.layout.index) (needed d) ≡ false
     → Found (eval img (needed_table format_limits d))
 needed_answers img d b within =
     let t = table_answers img d b (needed_keys d) (needed_grid d) within in
@@ -248,15 +248,15 @@ needed_answers img d b within =
 
 -- ---- A valid image
 
-named_key : (d : Described) (key : Key) → IsKey d.layout.index key → Named d key
+pub named_key : (d : Described) (key : Key) → IsKey d.layout.index key → Named d key
 named_key d key h is = (subst (λ kind. IsKey kind key) is h).0
 
-verdict_rows : (s : Super) (d : Described) (us : List Used) (sm : Summary) (o : Option Finding)
+pub verdict_rows : (s : Super) (d : Described) (us : List Used) (sm : Summary) (o : Option Finding)
     → elim o as (λ _. Result Summary Finding) [ None ↦ Ok (summary s d us) | Some f ↦ Err f ] ≡ Ok sm → d.shape.rows ≡ sm.rows
 verdict_rows s d us sm None h = let e : summary s d us ≡ sm = cc in ap (λ x. x.rows) e
 verdict_rows s d us sm (Some f) h = cc
 
-summary_rows : (s : Super) (d : Described) (us : List Used) (sm : Summary) → verdict s d us ≡ Ok sm → d.shape.rows ≡ sm.rows
+pub summary_rows : (s : Super) (d : Described) (us : List Used) (sm : Summary) → verdict s d us ≡ Ok sm → d.shape.rows ≡ sm.rows
 summary_rows s d us sm h = verdict_rows s d us sm (overlap_of (by_place us)) h
 
 pub valid_shows : ValidShows

@@ -3,3 +3,5 @@ pub mod Answers
 pub mod Logs
 pub mod Held
 pub mod Relations
+pub mod Places
+pub mod Ranges

@@ -17,7 +17,8 @@ pub record PositionLaws : Type 0 where
 -- and not by an event. This holds of every list of events, also of one that no session makes.
 pub record FlushedLaws : Type 0 where
   pub begins : (log : Log) → take (length (flushed log)) (appended log) ≡ flushed log
-  pub begins_at : (log : Log) (p : ℕ) → take (flushed_at log p) (appended log) ≡ flushed (at_position log p)
+  pub begins_at : (log : Log) (p : ℕ) → take (length (flushed (at_position log p))) (appended log) ≡ flushed (at_position log p)
+  pub longer : (log : Log) (p q : ℕ) → p ≤ q → length (flushed (at_position log p)) ≤ length (flushed (at_position log q))
   pub rises : (log : Log) (p q : ℕ) → p ≤ q → flushed_at log p ≤ flushed_at log q
   pub grows : (e : Happening) (log : Log) → length (flushed log) ≤ length (flushed (and_now e log))
 

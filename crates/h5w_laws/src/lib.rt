@@ -10,11 +10,11 @@ mod programs;
 mod relations;
 
 pub use answers::{one_answer, one_verdict, unstored_steps};
-pub use held::{still_gives_held, valid_shows};
+pub use held::{still_gives_held, valid_ranges, valid_shows};
 pub use logs::{each_gives_prefixed, event_laws, flushed_laws, position_laws};
 pub use programs::{
     answers_stay, bound_answers, bound_visits, leaving_kept, lowered_ends, lowered_in_turn,
     lowered_kept, lowered_kept_in_turn, lowered_still, next_answers, same_laws, store_laws,
     takes_both, takes_in_turn,
 };
-pub use relations::{array_slots, dataset_headers, header_messages};
+pub use relations::{array_slots, dataset_headers, header_messages, header_places, index_places};

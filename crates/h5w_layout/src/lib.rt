@@ -10,6 +10,3 @@ mod layout;
 pub use fill::Fill;
 pub use h5w_model::{Cell, IndexKind, Unsupported};
 pub use layout::Layout;
-
-#[cfg(test)]
-mod tests;

@@ -14,6 +14,3 @@ pub use h5w_model::{LinkError, ReadError};
 pub use link::Link;
 pub use spelling::{encode_group_info, encode_link, encode_link_info};
 pub use table::Links;
-
-#[cfg(test)]
-mod tests;

@@ -45,7 +45,7 @@ super_block-spans j s low high =
     (omega arith, omega (arith, super_block-slots s, twice))
 
 -- r places behind a start, by lines of n
-in_lines : (j start r n lines : ℕ) → start + r ≡ j → 0 < n → r < lines * n → (start + r / n * n + r % n ≡ j) × (r / n < lines) × (r % n < n)
+pub in_lines : (j start r n lines : ℕ) → start + r ≡ j → 0 < n → r < lines * n → (start + r / n * n + r % n ≡ j) × (r / n < lines) × (r % n < n)
 in_lines j start r n lines e some h =
     (omega (arith, mod-eq-sub-div-mul r n, div-mul-le_self r n), (div-lt_iff_lt-mul some).1 h, omega arith)
 
@@ -63,7 +63,7 @@ slot_place-stands j h =
     let inside = super_block-spans j (halvings 63 (j / 16 + 1)) spans.0 spans.1 in
     IsSlotPlace-in j (halvings 63 (j / 16 + 1)) inside.0 inside.1
 
-below_13 : (s m : ℕ) → 2 ^ s ≤ m → m < 8192 → (s < 13) ⊎ (13 ≤ s) → s ≤ 12
+pub below_13 : (s m : ℕ) → 2 ^ s ≤ m → m < 8192 → (s < 13) ⊎ (13 ≤ s) → s ≤ 12
 below_13 s m low high (inl lt) = omega arith
 below_13 s m low high (inr le) = absurd (omega (arith, pow-le-pow_right {n = 2} (omega arith) le))
 

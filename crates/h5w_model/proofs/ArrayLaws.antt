@@ -16,7 +16,7 @@ pub AllPass-append : {E : Type 0} (xs ys : List (Bool × E)) → AllPass xs → 
 AllPass-append [] ys p q = q
 AllPass-append (x ∷ xs) ys p q = (p.0, AllPass-append xs ys p.1 q)
 
-long_enough : (m n : ℕ) → m ≤ n → nat_le m n ≡ true
+pub long_enough : (m n : ℕ) → m ≤ n → nat_le m n ≡ true
 long_enough m n h = grind (arith, nat_tests)
 
 -- a sealed block of just this length passes the tests that come first
@@ -25,7 +25,7 @@ sealed-passes signature body len n s =
     let whole : take len (sealed_block body) ≡ sealed_block body = take_all len (sealed_block body) (omega (arith, length-sealed_block body)) in
     (long_enough len (length (sealed_block body)) (omega (arith, length-sealed_block body)), (s, (ap is_sealed whole ∙ is_sealed-sealed_block body, tt)))
 
-eahd_head : List ℕ
+pub eahd_head : List ℕ
 eahd_head = codes "EAHD" ++ 0 ∷ 0 ∷ 8 ∷ 32 ∷ 4 ∷ 16 ∷ 4 ∷ 10 ∷ []
 
 -- the header's bytes: what is fixed, the six numbers, the block's address, the sum
@@ -46,7 +46,7 @@ eahd_at-eahd_bytes t place n fits block =
     checked-ok (block_tests (codes "EAHD") 72 (sealed_block body) ++ parameter_tests (sealed_block body) place) (eahd_fields (sealed_block body)) tests
     ∙ λ i. Ok (record { numbers = numbers i; block = address i })
 
-eaib_head : List ℕ
+pub eaib_head : List ℕ
 eaib_head = codes "EAIB" ++ 0 ∷ 0 ∷ []
 
 -- the index block's bytes: what is fixed, the header's address, slots and addresses, the sum

@@ -5,11 +5,11 @@ use Rattle.h5w_model.specs.Numbers.{num, le, field}
 use Rattle.h5w_model.specs.Checksum.{Words, finish_line, finished, added, rounds, begun, mixed, sum_of, stored_sum, computed_sum, is_sealed, sealed_block}
 use Rattle.h5w_model.proofs.NumberLemmas.{length-le, num-le}
 
-finished-lt : (w : Words) → finished w < 2 ^ 32
+pub finished-lt : (w : Words) → finished w < 2 ^ 32
 unfolding finished finish_line
 finished-lt w = omega arith
 
-rounds-lt : (n : ℕ) (w : Words) (bytes : List ℕ) → rounds n w bytes < 2 ^ 32
+pub rounds-lt : (n : ℕ) (w : Words) (bytes : List ℕ) → rounds n w bytes < 2 ^ 32
 unfolding rounds
 rounds-lt zero w bytes = finished-lt (added w bytes)
 rounds-lt (suc n) w bytes = rounds-lt n (mixed (added w bytes)) (drop 12 bytes)

@@ -37,7 +37,7 @@ length-prefix_bytes size =
       | false ↦ (lit≤ tt, lit≤ tt)
     ]
 
-length-msg_bytes : (m : Msg) (c : List ℕ) → length (msg_bytes m ++ c) ≡ 4 + (length m.body + length c)
+pub length-msg_bytes : (m : Msg) (c : List ℕ) → length (msg_bytes m ++ c) ≡ 4 + (length m.body + length c)
 unfolding le
 length-msg_bytes m c = omega (arith, length-append m.body c)
 
@@ -116,23 +116,23 @@ msgs_in-first_overruns before place b k long over =
 -- ---- What is written is walked over
 
 -- the data size of a message as written
-data_size-msg_bytes : (m : Msg) (c : List ℕ) → length m.body < 2 ^ 16 → data_size (msg_bytes m ++ c) ≡ length m.body
+pub data_size-msg_bytes : (m : Msg) (c : List ℕ) → length m.body < 2 ^ 16 → data_size (msg_bytes m ++ c) ≡ length m.body
 unfolding le num
 data_size-msg_bytes m c h = num-le 2 (length m.body) h
 
-overruns_not : (short continuation is : Bool) (len size : ℕ) → short ≡ false → continuation ≡ is → size ≡ len → (not is || leb 16 len) ≡ true → (short || (continuation && ltb size 16)) ≡ false
+pub overruns_not : (short continuation is : Bool) (len size : ℕ) → short ≡ false → continuation ≡ is → size ≡ len → (not is || leb 16 len) ≡ true → (short || (continuation && ltb size 16)) ≡ false
 overruns_not short continuation true len size a e g k = rw (a, e, g) (le-ltb len 16 (leb-true 16 len k))
 overruns_not short continuation false len size a e g k = rw (a, e) refl
 
-range-msg_bytes : (m : Msg) (c : List ℕ) → range (msg_bytes m ++ c) 4 (length m.body) ≡ m.body
+pub range-msg_bytes : (m : Msg) (c : List ℕ) → range (msg_bytes m ++ c) 4 (length m.body) ≡ m.body
 unfolding le
 range-msg_bytes m c = take_at m.body c (length m.body) refl
 
-flags-msg_bytes : (m : Msg) (c : List ℕ) → field (msg_bytes m ++ c) 3 1 ≡ m.flags
+pub flags-msg_bytes : (m : Msg) (c : List ℕ) → field (msg_bytes m ++ c) 3 1 ≡ m.flags
 unfolding le
 flags-msg_bytes m c = num-one m.flags
 
-overruns-msg_bytes : (m : Msg) (c : List ℕ) → length m.body < 2 ^ 16 → names_block m ≡ true → overruns 4 (msg_bytes m ++ c) ≡ false
+pub overruns-msg_bytes : (m : Msg) (c : List ℕ) → length m.body < 2 ^ 16 → names_block m ≡ true → overruns 4 (msg_bytes m ++ c) ≡ false
 overruns-msg_bytes m c h k =
     let long : ltb (length (msg_bytes m ++ c)) (4 + length m.body) ≡ false = le-ltb (length (msg_bytes m ++ c)) (4 + length m.body) (omega (arith, length-msg_bytes m c)) in
     let size = data_size-msg_bytes m c h in
@@ -140,11 +140,11 @@ overruns-msg_bytes m c h k =
     overruns_not (ltb (length (msg_bytes m ++ c)) (4 + data_size (msg_bytes m ++ c))) (eqb (field (msg_bytes m ++ c) 0 1) continuation_kind) (eqb m.kind continuation_kind) (length m.body) (data_size (msg_bytes m ++ c))
     (rw size long) (ap (λ n. eqb n continuation_kind) kind) size k
 
-drop-msg_bytes : (m : Msg) (c : List ℕ) → drop (4 + length m.body) (msg_bytes m ++ c) ≡ c
+pub drop-msg_bytes : (m : Msg) (c : List ℕ) → drop (4 + length m.body) (msg_bytes m ++ c) ≡ c
 unfolding le
 drop-msg_bytes m c = drop_at (msg_bytes m) c (4 + length m.body) (omega arith)
 
-msg_at-msg_bytes : (m : Msg) (c : List ℕ) (place : ℕ) → length m.body < 2 ^ 16 → msg_at 4 place (msg_bytes m ++ c) ≡ record m { at = place }
+pub msg_at-msg_bytes : (m : Msg) (c : List ℕ) (place : ℕ) → length m.body < 2 ^ 16 → msg_at 4 place (msg_bytes m ++ c) ≡ record m { at = place }
 msg_at-msg_bytes m c place h =
     let size = data_size-msg_bytes m c h in
     let body : range (msg_bytes m ++ c) 4 (length m.body) ≡ m.body = range-msg_bytes m c in
@@ -172,7 +172,7 @@ and_then-ok (Ok x) next y e = (x, refl, e)
 and_then-ok (Err f) next y e = absurd cc
 
 -- messages that are known are these
-unless_refused-same : (refused : Option ℕ) (ms known : List Msg) → unless_refused refused ms ≡ Ok known → ms ≡ known
+pub unless_refused-same : (refused : Option ℕ) (ms known : List Msg) → unless_refused refused ms ≡ Ok known → ms ≡ known
 unless_refused-same None ms known e = cc
 unless_refused-same (Some kind) ms known e = absurd cc
 

@@ -18,7 +18,7 @@ use Rattle.h5w_model.proofs.HeaderLemmas.{msgs_in-msgs_bytes, length-header_byte
 abbrev pub written_prefix : ℕ → Prefix
 written_prefix size = record { total = length (prefix_bytes size) + size + 4; at = length (prefix_bytes size); len = size; tracked = false }
 
-small_prefix : (size : ℕ) (rest : List ℕ) → size ≤ 255 → prefix_at (header_signature ++ 2 ∷ 0 ∷ le 1 size ++ rest) ≡ Ok (record { total = 7 + size + 4; at = 7; len = size; tracked = false })
+pub small_prefix : (size : ℕ) (rest : List ℕ) → size ≤ 255 → prefix_at (header_signature ++ 2 ∷ 0 ∷ le 1 size ++ rest) ≡ Ok (record { total = 7 + size + 4; at = 7; len = size; tracked = false })
 unfolding prefix_at le num
 small_prefix size rest h =
     let b = header_signature ++ 2 ∷ 0 ∷ le 1 size ++ rest in
@@ -27,7 +27,7 @@ small_prefix size rest h =
     checked-ok (prefix_tests b) (prefix_fields b) (le-leb 6 (length b) (omega arith), (refl, (refl, (le-leb 7 (length b) (omega arith), tt))))
     ∙ rw (n, t) refl
 
-large_prefix : (size : ℕ) (rest : List ℕ) → size < 2 ^ 16 → prefix_at (header_signature ++ 2 ∷ 1 ∷ le 2 size ++ rest) ≡ Ok (record { total = 8 + size + 4; at = 8; len = size; tracked = false })
+pub large_prefix : (size : ℕ) (rest : List ℕ) → size < 2 ^ 16 → prefix_at (header_signature ++ 2 ∷ 1 ∷ le 2 size ++ rest) ≡ Ok (record { total = 8 + size + 4; at = 8; len = size; tracked = false })
 unfolding prefix_at le num
 large_prefix size rest h =
     let b = header_signature ++ 2 ∷ 1 ∷ le 2 size ++ rest in
@@ -36,11 +36,11 @@ large_prefix size rest h =
     checked-ok (prefix_tests b) (prefix_fields b) (le-leb 6 (length b) (omega arith), (refl, (refl, (le-leb 8 (length b) (omega arith), tt))))
     ∙ rw (n, t) refl
 
-prefix_bytes-small : (size : ℕ) → leb size 255 ≡ true → prefix_bytes size ≡ header_signature ++ 2 ∷ 0 ∷ le 1 size
+pub prefix_bytes-small : (size : ℕ) → leb size 255 ≡ true → prefix_bytes size ≡ header_signature ++ 2 ∷ 0 ∷ le 1 size
 unfolding prefix_bytes
 prefix_bytes-small size e = rw e refl
 
-prefix_bytes-large : (size : ℕ) → leb size 255 ≡ false → prefix_bytes size ≡ header_signature ++ 2 ∷ 1 ∷ le 2 size
+pub prefix_bytes-large : (size : ℕ) → leb size 255 ≡ false → prefix_bytes size ≡ header_signature ++ 2 ∷ 1 ∷ le 2 size
 unfolding prefix_bytes
 prefix_bytes-large size e = rw e refl
 
@@ -55,18 +55,18 @@ prefix_at-written size rest h =
 
 -- ---- The whole header
 
-regroup : (a b c d : List ℕ) → ((a ++ b) ++ c) ++ d ≡ a ++ (b ++ (c ++ d))
+pub regroup : (a b c d : List ℕ) → ((a ++ b) ++ c) ++ d ≡ a ++ (b ++ (c ++ d))
 regroup a b c d = simp append_assoc
 
 -- the messages and what follows them
-abbrev behind_prefix : List Msg → List ℕ → List ℕ
+abbrev pub behind_prefix : List Msg → List ℕ → List ℕ
 behind_prefix ms c = msgs_bytes ms ++ (le 4 (sum_of (prefix_bytes (length (msgs_bytes ms)) ++ msgs_bytes ms)) ++ c)
 
-regrouped : (ms : List Msg) (c : List ℕ) → header_bytes ms ++ c ≡ prefix_bytes (length (msgs_bytes ms)) ++ behind_prefix ms c
+pub regrouped : (ms : List Msg) (c : List ℕ) → header_bytes ms ++ c ≡ prefix_bytes (length (msgs_bytes ms)) ++ behind_prefix ms c
 unfolding header_bytes
 regrouped ms c = regroup (prefix_bytes (length (msgs_bytes ms))) (msgs_bytes ms) (le 4 (sum_of (prefix_bytes (length (msgs_bytes ms)) ++ msgs_bytes ms))) c
 
-sealed_header : (ms : List Msg) → is_sealed (header_bytes ms) ≡ true
+pub sealed_header : (ms : List Msg) → is_sealed (header_bytes ms) ≡ true
 unfolding header_bytes
 sealed_header ms = is_sealed-sealed_block (prefix_bytes (length (msgs_bytes ms)) ++ msgs_bytes ms)
 
@@ -85,7 +85,7 @@ header_at-written ms c h =
     ∙ checked-ok (header_tests b p) p (le-leb (end_of p) (length b) long, (sealed, tt))
 
 -- its messages are cut off
-inside_of-written : (ms : List Msg) (c : List ℕ) → inside_of (header_bytes ms ++ c) (written_prefix (length (msgs_bytes ms))) ≡ msgs_bytes ms
+pub inside_of-written : (ms : List Msg) (c : List ℕ) → inside_of (header_bytes ms ++ c) (written_prefix (length (msgs_bytes ms))) ≡ msgs_bytes ms
 inside_of-written ms c =
     let size = length (msgs_bytes ms) in
     ap (λ b. take size (drop (length (prefix_bytes size)) b)) (regrouped ms c)
@@ -93,23 +93,23 @@ inside_of-written ms c =
     ∙ take_at (msgs_bytes ms) (le 4 (sum_of (prefix_bytes size ++ msgs_bytes ms)) ++ c) size refl
 
 -- places say nothing of what is known
-kind_of : (tested : Bool) (one other : Msg) (first rest : Option Msg) → one.kind ≡ other.kind → option_map (λ m. m.kind) first ≡ option_map (λ m. m.kind) rest
+pub kind_of : (tested : Bool) (one other : Msg) (first rest : Option Msg) → one.kind ≡ other.kind → option_map (λ m. m.kind) first ≡ option_map (λ m. m.kind) rest
     → option_map (λ m. m.kind) (cond tested (Some one) first) ≡ option_map (λ m. m.kind) (cond tested (Some other) rest)
 kind_of true one other first rest e r = ap (λ k. Some k) e
 kind_of false one other first rest e r = r
 
-first_unknown-placed : (bit place : ℕ) (ms : List Msg) → first_unknown bit (placed place ms) ≡ first_unknown bit ms
+pub first_unknown-placed : (bit place : ℕ) (ms : List Msg) → first_unknown bit (placed place ms) ≡ first_unknown bit ms
 first_unknown-placed bit place [] = refl
 first_unknown-placed bit place (m ∷ ms) =
     kind_of (not (is_known m.kind) && has m.flags bit) (record m { at = place }) m
     (find (λ m. not (is_known m.kind) && has m.flags bit) (placed (place + (4 + length m.body)) ms)) (find (λ m. not (is_known m.kind) && has m.flags bit) ms)
     refl (first_unknown-placed bit (place + (4 + length m.body)) ms)
 
-none_refused : (refused : Option ℕ) (ms : List Msg) → unless_refused refused ms ≡ Ok ms → refused ≡ None
+pub none_refused : (refused : Option ℕ) (ms : List Msg) → unless_refused refused ms ≡ Ok ms → refused ≡ None
 none_refused None ms e = refl
 none_refused (Some kind) ms e = absurd cc
 
-all_known-placed : (place : ℕ) (ms : List Msg) → all_known ms ≡ Ok ms → all_known (placed place ms) ≡ Ok (placed place ms)
+pub all_known-placed : (place : ℕ) (ms : List Msg) → all_known ms ≡ Ok ms → all_known (placed place ms) ≡ Ok (placed place ms)
 all_known-placed place ms known = ap (λ o. unless_refused o (placed place ms)) (first_unknown-placed 0x80 place ms ∙ none_refused (first_unknown 0x80 ms) ms known)
 
 -- the messages are those that were written, each at its place

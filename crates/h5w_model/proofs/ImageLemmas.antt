@@ -16,11 +16,11 @@ pub length-apply : (w : Write) (img : List ℕ) → length (apply w img) ≡ max
 unfolding apply
 length-apply w img = simp (length-append, length-take, length-drop, length-replicate) (omega arith)
 
-front_length : (a : ℕ) (img : List ℕ) → length (take a img ++ replicate (a - length img) 0) ≡ a
+pub front_length : (a : ℕ) (img : List ℕ) → length (take a img ++ replicate (a - length img) 0) ≡ a
 front_length a img = simp (length-append, length-take, length-replicate) (omega arith)
 
 -- zeros past the end are what the default gives
-get_or-front : (a : ℕ) (img : List ℕ) (k : ℕ) → k < a → get_or (take a img ++ replicate (a - length img) 0) k 0 ≡ get_or img k 0
+pub get_or-front : (a : ℕ) (img : List ℕ) (k : ℕ) → k < a → get_or (take a img ++ replicate (a - length img) 0) k 0 ≡ get_or img k 0
 get_or-front a img k h =
     elim (cases_lt k (length img)) [
       | inl there ↦
@@ -274,7 +274,7 @@ unfolding first_pieces
 length-first_pieces zero place bytes = refl
 length-first_pieces (suc k) place bytes = ap suc (length-first_pieces k (place + 512) (drop 512 bytes))
 
-first_pieces-image : (k place : ℕ) (bytes img : List ℕ) → 0 < length bytes → length bytes ≤ 512 * k → 512 * k < length bytes + 512
+pub first_pieces-image : (k place : ℕ) (bytes img : List ℕ) → 0 < length bytes → length bytes ≤ 512 * k → 512 * k < length bytes + 512
     → image img (first_pieces k place bytes) ≡ apply (record { at = place; piece = bytes }) img
 unfolding first_pieces
 first_pieces-image zero place bytes img some reach near = absurd (omega arith)
@@ -293,7 +293,7 @@ first_pieces-image (suc k) place bytes img some reach near =
           ∙ ap (λ (b : List ℕ). apply (record { at = place; piece = b }) img) (take_all 512 bytes short)
     ]
 
-first_pieces-sized : (k place : ℕ) (bytes : List ℕ) → 512 * k < length bytes + 512 → AllSized (first_pieces k place bytes)
+pub first_pieces-sized : (k place : ℕ) (bytes : List ℕ) → 512 * k < length bytes + 512 → AllSized (first_pieces k place bytes)
 unfolding first_pieces
 first_pieces-sized zero place bytes near = tt
 first_pieces-sized (suc k) place bytes near =
@@ -308,7 +308,7 @@ first_pieces-sized (suc k) place bytes near =
       ],
     )
 
-first_pieces-miss : (k place : ℕ) (bytes : List ℕ) (a n : ℕ) → 512 * k < length bytes + 512 → Apart place (length bytes) a n → AllMiss (first_pieces k place bytes) a n
+pub first_pieces-miss : (k place : ℕ) (bytes : List ℕ) (a n : ℕ) → 512 * k < length bytes + 512 → Apart place (length bytes) a n → AllMiss (first_pieces k place bytes) a n
 unfolding first_pieces
 first_pieces-miss zero place bytes a n near apart = tt
 first_pieces-miss (suc k) place bytes a n near apart =
@@ -398,6 +398,6 @@ Apart-part a m b n c k d j h1 h2 h3 h4 (inl below) = inl (omega arith)
 Apart-part a m b n c k d j h1 h2 h3 h4 (inr above) = inr (omega arith)
 
 -- a write past the end leaves zeros before it; one inside keeps what is behind it
-example : image [] (record { at = 2; piece = 7 ∷ 8 ∷ [] } ∷ record { at = 1; piece = 9 ∷ [] } ∷ []) ≡ 0 ∷ 9 ∷ 7 ∷ 8 ∷ []
+pub example : image [] (record { at = 2; piece = 7 ∷ 8 ∷ [] } ∷ record { at = 1; piece = 9 ∷ [] } ∷ []) ≡ 0 ∷ 9 ∷ 7 ∷ 8 ∷ []
 unfolding apply
 example = refl

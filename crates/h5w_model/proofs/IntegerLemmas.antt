@@ -24,7 +24,7 @@ pub half_span : (n : ℕ) → 1 ≤ n → 256 ^ n / 2 + 256 ^ n / 2 ≡ 256 ^ n
 half_span zero h = absurd (omega arith)
 half_span (suc n) h = let p : 256 ^ suc n ≡ 256 * 256 ^ n = pow-succ' 256 n in omega arith
 
-negated : (m n : ℕ) → n < m → pos n -ℤ pos m ≡ negsuc (m - suc n)
+pub negated : (m n : ℕ) → n < m → pos n -ℤ pos m ≡ negsuc (m - suc n)
 negated m n h = omega (arith, ints)
 
 -- a number below m is in the type as it is read
@@ -48,7 +48,7 @@ signed_of-unsigned_of false m (negsuc n) even fits = grind (arith, nat_tests, in
 signed_of-unsigned_of true m (pos n) even fits = grind (arith, nat_tests, ints)
 signed_of-unsigned_of true m (negsuc n) even fits = grind (arith, nat_tests, ints)
 
-in_order-in_order : (big : Bool) (bytes : List ℕ) → in_order big (in_order big bytes) ≡ bytes
+pub in_order-in_order : (big : Bool) (bytes : List ℕ) → in_order big (in_order big bytes) ≡ bytes
 in_order-in_order false bytes = refl
 in_order-in_order true bytes = reverse-reverse bytes
 
@@ -63,11 +63,11 @@ AreBytes-in_order true bytes all = λ k d h.
     let below : k < length bytes = omega arith in
     rw (get_or-reverse bytes k d below) (all (length bytes - 1 - k) d (omega arith))
 
-num_in_order-lt : (bytes : List ℕ) (t : IntTypeFields) → AreBytes bytes → length bytes ≡ t.size → num (in_order t.big bytes) < span_of t
+pub num_in_order-lt : (bytes : List ℕ) (t : IntTypeFields) → AreBytes bytes → length bytes ≡ t.size → num (in_order t.big bytes) < span_of t
 num_in_order-lt bytes t all len =
     subst (λ (n : ℕ). num (in_order t.big bytes) < 256 ^ n) (length-in_order t.big bytes ∙ len) (num-lt (in_order t.big bytes) (AreBytes-in_order t.big bytes all))
 
-some_cell : (v : ℤ) (t : IntTypeFields) (bytes : List ℕ) → cell_bytes_of v t ≡ Some bytes → (is_in_span t.signed (span_of t) v ≡ true) × (in_order t.big (le t.size (unsigned_of (span_of t) v)) ≡ bytes)
+pub some_cell : (v : ℤ) (t : IntTypeFields) (bytes : List ℕ) → cell_bytes_of v t ≡ Some bytes → (is_in_span t.signed (span_of t) v ≡ true) × (in_order t.big (le t.size (unsigned_of (span_of t) v)) ≡ bytes)
 unfolding cell_bytes_of
 some_cell v t bytes e = cond_some (is_in_span t.signed (span_of t) v) (in_order t.big (le t.size (unsigned_of (span_of t) v))) bytes e
 

@@ -35,10 +35,10 @@ field-numbers w (n ∷ ns) after (suc k) below fits =
     ∙ rest
 
 -- five bytes, the sizes, and what follows
-abbrev spelled : ℕ → ℕ → List ℕ → List ℕ → List ℕ
+abbrev pub spelled : ℕ → ℕ → List ℕ → List ℕ → List ℕ
 spelled n w ns after = (4 ∷ 2 ∷ 0 ∷ n ∷ w ∷ []) ++ (flat_map (le w) ns ++ after)
 
-size_read : (n w : ℕ) (ns after : List ℕ) (k : ℕ) → k < length ns → All (λ (m : ℕ). m < 256 ^ w) ns → chunk_size (spelled n w ns after) k ≡ get_or ns k 0
+pub size_read : (n w : ℕ) (ns after : List ℕ) (k : ℕ) → k < length ns → All (λ (m : ℕ). m < 256 ^ w) ns → chunk_size (spelled n w ns after) k ≡ get_or ns k 0
 size_read n w ns after k below fits =
     let b = spelled n w ns after in
     let x = flat_map (le w) ns ++ after in
@@ -47,11 +47,11 @@ size_read n w ns after k below fits =
     ∙ ap (λ (p : ℕ). field x p w) (omega arith)
     ∙ field-numbers w ns after k below fits
 
-place_read : (n w : ℕ) (ns after : List ℕ) → index_place (spelled n w ns after) ≡ 5 + n * w
+pub place_read : (n w : ℕ) (ns after : List ℕ) → index_place (spelled n w ns after) ≡ 5 + n * w
 place_read n w ns after = λ i. 5 + num-one n i * num-one w i
 
 -- what follows the sizes
-behind_sizes : (n w : ℕ) (ns after : List ℕ) → length ns ≡ n → drop (index_place (spelled n w ns after)) (spelled n w ns after) ≡ after
+pub behind_sizes : (n w : ℕ) (ns after : List ℕ) → length ns ≡ n → drop (index_place (spelled n w ns after)) (spelled n w ns after) ≡ after
 behind_sizes n w ns after count =
     let b = spelled n w ns after in
     let f = flat_map (le w) ns in
@@ -60,19 +60,19 @@ behind_sizes n w ns after count =
     ap (λ (p : ℕ). drop p b) (place_read n w ns after)
     ∙ drop_at ((4 ∷ 2 ∷ 0 ∷ n ∷ w ∷ []) ++ f) after (5 + n * w) (omega arith)
 
-index_found : (index : IndexKind) (after : List ℕ) → starts_with nat_eq (index_bytes index ++ after) (index_bytes index) ≡ true
+pub index_found : (index : IndexKind) (after : List ℕ) → starts_with nat_eq (index_bytes index ++ after) (index_bytes index) ≡ true
 index_found Array after = refl
 index_found Tree after = refl
 
 -- what the sizes are that are written beside a shape and a type
-record AreSizes (ns : List ℕ) (w : ℕ) (l : LayoutFields) (s : ShapeFields) (t : IntTypeFields) : Type 0 where
+pub record AreSizes (ns : List ℕ) (w : ℕ) (l : LayoutFields) (s : ShapeFields) (t : IntTypeFields) : Type 0 where
   pub count : length ns ≡ s.rank + 1
   pub first : get_or ns 0 0 ≡ l.chunk_rows
   pub second : (if s.rank == 1 then 1 else get_or ns 1 0) ≡ l.chunk_cols
   pub last : get_or ns s.rank 0 ≡ t.size
   pub fits : All (λ (m : ℕ). m < 256 ^ w) ns
 
-cols_read : (s : ShapeFields) (w : ℕ) (ns after : List ℕ) (cols : ℕ) → (s.rank ≡ 1) ⊎ (s.rank ≡ 2) → length ns ≡ s.rank + 1 → (if s.rank == 1 then 1 else get_or ns 1 0) ≡ cols → All (λ (m : ℕ). m < 256 ^ w) ns → chunk_cols_at (spelled (s.rank + 1) w ns after) s ≡ cols
+pub cols_read : (s : ShapeFields) (w : ℕ) (ns after : List ℕ) (cols : ℕ) → (s.rank ≡ 1) ⊎ (s.rank ≡ 2) → length ns ≡ s.rank + 1 → (if s.rank == 1 then 1 else get_or ns 1 0) ≡ cols → All (λ (m : ℕ). m < 256 ^ w) ns → chunk_cols_at (spelled (s.rank + 1) w ns after) s ≡ cols
 cols_read s w ns after cols (inl e) count second fits =
     cond-true (s.rank == 1) 1 (chunk_size (spelled (s.rank + 1) w ns after) 1) (eq-eqb s.rank 1 e)
     ∙ sym (cond-true (s.rank == 1) 1 (get_or ns 1 0) (eq-eqb s.rank 1 e)) ∙ second
@@ -81,7 +81,7 @@ cols_read s w ns after cols (inr e) count second fits =
     ∙ size_read (s.rank + 1) w ns after 1 (omega arith) fits
     ∙ sym (cond-false (s.rank == 1) 1 (get_or ns 1 0) (ne_eqb s.rank 1 (λ h. omega arith))) ∙ second
 
-address_read : (n w : ℕ) (ns mid rest : List ℕ) (v : ℕ) → length ns ≡ n → v < 2 ^ 64 → field (spelled n w ns (mid ++ (le 8 v ++ rest))) (5 + n * w + length mid) 8 ≡ v
+pub address_read : (n w : ℕ) (ns mid rest : List ℕ) (v : ℕ) → length ns ≡ n → v < 2 ^ 64 → field (spelled n w ns (mid ++ (le 8 v ++ rest))) (5 + n * w + length mid) 8 ≡ v
 address_read n w ns mid rest v count small =
     let f = flat_map (le w) ns in
     let front : List ℕ = (4 ∷ 2 ∷ 0 ∷ n ∷ w ∷ []) ++ (f ++ mid) in
@@ -91,7 +91,7 @@ address_read n w ns mid rest v count small =
     ∙ ap (λ (x : List ℕ). field x (5 + n * w + length mid) 8) (sym (append_assoc front (le 8 v) rest))
     ∙ field-at front rest (5 + n * w + length mid) 8 v long small
 
-layout_read : (l : LayoutFields) (s : ShapeFields) (t : IntTypeFields) (w : ℕ) (ns rest : List ℕ) → (s.rank ≡ 1) ⊎ (s.rank ≡ 2) → IsLayout l s t → AreSizes ns w l s t → 1 ≤ w → w ≤ 8 → l.address < 2 ^ 64 → layout_at (spelled (s.rank + 1) w ns (index_bytes l.index ++ (le 8 l.address ++ rest))) s t ≡ Ok (record { chunk_rows = l.chunk_rows; chunk_cols = l.chunk_cols; index = l.index; address = l.address; place = 5 + (s.rank + 1) * w + length (index_bytes l.index) })
+pub layout_read : (l : LayoutFields) (s : ShapeFields) (t : IntTypeFields) (w : ℕ) (ns rest : List ℕ) → (s.rank ≡ 1) ⊎ (s.rank ≡ 2) → IsLayout l s t → AreSizes ns w l s t → 1 ≤ w → w ≤ 8 → l.address < 2 ^ 64 → layout_at (spelled (s.rank + 1) w ns (index_bytes l.index ++ (le 8 l.address ++ rest))) s t ≡ Ok (record { chunk_rows = l.chunk_rows; chunk_cols = l.chunk_cols; index = l.index; address = l.address; place = 5 + (s.rank + 1) * w + length (index_bytes l.index) })
 unfolding layout_at layout_fields
 layout_read l s t w ns rest ranks sound sizes low high small =
     let n = s.rank + 1 in
@@ -131,7 +131,7 @@ layout_read l s t w ns rest ranks sound sizes low high small =
     }))))))))))))
 
 -- each of three positive numbers is at most their product
-product_bounds : (a b c : ℕ) → 0 < a → 0 < b → 0 < c → (a ≤ a * b * c) × (b ≤ a * b * c) × (c ≤ a * b * c)
+pub product_bounds : (a b c : ℕ) → 0 < a → 0 < b → 0 < c → (a ≤ a * b * c) × (b ≤ a * b * c) × (c ≤ a * b * c)
 product_bounds a b c h i j = (grind arith, grind arith, grind arith)
 
 -- the sizes of a sound layout are positive and small
@@ -167,7 +167,7 @@ layout_width_fits l t small =
     let within = width_of-within m (omega arith) (omega arith) in
     record { low = within.0; high = within.1; rows = omega arith; cols = omega arith; size = omega arith }
 
-sizes_line : (l : LayoutFields) (s : ShapeFields) (t : IntTypeFields) (w : ℕ) → IsWidth w l t → IsLayout l s t → s.rank ≡ 1 → AreSizes (l.chunk_rows ∷ t.size ∷ []) w l s t
+pub sizes_line : (l : LayoutFields) (s : ShapeFields) (t : IntTypeFields) (w : ℕ) → IsWidth w l t → IsLayout l s t → s.rank ≡ 1 → AreSizes (l.chunk_rows ∷ t.size ∷ []) w l s t
 sizes_line l s t w fits sound e =
     record {
       count = omega arith;
@@ -177,7 +177,7 @@ sizes_line l s t w fits sound e =
       fits = All-cons (λ (m : ℕ). m < 256 ^ w) l.chunk_rows (t.size ∷ []) fits.rows (All-cons (λ (m : ℕ). m < 256 ^ w) t.size [] fits.size (All-nil (λ (m : ℕ). m < 256 ^ w)));
     }
 
-sizes_grid : (l : LayoutFields) (s : ShapeFields) (t : IntTypeFields) (w : ℕ) → IsWidth w l t → s.rank ≡ 2 → AreSizes (l.chunk_rows ∷ l.chunk_cols ∷ t.size ∷ []) w l s t
+pub sizes_grid : (l : LayoutFields) (s : ShapeFields) (t : IntTypeFields) (w : ℕ) → IsWidth w l t → s.rank ≡ 2 → AreSizes (l.chunk_rows ∷ l.chunk_cols ∷ t.size ∷ []) w l s t
 sizes_grid l s t w fits e =
     record {
       count = omega arith;
@@ -190,16 +190,16 @@ sizes_grid l s t w fits e =
           (All-cons (λ (m : ℕ). m < 256 ^ w) t.size [] fits.size (All-nil (λ (m : ℕ). m < 256 ^ w))));
     }
 
-written_sizes : (l : LayoutFields) (s : ShapeFields) (t : IntTypeFields) (w : ℕ) → (s.rank ≡ 1) ⊎ (s.rank ≡ 2) → IsWidth w l t → IsLayout l s t → AreSizes (chunk_sizes s.rank l.chunk_rows l.chunk_cols t.size) w l s t
+pub written_sizes : (l : LayoutFields) (s : ShapeFields) (t : IntTypeFields) (w : ℕ) → (s.rank ≡ 1) ⊎ (s.rank ≡ 2) → IsWidth w l t → IsLayout l s t → AreSizes (chunk_sizes s.rank l.chunk_rows l.chunk_cols t.size) w l s t
 written_sizes l s t w (inl e) fits sound =
     subst (λ (ns : List ℕ). AreSizes ns w l s t) (sym (cond-true (s.rank == 1) (l.chunk_rows ∷ t.size ∷ []) (l.chunk_rows ∷ l.chunk_cols ∷ t.size ∷ []) (eq-eqb s.rank 1 e))) (sizes_line l s t w fits sound e)
 written_sizes l s t w (inr e) fits sound =
     subst (λ (ns : List ℕ). AreSizes ns w l s t) (sym (cond-false (s.rank == 1) (l.chunk_rows ∷ t.size ∷ []) (l.chunk_rows ∷ l.chunk_cols ∷ t.size ∷ []) (ne_eqb s.rank 1 (λ h. omega arith)))) (sizes_grid l s t w fits e)
 
-rank_bound : (s : ShapeFields) → IsShape s → s.rank + 1 ≤ 3
+pub rank_bound : (s : ShapeFields) → IsShape s → s.rank + 1 ≤ 3
 rank_bound s shaped = omega (arith, shape_rank s shaped)
 
-index_length : (index : IndexKind) → length (index_bytes index) ≤ 7
+pub index_length : (index : IndexKind) → length (index_bytes index) ≤ 7
 index_length Array = omega arith
 index_length Tree = omega arith
 

@@ -10,21 +10,21 @@ pub some_is : (x y : ℕ) → (let o : Option ℕ = Some x in o ≡ Some y) → 
 some_is x y e = cc
 
 -- bytes that reach past the last field are a link
-is_link-long : (b : List ℕ) (place len kind : ℕ) → field b 0 1 ≡ 1 → place ≡ name_place b → len ≡ name_length b → kind ≡ link_kind b → place + len + (cond (eqb kind 0) 8 0) ≤ length b → is_link b ≡ true
+pub is_link-long : (b : List ℕ) (place len kind : ℕ) → field b 0 1 ≡ 1 → place ≡ name_place b → len ≡ name_length b → kind ≡ link_kind b → place + len + (cond (eqb kind 0) 8 0) ≤ length b → is_link b ≡ true
 is_link-long b place len kind v p n k h =
     let end : link_length b ≤ length b = rw (← p, ← n, ← k) h in
     rw (v, le-leb (link_length b) (length b) end) refl
 
 -- what stands behind the name, as a part of all
-behind_name : (b behind : List ℕ) (end : ℕ) → behind ≡ drop end b → field behind 0 8 ≡ field b end 8
+pub behind_name : (b behind : List ℕ) (end : ℕ) → behind ≡ drop end b → field behind 0 8 ≡ field b end 8
 behind_name b behind end e = ap (λ (xs : List ℕ). num (take 8 xs)) e
 
 -- the fields, part by part
-fields_are : (b name : List ℕ) (place len kind address : ℕ) → place ≡ name_place b → len ≡ name_length b → kind ≡ link_kind b → name ≡ take len (drop place b) → address ≡ cond (eqb kind 0) (field b (place + len) 8) 0
+pub fields_are : (b name : List ℕ) (place len kind address : ℕ) → place ≡ name_place b → len ≡ name_length b → kind ≡ link_kind b → name ≡ take len (drop place b) → address ≡ cond (eqb kind 0) (field b (place + len) 8) 0
     → record { name = name; kind = kind; address = address } ≡ link_fields b
 fields_are b name place len kind address p n k t a = rw (t, a, p, n, k) refl
 
-some_is_none : (x : ℕ) → Some x ≡ None → ⊥
+pub some_is_none : (x : ℕ) → Some x ≡ None → ⊥
 some_is_none x e = cc
 
 -- a link whose parts were cut off one after another

@@ -24,14 +24,14 @@ pub passed : {X : Type 0} (b : Bool) (x y r : X) → b ≡ true → x ≡ r → 
 passed true x y r h k = k
 passed false x y r h k = absurd (false≢true h)
 
-shape_1-read : (rows : ℕ) (rest : List ℕ) → rows < 2 ^ 64 → shape_at (shape_bytes (record { rank = 1; rows = rows; cols = 1; growing = false }) ++ rest) ≡ Ok (record { rank = 1; rows = rows; cols = 1; growing = false })
+pub shape_1-read : (rows : ℕ) (rest : List ℕ) → rows < 2 ^ 64 → shape_at (shape_bytes (record { rank = 1; rows = rows; cols = 1; growing = false }) ++ rest) ≡ Ok (record { rank = 1; rows = rows; cols = 1; growing = false })
 unfolding shape_at shape_tests shape_fields shape_bytes num le
 shape_1-read rows rest h =
     passed _ _ _ _ (le-leb 4 (length (shape_bytes (record { rank = 1; rows = rows; cols = 1; growing = false }) ++ rest)) (omega arith))
     (passed _ _ _ _ (le-leb 20 (length (shape_bytes (record { rank = 1; rows = rows; cols = 1; growing = false }) ++ rest)) (omega arith))
     (λ i. Ok (record { rank = 1; rows = num-le 8 rows h i; cols = 1; growing = false })))
 
-shape_2-read : (rows cols : ℕ) (rest : List ℕ) → rows < 2 ^ 64 → cols < 2 ^ 64 → shape_at (shape_bytes (record { rank = 2; rows = rows; cols = cols; growing = true }) ++ rest) ≡ Ok (record { rank = 2; rows = rows; cols = cols; growing = true })
+pub shape_2-read : (rows cols : ℕ) (rest : List ℕ) → rows < 2 ^ 64 → cols < 2 ^ 64 → shape_at (shape_bytes (record { rank = 2; rows = rows; cols = cols; growing = true }) ++ rest) ≡ Ok (record { rank = 2; rows = rows; cols = cols; growing = true })
 unfolding shape_at shape_tests shape_fields shape_bytes num le
 shape_2-read rows cols rest h k =
     passed _ _ _ _ (le-leb 4 (length (shape_bytes (record { rank = 2; rows = rows; cols = cols; growing = true }) ++ rest)) (omega arith))
@@ -69,19 +69,19 @@ shape_at-shape_bytes s rest h rows cols =
       | inr e ↦ subst P (λ i. record { rank = sym e.rank i; rows = s.rows; cols = s.cols; growing = sym e.growing i }) (shape_2-read s.rows s.cols rest rows cols)
     ]
 
-order_read : (n : ℕ) (big signed : Bool) → has (int_type_bits (record { size = n; big = big; signed = signed })) 1 ≡ big
+pub order_read : (n : ℕ) (big signed : Bool) → has (int_type_bits (record { size = n; big = big; signed = signed })) 1 ≡ big
 order_read n true true = refl
 order_read n true false = refl
 order_read n false true = refl
 order_read n false false = refl
 
-sign_read : (n : ℕ) (big signed : Bool) → has (int_type_bits (record { size = n; big = big; signed = signed })) 8 ≡ signed
+pub sign_read : (n : ℕ) (big signed : Bool) → has (int_type_bits (record { size = n; big = big; signed = signed })) 8 ≡ signed
 sign_read n true true = refl
 sign_read n true false = refl
 sign_read n false true = refl
 sign_read n false false = refl
 
-int_type-read : (n : ℕ) (big signed : Bool) (rest : List ℕ) → IsIntType (record { size = n; big = big; signed = signed }) → int_type_at (int_type_bytes (record { size = n; big = big; signed = signed }) ++ rest) ≡ Ok (record { size = n; big = big; signed = signed })
+pub int_type-read : (n : ℕ) (big signed : Bool) (rest : List ℕ) → IsIntType (record { size = n; big = big; signed = signed }) → int_type_at (int_type_bytes (record { size = n; big = big; signed = signed }) ++ rest) ≡ Ok (record { size = n; big = big; signed = signed })
 unfolding int_type_at int_type_tests int_type_fields int_type_bytes num le
 int_type-read n big signed rest typed =
     let t : IntTypeFields = record { size = n; big = big; signed = signed } in
@@ -137,11 +137,11 @@ pub fill_value_bytes-is : (bytes : List ℕ) (n : ℕ) → length bytes ≡ n �
 unfolding fill_value_bytes
 fill_value_bytes-is bytes n e small = ap (λ (m : ℕ). 3 ∷ 0x2b ∷ (le 4 m ++ bytes)) e ∙ ap (λ (l : List ℕ). 3 ∷ 0x2b ∷ (l ++ bytes)) (le_4-byte n small)
 
-fill_none-read : (t : IntTypeFields) (rest : List ℕ) → fill_at (fill_bytes (record { value = None }) ++ rest) t ≡ Ok (record { value = None })
+pub fill_none-read : (t : IntTypeFields) (rest : List ℕ) → fill_at (fill_bytes (record { value = None }) ++ rest) t ≡ Ok (record { value = None })
 unfolding fill_at fill_tests fill_fields fill_value_bytes num
 fill_none-read t rest = passed _ _ _ _ (le-leb 2 (length (fill_bytes (record { value = None }) ++ rest)) (omega arith)) refl
 
-fill_some-read : (bytes : List ℕ) (t : IntTypeFields) (rest : List ℕ) → 0 < length bytes → length bytes ≡ t.size → length bytes < 256 → fill_at (fill_bytes (record { value = Some bytes }) ++ rest) t ≡ Ok (record { value = Some bytes })
+pub fill_some-read : (bytes : List ℕ) (t : IntTypeFields) (rest : List ℕ) → 0 < length bytes → length bytes ≡ t.size → length bytes < 256 → fill_at (fill_bytes (record { value = Some bytes }) ++ rest) t ≡ Ok (record { value = Some bytes })
 unfolding fill_at fill_tests fill_fields fill_value_bytes num le
 fill_some-read bytes t rest some fits small =
     let b : List ℕ = fill_bytes (record { value = Some bytes }) ++ rest in
@@ -156,7 +156,7 @@ fill_some-read bytes t rest some fits small =
     (cond-false (n == 0) None (Some (range b 6 n)) (ne_eqb n 0 (λ e. omega arith))
     ∙ ap (λ (l : List ℕ). Some l) (take_at bytes rest n (sym size)))))))
 
-filled : (value : Option (List ℕ)) (t : IntTypeFields) (rest : List ℕ) → IfSome value (λ bytes. (0 < length bytes) × (length bytes ≡ t.size) × (length bytes < 256)) → fill_at (fill_bytes (record { value = value }) ++ rest) t ≡ Ok (record { value = value })
+pub filled : (value : Option (List ℕ)) (t : IntTypeFields) (rest : List ℕ) → IfSome value (λ bytes. (0 < length bytes) × (length bytes ≡ t.size) × (length bytes < 256)) → fill_at (fill_bytes (record { value = value }) ++ rest) t ≡ Ok (record { value = value })
 filled None t rest fits = fill_none-read t rest
 filled (Some bytes) t rest fits = fill_some-read bytes t rest fits.0 fits.1 fits.2
 

@@ -120,7 +120,7 @@ field-at a c at w v len fits =
     ∙ ap (λ (i : ℕ). field (le w v) i w) here
     ∙ field-le w v fits
 
-num-zeros : (n w : ℕ) → num (take w (replicate n 0)) ≡ 0
+pub num-zeros : (n w : ℕ) → num (take w (replicate n 0)) ≡ 0
 unfolding num
 num-zeros n zero = refl
 num-zeros zero (suc w) = refl
@@ -136,15 +136,15 @@ field-padded (b ∷ bs) n zero zero = refl
 field-padded (b ∷ bs) n zero (suc w) = ap (λ (rest : ℕ). b + 256 * rest) (field-padded bs n zero w)
 field-padded (b ∷ bs) n (suc at) w = field-padded bs n at w
 
-halvings-small : (n m : ℕ) → m < 2 → halvings (suc n) m ≡ 0
+pub halvings-small : (n m : ℕ) → m < 2 → halvings (suc n) m ≡ 0
 unfolding halvings
 halvings-small n m h = rw (lt-ltb m 2 h) refl
 
-halvings-large : (n m : ℕ) → 2 ≤ m → halvings (suc n) m ≡ suc (halvings n (m / 2))
+pub halvings-large : (n m : ℕ) → 2 ≤ m → halvings (suc n) m ≡ suc (halvings n (m / 2))
 unfolding halvings
 halvings-large n m h = grind (arith, nat_tests)
 
-doubled : (k j : ℕ) → j ≡ suc k → 2 ^ j ≡ 2 * 2 ^ k
+pub doubled : (k j : ℕ) → j ≡ suc k → 2 ^ j ≡ 2 * 2 ^ k
 doubled k j e = ap (λ (i : ℕ). 2 ^ i) e ∙ pow-succ' 2 k
 
 -- halving finds the powers of 2 that m lies between
@@ -163,7 +163,7 @@ halvings-spans (suc n) m low high =
     ]
 
 -- m lies between two powers of 2 in one way
-same_power : (m k j : ℕ) → 2 ^ k ≤ m → m < 2 ^ (k + 1) → 2 ^ j ≤ m → m < 2 ^ (j + 1) → k ≡ j
+pub same_power : (m k j : ℕ) → 2 ^ k ≤ m → m < 2 ^ (k + 1) → 2 ^ j ≤ m → m < 2 ^ (j + 1) → k ≡ j
 same_power m k j klow khigh jlow jhigh =
     elim (cases_lt k j) [
       | inl below ↦ let h : 2 ^ (k + 1) ≤ 2 ^ j = pow_mono (omega arith) in omega arith
@@ -182,7 +182,7 @@ halvings-is n m k low high fits =
     same_power m (halvings n m) k spans.0 spans.1 low high
 
 -- n bytes are 8 n bits
-bits : (n : ℕ) → 256 ^ n ≡ 2 ^ (8 * n)
+pub bits : (n : ℕ) → 256 ^ n ≡ 2 ^ (8 * n)
 bits zero = refl
 bits (suc n) =
     let more : 8 * suc n ≡ 8 * n + 8 = omega arith in

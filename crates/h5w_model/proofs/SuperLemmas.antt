@@ -12,7 +12,7 @@ pub length-super_bytes : (s : Super) → length (super_bytes s) ≡ 48
 unfolding le
 length-super_bytes s = refl
 
-abbrev body : Super → List ℕ
+abbrev pub body : Super → List ℕ
 body s = super_signature ++ (3 ∷ 8 ∷ 8 ∷ s.flags ∷ []) ++ le 8 0 ++ le 8 undefined ++ le 8 s.end ++ le 8 s.root
 
 -- it is read back

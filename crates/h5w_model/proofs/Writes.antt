@@ -8,7 +8,7 @@ use Rattle.h5w_model.specs.Numbers.{le}
 use Rattle.h5w_model.proofs.NumberLemmas.{length-le}
 
 -- what is left behind a longer front
-drop_behind : (a c : List ℕ) (k m : ℕ) → length a ≡ k → k ≤ m → drop m (a ++ c) ≡ drop (m - k) c
+pub drop_behind : (a c : List ℕ) (k m : ℕ) → length a ≡ k → k ≤ m → drop m (a ++ c) ≡ drop (m - k) c
 drop_behind a c k m len le =
     let split : m ≡ length a + (m - k) = omega arith in
     ap (λ (n : ℕ). drop n (a ++ c)) split ∙ sym (drop-drop (m - k) (length a) (a ++ c)) ∙ ap (drop (m - k)) (drop_at a c (length a) refl)

@@ -1,5 +1,5 @@
 -- What a reader's call looks at and answers: programs of looks of at most 512 bytes.
-use Rattle.std.specs.Prelude.{◌≡◌, ℕ, zero, suc, ◌+◌, ◌-◌, ◌*◌, ◌/◌, ◌%◌, ◌^◌, min, max, Bool, true, false, List, [], ◌∷◌, ◌++◌, length, map, flat_map, slice_index_or, nat_eq, nat_lt, ◌==◌, if◌then◌else◌, Option, Some, None, Result, Ok, Err, ℤ}
+use Rattle.std.specs.Prelude.{ℕ, zero, suc, ◌+◌, ◌-◌, ◌*◌, ◌/◌, ◌%◌, ◌^◌, min, max, Bool, true, false, ◌||◌, ◌&&◌, List, [], ◌∷◌, length, take, map, flat_map, slice_index_or, nat_eq, nat_lt, ◌==◌, if◌then◌else◌, Option, Some, None, Result, Ok, Err, ℤ}
 use Rattle.std.specs.Cmp.Lexicographic.{pointwise}
 use Rattle.std.specs.List.{range_with_len}
 use Rattle.h5w_model.specs.Numbers.{range, undefined}
@@ -7,23 +7,64 @@ use Rattle.h5w_model.specs.Programs.{Prog, ret, whole, counted, stored, bind, an
 use Rattle.h5w_model.specs.Headers.{prefix_at, header_view}
 use Rattle.h5w_model.specs.Integers.{value_at, fill_value}
 use Rattle.h5w_model.specs.Datasets.{Described, dataset_place, dataset_from}
-use Rattle.h5w_model.specs.Tables.{Limits, Reading, needed_table, each_of, chunk_address, chunks_across, cell_offset}
+use Rattle.h5w_model.specs.Tables.{Limits, Reading, InPlace, limit_of, needed, needed_keys, in_place, address_behind, each_of, chunk_address, chunks_across, cell_offset}
+use Rattle.h5w_model.specs.declared.cell.Key.{Key}
 use Rattle.h5w_model.specs.declared.refusal.ReadError.{ReadError}
-use Rattle.h5w_model.specs.declared.refusal.ReadError.TheVariants.{Damaged, Shrunk, Again}
+use Rattle.h5w_model.specs.declared.refusal.ReadError.TheVariants.{Damaged, TooManyChunks, Shrunk, Again}
 use Rattle.h5w_model.specs.declared.refusal.BlockFault.TheVariants.{Cut}
-use Rattle.h5w_model.specs.declared.refusal.HeaderError.{HeaderError}
 use Rattle.h5w_model.specs.declared.refusal.HeaderError.TheVariants.{Short}
 
 -- ---- Attempts
 
--- By what a call for rows goes: the limits on chunks, the blocks that an attempt keeps, the rows seen before, the
--- attempts, and the dataset header's place.
+-- By what a call for rows goes: the limits on chunks, the blocks that an attempt keeps, the attempts, the dataset header's
+-- place, and what is known of the dataset from earlier calls.
 pub record CallRules : Type 0 where
   pub limits : Limits
   pub keeps : ℕ
-  pub seen : ℕ
   pub attempts : ℕ
   pub place : ℕ
+  pub known : Option Reading
+
+-- the rows that were seen
+abbrev pub rows_seen : Option Reading → ℕ
+rows_seen None = 0
+rows_seen (Some r) = r.dataset.shape.rows
+
+-- the rows are cut into chunks alike
+abbrev pub same_cut : Described → Described → Bool
+same_cut a b = (a.shape.cols == b.shape.cols) && (a.layout.chunk_rows == b.layout.chunk_rows) && (a.layout.chunk_cols == b.layout.chunk_cols)
+
+-- the addresses that are known of a dataset's first chunks
+abbrev pub known_table : Option Reading → Described → List ℕ
+known_table None d = []
+known_table (Some r) d = if same_cut r.dataset d then r.table else []
+
+-- some key has no known address
+abbrev pub some_unknown : List ℕ → List Key → Bool
+some_unknown known [] = false
+some_unknown [] (k ∷ ks) = true
+some_unknown (a ∷ rest) (k ∷ ks) = (a == undefined) || some_unknown rest ks
+
+-- the address of a key, unless it is known
+abbrev pub address_or : InPlace → ℕ → Key → Prog (Result ℕ ReadError)
+address_or p a k = if a == undefined then address_behind p k else ret (Ok a)
+
+-- the addresses of some keys, the first of which may be known
+abbrev pub each_unknown : InPlace → List ℕ → List Key → Prog (Result (List ℕ) ReadError)
+each_unknown p known [] = ret (Ok [])
+each_unknown p [] (k ∷ ks) = and_then (address_behind p k) (λ a. and_then (each_unknown p [] ks) (λ rest. ret (Ok (a ∷ rest))))
+each_unknown p (a ∷ known) (k ∷ ks) = and_then (address_or p a k) (λ b. and_then (each_unknown p known ks) (λ rest. ret (Ok (b ∷ rest))))
+
+-- The addresses of some chunks: only where one is not known are the blocks in place looked at, and behind them the blocks on
+-- the way to each such chunk.
+abbrev pub table_from : List ℕ → Described → List Key → Prog (Result (List ℕ) ReadError)
+table_from known d ks = if some_unknown known ks then and_then (in_place d) (λ p. each_unknown p known ks) else ret (Ok (take (length ks) known))
+
+-- the addresses of the needed chunks, within the limits
+abbrev pub needed_from : Limits → List ℕ → Described → Prog (Result (List ℕ) ReadError)
+needed_from limits known d =
+    if nat_lt (limit_of limits d.layout.index) (needed d) then ret (Err (TooManyChunks (needed d) (limit_of limits d.layout.index)))
+    else table_from known d (needed_keys d)
 
 -- a look at the dataset header, of which what counts is handed on
 abbrev pub header_look : {A : Type 0} → ℕ → (List ℕ → Prog A) → Prog A
@@ -45,8 +86,8 @@ not_shrunk seen d = if nat_lt d.shape.rows seen then Err (Shrunk seen d.shape.ro
 abbrev pub behind_header : CallRules → List ℕ → Prog (Result Reading ReadError)
 behind_header g v =
     and_then (dataset_from g.place v) (λ d.
-    and_then (ret (not_shrunk g.seen d)) (λ d.
-    and_then (needed_table g.limits d) (λ t. ret (Ok (record { place = g.place; dataset = d; table = t })))))
+    and_then (ret (not_shrunk (rows_seen g.known) d)) (λ d.
+    and_then (needed_from g.limits (known_table g.known d) d) (λ t. ret (Ok (record { place = g.place; dataset = d; table = t })))))
 
 -- the first place at which two headers differ, and both bytes there; a missing byte counts as 0
 pub record Difference : Type 0 where
@@ -100,7 +141,7 @@ rows_call g = header_look g.place (attempts_from g (g.attempts - 1))
 
 -- by what an open goes, once the dataset header's place is known
 abbrev pub open_rules : Limits → ℕ → ℕ → ℕ → CallRules
-open_rules chunk_limits kept most at = record { limits = chunk_limits; keeps = kept; seen = 0; attempts = most; place = at }
+open_rules chunk_limits kept most at = record { limits = chunk_limits; keeps = kept; attempts = most; place = at; known = None }
 
 -- an open: superblock, root header, link, and then attempts
 abbrev pub open_call : Limits → ℕ → ℕ → List ℕ → Prog (Result Reading ReadError)
@@ -127,14 +168,19 @@ touched_from d i j from = cell_offset d (first_in_band d i from) (j * d.layout.c
 abbrev pub touched_to : Described → ℕ → ℕ → ℕ → ℕ
 touched_to d i j to = cell_offset d (last_in_band d i to - 1) (last_column d j - 1) + d.int_type.size
 
--- a range of a chunk: none of a chunk without an address; one that the image does not have whole is damaged
+-- no byte of a look
+abbrev pub none_of : List ℕ → List ℕ
+none_of b = []
+
+-- A range of a chunk: none of a chunk without an address; one that the image does not have whole is damaged. Of one that
+-- passes 2^64, which no image has, there is a look at the chunk.
 abbrev pub chunk_range : Reading → ℕ → ℕ → ℕ → ℕ → Prog (Result (Option (List ℕ)) ReadError)
 chunk_range r i j from to =
     let address = chunk_address r (i * r.dataset.layout.chunk_rows) (j * r.dataset.layout.chunk_cols) in
     let start = touched_from r.dataset i j from in
     let len = touched_to r.dataset i j to - start in
     if address == undefined then ret (Ok None)
-    else if nat_lt (2 ^ 64) (address + start + len) then ret (Err (Damaged address (Cut len 0)))
+    else if nat_lt (2 ^ 64) (address + start + len) then counted address none_of (λ b. ret (Err (Damaged address (Cut len 0))))
     else whole (address + start) len (λ b.
     ret (if nat_lt (length b) len then Err (Damaged (address + start) (Cut len (length b))) else Ok (Some b)))
 

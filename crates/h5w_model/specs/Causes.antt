@@ -1,5 +1,5 @@
 -- A thing outside counts its faults, and the count never falls. It stands still at its type's end.
-use Rattle.std.specs.Prelude.{ℕ, ◌+◌, ◌-◌, ◌^◌, ◌≤◌, min, Result, OnErr}
+use Rattle.std.specs.Prelude.{ℕ, ◌+◌, ◌-◌, ◌^◌, ◌≤◌, min}
 
 -- the count rose, or stands at the greatest u64
 abbrev pub Rose : ℕ → ℕ → Type 0

@@ -1,12 +1,12 @@
 -- From the bytes of a file to a dataset: superblock, root header, link, dataset header.
-use Rattle.std.specs.Prelude.{ℕ, zero, suc, ◌+◌, ◌-◌, ◌/◌, ◌%◌, Bool, true, false, ◌||◌, List, [], ◌∷◌, ◌++◌, length, map, find, nat_le, nat_lt, ◌==◌, if◌then◌else◌, Option, Some, None, option_map, Result, Ok, Err}
+use Rattle.std.specs.Prelude.{ℕ, zero, suc, ◌+◌, ◌-◌, ◌/◌, ◌%◌, Bool, true, false, ◌||◌, List, [], ◌∷◌, ◌++◌, length, map, find, nat_lt, ◌==◌, if◌then◌else◌, Option, Some, None, option_map, Result, Ok, Err}
 use Rattle.std.specs.List.{list_any}
 use Rattle.h5w_model.specs.Numbers.{field}
-use Rattle.h5w_model.specs.Programs.{Prog, ret, whole, counted, bind, and_then}
+use Rattle.h5w_model.specs.Programs.{Prog, ret, whole, counted, and_then}
 use Rattle.h5w_model.specs.Superblock.{super_at}
 use Rattle.h5w_model.specs.Headers.{prefix_at, messages_at, block_at, header_view, has}
 use Rattle.h5w_model.specs.Links.{links_at, find_link}
-use Rattle.h5w_model.specs.Messages.{ShapeFields, IntTypeFields, FillFields, LayoutFields, shape_at, int_type_at, fill_at, layout_at}
+use Rattle.h5w_model.specs.Messages.{unsupported, ShapeFields, IntTypeFields, FillFields, LayoutFields, shape_at, int_type_at, fill_at, layout_at}
 use Rattle.h5w_model.specs.declared.root.Super.{Super}
 use Rattle.h5w_model.specs.declared.message.Msg.{Msg}
 use Rattle.h5w_model.specs.declared.message.Prefix.{Prefix}
@@ -98,20 +98,22 @@ block_messages tracked place len b =
     if nat_lt (length b) len then Err (header_refusal place (header_errors.Short len (length b)))
     else then_also (refused_as (header_refusal place) (block_at tracked b)) (λ ms. Ok (found_at place false ms))
 
--- the messages up to the next continuation are done; at it `visit` goes on
-abbrev pub splice : (List Found → Found → List Found → Prog (Result HeaderFields ReadError)) → List Range → List Found → List Found → Prog (Result HeaderFields ReadError)
-splice visit visited done [] = ret (Ok (record { messages = done; ranges = visited }))
-splice visit visited done (m ∷ ms) = if m.kind == 0x10 then visit done m ms else splice visit visited (done ++ m ∷ []) ms
+-- Goes through messages. Those up to the first continuation are done; there `at_block` goes on, with the messages before the
+-- continuation, the continuation, and those behind it. Without one the header's messages are all that are done.
+abbrev pub splice : ((before : List Found) → Found → (rest : List Found) → Prog (Result HeaderFields ReadError)) → List Range → List Found → List Found → Prog (Result HeaderFields ReadError)
+splice at_block visited done [] = ret (Ok (record { messages = done; ranges = visited }))
+splice at_block visited done (m ∷ ms) = if m.kind == 0x10 then at_block done m ms else splice at_block visited (done ++ m ∷ []) ms
 
--- a header's messages, with at most so many continuation blocks more
+-- A header's messages, with at most so many continuation blocks more: each continuation's messages, which stand in its block,
+-- come in its place, before those behind it.
 abbrev pub walk : ℕ → ℕ → Bool → List Range → List Found → List Found → Prog (Result HeaderFields ReadError)
-walk zero header tracked visited done ms = splice (λ done m rest. ret (Err (Header header header_errors.Continuations))) visited done ms
+walk zero header tracked visited done ms = splice (λ before m rest. ret (Err (Header header header_errors.Continuations))) visited done ms
 walk (suc more) header tracked visited done ms =
-    splice (λ done m rest.
+    splice (λ before m rest.
     if nat_lt (block_len m) 8 then ret (Err (header_refusal (block_place m) (header_errors.Short 8 (block_len m))))
     else whole (block_place m) (block_len m) (λ b.
     elim (block_messages tracked (block_place m) (block_len m) b) [
-      | Ok inside ↦ walk more header tracked (visited ++ record { place = block_place m; len = block_len m } ∷ []) done (inside ++ rest)
+      | Ok inside ↦ walk more header tracked (visited ++ record { place = block_place m; len = block_len m } ∷ []) before (inside ++ rest)
       | Err e ↦ ret (Err e)
     ])) visited done ms
 
@@ -141,6 +143,22 @@ linked name ms = refused_as Link
 
 -- ---- The dataset header
 
+-- the kinds of messages that say what a dataset is, and of a filter pipeline
+abbrev pub dataspace_kind : ℕ
+dataspace_kind = 0x01
+
+abbrev pub datatype_kind : ℕ
+datatype_kind = 0x03
+
+abbrev pub fill_value_kind : ℕ
+fill_value_kind = 0x05
+
+abbrev pub layout_kind : ℕ
+layout_kind = 0x08
+
+abbrev pub filter_pipeline_kind : ℕ
+filter_pipeline_kind = 0x0b
+
 -- the first message of a kind
 abbrev pub first_of : ℕ → List Found → Option Found
 first_of kind ms = find (λ m. m.kind == kind) ms
@@ -163,23 +181,33 @@ pub record Described : Type 0 where
 -- the data of the first dataspace message, which stands in chunk 0
 abbrev pub dataspace_of : List Found → Result (List ℕ) Unsupported
 dataspace_of ms =
-    elim (first_of 0x01 ms) [
-      | Some m ↦ (if m.in_chunk then Ok m.body else Err (record { 0 = 4 }))
-      | None ↦ Err (record { 0 = 4 })
+    elim (first_of dataspace_kind ms) [
+      | Some m ↦ (if m.in_chunk then Ok m.body else Err (unsupported 4))
+      | None ↦ Err (unsupported 4)
     ]
 
 -- without a fill value message the fill is 0
 abbrev pub fill_of : List Found → IntTypeFields → Result FillFields Unsupported
-fill_of ms t = elim (body_of 0x05 ms) [ Some b ↦ fill_at b t | None ↦ Ok (record { value = None }) ]
+fill_of ms t = elim (body_of fill_value_kind ms) [ Some b ↦ fill_at b t | None ↦ Ok (record { value = None }) ]
 
--- what the messages say, or the least number of what is unsupported
+-- there is a filter pipeline
+abbrev pub is_filtered : List Found → Bool
+is_filtered ms = list_any (λ m. m.kind == filter_pipeline_kind) ms
+
+-- one of the messages that count is shared
+abbrev pub shares_a_message : List Found → Bool
+shares_a_message ms =
+    is_shared (first_of dataspace_kind ms) || is_shared (first_of datatype_kind ms) || is_shared (first_of fill_value_kind ms) || is_shared (first_of layout_kind ms)
+
+-- What the messages say, or the least number of what is unsupported: a filter pipeline, a shared message, a missing one,
+-- and then what dataspace, datatype, fill value and layout say.
 abbrev pub described : List Found → Result Described Unsupported
 described ms =
-    if list_any (λ m. m.kind == 0x0b) ms then Err (record { 0 = 2 })
-    else if is_shared (first_of 0x01 ms) || is_shared (first_of 0x03 ms) || is_shared (first_of 0x05 ms) || is_shared (first_of 0x08 ms) then Err (record { 0 = 3 })
+    if is_filtered ms then Err (unsupported 2)
+    else if shares_a_message ms then Err (unsupported 3)
     else then_also (dataspace_of ms) (λ space.
-    then_also (or_refuse (body_of 0x03 ms) (record { 0 = 4 })) (λ datatype.
-    then_also (or_refuse (body_of 0x08 ms) (record { 0 = 4 })) (λ layout.
+    then_also (or_refuse (body_of datatype_kind ms) (unsupported 4)) (λ datatype.
+    then_also (or_refuse (body_of layout_kind ms) (unsupported 4)) (λ layout.
     then_also (shape_at space) (λ s.
     then_also (int_type_at datatype) (λ t.
     then_also (fill_of ms t) (λ f.
@@ -189,7 +217,7 @@ described ms =
 abbrev pub dataset_messages : ℕ → List ℕ → Prog (Result HeaderFields ReadError)
 dataset_messages place b =
     elim (prefix_at b) [
-      | Ok p ↦ (if nat_lt 512 p.total then ret (Err (read_errors.Unsupported (record { 0 = 1 }))) else from_chunk place p b)
+      | Ok p ↦ (if nat_lt 512 p.total then ret (Err (read_errors.Unsupported (unsupported 1))) else from_chunk place p b)
       | Err e ↦ ret (Err (header_refusal place e))
     ]
 

@@ -1,12 +1,13 @@
 -- What a whole file is checked for: the findings in the order in which they are tried, and what a valid file has.
-use Rattle.std.specs.Prelude.{◌≡◌, ℕ, zero, suc, ◌+◌, ◌-◌, ◌*◌, Bool, true, false, not, ◌&&◌, List, [], ◌∷◌, ◌++◌, length, map, find, count_by, sum_by, nat_le, nat_lt, ◌==◌, if◌then◌else◌, Option, Some, None, Result, Ok, Err}
+use Rattle.std.specs.Prelude.{◌≡◌, ℕ, zero, suc, ◌+◌, ◌-◌, ◌*◌, Bool, true, false, not, ◌&&◌, List, [], ◌∷◌, ◌++◌, length, map, count_by, sum_by, nat_le, nat_lt, ◌==◌, if◌then◌else◌, Option, Some, None, Result, Ok, Err}
 use Rattle.h5w_model.specs.Numbers.{undefined}
+use Rattle.h5w_model.specs.Checked.{checked}
 use Rattle.h5w_model.specs.Programs.{Prog, ret, whole, counted, eval, bind, and_then}
 use Rattle.h5w_model.specs.Superblock.{super_at}
 use Rattle.h5w_model.specs.Headers.{header_view}
-use Rattle.h5w_model.specs.Arrays.{EaibFields, eahd_at, eaib_at, easb_at, eadb_at, eahd_len, eaib_len, slots_len, super_block_of}
-use Rattle.h5w_model.specs.Trees.{RecordFields, ChildFields, BtinFields, bthd_at, btlf_at, btin_at, bthd_len, btlf_len, btin_len, node_size}
-use Rattle.h5w_model.specs.Datasets.{Described, HeaderFields, Range, is_swmr, root_header, linked, dataset_messages, described, then_also, refused_as}
+use Rattle.h5w_model.specs.Arrays.{eahd_at, eaib_at, easb_at, eadb_at, eahd_len, eaib_len, slots_len, super_block_of}
+use Rattle.h5w_model.specs.Trees.{RecordFields, ChildFields, bthd_at, btlf_at, btin_at, bthd_len, btlf_len, btin_len, node_size}
+use Rattle.h5w_model.specs.Datasets.{Described, Range, is_swmr, root_header, linked, dataset_messages, described, then_also, refused_as}
 use Rattle.h5w_model.specs.Tables.{Limits, limit_of, needed, format_limits, key_below, super_block_of_first}
 use Rattle.h5w_model.specs.declared.root.Super.{Super}
 use Rattle.h5w_model.specs.declared.cell.Key.{Key}
@@ -15,6 +16,86 @@ use Rattle.h5w_model.specs.declared.refusal.SuperError.{SuperError}
 use Rattle.h5w_model.specs.declared.refusal.SuperError.TheVariants as super_errors
 use Rattle.h5w_model.specs.declared.refusal.ReadError.{ReadError}
 use Rattle.h5w_model.specs.declared.refusal.ReadError.TheVariants as read_errors
+
+-- ---- The kinds of findings. An overlap of two ranges is kind 19.
+
+-- no HDF5 signature
+abbrev pub not_hdf5 : ℕ
+not_hdf5 = 1
+
+-- the superblock is cut, or its version, sizes, base or extension are outside the profile
+abbrev pub bad_superblock : ℕ
+bad_superblock = 2
+
+-- the superblock has a wrong sum
+abbrev pub superblock_sum : ℕ
+superblock_sum = 3
+
+-- one of flag bits 0 and 2 without the other
+abbrev pub half_flagged : ℕ
+half_flagged = 4
+
+-- the end-of-file address is past the size
+abbrev pub cut_off : ℕ
+cut_off = 5
+
+-- the root header, or a continuation of it
+abbrev pub bad_root : ℕ
+bad_root = 6
+
+-- no hard link of the name
+abbrev pub no_link : ℕ
+no_link = 7
+
+-- the dataset header, or a continuation of it
+abbrev pub bad_dataset_header : ℕ
+bad_dataset_header = 8
+
+-- what its messages say is outside the profile
+abbrev pub unsupported_dataset : ℕ
+unsupported_dataset = 9
+
+-- the header of the array or of the tree
+abbrev pub bad_index_header : ℕ
+bad_index_header = 10
+
+-- the index block
+abbrev pub bad_index_block : ℕ
+bad_index_block = 11
+
+-- a secondary block
+abbrev pub bad_secondary_block : ℕ
+bad_secondary_block = 12
+
+-- a data block
+abbrev pub bad_data_block : ℕ
+bad_data_block = 13
+
+-- a node of the tree
+abbrev pub bad_node : ℕ
+bad_node = 14
+
+-- a child's total is not the number of records under it
+abbrev pub wrong_total : ℕ
+wrong_total = 15
+
+-- the keys under a node do not rise
+abbrev pub keys_not_rising : ℕ
+keys_not_rising = 16
+
+-- a chunk passes the end-of-file address
+abbrev pub chunk_past_end : ℕ
+chunk_past_end = 17
+
+-- a block passes the end-of-file address
+abbrev pub block_past_end : ℕ
+block_past_end = 18
+
+-- the rows need more chunks than the limit
+abbrev pub too_many_chunks : ℕ
+too_many_chunks = 20
+
+-- ---- Findings
 
 -- a kind of finding at a place, or two ranges that overlap: the later one, and the earlier one that reaches farthest
 pub data Finding : Type 0 where
@@ -43,28 +124,28 @@ Visited = Prog (Result (List Used) Finding)
 -- ---- Superblock and headers
 
 abbrev pub super_finding : SuperError → Finding
-super_finding super_errors.NotHdf5 = found 1 0
-super_finding (super_errors.Sum sums) = found 3 0
-super_finding e = found 2 0
+super_finding super_errors.NotHdf5 = found not_hdf5 0
+super_finding (super_errors.Sum sums) = found superblock_sum 0
+super_finding e = found bad_superblock 0
 
 -- the superblock of an image of some size
 abbrev pub checked_super : ℕ → List ℕ → Result Super Finding
 checked_super size b =
     then_also (refused_as super_finding (super_at b)) (λ s.
-    if not (is_swmr s.flags) then Err (found 4 0)
-    else if nat_lt size s.end then Err (found 5 0) else Ok s)
+    if not (is_swmr s.flags) then Err (found half_flagged 0)
+    else if nat_lt size s.end then Err (found cut_off 0) else Ok s)
 
 -- the ranges of a header; the first that passes the end-of-file address is a finding
 abbrev pub header_ranges : ℕ → List Range → Result (List Used) Finding
 header_ranges end [] = Ok []
 header_ranges end (r ∷ rs) =
-    if nat_lt end (r.place + r.len) then Err (found 18 r.place)
+    if nat_lt end (r.place + r.len) then Err (found block_past_end r.place)
     else then_also (header_ranges end rs) (λ us. Ok (record { place = r.place; len = r.len; chunk = false } ∷ us))
 
 -- unsupported comes as itself, each other refusal of the dataset header as one kind
 abbrev pub dataset_finding : ℕ → ReadError → Finding
-dataset_finding at (read_errors.Unsupported n) = found 9 at
-dataset_finding at e = found 8 at
+dataset_finding at (read_errors.Unsupported n) = found unsupported_dataset at
+dataset_finding at e = found bad_dataset_header at
 
 -- ---- Chunks
 
@@ -73,7 +154,7 @@ abbrev pub chunk_ranges : ℕ → ℕ → List ℕ → Result (List Used) Findin
 chunk_ranges end bytes [] = Ok []
 chunk_ranges end bytes (a ∷ rest) =
     if a == undefined then chunk_ranges end bytes rest
-    else if nat_lt end (a + bytes) then Err (found 17 a)
+    else if nat_lt end (a + bytes) then Err (found chunk_past_end a)
     else then_also (chunk_ranges end bytes rest) (λ us. Ok (record { place = a; len = bytes; chunk = true } ∷ us))
 
 -- ---- The extensible array
@@ -81,7 +162,7 @@ chunk_ranges end bytes (a ∷ rest) =
 -- a block of an index, within the end-of-file address before its bytes are looked at
 abbrev pub block_in : ℕ → ℕ → ℕ → (List ℕ → Visited) → Visited
 block_in end at n visit =
-    if nat_lt end (at + n) then ret (Err (found 18 at))
+    if nat_lt end (at + n) then ret (Err (found block_past_end at))
     else whole at n (λ b. and_then (visit b) (λ us. ret (Ok (record { place = at; len = n; chunk = false } ∷ us))))
 
 -- what one visit gives, and then another
@@ -97,7 +178,7 @@ abbrev pub data_block_visit : ℕ → ℕ → ℕ → ℕ → Visited
 data_block_visit end bytes n at =
     if at == undefined then ret (Ok [])
     else block_in end at (slots_len n) (λ b.
-    elim (eadb_at b at n) [ Ok d ↦ ret (chunk_ranges end bytes d.slots) | Err f ↦ ret (Err (found 13 at)) ])
+    elim (eadb_at b at n) [ Ok d ↦ ret (chunk_ranges end bytes d.slots) | Err f ↦ ret (Err (found bad_data_block at)) ])
 
 abbrev pub secondary_block_visit : ℕ → ℕ → ℕ → ℕ → Visited
 secondary_block_visit end bytes sblock at =
@@ -105,7 +186,7 @@ secondary_block_visit end bytes sblock at =
     else block_in end at (slots_len (super_block_of sblock).blocks) (λ b.
     elim (easb_at b at (super_block_of sblock).blocks) [
       | Ok s ↦ visit_each (data_block_visit end bytes (super_block_of sblock).slots) s.slots
-      | Err f ↦ ret (Err (found 12 at))
+      | Err f ↦ ret (Err (found bad_secondary_block at))
     ])
 
 -- the data blocks that the index block names, by their number
@@ -125,7 +206,7 @@ index_block_visit end bytes at =
     block_in end at eaib_len (λ b.
     elim (eaib_at b at) [
       | Ok e ↦ both (ret (chunk_ranges end bytes e.slots)) (both (first_visits end bytes 0 e.first) (second_visits end bytes 4 e.second))
-      | Err f ↦ ret (Err (found 11 at))
+      | Err f ↦ ret (Err (found bad_index_block at))
     ])
 
 abbrev pub array_visit : ℕ → ℕ → ℕ → Visited
@@ -133,7 +214,7 @@ array_visit end bytes at =
     block_in end at eahd_len (λ b.
     elim (eahd_at b at) [
       | Ok h ↦ (if h.block == undefined then ret (Ok []) else index_block_visit end bytes h.block)
-      | Err f ↦ ret (Err (found 10 at))
+      | Err f ↦ ret (Err (found bad_index_header at))
     ])
 
 -- ---- The tree
@@ -164,11 +245,12 @@ record_under end bytes r = then_also (chunk_ranges end bytes (r.address ∷ []))
 abbrev pub node_at : ℕ → Under → Under
 node_at at u = record { ranges = record { place = at; len = node_size; chunk = false } ∷ u.ranges; keys = u.keys }
 
--- after the children: their totals, and then that the keys rise
+-- the tests behind the children: that their totals are right, and that the keys rise
+abbrev pub node_checks : ℕ → Bool → Under → List (Bool × Finding)
+node_checks at totals u = (totals, found wrong_total at) ∷ (are_rising u.keys, found keys_not_rising at) ∷ []
+
 abbrev pub node_finding : ℕ → Bool → Under → Result Under Finding
-node_finding at totals u =
-    if not totals then Err (found 15 at)
-    else if are_rising u.keys then Ok (node_at at u) else Err (found 16 at)
+node_finding at totals u = checked (node_checks at totals u) (node_at at u)
 
 -- children and records of an inner node in the order of keys; whether each child's total is what stands under it
 abbrev pub children_under : ℕ → ℕ → (ChildFields → Prog (Result Under Finding)) → List RecordFields → List ChildFields → Prog (Result (Bool × Under) Finding)
@@ -184,19 +266,19 @@ children_under end bytes go (r ∷ rs) (c ∷ cs) =
 -- the node of a depth at an address, with n records
 abbrev pub node_visit : ℕ → ℕ → ℕ → ℕ → ℕ → Prog (Result Under Finding)
 node_visit end bytes zero at n =
-    if nat_lt end (at + node_size) then ret (Err (found 18 at))
+    if nat_lt end (at + node_size) then ret (Err (found block_past_end at))
     else whole at (btlf_len n) (λ b.
     elim (btlf_at b at n) [
       | Ok rs ↦ ret (then_also (chunk_ranges end bytes (map (λ r. r.address) rs)) (λ us. node_finding at true (record { ranges = us; keys = keys_of rs })))
-      | Err f ↦ ret (Err (found 14 at))
+      | Err f ↦ ret (Err (found bad_node at))
     ])
 node_visit end bytes (suc depth) at n =
-    if nat_lt end (at + node_size) then ret (Err (found 18 at))
+    if nat_lt end (at + node_size) then ret (Err (found block_past_end at))
     else whole at (btin_len n (suc depth)) (λ b.
     elim (btin_at b at n (suc depth)) [
       | Ok t ↦ and_then (children_under end bytes (λ c. node_visit end bytes depth c.address c.records) t.records t.children)
           (λ u. ret (node_finding at u.0 u.1))
-      | Err f ↦ ret (Err (found 14 at))
+      | Err f ↦ ret (Err (found bad_node at))
     ])
 
 abbrev pub tree_visit : ℕ → ℕ → ℕ → Visited
@@ -204,7 +286,7 @@ tree_visit end bytes at =
     block_in end at bthd_len (λ b.
     elim (bthd_at b at) [
       | Ok t ↦ (if t.root == undefined then ret (Ok []) else and_then (node_visit end bytes t.depth t.root t.records) (λ u. ret (Ok u.ranges)))
-      | Err f ↦ ret (Err (found 10 at))
+      | Err f ↦ ret (Err (found bad_index_header at))
     ])
 
 -- ---- The whole file
@@ -257,9 +339,9 @@ verdict s d us = elim (overlap_of (by_place us)) [ None ↦ Ok (summary s d us) 
 abbrev pub checked_root : List ℕ → Super → Prog (Result (ℕ × List Used) Finding)
 checked_root name s =
     bind (root_header s.root) (λ r. ret (
-    then_also (refused_as (λ e. found 6 s.root) r) (λ h.
+    then_also (refused_as (λ e. found bad_root s.root) r) (λ h.
     then_also (header_ranges s.end h.ranges) (λ us.
-    then_also (refused_as (λ e. found 7 s.root) (linked name h.messages)) (λ at. Ok (at, us))))))
+    then_also (refused_as (λ e. found no_link s.root) (linked name h.messages)) (λ at. Ok (at, us))))))
 
 -- what the dataset header says, and its ranges
 abbrev pub checked_dataset : Limits → Super → ℕ → Prog (Result (Described × List Used) Finding)
@@ -267,8 +349,8 @@ checked_dataset limits s at =
     counted at header_view (λ b. bind (dataset_messages at b) (λ r. ret (
     then_also (refused_as (dataset_finding at) r) (λ h.
     then_also (header_ranges s.end h.ranges) (λ us.
-    then_also (refused_as (λ e. found 9 at) (described h.messages)) (λ d.
-    if nat_lt (limit_of limits d.layout.index) (needed d) then Err (found 20 at) else Ok (d, us)))))))
+    then_also (refused_as (λ e. found unsupported_dataset at) (described h.messages)) (λ d.
+    if nat_lt (limit_of limits d.layout.index) (needed d) then Err (found too_many_chunks at) else Ok (d, us)))))))
 
 -- the check of an image of some size
 abbrev pub check : Limits → List ℕ → ℕ → Prog (Result Summary Finding)

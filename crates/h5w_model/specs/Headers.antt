@@ -279,13 +279,14 @@ with_rows_bytes b rows index = sealed_block (take (header_length b - 4) (rows_ch
 
 -- ---- A look
 
--- what counts of a look of up to 512 bytes at a dataset's header, for whether two looks are equal: all where there is less
--- than what stands before the messages; the first 5 where signature or version is refused, and a zero behind them, so that
--- they are refused as the whole is; the bytes filled up to 512 with zeros where chunk 0 is longer than that; else chunk 0
+-- so many zeros
 abbrev pub zeros : ℕ → List ℕ
 zeros zero = []
 zeros (suc n) = 0 ∷ zeros n
 
+-- What counts of a look of up to 512 bytes at a dataset's header, for whether two looks are equal: all where there is less
+-- than what stands before the messages; the first 5 where signature or version is refused, and a zero behind them, so that
+-- they are refused as the whole is; the bytes filled up to 512 with zeros where chunk 0 is longer than that; else chunk 0.
 unfoldable pub header_view : List ℕ → List ℕ
 header_view b = elim (prefix_at b) [
   | Err e ↦ elim e [

@@ -1,5 +1,5 @@
 -- Which replies a script of one writer and some readers may be given.
-use Rattle.std.specs.Prelude.{◌≡◌, ◌≢◌, ◌⊎◌, ℕ, ◌+◌, ◌-◌, ◌*◌, ◌/◌, ◌<◌, ◌≤◌, min, Bool, true, false, List, [], ◌∷◌, ◌++◌, length, take, drop, Contains, ℤ, nat_lt, ◌==◌, if◌then◌else◌, MatchBool, Option, Some, None}
+use Rattle.std.specs.Prelude.{◌≡◌, ◌⊎◌, ℕ, ◌+◌, ◌-◌, ◌*◌, ◌/◌, ◌<◌, ◌≤◌, min, Bool, true, false, List, [], ◌∷◌, ◌++◌, length, replicate, take, drop, Contains, ℤ, nat_lt, ◌==◌, if◌then◌else◌, MatchBool, Option, Some, None}
 use Rattle.h5w_model.specs.Messages.{IntTypeFields}
 use Rattle.h5w_model.specs.Integers.{cell_bytes_of}
 use Rattle.h5w_model.specs.Logs.{Cutting, needed_chunks, touched_chunks}
@@ -58,7 +58,7 @@ pub record ReaderState : Type 0 where
   pub call : Option Calling
 
 -- The values appended, the rows flushed, the pieces pending and whether they end a flush, the loads so far, whether
--- the writer stopped, and the readers that were opened, the last changed first.
+-- the writer stopped, and the readers that were opened, in the order of their opening.
 pub record ScriptState : Type 0 where
   pub appended : List ℤ
   pub flushed : ℕ
@@ -181,10 +181,11 @@ pub record IsLooking (r : ℕ) (c : Calling) (k bound : ℕ) (reply : Reply) : T
   pub is : reply ≡ replies.Looking r
   pub fewer : c.looks + k < bound
 
+-- what a line of k looks is answered: an answer of the call, which takes a look at least, or that more looks are to be taken
 abbrev pub AnswerAllowed : Rules → ScriptState → ℕ → ReaderState → Calling → ℕ → CallKind → Reply → Type 0
-AnswerAllowed g s r x c k for_rows reply = IsRows s r x c reply ⊎ IsAgain g r c reply ⊎ IsLooking r c k (most_looks g s) reply
+AnswerAllowed g s r x c k for_rows reply = (1 ≤ k) × (IsRows s r x c reply ⊎ IsAgain g r c reply) ⊎ IsLooking r c k (most_looks g s) reply
 AnswerAllowed g s r x c k (for_values from count) reply =
-    (reply ≡ replies.Values r (values_of g s from count)) ⊎ IsLooking r c k (most_value_looks g from count) reply
+    (1 ≤ k) × (reply ≡ replies.Values r (values_of g s from count)) ⊎ IsLooking r c k (most_value_looks g from count) reply
 
 abbrev pub CallAllowed : Rules → ScriptState → ℕ → ReaderState → ℕ → Option Calling → Reply → Type 0
 CallAllowed g s r x k None reply = reply ≡ replies.Idle r
@@ -207,9 +208,14 @@ Allowed g s (refreshes r) reply = reply ≡ refresh_reply s r
 Allowed g s (reads r from count) reply = reply ≡ read_reply s r from count
 Allowed g s (looks r k) reply = LookAllowed g s r k (reader_in r s.readers) reply
 
+-- the readers with another state of one of them, or with one more behind the others
+abbrev pub put_reader : ℕ → ReaderState → List (ℕ × ReaderState) → List (ℕ × ReaderState)
+put_reader r x [] = (r, x) ∷ []
+put_reader r x (y ∷ ys) = if y.0 == r then (r, x) ∷ ys else y ∷ put_reader r x ys
+
 -- a reader's new state
 abbrev pub with_reader : ScriptState → ℕ → ReaderState → ScriptState
-with_reader s r x = record s { readers = (r, x) ∷ s.readers }
+with_reader s r x = record s { readers = put_reader r x s.readers }
 
 -- a new call
 abbrev pub begun_call : ScriptState → CallKind → Calling
@@ -233,7 +239,7 @@ after_shows g s j =
 
 -- k looks of a call without an answer
 abbrev pub looked : ScriptState → Calling → ℕ → Calling
-looked s c k = record c { looks = c.looks + k; at_looks = s.flushed ∷ c.at_looks }
+looked s c k = record c { looks = c.looks + k; at_looks = replicate k s.flushed ++ c.at_looks }
 
 -- a reader after a line of looks
 abbrev pub after_looks : ScriptState → ℕ → ReaderState → Reply → ReaderState

@@ -17,8 +17,11 @@ pub mod Datasets
 pub mod Tables
 pub mod Findings
 pub mod Prefixed
+pub mod Options
 pub mod Lawful
 pub mod Causes
 pub mod Calls
+pub mod Unfinished
+pub mod Asked
 pub mod Relations
 pub mod Readers

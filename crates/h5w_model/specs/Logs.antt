@@ -9,10 +9,11 @@ pub data Happening : Type 0 where
   plans : ℕ → Happening
   shows : Write → Happening
 
--- The bytes that a session began over (none where it created them), the values that they read as, the position
--- after which a reader finds a file, and what happened since.
+-- The bytes that a session began over (none where it created them), the dataset's columns, the values of the rows that
+-- these bytes read as, the position after which a reader finds a file, and what happened since.
 pub record Log : Type 0 where
   pub start : List ℕ
+  pub columns : ℕ
   pub values : List ℤ
   pub first : ℕ
   pub events : List Happening
@@ -61,9 +62,21 @@ events_at p (e ∷ es) = if nat_le (shown (e ∷ es)) p then e ∷ es else event
 abbrev pub at_position : Log → ℕ → Log
 at_position log p = record log { events = events_at p log.events }
 
--- how many values are flushed at position p
+-- how many rows these values of a log's dataset are
+abbrev pub rows_in : Log → List ℤ → ℕ
+rows_in log values = length values / log.columns
+
+-- how many rows are flushed
+abbrev pub flushed_rows : Log → ℕ
+flushed_rows log = rows_in log (flushed log)
+
+-- how many rows are flushed at position p
 abbrev pub flushed_at : Log → ℕ → ℕ
-flushed_at log p = length (flushed (at_position log p))
+flushed_at log p = flushed_rows (at_position log p)
+
+-- the values of the first n rows that were appended
+abbrev pub first_rows : Log → ℕ → List ℤ
+first_rows log n = take (n * log.columns) (appended log)
 
 -- one more event
 abbrev pub and_now : Happening → Log → Log

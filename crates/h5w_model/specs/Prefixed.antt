@@ -1,13 +1,13 @@
 -- What holds of the image at every position of a log: it is valid and reads as the flushed rows, and what readers
 -- rest on stays from one position to a later one.
-use Rattle.std.specs.Prelude.{◌≡◌, ◌≢◌, ℕ, ◌+◌, ◌<◌, ◌≤◌, List, [], ◌∷◌, length, take, get_or, slice_get, Option, Some, None, Result, Ok, Err}
+use Rattle.std.specs.Prelude.{◌≡◌, ◌≢◌, ◌⊎◌, ℕ, ◌+◌, ◌<◌, ◌≤◌, List, [], ◌∷◌, length, take, get_or, slice_get, Option, Some, None, Ok, Err}
 use Rattle.h5w_model.specs.Numbers.{range, undefined}
 use Rattle.h5w_model.specs.Images.{image, Misses}
-use Rattle.h5w_model.specs.Programs.{Prog, Visit, eval, visits, Same}
+use Rattle.h5w_model.specs.Programs.{Visit, eval, visits, Same}
 use Rattle.h5w_model.specs.Superblock.{super_fields}
-use Rattle.h5w_model.specs.Headers.{header_view}
+use Rattle.h5w_model.specs.Headers.{header_view, rows_in_header, index_in_header}
 use Rattle.h5w_model.specs.Arrays.{eahd_at, eahd_len}
-use Rattle.h5w_model.specs.Logs.{Log, Happening, appends, plans, shows, hist, shown, appended, flushed, flushed_at, and_now}
+use Rattle.h5w_model.specs.Logs.{Log, Happening, hist, shown, flushed, flushed_rows, flushed_at, first_rows}
 use Rattle.h5w_model.specs.Datasets.{Described, root_header, dataset_from}
 use Rattle.h5w_model.specs.Tables.{Reading, Shows, Reads, InPlace, in_place, address_behind, format_limits, cell}
 use Rattle.h5w_model.specs.Findings.{Summary, Valid}
@@ -29,7 +29,7 @@ pub record IsPosition (log : Log) (p : ℕ) : Type 0 where
 pub record PrefixedAt (name : List ℕ) (log : Log) (p : ℕ) : Type 0 where
   pub summary : Summary
   pub valid : Valid (image_at log p) name summary
-  pub reads : Reads (image_at log p) name (take (flushed_at log p) (appended log))
+  pub reads : Reads (image_at log p) name (flushed_at log p) log.columns (first_rows log (flushed_at log p))
 
 -- at every position
 abbrev pub Prefixed : List ℕ → Log → Type 0
@@ -39,7 +39,7 @@ Prefixed name log = (p : ℕ) → IsPosition log p → PrefixedAt name log p
 pub record ReadsNow (name : List ℕ) (log : Log) : Type 0 where
   pub summary : Summary
   pub valid : Valid (image log.start (hist log.events)) name summary
-  pub reads : Reads (image log.start (hist log.events)) name (flushed log)
+  pub reads : Reads (image log.start (hist log.events)) name (flushed_rows log) log.columns (flushed log)
 
 -- after each event, once the first superblock is there
 abbrev pub EachReads : List ℕ → Log → List Happening → Type 0
@@ -73,6 +73,20 @@ pub record SameDescribed (old new : Described) : Type 0 where
   pub rows_alone : new ≡ record old { shape = record (old.shape) { rows = new.shape.rows }; layout = record (old.layout) { address = new.layout.address } }
   pub address : StaysDefined old.layout.address new.layout.address
 
+-- byte k is outside the 8 bytes at a place, where there is such a place
+abbrev pub IsOutside : Option ℕ → ℕ → Type 0
+IsOutside None k = Unit {0}
+IsOutside (Some place) k = (k < place) ⊎ (place + 8 ≤ k)
+
+-- What counts of a dataset header (its chunk 0) at a later moment: the same bytes but for the size of dimension 0, an index
+-- address that was undefined, and the sum behind them.
+pub record SameHeader (old new : List ℕ) (address : ℕ) : Type 0 where
+  pub size : length new ≡ length old
+  pub rows_place : rows_in_header new ≡ rows_in_header old
+  pub index_place : index_in_header new ≡ index_in_header old
+  pub bytes : (k : ℕ) → k + 4 < length old → IsOutside (rows_in_header old) k → (address ≢ undefined) ⊎ IsOutside (index_in_header old) k
+      → get_or new k 0 ≡ get_or old k 0
+
 -- each block behind those in place, for every key, has the same bytes
 abbrev pub SameBehind : List ℕ → Reading → List ℕ → Type 0
 SameBehind old r new =
@@ -91,6 +105,8 @@ pub record Stays (old : List ℕ) (r : Reading) (new : List ℕ) (s : Reading) :
   pub named : continuation_blocks new s ≡ continuation_blocks old r
   pub continuations : Same old new (continuation_blocks old r)
   pub described : SameDescribed r.dataset s.dataset
+  -- of chunk 0 only the rows, an index address that was undefined, and the sum change
+  pub chunk_0 : SameHeader (header_view (range old r.place 512)) (header_view (range new r.place 512)) r.dataset.layout.address
   pub rows : r.dataset.shape.rows ≤ s.dataset.shape.rows
   -- each commit raises the rows
   pub header : r.dataset.shape.rows ≡ s.dataset.shape.rows → header_view (range new r.place 512) ≡ header_view (range old r.place 512)

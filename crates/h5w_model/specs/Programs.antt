@@ -1,5 +1,5 @@
 -- What is asked of the bytes of a file, look by look, and what it gives on an image or over looks.
-use Rattle.std.specs.Prelude.{◌≡◌, ℕ, zero, suc, ◌+◌, ◌-◌, ◌/◌, ◌^◌, ◌≤◌, min, Bool, true, false, List, [], ◌∷◌, ◌++◌, length, take, ◌==◌, ◌&&◌, if◌then◌else◌, Option, Some, None, Result, Ok, Err}
+use Rattle.std.specs.Prelude.{◌≡◌, ℕ, zero, suc, ◌+◌, ◌-◌, ◌/◌, ◌^◌, min, Bool, List, [], ◌∷◌, ◌++◌, length, take, ◌==◌, ◌&&◌, if◌then◌else◌, Option, Some, None, Result, Ok, Err}
 use Rattle.h5w_model.specs.Numbers.{range}
 
 -- A program of looks. `whole` asks for a block of any length, each time anew. `counted` asks for up to 512
@@ -115,6 +115,27 @@ rest_after (whole at len next) (l ∷ ls) = if (l.place == at) && (l.len == len)
 rest_after (ret a) (l ∷ ls) = None
 rest_after (counted at counts next) (l ∷ ls) = None
 rest_after (stored kind at len next) (l ∷ ls) = None
+
+-- another look is to be taken
+abbrev pub WantsMore : {A : Type 0} → Prog A → Type 0
+WantsMore (ret a) = ⊥
+WantsMore (whole at len next) = Unit {0}
+WantsMore (counted at counts next) = ⊥
+WantsMore (stored kind at len next) = ⊥
+
+-- the place and the length of the next look of a program of plain looks; none where it has its answer
+abbrev pub next_look : {A : Type 0} → Prog A → Option (ℕ × ℕ)
+next_look (ret a) = None
+next_look (whole at len next) = Some (at, len)
+next_look (counted at counts next) = None
+next_look (stored kind at len next) = None
+
+-- what is left of it once its next look gave these bytes
+abbrev pub fed : {A : Type 0} → List ℕ → Prog A → Prog A
+fed b (ret a) = ret a
+fed b (whole at len next) = next b
+fed b (counted at counts next) = counted at counts next
+fed b (stored kind at len next) = stored kind at len next
 
 -- these looks are all that a program of plain looks takes, and it answers this
 abbrev pub Takes : {A : Type 0} → Prog A → List Look → A → Type 0

@@ -1,14 +1,19 @@
 -- What programs of looks say of an image, in the standard's own words: relations between bytes and what they mean.
-use Rattle.std.specs.Prelude.{◌≡◌, ◌≢◌, ◌⊎◌, ℕ, suc, ◌+◌, ◌-◌, ◌<◌, ◌≤◌, Bool, true, false, IsTrue, List, [], ◌∷◌, ◌++◌, length, get_or, Result, Ok, Err}
+use Rattle.std.specs.Prelude.{◌≡◌, ◌≢◌, ◌⊎◌, ℕ, zero, suc, ◌-◌, ◌≤◌, Bool, true, false, IsTrue, List, [], ◌∷◌, ◌++◌, length, take, get_or, slice_get, Some, IfSome, Ok}
+use Rattle.std.specs.List.{All}
 use Rattle.h5w_model.specs.Numbers.{range, undefined}
 use Rattle.h5w_model.specs.Superblock.{super_at}
 use Rattle.h5w_model.specs.Headers.{prefix_at, messages_at, block_at, continuation_kind}
 use Rattle.h5w_model.specs.Arrays.{EahdFields, EaibFields, SlotsFields, eahd_at, eaib_at, easb_at, eadb_at, eahd_len, eaib_len, slots_len, super_block_of, place_of}
+use Rattle.h5w_model.specs.Trees.{RecordFields, ChildFields, BthdFields, BtinFields, bthd_at, btlf_at, btin_at, bthd_len, btlf_len, btin_len}
 use Rattle.h5w_model.specs.Datasets.{Found, Described, found_at, block_place, block_len, is_swmr, linked, described}
-use Rattle.h5w_model.specs.Tables.{super_block_of_first}
+use Rattle.h5w_model.specs.Tables.{Limits, Reading, super_block_of_first, key_below, limit_of, needed, needed_keys}
 use Rattle.h5w_model.specs.declared.message.Msg.{Msg}
 use Rattle.h5w_model.specs.declared.message.Prefix.{Prefix}
 use Rattle.h5w_model.specs.declared.root.Super.{Super}
+use Rattle.h5w_model.specs.declared.cell.Key.{Key}
+use Rattle.h5w_model.specs.declared.cell.IndexKind.{IndexKind}
+use Rattle.h5w_model.specs.declared.cell.IndexKind.TheVariants.{Array, Tree}
 use Rattle.h5w_model.specs.declared.cell.Place.{Place}
 use Rattle.h5w_model.specs.declared.cell.Place.TheVariants.{Index, Direct, Second}
 
@@ -87,3 +92,67 @@ abbrev pub ArraySlot : List ℕ → ℕ → ℕ → ℕ → Type 0
 ArraySlot img address i x =
     (h : EahdFields) × (eahd_at (range img address eahd_len) address ≡ Ok h)
     × ((h.block ≡ undefined) × (x ≡ undefined) ⊎ (e : EaibFields) × (h.block ≢ undefined) × IsIndexBlock img h.block e × SlotAt img e (place_of i) x)
+
+-- ---- The record of a chunk in a version 2 B-tree (HDF5 File Format Specification 3.0, "Version 2 B-trees")
+
+-- the records before a place are below the key, and the one at it, where there is one, is not
+pub record IsPlaceOf (key : Key) (rs : List RecordFields) (i : ℕ) : Type 0 where
+  pub inside : i ≤ length rs
+  pub below : All (λ s. key_below s.key key ≡ true) (take i rs)
+  pub not_below : IfSome (slice_get rs i) (λ r. key_below r.key key ≡ false)
+
+-- the record at a place has the key
+abbrev pub HasRecord : Key → List RecordFields → ℕ → ℕ → Type 0
+HasRecord key rs i x = (r : RecordFields) × (slice_get rs i ≡ Some r) × (r.key ≡ key) × (x ≡ r.address)
+
+-- it has another, or there is none
+abbrev pub HasNoRecord : Key → List RecordFields → ℕ → Type 0
+HasNoRecord key rs i = IfSome (slice_get rs i) (λ r. r.key ≢ key)
+
+-- in a leaf: at the first record that is not below the key; undefined where that has another key, or where there is none
+abbrev pub LeafSlot : Key → List RecordFields → ℕ → Type 0
+LeafSlot key rs x = (i : ℕ) × IsPlaceOf key rs i × (HasRecord key rs i x ⊎ HasNoRecord key rs i × (x ≡ undefined))
+
+-- the child at the place says it
+abbrev pub HasChild : List ChildFields → (ChildFields → Type 0) → ℕ → Type 0
+HasChild cs Says i = (c : ChildFields) × (slice_get cs i ≡ Some c) × Says c
+
+-- in an inner node: at the first record that is not below the key; on to the child there where that has another key, or where
+-- there is none
+abbrev pub NodeSlot : Key → List RecordFields → List ChildFields → (ChildFields → Type 0) → ℕ → Type 0
+NodeSlot key rs cs Says x = (i : ℕ) × IsPlaceOf key rs i × (HasRecord key rs i x ⊎ HasNoRecord key rs i × HasChild cs Says i)
+
+-- under the node of a depth at an address, with n records
+abbrev pub TreeSlot : List ℕ → ℕ → Key → ℕ → ℕ → ℕ → Type 0
+TreeSlot img zero key address n x =
+    (rs : List RecordFields) × (btlf_at (range img address (btlf_len n)) address n ≡ Ok rs) × LeafSlot key rs x
+TreeSlot img (suc depth) key address n x =
+    (t : BtinFields) × (btin_at (range img address (btin_len n (suc depth))) address n (suc depth) ≡ Ok t)
+    × NodeSlot key t.records t.children (λ c. TreeSlot img depth key c.address c.records x) x
+
+-- in the tree whose header is at an address: undefined where its root is
+abbrev pub TreeChunk : List ℕ → ℕ → Key → ℕ → Type 0
+TreeChunk img address key x =
+    (h : BthdFields) × (bthd_at (range img address bthd_len) address ≡ Ok h)
+    × ((h.root ≡ undefined) × (x ≡ undefined) ⊎ (h.root ≢ undefined) × TreeSlot img h.depth key h.root h.records x)
+
+-- ---- The chunks of a dataset
+
+-- by the kind of index whose header is at an address
+abbrev pub IndexChunk : List ℕ → IndexKind → ℕ → Key → ℕ → Type 0
+IndexChunk img Array address key x = ArraySlot img address key.i x
+IndexChunk img Tree address key x = TreeChunk img address key x
+
+-- the chunk of a key has the address x; without an index it is undefined
+abbrev pub HasChunk : List ℕ → Described → Key → ℕ → Type 0
+HasChunk img d key x =
+    (d.layout.address ≡ undefined) × (x ≡ undefined)
+    ⊎ (d.layout.address ≢ undefined) × IndexChunk img d.layout.index d.layout.address key x
+
+-- The image has the dataset, its needed chunks are within the limits, and each of them, in the order of their keys, has the
+-- address that is listed.
+pub record HasReading (limits : Limits) (img name : List ℕ) (r : Reading) : Type 0 where
+  pub dataset : HasDataset img name r.place r.dataset
+  pub within : needed r.dataset ≤ limit_of limits r.dataset.layout.index
+  pub listed : length r.table ≡ length (needed_keys r.dataset)
+  pub chunks : (k : ℕ) (key : Key) → slice_get (needed_keys r.dataset) k ≡ Some key → HasChunk img r.dataset key (get_or r.table k undefined)

@@ -1,5 +1,5 @@
 -- The chunks' addresses, and the rows that an image reads as.
-use Rattle.std.specs.Prelude.{◌≡◌, ℕ, zero, suc, ◌+◌, ◌-◌, ◌*◌, ◌/◌, ◌%◌, ◌<◌, Bool, ◌||◌, ◌&&◌, List, [], ◌∷◌, ◌++◌, length, get_or, map, flat_map, replicate, slice_get, nat_le, nat_lt, ◌==◌, if◌then◌else◌, Option, Some, None, Result, Ok, Err, ℤ}
+use Rattle.std.specs.Prelude.{◌≡◌, ℕ, zero, suc, ◌+◌, ◌-◌, ◌*◌, ◌/◌, ◌%◌, ◌<◌, Bool, ◌||◌, ◌&&◌, List, [], ◌∷◌, length, get_or, map, flat_map, slice_get, nat_lt, ◌==◌, if◌then◌else◌, Option, Some, None, Result, Ok, Err, ℤ}
 use Rattle.std.specs.List.{range_with_len}
 use Rattle.h5w_model.specs.Numbers.{range, undefined}
 use Rattle.h5w_model.specs.Programs.{Prog, ret, whole, stored, eval, and_then}
@@ -75,10 +75,12 @@ key_below a b = nat_lt a.i b.i || ((a.i == b.i) && nat_lt a.j b.j)
 abbrev pub key_equal : Key → Key → Bool
 key_equal a b = (a.i == b.i) && (a.j == b.j)
 
--- the address of a key among the records of a leaf
+-- the address of a key among the records of a leaf: the first record not below the key decides
 abbrev pub in_leaf : Key → List RecordFields → ℕ
 in_leaf key [] = undefined
-in_leaf key (r ∷ rs) = if key_equal r.key key then r.address else in_leaf key rs
+in_leaf key (r ∷ rs) =
+    if key_below r.key key then in_leaf key rs
+    else if key_equal r.key key then r.address else undefined
 
 -- at the first record not below the key: its address where the keys are equal, else on to the child there
 abbrev pub in_node : (ChildFields → Prog (Result ℕ ReadError)) → Key → List RecordFields → List ChildFields → Prog (Result ℕ ReadError)
@@ -220,9 +222,11 @@ cell img r row column =
 abbrev pub cells : List ℕ → Reading → List (Option ℤ)
 cells img r = map (λ k. cell img r (k / r.dataset.shape.cols) (k % r.dataset.shape.cols)) (range_with_len 0 (r.dataset.shape.rows * r.dataset.shape.cols))
 
--- the image reads as these values, rows one after another
-pub record Reads (img name : List ℕ) (values : List ℤ) : Type 0 where
+-- the image reads as so many rows of so many columns, with these values, row by row
+pub record Reads (img name : List ℕ) (rows columns : ℕ) (values : List ℤ) : Type 0 where
   pub shown : Reading
   pub shows : Shows format_limits img name shown
+  pub rows_are : shown.dataset.shape.rows ≡ rows
+  pub columns_are : shown.dataset.shape.cols ≡ columns
   pub count : length values ≡ shown.dataset.shape.rows * shown.dataset.shape.cols
   pub values_are : (k : ℕ) → k < length values → cell img shown (k / shown.dataset.shape.cols) (k % shown.dataset.shape.cols) ≡ slice_get values k

@@ -1,6 +1,6 @@
 -- The blocks of a version 2 B-tree with records of type 10
 -- (HDF5 File Format Specification 3.0, "Version 2 B-trees"; the geometry is this project's profile).
-use Rattle.std.specs.Prelude.{ℕ, zero, suc, ◌+◌, ◌-◌, ◌*◌, ◌/◌, Bool, List, [], ◌∷◌, ◌++◌, length, map, flat_map, nat_le, ◌==◌, ◌≡◌, Result, if◌then◌else◌, codes}
+use Rattle.std.specs.Prelude.{ℕ, zero, suc, ◌+◌, ◌-◌, ◌*◌, ◌/◌, Bool, List, [], ◌∷◌, ◌++◌, flat_map, nat_le, ◌==◌, Result, if◌then◌else◌, codes}
 use Rattle.h5w_model.specs.Numbers.{le, field}
 use Rattle.h5w_model.specs.Checked.{checked}
 use Rattle.h5w_model.specs.Checksum.{sealed_block}

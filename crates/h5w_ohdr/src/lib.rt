@@ -20,6 +20,3 @@ pub use header::prefix;
 pub use list::Msgs;
 pub use reading::{block, messages};
 pub use rows::with_rows;
-
-#[cfg(test)]
-mod tests;

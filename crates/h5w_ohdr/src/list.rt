@@ -6,7 +6,7 @@ use std::alloc::Global;
 use std::marker::Model;
 
 /// The messages of a header, in order.
-#[derive(Debug, Drop)]
+#[derive(Drop)]
 pub struct Msgs {
     list: Vec<Msg>,
 }

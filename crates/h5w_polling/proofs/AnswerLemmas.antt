@@ -1,24 +1,22 @@
 -- The answers of calls for rows, as a script has them.
-use Rattle.std.proofs.Common.{◌≡◌, ℕ, zero, suc, ◌+◌, ◌*◌, ◌/◌, ◌<◌, ◌≤◌, List, [], ◌∷◌, ◌++◌, length, take, drop, Contains, Option, Some, None, Result, Ok, Err, refl, sym, ◌∙◌, ap, subst, inl, inr, arith, length-append}
-use Rattle.std.proofs.Math.Nat.{mul-div_cancel, div-mul-le_self}
-use Rattle.std.proofs.lemmas.Nat.{le-div}
+use Rattle.std.proofs.Common.{◌≡◌, ℕ, zero, suc, ◌+◌, ◌*◌, ◌≤◌, List, [], ◌∷◌, ◌++◌, length, take, drop, Contains, Option, Some, None, Result, Ok, Err, refl, sym, ◌∙◌, ap, subst, inl, inr, arith, length-append}
 use Rattle.std.specs.List.{Any, AllByRecursion}
 use Rattle.h5w_model.specs.Programs.{Takes}
 use Rattle.h5w_model.specs.Logs.{Log, appended, flushed_at}
 use Rattle.h5w_model.specs.Tables.{Reading, format_limits}
-use Rattle.h5w_model.specs.Prefixed.{image_at, IsPosition}
+use Rattle.h5w_model.specs.Prefixed.{image_at}
 use Rattle.h5w_model.specs.Readers.{Placed, IsCall, looks_of}
 use Rattle.std.specs.Prelude.{ℤ}
 use Rattle.h5w_model.specs.Calls.{values_call}
+use Rattle.h5w_model.specs.Unfinished.{refresh_rules, rows_program}
 use Rattle.h5w_model.specs.Lawful.{Rules}
 use Rattle.h5w_model.specs.declared.refusal.ReadError.{ReadError}
 use Rattle.h5w_model.specs.declared.refusal.ReadError.TheVariants.{Again}
-use Rattle.h5w_laws.proofs.LogLemmas.{flushed_laws}
 use Rattle.h5w_laws.proofs.AnswerLemmas.{one_answer}
 use Rattle.h5w_headline.specs.Headline.{IsHeaderLook, GetsRows, EachChanges, GivesUp, IsAnswer}
 use Rattle.h5w_headline.proofs.CallLemmas.{opens_on_rows, refreshes_to_rows}
 use Rattle.h5w_headline.proofs.ValueLemmas.{reads_values}
-use Rattle.h5w_polling.specs.Polling.{Polling, now, rows_at, ShownAt, MoreThan, Rising, Knows, rows_program}
+use Rattle.h5w_polling.specs.Polling.{Polling, reader_rules, now, ShownAt, MoreThan, Rising, Knows}
 use Rattle.h5w_polling.specs.Premises.{LogHolds}
 
 -- a reading that is shown at the position of one of these looks
@@ -75,11 +73,8 @@ rising_on : (g : Polling) (log : Log) (from place u : ℕ) (us acc : List ℕ) �
 rising_on g log from place u [] acc holds first more rising changes within =
     (u ∷ acc, (within.0.low, within.0.high, more, rising), omega arith)
 rising_on g log from place u (v ∷ vs) acc holds first more rising changes within =
-    let at : IsPosition log u = record { begun = omega (arith, first, within.0.low); reached = within.0.high } in
-    let reads = (holds.served.prefixed u at).reads in
-    let some : 0 < reads.shown.dataset.shape.cols = omega (arith, (holds.cut u reads.shown at reads.shows).columns, holds.some_columns) in
     let change = changes.0 in
-    let rest = rising_on g log from place v vs (u ∷ acc) holds first (change.flushed reads.shown reads.shows some) (within.0.low, change.later, more, rising) changes.1 within.1 in
+    let rest = rising_on g log from place v vs (u ∷ acc) holds first change.flushed (within.0.low, change.later, more, rising) changes.1 within.1 in
     (rest.0, rest.1, omega (arith, rest.2))
 
 rising_of : (g : Polling) (log : Log) (from place : ℕ) (us : List ℕ) → LogHolds g log → log.first ≤ from
@@ -104,15 +99,15 @@ answer_is g log from seen ls a holds first call (inl gets) =
     subst (λ (x : Result Reading ReadError). RowsAnswer g log from ls x) (sym gets.1) (found g log from seen ls gets.0 gets.2)
 answer_is g log from seen ls a holds first call (inr gives) = gives_up g log from ls a holds first call gives
 
-pub rows_answered : (g : Polling) (log : Log) (from seen : ℕ) (known : Option Reading) (ls : List Placed) (a : Result Reading ReadError) → LogHolds g log → log.first ≤ from
-    → Knows g log from seen known → IsCall log from ls → Takes (rows_program g seen known) (looks_of ls) a → RowsAnswer g log from ls a
-rows_answered g log from seen None ls a holds first knows call takes =
+pub rows_answered : (g : Polling) (log : Log) (from : ℕ) (known : Option Reading) (ls : List Placed) (a : Result Reading ReadError) → LogHolds g log → log.first ≤ from
+    → Knows g log from known → IsCall log from ls → Takes (rows_program (reader_rules g) known) (looks_of ls) a → RowsAnswer g log from ls a
+rows_answered g log from None ls a holds first knows call takes =
     answer_is g log from 0 ls a holds first call
     (opens_on_rows g.name log g.limits g.keeps g.rules.attempts from ls a holds.served holds.within holds.some_attempts first call takes)
-rows_answered g log from seen (Some r) ls a holds first knows call takes =
-    answer_is g log from seen ls a holds first call
-    (refreshes_to_rows g.name log (record { limits = g.limits; keeps = g.keeps; seen = seen; attempts = g.rules.attempts; place = r.place }) knows.1.position r from ls a
-    holds.served holds.within holds.some_attempts knows.1.shown.position knows.1.earlier call knows.1.shown.shows refl knows.0 takes)
+rows_answered g log from (Some r) ls a holds first knows call takes =
+    answer_is g log from r.dataset.shape.rows ls a holds first call
+    (refreshes_to_rows g.name log (refresh_rules (reader_rules g) r) knows.position r from ls a
+    holds.served holds.within holds.some_attempts knows.shown.position knows.earlier call knows.shown.shows refl refl takes)
 
 -- ---- Rows and values
 
@@ -120,26 +115,27 @@ rows_answered g log from seen (Some r) ls a holds first knows call takes =
 abbrev pub values_in : Rules → Log → (from count : ℕ) → List ℤ
 values_in g log from count = take (count * g.cutting.columns) (drop (from * g.cutting.columns) (appended log))
 
--- a reading has the rows that are flushed where it is shown
-pub rows_shown : (g : Polling) (log : Log) (p : ℕ) (r : Reading) → LogHolds g log → ShownAt g log p r → r.dataset.shape.rows ≡ rows_at g.rules log p
-rows_shown g log p r holds s =
+-- what a reading has where it is shown
+record HasRows (g : Polling) (log : Log) (p : ℕ) (r : Reading) : Type 0 where
+  rows : r.dataset.shape.rows ≡ flushed_at log p
+  columns : r.dataset.shape.cols ≡ g.rules.cutting.columns
+
+has_rows : (g : Polling) (log : Log) (p : ℕ) (r : Reading) → LogHolds g log → ShownAt g log p r → HasRows g log p r
+has_rows g log p r holds s =
     let reads = (holds.served.prefixed p s.position).reads in
     let same : reads.shown ≡ r = one_answer.reading format_limits (image_at log p) g.name reads.shown r reads.shows s.shows in
-    let cols : r.dataset.shape.cols ≡ g.rules.cutting.columns = (holds.cut p r s.position s.shows).columns in
-    let count : length (take (flushed_at log p) (appended log)) ≡ r.dataset.shape.rows * r.dataset.shape.cols =
-    reads.count ∙ ap (λ (x : Reading). x.dataset.shape.rows * x.dataset.shape.cols) same in
-    let all : flushed_at log p ≡ length (take (flushed_at log p) (appended log)) = sym (ap length (flushed_laws.begins_at log p)) in
-    let e : flushed_at log p ≡ r.dataset.shape.rows * g.rules.cutting.columns = all ∙ count ∙ ap (λ n. r.dataset.shape.rows * n) cols in
-    sym (ap (λ n. n / g.rules.cutting.columns) e ∙ mul-div_cancel r.dataset.shape.rows holds.some_columns)
+    subst (λ (x : Reading). HasRows g log p x) same (record { rows = reads.rows_are; columns = reads.columns_are ∙ holds.columns })
 
-pub rows_rise : (g : Polling) (log : Log) (p q : ℕ) → LogHolds g log → p ≤ q → rows_at g.rules log p ≤ rows_at g.rules log q
-rows_rise g log p q holds h =
-    let k = g.rules.cutting.columns in
-    le-div (flushed_at log p / k) (flushed_at log q) k holds.some_columns (omega (arith, div-mul-le_self (flushed_at log p) k, flushed_laws.rises log p q h))
+-- a reading has the rows that are flushed where it is shown
+pub rows_shown : (g : Polling) (log : Log) (p : ℕ) (r : Reading) → LogHolds g log → ShownAt g log p r → r.dataset.shape.rows ≡ flushed_at log p
+rows_shown g log p r holds s = (has_rows g log p r holds s).rows
 
-pub values_answered : (g : Polling) (log : Log) (from seen first count : ℕ) (r : Reading) (ls : List Placed) (a : Result (List ℤ) ReadError) → LogHolds g log → Knows g log from seen (Some r)
-    → IsCall log from ls → 1 ≤ count → first + count ≤ seen → Takes (values_call r first count) (looks_of ls) a → a ≡ Ok (values_in g.rules log first count)
-values_answered g log from seen first count r ls a holds knows call some within takes =
-    let cols : r.dataset.shape.cols ≡ g.rules.cutting.columns = (holds.cut knows.1.position r knows.1.shown.position knows.1.shown.shows).columns in
-    reads_values g.name log knows.1.position r from first count ls a holds.served knows.1.shown.position knows.1.earlier knows.1.shown.shows call some (omega (arith, knows.0)) takes
-    ∙ ap (λ n. Ok (take (count * n) (drop (first * n) (appended log)))) cols
+-- and the script's columns
+pub columns_shown : (g : Polling) (log : Log) (p : ℕ) (r : Reading) → LogHolds g log → ShownAt g log p r → r.dataset.shape.cols ≡ g.rules.cutting.columns
+columns_shown g log p r holds s = (has_rows g log p r holds s).columns
+
+pub values_answered : (g : Polling) (log : Log) (from first count : ℕ) (r : Reading) (ls : List Placed) (a : Result (List ℤ) ReadError) → LogHolds g log → Knows g log from (Some r)
+    → IsCall log from ls → 1 ≤ count → first + count ≤ r.dataset.shape.rows → Takes (values_call r first count) (looks_of ls) a → a ≡ Ok (values_in g.rules log first count)
+values_answered g log from first count r ls a holds knows call some within takes =
+    reads_values g.name log knows.position r from first count ls a holds.served knows.shown.position knows.earlier knows.shown.shows call some within takes
+    ∙ ap (λ n. Ok (take (count * n) (drop (first * n) (appended log)))) (columns_shown g log knows.position r holds knows.shown)

@@ -1,16 +1,17 @@
 -- One more event of a log leaves a reader's call as it was.
-use Rattle.std.proofs.Common.{◌≡◌, ℕ, ◌+◌, ◌/◌, ◌<◌, ◌≤◌, cond, List, [], ◌∷◌, ◌++◌, length, map, reverse, Option, Some, None, option_map, refl, sym, ◌∙◌, ap, subst, inl, inr, arith}
-use Rattle.std.specs.Prelude.{nat_le, ◌==◌}
+use Rattle.std.proofs.Common.{◌≡◌, ℕ, ◌+◌, ◌<◌, ◌≤◌, cond, List, [], ◌∷◌, ◌++◌, length, map, reverse, Option, Some, None, option_map, refl, sym, ◌∙◌, ap, subst, inl, inr, arith}
+use Rattle.std.specs.Prelude.{nat_le, ◌==◌, ℤ}
 use Rattle.std.proofs.lemmas.Bool.{cases_lt, cond_both, cond-true, cond-false, lt-leb}
 use Rattle.h5w_model.specs.Programs.{IsLookAt}
-use Rattle.h5w_model.specs.Logs.{Log, Happening, appends, plans, shows, shown, appended_in, flushed, flushed_at, and_now}
+use Rattle.h5w_model.specs.Logs.{Log, Happening, appends, plans, shows, shown, appended_in, flushed, flushed_rows, rows_in, flushed_at, and_now}
 use Rattle.h5w_model.specs.Tables.{Reading, Shows, format_limits}
 use Rattle.h5w_model.specs.Prefixed.{image_at}
 use Rattle.h5w_model.specs.Readers.{Placed, IsCall}
 use Rattle.h5w_model.specs.Lawful.{Calling, ReaderState, risen, reader_in}
 use Rattle.h5w_model.specs.declared.piece.Write.{Write}
 use Rattle.h5w_laws.proofs.LogLemmas.{length_hist, position_laws}
-use Rattle.h5w_polling.specs.Polling.{Polling, Unfinished, now, rows_at, ShownAt, MoreThan, Rising, Knows, Calls, CallPolls, Polls}
+use Rattle.h5w_model.specs.Unfinished.{Reader}
+use Rattle.h5w_polling.specs.Polling.{Polling, now, ShownAt, MoreThan, Rising, Knows, Calls, CallPolls, Polls}
 use Rattle.h5w_polling.specs.Laws.{risen_reader, OtherEventLaws}
 
 -- a log that another goes on from, with as much flushed at each of its positions
@@ -31,27 +32,25 @@ shown_on g old new p r on s =
       shows = subst (λ (i : List ℕ). Shows format_limits i g.name r) (sym same) s.shows;
     }
 
-pub knows_on : (g : Polling) (old new : Log) (until seen : ℕ) (known : Option Reading) → GoesOn old new → Knows g old until seen known → Knows g new until seen known
-knows_on g old new until seen None on h = h
-knows_on g old new until seen (Some r) on h =
-    (h.0, record { position = h.1.position; earlier = h.1.earlier; shown = shown_on g old new h.1.position r on h.1.shown })
+pub knows_on : (g : Polling) (old new : Log) (until : ℕ) (known : Option Reading) → GoesOn old new → Knows g old until known → Knows g new until known
+knows_on g old new until None on h = tt
+knows_on g old new until (Some r) on h = record { position = h.position; earlier = h.earlier; shown = shown_on g old new h.position r on h.shown }
 
 -- what was known earlier is known later
-pub knows_later : (g : Polling) (log : Log) (p q seen : ℕ) (known : Option Reading) → p ≤ q → Knows g log p seen known → Knows g log q seen known
-knows_later g log p q seen None below h = h
-knows_later g log p q seen (Some r) below h = (h.0, record { position = h.1.position; earlier = omega (arith, h.1.earlier); shown = h.1.shown })
+pub knows_later : (g : Polling) (log : Log) (p q : ℕ) (known : Option Reading) → p ≤ q → Knows g log p known → Knows g log q known
+knows_later g log p q None below h = tt
+knows_later g log p q (Some r) below h = record { position = h.position; earlier = omega (arith, h.earlier); shown = h.shown }
 
 call_on : (old new : Log) (from : ℕ) (ls : List Placed) → GoesOn old new → IsCall old from ls → IsCall new from ls
 call_on old new from [] on h = tt
 call_on old new from (l ∷ ls) on h =
     (h.0, omega (arith, on.longer, h.1), subst (λ (i : List ℕ). IsLookAt i l.look) (sym (on.images l.position h.1)) h.2, call_on old new l.position ls on h.3)
 
-rows_on : (g : Polling) (old new : Log) (from : ℕ) (ls : List Placed) → GoesOn old new → IsCall old from ls
-    → map (λ l. rows_at g.rules new l.position) ls ≡ map (λ l. rows_at g.rules old l.position) ls
-rows_on g old new from [] on h = refl
-rows_on g old new from (l ∷ ls) on h =
-    let here : rows_at g.rules new l.position ≡ rows_at g.rules old l.position = ap (λ n. n / g.rules.cutting.columns) (on.flushed l.position h.1) in
-    let behind = rows_on g old new l.position ls on h.3 in
+rows_on : (old new : Log) (from : ℕ) (ls : List Placed) → GoesOn old new → IsCall old from ls → map (λ l. flushed_at new l.position) ls ≡ map (λ l. flushed_at old l.position) ls
+rows_on old new from [] on h = refl
+rows_on old new from (l ∷ ls) on h =
+    let here : flushed_at new l.position ≡ flushed_at old l.position = on.flushed l.position h.1 in
+    let behind = rows_on old new l.position ls on h.3 in
     cc
 
 -- ---- Commits
@@ -126,7 +125,7 @@ positions_counted : (log : Log) → now log ≡ shown log.events
 positions_counted log = length_hist log.events
 
 -- an event that is no piece, and leaves what is flushed
-pub goes_on_still : (e : Happening) (log : Log) → shown (e ∷ log.events) ≡ shown log.events → length (flushed (and_now e log)) ≡ length (flushed log) → GoesOn log (and_now e log)
+pub goes_on_still : (e : Happening) (log : Log) → shown (e ∷ log.events) ≡ shown log.events → flushed_rows (and_now e log) ≡ flushed_rows log → GoesOn log (and_now e log)
 goes_on_still e log same level =
     let before : now log ≡ shown log.events = positions_counted log in
     let after : now (and_now e log) ≡ shown (e ∷ log.events) = positions_counted (and_now e log) in
@@ -136,10 +135,10 @@ goes_on_still e log same level =
       images = λ p h. position_laws.images e log p (omega arith);
       flushed = λ p h.
           elim (cases_lt p (shown log.events)) [
-            | inl below ↦ ap (λ (l : Log). length (flushed l)) (position_laws.earlier e log p (omega arith))
+            | inl below ↦ ap flushed_rows (position_laws.earlier e log p (omega arith))
             | inr above ↦
-                ap (λ (l : Log). length (flushed l)) (position_laws.now (and_now e log) p (omega arith)) ∙ level
-                ∙ sym (ap (λ (l : Log). length (flushed l)) (position_laws.now log p above))
+                ap flushed_rows (position_laws.now (and_now e log) p (omega arith)) ∙ level
+                ∙ sym (ap flushed_rows (position_laws.now log p above))
           ];
     }
 
@@ -151,55 +150,62 @@ goes_on_piece w log =
       first = refl;
       longer = omega arith;
       images = λ p h. position_laws.images (shows w) log p (omega arith);
-      flushed = λ p h. ap (λ (l : Log). length (flushed l)) (position_laws.earlier (shows w) log p (omega arith));
+      flushed = λ p h. ap flushed_rows (position_laws.earlier (shows w) log p (omega arith));
     }
 
 -- ---- Calls
 
-calls_on : (g : Polling) (old new : Log) (seen : ℕ) (known : Option Reading) (c : Calling) (left : Unfinished) (n : ℕ) → GoesOn old new
-    → ((from : ℕ) → from ≤ now old → Counts old new from c.rises n) → Calls g old seen known c left → Calls g new seen known (record c { rises = n }) left
-calls_on g old new seen known c left n on counts h = record {
-  from = h.from;
+calls_on : (g : Polling) (old new : Log) (r : Reader) (c : Calling) (n : ℕ) → GoesOn old new → ((from : ℕ) → from ≤ now old → Counts old new from c.rises n) → Calls g old r c
+    → Calls g new r (record c { rises = n })
+calls_on g old new r c n on counts h = record {
+  program = h.program;
   looks = h.looks;
+  asking = h.asking;
+  wants = h.wants;
+  from = h.from;
   after_first = omega (arith, on.first, h.after_first);
   within = omega (arith, on.longer, h.within);
-  knew = knows_on g old new h.from seen known on h.knew;
+  knew = knows_on g old new h.from r.known on h.knew;
   is_call = call_on old new h.from h.looks on h.is_call;
+  kind = h.kind;
   count = h.count;
-  begun = h.begun ∙ sym (ap (λ n. n / g.rules.cutting.columns) (on.flushed h.from h.within));
-  at_looks = h.at_looks ∙ sym (ap reverse (rows_on g old new h.from h.looks on h.is_call));
-  left_is = h.left_is;
+  begun = h.begun ∙ sym (on.flushed h.from h.within);
+  at_looks = h.at_looks ∙ sym (ap reverse (rows_on old new h.from h.looks on h.is_call));
   rises = counts h.from h.within h.rises;
 }
 
-pub polls_on : (g : Polling) (old new : Log) (seen : ℕ) (known : Option Reading) (call : Option Calling) (left : Option Unfinished) → GoesOn old new
-    → ((from n : ℕ) → from ≤ now old → Counts old new from n n) → CallPolls g old seen known call left → CallPolls g new seen known call left
-polls_on g old new seen known None None on counts h = knows_later g new (now old) (now new) seen known on.longer (knows_on g old new (now old) seen known on h)
-polls_on g old new seen known (Some c) (Some left) on counts h = calls_on g old new seen known c left c.rises on (λ from within. counts from c.rises within) h
-polls_on g old new seen known None (Some left) on counts h = h
-polls_on g old new seen known (Some c) None on counts h = h
+idle_on : (g : Polling) (old new : Log) (r : Reader) → GoesOn old new → CallPolls g old r None → CallPolls g new r None
+idle_on g old new r on h = (h.0, knows_later g new (now old) (now new) r.known on.longer (knows_on g old new (now old) r.known on h.1))
 
-polls_risen : (g : Polling) (old new : Log) (seen : ℕ) (known : Option Reading) (call : Option Calling) (left : Option Unfinished) → GoesOn old new
-    → now new ≡ now old + 1 → CallPolls g old seen known call left → Polls g new (risen_reader (record { seen = seen; call = call })) (record { known = known; left = left })
-polls_risen g old new seen known None None on e h = knows_later g new (now old) (now new) seen known on.longer (knows_on g old new (now old) seen known on h)
-polls_risen g old new seen known (Some c) (Some left) on e h =
-    calls_on g old new seen known c left (c.rises + 1) on (λ from within. counts_commit old new from c.rises on e) h
-polls_risen g old new seen known None (Some left) on e h = h
-polls_risen g old new seen known (Some c) None on e h = h
+polls_by : (g : Polling) (old new : Log) (r : Reader) (call : Option Calling) → GoesOn old new → ((from n : ℕ) → from ≤ now old → Counts old new from n n) → CallPolls g old r call → CallPolls g new r call
+polls_by g old new r None on counts h = idle_on g old new r on h
+polls_by g old new r (Some c) on counts h = calls_on g old new r c c.rises on (λ from within. counts from c.rises within) h
+
+pub polls_on : (g : Polling) (old new : Log) (x : ReaderState) (r : Reader) → GoesOn old new → ((from n : ℕ) → from ≤ now old → Counts old new from n n) → Polls g old x r → Polls g new x r
+polls_on g old new x r on counts h = record { rules = h.rules; seen = h.seen; call = polls_by g old new r x.call on counts h.call }
+
+polls_risen : (g : Polling) (old new : Log) (seen : ℕ) (call : Option Calling) (r : Reader) → GoesOn old new → now new ≡ now old + 1
+    → Polls g old (record { seen = seen; call = call }) r → Polls g new (risen_reader (record { seen = seen; call = call })) r
+polls_risen g old new seen None r on e h = record { rules = h.rules; seen = h.seen; call = idle_on g old new r on h.call }
+polls_risen g old new seen (Some c) r on e h = record {
+  rules = h.rules;
+  seen = h.seen;
+  call = calls_on g old new r c (c.rises + 1) on (λ from within. counts_commit old new from c.rises on e) h.call;
+}
 
 one_more : (w : Write) (log : Log) → now (and_now (shows w) log) ≡ now log + 1
 one_more w log = omega (arith, positions_counted log, positions_counted (and_now (shows w) log))
 
 -- a plan of some pieces flushes nothing by itself
-plans_level : (k : ℕ) (log : Log) → 1 ≤ k → length (flushed (and_now (plans k) log)) ≡ length (flushed log)
-plans_level k log some = ap length (cond-false (nat_le k 0) (log.values ++ appended_in log.events) (flushed log) (lt-leb k 0 some))
+plans_level : (k : ℕ) (log : Log) → 1 ≤ k → flushed_rows (and_now (plans k) log) ≡ flushed_rows log
+plans_level k log some = ap (λ (vs : List ℤ). rows_in log vs) (cond-false (nat_le k 0) (log.values ++ appended_in log.events) (flushed log) (lt-leb k 0 some))
 
-level_now : (w : Write) (log : Log) → length (flushed (and_now (shows w) log)) ≡ length (flushed log)
+level_now : (w : Write) (log : Log) → flushed_rows (and_now (shows w) log) ≡ flushed_rows log
     → flushed_at (and_now (shows w) log) (now (and_now (shows w) log)) ≡ flushed_at (and_now (shows w) log) (now log)
 level_now w log level =
     let new = and_now (shows w) log in
-    ap (λ (l : Log). length (flushed l)) (position_laws.now new (now new) (omega (arith, positions_counted new))) ∙ level
-    ∙ sym (ap (λ (l : Log). length (flushed l)) (position_laws.now log (now log) (omega (arith, positions_counted log))))
+    ap flushed_rows (position_laws.now new (now new) (omega (arith, positions_counted new))) ∙ level
+    ∙ sym (ap flushed_rows (position_laws.now log (now log) (omega (arith, positions_counted log))))
     ∙ sym ((goes_on_piece w log).flushed (now log) (omega arith))
 
 risen_in : (r : ℕ) (xs : List (ℕ × ReaderState)) → reader_in r (risen xs) ≡ option_map risen_reader (reader_in r xs)
@@ -211,17 +217,16 @@ risen_in r (x ∷ xs) =
 
 pub other_event_laws : OtherEventLaws
 other_event_laws = record {
-  appending = λ g log x p values h.
+  appending = λ g log x r values h.
       let on = goes_on_still (appends values) log refl refl in
-      polls_on g log (and_now (appends values) log) x.seen p.known x.call p.left on (λ from n within. counts_same log (and_now (appends values) log) from n on refl) h;
-  planning = λ g log x p pieces some h.
+      polls_on g log (and_now (appends values) log) x r on (λ from n within. counts_same log (and_now (appends values) log) from n on refl) h;
+  planning = λ g log x r pieces some h.
       let on = goes_on_still (plans pieces) log refl (plans_level pieces log some) in
-      polls_on g log (and_now (plans pieces) log) x.seen p.known x.call p.left on (λ from n within. counts_same log (and_now (plans pieces) log) from n on refl) h;
-  showing = λ g log x p w level h.
+      polls_on g log (and_now (plans pieces) log) x r on (λ from n within. counts_same log (and_now (plans pieces) log) from n on refl) h;
+  showing = λ g log x r w level h.
       let on = goes_on_piece w log in
-      polls_on g log (and_now (shows w) log) x.seen p.known x.call p.left on
+      polls_on g log (and_now (shows w) log) x r on
       (λ from n within. counts_quiet log (and_now (shows w) log) from n on within (one_more w log) (level_now w log level)) h;
-  committing = λ g log x p w h.
-      polls_risen g log (and_now (shows w) log) x.seen p.known x.call p.left (goes_on_piece w log) (one_more w log) h;
+  committing = λ g log x r w h. polls_risen g log (and_now (shows w) log) x.seen x.call r (goes_on_piece w log) (one_more w log) h;
   risen = risen_in;
 }

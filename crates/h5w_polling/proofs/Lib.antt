@@ -1,9 +1,10 @@
+pub mod ListLemmas
+pub mod PutLemmas
 pub mod AnswerLemmas
 pub mod EventLemmas
+pub mod ReadLemmas
 pub mod CallLemmas
-pub mod PlainLemmas
-pub mod ListLemmas
+pub mod BoundLemmas
 pub mod LookLemmas
 pub mod ScriptLemmas
-pub mod BoundLemmas
-pub mod ReadLemmas
+pub mod OneByOneLemmas

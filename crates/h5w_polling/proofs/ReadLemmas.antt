@@ -4,14 +4,14 @@ use Rattle.std.specs.Prelude.{ℤ, ◌==◌, nat_lt}
 use Rattle.std.specs.List.{range_with_len, flat_map}
 use Rattle.std.proofs.lemmas.Bool.{cond-false, le-ltb, ne_eqb}
 use Rattle.std.proofs.lemmas.Nat.{le-div}
-use Rattle.std.proofs.Math.Nat.{add-div_right, div-mul-le_self, mul-le-mul_right}
+use Rattle.std.proofs.Math.Nat.{div-mul-le_self, mul-le-mul_right}
 use Rattle.h5w_model.specs.Numbers.{undefined}
 use Rattle.h5w_model.specs.Messages.{is_int_size}
-use Rattle.h5w_model.specs.Programs.{Prog, ret, whole, bind, and_then, below_end, cut_up, pieces, lowered}
+use Rattle.h5w_model.specs.Programs.{Prog, ret, whole, counted, WantsMore, bind, and_then, below_end, cut_up, pieces, lowered}
 use Rattle.h5w_model.specs.Logs.{Log}
 use Rattle.h5w_model.specs.Tables.{Reading, bands, chunks_across, needed, cell_offset, chunk_address, each_of}
 use Rattle.h5w_model.specs.Prefixed.{image_at}
-use Rattle.h5w_model.specs.Calls.{last_in_band, last_column, touched_from, touched_to, chunk_range, values_from, values_call}
+use Rattle.h5w_model.specs.Calls.{last_in_band, last_column, touched_from, touched_to, none_of, chunk_range, values_from, values_call}
 use Rattle.h5w_model.specs.declared.refusal.ReadError.{ReadError}
 use Rattle.h5w_model.specs.declared.refusal.ReadError.TheVariants.{Damaged}
 use Rattle.h5w_model.specs.declared.refusal.BlockFault.TheVariants.{Cut}
@@ -19,8 +19,10 @@ use Rattle.h5w_headline.proofs.MomentLemmas.{Moment, moment, shown_is}
 use Rattle.h5w_headline.proofs.KeyLemmas.{Sound, sound_shown}
 use Rattle.h5w_headline.proofs.ChunkLemmas.{quotient_is, IsTouched, corners, cell_in_range}
 use Rattle.h5w_headline.proofs.CellLemmas.{has_value, cell_later}
-use Rattle.h5w_polling.specs.Polling.{Polling, Knows, WantsMore}
+use Rattle.h5w_headline.proofs.ReadLooks.{up_to}
+use Rattle.h5w_polling.specs.Polling.{Polling, Knows}
 use Rattle.h5w_polling.specs.Premises.{LogHolds}
+use Rattle.h5w_polling.proofs.AnswerLemmas.{columns_shown}
 
 abbrev Part : Type 0
 Part = Prog (Result (Option (List ℕ)) ReadError)
@@ -40,9 +42,6 @@ key_range r from to k = chunk_range r k.0 k.1 from to
 -- the keys of some rows of chunks
 abbrev grid_keys : (across from count : ℕ) → List (ℕ × ℕ)
 grid_keys across from count = flat_map (λ i. map (λ j. (i, j)) (range_with_len 0 across)) (range_with_len from count)
-
-bands_counted : (to n : ℕ) → 0 < to → 0 < n → (to + n - 1) / n ≡ (to - 1) / n + 1
-bands_counted to n h g = let e : to + n - 1 ≡ (to - 1) + n = omega arith in ap (λ x. x / n) e ∙ add-div_right (to - 1) g
 
 wants_pieces : {A : Type 0} (fuel place len : ℕ) (got : List ℕ) (next : List ℕ → Prog A) → 0 < fuel → 0 < len → WantsMore (pieces fuel place len got next)
 wants_pieces zero place len got next h g = absurd (omega arith)
@@ -83,7 +82,7 @@ first_look g log p m first to holds some within =
     let cut = holds.cut p r m.position m.shows in
     let i : ℕ = first / n in
     let last : i ≤ (to - 1) / n = le-div i (to - 1) n sound.rows (omega (arith, div-mul-le_self first n)) in
-    let across : 0 < chunks_across d = le-div 1 (d.shape.cols + k - 1) k sound.cols (omega (arith, cut.columns, holds.some_columns)) in
+    let across : 0 < chunks_across d = le-div 1 (d.shape.cols + k - 1) k sound.cols (omega (arith, columns_shown g log p r holds (record { position = m.position; shows = m.shows }), holds.some_columns)) in
     let touched : IsTouched d first to i 0 = record { first = omega arith; last = last; column = across } in
     let c = corners d first to i 0 sound some touched in
     let row : ℕ = last_in_band d i to - 1 in
@@ -97,8 +96,8 @@ first_look g log p m first to holds some within =
     let slot : i * n / n * chunks_across d + 0 * k / k ≡ i * chunks_across d + 0 = ap (λ x. x * chunks_across d + 0 * k / k) low_row ∙ ap (λ x. i * chunks_across d + x) low_col in
     let same : chunk_address r row col ≡ address = ap (λ x. get_or r.table (x * chunks_across d + col / k) undefined) (of_row ∙ sym low_row) ∙ ap (λ x. get_or r.table (i * n / n * chunks_across d + x) undefined) (of_col ∙ sym low_col) in
     let last_row : (to - 1) / n ≤ (d.shape.rows - 1) / n = le-div ((to - 1) / n) (d.shape.rows - 1) n sound.rows (omega (arith, div-mul-le_self (to - 1) n)) in
-    let counted : bands d ≡ (d.shape.rows - 1) / n + 1 = bands_counted d.shape.rows n (omega arith) sound.rows in
-    let product : (i + 1) * chunks_across d ≤ bands d * chunks_across d = mul-le-mul_right (chunks_across d) (let e : i + 1 ≤ bands d = omega (arith, last, last_row, counted) in e) in
+    let bands_are : bands d ≡ (d.shape.rows - 1) / n + 1 = up_to d.shape.rows n sound.rows (omega arith) in
+    let product : (i + 1) * chunks_across d ≤ bands d * chunks_across d = mul-le-mul_right (chunks_across d) (let e : i + 1 ≤ bands d = omega (arith, last, last_row, bands_are) in e) in
     let few : i * n / n * chunks_across d + 0 * k / k < needed d = omega (arith, slot, product, across) in
     let defined : address ≢ undefined = cut.addressed (i * n / n * chunks_across d + 0 * k / k) few in
     let there : chunk_address r row col ≢ undefined = λ e. defined (sym same ∙ e) in
@@ -118,8 +117,8 @@ first_look g log p m first to holds some within =
       some = omega (arith, inside.above);
       fits = fits;
       told = told;
-      is = cond-false (address == undefined) (ret (Ok None)) (cond (nat_lt (2 ^ 64) (address + start + len)) (ret (Err (Damaged address (Cut len 0)))) (whole (address + start) len told)) (ne_eqb address undefined defined)
-          ∙ cond-false (nat_lt (2 ^ 64) (address + start + len)) (ret (Err (Damaged address (Cut len 0)))) (whole (address + start) len told) (le-ltb (2 ^ 64) (address + start + len) fits);
+      is = cond-false (address == undefined) (ret (Ok None)) (cond (nat_lt (2 ^ 64) (address + start + len)) (counted address none_of (λ b. ret (Err (Damaged address (Cut len 0))))) (whole (address + start) len told)) (ne_eqb address undefined defined)
+          ∙ cond-false (nat_lt (2 ^ 64) (address + start + len)) (counted address none_of (λ b. ret (Err (Damaged address (Cut len 0))))) (whole (address + start) len told) (le-ltb (2 ^ 64) (address + start + len) fits);
       across = across;
       bands = omega (arith, last);
     }
@@ -138,11 +137,11 @@ wants_look r first count l =
     subst (λ (ks : List (ℕ × ℕ)). WantsMore (lowered 0 [] (bind (each_of f ks) (with_values r first to)))) (sym keys.1) by_key
 
 -- rows that were seen are read by looks
-pub values_want : (g : Polling) (log : Log) (until seen first count : ℕ) (r : Reading) → LogHolds g log → Knows g log until seen (Some r) → 1 ≤ count → first + count ≤ seen
+pub values_want : (g : Polling) (log : Log) (until first count : ℕ) (r : Reading) → LogHolds g log → Knows g log until (Some r) → 1 ≤ count → first + count ≤ r.dataset.shape.rows
     → WantsMore (values_call r first count)
-values_want g log until seen first count r holds knows some within =
-    let p = knows.1.position in
-    let m = moment g.name log p holds.served knows.1.shown.position in
-    let same : m.shown ≡ r = sym (shown_is g.name log p m r knows.1.shown.shows) in
+values_want g log until first count r holds knows some within =
+    let p = knows.position in
+    let m = moment g.name log p holds.served knows.shown.position in
+    let same : m.shown ≡ r = sym (shown_is g.name log p m r knows.shown.shows) in
     subst (λ (x : Reading). WantsMore (values_call x first count)) same
-    (wants_look m.shown first count (first_look g log p m first (first + count) holds (omega arith) (omega (arith, knows.0, ap (λ (x : Reading). x.dataset.shape.rows) same))))
+    (wants_look m.shown first count (first_look g log p m first (first + count) holds (omega arith) (omega (arith, ap (λ (x : Reading). x.dataset.shape.rows) same, within))))

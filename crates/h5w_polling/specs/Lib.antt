@@ -2,3 +2,4 @@ pub mod Polling
 pub mod Premises
 pub mod Laws
 pub mod Scripts
+pub mod OneByOne

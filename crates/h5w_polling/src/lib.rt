@@ -6,8 +6,10 @@
 
 mod calls;
 mod looks;
+mod one_by_one;
 mod scripts;
 
 pub use calls::{call_begins, other_events};
 pub use looks::looks_reply;
+pub use one_by_one::looks_one_by_one;
 pub use scripts::{begin_lines, look_lines, writer_lines};

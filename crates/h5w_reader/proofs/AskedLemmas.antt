@@ -2,12 +2,13 @@
 use Rattle.std.proofs.Common.{◌≡◌, ℕ, Bool, true, false, cond, List, [], ◌∷◌, ◌++◌, Option, Some, None, Result, Ok, Err, ℤ, refl, sym, ◌∙◌, ap, subst, ◌⊎◌, inl, inr}
 use Rattle.std.specs.Prelude.{option_map, ◌==◌, ◌&&◌}
 use Rattle.std.proofs.lemmas.Bool.{eq-eqb}
-use Rattle.h5w_model.specs.Programs.{Prog, ret, whole, counted, stored, Look, rest_after}
+use Rattle.h5w_model.specs.Programs.{Prog, ret, whole, counted, stored, Look, rest_after, next_look, fed}
 use Rattle.h5w_model.specs.Tables.{Reading}
 use Rattle.h5w_model.specs.declared.refusal.ReadError.{ReadError}
-use Rattle.h5w_reader.specs.Looks.{next_look, fed}
-use Rattle.h5w_reader.specs.Readers.{Left, for_rows, for_values, Reader, Told, IsRefused, wanted, fed_left, with_left, rows_program}
-use Rattle.h5w_reader.specs.Asked.{Answer, told_rows, told_values, told_refusal, Asking, Answered, Asks, Asked, AreCalls, Begins, Gives, IsAsking, IsWanted, known_by, left_after, beginning, without, and_look, answering, refusing, finding, stepping, looking, is_want_of_memory}
+use Rattle.h5w_model.specs.Unfinished.{Unfinished, rows_left, values_left, Reader, ReaderRules, wanted, fed_left, with_left, rows_program}
+use Rattle.h5w_model.specs.Asked.{Answer, told_rows, told_values, told_refusal, Asking, Answered, Asks, Asked, AreCalls, Begins, IsAnswered, IsAsking, known_by, left_after, no_asks, beginning, without, and_look}
+use Rattle.h5w_reader.specs.Readers.{Told, IsRefused, new_reader}
+use Rattle.h5w_reader.specs.Asked.{IsWanted, answering, refusing, finding, stepping, looking, is_want_of_memory}
 use Rattle.h5w_reader.specs.declared.step.Step.{Step}
 use Rattle.h5w_reader.specs.declared.step.Step.TheVariants as steps
 
@@ -37,75 +38,75 @@ rest_more (whole at len go) q (m ∷ ms) l e next =
 
 -- ---- The calls
 
-pub asked_begin : (r : Reader) (asks : Asks) (p : Left) → Asked r asks → Begins r.attempts r.name r.known p → Asked (with_left r (Some p)) (beginning p asks)
-asked_begin r asks (for_rows p) a b = record { known = a.known; calls = a.calls; call = (b, refl) }
-asked_begin r asks (for_values p) a b = record { known = a.known; calls = a.calls; call = (b, refl) }
+pub asked_begin : (r : Reader) (asks : Asks) (p : Unfinished) → Asked r asks → Begins r.rules r.known p → Asked (with_left r (Some p)) (beginning p asks)
+asked_begin r asks (rows_left p) a b = record { known = a.known; calls = a.calls; call = (b, refl) }
+asked_begin r asks (values_left p) a b = record { known = a.known; calls = a.calls; call = (b, refl) }
 
 pub asked_quit : (r : Reader) (asks : Asks) → Asked r asks → Asked (with_left r None) (without asks)
 asked_quit r asks a = record { known = a.known; calls = a.calls; call = refl }
 
 -- a new reader
-pub asked_new : (most : ℕ) (name : List ℕ) → Asked (record { name = name; attempts = most; known = None; left = Some (for_rows (rows_program most name None)) }) (beginning (for_rows (rows_program most name None)) (record { answered = []; unfinished = None }))
-asked_new most name = record { known = refl; calls = tt; call = (refl, refl) }
+pub asked_new : (g : ReaderRules) → Asked (new_reader g) (beginning (rows_left (rows_program g None)) no_asks)
+asked_new g = record { known = refl; calls = tt; call = (refl, refl) }
 
 -- ---- A step
 
-rows_inside : (x : Option (Prog (Result Reading ReadError))) (t : Prog (Result Reading ReadError)) → option_map for_rows x ≡ Some (for_rows t) → x ≡ Some t
+rows_inside : (x : Option (Prog (Result Reading ReadError))) (t : Prog (Result Reading ReadError)) → option_map rows_left x ≡ Some (rows_left t) → x ≡ Some t
 rows_inside None t e = absurd cc
 rows_inside (Some y) t e = let same : y ≡ t = cc in ap Some same
 
-values_inside : (x : Option (Prog (Result (List ℤ) ReadError))) (t : Prog (Result (List ℤ) ReadError)) → option_map for_values x ≡ Some (for_values t) → x ≡ Some t
+values_inside : (x : Option (Prog (Result (List ℤ) ReadError))) (t : Prog (Result (List ℤ) ReadError)) → option_map values_left x ≡ Some (values_left t) → x ≡ Some t
 values_inside None t e = absurd cc
 values_inside (Some y) t e = let same : y ≡ t = cc in ap Some same
 
-no_values : (x : Option (Prog (Result (List ℤ) ReadError))) (t : Prog (Result Reading ReadError)) → option_map for_values x ≡ Some (for_rows t) → ⊥
+no_values : (x : Option (Prog (Result (List ℤ) ReadError))) (t : Prog (Result Reading ReadError)) → option_map values_left x ≡ Some (rows_left t) → ⊥
 no_values None t e = cc
 no_values (Some y) t e = cc
 
-no_rows : (x : Option (Prog (Result Reading ReadError))) (t : Prog (Result (List ℤ) ReadError)) → option_map for_rows x ≡ Some (for_values t) → ⊥
+no_rows : (x : Option (Prog (Result Reading ReadError))) (t : Prog (Result (List ℤ) ReadError)) → option_map rows_left x ≡ Some (values_left t) → ⊥
 no_rows None t e = cc
 no_rows (Some y) t e = cc
 
-rows_more : (p : Prog (Result Reading ReadError)) (ls : List Look) (l : Look) (x : Option (Prog (Result Reading ReadError))) → rest_after p ls ≡ x → wanted (option_map for_rows x) ≡ Some (l.place, l.len)
-    → option_map for_rows (rest_after p (ls ++ l ∷ [])) ≡ option_map (fed_left l.bytes) (option_map for_rows x)
+rows_more : (p : Prog (Result Reading ReadError)) (ls : List Look) (l : Look) (x : Option (Prog (Result Reading ReadError))) → rest_after p ls ≡ x → wanted (option_map rows_left x) ≡ Some (l.place, l.len)
+    → option_map rows_left (rest_after p (ls ++ l ∷ [])) ≡ option_map (fed_left l.bytes) (option_map rows_left x)
 rows_more p ls l None e next = absurd cc
-rows_more p ls l (Some t) e next = ap (option_map for_rows) (rest_more p t ls l e next)
+rows_more p ls l (Some t) e next = ap (option_map rows_left) (rest_more p t ls l e next)
 
-values_more : (p : Prog (Result (List ℤ) ReadError)) (ls : List Look) (l : Look) (x : Option (Prog (Result (List ℤ) ReadError))) → rest_after p ls ≡ x → wanted (option_map for_values x) ≡ Some (l.place, l.len)
-    → option_map for_values (rest_after p (ls ++ l ∷ [])) ≡ option_map (fed_left l.bytes) (option_map for_values x)
+values_more : (p : Prog (Result (List ℤ) ReadError)) (ls : List Look) (l : Look) (x : Option (Prog (Result (List ℤ) ReadError))) → rest_after p ls ≡ x → wanted (option_map values_left x) ≡ Some (l.place, l.len)
+    → option_map values_left (rest_after p (ls ++ l ∷ [])) ≡ option_map (fed_left l.bytes) (option_map values_left x)
 values_more p ls l None e next = absurd cc
-values_more p ls l (Some t) e next = ap (option_map for_values) (rest_more p t ls l e next)
+values_more p ls l (Some t) e next = ap (option_map values_left) (rest_more p t ls l e next)
 
 -- what is left after one look more
-left_more : (ls : List Look) (p : Left) (l : Look) → wanted (left_after ls p) ≡ Some (l.place, l.len) → left_after (ls ++ l ∷ []) p ≡ option_map (fed_left l.bytes) (left_after ls p)
-left_more ls (for_rows p) l next = rows_more p ls l (rest_after p ls) refl next
-left_more ls (for_values p) l next = values_more p ls l (rest_after p ls) refl next
+left_more : (ls : List Look) (p : Unfinished) (l : Look) → wanted (left_after ls p) ≡ Some (l.place, l.len) → left_after (ls ++ l ∷ []) p ≡ option_map (fed_left l.bytes) (left_after ls p)
+left_more ls (rows_left p) l next = rows_more p ls l (rest_after p ls) refl next
+left_more ls (values_left p) l next = values_more p ls l (rest_after p ls) refl next
 
-gives_rows : (p : Left) (ls : List Look) (r : Reading) → left_after ls p ≡ Some (for_rows (ret (Ok r))) → Gives p ls (told_rows r)
-gives_rows (for_rows p) ls r e = rows_inside (rest_after p ls) (ret (Ok r)) e
-gives_rows (for_values p) ls r e = absurd (no_values (rest_after p ls) (ret (Ok r)) e)
+gives_rows : (p : Unfinished) (ls : List Look) (r : Reading) → left_after ls p ≡ Some (rows_left (ret (Ok r))) → IsAnswered p ls (told_rows r)
+gives_rows (rows_left p) ls r e = rows_inside (rest_after p ls) (ret (Ok r)) e
+gives_rows (values_left p) ls r e = absurd (no_values (rest_after p ls) (ret (Ok r)) e)
 
-gives_values : (p : Left) (ls : List Look) (vs : List ℤ) → left_after ls p ≡ Some (for_values (ret (Ok vs))) → Gives p ls (told_values vs)
-gives_values (for_rows p) ls vs e = absurd (no_rows (rest_after p ls) (ret (Ok vs)) e)
-gives_values (for_values p) ls vs e = values_inside (rest_after p ls) (ret (Ok vs)) e
+gives_values : (p : Unfinished) (ls : List Look) (vs : List ℤ) → left_after ls p ≡ Some (values_left (ret (Ok vs))) → IsAnswered p ls (told_values vs)
+gives_values (rows_left p) ls vs e = absurd (no_rows (rest_after p ls) (ret (Ok vs)) e)
+gives_values (values_left p) ls vs e = values_inside (rest_after p ls) (ret (Ok vs)) e
 
-gives_refusal : (p : Left) (ls : List Look) (f : ReadError) → (left_after ls p ≡ Some (for_rows (ret (Err f)))) ⊎ (left_after ls p ≡ Some (for_values (ret (Err f)))) → Gives p ls (told_refusal f)
-gives_refusal (for_rows p) ls f (inl e) = rows_inside (rest_after p ls) (ret (Err f)) e
-gives_refusal (for_rows p) ls f (inr e) = absurd (no_rows (rest_after p ls) (ret (Err f)) e)
-gives_refusal (for_values p) ls f (inl e) = absurd (no_values (rest_after p ls) (ret (Err f)) e)
-gives_refusal (for_values p) ls f (inr e) = values_inside (rest_after p ls) (ret (Err f)) e
+gives_refusal : (p : Unfinished) (ls : List Look) (f : ReadError) → (left_after ls p ≡ Some (rows_left (ret (Err f)))) ⊎ (left_after ls p ≡ Some (values_left (ret (Err f)))) → IsAnswered p ls (told_refusal f)
+gives_refusal (rows_left p) ls f (inl e) = rows_inside (rest_after p ls) (ret (Err f)) e
+gives_refusal (rows_left p) ls f (inr e) = absurd (no_rows (rest_after p ls) (ret (Err f)) e)
+gives_refusal (values_left p) ls f (inl e) = absurd (no_values (rest_after p ls) (ret (Err f)) e)
+gives_refusal (values_left p) ls f (inr e) = values_inside (rest_after p ls) (ret (Err f)) e
 
 -- a reader with an unfinished call
 record Going (old : Reader) (asks : Asks) (a : Asking) : Type 0 where
   known : old.known ≡ known_by asks.answered
-  calls : AreCalls old.attempts old.name asks.answered
-  begun : Begins old.attempts old.name old.known a.program
+  calls : AreCalls old.rules asks.answered
+  begun : Begins old.rules old.known a.program
 
 abbrev and_answer : Asking → Answer → Answered
 and_answer a answer = record { program = a.program; looks = a.looks; answer = answer }
 
-answered_calls : (old : Reader) (asks : Asks) (a : Asking) (answer : Answer) → Going old asks a → Gives a.program a.looks answer → AreCalls old.attempts old.name (and_answer a answer ∷ asks.answered)
-answered_calls old asks a answer g gives = (subst (λ k. Begins old.attempts old.name k a.program) g.known g.begun, gives, g.calls)
+answered_calls : (old : Reader) (asks : Asks) (a : Asking) (answer : Answer) → Going old asks a → IsAnswered a.program a.looks answer → AreCalls old.rules (and_answer a answer ∷ asks.answered)
+answered_calls old asks a answer g gives = (subst (λ k. Begins old.rules k a.program) g.known g.begun, gives, g.calls)
 
 refused_asks : (old : Reader) (asks : Asks) (a : Asking) (f : ReadError) (memory : Bool) → is_want_of_memory f ≡ memory → Going old asks a → IsRefused (left_after a.looks a.program) f
     → Asked (with_left old None) (elim memory as (λ _. Asks) [ true ↦ without asks | false ↦ answering asks a (told_refusal f) ])

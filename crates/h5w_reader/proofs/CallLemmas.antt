@@ -1,28 +1,31 @@
 -- A reader's call for rows.
-use Rattle.std.proofs.Common.{◌≡◌, ◌≢◌, ℕ, zero, suc, ◌-◌, ◌<◌, ◌≤◌, Bool, true, false, cond, ltb, List, Option, Some, None, Result, Ok, Err, refl, sym, ◌∙◌, ap, arith, subst}
+use Rattle.std.proofs.Common.{◌≡◌, ◌≢◌, ℕ, zero, suc, ◌-◌, ◌<◌, ◌≤◌, Bool, true, false, cond, ltb, List, [], Option, Some, None, Result, Ok, Err, refl, sym, ◌∙◌, ap, arith, subst}
 use Rattle.std.specs.Prelude.{nat_eq}
 use Rattle.std.specs.Result.{IfOk}
 use Rattle.std.specs.Cmp.Lexicographic.{pointwise}
 use Rattle.std.proofs.lemmas.Bool.{lt-ltb, le-ltb}
-use Rattle.h5w_model.specs.Programs.{Prog, ret, whole, counted, stored, bind, and_then, below_end}
+use Rattle.h5w_model.specs.Programs.{Prog, ret, whole, counted, stored, bind, and_then, below_end, lowered, next_look, fed}
 use Rattle.h5w_model.specs.Headers.{prefix_at, header_view}
 use Rattle.h5w_model.specs.Datasets.{HeaderFields, superblock, root_header, linked, dataset_place, from_chunk, header_refusal, described, refused_as}
 use Rattle.h5w_model.specs.Datasets as model
-use Rattle.h5w_model.specs.Calls.{CallRules, cut_header, not_shrunk, again, is_settled, rows_call, open_call, open_rules}
-use Rattle.h5w_model.specs.Tables.{Reading, needed_table}
+use Rattle.h5w_model.specs.Calls.{CallRules, cut_header, not_shrunk, again, is_settled, rows_call, open_call, open_rules, rows_seen, known_table, needed_from}
+use Rattle.h5w_model.specs.Tables.{Reading}
 use Rattle.h5w_model.specs.declared.message.Prefix.{Prefix}
 use Rattle.h5w_model.specs.declared.root.Super.{Super}
 use Rattle.h5w_model.specs.declared.refusal.HeaderError.{HeaderError}
 use Rattle.h5w_model.specs.declared.refusal.ReadError.{ReadError}
 use Rattle.h5w_model.specs.declared.refusal.ReadError.TheVariants as read_errors
-use Rattle.h5w_reader.specs.Looks.{next_look, fed, plain, Fits}
+use Rattle.h5w_reader.specs.Looks.{plain, Fits}
 use Rattle.h5w_reader.specs.Walking.{messages_of, chunk_rest}
 use Rattle.h5w_reader.specs.Opening.{root_messages}
-use Rattle.h5w_reader.specs.Attempts.{reader_limits, described_rest}
+use Rattle.h5w_reader.specs.Attempts.{reader_limits, described_rest, rules_of}
 use Rattle.h5w_reader.specs.declared.stage.Came.{Came}
 use Rattle.h5w_reader.specs.declared.stage.Came.TheVariants as came_by
 use Rattle.h5w_reader.specs.Calling.{came, place_rest, behind_rest, messages_rest, differs, attempt_rest, confirm_rest, confirm_given, rows_rest, rows_given}
+use Rattle.h5w_laws.specs.Programs.{IsUnstored}
+use Rattle.h5w_laws.proofs.AnswerLemmas.{unstored_place, unstored_dataset_messages, unstored_and_then}
 use Rattle.h5w_reader.proofs.PieceLemmas.{plain_bind}
+use Rattle.h5w_reader.proofs.UnstoredLemmas.{unstored_plain, unstored_then}
 
 -- ---- One program after another
 
@@ -43,7 +46,7 @@ fed_bind (stored kind at len next) f b l e = absurd cc
 pub fits_bind : {A B : Type 0} (p : Prog A) (f : A → Prog B) (n : ℕ) (l : ℕ × ℕ) → next_look p ≡ Some l → Fits (next_look (bind p f)) n → Fits (next_look p) n
 fits_bind p f n l e h = subst (λ x. Fits x n) (wants_bind p f l e ∙ sym e) h
 
-then_assoc : {A B C E : Type 0} (p : Prog (Result A E)) (f : A → Prog (Result B E)) (g : B → Prog (Result C E)) → and_then (and_then p f) g ≡ and_then p (λ a. and_then (f a) g)
+pub then_assoc : {A B C E : Type 0} (p : Prog (Result A E)) (f : A → Prog (Result B E)) (g : B → Prog (Result C E)) → and_then (and_then p f) g ≡ and_then p (λ a. and_then (f a) g)
 then_assoc (ret (Ok a)) f g = refl
 then_assoc (ret (Err e)) f g = refl
 then_assoc (whole at len next) f g = ap (whole at len) (λ i b. then_assoc (next b) f g i)
@@ -65,7 +68,7 @@ plain_then {A} {B} {E} p f = plain_bind p (after f) ∙ ap (λ (k : Result A E �
 -- ---- The open
 
 -- the place of the dataset header, by the messages of the root header
-place_by : (name : List ℕ) → plain (dataset_place name) ≡ and_then root_messages (λ ms. ret (linked name ms))
+place_by : (name : List ℕ) → lowered 16 [] (dataset_place name) ≡ and_then root_messages (λ ms. ret (linked name ms))
 unfolding root_messages
 place_by name =
     let p : Prog (Result (List model.Found) ReadError) = and_then superblock (λ s. and_then (root_header s.root) messages_of) in
@@ -73,16 +76,15 @@ place_by name =
     let e : and_then p found ≡ dataset_place name =
     then_assoc superblock (λ s. and_then (root_header s.root) messages_of) found
     ∙ ap (λ (k : Super → Prog (Result ℕ ReadError)). and_then superblock k) (λ i s. then_assoc (root_header s.root) messages_of found i) in
-    ap plain (sym e) ∙ plain_then p found
+    unstored_plain 16 [] (dataset_place name) (unstored_place name) ∙ ap plain (sym e) ∙ plain_then p found
 
-linked_then : (most : ℕ) (name : List ℕ) (r : Result ℕ ReadError) → and_then (ret r) (λ at. rows_call (open_rules reader_limits 0 most at)) ≡ elim r as (λ _. Prog (Result Reading ReadError)) [ Ok at ↦ rows_call (open_rules reader_limits 0 most at) | Err e ↦ ret (Err e) ]
-linked_then most name (Ok at) = refl
-linked_then most name (Err e) = refl
+abbrev at_link : ℕ → Option Reading → Result ℕ ReadError → Prog (Result Reading ReadError)
+at_link most known r = elim r [ Ok at ↦ rows_call (rules_of (record { attempts = most; place = at }) known) | Err e ↦ ret (Err e) ]
 
-pub open_is : (most : ℕ) (name : List ℕ) → and_then root_messages (place_rest most name) ≡ open_call reader_limits 0 most name
+pub open_is : (most : ℕ) (name : List ℕ) → and_then root_messages (place_rest most name None) ≡ open_call reader_limits 16 most name
 unfolding place_rest
 open_is most name =
-    let go : ℕ → Prog (Result Reading ReadError) = λ at. rows_call (open_rules reader_limits 0 most at) in
+    let go : ℕ → Prog (Result Reading ReadError) = λ at. rows_call (open_rules reader_limits 16 most at) in
     sym (ap (λ (p : Prog (Result ℕ ReadError)). and_then p go) (place_by name)
     ∙ then_assoc root_messages (λ ms. ret (linked name ms)) go)
 
@@ -90,13 +92,13 @@ pub rows_are : (g : CallRules) → rows_rest g ≡ rows_call g
 unfolding rows_rest
 rows_are g = refl
 
-pub place_ok : (most at : ℕ) (name : List ℕ) (ms : List model.Found) → linked name ms ≡ Ok at → place_rest most name ms ≡ rows_rest (open_rules reader_limits 0 most at)
+pub place_ok : (most at : ℕ) (name : List ℕ) (known : Option Reading) (ms : List model.Found) → linked name ms ≡ Ok at → place_rest most name known ms ≡ rows_rest (rules_of (record { attempts = most; place = at }) known)
 unfolding place_rest rows_rest
-place_ok most at name ms e = ap (λ (r : Result ℕ ReadError). elim r as (λ _. Prog (Result Reading ReadError)) [ Ok at ↦ rows_call (open_rules reader_limits 0 most at) | Err f ↦ ret (Err f) ]) e
+place_ok most at name known ms e = ap (at_link most known) e
 
-pub place_err : (most : ℕ) (name : List ℕ) (ms : List model.Found) (f : ReadError) → linked name ms ≡ Err f → place_rest most name ms ≡ ret (Err f)
+pub place_err : (most : ℕ) (name : List ℕ) (known : Option Reading) (ms : List model.Found) (f : ReadError) → linked name ms ≡ Err f → place_rest most name known ms ≡ ret (Err f)
 unfolding place_rest
-place_err most name ms f e = ap (λ (r : Result ℕ ReadError). elim r as (λ _. Prog (Result Reading ReadError)) [ Ok at ↦ rows_call (open_rules reader_limits 0 most at) | Err f ↦ ret (Err f) ]) e
+place_err most name known ms f e = ap (at_link most known) e
 
 -- ---- Behind the dataset header
 
@@ -107,34 +109,35 @@ messages_given g v r = elim r [
   | Err e ↦ ret (Err (header_refusal g.place e))
 ]
 
-behind_by : (g : CallRules) (v : List ℕ) → g.keeps ≡ 0 → behind_rest g v ≡ messages_rest g (plain (and_then (messages_given g v (prefix_at v)) messages_of))
+behind_by : (g : CallRules) (v : List ℕ) → g.keeps ≡ 16 → behind_rest g v ≡ messages_rest g (plain (and_then (messages_given g v (prefix_at v)) messages_of))
 unfolding behind_rest messages_given described_rest
-behind_by g v none =
+behind_by g v kept =
     let p = messages_given g v (prefix_at v) in
+    let unstored : IsUnstored p = unstored_dataset_messages g.place v in
     let rest : List model.Found → Prog (Result Reading ReadError) = λ ms.
     and_then (ret (refused_as read_errors.Unsupported (described ms))) (λ d.
-    and_then (ret (not_shrunk g.seen d)) (λ d.
-    and_then (needed_table g.limits d) (λ t. ret (Ok (record { place = g.place; dataset = d; table = t }))))) in
-    rw none (
-    ap plain (then_assoc p (λ h. ret (refused_as read_errors.Unsupported (described h.messages))) (λ d.
-    and_then (ret (not_shrunk g.seen d)) (λ d.
-    and_then (needed_table g.limits d) (λ t. ret (Ok (record { place = g.place; dataset = d; table = t })))))
+    and_then (ret (not_shrunk (rows_seen g.known) d)) (λ d.
+    and_then (needed_from g.limits (known_table g.known d) d) (λ t. ret (Ok (record { place = g.place; dataset = d; table = t }))))) in
+    rw kept (
+    ap (lowered 16 []) (then_assoc p (λ h. ret (refused_as read_errors.Unsupported (described h.messages))) (λ d.
+    and_then (ret (not_shrunk (rows_seen g.known) d)) (λ d.
+    and_then (needed_from g.limits (known_table g.known d) d) (λ t. ret (Ok (record { place = g.place; dataset = d; table = t })))))
     ∙ sym (then_assoc p messages_of rest))
-    ∙ plain_then (and_then p messages_of) rest)
+    ∙ unstored_then 16 [] (and_then p messages_of) rest (unstored_and_then p messages_of unstored (λ h. tt)))
 
-pub behind_ok : (g : CallRules) (v : List ℕ) (p : Prefix) → g.keeps ≡ 0 → prefix_at v ≡ Ok p → p.total ≤ 512 → behind_rest g v ≡ messages_rest g (chunk_rest g.place p v)
+pub behind_ok : (g : CallRules) (v : List ℕ) (p : Prefix) → g.keeps ≡ 16 → prefix_at v ≡ Ok p → p.total ≤ 512 → behind_rest g v ≡ messages_rest g (chunk_rest g.place p v)
 unfolding messages_given chunk_rest
 behind_ok g v p none e small =
     behind_by g v none ∙ ap (λ r. messages_rest g (plain (and_then (messages_given g v r) messages_of))) e
     ∙ rw (le-ltb 512 p.total small) refl
 
-pub behind_long : (g : CallRules) (v : List ℕ) (p : Prefix) → g.keeps ≡ 0 → prefix_at v ≡ Ok p → 512 < p.total → behind_rest g v ≡ ret (Err (read_errors.Unsupported (record { 0 = 1 })))
+pub behind_long : (g : CallRules) (v : List ℕ) (p : Prefix) → g.keeps ≡ 16 → prefix_at v ≡ Ok p → 512 < p.total → behind_rest g v ≡ ret (Err (read_errors.Unsupported (record { 0 = 1 })))
 unfolding messages_given
 behind_long g v p none e long =
     behind_by g v none ∙ ap (λ r. messages_rest g (plain (and_then (messages_given g v r) messages_of))) e
     ∙ rw (lt-ltb 512 p.total long) refl
 
-pub behind_err : (g : CallRules) (v : List ℕ) (f : HeaderError) → g.keeps ≡ 0 → prefix_at v ≡ Err f → behind_rest g v ≡ ret (Err (header_refusal g.place f))
+pub behind_err : (g : CallRules) (v : List ℕ) (f : HeaderError) → g.keeps ≡ 16 → prefix_at v ≡ Err f → behind_rest g v ≡ ret (Err (header_refusal g.place f))
 unfolding messages_given
 behind_err g v f none e = behind_by g v none ∙ ap (λ r. messages_rest g (plain (and_then (messages_given g v r) messages_of))) e
 
@@ -233,8 +236,8 @@ rows_given_is g b = refl
 -- ---- A refusal that may be want of memory
 
 -- one that is none is the answer
-pub refused_is : {E : Type 0} (most : ℕ) (name : List ℕ) (r : Result Came E) (f : ReadError) (p : Prog (Result Reading ReadError))
+pub refused_is : {E : Type 0} (most : ℕ) (name : List ℕ) (known : Option Reading) (r : Result Came E) (f : ReadError) (p : Prog (Result Reading ReadError))
     → IfOk r (λ c. c ≡ came_by.Answer (Err f)) → IfOk r (λ c. f ≢ read_errors.OutOfMemory) → (f ≢ read_errors.OutOfMemory → p ≡ ret (Err f))
-    → IfOk r (λ c. came most name c ≡ p)
-refused_is most name (Ok c) f p h other e = ap (came most name) h ∙ sym (e other)
-refused_is most name (Err g) f p h other e = h
+    → IfOk r (λ c. came most name known c ≡ p)
+refused_is most name known (Ok c) f p h other e = ap (came most name known) h ∙ sym (e other)
+refused_is most name known (Err g) f p h other e = h

@@ -6,6 +6,13 @@ pub mod OpenLemmas
 pub mod DescribedLemmas
 pub mod ChunkLemmas
 pub mod TableLemmas
+pub mod StoreLemmas
+pub mod SizeLemmas
+pub mod SeekLemmas
+pub mod UnstoredLemmas
+pub mod LearnLemmas
+pub mod IdleLemmas
+pub mod DescentLemmas
 pub mod PlaceLemmas
 pub mod HeaderLemmas
 pub mod CallLemmas

@@ -4,8 +4,8 @@ use Rattle.std.specs.Prelude.{◌==◌}
 use Rattle.std.specs.Result.{IfOk}
 use Rattle.std.proofs.lemmas.List.{append-nil}
 use Rattle.std.proofs.lemmas.Bool.{cond_both, eqb-true, eqb-false}
-use Rattle.h5w_model.specs.Programs.{Prog, ret, whole, counted, stored, bind, pieces, cut_up, below_end}
-use Rattle.h5w_reader.specs.Looks.{next_look, fed, plain}
+use Rattle.h5w_model.specs.Programs.{Prog, ret, whole, counted, stored, bind, pieces, cut_up, below_end, next_look, fed}
+use Rattle.h5w_reader.specs.Looks.{plain}
 use Rattle.h5w_reader.specs.Gathering.{gather_from, cut_behind}
 
 -- what follows a look for m of n bytes that gave these

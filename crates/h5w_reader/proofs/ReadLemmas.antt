@@ -5,20 +5,20 @@ use Rattle.std.specs.List.{range_with_len}
 use Rattle.std.proofs.lemmas.List.{drop-drop, length-take-le}
 use Rattle.std.proofs.lemmas.Bool.{lt-ltb, le-ltb, ne_eqb, cases_lt}
 use Rattle.std.proofs.lemmas.Nat.{div-mul-add, le-div}
-use Rattle.h5w_model.specs.Programs.{Prog, ret, whole, bind, and_then, cut_up}
+use Rattle.h5w_model.specs.Programs.{Prog, ret, whole, counted, bind, and_then, cut_up}
 use Rattle.h5w_model.specs.Numbers.{range, undefined}
 use Rattle.h5w_model.specs.Integers.{value_at, fill_value}
 use Rattle.h5w_model.specs.Messages.{IntTypeFields, is_int_size}
 use Rattle.h5w_model.specs.Logs.{div_up}
 use Rattle.h5w_model.specs.Tables.{Reading, chunks_across, bands, needed}
-use Rattle.h5w_model.specs.Calls.{chunk_range, first_in_band, last_in_band, value_from}
+use Rattle.h5w_model.specs.Calls.{chunk_range, first_in_band, last_in_band, none_of, value_from}
 use Rattle.h5w_model.specs.declared.refusal.ReadError.{ReadError}
 use Rattle.h5w_model.specs.declared.refusal.ReadError.TheVariants.{Damaged}
 use Rattle.h5w_model.specs.declared.refusal.BlockFault.TheVariants.{Cut}
 use Rattle.h5w_reader.specs.Looks.{plain}
 use Rattle.h5w_reader.specs.Gathering.{cut_behind}
 use Rattle.h5w_reader.specs.Cells.{cell_values}
-use Rattle.h5w_reader.specs.Values.{rows_in_band, band_values, bands_from, end_band, rows_rest, band_rest, reading_with}
+use Rattle.h5w_reader.specs.Values.{rows_in_band, band_values, bands_from, end_band, rows_rest, band_rest, reading_with, past_values}
 use Rattle.h5w_reader.specs.Described.{described_of}
 use Rattle.h5w_reader.specs.declared.dataset.Dataset.{Dataset}
 use Rattle.h5w_reader.specs.declared.known.Known.{Known}
@@ -45,7 +45,7 @@ rows_before r i from = first_in_band r.dataset i from - i * r.dataset.layout.chu
 abbrev range_at : ℕ → ℕ → ℕ → Prog (Result (Option (List ℕ)) ReadError)
 range_at address start len =
     cond (address == undefined) (ret (Ok None))
-    (cond (ltb (2 ^ 64) (address + start + len)) (ret (Err (Damaged address (Cut len 0))))
+    (cond (ltb (2 ^ 64) (address + start + len)) (counted address none_of (λ b. ret (Err (Damaged address (Cut len 0)))))
     (whole (address + start) len (λ b. ret (cond (ltb (length b) len) (Err (Damaged (address + start) (Cut len (length b)))) (Ok (Some b))))))
 
 abbrev offset : ℕ → ℕ → ℕ → ℕ → ℕ → ℕ
@@ -172,7 +172,7 @@ rest_fill r from to i done t e =
     ∙ ap (λ m. plain (and_then (range_at m (rows_before r i from * r.dataset.int_type.size) (rows_in_band r i from to * r.dataset.int_type.size)) (after_range r from to i done))) e
     ∙ ap (λ (vs : List ℤ). plain (bands_from r from to (end_band r to - (i + 1)) (i + 1) (done ++ vs))) (none_values r from to i)
 
-range_past : (address start len : ℕ) → address ≢ undefined → 2 ^ 64 < address + start + len → range_at address start len ≡ ret (Err (Damaged address (Cut len 0)))
+range_past : (address start len : ℕ) → address ≢ undefined → 2 ^ 64 < address + start + len → range_at address start len ≡ counted address none_of (λ b. ret (Err (Damaged address (Cut len 0))))
 range_past address start len there past = rw (ne_eqb address undefined there, lt-ltb (2 ^ 64) (address + start + len) past) refl
 
 range_whole : (address start len : ℕ) → address ≢ undefined → address + start + len ≤ 2 ^ 64
@@ -181,7 +181,7 @@ range_whole address start len there fits = rw (ne_eqb address undefined there, l
 
 -- a range that passes 2^64
 pub rest_past : (r : Reading) (from to i address start len : ℕ) (done : List ℤ) → IsTouched r from to i → get_or r.table i undefined ≡ address → start ≡ rows_before r i from * r.dataset.int_type.size
-    → len ≡ rows_in_band r i from to * r.dataset.int_type.size → address ≢ undefined → 2 ^ 64 < address + start + len → rows_rest r from to i done ≡ ret (Err (Damaged address (Cut len 0)))
+    → len ≡ rows_in_band r i from to * r.dataset.int_type.size → address ≢ undefined → 2 ^ 64 < address + start + len → rows_rest r from to i done ≡ past_values address len
 rest_past r from to i address start len done t e begins long there past =
     rest_band r from to i done t
     ∙ rw (e, ← begins, ← long) (ap (λ (p : Prog (Result (Option (List ℕ)) ReadError)). plain (and_then p (after_range r from to i done))) (range_past address start len there past))

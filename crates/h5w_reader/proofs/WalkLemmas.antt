@@ -3,7 +3,7 @@ use Rattle.std.proofs.Common.{◌≡◌, ℕ, zero, suc, ◌+◌, ◌-◌, ◌<�
 use Rattle.std.specs.Prelude.{◌==◌}
 use Rattle.std.proofs.lemmas.List.{reverse-append, map-append}
 use Rattle.std.proofs.lemmas.Bool.{lt-ltb, le-ltb, ne_eqb}
-use Rattle.h5w_model.specs.Programs.{Prog, ret, whole, bind, and_then, cut_up}
+use Rattle.h5w_model.specs.Programs.{Prog, ret, whole, bind, and_then, cut_up, fed, next_look}
 use Rattle.h5w_model.specs.Headers.{block_at, messages_at}
 use Rattle.h5w_model.specs.Datasets.{Range, HeaderFields, found_at, block_place, block_len, block_messages, splice, walk, header_refusal}
 use Rattle.h5w_model.specs.Datasets as model
@@ -14,7 +14,7 @@ use Rattle.h5w_model.specs.declared.refusal.BlockFault.TheVariants.{Cut}
 use Rattle.h5w_model.specs.declared.refusal.HeaderError.{HeaderError}
 use Rattle.h5w_model.specs.declared.refusal.HeaderError.TheVariants.{Continuations, Short}
 use Rattle.h5w_model.specs.declared.refusal.HeaderError.TheVariants as header_errors
-use Rattle.h5w_reader.specs.Looks.{plain, fed, next_look, Fits}
+use Rattle.h5w_reader.specs.Looks.{plain, Fits}
 use Rattle.h5w_reader.specs.Gathering.{gathering, cut_behind}
 use Rattle.h5w_reader.specs.Walking.{found_of, founds, stack, messages_of, chunk_rest, walk_rest, block_rest}
 use Rattle.h5w_reader.specs.declared.found.Found.{Found}

@@ -1,12 +1,12 @@
 -- What is left of a reader's call for rows.
-use Rattle.std.specs.Prelude.{ℕ, zero, suc, ◌-◌, List, [], nat_eq, if◌then◌else◌, Some, None, Result, Ok, Err}
+use Rattle.std.specs.Prelude.{ℕ, zero, suc, ◌-◌, List, [], nat_eq, if◌then◌else◌, Option, Some, None, Result, Ok, Err}
 use Rattle.std.specs.Cmp.Lexicographic.{pointwise}
 use Rattle.h5w_model.specs.Programs.{Prog, ret, bind, and_then, lowered}
 use Rattle.h5w_model.specs.Headers.{header_view}
 use Rattle.h5w_model.specs.Checked.{viewed}
 use Rattle.h5w_model.specs.Datasets.{linked}
 use Rattle.h5w_model.specs.Datasets as model
-use Rattle.h5w_model.specs.Calls.{CallRules, cut_header, behind_header, confirmed, again, attempts_from, rows_call, open_rules}
+use Rattle.h5w_model.specs.Calls.{CallRules, cut_header, behind_header, confirmed, again, attempts_from, rows_call}
 use Rattle.h5w_model.specs.Tables.{Reading}
 use Rattle.h5w_model.specs.declared.message.Msg.{Msg}
 use Rattle.h5w_model.specs.declared.refusal.LinkError.{LinkError}
@@ -15,7 +15,8 @@ use Rattle.h5w_model.specs.declared.refusal.ReadError.{ReadError}
 use Rattle.h5w_model.specs.declared.refusal.ReadError.TheVariants as read_errors
 use Rattle.h5w_reader.specs.Walking.{walking}
 use Rattle.h5w_reader.specs.Opening.{opening}
-use Rattle.h5w_reader.specs.Attempts.{reader_limits, reading_of, looking_up, described_rest, rules_of}
+use Rattle.h5w_reader.specs.Attempts.{looking_up, described_rest, rules_of}
+use Rattle.h5w_reader.specs.Descents.{reading_news}
 use Rattle.h5w_reader.specs.declared.behind.Behind.{Behind}
 use Rattle.h5w_reader.specs.declared.behind.Behind.TheVariants as behind_by
 use Rattle.h5w_reader.specs.declared.behind.Reached.{Reached}
@@ -37,8 +38,8 @@ link_refusal link_errors.OutOfMemory = read_errors.OutOfMemory
 link_refusal e = read_errors.Link e
 
 -- given the messages of the root header
-unfoldable pub place_rest : ℕ → List ℕ → List model.Found → Prog (Result Reading ReadError)
-place_rest most name ms = elim (linked name ms) [ Ok at ↦ rows_call (open_rules reader_limits 0 most at) | Err e ↦ ret (Err e) ]
+unfoldable pub place_rest : ℕ → List ℕ → Option Reading → List model.Found → Prog (Result Reading ReadError)
+place_rest most name known ms = elim (linked name ms) [ Ok at ↦ rows_call (rules_of (record { attempts = most; place = at }) known) | Err e ↦ ret (Err e) ]
 
 -- ---- Behind the dataset header
 
@@ -52,10 +53,10 @@ messages_rest g p = and_then p (described_rest g)
 
 abbrev pub behind_left : CallRules → Behind → Prog (Result Reading ReadError)
 behind_left g (behind_by.Visit b) = messages_rest g (walking b)
-behind_left g (behind_by.Lookup l) = looking_up g.place l
+behind_left g (behind_by.Lookup l) = looking_up g l
 
 abbrev pub reached : CallRules → Reached → Prog (Result Reading ReadError)
-reached g (reached_by.Answer r) = ret (viewed reading_of r)
+reached g (reached_by.Answer r) = ret (viewed (reading_news g.known) r)
 reached g (reached_by.Looks b) = behind_left g b
 
 -- ---- Attempts
@@ -89,12 +90,19 @@ rows_rest g = rows_call g
 unfoldable pub rows_given : CallRules → List ℕ → Prog (Result Reading ReadError)
 rows_given g b = attempt_rest g (g.attempts - 1) (header_view b)
 
-abbrev pub stage_left : ℕ → List ℕ → Stage → Prog (Result Reading ReadError)
-stage_left most name (stages.Open o) = and_then (opening o) (place_rest most name)
-stage_left most name (stages.Header r) = rows_rest (rules_of r)
-stage_left most name (stages.Behind a b) = bind (behind_left (rules_of a.rules) b) (confirm_rest (rules_of a.rules) a.more a.view)
-stage_left most name (stages.Confirm a r) = confirm_rest (rules_of a.rules) a.more a.view (viewed reading_of r)
+-- of a call that knows this
+abbrev pub stage_left : ℕ → List ℕ → Option Reading → Stage → Prog (Result Reading ReadError)
+stage_left most name known (stages.Open o) = and_then (opening o) (place_rest most name known)
+stage_left most name known (stages.Header r) = rows_rest (rules_of r known)
+stage_left most name known (stages.Behind a b) = bind (behind_left (rules_of a.rules known) b) (confirm_rest (rules_of a.rules known) a.more a.view)
+stage_left most name known (stages.Confirm a r) = confirm_rest (rules_of a.rules known) a.more a.view (viewed (reading_news known) r)
 
-abbrev pub came : ℕ → List ℕ → Came → Prog (Result Reading ReadError)
-came most name (came_by.Answer r) = ret (viewed reading_of r)
-came most name (came_by.Looks s) = stage_left most name s
+-- what is known, where something is
+abbrev pub same_rest : Option Reading → Prog (Result Reading ReadError)
+same_rest None = ret (Err read_errors.OutOfMemory)
+same_rest (Some r) = ret (Ok r)
+
+abbrev pub came : ℕ → List ℕ → Option Reading → Came → Prog (Result Reading ReadError)
+came most name known came_by.Same = same_rest known
+came most name known (came_by.Answer r) = ret (viewed (reading_news known) r)
+came most name known (came_by.Looks s) = stage_left most name known s

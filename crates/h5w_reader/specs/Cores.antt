@@ -1,5 +1,6 @@
 -- A reader, by its parts.
-use Rattle.h5w_reader.specs.Readers.{Reader, reader_of}
+use Rattle.h5w_model.specs.Unfinished.{Reader}
+use Rattle.h5w_reader.specs.Readers.{reader_of}
 use Rattle.h5w_reader.specs.declared.reader.ReaderCore.{ReaderCore}
 
 abbrev pub reader : ReaderCore → Reader

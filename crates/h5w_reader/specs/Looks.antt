@@ -1,31 +1,21 @@
--- What a program of plain looks wants next, and what is left of it.
-use Rattle.std.specs.Prelude.{◌≡◌, ℕ, ◌<◌, ◌≤◌, ◌⊎◌, List, [], Option, Some, None, Result, Ok, Err}
-use Rattle.h5w_model.specs.Programs.{Prog, ret, whole, counted, stored, lowered}
+-- Looks, and programs of looks of which no block is kept.
+use Rattle.std.specs.Prelude.{◌≡◌, ℕ, ◌<◌, ◌≤◌, ◌⊎◌, [], Option, Some, None, Result, Ok, Err}
+use Rattle.h5w_model.specs.Programs.{Prog, lowered}
 use Rattle.h5w_model.specs.declared.message.Prefix.{Prefix}
 use Rattle.h5w_model.specs.declared.refusal.HeaderError.{HeaderError}
 use Rattle.h5w_reader.specs.declared.look.Look.{Look}
 
--- the place and the length of its next look; none where it has its answer
-abbrev pub next_look : {A : Type 0} → Prog A → Option (ℕ × ℕ)
-next_look (ret a) = None
-next_look (whole at len next) = Some (at, len)
-next_look (counted at counts next) = None
-next_look (stored kind at len next) = None
-
--- what is left of it once its next look gave these bytes
-abbrev pub fed : {A : Type 0} → List ℕ → Prog A → Prog A
-fed b (ret a) = ret a
-fed b (whole at len next) = next b
-fed b (counted at counts next) = counted at counts next
-fed b (stored kind at len next) = stored kind at len next
-
--- its place and length
+-- the place and the length of a look
 abbrev pub look_of : Look → ℕ × ℕ
 look_of l = (l.at, l.len)
 
 -- a program in plain looks of at most 512 bytes, of which no block is kept
 abbrev pub plain : {A : Type 0} → Prog A → Prog A
 plain p = lowered 0 [] p
+
+-- a program in plain looks, of which 16 blocks are kept
+abbrev pub with_store : {A : Type 0} → Prog A → Prog A
+with_store p = lowered 16 [] p
 
 -- these many bytes are no more than the look asks for
 abbrev pub Fits : Option (ℕ × ℕ) → ℕ → Type 0

@@ -1,7 +1,7 @@
 -- What is left of a read of rows, of a dataset of one column.
 use Rattle.std.specs.Prelude.{ℕ, zero, suc, ◌+◌, ◌-◌, ◌*◌, ◌/◌, length, List, ◌++◌, map, nat_lt, if◌then◌else◌, Option, Some, Result, Ok, Err, ℤ}
 use Rattle.std.specs.List.{range_with_len}
-use Rattle.h5w_model.specs.Programs.{Prog, ret, bind, and_then}
+use Rattle.h5w_model.specs.Programs.{Prog, ret, whole, bind, and_then, below_end}
 use Rattle.h5w_model.specs.Tables.{Reading}
 use Rattle.h5w_model.specs.Calls.{chunk_range, first_in_band, last_in_band, value_from}
 use Rattle.h5w_model.specs.declared.refusal.ReadError.{ReadError}
@@ -12,7 +12,11 @@ use Rattle.h5w_reader.specs.Gathering.{gathering}
 use Rattle.h5w_reader.specs.Described.{described_of}
 use Rattle.h5w_reader.specs.declared.dataset.Dataset.{Dataset}
 use Rattle.h5w_reader.specs.declared.known.Known.{Known}
+use Rattle.h5w_reader.specs.declared.values.Ranged.{Ranged}
 use Rattle.h5w_reader.specs.declared.values.Reads.{Reads}
+use Rattle.h5w_reader.specs.declared.values.Reads.TheVariants as reads_by
+use Rattle.h5w_reader.specs.declared.values.Goes.{Goes}
+use Rattle.h5w_reader.specs.declared.values.Goes.TheVariants as goes_by
 use Rattle.h5w_reader.specs.declared.values.Valued.{Valued}
 use Rattle.h5w_reader.specs.declared.values.Valued.TheVariants as valued_by
 
@@ -48,11 +52,22 @@ band_rest r from to i done place b =
 abbrev pub reading_with : Known → Dataset → Reading
 reading_with k d = record { place = k.place; dataset = described_of d; table = k.table.items }
 
-abbrev pub reading_values : Known → Reads → Prog (Result (List ℤ) ReadError)
-reading_values k s =
+abbrev pub range_values : Known → Ranged → Prog (Result (List ℤ) ReadError)
+range_values k s =
     bind (gathering s.gather) (band_rest (reading_with k s.span.dataset) s.span.from s.span.to s.band s.values.items s.gather.start)
 
+-- a look at a chunk whose range passes 2^64 is refused, whatever it gives
+abbrev pub past_values : ℕ → ℕ → Prog (Result (List ℤ) ReadError)
+past_values at len = whole at (below_end at 512) (λ b. ret (Err (Damaged at (Cut len 0))))
+
+abbrev pub reading_values : Known → Reads → Prog (Result (List ℤ) ReadError)
+reading_values k (reads_by.Range s) = range_values k s
+reading_values k (reads_by.Past at len) = past_values at len
+
+abbrev pub goes : Known → Goes → Prog (Result (List ℤ) ReadError)
+goes k (goes_by.Done vs) = ret (Ok vs)
+goes k (goes_by.Looks s) = reading_values k s
+
 abbrev pub valued : Known → Valued → Prog (Result (List ℤ) ReadError)
-valued k (valued_by.Done vs) = ret (Ok vs)
+valued k (valued_by.Goes g) = goes k g
 valued k (valued_by.Refused e) = ret (Err e)
-valued k (valued_by.Looks s) = reading_values k s

@@ -1,9 +1,10 @@
 //! What an attempt looks at behind the dataset header.
 ghost use Rattle.std.specs.Prelude.{◌≡◌, ◌+◌, ◌≤◌, ◌^◌, length, Some, IfOk};
-ghost use Rattle.h5w_reader.specs.Attempts.{rules_of};
+ghost use Rattle.h5w_reader.specs.Attempts.{known_of, rules_of};
 
 use crate::known::{Known, Rules};
 use crate::look::Look;
+use crate::news::News;
 use crate::refusal::header_refusal;
 use crate::settle::settle;
 use crate::table::{LookedUp, Lookup};
@@ -24,42 +25,53 @@ pub enum Behind {
 /// What it comes to.
 #[derive(Drop)]
 pub enum Reached {
-    Answer(Result<Known, ReadError>),
+    Answer(Result<News, ReadError>),
     Looks(Behind),
 }
 
 impl Reached {
+    ghost use Rattle.h5w_model.specs.Calls.{CallRules};
     ghost use Rattle.h5w_reader.specs.Walking.{walked};
     ghost use Rattle.h5w_reader.specs.Attempts.{looked_up};
     ghost use Rattle.h5w_reader.specs.Headers.{IsView};
     ghost use Rattle.h5w_reader.specs.Calling.{reached, messages_rest, behind_rest};
 
     /// What the lookup of addresses comes to.
-    fn of(l: LookedUp, rules: &Rules) -> Reached
-        ensures { reached (rules_of rules.now) result ≡ looked_up rules.now.place l }
+    fn of(l: LookedUp) -> Reached
+        ensures { (g : CallRules) → reached g result ≡ looked_up g l }
     {
         match l {
-            LookedUp::Ready(known) => Reached::Answer(Ok(known)),
+            LookedUp::Ready(news) => Reached::Answer(Ok(news)),
             LookedUp::Refused(error) => Reached::Answer(Err(error)),
             LookedUp::Looks(lookup) => Reached::Looks(Behind::Lookup(lookup)),
         }
     }
 
     /// Goes on from what the visit of the dataset header's messages comes to.
-    fn after_walk(alloc: Global, rules: &Rules, w: Walked) -> Result<Reached, OutOfMemory>
-        ensures { IfOk result (λ r. reached (rules_of rules.now) r ≡ messages_rest (rules_of rules.now) (walked w)) }
+    fn after_walk(
+        alloc: Global,
+        rules: &Rules,
+        known: &Option<Known>,
+        w: Walked,
+    ) -> Result<Reached, OutOfMemory>
+        ensures { IfOk result (λ r. reached (rules_of rules.now (known_of known.now)) r ≡ messages_rest (rules_of rules.now (known_of known.now)) (walked w)) }
     {
         match w {
-            Walked::Done(found) => Ok(Reached::of(settle(alloc, rules, &found)?, rules)),
+            Walked::Done(found) => Ok(Reached::of(settle(alloc, rules, known, &found)?)),
             Walked::Refused(error) => Ok(Reached::Answer(Err(error))),
             Walked::Visit(block) => Ok(Reached::Looks(Behind::Visit(block))),
         }
     }
 
     /// Begins with what counts of a look at the dataset header.
-    pub fn begin(alloc: Global, rules: &Rules, view: &Piece) -> Result<Reached, OutOfMemory>
+    pub fn begin(
+        alloc: Global,
+        rules: &Rules,
+        known: &Option<Known>,
+        view: &Piece,
+    ) -> Result<Reached, OutOfMemory>
         requires { IsView rules.now.place view.now }
-        ensures { IfOk result (λ r. reached (rules_of rules.now) r ≡ behind_rest (rules_of rules.now) view.now) }
+        ensures { IfOk result (λ r. reached (rules_of rules.now (known_of known.now)) r ≡ behind_rest (rules_of rules.now (known_of known.now)) view.now) }
     {
         let bytes = view.as_slice();
         let p = match prefix(bytes) {
@@ -72,13 +84,15 @@ impl Reached {
         if p.total > PIECE as u64 {
             return Ok(Reached::Answer(Err(ReadError::Unsupported(Unsupported(1)))));
         }
-        Reached::after_walk(alloc, rules, Walk::start(alloc, rules.place, &p, bytes)?)
+        let walked = Walk::start(alloc, rules.place, &p, bytes)?;
+        Reached::after_walk(alloc, rules, known, walked)
     }
 }
 
 impl Behind {
     ghost use Rattle.h5w_model.specs.Calls.{CallRules};
-    ghost use Rattle.h5w_reader.specs.Looks.{next_look, fed, look_of, Fits};
+    ghost use Rattle.h5w_model.specs.Programs.{next_look, fed};
+    ghost use Rattle.h5w_reader.specs.Looks.{look_of, Fits};
     ghost use Rattle.h5w_reader.specs.Calling.{behind_left, reached};
 
     /// The next look.
@@ -95,15 +109,21 @@ impl Behind {
     }
 
     /// Goes on with the piece that the look gave.
-    pub fn feed(self, alloc: Global, rules: &Rules, piece: &Piece) -> Result<Reached, OutOfMemory>
-        requires { Fits (next_look (behind_left (rules_of rules.now) self)) (length piece.now) }
-        ensures { IfOk result (λ r. reached (rules_of rules.now) r ≡ fed piece.now (behind_left (rules_of rules.now) self)) }
+    pub fn feed(
+        self,
+        alloc: Global,
+        rules: &Rules,
+        known: &Option<Known>,
+        piece: &Piece,
+    ) -> Result<Reached, OutOfMemory>
+        requires { Fits (next_look (behind_left (rules_of rules.now (known_of known.now)) self)) (length piece.now) }
+        ensures { IfOk result (λ r. reached (rules_of rules.now (known_of known.now)) r ≡ fed piece.now (behind_left (rules_of rules.now (known_of known.now)) self)) }
     {
         match self {
-            Behind::Visit(block) => Reached::after_walk(alloc, rules, block.feed(alloc, piece)?),
-            Behind::Lookup(lookup) => {
-                Ok(Reached::of(lookup.feed(alloc, rules.place, piece)?, rules))
+            Behind::Visit(block) => {
+                Reached::after_walk(alloc, rules, known, block.feed(alloc, piece)?)
             }
+            Behind::Lookup(lookup) => Ok(Reached::of(lookup.feed(alloc, rules, known, piece)?)),
         }
     }
 }

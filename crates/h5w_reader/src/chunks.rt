@@ -6,8 +6,8 @@ ghost use Rattle.h5w_reader.specs.Described.{described_of};
 
 use crate::dataset::Dataset;
 
-/// How many slots an array's index block has.
-const SLOTS: u64 = 4;
+/// How many chunks an array has at most whose data blocks have no pages.
+const CHUNKS: u64 = 131_060;
 
 /// How many parts of size `d` it takes for `n`.
 #[tactic(auto, using(crate::proofs::ChunkLemmas::div_up_even, crate::proofs::ChunkLemmas::div_up_odd, crate::proofs::ChunkLemmas::div_up_within))]
@@ -48,10 +48,10 @@ impl Dataset {
         self.bands() * self.across()
     }
 
-    /// How many chunks are read at most: those of the slots of an array's index block.
+    /// How many chunks are read at most: those of an array whose data blocks have no pages, and none of a tree.
     pub fn limit(&self) -> u64
         ensures { result ≡ limit_of reader_limits (described_of self.now).layout.index }
     {
-        if self.shape.growing { 0 } else { SLOTS }
+        if self.shape.growing { 0 } else { CHUNKS }
     }
 }

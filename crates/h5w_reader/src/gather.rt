@@ -1,8 +1,7 @@
 //! A block that is looked at in pieces.
 ghost use Rattle.std.specs.Prelude.{◌≡◌, ◌+◌, ◌-◌, ◌<◌, ◌≤◌, ◌^◌, min, length, ℕ, Some, IfOk};
-ghost use Rattle.h5w_model.specs.Programs.{below_end, pieces};
 
-use crate::look::Look;
+use crate::look::{Look, below_end};
 use h5w_model::{OutOfMemory, PIECE, Piece};
 
 /// Bytes that were found, and the range of the image that is to be put behind them, in pieces of at most 512 bytes.
@@ -28,16 +27,9 @@ pub enum Gathered {
     More(Gather),
 }
 
-/// How many of `len` bytes from `place` on stand below 2^64.
-pub fn below_end(place: u64, len: u64) -> u64
-    ensures { result ≡ below_end place len }
-{
-    let most = u64::MAX - place;
-    if len <= most { len } else { most + 1 }
-}
-
 impl Gather {
-    ghost use Rattle.h5w_reader.specs.Looks.{next_look, fed, look_of};
+    ghost use Rattle.h5w_model.specs.Programs.{next_look, fed};
+    ghost use Rattle.h5w_reader.specs.Looks.{look_of};
     ghost use Rattle.h5w_reader.specs.Gathering.{gathering, gathered, cut_behind, StartsAt};
 
     /// The range of `len` bytes from `place` on, behind the bytes `got`, which begin at `start`.

@@ -1,9 +1,10 @@
 //! The dataset header, of which two looks are compared.
-ghost use Rattle.std.specs.Prelude.{◌≡◌, ◌+◌, ◌≤◌, ◌^◌, ℕ, false, take, drop, length, nat_eq, slice_index};
+ghost use Rattle.std.specs.Prelude.{◌≡◌, ◌+◌, ◌≤◌, ◌^◌, ℕ, Option, false, take, drop, length, nat_eq, slice_index};
 ghost use Rattle.std.specs.Cmp.Lexicographic.{pointwise};
 ghost use Rattle.h5w_model.specs.Headers.{header_view};
 ghost use Rattle.h5w_model.specs.Programs.{below_end};
 ghost use Rattle.h5w_model.specs.Calls.{again, cut_header, difference_from};
+ghost use Rattle.h5w_model.specs.Tables.{Reading};
 ghost use Rattle.h5w_reader.specs.Attempts.{rules_of};
 ghost use Rattle.h5w_reader.specs.Headers.{IsView, IsWhole};
 
@@ -76,7 +77,7 @@ pub fn again(rules: &Rules, first: &Piece, last: &Piece) -> ReadError
     requires whole_first { IsWhole rules.now.place first.now }
     requires whole_last { IsWhole rules.now.place last.now }
     requires differ { pointwise nat_eq last.now first.now ≡ false }
-    ensures { result ≡ again (rules_of rules.now) first.now last.now }
+    ensures { (known : Option Reading) → result ≡ again (rules_of rules.now known) first.now last.now }
 {
     let (a, b) = (first.as_slice(), last.as_slice());
     let n = same_front(a, b);

@@ -1,38 +1,61 @@
 //! A reader's half-done calls. The core holds no image: [`ReaderCore::want`] says the next look, and
 //! [`ReaderCore::give`] takes what it gave.
+//!
+//! What an unfinished call waits for, and what the look makes of it:
+//!
+//! | state | the next look | then |
+//! |---|---|---|
+//! | `Open`, `Super` | the superblock | `Root`, or a refusal |
+//! | `Open`, `Root` | the first 512 bytes of the root header | `Rest` where chunk 0 is longer, else its messages |
+//! | `Open`, `Rest` | the next piece of its chunk 0 | `Rest`, or its messages |
+//! | `Open`, `Visit` | the next piece of a continuation block of it | `Visit`, or `Header` once the link is found |
+//! | `Header` | the dataset header: an attempt begins | rows where it looks no further, else `Behind` or `Confirm` |
+//! | `Behind`, `Visit` | the next piece of a continuation block of it | `Visit`, `Array`, or `Confirm` |
+//! | `Behind`, `Array` and `Index` | the next piece of the array's header, or of its index block | `Index`, `Block`, or `Confirm` |
+//! | `Behind`, `Block` | the next piece of a secondary or data block that is not kept | `Block`, or `Confirm` |
+//! | `Confirm` | the dataset header again | the attempt's answer where it is the same, else the next attempt, else Again |
+//! | `Range` | the next piece of a chunk's range | `Range`, or the values, or a refusal |
+//! | `Past` | a chunk whose range passes 2^64 | a refusal, whatever the look gives |
+//!
+//! Messages are visited without a look until a continuation message comes; a refusal behind the dataset header waits in
+//! `Confirm`, too.
 #![tactic(auto)]
 
 mod behind;
+mod block;
 mod call;
 mod cells;
 mod chunks;
 mod dataset;
+mod descend;
+mod descent;
 mod describe;
 mod found;
 mod gather;
 mod header;
+mod idle;
 mod known;
+mod learn;
 mod look;
+mod news;
 mod open;
 mod place;
 mod reader;
+mod recall;
 mod refusal;
+mod seek;
 mod settle;
+mod sizes;
 mod stack;
 mod stage;
 mod step;
+mod store;
 mod table;
 mod values;
 mod view;
+mod wait;
 mod walk;
 
 pub use look::Look;
 pub use reader::ReaderCore;
 pub use step::{ReadBegin, Step};
-
-#[cfg(test)]
-mod header_tests;
-#[cfg(test)]
-mod tests;
-#[cfg(test)]
-mod values_tests;

@@ -3,8 +3,8 @@ ghost use Rattle.std.specs.Prelude.{◌≡◌, ◌+◌, ◌<◌, ◌≤◌, ◌^
 ghost use Rattle.h5w_model.specs.Datasets.{super_of};
 
 use crate::found::Found;
-use crate::gather::{Gather, Gathered, below_end};
-use crate::look::Look;
+use crate::gather::{Gather, Gathered};
+use crate::look::{Look, look_at};
 use crate::refusal::{header_refusal, super_refusal};
 use crate::view::root_view;
 use crate::walk::{Block, Walk, Walked};
@@ -88,7 +88,8 @@ impl Opened {
 }
 
 impl Opening {
-    ghost use Rattle.h5w_reader.specs.Looks.{next_look, fed, look_of, Fits};
+    ghost use Rattle.h5w_model.specs.Programs.{next_look, fed};
+    ghost use Rattle.h5w_reader.specs.Looks.{look_of, Fits};
     ghost use Rattle.h5w_reader.specs.Opening.{opening, opened, root_messages};
 
     /// From the superblock on.
@@ -107,10 +108,7 @@ impl Opening {
     {
         match self {
             Opening::Super(gather) | Opening::Rest(_, gather) => gather.want(),
-            Opening::Root(place) => Look {
-                at: *place,
-                len: below_end(*place, PIECE as u64) as usize,
-            },
+            Opening::Root(place) => look_at(*place),
             Opening::Visit(block) => block.want(),
         }
     }

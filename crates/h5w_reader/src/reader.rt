@@ -1,19 +1,22 @@
 //! A reader of one dataset.
-ghost use Rattle.std.specs.Prelude.{◌≡◌, ◌≢◌, ◌⊎◌, ℕ, ◌+◌, ◌≤◌, ◌^◌, length, Some, None, Ok, Err, IfOk, IfErr, IfSome, OnOk, OnErr, MatchOption, option_map};
-ghost use Rattle.h5w_model.specs.Calls.{open_call};
+ghost use Rattle.std.specs.Prelude.{◌≡◌, ◌≢◌, ℕ, ◌+◌, ◌≤◌, ◌^◌, length, Some, None, IsSome, IfOk, IfErr, IfSome, OnOk, OnErr, MatchOption, option_map};
+ghost use Rattle.h5w_model.specs.Calls.{rows_seen};
+ghost use Rattle.h5w_model.specs.Unfinished.{rows_left, values_left, fed_left, rows_program, values_program, wanted, with_left};
 ghost use Rattle.h5w_reader.specs.Looks.{look_of, Fits};
-ghost use Rattle.h5w_reader.specs.Attempts.{reader_limits};
-ghost use Rattle.h5w_reader.specs.Readers.{BegunRead, IsRefusedRead, Reader, Told, begin_refusal, valued_left, values_left, fed_left, for_rows, for_values, read_refusal, rows_program, rows_seen, values_program, wanted, with_left};
+ghost use Rattle.h5w_reader.specs.Readers.{BegunRead, IsRefusedRead, Told, begin_refusal, read_refusal, new_reader, reader_rules, reads_left, valued_left};
 ghost use Rattle.h5w_reader.specs.declared.call.Call.TheVariants as calls;
 ghost use Rattle.h5w_reader.specs.declared.values.Reads.{Reads};
 ghost use Rattle.h5w_reader.specs.declared.step.ReadBegin.{ReadBegin};
+ghost use Rattle.h5w_reader.specs.declared.step.Step.TheVariants as steps;
 
 use crate::call::Call;
 use crate::known::{Known, Rules};
+use crate::learn::learn;
 use crate::look::Look;
+use crate::recall::rows_seen;
 use crate::stage::{Came, Stage};
 use crate::step::{ReadBegin, Step};
-use crate::values::{Reads, Valued};
+use crate::values::{Goes, Reads, Valued};
 use h5w_model::{Bytes, OutOfMemory, Piece, ReadError, Values};
 use std::alloc::Global;
 
@@ -38,8 +41,8 @@ fn feed_read(
     reads: Reads,
     piece: &Piece,
 ) -> Result<Valued, OutOfMemory>
-    requires { Fits (wanted (values_left known.now reads)) (length piece.now) }
-    ensures { IfOk result (λ v. valued_left known.now v ≡ option_map (fed_left piece.now) (values_left known.now reads)) }
+    requires { Fits (wanted (reads_left known.now reads)) (length piece.now) }
+    ensures { IfOk result (λ v. valued_left known.now v ≡ option_map (fed_left piece.now) (reads_left known.now reads)) }
 {
     match known {
         Some(known) => reads.feed(alloc, known, piece),
@@ -50,12 +53,14 @@ fn feed_read(
 impl ReaderCore {
     ghost use Rattle.h5w_model.specs.Programs as model;
     ghost use Rattle.h5w_reader.specs.Cores.{reader};
-    ghost use Rattle.h5w_reader.specs.Asked.{Asked, Asks, IsWanted, beginning, looking, no_asks, reading, without};
+    ghost use Rattle.h5w_model.specs.Asked.{Asked, Asks, beginning, no_asks, reading, without};
+    ghost use Rattle.h5w_reader.specs.Asked.{IsWanted, looking};
 
     /// A reader that begins to open the dataset of this name. Where a dataset header changes between its looks, a call tries so often.
     pub fn open(alloc: Global, name: &[u8], attempts: u32) -> Result<ReaderCore, OutOfMemory>
-        ensures begun { IfOk result (λ r. reader r ≡ record { name = name.now; attempts = attempts; known = None; left = Some (for_rows (open_call reader_limits 0 attempts name.now)) }) }
-        ensures asked { IfOk result (λ r. Asked (reader r) (beginning (for_rows (open_call reader_limits 0 attempts name.now)) no_asks)) }
+        ensures begun { IfOk result (λ r. reader r ≡ new_reader (reader_rules name.now attempts)) }
+        ensures wanting { IfOk result (λ r. IsSome (wanted (reader r).left)) }
+        ensures asked { IfOk result (λ r. Asked (reader r) (beginning (rows_left (rows_program (reader_rules name.now attempts) None)) no_asks)) }
     {
         let name = Bytes::from_vec(Vec::from_slice(alloc, name)?);
         Ok(ReaderCore {
@@ -71,26 +76,23 @@ impl ReaderCore {
     pub fn seen(&self) -> u64
         ensures { result ≡ rows_seen (reader self.now).known }
     {
-        match &self.known {
-            Some(known) => known.dataset.shape.rows,
-            None => 0,
-        }
+        rows_seen(&self.known)
     }
 
     /// Begins a refresh; as long as no dataset is known, an open again. Busy where a call is unfinished.
     pub fn refresh(&mut self) -> Result<(), ReadBegin>
-        ensures begun { OnOk result (reader self.new ≡ with_left (reader self.old) (Some (for_rows (rows_program (reader self.old).attempts (reader self.old).name (reader self.old).known)))) }
+        ensures begun { OnOk result (reader self.new ≡ with_left (reader self.old) (Some (rows_left (rows_program (reader self.old).rules (reader self.old).known)))) }
+        ensures wanting { OnOk result (IsSome (wanted (reader self.new).left)) }
         ensures idle { OnOk result (begin_refusal (reader self.old).left ≡ None) }
         ensures refused { IfErr result (λ e. begin_refusal (reader self.old).left ≡ Some e) }
         ensures err { OnErr result (reader self.new ≡ reader self.old) }
-        ensures asked { OnOk result ((asks : Asks) → Asked (reader self.old) asks → Asked (reader self.new) (beginning (for_rows (rows_program (reader self.old).attempts (reader self.old).name (reader self.old).known)) asks)) }
+        ensures asked { OnOk result ((asks : Asks) → Asked (reader self.old) asks → Asked (reader self.new) (beginning (rows_left (rows_program (reader self.old).rules (reader self.old).known)) asks)) }
     {
         if self.call.is_some() {
             return Err(ReadBegin::Busy);
         }
         let stage = match &self.known {
             Some(known) => Stage::rows(Rules {
-                seen: known.dataset.shape.rows,
                 attempts: self.attempts,
                 place: known.place,
             }),
@@ -104,10 +106,11 @@ impl ReaderCore {
     /// known not to be there.
     pub fn read(&mut self, from: u64, count: u64) -> Result<Option<Values>, ReadBegin>
         ensures begun { IfOk result (λ values. BegunRead (values_program (reader self.old).known from count) (reader self.old) values (reader self.new)) }
+        ensures wanting { IfOk result (λ values. values ≡ None → IsSome (wanted (reader self.new).left)) }
         ensures refused { (e : ReadBegin) → read_refusal (reader self.old) from count ≡ Some e → result ≡ Err e }
-        ensures causes { IfErr result (λ e. IsRefusedRead (values_program (reader self.old).known from count) (read_refusal (reader self.old) from count) e) }
+        ensures causes { IfErr result (λ e. IsRefusedRead (read_refusal (reader self.old) from count) e) }
         ensures err { OnErr result (reader self.new ≡ reader self.old) }
-        ensures asked { IfOk result (λ values. (asks : Asks) → Asked (reader self.old) asks → Asked (reader self.new) (reading values (for_values (values_program (reader self.old).known from count)) asks)) }
+        ensures asked { IfOk result (λ values. (asks : Asks) → Asked (reader self.old) asks → Asked (reader self.new) (reading values (values_left (values_program (reader self.old).known from count)) asks)) }
     {
         if self.call.is_some() {
             return Err(ReadBegin::Busy);
@@ -117,13 +120,12 @@ impl ReaderCore {
             return Err(ReadBegin::OutOfRows { from, count, rows });
         }
         let begun = match &self.known {
-            Some(known) if count > 0 => Valued::begin(self.alloc, known, from, count)?,
+            Some(known) if count > 0 => Goes::begin(self.alloc, known, from, count)?,
             _ => return Ok(Some(Values::from_vec(Vec::new(self.alloc)))),
         };
         match begun {
-            Valued::Done(values) => Ok(Some(values)),
-            Valued::Refused(error) => Err(ReadBegin::Refused(error)),
-            Valued::Looks(reads) => {
+            Goes::Done(values) => Ok(Some(values)),
+            Goes::Looks(reads) => {
                 self.call = Some(Call::Values(reads));
                 Ok(None)
             }
@@ -147,16 +149,30 @@ impl ReaderCore {
     /// Goes on with the piece that the wanted look gave.
     fn go_on(&mut self, piece: &Piece) -> Step
         requires { Fits (wanted (reader self.old).left) (length piece.now) }
-        ensures { Told (option_map (fed_left piece.now) (reader self.old).left) (reader self.old) result (reader self.new) }
+        ensures told { Told (option_map (fed_left piece.now) (reader self.old).left) (reader self.old) result (reader self.new) }
+        ensures wanting { result ≡ steps.More → IsSome (wanted (reader self.new).left) }
     {
         let name = self.name.as_slice();
         match self.call.take() {
-            Some(Call::Rows(stage)) => match stage.feed(self.alloc, self.attempts, name, piece) {
-                Ok(Came::Answer(Ok(known))) => {
-                    let rows = known.dataset.shape.rows;
-                    self.known = Some(known);
-                    Step::Rows(rows)
+            Some(Call::Rows(stage)) => match stage.feed(
+                self.alloc,
+                self.attempts,
+                name,
+                &self.known,
+                piece,
+            ) {
+                Ok(Came::Answer(Ok(news))) => {
+                    let rows = news.dataset.shape.rows;
+                    match learn(&mut self.known, news) {
+                        Ok(()) => Step::Rows(rows),
+                        Err(OutOfMemory) => Step::Refused(ReadError::OutOfMemory),
+                    }
                 }
+                // only a reader that knows something comes to this
+                Ok(Came::Same) => match &self.known {
+                    Some(known) => Step::Rows(known.dataset.shape.rows),
+                    None => Step::Refused(ReadError::OutOfMemory),
+                },
                 Ok(Came::Answer(Err(error))) => Step::Refused(error),
                 Ok(Came::Looks(stage)) => {
                     self.call = Some(Call::Rows(stage));
@@ -165,9 +181,9 @@ impl ReaderCore {
                 Err(OutOfMemory) => Step::Refused(ReadError::OutOfMemory),
             },
             Some(Call::Values(reads)) => match feed_read(self.alloc, &self.known, reads, piece) {
-                Ok(Valued::Done(values)) => Step::Values(values),
+                Ok(Valued::Goes(Goes::Done(values))) => Step::Values(values),
                 Ok(Valued::Refused(error)) => Step::Refused(error),
-                Ok(Valued::Looks(reads)) => {
+                Ok(Valued::Goes(Goes::Looks(reads))) => {
                     self.call = Some(Call::Values(reads));
                     Step::More
                 }
@@ -181,6 +197,7 @@ impl ReaderCore {
     pub fn give(&mut self, piece: &Piece) -> Step
         requires { Fits (wanted (reader self.old).left) (length piece.now) }
         ensures told { Told (option_map (fed_left piece.now) (reader self.old).left) (reader self.old) result (reader self.new) }
+        ensures wanting { result ≡ steps.More → IsSome (wanted (reader self.new).left) }
         ensures asked { (asks : Asks) (look : model.Look) → Asked (reader self.old) asks → IsWanted (wanted (reader self.old).left) piece.now look → Asked (reader self.new) (looking look result (reader self.new).known asks) }
     {
         self.go_on(piece)

@@ -1,25 +1,31 @@
 //! What comes behind the messages of a dataset header.
 ghost use Rattle.std.specs.Prelude.{◌≡◌, IfOk};
 ghost use Rattle.h5w_reader.specs.Walking.{founds};
-ghost use Rattle.h5w_reader.specs.Attempts.{looked_up, described_rest, rules_of};
+ghost use Rattle.h5w_reader.specs.Attempts.{known_of, looked_up, described_rest, rules_of};
 
 use crate::describe::describe;
 use crate::found::Found;
-use crate::known::Rules;
+use crate::known::{Known, Rules};
+use crate::recall::rows_seen;
 use crate::table::LookedUp;
 use h5w_model::{OutOfMemory, ReadError};
 use std::alloc::Global;
 
 /// Goes on from the messages of the dataset header: first what is unsupported, then fewer rows than were seen, then too many
 /// chunks.
-pub fn settle(alloc: Global, rules: &Rules, found: &[Found]) -> Result<LookedUp, OutOfMemory>
-    ensures { IfOk result (λ l. looked_up rules.now.place l ≡ described_rest (rules_of rules.now) (founds found.now)) }
+pub fn settle(
+    alloc: Global,
+    rules: &Rules,
+    known: &Option<Known>,
+    found: &[Found],
+) -> Result<LookedUp, OutOfMemory>
+    ensures { IfOk result (λ l. looked_up (rules_of rules.now (known_of known.now)) l ≡ described_rest (rules_of rules.now (known_of known.now)) (founds found.now)) }
 {
     let d = match describe(found) {
         Ok(d) => d,
         Err(n) => return Ok(LookedUp::Refused(ReadError::Unsupported(n))),
     };
-    let (seen, rows) = (rules.seen, d.shape.rows);
+    let (seen, rows) = (rows_seen(known), d.shape.rows);
     if rows < seen {
         return Ok(LookedUp::Refused(ReadError::Shrunk { seen, found: rows }));
     }
@@ -27,5 +33,5 @@ pub fn settle(alloc: Global, rules: &Rules, found: &[Found]) -> Result<LookedUp,
     if u128::from(limit) < needed {
         return Ok(LookedUp::Refused(ReadError::TooManyChunks { needed, limit }));
     }
-    LookedUp::begin(alloc, rules.place, &d)
+    LookedUp::begin(alloc, rules, known, &d)
 }

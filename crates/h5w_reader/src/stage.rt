@@ -1,19 +1,24 @@
 //! An unfinished call for rows.
-ghost use Rattle.std.specs.Prelude.{◌≡◌, ◌≢◌, ℕ, List, ◌+◌, ◌-◌, ◌<◌, ◌≤◌, ◌^◌, length, Ok, Err, Some, IfOk};
+ghost use Rattle.std.specs.Prelude.{◌≡◌, ◌≢◌, ℕ, List, Option, ◌+◌, ◌-◌, ◌<◌, ◌≤◌, ◌^◌, length, Ok, Err, Some, None, IfOk};
 ghost use Rattle.h5w_model.specs.Checked.{viewed};
 ghost use Rattle.h5w_model.specs.Programs.{below_end};
-ghost use Rattle.h5w_reader.specs.Attempts.{reading_of, rules_of};
+ghost use Rattle.h5w_model.specs.Tables.{Reading};
+ghost use Rattle.h5w_reader.specs.Attempts.{known_of, rules_of};
+ghost use Rattle.h5w_reader.specs.Descents.{reading_news};
 ghost use Rattle.h5w_reader.specs.Headers.{IsView, IsWhole};
+ghost use Rattle.h5w_reader.specs.Described.{described_of};
+ghost use Rattle.h5w_reader.specs.Seen.{IsHeaderOf};
 
 use crate::behind::{Behind, Reached};
 use crate::found::Found;
-use crate::gather::below_end;
 use crate::header::{again, cut_header, is_same, view_at};
+use crate::idle::is_idle;
 use crate::known::{Known, Rules};
-use crate::look::Look;
+use crate::look::{Look, look_at};
+use crate::news::News;
 use crate::open::{Opened, Opening};
 use crate::place::place_of;
-use h5w_model::{OutOfMemory, PIECE, Piece, ReadError};
+use h5w_model::{OutOfMemory, Piece, ReadError};
 use std::alloc::Global;
 
 /// An attempt, from its first look at the dataset header on.
@@ -38,27 +43,16 @@ pub enum Stage {
     /// A look behind it.
     Behind(Attempt, Behind),
     /// The last look at it. Where that shows the same header this is the answer.
-    Confirm(Attempt, Result<Known, ReadError>),
+    Confirm(Attempt, Result<News, ReadError>),
 }
 
 /// What a call comes to.
 #[derive(Drop)]
 pub enum Came {
-    Answer(Result<Known, ReadError>),
+    /// All is as it is known.
+    Same,
+    Answer(Result<News, ReadError>),
     Looks(Stage),
-}
-
-/// The look at the header at a place.
-fn header_look(place: u64) -> Look
-    ensures look { result ≡ record { at = place; len = below_end place 512 } }
-    ensures low { 1 ≤ result.len }
-    ensures high { result.len ≤ 512 }
-    ensures inside { result.at + result.len ≤ 2 ^ 64 }
-{
-    Look {
-        at: place,
-        len: below_end(place, PIECE as u64) as usize,
-    }
 }
 
 /// The answer of a refusal that may be want of memory.
@@ -72,19 +66,49 @@ fn refused(error: ReadError) -> Result<Came, OutOfMemory>
     }
 }
 
+/// The news, with all that was looked at for them.
+fn with_view(news: News, view: Piece) -> News
+    requires { IsHeaderOf news.place (described_of news.dataset) view }
+    ensures { (known : Option Reading) → reading_news known result ≡ reading_news known news }
+{
+    let News {
+        place,
+        dataset,
+        kept,
+        tail,
+        ..
+    } = news;
+    News {
+        place,
+        dataset,
+        kept,
+        tail,
+        view: Some(view),
+    }
+}
+
 impl Attempt {
     ghost use Rattle.h5w_reader.specs.Calling.{came, attempt_rest, confirm_given};
 
     /// Goes on from what counts of an attempt's first look at the dataset header, where so many attempts may follow.
-    fn begin(alloc: Global, rules: Rules, more: u32, view: Piece) -> Result<Came, OutOfMemory>
+    fn begin(
+        alloc: Global,
+        rules: Rules,
+        known: &Option<Known>,
+        more: u32,
+        view: Piece,
+    ) -> Result<Came, OutOfMemory>
         requires { IsView rules.place view }
-        ensures { (most : ℕ) (name : List ℕ) → IfOk result (λ c. came most name c ≡ attempt_rest (rules_of rules) more view) }
+        ensures { (most : ℕ) (name : List ℕ) → IfOk result (λ c. came most name (known_of known.now) c ≡ attempt_rest (rules_of rules (known_of known.now)) more view) }
     {
         if let Some(error) = cut_header(rules.place, &view) {
             return Ok(Came::Answer(Err(error)));
         }
-        match Reached::begin(alloc, &rules, &view)? {
-            Reached::Answer(Ok(known)) => Ok(Came::Answer(Ok(known))),
+        if is_idle(&rules, known, &view) {
+            return Ok(Came::Same);
+        }
+        match Reached::begin(alloc, &rules, known, &view)? {
+            Reached::Answer(Ok(news)) => Ok(Came::Answer(Ok(with_view(news, view)))),
             Reached::Answer(Err(error)) => {
                 let attempt = Attempt { rules, more, view };
                 Ok(Came::Looks(Stage::Confirm(attempt, Err(error))))
@@ -100,11 +124,12 @@ impl Attempt {
     fn end(
         self,
         alloc: Global,
-        answer: Result<Known, ReadError>,
+        known: &Option<Known>,
+        answer: Result<News, ReadError>,
         last: Piece,
     ) -> Result<Came, OutOfMemory>
         requires { IsView self.rules.place last }
-        ensures { (most : ℕ) (name : List ℕ) → IfOk result (λ c. came most name c ≡ confirm_given (rules_of self.rules) self.more self.view (viewed reading_of answer) last) }
+        ensures { (most : ℕ) (name : List ℕ) → IfOk result (λ c. came most name (known_of known.now) c ≡ confirm_given (rules_of self.rules (known_of known.now)) self.more self.view (viewed (reading_news (known_of known.now)) answer) last) }
     {
         if let Some(error) = cut_header(self.rules.place, &last) {
             return Ok(Came::Answer(Err(error)));
@@ -116,7 +141,7 @@ impl Attempt {
             let error = again(&self.rules, &self.view, &last);
             return Ok(Came::Answer(Err(error)));
         }
-        Attempt::begin(alloc, self.rules, self.more - 1, last)
+        Attempt::begin(alloc, self.rules, known, self.more - 1, last)
     }
 }
 
@@ -134,22 +159,18 @@ impl Came {
         name: &[u8],
         found: Vec<Found>,
     ) -> Result<Came, OutOfMemory>
-        ensures { IfOk result (λ c. came attempts name.now c ≡ place_rest attempts name.now (founds found.items)) }
+        ensures { (known : Option Reading) → IfOk result (λ c. came attempts name.now known c ≡ place_rest attempts name.now known (founds found.items)) }
     {
         let place = match place_of(alloc, found, name) {
             Ok(place) => place,
             Err(error) => return refused(error),
         };
-        Ok(Came::Looks(Stage::Header(Rules {
-            seen: 0,
-            attempts,
-            place,
-        })))
+        Ok(Came::Looks(Stage::Header(Rules { attempts, place })))
     }
 
     /// Goes on from what a look on the way to the root header's messages comes to.
     fn after_open(alloc: Global, attempts: u32, name: &[u8], o: Opened) -> Result<Came, OutOfMemory>
-        ensures { IfOk result (λ c. came attempts name.now c ≡ and_then (opened o) (place_rest attempts name.now)) }
+        ensures { (known : Option Reading) → IfOk result (λ c. came attempts name.now known c ≡ and_then (opened o) (place_rest attempts name.now known)) }
     {
         match o {
             Opened::Found(found) => Came::after_root(alloc, attempts, name, found),
@@ -159,17 +180,22 @@ impl Came {
     }
 
     /// Goes on with the first look at the dataset header.
-    fn after_header(alloc: Global, rules: Rules, look: &Piece) -> Result<Came, OutOfMemory>
+    fn after_header(
+        alloc: Global,
+        rules: Rules,
+        known: &Option<Known>,
+        look: &Piece,
+    ) -> Result<Came, OutOfMemory>
         requires { length look.now ≤ below_end rules.place 512 }
-        ensures { (most : ℕ) (name : List ℕ) → IfOk result (λ c. came most name c ≡ rows_given (rules_of rules) look.now) }
+        ensures { (most : ℕ) (name : List ℕ) → IfOk result (λ c. came most name (known_of known.now) c ≡ rows_given (rules_of rules (known_of known.now)) look.now) }
     {
         let view = view_at(rules.place, look);
-        Attempt::begin(alloc, rules, rules.attempts.saturating_sub(1), view)
+        Attempt::begin(alloc, rules, known, rules.attempts.saturating_sub(1), view)
     }
 
     /// Goes on with what comes of a look behind the header.
     fn after_behind(attempt: Attempt, found: Reached) -> Came
-        ensures { (most : ℕ) (name : List ℕ) → came most name result ≡ bind (reached (rules_of attempt.rules) found) (confirm_rest (rules_of attempt.rules) attempt.more attempt.view) }
+        ensures { (most : ℕ) (name : List ℕ) (known : Option Reading) → came most name known result ≡ bind (reached (rules_of attempt.rules known) found) (confirm_rest (rules_of attempt.rules known) attempt.more attempt.view) }
     {
         match found {
             Reached::Answer(answer) => Came::Looks(Stage::Confirm(attempt, answer)),
@@ -181,49 +207,52 @@ impl Came {
 impl Stage {
     ghost use Rattle.h5w_model.specs.Calls.{open_call, rows_call};
     ghost use Rattle.h5w_reader.specs.Attempts.{reader_limits};
-    ghost use Rattle.h5w_reader.specs.Looks.{next_look, fed, look_of, Fits};
+    ghost use Rattle.h5w_model.specs.Programs.{next_look, fed};
+    ghost use Rattle.h5w_reader.specs.Looks.{look_of, Fits};
     ghost use Rattle.h5w_reader.specs.Calling.{stage_left, came, place_rest};
     ghost use Rattle.h5w_reader.specs.Walking.{founds};
 
     /// An open.
     pub fn open(alloc: Global) -> Stage
-        ensures { (most : ℕ) (name : List ℕ) → stage_left most name result ≡ open_call reader_limits 0 most name }
+        ensures { (most : ℕ) (name : List ℕ) → stage_left most name None result ≡ open_call reader_limits 16 most name }
     {
         Stage::Open(Opening::new(alloc))
     }
 
     /// A call for rows of a dataset whose header's place is known.
     pub fn rows(rules: Rules) -> Stage
-        ensures { (most : ℕ) (name : List ℕ) → stage_left most name result ≡ rows_call (rules_of rules) }
+        ensures { (most : ℕ) (name : List ℕ) (known : Option Reading) → stage_left most name known result ≡ rows_call (rules_of rules known) }
     {
         Stage::Header(rules)
     }
 
     /// The next look.
     pub fn want(&self) -> Look
-        ensures next { (most : ℕ) (name : List ℕ) → next_look (stage_left most name self.now) ≡ Some (look_of result) }
+        ensures next { (most : ℕ) (name : List ℕ) (known : Option Reading) → next_look (stage_left most name known self.now) ≡ Some (look_of result) }
         ensures low { 1 ≤ result.len }
         ensures high { result.len ≤ 512 }
         ensures inside { result.at + result.len ≤ 2 ^ 64 }
     {
         match self {
             Stage::Open(opening) => opening.want(),
-            Stage::Header(rules) => header_look(rules.place),
+            Stage::Header(rules) => look_at(rules.place),
             Stage::Behind(_, behind) => behind.want(),
-            Stage::Confirm(attempt, _) => header_look(attempt.rules.place),
+            Stage::Confirm(attempt, _) => look_at(attempt.rules.place),
         }
     }
 
-    /// Goes on with the piece that the look gave. It is a call of this many attempts on a dataset of this name.
+    /// Goes on with the piece that the look gave. It is a call of this many attempts on a dataset of this name, of which
+    /// this is known.
     pub fn feed(
         self,
         alloc: Global,
         attempts: u32,
         name: &[u8],
+        known: &Option<Known>,
         piece: &Piece,
     ) -> Result<Came, OutOfMemory>
-        requires { Fits (next_look (stage_left attempts name.now self)) (length piece.now) }
-        ensures { IfOk result (λ c. came attempts name.now c ≡ fed piece.now (stage_left attempts name.now self)) }
+        requires { Fits (next_look (stage_left attempts name.now (known_of known.now) self)) (length piece.now) }
+        ensures { IfOk result (λ c. came attempts name.now (known_of known.now) c ≡ fed piece.now (stage_left attempts name.now (known_of known.now) self)) }
     {
         match self {
             Stage::Open(opening) => Came::after_open(
@@ -232,14 +261,14 @@ impl Stage {
                 name,
                 opening.feed(alloc, piece)?,
             ),
-            Stage::Header(rules) => Came::after_header(alloc, rules, piece),
+            Stage::Header(rules) => Came::after_header(alloc, rules, known, piece),
             Stage::Behind(attempt, behind) => {
-                let found = behind.feed(alloc, &attempt.rules, piece)?;
+                let found = behind.feed(alloc, &attempt.rules, known, piece)?;
                 Ok(Came::after_behind(attempt, found))
             }
             Stage::Confirm(attempt, answer) => {
                 let last = view_at(attempt.rules.place, piece);
-                attempt.end(alloc, answer, last)
+                attempt.end(alloc, known, answer, last)
             }
         }
     }

@@ -26,9 +26,6 @@ pub enum ReadBegin {
     /// `count` rows from row `from` on pass the `rows` that were seen.
     #[error("{count} rows from {from} of {rows}")]
     OutOfRows { from: u64, count: u64, rows: u64 },
-    /// A read that needs no look is refused: the range of its first chunk passes 2^64.
-    #[error("{0}")]
-    Refused(ReadError),
     #[error("out of memory")]
     OutOfMemory,
 }

@@ -1,26 +1,30 @@
 //! The addresses of the chunks that a dataset's rows need.
-ghost use Rattle.std.specs.Prelude.{◌≡◌, ◌+◌, ◌≤◌, ◌^◌, length, ℕ, true, Ok, Some, IfOk};
-ghost use Rattle.h5w_model.specs.Programs.{ret};
+ghost use Rattle.std.specs.Prelude.{◌≡◌, ◌+◌, ◌≤◌, ◌^◌, get_or, length, true, [], Some, IfOk};
+ghost use Rattle.h5w_model.specs.Numbers.{undefined};
+ghost use Rattle.h5w_model.specs.Calls.{known_table};
 ghost use Rattle.h5w_model.specs.Tables.{needed};
+ghost use Rattle.h5w_ea.specs.Fields.{eaib_of};
 ghost use Rattle.h5w_reader.specs.Described.{described_of};
+ghost use Rattle.h5w_reader.specs.Slots.{no_index};
 
 use crate::dataset::Dataset;
+use crate::descent::{Descended, Descent, Waiting};
 use crate::gather::{Gather, Gathered};
-use crate::known::Known;
+use crate::known::{Known, Rules};
 use crate::look::Look;
+use crate::news::News;
+use crate::recall::covered;
+use crate::store::Store;
 use h5w_bytes::UNDEFINED;
 use h5w_ea::{Eahd, Eaib};
 use h5w_model::{OutOfMemory, Piece, ReadError};
 use std::alloc::Global;
 
-/// How many slots the index block has.
-const SLOTS: usize = 4;
-
-/// A dataset that needs no more chunks than an index block has slots.
+/// A dataset that needs no more chunks than an array has.
 #[derive(Clone, Copy)]
 pub struct Small {
     pub dataset: Dataset,
-    ghost few: { needed (described_of dataset) ≤ 4 },
+    ghost few: { needed (described_of dataset) ≤ 131060 },
     ghost none: { dataset.shape.growing ≡ true → needed (described_of dataset) ≡ 0 },
 }
 
@@ -31,51 +35,107 @@ pub enum Lookup {
     Array(Small, Gather),
     /// Its index block.
     Index(Small, Gather),
+    /// A block behind it.
+    Block(Waiting),
 }
 
 /// What a lookup comes to.
 #[derive(Drop)]
 pub enum LookedUp {
-    Ready(Known),
+    Ready(News),
     Refused(ReadError),
     Looks(Lookup),
 }
 
-impl LookedUp {
-    ghost use Rattle.h5w_reader.specs.Attempts.{looked_up, reading_by, no_slots, table_rest, array_rest, index_rest};
+/// The address of a number; undefined behind the last.
+pub fn address_at(addresses: &[u64], i: usize) -> u64
+    ensures { result ≡ get_or addresses.now i undefined }
+{
+    match addresses.get(i) {
+        Some(address) => *address,
+        None => UNDEFINED,
+    }
+}
 
-    /// The addresses are those of the first slots.
-    #[tactic(auto, using(crate::proofs::TableLemmas::numbered))]
-    fn by_slots(
-        alloc: Global,
-        place: u64,
-        d: &Dataset,
-        slots: &[u64; SLOTS],
-    ) -> Result<LookedUp, OutOfMemory>
-        requires few { needed (described_of d.now) ≤ 4 }
-        requires none { d.now.shape.growing ≡ true → needed (described_of d.now) ≡ 0 }
-        ensures { IfOk result (λ l. looked_up place l ≡ ret (Ok (reading_by place (described_of d.now) slots.now))) }
+/// An index block without an address.
+fn no_index() -> Eaib
+    ensures { eaib_of result ≡ no_index }
+{
+    Eaib {
+        header: 0,
+        slots: [UNDEFINED; 4],
+        first: [UNDEFINED; 6],
+        second: [UNDEFINED; 25],
+    }
+}
+
+impl LookedUp {
+    ghost use Rattle.h5w_model.specs.Calls.{CallRules};
+    ghost use Rattle.h5w_ea.specs.Fields.{eaib_of};
+    ghost use Rattle.h5w_reader.specs.Attempts.{known_of, rules_of, looked_up, table_rest, array_rest, index_rest};
+    ghost use Rattle.h5w_reader.specs.Descents.{descended};
+    ghost use Rattle.h5w_reader.specs.Slots.{slots_rest};
+
+    /// What a descent comes to.
+    fn of(d: Descended) -> LookedUp
+        ensures { (g : CallRules) → looked_up g result ≡ descended g d }
     {
-        let table = Vec::from_slice(alloc, &slots[..d.needed() as usize])?;
-        Ok(LookedUp::Ready(Known {
-            place,
-            dataset: *d,
-            table,
-        }))
+        match d {
+            Descended::Ready(news) => LookedUp::Ready(news),
+            Descended::Refused(error) => LookedUp::Refused(error),
+            Descended::Looks(waiting) => LookedUp::Looks(Lookup::Block(waiting)),
+        }
     }
 
-    /// From the dataset's index on. Without needed chunks nothing is looked at, nor without an index.
-    pub fn begin(alloc: Global, place: u64, d: &Dataset) -> Result<LookedUp, OutOfMemory>
-        requires few { needed (described_of d.now) ≤ 4 }
+    /// From the index block on.
+    fn descend(
+        alloc: Global,
+        rules: &Rules,
+        known: &Option<Known>,
+        d: &Dataset,
+        index: Eaib,
+    ) -> Result<LookedUp, OutOfMemory>
+        requires few { needed (described_of d.now) ≤ 131060 }
         requires none { d.now.shape.growing ≡ true → needed (described_of d.now) ≡ 0 }
-        ensures { IfOk result (λ l. looked_up place l ≡ table_rest place (described_of d.now)) }
+        ensures { IfOk result (λ l. looked_up (rules_of rules.now (known_of known.now)) l ≡ slots_rest rules.now.place (known_table (known_of known.now) (described_of d.now)) (described_of d.now) (eaib_of index) [] 0 []) }
     {
-        let address = d.layout.address;
-        if d.needed() == 0 {
-            return LookedUp::by_slots(alloc, place, d, &[UNDEFINED; SLOTS]);
+        let needed = d.needed() as usize;
+        let kept = covered(known, d).min(needed);
+        let descent = Descent {
+            dataset: *d,
+            index,
+            kept,
+            tail: Vec::new(alloc),
+            store: Store::new(alloc)?,
+        };
+        Ok(LookedUp::of(descent.go_on(alloc, rules, known)?))
+    }
+
+    /// From the dataset's index on. Nothing is looked at where each needed chunk's address is known, nor without an index.
+    pub fn begin(
+        alloc: Global,
+        rules: &Rules,
+        known: &Option<Known>,
+        d: &Dataset,
+    ) -> Result<LookedUp, OutOfMemory>
+        requires few { needed (described_of d.now) ≤ 131060 }
+        requires none { d.now.shape.growing ≡ true → needed (described_of d.now) ≡ 0 }
+        ensures { IfOk result (λ l. looked_up (rules_of rules.now (known_of known.now)) l ≡ table_rest rules.now.place (known_table (known_of known.now) (described_of d.now)) (described_of d.now)) }
+    {
+        let needed = d.needed() as usize;
+        let full = covered(known, d);
+        if needed <= full {
+            return Ok(LookedUp::Ready(News {
+                place: rules.place,
+                dataset: *d,
+                kept: needed,
+                tail: Vec::new(alloc),
+                view: None,
+            }));
         }
+        let address = d.layout.address;
         if address == UNDEFINED {
-            return LookedUp::by_slots(alloc, place, d, &[UNDEFINED; SLOTS]);
+            return LookedUp::descend(alloc, rules, known, d, no_index());
         }
         let header = Gather::new(address, Vec::new(alloc), address, Eahd::LEN as u64);
         Ok(LookedUp::Looks(Lookup::Array(Small { dataset: *d }, header)))
@@ -84,15 +144,16 @@ impl LookedUp {
     /// Goes on from the bytes of the array's header at `at`.
     fn after_header(
         alloc: Global,
-        place: u64,
+        rules: &Rules,
+        known: &Option<Known>,
         d: &Dataset,
         at: u64,
         bytes: &[u8],
     ) -> Result<LookedUp, OutOfMemory>
-        requires few { needed (described_of d.now) ≤ 4 }
+        requires few { needed (described_of d.now) ≤ 131060 }
         requires none { d.now.shape.growing ≡ true → needed (described_of d.now) ≡ 0 }
         requires inside { at + length bytes.now ≤ 2 ^ 64 }
-        ensures { IfOk result (λ l. looked_up place l ≡ array_rest place (described_of d.now) at bytes.now) }
+        ensures { IfOk result (λ l. looked_up (rules_of rules.now (known_of known.now)) l ≡ array_rest rules.now.place (known_table (known_of known.now) (described_of d.now)) (described_of d.now) at bytes.now) }
     {
         let header = match Eahd::decode(bytes, at) {
             Ok(header) => header,
@@ -100,7 +161,7 @@ impl LookedUp {
         };
         let block = header.block;
         if block == UNDEFINED {
-            return LookedUp::by_slots(alloc, place, d, &[UNDEFINED; SLOTS]);
+            return LookedUp::descend(alloc, rules, known, d, no_index());
         }
         let index = Gather::new(block, Vec::new(alloc), block, Eaib::LEN as u64);
         Ok(LookedUp::Looks(Lookup::Index(Small { dataset: *d }, index)))
@@ -109,43 +170,53 @@ impl LookedUp {
     /// Goes on from the bytes of the index block at `at`.
     fn after_index(
         alloc: Global,
-        place: u64,
+        rules: &Rules,
+        known: &Option<Known>,
         d: &Dataset,
         at: u64,
         bytes: &[u8],
     ) -> Result<LookedUp, OutOfMemory>
-        requires few { needed (described_of d.now) ≤ 4 }
+        requires few { needed (described_of d.now) ≤ 131060 }
         requires none { d.now.shape.growing ≡ true → needed (described_of d.now) ≡ 0 }
         requires inside { at + length bytes.now ≤ 2 ^ 64 }
-        ensures { IfOk result (λ l. looked_up place l ≡ index_rest place (described_of d.now) at bytes.now) }
+        ensures { IfOk result (λ l. looked_up (rules_of rules.now (known_of known.now)) l ≡ index_rest rules.now.place (known_table (known_of known.now) (described_of d.now)) (described_of d.now) at bytes.now) }
     {
         match Eaib::decode(bytes, at) {
-            Ok(index) => LookedUp::by_slots(alloc, place, d, &index.slots),
+            Ok(index) => LookedUp::descend(alloc, rules, known, d, index),
             Err(fault) => Ok(LookedUp::Refused(ReadError::Damaged { at, fault })),
         }
     }
 }
 
 impl Lookup {
-    ghost use Rattle.h5w_reader.specs.Looks.{next_look, fed, look_of, Fits};
-    ghost use Rattle.h5w_reader.specs.Attempts.{looking_up, looked_up};
+    ghost use Rattle.h5w_model.specs.Calls.{CallRules};
+    ghost use Rattle.h5w_model.specs.Programs.{next_look, fed};
+    ghost use Rattle.h5w_reader.specs.Looks.{look_of, Fits};
+    ghost use Rattle.h5w_reader.specs.Attempts.{known_of, rules_of, looking_up, looked_up};
 
     /// The next look.
     pub fn want(&self) -> Look
-        ensures next { (at : ℕ) → next_look (looking_up at self.now) ≡ Some (look_of result) }
+        ensures next { (g : CallRules) → next_look (looking_up g self.now) ≡ Some (look_of result) }
         ensures low { 1 ≤ result.len }
         ensures high { result.len ≤ 512 }
         ensures inside { result.at + result.len ≤ 2 ^ 64 }
     {
         match self {
             Lookup::Array(_, gather) | Lookup::Index(_, gather) => gather.want(),
+            Lookup::Block(waiting) => waiting.want(),
         }
     }
 
-    /// Goes on with the piece that the look gave. The dataset header is at `place`.
-    pub fn feed(self, alloc: Global, place: u64, piece: &Piece) -> Result<LookedUp, OutOfMemory>
-        requires { Fits (next_look (looking_up place self)) (length piece.now) }
-        ensures { IfOk result (λ l. looked_up place l ≡ fed piece.now (looking_up place self)) }
+    /// Goes on with the piece that the look gave.
+    pub fn feed(
+        self,
+        alloc: Global,
+        rules: &Rules,
+        known: &Option<Known>,
+        piece: &Piece,
+    ) -> Result<LookedUp, OutOfMemory>
+        requires { Fits (next_look (looking_up (rules_of rules.now (known_of known.now)) self)) (length piece.now) }
+        ensures { IfOk result (λ l. looked_up (rules_of rules.now (known_of known.now)) l ≡ fed piece.now (looking_up (rules_of rules.now (known_of known.now)) self)) }
     {
         match self {
             Lookup::Array(small, gather) => {
@@ -153,7 +224,7 @@ impl Lookup {
                 match gather.feed(piece)? {
                     Gathered::More(gather) => Ok(LookedUp::Looks(Lookup::Array(small, gather))),
                     Gathered::Whole(bytes) => {
-                        LookedUp::after_header(alloc, place, &small.dataset, at, &bytes)
+                        LookedUp::after_header(alloc, rules, known, &small.dataset, at, &bytes)
                     }
                 }
             }
@@ -162,9 +233,12 @@ impl Lookup {
                 match gather.feed(piece)? {
                     Gathered::More(gather) => Ok(LookedUp::Looks(Lookup::Index(small, gather))),
                     Gathered::Whole(bytes) => {
-                        LookedUp::after_index(alloc, place, &small.dataset, at, &bytes)
+                        LookedUp::after_index(alloc, rules, known, &small.dataset, at, &bytes)
                     }
                 }
+            }
+            Lookup::Block(waiting) => {
+                Ok(LookedUp::of(waiting.feed(alloc, rules, known, piece)?))
             }
         }
     }

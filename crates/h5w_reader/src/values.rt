@@ -8,7 +8,8 @@ use crate::cells::{put_cells, put_fill};
 use crate::dataset::Dataset;
 use crate::gather::{Gather, Gathered};
 use crate::known::Known;
-use crate::look::Look;
+use crate::look::{Look, look_at};
+use crate::table::address_at;
 use h5w_bytes::UNDEFINED;
 use h5w_model::{BlockFault, OutOfMemory, Piece, ReadError, Values};
 use std::alloc::Global;
@@ -27,7 +28,7 @@ pub struct Span {
 
 /// A read that waits for the range of a chunk.
 #[derive(Drop)]
-pub struct Reads {
+pub struct Ranged {
     span: Span,
     /// The number of the band of rows that the chunk holds.
     band: u64,
@@ -38,27 +39,32 @@ pub struct Reads {
     ghost high: { band ≤ (span.to - 1) / span.dataset.layout.chunk.0 },
 }
 
-/// What a read comes to.
+/// What a read waits for.
 #[derive(Drop)]
-pub enum Valued {
+pub enum Reads {
+    /// The range of a chunk.
+    Range(Ranged),
+    /// A look at the chunk at `at`, whose range of `need` bytes passes 2^64.
+    Past { at: u64, need: u64 },
+}
+
+/// How a read goes on.
+#[derive(Drop)]
+pub enum Goes {
     /// The values of the rows, one after another.
     Done(Values),
-    Refused(ReadError),
     Looks(Reads),
 }
 
-/// The address of the chunk of a band; undefined where it is not there.
-fn address(known: &Known, band: u64) -> u64
-    ensures { result ≡ get_or known.now.table.items band undefined }
-{
-    match known.table.get(band as usize) {
-        Some(address) => *address,
-        None => UNDEFINED,
-    }
+/// What a look makes of a read.
+#[derive(Drop)]
+pub enum Valued {
+    Goes(Goes),
+    Refused(ReadError),
 }
 
 impl Span {
-    ghost use Rattle.h5w_reader.specs.Values.{valued, rows_rest, band_rest, reading_with};
+    ghost use Rattle.h5w_reader.specs.Values.{goes, valued, rows_rest, band_rest, reading_with};
 
     /// The number of the band behind the last.
     fn end(&self) -> u64
@@ -108,13 +114,13 @@ impl Span {
         known: &Known,
         mut band: u64,
         mut values: Vec<i128>,
-    ) -> Result<Valued, OutOfMemory>
+    ) -> Result<Goes, OutOfMemory>
         requires { self.from / self.dataset.layout.chunk.0 ≤ band }
-        ensures { IfOk result (λ v. valued known.now v ≡ rows_rest (reading_with known.now self.dataset) self.from self.to band values.items) }
+        ensures { IfOk result (λ g. goes known.now g ≡ rows_rest (reading_with known.now self.dataset) self.from self.to band values.items) }
     {
         let end = self.end();
         while band < end {
-            let address = address(known, band);
+            let address = address_at(&known.table, band as usize);
             if address != UNDEFINED {
                 return Ok(self.visit(alloc, band, values, address));
             }
@@ -127,31 +133,31 @@ impl Span {
             )?;
             band += 1;
         }
-        Ok(Valued::Done(Values::from_vec(values)))
+        Ok(Goes::Done(Values::from_vec(values)))
     }
 
-    /// Goes on at the chunk of a band, which stands at `address`. A range that passes 2^64 is not looked at.
-    fn visit(self, alloc: Global, band: u64, values: Vec<i128>, address: u64) -> Valued
+    /// Goes on at the chunk of a band, which stands at `address`. Where the range passes 2^64, the chunk is looked at.
+    fn visit(self, alloc: Global, band: u64, values: Vec<i128>, address: u64) -> Goes
         requires low { self.from / self.dataset.layout.chunk.0 ≤ band }
         requires high { band ≤ (self.to - 1) / self.dataset.layout.chunk.0 }
         requires there { address ≢ undefined }
-        ensures { (k : Known) → get_or k.table.items band undefined ≡ address → valued k result ≡ rows_rest (reading_with k self.dataset) self.from self.to band values.items }
+        ensures { (k : Known) → get_or k.table.items band undefined ≡ address → goes k result ≡ rows_rest (reading_with k self.dataset) self.from self.to band values.items }
     {
         let (start, len) = self.range(band);
         if u64::MAX - address < start + len - 1 {
-            return Valued::Refused(ReadError::Damaged {
+            return Goes::Looks(Reads::Past {
                 at: address,
-                fault: BlockFault::Cut { need: len, got: 0 },
+                need: len,
             });
         }
         let place = address + start;
         let gather = Gather::new(place, Vec::new(alloc), place, len);
-        Valued::Looks(Reads {
+        Goes::Looks(Reads::Range(Ranged {
             span: self,
             band,
             values,
             gather,
-        })
+        }))
     }
 
     /// Goes on with the range of a band's chunk, which begins at `place` and of which these bytes were found.
@@ -177,27 +183,28 @@ impl Span {
             }));
         }
         put_cells(&bytes[..len as usize], &self.dataset.int_type, &mut values)?;
-        self.go_on(alloc, known, band + 1, values)
+        let goes = self.go_on(alloc, known, band + 1, values)?;
+        Ok(Valued::Goes(goes))
     }
 }
 
-impl Valued {
+impl Goes {
     ghost use Rattle.h5w_model.specs.Calls.{values_call};
     ghost use Rattle.h5w_reader.specs.Attempts.{reading_of};
-    ghost use Rattle.h5w_reader.specs.Values.{valued};
+    ghost use Rattle.h5w_reader.specs.Values.{goes};
 
     /// Begins a read of `count` rows from row `from` on. Chunks that are not there are not looked at.
-    pub fn begin(alloc: Global, known: &Known, from: u64, count: u64) -> Result<Valued, OutOfMemory>
+    pub fn begin(alloc: Global, known: &Known, from: u64, count: u64) -> Result<Goes, OutOfMemory>
         requires some { 1 ≤ count }
         requires inside { from + count ≤ known.now.dataset.shape.rows }
-        ensures { IfOk result (λ v. valued known.now v ≡ values_call (reading_of known.now) from count) }
+        ensures { IfOk result (λ g. goes known.now g ≡ values_call (reading_of known.now) from count) }
     {
         // from + count is at most these
         let _rows = known.dataset.shape.rows;
         let dataset = known.dataset;
         if dataset.shape.growing {
             // it needs no chunk, so it has no columns
-            return Ok(Valued::Done(Values::from_vec(Vec::new(alloc))));
+            return Ok(Goes::Done(Values::from_vec(Vec::new(alloc))));
         }
         let span = Span {
             dataset,
@@ -208,8 +215,38 @@ impl Valued {
     }
 }
 
+impl Ranged {
+    ghost use Rattle.h5w_model.specs.Programs.{next_look, fed};
+    ghost use Rattle.h5w_reader.specs.Looks.{Fits};
+    ghost use Rattle.h5w_reader.specs.Values.{range_values, valued};
+
+    /// Goes on with the piece that the look gave.
+    fn feed(self, alloc: Global, known: &Known, piece: &Piece) -> Result<Valued, OutOfMemory>
+        requires { Fits (next_look (range_values known.now self)) (length piece.now) }
+        ensures { IfOk result (λ v. valued known.now v ≡ fed piece.now (range_values known.now self)) }
+    {
+        let Ranged {
+            span,
+            band,
+            values,
+            gather,
+        } = self;
+        let place = gather.start();
+        match gather.feed(piece)? {
+            Gathered::More(gather) => Ok(Valued::Goes(Goes::Looks(Reads::Range(Ranged {
+                span,
+                band,
+                values,
+                gather,
+            })))),
+            Gathered::Whole(bytes) => span.enter(alloc, known, band, values, place, &bytes),
+        }
+    }
+}
+
 impl Reads {
-    ghost use Rattle.h5w_reader.specs.Looks.{next_look, fed, look_of, Fits};
+    ghost use Rattle.h5w_model.specs.Programs.{next_look, fed};
+    ghost use Rattle.h5w_reader.specs.Looks.{look_of, Fits};
     ghost use Rattle.h5w_reader.specs.Values.{reading_values, valued};
 
     /// The next look.
@@ -219,7 +256,10 @@ impl Reads {
         ensures high { result.len ≤ 512 }
         ensures inside { result.at + result.len ≤ 2 ^ 64 }
     {
-        self.gather.want()
+        match self {
+            Reads::Range(ranged) => ranged.gather.want(),
+            Reads::Past { at, .. } => look_at(*at),
+        }
     }
 
     /// Goes on with the piece that the look gave.
@@ -227,21 +267,12 @@ impl Reads {
         requires { Fits (next_look (reading_values known.now self)) (length piece.now) }
         ensures { IfOk result (λ v. valued known.now v ≡ fed piece.now (reading_values known.now self)) }
     {
-        let Reads {
-            span,
-            band,
-            values,
-            gather,
-        } = self;
-        let place = gather.start();
-        match gather.feed(piece)? {
-            Gathered::More(gather) => Ok(Valued::Looks(Reads {
-                span,
-                band,
-                values,
-                gather,
+        match self {
+            Reads::Range(ranged) => ranged.feed(alloc, known, piece),
+            Reads::Past { at, need } => Ok(Valued::Refused(ReadError::Damaged {
+                at,
+                fault: BlockFault::Cut { need, got: 0 },
             })),
-            Gathered::Whole(bytes) => span.enter(alloc, known, band, values, place, &bytes),
         }
     }
 }

@@ -182,7 +182,8 @@ impl Walk {
 }
 
 impl Block {
-    ghost use Rattle.h5w_reader.specs.Looks.{next_look, fed, look_of, Fits};
+    ghost use Rattle.h5w_model.specs.Programs.{next_look, fed};
+    ghost use Rattle.h5w_reader.specs.Looks.{look_of, Fits};
     ghost use Rattle.h5w_reader.specs.Walking.{walked, walking};
 
     /// The next look.

@@ -10,7 +10,7 @@ ghost use Rattle.h5w_space.specs.Space.{has_size};
 use crate::Extent;
 
 /// `count` places of `size` bytes, side by side.
-#[derive(Clone, Copy, Debug)]
+#[derive(Clone, Copy)]
 pub struct Group {
     pub size: u64,
     pub count: usize,

@@ -19,7 +19,7 @@ use std::marker::Model;
 use thiserror::Error;
 
 /// A range of the file: `size` bytes from byte `at` on.
-#[derive(Clone, Copy, Debug, PartialEq, Eq)]
+#[derive(Clone, Copy)]
 pub struct Extent {
     pub at: u64,
     pub size: u64,
@@ -55,7 +55,7 @@ pub struct Full {
 }
 
 /// The places of a session's file.
-#[derive(Debug, Drop)]
+#[derive(Drop)]
 pub struct Places {
     /// The first byte after the file, and how far it may grow.
     end: u64,

@@ -6,7 +6,7 @@ use crate::reply::with_numbers;
 use h5w_model::OutOfMemory;
 
 /// An error that ends the program, with what its line tells. Lines count from 1.
-#[derive(Debug, Drop)]
+#[derive(Drop)]
 pub enum ErrorLine {
     Usage,
     /// This line is outside the grammar.

@@ -21,9 +21,7 @@ pub use intake::Intake;
 pub use line::{Line, LineError, Next};
 pub use lines::Lines;
 pub use memory::{MemSink, MemSource};
+pub use number::count;
 pub use reply::write_reply;
 pub use script::{LINE_LIMIT, ScriptLine, TextError, script_line};
 pub use streams::{Sink, Source};
-
-#[cfg(test)]
-mod tests;

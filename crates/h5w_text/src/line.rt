@@ -7,7 +7,7 @@ use std::alloc::{AllocError, Global};
 use thiserror::Error;
 
 /// A line of an input, without the byte 0a that ends it.
-#[derive(Debug, Drop)]
+#[derive(Drop)]
 pub enum Line {
     /// Its bytes, up to 65,536.
     Whole(Bytes),
@@ -16,7 +16,7 @@ pub enum Line {
 }
 
 /// What comes next in an input.
-#[derive(Debug, Drop)]
+#[derive(Drop)]
 pub enum Next {
     /// A line, which the byte 0a ends.
     Line(Line),
@@ -27,7 +27,7 @@ pub enum Next {
 }
 
 /// Why the next line was not given.
-#[derive(Clone, Copy, Debug, PartialEq, Eq, Error)]
+#[derive(Clone, Copy, Debug, Error)]
 pub enum LineError {
     /// The source's count of faults rose in this call.
     #[error("source failed")]

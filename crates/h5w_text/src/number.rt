@@ -42,7 +42,7 @@ fn natural(word: &[u8]) -> Option<u128>
     }
 }
 
-/// The number below 2^64 that a word spells.
+/// The number below 2^64 that a word spells: decimal, without a sign and without zeros before it.
 #[tactic(auto, using(crate::proofs::NumberLemmas::below_below))]
 pub fn count(word: &[u8]) -> Option<u64>
     ensures { result ≡ count_of word.now }

@@ -15,7 +15,7 @@ use thiserror::Error;
 pub const LINE_LIMIT: usize = 65_536;
 
 /// A line of a script.
-#[derive(Debug, Drop)]
+#[derive(Drop)]
 pub enum ScriptLine {
     /// Appends rows.
     Append(Values),
@@ -34,7 +34,7 @@ pub enum ScriptLine {
 }
 
 /// Why a line has no meaning.
-#[derive(Clone, Copy, Debug, PartialEq, Eq, Error)]
+#[derive(Clone, Copy, Debug, Error)]
 pub enum TextError {
     /// No line of a script is spelled so.
     #[error("grammar")]

@@ -15,7 +15,8 @@ use Rattle.h5w_model.specs.declared.refusal.ReadError.TheVariants.{Damaged}
 use Rattle.h5w_model.proofs.CheckedLemmas.{checked-passed}
 use Rattle.h5w_laws.proofs.ResultLemmas.{then_ok, then_from, refused_ok, and_then_ok, and_then_from, choice_ok, choice_from}
 use Rattle.h5w_laws.proofs.SlotLemmas.{refused_from}
-use Rattle.h5w_tree_laws.specs.Relations.{LeafSlot, IsPlaceOf, NodeSlot, TreeSlot, TreeChunk, tree_chunk, FindsTreeSlots}
+use Rattle.h5w_model.specs.Relations.{LeafSlot, IsPlaceOf, NodeSlot, TreeSlot, TreeChunk}
+use Rattle.h5w_tree_laws.specs.Relations.{tree_chunk, FindsTreeSlots}
 
 -- ---- Keys
 
@@ -55,63 +56,78 @@ answered a b h = cc
 abbrev an_option : {A : Type 0} → A → Option A
 an_option a = Some a
 
--- ---- A leaf
+-- ---- The place of a key among records
 
-shifted : (key : Key) (r : RecordFields) (rs : List RecordFields) (x : ℕ) → r.key ≢ key → LeafSlot key rs x → LeafSlot key (r ∷ rs) x
-shifted key r rs x n (inl t) =
-    inl (suc t.0, t.1, record { here = t.2.here; same = t.2.same; others = All-cons (λ (s : RecordFields). s.key ≢ key) r (take t.0 rs) n t.2.others }, t.3)
-shifted key r rs x n (inr t) = inr (All-cons (λ (s : RecordFields). s.key ≢ key) r rs n t.0, t.1)
-
-leaf_found : (key : Key) (rs : List RecordFields) (x : ℕ) → in_leaf key rs ≡ x → LeafSlot key rs x
-leaf_found key [] x h = inr (All-nil (λ (s : RecordFields). s.key ≢ key), sym h)
-leaf_found key (r ∷ rs) x h = go (leaf_found key rs x) (key_equal r.key key) refl h
-  where
-    go : (in_leaf key rs ≡ x → LeafSlot key rs x) → (t : Bool) → key_equal r.key key ≡ t → cond t r.address (in_leaf key rs) ≡ x → LeafSlot key (r ∷ rs) x
-    go rest true e h = inl (0, r, record { here = refl; same = key_same r.key key e; others = All-nil (λ (s : RecordFields). s.key ≢ key) }, sym h)
-    go rest false e h = shifted key r rs x (key_other r.key key e) (rest h)
-
-one_record : (r s : RecordFields) → an_option r ≡ an_option s → r ≡ s
-one_record r s h = cc
-
-leaf_read : (key : Key) (rs : List RecordFields) (x : ℕ) → LeafSlot key rs x → in_leaf key rs ≡ x
-leaf_read key [] x (inl t) = let h = t.2.here in absurd cc
-leaf_read key [] x (inr t) = sym t.1
-leaf_read key (r ∷ rs) x (inl (zero, s, f, q)) =
-    let e : r ≡ s = one_record r s f.here in
-    ap (λ b. cond b r.address (in_leaf key rs)) (key_itself r.key key (ap (λ (v : RecordFields). v.key) e ∙ f.same)) ∙ ap (λ (v : RecordFields). v.address) e ∙ sym q
-leaf_read key (r ∷ rs) x (inl (suc i, s, f, q)) =
-    ap (λ b. cond b r.address (in_leaf key rs)) (key_differs r.key key (All-head (λ (v : RecordFields). v.key ≢ key) r (take i rs) f.others))
-    ∙ leaf_read key rs x (inl (i, s, record { here = f.here; same = f.same; others = All-tail (λ (v : RecordFields). v.key ≢ key) r (take i rs) f.others }, q))
-leaf_read key (r ∷ rs) x (inr t) =
-    ap (λ b. cond b r.address (in_leaf key rs)) (key_differs r.key key (All-head (λ (v : RecordFields). v.key ≢ key) r rs t.0))
-    ∙ leaf_read key rs x (inr (All-tail (λ (v : RecordFields). v.key ≢ key) r rs t.0, t.1))
-
--- ---- An inner node
-
--- what stands behind a record that is below the key
-node_shifted : (key : Key) (r : RecordFields) (c : ChildFields) (rs : List RecordFields) (cs : List ChildFields) (Says : ChildFields → Type 0) (x : ℕ) → key_below r.key key ≡ true → NodeSlot key rs cs Says x → NodeSlot key (r ∷ rs) (c ∷ cs) Says x
-node_shifted key r c rs cs Says x b t = (
-  suc t.0,
-  record { inside = omega (arith, t.1.inside); below = All-cons (λ (s : RecordFields). key_below s.key key ≡ true) r (take t.0 rs) b t.1.below; not_below = t.1.not_below },
-  t.2,
-)
+-- no record stands there
+no_place : (key : Key) → IsPlaceOf key [] 0
+no_place key = record { inside = omega arith; below = All-nil (λ (s : RecordFields). key_below s.key key ≡ true); not_below = tt }
 
 -- the first record is not below the key
 first_place : (key : Key) (r : RecordFields) (rs : List RecordFields) → key_below r.key key ≡ false → IsPlaceOf key (r ∷ rs) 0
 first_place key r rs b = record { inside = omega arith; below = All-nil (λ (s : RecordFields). key_below s.key key ≡ true); not_below = b }
 
+-- behind a record that is below the key
+later_place : (key : Key) (r : RecordFields) (rs : List RecordFields) (i : ℕ) → key_below r.key key ≡ true → IsPlaceOf key rs i → IsPlaceOf key (r ∷ rs) (suc i)
+later_place key r rs i b p =
+    record { inside = omega (arith, p.inside); below = All-cons (λ (s : RecordFields). key_below s.key key ≡ true) r (take i rs) b p.below; not_below = p.not_below }
+
+before_place : (key : Key) (r : RecordFields) (rs : List RecordFields) (i : ℕ) → IsPlaceOf key (r ∷ rs) (suc i) → IsPlaceOf key rs i
+before_place key r rs i p =
+    record { inside = omega (arith, p.inside); below = All-tail (λ (s : RecordFields). key_below s.key key ≡ true) r (take i rs) p.below; not_below = p.not_below }
+
+first_below : (key : Key) (r : RecordFields) (rs : List RecordFields) (i : ℕ) → IsPlaceOf key (r ∷ rs) (suc i) → key_below r.key key ≡ true
+first_below key r rs i p = All-head (λ (s : RecordFields). key_below s.key key ≡ true) r (take i rs) p.below
+
+one_record : (r s : RecordFields) → an_option r ≡ an_option s → r ≡ s
+one_record r s h = cc
+
+-- ---- A leaf
+
+-- what the first record says, by how its key compares
+abbrev leaf_choice : Bool → Bool → ℕ → ℕ → ℕ
+leaf_choice below equal rest address = cond below rest (cond equal address undefined)
+
+leaf_found : (key : Key) (rs : List RecordFields) (x : ℕ) → in_leaf key rs ≡ x → LeafSlot key rs x
+leaf_found key [] x h = (0, no_place key, inr (tt, sym h))
+leaf_found key (r ∷ rs) x h = go (leaf_found key rs x) (key_below r.key key) refl (key_equal r.key key) refl h
+  where
+    go : (in_leaf key rs ≡ x → LeafSlot key rs x) → (s : Bool) → key_below r.key key ≡ s → (t : Bool) → key_equal r.key key ≡ t
+        → leaf_choice s t (in_leaf key rs) r.address ≡ x → LeafSlot key (r ∷ rs) x
+    go rest true b t e h = let u = rest h in (suc u.0, later_place key r rs u.0 b u.1, u.2)
+    go rest false b true e h = (0, first_place key r rs b, inl (r, refl, key_same r.key key e, sym h))
+    go rest false b false e h = (0, first_place key r rs b, inr (key_other r.key key e, sym h))
+
+leaf_read : (key : Key) (rs : List RecordFields) (x : ℕ) → LeafSlot key rs x → in_leaf key rs ≡ x
+leaf_read key [] x (zero, p, inl u) = let h = u.1 in absurd cc
+leaf_read key [] x (zero, p, inr u) = sym u.1
+leaf_read key [] x (suc i, p, u) = absurd (omega (arith, p.inside))
+leaf_read key (r ∷ rs) x (zero, p, inl u) =
+    let e : r ≡ u.0 = one_record r u.0 u.1 in
+    ap (λ s. leaf_choice s (key_equal r.key key) (in_leaf key rs) r.address) p.not_below
+    ∙ ap (λ s. leaf_choice false s (in_leaf key rs) r.address) (key_itself r.key key (ap (λ (v : RecordFields). v.key) e ∙ u.2))
+    ∙ ap (λ (v : RecordFields). v.address) e ∙ sym u.3
+leaf_read key (r ∷ rs) x (zero, p, inr u) =
+    ap (λ s. leaf_choice s (key_equal r.key key) (in_leaf key rs) r.address) p.not_below
+    ∙ ap (λ s. leaf_choice false s (in_leaf key rs) r.address) (key_differs r.key key u.0)
+    ∙ sym u.1
+leaf_read key (r ∷ rs) x (suc i, p, u) =
+    ap (λ s. leaf_choice s (key_equal r.key key) (in_leaf key rs) r.address) (first_below key r rs i p)
+    ∙ leaf_read key rs x (i, before_place key r rs i p, u)
+
+-- ---- An inner node
+
 node_found : (img : List ℕ) (key : Key) (follow : ChildFields → Prog (Result ℕ ReadError)) (rs : List RecordFields) (cs : List ChildFields) (x : ℕ) → length cs ≡ length rs + 1 → eval img (in_node follow key rs cs) ≡ Ok x → NodeSlot key rs cs (λ c. eval img (follow c) ≡ Ok x) x
 node_found img key follow [] [] x n h = absurd (omega (arith, n))
 node_found img key follow [] (c ∷ cs) x n h =
-    (0, record { inside = omega arith; below = All-nil (λ (s : RecordFields). key_below s.key key ≡ true); not_below = tt }, inr (tt, c, refl, h))
+    (0, no_place key, inr (tt, (c, refl, h)))
 node_found img key follow (r ∷ rs) [] x n h = absurd (omega (arith, n))
 node_found img key follow (r ∷ rs) (c ∷ cs) x n h = go (node_found img key follow rs cs x (omega (arith, n))) (key_below r.key key) refl (key_equal r.key key) refl h
   where
     go : (eval img (in_node follow key rs cs) ≡ Ok x → NodeSlot key rs cs (λ c. eval img (follow c) ≡ Ok x) x) → (s : Bool) → key_below r.key key ≡ s → (t : Bool) → key_equal r.key key ≡ t
         → eval img (cond s (in_node follow key rs cs) (cond t (ret (Ok r.address)) (follow c))) ≡ Ok x → NodeSlot key (r ∷ rs) (c ∷ cs) (λ c. eval img (follow c) ≡ Ok x) x
-    go rest true b t e h = node_shifted key r c rs cs (λ c. eval img (follow c) ≡ Ok x) x b (rest h)
+    go rest true b t e h = let u = rest h in (suc u.0, later_place key r rs u.0 b u.1, u.2)
     go rest false b true e h = (0, first_place key r rs b, inl (r, refl, key_same r.key key e, sym (answered r.address x h)))
-    go rest false b false e h = (0, first_place key r rs b, inr (key_other r.key key e, c, refl, h))
+    go rest false b false e h = (0, first_place key r rs b, inr (key_other r.key key e, (c, refl, h)))
 
 one_child : (r s : ChildFields) → an_option r ≡ an_option s → r ≡ s
 one_child r s h = cc
@@ -119,7 +135,7 @@ one_child r s h = cc
 node_read : (img : List ℕ) (key : Key) (follow : ChildFields → Prog (Result ℕ ReadError)) (rs : List RecordFields) (cs : List ChildFields) (x : ℕ) → length cs ≡ length rs + 1 → NodeSlot key rs cs (λ c. eval img (follow c) ≡ Ok x) x → eval img (in_node follow key rs cs) ≡ Ok x
 node_read img key follow [] [] x n t = absurd (omega (arith, n))
 node_read img key follow [] (c ∷ cs) x n (zero, p, inl u) = let h = u.1 in absurd cc
-node_read img key follow [] (c ∷ cs) x n (zero, p, inr u) = ap (λ v. eval img (follow v)) (one_child c u.1 u.2) ∙ u.3
+node_read img key follow [] (c ∷ cs) x n (zero, p, inr u) = ap (λ v. eval img (follow v)) (one_child c u.1.0 u.1.1) ∙ u.1.2
 node_read img key follow [] (c ∷ cs) x n (suc i, p, u) = absurd (omega (arith, p.inside))
 node_read img key follow (r ∷ rs) [] x n t = absurd (omega (arith, n))
 node_read img key follow (r ∷ rs) (c ∷ cs) x n (zero, p, inl u) =
@@ -130,16 +146,15 @@ node_read img key follow (r ∷ rs) (c ∷ cs) x n (zero, p, inl u) =
 node_read img key follow (r ∷ rs) (c ∷ cs) x n (zero, p, inr u) =
     ap (λ s. eval img (cond s (in_node follow key rs cs) (cond (key_equal r.key key) (ret (Ok r.address)) (follow c)))) p.not_below
     ∙ ap (λ s. eval img (cond s (ret (Ok r.address)) (follow c))) (key_differs r.key key u.0)
-    ∙ ap (λ v. eval img (follow v)) (one_child c u.1 u.2) ∙ u.3
+    ∙ ap (λ v. eval img (follow v)) (one_child c u.1.0 u.1.1) ∙ u.1.2
 node_read img key follow (r ∷ rs) (c ∷ cs) x n (suc i, p, u) =
-    let below = p.below in
-    ap (λ s. eval img (cond s (in_node follow key rs cs) (cond (key_equal r.key key) (ret (Ok r.address)) (follow c)))) (All-head (λ (s : RecordFields). key_below s.key key ≡ true) r (take i rs) below)
-    ∙ node_read img key follow rs cs x (omega (arith, n)) (i, record { inside = omega (arith, p.inside); below = All-tail (λ (s : RecordFields). key_below s.key key ≡ true) r (take i rs) below; not_below = p.not_below }, u)
+    ap (λ s. eval img (cond s (in_node follow key rs cs) (cond (key_equal r.key key) (ret (Ok r.address)) (follow c)))) (first_below key r rs i p)
+    ∙ node_read img key follow rs cs x (omega (arith, n)) (i, before_place key r rs i p, u)
 
 -- what is said of the child may be said in another way
 node_by : (key : Key) (rs : List RecordFields) (cs : List ChildFields) (A B : ChildFields → Type 0) (x : ℕ) → ((c : ChildFields) → A c → B c) → NodeSlot key rs cs A x → NodeSlot key rs cs B x
 node_by key rs cs A B x f (i, p, inl u) = (i, p, inl u)
-node_by key rs cs A B x f (i, p, inr u) = (i, p, inr (u.0, u.1, u.2, f u.1 u.3))
+node_by key rs cs A B x f (i, p, inr u) = (i, p, inr (u.0, (u.1.0, u.1.1, f u.1.0 u.1.2)))
 
 -- ---- The node of a depth
 

@@ -2,7 +2,7 @@ ghost use Rattle.std.specs.Prelude.{◌≡◌, [], ◌∷◌, Some, pos, Ok};
 ghost use Rattle.h5w_model.specs.Numbers.{undefined};
 ghost use Rattle.h5w_model.specs.Programs.{eval};
 ghost use Rattle.h5w_model.specs.Tables.{Shows, format_limits, cells};
-ghost use Rattle.h5w_model.specs.Findings.{Finds, Valid, found};
+ghost use Rattle.h5w_model.specs.Findings.{Finds, Valid, found, bad_node, keys_not_rising, wrong_total};
 ghost use Rattle.h5w_tree_laws.specs.Files.{file_of_one, file_of_two, node_of_two, node_of_miscounted, node_of_swapped, node_of_none, node_of_wrong_total};
 ghost use Rattle.h5w_tree_laws.specs.Readings.{data_name, key_of, reading_as, summary_as};
 ghost use Rattle.h5w_tree_laws.specs.Relations.{tree_chunk};
@@ -32,15 +32,15 @@ pub fn tree_of_depth_2()
 
 /// A leaf with another count of records than its pointer says is no leaf.
 pub fn miscounted_leaf()
-    ensures { Finds (file_of_one node_of_miscounted) data_name (found 14 4340) }
+    ensures { Finds (file_of_one node_of_miscounted) data_name (found bad_node 4340) }
 {}
 
 /// The keys of the root's records are swapped: each leaf is right, and the keys do not rise in the root.
 pub fn swapped_keys()
-    ensures { Finds (file_of_one node_of_swapped) data_name (found 16 244) }
+    ensures { Finds (file_of_one node_of_swapped) data_name (found keys_not_rising 244) }
 {}
 
 /// One record more is said to stand under a child than does.
-pub fn wrong_total()
-    ensures { Finds (file_of_two node_of_wrong_total) data_name (found 15 244) }
+pub fn miscounted_total()
+    ensures { Finds (file_of_two node_of_wrong_total) data_name (found wrong_total 244) }
 {}

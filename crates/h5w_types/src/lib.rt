@@ -11,6 +11,3 @@ mod shape;
 pub use h5w_model::{Cell, Unsupported};
 pub use int_type::{IntType, bytes_of, value_of};
 pub use shape::Shape;
-
-#[cfg(test)]
-mod tests;

@@ -35,7 +35,7 @@ attempts_of rows = count_or 8 1 1000 (first_of (codes "attempts") rows)
 -- the numbers of a script with this name
 abbrev pub numbers_of : List Row → Text → Option Job
 numbers_of rows name =
-    option_and_then (λ chunk_rows. option_and_then (λ limit. option_map (λ attempts. Play name chunk_rows limit attempts) (attempts_of rows)) (limit_of rows)) (chunk_rows_of rows)
+    option_and_then (λ chunk_rows. option_and_then (λ limit. option_map (λ attempts. Play (record { name = name; chunk_rows = chunk_rows; limit = limit }) attempts) (attempts_of rows)) (limit_of rows)) (chunk_rows_of rows)
 
 -- the script that the command's options ask for
 abbrev pub play_of : List Row → Option Job

@@ -1,26 +1,22 @@
 use clap::error::ErrorKind;
-use h5w_model::Bytes;
+use h5w_model::Options;
 use std::alloc::AllocError;
 use thiserror::Error;
 
 /// What the words of a command line ask for.
-#[derive(Debug, Drop)]
+#[derive(Drop)]
 pub enum Job {
     /// Runs a script of a writer and readers of 32-bit integers.
     Play {
-        /// The dataset's name: 1 to 64 letters, digits and underscores.
-        name: Bytes,
-        /// How many rows a chunk has.
-        chunk_rows: u64,
-        /// How many bytes the file may have: 1,024 to 2^40.
-        limit: u64,
-        /// How many attempts a reader's call makes at most.
+        /// By what the file is created. The name has letters, digits and underscores alone.
+        options: Options,
+        /// How many attempts a reader's call makes at most, 1 to 1,000.
         attempts: u32,
     },
 }
 
 /// Why words ask for nothing.
-#[derive(Clone, Copy, Debug, PartialEq, Eq, Error)]
+#[derive(Clone, Copy, Debug, Error)]
 pub enum WordsError {
     /// They are outside the command set.
     #[error("words outside the command set")]

@@ -11,9 +11,6 @@ mod play;
 mod values;
 mod words;
 
-pub use h5w_model::Bytes;
+pub use h5w_model::{Bytes, Options};
 pub use job::{Job, WordsError};
 pub use words::read_words;
-
-#[cfg(test)]
-mod tests;

@@ -9,7 +9,7 @@ use crate::arguments::{option, option_or};
 use crate::job::{Job, WordsError};
 use crate::values::{count, count_or, name_or, text};
 use clap::{ArgMatches, Command};
-use h5w_model::Bytes;
+use h5w_model::{Bytes, Options};
 use std::alloc::{AllocError, Global};
 
 /// The most bytes that a file may have.
@@ -50,10 +50,13 @@ fn play_named(options: &ArgMatches<'_>, name: Bytes) -> Result<Job, WordsError>
     let chunk_rows = count(options, "chunk", 1, 65_536).ok_or(WordsError::Usage)?;
     let limit = count_or(options, "limit", LIMIT, 1_024, LIMIT).ok_or(WordsError::Usage)?;
     let attempts = count_or(options, "attempts", 8, 1, 1_000).ok_or(WordsError::Usage)?;
-    Ok(Job::Play {
+    let options = Options {
         name,
         chunk_rows,
         limit,
+    };
+    Ok(Job::Play {
+        options,
         attempts: attempts as u32,
     })
 }

@@ -5,9 +5,10 @@ use Rattle.std.proofs.Math.Nat.{div-lt_iff_lt-mul}
 use Rattle.h5w_model.specs.Images.{apply, image, Holds}
 use Rattle.h5w_model.specs.Logs.{div_up}
 use Rattle.h5w_model.proofs.ImageLemmas.{At-apply, At-fits, Holds-apply_missed}
-use Rattle.h5w_writer.specs.declared.options.Options.{Options}
+use Rattle.h5w_model.specs.declared.options.Options.{Options}
 use Rattle.h5w_writer.specs.Files.{IsFile, Represents, blocks, super_block, root_block, header_block, array_block, index_block, index_place}
-use Rattle.h5w_writer.specs.Plans.{AreOptions, new_file, first_moment, block_write, creation_writes}
+use Rattle.h5w_model.specs.Options.{AreOptions}
+use Rattle.h5w_writer.specs.Plans.{new_file, first_moment, block_write, creation_writes}
 use Rattle.h5w_writer.proofs.FileFacts.{places}
 use Rattle.h5w_writer.proofs.BlockSizes.{lengths}
 

@@ -1,20 +1,21 @@
 -- A session's relation to its log, event by event.
-use Rattle.std.proofs.Common.{◌≡◌, ◌≢◌, ℕ, ◌+◌, ◌*◌, ◌<◌, ◌≤◌, List, [], ◌∷◌, ◌++◌, length, take, Option, Some, ℤ, Bool, true, false, if◌then◌else◌, nat_lt, nat_le, sym, refl, ap, ◌∙◌, subst, inl, inr, arith, length-append}
-use Rattle.std.proofs.lemmas.List.{append_assoc, append-nil, take-append-le, take_all, nil_from_length, get_or_append_left}
-use Rattle.std.proofs.lemmas.Option.{slice_get-get_or}
+use Rattle.std.proofs.Common.{◌≡◌, ◌≢◌, ℕ, ◌+◌, ◌*◌, ◌/◌, ◌<◌, ◌≤◌, List, [], ◌∷◌, ◌++◌, length, take, ℤ, Bool, true, false, if◌then◌else◌, nat_lt, nat_le, sym, refl, ap, ◌∙◌, subst, inl, inr, arith, length-append}
+use Rattle.std.proofs.lemmas.List.{append_assoc, append-nil, take-append-le, take_all, nil_from_length}
 use Rattle.std.proofs.Math.Seq.{take-length}
-use Rattle.std.specs.List.{slice_get}
 use Rattle.std.proofs.lemmas.Bool.{cases_lt, cond-true, cond-false, lt-ltb, le-ltb, le-leb, lt-leb}
 use Rattle.h5w_model.specs.Images.{apply, image}
-use Rattle.h5w_model.specs.Logs.{Log, Happening, appends, plans, shows, hist, shown, appended, appended_in, flushed, flushed_in, and_now, div_up, load, spent}
-use Rattle.h5w_model.specs.Prefixed.{EachReads, PrefixedEach, Still, StillAt, Stays, MissesBehind}
+use Rattle.h5w_model.specs.Logs.{Log, Happening, appends, plans, shows, hist, shown, appended, appended_in, flushed, flushed_in, rows_in, and_now, div_up, load, spent}
+use Rattle.h5w_model.specs.Prefixed.{ReadsNow, EachReads, PrefixedEach, Still, StillAt, Stays}
 use Rattle.h5w_model.specs.Findings.{Valid}
 use Rattle.h5w_model.specs.Tables.{Reading, Shows, Reads, format_limits}
 use Rattle.h5w_model.specs.declared.piece.Write.{Write}
 use Rattle.h5w_model.proofs.ImageLemmas.{image-push}
-use Rattle.h5w_writer.specs.declared.options.Options.{Options}
+use Rattle.h5w_model.specs.declared.options.Options.{Options}
+use Rattle.h5w_laws.proofs.EventLemmas.{each_kept, still_more, still_piece}
+use Rattle.h5w_laws.proofs.LogLemmas.{length_hist}
 use Rattle.h5w_writer.specs.Files.{FileFields, chunk_len, AllFit, Moment, Represents, reading_of, summary_of}
-use Rattle.h5w_writer.specs.Plans.{AreOptions, Step, options_of, creation_writes, first_moment}
+use Rattle.h5w_model.specs.Options.{AreOptions}
+use Rattle.h5w_writer.specs.Plans.{Step, options_of, creation_writes, first_moment}
 use Rattle.h5w_writer.specs.Sessions.{Session, IsSession, cutting_of, Creating, Running, Goes, Stands, Flushing, AllEndBy, log_of, rows_of, created, after_piece, with_values, planned, going, stopped_of}
 use Rattle.h5w_writer.specs.Flushes.{grown, after_rows, flush_writes, missing_chunks}
 use Rattle.h5w_writer.proofs.PlanLemmas.{Fits, plan_flushes}
@@ -29,17 +30,6 @@ use Rattle.h5w_writer.proofs.LoadLemmas.{cutting, spent_in-events, chunks_loaded
 use Rattle.h5w_writer.proofs.Created.{created_represents}
 use Rattle.h5w_writer.proofs.SessionLemmas.{AllEndBy-append, AllEndBy-more, not_both, created_is, planned_by}
 
-pub shown-length : (es : List Happening) → shown es ≡ length (hist es)
-shown-length [] = refl
-shown-length (appends vs ∷ es) = shown-length es
-shown-length (plans k ∷ es) = shown-length es
-shown-length (shows w ∷ es) = ap (λ n. n + 1) (shown-length es) ∙ sym (length-append (hist es) (w ∷ []))
-
--- what is said of each event does not rest on later ones
-EachReads-later : (name : List ℕ) (log : Log) (e : Happening) (es : List Happening) → EachReads name log es → EachReads name (and_now e log) es
-EachReads-later name log e [] each = each
-EachReads-later name log e (x ∷ es) each = (each.0, EachReads-later name log e es each.1)
-
 -- ---- What a piece does to what stood
 
 pub creating_few : (s : Session) (es : List Happening) → Creating s es → length (hist es) + length s.pending ≡ 5
@@ -49,11 +39,6 @@ pub length_pos : (ws : List Write) → ws ≢ [] → 1 ≤ length ws
 length_pos [] some = absurd (some refl)
 length_pos (w ∷ ws) some = omega arith
 
--- before the superblock nothing is read
-reads_later : (name : List ℕ) (log : Log) (w : Write) → log.first ≡ 5 → length (hist log.events) + 1 ≤ 4 → PrefixedEach name log → PrefixedEach name (and_now (shows w) log)
-reads_later name log w first few each =
-    (λ h. absurd (omega (arith, shown-length log.events)), EachReads-later name log (shows w) log.events each)
-
 -- at the position now and after each event the image is valid and reads as the flushed rows
 reads_more : (name : List ℕ) (e : Happening) (es : List Happening) (m : Moment) → m.file.name ≡ name → Represents (image [] (hist (e ∷ es))) m → m.values ≡ flushed_in 0 [] (e ∷ es)
     → PrefixedEach name (log_of es) → PrefixedEach name (log_of (e ∷ es))
@@ -62,55 +47,13 @@ reads_more name e es m named r flushed each =
       λ h. record {
         summary = summary_of m.file;
         valid = subst (λ (xs : List ℕ). Valid img xs (summary_of m.file)) named (valid_now img m r);
-        reads = subst (λ (vs : List ℤ). Reads img name vs) flushed (subst (λ (xs : List ℕ). Reads img xs m.values) named (reads_now img m r));
+        reads = subst (λ (vs : List ℤ). Reads img name (length vs / 1) 1 vs) flushed (subst (λ (xs : List ℕ). Reads img xs (length m.values / 1) 1 m.values) named (reads_now img m r));
       },
-      EachReads-later name (log_of es) e es each,
+      each_kept name e (log_of es) es each,
     )
-
--- what is said of one piece, by the images before and after it and at each earlier position
-record StillOf (name : List ℕ) (images : ℕ → List ℕ) (k : ℕ) (at_k : Option Write) : Type 0 where
-  steps : (r s : Reading) → Shows format_limits (images k) name r → Shows format_limits (images (k + 1)) name s
-      → Stays (images k) r (images (k + 1)) s
-  misses : (w : Write) (p : ℕ) (r s : Reading) → at_k ≡ Some w → 5 ≤ p → p ≤ k
-      → Shows format_limits (images p) name r → Shows format_limits (images k) name s
-      → r.dataset.shape.rows ≡ s.dataset.shape.rows → MissesBehind w (images p) r
-
--- it rests on the images up to the next position alone
-StillOf-same : (name : List ℕ) (images others : ℕ → List ℕ) (k : ℕ) (a b : Option Write) → ((p : ℕ) → p ≤ k + 1 → others p ≡ images p) → b ≡ a → StillOf name images k a → StillOf name others k b
-StillOf-same name images others k a b same is still =
-    record {
-      steps = λ r s shown next.
-          let e : others k ≡ images k = same k (omega arith) in
-          let f : others (k + 1) ≡ images (k + 1) = same (k + 1) (omega arith) in
-          let P : List ℕ → List ℕ → Type 0 = λ x y. Shows format_limits x name r → Shows format_limits y name s → Stays x r y s in
-          subst (λ x. P x (others (k + 1))) (sym e) (subst (λ y. P (images k) y) (sym f) (still.steps r s)) shown next;
-      misses = λ w p r s found low high shown next rows.
-          let e : others p ≡ images p = same p (omega arith) in
-          let f : others k ≡ images k = same k (omega arith) in
-          let shown_there : Shows format_limits (images p) name r = subst (λ (x : List ℕ). Shows format_limits x name r) e shown in
-          let next_there : Shows format_limits (images k) name s = subst (λ (x : List ℕ). Shows format_limits x name s) f next in
-          subst (λ (x : List ℕ). MissesBehind w x r) (sym e) (still.misses w p r s (sym is ∙ found) low high shown_there next_there rows);
-    }
 
 abbrev images_of : List Happening → ℕ → List ℕ
 images_of es p = image [] (take p (hist es))
-
-of_still : (name : List ℕ) (es : List Happening) (k : ℕ) → StillAt name (log_of es) k → StillOf name (images_of es) k (slice_get (hist es) k)
-of_still name es k still = record { steps = still.steps; misses = still.misses }
-
-to_still : (name : List ℕ) (es : List Happening) (k : ℕ) → StillOf name (images_of es) k (slice_get (hist es) k) → StillAt name (log_of es) k
-to_still name es k still = record { steps = still.steps; misses = still.misses }
-
--- what makes no piece visible leaves it
-pub still_appends : (name : List ℕ) (vs : List ℤ) (es : List Happening) → Still name (log_of es) → Still name (log_of (appends vs ∷ es))
-still_appends name vs es still k low high = to_still name (appends vs ∷ es) k (of_still name es k (still k low high))
-
-pub still_plans : (name : List ℕ) (n : ℕ) (es : List Happening) → Still name (log_of es) → Still name (log_of (plans n ∷ es))
-still_plans name n es still k low high = to_still name (plans n ∷ es) k (of_still name es k (still k low high))
-
-slice_get_front : {A : Type 0} (xs ys : List A) (k : ℕ) (d : A) → k < length xs → slice_get (xs ++ ys) k ≡ slice_get xs k
-slice_get_front xs ys k d h =
-    slice_get-get_or (xs ++ ys) k d (omega (arith, length-append xs ys)) ∙ ap Some (get_or_append_left xs ys d k h) ∙ sym (slice_get-get_or xs k d h)
 
 -- the earlier images
 images_before : (es : List Happening) (w : Write) (p : ℕ) → p ≤ length (hist es) → images_of (shows w ∷ es) p ≡ images_of es p
@@ -130,8 +73,8 @@ image_next es w =
 
 -- the last piece of a plan, by the images before and after it
 still_last : (name : List ℕ) (es : List Happening) (w : Write) (m n : Moment) (k : ℕ) → m.file.name ≡ name → images_of (shows w ∷ es) k ≡ image [] (hist es)
-    → images_of (shows w ∷ es) (k + 1) ≡ apply w (image [] (hist es)) → k ≡ length (hist es) → Represents (image [] (hist es)) m → Step m w n → Past name es
-    → StillOf name (images_of (shows w ∷ es)) k (slice_get (hist es ++ w ∷ []) k)
+    → images_of (shows w ∷ es) (k + 1) ≡ apply w (image [] (hist es)) → k ≤ length (hist es) → Represents (image [] (hist es)) m → Step m w n → Past name es
+    → StillAt name (log_of (shows w ∷ es)) k
 still_last name es w m n k named now next is file step past =
     let img = image [] (hist es) in
     let named_after : n.file.name ≡ name = (step_follows m w n step).name ∙ named in
@@ -154,19 +97,12 @@ still_last name es w m n k named now next is file step past =
 -- one more piece of a plan
 pub still_shows : (name : List ℕ) (es : List Happening) (w : Write) (m n : Moment) → m.file.name ≡ name → Represents (image [] (hist es)) m → Step m w n → Past name es
     → Still name (log_of es) → Still name (log_of (shows w ∷ es))
-still_shows name es w m n named file step past still k low high =
+still_shows name es w m n named file step past still =
     let last = length (hist es) in
-    elim (cases_lt k last) [
-      | inl before ↦
-          to_still name (shows w ∷ es) k
-          (StillOf-same name (images_of es) (images_of (shows w ∷ es)) k (slice_get (hist es) k) (slice_get (hist es ++ w ∷ []) k)
-          (λ p h. images_before es w p (omega arith)) (slice_get_front (hist es) (w ∷ []) k w before) (of_still name es k (still k low before)))
-      | inr not_before ↦
-          let is : k ≡ last = omega (arith, length-append (hist es) (w ∷ [])) in
-          let now : images_of (shows w ∷ es) k ≡ image [] (hist es) = ap (images_of (shows w ∷ es)) is ∙ images_before es w last (omega arith) ∙ image_now es in
-          let next : images_of (shows w ∷ es) (k + 1) ≡ apply w (image [] (hist es)) = ap (λ j. images_of (shows w ∷ es) (j + 1)) is ∙ image_next es w in
-          to_still name (shows w ∷ es) k (still_last name es w m n k named now next is file step past)
-    ]
+    let is : shown es ≡ last = sym (length_hist es) in
+    let now : images_of (shows w ∷ es) (shown es) ≡ image [] (hist es) = ap (images_of (shows w ∷ es)) is ∙ images_before es w last (omega arith) ∙ image_now es in
+    let next : images_of (shows w ∷ es) (shown es + 1) ≡ apply w (image [] (hist es)) = ap (λ j. images_of (shows w ∷ es) (j + 1)) is ∙ image_next es w in
+    still_piece name w (log_of es) still (λ begun. still_last name es w m n (shown es) named now next (omega arith) file step past)
 
 -- a session begins with the creation's pieces
 creation_goes : (o : Options) → AreOptions o → Goes (created o) (log_of [])
@@ -329,9 +265,6 @@ flushed_now s es r =
 reads_running : (e : Happening) (s : Session) (es : List Happening) → Running s (e ∷ es) → PrefixedEach s.file.name (log_of es) → PrefixedEach s.file.name (log_of (e ∷ es))
 reads_running e s es r each = reads_more s.file.name e es r.before (before_named s (e ∷ es) r) r.represents (flushed_now s (e ∷ es) r) each
 
-creating_size : (s : Session) (es : List Happening) → Creating s es → length (hist es) + length s.pending ≡ 5
-creating_size s es c = sym (length-append (hist es) s.pending) ∙ ap length c.pieces
-
 -- a piece that becomes visible spends nothing
 grew_shown : (s : Session) (w : Write) (ws : List Write) (es : List Happening) → s.file.end ≤ 1024 + spent (cutting_of s) (log_of es)
     → (after_piece s ws).file.end ≤ 1024 + spent (cutting_of (after_piece s ws)) (log_of (shows w ∷ es))
@@ -343,7 +276,7 @@ shows_creating : (s : Session) (w : Write) (ws : List Write) (es : List Happenin
     → s.file.end ≤ 1024 + spent (cutting_of s) (log_of es) → Goes (after_piece s ws) (log_of (shows w ∷ es))
 shows_creating s w [] es pending c each grew =
     let r = creating_last s w es pending c in
-    let size = creating_size s es c in
+    let size = creating_few s es c in
     record {
       is = refl;
       phase = inr r;
@@ -352,11 +285,11 @@ shows_creating s w [] es pending c each grew =
       grew = grew_shown s w [] es grew;
     }
 shows_creating s w (x ∷ ws) es pending c each grew =
-    let size = creating_size s es c in
+    let size = creating_few s es c in
     record {
       is = refl;
       phase = inl (creating_piece s w x ws es pending c);
-      prefixed = (λ h. absurd (omega (arith, shown-length es, ap length pending)), EachReads-later s.file.name (log_of es) (shows w) es each);
+      prefixed = (λ h. absurd (omega (arith, length_hist es, ap length pending)), each_kept s.file.name (shows w) (log_of es) es each);
       still = λ k low high. absurd (omega (arith, length-append (hist es) (w ∷ []), ap length pending));
       grew = grew_shown s w (x ∷ ws) es grew;
     }
@@ -419,7 +352,7 @@ stands_added s vs es none stands =
       is = refl;
       phase = inr r;
       prefixed = reads_running (appends vs) (with_values s vs) es r stands.prefixed;
-      still = still_appends s.file.name vs es stands.still;
+      still = still_more s.file.name (appends vs) (log_of es) refl stands.still;
       grew = omega (arith, stands.grew, spent_in-events (cutting_of s) (log_of es) (appends vs ∷ es) es);
     }
 
@@ -550,7 +483,7 @@ stands_planned s [] es is running none rows fits stands =
       is = refl;
       phase = inr r;
       prefixed = reads_running (plans 0) s es r stands.prefixed;
-      still = still_plans s.file.name 0 es stands.still;
+      still = still_more s.file.name (plans 0) (log_of es) refl stands.still;
       grew = omega (arith, stands.grew, spent_in-events (cutting_of s) (log_of es) (plans 0 ∷ es) es);
     } in
     subst (λ (t : Session). Goes t (log_of (plans 0 ∷ es))) (none_planned s none rows) empty
@@ -561,7 +494,7 @@ stands_planned s (v ∷ vs) es is running none rows fits stands =
       is = refl;
       phase = inr r;
       prefixed = reads_running (plans p) (planned_of s (v ∷ vs)) es r stands.prefixed;
-      still = still_plans s.file.name p es stands.still;
+      still = still_more s.file.name (plans p) (log_of es) refl stands.still;
       grew = omega (arith, stands.grew, spent_in-events (cutting_of s) (log_of es) (plans p ∷ es) es, chunks_within s (v ∷ vs) es is none rows stands);
     }
 
@@ -579,14 +512,15 @@ committed_go s log stands =
     rows ∙ ap (λ (l : Log). length (flushed_in 0 l.values es)) (sym stands.is)
 
 -- where nothing is pending, the image reads as the flushed rows
-reads_go : (s : Session) (log : Log) → Goes s log → s.pending ≡ [] → Reads (image log.start (hist log.events)) s.file.name (flushed log)
+reads_go : (s : Session) (log : Log) → Goes s log → s.pending ≡ [] → Reads (image log.start (hist log.events)) s.file.name (rows_in log (flushed log)) log.columns (flushed log)
 reads_go s log stands none =
     let es = log.events in
     let r : Running s es = elim stands.phase [ inl creating ↦ absurd (creating.some none) | inr running ↦ running ] in
     let img = image [] (hist es) in
-    let now : Reads img s.file.name (flushed_in 0 [] es) =
-    subst (λ (vs : List ℤ). Reads img s.file.name vs) (flushed_now s es r) (subst (λ (name : List ℕ). Reads img name r.before.values) (before_named s es r) (reads_now img r.before r.represents)) in
-    let P : Log → Type 0 = λ l. Reads (image l.start (hist es)) s.file.name (flushed_in 0 l.values es) in
+    let now : Reads img s.file.name (length (flushed_in 0 [] es) / 1) 1 (flushed_in 0 [] es) =
+    subst (λ (vs : List ℤ). Reads img s.file.name (length vs / 1) 1 vs) (flushed_now s es r)
+    (subst (λ (name : List ℕ). Reads img name (length r.before.values / 1) 1 r.before.values) (before_named s es r) (reads_now img r.before r.represents)) in
+    let P : Log → Type 0 = λ l. Reads (image l.start (hist es)) s.file.name (length (flushed_in 0 l.values es) / l.columns) l.columns (flushed_in 0 l.values es) in
     subst P (sym stands.is) now
 
 -- ---- A session that may have been stopped
@@ -629,8 +563,32 @@ rows_are s log stands = rows_go (going s stands.left) log stands.goes
 pub committed_are : (s : Session) (log : Log) → Stands s log → s.committed ≡ length (flushed log)
 committed_are s log stands = committed_go (going s stands.left) log stands.goes
 
-pub stands_reads : (s : Session) (log : Log) → Stands s log → s.stopped ≡ false → s.pending ≡ [] → Reads (image log.start (hist log.events)) s.file.name (flushed log)
+-- the log has one column, so that its values are rows
+pub columns_are : (s : Session) (log : Log) → Stands s log → log.columns ≡ 1
+columns_are s log stands = ap (λ (l : Log). l.columns) stands.goes.is
+
+pub in_rows : (s : Session) (log : Log) (vs : List ℤ) → Stands s log → length vs ≡ rows_in log vs
+in_rows s log vs stands = let one : length vs ≡ length vs / 1 = omega arith in one ∙ ap (λ (c : ℕ). length vs / c) (sym (columns_are s log stands))
+
+pub flushed_in_rows : (s : Session) (log : Log) → Stands s log → s.committed ≡ rows_in log (flushed log)
+flushed_in_rows s log stands = committed_are s log stands ∙ in_rows s log (flushed log) stands
+
+pub appended_in_rows : (s : Session) (log : Log) → Stands s log → rows_of s ≡ rows_in log (appended log)
+appended_in_rows s log stands = rows_are s log stands ∙ in_rows s log (appended log) stands
+
+-- what holds after each event holds after the last, also where pieces were dropped behind it
+reads_last : (name : List ℕ) (log : Log) (es : List Happening) → EachReads name log es → log.first ≤ length (hist es) → ReadsNow name (record log { events = es })
+reads_last name log [] each reached = each reached
+reads_last name log (e ∷ es) each reached = each.0 (omega (arith, length_hist (e ∷ es)))
+
+pub stands_last : (s : Session) (log : Log) → Stands s log → log.first ≤ length (hist log.events) → ReadsNow s.file.name log
+stands_last s log stands reached = reads_last s.file.name log log.events stands.goes.prefixed reached
+
+pub stands_reads : (s : Session) (log : Log) → Stands s log → s.stopped ≡ false → s.pending ≡ [] → Reads (image log.start (hist log.events)) s.file.name (rows_in log (flushed log)) log.columns (flushed log)
 stands_reads s log stands running none = reads_go s log (goes_of s log running stands) none
 
 pub flushed_rows : (s : Session) (log : Log) → Stands s log → s.stopped ≡ false → s.pending ≡ [] → length (flushed log) ≡ s.file.rows
 flushed_rows s log stands running none = flushed_go s log (goes_of s log running stands) none
+
+pub planned_in_rows : (s : Session) (log : Log) → Stands s log → s.stopped ≡ false → s.pending ≡ [] → rows_in log (flushed log) ≡ s.file.rows
+planned_in_rows s log stands running none = sym (in_rows s log (flushed log) stands) ∙ flushed_rows s log stands running none

@@ -8,8 +8,9 @@ use Rattle.std.proofs.Math.Seq.{take-suc-set, set-append_seam}
 use Rattle.std.specs.Result.{IsOk, is_err, IfOk}
 use Rattle.h5w_model.specs.Numbers.{undefined}
 use Rattle.h5w_space.specs.Space.{Space, Takes, extent}
-use Rattle.h5w_writer.specs.declared.options.Options.{Options}
-use Rattle.h5w_writer.specs.Plans.{AreOptions, new_file}
+use Rattle.h5w_model.specs.declared.options.Options.{Options}
+use Rattle.h5w_model.specs.Options.{AreOptions}
+use Rattle.h5w_writer.specs.Plans.{new_file}
 use Rattle.h5w_writer.proofs.BlockSizes.{first_end_small}
 use Rattle.h5w_writer.specs.Files.{FileFields, Rising, first_end, chunk_len, cell_place, dataset_messages}
 use Rattle.h5w_model.specs.Headers.{header_bytes}

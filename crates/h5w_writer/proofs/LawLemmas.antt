@@ -16,7 +16,7 @@ use Rattle.h5w_writer.specs.Laws.{StandingLaws, ShownLaws, IsDatasetOf, RoomStay
 use Rattle.h5w_writer.specs.Plans.{Step}
 use Rattle.h5w_writer.specs.Room.{HasRoomFor}
 use Rattle.h5w_writer.specs.Sessions.{Session, Creating, Running, Flushing, Goes, Stands, going, after_piece, log_of}
-use Rattle.h5w_writer.proofs.EventLemmas.{committed_are, rows_are, stands_reads, flushed_rows, creating_few, length_pos, image_now, flushing_follows, before_named}
+use Rattle.h5w_writer.proofs.EventLemmas.{columns_are, flushed_in_rows, appended_in_rows, planned_in_rows, stands_last, stands_reads, creating_few, length_pos, image_now, flushing_follows, before_named}
 use Rattle.h5w_writer.proofs.FileFacts.{Rising-high}
 use Rattle.h5w_writer.proofs.HeadersNow.{root_visits}
 use Rattle.h5w_writer.proofs.SessionLemmas.{AllEndBy-front, AllEndBy-take, image_ends}
@@ -55,13 +55,18 @@ stands_limited s log stands = goes_limited (going s stands.left) log stands.goes
 pub standing_laws : StandingLaws
 standing_laws =
     record {
-      flushed_rows = committed_are;
-      appended_rows = rows_are;
+      start = λ s log stands. ap (λ (l : Log). l.start) stands.goes.is;
+      values = λ s log stands. ap (λ (l : Log). l.values) stands.goes.is;
+      first = λ s log stands. ap (λ (l : Log). l.first) stands.goes.is;
+      columns = columns_are;
+      flushed_rows = flushed_in_rows;
+      appended_rows = appended_in_rows;
       prefixed = stands_prefixed;
       still = λ s log stands. stands.goes.still;
       held = stands_held;
       reads = stands_reads;
-      planned_rows = flushed_rows;
+      planned_rows = planned_in_rows;
+      stopped = λ s log stands stopped reached. stands_last s log stands reached;
       limited = stands_limited;
     }
 

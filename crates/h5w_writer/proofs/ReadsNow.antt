@@ -78,12 +78,14 @@ values_now img m k r h =
     let row : k / 1 ≡ k = omega arith in
     ap (λ (i : ℕ). cell img (reading_of m.file) i (k % 1)) row ∙ value_now img m k (k % 1) v r (omega arith) (omega arith) is ∙ sym is
 
-pub reads_now : (img : List ℕ) (m : Moment) → Represents img m → Reads img m.file.name m.values
+pub reads_now : (img : List ℕ) (m : Moment) → Represents img m → Reads img m.file.name (length m.values / 1) 1 m.values
 reads_now img m r =
     let count = r.count in
     record {
       shown = reading_of m.file;
       shows = shows_now img m r;
+      rows_are = omega arith;
+      columns_are = refl;
       count = omega arith;
       values_are = λ k h. values_now img m k r h;
     }

@@ -14,7 +14,7 @@ use Rattle.h5w_writer.specs.Flushes.{missing_chunks}
 use Rattle.h5w_model.specs.Logs.{Log, and_now, appends, load, spent}
 use Rattle.h5w_model.specs.declared.piece.Write.{Write}
 use Rattle.h5w_writer.specs.Sessions.{Session, IsSession, Stands, cutting_of, session_of, with_values, rows_of, chunk_limit}
-use Rattle.h5w_writer.specs.Refusals.{NoPlace, append_refusal, flush_refusal, full_for, chunks_with}
+use Rattle.h5w_writer.specs.Refusals.{IsRefused, NoPlace, append_refusal, flush_refusal, full_for, chunks_with}
 use Rattle.h5w_writer.specs.declared.refusal.AppendError.{AppendError}
 use Rattle.h5w_writer.specs.declared.refusal.AppendError.TheVariants as answers
 use Rattle.h5w_writer.specs.declared.refusal.FlushError.{FlushError}
@@ -209,6 +209,29 @@ is_ready s none =
 -- the new chunks end within the limit
 pub ready_fits : (s : Session) (r : Result (Unit {0}) FlushError) → MatchOption (flush_refusal s) (r ≡ Ok tt) (λ e. r ≡ Err e) → r ≡ Ok tt → IsSession s → Fits s.file (length s.waiting)
 ready_fits s r ready ok is = all_fit s.file (length s.waiting) is.is_file (is_ready s (accepted (flush_refusal s) r ready ok)).fits
+
+-- a refusal that is answered as it is
+pub refused_as_is : (e : FlushError) (r : Result ℕ FlushError) → r ≡ Err e → IsRefused e r
+refused_as_is flushes.Stopped r is = is
+refused_as_is (flushes.Busy pending) r is = is
+refused_as_is (flushes.Space full) r is = inl is
+refused_as_is flushes.Failed r is = is
+refused_as_is flushes.OutOfMemory r is = is
+
+ok_err : (pieces : ℕ) (e : FlushError) → Ok pieces ≡ Err e → ⊥
+ok_err pieces e clash = cc
+
+-- what was planned was not refused
+pub not_answered : (e : FlushError) (pieces : ℕ) → IsRefused e (Ok pieces) → ⊥
+not_answered flushes.Stopped pieces is = ok_err pieces flushes.Stopped is
+not_answered (flushes.Busy n) pieces is = ok_err pieces (flushes.Busy n) is
+not_answered (flushes.Space full) pieces is = elim is [ inl told ↦ ok_err pieces (flushes.Space full) told | inr memory ↦ ok_err pieces flushes.OutOfMemory memory ]
+not_answered flushes.Failed pieces is = ok_err pieces flushes.Failed is
+not_answered flushes.OutOfMemory pieces is = ok_err pieces flushes.OutOfMemory is
+
+pub not_refused_flush : (refusal : Option FlushError) (pieces : ℕ) → ((e : FlushError) → refusal ≡ Some e → IsRefused e (Ok pieces)) → refusal ≡ None
+not_refused_flush None pieces refused = refl
+not_refused_flush (Some e) pieces refused = absurd (not_answered e pieces (refused e refl))
 
 -- ---- A flush for which there is no place
 

@@ -8,9 +8,10 @@ use Rattle.h5w_model.specs.Images.{AllSized, apply, image, pieces}
 use Rattle.h5w_model.specs.Logs.{div_up}
 use Rattle.h5w_model.specs.declared.piece.Write.{Write}
 use Rattle.h5w_model.proofs.ImageLemmas.{length-apply, pieces-sized, AllSized-append}
-use Rattle.h5w_writer.specs.declared.options.Options.{Options}
+use Rattle.h5w_model.specs.declared.options.Options.{Options}
 use Rattle.h5w_writer.specs.Files.{FileFields, IsFile, AllFit, first_end, chunk_len, array_place, index_place, root_place, header_place, super_block, root_block, header_block, array_block, index_block}
-use Rattle.h5w_writer.specs.Plans.{AreOptions, new_file}
+use Rattle.h5w_model.specs.Options.{AreOptions}
+use Rattle.h5w_writer.specs.Plans.{new_file}
 use Rattle.h5w_writer.specs.Flushes.{cell_list, chunk_values, chunk_writes, free_rows, missing_chunks, grown, after_rows, own_writes, new_writes, row_writes, block_writes, flush_writes}
 use Rattle.h5w_writer.specs.Sessions.{Session, IsSession, AllEndBy, chunk_limit, session_of, rows_of, created, after_piece, with_values, planned, stopped_of}
 use Rattle.h5w_writer.proofs.CellLemmas.{RisingWrites, RisingWrites-append, AllFit-append, AllFit-drop, chunk_writes_rise}

@@ -13,7 +13,7 @@ use Rattle.h5w_model.specs.Arrays.{EahdFields, eahd_at, eahd_bytes, eahd_len}
 use Rattle.h5w_model.specs.Logs.{div_up}
 use Rattle.h5w_model.specs.Datasets.{root_header, root_view, dataset_from}
 use Rattle.h5w_model.specs.Tables.{cell}
-use Rattle.h5w_model.specs.Prefixed.{root_address, continuation_blocks, StaysDefined, NamesBlock, SameDescribed, Stays, Keeps}
+use Rattle.h5w_model.specs.Prefixed.{root_address, continuation_blocks, StaysDefined, NamesBlock, SameDescribed, SameHeader, Stays, Keeps}
 use Rattle.h5w_model.specs.declared.cell.IndexKind.TheVariants.{Array}
 use Rattle.h5w_model.specs.declared.refusal.BlockFault.{BlockFault}
 use Rattle.h5w_model.proofs.SuperLemmas.{length-super_bytes}
@@ -23,6 +23,7 @@ use Rattle.h5w_writer.proofs.HeadersNow.{root_look, root_visits}
 use Rattle.h5w_writer.proofs.DatasetNow.{dataset_look, dataset_visits}
 use Rattle.h5w_writer.proofs.FileFacts.{array_header_reads, length_array_header}
 use Rattle.h5w_writer.proofs.ReadsNow.{value_now}
+use Rattle.h5w_writer.proofs.RowsLemmas.{rows_alone}
 use Rattle.h5w_writer.proofs.Behind.{same_behind}
 
 -- A later file: more rows, more values, more chunks behind those that were there.
@@ -69,6 +70,20 @@ same_header old new m n r s follows rows =
     ∙ dataset_look new n.file s.is_file.chunk_bound s.standing.1.1.0
     ∙ (λ i. spelled (follows.name i) (follows.chunk_rows i) (sym rows i))
     ∙ sym (dataset_look old m.file r.is_file.chunk_bound r.standing.1.1.0)
+
+-- of it the rows and the sum alone may change
+same_chunk_0 : (old new : List ℕ) (m n : Moment) (address : ℕ) → Represents old m → Represents new n → Follows m n
+    → SameHeader (header_view (range old (header_place (length m.file.name)) 512)) (header_view (range new (header_place (length m.file.name)) 512)) address
+same_chunk_0 old new m n address r s follows =
+    let f = m.file in
+    let g = n.file in
+    let was = dataset_look old f r.is_file.chunk_bound r.standing.1.1.0 in
+    let is : header_view (range new (header_place (length f.name)) 512) ≡ header_bytes (dataset_messages (record f { rows = g.rows })) =
+    ap (λ (name : List ℕ). header_view (range new (header_place (length name)) 512)) (sym follows.name)
+    ∙ dataset_look new g s.is_file.chunk_bound s.standing.1.1.0
+    ∙ (λ i. spelled (follows.name i) (follows.chunk_rows i) g.rows) in
+    subst (λ (b : List ℕ). SameHeader b (header_view (range new (header_place (length f.name)) 512)) address) (sym was)
+    (subst (λ (b : List ℕ). SameHeader (header_bytes (dataset_messages f)) b address) (sym is) (rows_alone f g.rows address r.is_file.chunk_bound))
 
 abbrev layout_from : ℕ → ℕ → LayoutFields
 layout_from size where_to = record { chunk_rows = size; chunk_cols = 1; index = Array; address = where_to; place = 11 + 2 * width_of (max size 4) }
@@ -144,6 +159,7 @@ stays_between old new m n r s follows =
       named = no_continuations new n s ∙ sym (no_continuations old m r);
       continuations = same_continuations old new m r;
       described = same_described m n follows;
+      chunk_0 = same_chunk_0 old new m n (array_place (length m.file.name) m.file.chunk_rows) r s follows;
       rows = follows.rows;
       header = λ rows. same_header old new m n r s follows rows;
       index_block = λ a b kind known was is. same_index_block old new m n a b r s follows was is;

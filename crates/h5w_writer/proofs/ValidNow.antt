@@ -20,7 +20,8 @@ use Rattle.h5w_model.specs.declared.cell.IndexKind.TheVariants.{Array}
 use Rattle.h5w_model.specs.Logs.{div_up}
 use Rattle.h5w_writer.specs.Files.{FileFields, IsFile, Moment, Represents, dataset_messages, root_messages, root_place, header_place, array_place, index_place, first_end, chunk_len, super_of, described_of, array_header_of, index_block_of, summary_of}
 use Rattle.h5w_model.proofs.SuperLemmas.{length-super_bytes, super_at-super_bytes}
-use Rattle.h5w_writer.proofs.Evaluation.{eval-bind, eval-and_then}
+use Rattle.h5w_laws.proofs.ProgramLemmas.{eval_bind}
+use Rattle.h5w_writer.proofs.Evaluation.{eval-and_then}
 use Rattle.h5w_writer.proofs.Looks.{look_at}
 use Rattle.h5w_writer.proofs.HeadersNow.{root_header_now, root_len, linked_now}
 use Rattle.h5w_writer.proofs.DatasetNow.{messages_len, messages_now, described_now, dataset_look}
@@ -44,7 +45,7 @@ one_range end at n h = rw (le-ltb end (at + n) h) refl
 root_checked : (img : List ℕ) (f : FileFields) → length f.name ≤ 64 → header_place (length f.name) ≤ f.end → At img root_place (header_bytes (root_messages f.name))
     → eval img (checked_root f.name (super_of f)) ≡ Ok (header_place (length f.name), block root_place (root_len (length f.name) + 11) ∷ [])
 root_checked img f short h stands =
-    eval-bind img (root_header root_place) _
+    eval_bind img (root_header root_place) _
     ∙ rw (root_header_now img f.name short stands, one_range f.end root_place (root_len (length f.name) + 11) (omega arith), linked_now f.name short) refl
 
 -- what the check makes of the dataset header's bytes
@@ -64,7 +65,7 @@ dataset_checked img f k h stands =
     let have = k.rows_have_chunks in
     let within : ltb 131060 (n * 1) ≡ false = le-ltb 131060 (n * 1) (omega arith) in
     ap (λ (b : List ℕ). eval img (datasets_from (header_place (length f.name)) f.end b)) (dataset_look img f k.chunk_bound stands)
-    ∙ eval-bind img (datasets.dataset_messages (header_place (length f.name)) (header_bytes (dataset_messages f))) _
+    ∙ eval_bind img (datasets.dataset_messages (header_place (length f.name)) (header_bytes (dataset_messages f))) _
     ∙ rw (messages_now img f k.chunk_bound, one_range f.end (header_place (length f.name)) (messages_len f.chunk_rows + 11) (omega arith), described_now f (rows_small f k) k.name_bound k.some_rows k.chunk_bound, within) refl
 
 -- ---- The index

@@ -1,12 +1,12 @@
 -- What is true of a log of which a session is the session.
-use Rattle.std.specs.Prelude.{◌≡◌, ◌^◌, ◌≢◌, ℕ, ◌<◌, ◌≤◌, false, List, [], ◌∷◌, length, get_or, ◌+◌, ◌*◌, Some, None}
+use Rattle.std.specs.Prelude.{◌≡◌, ◌^◌, ◌≢◌, ℕ, ◌<◌, ◌≤◌, true, false, List, [], ◌∷◌, length, get_or, ◌+◌, ◌*◌, Some, None}
 use Rattle.h5w_model.specs.Numbers.{undefined}
 use Rattle.h5w_model.specs.Images.{image}
 use Rattle.h5w_model.specs.Programs.{Visit, visits}
-use Rattle.h5w_model.specs.Logs.{Log, hist, appended, flushed, needed_chunks}
+use Rattle.h5w_model.specs.Logs.{Log, hist, appended, flushed, rows_in, needed_chunks}
 use Rattle.h5w_model.specs.Datasets.{root_header}
 use Rattle.h5w_model.specs.Tables.{Limits, Reading, Shows, Reads, format_limits, limit_of, needed}
-use Rattle.h5w_model.specs.Prefixed.{image_at, IsPosition, Prefixed, Still, Held, root_address, continuation_blocks}
+use Rattle.h5w_model.specs.Prefixed.{image_at, IsPosition, Prefixed, ReadsNow, Still, Held, root_address, continuation_blocks}
 use Rattle.h5w_model.specs.declared.cell.IndexKind.TheVariants.{Array}
 use Rattle.h5w_model.specs.declared.piece.Write.{Write}
 use Rattle.h5w_image.specs.View.{ImageView, Wrote}
@@ -17,18 +17,26 @@ use Rattle.h5w_space.specs.declared.Full.{Full}
 use Rattle.h5w_writer.specs.Room.{HasRoomFor}
 use Rattle.h5w_writer.specs.Sessions.{Session, Stands, after_piece, chunk_limit, cutting_of, rows_of}
 
--- The session tells of its log how many rows are flushed and appended. At each position the image is valid and reads as
--- the rows that are flushed there, and what readers rest on stays from each position to each later one. Where nothing is
--- pending in a session that was not stopped, the image reads as all rows that were planned. The limit is one that a file may
--- have.
+-- The log of a session begins over no bytes and no values, a reader finds a file after its fifth piece, and the dataset has
+-- one column. The session tells of its log how many rows are flushed and appended. At each position the image is valid and
+-- reads as the rows that are flushed there, and what readers rest on stays from each position to each later one. Where nothing
+-- is pending in a session that was not stopped, the image reads as all rows that were planned. The image of a session that was
+-- stopped, once a reader finds a file in it, is valid and reads as the rows that are flushed, whatever the pieces were that were
+-- dropped. The limit is one that a file may have.
 pub record StandingLaws : Type 0 where
-  pub flushed_rows : (s : Session) (log : Log) → Stands s log → s.committed ≡ length (flushed log)
-  pub appended_rows : (s : Session) (log : Log) → Stands s log → rows_of s ≡ length (appended log)
+  pub start : (s : Session) (log : Log) → Stands s log → log.start ≡ []
+  pub values : (s : Session) (log : Log) → Stands s log → log.values ≡ []
+  pub first : (s : Session) (log : Log) → Stands s log → log.first ≡ 5
+  pub columns : (s : Session) (log : Log) → Stands s log → log.columns ≡ 1
+  pub flushed_rows : (s : Session) (log : Log) → Stands s log → s.committed ≡ rows_in log (flushed log)
+  pub appended_rows : (s : Session) (log : Log) → Stands s log → rows_of s ≡ rows_in log (appended log)
   pub prefixed : (s : Session) (log : Log) → Stands s log → Prefixed s.file.name log
   pub still : (s : Session) (log : Log) → Stands s log → Still s.file.name log
   pub held : (s : Session) (log : Log) → Stands s log → Held s.file.name log
-  pub reads : (s : Session) (log : Log) → Stands s log → s.stopped ≡ false → s.pending ≡ [] → Reads (image log.start (hist log.events)) s.file.name (flushed log)
-  pub planned_rows : (s : Session) (log : Log) → Stands s log → s.stopped ≡ false → s.pending ≡ [] → length (flushed log) ≡ s.file.rows
+  pub reads : (s : Session) (log : Log) → Stands s log → s.stopped ≡ false → s.pending ≡ []
+      → Reads (image log.start (hist log.events)) s.file.name (rows_in log (flushed log)) log.columns (flushed log)
+  pub planned_rows : (s : Session) (log : Log) → Stands s log → s.stopped ≡ false → s.pending ≡ [] → rows_in log (flushed log) ≡ s.file.rows
+  pub stopped : (s : Session) (log : Log) → Stands s log → s.stopped ≡ true → log.first ≤ length (hist log.events) → ReadsNow s.file.name log
   pub limited : (s : Session) (log : Log) → Stands s log → s.file.limit ≤ 2 ^ 40
 
 -- ---- What readers find

@@ -1,6 +1,7 @@
 pub use Rattle.h5w_model.specs.Numbers
 pub use Rattle.h5w_model.specs.Images
 pub use Rattle.h5w_model.specs.Logs
+pub use Rattle.h5w_model.specs.Options
 pub use Rattle.h5w_model.specs.Lawful
 pub use Rattle.h5w_model.specs.Prefixed
 pub use Rattle.h5w_model.specs.Tables

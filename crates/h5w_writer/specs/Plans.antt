@@ -1,8 +1,8 @@
 -- What each piece of a plan does to a file, and what the file is once all of them became visible.
-use Rattle.std.specs.Prelude.{◌≡◌, ◌⊎◌, ℕ, ◌+◌, ◌<◌, ◌≤◌, ◌^◌, List, [], ◌∷◌, ◌++◌, length, ℤ}
+use Rattle.std.specs.Prelude.{◌≡◌, ◌⊎◌, ℕ, ◌+◌, ◌<◌, ◌≤◌, List, [], ◌∷◌, ◌++◌, length, ℤ}
 use Rattle.h5w_model.specs.Images.{Holds, ApartEach, Misses}
 use Rattle.h5w_model.specs.declared.piece.Write.{Write}
-use Rattle.h5w_writer.specs.declared.options.Options.{Options}
+use Rattle.h5w_model.specs.declared.options.Options.{Options}
 use Rattle.h5w_writer.specs.Files.{FileFields, Moment, IsFile, AllFit, CellsAt, Rising, blocks, super_block, root_block, header_block, array_block, index_block, cell_place, first_end, chunk_len}
 
 -- the write of a block at its place
@@ -78,15 +78,6 @@ new_file o = record {
 -- by what a session would create such a file
 abbrev pub options_of : FileFields → Options
 options_of f = record { name = f.name; chunk_rows = f.chunk_rows; limit = f.limit }
-
--- a file can be created by these
-pub record AreOptions (o : Options) : Type 0 where
-  pub named : 1 ≤ length o.name
-  pub name_bound : length o.name ≤ 64
-  pub some_rows : 1 ≤ o.chunk_rows
-  pub chunk_bound : o.chunk_rows ≤ 65536
-  pub limit_low : 1024 ≤ o.limit
-  pub limit_high : o.limit ≤ 2 ^ 40
 
 abbrev pub first_moment : Options → Moment
 first_moment o = record { file = new_file o; values = []; further = [] }

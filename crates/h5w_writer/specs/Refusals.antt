@@ -1,5 +1,5 @@
 -- Why a session's calls are refused.
-use Rattle.std.specs.Prelude.{◌≡◌, ℕ, ◌+◌, ◌-◌, ◌*◌, ◌/◌, ◌<◌, ◌≤◌, List, length, ℤ, nat_lt, if◌then◌else◌, Option, Some, None}
+use Rattle.std.specs.Prelude.{◌≡◌, ◌⊎◌, ℕ, ◌+◌, ◌-◌, ◌*◌, ◌/◌, ◌<◌, ◌≤◌, List, length, ℤ, nat_lt, if◌then◌else◌, Option, Some, None, Result, Err}
 use Rattle.std.specs.Option.{option_map}
 use Rattle.h5w_model.specs.Logs.{Log, div_up, load, spent}
 use Rattle.h5w_model.specs.Lawful.{first_outside}
@@ -68,6 +68,14 @@ flush_refusal s =
     if s.stopped then Some flushes.Stopped
     else if nat_lt 0 (length s.pending) then Some (flushes.Busy (length s.pending))
     else option_map flushes.Space (full_for s.file (length s.waiting))
+
+-- A flush that is refused for this is answered with it; want of memory may stand in place of a full file.
+abbrev pub IsRefused : FlushError → Result ℕ FlushError → Type 0
+IsRefused flushes.Stopped r = r ≡ Err flushes.Stopped
+IsRefused (flushes.Busy pending) r = r ≡ Err (flushes.Busy pending)
+IsRefused (flushes.Space full) r = (r ≡ Err (flushes.Space full)) ⊎ (r ≡ Err flushes.OutOfMemory)
+IsRefused flushes.Failed r = r ≡ Err flushes.Failed
+IsRefused flushes.OutOfMemory r = r ≡ Err flushes.OutOfMemory
 
 -- what is answered where the image made no room
 abbrev pub append_fault : ImageError → AppendError

@@ -4,9 +4,10 @@ use Rattle.h5w_model.specs.Images.{image, AllSized}
 use Rattle.h5w_model.specs.Logs.{Log, Cutting, Happening, hist, appended_in, flushed_in, div_up, spent}
 use Rattle.h5w_model.specs.Prefixed.{PrefixedEach, Still}
 use Rattle.h5w_model.specs.declared.piece.Write.{Write}
-use Rattle.h5w_writer.specs.declared.options.Options.{Options}
+use Rattle.h5w_model.specs.declared.options.Options.{Options}
 use Rattle.h5w_writer.specs.Files.{FileFields, Moment, IsFile, AllFit, Represents, first_end, chunk_len}
-use Rattle.h5w_writer.specs.Plans.{Step, AreOptions, new_file, options_of, creation_writes}
+use Rattle.h5w_model.specs.Options.{AreOptions}
+use Rattle.h5w_writer.specs.Plans.{Step, new_file, options_of, creation_writes}
 use Rattle.h5w_writer.specs.Flushes.{after_rows, flush_writes}
 
 -- What the file is once all planned pieces became visible, the rows that it has until the last of them does, the values
@@ -57,7 +58,7 @@ cutting_of s = record { chunk_rows = s.file.chunk_rows; chunk_columns = 1; colum
 
 -- the log of a session that creates its file, after these events
 abbrev pub log_of : List Happening → Log
-log_of happened = record { start = []; values = []; first = 5; events = happened }
+log_of happened = record { start = []; columns = 1; values = []; first = 5; events = happened }
 
 -- the pieces of a flush, what the file is before them, and after the last; only that one changes the rows
 abbrev pub Flushing : Moment → List Write → Moment → Type 0

@@ -2,16 +2,16 @@
 ghost use Rattle.std.specs.Prelude.{◌≡◌, ◌+◌, ◌*◌, ◌<◌, ◌≤◌, ◌^◌, length, IfOk};
 ghost use Rattle.h5w_model.specs.Logs.{div_up};
 ghost use Rattle.h5w_writer.specs.Files.{array_block, cell_place, chunk_len, header_block, index_block, super_block};
-ghost use Rattle.h5w_writer.specs.Plans.{AreOptions, block_write, new_file};
+ghost use Rattle.h5w_model.specs.Options.{AreOptions};
+ghost use Rattle.h5w_writer.specs.Plans.{block_write, new_file};
 ghost use Rattle.h5w_writer.specs.Flushes.{free_rows, with_chunks};
 ghost use Rattle.h5w_writer.specs.Refusals.{full_for};
 
 use crate::blocks::{array_header, first_end, header_place, index_block, superblock};
 use crate::cells::CELL;
 use crate::header::{dataset_header, header_with_rows};
-use crate::options::Options;
 use h5w_bytes::UNDEFINED;
-use h5w_model::{OutOfMemory, Piece, Write};
+use h5w_model::{Options, OutOfMemory, Piece, Write};
 use h5w_space::{Full, Places};
 use std::alloc::Global;
 use std::marker::Model;

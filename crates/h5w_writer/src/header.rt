@@ -4,15 +4,15 @@ ghost use Rattle.h5w_model.specs.Headers.{header_bytes, messages_at, msgs_bytes,
 ghost use Rattle.h5w_model.specs.Links.{group_info_bytes, link_bytes, link_info_bytes};
 ghost use Rattle.h5w_model.specs.Messages.{fill_bytes, int_type_bytes, layout_bytes, shape_bytes};
 ghost use Rattle.h5w_writer.specs.Files.{array_place, dataset_messages, fill, header_place, int_type, layout_of, message, root_messages, root_place, shape_of};
-ghost use Rattle.h5w_writer.specs.Plans.{AreOptions, block_write, new_file};
+ghost use Rattle.h5w_model.specs.Options.{AreOptions};
+ghost use Rattle.h5w_writer.specs.Plans.{block_write, new_file};
 
 use crate::blocks::{ROOT_PLACE, array_place, header_place};
 use crate::cells::INT_TYPE;
 use crate::file::NAME;
-use crate::options::Options;
 use h5w_layout::{Fill, IndexKind, Layout};
 use h5w_links::{encode_group_info, encode_link, encode_link_info};
-use h5w_model::{Bytes, OutOfMemory, PIECE, Piece, Write};
+use h5w_model::{Bytes, Options, OutOfMemory, PIECE, Piece, Write};
 use h5w_ohdr::{Msg, Msgs, with_rows};
 use h5w_types::Shape;
 use std::alloc::Global;

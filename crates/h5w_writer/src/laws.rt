@@ -2,8 +2,9 @@
 
 ghost use Rattle.h5w_writer.specs.Laws.{FullLaws, RoomStays, ShownLaws, StandingLaws};
 
-/// The session knows how many rows are flushed and appended; at each position of its log the image is valid and reads
-/// as the rows that are flushed there, and what readers rest on stays from each position to each later one.
+/// A session's log begins over no bytes, and its dataset has one column. The session knows how many rows are flushed and
+/// appended; at each position of its log the image is valid and reads as the rows that are flushed there, and what readers
+/// rest on stays from each position to each later one. What a stopped session left is valid and reads as the flushed rows.
 #[tactic(auto, using(crate::proofs::LawLemmas::standing_laws))]
 pub fn standing_laws()
     ensures { StandingLaws }

@@ -6,17 +6,12 @@ mod cells;
 mod file;
 mod header;
 mod laws;
-mod options;
 mod plan;
 mod refusal;
 mod session;
 
-pub use h5w_model::{Bytes, OutOfMemory, Write};
+pub use h5w_model::{Bytes, Options, OutOfMemory, Write};
 pub use h5w_space::Full;
 pub use laws::{full_laws, room_stays, shown_laws, standing_laws};
-pub use options::Options;
 pub use refusal::{AppendError, FlushError};
 pub use session::WriterCore;
-
-#[cfg(test)]
-mod tests;

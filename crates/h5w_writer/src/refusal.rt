@@ -22,6 +22,7 @@ pub enum AppendError {
     /// The image's count of faults rose in this call.
     #[error("image failed")]
     Failed,
+    /// It may come in place of Failed, and of no other refusal.
     #[error("out of memory")]
     OutOfMemory,
 }
@@ -41,6 +42,7 @@ pub enum FlushError {
     /// The image's count of faults rose in this call.
     #[error("image failed")]
     Failed,
+    /// It may come in place of Space and Failed, and of no other refusal.
     #[error("out of memory")]
     OutOfMemory,
 }

@@ -1,24 +1,24 @@
 //! A session.
 ghost use Rattle.std.specs.Prelude.{◌≡◌, ℕ, ◌+◌, ◌^◌, ◌<◌, ◌≤◌, [], ◌∷◌, List, length, drop, slice_get, IfOk, IfErr, IfSome, MatchOption, OnOk, OnErr, Ok, Err, Some, ◌⊎◌, ◌↔◌};
 ghost use Rattle.std.specs.Option.{option_copied};
-ghost use Rattle.h5w_model.specs.Logs.{Log, appended, flushed, load, and_now, appends, plans, shows};
+ghost use Rattle.h5w_model.specs.Logs.{Log, appended, flushed_rows, rows_in, load, and_now, appends, plans, shows};
+ghost use Rattle.h5w_model.specs.Options.{AreOptions};
 ghost use Rattle.h5w_model.specs.declared.piece.Write.{Write};
 ghost use Rattle.h5w_model.specs.Causes.{Rose};
 ghost use Rattle.h5w_image.specs.View.{Same};
 ghost use Rattle.h5w_writer.specs.Room.{HasRoomFor};
 ghost use Rattle.h5w_writer.specs.Sessions.{Stands, after_piece, created, cutting_of, log_of, planned, rows_of, stopped_of, with_values};
-ghost use Rattle.h5w_writer.specs.Refusals.{NoPlace, append_refusal, flush_refusal};
+ghost use Rattle.h5w_writer.specs.Refusals.{IsRefused, NoPlace, append_refusal, flush_refusal};
 ghost use Rattle.h5w_writer.specs.declared.refusal.AppendError.{AppendError};
 ghost use Rattle.h5w_writer.specs.declared.refusal.FlushError.{FlushError};
 ghost use Rattle.h5w_space.specs.declared.Full.{Full};
 
 use crate::cells::first_outside;
 use crate::file::{CHUNKS, File};
-use crate::options::Options;
 use crate::plan::{creation, plan_flush};
 use crate::refusal::{AppendError, FlushError};
 use h5w_image::PieceWrite;
-use h5w_model::{OutOfMemory, Write};
+use h5w_model::{Options, OutOfMemory, Write};
 use std::alloc::Global;
 use std::marker::Model;
 
@@ -53,12 +53,7 @@ impl Model for WriterCore {
 impl WriterCore {
     /// A session that creates a file. The creation's pieces are pending; they end by the file's end.
     pub fn create(alloc: Global, options: &Options) -> Result<WriterCore, OutOfMemory>
-        requires named { 1 ≤ length options.now.name }
-        requires name_bound { length options.now.name ≤ 64 }
-        requires low { 1 ≤ options.now.chunk_rows }
-        requires high { options.now.chunk_rows ≤ 65536 }
-        requires limit_low { 1024 ≤ options.now.limit }
-        requires limit_high { options.now.limit ≤ 2 ^ 40 }
+        requires { AreOptions options.now }
         ensures session { IfOk result (λ s. s ≡ created options.now) }
         ensures stands { IfOk result (λ s. Stands s (log_of [])) }
     {
@@ -124,15 +119,15 @@ impl WriterCore {
 
     /// Plans the pieces that make the waiting rows visible, which are pending then, and answers how many they
     /// are: none exactly where no row waits. Where the file has no place for a new chunk, the first such chunk is
-    /// told, before any memory is taken. All memory and all places are taken here, so that nothing after it
-    /// fails. Room is reserved in the image for these pieces and one more, up to the file's new end.
+    /// told, or want of memory. All memory and all places are taken here, so that nothing after it fails. Room is
+    /// reserved in the image for these pieces and one more, up to the file's new end.
     pub fn flush<W: PieceWrite>(&mut self, image: &mut W) -> Result<u64, FlushError>
         ensures planned { OnOk result (self.new ≡ planned self.old) }
         ensures pieces { IfOk result (λ pieces. pieces ≡ length self.new.pending) }
         ensures none { IfOk result (λ pieces. (pieces ≡ 0) ↔ (self.old.waiting ≡ [])) }
         ensures load { IfOk result (λ pieces. (log : Log) → Stands self.old log → pieces ≤ load (cutting_of self.old) log) }
         ensures stands { IfOk result (λ pieces. (log : Log) → Stands self.old log → Stands self.new (and_now (plans pieces) log)) }
-        ensures refused { (e : FlushError) → flush_refusal self.old ≡ Some e → result ≡ Err e }
+        ensures refused { (e : FlushError) → flush_refusal self.old ≡ Some e → IsRefused e result }
         ensures causes { IfErr result (λ e. (flush_refusal self.old ≡ Some e) ⊎ (e ≡ FlushError.Failed) ⊎ (e ≡ FlushError.OutOfMemory)) }
         ensures space { (full : Full) → result ≡ Err (FlushError.Space full) → (log : Log) → Stands self.old log → NoPlace self.old log full }
         ensures fault { result ≡ Err FlushError.Failed → Rose (W.view image.old).faults (W.view image.new).faults }
@@ -219,7 +214,7 @@ impl WriterCore {
     pub fn rows(&self) -> u64
         ensures value { result ≡ rows_of self.now }
         ensures bound { result < 2 ^ 20 }
-        ensures appended { (log : Log) → Stands self.now log → result ≡ length (appended log) }
+        ensures appended { (log : Log) → Stands self.now log → result ≡ rows_in log (appended log) }
     {
         self.file.rows() + self.waiting.len() as u64
     }
@@ -227,7 +222,7 @@ impl WriterCore {
     /// How many rows the image reads as.
     pub fn committed(&self) -> u64
         ensures value { result ≡ self.now.committed }
-        ensures flushed { (log : Log) → Stands self.now log → result ≡ length (flushed log) }
+        ensures flushed { (log : Log) → Stands self.now log → result ≡ flushed_rows log }
     {
         self.committed
     }
@@ -248,7 +243,8 @@ impl WriterCore {
 
     /// How many columns the dataset has.
     pub fn columns(&self) -> u64
-        ensures { result ≡ 1 }
+        ensures value { result ≡ 1 }
+        ensures log { (log : Log) → Stands self.now log → result ≡ log.columns }
     {
         1
     }

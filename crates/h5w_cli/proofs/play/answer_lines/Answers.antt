@@ -25,7 +25,7 @@ returns-in_err-answer_line-in-Line-clause-runs g c =
     let is : c.from_residual-in_err-answer_line-in-Line.result ≡ Err c.in_err-answer_line-in-Line.field-0.0 = search rules in
     let given = rw c.in-Line.is at c.in_ok-line.ensures.line in
     subst (λ (r : Result (Unit {0}) Ending). Runs (rules_of c.args.world.now) r (outside (reading (g.S.Source.view c.args.lines.now.source.now) c.args.lines.now.intake.now)) (g.S.Source.view c.next.new.self.source.now) (g.K.Sink.view c.args.sink.now) (g.K.Sink.view c.answer_line.new.sink)) (sym is)
-    (ended_at_line {w = reading (g.S.Source.view c.next.new.self.source.now) c.next.new.self.intake.now} (g.S.Source.view c.next.new.self.source.now) (g.K.Sink.view c.answer_line.new.sink) given.0 c.in_err-answer_line-in-Line.field-0.0 c.loop-text.invariant.going.going given.2 (c.in_err-answer_line-in-Line.ensures.ended given.0 given.1))
+    (ended_at_line {w = reading (g.S.Source.view c.next.new.self.source.now) c.next.new.self.intake.now} (g.S.Source.view c.next.new.self.source.now) (g.K.Sink.view c.answer_line.new.sink) given.0 c.in_err-answer_line-in-Line.field-0.0 c.requires.room c.loop-text.invariant.going.going given.2 (c.in_err-answer_line-in-Line.ensures.ended given.0 given.1))
 
 pub loop-text-preserved-in_ok-answer_line-in-Line : goal.loop-text-preserved-in_ok-answer_line-in-Line
 loop-text-preserved-in_ok-answer_line-in-Line g c =
@@ -46,10 +46,10 @@ loop-text-preserved g c =
 pub returns-in-Last-clause-runs : goal.returns-in-Last-clause-runs
 returns-in-Last-clause-runs g c =
     let given = rw c.in-Last.is at c.in_ok-line.ensures.line in
-    ended_at_last _ (g.S.Source.view c.next.new.self.source.now) c.next.new.self.intake.now (g.K.Sink.view c.answer_line-in-Last.new.sink) c.in-Last.line c.answer_line-in-Last.result c.loop-text.invariant.going.going given
+    ended_at_last _ (g.S.Source.view c.next.new.self.source.now) c.next.new.self.intake.now (g.K.Sink.view c.answer_line-in-Last.new.sink) c.in-Last.line c.answer_line-in-Last.result c.requires.room c.loop-text.invariant.going.going given
     c.answer_line-in-Last.ensures.answered c.answer_line-in-Last.ensures.ended
 
 pub returns-in-End-clause-runs : goal.returns-in-End-clause-runs
 returns-in-End-clause-runs g c =
     let ended = rw c.in-End.is at c.in_ok-line.ensures.line in
-    ended_whole (g.S.Source.view c.next.new.self.source.now) c.next.new.self.intake.now c.loop-text.invariant.going.going ended
+    ended_whole (g.S.Source.view c.next.new.self.source.now) c.next.new.self.intake.now c.requires.room c.loop-text.invariant.going.going ended

@@ -1,21 +1,13 @@
-use Rattle.std.proofs.Common.{Err, Some, ap, ◌∙◌}
+use Rattle.std.proofs.Common.{Some, refl}
 use Rattle.h5w_reader.specs.Cores.{reader}
 use Rattle.h5w_core.specs.Readers.{ReadLooks, placed}
-use Rattle.h5w_core.proofs.PlaceLemmas.{read_begins, read_nothing, read_refused}
-use Rattle.h5w_core.proofs.WantLemmas.{core_wants}
+use Rattle.h5w_core.proofs.PlaceLemmas.{read_begins, read_nothing}
 use Rattle.h5w_core.proofs.readers.read.Goals as goal
-
-pub unreachable-requires : goal.unreachable-requires
-unreachable-requires c =
-    let x = reader c.in-Some.core in
-    let looks : ReadLooks c.args.from c.args.count (placed (Some c.in-Some.core)) = rw c.in-Some.is at c.requires in
-    read_refused x c.args.from c.args.count c.in-Err-Refused.field-0-0 c.read.result (c.in-Err-Refused.is ∙ ap Err c.in-Err-Refused.field-0-is) looks c.read.ensures.refused
-    (rw c.in-Err-Refused.field-0-is at c.in-Err-Refused.ensures.causes)
 
 pub returns-in-Ok-None-clause-gives : goal.returns-in-Ok-None-clause-gives
 returns-in-Ok-None-clause-gives c =
     rw c.in-Some.is (read_begins c.args.reader c.args.from c.args.count (reader c.in-Some.core) (reader c.read.new.self) c.read.result c.in-Ok-None.field-0 c.in-Ok-None.is c.read.ensures.refused
-    (rw c.in-Ok-None.field-0-is at c.in-Ok-None.ensures.begun) (core_wants c.read.new.self))
+    (rw c.in-Ok-None.field-0-is at c.in-Ok-None.ensures.begun) (c.in-Ok-None.ensures.wanting c.in-Ok-None.field-0-is))
 
 pub returns-in-Ok-Some-clause-gives : goal.returns-in-Ok-Some-clause-gives
 returns-in-Ok-Some-clause-gives c =

@@ -22,6 +22,8 @@ returns-clause-five c = record {
   reads = record {
     shown = one_row_reading 5 (558 ∷ 562 ∷ 566 ∷ 570 ∷ 574 ∷ []);
     shows = refl;
+    rows_are = refl;
+    columns_are = refl;
     count = refl;
     values_are = each_cell (λ (k : ℕ). cell (image_at copied_block 15) (one_row_reading 5 (558 ∷ 562 ∷ 566 ∷ 570 ∷ 574 ∷ [])) (k / 1) (k % 1)) 5 (pos 1 ∷ pos 2 ∷ pos 3 ∷ pos 4 ∷ pos 5 ∷ []) refl;
   };
@@ -35,6 +37,8 @@ returns-clause-between c = record {
   reads = record {
     shown = one_row_reading 5 (558 ∷ 562 ∷ 566 ∷ 570 ∷ 574 ∷ []);
     shows = refl;
+    rows_are = refl;
+    columns_are = refl;
     count = refl;
     values_are = each_cell (λ (k : ℕ). cell (image_at copied_block 20) (one_row_reading 5 (558 ∷ 562 ∷ 566 ∷ 570 ∷ 574 ∷ [])) (k / 1) (k % 1)) 5 (pos 1 ∷ pos 2 ∷ pos 3 ∷ pos 4 ∷ pos 5 ∷ []) refl;
   };
@@ -48,6 +52,8 @@ returns-clause-six c = record {
   reads = record {
     shown = one_row_reading 6 (558 ∷ 562 ∷ 566 ∷ 570 ∷ 574 ∷ 728 ∷ []);
     shows = refl;
+    rows_are = refl;
+    columns_are = refl;
     count = refl;
     values_are = each_cell (λ (k : ℕ). cell (image_at copied_block 21) (one_row_reading 6 (558 ∷ 562 ∷ 566 ∷ 570 ∷ 574 ∷ 728 ∷ [])) (k / 1) (k % 1)) 6 (pos 1 ∷ pos 2 ∷ pos 3 ∷ pos 4 ∷ pos 5 ∷ pos 6 ∷ []) refl;
   };

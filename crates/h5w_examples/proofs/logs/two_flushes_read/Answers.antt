@@ -22,6 +22,8 @@ returns-clause-created c = record {
   reads = record {
     shown = reading_as 0 188 [];
     shows = refl;
+    rows_are = refl;
+    columns_are = refl;
     count = refl;
     values_are = each_cell (λ (k : ℕ). cell (image_at two_flushes 5) (reading_as 0 188 []) (k / 1) (k % 1)) 0 [] refl;
   };
@@ -35,6 +37,8 @@ returns-clause-three c = record {
   reads = record {
     shown = reading_as 3 188 (558 ∷ 566 ∷ []);
     shows = refl;
+    rows_are = refl;
+    columns_are = refl;
     count = refl;
     values_are = each_cell (λ (k : ℕ). cell (image_at two_flushes 11) (reading_as 3 188 (558 ∷ 566 ∷ [])) (k / 1) (k % 1)) 3 (pos 1 ∷ pos 2 ∷ pos 3 ∷ []) refl;
   };
@@ -48,6 +52,8 @@ returns-clause-between c = record {
   reads = record {
     shown = reading_as 3 188 (558 ∷ 566 ∷ []);
     shows = refl;
+    rows_are = refl;
+    columns_are = refl;
     count = refl;
     values_are = each_cell (λ (k : ℕ). cell (image_at two_flushes 12) (reading_as 3 188 (558 ∷ 566 ∷ [])) (k / 1) (k % 1)) 3 (pos 1 ∷ pos 2 ∷ pos 3 ∷ []) refl;
   };
@@ -61,6 +67,8 @@ returns-clause-four c = record {
   reads = record {
     shown = reading_as 4 188 (558 ∷ 566 ∷ []);
     shows = refl;
+    rows_are = refl;
+    columns_are = refl;
     count = refl;
     values_are = each_cell (λ (k : ℕ). cell (image_at two_flushes 13) (reading_as 4 188 (558 ∷ 566 ∷ [])) (k / 1) (k % 1)) 4 (pos 1 ∷ pos 2 ∷ pos 3 ∷ pos 4 ∷ []) refl;
   };

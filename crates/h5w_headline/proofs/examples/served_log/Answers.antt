@@ -4,11 +4,12 @@ use Rattle.std.proofs.lemmas.Bool.{cases_lt}
 use Rattle.h5w_model.specs.Arrays.{numbers_in}
 use Rattle.h5w_model.specs.Checksum.{mix_line, mixed, finish_line, finished, added, rounds, sum_of}
 use Rattle.h5w_model.specs.Headers.{prefix_at, msgs_in, header_at, messages_at, prefix_bytes, data_in_header, rows_in_header, index_in_header, rows_changed, header_view}
+use Rattle.h5w_model.specs.Headers as headers
 use Rattle.h5w_model.specs.Images.{apply, first_pieces, pieces}
 use Rattle.h5w_model.specs.Integers.{value_at}
 use Rattle.h5w_model.specs.Links.{links_at, find_link}
 use Rattle.h5w_model.specs.Messages.{shape_tests, shape_fields, shape_at, int_type_tests, int_type_fields, int_type_at, fill_tests, fill_fields, fill_at, fill_value_bytes, layout_fields, layout_at}
-use Rattle.h5w_model.specs.Numbers.{num, le}
+use Rattle.h5w_model.specs.Numbers.{num, le, range}
 use Rattle.h5w_model.specs.Programs.{visits}
 use Rattle.h5w_model.specs.Tables.{Reading, Shows, address_behind, format_limits, cell}
 use Rattle.h5w_model.specs.Prefixed.{image_at, IsPosition, PrefixedAt, Keeps}
@@ -16,6 +17,7 @@ use Rattle.h5w_laws.proofs.AnswerLemmas.{one_answer}
 use Rattle.h5w_laws.proofs.ProgramLemmas.{same_itself}
 use Rattle.h5w_laws.proofs.StaysLemmas.{stays_itself}
 use Rattle.h5w_examples.specs.Readings.{data_name, reading_as, two_flushes}
+use Rattle.h5w_examples.proofs.HeaderBytes.{header_stays}
 use Rattle.h5w_headline.specs.Examples.{after_first_flush}
 use Rattle.h5w_headline.proofs.examples.served_log.Goals as goal
 
@@ -45,27 +47,27 @@ abbrev four : Reading
 four = reading_as 4 188 (558 ∷ 566 ∷ [])
 
 shows_first : Shows format_limits (image_at two_flushes 11) data_name three
-unfolding numbers_in mix_line mixed finish_line finished added rounds sum_of prefix_at msgs_in header_at messages_at prefix_bytes data_in_header rows_in_header index_in_header rows_changed header_view apply first_pieces pieces value_at links_at find_link shape_tests shape_fields shape_at int_type_tests int_type_fields int_type_at fill_tests fill_fields fill_at fill_value_bytes layout_fields layout_at num le
+unfolding headers.first_of numbers_in mix_line mixed finish_line finished added rounds sum_of prefix_at msgs_in header_at messages_at prefix_bytes data_in_header rows_in_header index_in_header rows_changed header_view apply first_pieces pieces value_at links_at find_link shape_tests shape_fields shape_at int_type_tests int_type_fields int_type_at fill_tests fill_fields fill_at fill_value_bytes layout_fields layout_at num le
 shows_first = refl
 
 shows_between : Shows format_limits (image_at two_flushes 12) data_name three
-unfolding numbers_in mix_line mixed finish_line finished added rounds sum_of prefix_at msgs_in header_at messages_at prefix_bytes data_in_header rows_in_header index_in_header rows_changed header_view apply first_pieces pieces value_at links_at find_link shape_tests shape_fields shape_at int_type_tests int_type_fields int_type_at fill_tests fill_fields fill_at fill_value_bytes layout_fields layout_at num le
+unfolding headers.first_of numbers_in mix_line mixed finish_line finished added rounds sum_of prefix_at msgs_in header_at messages_at prefix_bytes data_in_header rows_in_header index_in_header rows_changed header_view apply first_pieces pieces value_at links_at find_link shape_tests shape_fields shape_at int_type_tests int_type_fields int_type_at fill_tests fill_fields fill_at fill_value_bytes layout_fields layout_at num le
 shows_between = refl
 
 shows_last : Shows format_limits (image_at two_flushes 13) data_name four
-unfolding numbers_in mix_line mixed finish_line finished added rounds sum_of prefix_at msgs_in header_at messages_at prefix_bytes data_in_header rows_in_header index_in_header rows_changed header_view apply first_pieces pieces value_at links_at find_link shape_tests shape_fields shape_at int_type_tests int_type_fields int_type_at fill_tests fill_fields fill_at fill_value_bytes layout_fields layout_at num le
+unfolding headers.first_of numbers_in mix_line mixed finish_line finished added rounds sum_of prefix_at msgs_in header_at messages_at prefix_bytes data_in_header rows_in_header index_in_header rows_changed header_view apply first_pieces pieces value_at links_at find_link shape_tests shape_fields shape_at int_type_tests int_type_fields int_type_at fill_tests fill_fields fill_at fill_value_bytes layout_fields layout_at num le
 shows_last = refl
 
 fits_first : length (image_at two_flushes 11) ≤ 2 ^ 64
-unfolding numbers_in mix_line mixed finish_line finished added rounds sum_of prefix_at msgs_in header_at messages_at prefix_bytes data_in_header rows_in_header index_in_header rows_changed header_view apply first_pieces pieces value_at links_at find_link shape_tests shape_fields shape_at int_type_tests int_type_fields int_type_at fill_tests fill_fields fill_at fill_value_bytes layout_fields layout_at num le
+unfolding headers.first_of numbers_in mix_line mixed finish_line finished added rounds sum_of prefix_at msgs_in header_at messages_at prefix_bytes data_in_header rows_in_header index_in_header rows_changed header_view apply first_pieces pieces value_at links_at find_link shape_tests shape_fields shape_at int_type_tests int_type_fields int_type_at fill_tests fill_fields fill_at fill_value_bytes layout_fields layout_at num le
 fits_first = lit≤ tt
 
 fits_between : length (image_at two_flushes 12) ≤ 2 ^ 64
-unfolding numbers_in mix_line mixed finish_line finished added rounds sum_of prefix_at msgs_in header_at messages_at prefix_bytes data_in_header rows_in_header index_in_header rows_changed header_view apply first_pieces pieces value_at links_at find_link shape_tests shape_fields shape_at int_type_tests int_type_fields int_type_at fill_tests fill_fields fill_at fill_value_bytes layout_fields layout_at num le
+unfolding headers.first_of numbers_in mix_line mixed finish_line finished added rounds sum_of prefix_at msgs_in header_at messages_at prefix_bytes data_in_header rows_in_header index_in_header rows_changed header_view apply first_pieces pieces value_at links_at find_link shape_tests shape_fields shape_at int_type_tests int_type_fields int_type_at fill_tests fill_fields fill_at fill_value_bytes layout_fields layout_at num le
 fits_between = lit≤ tt
 
 fits_last : length (image_at two_flushes 13) ≤ 2 ^ 64
-unfolding numbers_in mix_line mixed finish_line finished added rounds sum_of prefix_at msgs_in header_at messages_at prefix_bytes data_in_header rows_in_header index_in_header rows_changed header_view apply first_pieces pieces value_at links_at find_link shape_tests shape_fields shape_at int_type_tests int_type_fields int_type_at fill_tests fill_fields fill_at fill_value_bytes layout_fields layout_at num le
+unfolding headers.first_of numbers_in mix_line mixed finish_line finished added rounds sum_of prefix_at msgs_in header_at messages_at prefix_bytes data_in_header rows_in_header index_in_header rows_changed header_view apply first_pieces pieces value_at links_at find_link shape_tests shape_fields shape_at int_type_tests int_type_fields int_type_at fill_tests fill_fields fill_at fill_value_bytes layout_fields layout_at num le
 fits_last = lit≤ tt
 
 -- ---- From each to each later one
@@ -85,7 +87,7 @@ to_itself i a shows =
     (record { stays = stays_itself (image_at two_flushes i) a; behind = λ rows p key found is_key. same_itself (image_at two_flushes i) (visits (image_at two_flushes i) (address_behind p key)) })
 
 cells_last : (row column : ℕ) → row < 3 → column < 1 → cell (image_at two_flushes 13) four row column ≡ cell (image_at two_flushes 12) three row column
-unfolding numbers_in mix_line mixed finish_line finished added rounds sum_of prefix_at msgs_in header_at messages_at prefix_bytes data_in_header rows_in_header index_in_header rows_changed header_view apply first_pieces pieces value_at links_at find_link shape_tests shape_fields shape_at int_type_tests int_type_fields int_type_at fill_tests fill_fields fill_at fill_value_bytes layout_fields layout_at num le
+unfolding headers.first_of numbers_in mix_line mixed finish_line finished added rounds sum_of prefix_at msgs_in header_at messages_at prefix_bytes data_in_header rows_in_header index_in_header rows_changed header_view apply first_pieces pieces value_at links_at find_link shape_tests shape_fields shape_at int_type_tests int_type_fields int_type_at fill_tests fill_fields fill_at fill_value_bytes layout_fields layout_at num le
 cells_last zero zero low here = refl
 cells_last zero (suc column) low here = absurd (omega arith)
 cells_last (suc zero) zero low here = refl
@@ -96,7 +98,7 @@ cells_last (suc (suc (suc row))) column low here = absurd (omega arith)
 
 -- the last piece, which is the header
 last_piece : Keeps (image_at two_flushes 12) three (image_at two_flushes 13) four
-unfolding numbers_in mix_line mixed finish_line finished added rounds sum_of prefix_at msgs_in header_at messages_at prefix_bytes data_in_header rows_in_header index_in_header rows_changed header_view apply first_pieces pieces value_at links_at find_link shape_tests shape_fields shape_at int_type_tests int_type_fields int_type_at fill_tests fill_fields fill_at fill_value_bytes layout_fields layout_at num le
+unfolding headers.first_of numbers_in mix_line mixed finish_line finished added rounds sum_of prefix_at msgs_in header_at messages_at prefix_bytes data_in_header rows_in_header index_in_header rows_changed header_view apply first_pieces pieces value_at links_at find_link shape_tests shape_fields shape_at int_type_tests int_type_fields int_type_at fill_tests fill_fields fill_at fill_value_bytes layout_fields layout_at num le
 last_piece = record {
   stays = record {
     root = refl;
@@ -105,6 +107,7 @@ last_piece = record {
     named = refl;
     continuations = tt;
     described = record { rows_alone = refl; address = λ defined. refl };
+    chunk_0 = header_stays (header_view (range (image_at two_flushes 12) 106 512)) (header_view (range (image_at two_flushes 13) 106 512)) 188 15 refl refl refl refl refl refl;
     rows = lit≤ tt;
     header = λ same. absurd (omega (arith, same));
     index_block = λ a b array there before after defined. sym after ∙ before;

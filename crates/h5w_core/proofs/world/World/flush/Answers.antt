@@ -1,5 +1,7 @@
-use Rattle.std.proofs.Common.{Ok, Err, refl}
-use Rattle.h5w_core.proofs.FlushLemmas.{busy_done, flush_done, full_done, stopped_done}
+use Rattle.std.proofs.Common.{Ok, Err, refl, ap, subst}
+use Rattle.h5w_writer.specs.Refusals.{flush_refusal}
+use Rattle.h5w_core.specs.Worlds.{MayBeFull, WorldView}
+use Rattle.h5w_core.proofs.FlushLemmas.{busy_done, flush_done, full_done, memory_only, stopped_done}
 use Rattle.h5w_core.proofs.HoldLemmas.{flush_hold, planned_stands, same_stands}
 use Rattle.h5w_core.proofs.world.World.flush.Goals as goal
 use Rattle.h5w_core.proofs.world.World.flush.Goals.{in-Ok, in-Err-Stopped, in-Err-Busy, in-Err-Space, in-Err-OutOfMemory}
@@ -50,4 +52,18 @@ returns-clause-logged c =
           let e = w.in-Err-Space.ensures in
           rw w.result-is (λ log stood. same_stands i.session c.flush.new.self i.image c.flush.new.image i.attempts i.readers.items i.readers.items c.args.self.now log c.self.view_is e.image e.kept stood)
       | in-Err-OutOfMemory w ↦ rw w.result-is tt
+    ]
+
+pub returns-clause-memory : goal.returns-clause-memory
+returns-clause-memory c =
+    elim c.match-flush.branch [
+      | in-Ok w ↦ rw w.result-is tt
+      | in-Err-Stopped w ↦ rw w.result-is tt
+      | in-Err-Busy w ↦ rw w.result-is tt
+      | in-Err-Space w ↦ rw w.result-is tt
+      | in-Err-OutOfMemory w ↦
+          let e = w.in-Err-OutOfMemory in
+          rw w.result-is
+          (subst (λ (x : WorldView). MayBeFull (flush_refusal x.session)) c.self.view_is
+          (memory_only (flush_refusal c.self.inside.session) (Err e.field-0) e.ensures.refused (ap Err e.field-0-is)))
     ]

@@ -4,12 +4,12 @@ use Rattle.h5w_core.proofs.world.World.new.Goals as goal
 pub invariant_of-result : goal.invariant_of-result
 invariant_of-result c =
     let s = c.in_ok-session in
-    created_holds c.args.options.now c.args.attempts s.session s.image c.in_ok-readers.readers.items c.requires.some_attempts s.ensures c.in_ok-readers.ensures
+    created_holds c.args.options.now c.args.attempts s.session s.image c.in_ok-readers.readers.items c.requires.attempts.some s.ensures c.in_ok-readers.ensures
 
 pub returns-clause-fits : goal.returns-clause-fits
 returns-clause-fits c =
     let s = c.in_ok-session in
-    created_world_fits c.args.options.now c.args.attempts s.session s.image c.in_ok-readers.readers.items c.requires.some_attempts s.ensures c.in_ok-readers.ensures
+    created_world_fits c.args.options.now c.args.attempts s.session s.image c.in_ok-readers.readers.items c.requires.attempts.some s.ensures c.in_ok-readers.ensures
 
 pub returns-clause-created : goal.returns-clause-created
 returns-clause-created c = all_created c.args.options.now c.in_ok-session.session c.in_ok-session.image c.in_ok-session.ensures

@@ -1,7 +1,7 @@
 use Rattle.std.proofs.Common.{length, sym, ◌∙◌, ap}
-use Rattle.h5w_reader.specs.Looks.{fed}
+use Rattle.h5w_model.specs.Programs.{fed}
 use Rattle.h5w_reader.specs.Walking.{walking, walked}
-use Rattle.h5w_reader.specs.Attempts.{rules_of}
+use Rattle.h5w_reader.specs.Attempts.{known_of, rules_of}
 use Rattle.h5w_reader.specs.Calling.{behind_left, messages_rest, reached}
 use Rattle.h5w_reader.proofs.PieceLemmas.{along}
 use Rattle.h5w_reader.proofs.CallLemmas.{fed_bind, fits_bind}
@@ -15,7 +15,7 @@ feed-requires c =
 
 pub returns-in_ok-feed-in-Visit : goal.returns-in_ok-feed-in-Visit
 returns-in_ok-feed-in-Visit c =
-    let g = rules_of c.args.rules.now in
+    let g = rules_of c.args.rules.now (known_of c.args.known.now) in
     let b = c.in-Visit.block in
     let piece = c.args.piece.now in
     along (reached g) c.after_walk.result (messages_rest g (walked c.in_ok-feed-in-Visit.field-0)) (fed piece (behind_left g c.args.self)) c.after_walk.ensures

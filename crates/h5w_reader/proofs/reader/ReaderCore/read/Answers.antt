@@ -1,9 +1,12 @@
 use Rattle.std.proofs.Common.{◌≡◌, ◌≤◌, ◌+◌, ◌∙◌, sym, subst, ap, arith, Option}
-use Rattle.h5w_reader.specs.Attempts.{reading_of}
-use Rattle.h5w_reader.specs.Asked.{Asked, IsRead, beginning}
-use Rattle.h5w_reader.specs.Readers.{Left, Reader, for_values, known_of, rows_seen, values_program}
+use Rattle.h5w_model.specs.Asked.{Asked, IsRead, beginning}
+use Rattle.h5w_model.specs.Calls.{rows_seen}
+use Rattle.h5w_model.specs.Unfinished.{Unfinished, Reader, values_left, values_program}
+use Rattle.h5w_reader.specs.Attempts.{known_of, reading_of}
+use Rattle.h5w_reader.specs.Readers.{reader_rules}
 use Rattle.h5w_reader.specs.Cores.{reader}
 use Rattle.h5w_reader.proofs.CoreLemmas.{read_begun, program_read}
+use Rattle.h5w_reader.proofs.StageLemmas.{values_want}
 use Rattle.h5w_reader.proofs.AskedLemmas.{asked_begin}
 use Rattle.h5w_reader.proofs.reader.ReaderCore.read.Goals as goal
 
@@ -11,8 +14,13 @@ pub returns-in-Looks-clause-begun : goal.returns-in-Looks-clause-begun
 returns-in-Looks-clause-begun c =
     let s = c.args.self.now in
     let e = rw c.in-Looks.is at c.in_ok-begun-in-Some.ensures in
-    let at : Option Left → Reader = λ l. record { name = s.name; attempts = s.attempts; known = known_of s.known; left = l } in
+    let at : Option Unfinished → Reader = λ l. record { rules = reader_rules s.name s.attempts; known = known_of s.known; left = l } in
     ap at (read_begun s.known c.in-Some.known c.in-Looks.reads c.args.from c.args.count c.in-Some.is c.if-count-gt0.true e)
+
+pub returns-in-Looks-clause-wanting : goal.returns-in-Looks-clause-wanting
+returns-in-Looks-clause-wanting c = λ _.
+    let s = c.args.self.now in
+    values_want s.attempts s.name s.known c.in-Looks.reads (λ e. let z = sym e ∙ c.in-Some.is in cc)
 
 pub returns-in-Looks-clause-asked : goal.returns-in-Looks-clause-asked
 returns-in-Looks-clause-asked c = λ asks asked.
@@ -30,4 +38,4 @@ returns-in-Looks-clause-asked c = λ asks asked.
       inside = inside;
       is = program_read s.known k c.args.from c.args.count c.in-Some.is c.if-count-gt0.true;
     } in
-    subst (λ (r : Reader). Asked r (beginning (for_values p) asks)) (sym (returns-in-Looks-clause-begun c)) (asked_begin (reader s) asks (for_values p) asked is_read)
+    subst (λ (r : Reader). Asked r (beginning (values_left p) asks)) (sym (returns-in-Looks-clause-begun c)) (asked_begin (reader s) asks (values_left p) asked is_read)

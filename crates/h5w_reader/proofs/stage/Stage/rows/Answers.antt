@@ -3,4 +3,4 @@ use Rattle.h5w_reader.proofs.CallLemmas.{rows_are}
 use Rattle.h5w_reader.proofs.stage.Stage.rows.Goals as goal
 
 pub returns : goal.returns
-returns c = λ most name. rows_are (rules_of c.args.rules)
+returns c = λ most name known. rows_are (rules_of c.args.rules known)

@@ -1,6 +1,5 @@
-use Rattle.std.proofs.Common.{take, refl, sym}
-use Rattle.h5w_reader.specs.Values.{valued, band_rest, reading_with}
-use Rattle.h5w_reader.proofs.PieceLemmas.{along}
+use Rattle.std.proofs.Common.{◌∙◌, take, refl, sym}
+use Rattle.h5w_reader.specs.Values.{reading_with}
 use Rattle.h5w_reader.proofs.ReadLemmas.{some_size, span_touched, band_cut, band_read}
 use Rattle.h5w_reader.proofs.values.Span.enter.Goals as goal
 
@@ -18,5 +17,5 @@ returns c =
     let b = c.args.bytes.now in
     let len = c.range-len.result.1 in
     let t = span_touched k s c.args.band c.requires.low c.requires.high in
-    along (valued k) c.go_on.result _ (band_rest r s.from s.to c.args.band c.args.values.items c.args.place b) c.go_on.ensures
-    (rw c.in_ok-put_cells.ensures (band_read r s.from s.to c.args.band c.args.place len c.args.values.items b (take len b) t (some_size s.dataset) c.range-len.ensures.len c.if-got-len.false refl))
+    c.in_ok-goes.ensures
+    ∙ rw c.in_ok-put_cells.ensures (band_read r s.from s.to c.args.band c.args.place len c.args.values.items b (take len b) t (some_size s.dataset) c.range-len.ensures.len c.if-got-len.false refl)

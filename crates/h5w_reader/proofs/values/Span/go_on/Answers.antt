@@ -11,7 +11,7 @@ loop-band-preserved c =
     let r = reading_with k s.dataset in
     let i = c.loop-band.band in
     let high : i ≤ (s.to - 1) / s.dataset.layout.chunk.0 = omega arith in
-    let none : get_or k.table.items i undefined ≡ undefined = sym c.address-address.ensures ∙ c.if-address.false in
+    let none : get_or k.table.items i undefined ≡ undefined = rw (← c.deref.ensures.value) (sym c.address_at-address.ensures ∙ c.if-address.false) in
     record {
       low = omega arith;
       same = rw (c.in_ok-put_fill.ensures, c.touched-count.ensures.count)

@@ -1,0 +1,45 @@
+-- What is left of a descent.
+use Rattle.std.specs.Prelude.{ℕ, ◌+◌, List, ◌++◌, take, length, Option, Result, Ok, Err}
+use Rattle.h5w_model.specs.Programs.{Prog, ret, bind}
+use Rattle.h5w_model.specs.Tables.{Reading}
+use Rattle.h5w_model.specs.Calls.{CallRules, known_table}
+use Rattle.h5w_model.specs.declared.refusal.ReadError.{ReadError}
+use Rattle.h5w_ea.specs.Fields.{eaib_of}
+use Rattle.h5w_reader.specs.Described.{described_of}
+use Rattle.h5w_reader.specs.Gathering.{gathering}
+use Rattle.h5w_reader.specs.Seeking.{wait_given}
+use Rattle.h5w_reader.specs.Slots.{slots_rest, after_slot}
+use Rattle.h5w_reader.specs.Stores.{kept}
+use Rattle.h5w_reader.specs.declared.news.News.{News}
+use Rattle.h5w_reader.specs.declared.descent.Descent.{Descent}
+use Rattle.h5w_reader.specs.declared.descent.Waiting.{Waiting}
+use Rattle.h5w_reader.specs.declared.descent.Descended.{Descended}
+use Rattle.h5w_reader.specs.declared.descent.Descended.TheVariants as descended_by
+
+-- a dataset by what was known of it, and the news
+abbrev pub reading_news : Option Reading → News → Reading
+reading_news known n =
+    record { place = n.place; dataset = described_of n.dataset; table = take n.kept (known_table known (described_of n.dataset)) ++ n.tail.items }
+
+-- the addresses that are known of a descent's dataset
+abbrev pub known_in : CallRules → Descent → List ℕ
+known_in g s = known_table g.known (described_of s.dataset)
+
+-- those that it has found, with the known ones in front
+abbrev pub found_in : CallRules → Descent → List ℕ
+found_in g s = take s.kept (known_in g s) ++ s.tail.items
+
+abbrev pub descent_rest : CallRules → Descent → Prog (Result Reading ReadError)
+descent_rest g s = slots_rest g.place (known_in g s) (described_of s.dataset) (eaib_of s.index) (kept s.store) (s.kept + length s.tail.items) (found_in g s)
+
+-- behind the address of its next chunk
+abbrev pub after_next : CallRules → Descent → ℕ → Prog (Result Reading ReadError)
+after_next g s = after_slot g.place (known_in g s) (described_of s.dataset) (eaib_of s.index) (s.kept + length s.tail.items) (found_in g s)
+
+abbrev pub waiting : CallRules → Waiting → Prog (Result Reading ReadError)
+waiting g w = bind (gathering w.gather) (wait_given (kept w.descent.store) w.wait (after_next g w.descent))
+
+abbrev pub descended : CallRules → Descended → Prog (Result Reading ReadError)
+descended g (descended_by.Ready n) = ret (Ok (reading_news g.known n))
+descended g (descended_by.Refused e) = ret (Err e)
+descended g (descended_by.Looks w) = waiting g w

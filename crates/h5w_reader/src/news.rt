@@ -1,0 +1,25 @@
+//! What a call for rows found.
+ghost use Rattle.std.specs.Prelude.{◌≡◌, ℕ, List, Some, true};
+ghost use Rattle.std.proofs.Props.{props};
+ghost use Rattle.h5w_model.specs.Tables.{needed};
+ghost use Rattle.h5w_reader.specs.Described.{described_of};
+ghost use Rattle.h5w_reader.specs.Seen.{IsHeaderOf};
+
+use crate::dataset::Dataset;
+use h5w_model::Piece;
+
+/// A dataset, and the addresses of its chunks that were not known.
+#[derive(Drop)]
+pub struct News {
+    /// The place of its header.
+    pub place: u64,
+    pub dataset: Dataset,
+    /// How many of the known addresses stay.
+    pub kept: usize,
+    /// The addresses of the chunks behind them.
+    pub tail: Vec<u64>,
+    /// What counts of the look at the header, where nothing else was looked at.
+    pub view: Option<Piece>,
+    ghost few: { dataset.shape.growing ≡ true → needed (described_of dataset) ≡ 0 },
+    ghost seen: { (v : List ℕ) → view ≡ Some v → IsHeaderOf place (described_of dataset) v } by { Prim.hlevel props },
+}

@@ -1,0 +1,10 @@
+pub mod Decisions
+pub mod StepHelpers
+pub mod OnesCreated
+pub mod OnesFive
+pub mod OnesSix
+pub mod OnesSeven
+pub mod TwosCreated
+pub mod TwosThree
+pub mod TwosFour
+pub mod WrongOrders

@@ -1,0 +1,3 @@
+pub mod SevenOfOnes
+pub mod Moments
+pub mod Orders

@@ -1,0 +1,9 @@
+pub mod PartLemmas
+pub mod MomentLemmas
+pub mod StepRepresents
+pub mod FoundLemmas
+pub mod StepStays
+pub mod GoesLemmas
+pub mod PlanLaws
+pub mod WriterLaws
+pub mod SessionLaws

@@ -1,0 +1,11 @@
+pub mod RangeLemmas
+pub mod Told
+pub mod ArrayVisits
+pub mod TreeVisits
+pub mod IndexVisits
+pub mod IndexLaws
+pub mod OverlapLemmas
+pub mod HeaderVisits
+pub mod HeaderLaws
+pub mod DescribedLemmas
+pub mod NeededLaws

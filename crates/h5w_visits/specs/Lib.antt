@@ -1,0 +1,4 @@
+pub mod Ranges
+pub mod Indexes
+pub mod Headers
+pub mod Needed
