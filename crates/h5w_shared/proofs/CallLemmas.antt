@@ -1,0 +1,67 @@
+-- What a call in a turn may put back.
+use Rattle.std.proofs.Common.{◌≡◌, ℕ, zero, suc, ◌+◌, ◌<◌, ◌≤◌, arith, length, Some, None, Bool, true, false, true≢false, List, [], ◌∷◌, ◌++◌, sym, refl, ap, ◌∙◌, subst, inl}
+use Rattle.std.specs.Prelude.{if◌then◌else◌, slice_get, take}
+use Rattle.std.proofs.lemmas.Option.{slice_get_within}
+use Rattle.h5w_model.specs.declared.piece.Write.{Write}
+use Rattle.h5w_model.specs.Images.{apply}
+use Rattle.h5w_model.proofs.ImageLemmas.{image-append}
+use Rattle.h5w_image.specs.Memory.{MemView, called, fails, is_failing, written}
+use Rattle.h5w_shared.specs.declared.place.Place.{Place}
+use Rattle.h5w_shared.specs.declared.table.Stage.TheVariants.{Waiting}
+use Rattle.h5w_shared.specs.Turns.{Returned, Sound, serving_with}
+use Rattle.h5w_shared.specs.Places.{AtRest, Keeps, Turn, Waits, worn_as}
+
+-- no call on a sound store fails
+pub never_fails : (x : MemView) → Sound x → fails x ≡ false
+never_fails x sound = ap (λ f. is_failing f x.calls) sound.1
+
+sound_written : (w : Write) (x : MemView) → Sound x → Sound (written w x)
+sound_written w x sound = (ap (apply w) sound.0 ∙ sym (image-append x.start x.history (w ∷ [])), sound.1)
+
+-- the store with one more piece
+pub returns_written : (p q : Place) (x y : MemView) (w : Write) → Turn p q x → p.seat.me.0.writes ≡ true → y ≡ (if fails x then called x else written w x) → Returned q.seat.me.0 y
+returns_written p q x y w turn writes is =
+    let me = ap (λ m. m.0) turn.me in
+    let y_is : y ≡ written w x = is ∙ ap (λ (b : Bool). if b then called x else written w x) (never_fails x turn.found.sound) in
+    subst (λ v. Returned v y) (sym me) (subst (λ (z : MemView). Returned (serving_with turn.ticket x p.seat.me.0) z) (sym y_is) record {
+      sound = sound_written w x turn.found.sound;
+      begun = turn.found.begun;
+      same = inl (writes, (w ∷ [], refl));
+    })
+
+take_more : (xs : List Write) (k : ℕ) (x : Write) → slice_get xs k ≡ Some x → take (k + 1) xs ≡ take k xs ++ x ∷ []
+take_more [] k x e = absurd cc
+take_more (y ∷ xs) zero x e = let same : y ≡ x = cc e in ap (λ (z : Write). z ∷ []) same
+take_more (y ∷ xs) (suc k) x e =
+    let n : suc k + 1 ≡ suc (k + 1) = omega arith in ap (λ (m : ℕ). take m (y ∷ xs)) n ∙ ap (λ (zs : List Write). y ∷ zs) (take_more xs k x e)
+
+-- a copy of the first k pieces, and one more
+pub copied_more : (xs ys zs : List Write) (k : ℕ) (x y : Write) → ys ≡ take k xs → slice_get xs k ≡ Some x → zs ≡ ys ++ y ∷ [] → y.at ≡ x.at → y.piece ≡ x.piece
+    → (zs ≡ take (k + 1) xs) × (k + 1 ≤ length xs)
+copied_more xs ys zs k x y before at last place bytes =
+    let same : y ≡ x = λ i. record { at = place i; piece = bytes i } in
+    let within = slice_get_within xs k x at in
+    (last ∙ (ap (λ l. l ++ y ∷ []) before ∙ (ap (λ (z : Write). take k xs ++ z ∷ []) same ∙ sym (take_more xs k x at))), omega arith)
+
+pub nothing_past : (xs : List Write) (k : ℕ) → slice_get xs k ≡ None → k < length xs → ⊥
+nothing_past [] k e lt = omega arith
+nothing_past (x ∷ xs) zero e lt = cc e
+nothing_past (x ∷ xs) (suc k) e lt = nothing_past xs k e (omega arith)
+
+-- a ticket that is drawn after some tries
+pub drawn_after : (p l q : Place) (t : ℕ) → AtRest p → Keeps p l → l.worn ≡ false → Waits l q t → Waits p q t
+drawn_after p l q t rest kept awake drew =
+    let was : (b : Bool) → p.worn ≡ b → p.worn ≡ false = λ b. go b in
+    let same : p.worn ≡ false = was p.worn refl in
+    let me : l.seat.me.0 ≡ p.seat.me.0 = ap (λ m. m.0) kept.me ∙ ap (λ (b : Bool). worn_as b p.seat.me.0) (awake ∙ (sym same ∙ rest.counts.shown)) in record {
+      table = drew.table ∙ kept.table;
+      me = drew.me ∙ ap (λ v. (record v { stage = Waiting t }, [])) me;
+      worn = drew.worn ∙ (awake ∙ sym same);
+      seen = drew.seen ∙ kept.seen;
+      faults = drew.faults ∙ kept.faults;
+      counts = drew.counts;
+    }
+  where
+    go : (b : Bool) → p.worn ≡ b → p.worn ≡ false
+    go false e = e
+    go true e = absurd (true≢false (sym (kept.worn e) ∙ awake))

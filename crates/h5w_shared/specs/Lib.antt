@@ -1,0 +1,13 @@
+pub use Rattle.h5w_model.specs.Numbers
+pub use Rattle.h5w_model.specs.Causes
+pub use Rattle.h5w_model.specs.Images
+pub use Rattle.h5w_model.specs.Logs
+pub use Rattle.h5w_model.specs.Prefixed
+pub use Rattle.h5w_model.specs.Readers
+pub use Rattle.h5w_model.specs.Programs
+pub use Rattle.h5w_image.specs.View
+pub use Rattle.h5w_image.specs.Memory
+pub mod Turns
+pub mod Places
+pub mod Seats
+pub mod Threads

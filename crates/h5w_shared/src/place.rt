@@ -1,0 +1,154 @@
+//! A seat at the table with what it counts, and the turns that it takes.
+ghost use Rattle.std.specs.Prelude.{◌≡◌, ◌<◌, ◌∷◌, [], ℕ, false, true, IfOk, IfSome, IfNone, OnErr, None, Some};
+ghost use Rattle.h5w_shared.specs.declared.table.Stage.TheVariants.{Serving, Waiting};
+ghost use Rattle.h5w_shared.specs.Turns.{Found, Returned, finished, serving_with};
+ghost use Rattle.h5w_shared.specs.Places.{AtRest, Counts, IsAt, Keeps, Met, Refused, Turn, Twin as TwinOf, Unchanged, Waits};
+
+use crate::table::{Both, Draw, End, Look, Shelf, Tell, Token, Twin};
+use h5w_image::{Failed, MemImage};
+use std::sync::Wait;
+use std::thread;
+
+/// The word of the tickets that are drawn.
+const TICKET: usize = 0;
+
+/// The word of the ticket that is served.
+const SERVING: usize = 1;
+
+/// The slot of the store.
+const STORE: usize = 0;
+
+/// The ticket word's last value. A seat that was shown it draws no more.
+const LAST: u64 = 1 << 63;
+
+/// A seat at the table, with what it counts.
+#[derive(Drop)]
+pub struct Place {
+    pub seat: Token,
+    /// The value of the ticket word to draw from.
+    pub next: u64,
+    /// It was shown the ticket word's last value.
+    pub worn: bool,
+    /// How many calls failed for that.
+    pub faults: u64,
+    /// How many pieces it has seen.
+    pub seen: u64,
+}
+
+impl Place {
+    /// Tries to draw the next ticket. Without one it was shown another value of the ticket word.
+    fn try_draw(&mut self, shelf: &Shelf) -> Option<u64>
+        requires rest { AtRest self.old }
+        requires worn { self.old.worn ≡ false }
+        requires table { IsAt shelf.now.table_id self.old }
+        ensures drew { IfSome result (Waits self.old self.new) }
+        ensures none { IfNone result (AtRest self.new × Keeps self.old self.new) }
+    {
+        let from = self.next;
+        let found = shelf.compare_exchange::<Draw>(&mut self.seat, TICKET, from, from + 1);
+        self.worn |= found == LAST;
+        if found == from {
+            self.next = (from + 1).min(LAST - 1);
+            return Some(found);
+        }
+        self.next = found.min(LAST - 1);
+        None
+    }
+
+    /// Draws the next ticket. Failed: the seat was shown the ticket word's last value, and counts it.
+    fn draw<R: Wait>(&mut self, rt: &R, shelf: &Shelf) -> Result<u64, Failed>
+        requires rest { AtRest self.old }
+        requires table { IsAt shelf.now.table_id self.old }
+        ensures drew { IfOk result (Waits self.old self.new) }
+        ensures refused { OnErr result (Refused self.old self.new) }
+    {
+        for _ in rt.forever() {
+            if self.worn {
+                self.faults = self.faults.saturating_add(1);
+                return Err(Failed);
+            }
+            if let Some(ticket) = self.try_draw(shelf) {
+                return Ok(ticket);
+            }
+        }
+        unreachable!()
+    }
+
+    /// Waits for a turn, and takes the store out.
+    pub fn turn<R: Wait>(&mut self, rt: &R, shelf: &Shelf) -> Result<MemImage, Failed>
+        requires rest { AtRest self.old }
+        requires table { IsAt shelf.now.table_id self.old }
+        ensures turn { IfOk result (Turn self.old self.new) }
+        ensures refused { OnErr result (Refused self.old self.new) }
+    {
+        let ticket = self.draw(rt, shelf)?;
+        wait(rt, shelf, &mut self.seat, ticket);
+        Ok(shelf.exchange(&mut self.seat, STORE, None).unwrap())
+    }
+
+    /// Puts the store back, and serves the next ticket.
+    pub fn end(&mut self, shelf: &Shelf, store: MemImage)
+        requires table { IsAt shelf.now.table_id self.old }
+        requires served { (ticket : ℕ) × (self.old.seat.me.0.stage ≡ Serving ticket) }
+        requires out { self.old.seat.me.1 ≡ (0, None) ∷ [] }
+        requires there { self.old.seat.me.0.spent ≡ false }
+        requires counts { Counts self.old }
+        requires store { Returned self.old.seat.me.0 store }
+        ensures rest { AtRest self.new }
+        ensures table { self.new.seat.table_id ≡ self.old.seat.table_id }
+        ensures knows { self.new.seat.me.0 ≡ finished store self.old.seat.me.0 }
+        ensures counts { (self.new.worn ≡ self.old.worn) × (self.new.faults ≡ self.old.faults) }
+    {
+        self.seen = store.journal().len();
+        shelf.exchange(&mut self.seat, STORE, Some(store));
+        shelf.fetch_add::<End>(&mut self.seat, SERVING, 1);
+    }
+
+    /// A new one that knows as much.
+    pub fn twin(&mut self, shelf: &Shelf) -> Place
+        requires rest { AtRest self.old }
+        requires table { IsAt shelf.now.table_id self.old }
+        ensures same { Unchanged self.old self.new }
+        ensures twin { TwinOf self.old result }
+    {
+        Place {
+            seat: shelf.split_seat::<Twin>(&mut self.seat),
+            next: self.next,
+            worn: false,
+            faults: 0,
+            seen: self.seen,
+        }
+    }
+
+    /// Takes in what another knew.
+    pub fn meet(&mut self, shelf: &Shelf, other: Place)
+        requires rest { AtRest self.old }
+        requires table { IsAt shelf.now.table_id self.old }
+        requires other { AtRest other }
+        requires other_table { IsAt shelf.now.table_id other }
+        ensures { Met self.old other self.new }
+    {
+        let Place { seat, seen, .. } = other;
+        shelf.join_seat::<Both>(&mut self.seat, seat);
+        shelf.load::<Tell>(&mut self.seat, SERVING);
+        self.seen = self.seen.max(seen);
+    }
+}
+
+/// Waits until the ticket is served.
+fn wait<R: Wait>(rt: &R, shelf: &Shelf, seat: &mut Token, ticket: u64)
+    requires table { (seat.old.table_id ≡ shelf.now.table_id) × (shelf.now.table_id.words ≡ 2) × (shelf.now.table_id.slots ≡ 1) }
+    requires waits { seat.old.me.0.stage ≡ Waiting ticket }
+    requires there { seat.old.me.0.spent ≡ false }
+    requires bare { seat.old.me.1 ≡ [] }
+    ensures table { seat.new.table_id ≡ seat.old.table_id }
+    ensures served { (x : _) × Found seat.old.me.0 x × (seat.new.me ≡ (serving_with ticket x seat.old.me.0, (0, Some x) ∷ [])) }
+{
+    for _ in rt.forever() {
+        if shelf.load::<Look>(seat, SERVING) == ticket {
+            return;
+        }
+        thread::yield_now();
+    }
+    unreachable!()
+}
