@@ -1,0 +1,13 @@
+pub mod NumberLemmas
+pub mod WalkLemmas
+pub mod ChunkLemmas
+pub mod CommitLaws
+pub mod MessageLemmas
+pub mod FoundLemmas
+pub mod DescribedLemmas
+pub mod SpliceLemmas
+pub mod ImageLemmas
+pub mod FileLaws
+pub mod SpelledLemmas
+pub mod StepLaws
+pub mod Examples

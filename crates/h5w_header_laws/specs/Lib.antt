@@ -1,0 +1,4 @@
+pub mod Commits
+pub mod Files
+pub mod Spelled
+pub mod Steps
