@@ -1,0 +1,14 @@
+pub mod ReadLemmas
+pub mod RanLemmas
+pub mod DescribedLemmas
+pub mod ListedLemmas
+pub mod ChunkLemmas
+pub mod WalkLemmas
+pub mod VerdictLemmas
+pub mod CheckLemmas
+pub mod SpanLemmas
+pub mod TreeLemmas
+pub mod ArrayLemmas
+pub mod RootLemmas
+pub mod HeaderLemmas
+pub mod RangeLemmas

@@ -1,0 +1,62 @@
+-- Ranges behind others.
+use Rattle.std.proofs.Common.{◌≡◌, ℕ, ◌+◌, ◌<◌, true, false, cond, List, [], ◌∷◌, ◌++◌, length, get_or, drop, Result, Ok, Err, refl, sym, ◌∙◌, ap, append_assoc, add-one, drop-cons, arith}
+use Rattle.std.specs.Prelude.{◌==◌, nat_lt}
+use Rattle.std.proofs.lemmas.List.{append-nil, drop_all}
+use Rattle.h5w_model.specs.Numbers.{undefined}
+use Rattle.h5w_model.specs.Datasets.{Range, then_also}
+use Rattle.h5w_model.specs.Findings.{Used, Finding, found, chunk_ranges, header_ranges}
+use Rattle.h5w_check.specs.Ranges.{after, put_after}
+
+pub after_nil : (old : List Used) → after old (Ok []) ≡ Ok old
+after_nil old = ap (λ us. Ok us) (append-nil old)
+
+-- one more range, and then the rest
+behind_one : (old : List Used) (u : Used) (r : Result (List Used) Finding)
+    → after old (then_also r (λ us. Ok (u ∷ us))) ≡ after (old ++ u ∷ []) r
+behind_one old u (Ok us) = ap (λ vs. Ok vs) (sym (append_assoc old (u ∷ []) us))
+behind_one old u (Err f) = refl
+
+pub chunks_step : (end bytes place : ℕ) (rest : List ℕ) (old : List Used)
+    → after old (chunk_ranges end bytes (place ∷ rest)) ≡ then_also (put_after end bytes place old) (λ mid. after mid (chunk_ranges end bytes rest))
+chunks_step end bytes place rest old =
+    let r = chunk_ranges end bytes rest in
+    let u : Used = record { place = place; len = bytes; chunk = true } in
+    let past : Result (List Used) Finding = Err (found 17 place) in
+    let more : Result (List Used) Finding = then_also r (λ us. Ok (u ∷ us)) in
+    let kept : Result (List Used) Finding = Ok (old ++ u ∷ []) in
+    let go : List Used → Result (List Used) Finding = λ mid. after mid r in
+    elim (place == undefined) as (λ c. after old (cond c r (cond (nat_lt end (place + bytes)) past more)) ≡ then_also (cond c (Ok old) (cond (nat_lt end (place + bytes)) past kept)) go) [
+      | true ↦ refl
+      | false ↦ elim (nat_lt end (place + bytes)) as (λ c. after old (cond c past more) ≡ then_also (cond c past kept) go) [
+        | true ↦ refl
+        | false ↦ behind_one old u r
+      ]
+    ]
+
+-- the ranges of a header, one after another
+abbrev pub block_after : ℕ → Range → List Used → Result (List Used) Finding
+block_after end r old = cond (nat_lt end (r.place + r.len)) (Err (found 18 r.place)) (Ok (old ++ record { place = r.place; len = r.len; chunk = false } ∷ []))
+
+pub header_step : (end : ℕ) (r : Range) (rest : List Range) (old : List Used)
+    → after old (header_ranges end (r ∷ rest)) ≡ then_also (block_after end r old) (λ mid. after mid (header_ranges end rest))
+header_step end r rest old =
+    let us = header_ranges end rest in
+    let u : Used = record { place = r.place; len = r.len; chunk = false } in
+    let past : Result (List Used) Finding = Err (found 18 r.place) in
+    let go : List Used → Result (List Used) Finding = λ mid. after mid us in
+    elim (nat_lt end (r.place + r.len)) as (λ c. after old (cond c past (then_also us (λ vs. Ok (u ∷ vs)))) ≡ then_also (cond c past (Ok (old ++ u ∷ []))) go) [
+      | true ↦ refl
+      | false ↦ behind_one old u us
+    ]
+
+-- ---- In a loop
+
+pub next_from : {A : Type 0} (xs : List A) (i : ℕ) (d : A) → i < length xs → drop i xs ≡ get_or xs i d ∷ drop (i + 1) xs
+next_from xs i d h = rw (add-one, drop-cons xs i d) refl
+
+pub chunks_next : (end bytes i : ℕ) (xs : List ℕ) (old : List Used) → i < length xs
+    → after old (chunk_ranges end bytes (drop i xs)) ≡ then_also (put_after end bytes (get_or xs i 0) old) (λ mid. after mid (chunk_ranges end bytes (drop (i + 1) xs)))
+chunks_next end bytes i xs old h = ap (λ ys. after old (chunk_ranges end bytes ys)) (next_from xs i 0 h) ∙ chunks_step end bytes (get_or xs i 0) (drop (i + 1) xs) old
+
+pub chunks_end : (end bytes i : ℕ) (xs : List ℕ) (old : List Used) → length xs ≡ i → after old (chunk_ranges end bytes (drop i xs)) ≡ Ok old
+chunks_end end bytes i xs old h = ap (λ ys. after old (chunk_ranges end bytes ys)) (drop_all i xs (omega arith)) ∙ after_nil old

@@ -1,0 +1,88 @@
+//! The check of a whole file: whether it is valid, and what it has; else the first finding.
+//!
+//! docs/FORMAT.md, "What a check finds, in the order tried". The file may be of any maker. Each block is looked at once, in looks of at most 512 bytes.
+#![tactic(auto)]
+
+mod array;
+mod block;
+mod dataset;
+mod describe;
+mod error;
+mod found;
+mod header;
+mod index;
+mod overlap;
+mod ranges;
+mod read;
+mod root;
+mod span;
+mod stack;
+mod superblock;
+mod tree;
+mod walk;
+
+ghost use Rattle.std.specs.Prelude.{◌≡◌, ℕ, List, length, Some, Err, IfSome, IsTrue};
+ghost use Rattle.h5w_model.specs.Causes.{Rose};
+ghost use Rattle.h5w_model.specs.Programs.{eval};
+ghost use Rattle.h5w_model.specs.Tables.{format_limits};
+ghost use Rattle.h5w_model.specs.Findings.{check};
+ghost use Rattle.h5w_image.specs.View.{Looked};
+ghost use Rattle.h5w_check.specs.Ran.{Ran, Tells, seen};
+ghost use Rattle.h5w_check.specs.Described.{described_of};
+ghost use Rattle.h5w_check.specs.Verdicts.{headers_found, summary_of};
+
+use dataset::Dataset;
+pub use error::{CheckError, Summary};
+use h5w_image::PieceRead;
+use h5w_super::Super;
+use ranges::Ranges;
+use std::alloc::Global;
+
+/// Checks the file that an image of `size` bytes is, by the dataset that the root group's link of this name leads to.
+pub fn check<I: PieceRead>(
+    alloc: Global,
+    image: &mut I,
+    size: u64,
+    name: &[u8],
+) -> Result<Summary, CheckError>
+    requires { IfSome (I.view image.old).bytes (λ img. size ≡ length img) }
+    // Where the image tells its bytes and nobody else writes it: Ok exactly where they are a valid file that has this, and else the
+    // first finding with its place, or the overlap, unless the image failed or memory ran out.
+    ensures exact { (img : List ℕ) → (I.view image.old).bytes ≡ Some img → IsTrue (I.view image.old).alone
+        → Tells (eval img (check format_limits name.now (length img))) (seen summary_of result) }
+    ensures looked { Looked (I.view image.old) (I.view image.new) }
+    ensures failed { result ≡ Err CheckError.Failed → Rose (I.view image.old).faults (I.view image.new).faults }
+{
+    verdict_on(alloc, image, size, name)
+}
+
+/// The same, given the size.
+fn verdict_on<I: PieceRead>(
+    alloc: Global,
+    image: &mut I,
+    size: u64,
+    name: &[u8],
+) -> Result<Summary, CheckError>
+    ensures { Ran (I.view image.old) (I.view image.new) (λ img. eval img (check format_limits name.now size)) (seen summary_of result) }
+{
+    let s = superblock::superblock(alloc, image, size)?;
+    let (d, mut ranges) = headers(alloc, image, &s, name)?;
+    index::index(alloc, image, s.end, &d, &mut ranges)?;
+    overlap::verdict(alloc, ranges, &s, &d)
+}
+
+/// What the root header and the dataset header say, with the ranges of superblock and headers.
+fn headers<I: PieceRead>(
+    alloc: Global,
+    image: &mut I,
+    s: &Super,
+    name: &[u8],
+) -> Result<(Dataset, Ranges), CheckError>
+    ensures { Ran (I.view image.old) (I.view image.new) (headers_found name.now s.now) (seen (λ x. (described_of x.0, x.1)) result) }
+{
+    let mut ranges = Ranges::new(alloc);
+    ranges.put_block(0, h5w_super::LEN as u64)?;
+    let at = root::root(alloc, image, s, name, &mut ranges)?;
+    let d = header::dataset(alloc, image, s, at, &mut ranges)?;
+    Ok((d, ranges))
+}
