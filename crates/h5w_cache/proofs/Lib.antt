@@ -1,0 +1,6 @@
+pub mod StoreLemmas
+pub mod PlanLemmas
+pub mod PieceLemmas
+pub mod PlannedLemmas
+pub mod MoveLemmas
+pub mod LawLemmas

@@ -1,0 +1,7 @@
+use Rattle.std.proofs.Common.{◌≡◌, take}
+use Rattle.std.specs.List.{sum_by}
+use Rattle.h5w_cache.specs.Plans.{piece_count}
+use Rattle.h5w_cache.proofs.write.count.Given as goal
+
+abbrev pub invariant-loop-step : goal.invariant-loop-step
+invariant-loop-step l = l.count ≡ sum_by piece_count (take l.step-index l.moves)

@@ -1,0 +1,70 @@
+//! The writes of blocks: pieces of 512 bytes and a rest.
+
+ghost use Rattle.std.specs.Prelude.{◌≡◌, ℕ, ◌+◌, ◌/◌, ◌<◌, ◌≤◌, ◌^◌, ◌++◌, [], length, IfOk, IfSome, IsSome, vec_len, vec_capacity};
+ghost use Rattle.std.specs.List.{All, sum_by};
+ghost use Rattle.h5w_model.specs.Images.{pieces};
+ghost use Rattle.h5w_cache.specs.Plans.{IsWritten, block_in, bytes_in, piece_count, writes_of};
+
+use crate::block::Block;
+use crate::moves::Move;
+use h5w_model::{OutOfMemory, PIECE, Piece, Write};
+use std::alloc::Global;
+
+/// Adds the writes that put some bytes at a place.
+fn put_pieces(place: u64, bytes: &[u8], out: &mut Vec<Write>)
+    requires ends { place + length bytes.now < 2 ^ 64 }
+    requires room { vec_len out.old + (length bytes.now + 511) / 512 ≤ vec_capacity out.old }
+    ensures items { out.new.items ≡ out.old.items ++ pieces place bytes.now }
+    ensures len { vec_len out.new ≡ vec_len out.old + (length bytes.now + 511) / 512 }
+    ensures capacity { vec_capacity out.new ≡ vec_capacity out.old }
+{
+    let mut at = place;
+    for part in bytes.chunks(PIECE) {
+        let piece = Piece::of(part);
+        out.push_reserved(Write { at, piece });
+        at += part.len() as u64;
+    }
+}
+
+/// Adds the writes of a block at its place.
+fn put_block(blocks: &[Option<Block>], step: &Move, out: &mut Vec<Write>)
+    requires written { IsWritten blocks.now step.now }
+    requires room { vec_len out.old + piece_count step.now ≤ vec_capacity out.old }
+    ensures items { out.new.items ≡ out.old.items ++ pieces step.now.new (bytes_in blocks.now step.now.number) }
+    ensures len { vec_len out.new ≡ vec_len out.old + piece_count step.now }
+    ensures capacity { vec_capacity out.new ≡ vec_capacity out.old }
+{
+    let block = blocks[step.number as usize].as_ref().unwrap();
+    put_pieces(step.new, block.bytes(), out);
+}
+
+/// Adds the writes of blocks at their places.
+pub fn put_all(blocks: &[Option<Block>], moves: &[Move], out: &mut Vec<Write>)
+    requires written { All (IsWritten blocks.now) moves.now }
+    requires room { vec_len out.old + sum_by piece_count moves.now ≤ vec_capacity out.old }
+    ensures { out.new.items ≡ out.old.items ++ writes_of blocks.now moves.now }
+{
+    for step in moves {
+        put_block(blocks, step, out);
+    }
+}
+
+/// How many pieces the blocks have, where the number fits.
+fn count(moves: &[Move]) -> Option<usize>
+    ensures { IfSome result (λ n. n ≡ sum_by piece_count moves.now) }
+{
+    let mut count = 0usize;
+    for step in moves {
+        let pieces = step.len.checked_add(511)? / 512;
+        count = count.checked_add(pieces as usize)?;
+    }
+    Some(count)
+}
+
+/// A list with room for the writes of these blocks.
+pub fn room_for(alloc: Global, moves: &[Move]) -> Result<Vec<Write>, OutOfMemory>
+    ensures { IfOk result (λ v. (v.items ≡ []) × (sum_by piece_count moves.now ≤ vec_capacity v)) }
+{
+    let count = count(moves).ok_or(OutOfMemory)?;
+    Ok(Vec::with_capacity(alloc, count)?)
+}
