@@ -1,0 +1,6 @@
+pub mod Geometry
+pub mod BlockLemmas
+pub mod Loops
+pub mod RowLaws
+pub mod WriteLaws
+pub mod Examples

@@ -1,0 +1,172 @@
+-- What loops have put so far, and what is left to put.
+use Rattle.std.proofs.Common.{◌≡◌, ℕ, zero, suc, ◌+◌, ◌-◌, ◌*◌, ◌/◌, ◌<◌, ◌≤◌, min, List, [], ◌∷◌, ◌++◌, length, take, drop, get_or, replicate, Option, Some, ℤ, pos, sym, refl, ap, ◌∙◌, subst, inl, inr, arith, length-append, length-drop}
+use Rattle.std.proofs.lemmas.List.{append_assoc, append-nil, length-take, replicate-append-replicate, take_all, drop_all, drop-drop, nil_from_length}
+use Rattle.std.proofs.Math.Seq.{take-add, take-append_seam, drop-append_seam}
+use Rattle.std.specs.Option.{option_map, unwrap_or}
+use Rattle.std.proofs.lemmas.Bool.{cases_lt}
+use Rattle.h5w_model.specs.Numbers.{range}
+use Rattle.h5w_model.specs.Images.{first_pieces, pieces}
+use Rattle.h5w_model.specs.Integers.{cell_bytes_of, cell_of}
+use Rattle.h5w_model.specs.Datasets.{Described}
+use Rattle.h5w_model.specs.declared.cell.Cell.{Cell}
+use Rattle.h5w_model.specs.declared.piece.Write.{Write}
+use Rattle.h5w_chunks.specs.Grids.{cells_of, copies}
+use Rattle.h5w_chunks.specs.Shares.{padded_rows, row_blocks, writes_of}
+
+-- ---- Pieces that are put one after another
+
+first_pieces_none : (n place : ℕ) → n ≡ 0 → first_pieces n place [] ≡ []
+unfolding first_pieces
+first_pieces_none n place none = ap (λ (m : ℕ). first_pieces m place []) none
+
+pieces_step : (place : ℕ) (bytes : List ℕ) → 0 < length bytes → pieces place bytes ≡ record { at = place; piece = take 512 bytes } ∷ pieces (place + length (take 512 bytes)) (drop 512 bytes)
+unfolding pieces first_pieces
+pieces_step place bytes some =
+    let first : Write = record { at = place; piece = take 512 bytes } in
+    let count : (length bytes + 511) / 512 ≡ suc ((length (drop 512 bytes) + 511) / 512) = omega (arith, length-drop 512 bytes) in
+    ap (λ (n : ℕ). first_pieces n place bytes) count ∙ ap (λ (ws : List Write). first ∷ ws)
+    (elim (cases_lt (length bytes) 513) [
+      | inl short ↦
+          let none : drop 512 bytes ≡ [] = drop_all 512 bytes (omega arith) in
+          rw none refl
+      | inr long ↦
+          let full : length (take 512 bytes) ≡ 512 = length-take 512 bytes ∙ omega arith in
+          ap (λ (m : ℕ). first_pieces ((length (drop 512 bytes) + 511) / 512) (place + m) (drop 512 bytes)) (sym full)
+    ])
+
+pub pieces_more : (before done all : List Write) (at_place next : ℕ) (rest : List ℕ) → 0 < length rest → done ≡ before ++ record { at = at_place; piece = take 512 rest } ∷ [] → next ≡ at_place + length (take 512 rest)
+    → before ++ pieces at_place rest ≡ all → done ++ pieces next (drop 512 rest) ≡ all
+pieces_more before done all at_place next rest some added is goes =
+    let w : Write = record { at = at_place; piece = take 512 rest } in
+    ap (λ (d : List Write). d ++ pieces next (drop 512 rest)) added ∙ append_assoc before (w ∷ []) (pieces next (drop 512 rest))
+    ∙ ap (λ (p : ℕ). before ++ w ∷ pieces p (drop 512 rest)) is ∙ ap (λ (ws : List Write). before ++ ws) (sym (pieces_step at_place rest some)) ∙ goes
+
+pub pieces_all : (done all : List Write) (at_place : ℕ) (rest : List ℕ) → length rest ≡ 0 → done ++ pieces at_place rest ≡ all → done ≡ all
+unfolding pieces first_pieces
+pieces_all done all at_place rest none goes =
+    sym (append-nil done) ∙ ap (λ (r : List ℕ). done ++ pieces at_place r) (sym (nil_from_length rest none)) ∙ goes
+
+-- the first part of a list that is cut into parts of n
+pub part_of : {A : Type 0} (rest part more : List A) (n : ℕ) → rest ≡ part ++ more → length part ≡ min n (length rest) → (take n rest ≡ part) × (drop n rest ≡ more)
+part_of rest part more n is count =
+    let all : length rest ≡ length part + length more = ap length is ∙ length-append part more in
+    elim (cases_lt (length rest) n) [
+      | inl short ↦
+          let none : more ≡ [] = nil_from_length more (omega arith) in
+          let only : rest ≡ part = is ∙ ap (λ ys. part ++ ys) none ∙ append-nil part in
+          (take_all n rest (omega arith) ∙ only, drop_all n rest (omega arith) ∙ sym none)
+      | inr long ↦
+          let size : n ≡ length part = omega arith in
+          (ap (take n) is ∙ ap (λ m. take m (part ++ more)) size ∙ take-append_seam part more, ap (drop n) is ∙ ap (λ m. drop m (part ++ more)) size ∙ drop-append_seam part more)
+    ]
+
+pub pieces_next : (before done all : List Write) (at_place : ℕ) (rest part more : List ℕ) → rest ≡ part ++ more → length part ≡ min 512 (length rest) → 0 < length rest
+    → done ≡ before ++ record { at = at_place; piece = part } ∷ [] → before ++ pieces at_place rest ≡ all → done ++ pieces (at_place + length part) more ≡ all
+pieces_next before done all at_place rest part more is count some added goes =
+    let parts = part_of rest part more 512 is count in
+    let w : List ℕ → Write = λ b. record { at = at_place; piece = b } in
+    let first : done ≡ before ++ w (take 512 rest) ∷ [] = added ∙ ap (λ b. before ++ w b ∷ []) (sym parts.0) in
+    let next = pieces_more before done all at_place (at_place + length part) rest some first (ap (λ b. at_place + length b) (sym parts.0)) goes in
+    subst (λ (b : List ℕ). done ++ pieces (at_place + length part) b ≡ all) parts.1 next
+
+-- ---- Cells of values
+
+-- the bytes of a cell made of these
+cell_back : (b : List ℕ) → take (length b) (b ++ replicate (8 - length b) 0) ≡ b
+cell_back b = take-append_seam b (replicate (8 - length b) 0)
+
+some_same : {A : Type 0} (a b : A) → Some a ≡ Some b → a ≡ b
+some_same a b e = cc
+
+-- the bytes of the cell that was made of a value
+pub cell_is : (d : Described) (v : ℤ) (cell : Cell) (bytes : List ℕ) → Some cell ≡ option_map cell_of (cell_bytes_of v d.int_type) → cell_bytes_of v d.int_type ≡ Some bytes → take cell.size cell.bytes ≡ bytes
+cell_is d v cell bytes made is =
+    let same : cell ≡ cell_of bytes = some_same cell (cell_of bytes) (made ∙ ap (λ (o : Option (List ℕ)). option_map cell_of o) is) in
+    ap (λ (x : Cell). take x.size x.bytes) same ∙ cell_back bytes
+
+cells_of-drop : (d : Described) (values : List ℤ) (i : ℕ) → i < length values → cells_of d (drop i values) ≡ unwrap_or (cell_bytes_of (get_or values i (pos 0)) d.int_type) [] ++ cells_of d (drop (i + 1) values)
+unfolding cells_of
+cells_of-drop d [] i inside = absurd (omega arith)
+cells_of-drop d (v ∷ vs) zero inside = refl
+cells_of-drop d (v ∷ vs) (suc i) inside =
+    cells_of-drop d vs i (omega arith) ∙ ap (λ (n : ℕ). unwrap_or (cell_bytes_of (get_or vs i (pos 0)) d.int_type) [] ++ cells_of d (drop n (v ∷ vs))) (let e : suc (i + 1) ≡ suc i + 1 = omega arith in e)
+
+pub cells_more : (d : Described) (before done all bytes : List ℕ) (values : List ℤ) (i : ℕ) → i < length values → cell_bytes_of (get_or values i (pos 0)) d.int_type ≡ Some bytes
+    → done ≡ before ++ bytes → before ++ cells_of d (drop i values) ≡ all → done ++ cells_of d (drop (i + 1) values) ≡ all
+cells_more d before done all bytes values i inside is added goes =
+    let rest = cells_of d (drop (i + 1) values) in
+    let value : unwrap_or (cell_bytes_of (get_or values i (pos 0)) d.int_type) [] ≡ bytes = ap (λ (o : Option (List ℕ)). unwrap_or o []) is in
+    ap (λ (x : List ℕ). x ++ rest) added ∙ append_assoc before bytes rest
+    ∙ ap (λ (b : List ℕ). before ++ (b ++ rest)) (sym value) ∙ ap (λ (r : List ℕ). before ++ r) (sym (cells_of-drop d values i inside)) ∙ goes
+
+pub cells_all : (d : Described) (done all : List ℕ) (values : List ℤ) (i : ℕ) → length values ≤ i → done ++ cells_of d (drop i values) ≡ all → done ≡ all
+unfolding cells_of
+cells_all d done all values i past goes = sym (append-nil done) ∙ ap (λ (vs : List ℤ). done ++ cells_of d vs) (sym (drop_all i values past)) ∙ goes
+
+-- ---- Copies
+
+pub copies_more : (before done all bytes : List ℕ) (n m : ℕ) → n ≡ suc m → done ≡ before ++ bytes → before ++ copies n bytes ≡ all → done ++ copies m bytes ≡ all
+unfolding copies
+copies_more before done all bytes n m is added goes =
+    ap (λ (x : List ℕ). x ++ copies m bytes) added ∙ append_assoc before bytes (copies m bytes) ∙ ap (λ (k : ℕ). before ++ copies k bytes) (sym is) ∙ goes
+
+pub copies_all : (done all bytes : List ℕ) (n : ℕ) → n ≡ 0 → done ++ copies n bytes ≡ all → done ≡ all
+unfolding copies
+copies_all done all bytes n none goes = sym (append-nil done) ∙ ap (λ (k : ℕ). done ++ copies k bytes) (sym none) ∙ goes
+
+-- zeros are copies of zeros
+pub zeros_are_copies : (n size : ℕ) → replicate (n * size) 0 ≡ copies n (replicate size 0)
+unfolding copies
+zeros_are_copies zero size = ap (λ (k : ℕ). replicate k 0) (let e : 0 * size ≡ 0 = omega arith in e)
+zeros_are_copies (suc n) size =
+    ap (λ (k : ℕ). replicate k 0) (let e : suc n * size ≡ size + n * size = omega arith in e)
+    ∙ sym (replicate-append-replicate size (n * size) 0) ∙ ap (λ (r : List ℕ). replicate size 0 ++ r) (zeros_are_copies n size)
+
+-- ---- Rows
+
+pub padded_more : (row : ℕ → List ℕ) (pad before done all own : List ℕ) (t n m next : ℕ) → n ≡ suc m → next ≡ suc t → own ≡ row t → done ≡ (before ++ own) ++ pad
+    → before ++ padded_rows row pad t n ≡ all → done ++ padded_rows row pad next m ≡ all
+unfolding padded_rows
+padded_more row pad before done all own t n m next is then same added goes =
+    let rest = padded_rows row pad (suc t) m in
+    ap (λ (i : ℕ). done ++ padded_rows row pad i m) then ∙ ap (λ (x : List ℕ). x ++ rest) added
+    ∙ append_assoc (before ++ own) pad rest ∙ append_assoc before own (pad ++ rest) ∙ ap (λ (o : List ℕ). before ++ (o ++ (pad ++ rest))) same
+    ∙ ap (λ (k : ℕ). before ++ padded_rows row pad t k) (sym is) ∙ goes
+
+pub padded_all : (row : ℕ → List ℕ) (pad done all : List ℕ) (t n : ℕ) → n ≡ 0 → done ++ padded_rows row pad t n ≡ all → done ≡ all
+unfolding padded_rows
+padded_all row pad done all t n none goes = sym (append-nil done) ∙ ap (λ (k : ℕ). done ++ padded_rows row pad t k) (sym none) ∙ goes
+
+pub blocks_more : (row : ℕ → List ℕ) (before done all : List Write) (own : List ℕ) (place stride t n m next after : ℕ) → n ≡ suc m → next ≡ suc t → after ≡ place + stride → own ≡ row t
+    → done ≡ before ++ pieces place own → before ++ writes_of (row_blocks row place stride t n) ≡ all → done ++ writes_of (row_blocks row after stride next m) ≡ all
+unfolding row_blocks writes_of
+blocks_more row before done all own place stride t n m next after is then there same added goes =
+    let rest = writes_of (row_blocks row (place + stride) stride (suc t) m) in
+    ap (λ (i : ℕ). done ++ writes_of (row_blocks row after stride i m)) then ∙ ap (λ (p : ℕ). done ++ writes_of (row_blocks row p stride (suc t) m)) there
+    ∙ ap (λ (x : List Write). x ++ rest) added ∙ append_assoc before (pieces place own) rest ∙ ap (λ (o : List ℕ). before ++ (pieces place o ++ rest)) same
+    ∙ ap (λ (k : ℕ). before ++ writes_of (row_blocks row place stride t k)) (sym is) ∙ goes
+
+pub blocks_all : (row : ℕ → List ℕ) (done all : List Write) (place stride t n : ℕ) → n ≡ 0 → done ++ writes_of (row_blocks row place stride t n) ≡ all → done ≡ all
+unfolding row_blocks writes_of
+blocks_all row done all place stride t n none goes = sym (append-nil done) ∙ ap (λ (k : ℕ). done ++ writes_of (row_blocks row place stride t k)) (sym none) ∙ goes
+
+-- a list that was made longer by zeros has copies of zeros behind it
+pub fill_zeros : (items filled : List ℕ) (n len count size : ℕ) → filled ≡ take n items ++ replicate (n - len) 0 → n ≡ len + count * size → len ≡ length items → filled ≡ items ++ copies count (replicate size 0)
+fill_zeros items filled n len count size is whole measured =
+    is ∙ ap (λ (f : List ℕ). f ++ replicate (n - len) 0) (take_all n items (omega arith))
+    ∙ ap (λ (k : ℕ). items ++ replicate k 0) (let e : n - len ≡ count * size = omega arith in e) ∙ ap (λ (r : List ℕ). items ++ r) (zeros_are_copies count size)
+
+-- rows without a pad that stand one behind the other are one range
+pub run_rows : (cells : List ℕ) (place stride t n : ℕ) → padded_rows (λ (j : ℕ). range cells (place + j * stride) stride) [] t n ≡ range cells (place + t * stride) (n * stride)
+unfolding padded_rows
+run_rows cells place stride t zero = ap (λ (k : ℕ). range cells (place + t * stride) k) (let e : 0 ≡ 0 * stride = omega arith in e)
+run_rows cells place stride t (suc n) =
+    let x = place + t * stride in
+    let next : range cells (place + suc t * stride) (n * stride) ≡ take (n * stride) (drop stride (drop x cells)) =
+    ap (λ (p : ℕ). take (n * stride) (drop p cells)) (let e : place + suc t * stride ≡ x + stride = omega arith in e) ∙ ap (λ (l : List ℕ). take (n * stride) l) (sym (drop-drop stride x cells)) in
+    ap (λ (r : List ℕ). range cells x stride ++ r) (run_rows cells place stride (suc t) n ∙ next)
+    ∙ sym (take-add stride (n * stride) (drop x cells)) ∙ ap (λ (k : ℕ). take k (drop x cells)) (let e : stride + n * stride ≡ suc n * stride = omega arith in e)
+
+pub no_copies : (n : ℕ) (bytes : List ℕ) → n ≡ 0 → copies n bytes ≡ []
+unfolding copies
+no_copies n bytes none = ap (λ (k : ℕ). copies k bytes) none
