@@ -1,6 +1,7 @@
 //! The check of a whole file: whether it is valid, and what it has; else the first finding.
 //!
-//! docs/FORMAT.md, "What a check finds, in the order tried". The file may be of any maker. Each block is looked at once, in looks of at most 512 bytes.
+//! docs/FORMAT.md, "What a check finds, in the order tried". The file may be of any maker. A block is looked at where it is named, once for each name,
+//! in looks of at most 512 bytes; docs/DECISIONS.md says what bounds that.
 #![tactic(auto)]
 
 mod array;
