@@ -1,5 +1,5 @@
 //! Whether the ranges of a file overlap, and what they come to.
-ghost use Rattle.std.specs.Prelude.{◌≡◌, ◌++◌, ◌∷◌, [], List, ◌+◌, ◌-◌, map, not, nat_lt, count_by, sum_by, option_map, IfOk, if◌then◌else◌};
+ghost use Rattle.std.specs.Prelude.{◌≡◌, ◌++◌, ◌∷◌, [], List, ◌+◌, ◌-◌, map, not, count_by, sum_by, option_map, IfOk};
 ghost use Rattle.h5w_model.specs.Findings.{by_place, first_overlap, overlap_of, summary, verdict};
 ghost use Rattle.h5w_check.specs.Ran.{Told, seen};
 ghost use Rattle.h5w_check.specs.Ranges.{used_of};
@@ -67,28 +67,21 @@ fn end_of(r: &Range) -> u128
     u128::from(r.place) + u128::from(r.len)
 }
 
-/// The one of two ranges that reaches farther, the first where they end at one place.
-fn farther(far: Range, r: Range) -> Range
-    ensures { used_of result ≡ (if nat_lt (far.place + far.len) (r.place + r.len) then used_of r else used_of far) }
-{
-    if end_of(&far) < end_of(&r) { r } else { far }
-}
-
-/// The first of some ranges by place that begins before the end of an earlier one, and the earlier one that reaches farthest.
+/// The first of some ranges by place that begins before the end of its neighbour before it, and that neighbour.
 fn overlap_behind(first: Range, rest: &[Range]) -> Option<CheckError>
     ensures { result ≡ option_map error_of (first_overlap (used_of first) (map used_of rest.now)) }
 {
-    let mut far = first;
+    let mut before = first;
     for r in rest {
-        if u128::from(r.place) < end_of(&far) {
+        if u128::from(r.place) < end_of(&before) {
             return Some(CheckError::Overlap {
                 at: r.place,
                 len: r.len,
-                other: far.place,
-                other_len: far.len,
+                other: before.place,
+                other_len: before.len,
             });
         }
-        far = farther(far, *r);
+        before = *r;
     }
     None
 }

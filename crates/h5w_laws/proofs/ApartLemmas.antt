@@ -87,48 +87,34 @@ length_ordered (u ∷ us) = omega (arith, length_put u (by_place us), length_ord
 abbrev Behind : ℕ → List Used → Type 0
 Behind end us = AllByRecursion (λ (u : Used). end ≤ u.place) us
 
--- no range begins before the end of the one that reaches farthest, and none overlaps
-pub none_overlap : (far : Used) (us : List Used) → first_overlap far us ≡ None → Behind (far.place + far.len) us × AllApart us
-none_overlap far [] h = (tt, tt)
-none_overlap far (u ∷ us) h = first (λ f. none_overlap f us) (nat_lt u.place (far.place + far.len)) refl h
+-- no range begins before the end of one before it, and none overlaps
+pub none_overlap : (u : Used) (us : List Used) → first_overlap u us ≡ None → Behind (u.place + u.len) us × AllApart us
+none_overlap u [] h = (tt, tt)
+none_overlap u (v ∷ vs) h = first (none_overlap v vs) (nat_lt v.place (u.place + u.len)) refl h
   where
-    apart_from : Behind (u.place + u.len) us → AllByRecursion (AreApart u) us
-    apart_from b = all_as (λ (v : Used). u.place + u.len ≤ v.place) (AreApart u) us (λ v e. inl e) b
+    earlier : u.place + u.len ≤ v.place → Behind (v.place + v.len) vs → Behind (u.place + u.len) vs
+    earlier low b = all_as (λ (w : Used). v.place + v.len ≤ w.place) (λ (w : Used). u.place + u.len ≤ w.place) vs (λ w e. omega (arith, low, e)) b
 
-    earlier : (a b : ℕ) → a ≤ b → Behind b us → Behind a us
-    earlier a b low h = all_as (λ (v : Used). b ≤ v.place) (λ (v : Used). a ≤ v.place) us (λ v e. omega (arith, low, e)) h
+    apart_from : Behind (v.place + v.len) vs → AllByRecursion (AreApart v) vs
+    apart_from b = all_as (λ (w : Used). v.place + v.len ≤ w.place) (AreApart v) vs (λ w e. inl e) b
 
-    next : ((f : Used) → first_overlap f us ≡ None → Behind (f.place + f.len) us × AllApart us) → far.place + far.len ≤ u.place → (t : Bool) → nat_lt (far.place + far.len) (u.place + u.len) ≡ t
-        → first_overlap (cond t u far) us ≡ None → Behind (far.place + far.len) (u ∷ us) × AllApart (u ∷ us)
-    next rest low true e g =
-        let r = rest u g in
-        ((low, earlier (far.place + far.len) (u.place + u.len) (omega (arith, low)) r.0), (apart_from r.0, r.1))
-    next rest low false e g =
-        let r = rest far g in
-        ((low, r.0), (apart_from (earlier (u.place + u.len) (far.place + far.len) (ltb-false (far.place + far.len) (u.place + u.len) e) r.0), r.1))
-
-    first : ((f : Used) → first_overlap f us ≡ None → Behind (f.place + f.len) us × AllApart us) → (t : Bool) → nat_lt u.place (far.place + far.len) ≡ t
-        → cond t (Some (overlap u.place u.len far.place far.len)) (first_overlap (cond (nat_lt (far.place + far.len) (u.place + u.len)) u far) us) ≡ None
-        → Behind (far.place + far.len) (u ∷ us) × AllApart (u ∷ us)
+    first : (first_overlap v vs ≡ None → Behind (v.place + v.len) vs × AllApart vs) → (t : Bool) → nat_lt v.place (u.place + u.len) ≡ t
+        → cond t (Some (overlap v.place v.len u.place u.len)) (first_overlap v vs) ≡ None → Behind (u.place + u.len) (v ∷ vs) × AllApart (v ∷ vs)
     first rest true e g = absurd cc
-    first rest false e g = next rest (ltb-false u.place (far.place + far.len) e) (nat_lt (far.place + far.len) (u.place + u.len)) refl g
+    first rest false e g =
+        let low : u.place + u.len ≤ v.place = ltb-false v.place (u.place + u.len) e in
+        let r = rest g in
+        ((low, earlier low r.0), (apart_from r.0, r.1))
 
 -- and behind it their lengths are no more than what is left up to the end
-pub none_longer : (end : ℕ) (far : Used) (us : List Used) → first_overlap far us ≡ None → AllByRecursion (EndsBy end) us → far.place + far.len ≤ end → far.place + far.len + length_of us ≤ end
-none_longer end far [] h within low = omega (arith, low)
-none_longer end far (u ∷ us) h within low = first (none_longer end u us) (none_longer end far us) (nat_lt u.place (far.place + far.len)) refl h
+pub none_longer : (end : ℕ) (u : Used) (us : List Used) → first_overlap u us ≡ None → AllByRecursion (EndsBy end) us → u.place + u.len ≤ end → u.place + u.len + length_of us ≤ end
+none_longer end u [] h within low = omega (arith, low)
+none_longer end u (v ∷ vs) h within low = first (none_longer end v vs) (nat_lt v.place (u.place + u.len)) refl h
   where
-    next : (first_overlap u us ≡ None → AllByRecursion (EndsBy end) us → u.place + u.len ≤ end → u.place + u.len + length_of us ≤ end)
-        → (first_overlap far us ≡ None → AllByRecursion (EndsBy end) us → far.place + far.len ≤ end → far.place + far.len + length_of us ≤ end) → far.place + far.len ≤ u.place → (t : Bool) → nat_lt (far.place + far.len) (u.place + u.len) ≡ t → first_overlap (cond t u far) us ≡ None → far.place + far.len + length_of (u ∷ us) ≤ end
-    next own same before true e g = omega (arith, length_first u us, own g within.1 within.0, before)
-    next own same before false e g = omega (arith, length_first u us, same g within.1 low, before, ltb-false (far.place + far.len) (u.place + u.len) e)
-
-    first : (first_overlap u us ≡ None → AllByRecursion (EndsBy end) us → u.place + u.len ≤ end → u.place + u.len + length_of us ≤ end)
-        → (first_overlap far us ≡ None → AllByRecursion (EndsBy end) us → far.place + far.len ≤ end → far.place + far.len + length_of us ≤ end) → (t : Bool) → nat_lt u.place (far.place + far.len) ≡ t
-        → cond t (Some (overlap u.place u.len far.place far.len)) (first_overlap (cond (nat_lt (far.place + far.len) (u.place + u.len)) u far) us) ≡ None
-        → far.place + far.len + length_of (u ∷ us) ≤ end
-    first own same true e g = absurd cc
-    first own same false e g = next own same (ltb-false u.place (far.place + far.len) e) (nat_lt (far.place + far.len) (u.place + u.len)) refl g
+    first : (first_overlap v vs ≡ None → AllByRecursion (EndsBy end) vs → v.place + v.len ≤ end → v.place + v.len + length_of vs ≤ end) → (t : Bool) → nat_lt v.place (u.place + u.len) ≡ t
+        → cond t (Some (overlap v.place v.len u.place u.len)) (first_overlap v vs) ≡ None → u.place + u.len + length_of (v ∷ vs) ≤ end
+    first rest true e g = absurd cc
+    first rest false e g = omega (arith, length_first v vs, rest g within.1 within.0, ltb-false v.place (u.place + u.len) e)
 
 apart_in_order : (us : List Used) → overlap_of us ≡ None → AllApart us
 apart_in_order [] h = tt

@@ -97,7 +97,7 @@ too_many_chunks = 20
 
 -- ---- Findings
 
--- a kind of finding at a place, or two ranges that overlap: the later one, and the earlier one that reaches farthest
+-- a kind of finding at a place, or two ranges that overlap: the later one by place, and its neighbour before it
 pub data Finding : Type 0 where
   found : (kind place : ℕ) → Finding
   overlap : (place len other other_len : ℕ) → Finding
@@ -308,12 +308,10 @@ abbrev pub by_place : List Used → List Used
 by_place [] = []
 by_place (u ∷ us) = put_by_place u (by_place us)
 
--- the first range that begins before the end of an earlier one, of which `far` reaches farthest
+-- the first range, behind `u`, that begins before the end of its neighbour before it
 abbrev pub first_overlap : Used → List Used → Option Finding
-first_overlap far [] = None
-first_overlap far (u ∷ us) =
-    if nat_lt u.place (far.place + far.len) then Some (overlap u.place u.len far.place far.len)
-    else first_overlap (if nat_lt (far.place + far.len) (u.place + u.len) then u else far) us
+first_overlap u [] = None
+first_overlap u (v ∷ vs) = if nat_lt v.place (u.place + u.len) then Some (overlap v.place v.len u.place u.len) else first_overlap v vs
 
 abbrev pub overlap_of : List Used → Option Finding
 overlap_of [] = None

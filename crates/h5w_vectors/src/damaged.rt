@@ -29,7 +29,7 @@ pub fn past_the_end()
     ensures too_many_rows { IsRefusedFile too_many_rows_file (TooManyChunks 131061 131060) (found too_many_chunks 106) }
 {}
 
-/// Two ranges that overlap: behind the one that reaches farthest, and two chunks inside a node.
+/// Two ranges that overlap: two of three chunks that each begin before the end of the one before it, and two chunks inside a node.
 pub fn overlaps()
     ensures overlapping_chunks { IsFoundFile overlapping_chunks_file overlapping_chunks_reading (pos 0 ∷ pos 0 ∷ pos 0 ∷ []) (overlap 580 30 570 30) }
     ensures chunks_in_node { IsFoundFile chunks_in_node_file chunks_in_node_reading (pos 1 ∷ pos 9 ∷ pos 0 ∷ []) (overlap 345 1 338 2048) }

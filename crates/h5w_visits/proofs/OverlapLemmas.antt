@@ -99,40 +99,26 @@ unfolding Before
 before_cons n u us h g v (inl e) = subst (λ (x : Used). n ≤ x.place) e h
 before_cons n u us h g v (inr a) = g v a
 
-abbrev pub farther : Used → Used → Used
-farther far u = if nat_lt (end_of far) (end_of u) then u else far
-
-pub farther_far : (far u : Used) → (end_of far ≤ end_of (farther far u)) × (end_of u ≤ end_of (farther far u))
-farther_far far u =
-    cond_both (nat_lt (end_of far) (end_of u)) u far (λ (x : Used). (end_of far ≤ end_of x) × (end_of u ≤ end_of x))
-    (λ t. (omega (arith, ltb-true (end_of far) (end_of u) t), omega arith))
-    (λ t. (omega arith, omega (arith, ltb-false (end_of far) (end_of u) t)))
-
--- no overlap is found: what reaches farthest ends before all that begin later
-pub found_none : (far : Used) (us : List Used) → first_overlap far us ≡ None → Before (end_of far) us × Ordered us
+-- no overlap is found: each ends before all that begin later
+pub found_none : (u : Used) (us : List Used) → first_overlap u us ≡ None → Before (end_of u) us × Ordered us
 unfolding Before Ordered
-found_none far [] h = (λ v a. absurd a, tt)
-found_none far (u ∷ us) h =
-    cond_both (nat_lt u.place (end_of far)) (Some (overlap u.place u.len far.place far.len)) (first_overlap (farther far u) us)
-    (λ (o : Option Finding). o ≡ None → Before (end_of far) (u ∷ us) × Ordered (u ∷ us))
+found_none u [] h = (λ v a. absurd a, tt)
+found_none u (v ∷ vs) h =
+    cond_both (nat_lt v.place (end_of u)) (Some (overlap v.place v.len u.place u.len)) (first_overlap v vs)
+    (λ (o : Option Finding). o ≡ None → Before (end_of u) (v ∷ vs) × Ordered (v ∷ vs))
     (λ t e. absurd cc)
     (λ t e.
-    let low : end_of far ≤ u.place = ltb-false u.place (end_of far) t in
-    let rest = found_none (farther far u) us e in
-    let reach = farther_far far u in
-    (before_cons (end_of far) u us low (λ v a. omega (arith, rest.0 v a, reach.0)), (λ v a. omega (arith, rest.0 v a, reach.1), rest.1)))
+    let low : end_of u ≤ v.place = ltb-false v.place (end_of u) t in
+    let rest = found_none v vs e in
+    (before_cons (end_of u) v vs low (λ w a. omega (arith, low, rest.0 w a)), rest))
     h
 
-pub finds_none : (far : Used) (us : List Used) → Before (end_of far) us → Ordered us → first_overlap far us ≡ None
+pub finds_none : (u : Used) (us : List Used) → Before (end_of u) us → Ordered us → first_overlap u us ≡ None
 unfolding Before Ordered
-finds_none far [] h g = refl
-finds_none far (u ∷ us) h g =
-    let low : end_of far ≤ u.place = h u (inl refl) in
-    cond-false (nat_lt u.place (end_of far)) (Some (overlap u.place u.len far.place far.len)) (first_overlap (farther far u) us) (le-ltb u.place (end_of far) low)
-    ∙ finds_none (farther far u) us (before u us low h g.0) g.1
-  where
-    before : (u : Used) (us : List Used) → end_of far ≤ u.place → Before (end_of far) (u ∷ us) → ((v : Used) → Among v us → end_of u ≤ v.place) → Before (end_of (farther far u)) us
-    before u us low h g = cond_both (nat_lt (end_of far) (end_of u)) u far (λ (x : Used). Before (end_of x) us) (λ t. g) (λ t v a. h v (inr a))
+finds_none u [] h g = refl
+finds_none u (v ∷ vs) h g =
+    cond-false (nat_lt v.place (end_of u)) (Some (overlap v.place v.len u.place u.len)) (first_overlap v vs) (le-ltb v.place (end_of u) (h v (inl refl)))
+    ∙ finds_none v vs g.0 g.1
 
 pub ordered_disjoint : (us : List Used) → AllSome us → Ordered us → Disjoint us
 unfolding Ordered

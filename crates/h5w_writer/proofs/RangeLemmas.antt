@@ -1,8 +1,8 @@
 -- Ranges at rising places: they are in order, and none meets another.
-use Rattle.std.proofs.Common.{◌≡◌, ℕ, zero, suc, ◌+◌, ◌*◌, ◌^◌, ◌<◌, ◌≤◌, true, false, ltb, List, [], ◌∷◌, ◌++◌, length, None, Ok, refl, ap, ◌∙◌, inl, inr, arith}
+use Rattle.std.proofs.Common.{◌≡◌, ℕ, zero, suc, ◌+◌, ◌*◌, ◌^◌, ◌<◌, ◌≤◌, true, false, ltb, List, [], ◌∷◌, ◌++◌, length, None, Ok, refl, ap, ◌∙◌, arith}
 use Rattle.std.specs.Prelude.{map, replicate, ◌==◌}
 use Rattle.std.specs.List.{sum_by}
-use Rattle.std.proofs.lemmas.Bool.{cases_lt, lt-ltb, le-ltb, le-leb}
+use Rattle.std.proofs.lemmas.Bool.{le-ltb, le-leb}
 use Rattle.std.proofs.lemmas.List.Sums.{sum_by-cons}
 use Rattle.h5w_model.specs.Numbers.{undefined}
 use Rattle.h5w_model.specs.Findings.{Used, put_by_place, by_place, first_overlap, overlap_of, chunk_ranges}
@@ -23,19 +23,13 @@ pub by_place-stacked : (from : ℕ) (us : List Used) → Stacked from us → by_
 by_place-stacked from [] h = refl
 by_place-stacked from (u ∷ us) h = ap (put_by_place u) (by_place-stacked (u.place + u.len) us h.1) ∙ put-stacked u us h.1
 
-first_overlap-stacked : (far : Used) (us : List Used) (from : ℕ) → far.place + far.len ≤ from → Stacked from us → first_overlap far us ≡ None
-first_overlap-stacked far [] from below h = refl
-first_overlap-stacked far (u ∷ us) from below h =
-    let low = h.0 in
-    let apart = le-ltb u.place (far.place + far.len) (omega arith) in
-    elim (cases_lt (far.place + far.len) (u.place + u.len)) [
-      | inl longer ↦ rw (apart, lt-ltb (far.place + far.len) (u.place + u.len) longer) (first_overlap-stacked u us (u.place + u.len) (omega arith) h.1)
-      | inr other ↦ rw (apart, le-ltb (far.place + far.len) (u.place + u.len) other) (first_overlap-stacked far us (u.place + u.len) (omega arith) h.1)
-    ]
+first_overlap-stacked : (u : Used) (us : List Used) → Stacked (u.place + u.len) us → first_overlap u us ≡ None
+first_overlap-stacked u [] h = refl
+first_overlap-stacked u (v ∷ vs) h = rw (le-ltb v.place (u.place + u.len) h.0) (first_overlap-stacked v vs h.1)
 
 pub overlap-stacked : (from : ℕ) (us : List Used) → Stacked from us → overlap_of us ≡ None
 overlap-stacked from [] h = refl
-overlap-stacked from (u ∷ us) h = first_overlap-stacked u us (u.place + u.len) (omega arith) h.1
+overlap-stacked from (u ∷ us) h = first_overlap-stacked u us h.1
 
 -- ---- The chunks
 

@@ -4,4 +4,4 @@ use Rattle.h5w_check.specs.Ranges.{used_of}
 use Rattle.h5w_check.proofs.overlap.overlap_behind.Given as goal
 
 abbrev pub invariant-loop-r : goal.invariant-loop-r
-invariant-loop-r l = first_overlap (used_of l.far) (map used_of (drop l.r-index l.rest)) ≡ first_overlap (used_of l.initial.far) (map used_of l.rest)
+invariant-loop-r l = first_overlap (used_of l.before) (map used_of (drop l.r-index l.rest)) ≡ first_overlap (used_of l.initial.before) (map used_of l.rest)
