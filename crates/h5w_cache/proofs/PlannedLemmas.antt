@@ -13,7 +13,7 @@ use Rattle.h5w_model.specs.Numbers.{undefined}
 use Rattle.h5w_space.specs.Space.{Space}
 use Rattle.h5w_cache.specs.declared.moves.Move.{Move}
 use Rattle.h5w_cache.specs.Blocks.{BlockView, spelled}
-use Rattle.h5w_cache.specs.Stores.{IsStore, Fits, place_in, times}
+use Rattle.h5w_cache.specs.Stores.{IsStore, FitsAddresses, place_in, times}
 use Rattle.h5w_cache.specs.Plans.{AreMoves, Chain, IsMove, IsWritten, Placed, block_in, bytes_in, bytes_of, cleaned, moved, numbers, respelled, stays}
 
 -- ---- Numbers in a list
@@ -207,11 +207,11 @@ changed_kept blocks places marks changed capacity s k d h =
     let e : times n changed ≡ cond (get_or marks n false) 1 0 = s.once n in
     s.kept n (is_marked (get_or marks n false) (times n changed) there e)
 
-pub fits_if : (o : Option BlockView) (p : ℕ) → IfSome o (Fits p) → IsSome o → (p ≡ undefined → ⊥) → p + length (bytes_of o) < 2 ^ 64
+pub fits_if : (o : Option BlockView) (p : ℕ) → IfSome o (FitsAddresses p) → IsSome o → (p ≡ undefined → ⊥) → p + length (bytes_of o) < 2 ^ 64
 fits_if None p h some = absurd (cc)
 fits_if (Some b) p h some = h
 
-if_fits : (o old : Option BlockView) (p : ℕ) → is_some o ≡ is_some old → length (bytes_of o) ≡ length (bytes_of old) → (IsSome old → (p ≡ undefined → ⊥) → p + length (bytes_of old) < 2 ^ 64) → IfSome o (Fits p)
+if_fits : (o old : Option BlockView) (p : ℕ) → is_some o ≡ is_some old → length (bytes_of o) ≡ length (bytes_of old) → (IsSome old → (p ≡ undefined → ⊥) → p + length (bytes_of old) < 2 ^ 64) → IfSome o (FitsAddresses p)
 if_fits None old p some len h = tt
 if_fits (Some b) old p some len h = λ d. let k = h (sym some) d in omega arith
 
@@ -219,7 +219,7 @@ pub stays_true : (b : Bool) (old : ℕ) → stays b old ≡ true → old ≡ und
 stays_true true old h e = let t : (old == undefined) ≡ true = eq-eqb old undefined e in cc
 stays_true false old h e = cc
 
-ends_by : (blocks : List (Option BlockView)) (places : List ℕ) (s : Space) (m : Move) (t : Space) (b : Bool) → IfSome (block_in blocks m.number) (Fits (place_in places m.number)) → IsMove blocks places s m t → stays m.in_place m.old ≡ b → Placed b m.old m.len s t m.new → m.new + m.len < 2 ^ 64
+ends_by : (blocks : List (Option BlockView)) (places : List ℕ) (s : Space) (m : Move) (t : Space) (b : Bool) → IfSome (block_in blocks m.number) (FitsAddresses (place_in places m.number)) → IsMove blocks places s m t → stays m.in_place m.old ≡ b → Placed b m.old m.len s t m.new → m.new + m.len < 2 ^ 64
 ends_by blocks places s m t true fits step e p =
     let old : m.old ≡ place_in places m.number = step.old in
     let len : m.len ≡ length (bytes_in blocks m.number) = step.len in
@@ -229,7 +229,7 @@ ends_by blocks places s m t true fits step e p =
 ends_by blocks places s m t false fits step e p = step.ends e
 
 -- where a move goes, its block ends below 2^64
-pub move_ends : (blocks : List (Option BlockView)) (places : List ℕ) (s : Space) (m : Move) (t : Space) → IfSome (block_in blocks m.number) (Fits (place_in places m.number)) → IsMove blocks places s m t → m.new + m.len < 2 ^ 64
+pub move_ends : (blocks : List (Option BlockView)) (places : List ℕ) (s : Space) (m : Move) (t : Space) → IfSome (block_in blocks m.number) (FitsAddresses (place_in places m.number)) → IsMove blocks places s m t → m.new + m.len < 2 ^ 64
 move_ends blocks places s m t fits step = ends_by blocks places s m t (stays m.in_place m.old) fits step refl step.step
 
 -- what is known when the moves of all changed blocks were made

@@ -5,7 +5,7 @@ use Rattle.std.proofs.lemmas.List.Sums.{count_by-le-length}
 use Rattle.std.specs.Prelude.{Option, None, IsSome, IfSome}
 use Rattle.h5w_model.specs.Numbers.{undefined}
 use Rattle.h5w_cache.specs.Blocks.{BlockView}
-use Rattle.h5w_cache.specs.Stores.{IsStore, Fits}
+use Rattle.h5w_cache.specs.Stores.{IsStore, FitsAddresses}
 
 default_there : {A : Type 0} (k n : ℕ) (d : A) → get_or (replicate k d) n d ≡ d
 default_there zero n d = refl
@@ -36,6 +36,6 @@ IsStore-grown blocks more_blocks places more_places marks more_marks changed k c
       each_mark = omega arith;
       once = λ n. s.once n ∙ ap (λ b. cond b 1 0) (sym (mark n));
       kept = λ n h. subst IsSome (sym (block n)) (s.kept n (sym (mark n) ∙ h));
-      fits = λ n. subst (λ (o : Option BlockView). IfSome o (Fits (get_or more_places n undefined))) (sym (block n)) (subst (λ (p : ℕ). IfSome (get_or blocks n None) (Fits p)) (sym (place n)) (s.fits n));
+      fits = λ n. subst (λ (o : Option BlockView). IfSome o (FitsAddresses (get_or more_places n undefined))) (sym (block n)) (subst (λ (p : ℕ). IfSome (get_or blocks n None) (FitsAddresses p)) (sym (place n)) (s.fits n));
       room = omega arith;
     }

@@ -7,7 +7,7 @@ use Rattle.std.specs.List.Sorted.{IsPermutation, IsNonDecreasingBy}
 use Rattle.h5w_model.specs.Numbers.{undefined}
 use Rattle.h5w_model.specs.Images.{pieces}
 use Rattle.h5w_model.specs.declared.piece.Write.{Write}
-use Rattle.h5w_space.specs.Space.{Space, Takes, IsLive, Apart, extent, has_size}
+use Rattle.h5w_space.specs.Space.{Space, TakesPlace, IsLive, Apart, extent, has_size}
 use Rattle.h5w_space.specs.declared.Extent.{Extent}
 use Rattle.h5w_space.specs.declared.Full.{Full}
 use Rattle.h5w_cache.specs.Blocks.{BlockView, spelled}
@@ -37,7 +37,7 @@ bytes_in blocks n = bytes_of (block_in blocks n)
 
 -- the range was taken: it overlaps nothing that was live or retired, and is live
 pub record Took (s t : Space) (r : Extent) : Type 0 where
-  pub takes : Takes s t r
+  pub takes : TakesPlace s t r
   pub off_live : (x : Extent) → IsLive s x → Apart r x
   pub off_retired : All (Apart r) s.retired
   pub live : IsLive t r

@@ -52,8 +52,8 @@ abbrev pub is_changed : Store → ℕ → Bool
 is_changed s n = is_listed n s.changed
 
 -- a block that has a place ends below 2^64
-abbrev pub Fits : ℕ → BlockView → Type 0
-Fits place b = (place ≡ undefined → ⊥) → place + length b.bytes < 2 ^ 64
+abbrev pub FitsAddresses : ℕ → BlockView → Type 0
+FitsAddresses place b = (place ≡ undefined → ⊥) → place + length b.bytes < 2 ^ 64
 
 -- the same with the block under this number changed
 abbrev pub marked : ℕ → Store → Store
@@ -66,6 +66,6 @@ pub record IsStore (blocks : List (Option BlockView)) (places : List ℕ) (marks
   -- a number is listed once where it is marked, else never
   pub once : (n : ℕ) → times n changed ≡ cond (slice_index_or marks n false) 1 0
   pub kept : (n : ℕ) → slice_index_or marks n false ≡ true → IsSome (slice_index_or blocks n None)
-  pub fits : (n : ℕ) → IfSome (slice_index_or blocks n None) (Fits (place_in places n))
+  pub fits : (n : ℕ) → IfSome (slice_index_or blocks n None) (FitsAddresses (place_in places n))
   -- each number that is not marked has room among the changed
   pub room : length changed + count_by not marks ≤ capacity

@@ -3,7 +3,7 @@ ghost use Rattle.std.specs.Option.{option_copied, option_map};
 ghost use Rattle.h5w_cache.specs.Blocks.{numbered, with_number};
 ghost use Rattle.h5w_cache.specs.Plans.{HasNoRoom, IfFull, IsPlan};
 ghost use Rattle.h5w_cache.specs.StoreLaws.{KeepsStore};
-ghost use Rattle.h5w_cache.specs.Stores.{Fits, block_of, changed_to, grown, is_changed, kept_under, marked, no_blocks, place_of};
+ghost use Rattle.h5w_cache.specs.Stores.{FitsAddresses, block_of, changed_to, grown, is_changed, kept_under, marked, no_blocks, place_of};
 
 use crate::block::{Block, copied, place_at};
 use crate::moves::retire_all;
@@ -168,7 +168,7 @@ impl Cache {
     pub fn put(&mut self, number: u32, block: Block, place: u64)
         requires inside { number < length self.old.blocks }
         requires clean { is_changed self.old number ≡ false }
-        requires fits { Fits place block }
+        requires fits { FitsAddresses place block }
         ensures { self.new ≡ kept_under number block place self.old }
     {
         self.blocks[number as usize] = Some(block);

@@ -6,7 +6,7 @@ use Rattle.std.proofs.lemmas.List.{take_at}
 use Rattle.h5w_model.specs.Numbers.{range}
 use Rattle.h5w_model.specs.Programs.{Prog, ret, whole, eval}
 use Rattle.h5w_model.specs.Headers.{prefix_at, header_view, zeros, messages_at, block_at}
-use Rattle.h5w_model.specs.Datasets.{HeaderFields, Range, Described, Found, from_chunk, header_refusal, walk, found_at, block_place, block_len, block_messages, dataset_messages, described, then_also, refused_as}
+use Rattle.h5w_model.specs.Datasets.{HeaderFields, Range, Described, FoundMessage, from_chunk_0, header_refusal, walk, found_at, block_place, block_len, block_messages, dataset_messages, described, then_also, refused_as}
 use Rattle.h5w_model.specs.Tables.{format_limits, limit_of, needed}
 use Rattle.h5w_model.specs.Findings.{Used, Finding, found, header_ranges, checked_dataset, dataset_finding}
 use Rattle.h5w_model.specs.declared.root.Super.{Super}
@@ -54,19 +54,19 @@ listed_supported p place (Err e) h = let k : dataset_finding p e ≡ found 8 p =
 
 block_supported : (at : ℕ) (t : Bool) (place len : ℕ) (b : List ℕ) → IsSupported at (block_messages t place len b)
 block_supported p t place len b =
-    let cut : Result (List Found) ReadError = Err (header_refusal place (header_errors.Short len (length b))) in
-    let rest : Result (List Found) ReadError = then_also (refused_as (header_refusal place) (block_at t b)) (λ ms. Ok (found_at place false ms)) in
+    let cut : Result (List FoundMessage) ReadError = Err (header_refusal place (header_errors.Short len (length b))) in
+    let rest : Result (List FoundMessage) ReadError = then_also (refused_as (header_refusal place) (block_at t b)) (λ ms. Ok (found_at place false ms)) in
     elim (nat_lt (length b) len) as (λ c. IsSupported p (cond c cut rest)) [
-      | true ↦ refused_supported {A = List Found} p place (header_errors.Short len (length b))
+      | true ↦ refused_supported {A = List FoundMessage} p place (header_errors.Short len (length b))
       | false ↦ listed_supported p place (refused_as (header_refusal place) (block_at t b)) (read_supported p place (block_at t b))
     ]
 
-resumed_supported : (img : List ℕ) (at : ℕ) (r : Result (List Found) ReadError) (go : List Found → Prog (Result HeaderFields ReadError)) → IsSupported at r → ((inside : List Found) → IsSupported at (eval img (go inside)))
+resumed_supported : (img : List ℕ) (at : ℕ) (r : Result (List FoundMessage) ReadError) (go : List FoundMessage → Prog (Result HeaderFields ReadError)) → IsSupported at r → ((inside : List FoundMessage) → IsSupported at (eval img (go inside)))
     → IsSupported at (eval img (elim r as (λ _. Prog (Result HeaderFields ReadError)) [ Ok inside ↦ go inside | Err e ↦ ret (Err e) ]))
 resumed_supported img p (Ok inside) go h g = g inside
 resumed_supported img p (Err e) go h g = let k : dataset_finding p e ≡ found 8 p = cc in ap (λ f. Err f) k
 
-walk_supported : (img : List ℕ) (at more h : ℕ) (t : Bool) (v : List Range) (done ms : List Found) → IsSupported at (eval img (walk more h t v done ms))
+walk_supported : (img : List ℕ) (at more h : ℕ) (t : Bool) (v : List Range) (done ms : List FoundMessage) → IsSupported at (eval img (walk more h t v done ms))
 walk_supported img p zero h t v done [] = refl
 walk_supported img p (suc more) h t v done [] = refl
 walk_supported img p zero h t v done (m ∷ ms) =
@@ -96,7 +96,7 @@ given_supported : (img : List ℕ) (at place : ℕ) (p : Prefix) (r : Result (Li
 given_supported img q place p (Ok ms) = walk_supported img q 32 place p.tracked (record { place = place; len = p.total } ∷ []) [] (found_at place true ms)
 given_supported img q place p (Err e) = refused_supported {A = HeaderFields} q place e
 
-chunk_supported : (img : List ℕ) (at place : ℕ) (p : Prefix) (b : List ℕ) → IsSupported at (eval img (from_chunk place p b))
+chunk_supported : (img : List ℕ) (at place : ℕ) (p : Prefix) (b : List ℕ) → IsSupported at (eval img (from_chunk_0 place p b))
 chunk_supported img q place p b = given_supported img q place p (messages_at b)
 
 -- ---- The dataset header
@@ -104,7 +104,7 @@ chunk_supported img q place p b = given_supported img q place p (messages_at b)
 -- given what its first bytes say
 headed : List ℕ → ℕ → List ℕ → Result Prefix HeaderError → Result HeaderFields Finding
 headed img place v r = refused_as (dataset_finding place) (eval img (elim r as (λ _. Prog (Result HeaderFields ReadError)) [
-  | Ok p ↦ cond (nat_lt 512 p.total) (ret (Err (read_errors.Unsupported (record { 0 = 1 })))) (from_chunk place p v)
+  | Ok p ↦ cond (nat_lt 512 p.total) (ret (Err (read_errors.Unsupported (record { 0 = 1 })))) (from_chunk_0 place p v)
   | Err e ↦ ret (Err (header_refusal place e))
 ]))
 
@@ -116,7 +116,7 @@ unfolding headed
 headed_is img place = refl
 
 pub dataset_short : (img : List ℕ) (place : ℕ) (p : Prefix) → prefix_at (range img place 512) ≡ Ok p → p.total ≤ 512
-    → dataset_found img place ≡ finding_for 8 place (eval img (from_chunk place p (take p.total (range img place 512))))
+    → dataset_found img place ≡ finding_for 8 place (eval img (from_chunk_0 place p (take p.total (range img place 512))))
 unfolding headed
 dataset_short img place p e short =
     let b = range img place 512 in
@@ -126,7 +126,7 @@ dataset_short img place p e short =
     headed_is img place
     ∙ ap (λ (v : List ℕ). headed img place v (prefix_at v)) view
     ∙ ap (headed img place (take p.total b)) says
-    ∙ ap (λ c. refused_as (dataset_finding place) (eval img (cond c (ret (Err (read_errors.Unsupported (record { 0 = 1 })))) (from_chunk place p (take p.total b))))) (le-ltb 512 p.total short)
+    ∙ ap (λ c. refused_as (dataset_finding place) (eval img (cond c (ret (Err (read_errors.Unsupported (record { 0 = 1 })))) (from_chunk_0 place p (take p.total b))))) (le-ltb 512 p.total short)
     ∙ chunk_supported img place place p (take p.total b)
 
 -- the view of bytes by what they begin with
@@ -153,7 +153,7 @@ dataset_long img place p e long =
     headed_is img place
     ∙ ap (λ (v : List ℕ). headed img place v (prefix_at v)) (view_long b p e long)
     ∙ ap (headed img place (b ++ z)) says
-    ∙ ap (λ c. refused_as (dataset_finding place) (eval img (cond c (ret (Err (read_errors.Unsupported (record { 0 = 1 })))) (from_chunk place p (b ++ z))))) (lt-ltb 512 p.total long)
+    ∙ ap (λ c. refused_as (dataset_finding place) (eval img (cond c (ret (Err (read_errors.Unsupported (record { 0 = 1 })))) (from_chunk_0 place p (b ++ z))))) (lt-ltb 512 p.total long)
 
 pub dataset_err : (img : List ℕ) (place : ℕ) (e : HeaderError) → prefix_at (range img place 512) ≡ Err e → dataset_found img place ≡ Err (found 8 place)
 unfolding headed

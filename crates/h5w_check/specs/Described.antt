@@ -20,7 +20,7 @@ viewed_bytes (Ok b) = Ok b.now
 viewed_bytes (Err e) = Err e
 
 -- what the data of dataspace, datatype and layout say, with the fill of these messages
-abbrev pub decoded : List ℕ → List ℕ → List ℕ → List model.Found → Result Described Unsupported
+abbrev pub decoded : List ℕ → List ℕ → List ℕ → List model.FoundMessage → Result Described Unsupported
 decoded space datatype layout ms =
     then_also (shape_at space) (λ s.
     then_also (int_type_at datatype) (λ t.
@@ -28,7 +28,7 @@ decoded space datatype layout ms =
     then_also (layout_at layout s t) (λ l. Ok (record { shape = s; int_type = t; fill = f; layout = l })))))
 
 -- what a dataset's messages say, where its rows need no more chunks than are read
-abbrev pub known : ℕ → List model.Found → Result Described Finding
+abbrev pub known : ℕ → List model.FoundMessage → Result Described Finding
 known place ms =
     then_also (refused_as (λ e. found 9 place) (model.described ms)) (λ d.
     if nat_lt (limit_of format_limits d.layout.index) (needed d) then Err (found 20 place) else Ok d)

@@ -5,7 +5,7 @@ use h5w_model::Bytes;
 
 /// A message of a header.
 #[derive(Drop)]
-pub struct Found {
+pub struct FoundMessage {
     pub kind: u8,
     pub flags: u8,
     /// The place of its first byte in the image.
@@ -13,6 +13,6 @@ pub struct Found {
     /// Its data.
     pub body: Bytes,
     /// Whether it stands in the header's chunk 0, and not in a continuation block.
-    pub in_chunk: bool,
+    pub in_chunk_0: bool,
     ghost named: { kind ≡ 16 → 16 ≤ length body },
 }

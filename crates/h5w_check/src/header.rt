@@ -14,10 +14,10 @@ ghost use Rattle.h5w_check.specs.Roots.{dataset_after};
 use crate::dataset::Dataset;
 use crate::describe::describe;
 use crate::error::CheckError;
-use crate::found::Found;
+use crate::found::FoundMessage;
 use crate::ranges::Ranges;
 use crate::read::read;
-use crate::walk::{Header, Refusal, from_chunk};
+use crate::walk::{Header, Refusal, from_chunk_0};
 use h5w_image::{PIECE, PieceRead};
 use h5w_ohdr::prefix;
 use h5w_super::Super;
@@ -53,11 +53,11 @@ fn dataset_header<I: PieceRead>(alloc: Global, image: &mut I, at: u64) -> Result
         });
     }
     bytes.truncate(p.total as usize);
-    from_chunk(alloc, image, refusal, &p, &bytes)
+    from_chunk_0(alloc, image, refusal, &p, &bytes)
 }
 
 /// What the messages of the dataset header at `at` say.
-fn known(at: u64, found: &[Found]) -> Result<Dataset, CheckError>
+fn known(at: u64, found: &[FoundMessage]) -> Result<Dataset, CheckError>
     ensures { Told (known at (founds found.now)) (seen described_of result) }
 {
     let d = match describe(found) {

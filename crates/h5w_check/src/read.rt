@@ -3,7 +3,7 @@ ghost use Rattle.std.specs.Prelude.{◌≡◌, ◌+◌, ◌-◌, ◌≤◌, ◌^
 ghost use Rattle.h5w_model.specs.Causes.{Rose};
 ghost use Rattle.h5w_model.specs.Numbers.{range};
 ghost use Rattle.h5w_model.specs.Programs.{below_end};
-ghost use Rattle.h5w_image.specs.View.{ImageView, Looked, Shows};
+ghost use Rattle.h5w_image.specs.View.{ImageView, Looked, GivesRange};
 ghost use Rattle.h5w_check.specs.Still.{IsStill};
 ghost use Rattle.h5w_check.specs.Ran.{Ran, seen};
 

@@ -6,13 +6,13 @@ ghost use Rattle.h5w_model.specs.Datasets.{linked};
 ghost use Rattle.h5w_model.specs.Findings.{checked_root};
 ghost use Rattle.h5w_check.specs.Ran.{Ran, Told, answering, seen};
 ghost use Rattle.h5w_check.specs.Headers.{finding_for, founds, header_of, listed};
-ghost use Rattle.h5w_check.specs.Roots.{root_after, whole_chunk};
+ghost use Rattle.h5w_check.specs.Roots.{root_after, whole_chunk_0};
 
 use crate::error::CheckError;
-use crate::found::Found;
+use crate::found::FoundMessage;
 use crate::ranges::Ranges;
 use crate::read::read;
-use crate::walk::{Header, Refusal, from_chunk};
+use crate::walk::{Header, Refusal, from_chunk_0};
 use h5w_image::{PIECE, PieceRead};
 use h5w_links::{find, links};
 use h5w_model::{LinkError, Msg, OutOfMemory};
@@ -37,7 +37,7 @@ fn put_behind(bytes: &mut Vec<u8>, more: &[u8]) -> Result<(), CheckError>
 }
 
 /// Chunk 0 of `total` bytes of the header at `place`, given what a look of 512 bytes found.
-fn whole_chunk<I: PieceRead>(
+fn whole_chunk_0<I: PieceRead>(
     alloc: Global,
     image: &mut I,
     place: u64,
@@ -46,7 +46,7 @@ fn whole_chunk<I: PieceRead>(
 ) -> Result<Vec<u8>, CheckError>
     requires inside { place + length bytes.items ≤ 2 ^ 64 }
     requires few { length bytes.items ≤ 512 }
-    ensures ran { Ran (I.view image.old) (I.view image.new) (λ img. Ok (whole_chunk img place total bytes.items)) (seen (λ b. b.items) result) }
+    ensures ran { Ran (I.view image.old) (I.view image.new) (λ img. Ok (whole_chunk_0 img place total bytes.items)) (seen (λ b. b.items) result) }
     ensures inside { IfOk result (λ b. place + length b.items ≤ 2 ^ 64) }
 {
     if total <= PIECE as u64 {
@@ -73,13 +73,13 @@ fn root_header<I: PieceRead>(alloc: Global, image: &mut I, place: u64) -> Result
     let Ok(p) = prefix(&bytes) else {
         return Err(refusal.error());
     };
-    let bytes = whole_chunk(alloc, image, place, p.total, bytes)?;
-    from_chunk(alloc, image, refusal, &p, &bytes)
+    let bytes = whole_chunk_0(alloc, image, place, p.total, bytes)?;
+    from_chunk_0(alloc, image, refusal, &p, &bytes)
 }
 
 /// The messages as links are read from them.
 #[tactic(auto, using(crate::proofs::RootLemmas::listed_founds))]
-fn listed(alloc: Global, found: Vec<Found>) -> Result<Msgs, OutOfMemory>
+fn listed(alloc: Global, found: Vec<FoundMessage>) -> Result<Msgs, OutOfMemory>
     ensures { IfOk result (λ msgs. msgs ≡ map listed (founds found.items)) }
 {
     let msgs: Vec<Msg> = found
@@ -95,7 +95,12 @@ fn listed(alloc: Global, found: Vec<Found>) -> Result<Msgs, OutOfMemory>
 }
 
 /// The place that the link of this name gives, in the root header at `root` with these messages.
-fn place_of(alloc: Global, root: u64, found: Vec<Found>, name: &[u8]) -> Result<u64, CheckError>
+fn place_of(
+    alloc: Global,
+    root: u64,
+    found: Vec<FoundMessage>,
+    name: &[u8],
+) -> Result<u64, CheckError>
     ensures { Told (finding_for 7 root (linked name.now (founds found.items))) result }
 {
     let no_link = CheckError::Finding {

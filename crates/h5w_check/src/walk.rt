@@ -8,7 +8,7 @@ ghost use Rattle.h5w_check.specs.Ran.{Ran, Told, answering, seen};
 ghost use Rattle.h5w_check.specs.Headers.{Passed, block_before, entered, finding_for, founds, found_of, header_of, ranges_of, stack};
 
 use crate::error::CheckError;
-use crate::found::Found;
+use crate::found::FoundMessage;
 use crate::read::read;
 use crate::stack::put_before;
 use h5w_bytes::number;
@@ -36,7 +36,7 @@ pub struct Extent {
 /// The messages of a header, each continuation's in place of its message, and its ranges in the order of visit.
 #[derive(Drop)]
 pub struct Header {
-    pub messages: Vec<Found>,
+    pub messages: Vec<FoundMessage>,
     pub extents: Vec<Extent>,
 }
 
@@ -60,9 +60,12 @@ impl Refusal {
 }
 
 /// Goes on up to the next continuation message, which it answers, or to the end.
-fn pass(done: &mut Vec<Found>, next: &mut Vec<Found>) -> Result<Option<Found>, OutOfMemory>
+fn pass(
+    done: &mut Vec<FoundMessage>,
+    next: &mut Vec<FoundMessage>,
+) -> Result<Option<FoundMessage>, OutOfMemory>
     ensures passed { IfOk result (λ m. Passed m (founds done.old.items) (stack next.old.items) (founds done.new.items) (stack next.new.items)) }
-    ensures kind { IfOk result (λ m. (c : Found) → m ≡ Some c → c.kind ≡ 16) }
+    ensures kind { IfOk result (λ m. (c : FoundMessage) → m ≡ Some c → c.kind ≡ 16) }
 {
     while let Some(m) = next.pop() {
         if m.kind == CONTINUATION {
@@ -81,7 +84,7 @@ fn put_block(
     place: u64,
     len: u64,
     bytes: &[u8],
-    next: &mut Vec<Found>,
+    next: &mut Vec<FoundMessage>,
 ) -> Result<(), CheckError>
     requires { place + length bytes.now ≤ 2 ^ 64 }
     ensures { Told (block_before refusal.kind refusal.at tracked place len bytes.now (stack next.old.items)) (answering (stack next.new.items) result) }
@@ -105,8 +108,8 @@ fn enter<I: PieceRead>(
     image: &mut I,
     refusal: Refusal,
     tracked: bool,
-    m: &Found,
-    next: &mut Vec<Found>,
+    m: &FoundMessage,
+    next: &mut Vec<FoundMessage>,
     extents: &mut Vec<Extent>,
 ) -> Result<(), CheckError>
     requires { m.now.kind ≡ 16 }
@@ -141,7 +144,7 @@ fn walk<I: PieceRead>(
     image: &mut I,
     refusal: Refusal,
     tracked: bool,
-    mut next: Vec<Found>,
+    mut next: Vec<FoundMessage>,
     mut extents: Vec<Extent>,
 ) -> Result<Header, CheckError>
     ensures { Ran (I.view image.old) (I.view image.new)
@@ -164,7 +167,11 @@ fn walk<I: PieceRead>(
 }
 
 /// The messages of a header, of which these bytes were found, the last of all first.
-fn chunk_messages(alloc: Global, refusal: Refusal, bytes: &[u8]) -> Result<Vec<Found>, CheckError>
+fn chunk_0_messages(
+    alloc: Global,
+    refusal: Refusal,
+    bytes: &[u8],
+) -> Result<Vec<FoundMessage>, CheckError>
     requires { refusal.at + length bytes.now ≤ 2 ^ 64 }
     ensures { Told (seen (found_at refusal.at true) (finding_for refusal.kind refusal.at (messages_at bytes.now))) (seen (λ v. stack v.items) result) }
 {
@@ -180,7 +187,7 @@ fn chunk_messages(alloc: Global, refusal: Refusal, bytes: &[u8]) -> Result<Vec<F
 }
 
 /// A header, of which these bytes were found, with its continuation blocks.
-pub fn from_chunk<I: PieceRead>(
+pub fn from_chunk_0<I: PieceRead>(
     alloc: Global,
     image: &mut I,
     refusal: Refusal,
@@ -188,9 +195,9 @@ pub fn from_chunk<I: PieceRead>(
     bytes: &[u8],
 ) -> Result<Header, CheckError>
     requires { refusal.at + length bytes.now ≤ 2 ^ 64 }
-    ensures { Ran (I.view image.old) (I.view image.new) (λ img. finding_for refusal.kind refusal.at (eval img (model.from_chunk refusal.at p.now bytes.now))) (seen header_of result) }
+    ensures { Ran (I.view image.old) (I.view image.new) (λ img. finding_for refusal.kind refusal.at (eval img (model.from_chunk_0 refusal.at p.now bytes.now))) (seen header_of result) }
 {
-    let next = chunk_messages(alloc, refusal, bytes)?;
+    let next = chunk_0_messages(alloc, refusal, bytes)?;
     let mut extents = Vec::new(alloc);
     add_extent(&mut extents, refusal.at, p.total)?;
     walk(alloc, image, refusal, p.tracked, next, extents)

@@ -47,8 +47,8 @@ abbrev pub filled_chunk : Described → List ℕ
 filled_chunk d = copies (d.layout.chunk_rows * d.layout.chunk_cols) (fill_cell d)
 
 -- the value is one of the dataset's type
-abbrev pub Fits : Described → ℤ → Type 0
-Fits d v = (bytes : List ℕ) × (cell_bytes_of v d.int_type ≡ Some bytes)
+abbrev pub FitsType : Described → ℤ → Type 0
+FitsType d v = (bytes : List ℕ) × (cell_bytes_of v d.int_type ≡ Some bytes)
 
 -- the cells of some values, one behind the other
 unfoldable pub cells_of : Described → List ℤ → List ℕ

@@ -1,7 +1,7 @@
 //! Cells of values, and cells of the fill.
 ghost use Rattle.std.specs.Prelude.{◌≡◌, ◌+◌, ◌*◌, ◌<◌, ◌≤◌, ◌^◌, ◌++◌, length, Some, OnOk, IfOk, EachIndex, ℤ, List, ℕ};
 ghost use Rattle.std.specs.List.{slice_get};
-ghost use Rattle.h5w_chunks.specs.Grids.{Fits, IsGrid, cells_of, chunk_len, copies, dataset_of, fill_cell, filled_chunk};
+ghost use Rattle.h5w_chunks.specs.Grids.{FitsType, IsGrid, cells_of, chunk_len, copies, dataset_of, fill_cell, filled_chunk};
 ghost use Rattle.h5w_chunks.specs.Integers.{cell_bytes_of};
 ghost use Rattle.h5w_types.specs.Fields.{int_type_of};
 
@@ -14,7 +14,7 @@ impl Grid {
     /// Adds the cell of a value.
     pub fn put_cell(&self, value: i128, out: &mut Vec<u8>) -> Result<(), OutOfMemory>
         requires grid { IsGrid self.now }
-        requires fits { Fits (dataset_of self.now) value }
+        requires fits { FitsType (dataset_of self.now) value }
         ensures { (bytes : List ℕ) → cell_bytes_of value (int_type_of self.now.int_type) ≡ Some bytes → OnOk result (out.new.items ≡ out.old.items ++ bytes) }
     {
         let cell = bytes_of(value, &self.int_type).unwrap();
@@ -25,7 +25,7 @@ impl Grid {
     /// Adds the cells of some values, one behind the other.
     pub fn put_cells(&self, values: &[i128], out: &mut Vec<u8>) -> Result<(), OutOfMemory>
         requires grid { IsGrid self.now }
-        requires fit { (k : ℕ) (v : ℤ) → slice_get values.now k ≡ Some v → Fits (dataset_of self.now) v }
+        requires fit { (k : ℕ) (v : ℤ) → slice_get values.now k ≡ Some v → FitsType (dataset_of self.now) v }
         ensures { OnOk result (out.new.items ≡ out.old.items ++ cells_of (dataset_of self.now) values.now) }
     {
         for v in values {

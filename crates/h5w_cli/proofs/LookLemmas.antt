@@ -6,20 +6,20 @@ use Rattle.h5w_model.specs.declared.reply.Reply.{Reply}
 use Rattle.h5w_model.specs.declared.reply.Reply.TheVariants as replies
 use Rattle.h5w_polling.specs.OneByOne.{EndsLine, LookedOn}
 use Rattle.h5w_polling.proofs.OneByOneLemmas.{looks_one_by_one}
-use Rattle.h5w_core.specs.Worlds.{WorldView, Fits, rules_of}
+use Rattle.h5w_core.specs.Worlds.{WorldView, HaveOneLog, rules_of}
 use Rattle.h5w_cli.specs.Answers.{Answers}
 
 -- so many looks of a reader were taken between two worlds, and none was answered
 pub record Looked (old now : WorldView) (r j : ℕ) : Type 0 where
   pub rules : rules_of now ≡ rules_of old
-  pub fits : (s : ScriptState) → Fits old s → (shown : ScriptState) × Fits now shown × LookedOn (rules_of old) s r j shown
+  pub fits : (s : ScriptState) → HaveOneLog old s → (shown : ScriptState) × HaveOneLog now shown × LookedOn (rules_of old) s r j shown
 
 pub none_looked : (w : WorldView) (r : ℕ) → Looked w w r 0
 none_looked w r = record { rules = refl; fits = λ s f. (s, f, refl) }
 
 -- what one more look does in each state that fits
 abbrev LooksBy : Rules → WorldView → WorldView → ℕ → Reply → Type 0
-LooksBy g now new r reply = (s : ScriptState) → Fits now s → Allowed g s (looks r 1) reply × Fits new (next_state g s (looks r 1) reply)
+LooksBy g now new r reply = (s : ScriptState) → HaveOneLog now s → Allowed g s (looks r 1) reply × HaveOneLog new (next_state g s (looks r 1) reply)
 
 abbrev pub LooksOnce : WorldView → WorldView → ℕ → Reply → Type 0
 LooksOnce now new r reply = LooksBy (rules_of now) now new r reply
@@ -45,7 +45,7 @@ line_looked old now new r j k reply h same step ends = record {
       let l = h.fits s f in
       let once = looks_by old now new r j reply h step l.0 l.1 in (
         looks_one_by_one.allowed g s l.0 r j k reply l.2 once.0 ends,
-        subst (λ (t : ScriptState). Fits new t) (sym (looks_one_by_one.same g s l.0 r j k reply l.2 once.0 ends)) once.1,
+        subst (λ (t : ScriptState). HaveOneLog new t) (sym (looks_one_by_one.same g s l.0 r j k reply l.2 once.0 ends)) once.1,
       );
 }
 

@@ -9,15 +9,15 @@ use Rattle.h5w_model.specs.declared.reply.Reply.{Reply}
 use Rattle.h5w_text.specs.Streams.{SourceView, SinkView, Gave, GaveSome, Grows}
 use Rattle.h5w_text.specs.Bytes.{Lacks}
 use Rattle.h5w_text.specs.Lines.{lines_of, whole_lines_of}
-use Rattle.h5w_text.specs.Reading.{Ended, Given, GivenUp, IntakeView, IsLine, IsOver, IsWhole, Passed, Reading, lines_left, reading}
+use Rattle.h5w_text.specs.LinesAhead.{Ended, Given, GivenUp, IntakeView, IsLine, IsOver, IsWhole, Passed, LinesAhead, lines_left, lines_ahead}
 use Rattle.h5w_text.specs.Replies.{reply_text}
 use Rattle.h5w_text.specs.Errors.{error_text}
 use Rattle.h5w_text.specs.declared.error.ErrorLine.TheVariants as errors
-use Rattle.h5w_text.specs.declared.line.Line as text_lines
+use Rattle.h5w_text.specs.declared.line.TextLine as text_lines
 use Rattle.h5w_text.specs.declared.line.LineError.{LineError}
 use Rattle.h5w_text.specs.declared.line.LineError.TheVariants.{Failed, Input, OutOfMemory}
 use Rattle.h5w_text.proofs.LineLemmas.{lines_more, lines_done, passed_nothing, passed_twice, whole_cut, whole_lacks}
-use Rattle.h5w_core.specs.Worlds.{WorldView, Fits, rules_of}
+use Rattle.h5w_core.specs.Worlds.{WorldView, HaveOneLog, rules_of}
 use Rattle.h5w_cli.specs.Answers.{Answers, play_line_of}
 use Rattle.h5w_cli.specs.Endings.{Answered, EndsAt, Runs, ending_of, outside}
 use Rattle.h5w_cli.specs.Plays.{Begun, Finished, HasFirst, Replied, SameSource, Stopped, input_limit}
@@ -98,7 +98,7 @@ replied_of g lines text state x = record {
 }
 
 -- so many first lines of the input were answered
-pub record Going (v w : Reading) (begun world : WorldView) (number : ℕ) (k l : SinkView) : Type 0 where
+pub record Going (v w : LinesAhead) (begun world : WorldView) (number : ℕ) (k l : SinkView) : Type 0 where
   pub lines : List (List ℕ)
   pub text : List ℕ
   pub state : ScriptState
@@ -109,7 +109,7 @@ pub record Going (v w : Reading) (begun world : WorldView) (number : ℕ) (k l :
   pub passed : Passed taken v w
   pub first : lines_left v ≡ option_map (λ ls. lines ++ ls) (lines_left w)
   pub rules : rules_of world ≡ rules_of begun
-  pub fits : Fits world state
+  pub fits : HaveOneLog world state
   pub gave : Gave text k l
 
 all_left : (o : Option (List ℕ)) → option_map lines_of o ≡ option_map (λ ls. [] ++ ls) (option_map lines_of o)
@@ -117,7 +117,7 @@ all_left None = refl
 all_left (Some ls) = refl
 
 -- before the first line
-pub going_first : (v : Reading) (world : WorldView) (l : SinkView) → Fits world at_first → Going v v world world 0 l l
+pub going_first : (v : LinesAhead) (world : WorldView) (l : SinkView) → HaveOneLog world at_first → Going v v world world 0 l l
 going_first v world l fits = record {
   lines = [];
   text = [];
@@ -134,14 +134,14 @@ going_first v world l fits = record {
 }
 
 abbrev Stepped : WorldView → WorldView → WorldView → ScriptState → Line → Reply → Type 0
-Stepped begun old new s l r = Allowed (rules_of begun) s l r × Fits new (next_state (rules_of begun) s l r)
+Stepped begun old new s l r = Allowed (rules_of begun) s l r × HaveOneLog new (next_state (rules_of begun) s l r)
 
-stepped : (begun old new : WorldView) (s : ScriptState) (l : Line) (r : Reply) → rules_of old ≡ rules_of begun → Fits old s → Answers old l r new → Stepped begun old new s l r
+stepped : (begun old new : WorldView) (s : ScriptState) (l : Line) (r : Reply) → rules_of old ≡ rules_of begun → HaveOneLog old s → Answers old l r new → Stepped begun old new s l r
 stepped begun old new s l r e fits a =
-    subst (λ (g : Rules). Allowed g s l r × Fits new (next_state g s l r)) e (a.lawful s fits)
+    subst (λ (g : Rules). Allowed g s l r × HaveOneLog new (next_state g s l r)) e (a.lawful s fits)
 
 -- after one more line, whose bytes were passed over
-pub going_more : {v u w : Reading} {begun old new : WorldView} {number : ℕ} {k l m : SinkView} (line bytes : List ℕ) → Going v u begun old number k l → Given line u w → Passed bytes u w → Answered line old new l m → Going v w begun new (number + 1) k m
+pub going_more : {v u w : LinesAhead} {begun old new : WorldView} {number : ℕ} {k l m : SinkView} (line bytes : List ℕ) → Going v u begun old number k l → Given line u w → Passed bytes u w → Answered line old new l m → Going v w begun new (number + 1) k m
 going_more {v} {u} {w} {begun} {old} {new} {number} {k} {l} {m} line bytes x given passed a =
     let s = stepped begun old new x.state a.line a.reply x.rules x.fits a.answers in record {
       lines = x.lines ++ line ∷ [];
@@ -159,11 +159,11 @@ going_more {v} {u} {w} {begun} {old} {new} {number} {k} {l} {m} line bytes x giv
     }
 
 -- so many first lines were answered, and they are the whole lines of what was taken
-pub record GoingWhole (v w : Reading) (begun world : WorldView) (number : ℕ) (k l : SinkView) : Type 0 where
+pub record GoingWhole (v w : LinesAhead) (begun world : WorldView) (number : ℕ) (k l : SinkView) : Type 0 where
   pub going : Going v w begun world number k l
   pub whole : (rest : List ℕ) → whole_lines_of (going.taken ++ rest) ≡ going.lines ++ whole_lines_of rest
 
-pub whole_first : (v : Reading) (world : WorldView) (l : SinkView) → Fits world at_first → GoingWhole v v world world 0 l l
+pub whole_first : (v : LinesAhead) (world : WorldView) (l : SinkView) → HaveOneLog world at_first → GoingWhole v v world world 0 l l
 unfolding going_first
 whole_first v world l fits = record { going = going_first v world l fits; whole = λ rest. refl }
 
@@ -173,7 +173,7 @@ one_whole taken line rest lines lacks whole =
     ap whole_lines_of (append_assoc taken (line ++ 10 ∷ []) rest ∙ ap (λ l. taken ++ l) (append_assoc line (10 ∷ []) rest)) ∙ whole (line ++ 10 ∷ rest)
     ∙ ap (λ ls. lines ++ ls) (whole_cut [] line rest lacks) ∙ sym (append_assoc lines (line ∷ []) (whole_lines_of rest))
 
-pub whole_more : {v u w : Reading} {begun old new : WorldView} {number : ℕ} {k l m : SinkView} (line : List ℕ) → GoingWhole v u begun old number k l → Given line u w → IsWhole line u w → Answered line old new l m → GoingWhole v w begun new (number + 1) k m
+pub whole_more : {v u w : LinesAhead} {begun old new : WorldView} {number : ℕ} {k l m : SinkView} (line : List ℕ) → GoingWhole v u begun old number k l → Given line u w → IsWhole line u w → Answered line old new l m → GoingWhole v w begun new (number + 1) k m
 unfolding going_more
 whole_more line x given is a = record {
   going = going_more line (line ++ 10 ∷ []) x.going given is.passed a;
@@ -191,14 +191,14 @@ first_cases (Some a) None taken lines bound cut e = absurd (cc)
 first_cases (Some a) (Some b) taken lines bound cut e = record { taken = taken; rest = b; is = cc; bound = bound; lines_are = cc }
 
 -- the bytes of a line that was given, behind those that were taken before
-more_first : {v u w : Reading} (taken line : List ℕ) (lines : List (List ℕ)) → v.room ≡ input_limit → Passed taken v u → Given line u w → lines_left v ≡ option_map (λ ls. lines ++ ls) (lines_left w)
+more_first : {v u w : LinesAhead} (taken line : List ℕ) (lines : List (List ℕ)) → v.room ≡ input_limit → Passed taken v u → Given line u w → lines_left v ≡ option_map (λ ls. lines ++ ls) (lines_left w)
     → IfSome v.left (HasFirst lines)
 more_first {v} {u} {w} taken line lines room passed given first = elim given.passed [
   | inl p ↦ (let both = passed_twice taken line passed p in first_cases v.left w.left (taken ++ line) lines (omega (arith, both.room, room)) both.left first)
   | inr p ↦ (let both = passed_twice taken (line ++ 10 ∷ []) passed p in first_cases v.left w.left (taken ++ (line ++ 10 ∷ [])) lines (omega (arith, both.room, room)) both.left first)
 ]
 
-begun_of : {v w : Reading} {begun world : WorldView} {number : ℕ} {k l : SinkView} (x : Going v w begun world number k l) (last text : List ℕ) → v.room ≡ input_limit → text ≡ x.text ++ last
+begun_of : {v w : LinesAhead} {begun world : WorldView} {number : ℕ} {k l : SinkView} (x : Going v w begun world number k l) (last text : List ℕ) → v.room ≡ input_limit → text ≡ x.text ++ last
     → Begun (rules_of begun) (outside v) last text
 begun_of {v} {w} {begun} x last text room e = record {
   lines = x.lines;
@@ -229,7 +229,7 @@ all_of_left None held e = refl
 all_of_left (Some a) held e = ap (λ h. Some (h ++ a)) e
 
 -- the source failed behind whole lines
-stopped_of : {v u : Reading} {begun world : WorldView} {number : ℕ} {k l : SinkView} (t : SourceView) (j : IntakeView) (last : List ℕ) (x : GoingWhole v u begun world number k l) → v.room ≡ input_limit → GivenUp u (reading t j) j.held
+stopped_of : {v u : LinesAhead} {begun world : WorldView} {number : ℕ} {k l : SinkView} (t : SourceView) (j : IntakeView) (last : List ℕ) (x : GoingWhole v u begun world number k l) → v.room ≡ input_limit → GivenUp u (lines_ahead t j) j.held
     → Stopped (rules_of begun) (outside v) t last (x.going.text ++ last)
 stopped_of {v} {u} {begun} t j last x room up = let both = passed_twice x.going.taken up.front x.going.passed up.passed in record {
   taken = x.going.taken ++ up.front;
@@ -241,8 +241,8 @@ stopped_of {v} {u} {begun} t j last x room up = let both = passed_twice x.going.
 }
 
 -- the next line is not there
-pub ended_at_source : {v u : Reading} {begun world : WorldView} {number : ℕ} {k l : SinkView} (t : SourceView) (j : IntakeView) (e : LineError) → GoingWhole v u begun world number k l → v.room ≡ input_limit → (e ≡ Failed → Rose u.faults t.faults)
-    → (e ≡ Failed → GivenUp u (reading t j) j.held) → ((limit : ℕ) → e ≡ Input limit → IsOver u) → Runs {A = Unit {0}} (rules_of begun) (Err (ending_of e)) (outside v) t k l
+pub ended_at_source : {v u : LinesAhead} {begun world : WorldView} {number : ℕ} {k l : SinkView} (t : SourceView) (j : IntakeView) (e : LineError) → GoingWhole v u begun world number k l → v.room ≡ input_limit → (e ≡ Failed → Rose u.faults t.faults)
+    → (e ≡ Failed → GivenUp u (lines_ahead t j) j.held) → ((limit : ℕ) → e ≡ Input limit → IsOver u) → Runs {A = Unit {0}} (rules_of begun) (Err (ending_of e)) (outside v) t k l
 ended_at_source {v} {u} t j Failed x room rose up over = record {
   text = x.going.text;
   begun = begun_of x.going [] x.going.text room (sym (append-nil x.going.text));
@@ -269,7 +269,7 @@ ended_at_source t j OutOfMemory x room rose up over = record {
 }
 
 -- the next line is given no reply, or its reply is not written
-pub ended_at_line : {v u w : Reading} {begun world : WorldView} {number : ℕ} {k l : SinkView} (t : SourceView) (m : SinkView) (line : List ℕ) (e : Ending) → v.room ≡ input_limit → Going v u begun world number k l → Given line u w → EndsAt line (number + 1) world l m e
+pub ended_at_line : {v u w : LinesAhead} {begun world : WorldView} {number : ℕ} {k l : SinkView} (t : SourceView) (m : SinkView) (line : List ℕ) (e : Ending) → v.room ≡ input_limit → Going v u begun world number k l → Given line u w → EndsAt line (number + 1) world l m e
     → Runs {A = Unit {0}} (rules_of begun) (Err e) (outside v) t k m
 ended_at_line {v} {u} {w} {begun} {world} {number} {k} {l} t m line (endings.Line n) room x given h = record {
   text = x.text;
@@ -331,13 +331,13 @@ all_taken (Some a) (Some b) taken e none bound =
     omega (arith, same, bound)
 
 -- no line is left
-pub ended_whole : {v u : Reading} {begun world : WorldView} {number : ℕ} {k l : SinkView} (t : SourceView) (j : IntakeView) → v.room ≡ input_limit → Going v u begun world number k l → Ended u (reading t j) → Finished (rules_of begun) statuses.Done (outside v) t k l
+pub ended_whole : {v u : LinesAhead} {begun world : WorldView} {number : ℕ} {k l : SinkView} (t : SourceView) (j : IntakeView) → v.room ≡ input_limit → Going v u begun world number k l → Ended u (lines_ahead t j) → Finished (rules_of begun) statuses.Done (outside v) t k l
 ended_whole {v} {u} {begun} t j room x e = record {
   text = x.text;
   writes = record {
     bound = all_taken v.left u.left x.taken x.passed.left e.before (omega (arith, x.passed.room, room));
     lines = x.lines;
-    all = all_cases v.left x.lines (lines_done (lines_left v) x.lines u (reading t j) x.first e);
+    all = all_cases v.left x.lines (lines_done (lines_left v) x.lines u (lines_ahead t j) x.first e);
     read = none_behind t.left j.held e.now;
     replied = replied_of (rules_of begun) x.lines x.text x.state x.so_far;
   };
@@ -345,13 +345,13 @@ ended_whole {v} {u} {begun} t j room x e = record {
 }
 
 -- the last line was answered
-last_more : {v u w : Reading} {begun old new : WorldView} {number : ℕ} {k l m : SinkView} (line : List ℕ) → Going v u begun old number k l → Given line u w → Passed line u w ⊎ Passed (line ++ 10 ∷ []) u w → Answered line old new l m → Going v w begun new (number + 1) k m
+last_more : {v u w : LinesAhead} {begun old new : WorldView} {number : ℕ} {k l m : SinkView} (line : List ℕ) → Going v u begun old number k l → Given line u w → Passed line u w ⊎ Passed (line ++ 10 ∷ []) u w → Answered line old new l m → Going v w begun new (number + 1) k m
 last_more line x given (inl p) a = going_more line line x given p a
 last_more line x given (inr p) a = going_more line (line ++ 10 ∷ []) x given p a
 
 -- the last line, which no end follows, is answered, or the script ends at it
-pub ended_at_last : {v u : Reading} {begun old : WorldView} {number : ℕ} {k l : SinkView} (new : WorldView) (t : SourceView) (j : IntakeView) (m : SinkView) (line : text_lines.Line) (r : Result (Unit {0}) Ending) → v.room ≡ input_limit → Going v u begun old number k l
-    → (bytes : List ℕ) × IsLine line bytes × Given bytes u (reading t j) × IfSome (reading t j).left (λ left. left ≡ [])
+pub ended_at_last : {v u : LinesAhead} {begun old : WorldView} {number : ℕ} {k l : SinkView} (new : WorldView) (t : SourceView) (j : IntakeView) (m : SinkView) (line : text_lines.TextLine) (r : Result (Unit {0}) Ending) → v.room ≡ input_limit → Going v u begun old number k l
+    → (bytes : List ℕ) × IsLine line bytes × Given bytes u (lines_ahead t j) × IfSome (lines_ahead t j).left (λ left. left ≡ [])
     → OnOk r ((bytes : List ℕ) → IsLine line bytes → Answered bytes old new l m) → IfErr r (λ e. (bytes : List ℕ) → IsLine line bytes → EndsAt bytes (number + 1) old l m e) → Runs (rules_of begun) r (outside v) t k m
 ended_at_last new t j m line (Ok a) room x given answered ended =
     ended_whole t j room (last_more given.0 x given.2 given.2.passed (answered given.0 given.1)) (record { before = given.3; now = given.3 })
@@ -360,11 +360,11 @@ ended_at_last new t j m line (Err e) room x given answered ended = ended_at_line
 -- ---- The lines of a source
 
 -- nothing is held at first
-starts : (s : SourceView) (i : IntakeView) → i.held ≡ [] → outside (reading s i) ≡ s
+starts : (s : SourceView) (i : IntakeView) → i.held ≡ [] → outside (lines_ahead s i) ≡ s
 starts s i e = ap (λ o. record s { left = o }) (all_of_left s.left i.held e)
 
 -- from the lines to the source, which is given back
-pub runs_of : (g : Rules) (r : Result (Unit {0}) Ending) (a s b t : SourceView) (i : IntakeView) (k l : SinkView) → Runs g r (outside (reading a i)) b k l → i.held ≡ [] → a ≡ s → b ≡ t → Runs g r s t k l
+pub runs_of : (g : Rules) (r : Result (Unit {0}) Ending) (a s b t : SourceView) (i : IntakeView) (k l : SinkView) → Runs g r (outside (lines_ahead a i)) b k l → i.held ≡ [] → a ≡ s → b ≡ t → Runs g r s t k l
 runs_of g r a s b t i k l h none same given =
     subst (λ (x : SourceView). Runs g r x t k l) same
     (subst (λ (y : SourceView). Runs g r a y k l) given

@@ -3,7 +3,7 @@ use Rattle.std.proofs.Common.{ℕ, zero, suc, ◌+◌, ◌-◌, ◌<◌, ◌≡�
 use Rattle.h5w_model.specs.Lawful.{Rules, ScriptState, Allowed, after_shows, committed, next_state, shows_up_to}
 use Rattle.h5w_model.specs.declared.reply.Reply.{Reply}
 use Rattle.h5w_model.specs.declared.reply.Reply.TheVariants.{Written}
-use Rattle.h5w_core.specs.Worlds.{WorldView, Fits, rules_of}
+use Rattle.h5w_core.specs.Worlds.{WorldView, HaveOneLog, rules_of}
 use Rattle.h5w_cli.specs.Answers.{Answers}
 
 -- the state where so many pieces are pending
@@ -47,22 +47,22 @@ one_more g s j reply h allowed = one_more_of g s (after_shows g s j) j reply (fe
 -- so many pieces became visible between two worlds
 pub record Shown (old now : WorldView) (j : ℕ) : Type 0 where
   pub rules : rules_of now ≡ rules_of old
-  pub fits : (s : ScriptState) → Fits old s → Fits now (after_shows (rules_of old) s j)
+  pub fits : (s : ScriptState) → HaveOneLog old s → HaveOneLog now (after_shows (rules_of old) s j)
 
 pub none_shown : (w : WorldView) → Shown w w 0
 none_shown w = record {
   rules = refl;
-  fits = λ s f. subst (λ (t : ScriptState). Fits w t) (sym (nothing_shown (rules_of w) s (f.state.ends_flush ∙ ap (nat_lt 0) (sym f.state.pending)))) f;
+  fits = λ s f. subst (λ (t : ScriptState). HaveOneLog w t) (sym (nothing_shown (rules_of w) s (f.state.ends_flush ∙ ap (nat_lt 0) (sym f.state.pending)))) f;
 }
 
 pub more_shown : (old now new : WorldView) (j : ℕ) (reply : Reply) → Shown old now j → j < length old.session.pending → rules_of new ≡ rules_of now
-    → ((s : ScriptState) → Fits now s → Allowed (rules_of now) s (shows_up_to 1) reply × Fits new (next_state (rules_of now) s (shows_up_to 1) reply)) → Shown old new (j + 1)
+    → ((s : ScriptState) → HaveOneLog now s → Allowed (rules_of now) s (shows_up_to 1) reply × HaveOneLog new (next_state (rules_of now) s (shows_up_to 1) reply)) → Shown old new (j + 1)
 more_shown old now new j reply h bound same step = record {
   rules = same ∙ h.rules;
   fits = λ s f.
       let g = rules_of old in
-      let stepped = subst (λ (g : Rules). (s : ScriptState) → Fits now s → Allowed g s (shows_up_to 1) reply × Fits new (next_state g s (shows_up_to 1) reply)) h.rules step (after_shows g s j) (h.fits s f) in
-      subst (λ (t : ScriptState). Fits new t) (one_more g s j reply (omega (arith, f.state.pending)) stepped.0) stepped.1;
+      let stepped = subst (λ (g : Rules). (s : ScriptState) → HaveOneLog now s → Allowed g s (shows_up_to 1) reply × HaveOneLog new (next_state g s (shows_up_to 1) reply)) h.rules step (after_shows g s j) (h.fits s f) in
+      subst (λ (t : ScriptState). HaveOneLog new t) (one_more g s j reply (omega (arith, f.state.pending)) stepped.0) stepped.1;
 }
 
 -- the pieces that one line asks for

@@ -5,7 +5,7 @@ use Rattle.h5w_model.specs.Lawful.{Rules}
 use Rattle.h5w_text.specs.Streams.{SourceView, SinkView}
 use Rattle.h5w_text.specs.Errors.{error_text}
 use Rattle.h5w_text.specs.declared.error.ErrorLine.TheVariants as errors
-use Rattle.h5w_cli.specs.Endings.{Leaves, Runs, Said, Told, whole, failed}
+use Rattle.h5w_cli.specs.Endings.{Leaves, Runs, Said, SaidUnlessMemory, whole, failed}
 use Rattle.h5w_cli.specs.declared.ending.Ending.{Ending}
 use Rattle.h5w_core.specs.Worlds.{rules_for}
 use Rattle.h5w_words.specs.declared.job.WordsError.{WordsError}
@@ -58,7 +58,7 @@ ends_said g status result last s t k l m n h (failed e rose some) = subst (λ (r
   gave = gave_then_some h.text last h.gave some;
 })
 
-pub ends : (g : Rules) (status result : Status) (last : List ℕ) (s t : SourceView) (k l m : SinkView) → status ≢ Sink → Leaves g status last s t k l → Told last status result l m → Plays g result s t k m
+pub ends : (g : Rules) (status result : Status) (last : List ℕ) (s t : SourceView) (k l m : SinkView) → status ≢ Sink → Leaves g status last s t k l → SaidUnlessMemory last status result l m → Plays g result s t k m
 ends g status result last s t k l m n h (inl said) = ends_said g status result last s t k l m n h said
 ends g status result last s t k l m n h (inr said) = ends_said g Memory result (error_text errors.Memory) s t k l m (λ e. cc)
     (record { text = h.text; begun = h.begun; writes = begun_with g s (error_text errors.Memory) h.text h.begun; gave = h.gave }) said

@@ -3,7 +3,7 @@ use Rattle.std.specs.Prelude.{◌≡◌, ℕ, ◌≤◌, List, Option}
 use Rattle.h5w_model.specs.Lawful.{Line, opens, refreshes, reads, looks, ScriptState, Allowed, next_state}
 use Rattle.h5w_model.specs.declared.reply.Reply.{Reply}
 use Rattle.h5w_text.specs.Scripts.{script_line_of}
-use Rattle.h5w_core.specs.Worlds.{WorldView, Fits, rules_of}
+use Rattle.h5w_core.specs.Worlds.{WorldView, HaveOneLog, rules_of}
 
 -- its reader is one of 16, and it asks for a look at least
 abbrev pub InRange : Line → Type 0
@@ -21,4 +21,4 @@ play_line_of bytes = script_line_of 1 bytes
 -- next state fits the world after.
 pub record Answers (old : WorldView) (line : Line) (reply : Reply) (new : WorldView) : Type 0 where
   pub rules : rules_of new ≡ rules_of old
-  pub lawful : (s : ScriptState) → Fits old s → Allowed (rules_of old) s line reply × Fits new (next_state (rules_of old) s line reply)
+  pub lawful : (s : ScriptState) → HaveOneLog old s → Allowed (rules_of old) s line reply × HaveOneLog new (next_state (rules_of old) s line reply)

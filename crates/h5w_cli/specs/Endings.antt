@@ -4,7 +4,7 @@ use Rattle.h5w_model.specs.Causes.{Rose}
 use Rattle.h5w_model.specs.Lawful.{Line as ScriptedLine, Rules}
 use Rattle.h5w_model.specs.declared.reply.Reply.{Reply}
 use Rattle.h5w_text.specs.Streams.{SourceView, SinkView, Gave, GaveSome}
-use Rattle.h5w_text.specs.Reading.{Reading}
+use Rattle.h5w_text.specs.LinesAhead.{LinesAhead}
 use Rattle.h5w_text.specs.Replies.{reply_text}
 use Rattle.h5w_text.specs.Errors.{error_text}
 use Rattle.h5w_text.specs.declared.error.ErrorLine.TheVariants as errors
@@ -24,7 +24,7 @@ ending_of (line_errors.Input limit) = Input
 ending_of line_errors.OutOfMemory = Memory
 
 -- what a reader of lines has before it, as a source
-abbrev pub outside : Reading → SourceView
+abbrev pub outside : LinesAhead → SourceView
 outside v = record { left = v.left; faults = v.faults; through = v.through }
 
 -- a line of the input was given a reply, and its text was written
@@ -75,5 +75,5 @@ pub data Said (last : List ℕ) (status result : Status) (k l : SinkView) : Type
   failed : result ≡ statuses.Sink → Rose k.faults l.faults → GaveSome last k l → Said last status result k l
 
 -- the same, unless memory for them was refused
-abbrev pub Told : List ℕ → Status → Status → SinkView → SinkView → Type 0
-Told last status result k l = Said last status result k l ⊎ Said (error_text errors.Memory) statuses.Memory result k l
+abbrev pub SaidUnlessMemory : List ℕ → Status → Status → SinkView → SinkView → Type 0
+SaidUnlessMemory last status result k l = Said last status result k l ⊎ Said (error_text errors.Memory) statuses.Memory result k l

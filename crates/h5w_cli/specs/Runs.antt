@@ -6,7 +6,7 @@ use Rattle.h5w_text.specs.declared.error.ErrorLine.TheVariants as errors
 use Rattle.h5w_core.specs.Worlds.{rules_for}
 use Rattle.h5w_words.specs.declared.job.Job.{Job}
 use Rattle.h5w_words.specs.declared.job.Job.TheVariants.{Play}
-use Rattle.h5w_cli.specs.Endings.{Told}
+use Rattle.h5w_cli.specs.Endings.{SaidUnlessMemory}
 use Rattle.h5w_cli.specs.Plays.{Completes, Plays}
 use Rattle.h5w_cli.specs.declared.status.Status.{Status}
 use Rattle.h5w_cli.specs.declared.status.Status.TheVariants as statuses
@@ -18,7 +18,7 @@ Does (Play options attempts) status s t k l = Plays (rules_for options attempts)
 -- the words are outside the command set: nothing is read, and that is said
 pub record Refuses (status : Status) (s t : SourceView) (k l : SinkView) : Type 0 where
   pub unread : t ≡ s
-  pub told : Told (error_text errors.Usage) statuses.Usage status k l
+  pub told : SaidUnlessMemory (error_text errors.Usage) statuses.Usage status k l
 
 -- what a run leaves, by the job of its words
 abbrev pub Ran : Option Job → Status → SourceView → SourceView → SinkView → SinkView → Type 0

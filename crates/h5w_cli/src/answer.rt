@@ -1,12 +1,12 @@
 //! The replies to the lines of a script.
 ghost use Rattle.std.specs.Prelude.{◌≡◌, ◌≤◌, ℕ, List, length, Some, None, Err, IfOk};
 ghost use Rattle.h5w_model.specs.Lawful.{Line as ScriptedLine, looks, shows_up_to};
-ghost use Rattle.h5w_text.specs.Reading.{IsLine};
+ghost use Rattle.h5w_text.specs.LinesAhead.{IsLine};
 ghost use Rattle.h5w_text.specs.Words.{line_of_script};
 ghost use Rattle.h5w_cli.specs.Answers.{Answers, InRange, play_line_of};
 
 use h5w_core::{Event, OutOfMemory, Reply, World};
-use h5w_text::{Line, ScriptLine, TextError, script_line};
+use h5w_text::{ScriptLine, TextError, TextLine, script_line};
 use std::alloc::Global;
 
 /// Why a line is given no reply.
@@ -101,11 +101,11 @@ fn reply(world: &mut World, line: ScriptLine) -> Result<Reply, OutOfMemory>
 }
 
 /// The reply to a line of the input.
-pub fn answer(alloc: Global, world: &mut World, line: &Line) -> Result<Reply, Refusal>
+pub fn answer(alloc: Global, world: &mut World, line: &TextLine) -> Result<Reply, Refusal>
     ensures answers { IfOk result (λ reply. (bytes : List ℕ) → IsLine line.now bytes → (l : ScriptedLine) × (play_line_of bytes ≡ Some l) × Answers world.old l reply world.new) }
     ensures refused { result ≡ Err Refusal.Line → (bytes : List ℕ) → IsLine line.now bytes → play_line_of bytes ≡ None }
 {
-    let Line::Whole(bytes) = line else {
+    let TextLine::Whole(bytes) = line else {
         return Err(Refusal::Line);
     };
     let line = script_line(alloc, bytes.as_slice(), 1)?;

@@ -3,16 +3,16 @@ ghost use Rattle.std.specs.Prelude.{◌≡◌, ◌≤◌, ◌+◌, ◌^◌, ℕ,
 ghost use Rattle.h5w_model.specs.Lawful.{at_first};
 ghost use Rattle.h5w_model.specs.Options.{AreAttempts, AreOptions};
 ghost use Rattle.h5w_text.specs.Errors.{error_text};
-ghost use Rattle.h5w_text.specs.Reading.{IsLine, reading};
-ghost use Rattle.h5w_core.specs.Worlds.{Fits, rules_for, rules_of};
-ghost use Rattle.h5w_cli.specs.Endings.{Answered, EndsAt, Runs, Said, Told, outside};
+ghost use Rattle.h5w_text.specs.LinesAhead.{IsLine, lines_ahead};
+ghost use Rattle.h5w_core.specs.Worlds.{HaveOneLog, rules_for, rules_of};
+ghost use Rattle.h5w_cli.specs.Endings.{Answered, EndsAt, Runs, Said, SaidUnlessMemory, outside};
 ghost use Rattle.h5w_cli.specs.Plays.{Plays, SameSource, input_limit};
 
 use crate::answer::{Refusal, answer};
 use crate::ending::Ending;
 use crate::status::Status;
 use h5w_core::{Options, World};
-use h5w_text::{ErrorLine, Intake, Line, Lines, Next, Sink, Source, write_error, write_reply};
+use h5w_text::{ErrorLine, Intake, Lines, Next, Sink, Source, TextLine, write_error, write_reply};
 use std::alloc::Global;
 
 /// The most bytes of an input.
@@ -22,7 +22,7 @@ const INPUT_LIMIT: u64 = 1 << 40;
 fn answer_line<K: Sink>(
     alloc: Global,
     world: &mut World,
-    line: &Line,
+    line: &TextLine,
     number: u64,
     text: &mut Vec<u8>,
     sink: &mut K,
@@ -50,9 +50,9 @@ fn answer_lines<S: Source, K: Sink>(
     lines: &mut Lines<'_, S>,
     sink: &mut K,
 ) -> Result<(), Ending>
-    requires fits { Fits world.old at_first }
+    requires fits { HaveOneLog world.old at_first }
     requires room { length lines.old.intake.now.held + lines.old.intake.now.more ≡ input_limit }
-    ensures runs { Runs (rules_of world.old) result (outside (reading (S.view lines.old.source.now) lines.old.intake.now)) (S.view lines.new.source.now) (K.view sink.old) (K.view sink.new) }
+    ensures runs { Runs (rules_of world.old) result (outside (lines_ahead (S.view lines.old.source.now) lines.old.intake.now)) (S.view lines.new.source.now) (K.view sink.old) (K.view sink.new) }
     ensures source { SameSource (S.view lines.old.source.now) (S.view lines.new.source.now) }
     ensures same_reference { lines.new.source.ghost_name ≡ lines.old.source.ghost_name }
     ensures same_intake { lines.new.intake.ghost_name ≡ lines.old.intake.ghost_name }
@@ -80,7 +80,7 @@ fn script<S: Source, K: Sink>(
     source: &mut S,
     sink: &mut K,
 ) -> Result<(), Ending>
-    requires { Fits world.old at_first }
+    requires { HaveOneLog world.old at_first }
     ensures runs { Runs (rules_of world.old) result (S.view source.old) (S.view source.new) (K.view sink.old) (K.view sink.new) }
     ensures source { SameSource (S.view source.old) (S.view source.new) }
 {
@@ -101,7 +101,7 @@ pub fn say<K: Sink>(bytes: &[u8], status: Status, sink: &mut K) -> Status
 
 /// Writes the line of an error as the last one.
 fn tell<K: Sink>(alloc: Global, error: &ErrorLine, status: Status, sink: &mut K) -> Status
-    ensures { Told (error_text error.now) status result (K.view sink.old) (K.view sink.new) }
+    ensures { SaidUnlessMemory (error_text error.now) status result (K.view sink.old) (K.view sink.new) }
 {
     let mut text = Vec::new(alloc);
     match write_error(&mut text, error) {

@@ -15,7 +15,7 @@ use Rattle.h5w_writer.specs.declared.refusal.AppendError.{AppendError}
 use Rattle.h5w_writer.specs.declared.refusal.AppendError.TheVariants as errors
 use Rattle.h5w_writer.specs.Plans.{options_of}
 use Rattle.h5w_writer.proofs.LawLemmas.{standing_laws}
-use Rattle.h5w_core.specs.Worlds.{WorldView, Fits, IsStateOf, Steps, polling_of, rules_of}
+use Rattle.h5w_core.specs.Worlds.{WorldView, HaveOneLog, IsStateOf, Steps, polling_of, rules_of}
 use Rattle.h5w_core.proofs.StateLemmas.{rows_in-length, in_rows, load_of-log, spent_in-events}
 use Rattle.h5w_core.proofs.WorldLemmas.{world_of, changed}
 use Rattle.h5w_image.specs.Memory.{MemView}
@@ -126,7 +126,7 @@ refused_steps w vs e refusal own =
       lawful = λ s fits. (
         sym (refused_rows e (rows_of w.session + length vs)) ∙ ap (λ (r : Option AppendError). append_answer r (rows_of w.session + length vs)) (sym refusal)
             ∙ sym (append_reply-answer w s fits.log vs fits.stands.stands fits.state),
-        subst (λ (t : ScriptState). Fits w t) (sym (refused_state (rules_of w) s vs e own)) fits,
+        subst (λ (t : ScriptState). HaveOneLog w t) (sym (refused_state (rules_of w) s vs e own)) fits,
       );
     }
 

@@ -21,7 +21,7 @@ use Rattle.h5w_writer.proofs.LawLemmas.{standing_laws}
 use Rattle.h5w_core.specs.Creation.{Creates}
 use Rattle.h5w_core.specs.Readers.{placed, reader_at}
 use Rattle.h5w_core.specs.Steady.{steady}
-use Rattle.h5w_core.specs.Worlds.{Fits, HoldsTogether, nobody, polling_of, rules_for, rules_of}
+use Rattle.h5w_core.specs.Worlds.{HaveOneLog, HoldsTogether, nobody, polling_of, rules_for, rules_of}
 use Rattle.h5w_core.proofs.ShowLemmas.{after_file, after_stopped, after_waiting, after_pending}
 use Rattle.h5w_core.proofs.StateLemmas.{in_rows, spent_in-events}
 use Rattle.h5w_core.proofs.WorldLemmas.{world_of}
@@ -88,15 +88,15 @@ piece_more o count s t m n piece pieces pending start is wrote stands room =
     }
 
 -- what a shown piece leaves, where there is one
-abbrev pub Shows : Session → Session → MemView → MemView → Type 0
-Shows s t m n = (w : Write) (ws : List Write) → s.pending ≡ w ∷ ws → (t ≡ after_piece s ws) × Wrote (w ∷ []) (steady m) (steady n) × ((log : Log) → Stands s log → Stands t (and_now (shows w) log))
+abbrev pub ShowsPiece : Session → Session → MemView → MemView → Type 0
+ShowsPiece s t m n = (w : Write) (ws : List Write) → s.pending ≡ w ∷ ws → (t ≡ after_piece s ws) × Wrote (w ∷ []) (steady m) (steady n) × ((log : Log) → Stands s log → Stands t (and_now (shows w) log))
 
-pieces_more : (o : Options) (count : ℕ) (s t : Session) (m n : MemView) (ws : List Write) → s.pending ≡ ws → 1 ≤ length ws → Creates o count s m → Shows s t m n → HasRoomFor t (steady n) → Creates o (count + 1) t n
+pieces_more : (o : Options) (count : ℕ) (s t : Session) (m n : MemView) (ws : List Write) → s.pending ≡ ws → 1 ≤ length ws → Creates o count s m → ShowsPiece s t m n → HasRoomFor t (steady n) → Creates o (count + 1) t n
 pieces_more o count s t m n [] pending some start shown room = absurd (omega arith)
 pieces_more o count s t m n (w ∷ ws) pending some start shown room =
     let h = shown w ws pending in piece_more o count s t m n w ws pending start h.0 h.1 h.2 room
 
-pub shows_more : (o : Options) (count : ℕ) (s t : Session) (m n : MemView) → count < 5 → Creates o count s m → Shows s t m n → HasRoomFor t (steady n) → Creates o (count + 1) t n
+pub shows_more : (o : Options) (count : ℕ) (s t : Session) (m n : MemView) → count < 5 → Creates o count s m → ShowsPiece s t m n → HasRoomFor t (steady n) → Creates o (count + 1) t n
 shows_more o count s t m n few start shown room = pieces_more o count s t m n s.pending refl (omega (arith, some_left o count s m start)) start shown room
 
 -- ---- All five are visible
@@ -119,7 +119,7 @@ nowhere (suc n) (suc r) = nowhere n r
 nobody_at : (r : ℕ) → reader_at nobody r ≡ None
 nobody_at r = ap placed (nowhere 17 r)
 
-created_fits : (o : Options) (attempts : ℕ) (s : Session) (m : MemView) → 1 ≤ attempts → Creates o 5 s m → Fits (world_of s m attempts nobody) at_first
+created_fits : (o : Options) (attempts : ℕ) (s : Session) (m : MemView) → 1 ≤ attempts → Creates o 5 s m → HaveOneLog (world_of s m attempts nobody) at_first
 created_fits o attempts s m some start =
     let w = world_of s m attempts nobody in
     let shown = all_shown o s m start in
@@ -148,9 +148,9 @@ pub created_rules : (o : Options) (attempts : ℕ) (s : Session) (m : MemView) (
 created_rules o attempts s m readers start = ap (λ (f : FileFields). rules_for (options_of f) attempts) start.file
 
 pub created_world_fits : (o : Options) (attempts : ℕ) (s : Session) (m : MemView) (readers : List (Option ReaderCore)) → 1 ≤ attempts → Creates o 5 s m → readers ≡ nobody
-    → Fits (world_of s m attempts readers) at_first
+    → HaveOneLog (world_of s m attempts readers) at_first
 created_world_fits o attempts s m readers some start none =
-    subst (λ (places : List (Option ReaderCore)). Fits (world_of s m attempts places) at_first) (sym none) (created_fits o attempts s m some start)
+    subst (λ (places : List (Option ReaderCore)). HaveOneLog (world_of s m attempts places) at_first) (sym none) (created_fits o attempts s m some start)
 
 pub created_holds : (o : Options) (attempts : ℕ) (s : Session) (m : MemView) (readers : List (Option ReaderCore)) → 1 ≤ attempts → Creates o 5 s m → readers ≡ nobody → HoldsTogether s m attempts readers
 created_holds o attempts s m readers some start none =

@@ -18,7 +18,7 @@ use Rattle.h5w_writer.specs.Sessions.{Session, Stands, after_piece, cutting_of, 
 use Rattle.h5w_writer.specs.declared.refusal.AppendError.{AppendError}
 use Rattle.h5w_writer.specs.declared.refusal.FlushError.{FlushError}
 use Rattle.h5w_core.specs.Steady.{steady}
-use Rattle.h5w_core.specs.Worlds.{Fits, HoldsTogether, IsStateOf, StandsFor, Steps, WorldView, logged, rules_of}
+use Rattle.h5w_core.specs.Worlds.{HaveOneLog, HoldsTogether, IsStateOf, StandsFor, Steps, WorldView, logged, rules_of}
 use Rattle.h5w_core.proofs.AppendLemmas.{append_done}
 use Rattle.h5w_core.proofs.FlushLemmas.{flush_done}
 use Rattle.h5w_core.proofs.ShowLemmas.{idle_steps, nothing_logged, show_done, show_logged}
@@ -48,7 +48,7 @@ same_hold s t m n attempts places h same is = record {
   folds = same_folded m n same h.folds;
   places = h.places;
   script = h.script;
-  fits = subst (λ (w : WorldView). Fits w h.script) (sym (changed s t m n attempts places same (λ x. x) is)) h.fits;
+  fits = subst (λ (w : WorldView). HaveOneLog w h.script) (sym (changed s t m n attempts places same (λ x. x) is)) h.fits;
 }
 
 -- ---- The writer's calls
@@ -127,12 +127,12 @@ stop_logs s t m attempts places w view stands log stood =
 -- ---- A piece
 
 -- what the call says where nothing is pending, and where something is
-pub record Shows (s t : Session) (m n : MemView) (count : ℕ) : Type 0 where
+pub record ShowsCount (s t : Session) (m n : MemView) (count : ℕ) : Type 0 where
   pub nothing : s.pending ≡ [] → (count ≡ 0) × (t ≡ s) × (n ≡ m)
   pub piece : (w : Write) (ws : List Write) → s.pending ≡ w ∷ ws → (count ≡ 1) × (t ≡ after_piece s ws) × Wrote (w ∷ []) (steady m) (steady n)
   pub stands : (w : Write) (ws : List Write) → s.pending ≡ w ∷ ws → (log : Log) → Stands s log → Stands t (and_now (shows w) log)
 
-shown_steps : (s t : Session) (m n : MemView) (attempts count left : ℕ) (places : List (Option ReaderCore)) (ws : List Write) → s.pending ≡ ws → Shows s t m n count → left ≡ length t.pending
+shown_steps : (s t : Session) (m n : MemView) (attempts count left : ℕ) (places : List (Option ReaderCore)) (ws : List Write) → s.pending ≡ ws → ShowsCount s t m n count → left ≡ length t.pending
     → Steps (world_of s m attempts places) events.Visible (replies.Written count left) (world_of t n attempts places)
 shown_steps s t m n attempts count left places [] pending shown is =
     let h = shown.nothing pending in
@@ -146,21 +146,21 @@ shown_steps s t m n attempts count left places (w ∷ ws) pending shown is =
     subst (λ (k : ℕ). Steps (world_of s m attempts places) events.Visible (replies.Written k left) (world_of t n attempts places)) (sym h.0)
     (show_done s t m n attempts left places (world_of s m attempts places) w ws refl pending h.2 h.1 is (shown.stands w ws pending))
 
-pub show_steps : (s t : Session) (m n : MemView) (attempts count left : ℕ) (places : List (Option ReaderCore)) (w : WorldView) → world_of s m attempts places ≡ w → Shows s t m n count → left ≡ length t.pending
+pub show_steps : (s t : Session) (m n : MemView) (attempts count left : ℕ) (places : List (Option ReaderCore)) (w : WorldView) → world_of s m attempts places ≡ w → ShowsCount s t m n count → left ≡ length t.pending
     → Steps w events.Visible (replies.Written count left) (world_of t n attempts places)
 show_steps s t m n attempts count left places w view shown is =
     subst (λ (x : WorldView). Steps x events.Visible (replies.Written count left) (world_of t n attempts places)) view (shown_steps s t m n attempts count left places s.pending refl shown is)
 
-shown_folds : (s t : Session) (m n : MemView) (count : ℕ) (ws : List Write) → s.pending ≡ ws → Shows s t m n count → m.bytes ≡ image [] m.history → n.bytes ≡ image [] n.history
+shown_folds : (s t : Session) (m n : MemView) (count : ℕ) (ws : List Write) → s.pending ≡ ws → ShowsCount s t m n count → m.bytes ≡ image [] m.history → n.bytes ≡ image [] n.history
 shown_folds s t m n count [] pending shown folds = subst (λ (v : MemView). v.bytes ≡ image [] v.history) (sym (shown.nothing pending).2) folds
 shown_folds s t m n count (w ∷ ws) pending shown folds = still_folded m n w (shown.piece w ws pending).2 folds
 
-pub show_hold : (s t : Session) (m n : MemView) (attempts count : ℕ) (places : List (Option ReaderCore)) → HoldsTogether s m attempts places → Shows s t m n count → HasRoomFor t (steady n) → HoldsTogether t n attempts places
+pub show_hold : (s t : Session) (m n : MemView) (attempts count : ℕ) (places : List (Option ReaderCore)) → HoldsTogether s m attempts places → ShowsCount s t m n count → HasRoomFor t (steady n) → HoldsTogether t n attempts places
 show_hold s t m n attempts count places h shown room =
     steps_hold s t m n attempts places places events.Visible (replies.Written count (length t.pending)) h (shown_steps s t m n attempts count (length t.pending) places s.pending refl shown refl) room
     (shown_folds s t m n count s.pending refl shown h.folds) h.places
 
-shown_logged : (s t : Session) (m n : MemView) (attempts count : ℕ) (places : List (Option ReaderCore)) (reply : Reply) (ws : List Write) → s.pending ≡ ws → Shows s t m n count
+shown_logged : (s t : Session) (m n : MemView) (attempts count : ℕ) (places : List (Option ReaderCore)) (reply : Reply) (ws : List Write) → s.pending ≡ ws → ShowsCount s t m n count
     → (log : Log) → StandsFor (world_of s m attempts places) log → StandsFor (world_of t n attempts places) (logged (world_of s m attempts places) events.Visible reply log)
 shown_logged s t m n attempts count places reply [] pending shown log stood =
     let h = shown.nothing pending in
@@ -169,7 +169,7 @@ shown_logged s t m n attempts count places reply [] pending shown log stood =
 shown_logged s t m n attempts count places reply (w ∷ ws) pending shown log stood =
     let h = shown.piece w ws pending in show_logged s t m n attempts places (world_of s m attempts places) w ws reply refl pending h.2 h.1 (shown.stands w ws pending) log stood
 
-pub show_logs : (s t : Session) (m n : MemView) (attempts count : ℕ) (places : List (Option ReaderCore)) (w : WorldView) (reply : Reply) → world_of s m attempts places ≡ w → Shows s t m n count
+pub show_logs : (s t : Session) (m n : MemView) (attempts count : ℕ) (places : List (Option ReaderCore)) (w : WorldView) (reply : Reply) → world_of s m attempts places ≡ w → ShowsCount s t m n count
     → (log : Log) → StandsFor w log → StandsFor (world_of t n attempts places) (logged w events.Visible reply log)
 show_logs s t m n attempts count places w reply view shown =
     subst (λ (x : WorldView). (log : Log) → StandsFor x log → StandsFor (world_of t n attempts places) (logged x events.Visible reply log)) view

@@ -26,7 +26,7 @@ use Rattle.h5w_reader.specs.declared.reader.ReaderCore.{ReaderCore}
 use Rattle.h5w_writer.specs.Sessions.{Session}
 use Rattle.h5w_core.specs.Readers.{LookGives, LookReplies, OpenGives, ReadGives, ReadLooks, RefreshGives, ended, placed, reader_at}
 use Rattle.h5w_core.specs.Steady.{steady}
-use Rattle.h5w_core.specs.Worlds.{Fits, HoldsTogether, IsKept, Steps, WorldView, polling_of}
+use Rattle.h5w_core.specs.Worlds.{HaveOneLog, HoldsTogether, IsKept, Steps, WorldView, polling_of}
 use Rattle.h5w_core.proofs.HoldLemmas.{same_room, steps_hold}
 use Rattle.h5w_core.proofs.HoldsLemmas.{log_holds}
 use Rattle.h5w_core.proofs.PollLemmas.{Acts, PollsAt, look_acts, look_replies, open_acts, read_acts, read_looks, refresh_acts, with_place}
@@ -50,11 +50,11 @@ set_readers places r new q inside = set_at places r new q inside
 -- the state after it fits the world with the new reader
 acts_fit : (w : WorldView) (s : ScriptState) (log : Log) (r : ℕ) (new : Option ReaderCore) (event : Event) (reply : Reply) → r < length w.readers → PollsAt w s log
     → Acts (polling_of w) log s (line_of event) reply (with_place r (placed new) (reader_at w.readers))
-    → Fits (record w { readers = slice_set w.readers r new }) (next_state (polling_of w).rules s (line_of event) reply)
+    → HaveOneLog (record w { readers = slice_set w.readers r new }) (next_state (polling_of w).rules s (line_of event) reply)
 acts_fit w s log r new event reply inside at acts =
     let state = at.state in
     let after = record w { readers = slice_set w.readers r new } in
-    subst (λ (t : ScriptState). Fits after t) (sym acts.is)
+    subst (λ (t : ScriptState). HaveOneLog after t) (sym acts.is)
     (record {
       log = log;
       stands = record { stands = at.stands.stands; journal = at.stands.journal; bytes = at.stands.bytes };
@@ -72,7 +72,7 @@ acts_fit w s log r new event reply inside at acts =
       };
     })
 
-polls_at : (w : WorldView) (s : ScriptState) → (fits : Fits w s) → PollsAt w s fits.log
+polls_at : (w : WorldView) (s : ScriptState) → (fits : HaveOneLog w s) → PollsAt w s fits.log
 polls_at w s fits = record { holds = log_holds w fits.log fits.state.tries fits.stands.stands; stands = fits.stands; state = fits.state }
 
 -- what a reader's event may be given, at each state that fits
@@ -103,9 +103,9 @@ place_hold s m n attempts r places new event reply h few same acts =
 -- ---- A place that stays, or whose call is taken away
 
 -- the world with a reader that polls as before at this state
-other_fits : (w : WorldView) (s : ScriptState) (states : List (ℕ × ReaderState)) (r : ℕ) (new : Option ReaderCore) → r < length w.readers → (fits : Fits w s)
+other_fits : (w : WorldView) (s : ScriptState) (states : List (ℕ × ReaderState)) (r : ℕ) (new : Option ReaderCore) → r < length w.readers → (fits : HaveOneLog w s)
     → AllPoll (polling_of w) fits.log (record s { readers = states }) (with_place r (placed new) (reader_at w.readers))
-    → Fits (record w { readers = slice_set w.readers r new }) (record s { readers = states })
+    → HaveOneLog (record w { readers = slice_set w.readers r new }) (record s { readers = states })
 other_fits w s states r new inside fits polls =
     let state = fits.state in
     record {
@@ -177,7 +177,7 @@ place_ends s m n attempts r places new h few same is =
       places = length-set places r new ∙ h.places;
       script = record (h.script) { readers = e.states };
       fits =
-          subst (λ (x : WorldView). Fits x (record (h.script) { readers = e.states })) (sym (changed s s m n attempts (slice_set places r new) same (λ x. x) refl))
+          subst (λ (x : WorldView). HaveOneLog x (record (h.script) { readers = e.states })) (sym (changed s s m n attempts (slice_set places r new) same (λ x. x) refl))
           (other_fits w h.script e.states r new (omega (arith, h.places)) h.fits polls);
     }
 

@@ -17,7 +17,7 @@ use Rattle.h5w_writer.specs.Files.{FileFields}
 use Rattle.h5w_writer.specs.Sessions.{Session, Stands, after_piece, cutting_of}
 use Rattle.h5w_writer.specs.Plans.{options_of}
 use Rattle.h5w_writer.proofs.LawLemmas.{standing_laws}
-use Rattle.h5w_core.specs.Worlds.{WorldView, Fits, IsStateOf, StandsFor, Steps, logged, polling_of, rules_for, rules_of, shown_world}
+use Rattle.h5w_core.specs.Worlds.{WorldView, HaveOneLog, IsStateOf, StandsFor, Steps, logged, polling_of, rules_for, rules_of, shown_world}
 use Rattle.h5w_core.proofs.StateLemmas.{rows_in-length, in_rows, spent_in-events}
 use Rattle.h5w_core.proofs.WorldLemmas.{world_of, shown_is}
 use Rattle.h5w_image.specs.Memory.{MemView}
@@ -56,7 +56,7 @@ idle_steps w none =
           let pending : s.pending ≡ 0 = fits.state.pending ∙ ap length none in
           let idle : s.ends_flush ≡ false = fits.state.ends_flush ∙ ap (λ (ws : List Write). nat_lt 0 (length ws)) none in (
             ap (λ n. replies.Written (min 1 n) (n - min 1 n)) (sym pending),
-            subst (λ (t : ScriptState). Fits w t) (sym (nothing_shown s pending idle (rules_of w)))
+            subst (λ (t : ScriptState). HaveOneLog w t) (sym (nothing_shown s pending idle (rules_of w)))
                 (record { log = fits.log; stands = fits.stands; state = idle_state w s fits.log none fits.state }),
           );
     }
@@ -164,15 +164,15 @@ more_shown w piece next rest s log pending stood stands state =
 
 piece_fits : (w : WorldView) (piece : Write) (pieces : List Write) (s : ScriptState) (log : Log) → w.session.pending ≡ piece ∷ pieces → StandsFor w log
     → Stands (after_piece w.session pieces) (and_now (shows piece) log) → IsStateOf w s log
-    → Fits (shown_world w piece pieces) (after_shows (rules_of w) s 1)
+    → HaveOneLog (shown_world w piece pieces) (after_shows (rules_of w) s 1)
 piece_fits w piece [] s log pending stood stands state =
     let one : s.pending ≡ 1 = state.pending ∙ ap length pending in
     let ends : s.ends_flush ≡ true = state.ends_flush ∙ lt-ltb 0 (length w.session.pending) (omega (arith, ap length pending)) in
-    subst (λ (t : ScriptState). Fits (shown_world w piece []) t) (sym (last_state (rules_of w) s one ends))
+    subst (λ (t : ScriptState). HaveOneLog (shown_world w piece []) t) (sym (last_state (rules_of w) s one ends))
     (record { log = and_now (shows piece) log; stands = shown_stands w piece [] log stands stood; state = last_shown w piece s log pending stood.stands stands state })
 piece_fits w piece (next ∷ rest) s log pending stood stands state =
     let more : s.pending ≡ suc (suc (length rest)) = state.pending ∙ ap length pending in
-    subst (λ (t : ScriptState). Fits (shown_world w piece (next ∷ rest)) t) (sym (more_state (rules_of w) s (length rest) more))
+    subst (λ (t : ScriptState). HaveOneLog (shown_world w piece (next ∷ rest)) t) (sym (more_state (rules_of w) s (length rest) more))
     (record { log = and_now (shows piece) log; stands = shown_stands w piece (next ∷ rest) log stands stood; state = more_shown w piece next rest s log pending stood.stands stands state })
 
 -- the session's own clause, for each log

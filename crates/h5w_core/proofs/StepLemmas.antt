@@ -4,11 +4,11 @@ use Rattle.std.specs.Result.{IfOk}
 use Rattle.h5w_model.specs.Lawful.{ScriptState, Allowed, line_of, next_state}
 use Rattle.h5w_model.specs.declared.event.Event.{Event}
 use Rattle.h5w_model.specs.declared.reply.Reply.{Reply}
-use Rattle.h5w_core.specs.Worlds.{WorldView, Fits, Steps, rules_of}
+use Rattle.h5w_core.specs.Worlds.{WorldView, HaveOneLog, Steps, rules_of}
 
 -- what a step says of a reply
 abbrev pub IsLawful : WorldView → Event → WorldView → Reply → Type 0
-IsLawful old event new reply = (s : ScriptState) → Fits old s → Allowed (rules_of old) s (line_of event) reply × Fits new (next_state (rules_of old) s (line_of event) reply)
+IsLawful old event new reply = (s : ScriptState) → HaveOneLog old s → Allowed (rules_of old) s (line_of event) reply × HaveOneLog new (next_state (rules_of old) s (line_of event) reply)
 
 pub step_lawful : (old new : WorldView) (event done : Event) (reply : Reply) → done ≡ event → Steps old done reply new → IsLawful old event new reply
 step_lawful old new event done reply is steps = subst (λ (e : Event). IsLawful old e new reply) is steps.lawful

@@ -3,7 +3,7 @@ use Rattle.std.specs.Prelude.{◌≡◌, List, [], ◌∷◌, map}
 use Rattle.h5w_model.specs.Lawful.{Rules, Line, ScriptState, Lawful, line_of, next_state}
 use Rattle.h5w_model.specs.declared.event.Event.{Event}
 use Rattle.h5w_model.specs.declared.reply.Reply.{Reply}
-use Rattle.h5w_core.specs.Worlds.{WorldView, Fits, Steps, rules_of}
+use Rattle.h5w_core.specs.Worlds.{WorldView, HaveOneLog, Steps, rules_of}
 
 -- these events were given these replies, one after another, between two worlds
 abbrev pub Runs : WorldView → List Event → List Reply → WorldView → Type 0
@@ -19,5 +19,5 @@ state_after g s lines replies = s
 
 -- the replies are lawful, and the state after them fits the world that is left
 abbrev pub RunsLawfully : Type 0
-RunsLawfully = (old new : WorldView) (events : List Event) (replies : List Reply) (s : ScriptState) → Fits old s → Runs old events replies new
-    → Lawful (rules_of old) s (map line_of events) replies × Fits new (state_after (rules_of old) s (map line_of events) replies) × (rules_of new ≡ rules_of old)
+RunsLawfully = (old new : WorldView) (events : List Event) (replies : List Reply) (s : ScriptState) → HaveOneLog old s → Runs old events replies new
+    → Lawful (rules_of old) s (map line_of events) replies × HaveOneLog new (state_after (rules_of old) s (map line_of events) replies) × (rules_of new ≡ rules_of old)

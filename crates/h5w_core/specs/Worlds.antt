@@ -82,7 +82,7 @@ pub record IsStateOf (w : WorldView) (s : ScriptState) (log : Log) : Type 0 wher
   pub polls : AllPoll (polling_of w) log s (reader_at w.readers)
 
 -- the world and the state of a script that was run on it are those of one log
-pub record Fits (w : WorldView) (s : ScriptState) : Type 0 where
+pub record HaveOneLog (w : WorldView) (s : ScriptState) : Type 0 where
   pub log : Log
   pub stands : StandsFor w log
   pub state : IsStateOf w s log
@@ -94,7 +94,7 @@ pub record HoldsTogether (s : Session) (m : MemView) (attempts : ℕ) (readers :
   pub folds : m.bytes ≡ image [] m.history
   pub places : length readers ≡ 17
   pub script : ScriptState
-  pub fits : Fits (record { session = s; bytes = m.bytes; journal = m.history; attempts = attempts; readers = readers }) script
+  pub fits : HaveOneLog (record { session = s; bytes = m.bytes; journal = m.history; attempts = attempts; readers = readers }) script
 
 -- what a log is after an event that was given a reply: a refused one adds nothing
 abbrev pub logged : WorldView → Event → Reply → Log → Log
@@ -154,4 +154,4 @@ IsLeft old event new = new ≡ old
 -- the next state fits the world after
 pub record Steps (old : WorldView) (event : Event) (reply : Reply) (new : WorldView) : Type 0 where
   pub rules : rules_of new ≡ rules_of old
-  pub lawful : (s : ScriptState) → Fits old s → Allowed (rules_of old) s (line_of event) reply × Fits new (next_state (rules_of old) s (line_of event) reply)
+  pub lawful : (s : ScriptState) → HaveOneLog old s → Allowed (rules_of old) s (line_of event) reply × HaveOneLog new (next_state (rules_of old) s (line_of event) reply)

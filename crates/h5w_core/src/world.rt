@@ -12,7 +12,7 @@ ghost use Rattle.h5w_writer.specs.Sessions.{Stands, after_piece, rows_of as sess
 ghost use Rattle.h5w_core.specs.Readers.{IsCalling, MayRead, ended, reader_at};
 ghost use Rattle.h5w_core.specs.Steady.{steady};
 ghost use Rattle.h5w_core.specs.Creation.{Creates};
-ghost use Rattle.h5w_core.specs.Worlds.{Fits, IsHeard, IsKept, IsLeft, MayWantMemory, StandsFor, Steps, logged, nobody, rules_for, rules_of};
+ghost use Rattle.h5w_core.specs.Worlds.{HaveOneLog, IsHeard, IsKept, IsLeft, MayWantMemory, StandsFor, Steps, logged, nobody, rules_for, rules_of};
 
 use crate::readers;
 use crate::steady::SteadyImage;
@@ -96,7 +96,7 @@ impl World {
     pub fn new(alloc: Global, options: &Options, attempts: u32) -> Result<World, OutOfMemory>
         requires options { AreOptions options.now }
         requires attempts { AreAttempts attempts }
-        ensures fits { IfOk result (λ w. Fits w at_first) }
+        ensures fits { IfOk result (λ w. HaveOneLog w at_first) }
         ensures rules { IfOk result (λ w. rules_of w ≡ rules_for options.now attempts) }
         ensures created { IfOk result (λ w. w.journal ≡ creation_writes options.now) }
     {
@@ -117,7 +117,7 @@ impl World {
     /// piece that becomes visible.
     pub fn step(&mut self, event: Event) -> Result<Reply, OutOfMemory>
         requires { IsHeard event }
-        ensures lawful { IfOk result (λ reply. (s : ScriptState) → Fits self.old s → Allowed (rules_of self.old) s (line_of event) reply × Fits self.new (next_state (rules_of self.old) s (line_of event) reply)) }
+        ensures lawful { IfOk result (λ reply. (s : ScriptState) → HaveOneLog self.old s → Allowed (rules_of self.old) s (line_of event) reply × HaveOneLog self.new (next_state (rules_of self.old) s (line_of event) reply)) }
         ensures logged { IfOk result (λ reply. (log : Log) → StandsFor self.old log → StandsFor self.new (logged self.old event reply log)) }
         ensures rules { rules_of self.new ≡ rules_of self.old }
         ensures kept { OnErr result (IsLeft self.old event self.new) }

@@ -3,7 +3,7 @@ use Rattle.std.proofs.Common.{◌≡◌, ℕ, ◌^◌, ◌<◌, true, false, con
 use Rattle.std.specs.Prelude.{◌==◌, option_map}
 use Rattle.h5w_model.specs.Headers.{has, with_number, index_address_place}
 use Rattle.h5w_model.specs.Messages.{unsupported, ShapeFields, IntTypeFields, FillFields, LayoutFields, shape_at, int_type_at, fill_at, layout_at}
-use Rattle.h5w_model.specs.Datasets.{Found, Described, described, dataspace_of, or_refuse, body_of, first_of, is_shared, fill_of, is_filtered, shares_a_message, then_also, dataspace_kind, datatype_kind, fill_value_kind, layout_kind, filter_pipeline_kind}
+use Rattle.h5w_model.specs.Datasets.{FoundMessage, Described, described, dataspace_of, or_refuse, body_of, first_of, is_shared, fill_of, is_filtered, shares_a_message, then_also, dataspace_kind, datatype_kind, fill_value_kind, layout_kind, filter_pipeline_kind}
 use Rattle.h5w_model.specs.declared.refusal.Unsupported.{Unsupported}
 use Rattle.h5w_laws.proofs.ResultLemmas.{then_ok, then_from, fails, passes}
 use Rattle.h5w_visits.proofs.DescribedLemmas.{ok_described}
@@ -12,7 +12,7 @@ use Rattle.h5w_header_laws.proofs.MessageLemmas.{is_space, shape_kept, layout_by
 
 -- ---- The parts
 
-pub record Parts (ms : List Found) (d : Described) : Type 0 where
+pub record Parts (ms : List FoundMessage) (d : Described) : Type 0 where
   pub filtered : is_filtered ms ≡ false
   pub shared : shares_a_message ms ≡ false
   pub space : List ℕ
@@ -26,10 +26,10 @@ pub record Parts (ms : List Found) (d : Described) : Type 0 where
   pub fill : fill_of ms d.int_type ≡ Ok d.fill
   pub laid : layout_at layout d.shape d.int_type ≡ Ok d.layout
 
-parts_as : (ms : List Found) (c d : Described) → c ≡ d → Parts ms c → Parts ms d
+parts_as : (ms : List FoundMessage) (c d : Described) → c ≡ d → Parts ms c → Parts ms d
 parts_as ms c d e p = subst (λ (x : Described). Parts ms x) e p
 
-pub parts_of : (ms : List Found) (d : Described) → described ms ≡ Ok d → Parts ms d
+pub parts_of : (ms : List FoundMessage) (d : Described) → described ms ≡ Ok d → Parts ms d
 parts_of ms d h =
     let a = fails (is_filtered ms) _ (unsupported 2) d h in
     let b = fails (shares_a_message ms) _ (unsupported 3) d a.1 in
@@ -63,25 +63,25 @@ laid_then s t f l = Ok (record { shape = s; int_type = t; fill = f; layout = l }
 filled_then : List ℕ → ShapeFields → IntTypeFields → FillFields → Result Described Unsupported
 filled_then layout s t f = then_also (layout_at layout s t) (laid_then s t f)
 
-typed_then : List Found → List ℕ → ShapeFields → IntTypeFields → Result Described Unsupported
+typed_then : List FoundMessage → List ℕ → ShapeFields → IntTypeFields → Result Described Unsupported
 typed_then ms layout s t = then_also (fill_of ms t) (filled_then layout s t)
 
-shaped_then : List Found → List ℕ → List ℕ → ShapeFields → Result Described Unsupported
+shaped_then : List FoundMessage → List ℕ → List ℕ → ShapeFields → Result Described Unsupported
 shaped_then ms datatype layout s = then_also (int_type_at datatype) (typed_then ms layout s)
 
-layout_then : List Found → List ℕ → List ℕ → List ℕ → Result Described Unsupported
+layout_then : List FoundMessage → List ℕ → List ℕ → List ℕ → Result Described Unsupported
 layout_then ms space datatype layout = then_also (shape_at space) (shaped_then ms datatype layout)
 
-datatype_then : List Found → List ℕ → List ℕ → Result Described Unsupported
+datatype_then : List FoundMessage → List ℕ → List ℕ → Result Described Unsupported
 datatype_then ms space datatype = then_also (or_refuse (body_of layout_kind ms) (unsupported 4)) (layout_then ms space datatype)
 
-space_then : List Found → List ℕ → Result Described Unsupported
+space_then : List FoundMessage → List ℕ → Result Described Unsupported
 space_then ms space = then_also (or_refuse (body_of datatype_kind ms) (unsupported 4)) (datatype_then ms space)
 
 refused_by : ℕ → Result Described Unsupported
 refused_by n = Err (unsupported n)
 
-pub from_parts : (ms : List Found) (d : Described) → Parts ms d → described ms ≡ Ok d
+pub from_parts : (ms : List FoundMessage) (d : Described) → Parts ms d → described ms ≡ Ok d
 unfolding space_then datatype_then layout_then shaped_then typed_then filled_then laid_then refused_by
 from_parts ms d p =
     ap (λ t. cond t (refused_by 2) (cond (shares_a_message ms) (refused_by 3) (then_also (dataspace_of ms) (space_then ms)))) p.filtered
@@ -97,10 +97,10 @@ from_parts ms d p =
 -- ---- Changed messages
 
 -- the data of the first dataspace
-space_by : Option Found → Result (List ℕ) Unsupported
-space_by o = elim o [ Some m ↦ cond m.in_chunk (Ok m.body) (Err (unsupported 4)) | None ↦ Err (unsupported 4) ]
+space_by : Option FoundMessage → Result (List ℕ) Unsupported
+space_by o = elim o [ Some m ↦ cond m.in_chunk_0 (Ok m.body) (Err (unsupported 4)) | None ↦ Err (unsupported 4) ]
 
-space_found : (ms : List Found) (x : Found) → first_of dataspace_kind ms ≡ Some x → x.in_chunk ≡ true → dataspace_of ms ≡ Ok x.body
+space_found : (ms : List FoundMessage) (x : FoundMessage) → first_of dataspace_kind ms ≡ Some x → x.in_chunk_0 ≡ true → dataspace_of ms ≡ Ok x.body
 unfolding space_by
 space_found ms x e own = ap (λ o. space_by o) e ∙ ap (λ t. cond t (space_ok x.body) (Err (unsupported 4))) own
   where
@@ -110,35 +110,35 @@ space_found ms x e own = ap (λ o. space_by o) e ∙ ap (λ t. cond t (space_ok 
 same_data : (a b : List ℕ) → ◌≡◌ {A = Result (List ℕ) Unsupported} (Ok a) (Ok b) → a ≡ b
 same_data a b h = cc
 
-data_found : (kind : ℕ) (ms : List Found) (x : Found) → first_of kind ms ≡ Some x → or_refuse (body_of kind ms) (unsupported 4) ≡ Ok x.body
-data_found kind ms x e = ap (λ o. or_refuse (option_map (λ (m : Found). m.body) o) (unsupported 4)) e
+data_found : (kind : ℕ) (ms : List FoundMessage) (x : FoundMessage) → first_of kind ms ≡ Some x → or_refuse (body_of kind ms) (unsupported 4) ≡ Ok x.body
+data_found kind ms x e = ap (λ o. or_refuse (option_map (λ (m : FoundMessage). m.body) o) (unsupported 4)) e
 
-filtered_kept : (f : Found → Found) (ms : List Found) → KeepsKinds f → is_filtered (map f ms) ≡ is_filtered ms
+filtered_kept : (f : FoundMessage → FoundMessage) (ms : List FoundMessage) → KeepsKinds f → is_filtered (map f ms) ≡ is_filtered ms
 filtered_kept f [] h = refl
 filtered_kept f (m ∷ ms) h = λ i. ((h m).kind i == filter_pipeline_kind) || filtered_kept f ms h i
 
-shared_one : (f : Found → Found) (o : Option Found) → KeepsKinds f → is_shared (option_map f o) ≡ is_shared o
+shared_one : (f : FoundMessage → FoundMessage) (o : Option FoundMessage) → KeepsKinds f → is_shared (option_map f o) ≡ is_shared o
 shared_one f None h = refl
 shared_one f (Some m) h = ap (λ n. has n 2) (h m).flags
 
-shared_kind : (f : Found → Found) (kind : ℕ) (ms : List Found) → KeepsKinds f → is_shared (first_of kind (map f ms)) ≡ is_shared (first_of kind ms)
+shared_kind : (f : FoundMessage → FoundMessage) (kind : ℕ) (ms : List FoundMessage) → KeepsKinds f → is_shared (first_of kind (map f ms)) ≡ is_shared (first_of kind ms)
 shared_kind f kind ms h = ap (λ o. is_shared o) (first_map f kind ms h) ∙ shared_one f (first_of kind ms) h
 
-shared_kept : (f : Found → Found) (ms : List Found) → KeepsKinds f → shares_a_message (map f ms) ≡ shares_a_message ms
+shared_kept : (f : FoundMessage → FoundMessage) (ms : List FoundMessage) → KeepsKinds f → shares_a_message (map f ms) ≡ shares_a_message ms
 shared_kept f ms h = λ i.
     ((shared_kind f dataspace_kind ms h i || shared_kind f datatype_kind ms h i) || shared_kind f fill_value_kind ms h i) || shared_kind f layout_kind ms h i
 
-fill_kept : (ms ns : List Found) (t : IntTypeFields) → first_of fill_value_kind ns ≡ first_of fill_value_kind ms → fill_of ns t ≡ fill_of ms t
+fill_kept : (ms ns : List FoundMessage) (t : IntTypeFields) → first_of fill_value_kind ns ≡ first_of fill_value_kind ms → fill_of ns t ≡ fill_of ms t
 fill_kept ms ns t e = ap (λ o. fill_by o) e
   where
-    fill_by : Option Found → Result FillFields Unsupported
-    fill_by o = elim (option_map (λ (m : Found). m.body) o) [ Some b ↦ fill_at b t | None ↦ Ok (record { value = None }) ]
+    fill_by : Option FoundMessage → Result FillFields Unsupported
+    fill_by o = elim (option_map (λ (m : FoundMessage). m.body) o) [ Some b ↦ fill_at b t | None ↦ Ok (record { value = None }) ]
 
-body_kept : (kind : ℕ) (ms ns : List Found) → first_of kind ns ≡ first_of kind ms → or_refuse (body_of kind ns) (unsupported 4) ≡ or_refuse (body_of kind ms) (unsupported 4)
-body_kept kind ms ns e = ap (λ o. or_refuse (option_map (λ (m : Found). m.body) o) (unsupported 4)) e
+body_kept : (kind : ℕ) (ms ns : List FoundMessage) → first_of kind ns ≡ first_of kind ms → or_refuse (body_of kind ns) (unsupported 4) ≡ or_refuse (body_of kind ms) (unsupported 4)
+body_kept kind ms ns e = ap (λ o. or_refuse (option_map (λ (m : FoundMessage). m.body) o) (unsupported 4)) e
 
 -- other rows
-pub described_rows : (ms : List Found) (d : Described) (x : Found) (rows : ℕ) → described ms ≡ Ok d → first_of dataspace_kind ms ≡ Some x → x.in_chunk ≡ true → rows < 2 ^ 64
+pub described_rows : (ms : List FoundMessage) (d : Described) (x : FoundMessage) (rows : ℕ) → described ms ≡ Ok d → first_of dataspace_kind ms ≡ Some x → x.in_chunk_0 ≡ true → rows < 2 ^ 64
     → described (map (replaced dataspace_kind x.place 4 rows) ms) ≡ Ok (record d { shape = record (d.shape) { rows = rows } })
 described_rows ms d x rows says found own fits =
     let p = parts_of ms d says in
@@ -164,7 +164,7 @@ described_rows ms d x rows says found own fits =
     })
 
 -- another index address
-pub described_index : (ms : List Found) (d : Described) (y : Found) (index : ℕ) → described ms ≡ Ok d → first_of layout_kind ms ≡ Some y → y.in_chunk ≡ true → index < 2 ^ 64
+pub described_index : (ms : List FoundMessage) (d : Described) (y : FoundMessage) (index : ℕ) → described ms ≡ Ok d → first_of layout_kind ms ≡ Some y → y.in_chunk_0 ≡ true → index < 2 ^ 64
     → described (map (replaced layout_kind y.place (index_address_place y.body) index) ms) ≡ Ok (record d { layout = record (d.layout) { address = index } })
 described_index ms d y index says found own fits =
     let p = parts_of ms d says in
@@ -191,33 +191,33 @@ described_index ms d y index says found own fits =
       laid = layout_kept y.body d.shape d.int_type d.layout index some fits (ap (λ b. layout_at b d.shape d.int_type) layout ∙ p.laid);
     })
   where
-    space_by_all : Option Found → Result (List ℕ) Unsupported
-    space_by_all o = elim o [ Some m ↦ cond m.in_chunk (Ok m.body) (Err (unsupported 4)) | None ↦ Err (unsupported 4) ]
+    space_by_all : Option FoundMessage → Result (List ℕ) Unsupported
+    space_by_all o = elim o [ Some m ↦ cond m.in_chunk_0 (Ok m.body) (Err (unsupported 4)) | None ↦ Err (unsupported 4) ]
 
 -- what the first dataspace is
-pub space_of : (ms : List Found) (d : Described) → described ms ≡ Ok d → (x : Found) × (first_of dataspace_kind ms ≡ Some x) × (x.in_chunk ≡ true) × (shape_at x.body ≡ Ok d.shape)
+pub space_of : (ms : List FoundMessage) (d : Described) → described ms ≡ Ok d → (x : FoundMessage) × (first_of dataspace_kind ms ≡ Some x) × (x.in_chunk_0 ≡ true) × (shape_at x.body ≡ Ok d.shape)
 space_of ms d says =
     let p = parts_of ms d says in
     go (first_of dataspace_kind ms) p.space refl p.space_is p.shape
   where
-    go : (o : Option Found) (space : List ℕ) → first_of dataspace_kind ms ≡ o
-        → (elim o as (λ _. Result (List ℕ) Unsupported) [ Some m ↦ cond m.in_chunk (Ok m.body) (Err (unsupported 4)) | None ↦ Err (unsupported 4) ]) ≡ Ok space
-        → shape_at space ≡ Ok d.shape → (x : Found) × (first_of dataspace_kind ms ≡ Some x) × (x.in_chunk ≡ true) × (shape_at x.body ≡ Ok d.shape)
+    go : (o : Option FoundMessage) (space : List ℕ) → first_of dataspace_kind ms ≡ o
+        → (elim o as (λ _. Result (List ℕ) Unsupported) [ Some m ↦ cond m.in_chunk_0 (Ok m.body) (Err (unsupported 4)) | None ↦ Err (unsupported 4) ]) ≡ Ok space
+        → shape_at space ≡ Ok d.shape → (x : FoundMessage) × (first_of dataspace_kind ms ≡ Some x) × (x.in_chunk_0 ≡ true) × (shape_at x.body ≡ Ok d.shape)
     go None space e is s = absurd (none_of (unsupported 4) space is)
       where
         none_of : (u : Unsupported) (b : List ℕ) → ◌≡◌ {A = Result (List ℕ) Unsupported} (Err u) (Ok b) → ⊥
         none_of u b h = cc
     go (Some m) space e is s =
-        let t = passes m.in_chunk (Ok m.body) (unsupported 4) space is in
+        let t = passes m.in_chunk_0 (Ok m.body) (unsupported 4) space is in
         (m, e, t.0, ap shape_at (same_data m.body space t.1) ∙ s)
 
-pub layout_of : (ms : List Found) (d : Described) → described ms ≡ Ok d → (y : Found) × (first_of layout_kind ms ≡ Some y) × (layout_at y.body d.shape d.int_type ≡ Ok d.layout)
+pub layout_of : (ms : List FoundMessage) (d : Described) → described ms ≡ Ok d → (y : FoundMessage) × (first_of layout_kind ms ≡ Some y) × (layout_at y.body d.shape d.int_type ≡ Ok d.layout)
 layout_of ms d says =
     let p = parts_of ms d says in
     go (first_of layout_kind ms) p.layout refl p.layout_is p.laid
   where
-    go : (o : Option Found) (layout : List ℕ) → first_of layout_kind ms ≡ o → or_refuse (option_map (λ (m : Found). m.body) o) (unsupported 4) ≡ Ok layout
-        → layout_at layout d.shape d.int_type ≡ Ok d.layout → (y : Found) × (first_of layout_kind ms ≡ Some y) × (layout_at y.body d.shape d.int_type ≡ Ok d.layout)
+    go : (o : Option FoundMessage) (layout : List ℕ) → first_of layout_kind ms ≡ o → or_refuse (option_map (λ (m : FoundMessage). m.body) o) (unsupported 4) ≡ Ok layout
+        → layout_at layout d.shape d.int_type ≡ Ok d.layout → (y : FoundMessage) × (first_of layout_kind ms ≡ Some y) × (layout_at y.body d.shape d.int_type ≡ Ok d.layout)
     go None layout e is l = absurd (none_of (unsupported 4) layout is)
       where
         none_of : (u : Unsupported) (b : List ℕ) → ◌≡◌ {A = Result (List ℕ) Unsupported} (Err u) (Ok b) → ⊥

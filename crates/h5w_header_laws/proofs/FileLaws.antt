@@ -4,7 +4,7 @@ use Rattle.std.specs.Prelude.{find, option_map, option_and_then, IsSome, IsOk}
 use Rattle.h5w_model.specs.Images.{apply}
 use Rattle.h5w_model.specs.Programs.{eval, visits, Same}
 use Rattle.h5w_model.specs.Headers.{continuation_kind, index_address_place, messages_at, rows_in_header, index_in_data, index_in_header, with_rows_bytes}
-use Rattle.h5w_model.specs.Datasets.{Found, Range, HeaderFields, Described, found_at, described, first_of, dataspace_kind, layout_kind, dataset_messages}
+use Rattle.h5w_model.specs.Datasets.{FoundMessage, Range, HeaderFields, Described, found_at, described, first_of, dataspace_kind, layout_kind, dataset_messages}
 use Rattle.h5w_model.specs.Tables.{format_limits}
 use Rattle.h5w_model.specs.Findings.{Used}
 use Rattle.h5w_model.specs.Prefixed.{SameHeader}
@@ -20,7 +20,7 @@ use Rattle.h5w_steps.specs.Moments.{Moment, Represents}
 use Rattle.h5w_steps.proofs.MomentLemmas.{inside}
 use Rattle.h5w_steps.proofs.PartLemmas.{disjoint_left, disjoint_right}
 use Rattle.h5w_header_laws.specs.Commits.{with_rows_in, with_index_in}
-use Rattle.h5w_header_laws.specs.Files.{chunk_0, commit_at, with_rows, with_index, LayoutInChunk, HeaderWritable, LayoutMissed, IsWritten, RowsCommitted, IndexCommitted, HeaderCommits, GrowingHeader, StartingHeader}
+use Rattle.h5w_header_laws.specs.Files.{chunk_0, commit_at, with_rows, with_index, LayoutInChunk0, HeaderWritable, LayoutMissed, IsWritten, RowsCommitted, IndexCommitted, HeaderCommits, GrowingHeader, StartingHeader}
 use Rattle.h5w_header_laws.proofs.ChunkLemmas.{of_kind}
 use Rattle.h5w_header_laws.proofs.CommitLaws.{the_data, rows_place_is, rows_there, index_place_is, index_there, rows_written, index_written}
 use Rattle.h5w_header_laws.proofs.MessageLemmas.{is_space}
@@ -38,7 +38,7 @@ no_block_layout : continuation_kind ≢ layout_kind
 no_block_layout e = absurd (omega arith)
 
 -- the first dataspace, in chunk 0 and in the image
-pub record HasSpace (place : ℕ) (ms : List Msg) (rs : List Found) : Type 0 where
+pub record HasSpace (place : ℕ) (ms : List Msg) (rs : List FoundMessage) : Type 0 where
   pub space : Msg
   pub found : find (of_kind dataspace_kind) ms ≡ Some space
   pub long : 12 ≤ length space.body
@@ -49,23 +49,23 @@ has_space img place h d r says =
     let x = space_of h.messages d says in
     let own = own_message img r.prefix.tracked dataspace_kind r.spliced_by place r.listed h.messages x.0 no_block_space r.spliced x.1 x.2 in
     let long = (is_space x.0.body d.shape x.3).long in
-    let same : x.0.body ≡ own.0.body = ap (λ (m : Found). m.body) (sym own.2) in
+    let same : x.0.body ≡ own.0.body = ap (λ (m : FoundMessage). m.body) (sym own.2) in
     record { space = own.0; found = own.1; long = subst (λ (b : List ℕ). 12 ≤ length b) same long; first = x.1 ∙ ap Some (sym own.2) }
 
 -- and the first layout, where it stands in chunk 0
-pub record HasLayout (place : ℕ) (ms : List Msg) (rs : List Found) : Type 0 where
+pub record HasLayout (place : ℕ) (ms : List Msg) (rs : List FoundMessage) : Type 0 where
   pub layout : Msg
   pub found : find (of_kind layout_kind) ms ≡ Some layout
   pub room : index_address_place layout.body + 8 ≤ length layout.body
   pub first : first_of layout_kind rs ≡ Some (in_image place layout)
 
 pub has_layout : (img : List ℕ) (place : ℕ) (h : HeaderFields) (d : Described) (r : HeaderRead img place h) → described h.messages ≡ Ok d
-    → ((y : Found) → first_of layout_kind h.messages ≡ Some y → y.in_chunk ≡ true) → HasLayout place r.listed h.messages
+    → ((y : FoundMessage) → first_of layout_kind h.messages ≡ Some y → y.in_chunk_0 ≡ true) → HasLayout place r.listed h.messages
 has_layout img place h d r says inside_chunk =
     let y = layout_of h.messages d says in
     let own = own_message img r.prefix.tracked layout_kind r.spliced_by place r.listed h.messages y.0 no_block_layout r.spliced y.1 (inside_chunk y.0 y.1) in
     let p = one_index_place y.0.body d.shape d.int_type d.layout y.2 in
-    let same : y.0.body ≡ own.0.body = ap (λ (m : Found). m.body) (sym own.2) in
+    let same : y.0.body ≡ own.0.body = ap (λ (m : FoundMessage). m.body) (sym own.2) in
     let room : index_address_place y.0.body + 8 ≤ length y.0.body = subst (λ (n : ℕ). n + 8 ≤ length y.0.body) (sym p.written) p.inside in
     record { layout = own.0; found = own.1; room = subst (λ (b : List ℕ). index_address_place b + 8 ≤ length b) same room; first = y.1 ∙ ap Some (sym own.2) }
 
@@ -103,15 +103,15 @@ own_change kind place k v differ = record {
 }
 
 -- a changed message stands where it stood
-layout_stays : (img new : List ℕ) (place : ℕ) (h : HeaderFields) (f : Found → Found) → KeepsKinds f → IsOwnChange f → eval img (dataset_messages place (chunk_0 img place)) ≡ Ok h
-    → eval new (dataset_messages place (chunk_0 new place)) ≡ Ok (with_messages f h) → LayoutInChunk img place → LayoutInChunk new place
+layout_stays : (img new : List ℕ) (place : ℕ) (h : HeaderFields) (f : FoundMessage → FoundMessage) → KeepsKinds f → IsOwnChange f → eval img (dataset_messages place (chunk_0 img place)) ≡ Ok h
+    → eval new (dataset_messages place (chunk_0 new place)) ≡ Ok (with_messages f h) → LayoutInChunk0 img place → LayoutInChunk0 new place
 layout_stays img new place h f keeps own read then_read stood k y is found =
     let e : with_messages f h ≡ k = same_header (with_messages f h) k (sym then_read ∙ is) in
     go (first_of layout_kind h.messages) refl (sym (first_map f layout_kind h.messages keeps) ∙ ap (λ (x : HeaderFields). first_of layout_kind x.messages) e ∙ found)
   where
-    go : (o : Option Found) → first_of layout_kind h.messages ≡ o → option_map f o ≡ Some y → y.in_chunk ≡ true
+    go : (o : Option FoundMessage) → first_of layout_kind h.messages ≡ o → option_map f o ≡ Some y → y.in_chunk_0 ≡ true
     go None e m = absurd cc
-    go (Some x) e m = ap (λ (z : Found). z.in_chunk) (sym (some_found (f x) y m)) ∙ own.own x ∙ stood h x read e
+    go (Some x) e m = ap (λ (z : FoundMessage). z.in_chunk_0) (sym (some_found (f x) y m)) ∙ own.own x ∙ stood h x read e
 
 pub layout_missed : LayoutMissed
 layout_missed w img limits s place d us e fits misses stood k y is found =
@@ -155,11 +155,11 @@ rows_committed img limits s place d us rows e fits apart small few =
           (own_change dataspace_kind (place + x.space.at) 4 rows no_block_space) p.read is.read;
     }
 
-map_twice : (f g : Found → Found) (ms : List Found) → map f (map g ms) ≡ map (λ m. f (g m)) ms
+map_twice : (f g : FoundMessage → FoundMessage) (ms : List FoundMessage) → map f (map g ms) ≡ map (λ m. f (g m)) ms
 map_twice f g [] = refl
 map_twice f g (m ∷ ms) = ap (λ xs. f (g m) ∷ xs) (map_twice f g ms)
 
-both_own : (f g : Found → Found) → IsOwnChange f → IsOwnChange g → IsOwnChange (λ m. f (g m))
+both_own : (f g : FoundMessage → FoundMessage) → IsOwnChange f → IsOwnChange g → IsOwnChange (λ m. f (g m))
 both_own f g a b = record {
   kind = λ m. a.kind (g m) ∙ b.kind m;
   block = λ m e. ap f (b.block m e) ∙ a.block m e;
@@ -167,7 +167,7 @@ both_own f g a b = record {
   own = λ m. a.own (g m) ∙ b.own m;
 }
 
-both_keep : (f g : Found → Found) → KeepsKinds f → KeepsKinds g → KeepsKinds (λ m. f (g m))
+both_keep : (f g : FoundMessage → FoundMessage) → KeepsKinds f → KeepsKinds g → KeepsKinds (λ m. f (g m))
 both_keep f g a b m = record { kind = (a (g m)).kind ∙ (b m).kind; flags = (a (g m)).flags ∙ (b m).flags }
 
 pub index_committed : IndexCommitted

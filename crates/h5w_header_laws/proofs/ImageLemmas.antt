@@ -7,7 +7,7 @@ use Rattle.h5w_model.specs.Images.{apply, Apart}
 use Rattle.h5w_model.specs.Programs.{Prog, ret, eval, visits, Same}
 use Rattle.h5w_model.specs.Headers.{prefix_at, messages_at, header_length}
 use Rattle.h5w_model.specs.Messages.{unsupported}
-use Rattle.h5w_model.specs.Datasets.{Found, Range, HeaderFields, Described, found_at, walk, from_chunk, header_refusal, dataset_messages, described}
+use Rattle.h5w_model.specs.Datasets.{FoundMessage, Range, HeaderFields, Described, found_at, walk, from_chunk_0, header_refusal, dataset_messages, described}
 use Rattle.h5w_model.specs.Relations.{Spliced}
 use Rattle.h5w_model.specs.Tables.{Limits, limit_of, needed}
 use Rattle.h5w_model.specs.Findings.{Used, checked_dataset}
@@ -64,17 +64,17 @@ refused_here = ret (Err (read_errors.Unsupported (unsupported 1)))
 
 -- what follows what stands before the messages
 abbrev pub small_from : ℕ → List ℕ → Prefix → Prog (Result HeaderFields ReadError)
-small_from place b p = cond (nat_lt 512 p.total) refused_here (from_chunk place p b)
+small_from place b p = cond (nat_lt 512 p.total) refused_here (from_chunk_0 place p b)
 
 not_refused : (h : HeaderFields) → ◌≡◌ {A = Result HeaderFields ReadError} (Err (read_errors.Unsupported (unsupported 1))) (Ok h) → ⊥
 not_refused h g = cc
 
-chunk_of : (img : List ℕ) (place : ℕ) (b : List ℕ) (p : Prefix) (h : HeaderFields) → eval img (small_from place b p) ≡ Ok h → (p.total ≤ 512) × (eval img (from_chunk place p b) ≡ Ok h)
+chunk_of : (img : List ℕ) (place : ℕ) (b : List ℕ) (p : Prefix) (h : HeaderFields) → eval img (small_from place b p) ≡ Ok h → (p.total ≤ 512) × (eval img (from_chunk_0 place p b) ≡ Ok h)
 chunk_of img place b p h e = go (cases_Bool (nat_lt 512 p.total))
   where
-    go : (nat_lt 512 p.total ≡ true) ⊎ (nat_lt 512 p.total ≡ false) → (p.total ≤ 512) × (eval img (from_chunk place p b) ≡ Ok h)
-    go (inl t) = absurd (not_refused h (ap (λ c. eval img (cond c refused_here (from_chunk place p b))) (sym t) ∙ e))
-    go (inr t) = (ltb-false 512 p.total t, ap (λ c. eval img (cond c refused_here (from_chunk place p b))) (sym t) ∙ e)
+    go : (nat_lt 512 p.total ≡ true) ⊎ (nat_lt 512 p.total ≡ false) → (p.total ≤ 512) × (eval img (from_chunk_0 place p b) ≡ Ok h)
+    go (inl t) = absurd (not_refused h (ap (λ c. eval img (cond c refused_here (from_chunk_0 place p b))) (sym t) ∙ e))
+    go (inr t) = (ltb-false 512 p.total t, ap (λ c. eval img (cond c refused_here (from_chunk_0 place p b))) (sym t) ∙ e)
 
 pub header_read : (img : List ℕ) (place : ℕ) (h : HeaderFields) → eval img (dataset_messages place (chunk_0 img place)) ≡ Ok h → HeaderRead img place h
 unfolding WalkFound
@@ -113,7 +113,7 @@ header_read img place h e =
       ranges = w.ranges;
       looks = w.looks;
       spliced_by = s.blocks;
-      spliced = subst (λ (rs : List Found). Spliced img p.tracked s.blocks (found_at place true m.0) rs) (sym s.joined) s.spliced;
+      spliced = subst (λ (rs : List FoundMessage). Spliced img p.tracked s.blocks (found_at place true m.0) rs) (sym s.joined) s.spliced;
     }
 
 -- ---- After a write
@@ -127,7 +127,7 @@ pub record IsRewritten (img : List ℕ) (limits : Limits) (s : Super) (place : �
   pub now : chunk_0 (apply w img) place ≡ w.piece
   pub read : eval (apply w img) (dataset_messages place (chunk_0 (apply w img) place)) ≡ Ok h
 
-pub rewritten : (img : List ℕ) (limits : Limits) (s : Super) (place : ℕ) (d e : Described) (us : List Used) (piece : List ℕ) (ns : List Msg) (f : Found → Found)
+pub rewritten : (img : List ℕ) (limits : Limits) (s : Super) (place : ℕ) (d e : Described) (us : List Used) (piece : List ℕ) (ns : List Msg) (f : FoundMessage → FoundMessage)
     → (p : DatasetParts img limits s place d us) (r : HeaderRead img place p.header) → s.end ≤ length img → Disjoint us → IsCommitted (chunk_0 img place) piece ns → IsOwnChange f
     → found_at place true ns ≡ map f (found_at place true r.listed) → described (map f p.header.messages) ≡ Ok e → nat_lt (limit_of limits e.layout.index) (needed e) ≡ false
     → IsRewritten img limits s place us (record { at = place; piece = piece }) e (with_messages f p.header)
@@ -149,11 +149,11 @@ rewritten img limits s place d e us piece ns f p r fits apart is own changed say
     let look : prefix_at (range new place 512) ≡ Ok q = look_says new place q (ap prefix_at stands ∙ begun) in
     let now : chunk_0 new place ≡ piece = view_whole new place q look r.short ∙ stands in
     let walked : eval new (walk_from place q ns) ≡ Ok k =
-    ap (λ (ms : List Found). eval new (walk 32 place q.tracked (own_range place q ∷ []) [] ms)) changed
+    ap (λ (ms : List FoundMessage). eval new (walk 32 place q.tracked (own_range place q ∷ []) [] ms)) changed
     ∙ walk_changed f img new 32 place q.tracked (own_range place q ∷ []) [] (found_at place true r.listed) h own r.walked same in
     let read : eval new (dataset_messages place piece) ≡ Ok k =
     choice_from new (prefix_at piece) (small_from place piece) (header_refusal place) q k begun
-    (ap (λ c. eval new (cond c refused_here (from_chunk place q piece))) (le-ltb 512 q.total r.short)
+    (ap (λ c. eval new (cond c refused_here (from_chunk_0 place q piece))) (le-ltb 512 q.total r.short)
     ∙ choice_from new (messages_at piece) (walk_from place q) (header_refusal place) ns k is.messages walked) in
     let some = r.some in
     let short = r.short in

@@ -7,7 +7,7 @@ use Rattle.h5w_model.specs.Numbers.{range, le}
 use Rattle.h5w_model.specs.Programs.{eval}
 use Rattle.h5w_model.specs.Headers.{prefix_at, header_at, messages_at, msgs_bytes, prefix_bytes, header_bytes, placed, AreReadable, index_address_place}
 use Rattle.h5w_model.specs.Messages.{shape_bytes, int_type_bytes, fill_bytes, fill_value_bytes, layout_bytes, shape_at, int_type_at, fill_at, layout_at}
-use Rattle.h5w_model.specs.Datasets.{Found, HeaderFields, Described, found_at, described, first_of, dataspace_kind, layout_kind, dataset_messages, from_chunk, header_refusal}
+use Rattle.h5w_model.specs.Datasets.{FoundMessage, HeaderFields, Described, found_at, described, first_of, dataspace_kind, layout_kind, dataset_messages, from_chunk_0, header_refusal}
 use Rattle.h5w_model.specs.declared.message.Msg.{Msg}
 use Rattle.h5w_model.specs.declared.message.Prefix.{Prefix}
 use Rattle.h5w_model.proofs.IntegerLemmas.{int_size_bounds}
@@ -171,7 +171,7 @@ spelled_stands img limits s place d h stands fits few =
     let k : HeaderFields = record { messages = found_at place true ms; ranges = own_range place p ∷ [] } in
     let read : eval img (dataset_messages place b) ≡ Ok k =
     choice_from img (prefix_at b) (small_from place b) (header_refusal place) p k begun
-    (ap (λ c. eval img (cond c refused_here (from_chunk place p b))) (le-ltb 512 p.total small)
+    (ap (λ c. eval img (cond c refused_here (from_chunk_0 place p b))) (le-ltb 512 p.total small)
     ∙ choice_from img (messages_at b) (walk_from place p) (header_refusal place) ms k (spelled_alone d h) refl) in
     let ends : AllEndBy s.end (block_at place p.total ∷ []) = ends_cons s.end (block_at place p.total) [] (omega arith) (ends_nil s.end) in
     let checked = dataset_checked img limits s place d k (ap (λ x. eval img (dataset_messages place x)) chunk ∙ read) (says_all d place 7 h) few ends in
@@ -180,5 +180,5 @@ spelled_stands img limits s place d h stands fits few =
       chunk = chunk;
       layout = λ g y is found.
           let e : k ≡ g = same_header k g (sym (ap (λ x. eval img (dataset_messages place x)) chunk ∙ read) ∙ is) in
-          ap (λ (z : Found). z.in_chunk) (sym (some_found _ y (ap (λ (x : HeaderFields). first_of layout_kind x.messages) e ∙ found)));
+          ap (λ (z : FoundMessage). z.in_chunk_0) (sym (some_found _ y (ap (λ (x : HeaderFields). first_of layout_kind x.messages) e ∙ found)));
     }

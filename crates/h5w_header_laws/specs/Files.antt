@@ -4,7 +4,7 @@ use Rattle.h5w_model.specs.Numbers.{range, undefined}
 use Rattle.h5w_model.specs.Images.{apply}
 use Rattle.h5w_model.specs.Programs.{eval}
 use Rattle.h5w_model.specs.Headers.{header_view, messages_at, rows_in_header, index_in_header, with_rows_bytes}
-use Rattle.h5w_model.specs.Datasets.{Found, HeaderFields, Described, dataset_messages, first_of, layout_kind}
+use Rattle.h5w_model.specs.Datasets.{FoundMessage, HeaderFields, Described, dataset_messages, first_of, layout_kind}
 use Rattle.h5w_model.specs.Tables.{Limits, limit_of, needed, format_limits}
 use Rattle.h5w_model.specs.Findings.{Used, checked_dataset}
 use Rattle.h5w_model.specs.Prefixed.{SameDescribed, SameHeader}
@@ -13,7 +13,7 @@ use Rattle.h5w_model.specs.declared.piece.Write.{Write}
 use Rattle.h5w_visits.specs.Ranges.{MissesBlocks, Disjoint, block_at}
 use Rattle.h5w_visits.specs.Needed.{AreFew}
 use Rattle.h5w_steps.specs.Moments.{Moment, Represents}
-use Rattle.h5w_steps.specs.Steps.{InChunk}
+use Rattle.h5w_steps.specs.Steps.{InChunk0}
 
 -- chunk 0 of the dataset header at a place: what counts of a look at it
 abbrev pub chunk_0 : List ℕ → ℕ → List ℕ
@@ -33,8 +33,8 @@ with_index index d = record d { layout = record (d.layout) { address = index } }
 
 -- The first layout message of the header stands in chunk 0, and not in a continuation block. Of a layout elsewhere the index
 -- address cannot be written with the rows.
-abbrev pub LayoutInChunk : List ℕ → ℕ → Type 0
-LayoutInChunk img place = (h : HeaderFields) (y : Found) → eval img (dataset_messages place (chunk_0 img place)) ≡ Ok h → first_of layout_kind h.messages ≡ Some y → y.in_chunk ≡ true
+abbrev pub LayoutInChunk0 : List ℕ → ℕ → Type 0
+LayoutInChunk0 img place = (h : HeaderFields) (y : FoundMessage) → eval img (dataset_messages place (chunk_0 img place)) ≡ Ok h → first_of layout_kind h.messages ≡ Some y → y.in_chunk_0 ≡ true
 
 -- ---- Laws
 
@@ -43,7 +43,7 @@ LayoutInChunk img place = (h : HeaderFields) (y : Found) → eval img (dataset_m
 pub record IsWritable (img : List ℕ) (place : ℕ) : Type 0 where
   pub read : IsOk (messages_at (chunk_0 img place))
   pub rows : IsSome (rows_in_header (chunk_0 img place))
-  pub index : LayoutInChunk img place → IsSome (index_in_header (chunk_0 img place))
+  pub index : LayoutInChunk0 img place → IsSome (index_in_header (chunk_0 img place))
 
 abbrev pub HeaderWritable : Type 0
 HeaderWritable = (img : List ℕ) (limits : Limits) (s : Super) (place : ℕ) (d : Described) (us : List Used) → eval img (checked_dataset limits s place) ≡ Ok (d, us) → IsWritable img place
@@ -51,7 +51,7 @@ HeaderWritable = (img : List ℕ) (limits : Limits) (s : Super) (place : ℕ) (d
 -- A write that misses the header's ranges leaves its layout in chunk 0.
 abbrev pub LayoutMissed : Type 0
 LayoutMissed = (w : Write) (img : List ℕ) (limits : Limits) (s : Super) (place : ℕ) (d : Described) (us : List Used) → eval img (checked_dataset limits s place) ≡ Ok (d, us) → s.end ≤ length img
-    → MissesBlocks w us → LayoutInChunk img place → LayoutInChunk (apply w img) place
+    → MissesBlocks w us → LayoutInChunk0 img place → LayoutInChunk0 (apply w img) place
 
 -- The header after the write of a commit, which is one piece and lies in chunk 0: it is read as another dataset with the same
 -- ranges, and chunk 0 is what was written.
@@ -64,7 +64,7 @@ pub record IsWritten (img : List ℕ) (limits : Limits) (s : Super) (place : ℕ
   pub now : chunk_0 (apply w img) place ≡ w.piece
   pub same : SameHeader (chunk_0 img place) (chunk_0 (apply w img) place) old.layout.address
   pub described : SameDescribed old new
-  pub layout : LayoutInChunk img place → LayoutInChunk (apply w img) place
+  pub layout : LayoutInChunk0 img place → LayoutInChunk0 (apply w img) place
 
 -- other rows, whose needed chunks are within the limit
 abbrev pub RowsCommitted : Type 0
@@ -75,25 +75,25 @@ RowsCommitted = (img : List ℕ) (limits : Limits) (s : Super) (place : ℕ) (d 
 -- other rows and the index address, which was undefined
 abbrev pub IndexCommitted : Type 0
 IndexCommitted = (img : List ℕ) (limits : Limits) (s : Super) (place : ℕ) (d : Described) (us : List Used) (rows index : ℕ) → eval img (checked_dataset limits s place) ≡ Ok (d, us) → s.end ≤ length img
-    → Disjoint us → d.layout.address ≡ undefined → LayoutInChunk img place → rows < 2 ^ 64 → index < 2 ^ 64
+    → Disjoint us → d.layout.address ≡ undefined → LayoutInChunk0 img place → rows < 2 ^ 64 → index < 2 ^ 64
     → nat_lt (limit_of limits d.layout.index) (needed (with_index index (with_rows rows d))) ≡ false
     → IsWritten img limits s place us (commit_at img place rows (Some index)) d (with_index index (with_rows rows d))
 
 -- The same of a file at a moment: what a writer shows of the header before a commit.
 pub record HeaderCommits (img : List ℕ) (m : Moment) (w : Write) (d : Described) : Type 0 where
-  pub inside : InChunk m w
+  pub inside : InChunk0 m w
   pub some : 1 ≤ length w.piece
   pub short : length w.piece ≤ 512
   pub header : eval (apply w img) (checked_dataset format_limits m.super m.place) ≡ Ok (d, m.header)
   pub now : chunk_0 (apply w img) m.place ≡ w.piece
   pub chunk_0 : SameHeader (header_view (range img m.place 512)) (header_view (range (apply w img) m.place 512)) m.dataset.layout.address
   pub described : SameDescribed m.dataset d
-  pub layout : LayoutInChunk img m.place → LayoutInChunk (apply w img) m.place
+  pub layout : LayoutInChunk0 img m.place → LayoutInChunk0 (apply w img) m.place
 
 abbrev pub GrowingHeader : Type 0
 GrowingHeader = (img name : List ℕ) (m : Moment) (rows : ℕ) → Represents img name m → rows < 2 ^ 64 → AreFew (with_rows rows m.dataset)
     → HeaderCommits img m (commit_at img m.place rows None) (with_rows rows m.dataset)
 
 abbrev pub StartingHeader : Type 0
-StartingHeader = (img name : List ℕ) (m : Moment) (rows index : ℕ) → Represents img name m → m.dataset.layout.address ≡ undefined → LayoutInChunk img m.place → rows < 2 ^ 64 → index < 2 ^ 64
+StartingHeader = (img name : List ℕ) (m : Moment) (rows index : ℕ) → Represents img name m → m.dataset.layout.address ≡ undefined → LayoutInChunk0 img m.place → rows < 2 ^ 64 → index < 2 ^ 64
     → AreFew (with_index index (with_rows rows m.dataset)) → HeaderCommits img m (commit_at img m.place rows (Some index)) (with_index index (with_rows rows m.dataset))

@@ -10,7 +10,7 @@ use Rattle.h5w_model.specs.Findings.{checked_dataset}
 use Rattle.h5w_model.specs.declared.message.Msg.{Msg}
 use Rattle.h5w_model.specs.declared.root.Super.{Super}
 use Rattle.h5w_visits.specs.Ranges.{block_at}
-use Rattle.h5w_header_laws.specs.Files.{chunk_0, LayoutInChunk}
+use Rattle.h5w_header_laws.specs.Files.{chunk_0, LayoutInChunk0}
 
 abbrev pub message : ℕ → List ℕ → Msg
 message number data_bytes = record { kind = number; flags = 0; at = 0; body = data_bytes }
@@ -55,7 +55,7 @@ SpelledRead = (d : Described) → IsSpellable d → IsSpelled d
 pub record StandsSpelled (img : List ℕ) (limits : Limits) (s : Super) (place : ℕ) (d : Described) : Type 0 where
   pub header : eval img (checked_dataset limits s place) ≡ Ok (d, block_at place (length (spelled_header d)) ∷ [])
   pub chunk : chunk_0 img place ≡ spelled_header d
-  pub layout : LayoutInChunk img place
+  pub layout : LayoutInChunk0 img place
 
 abbrev pub SpelledStands : Type 0
 SpelledStands = (img : List ℕ) (limits : Limits) (s : Super) (place : ℕ) (d : Described) → IsSpellable d → At img place (spelled_header d) → place + length (spelled_header d) ≤ s.end

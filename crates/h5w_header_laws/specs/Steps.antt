@@ -9,7 +9,7 @@ use Rattle.h5w_visits.specs.Ranges.{Disjoint, blocks_of}
 use Rattle.h5w_visits.specs.Needed.{AreFew}
 use Rattle.h5w_steps.specs.Moments.{Moment, all_used, HasCells, Represents}
 use Rattle.h5w_steps.specs.Steps.{Step}
-use Rattle.h5w_header_laws.specs.Files.{commit_at, with_rows, with_index, LayoutInChunk}
+use Rattle.h5w_header_laws.specs.Files.{commit_at, with_rows, with_index, LayoutInChunk0}
 
 -- a file with these rows, whose needed chunks have these addresses, and these values more
 abbrev pub grown : Moment → ℕ → List ℕ → List ℤ → Moment
@@ -29,7 +29,7 @@ started m d fixed behind addresses more = record m { dataset = d; fixed = fixed;
 -- The same where the header names its index for the first time: what it names stands there already.
 abbrev pub StartingStep : Type 0
 StartingStep = (img name : List ℕ) (m : Moment) (held : List Used) (rows index : ℕ) (d : Described) (fixed behind : List Used) (addresses : List ℕ) (more : List ℤ) → Represents img name m
-    → d ≡ with_index index (with_rows rows m.dataset) → m.dataset.layout.address ≡ undefined → LayoutInChunk img m.place → m.dataset.shape.rows < rows → rows < 2 ^ 64 → index < 2 ^ 64 → AreFew d
+    → d ≡ with_index index (with_rows rows m.dataset) → m.dataset.layout.address ≡ undefined → LayoutInChunk0 img m.place → m.dataset.shape.rows < rows → rows < 2 ^ 64 → index < 2 ^ 64 → AreFew d
     → eval img (index_visit m.super.end d) ≡ Ok (fixed ++ behind) → fixed ≡ blocks_of (visits img (in_place d)) → Disjoint (all_used (started m d fixed behind addresses more))
     → eval img (table_of d (needed_keys d)) ≡ Ok addresses → length (m.values ++ more) ≡ rows * m.dataset.shape.cols → HasCells img (started m d fixed behind addresses more)
     → Step img m held (commit_at img m.place rows (Some index)) (started m d fixed behind addresses more) behind

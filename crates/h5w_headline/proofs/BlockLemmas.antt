@@ -17,7 +17,7 @@ use Rattle.h5w_model.specs.declared.cell.IndexKind.TheVariants.{Array, Tree}
 use Rattle.h5w_model.specs.declared.refusal.ReadError.{ReadError}
 use Rattle.h5w_model.specs.declared.refusal.ReadError.TheVariants.{Damaged}
 use Rattle.h5w_model.specs.declared.refusal.BlockFault.{BlockFault}
-use Rattle.h5w_laws.proofs.ResultLemmas.{Found, then_ok, refused_ok, passes, choice_ok, choice_from, fits_in}
+use Rattle.h5w_laws.proofs.ResultLemmas.{HasAnswer, then_ok, refused_ok, passes, choice_ok, choice_from, fits_in}
 use Rattle.h5w_headline.specs.Headline.{IsTakenAt}
 use Rattle.h5w_headline.proofs.LookLemmas.{Until, any_here, any_there, one_look}
 
@@ -41,7 +41,7 @@ pub record BlocksFound (B : Type 0) (log : Log) (p q cap : ℕ) (blocks_of : Pro
 -- at each position up to a last one they are read, and no image ends past 2^64
 pub record AreRead (log : Log) (p q : ℕ) (blocks_of : Prog (Result InPlace ReadError)) : Type 0 where
   pub ordered : p ≤ q
-  pub read : (u : ℕ) → p ≤ u → u ≤ q → Found (eval (image_at log u) blocks_of)
+  pub read : (u : ℕ) → p ≤ u → u ≤ q → HasAnswer (eval (image_at log u) blocks_of)
   pub fits : (u : ℕ) → p ≤ u → u ≤ q → length (image_at log u) ≤ 2 ^ 64
 
 -- an index block that an array's header names is named from then on

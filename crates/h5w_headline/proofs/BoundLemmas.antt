@@ -8,7 +8,7 @@ use Rattle.h5w_model.specs.Numbers.{range}
 use Rattle.h5w_model.specs.Programs.{Prog, ret, whole, eval, bind, and_then, Visit, visits, Same, Look, lowered, Takes}
 use Rattle.h5w_model.specs.Headers.{prefix_at}
 use Rattle.h5w_model.specs.Logs.{Log, hist}
-use Rattle.h5w_model.specs.Datasets.{Described, HeaderFields, header_refusal, from_chunk, root_view, root_header, dataset_from, dataset_place, super_of, superblock}
+use Rattle.h5w_model.specs.Datasets.{Described, HeaderFields, header_refusal, from_chunk_0, root_view, root_header, dataset_from, dataset_place, super_of, superblock}
 use Rattle.h5w_model.specs.Tables.{Limits, Reading, Shows, format_limits, limit_of, needed, needed_keys}
 use Rattle.h5w_model.specs.Prefixed.{image_at, IsPosition, root_address}
 use Rattle.h5w_model.specs.Readers.{Placed, IsCall, looks_of, header_at}
@@ -225,7 +225,7 @@ none_behind v w vs h = cc
 abbrev root_rest : ℕ → List ℕ → Prog (Result HeaderFields ReadError)
 root_rest place first =
     elim (prefix_at first) as (λ _. Prog (Result HeaderFields ReadError)) [
-      | Ok p ↦ (if nat_lt 512 p.total then whole (place + 512) (p.total - 512) (λ rest. from_chunk place p (first ++ rest)) else from_chunk place p first)
+      | Ok p ↦ (if nat_lt 512 p.total then whole (place + 512) (p.total - 512) (λ rest. from_chunk_0 place p (first ++ rest)) else from_chunk_0 place p first)
       | Err e ↦ ret (Err (header_refusal place e))
     ]
 

@@ -3,7 +3,7 @@ use Rattle.std.proofs.Common.{◌≡◌, ℕ, zero, suc, ◌+◌, ◌-◌, ◌*�
 use Rattle.std.specs.Prelude.{◌==◌}
 use Rattle.std.specs.List.{AllByRecursion}
 use Rattle.std.proofs.lemmas.Bool.{cond_both}
-use Rattle.h5w_model.specs.Programs.{Prog, ret, whole, counted, stored, eval, bind, and_then, visits, below_end, cut_up, pieces, Kept, kept_bytes, used, lowered, Look, Takes}
+use Rattle.h5w_model.specs.Programs.{Prog, ret, whole, counted, stored, eval, bind, and_then, visits, below_end, cut_up, look_pieces, Kept, kept_bytes, used, lowered, Look, Takes}
 use Rattle.h5w_model.specs.Tables.{each_of}
 use Rattle.h5w_model.specs.declared.refusal.ReadError.{ReadError}
 use Rattle.h5w_laws.proofs.LoweringLemmas.{option_both}
@@ -74,16 +74,16 @@ record Behind {A : Type 0} (next : List ℕ → Prog A) (most : ℕ) (ls : List 
   all : length ls ≡ count + length rest
   takes : Takes (next bytes) rest a
 
-behind_pieces : {A : Type 0} (fuel place len : ℕ) (got : List ℕ) (next : List ℕ → Prog A) (ls : List Look) (a : A) → Takes (pieces fuel place len got next) ls a → Behind next fuel ls a
+behind_pieces : {A : Type 0} (fuel place len : ℕ) (got : List ℕ) (next : List ℕ → Prog A) (ls : List Look) (a : A) → Takes (look_pieces fuel place len got next) ls a → Behind next fuel ls a
 behind_pieces zero place len got next ls a takes = record { bytes = got; count = 0; few = omega arith; rest = ls; all = omega arith; takes = takes }
 behind_pieces (suc fuel) place zero got next ls a takes = record { bytes = got; count = 0; few = omega arith; rest = ls; all = omega arith; takes = takes }
 behind_pieces (suc fuel) place (suc r) got next [] a takes = cc
 behind_pieces {A} (suc fuel) place (suc r) got next (l ∷ ls) a takes =
     let m : ℕ = min 512 (suc r) in
-    let go : List ℕ → Prog A = λ b. cond (length b == m) (pieces fuel (place + 512) (suc r - 512) (got ++ b) next) (next (got ++ b)) in
+    let go : List ℕ → Prog A = λ b. cond (length b == m) (look_pieces fuel (place + 512) (suc r - 512) (got ++ b) next) (next (got ++ b)) in
     let now = takes_whole place m go l ls a takes in
     let b : List ℕ = l.bytes in
-    cond_both (length b == m) (pieces fuel (place + 512) (suc r - 512) (got ++ b) next) (next (got ++ b))
+    cond_both (length b == m) (look_pieces fuel (place + 512) (suc r - 512) (got ++ b) next) (next (got ++ b))
     (λ (q : Prog A). Takes q ls a → Behind next (suc fuel) (l ∷ ls) a)
     (λ t s.
     let later = behind_pieces fuel (place + 512) (suc r - 512) (got ++ b) next ls a s in

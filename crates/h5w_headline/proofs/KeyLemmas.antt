@@ -7,7 +7,7 @@ use Rattle.std.proofs.lemmas.List.FromFn.{length-map-range_with_len}
 use Rattle.h5w_model.specs.Numbers.{field}
 use Rattle.h5w_model.specs.Programs.{eval}
 use Rattle.h5w_model.specs.Messages.{byte, ShapeFields, IntTypeFields, LayoutFields, shape_tests, shape_fields, shape_at, int_type_tests, int_type_fields, int_type_at, is_int_size, chunk_size, chunk_cols_at, layout_tests, layout_fields, layout_at}
-use Rattle.h5w_model.specs.Datasets.{Found, Described, dataset, dataset_place, described, dataspace_of, or_refuse, body_of, first_of, is_shared, fill_of}
+use Rattle.h5w_model.specs.Datasets.{FoundMessage, Described, dataset, dataset_place, described, dataspace_of, or_refuse, body_of, first_of, is_shared, fill_of}
 use Rattle.h5w_model.specs.Tables.{bands, chunks_across, needed, needed_keys, limit_of, format_limits}
 use Rattle.h5w_model.specs.Prefixed.{IsKey}
 use Rattle.h5w_model.specs.declared.refusal.Unsupported.{Unsupported}
@@ -65,7 +65,7 @@ record DescribedBy (d : Described) : Type 0 where
 ok_described : (d e : Described) → ◌≡◌ {A = Result Described Unsupported} (Ok d) (Ok e) → d ≡ e
 ok_described d e h = cc
 
-described_by : (ms : List Found) (d : Described) → described ms ≡ Ok d → DescribedBy d
+described_by : (ms : List FoundMessage) (d : Described) → described ms ≡ Ok d → DescribedBy d
 described_by ms d h =
     let a = fails (list_any (λ m. m.kind == 0x0b) ms) _ _ d h in
     let b = fails (is_shared (first_of 0x01 ms) || is_shared (first_of 0x03 ms) || is_shared (first_of 0x05 ms) || is_shared (first_of 0x08 ms)) _ _ d a.1 in

@@ -4,7 +4,7 @@ use Rattle.std.specs.Prelude.{◌==◌}
 use Rattle.std.specs.List.{Any, AllByRecursion}
 use Rattle.std.proofs.lemmas.List.{take-append-drop, take-map, drop-map}
 use Rattle.std.proofs.lemmas.Bool.{cond_both}
-use Rattle.h5w_model.specs.Programs.{Prog, eval, bind, Visit, visits, Same, below_end, cut_up, pieces, lowered, Look, Takes}
+use Rattle.h5w_model.specs.Programs.{Prog, eval, bind, Visit, visits, Same, below_end, cut_up, look_pieces, lowered, Look, Takes}
 use Rattle.h5w_model.specs.Logs.{Log, hist}
 use Rattle.h5w_model.specs.Prefixed.{image_at}
 use Rattle.h5w_model.specs.Readers.{Placed, IsCall, looks_of}
@@ -155,18 +155,18 @@ pub record OneLook (A : Type 0) (place len : ℕ) (next : List ℕ → Prog A) (
   pub whole_len : look.look.len ≡ len
   pub takes : Takes (next look.look.bytes) (looks_of rest) a
 
-pieces_none : {A : Type 0} (fuel place : ℕ) (got : List ℕ) (next : List ℕ → Prog A) → pieces fuel place 0 got next ≡ next got
+pieces_none : {A : Type 0} (fuel place : ℕ) (got : List ℕ) (next : List ℕ → Prog A) → look_pieces fuel place 0 got next ≡ next got
 pieces_none zero place got next = refl
 pieces_none (suc fuel) place got next = refl
 
 one_piece : {A : Type 0} (fuel place len : ℕ) (next : List ℕ → Prog A) (ts : List Placed) (a : A) → 0 < fuel → 0 < len → len ≤ 512
-    → Takes (pieces fuel place len [] next) (looks_of ts) a → OneLook A place len next ts a
+    → Takes (look_pieces fuel place len [] next) (looks_of ts) a → OneLook A place len next ts a
 one_piece zero place len next ts a some more few h = absurd (omega arith)
 one_piece (suc fuel) place zero next ts a some more few h = absurd (omega arith)
 one_piece (suc fuel) place (suc m) next [] a some more few h = cc
 one_piece {A} (suc fuel) place (suc m) next (t ∷ ts) a some more few h =
     let len : ℕ = min 512 (suc m) in
-    let onward : List ℕ → Prog A = λ b. cond (length b == len) (pieces fuel (place + 512) (suc m - 512) b next) (next b) in
+    let onward : List ℕ → Prog A = λ b. cond (length b == len) (look_pieces fuel (place + 512) (suc m - 512) b next) (next b) in
     let now = takes_whole place len onward t.look (looks_of ts) a h in
     let none : suc m - 512 ≡ 0 = omega arith in
     let b : List ℕ = t.look.bytes in
@@ -177,8 +177,8 @@ one_piece {A} (suc fuel) place (suc m) next (t ∷ ts) a some more few h =
       at_place = now.0.0;
       whole_len = now.0.1 ∙ (let e : len ≡ suc m = omega arith in e);
       takes =
-          cond_both (length b == len) (pieces fuel (place + 512) (suc m - 512) b next) (next b) (λ (q : Prog A). Takes q (looks_of ts) a → Takes (next b) (looks_of ts) a)
-          (λ t s. subst (λ (q : Prog A). Takes q (looks_of ts) a) (ap (λ n. pieces fuel (place + 512) n b next) none ∙ pieces_none fuel (place + 512) b next) s)
+          cond_both (length b == len) (look_pieces fuel (place + 512) (suc m - 512) b next) (next b) (λ (q : Prog A). Takes q (looks_of ts) a → Takes (next b) (looks_of ts) a)
+          (λ t s. subst (λ (q : Prog A). Takes q (looks_of ts) a) (ap (λ n. look_pieces fuel (place + 512) n b next) none ∙ pieces_none fuel (place + 512) b next) s)
           (λ t s. s)
           now.1;
     }
@@ -188,4 +188,4 @@ pub one_look : {A : Type 0} (place len : ℕ) (next : List ℕ → Prog A) (ts :
 one_look {A} place len next ts a more few fits h =
     let all : below_end place len ≡ len = omega arith in
     one_piece (len / 512 + 1) place len next ts a (omega arith) more few
-    (subst (λ n. Takes (pieces (n / 512 + 1) place n [] next) (looks_of ts) a) all h)
+    (subst (λ n. Takes (look_pieces (n / 512 + 1) place n [] next) (looks_of ts) a) all h)

@@ -5,7 +5,7 @@ use Rattle.std.proofs.lemmas.Bool.{cond-true, eq-eqb}
 use Rattle.std.proofs.lemmas.List.{append_assoc, append-nil, take-append-le, drop-append-le}
 use Rattle.std.proofs.Math.Seq.{drop-append-add}
 use Rattle.h5w_model.specs.Numbers.{range}
-use Rattle.h5w_model.specs.Programs.{Prog, pieces, cut_up, below_end, Takes}
+use Rattle.h5w_model.specs.Programs.{Prog, look_pieces, cut_up, below_end, Takes}
 use Rattle.h5w_model.specs.Logs.{Log, hist}
 use Rattle.h5w_model.specs.Prefixed.{image_at}
 use Rattle.h5w_model.specs.Readers.{Placed, IsCall, looks_of}
@@ -82,7 +82,7 @@ joined_parts log from place len at b more full is low high parts (suc k) o n som
     }
 
 pieces_read : {A : Type 0} (log : Log) (from fuel place len : ℕ) (got : List ℕ) (next : List ℕ → Prog A) (ts : List Placed) (a : A) → len ≤ 512 * fuel → IsCall log from ts
-    → (0 < len → HasRange log from place len) → Takes (pieces fuel place len got next) (looks_of ts) a → PiecesRead A log from place len next got a
+    → (0 < len → HasRange log from place len) → Takes (look_pieces fuel place len got next) (looks_of ts) a → PiecesRead A log from place len next got a
 pieces_read {A} log from zero place len got next ts a enough call has takes =
     let e : 0 ≡ len = omega arith in
     subst (λ n. PiecesRead A log from place n next got a) e (none_read log from place got next ts a call takes)
@@ -92,13 +92,13 @@ pieces_read {A} log from (suc fuel) place (suc r) got next (t ∷ ts) a enough c
     let len : ℕ = suc r in
     let m : ℕ = min 512 len in
     let img : List ℕ = image_at log t.position in
-    let onward : List ℕ → Prog A = λ b. cond (length b == m) (pieces fuel (place + 512) (len - 512) (got ++ b) next) (next (got ++ b)) in
+    let onward : List ℕ → Prog A = λ b. cond (length b == m) (look_pieces fuel (place + 512) (len - 512) (got ++ b) next) (next (got ++ b)) in
     let now = takes_whole place m onward t.look (looks_of ts) a takes in
     let b : List ℕ = t.look.bytes in
     let is : b ≡ range img place m = call.2 ∙ ap (λ x. range img x t.look.len) now.0.0 ∙ ap (λ n. range img place n) now.0.1 in
     let there : place + len ≤ length img = has (omega arith) t.position call.0 call.1 in
     let full : length b ≡ m = ap length is ∙ length_range img place m ∙ (let e : min m (length img - place) ≡ m = omega arith in e) in
-    let goes = subst (λ (q : Prog A). Takes q (looks_of ts) a) (cond-true (length b == m) (pieces fuel (place + 512) (len - 512) (got ++ b) next) (next (got ++ b)) (eq-eqb (length b) m full)) now.1 in
+    let goes = subst (λ (q : Prog A). Takes q (looks_of ts) a) (cond-true (length b == m) (look_pieces fuel (place + 512) (len - 512) (got ++ b) next) (next (got ++ b)) (eq-eqb (length b) m full)) now.1 in
     let later = pieces_read log from fuel (place + 512) (len - 512) (got ++ b) next ts a (omega arith) (call_earlier log from t.position ts call.0 call.3)
     (λ some u low high. omega (arith, has (omega arith) u low high)) goes in
     record {
@@ -116,4 +116,4 @@ pub cut_read : {A : Type 0} (log : Log) (from place len : ℕ) (next : List ℕ 
 cut_read {A} log from place len next ts a fits call has takes =
     let all : below_end place len ≡ len = omega arith in
     pieces_read log from (len / 512 + 1) place len [] next ts a (omega arith) call (λ some. has)
-    (subst (λ n. Takes (pieces (n / 512 + 1) place n [] next) (looks_of ts) a) all takes)
+    (subst (λ n. Takes (look_pieces (n / 512 + 1) place n [] next) (looks_of ts) a) all takes)

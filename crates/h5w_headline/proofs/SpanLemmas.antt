@@ -17,7 +17,7 @@ use Rattle.h5w_model.specs.declared.refusal.ReadError.{ReadError}
 use Rattle.h5w_laws.specs.Held.{IsReached}
 use Rattle.h5w_laws.proofs.ProgramLemmas.{visits_bind, same_joined, eval_and_then}
 use Rattle.h5w_laws.proofs.AnswerLemmas.{result_both}
-use Rattle.h5w_laws.proofs.ResultLemmas.{Found, then_from}
+use Rattle.h5w_laws.proofs.ResultLemmas.{HasAnswer, then_from}
 use Rattle.h5w_laws.proofs.LookLemmas.{takes_ret}
 use Rattle.h5w_headline.specs.Headline.{Served, IsTakenAt}
 use Rattle.h5w_headline.proofs.LookLemmas.{Until, AreSame, placed_kept}
@@ -97,7 +97,7 @@ inside name log p q u s low high =
       same = same_dataset name log p u s.first m s.served low quiet;
     }
 
-read_inside : (name : List ℕ) (log : Log) (p q u : ℕ) (s : Span name log p q) → Inside name log p q u s → Found (eval (image_at log u) (in_place s.first.shown.dataset))
+read_inside : (name : List ℕ) (log : Log) (p q u : ℕ) (s : Span name log p q) → Inside name log p q u s → HasAnswer (eval (image_at log u) (in_place s.first.shown.dataset))
 read_inside name log p q u s i =
     let img : List ℕ = image_at log u in
     let reached = subst (λ (d : Described). IsReached img d) i.same i.here.reached in
@@ -155,7 +155,7 @@ looked_up d known ks = and_then (in_place d) (λ b. each_unknown b known ks)
 -- behind the blocks in place of some position all is as there
 behind_taken : (name : List ℕ) (log : Log) (p q cap at_place : ℕ) (s : Span name log p q) (known : List ℕ) (ks : List Key) (ts : List Placed) (a : Result Reading ReadError)
     → AllByRecursion (IsKey s.first.shown.dataset.layout.index) ks
-    → ((u : ℕ) → p ≤ u → u ≤ q → Found (eval (image_at log u) (looked_up s.first.shown.dataset known ks)))
+    → ((u : ℕ) → p ≤ u → u ≤ q → HasAnswer (eval (image_at log u) (looked_up s.first.shown.dataset known ks)))
     → BlocksFound Reading log p q cap (in_place s.first.shown.dataset) (λ b. and_then (each_unknown b known ks) (told at_place s.first.shown.dataset)) ts a
     → TableFound log p q at_place s.first.shown.dataset (looked_up s.first.shown.dataset known ks) ts a
 behind_taken name log p q cap at_place s known ks ts a all found f =
@@ -190,7 +190,7 @@ behind_taken name log p q cap at_place s known ks ts a all found f =
 
 keys_taken : (name : List ℕ) (log : Log) (p q cap at_place : ℕ) (s : Span name log p q) (known : List ℕ) (ks : List Key) (ts : List Placed) (a : Result Reading ReadError)
     → AllByRecursion (IsKey s.first.shown.dataset.layout.index) ks
-    → ((u : ℕ) → p ≤ u → u ≤ q → Found (eval (image_at log u) (table_from known s.first.shown.dataset ks)))
+    → ((u : ℕ) → p ≤ u → u ≤ q → HasAnswer (eval (image_at log u) (table_from known s.first.shown.dataset ks)))
     → IsCall log p ts → Until q ts
     → Takes (lowered cap [] (and_then (table_from known s.first.shown.dataset ks) (told at_place s.first.shown.dataset))) (looks_of ts) a
     → TableFound log p q at_place s.first.shown.dataset (table_from known s.first.shown.dataset ks) ts a
@@ -198,7 +198,7 @@ keys_taken name log p q cap at_place s known ks ts a all found call until =
     let d : Described = s.first.shown.dataset in
     let settled : List ℕ = take (length ks) known in
     cond_both (some_unknown known ks) (looked_up d known ks) (ret (Ok settled))
-    (λ (x : Prog (Result (List ℕ) ReadError)). ((u : ℕ) → p ≤ u → u ≤ q → Found (eval (image_at log u) x)) → Takes (lowered cap [] (and_then x (told at_place d))) (looks_of ts) a → TableFound log p q at_place d x ts a)
+    (λ (x : Prog (Result (List ℕ) ReadError)). ((u : ℕ) → p ≤ u → u ≤ q → HasAnswer (eval (image_at log u) x)) → Takes (lowered cap [] (and_then x (told at_place d))) (looks_of ts) a → TableFound log p q at_place d x ts a)
     (λ t found takes.
     behind_taken name log p q cap at_place s known ks ts a all found
     (blocks_taken log p q cap d (λ b. and_then (each_unknown b known ks) (told at_place d)) ts a (are_read name log p q s) (names_kept name log p q s) call until

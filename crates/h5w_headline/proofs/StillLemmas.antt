@@ -7,7 +7,7 @@ use Rattle.std.proofs.lemmas.Bool.{cond_both, cond-true, cond-false, cases_Bool,
 use Rattle.h5w_model.specs.Numbers.{range}
 use Rattle.h5w_model.specs.Programs.{Prog, ret, whole, counted, stored, eval, bind, and_then, below_end, Look, lowered, Takes, IsLookAt}
 use Rattle.h5w_model.specs.Headers.{prefix_at, prefix_tests, prefix_fields, header_length, end_of, header_at, messages_at, header_view}
-use Rattle.h5w_model.specs.Datasets.{Described, HeaderFields, header_refusal, from_chunk, dataset_messages, dataset_from, dataset, dataset_place, described, refused_as, then_also}
+use Rattle.h5w_model.specs.Datasets.{Described, HeaderFields, header_refusal, from_chunk_0, dataset_messages, dataset_from, dataset, dataset_place, described, refused_as, then_also}
 use Rattle.h5w_model.specs.Tables.{Limits, Reading, reading, limit_of, needed, needed_keys, needed_table, table_of}
 use Rattle.h5w_model.specs.Calls.{CallRules, rows_seen, known_table, same_cut, table_from, needed_from, header_look, cut_header, not_shrunk, behind_header, again, is_settled, attempts_from, rows_call, open_rules, open_call}
 use Rattle.h5w_model.specs.declared.message.Prefix.{Prefix}
@@ -75,7 +75,7 @@ one_refusal r e f h g = cc
 abbrev messages_left : ℕ → List ℕ → Result Prefix HeaderError → Prog (Result HeaderFields ReadError)
 messages_left place v r =
     elim r as (λ _. Prog (Result HeaderFields ReadError)) [
-      | Ok p ↦ cond (nat_lt 512 p.total) (ret (Err (Unsupported (record { 0 = 1 })))) (from_chunk place p v)
+      | Ok p ↦ cond (nat_lt 512 p.total) (ret (Err (Unsupported (record { 0 = 1 })))) (from_chunk_0 place p v)
       | Err e ↦ ret (Err (header_refusal place e))
     ]
 
@@ -89,7 +89,7 @@ cut_says img place v e (Ok p) is h =
       | inr small ↦
           let low : p.total ≤ 512 = ltb-false 512 p.total small in
           let next : inner ≡ Some e = sym (cond-false (nat_lt 512 p.total) None inner small) ∙ h in
-          ap (eval img) (cond-false (nat_lt 512 p.total) (ret (Err (Unsupported (record { 0 = 1 })))) (from_chunk place p v) small)
+          ap (eval img) (cond-false (nat_lt 512 p.total) (ret (Err (Unsupported (record { 0 = 1 })))) (from_chunk_0 place p v) small)
           ∙ elim (cases_Bool (nat_lt (length v) p.total)) [
             | inl short ↦
                 let says : messages_at v ≡ Err (Short p.total (length v)) = cut_chunk v p is low (ltb-true (length v) p.total short) in

@@ -5,7 +5,7 @@ use Rattle.std.specs.List.{AllByRecursion}
 use Rattle.std.proofs.lemmas.List.{append_assoc, append-nil, drop-drop, drop-map}
 use Rattle.std.proofs.lemmas.Bool.{cond_both, eqb-true, eqb-false}
 use Rattle.h5w_model.specs.Numbers.{range}
-use Rattle.h5w_model.specs.Programs.{Prog, ret, whole, counted, stored, eval, bind, Visit, visits, all_of, Kept, lowered, below_end, cut_up, pieces, Look, Takes, IsLookAt}
+use Rattle.h5w_model.specs.Programs.{Prog, ret, whole, counted, stored, eval, bind, Visit, visits, all_of, Kept, lowered, below_end, cut_up, look_pieces, Look, Takes, IsLookAt}
 use Rattle.h5w_laws.specs.Programs.{Taken, looks_of, AreTakenAs, IsUnstored}
 use Rattle.h5w_laws.proofs.LoweringLemmas.{range_below, range_within, range_cut, range_short}
 use Rattle.h5w_laws.proofs.LookLemmas.{takes_whole, taken_drop, taken_behind}
@@ -37,7 +37,7 @@ few_after p n most t ts a low h = record { count = suc h.count; few = omega (ari
 
 few_pieces : {A : Type 0} (old : List ℕ) (P L fuel place len : ℕ) (got : List ℕ) (next : List ℕ → Prog A) (ts : List Taken) (a : A)
     → len ≤ 512 * fuel → P ≤ place → (0 < len → place + len ≤ P + L) → AllByRecursion (IsPart old P L) ts
-    → Takes (pieces fuel place len got next) (looks_of ts) a → Few (next (got ++ range old place len)) ((len + 511) / 512) ts a
+    → Takes (look_pieces fuel place len got next) (looks_of ts) a → Few (next (got ++ range old place len)) ((len + 511) / 512) ts a
 few_pieces old P L zero place len got next ts a enough low high parts h =
     let e : 0 ≡ len = omega arith in
     let i : got ≡ got ++ range old place len = sym (append-nil got) ∙ ap (λ n. got ++ range old place n) e in
@@ -49,14 +49,14 @@ few_pieces {A} old P L (suc fuel) place (suc rest) got next (t ∷ ts) a enough 
     let m : ℕ = min 512 (suc rest) in
     let r : List ℕ = range old place m in
     let fewer : ℕ = (suc rest - 512 + 511) / 512 in
-    let onward : List ℕ → Prog A = λ b. cond (length b == m) (pieces fuel (place + 512) (suc rest - 512) (got ++ b) next) (next (got ++ b)) in
+    let onward : List ℕ → Prog A = λ b. cond (length b == m) (look_pieces fuel (place + 512) (suc rest - 512) (got ++ b) next) (next (got ++ b)) in
     let now = takes_whole place m onward t.look (looks_of ts) a h in
     let inside : place + suc rest ≤ P + L = high (omega arith) in
     let here : t.look.bytes ≡ r =
     parts.0.gave ∙ ap (λ p. range t.image p t.look.len) now.0.0 ∙ ap (λ n. range t.image place n) now.0.1
     ∙ range_within old t.image P L place m parts.0.same low (omega arith) in
     few_after (next (got ++ range old place (suc rest))) fewer ((suc rest + 511) / 512) t ts a (omega arith) (
-    cond_both (length r == m) (pieces fuel (place + 512) (suc rest - 512) (got ++ r) next) (next (got ++ r))
+    cond_both (length r == m) (look_pieces fuel (place + 512) (suc rest - 512) (got ++ r) next) (next (got ++ r))
     (λ (q : Prog A). Takes q (looks_of ts) a → Few (next (got ++ range old place (suc rest))) fewer ts a)
     (λ full s.
     few_along next ((got ++ r) ++ range old (place + 512) (suc rest - 512)) (got ++ range old place (suc rest)) fewer ts a

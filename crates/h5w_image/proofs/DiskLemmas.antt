@@ -4,7 +4,7 @@ use Rattle.std.specs.Prelude.{IfSome, IsSome}
 use Rattle.std.specs.Option.{option_map, unwrap_or}
 use Rattle.h5w_model.specs.Images.{apply}
 use Rattle.h5w_model.specs.declared.piece.Write.{Write}
-use Rattle.h5w_image.specs.View.{DiskView, IsThere, Leaves, Told, file, made, put}
+use Rattle.h5w_image.specs.View.{DiskView, IsThere, Leaves, DiskState, file, made, put}
 use Rattle.h5w_image.proofs.Names.{get-insert_same, some-insert}
 
 -- a file that is there stays
@@ -15,7 +15,7 @@ there_kept n name p there = subst (λ t. IfSome t (λ d. IsSome (file d name))) 
 pub there_after_put : {v w : DiskView} (name q : List ℕ) (wr : Write) (faults : ℕ) → Leaves 1 (option_map (put name wr faults) v.told) v w → IsThere v q → IsThere w q
 there_after_put {v} name q wr faults p there = subst (λ t. IfSome t (λ d. IsSome (file d q))) (sym p.told) (cases v.told there)
   where
-    cases : (t : Option Told) → IfSome t (λ d. IsSome (file d q)) → IfSome (option_map (put name wr faults) t) (λ d. IsSome (file d q))
+    cases : (t : Option DiskState) → IfSome t (λ d. IsSome (file d q)) → IfSome (option_map (put name wr faults) t) (λ d. IsSome (file d q))
     cases None h = tt
     cases (Some d) h = some-insert d.files name q (apply wr (unwrap_or (file d name) [])) h
 
@@ -23,7 +23,7 @@ there_after_put {v} name q wr faults p there = subst (λ t. IfSome t (λ d. IsSo
 pub there_when_made : {v w : DiskView} (name : List ℕ) → Leaves 0 (option_map (made name) v.told) v w → IsThere w name
 there_when_made {v} name p = subst (λ t. IfSome t (λ d. IsSome (file d name))) (sym p.told) (cases v.told)
   where
-    cases : (t : Option Told) → IfSome (option_map (made name) t) (λ d. IsSome (file d name))
+    cases : (t : Option DiskState) → IfSome (option_map (made name) t) (λ d. IsSome (file d name))
     cases None = tt
     cases (Some d) = subst (λ o. IsSome o) (sym (get-insert_same d.files name [])) refl
 
@@ -35,7 +35,7 @@ there_when_sized {v} name n p sized = subst (λ t. IfSome t (λ d. IsSome (file 
     some None e = absurd (cc)
     some (Some b) e = refl
 
-    cases : (t : Option Told) → IfSome t (λ d. Some n ≡ option_map length (file d name)) → IfSome t (λ d. IsSome (file d name))
+    cases : (t : Option DiskState) → IfSome t (λ d. Some n ≡ option_map length (file d name)) → IfSome t (λ d. IsSome (file d name))
     cases None h = tt
     cases (Some d) h = some (file d name) h
 

@@ -4,12 +4,12 @@ use Rattle.std.specs.Option.{unwrap_or}
 use Rattle.std.specs.FinMap as map
 use Rattle.std.specs.Coded.{Coded, code_by, coded×, coded_ℕ, coded_list}
 use Rattle.h5w_model.specs.declared.piece.Write.{Write}
-use Rattle.h5w_image.specs.View.{DiskView, Files, Told, put}
+use Rattle.h5w_image.specs.View.{DiskView, Files, DiskState, put}
 use Rattle.h5w_image.specs.NamedFiles.{Named, named_code}
 use Rattle.h5w_image.specs.Memory.{counted, is_failing}
 
 pub record MemDiskView : Type 0 where
-  pub told : Told
+  pub told : DiskState
   -- the calls that are to fail, counted from 1
   pub failing : List ℕ
   -- how many calls were made, and how many of them failed
@@ -47,12 +47,12 @@ with_room name pieces end v = record v { pieces = max v.pieces pieces; ends = ma
 abbrev pub disk_in_memory : MemDiskView → DiskView
 disk_in_memory v = record { told = Some v.told; faults = v.faults; through = []; pieces = v.pieces; end = λ name. unwrap_or (map.get v.ends name) 0 }
 
-abbrev pub told_code : Coded Told
+abbrev pub told_code : Coded DiskState
 told_code = code_by (Files × List ℕ) (coded× (named_code (coded_list coded_ℕ)) (coded_list coded_ℕ)) (λ d. (d.files, d.puts)) (λ p. record { files = p.0; puts = p.1 }) (λ _. refl)
 
 abbrev pub disk_code : Coded MemDiskView
 disk_code =
-    code_by (Told × (List ℕ × (ℕ × (ℕ × (ℕ × Named ℕ)))))
+    code_by (DiskState × (List ℕ × (ℕ × (ℕ × (ℕ × Named ℕ)))))
     (coded× told_code (coded× (coded_list coded_ℕ) (coded× coded_ℕ (coded× coded_ℕ (coded× coded_ℕ (named_code coded_ℕ))))))
     (λ v. (v.told, (v.failing, (v.calls, (v.faults, (v.pieces, v.ends))))))
     (λ p. record { told = p.0; failing = p.1.0; calls = p.1.1.0; faults = p.1.1.1.0; pieces = p.1.1.1.1.0; ends = p.1.1.1.1.1 })

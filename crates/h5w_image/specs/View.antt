@@ -13,7 +13,7 @@ abbrev pub Files : Type 0
 Files = map.FinMap (slice_cmp nat_cmp) (List ℕ)
 
 -- what a disk tells: its files, and of each put that was Ok the count of faults that stood before it, the oldest first
-pub record Told : Type 0 where
+pub record DiskState : Type 0 where
   pub files : Files
   pub puts : List ℕ
 
@@ -24,7 +24,7 @@ pub record ImageView : Type 0 where
   -- the writes that were seen, the oldest first, where it tells them
   pub history : Option (List Write)
   -- the disk of which it is one file, where it is one and tells it
-  pub disk : Option Told
+  pub disk : Option DiskState
   -- nobody else writes it
   pub alone : Bool
   -- how often it failed
@@ -67,12 +67,12 @@ pub record Looked (v w : ImageView) : Type 0 where
   pub end : v.end ≤ w.end
 
 -- these are the image's bytes from a place on, len of them, fewer only where it ends
-abbrev pub Shows : ImageView → ℕ → ℕ → List ℕ → Type 0
-Shows v at len bytes = IfSome v.bytes (λ b. bytes ≡ range b at len)
+abbrev pub GivesRange : ImageView → ℕ → ℕ → List ℕ → Type 0
+GivesRange v at len bytes = IfSome v.bytes (λ b. bytes ≡ range b at len)
 
 -- what contracts see of a disk
 pub record DiskView : Type 0 where
-  pub told : Option Told
+  pub told : Option DiskState
   -- how often it failed
   pub faults : ℕ
   -- the references that it works through, the outermost first
@@ -82,7 +82,7 @@ pub record DiskView : Type 0 where
   pub end : List ℕ → ℕ
 
 -- after a call that used the room of n puts the disk tells this; all else is as before, but for more faults and room
-pub record Leaves (n : ℕ) (after : Option Told) (v w : DiskView) : Type 0 where
+pub record Leaves (n : ℕ) (after : Option DiskState) (v w : DiskView) : Type 0 where
   pub told : w.told ≡ after
   pub faults : v.faults ≤ w.faults
   pub through : w.through ≡ v.through
@@ -90,7 +90,7 @@ pub record Leaves (n : ℕ) (after : Option Told) (v w : DiskView) : Type 0 wher
   pub end : (name : List ℕ) → v.end name ≤ w.end name
 
 -- the bytes of the file of this name, where it is there
-abbrev pub file : Told → List ℕ → Option (List ℕ)
+abbrev pub file : DiskState → List ℕ → Option (List ℕ)
 file d name = map.get d.files name
 
 -- the file is there, where the disk tells its files
@@ -98,13 +98,13 @@ abbrev pub IsThere : DiskView → List ℕ → Type 0
 IsThere v name = IfSome v.told (λ d. IsSome (file d name))
 
 -- with a file of this name without bytes
-abbrev pub made : List ℕ → Told → Told
+abbrev pub made : List ℕ → DiskState → DiskState
 made name d = record d { files = map.insert d.files name [] }
 
 -- with the write applied to the file of this name; these faults stood before
-abbrev pub put : List ℕ → Write → ℕ → Told → Told
+abbrev pub put : List ℕ → Write → ℕ → DiskState → DiskState
 put name w faults d = record d { files = map.insert d.files name (apply w (unwrap_or (file d name) [])); puts = d.puts ++ faults ∷ [] }
 
 -- these are the file's bytes from a place on, len of them, fewer only where it ends
-abbrev pub ShowsFile : DiskView → List ℕ → ℕ → ℕ → List ℕ → Type 0
-ShowsFile v name at len bytes = IfSome v.told (λ d. bytes ≡ range (unwrap_or (file d name) []) at len)
+abbrev pub FileGivesRange : DiskView → List ℕ → ℕ → ℕ → List ℕ → Type 0
+FileGivesRange v name at len bytes = IfSome v.told (λ d. bytes ≡ range (unwrap_or (file d name) []) at len)

@@ -1,7 +1,7 @@
 ghost use Rattle.std.specs.Prelude.{◌≡◌, ◌≢◌, ◌≤◌, ◌+◌, ℕ, length, true, is_none, IfSome, IfOk, OnOk, OnErr};
 ghost use Rattle.std.specs.Option.{option_map};
 ghost use Rattle.h5w_model.specs.Causes.{Rose};
-ghost use Rattle.h5w_image.specs.View.{DiskView, IsThere, Leaves, ShowsFile, file, made, put as after_put};
+ghost use Rattle.h5w_image.specs.View.{DiskView, IsThere, Leaves, FileGivesRange, file, made, put as after_put};
 
 use crate::fault::{Failed, MakeError};
 use h5w_model::{OutOfMemory, Piece, Write};
@@ -31,7 +31,7 @@ pub trait Disk {
         requires some { 1 ≤ len }
         requires piece { len ≤ 512 }
         ensures same { Leaves 0 (view self.old).told (view self.old) (view self.new) }
-        ensures shows { OnOk result (ShowsFile (view self.old) name.now at len out.new) }
+        ensures shows { OnOk result (FileGivesRange (view self.old) name.now at len out.new) }
         ensures bound { OnOk result (length out.new ≤ len) }
         ensures failed { OnErr result (out.new ≡ out.old) }
         ensures cause { OnErr result (Rose (view self.old).faults (view self.new).faults) };

@@ -3,7 +3,7 @@ ghost use Rattle.std.specs.Vec.{vec_capacity};
 ghost use Rattle.h5w_model.specs.Numbers.{range};
 ghost use Rattle.h5w_model.specs.Causes.{Rose};
 ghost use Rattle.h5w_model.specs.Images.{apply, image};
-ghost use Rattle.h5w_image.specs.View.{ImageView, Same, Looked, Wrote, Shows};
+ghost use Rattle.h5w_image.specs.View.{ImageView, Same, Looked, Wrote, GivesRange};
 ghost use Rattle.h5w_image.specs.Memory.{called, counted, fails, fresh, in_memory, is_failing, roomy, written};
 
 use crate::fault::{Failed, ImageError};

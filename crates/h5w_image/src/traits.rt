@@ -1,6 +1,6 @@
 ghost use Rattle.std.specs.Prelude.{◌≡◌, ◌≤◌, ◌+◌, ℕ, ◌∷◌, [], true, length, OnOk, OnErr, IfErr};
 ghost use Rattle.h5w_model.specs.Causes.{Rose};
-ghost use Rattle.h5w_image.specs.View.{ImageView, Same, Looked, Wrote, Shows};
+ghost use Rattle.h5w_image.specs.View.{ImageView, Same, Looked, Wrote, GivesRange};
 
 use crate::fault::{Failed, ImageError};
 use h5w_model::{Piece, Write};
@@ -16,7 +16,7 @@ pub trait PieceRead {
         requires some { 1 ≤ len }
         requires piece { len ≤ 512 }
         ensures looked { Looked (view self.old) (view self.new) }
-        ensures shows { OnOk result (Shows (view self.new) at len out.new) }
+        ensures shows { OnOk result (GivesRange (view self.new) at len out.new) }
         ensures bound { OnOk result (length out.new ≤ len) }
         ensures failed { OnErr result (out.new ≡ out.old) }
         ensures cause { OnErr result (Rose (view self.old).faults (view self.new).faults) };

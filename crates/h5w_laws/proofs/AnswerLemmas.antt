@@ -5,7 +5,7 @@ use Rattle.std.proofs.lemmas.Bool.{cond_both}
 use Rattle.h5w_model.specs.Numbers.{undefined}
 use Rattle.h5w_model.specs.Programs.{Prog, ret, whole, counted, stored, eval, bind, and_then}
 use Rattle.h5w_model.specs.Headers.{prefix_at, messages_at}
-use Rattle.h5w_model.specs.Datasets.{Described, Found, Range, HeaderFields, superblock, root_header, from_chunk, walk, splice, block_messages, block_place, block_len, found_at, linked, dataset_messages, dataset, dataset_place, described, refused_as}
+use Rattle.h5w_model.specs.Datasets.{Described, FoundMessage, Range, HeaderFields, superblock, root_header, from_chunk_0, walk, splice, block_messages, block_place, block_len, found_at, linked, dataset_messages, dataset, dataset_place, described, refused_as}
 use Rattle.h5w_model.specs.Tables.{reading, InPlace, in_place, array_in_place, tree_in_place}
 use Rattle.h5w_model.specs.Findings.{check}
 use Rattle.h5w_model.specs.declared.refusal.ReadError.{ReadError}
@@ -60,14 +60,14 @@ unstored_and_then {A} {B} {E} p f h g =
     unstored_bind p (λ r. elim r [ Ok a ↦ f a | Err e ↦ ret (Err e) ]) h
     (λ r. result_both r f (λ e. ret (Err e)) (λ (q : Prog (Result B E)). IsUnstored q) (λ a e. g a) (λ e i. tt))
 
-pub unstored_splice : (visit : List Found → Found → List Found → Prog (Result HeaderFields ReadError)) (visited : List Range) (done ms : List Found)
-    → ((done : List Found) (m : Found) (rest : List Found) → IsUnstored (visit done m rest)) → IsUnstored (splice visit visited done ms)
+pub unstored_splice : (visit : List FoundMessage → FoundMessage → List FoundMessage → Prog (Result HeaderFields ReadError)) (visited : List Range) (done ms : List FoundMessage)
+    → ((done : List FoundMessage) (m : FoundMessage) (rest : List FoundMessage) → IsUnstored (visit done m rest)) → IsUnstored (splice visit visited done ms)
 unstored_splice visit visited done [] h = tt
 unstored_splice visit visited done (m ∷ ms) h =
     cond_both (m.kind == 0x10) (visit done m ms) (splice visit visited (done ++ m ∷ []) ms) (λ (q : Prog (Result HeaderFields ReadError)). IsUnstored q)
     (λ t. h done m ms) (λ t. unstored_splice visit visited (done ++ m ∷ []) ms h)
 
-pub unstored_walk : (more header : ℕ) (tracked : Bool) (visited : List Range) (done ms : List Found) → IsUnstored (walk more header tracked visited done ms)
+pub unstored_walk : (more header : ℕ) (tracked : Bool) (visited : List Range) (done ms : List FoundMessage) → IsUnstored (walk more header tracked visited done ms)
 unstored_walk zero header tracked visited done ms = unstored_splice _ visited done ms (λ done m rest. tt)
 unstored_walk (suc more) header tracked visited done ms =
     unstored_splice _ visited done ms (λ done m rest.
@@ -78,7 +78,7 @@ unstored_walk (suc more) header tracked visited done ms =
     (λ inside e. unstored_walk more header tracked (visited ++ record { place = block_place m; len = block_len m } ∷ []) done (inside ++ rest))
     (λ e i. tt)))
 
-pub unstored_from_chunk : (place : ℕ) (p : Prefix) (b : List ℕ) → IsUnstored (from_chunk place p b)
+pub unstored_from_chunk : (place : ℕ) (p : Prefix) (b : List ℕ) → IsUnstored (from_chunk_0 place p b)
 unstored_from_chunk place p b =
     result_both (messages_at b) _ _ (λ (q : Prog (Result HeaderFields ReadError)). IsUnstored q)
     (λ ms e. unstored_walk 32 place p.tracked (record { place = place; len = p.total } ∷ []) [] (found_at place true ms))

@@ -8,7 +8,7 @@ use Rattle.h5w_model.specs.Numbers.{range}
 use Rattle.h5w_model.specs.Programs.{Prog, ret, whole, eval, and_then}
 use Rattle.h5w_model.specs.Superblock.{super_at}
 use Rattle.h5w_model.specs.Headers.{prefix_at, messages_at, header_view}
-use Rattle.h5w_model.specs.Datasets.{Found, HeaderFields, Described, walk, from_chunk, root_header, root_view, header_refusal, found_at, refused_as, super_refusal, is_swmr, superblock, linked, described, dataset_messages, dataset, dataset_place}
+use Rattle.h5w_model.specs.Datasets.{FoundMessage, HeaderFields, Described, walk, from_chunk_0, root_header, root_view, header_refusal, found_at, refused_as, super_refusal, is_swmr, superblock, linked, described, dataset_messages, dataset, dataset_place}
 use Rattle.h5w_model.specs.Relations.{Spliced, HasMessages, HasDataset}
 use Rattle.h5w_model.specs.declared.message.Msg.{Msg}
 use Rattle.h5w_model.specs.declared.message.Prefix.{Prefix}
@@ -81,7 +81,7 @@ pub walk_from : ℕ → Prefix → List Msg → Prog (Result HeaderFields ReadEr
 walk_from place p ms = walk 32 place p.tracked (record { place = place; len = p.total } ∷ []) [] (found_at place true ms)
 
 pub chunk_found : (img : List ℕ) (place : ℕ) (p : Prefix) (h : HeaderFields) → prefix_at (range img place (p.total)) ≡ Ok p
-    → eval img (from_chunk place p (range img place (p.total))) ≡ Ok h → HasMessages img place h.messages
+    → eval img (from_chunk_0 place p (range img place (p.total))) ≡ Ok h → HasMessages img place h.messages
 unfolding walk_from WalkFound
 chunk_found img place p h e f =
     let m = choice_ok img (messages_at (range img place (p.total))) (walk_from place p) (header_refusal place) h f in
@@ -94,16 +94,16 @@ chunk_found img place p h e f =
       read = m.1;
       blocks = w.blocks;
       few = w.few;
-      spliced = subst (λ (rs : List Found). Spliced img (p.tracked) w.blocks (found_at place true m.0) rs) (sym w.joined) w.spliced;
+      spliced = subst (λ (rs : List FoundMessage). Spliced img (p.tracked) w.blocks (found_at place true m.0) rs) (sym w.joined) w.spliced;
     }
 
 -- a header is read as these messages
-pub record ChunkReads (img : List ℕ) (place : ℕ) (p : Prefix) (ms : List Found) : Type 0 where
+pub record ChunkReads (img : List ℕ) (place : ℕ) (p : Prefix) (ms : List FoundMessage) : Type 0 where
   fields : HeaderFields
-  is : eval img (from_chunk place p (range img place (p.total))) ≡ Ok fields
+  is : eval img (from_chunk_0 place p (range img place (p.total))) ≡ Ok fields
   messages : fields.messages ≡ ms
 
-pub chunk_reads : (img : List ℕ) (place : ℕ) (ms : List Found) (h : HasMessages img place ms) → ChunkReads img place h.prefix ms
+pub chunk_reads : (img : List ℕ) (place : ℕ) (ms : List FoundMessage) (h : HasMessages img place ms) → ChunkReads img place h.prefix ms
 unfolding walk_from ReadsAs
 chunk_reads img place ms h =
     let p = h.prefix in
@@ -119,18 +119,18 @@ chunk_reads img place ms h =
 -- the program that goes on with what stands before the messages
 pub root_from : ℕ → List ℕ → Prefix → Prog (Result HeaderFields ReadError)
 root_from place first p =
-    cond (nat_lt 512 p.total) (whole (place + 512) (p.total - 512) (λ rest. from_chunk place p (first ++ rest))) (from_chunk place p first)
+    cond (nat_lt 512 p.total) (whole (place + 512) (p.total - 512) (λ rest. from_chunk_0 place p (first ++ rest))) (from_chunk_0 place p first)
 
 pub root_is_chunk : (img : List ℕ) (place : ℕ) (p : Prefix) → IsRootView (range img place 512) (root_view (range img place 512)) p
-    → eval img (root_from place (root_view (range img place 512)) p) ≡ eval img (from_chunk place p (range img place (p.total)))
+    → eval img (root_from place (root_view (range img place 512)) p) ≡ eval img (from_chunk_0 place p (range img place (p.total)))
 unfolding root_from
 root_is_chunk img place p (inl long) =
-    ap (λ (t : Bool). eval img (cond t (whole (place + 512) (p.total - 512) (λ rest. from_chunk place p (root_view (range img place 512) ++ rest))) (from_chunk place p (root_view (range img place 512))))) (lt-ltb 512 p.total long.0)
-    ∙ ap (λ (xs : List ℕ). eval img (from_chunk place p (xs ++ range img (place + 512) (p.total - 512)))) long.1
-    ∙ ap (λ (xs : List ℕ). eval img (from_chunk place p xs)) (look_and_rest img place (p.total) long.0)
+    ap (λ (t : Bool). eval img (cond t (whole (place + 512) (p.total - 512) (λ rest. from_chunk_0 place p (root_view (range img place 512) ++ rest))) (from_chunk_0 place p (root_view (range img place 512))))) (lt-ltb 512 p.total long.0)
+    ∙ ap (λ (xs : List ℕ). eval img (from_chunk_0 place p (xs ++ range img (place + 512) (p.total - 512)))) long.1
+    ∙ ap (λ (xs : List ℕ). eval img (from_chunk_0 place p xs)) (look_and_rest img place (p.total) long.0)
 root_is_chunk img place p (inr short) =
-    ap (λ (t : Bool). eval img (cond t (whole (place + 512) (p.total - 512) (λ rest. from_chunk place p (root_view (range img place 512) ++ rest))) (from_chunk place p (root_view (range img place 512))))) (le-ltb 512 p.total short.0)
-    ∙ ap (λ (xs : List ℕ). eval img (from_chunk place p xs)) (short.1 ∙ chunk_in_look img place (p.total) short.0)
+    ap (λ (t : Bool). eval img (cond t (whole (place + 512) (p.total - 512) (λ rest. from_chunk_0 place p (root_view (range img place 512) ++ rest))) (from_chunk_0 place p (root_view (range img place 512))))) (le-ltb 512 p.total short.0)
+    ∙ ap (λ (xs : List ℕ). eval img (from_chunk_0 place p xs)) (short.1 ∙ chunk_in_look img place (p.total) short.0)
 
 pub root_found : (img : List ℕ) (place : ℕ) (h : HeaderFields) → eval img (root_header place) ≡ Ok h → HasMessages img place h.messages
 unfolding root_from
@@ -147,7 +147,7 @@ root_view_reads b p e (inr short) =
     let start = begins b p e in
     ap (λ (xs : List ℕ). prefix_at xs) short.1 ∙ prefix_front b (p.total) p start.inside e
 
-pub root_reads : (img : List ℕ) (place : ℕ) (ms : List Found) → HasMessages img place ms → (h : HeaderFields) × (eval img (root_header place) ≡ Ok h) × (h.messages ≡ ms)
+pub root_reads : (img : List ℕ) (place : ℕ) (ms : List FoundMessage) → HasMessages img place ms → (h : HeaderFields) × (eval img (root_header place) ≡ Ok h) × (h.messages ≡ ms)
 unfolding root_from
 root_reads img place ms h =
     let p = h.prefix in
@@ -160,8 +160,8 @@ root_reads img place ms h =
       chunk.messages,
     )
 
-pub messages_found : (img : List ℕ) (place : ℕ) (ms : List Found) → (h : HeaderFields) × (eval img (root_header place) ≡ Ok h) × (h.messages ≡ ms) → HasMessages img place ms
-messages_found img place ms t = subst (λ (rs : List Found). HasMessages img place rs) t.2 (root_found img place t.0 t.1)
+pub messages_found : (img : List ℕ) (place : ℕ) (ms : List FoundMessage) → (h : HeaderFields) × (eval img (root_header place) ≡ Ok h) × (h.messages ≡ ms) → HasMessages img place ms
+messages_found img place ms t = subst (λ (rs : List FoundMessage). HasMessages img place rs) t.2 (root_found img place t.0 t.1)
 
 pub finds_messages : FindsMessages
 finds_messages img place ms = (messages_found img place ms, root_reads img place ms)
@@ -170,10 +170,10 @@ finds_messages img place ms = (messages_found img place ms, root_reads img place
 
 -- the program that goes on with what stands before the messages
 pub small_from : ℕ → List ℕ → Prefix → Prog (Result HeaderFields ReadError)
-small_from place b p = cond (nat_lt 512 p.total) (ret (Err (read_errors.Unsupported (record { 0 = 1 })))) (from_chunk place p b)
+small_from place b p = cond (nat_lt 512 p.total) (ret (Err (read_errors.Unsupported (record { 0 = 1 })))) (from_chunk_0 place p b)
 
 -- a header of at most 512 bytes with these messages
-pub record HasSmall (img : List ℕ) (place : ℕ) (messages : List Found) : Type 0 where
+pub record HasSmall (img : List ℕ) (place : ℕ) (messages : List FoundMessage) : Type 0 where
   header : HasMessages img place messages
   small : header.prefix.total ≤ 512
 
@@ -186,24 +186,24 @@ small_found img place h e =
     let view = header_view (range img place 512) in
     let p = choice_ok img (prefix_at view) (small_from place view) (header_refusal place) h e in
     let look = header_view_found (range img place 512) p.0 p.1 in
-    go p.0 look.0 look.1 (by_order img 512 p.0.total (ret (Err (read_errors.Unsupported (record { 0 = 1 })))) (from_chunk place p.0 view) (Ok h) p.2)
+    go p.0 look.0 look.1 (by_order img 512 p.0.total (ret (Err (read_errors.Unsupported (record { 0 = 1 })))) (from_chunk_0 place p.0 view) (Ok h) p.2)
   where
     never : {Z : Type 0} (e : ReadError) → refused_header e ≡ read_header h → Z
     never e i = cc
 
     go : (p : Prefix) → prefix_at (range img place 512) ≡ Ok p → IsCut (range img place 512) (header_view (range img place 512)) p
         → (512 < p.total) × (refused_header (read_errors.Unsupported (record { 0 = 1 })) ≡ read_header h)
-        ⊎ (p.total ≤ 512) × (eval img (from_chunk place p (header_view (range img place 512))) ≡ Ok h)
+        ⊎ (p.total ≤ 512) × (eval img (from_chunk_0 place p (header_view (range img place 512))) ≡ Ok h)
         → HasSmall img place h.messages
     go p look cut (inl long) = never (read_errors.Unsupported (record { 0 = 1 })) long.1
     go p look (inl long) (inr short) = absurd (omega arith)
     go p look (inr cut) (inr short) = record {
       header = chunk_found img place p h (chunk_says img place p look)
-          (ap (λ (xs : List ℕ). eval img (from_chunk place p xs)) (sym (cut.1 ∙ chunk_in_look img place (p.total) cut.0)) ∙ short.1);
+          (ap (λ (xs : List ℕ). eval img (from_chunk_0 place p xs)) (sym (cut.1 ∙ chunk_in_look img place (p.total) cut.0)) ∙ short.1);
       small = cut.0;
     }
 
-pub small_reads : (img : List ℕ) (place : ℕ) (ms : List Found) (h : HasMessages img place ms) → h.prefix.total ≤ 512
+pub small_reads : (img : List ℕ) (place : ℕ) (ms : List FoundMessage) (h : HasMessages img place ms) → h.prefix.total ≤ 512
     → (f : HeaderFields) × (eval img (dataset_messages place (header_view (range img place 512))) ≡ Ok f) × (f.messages ≡ ms)
 unfolding small_from
 small_reads img place ms h small =
@@ -214,8 +214,8 @@ small_reads img place ms h small =
       chunk.fields,
       choice_from img (prefix_at (header_view (range img place 512))) (small_from place (header_view (range img place 512))) (header_refusal place) p chunk.fields
           (ap (λ (xs : List ℕ). prefix_at xs) view ∙ h.begins)
-          (ap (λ (t : Bool). eval img (cond t (ret (Err (read_errors.Unsupported (record { 0 = 1 })))) (from_chunk place p (header_view (range img place 512))))) (le-ltb 512 p.total small)
-          ∙ ap (λ (xs : List ℕ). eval img (from_chunk place p xs)) view ∙ chunk.is),
+          (ap (λ (t : Bool). eval img (cond t (ret (Err (read_errors.Unsupported (record { 0 = 1 })))) (from_chunk_0 place p (header_view (range img place 512))))) (le-ltb 512 p.total small)
+          ∙ ap (λ (xs : List ℕ). eval img (from_chunk_0 place p xs)) view ∙ chunk.is),
       chunk.messages,
     )
 
@@ -286,9 +286,9 @@ dataset_reads img name place d h =
     let root = root_reads img (h.superblock.root) h.root h.root_header in
     let header = small_reads img place h.messages h.header h.small in (
       and_then_from img superblock (place_from name) h.superblock place (super_reads img h.superblock h.found h.flags)
-          (and_then_from img (root_header (h.superblock.root)) (link_of name) root.0 place root.1 (ap (λ (ms : List Found). linked name ms) root.2 ∙ h.link)),
+          (and_then_from img (root_header (h.superblock.root)) (link_of name) root.0 place root.1 (ap (λ (ms : List FoundMessage). linked name ms) root.2 ∙ h.link)),
       and_then_from img (dataset_messages place (header_view (range img place 512))) says_of header.0 d header.1
-          (ap (λ (ms : List Found). refused_as read_errors.Unsupported (described ms)) header.2 ∙ refused_from read_errors.Unsupported (described h.messages) d h.says),
+          (ap (λ (ms : List FoundMessage). refused_as read_errors.Unsupported (described ms)) header.2 ∙ refused_from read_errors.Unsupported (described h.messages) d h.says),
     )
 
 pub finds_dataset : FindsDataset
@@ -296,7 +296,7 @@ finds_dataset img name place d = (dataset_found img name place d, dataset_reads 
 
 -- the walk that gave a header's fields, from its chunk 0 on
 pub root_walked : (img : List ℕ) (place : ℕ) (h : HeaderFields) → eval img (root_header place) ≡ Ok h
-    → (p : Prefix) × (ms : List Found) × (prefix_at (range img place (p.total)) ≡ Ok p) × (eval img (walk 32 place p.tracked (record { place = place; len = p.total } ∷ []) [] ms) ≡ Ok h)
+    → (p : Prefix) × (ms : List FoundMessage) × (prefix_at (range img place (p.total)) ≡ Ok p) × (eval img (walk 32 place p.tracked (record { place = place; len = p.total } ∷ []) [] ms) ≡ Ok h)
 unfolding root_from walk_from
 root_walked img place h e =
     let p = choice_ok img (prefix_at (root_view (range img place 512))) (root_from place (root_view (range img place 512))) (header_refusal place) h e in

@@ -5,7 +5,7 @@ use Rattle.std.specs.List.{AllByRecursion}
 use Rattle.std.proofs.lemmas.List.{append_assoc, append-nil, drop-map, take-map, length-map}
 use Rattle.std.proofs.lemmas.Bool.{cond_both, cond-true, and_parts, and_from, eqb-true, eqb-false, eq-eqb}
 use Rattle.h5w_model.specs.Numbers.{range}
-use Rattle.h5w_model.specs.Programs.{Prog, ret, whole, counted, stored, eval, bind, Visit, visits, all_of, Kept, kept_bytes, used, lowered, below_end, cut_up, pieces, Look, rest_after, Takes, IsLookAt}
+use Rattle.h5w_model.specs.Programs.{Prog, ret, whole, counted, stored, eval, bind, Visit, visits, all_of, Kept, kept_bytes, used, lowered, below_end, cut_up, look_pieces, Look, rest_after, Takes, IsLookAt}
 use Rattle.h5w_laws.specs.Programs.{AreRight, lowered_leaving, store_after, Taken, looks_of, AreTakenAs, InTurn, TakenInTurn, KeptInTurn, looks_on}
 use Rattle.h5w_laws.proofs.LoweringLemmas.{range_below, range_within, range_cut, range_short, option_both, found_right, used_right, lowered_bind, lowered_is}
 
@@ -110,7 +110,7 @@ left_along next b c ts a e h = subst (λ (x : List ℕ). Left (next x) ts a) e h
 
 pub takes_pieces : {A : Type 0} (old : List ℕ) (P L fuel place len : ℕ) (got : List ℕ) (next : List ℕ → Prog A) (ts : List Taken) (a : A)
     → len ≤ 512 * fuel → P ≤ place → (0 < len → place + len ≤ P + L) → AllByRecursion (IsPart old P L) ts
-    → Takes (pieces fuel place len got next) (looks_of ts) a → Left (next (got ++ range old place len)) ts a
+    → Takes (look_pieces fuel place len got next) (looks_of ts) a → Left (next (got ++ range old place len)) ts a
 takes_pieces old P L zero place len got next ts a enough low high parts h =
     let e : 0 ≡ len = omega arith in
     let i : got ≡ got ++ range old place len = sym (append-nil got) ∙ ap (λ n. got ++ range old place n) e in
@@ -121,14 +121,14 @@ takes_pieces old P L (suc fuel) place (suc rest) got next [] a enough low high p
 takes_pieces {A} old P L (suc fuel) place (suc rest) got next (t ∷ ts) a enough low high parts h =
     let m : ℕ = min 512 (suc rest) in
     let r : List ℕ = range old place m in
-    let onward : List ℕ → Prog A = λ b. cond (length b == m) (pieces fuel (place + 512) (suc rest - 512) (got ++ b) next) (next (got ++ b)) in
+    let onward : List ℕ → Prog A = λ b. cond (length b == m) (look_pieces fuel (place + 512) (suc rest - 512) (got ++ b) next) (next (got ++ b)) in
     let now = takes_whole place m onward t.look (looks_of ts) a h in
     let inside : place + suc rest ≤ P + L = high (omega arith) in
     let here : t.look.bytes ≡ r =
     parts.0.gave ∙ ap (λ p. range t.image p t.look.len) now.0.0 ∙ ap (λ n. range t.image place n) now.0.1
     ∙ range_within old t.image P L place m parts.0.same low (omega arith) in
     after (next (got ++ range old place (suc rest))) t ts a (
-    cond_both (length r == m) (pieces fuel (place + 512) (suc rest - 512) (got ++ r) next) (next (got ++ r))
+    cond_both (length r == m) (look_pieces fuel (place + 512) (suc rest - 512) (got ++ r) next) (next (got ++ r))
     (λ (q : Prog A). Takes q (looks_of ts) a → Left (next (got ++ range old place (suc rest))) ts a)
     (λ full s.
     left_along next ((got ++ r) ++ range old (place + 512) (suc rest - 512)) (got ++ range old place (suc rest)) ts a
@@ -223,11 +223,11 @@ IsPlain (whole at len next) = (b : List ℕ) → IsPlain (next b)
 IsPlain (counted at counts next) = ⊥
 IsPlain (stored kind at len next) = ⊥
 
-pub plain_pieces : {A : Type 0} (fuel place len : ℕ) (got : List ℕ) (next : List ℕ → Prog A) → ((b : List ℕ) → IsPlain (next b)) → IsPlain (pieces fuel place len got next)
+pub plain_pieces : {A : Type 0} (fuel place len : ℕ) (got : List ℕ) (next : List ℕ → Prog A) → ((b : List ℕ) → IsPlain (next b)) → IsPlain (look_pieces fuel place len got next)
 plain_pieces zero place len got next h = h got
 plain_pieces (suc fuel) place zero got next h = h got
 plain_pieces {A} (suc fuel) place (suc rest) got next h =
-    λ b. cond_both (length b == min 512 (suc rest)) (pieces fuel (place + 512) (suc rest - 512) (got ++ b) next) (next (got ++ b)) (λ (q : Prog A). IsPlain q)
+    λ b. cond_both (length b == min 512 (suc rest)) (look_pieces fuel (place + 512) (suc rest - 512) (got ++ b) next) (next (got ++ b)) (λ (q : Prog A). IsPlain q)
     (λ t. plain_pieces fuel (place + 512) (suc rest - 512) (got ++ b) next h)
     (λ t. h (got ++ b))
 

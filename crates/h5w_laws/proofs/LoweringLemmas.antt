@@ -5,7 +5,7 @@ use Rattle.std.proofs.lemmas.List.{append_assoc, append-nil, drop-drop, take-tak
 use Rattle.std.proofs.lemmas.Bool.{cases_lt, cond_both, and_parts, eqb-true, eqb-false}
 use Rattle.std.proofs.Math.Seq.{take-add}
 use Rattle.h5w_model.specs.Numbers.{range}
-use Rattle.h5w_model.specs.Programs.{Prog, ret, whole, counted, stored, eval, bind, visits, Same, Kept, kept_bytes, used, is_of, others, lowered, below_end, cut_up, pieces}
+use Rattle.h5w_model.specs.Programs.{Prog, ret, whole, counted, stored, eval, bind, visits, Same, Kept, kept_bytes, used, is_of, others, lowered, below_end, cut_up, look_pieces}
 use Rattle.h5w_laws.specs.Programs.{AreRight, lowered_leaving, store_after, IsUnstored, StoreLaws}
 use Rattle.h5w_laws.proofs.ProgramLemmas.{eval_bind, bind_ret}
 
@@ -75,12 +75,12 @@ range_short img place m n short h =
 
 -- ---- A range in looks of 512 bytes, on one image
 
-pub pieces_none : {A : Type 0} (fuel place : ℕ) (got : List ℕ) (next : List ℕ → Prog A) → pieces fuel place 0 got next ≡ next got
+pub pieces_none : {A : Type 0} (fuel place : ℕ) (got : List ℕ) (next : List ℕ → Prog A) → look_pieces fuel place 0 got next ≡ next got
 pieces_none zero place got next = refl
 pieces_none (suc fuel) place got next = refl
 
 pub eval_pieces : {A : Type 0} (img : List ℕ) (fuel place len : ℕ) (got : List ℕ) (next : List ℕ → Prog A) → len ≤ 512 * fuel
-    → eval img (pieces fuel place len got next) ≡ eval img (next (got ++ range img place len))
+    → eval img (look_pieces fuel place len got next) ≡ eval img (next (got ++ range img place len))
 eval_pieces img zero place len got next enough =
     let e : 0 ≡ len = omega arith in
     ap (λ (b : List ℕ). eval img (next b)) (sym (append-nil got)) ∙ ap (λ n. eval img (next (got ++ range img place n))) e
@@ -88,7 +88,7 @@ eval_pieces img (suc fuel) place zero got next enough = ap (λ (b : List ℕ). e
 eval_pieces {A} img (suc fuel) place (suc rest) got next enough =
     let m : ℕ = min 512 (suc rest) in
     let b : List ℕ = range img place m in
-    cond_both (length b == m) (pieces fuel (place + 512) (suc rest - 512) (got ++ b) next) (next (got ++ b))
+    cond_both (length b == m) (look_pieces fuel (place + 512) (suc rest - 512) (got ++ b) next) (next (got ++ b))
     (λ (q : Prog A). eval img q ≡ eval img (next (got ++ range img place (suc rest))))
     (λ full.
     eval_pieces img fuel (place + 512) (suc rest - 512) (got ++ b) next (omega arith)
@@ -187,12 +187,12 @@ cond_apply f true x y = refl
 cond_apply f false x y = refl
 
 pub pieces_bind : {A B : Type 0} (fuel place len : ℕ) (got : List ℕ) (next : List ℕ → Prog A) (g : A → Prog B)
-    → bind (pieces fuel place len got next) g ≡ pieces fuel place len got (λ b. bind (next b) g)
+    → bind (look_pieces fuel place len got next) g ≡ look_pieces fuel place len got (λ b. bind (next b) g)
 pieces_bind zero place len got next g = refl
 pieces_bind (suc fuel) place zero got next g = refl
 pieces_bind {A} {B} (suc fuel) place (suc rest) got next g =
     ap (whole place (min 512 (suc rest))) (λ i b. (
-    cond_apply (λ (q : Prog A). bind q g) (length b == min 512 (suc rest)) (pieces fuel (place + 512) (suc rest - 512) (got ++ b) next) (next (got ++ b))
+    cond_apply (λ (q : Prog A). bind q g) (length b == min 512 (suc rest)) (look_pieces fuel (place + 512) (suc rest - 512) (got ++ b) next) (next (got ++ b))
     ∙ ap (λ (q : Prog B). cond (length b == min 512 (suc rest)) q (bind (next (got ++ b)) g)) (pieces_bind fuel (place + 512) (suc rest - 512) (got ++ b) next g)
     ) i)
 

@@ -6,7 +6,7 @@ use Rattle.std.specs.Cmp.Lexicographic.{pointwise}
 use Rattle.std.proofs.lemmas.Bool.{leb-true, le-leb, lt-ltb, le-ltb, cases_lt}
 use Rattle.std.proofs.lemmas.List.{take-take, take_at}
 use Rattle.h5w_model.specs.Numbers.{field}
-use Rattle.h5w_model.specs.Headers.{prefix_at, prefix_tests, prefix_fields, header_flags, header_signature, chunk_size, header_length, messages_place, size_place, size_width, has, header_view, zeros}
+use Rattle.h5w_model.specs.Headers.{prefix_at, prefix_tests, prefix_fields, header_flags, header_signature, chunk_0_size, header_length, messages_place, size_place, size_width, has, header_view, zeros}
 use Rattle.h5w_model.specs.Datasets.{root_view}
 use Rattle.h5w_model.specs.declared.message.Prefix.{Prefix}
 use Rattle.h5w_model.specs.declared.refusal.HeaderError.{HeaderError}
@@ -37,7 +37,7 @@ pub record Agree (b c : List ℕ) : Type 0 where
   flags : header_flags c ≡ header_flags b
   signature : starts_with nat_eq c header_signature ≡ starts_with nat_eq b header_signature
   version : field c 4 1 ≡ field b 4 1
-  size : chunk_size c ≡ chunk_size b
+  size : chunk_0_size c ≡ chunk_0_size b
 
 pub agree_back : (b c : List ℕ) → Agree b c → Agree c b
 agree_back b c a = record { flags = sym a.flags; signature = sym a.signature; version = sym a.version; size = sym a.size }
@@ -88,7 +88,7 @@ says_too b c p a enough s =
       signature = a.signature ∙ s.signature;
       version = ap (λ v. eqb v 2) a.version ∙ s.version;
       long = omega arith;
-      fields = ap (λ f. fields_by f (chunk_size c)) a.flags ∙ ap (λ k. fields_by (header_flags b) k) a.size ∙ s.fields;
+      fields = ap (λ f. fields_by f (chunk_0_size c)) a.flags ∙ ap (λ k. fields_by (header_flags b) k) a.size ∙ s.fields;
     }
 
 -- where the messages begin, by what it says

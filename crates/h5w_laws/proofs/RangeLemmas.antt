@@ -7,7 +7,7 @@ use Rattle.h5w_model.specs.Numbers.{range}
 use Rattle.h5w_model.specs.Programs.{Prog, ret, whole, eval, and_then}
 use Rattle.h5w_model.specs.Superblock.{super_at}
 use Rattle.h5w_model.specs.Headers.{header_view}
-use Rattle.h5w_model.specs.Datasets.{Found, HeaderFields, Range, Described, walk, block_place, block_len, block_messages, header_refusal, root_header, linked, dataset_messages, described, is_swmr, then_also, refused_as}
+use Rattle.h5w_model.specs.Datasets.{FoundMessage, HeaderFields, Range, Described, walk, block_place, block_len, block_messages, header_refusal, root_header, linked, dataset_messages, described, is_swmr, then_also, refused_as}
 use Rattle.h5w_model.specs.Tables.{limit_of, format_limits, needed}
 use Rattle.h5w_model.specs.Findings.{Finding, found, Used, Visited, Summary, the_superblock, checked_super, checked_root, checked_dataset, header_ranges, index_visit, super_finding, dataset_finding, verdict, summary, overlap_of, by_place, bad_root, no_link, half_flagged, cut_off, unsupported_dataset, too_many_chunks, block_past_end}
 use Rattle.h5w_model.specs.declared.root.Super.{Super}
@@ -32,17 +32,17 @@ Begun visited h = (rest : List Range) × (h.ranges ≡ visited ++ rest)
 
 abbrev WalkBegun : List ℕ → ℕ → Bool → ℕ → Type 0
 WalkBegun img header tracked most =
-    (visited : List Range) (done ms : List Found) (h : HeaderFields) → eval img (walk most header tracked visited done ms) ≡ Ok h → Begun visited h
+    (visited : List Range) (done ms : List FoundMessage) (h : HeaderFields) → eval img (walk most header tracked visited done ms) ≡ Ok h → Begun visited h
 
-begun_end : (done : List Found) (visited : List Range) (h : HeaderFields) → as_read (record { messages = done; ranges = visited }) ≡ as_read h → Begun visited h
+begun_end : (done : List FoundMessage) (visited : List Range) (h : HeaderFields) → as_read (record { messages = done; ranges = visited }) ≡ as_read h → Begun visited h
 begun_end done visited h e = ([], ap (λ (f : HeaderFields). f.ranges) (same_fields (record { messages = done; ranges = visited }) h e) ∙ sym (append-nil visited))
 
-begun_zero : (img : List ℕ) (header : ℕ) (tracked : Bool) (visited : List Range) (ms done : List Found) (h : HeaderFields) → eval img (walk zero header tracked visited done ms) ≡ Ok h → Begun visited h
+begun_zero : (img : List ℕ) (header : ℕ) (tracked : Bool) (visited : List Range) (ms done : List FoundMessage) (h : HeaderFields) → eval img (walk zero header tracked visited done ms) ≡ Ok h → Begun visited h
 begun_zero img header tracked visited [] done h e = begun_end done visited h e
 begun_zero img header tracked visited (m ∷ ms) done h e =
     go (λ d. begun_zero img header tracked visited ms d h) (by_test img m.kind 0x10 (ret (as_refused (Header header header_errors.Continuations))) (walk zero header tracked visited (done ++ m ∷ []) ms) (Ok h) e)
   where
-    go : ((d : List Found) → eval img (walk zero header tracked visited d ms) ≡ Ok h → Begun visited h)
+    go : ((d : List FoundMessage) → eval img (walk zero header tracked visited d ms) ≡ Ok h → Begun visited h)
         → (m.kind ≡ 0x10) × (as_refused (Header header header_errors.Continuations) ≡ as_read h) ⊎ (m.kind ≢ 0x10) × (eval img (walk zero header tracked visited (done ++ m ∷ []) ms) ≡ as_read h) → Begun visited h
     go again (inl t) = no_answer (Header header header_errors.Continuations) h t.1
     go again (inr t) = again (done ++ m ∷ []) t.1
@@ -51,11 +51,11 @@ begun_zero img header tracked visited (m ∷ ms) done h e =
 begun_more : (visited : List Range) (r : Range) (h : HeaderFields) → Begun (visited ++ r ∷ []) h → Begun visited h
 begun_more visited r h b = (r ∷ b.0, b.1 ∙ append_assoc visited (r ∷ []) b.0)
 
-abbrev this_block : Found → Range
+abbrev this_block : FoundMessage → Range
 this_block m = record { place = block_place m; len = block_len m }
 
 -- what the walk does at a continuation
-abbrev block_walk : ℕ → ℕ → Bool → List Range → List Found → Found → List Found → Prog (Result HeaderFields ReadError)
+abbrev block_walk : ℕ → ℕ → Bool → List Range → List FoundMessage → FoundMessage → List FoundMessage → Prog (Result HeaderFields ReadError)
 block_walk more header tracked visited done m ms =
     cond (nat_lt (block_len m) 8) (ret (as_refused (header_refusal (block_place m) (header_errors.Short 8 (block_len m)))))
     (whole (block_place m) (block_len m) (λ b.
@@ -64,7 +64,7 @@ block_walk more header tracked visited done m ms =
       | Err e ↦ ret (as_refused e)
     ]))
 
-begun_block : (img : List ℕ) (more header : ℕ) (tracked : Bool) (visited : List Range) (done : List Found) (m : Found) (ms : List Found) (h : HeaderFields)
+begun_block : (img : List ℕ) (more header : ℕ) (tracked : Bool) (visited : List Range) (done : List FoundMessage) (m : FoundMessage) (ms : List FoundMessage) (h : HeaderFields)
     → WalkBegun img header tracked more → eval img (block_walk more header tracked visited done m ms) ≡ Ok h → Begun visited h
 begun_block img more header tracked visited done m ms h begun e =
     go (by_order img (block_len m) 8 (ret (as_refused (header_refusal (block_place m) (header_errors.Short 8 (block_len m)))))
@@ -84,17 +84,17 @@ begun_block img more header tracked visited done m ms h begun e =
     go (inl t) = no_answer (header_refusal (block_place m) (header_errors.Short 8 (block_len m))) h t.1
     go (inr t) =
         let b = choice_ok img (block_messages tracked (block_place m) (block_len m) (range img (block_place m) (block_len m)))
-        (λ (inside : List Found). walk more header tracked (visited ++ this_block m ∷ []) done (inside ++ ms)) (λ (e : ReadError). e) h t.1 in
+        (λ (inside : List FoundMessage). walk more header tracked (visited ++ this_block m ∷ []) done (inside ++ ms)) (λ (e : ReadError). e) h t.1 in
         begun_more visited (this_block m) h (begun (visited ++ this_block m ∷ []) done (b.0 ++ ms) h b.2)
 
-begun_suc : (img : List ℕ) (more header : ℕ) (tracked : Bool) → WalkBegun img header tracked more → (visited : List Range) (ms done : List Found) (h : HeaderFields)
+begun_suc : (img : List ℕ) (more header : ℕ) (tracked : Bool) → WalkBegun img header tracked more → (visited : List Range) (ms done : List FoundMessage) (h : HeaderFields)
     → eval img (walk (suc more) header tracked visited done ms) ≡ Ok h → Begun visited h
 begun_suc img more header tracked begun visited [] done h e = begun_end done visited h e
 begun_suc img more header tracked begun visited (m ∷ ms) done h e =
     go (λ d. begun_suc img more header tracked begun visited ms d h)
     (by_test img m.kind 0x10 (block_walk more header tracked visited done m ms) (walk (suc more) header tracked visited (done ++ m ∷ []) ms) (Ok h) e)
   where
-    go : ((d : List Found) → eval img (walk (suc more) header tracked visited d ms) ≡ Ok h → Begun visited h)
+    go : ((d : List FoundMessage) → eval img (walk (suc more) header tracked visited d ms) ≡ Ok h → Begun visited h)
         → (m.kind ≡ 0x10) × (eval img (block_walk more header tracked visited done m ms) ≡ as_read h) ⊎ (m.kind ≢ 0x10) × (eval img (walk (suc more) header tracked visited (done ++ m ∷ []) ms) ≡ as_read h) → Begun visited h
     go again (inl t) = begun_block img more header tracked visited done m ms h begun t.1
     go again (inr t) = again (done ++ m ∷ []) t.1

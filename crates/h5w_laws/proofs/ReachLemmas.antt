@@ -17,7 +17,7 @@ use Rattle.h5w_model.specs.declared.cell.Place.TheVariants.{Index, Direct, Secon
 use Rattle.h5w_model.specs.declared.refusal.ReadError.{ReadError}
 use Rattle.h5w_model.specs.declared.refusal.ReadError.TheVariants.{Damaged}
 use Rattle.h5w_laws.specs.Held.{AreInside}
-use Rattle.h5w_laws.proofs.ResultLemmas.{Found, passes, and_then_ok, choice_ok, fits_in}
+use Rattle.h5w_laws.proofs.ResultLemmas.{HasAnswer, passes, and_then_ok, choice_ok, fits_in}
 
 -- a program answers, and looks at no byte past the image's end
 pub record Reaches {A : Type 0} (img : List ℕ) (p : Prog (Result A ReadError)) : Type 0 where
@@ -41,11 +41,11 @@ along_ok {A} {B} {E} img r f g a e h =
 -- ---- What a visit tells
 
 -- a block that is visited
-pub block_ok : (img : List ℕ) (end place n : ℕ) (visit : List ℕ → Visited) (us : List Used) → eval img (block_in end place n visit) ≡ Ok us → Found (eval img (visit (range img place n)))
+pub block_ok : (img : List ℕ) (end place n : ℕ) (visit : List ℕ → Visited) (us : List Used) → eval img (block_in end place n visit) ≡ Ok us → HasAnswer (eval img (visit (range img place n)))
 block_ok img end place n visit us h =
     cond_both (nat_lt end (place + n)) (ret (Err (found 18 place)))
     (whole place n (λ b. and_then (visit b) (λ us. ret (Ok (record { place = place; len = n; chunk = false } ∷ us)))))
-    (λ (q : Visited). eval img q ≡ Ok us → Found (eval img (visit (range img place n))))
+    (λ (q : Visited). eval img q ≡ Ok us → HasAnswer (eval img (visit (range img place n))))
     (λ t e. cc)
     (λ t e.
     let a = and_then_ok img (visit (range img place n)) (λ us. ret (Ok (record { place = place; len = n; chunk = false } ∷ us))) us e in
@@ -60,7 +60,7 @@ node_ok img end place len visit u h =
     (λ (q : Prog (Result Under Finding)). eval img q ≡ Ok u → eval img (visit (range img place len)) ≡ Ok u)
     (λ t e. cc) (λ t e. e) h
 
-pub both_ok : (img : List ℕ) (p q : Visited) (us : List Used) → eval img (both p q) ≡ Ok us → Found (eval img p) × Found (eval img q)
+pub both_ok : (img : List ℕ) (p q : Visited) (us : List Used) → eval img (both p q) ≡ Ok us → HasAnswer (eval img p) × HasAnswer (eval img q)
 both_ok img p q us h =
     let a = and_then_ok img p (λ us. and_then q (λ vs. ret (Ok (us ++ vs)))) us h in
     let b = and_then_ok img q (λ vs. ret (Ok (a.0 ++ vs))) us a.2 in
@@ -68,7 +68,7 @@ both_ok img p q us h =
 
 -- each of several visits
 pub each_ok : (img : List ℕ) (visit : ℕ → Visited) (places : List ℕ) (us : List Used) (k : ℕ) → eval img (visit_each visit places) ≡ Ok us → k < length places
-    → Found (eval img (visit (get_or places k undefined)))
+    → HasAnswer (eval img (visit (get_or places k undefined)))
 each_ok img visit [] us k h lt = absurd (omega arith)
 each_ok img visit (a ∷ rest) us zero h lt = (both_ok img (visit a) (visit_each visit rest) us h).0
 each_ok img visit (a ∷ rest) us (suc k) h lt =
@@ -132,20 +132,20 @@ secondary_reached img end bytes sblock place us block slot h =
 
 -- the data blocks that the index block names
 pub first_ok : (img : List ℕ) (end bytes block : ℕ) (places : List ℕ) (us : List Used) (k : ℕ) → eval img (first_visits end bytes block places) ≡ Ok us → k < length places
-    → Found (eval img (data_block_visit end bytes (super_block_of (super_block_of_first (block + k))).slots (get_or places k undefined)))
+    → HasAnswer (eval img (data_block_visit end bytes (super_block_of (super_block_of_first (block + k))).slots (get_or places k undefined)))
 first_ok img end bytes block [] us k h lt = absurd (omega arith)
 first_ok img end bytes block (a ∷ rest) us zero h lt =
     let e : block ≡ block + 0 = omega arith in
-    subst (λ n. Found (eval img (data_block_visit end bytes (super_block_of (super_block_of_first n)).slots a))) e
+    subst (λ n. HasAnswer (eval img (data_block_visit end bytes (super_block_of (super_block_of_first n)).slots a))) e
     (both_ok img (data_block_visit end bytes (super_block_of (super_block_of_first block)).slots a) (first_visits end bytes (block + 1) rest) us h).0
 first_ok img end bytes block (a ∷ rest) us (suc k) h lt =
     let e : (block + 1) + k ≡ block + suc k = omega arith in
     let parts = both_ok img (data_block_visit end bytes (super_block_of (super_block_of_first block)).slots a) (first_visits end bytes (block + 1) rest) us h in
-    subst (λ n. Found (eval img (data_block_visit end bytes (super_block_of (super_block_of_first n)).slots (get_or rest k undefined)))) e
+    subst (λ n. HasAnswer (eval img (data_block_visit end bytes (super_block_of (super_block_of_first n)).slots (get_or rest k undefined)))) e
     (first_ok img end bytes (block + 1) rest parts.1.0 k parts.1.1 (omega arith))
 
 pub second_parts : (img : List ℕ) (end bytes sblock a : ℕ) (rest : List ℕ) (us : List Used) → eval img (second_visits end bytes sblock (a ∷ rest)) ≡ Ok us → sblock ≤ 12
-    → Found (eval img (secondary_block_visit end bytes sblock a)) × Found (eval img (second_visits end bytes (sblock + 1) rest))
+    → HasAnswer (eval img (secondary_block_visit end bytes sblock a)) × HasAnswer (eval img (second_visits end bytes (sblock + 1) rest))
 second_parts img end bytes sblock a rest us h low =
     let more : Visited = both (secondary_block_visit end bytes sblock a) (second_visits end bytes (sblock + 1) rest) in
     both_ok img (secondary_block_visit end bytes sblock a) (second_visits end bytes (sblock + 1) rest) us
@@ -153,15 +153,15 @@ second_parts img end bytes sblock a rest us h low =
 
 -- the secondary blocks of super blocks up to 12
 pub second_ok : (img : List ℕ) (end bytes sblock : ℕ) (places : List ℕ) (us : List Used) (k : ℕ) → eval img (second_visits end bytes sblock places) ≡ Ok us → k < length places → sblock + k ≤ 12
-    → Found (eval img (secondary_block_visit end bytes (sblock + k) (get_or places k undefined)))
+    → HasAnswer (eval img (secondary_block_visit end bytes (sblock + k) (get_or places k undefined)))
 second_ok img end bytes sblock [] us k h lt low = absurd (omega arith)
 second_ok img end bytes sblock (a ∷ rest) us zero h lt low =
     let e : sblock ≡ sblock + 0 = omega arith in
-    subst (λ n. Found (eval img (secondary_block_visit end bytes n a))) e (second_parts img end bytes sblock a rest us h (omega arith)).0
+    subst (λ n. HasAnswer (eval img (secondary_block_visit end bytes n a))) e (second_parts img end bytes sblock a rest us h (omega arith)).0
 second_ok img end bytes sblock (a ∷ rest) us (suc k) h lt low =
     let e : (sblock + 1) + k ≡ sblock + suc k = omega arith in
     let later = (second_parts img end bytes sblock a rest us h (omega arith)).1 in
-    subst (λ n. Found (eval img (secondary_block_visit end bytes n (get_or rest k undefined)))) e
+    subst (λ n. HasAnswer (eval img (secondary_block_visit end bytes n (get_or rest k undefined)))) e
     (second_ok img end bytes (sblock + 1) rest later.0 k later.1 (omega arith) (omega arith))
 
 -- where the slot of a chunk stands: in a super block up to 12
@@ -191,8 +191,8 @@ near_place i h =
 
 -- the visits of an index block's addresses
 pub record IndexVisits (img : List ℕ) (end bytes : ℕ) (e : EaibFields) : Type 0 where
-  pub first : Found (eval img (first_visits end bytes 0 e.first))
-  pub second : Found (eval img (second_visits end bytes 4 e.second))
+  pub first : HasAnswer (eval img (first_visits end bytes 0 e.first))
+  pub second : HasAnswer (eval img (second_visits end bytes 4 e.second))
 
 pub slot_from : (img : List ℕ) (end bytes : ℕ) (e : EaibFields) → IndexVisits img end bytes e → (place : Place) → IsNear place
     → Reaches img (elim place as (λ _. Prog (Result ℕ ReadError)) [
@@ -227,7 +227,7 @@ array_reached img end bytes e i v h = slot_from img end bytes e v (place_of i) (
 
 -- an inner node, each of whose children is visited
 pub node_reached : (img : List ℕ) (end bytes : ℕ) (visit : ChildFields → Prog (Result Under Finding)) (look : ChildFields → Prog (Result ℕ ReadError)) (key : Key) (rs : List RecordFields) (cs : List ChildFields)
-    → ((c : ChildFields) → Found (eval img (visit c)) → Reaches img (look c)) → Found (eval img (children_under end bytes visit rs cs)) → Reaches img (in_node look key rs cs)
+    → ((c : ChildFields) → HasAnswer (eval img (visit c)) → Reaches img (look c)) → HasAnswer (eval img (children_under end bytes visit rs cs)) → Reaches img (in_node look key rs cs)
 node_reached img end bytes visit look key [] [] go h = reaches_ret img undefined
 node_reached img end bytes visit look key (r ∷ rs) [] go h = reaches_ret img undefined
 node_reached img end bytes visit look key [] (c ∷ cs) go h =
@@ -249,7 +249,7 @@ node_reached img end bytes visit look key (r ∷ rs) (c ∷ cs) go h =
     (λ s. reaches_ret img r.address)
     (λ s. go c (first.0, first.1)))
 
-pub tree_reached : (img : List ℕ) (end bytes depth place n : ℕ) (key : Key) → Found (eval img (node_visit end bytes depth place n)) → Reaches img (tree_lookup depth key place n)
+pub tree_reached : (img : List ℕ) (end bytes depth place n : ℕ) (key : Key) → HasAnswer (eval img (node_visit end bytes depth place n)) → Reaches img (tree_lookup depth key place n)
 tree_reached img end bytes zero place n key h =
     let b : List ℕ = range img place (btlf_len n) in
     let visit : List ℕ → Prog (Result Under Finding) = λ b. elim (btlf_at b place n) as (λ _. Prog (Result Under Finding)) [

@@ -9,8 +9,8 @@ use Rattle.h5w_laws.proofs.ProgramLemmas.{eval_and_then}
 use Rattle.h5w_laws.proofs.LoweringLemmas.{length_range}
 
 -- there is an answer
-abbrev pub Found : {A E : Type 0} → Result A E → Type 0
-Found {A} r = (a : A) × (r ≡ Ok a)
+abbrev pub HasAnswer : {A E : Type 0} → Result A E → Type 0
+HasAnswer {A} r = (a : A) × (r ≡ Ok a)
 
 pub then_ok : {A B E : Type 0} (r : Result A E) (f : A → Result B E) (b : B) → then_also r f ≡ Ok b → (a : A) × (r ≡ Ok a) × (f a ≡ Ok b)
 then_ok (Ok a) f b h = (a, refl, h)

@@ -23,7 +23,7 @@ use Rattle.h5w_model.specs.declared.refusal.ReadError.TheVariants.{Damaged}
 use Rattle.h5w_model.specs.declared.refusal.ReadError.TheVariants as read_errors
 use Rattle.h5w_laws.specs.Held.{ValidShows}
 use Rattle.h5w_laws.proofs.ProgramLemmas.{eval_bind}
-use Rattle.h5w_laws.proofs.ResultLemmas.{Found, then_ok, then_from, refused_ok, fails, and_then_ok, and_then_from, choice_ok, choice_from}
+use Rattle.h5w_laws.proofs.ResultLemmas.{HasAnswer, then_ok, then_from, refused_ok, fails, and_then_ok, and_then_from, choice_ok, choice_from}
 use Rattle.h5w_laws.proofs.ReachLemmas.{Reaches, reaches_ret, block_ok, both_ok, IndexVisits, array_reached, tree_reached}
 
 -- ---- Behind the blocks in place
@@ -214,7 +214,7 @@ needed_grid d = grid_rows (bands d) (chunks_across d) 0 (bands d) (omega arith)
 
 -- a program for each key, where each answers
 pub each_answers : (img : List ℕ) (p : Key → Prog (Result ℕ ReadError)) (n across : ℕ) (ks : List Key) → AllByRecursion (InGrid n across) ks
-    → ((key : Key) → InGrid n across key → Found (eval img (p key))) → Found (eval img (each_of p ks))
+    → ((key : Key) → InGrid n across key → HasAnswer (eval img (p key))) → HasAnswer (eval img (each_of p ks))
 each_answers img p n across [] grid go = ([], refl)
 each_answers img p n across (k ∷ ks) grid go =
     let first = go k grid.0 in
@@ -233,7 +233,7 @@ named_in_grid d key within grid is =
     omega (arith, grid.row)
 
 pub table_answers : (img : List ℕ) (d : Described) (b : Behind img (in_place d) (Named d)) (ks : List Key) → AllByRecursion (InGrid (bands d) (chunks_across d)) ks
-    → nat_lt (limit_of format_limits d.layout.index) (needed d) ≡ false → Found (eval img (table_of d ks))
+    → nat_lt (limit_of format_limits d.layout.index) (needed d) ≡ false → HasAnswer (eval img (table_of d ks))
 table_answers img d b [] grid within = ([], refl)
 table_answers img d b (k ∷ ks) grid within =
     let each = each_answers img (address_behind b.blocks) (bands d) (chunks_across d) (k ∷ ks) grid
@@ -241,7 +241,7 @@ table_answers img d b (k ∷ ks) grid within =
     (each.0, and_then_from img (in_place d) (λ p. each_of (address_behind p) (k ∷ ks)) b.blocks each.0 b.read each.1)
 
 pub needed_answers : (img : List ℕ) (d : Described) → Behind img (in_place d) (Named d) → nat_lt (limit_of format_limits d.layout.index) (needed d) ≡ false
-    → Found (eval img (needed_table format_limits d))
+    → HasAnswer (eval img (needed_table format_limits d))
 needed_answers img d b within =
     let t = table_answers img d b (needed_keys d) (needed_grid d) within in
     (t.0, ap (eval img) (cond-false (nat_lt (limit_of format_limits d.layout.index) (needed d)) (ret (Err (read_errors.TooManyChunks (needed d) (limit_of format_limits d.layout.index)))) (table_of d (needed_keys d)) within) ∙ t.1)

@@ -2,7 +2,7 @@
 use Rattle.std.specs.Prelude.{◌≡◌, ◌↔◌, ℕ, List, Result, Ok}
 use Rattle.h5w_model.specs.Programs.{Prog, eval, and_then}
 use Rattle.h5w_model.specs.Tables.{array_in_place, address_behind}
-use Rattle.h5w_model.specs.Datasets.{Found, HeaderFields, Described, root_header, dataset_place, dataset}
+use Rattle.h5w_model.specs.Datasets.{FoundMessage, HeaderFields, Described, root_header, dataset_place, dataset}
 use Rattle.h5w_model.specs.Relations.{ArraySlot, HasMessages, HasDataset}
 use Rattle.h5w_model.specs.declared.refusal.ReadError.{ReadError}
 
@@ -16,7 +16,7 @@ FindsArraySlots = (img : List ℕ) (address i x : ℕ) → (eval img (array_chun
 
 -- a header's messages are found exactly where they stand in it, in the image
 abbrev pub FindsMessages : Type 0
-FindsMessages = (img : List ℕ) (place : ℕ) (ms : List Found)
+FindsMessages = (img : List ℕ) (place : ℕ) (ms : List FoundMessage)
     → ((h : HeaderFields) × (eval img (root_header place) ≡ Ok h) × (h.messages ≡ ms)) ↔ HasMessages img place ms
 
 -- a dataset of a name is found at a place, and described so, exactly where superblock, root header, link and its header say it

@@ -57,12 +57,12 @@ superblock = whole 0 48 (λ b. ret (super_of b))
 -- ---- Object headers with their continuation blocks
 
 -- a message, its place in the image, and whether it stands in chunk 0
-pub record Found : Type 0 where
+pub record FoundMessage : Type 0 where
   pub kind : ℕ
   pub flags : ℕ
   pub place : ℕ
   pub body : List ℕ
-  pub in_chunk : Bool
+  pub in_chunk_0 : Bool
 
 -- a range of the image
 pub record Range : Type 0 where
@@ -71,11 +71,11 @@ pub record Range : Type 0 where
 
 -- the messages of a header, each continuation's in place of its message, and its ranges in the order of visit
 pub record HeaderFields : Type 0 where
-  pub messages : List Found
+  pub messages : List FoundMessage
   pub ranges : List Range
 
-abbrev pub found_at : ℕ → Bool → List Msg → List Found
-found_at base chunk ms = map (λ m. record { kind = m.kind; flags = m.flags; place = base + m.at; body = m.body; in_chunk = chunk }) ms
+abbrev pub found_at : ℕ → Bool → List Msg → List FoundMessage
+found_at base in_chunk_0 ms = map (λ m. record { kind = m.kind; flags = m.flags; place = base + m.at; body = m.body; in_chunk_0 = in_chunk_0 }) ms
 
 -- A header or continuation block that is cut or whose sum is wrong is damaged. The place of a message that passes
 -- the end is that in the image.
@@ -86,27 +86,27 @@ header_refusal place (header_errors.Overrun at) = Header place (header_errors.Ov
 header_refusal place e = Header place e
 
 -- a message's address and length of a continuation block
-abbrev pub block_place : Found → ℕ
+abbrev pub block_place : FoundMessage → ℕ
 block_place m = field m.body 0 8
 
-abbrev pub block_len : Found → ℕ
+abbrev pub block_len : FoundMessage → ℕ
 block_len m = field m.body 8 8
 
 -- the messages of a continuation block of this length, given the bytes found
-abbrev pub block_messages : Bool → ℕ → ℕ → List ℕ → Result (List Found) ReadError
+abbrev pub block_messages : Bool → ℕ → ℕ → List ℕ → Result (List FoundMessage) ReadError
 block_messages tracked place len b =
     if nat_lt (length b) len then Err (header_refusal place (header_errors.Short len (length b)))
     else then_also (refused_as (header_refusal place) (block_at tracked b)) (λ ms. Ok (found_at place false ms))
 
 -- Goes through messages. Those up to the first continuation are done; there `at_block` goes on, with the messages before the
 -- continuation, the continuation, and those behind it. Without one the header's messages are all that are done.
-abbrev pub splice : ((before : List Found) → Found → (rest : List Found) → Prog (Result HeaderFields ReadError)) → List Range → List Found → List Found → Prog (Result HeaderFields ReadError)
+abbrev pub splice : ((before : List FoundMessage) → FoundMessage → (rest : List FoundMessage) → Prog (Result HeaderFields ReadError)) → List Range → List FoundMessage → List FoundMessage → Prog (Result HeaderFields ReadError)
 splice at_block visited done [] = ret (Ok (record { messages = done; ranges = visited }))
 splice at_block visited done (m ∷ ms) = if m.kind == 0x10 then at_block done m ms else splice at_block visited (done ++ m ∷ []) ms
 
 -- A header's messages, with at most so many continuation blocks more: each continuation's messages, which stand in its block,
 -- come in its place, before those behind it.
-abbrev pub walk : ℕ → ℕ → Bool → List Range → List Found → List Found → Prog (Result HeaderFields ReadError)
+abbrev pub walk : ℕ → ℕ → Bool → List Range → List FoundMessage → List FoundMessage → Prog (Result HeaderFields ReadError)
 walk zero header tracked visited done ms = splice (λ before m rest. ret (Err (Header header header_errors.Continuations))) visited done ms
 walk (suc more) header tracked visited done ms =
     splice (λ before m rest.
@@ -118,8 +118,8 @@ walk (suc more) header tracked visited done ms =
     ])) visited done ms
 
 -- the messages from chunk 0 on
-abbrev pub from_chunk : ℕ → Prefix → List ℕ → Prog (Result HeaderFields ReadError)
-from_chunk place p b =
+abbrev pub from_chunk_0 : ℕ → Prefix → List ℕ → Prog (Result HeaderFields ReadError)
+from_chunk_0 place p b =
     elim (messages_at b) [
       | Ok ms ↦ walk 32 place p.tracked (record { place = place; len = p.total } ∷ []) [] (found_at place true ms)
       | Err e ↦ ret (Err (header_refusal place e))
@@ -132,12 +132,12 @@ root_view b = elim (prefix_at b) [ Ok p ↦ (if nat_lt 512 p.total then b else h
 abbrev pub root_header : ℕ → Prog (Result HeaderFields ReadError)
 root_header place = counted place root_view (λ first.
     elim (prefix_at first) [
-      | Ok p ↦ (if nat_lt 512 p.total then whole (place + 512) (p.total - 512) (λ rest. from_chunk place p (first ++ rest)) else from_chunk place p first)
+      | Ok p ↦ (if nat_lt 512 p.total then whole (place + 512) (p.total - 512) (λ rest. from_chunk_0 place p (first ++ rest)) else from_chunk_0 place p first)
       | Err e ↦ ret (Err (header_refusal place e))
     ])
 
 -- the address that the root's link of this name gives
-abbrev pub linked : List ℕ → List Found → Result ℕ ReadError
+abbrev pub linked : List ℕ → List FoundMessage → Result ℕ ReadError
 linked name ms = refused_as Link
     (then_also (links_at (map (λ m. record { kind = m.kind; flags = m.flags; at = m.place; body = m.body }) ms)) (λ ls. find_link ls name))
 
@@ -160,14 +160,14 @@ abbrev pub filter_pipeline_kind : ℕ
 filter_pipeline_kind = 0x0b
 
 -- the first message of a kind
-abbrev pub first_of : ℕ → List Found → Option Found
+abbrev pub first_of : ℕ → List FoundMessage → Option FoundMessage
 first_of kind ms = find (λ m. m.kind == kind) ms
 
 -- the data of the first message of a kind
-abbrev pub body_of : ℕ → List Found → Option (List ℕ)
+abbrev pub body_of : ℕ → List FoundMessage → Option (List ℕ)
 body_of kind ms = option_map (λ m. m.body) (first_of kind ms)
 
-abbrev pub is_shared : Option Found → Bool
+abbrev pub is_shared : Option FoundMessage → Bool
 is_shared None = false
 is_shared (Some m) = has m.flags 2
 
@@ -179,29 +179,29 @@ pub record Described : Type 0 where
   pub layout : LayoutFields
 
 -- the data of the first dataspace message, which stands in chunk 0
-abbrev pub dataspace_of : List Found → Result (List ℕ) Unsupported
+abbrev pub dataspace_of : List FoundMessage → Result (List ℕ) Unsupported
 dataspace_of ms =
     elim (first_of dataspace_kind ms) [
-      | Some m ↦ (if m.in_chunk then Ok m.body else Err (unsupported 4))
+      | Some m ↦ (if m.in_chunk_0 then Ok m.body else Err (unsupported 4))
       | None ↦ Err (unsupported 4)
     ]
 
 -- without a fill value message the fill is 0
-abbrev pub fill_of : List Found → IntTypeFields → Result FillFields Unsupported
+abbrev pub fill_of : List FoundMessage → IntTypeFields → Result FillFields Unsupported
 fill_of ms t = elim (body_of fill_value_kind ms) [ Some b ↦ fill_at b t | None ↦ Ok (record { value = None }) ]
 
 -- there is a filter pipeline
-abbrev pub is_filtered : List Found → Bool
+abbrev pub is_filtered : List FoundMessage → Bool
 is_filtered ms = list_any (λ m. m.kind == filter_pipeline_kind) ms
 
 -- one of the messages that count is shared
-abbrev pub shares_a_message : List Found → Bool
+abbrev pub shares_a_message : List FoundMessage → Bool
 shares_a_message ms =
     is_shared (first_of dataspace_kind ms) || is_shared (first_of datatype_kind ms) || is_shared (first_of fill_value_kind ms) || is_shared (first_of layout_kind ms)
 
 -- What the messages say, or the least number of what is unsupported: a filter pipeline, a shared message, a missing one,
 -- and then what dataspace, datatype, fill value and layout say.
-abbrev pub described : List Found → Result Described Unsupported
+abbrev pub described : List FoundMessage → Result Described Unsupported
 described ms =
     if is_filtered ms then Err (unsupported 2)
     else if shares_a_message ms then Err (unsupported 3)
@@ -217,7 +217,7 @@ described ms =
 abbrev pub dataset_messages : ℕ → List ℕ → Prog (Result HeaderFields ReadError)
 dataset_messages place b =
     elim (prefix_at b) [
-      | Ok p ↦ (if nat_lt 512 p.total then ret (Err (read_errors.Unsupported (unsupported 1))) else from_chunk place p b)
+      | Ok p ↦ (if nat_lt 512 p.total then ret (Err (read_errors.Unsupported (unsupported 1))) else from_chunk_0 place p b)
       | Err e ↦ ret (Err (header_refusal place e))
     ]
 

@@ -43,12 +43,12 @@ abbrev pub messages_place : ℕ → ℕ
 messages_place flags = size_place flags + size_width flags
 
 -- the size of chunk 0: how many bytes the messages and the gap take
-abbrev pub chunk_size : List ℕ → ℕ
-chunk_size b = field b (size_place (header_flags b)) (size_width (header_flags b))
+abbrev pub chunk_0_size : List ℕ → ℕ
+chunk_0_size b = field b (size_place (header_flags b)) (size_width (header_flags b))
 
 -- how long chunk 0 is, with what stands before its messages and the sum behind them
 abbrev pub header_length : List ℕ → ℕ
-header_length b = messages_place (header_flags b) + chunk_size b + 4
+header_length b = messages_place (header_flags b) + chunk_0_size b + 4
 
 -- the tests, in the order in which they are tried, each with its refusal
 abbrev pub prefix_tests : List ℕ → List (Bool × HeaderError)
@@ -64,7 +64,7 @@ abbrev pub prefix_fields : List ℕ → Prefix
 prefix_fields b = record {
   total = min (header_length b) (2 ^ 64 - 1);
   at = messages_place (header_flags b);
-  len = chunk_size b;
+  len = chunk_0_size b;
   tracked = has (header_flags b) 4;
 }
 

@@ -56,16 +56,16 @@ abbrev pub below_end : ℕ → ℕ → ℕ
 below_end place len = min len (2 ^ 64 - place)
 
 -- looks of at most 512 bytes from a place on; a look that gives fewer bytes than asked is the last
-abbrev pub pieces : {A : Type 0} → ℕ → ℕ → ℕ → List ℕ → (List ℕ → Prog A) → Prog A
-pieces zero place len got next = next got
-pieces (suc fuel) place zero got next = next got
-pieces (suc fuel) place (suc rest) got next =
+abbrev pub look_pieces : {A : Type 0} → ℕ → ℕ → ℕ → List ℕ → (List ℕ → Prog A) → Prog A
+look_pieces zero place len got next = next got
+look_pieces (suc fuel) place zero got next = next got
+look_pieces (suc fuel) place (suc rest) got next =
     whole place (min 512 (suc rest)) (λ b.
-    if length b == min 512 (suc rest) then pieces fuel (place + 512) (suc rest - 512) (got ++ b) next else next (got ++ b))
+    if length b == min 512 (suc rest) then look_pieces fuel (place + 512) (suc rest - 512) (got ++ b) next else next (got ++ b))
 
 -- a range by looks of at most 512 bytes
 abbrev pub cut_up : {A : Type 0} → ℕ → ℕ → (List ℕ → Prog A) → Prog A
-cut_up place len next = pieces (below_end place len / 512 + 1) place (below_end place len) [] next
+cut_up place len next = look_pieces (below_end place len / 512 + 1) place (below_end place len) [] next
 
 -- a block that an attempt keeps
 pub record Kept : Type 0 where

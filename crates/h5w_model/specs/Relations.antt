@@ -6,7 +6,7 @@ use Rattle.h5w_model.specs.Superblock.{super_at}
 use Rattle.h5w_model.specs.Headers.{prefix_at, messages_at, block_at, continuation_kind}
 use Rattle.h5w_model.specs.Arrays.{EahdFields, EaibFields, SlotsFields, eahd_at, eaib_at, easb_at, eadb_at, eahd_len, eaib_len, slots_len, super_block_of, place_of}
 use Rattle.h5w_model.specs.Trees.{RecordFields, ChildFields, BthdFields, BtinFields, bthd_at, btlf_at, btin_at, bthd_len, btlf_len, btin_len}
-use Rattle.h5w_model.specs.Datasets.{Found, Described, found_at, block_place, block_len, is_swmr, linked, described}
+use Rattle.h5w_model.specs.Datasets.{FoundMessage, Described, found_at, block_place, block_len, is_swmr, linked, described}
 use Rattle.h5w_model.specs.Tables.{Limits, Reading, super_block_of_first, key_below, limit_of, needed, needed_keys}
 use Rattle.h5w_model.specs.declared.message.Msg.{Msg}
 use Rattle.h5w_model.specs.declared.message.Prefix.{Prefix}
@@ -20,7 +20,7 @@ use Rattle.h5w_model.specs.declared.cell.Place.TheVariants.{Index, Direct, Secon
 -- ---- Messages of an object header
 
 -- these messages of a block stand at a place, of this length, as a continuation block
-pub record IsBlock (img : List ℕ) (tracked : Bool) (place len : ℕ) (messages : List Found) : Type 0 where
+pub record IsBlock (img : List ℕ) (tracked : Bool) (place len : ℕ) (messages : List FoundMessage) : Type 0 where
   pub whole : length (range img place len) ≡ len
   pub long : 8 ≤ len
   pub listed : List Msg
@@ -28,14 +28,14 @@ pub record IsBlock (img : List ℕ) (tracked : Bool) (place len : ℕ) (messages
   pub are : messages ≡ found_at place false listed
 
 -- a list of messages, with each continuation's in place of its message, by this many blocks
-pub data Spliced (img : List ℕ) (tracked : Bool) : ℕ → List Found → List Found → Type 0 where
+pub data Spliced (img : List ℕ) (tracked : Bool) : ℕ → List FoundMessage → List FoundMessage → Type 0 where
   no_message : Spliced img tracked 0 [] []
-  message : (n : ℕ) (m : Found) (ms rs : List Found) → m.kind ≢ continuation_kind → Spliced img tracked n ms rs → Spliced img tracked n (m ∷ ms) (m ∷ rs)
-  continuation : (n : ℕ) (m : Found) (ms inside joined rs : List Found) → m.kind ≡ continuation_kind → IsBlock img tracked (block_place m) (block_len m) inside
+  message : (n : ℕ) (m : FoundMessage) (ms rs : List FoundMessage) → m.kind ≢ continuation_kind → Spliced img tracked n ms rs → Spliced img tracked n (m ∷ ms) (m ∷ rs)
+  continuation : (n : ℕ) (m : FoundMessage) (ms inside joined rs : List FoundMessage) → m.kind ≡ continuation_kind → IsBlock img tracked (block_place m) (block_len m) inside
       → joined ≡ inside ++ ms → Spliced img tracked n joined rs → Spliced img tracked (suc n) (m ∷ ms) rs
 
 -- the header at a place is sealed, and these are its messages, with at most 32 continuation blocks
-pub record HasMessages (img : List ℕ) (place : ℕ) (messages : List Found) : Type 0 where
+pub record HasMessages (img : List ℕ) (place : ℕ) (messages : List FoundMessage) : Type 0 where
   pub prefix : Prefix
   pub begins : prefix_at (range img place (prefix.total)) ≡ Ok prefix
   pub whole : length (range img place (prefix.total)) ≡ prefix.total
@@ -53,10 +53,10 @@ pub record HasDataset (img name : List ℕ) (place : ℕ) (d : Described) : Type
   pub superblock : Super
   pub found : super_at (range img 0 48) ≡ Ok superblock
   pub flags : IsTrue (is_swmr (superblock.flags))
-  pub root : List Found
+  pub root : List FoundMessage
   pub root_header : HasMessages img (superblock.root) root
   pub link : linked name root ≡ Ok place
-  pub messages : List Found
+  pub messages : List FoundMessage
   pub header : HasMessages img place messages
   pub small : header.prefix.total ≤ 512
   pub says : described messages ≡ Ok d

@@ -7,20 +7,20 @@ use Rattle.h5w_model.specs.declared.refusal.HeaderError.{HeaderError}
 use Rattle.h5w_model.specs.declared.refusal.HeaderError.TheVariants.{OutOfMemory}
 
 -- the answer is what is said, or memory ran out
-abbrev pub Gives : Result (List Msg) HeaderError → Result (List Msg) HeaderError → Type 0
-Gives answer said = (answer ≡ said) ⊎ (answer ≡ Err OutOfMemory)
+abbrev pub GivesMessages : Result (List Msg) HeaderError → Result (List Msg) HeaderError → Type 0
+GivesMessages answer said = (answer ≡ said) ⊎ (answer ≡ Err OutOfMemory)
 
 -- the list is checked where it is there, and its refusal goes on
-pub gives_next : (list said : Result (List Msg) HeaderError) → Gives list said → Gives (and_then list all_known) (and_then said all_known)
+pub gives_next : (list said : Result (List Msg) HeaderError) → GivesMessages list said → GivesMessages (and_then list all_known) (and_then said all_known)
 gives_next list said (inl e) = inl (ap (λ r. and_then r all_known) e)
 gives_next list said (inr e) = inr (ap (λ r. and_then r all_known) e)
 
-gives_from : (answer list said whole : Result (List Msg) HeaderError) → list ≡ answer → whole ≡ said → Gives list said → Gives answer whole
+gives_from : (answer list said whole : Result (List Msg) HeaderError) → list ≡ answer → whole ≡ said → GivesMessages list said → GivesMessages answer whole
 gives_from answer list said whole a w (inl e) = inl (sym a ∙ e ∙ sym w)
 gives_from answer list said whole a w (inr e) = inr (sym a ∙ e)
 
 -- the answer of a call whose result is known
-pub gives_by : (list said whole : Result (List Msg) HeaderError) (answer : Result (List Msg) HeaderError) → Gives list said → and_then list all_known ≡ answer → whole ≡ and_then said all_known → Gives answer whole
+pub gives_by : (list said whole : Result (List Msg) HeaderError) (answer : Result (List Msg) HeaderError) → GivesMessages list said → and_then list all_known ≡ answer → whole ≡ and_then said all_known → GivesMessages answer whole
 gives_by list said whole answer g a w = gives_from answer (and_then list all_known) (and_then said all_known) whole a w (gives_next list said g)
 
 -- a header that is refused has no messages

@@ -7,7 +7,7 @@ use Rattle.std.proofs.lemmas.Nat.{le-div}
 use Rattle.std.proofs.Math.Nat.{div-mul-le_self, mul-le-mul_right}
 use Rattle.h5w_model.specs.Numbers.{undefined}
 use Rattle.h5w_model.specs.Messages.{is_int_size}
-use Rattle.h5w_model.specs.Programs.{Prog, ret, whole, counted, WantsMore, bind, and_then, below_end, cut_up, pieces, lowered}
+use Rattle.h5w_model.specs.Programs.{Prog, ret, whole, counted, WantsMore, bind, and_then, below_end, cut_up, look_pieces, lowered}
 use Rattle.h5w_model.specs.Logs.{Log}
 use Rattle.h5w_model.specs.Tables.{Reading, bands, chunks_across, needed, cell_offset, chunk_address, each_of}
 use Rattle.h5w_model.specs.Prefixed.{image_at}
@@ -43,7 +43,7 @@ key_range r from to k = chunk_range r k.0 k.1 from to
 abbrev grid_keys : (across from count : ℕ) → List (ℕ × ℕ)
 grid_keys across from count = flat_map (λ i. map (λ j. (i, j)) (range_with_len 0 across)) (range_with_len from count)
 
-wants_pieces : {A : Type 0} (fuel place len : ℕ) (got : List ℕ) (next : List ℕ → Prog A) → 0 < fuel → 0 < len → WantsMore (pieces fuel place len got next)
+wants_pieces : {A : Type 0} (fuel place len : ℕ) (got : List ℕ) (next : List ℕ → Prog A) → 0 < fuel → 0 < len → WantsMore (look_pieces fuel place len got next)
 wants_pieces zero place len got next h g = absurd (omega arith)
 wants_pieces (suc fuel) place zero got next h g = absurd (omega arith)
 wants_pieces (suc fuel) place (suc rest) got next h g = tt

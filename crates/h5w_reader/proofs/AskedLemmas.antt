@@ -7,7 +7,7 @@ use Rattle.h5w_model.specs.Tables.{Reading}
 use Rattle.h5w_model.specs.declared.refusal.ReadError.{ReadError}
 use Rattle.h5w_model.specs.Unfinished.{Unfinished, rows_left, values_left, Reader, ReaderRules, wanted, fed_left, with_left, rows_program}
 use Rattle.h5w_model.specs.Asked.{Answer, told_rows, told_values, told_refusal, Asking, Answered, Asks, Asked, AreCalls, Begins, IsAnswered, IsAsking, known_by, left_after, no_asks, beginning, without, and_look}
-use Rattle.h5w_reader.specs.Readers.{Told, IsRefused, new_reader}
+use Rattle.h5w_reader.specs.Readers.{StepTells, IsRefused, new_reader}
 use Rattle.h5w_reader.specs.Asked.{IsWanted, answering, refusing, finding, stepping, looking, is_want_of_memory}
 use Rattle.h5w_reader.specs.declared.step.Step.{Step}
 use Rattle.h5w_reader.specs.declared.step.Step.TheVariants as steps
@@ -115,7 +115,7 @@ refused_asks old asks a f false e g (inl h) = record { known = g.known; calls = 
 refused_asks old asks a f false e g (inr (inl h)) = record { known = g.known; calls = answered_calls old asks a (told_refusal f) g (gives_refusal a.program a.looks f (inr h)); call = refl }
 refused_asks old asks a f false e g (inr (inr h)) = let t : true ≡ false = sym (ap is_want_of_memory h) ∙ e in absurd cc
 
-stepped : (old new : Reader) (asks : Asks) (a : Asking) (step : Step) → Going old asks a → Told (left_after a.looks a.program) old step new → Asked new (stepping asks a step new.known)
+stepped : (old new : Reader) (asks : Asks) (a : Asking) (step : Step) → Going old asks a → StepTells (left_after a.looks a.program) old step new → Asked new (stepping asks a step new.known)
 stepped old new asks a steps.More g told =
     subst (λ n. Asked n (stepping asks a steps.More n.known)) (sym told) (record { known = g.known; calls = g.calls; call = (g.begun, refl) })
 stepped old new asks a (steps.Rows n) g told =
@@ -128,14 +128,14 @@ stepped old new asks a (steps.Values vs) g told =
 stepped old new asks a (steps.Refused f) g told =
     subst (λ n. Asked n (refusing asks a f)) (sym told.1) (refused_asks old asks a f (is_want_of_memory f) refl g told.0)
 
-going : (old new : Reader) (asks : Asks) (step : Step) (l : Look) (x : Option Asking) → asks.unfinished ≡ x → Told (option_map (fed_left l.bytes) old.left) old step new → Asked old asks → IsAsking old x → wanted old.left ≡ Some (l.place, l.len)
+going : (old new : Reader) (asks : Asks) (step : Step) (l : Look) (x : Option Asking) → asks.unfinished ≡ x → StepTells (option_map (fed_left l.bytes) old.left) old step new → Asked old asks → IsAsking old x → wanted old.left ≡ Some (l.place, l.len)
     → Asked new (elim x as (λ _. Asks) [ Some a ↦ stepping asks (and_look l a) step new.known | None ↦ asks ])
 going old new asks step l None e told asked call next = let t : wanted old.left ≡ None = ap wanted call in absurd cc
 going old new asks step l (Some a) e told asked call next =
     let more = left_more a.looks a.program l (ap wanted (sym call.1) ∙ next) in
     let same : option_map (fed_left l.bytes) old.left ≡ left_after (a.looks ++ l ∷ []) a.program = ap (option_map (fed_left l.bytes)) call.1 ∙ sym more in
-    stepped old new asks (and_look l a) step (record { known = asked.known; calls = asked.calls; begun = call.0 }) (subst (λ x. Told x old step new) same told)
+    stepped old new asks (and_look l a) step (record { known = asked.known; calls = asked.calls; begun = call.0 }) (subst (λ x. StepTells x old step new) same told)
 
-pub asked_give : (old new : Reader) (asks : Asks) (step : Step) (b : List ℕ) (l : Look) → Told (option_map (fed_left b) old.left) old step new → Asked old asks → IsWanted (wanted old.left) b l → Asked new (looking l step new.known asks)
+pub asked_give : (old new : Reader) (asks : Asks) (step : Step) (b : List ℕ) (l : Look) → StepTells (option_map (fed_left b) old.left) old step new → Asked old asks → IsWanted (wanted old.left) b l → Asked new (looking l step new.known asks)
 asked_give old new asks step b l told asked w =
-    going old new asks step l asks.unfinished refl (subst (λ x. Told (option_map (fed_left x) old.left) old step new) (sym w.got) told) asked asked.call w.range
+    going old new asks step l asks.unfinished refl (subst (λ x. StepTells (option_map (fed_left x) old.left) old step new) (sym w.got) told) asked asked.call w.range

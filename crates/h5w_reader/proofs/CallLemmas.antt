@@ -6,7 +6,7 @@ use Rattle.std.specs.Cmp.Lexicographic.{pointwise}
 use Rattle.std.proofs.lemmas.Bool.{lt-ltb, le-ltb}
 use Rattle.h5w_model.specs.Programs.{Prog, ret, whole, counted, stored, bind, and_then, below_end, lowered, next_look, fed}
 use Rattle.h5w_model.specs.Headers.{prefix_at, header_view}
-use Rattle.h5w_model.specs.Datasets.{HeaderFields, superblock, root_header, linked, dataset_place, from_chunk, header_refusal, described, refused_as}
+use Rattle.h5w_model.specs.Datasets.{HeaderFields, superblock, root_header, linked, dataset_place, from_chunk_0, header_refusal, described, refused_as}
 use Rattle.h5w_model.specs.Datasets as model
 use Rattle.h5w_model.specs.Calls.{CallRules, cut_header, not_shrunk, again, is_settled, rows_call, open_call, open_rules, rows_seen, known_table, needed_from}
 use Rattle.h5w_model.specs.Tables.{Reading}
@@ -15,8 +15,8 @@ use Rattle.h5w_model.specs.declared.root.Super.{Super}
 use Rattle.h5w_model.specs.declared.refusal.HeaderError.{HeaderError}
 use Rattle.h5w_model.specs.declared.refusal.ReadError.{ReadError}
 use Rattle.h5w_model.specs.declared.refusal.ReadError.TheVariants as read_errors
-use Rattle.h5w_reader.specs.Looks.{plain, Fits}
-use Rattle.h5w_reader.specs.Walking.{messages_of, chunk_rest}
+use Rattle.h5w_reader.specs.Looks.{plain, IsWithinLook}
+use Rattle.h5w_reader.specs.Walking.{messages_of, chunk_0_rest}
 use Rattle.h5w_reader.specs.Opening.{root_messages}
 use Rattle.h5w_reader.specs.Attempts.{reader_limits, described_rest, rules_of}
 use Rattle.h5w_reader.specs.declared.stage.Came.{Came}
@@ -43,8 +43,8 @@ fed_bind (counted at counts next) f b l e = absurd cc
 fed_bind (stored kind at len next) f b l e = absurd cc
 
 -- a look of that length
-pub fits_bind : {A B : Type 0} (p : Prog A) (f : A → Prog B) (n : ℕ) (l : ℕ × ℕ) → next_look p ≡ Some l → Fits (next_look (bind p f)) n → Fits (next_look p) n
-fits_bind p f n l e h = subst (λ x. Fits x n) (wants_bind p f l e ∙ sym e) h
+pub fits_bind : {A B : Type 0} (p : Prog A) (f : A → Prog B) (n : ℕ) (l : ℕ × ℕ) → next_look p ≡ Some l → IsWithinLook (next_look (bind p f)) n → IsWithinLook (next_look p) n
+fits_bind p f n l e h = subst (λ x. IsWithinLook x n) (wants_bind p f l e ∙ sym e) h
 
 pub then_assoc : {A B C E : Type 0} (p : Prog (Result A E)) (f : A → Prog (Result B E)) (g : B → Prog (Result C E)) → and_then (and_then p f) g ≡ and_then p (λ a. and_then (f a) g)
 then_assoc (ret (Ok a)) f g = refl
@@ -71,8 +71,8 @@ plain_then {A} {B} {E} p f = plain_bind p (after f) ∙ ap (λ (k : Result A E �
 place_by : (name : List ℕ) → lowered 16 [] (dataset_place name) ≡ and_then root_messages (λ ms. ret (linked name ms))
 unfolding root_messages
 place_by name =
-    let p : Prog (Result (List model.Found) ReadError) = and_then superblock (λ s. and_then (root_header s.root) messages_of) in
-    let found : List model.Found → Prog (Result ℕ ReadError) = λ ms. ret (linked name ms) in
+    let p : Prog (Result (List model.FoundMessage) ReadError) = and_then superblock (λ s. and_then (root_header s.root) messages_of) in
+    let found : List model.FoundMessage → Prog (Result ℕ ReadError) = λ ms. ret (linked name ms) in
     let e : and_then p found ≡ dataset_place name =
     then_assoc superblock (λ s. and_then (root_header s.root) messages_of) found
     ∙ ap (λ (k : Super → Prog (Result ℕ ReadError)). and_then superblock k) (λ i s. then_assoc (root_header s.root) messages_of found i) in
@@ -92,11 +92,11 @@ pub rows_are : (g : CallRules) → rows_rest g ≡ rows_call g
 unfolding rows_rest
 rows_are g = refl
 
-pub place_ok : (most at : ℕ) (name : List ℕ) (known : Option Reading) (ms : List model.Found) → linked name ms ≡ Ok at → place_rest most name known ms ≡ rows_rest (rules_of (record { attempts = most; place = at }) known)
+pub place_ok : (most at : ℕ) (name : List ℕ) (known : Option Reading) (ms : List model.FoundMessage) → linked name ms ≡ Ok at → place_rest most name known ms ≡ rows_rest (rules_of (record { attempts = most; place = at }) known)
 unfolding place_rest rows_rest
 place_ok most at name known ms e = ap (at_link most known) e
 
-pub place_err : (most : ℕ) (name : List ℕ) (known : Option Reading) (ms : List model.Found) (f : ReadError) → linked name ms ≡ Err f → place_rest most name known ms ≡ ret (Err f)
+pub place_err : (most : ℕ) (name : List ℕ) (known : Option Reading) (ms : List model.FoundMessage) (f : ReadError) → linked name ms ≡ Err f → place_rest most name known ms ≡ ret (Err f)
 unfolding place_rest
 place_err most name known ms f e = ap (at_link most known) e
 
@@ -105,7 +105,7 @@ place_err most name known ms f e = ap (at_link most known) e
 -- given what stands before the messages
 messages_given : CallRules → List ℕ → Result Prefix HeaderError → Prog (Result HeaderFields ReadError)
 messages_given g v r = elim r [
-  | Ok p ↦ cond (ltb 512 p.total) (ret (Err (read_errors.Unsupported (record { 0 = 1 })))) (from_chunk g.place p v)
+  | Ok p ↦ cond (ltb 512 p.total) (ret (Err (read_errors.Unsupported (record { 0 = 1 })))) (from_chunk_0 g.place p v)
   | Err e ↦ ret (Err (header_refusal g.place e))
 ]
 
@@ -114,7 +114,7 @@ unfolding behind_rest messages_given described_rest
 behind_by g v kept =
     let p = messages_given g v (prefix_at v) in
     let unstored : IsUnstored p = unstored_dataset_messages g.place v in
-    let rest : List model.Found → Prog (Result Reading ReadError) = λ ms.
+    let rest : List model.FoundMessage → Prog (Result Reading ReadError) = λ ms.
     and_then (ret (refused_as read_errors.Unsupported (described ms))) (λ d.
     and_then (ret (not_shrunk (rows_seen g.known) d)) (λ d.
     and_then (needed_from g.limits (known_table g.known d) d) (λ t. ret (Ok (record { place = g.place; dataset = d; table = t }))))) in
@@ -125,8 +125,8 @@ behind_by g v kept =
     ∙ sym (then_assoc p messages_of rest))
     ∙ unstored_then 16 [] (and_then p messages_of) rest (unstored_and_then p messages_of unstored (λ h. tt)))
 
-pub behind_ok : (g : CallRules) (v : List ℕ) (p : Prefix) → g.keeps ≡ 16 → prefix_at v ≡ Ok p → p.total ≤ 512 → behind_rest g v ≡ messages_rest g (chunk_rest g.place p v)
-unfolding messages_given chunk_rest
+pub behind_ok : (g : CallRules) (v : List ℕ) (p : Prefix) → g.keeps ≡ 16 → prefix_at v ≡ Ok p → p.total ≤ 512 → behind_rest g v ≡ messages_rest g (chunk_0_rest g.place p v)
+unfolding messages_given chunk_0_rest
 behind_ok g v p none e small =
     behind_by g v none ∙ ap (λ r. messages_rest g (plain (and_then (messages_given g v r) messages_of))) e
     ∙ rw (le-ltb 512 p.total small) refl

@@ -5,7 +5,7 @@ use Rattle.std.specs.Cmp.Lexicographic.{pointwise}
 use Rattle.std.proofs.Math.Seq.{take-length}
 use Rattle.std.proofs.Math.ListN.{get_or-eq_default}
 use Rattle.std.proofs.lemmas.Bool.{eq-eqb, eqb-true, le-ltb}
-use Rattle.h5w_model.specs.Programs.{Prog, ret, whole, counted, stored, and_then, pieces, cut_up, below_end, Kept, kept_bytes, used, lowered}
+use Rattle.h5w_model.specs.Programs.{Prog, ret, whole, counted, stored, and_then, look_pieces, cut_up, below_end, Kept, kept_bytes, used, lowered}
 use Rattle.h5w_model.specs.Numbers.{undefined}
 use Rattle.h5w_model.specs.Datasets.{Described, dataset_from}
 use Rattle.h5w_model.specs.Calls.{CallRules, rows_seen, known_table, same_cut, not_shrunk, needed_from, some_unknown, cut_header}
@@ -111,7 +111,7 @@ of_answer at d t r h =
     let same : (let x : Reading = record { place = at; dataset = d; table = t } in x) ≡ r = cc in
     record { place = ap (λ (x : Reading). x.place) (sym same); dataset = ap (λ (x : Reading). x.dataset) (sym same) }
 
-pieces_answer : {A : Type 0} (fuel place len : ℕ) (next : List ℕ → Prog A) (a : A) → answer_of (pieces (suc fuel) place len [] next) ≡ Some a → answer_of (next []) ≡ Some a
+pieces_answer : {A : Type 0} (fuel place len : ℕ) (next : List ℕ → Prog A) (a : A) → answer_of (look_pieces (suc fuel) place len [] next) ≡ Some a → answer_of (next []) ≡ Some a
 pieces_answer fuel place zero next a h = h
 pieces_answer fuel place (suc len) next a h = absurd cc
 

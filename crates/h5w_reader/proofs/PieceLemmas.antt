@@ -4,15 +4,15 @@ use Rattle.std.specs.Prelude.{◌==◌}
 use Rattle.std.specs.Result.{IfOk}
 use Rattle.std.proofs.lemmas.List.{append-nil}
 use Rattle.std.proofs.lemmas.Bool.{cond_both, eqb-true, eqb-false}
-use Rattle.h5w_model.specs.Programs.{Prog, ret, whole, counted, stored, bind, pieces, cut_up, below_end, next_look, fed}
+use Rattle.h5w_model.specs.Programs.{Prog, ret, whole, counted, stored, bind, look_pieces, cut_up, below_end, next_look, fed}
 use Rattle.h5w_reader.specs.Looks.{plain}
 use Rattle.h5w_reader.specs.Gathering.{gather_from, cut_behind}
 
 -- what follows a look for m of n bytes that gave these
 abbrev after_piece : ℕ → ℕ → ℕ → List ℕ → List ℕ → Prog (List ℕ)
-after_piece fuel place rest got b = cond (length b == min 512 rest) (pieces fuel (place + 512) (rest - 512) (got ++ b) ret) (ret (got ++ b))
+after_piece fuel place rest got b = cond (length b == min 512 rest) (look_pieces fuel (place + 512) (rest - 512) (got ++ b) ret) (ret (got ++ b))
 
-begins : (fuel place rest : ℕ) (got : List ℕ) → 0 < rest → pieces (suc fuel) place rest got ret ≡ whole place (min 512 rest) (after_piece fuel place rest got)
+begins : (fuel place rest : ℕ) (got : List ℕ) → 0 < rest → look_pieces (suc fuel) place rest got ret ≡ whole place (min 512 rest) (after_piece fuel place rest got)
 begins fuel place zero got h = absurd (omega arith)
 begins fuel place (suc rest) got h = refl
 
@@ -24,7 +24,7 @@ gather_begins place rest got h = rw add-one (begins (rest / 512) place rest got 
 pub gather_wants : (place rest len : ℕ) (got : List ℕ) → 0 < rest → len ≡ min 512 rest → next_look (gather_from place rest got) ≡ Some (place, len)
 gather_wants place rest len got h e = ap next_look (gather_begins place rest got h) ∙ ap (λ n. Some (place, n)) (sym e)
 
-pieces_end : (fuel place : ℕ) (got : List ℕ) → pieces fuel place 0 got ret ≡ ret got
+pieces_end : (fuel place : ℕ) (got : List ℕ) → look_pieces fuel place 0 got ret ≡ ret got
 pieces_end zero place got = refl
 pieces_end (suc fuel) place got = refl
 
@@ -32,7 +32,7 @@ pieces_end (suc fuel) place got = refl
 pub gather_last : (place rest : ℕ) (got b : List ℕ) → 0 < rest → rest ≤ 512 → fed b (gather_from place rest got) ≡ ret (got ++ b)
 gather_last place rest got b h small =
     ap (fed b) (gather_begins place rest got h)
-    ∙ cond_both (length b == min 512 rest) (pieces (rest / 512) (place + 512) (rest - 512) (got ++ b) ret) (ret (got ++ b)) (λ (p : Prog (List ℕ)). p ≡ ret (got ++ b))
+    ∙ cond_both (length b == min 512 rest) (look_pieces (rest / 512) (place + 512) (rest - 512) (got ++ b) ret) (ret (got ++ b)) (λ (p : Prog (List ℕ)). p ≡ ret (got ++ b))
     (λ t. let e : rest - 512 ≡ 0 = omega arith in rw e (pieces_end (rest / 512) (place + 512) (got ++ b)))
     (λ t. refl)
 
@@ -40,7 +40,7 @@ gather_last place rest got b h small =
 pub gather_short : (place rest : ℕ) (got b : List ℕ) → 512 ≤ rest → length b < 512 → fed b (gather_from place rest got) ≡ ret (got ++ b)
 gather_short place rest got b h short =
     ap (fed b) (gather_begins place rest got (omega arith))
-    ∙ cond_both (length b == min 512 rest) (pieces (rest / 512) (place + 512) (rest - 512) (got ++ b) ret) (ret (got ++ b)) (λ (p : Prog (List ℕ)). p ≡ ret (got ++ b))
+    ∙ cond_both (length b == min 512 rest) (look_pieces (rest / 512) (place + 512) (rest - 512) (got ++ b) ret) (ret (got ++ b)) (λ (p : Prog (List ℕ)). p ≡ ret (got ++ b))
     (λ t. let e : length b ≡ min 512 rest = eqb-true (length b) (min 512 rest) t in absurd (omega arith))
     (λ t. refl)
 
@@ -49,8 +49,8 @@ pub gather_more : (place rest : ℕ) (got b : List ℕ) → 512 < rest → lengt
 unfolding gather_from
 gather_more place rest got b h full =
     ap (fed b) (gather_begins place rest got (omega arith))
-    ∙ cond_both (length b == min 512 rest) (pieces (rest / 512) (place + 512) (rest - 512) (got ++ b) ret) (ret (got ++ b)) (λ (p : Prog (List ℕ)). p ≡ pieces ((rest - 512) / 512 + 1) (place + 512) (rest - 512) (got ++ b) ret)
-    (λ t. let e : rest / 512 ≡ (rest - 512) / 512 + 1 = omega arith in ap (λ n. pieces n (place + 512) (rest - 512) (got ++ b) ret) e)
+    ∙ cond_both (length b == min 512 rest) (look_pieces (rest / 512) (place + 512) (rest - 512) (got ++ b) ret) (ret (got ++ b)) (λ (p : Prog (List ℕ)). p ≡ look_pieces ((rest - 512) / 512 + 1) (place + 512) (rest - 512) (got ++ b) ret)
+    (λ t. let e : rest / 512 ≡ (rest - 512) / 512 + 1 = omega arith in ap (λ n. look_pieces n (place + 512) (rest - 512) (got ++ b) ret) e)
     (λ t. let e : length b ≡ min 512 rest = omega arith in absurd (eqb-false (length b) (min 512 rest) t e))
 
 -- a range with what follows it goes on as the range does
@@ -67,12 +67,12 @@ cond_apply f false x y = refl
 
 -- what follows a range comes behind its last piece
 pub pieces_bind : {A B : Type 0} (fuel place len : ℕ) (got : List ℕ) (next : List ℕ → Prog A) (g : A → Prog B)
-    → bind (pieces fuel place len got next) g ≡ pieces fuel place len got (λ b. bind (next b) g)
+    → bind (look_pieces fuel place len got next) g ≡ look_pieces fuel place len got (λ b. bind (next b) g)
 pieces_bind zero place len got next g = refl
 pieces_bind (suc fuel) place zero got next g = refl
 pieces_bind {A} {B} (suc fuel) place (suc rest) got next g =
     ap (whole place (min 512 (suc rest))) (λ i b. (
-    cond_apply (λ (q : Prog A). bind q g) (length b == min 512 (suc rest)) (pieces fuel (place + 512) (suc rest - 512) (got ++ b) next) (next (got ++ b))
+    cond_apply (λ (q : Prog A). bind q g) (length b == min 512 (suc rest)) (look_pieces fuel (place + 512) (suc rest - 512) (got ++ b) next) (next (got ++ b))
     ∙ ap (λ (q : Prog B). cond (length b == min 512 (suc rest)) q (bind (next (got ++ b)) g)) (pieces_bind fuel (place + 512) (suc rest - 512) (got ++ b) next g)
     ) i)
 
@@ -83,12 +83,12 @@ cut_up_is place len next = sym (pieces_bind (below_end place len / 512 + 1) plac
 
 -- the same behind some bytes
 pub pieces_behind : {A : Type 0} (fuel place len : ℕ) (first got : List ℕ) (next : List ℕ → Prog A)
-    → pieces fuel place len (first ++ got) next ≡ pieces fuel place len got (λ b. next (first ++ b))
+    → look_pieces fuel place len (first ++ got) next ≡ look_pieces fuel place len got (λ b. next (first ++ b))
 pieces_behind zero place len first got next = refl
 pieces_behind (suc fuel) place zero first got next = refl
 pieces_behind {A} (suc fuel) place (suc rest) first got next =
     ap (whole place (min 512 (suc rest))) (λ i b. (
-    ap (λ (x : List ℕ). cond (length b == min 512 (suc rest)) (pieces fuel (place + 512) (suc rest - 512) x next) (next x)) (append_assoc first got b)
+    ap (λ (x : List ℕ). cond (length b == min 512 (suc rest)) (look_pieces fuel (place + 512) (suc rest - 512) x next) (next x)) (append_assoc first got b)
     ∙ ap (λ (q : Prog A). cond (length b == min 512 (suc rest)) q (next (first ++ (got ++ b)))) (pieces_behind fuel (place + 512) (suc rest - 512) first (got ++ b) next)
     ) i)
 
@@ -96,7 +96,7 @@ pub cut_up_behind : {A : Type 0} (place len : ℕ) (first : List ℕ) (next : Li
 unfolding gather_from
 cut_up_behind place len first next =
     sym (pieces_behind (below_end place len / 512 + 1) place (below_end place len) first [] next)
-    ∙ ap (λ (x : List ℕ). pieces (below_end place len / 512 + 1) place (below_end place len) x next) (append-nil first)
+    ∙ ap (λ (x : List ℕ). look_pieces (below_end place len / 512 + 1) place (below_end place len) x next) (append-nil first)
     ∙ sym (pieces_bind (below_end place len / 512 + 1) place (below_end place len) first ret next)
 
 -- ---- Programs of which no block is kept

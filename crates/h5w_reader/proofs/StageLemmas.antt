@@ -3,7 +3,7 @@ use Rattle.std.proofs.Common.{◌≡◌, ℕ, min, List, Option, Some, None, ref
 use Rattle.std.specs.Prelude.{◌≢◌, IsSome}
 use Rattle.h5w_model.specs.Programs.{Prog, below_end, next_look}
 use Rattle.h5w_model.specs.Calls.{CallRules, known_table}
-use Rattle.h5w_reader.specs.Walking.{walking, block_left, chunk_rest}
+use Rattle.h5w_reader.specs.Walking.{walking, block_left, chunk_0_rest}
 use Rattle.h5w_reader.specs.Opening.{opening, super_rest}
 use Rattle.h5w_reader.specs.Described.{described_of}
 use Rattle.h5w_model.specs.Checked.{viewed}
@@ -49,7 +49,7 @@ behind_looks g (behind_by.Lookup (lookup_by.Index s k)) =
 pub opening_looks : (o : Opening) → IsLooking (opening o)
 opening_looks (Super k) = record { look = (k.place, min 512 k.rest); next = wants_gather k.place k.rest (min 512 k.rest) k.got.items super_rest k.more refl }
 opening_looks (Root place) = record { look = (place, below_end place 512); next = refl }
-opening_looks (Rest p k) = record { look = (k.place, min 512 k.rest); next = wants_gather k.place k.rest (min 512 k.rest) k.got.items (chunk_rest k.start p) k.more refl }
+opening_looks (Rest p k) = record { look = (k.place, min 512 k.rest); next = wants_gather k.place k.rest (min 512 k.rest) k.got.items (chunk_0_rest k.start p) k.more refl }
 opening_looks (Visit b) = record { look = (b.gather.place, min 512 b.gather.rest); next = walking_looks b }
 
 stage_looks : (most : ℕ) (name : List ℕ) (known : Option Reading) (s : Stage) → IsLooking (stage_left most name known s)

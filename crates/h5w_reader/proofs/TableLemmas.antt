@@ -304,32 +304,32 @@ settled g r =
     and_then (ret (not_shrunk (rows_seen g.known) d)) (λ d.
     and_then (needed_from g.limits (known_table g.known d) d) (λ t. answered g.place d t))))
 
-pub settled_err : (g : CallRules) (ms : List model.Found) (u : Unsupported) → described ms ≡ Err u → described_rest g ms ≡ ret (Err (read_errors.Unsupported u))
+pub settled_err : (g : CallRules) (ms : List model.FoundMessage) (u : Unsupported) → described ms ≡ Err u → described_rest g ms ≡ ret (Err (read_errors.Unsupported u))
 unfolding described_rest settled
 settled_err g ms u e = ap (settled g) e
 
-pub settled_shrunk : (g : CallRules) (ms : List model.Found) (d : Described) → described ms ≡ Ok d → d.shape.rows < rows_seen g.known → described_rest g ms ≡ ret (Err (read_errors.Shrunk (rows_seen g.known) d.shape.rows))
+pub settled_shrunk : (g : CallRules) (ms : List model.FoundMessage) (d : Described) → described ms ≡ Ok d → d.shape.rows < rows_seen g.known → described_rest g ms ≡ ret (Err (read_errors.Shrunk (rows_seen g.known) d.shape.rows))
 unfolding described_rest settled
 settled_shrunk g ms d e h = ap (settled g) e ∙ rw (lt-ltb d.shape.rows (rows_seen g.known) h) refl
 
-pub settled_many : (g : CallRules) (ms : List model.Found) (d : Described) (limit : ℕ) → described ms ≡ Ok d → rows_seen g.known ≤ d.shape.rows → limit ≡ limit_of g.limits d.layout.index → limit < needed d
+pub settled_many : (g : CallRules) (ms : List model.FoundMessage) (d : Described) (limit : ℕ) → described ms ≡ Ok d → rows_seen g.known ≤ d.shape.rows → limit ≡ limit_of g.limits d.layout.index → limit < needed d
     → described_rest g ms ≡ ret (Err (read_errors.TooManyChunks (needed d) limit))
 unfolding described_rest settled
 settled_many g ms d limit e h l many = let k : limit_of g.limits d.layout.index < needed d = omega arith in ap (settled g) e ∙ rw (le-ltb d.shape.rows (rows_seen g.known) h, l, lt-ltb (limit_of g.limits d.layout.index) (needed d) k) refl
 
-settled_go : (g : CallRules) (ms : List model.Found) (d : Described) → described ms ≡ Ok d → rows_seen g.known ≤ d.shape.rows → needed d ≤ limit_of g.limits d.layout.index → described_rest g ms ≡ by_table g.place (known_table g.known d) d
+settled_go : (g : CallRules) (ms : List model.FoundMessage) (d : Described) → described ms ≡ Ok d → rows_seen g.known ≤ d.shape.rows → needed d ≤ limit_of g.limits d.layout.index → described_rest g ms ≡ by_table g.place (known_table g.known d) d
 unfolding described_rest settled
 settled_go g ms d e h few = ap (settled g) e ∙ rw (le-ltb d.shape.rows (rows_seen g.known) h, le-ltb (limit_of g.limits d.layout.index) (needed d) few) refl
 
-pub settled_tree : (g : CallRules) (ms : List model.Found) (d : Described) → described ms ≡ Ok d → rows_seen g.known ≤ d.shape.rows → needed d ≤ limit_of g.limits d.layout.index → needed d ≡ 0 → described_rest g ms ≡ table_rest g.place (known_table g.known d) d
+pub settled_tree : (g : CallRules) (ms : List model.FoundMessage) (d : Described) → described ms ≡ Ok d → rows_seen g.known ≤ d.shape.rows → needed d ≤ limit_of g.limits d.layout.index → needed d ≡ 0 → described_rest g ms ≡ table_rest g.place (known_table g.known d) d
 settled_tree g ms d e h few none = settled_go g ms d e h few ∙ table_empty g.place (known_table g.known d) d none
 
-pub settled_line : (g : CallRules) (ms : List model.Found) (d : Described) → described ms ≡ Ok d → rows_seen g.known ≤ d.shape.rows → needed d ≤ limit_of g.limits d.layout.index → d.layout.index ≡ Array → chunks_across d ≡ 1
+pub settled_line : (g : CallRules) (ms : List model.FoundMessage) (d : Described) → described ms ≡ Ok d → rows_seen g.known ≤ d.shape.rows → needed d ≤ limit_of g.limits d.layout.index → d.layout.index ≡ Array → chunks_across d ≡ 1
     → described_rest g ms ≡ table_rest g.place (known_table g.known d) d
 settled_line g ms d e h few kind one = settled_go g ms d e h few ∙ table_line g.place (known_table g.known d) d kind one
 
 -- a dataset whose index is that of its shape, within the reader's limits
-pub settled_any : (g : CallRules) (ms : List model.Found) (d : Described) → g.limits ≡ reader_limits → described ms ≡ Ok d → rows_seen g.known ≤ d.shape.rows → d.layout.index ≡ index_of d.shape
+pub settled_any : (g : CallRules) (ms : List model.FoundMessage) (d : Described) → g.limits ≡ reader_limits → described ms ≡ Ok d → rows_seen g.known ≤ d.shape.rows → d.layout.index ≡ index_of d.shape
     → (d.shape.growing ≡ false → (d.shape.cols ≡ 1) × (d.layout.chunk_cols ≡ 1)) → needed d ≤ limit_of g.limits d.layout.index → described_rest g ms ≡ table_rest g.place (known_table g.known d) d
 settled_any g ms d l e h indexed line few =
     elim (cases_Bool d.shape.growing) [

@@ -14,39 +14,39 @@ use Rattle.h5w_model.specs.declared.refusal.BlockFault.TheVariants.{Cut}
 use Rattle.h5w_model.specs.declared.refusal.HeaderError.{HeaderError}
 use Rattle.h5w_model.specs.declared.refusal.HeaderError.TheVariants.{Continuations, Short}
 use Rattle.h5w_model.specs.declared.refusal.HeaderError.TheVariants as header_errors
-use Rattle.h5w_reader.specs.Looks.{plain, Fits}
+use Rattle.h5w_reader.specs.Looks.{plain, IsWithinLook}
 use Rattle.h5w_reader.specs.Gathering.{gathering, cut_behind}
-use Rattle.h5w_reader.specs.Walking.{found_of, founds, stack, messages_of, chunk_rest, walk_rest, block_rest}
-use Rattle.h5w_reader.specs.declared.found.Found.{Found}
+use Rattle.h5w_reader.specs.Walking.{found_of, founds, stack, messages_of, chunk_0_rest, walk_rest, block_rest}
+use Rattle.h5w_reader.specs.declared.found.FoundMessage.{FoundMessage}
 use Rattle.h5w_reader.specs.declared.gather.Gather.{Gather}
 use Rattle.h5w_model.specs.declared.message.Prefix.{Prefix}
 use Rattle.h5w_reader.proofs.PieceLemmas.{cut_up_is, fed_gather, wants_gather}
 
 -- ---- Lists
 
-pub stack_push : (fs : List Found) (f : Found) → stack (fs ++ f ∷ []) ≡ found_of f ∷ stack fs
+pub stack_push : (fs : List FoundMessage) (f : FoundMessage) → stack (fs ++ f ∷ []) ≡ found_of f ∷ stack fs
 stack_push fs f = ap reverse (map-append found_of fs (f ∷ [])) ∙ reverse-append (map found_of fs) (found_of f ∷ [])
 
-pub founds_push : (fs : List Found) (f : Found) → founds (fs ++ f ∷ []) ≡ founds fs ++ found_of f ∷ []
+pub founds_push : (fs : List FoundMessage) (f : FoundMessage) → founds (fs ++ f ∷ []) ≡ founds fs ++ found_of f ∷ []
 founds_push fs f = map-append found_of fs (f ∷ [])
 
 pub found_at_push : (place : ℕ) (chunk : Bool) (ms : List Msg) (m : Msg) → found_at place chunk (ms ++ m ∷ []) ≡ found_at place chunk ms ++ found_at place chunk (m ∷ [])
-found_at_push base chunk ms m = map-append (λ m. record { kind = m.kind; flags = m.flags; place = base + m.at; body = m.body; in_chunk = chunk }) ms (m ∷ [])
+found_at_push base chunk ms m = map-append (λ m. record { kind = m.kind; flags = m.flags; place = base + m.at; body = m.body; in_chunk_0 = chunk }) ms (m ∷ [])
 
 -- ---- The visit
 
 -- what follows a continuation block, given its messages
-abbrev entered : (more h : ℕ) (t : Bool) (v : List Range) (done ms : List model.Found) → Result (List model.Found) ReadError → Prog (Result HeaderFields ReadError)
+abbrev entered : (more h : ℕ) (t : Bool) (v : List Range) (done ms : List model.FoundMessage) → Result (List model.FoundMessage) ReadError → Prog (Result HeaderFields ReadError)
 entered more h t v done ms r = elim r [ Ok inside ↦ walk more h t v done (inside ++ ms) | Err e ↦ ret (Err e) ]
 
-entered_alike : (more h : ℕ) (t : Bool) (v w : List Range) (done ms : List model.Found) (r : Result (List model.Found) ReadError)
-    → ((inside : List model.Found) → and_then (walk more h t v done (inside ++ ms)) messages_of ≡ and_then (walk more h t w done (inside ++ ms)) messages_of)
+entered_alike : (more h : ℕ) (t : Bool) (v w : List Range) (done ms : List model.FoundMessage) (r : Result (List model.FoundMessage) ReadError)
+    → ((inside : List model.FoundMessage) → and_then (walk more h t v done (inside ++ ms)) messages_of ≡ and_then (walk more h t w done (inside ++ ms)) messages_of)
     → and_then (entered more h t v done ms r) messages_of ≡ and_then (entered more h t w done ms r) messages_of
 entered_alike more h t v w done ms (Ok inside) same = same inside
 entered_alike more h t v w done ms (Err e) same = refl
 
 -- which ranges were visited says nothing of the messages
-same_messages : (more h : ℕ) (t : Bool) (v w : List Range) (done ms : List model.Found) → and_then (walk more h t v done ms) messages_of ≡ and_then (walk more h t w done ms) messages_of
+same_messages : (more h : ℕ) (t : Bool) (v w : List Range) (done ms : List model.FoundMessage) → and_then (walk more h t v done ms) messages_of ≡ and_then (walk more h t w done ms) messages_of
 same_messages zero h t v w done [] = refl
 same_messages (suc more) h t v w done [] = refl
 same_messages zero h t v w done (m ∷ ms) =
@@ -71,36 +71,36 @@ same_messages (suc more) h t v w done (m ∷ ms) =
     ]
 
 -- at the end the messages are there
-pub walk_done : (more h : ℕ) (t : Bool) (done : List model.Found) → walk_rest more h t done [] ≡ ret (Ok done)
+pub walk_done : (more h : ℕ) (t : Bool) (done : List model.FoundMessage) → walk_rest more h t done [] ≡ ret (Ok done)
 unfolding walk_rest
 walk_done zero h t done = refl
 walk_done (suc more) h t done = refl
 
 -- any message but a continuation is passed
-pub walk_pass : (more h : ℕ) (t : Bool) (done ms : List model.Found) (m : model.Found) → (m.kind == 0x10) ≡ false → walk_rest more h t done (m ∷ ms) ≡ walk_rest more h t (done ++ m ∷ []) ms
+pub walk_pass : (more h : ℕ) (t : Bool) (done ms : List model.FoundMessage) (m : model.FoundMessage) → (m.kind == 0x10) ≡ false → walk_rest more h t done (m ∷ ms) ≡ walk_rest more h t (done ++ m ∷ []) ms
 unfolding walk_rest
 walk_pass zero h t done ms m e = rw e refl
 walk_pass (suc more) h t done ms m e = rw e refl
 
 -- no block more may come
-pub walk_full : (h : ℕ) (t : Bool) (done ms : List model.Found) (m : model.Found) → m.kind ≡ 16 → walk_rest 0 h t done (m ∷ ms) ≡ ret (Err (Header h Continuations))
+pub walk_full : (h : ℕ) (t : Bool) (done ms : List model.FoundMessage) (m : model.FoundMessage) → m.kind ≡ 16 → walk_rest 0 h t done (m ∷ ms) ≡ ret (Err (Header h Continuations))
 unfolding walk_rest
 walk_full h t done ms m e = rw e refl
 
 -- a block that is too short
-pub walk_small : (more h : ℕ) (t : Bool) (done ms : List model.Found) (m : model.Found) (p l : ℕ) → m.kind ≡ 16 → 0 < more → p ≡ block_place m → l ≡ block_len m → l < 8
+pub walk_small : (more h : ℕ) (t : Bool) (done ms : List model.FoundMessage) (m : model.FoundMessage) (p l : ℕ) → m.kind ≡ 16 → 0 < more → p ≡ block_place m → l ≡ block_len m → l < 8
     → walk_rest more h t done (m ∷ ms) ≡ ret (Err (Damaged p (Cut 8 l)))
 unfolding walk_rest
 walk_small zero h t done ms m p l e some at len small = absurd (omega arith)
 walk_small (suc more) h t done ms m p l e some at len small = let k : block_len m < 8 = omega arith in rw (e, lt-ltb (block_len m) 8 k, at, len) refl
 
-plain_entered : (more h : ℕ) (t : Bool) (v : List Range) (p l : ℕ) (done ms : List model.Found) (r : Result (List model.Found) ReadError)
-    → plain (and_then (entered more h t v done ms r) messages_of) ≡ elim r as (λ _. Prog (Result (List model.Found) ReadError)) [ Ok inside ↦ walk_rest more h t done (inside ++ ms) | Err e ↦ ret (Err e) ]
+plain_entered : (more h : ℕ) (t : Bool) (v : List Range) (p l : ℕ) (done ms : List model.FoundMessage) (r : Result (List model.FoundMessage) ReadError)
+    → plain (and_then (entered more h t v done ms r) messages_of) ≡ elim r as (λ _. Prog (Result (List model.FoundMessage) ReadError)) [ Ok inside ↦ walk_rest more h t done (inside ++ ms) | Err e ↦ ret (Err e) ]
 unfolding walk_rest
 plain_entered more h t v p l done ms (Ok inside) = ap plain (same_messages more h t v [] done (inside ++ ms))
 plain_entered more h t v p l done ms (Err e) = refl
 
-enter_suc : (more h : ℕ) (t : Bool) (done ms : List model.Found) (m : model.Found) → m.kind ≡ 16 → 8 ≤ block_len m
+enter_suc : (more h : ℕ) (t : Bool) (done ms : List model.FoundMessage) (m : model.FoundMessage) → m.kind ≡ 16 → 8 ≤ block_len m
     → walk_rest (suc more) h t done (m ∷ ms) ≡ bind (cut_behind [] (block_place m) (block_len m)) (block_rest more h t done ms (block_place m) (block_len m))
 unfolding walk_rest block_rest
 enter_suc more h t done ms m e long =
@@ -111,7 +111,7 @@ enter_suc more h t done ms m e long =
     ∙ cut_up_is p l (λ b. elim (block_messages t p l b) [ Ok inside ↦ walk_rest more h t done (inside ++ ms) | Err e ↦ ret (Err e) ]))
 
 -- a block is looked at, and what it holds comes before the other messages
-pub walk_enter : (more less h : ℕ) (t : Bool) (done ms : List model.Found) (m : model.Found) (p l : ℕ) → m.kind ≡ 16 → 0 < more → less ≡ more - 1 → p ≡ block_place m → l ≡ block_len m → 8 ≤ l
+pub walk_enter : (more less h : ℕ) (t : Bool) (done ms : List model.FoundMessage) (m : model.FoundMessage) (p l : ℕ) → m.kind ≡ 16 → 0 < more → less ≡ more - 1 → p ≡ block_place m → l ≡ block_len m → 8 ≤ l
     → walk_rest more h t done (m ∷ ms) ≡ bind (cut_behind [] p l) (block_rest less h t done ms p l)
 walk_enter more less h t done ms m p l e some down at len long =
     let n : more ≡ suc less = omega arith in
@@ -119,16 +119,16 @@ walk_enter more less h t done ms m p l e some down at len long =
     rw (n, at, len) (enter_suc less h t done ms m e k)
 
 -- a message that is no continuation goes to those that were visited
-pub go_step : (more h : ℕ) (t : Bool) (done next left : List Found) (m : Found) → next ≡ left ++ m ∷ [] → (m.kind ≡ 16 → ⊥)
+pub go_step : (more h : ℕ) (t : Bool) (done next left : List FoundMessage) (m : FoundMessage) → next ≡ left ++ m ∷ [] → (m.kind ≡ 16 → ⊥)
     → walk_rest more h t (founds (done ++ m ∷ [])) (stack left) ≡ walk_rest more h t (founds done) (stack next)
 go_step more h t done next left m e other =
     rw (e, founds_push, stack_push) (sym (walk_pass more h t (founds done) (stack left) (found_of m) (ne_eqb m.kind 16 other)))
 
-pub go_visit : (more h : ℕ) (t : Bool) (done next left : List Found) (m : Found) → next ≡ left ++ m ∷ []
+pub go_visit : (more h : ℕ) (t : Bool) (done next left : List FoundMessage) (m : FoundMessage) → next ≡ left ++ m ∷ []
     → walk_rest more h t (founds done) (found_of m ∷ stack left) ≡ walk_rest more h t (founds done) (stack next)
 go_visit more h t done next left m e = rw (e, stack_push) refl
 
-pub go_end : (more h : ℕ) (t : Bool) (done next left : List Found) → next ≡ [] → ret (Ok (founds done)) ≡ walk_rest more h t (founds done) (stack next)
+pub go_end : (more h : ℕ) (t : Bool) (done next left : List FoundMessage) → next ≡ [] → ret (Ok (founds done)) ≡ walk_rest more h t (founds done) (stack next)
 go_end more h t done next left e = rw e (sym (walk_done more h t (founds done)))
 
 -- ---- A block
@@ -142,7 +142,7 @@ pub gives_err : (r said : Result (List Msg) HeaderError) (f : HeaderError) → (
 gives_err r said f (inl e) h other = sym e ∙ h
 gives_err r said f (inr e) h other = let k : f ≡ header_errors.OutOfMemory = cc in absurd (other k)
 
-resume : (more h : ℕ) (t : Bool) (done ms : List model.Found) → Result (List model.Found) ReadError → Prog (Result (List model.Found) ReadError)
+resume : (more h : ℕ) (t : Bool) (done ms : List model.FoundMessage) → Result (List model.FoundMessage) ReadError → Prog (Result (List model.FoundMessage) ReadError)
 resume more h t done ms r = elim r [ Ok inside ↦ walk_rest more h t done (inside ++ ms) | Err e ↦ ret (Err e) ]
 
 said_cut : (t : Bool) (place len : ℕ) (b : List ℕ) → length b < len → block_messages t place len b ≡ Err (Damaged place (Cut len (length b)))
@@ -154,16 +154,16 @@ said_ok t place len b inside long e = rw (le-ltb (length b) len long, e) refl
 said_err : (t : Bool) (place len : ℕ) (b : List ℕ) (f : HeaderError) → len ≤ length b → block_at t b ≡ Err f → block_messages t place len b ≡ Err (header_refusal place f)
 said_err t place len b f long e = rw (le-ltb (length b) len long, e) refl
 
-pub block_cut : (more h : ℕ) (t : Bool) (done ms : List model.Found) (place len : ℕ) (b : List ℕ) → length b < len → block_rest more h t done ms place len b ≡ ret (Err (Damaged place (Cut len (length b))))
+pub block_cut : (more h : ℕ) (t : Bool) (done ms : List model.FoundMessage) (place len : ℕ) (b : List ℕ) → length b < len → block_rest more h t done ms place len b ≡ ret (Err (Damaged place (Cut len (length b))))
 unfolding block_rest resume
 block_cut more h t done ms place len b short = ap (resume more h t done ms) (said_cut t place len b short)
 
-pub block_read : (more h : ℕ) (t : Bool) (done ms : List model.Found) (place len : ℕ) (b : List ℕ) (inside : List Msg) → len ≤ length b → block_at t b ≡ Ok inside
+pub block_read : (more h : ℕ) (t : Bool) (done ms : List model.FoundMessage) (place len : ℕ) (b : List ℕ) (inside : List Msg) → len ≤ length b → block_at t b ≡ Ok inside
     → block_rest more h t done ms place len b ≡ walk_rest more h t done (found_at place false inside ++ ms)
 unfolding block_rest resume
 block_read more h t done ms place len b inside long e = ap (resume more h t done ms) (said_ok t place len b inside long e)
 
-pub block_refused : (more h : ℕ) (t : Bool) (done ms : List model.Found) (place len : ℕ) (b : List ℕ) (f : HeaderError) → len ≤ length b → block_at t b ≡ Err f
+pub block_refused : (more h : ℕ) (t : Bool) (done ms : List model.FoundMessage) (place len : ℕ) (b : List ℕ) (f : HeaderError) → len ≤ length b → block_at t b ≡ Err f
     → block_rest more h t done ms place len b ≡ ret (Err (header_refusal place f))
 unfolding block_rest resume
 block_refused more h t done ms place len b f long e = ap (resume more h t done ms) (said_err t place len b f long e)
@@ -178,23 +178,23 @@ pub fed_whole : {A : Type 0} (g : Gather) (bytes b : List ℕ) (f : List ℕ →
 fed_whole g bytes b f e = ap (λ p. bind p f) e ∙ sym (fed_gather g.place g.rest g.got.items b f g.more)
 
 -- a header whose messages are read, or refused
-abbrev chunk_given : ℕ → Prefix → Result (List Msg) HeaderError → Prog (Result (List model.Found) ReadError)
+abbrev chunk_given : ℕ → Prefix → Result (List Msg) HeaderError → Prog (Result (List model.FoundMessage) ReadError)
 chunk_given place p r = plain (and_then (elim r as (λ _. Prog (Result HeaderFields ReadError)) [
   | Ok ms ↦ walk 32 place p.tracked (record { place = place; len = p.total } ∷ []) [] (found_at place true ms)
   | Err e ↦ ret (Err (header_refusal place e))
 ]) messages_of)
 
-pub chunk_ok : (place : ℕ) (p : Prefix) (b : List ℕ) (ms : List Msg) → messages_at b ≡ Ok ms → chunk_rest place p b ≡ walk_rest 32 place p.tracked [] (found_at place true ms)
-unfolding chunk_rest walk_rest
+pub chunk_ok : (place : ℕ) (p : Prefix) (b : List ℕ) (ms : List Msg) → messages_at b ≡ Ok ms → chunk_0_rest place p b ≡ walk_rest 32 place p.tracked [] (found_at place true ms)
+unfolding chunk_0_rest walk_rest
 chunk_ok place p b ms e = ap (chunk_given place p) e ∙ ap plain (same_messages 32 place p.tracked (record { place = place; len = p.total } ∷ []) [] [] (found_at place true ms))
 
-pub chunk_err : (place : ℕ) (p : Prefix) (b : List ℕ) (f : HeaderError) → messages_at b ≡ Err f → chunk_rest place p b ≡ ret (Err (header_refusal place f))
-unfolding chunk_rest
+pub chunk_err : (place : ℕ) (p : Prefix) (b : List ℕ) (f : HeaderError) → messages_at b ≡ Err f → chunk_0_rest place p b ≡ ret (Err (header_refusal place f))
+unfolding chunk_0_rest
 chunk_err place p b f e = ap (chunk_given place p) e
 
 -- what a look asks for is what is left of its block
-pub fits_gather : {A : Type 0} (g : Gather) (f : List ℕ → Prog A) (n : ℕ) → Fits (next_look (bind (gathering g) f)) n → n ≤ min 512 g.rest
-fits_gather g f n h = subst (λ l. Fits l n) (wants_gather g.place g.rest (min 512 g.rest) g.got.items f g.more refl) h
+pub fits_gather : {A : Type 0} (g : Gather) (f : List ℕ → Prog A) (n : ℕ) → IsWithinLook (next_look (bind (gathering g) f)) n → n ≤ min 512 g.rest
+fits_gather g f n h = subst (λ l. IsWithinLook l n) (wants_gather g.place g.rest (min 512 g.rest) g.got.items f g.more refl) h
 
 pub empty : {A : Type 0} (xs : List A) → length xs ≡ 0 → xs ≡ []
 empty [] e = refl

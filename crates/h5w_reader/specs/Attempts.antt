@@ -70,7 +70,7 @@ looked_up g (looked_up_by.Refused e) = ret (Err e)
 looked_up g (looked_up_by.Looks l) = looking_up g l
 
 -- given the messages of the dataset header
-unfoldable pub described_rest : CallRules → List model.Found → Prog (Result Reading ReadError)
+unfoldable pub described_rest : CallRules → List model.FoundMessage → Prog (Result Reading ReadError)
 described_rest g ms =
     with_store (and_then (ret (refused_as Unsupported (described ms))) (λ d.
     and_then (ret (not_shrunk (rows_seen g.known) d)) (λ d.

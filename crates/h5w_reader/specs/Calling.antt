@@ -29,7 +29,7 @@ use Rattle.h5w_reader.specs.declared.stage.Came.TheVariants as came_by
 -- ---- The dataset header's place
 
 -- a message as links are read from
-abbrev pub listed : model.Found → Msg
+abbrev pub listed : model.FoundMessage → Msg
 listed m = record { kind = m.kind; flags = m.flags; at = m.place; body = m.body }
 
 -- a link's refusal, unless memory was wanting
@@ -38,7 +38,7 @@ link_refusal link_errors.OutOfMemory = read_errors.OutOfMemory
 link_refusal e = read_errors.Link e
 
 -- given the messages of the root header
-unfoldable pub place_rest : ℕ → List ℕ → Option Reading → List model.Found → Prog (Result Reading ReadError)
+unfoldable pub place_rest : ℕ → List ℕ → Option Reading → List model.FoundMessage → Prog (Result Reading ReadError)
 place_rest most name known ms = elim (linked name ms) [ Ok at ↦ rows_call (rules_of (record { attempts = most; place = at }) known) | Err e ↦ ret (Err e) ]
 
 -- ---- Behind the dataset header
@@ -48,7 +48,7 @@ unfoldable pub behind_rest : CallRules → List ℕ → Prog (Result Reading Rea
 behind_rest g v = lowered g.keeps [] (behind_header g v)
 
 -- its messages are known
-abbrev pub messages_rest : CallRules → Prog (Result (List model.Found) ReadError) → Prog (Result Reading ReadError)
+abbrev pub messages_rest : CallRules → Prog (Result (List model.FoundMessage) ReadError) → Prog (Result Reading ReadError)
 messages_rest g p = and_then p (described_rest g)
 
 abbrev pub behind_left : CallRules → Behind → Prog (Result Reading ReadError)

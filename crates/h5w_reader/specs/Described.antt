@@ -18,7 +18,7 @@ viewed_bytes (Ok b) = Ok b.now
 viewed_bytes (Err e) = Err e
 
 -- what the data of dataspace, datatype and layout say, with the fill of these messages
-abbrev pub decoded : List ℕ → List ℕ → List ℕ → List model.Found → Result Described Unsupported
+abbrev pub decoded : List ℕ → List ℕ → List ℕ → List model.FoundMessage → Result Described Unsupported
 decoded space datatype layout ms =
     then_also (shape_at space) (λ s.
     then_also (int_type_at datatype) (λ t.

@@ -1,13 +1,13 @@
 -- What is left of a block that is looked at in pieces.
 use Rattle.std.specs.Prelude.{◌≡◌, ℕ, ◌+◌, ◌/◌, ◌^◌, ◌≤◌, List, length}
-use Rattle.h5w_model.specs.Programs.{Prog, ret, pieces, below_end}
+use Rattle.h5w_model.specs.Programs.{Prog, ret, look_pieces, below_end}
 use Rattle.h5w_reader.specs.declared.gather.Gather.{Gather}
 use Rattle.h5w_reader.specs.declared.gather.Gathered.{Gathered}
 use Rattle.h5w_reader.specs.declared.gather.Gathered.TheVariants.{Whole, More}
 
 -- a range in pieces, put behind some bytes
 unfoldable pub gather_from : ℕ → ℕ → List ℕ → Prog (List ℕ)
-gather_from place rest got = pieces (rest / 512 + 1) place rest got ret
+gather_from place rest got = look_pieces (rest / 512 + 1) place rest got ret
 
 -- of it what stands below 2^64
 abbrev pub cut_behind : List ℕ → ℕ → ℕ → Prog (List ℕ)

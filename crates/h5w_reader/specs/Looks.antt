@@ -18,9 +18,9 @@ abbrev pub with_store : {A : Type 0} → Prog A → Prog A
 with_store p = lowered 16 [] p
 
 -- these many bytes are no more than the look asks for
-abbrev pub Fits : Option (ℕ × ℕ) → ℕ → Type 0
-Fits None n = ⊥
-Fits (Some look) n = n ≤ look.1
+abbrev pub IsWithinLook : Option (ℕ × ℕ) → ℕ → Type 0
+IsWithinLook None n = ⊥
+IsWithinLook (Some look) n = n ≤ look.1
 
 -- What counts of a look is no longer than it, unless chunk 0 is: then what counts says so too.
 abbrev pub FitsLook : Result Prefix HeaderError → Result Prefix HeaderError → ℕ → ℕ → Type 0

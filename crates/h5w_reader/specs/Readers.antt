@@ -81,8 +81,8 @@ IsRefused l e = (l ≡ Some (rows_left (ret (Err e)))) ⊎ (l ≡ Some (values_l
 
 -- What a step tells, where this is left of the call once the look's bytes are known: more is wanted of it, or it is the
 -- answer. A refusal, also that for want of memory, ends the call, and what was known stays.
-abbrev pub Told : Option Unfinished → Reader → Step → Reader → Type 0
-Told l old steps.More new = new ≡ with_left old l
-Told l old (steps.Rows n) new = IsRows l n old new
-Told l old (steps.Values vs) new = (l ≡ Some (values_left (ret (Ok vs)))) × (new ≡ with_left old None)
-Told l old (steps.Refused e) new = IsRefused l e × (new ≡ with_left old None)
+abbrev pub StepTells : Option Unfinished → Reader → Step → Reader → Type 0
+StepTells l old steps.More new = new ≡ with_left old l
+StepTells l old (steps.Rows n) new = IsRows l n old new
+StepTells l old (steps.Values vs) new = (l ≡ Some (values_left (ret (Ok vs)))) × (new ≡ with_left old None)
+StepTells l old (steps.Refused e) new = IsRefused l e × (new ≡ with_left old None)

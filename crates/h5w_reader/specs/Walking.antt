@@ -1,58 +1,58 @@
 -- What is left of a header whose messages are visited one after another.
 use Rattle.std.specs.Prelude.{ℕ, Bool, List, [], ◌++◌, map, reverse, Result, Ok, Err}
 use Rattle.h5w_model.specs.Programs.{Prog, ret, bind, and_then}
-use Rattle.h5w_model.specs.Datasets.{HeaderFields, walk, block_messages, from_chunk}
+use Rattle.h5w_model.specs.Datasets.{HeaderFields, walk, block_messages, from_chunk_0}
 use Rattle.h5w_model.specs.Datasets as model
 use Rattle.h5w_model.specs.declared.message.Prefix.{Prefix}
 use Rattle.h5w_model.specs.declared.refusal.ReadError.{ReadError}
 use Rattle.h5w_reader.specs.Looks.{plain}
 use Rattle.h5w_reader.specs.Gathering.{gathering}
-use Rattle.h5w_reader.specs.declared.found.Found.{Found}
+use Rattle.h5w_reader.specs.declared.found.FoundMessage.{FoundMessage}
 use Rattle.h5w_reader.specs.declared.walk.Walk.{Walk}
 use Rattle.h5w_reader.specs.declared.walk.Block.{Block}
 use Rattle.h5w_reader.specs.declared.walk.Walked.{Walked}
 use Rattle.h5w_reader.specs.declared.walk.Walked.TheVariants as walked_by
 
-abbrev pub found_of : Found → model.Found
-found_of f = record { kind = f.kind; flags = f.flags; place = f.place; body = f.body; in_chunk = f.in_chunk }
+abbrev pub found_of : FoundMessage → model.FoundMessage
+found_of f = record { kind = f.kind; flags = f.flags; place = f.place; body = f.body; in_chunk_0 = f.in_chunk_0 }
 
-abbrev pub founds : List Found → List model.Found
+abbrev pub founds : List FoundMessage → List model.FoundMessage
 founds fs = map found_of fs
 
 -- those that come next, the last of the list first
-abbrev pub stack : List Found → List model.Found
+abbrev pub stack : List FoundMessage → List model.FoundMessage
 stack fs = reverse (map found_of fs)
 
 -- a header's messages alone
-abbrev pub messages_of : HeaderFields → Prog (Result (List model.Found) ReadError)
+abbrev pub messages_of : HeaderFields → Prog (Result (List model.FoundMessage) ReadError)
 messages_of h = ret (Ok h.messages)
 
 -- the messages of a header, given all of its chunk 0
-unfoldable pub chunk_rest : ℕ → Prefix → List ℕ → Prog (Result (List model.Found) ReadError)
-chunk_rest place p b = plain (and_then (from_chunk place p b) messages_of)
+unfoldable pub chunk_0_rest : ℕ → Prefix → List ℕ → Prog (Result (List model.FoundMessage) ReadError)
+chunk_0_rest place p b = plain (and_then (from_chunk_0 place p b) messages_of)
 
 -- the messages from here on, with those that were found before
-unfoldable pub walk_rest : ℕ → ℕ → Bool → List model.Found → List model.Found → Prog (Result (List model.Found) ReadError)
+unfoldable pub walk_rest : ℕ → ℕ → Bool → List model.FoundMessage → List model.FoundMessage → Prog (Result (List model.FoundMessage) ReadError)
 walk_rest more header tracked done ms = plain (and_then (walk more header tracked [] done ms) messages_of)
 
 -- the same from a continuation block on, given its bytes
-unfoldable pub block_rest : ℕ → ℕ → Bool → List model.Found → List model.Found → ℕ → ℕ → List ℕ → Prog (Result (List model.Found) ReadError)
+unfoldable pub block_rest : ℕ → ℕ → Bool → List model.FoundMessage → List model.FoundMessage → ℕ → ℕ → List ℕ → Prog (Result (List model.FoundMessage) ReadError)
 block_rest more header tracked done ms place len b =
     elim (block_messages tracked place len b) [
       | Ok inside ↦ walk_rest more header tracked done (inside ++ ms)
       | Err e ↦ ret (Err e)
     ]
 
-abbrev pub walk_left : Walk → Prog (Result (List model.Found) ReadError)
+abbrev pub walk_left : Walk → Prog (Result (List model.FoundMessage) ReadError)
 walk_left w = walk_rest w.more w.header w.tracked (founds w.done.items) (stack w.next.items)
 
-abbrev pub block_left : Walk → ℕ → ℕ → List ℕ → Prog (Result (List model.Found) ReadError)
+abbrev pub block_left : Walk → ℕ → ℕ → List ℕ → Prog (Result (List model.FoundMessage) ReadError)
 block_left w place len b = block_rest w.more w.header w.tracked (founds w.done.items) (stack w.next.items) place len b
 
-abbrev pub walking : Block → Prog (Result (List model.Found) ReadError)
+abbrev pub walking : Block → Prog (Result (List model.FoundMessage) ReadError)
 walking b = bind (gathering b.gather) (block_left b.walk b.gather.start b.len)
 
-abbrev pub walked : Walked → Prog (Result (List model.Found) ReadError)
+abbrev pub walked : Walked → Prog (Result (List model.FoundMessage) ReadError)
 walked (walked_by.Done fs) = ret (Ok (founds fs.items))
 walked (walked_by.Refused e) = ret (Err e)
 walked (walked_by.Visit b) = walking b

@@ -92,7 +92,7 @@ impl Reached {
 impl Behind {
     ghost use Rattle.h5w_model.specs.Calls.{CallRules};
     ghost use Rattle.h5w_model.specs.Programs.{next_look, fed};
-    ghost use Rattle.h5w_reader.specs.Looks.{look_of, Fits};
+    ghost use Rattle.h5w_reader.specs.Looks.{look_of, IsWithinLook};
     ghost use Rattle.h5w_reader.specs.Calling.{behind_left, reached};
 
     /// The next look.
@@ -116,7 +116,7 @@ impl Behind {
         known: &Option<Known>,
         piece: &Piece,
     ) -> Result<Reached, OutOfMemory>
-        requires { Fits (next_look (behind_left (rules_of rules.now (known_of known.now)) self)) (length piece.now) }
+        requires { IsWithinLook (next_look (behind_left (rules_of rules.now (known_of known.now)) self)) (length piece.now) }
         ensures { IfOk result (λ r. reached (rules_of rules.now (known_of known.now)) r ≡ fed piece.now (behind_left (rules_of rules.now (known_of known.now)) self)) }
     {
         match self {

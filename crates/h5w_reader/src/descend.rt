@@ -5,7 +5,7 @@ ghost use Rattle.h5w_model.specs.Calls.{CallRules};
 ghost use Rattle.h5w_model.specs.Tables.{needed};
 ghost use Rattle.h5w_reader.specs.Attempts.{known_of, rules_of};
 ghost use Rattle.h5w_reader.specs.Described.{described_of};
-ghost use Rattle.h5w_reader.specs.Looks.{look_of, Fits};
+ghost use Rattle.h5w_reader.specs.Looks.{look_of, IsWithinLook};
 ghost use Rattle.h5w_reader.specs.Seeking.{next_rest, wait_at, wait_given, wait_rest};
 ghost use Rattle.h5w_reader.specs.Sought.{sought};
 ghost use Rattle.h5w_reader.specs.Stores.{kept};
@@ -212,7 +212,7 @@ impl Waiting {
         known: &Option<Known>,
         piece: &Piece,
     ) -> Result<Descended, OutOfMemory>
-        requires { Fits (next_look (waiting (rules_of rules.now (known_of known.now)) self)) (length piece.now) }
+        requires { IsWithinLook (next_look (waiting (rules_of rules.now (known_of known.now)) self)) (length piece.now) }
         ensures { IfOk result (λ d. descended (rules_of rules.now (known_of known.now)) d ≡ fed piece.now (waiting (rules_of rules.now (known_of known.now)) self)) }
     {
         let Waiting {

@@ -12,7 +12,7 @@ ghost use Rattle.h5w_reader.specs.Walking.{founds};
 ghost use Rattle.h5w_reader.specs.Described.{described_of, decoded, viewed_bytes};
 
 use crate::dataset::Dataset;
-use crate::found::Found;
+use crate::found::FoundMessage;
 use h5w_layout::{Fill, Layout};
 use h5w_model::Unsupported;
 use h5w_types::{IntType, Shape};
@@ -32,7 +32,7 @@ const FILTERS: u8 = 0x0b;
 const SHARED: u8 = 2;
 
 /// The first message of a type.
-fn first(found: &[Found], kind: u8) -> Option<&Found>
+fn first(found: &[FoundMessage], kind: u8) -> Option<&FoundMessage>
     ensures { option_copied result ≡ find (λ m. m.kind == kind) found.now }
 {
     found.iter().find(|m| m.kind == kind)
@@ -40,7 +40,7 @@ fn first(found: &[Found], kind: u8) -> Option<&Found>
 
 /// Whether the data of the first message of a type stand elsewhere.
 #[tactic(auto, using(crate::proofs::DescribedLemmas::first_found))]
-fn is_shared(found: &[Found], kind: u8) -> bool
+fn is_shared(found: &[FoundMessage], kind: u8) -> bool
     ensures { result ≡ is_shared (first_of kind (founds found.now)) }
 {
     match first(found, kind) {
@@ -51,7 +51,7 @@ fn is_shared(found: &[Found], kind: u8) -> bool
 
 /// The data of the first message of a type.
 #[tactic(auto, using(crate::proofs::DescribedLemmas::first_found))]
-fn body(found: &[Found], kind: u8) -> Option<&[u8]>
+fn body(found: &[FoundMessage], kind: u8) -> Option<&[u8]>
     ensures { option_map {U = List ℕ} (λ b. b.now) result ≡ body_of kind (founds found.now) }
 {
     match first(found, kind) {
@@ -62,17 +62,17 @@ fn body(found: &[Found], kind: u8) -> Option<&[u8]>
 
 /// The data of the first dataspace message, which stands in chunk 0.
 #[tactic(auto, using(crate::proofs::DescribedLemmas::first_found))]
-fn dataspace(found: &[Found]) -> Result<&[u8], Unsupported>
+fn dataspace(found: &[FoundMessage]) -> Result<&[u8], Unsupported>
     ensures { viewed_bytes result ≡ dataspace_of (founds found.now) }
 {
     match first(found, DATASPACE) {
-        Some(m) if m.in_chunk => Ok(m.body.as_slice()),
+        Some(m) if m.in_chunk_0 => Ok(m.body.as_slice()),
         _ => Err(Unsupported(4)),
     }
 }
 
 /// The data of the first message of a type that has to be there.
-fn required(found: &[Found], kind: u8) -> Result<&[u8], Unsupported>
+fn required(found: &[FoundMessage], kind: u8) -> Result<&[u8], Unsupported>
     ensures { viewed_bytes result ≡ or_refuse (body_of kind (founds found.now)) (record { 0 = 4 }) }
 {
     match body(found, kind) {
@@ -83,7 +83,7 @@ fn required(found: &[Found], kind: u8) -> Result<&[u8], Unsupported>
 
 /// Whether the chunks are filtered.
 #[tactic(auto, using(crate::proofs::DescribedLemmas::any_found))]
-fn is_filtered(found: &[Found]) -> bool
+fn is_filtered(found: &[FoundMessage]) -> bool
     ensures { result ≡ list_any (λ m. m.kind == 0x0b) (founds found.now) }
 {
     match first(found, FILTERS) {
@@ -93,7 +93,7 @@ fn is_filtered(found: &[Found]) -> bool
 }
 
 /// What cells are before they are written: 0 without a fill value message.
-fn fill(found: &[Found], t: &IntType) -> Result<Fill, Unsupported>
+fn fill(found: &[FoundMessage], t: &IntType) -> Result<Fill, Unsupported>
     requires { IsIntType (int_type_of t.now) }
     ensures exact { viewed fill_of result ≡ model.fill_of (founds found.now) (int_type_of t.now) }
     ensures sized { IfOk result (λ f. ForSome f.value (λ c. c.size ≡ t.now.size)) }
@@ -109,7 +109,7 @@ fn decode(
     space: &[u8],
     datatype: &[u8],
     layout: &[u8],
-    found: &[Found],
+    found: &[FoundMessage],
 ) -> Result<Dataset, Unsupported>
     ensures { viewed described_of result ≡ decoded space.now datatype.now layout.now (founds found.now) }
 {
@@ -126,7 +126,7 @@ fn decode(
 }
 
 /// What these messages say of a dataset, or the least number of what is unsupported.
-pub fn describe(found: &[Found]) -> Result<Dataset, Unsupported>
+pub fn describe(found: &[FoundMessage]) -> Result<Dataset, Unsupported>
     ensures { viewed described_of result ≡ described (founds found.now) }
 {
     if is_filtered(found) {

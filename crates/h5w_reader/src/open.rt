@@ -2,7 +2,7 @@
 ghost use Rattle.std.specs.Prelude.{◌≡◌, ◌+◌, ◌<◌, ◌≤◌, ◌^◌, min, length, Some, Ok, IfOk};
 ghost use Rattle.h5w_model.specs.Datasets.{super_of};
 
-use crate::found::Found;
+use crate::found::FoundMessage;
 use crate::gather::{Gather, Gathered};
 use crate::look::{Look, look_at};
 use crate::refusal::{header_refusal, super_refusal};
@@ -30,7 +30,7 @@ pub enum Opening {
 #[derive(Drop)]
 pub enum Opened {
     /// The messages of the root header.
-    Found(Vec<Found>),
+    Found(Vec<FoundMessage>),
     Refused(ReadError),
     Looks(Opening),
 }
@@ -51,7 +51,7 @@ fn read_super(bytes: &[u8]) -> Result<Super, ReadError>
 
 impl Opened {
     ghost use Rattle.h5w_reader.specs.Opening.{opened, first_rest};
-    ghost use Rattle.h5w_reader.specs.Walking.{walked, chunk_rest};
+    ghost use Rattle.h5w_reader.specs.Walking.{walked, chunk_0_rest};
 
     /// What the visit of the root header's messages comes to.
     fn of(w: Walked) -> Opened
@@ -89,7 +89,7 @@ impl Opened {
 
 impl Opening {
     ghost use Rattle.h5w_model.specs.Programs.{next_look, fed};
-    ghost use Rattle.h5w_reader.specs.Looks.{look_of, Fits};
+    ghost use Rattle.h5w_reader.specs.Looks.{look_of, IsWithinLook};
     ghost use Rattle.h5w_reader.specs.Opening.{opening, opened, root_messages};
 
     /// From the superblock on.
@@ -115,7 +115,7 @@ impl Opening {
 
     /// Goes on with the piece that the look gave.
     pub fn feed(self, alloc: Global, piece: &Piece) -> Result<Opened, OutOfMemory>
-        requires { Fits (next_look (opening self)) (length piece.now) }
+        requires { IsWithinLook (next_look (opening self)) (length piece.now) }
         ensures { IfOk result (λ o. opened o ≡ fed piece.now (opening self)) }
     {
         match self {

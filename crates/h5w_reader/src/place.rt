@@ -4,7 +4,7 @@ ghost use Rattle.h5w_model.specs.Datasets.{linked};
 ghost use Rattle.h5w_reader.specs.Walking.{founds};
 ghost use Rattle.h5w_reader.specs.Calling.{listed, link_refusal};
 
-use crate::found::Found;
+use crate::found::FoundMessage;
 use h5w_links::{find, links};
 use h5w_model::{LinkError, Msg, OutOfMemory, ReadError};
 use h5w_ohdr::Msgs;
@@ -12,7 +12,7 @@ use std::alloc::Global;
 
 /// The messages as links are read from, each with its place in the image.
 #[tactic(auto, using(crate::proofs::PlaceLemmas::listed_founds))]
-fn listed(alloc: Global, found: Vec<Found>) -> Result<Msgs, OutOfMemory>
+fn listed(alloc: Global, found: Vec<FoundMessage>) -> Result<Msgs, OutOfMemory>
     ensures { IfOk result (λ msgs. msgs ≡ map listed (founds found.items)) }
 {
     let msgs: Vec<Msg> = found
@@ -38,7 +38,7 @@ fn link_refusal(error: LinkError) -> ReadError
 }
 
 /// The place that the root's link of this name gives.
-pub fn place_of(alloc: Global, found: Vec<Found>, name: &[u8]) -> Result<u64, ReadError>
+pub fn place_of(alloc: Global, found: Vec<FoundMessage>, name: &[u8]) -> Result<u64, ReadError>
     ensures { (result ≡ linked name.now (founds found.items)) ⊎ (result ≡ Err ReadError.OutOfMemory) }
 {
     let Ok(msgs) = listed(alloc, found) else {

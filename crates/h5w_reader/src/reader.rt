@@ -2,8 +2,8 @@
 ghost use Rattle.std.specs.Prelude.{◌≡◌, ◌≢◌, ℕ, ◌+◌, ◌≤◌, ◌^◌, length, Some, None, IsSome, IfOk, IfErr, IfSome, OnOk, OnErr, MatchOption, option_map};
 ghost use Rattle.h5w_model.specs.Calls.{rows_seen};
 ghost use Rattle.h5w_model.specs.Unfinished.{rows_left, values_left, fed_left, rows_program, values_program, wanted, with_left};
-ghost use Rattle.h5w_reader.specs.Looks.{look_of, Fits};
-ghost use Rattle.h5w_reader.specs.Readers.{BegunRead, IsRefusedRead, Told, begin_refusal, read_refusal, new_reader, reader_rules, reads_left, valued_left};
+ghost use Rattle.h5w_reader.specs.Looks.{look_of, IsWithinLook};
+ghost use Rattle.h5w_reader.specs.Readers.{BegunRead, IsRefusedRead, StepTells, begin_refusal, read_refusal, new_reader, reader_rules, reads_left, valued_left};
 ghost use Rattle.h5w_reader.specs.declared.call.Call.TheVariants as calls;
 ghost use Rattle.h5w_reader.specs.declared.values.Reads.{Reads};
 ghost use Rattle.h5w_reader.specs.declared.step.ReadBegin.{ReadBegin};
@@ -41,7 +41,7 @@ fn feed_read(
     reads: Reads,
     piece: &Piece,
 ) -> Result<Valued, OutOfMemory>
-    requires { Fits (wanted (reads_left known.now reads)) (length piece.now) }
+    requires { IsWithinLook (wanted (reads_left known.now reads)) (length piece.now) }
     ensures { IfOk result (λ v. valued_left known.now v ≡ option_map (fed_left piece.now) (reads_left known.now reads)) }
 {
     match known {
@@ -148,8 +148,8 @@ impl ReaderCore {
 
     /// Goes on with the piece that the wanted look gave.
     fn go_on(&mut self, piece: &Piece) -> Step
-        requires { Fits (wanted (reader self.old).left) (length piece.now) }
-        ensures told { Told (option_map (fed_left piece.now) (reader self.old).left) (reader self.old) result (reader self.new) }
+        requires { IsWithinLook (wanted (reader self.old).left) (length piece.now) }
+        ensures told { StepTells (option_map (fed_left piece.now) (reader self.old).left) (reader self.old) result (reader self.new) }
         ensures wanting { result ≡ steps.More → IsSome (wanted (reader self.new).left) }
     {
         let name = self.name.as_slice();
@@ -195,8 +195,8 @@ impl ReaderCore {
 
     /// Goes on with the piece that the wanted look gave.
     pub fn give(&mut self, piece: &Piece) -> Step
-        requires { Fits (wanted (reader self.old).left) (length piece.now) }
-        ensures told { Told (option_map (fed_left piece.now) (reader self.old).left) (reader self.old) result (reader self.new) }
+        requires { IsWithinLook (wanted (reader self.old).left) (length piece.now) }
+        ensures told { StepTells (option_map (fed_left piece.now) (reader self.old).left) (reader self.old) result (reader self.new) }
         ensures wanting { result ≡ steps.More → IsSome (wanted (reader self.new).left) }
         ensures asked { (asks : Asks) (look : model.Look) → Asked (reader self.old) asks → IsWanted (wanted (reader self.old).left) piece.now look → Asked (reader self.new) (looking look result (reader self.new).known asks) }
     {

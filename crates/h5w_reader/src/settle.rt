@@ -4,7 +4,7 @@ ghost use Rattle.h5w_reader.specs.Walking.{founds};
 ghost use Rattle.h5w_reader.specs.Attempts.{known_of, looked_up, described_rest, rules_of};
 
 use crate::describe::describe;
-use crate::found::Found;
+use crate::found::FoundMessage;
 use crate::known::{Known, Rules};
 use crate::recall::rows_seen;
 use crate::table::LookedUp;
@@ -17,7 +17,7 @@ pub fn settle(
     alloc: Global,
     rules: &Rules,
     known: &Option<Known>,
-    found: &[Found],
+    found: &[FoundMessage],
 ) -> Result<LookedUp, OutOfMemory>
     ensures { IfOk result (λ l. looked_up (rules_of rules.now (known_of known.now)) l ≡ described_rest (rules_of rules.now (known_of known.now)) (founds found.now)) }
 {

@@ -10,7 +10,7 @@ ghost use Rattle.h5w_reader.specs.Described.{described_of};
 ghost use Rattle.h5w_reader.specs.Seen.{IsHeaderOf};
 
 use crate::behind::{Behind, Reached};
-use crate::found::Found;
+use crate::found::FoundMessage;
 use crate::header::{again, cut_header, is_same, view_at};
 use crate::idle::is_idle;
 use crate::known::{Known, Rules};
@@ -157,7 +157,7 @@ impl Came {
         alloc: Global,
         attempts: u32,
         name: &[u8],
-        found: Vec<Found>,
+        found: Vec<FoundMessage>,
     ) -> Result<Came, OutOfMemory>
         ensures { (known : Option Reading) → IfOk result (λ c. came attempts name.now known c ≡ place_rest attempts name.now known (founds found.items)) }
     {
@@ -208,7 +208,7 @@ impl Stage {
     ghost use Rattle.h5w_model.specs.Calls.{open_call, rows_call};
     ghost use Rattle.h5w_reader.specs.Attempts.{reader_limits};
     ghost use Rattle.h5w_model.specs.Programs.{next_look, fed};
-    ghost use Rattle.h5w_reader.specs.Looks.{look_of, Fits};
+    ghost use Rattle.h5w_reader.specs.Looks.{look_of, IsWithinLook};
     ghost use Rattle.h5w_reader.specs.Calling.{stage_left, came, place_rest};
     ghost use Rattle.h5w_reader.specs.Walking.{founds};
 
@@ -251,7 +251,7 @@ impl Stage {
         known: &Option<Known>,
         piece: &Piece,
     ) -> Result<Came, OutOfMemory>
-        requires { Fits (next_look (stage_left attempts name.now (known_of known.now) self)) (length piece.now) }
+        requires { IsWithinLook (next_look (stage_left attempts name.now (known_of known.now) self)) (length piece.now) }
         ensures { IfOk result (λ c. came attempts name.now (known_of known.now) c ≡ fed piece.now (stage_left attempts name.now (known_of known.now) self)) }
     {
         match self {

@@ -191,7 +191,7 @@ impl LookedUp {
 impl Lookup {
     ghost use Rattle.h5w_model.specs.Calls.{CallRules};
     ghost use Rattle.h5w_model.specs.Programs.{next_look, fed};
-    ghost use Rattle.h5w_reader.specs.Looks.{look_of, Fits};
+    ghost use Rattle.h5w_reader.specs.Looks.{look_of, IsWithinLook};
     ghost use Rattle.h5w_reader.specs.Attempts.{known_of, rules_of, looking_up, looked_up};
 
     /// The next look.
@@ -215,7 +215,7 @@ impl Lookup {
         known: &Option<Known>,
         piece: &Piece,
     ) -> Result<LookedUp, OutOfMemory>
-        requires { Fits (next_look (looking_up (rules_of rules.now (known_of known.now)) self)) (length piece.now) }
+        requires { IsWithinLook (next_look (looking_up (rules_of rules.now (known_of known.now)) self)) (length piece.now) }
         ensures { IfOk result (λ l. looked_up (rules_of rules.now (known_of known.now)) l ≡ fed piece.now (looking_up (rules_of rules.now (known_of known.now)) self)) }
     {
         match self {

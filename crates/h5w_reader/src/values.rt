@@ -217,12 +217,12 @@ impl Goes {
 
 impl Ranged {
     ghost use Rattle.h5w_model.specs.Programs.{next_look, fed};
-    ghost use Rattle.h5w_reader.specs.Looks.{Fits};
+    ghost use Rattle.h5w_reader.specs.Looks.{IsWithinLook};
     ghost use Rattle.h5w_reader.specs.Values.{range_values, valued};
 
     /// Goes on with the piece that the look gave.
     fn feed(self, alloc: Global, known: &Known, piece: &Piece) -> Result<Valued, OutOfMemory>
-        requires { Fits (next_look (range_values known.now self)) (length piece.now) }
+        requires { IsWithinLook (next_look (range_values known.now self)) (length piece.now) }
         ensures { IfOk result (λ v. valued known.now v ≡ fed piece.now (range_values known.now self)) }
     {
         let Ranged {
@@ -246,7 +246,7 @@ impl Ranged {
 
 impl Reads {
     ghost use Rattle.h5w_model.specs.Programs.{next_look, fed};
-    ghost use Rattle.h5w_reader.specs.Looks.{look_of, Fits};
+    ghost use Rattle.h5w_reader.specs.Looks.{look_of, IsWithinLook};
     ghost use Rattle.h5w_reader.specs.Values.{reading_values, valued};
 
     /// The next look.
@@ -264,7 +264,7 @@ impl Reads {
 
     /// Goes on with the piece that the look gave.
     pub fn feed(self, alloc: Global, known: &Known, piece: &Piece) -> Result<Valued, OutOfMemory>
-        requires { Fits (next_look (reading_values known.now self)) (length piece.now) }
+        requires { IsWithinLook (next_look (reading_values known.now self)) (length piece.now) }
         ensures { IfOk result (λ v. valued known.now v ≡ fed piece.now (reading_values known.now self)) }
     {
         match self {

@@ -1,7 +1,7 @@
 //! The messages of a header and of its continuation blocks, visited in order.
 ghost use Rattle.std.specs.Prelude.{◌≡◌, ◌+◌, ◌-◌, ◌<◌, ◌≤◌, ◌^◌, ◌∷◌, length, Some, IfOk};
 
-use crate::found::Found;
+use crate::found::FoundMessage;
 use crate::gather::{Gather, Gathered};
 use crate::look::Look;
 use crate::refusal::header_refusal;
@@ -30,9 +30,9 @@ pub struct Walk {
     /// How many continuation blocks may still come.
     pub more: u8,
     /// The messages that were visited.
-    pub done: Vec<Found>,
+    pub done: Vec<FoundMessage>,
     /// The messages that come next, the last of all first.
-    pub next: Vec<Found>,
+    pub next: Vec<FoundMessage>,
 }
 
 /// A visit that waits for a continuation block.
@@ -48,7 +48,7 @@ pub struct Block {
 #[derive(Drop)]
 pub enum Walked {
     /// All messages, in order.
-    Done(Vec<Found>),
+    Done(Vec<FoundMessage>),
     Refused(ReadError),
     /// A block is to be looked at first.
     Visit(Block),
@@ -56,12 +56,12 @@ pub enum Walked {
 
 impl Walk {
     ghost use Rattle.h5w_model.specs.Headers.{block_at, messages_at};
-    ghost use Rattle.h5w_reader.specs.Walking.{walked, walk_left, walk_rest, block_left, chunk_rest, found_of, founds, stack};
+    ghost use Rattle.h5w_reader.specs.Walking.{walked, walk_left, walk_rest, block_left, chunk_0_rest, found_of, founds, stack};
 
     /// Begins with the messages of chunk 0 of the header at `place`, of which these bytes were found.
     pub fn start(alloc: Global, place: u64, p: &Prefix, bytes: &[u8]) -> Result<Walked, OutOfMemory>
         requires { place + length bytes.now ≤ 2 ^ 64 }
-        ensures { IfOk result (λ w. walked w ≡ chunk_rest place p.now bytes.now) }
+        ensures { IfOk result (λ w. walked w ≡ chunk_0_rest place p.now bytes.now) }
     {
         let got = bytes.len();
         match messages(alloc, bytes) {
@@ -109,7 +109,7 @@ impl Walk {
     }
 
     /// Goes on at a continuation message.
-    fn visit(self, alloc: Global, m: &Found) -> Walked
+    fn visit(self, alloc: Global, m: &FoundMessage) -> Walked
         requires { m.now.kind ≡ 16 }
         ensures { walked result ≡ walk_rest self.more self.header self.tracked (founds self.done.items) (found_of m.now ∷ stack self.next.items) }
     {
@@ -183,7 +183,7 @@ impl Walk {
 
 impl Block {
     ghost use Rattle.h5w_model.specs.Programs.{next_look, fed};
-    ghost use Rattle.h5w_reader.specs.Looks.{look_of, Fits};
+    ghost use Rattle.h5w_reader.specs.Looks.{look_of, IsWithinLook};
     ghost use Rattle.h5w_reader.specs.Walking.{walked, walking};
 
     /// The next look.
@@ -198,7 +198,7 @@ impl Block {
 
     /// Goes on with the piece that the look gave.
     pub fn feed(self, alloc: Global, piece: &Piece) -> Result<Walked, OutOfMemory>
-        requires { Fits (next_look (walking self)) (length piece.now) }
+        requires { IsWithinLook (next_look (walking self)) (length piece.now) }
         ensures { IfOk result (λ w. walked w ≡ fed piece.now (walking self)) }
     {
         let Block { walk, len, gather } = self;

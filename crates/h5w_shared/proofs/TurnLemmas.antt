@@ -13,7 +13,7 @@ use Rattle.h5w_image.specs.Memory.{MemView}
 use Rattle.h5w_shared.specs.declared.table.Knowledge.{Knowledge}
 use Rattle.h5w_shared.specs.declared.table.Stage.{Stage}
 use Rattle.h5w_shared.specs.declared.table.Stage.TheVariants.{Idle, Waiting, Serving}
-use Rattle.h5w_shared.specs.Turns.{Apart, Current, Found, InStage, Knows, Placed, Returned, Ruled, Sat, Sound, StartsWith, State', after_draw, drawn, ended, finished, informed, last_ticket, looked, newcomer, opening, serving_with, spent, ticket_of, told}
+use Rattle.h5w_shared.specs.Turns.{Apart, Current, FoundStore, InStage, Knows, Placed, Returned, Ruled, Sat, Sound, StartsWith, State', after_draw, drawn, ended, finished, informed, last_ticket, looked, newcomer, opening, serving_with, spent, ticket_of, told}
 use Rattle.h5w_shared.proofs.Beginnings.{starts_itself, starts_same, starts_nothing, starts_both, starts_shorter}
 
 off : false ≡ true → ⊥
@@ -230,7 +230,7 @@ at_home start s r id t v at waits now (inr (j, u, atj, serves, out)) =
     let same : u ≡ v = same_view s.views id u v (subst (λ (i : ℕ). get_elem? s.views i ≡ some u) one atj) at in
     let clash : Serving r.serving ≡ Waiting t = sym serves ∙ (ap (λ (z : Knowledge). z.stage) same ∙ waits) in absurd (cc clash)
 
-found_store : (start : List ℕ) (s : State') (r : Ruled start s) (id : ℕ) (v : Knowledge) → v.spent ≡ false → get_elem? s.views id ≡ some v → Found v r.store
+found_store : (start : List ℕ) (s : State') (r : Ruled start s) (id : ℕ) (v : Knowledge) → v.spent ≡ false → get_elem? s.views id ≡ some v → FoundStore v r.store
 found_store start s r id v there at =
     let k = r.knows id v at in record {
       sound = r.sound;
@@ -243,7 +243,7 @@ looks_goes : (start : List ℕ) (s : State') (r : Ruled start s) (id t : ℕ) (v
     → get_elem? s.views id ≡ some v → (hit : Bool) → (r.serving == t) ≡ hit
     → (w : Knowledge) × (a : Act (Option MemView)) × Valid s.homes c a
     × Ruled start (stepped s 1 (slice_index s.words 1) id c w a)
-    × MatchBool hit ((x : MemView) × Found v x × (sat w (carried_after c a) ≡ sat (serving_with t x v) ((0, Some x) ∷ c))) (sat w (carried_after c a) ≡ sat v c)
+    × MatchBool hit ((x : MemView) × FoundStore v x × (sat w (carried_after c a) ≡ sat (serving_with t x v) ((0, Some x) ∷ c))) (sat w (carried_after c a) ≡ sat v c)
 looks_goes start s r id t v c there waits size at true is =
     let now : r.serving ≡ t = grind (arith, nat_tests) in (
       serving_with t r.store v,
@@ -272,7 +272,7 @@ looks start n id t v c one there waits s r size at low =
       goes.3,
       λ u waits'.
           let same : t ≡ u = (let e : Waiting t ≡ Waiting u = sym waits ∙ waits' in cc e) in
-          subst (λ (z : ℕ × ℕ). MatchBool (z.1 == z.0) ((x : MemView) × Found v x × (sat goes.0 (carried_after c goes.1) ≡ sat (serving_with z.0 x v) ((0, Some x) ∷ c))) (sat goes.0 (carried_after c goes.1) ≡ sat v c))
+          subst (λ (z : ℕ × ℕ). MatchBool (z.1 == z.0) ((x : MemView) × FoundStore v x × (sat goes.0 (carried_after c goes.1) ≡ sat (serving_with z.0 x v) ((0, Some x) ∷ c))) (sat goes.0 (carried_after c goes.1) ≡ sat v c))
           (λ i. (same i, sym is i)) goes.4,
     )
 
@@ -492,17 +492,17 @@ joins start id other v w idle idle' s r at apart at' =
 
 -- what a look at the served ticket told the seat that waits
 pub saw_turn : (n : ℕ) (m old m' : Sat) (seen t : ℕ) → looked (step n 1 0 0 none) m seen m' → m ≡ old → old.0.stage ≡ Waiting t → old.1 ≡ [] → seen ≡ t
-    → (x : MemView) × Found old.0 x × (m' ≡ sat (serving_with t x old.0) ((0, Some x) ∷ []))
+    → (x : MemView) × FoundStore old.0 x × (m' ≡ sat (serving_with t x old.0) ((0, Some x) ∷ []))
 saw_turn n m old m' seen t says same waits bare is =
-    let tells : MatchBool (seen == t) ((x : MemView) × Found old.0 x × (m' ≡ sat (serving_with t x old.0) ((0, Some x) ∷ old.1))) (m' ≡ old) =
+    let tells : MatchBool (seen == t) ((x : MemView) × FoundStore old.0 x × (m' ≡ sat (serving_with t x old.0) ((0, Some x) ∷ old.1))) (m' ≡ old) =
     subst (λ (z : Sat). looked (step n 1 0 0 none) z seen m') same says t waits in
     let yes : (seen == t) ≡ true = grind (arith, nat_tests, is) in
-    let got = subst (λ (b : Bool). MatchBool b ((x : MemView) × Found old.0 x × (m' ≡ sat (serving_with t x old.0) ((0, Some x) ∷ old.1))) (m' ≡ old)) yes tells in
+    let got = subst (λ (b : Bool). MatchBool b ((x : MemView) × FoundStore old.0 x × (m' ≡ sat (serving_with t x old.0) ((0, Some x) ∷ old.1))) (m' ≡ old)) yes tells in
     (got.0, got.1, got.2 ∙ ap (λ (c : List (ℕ × Option MemView)). sat (serving_with t got.0 old.0) ((0, Some got.0) ∷ c)) bare)
 
 pub saw_none : (n : ℕ) (m old m' : Sat) (seen t : ℕ) → looked (step n 1 0 0 none) m seen m' → m ≡ old → old.0.stage ≡ Waiting t → (seen ≡ t → ⊥) → m' ≡ old
 saw_none n m old m' seen t says same waits not =
-    let tells : MatchBool (seen == t) ((x : MemView) × Found old.0 x × (m' ≡ sat (serving_with t x old.0) ((0, Some x) ∷ old.1))) (m' ≡ old) =
+    let tells : MatchBool (seen == t) ((x : MemView) × FoundStore old.0 x × (m' ≡ sat (serving_with t x old.0) ((0, Some x) ∷ old.1))) (m' ≡ old) =
     subst (λ (z : Sat). looked (step n 1 0 0 none) z seen m') same says t waits in
     let no : (seen == t) ≡ false = grind (arith, nat_tests, not) in
-    subst (λ (b : Bool). MatchBool b ((x : MemView) × Found old.0 x × (m' ≡ sat (serving_with t x old.0) ((0, Some x) ∷ old.1))) (m' ≡ old)) no tells
+    subst (λ (b : Bool). MatchBool b ((x : MemView) × FoundStore old.0 x × (m' ≡ sat (serving_with t x old.0) ((0, Some x) ∷ old.1))) (m' ≡ old)) no tells

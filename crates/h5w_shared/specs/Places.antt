@@ -6,7 +6,7 @@ use Rattle.atomic_table.specs.Seated.{TableId}
 use Rattle.h5w_shared.specs.declared.table.Knowledge.{Knowledge}
 use Rattle.h5w_shared.specs.declared.table.Stage.TheVariants.{Idle, Waiting}
 use Rattle.h5w_shared.specs.declared.place.Place.{Place}
-use Rattle.h5w_shared.specs.Turns.{Found, StartsWith, finished, informed, last_ticket, newcomer, serving_with}
+use Rattle.h5w_shared.specs.Turns.{FoundStore, StartsWith, finished, informed, last_ticket, newcomer, serving_with}
 
 -- the seat is at this table, which has two words and one slot
 abbrev pub IsAt : TableId → Place → Type 0
@@ -52,7 +52,7 @@ pub record Turn (p q : Place) (x : MemView) : Type 0 where
   pub ticket : ℕ
   pub me : q.seat.me ≡ (serving_with ticket x p.seat.me.0, (0, None) ∷ [])
   pub worn : q.worn ≡ p.worn
-  pub found : Found p.seat.me.0 x
+  pub found : FoundStore p.seat.me.0 x
   pub seen : q.seen ≡ p.seen
   pub faults : q.faults ≡ p.faults
   pub counts : Counts q

@@ -131,7 +131,7 @@ abbrev pub serving_with : ℕ → MemView → Knowledge → Knowledge
 serving_with t x v = record v { stage = Serving t; seen = x.history; pieces = x.pieces; end = x.end }
 
 -- the store as a seat finds it: what was seen begins its pieces, and a writer finds what it left
-pub record Found (v : Knowledge) (x : MemView) : Type 0 where
+pub record FoundStore (v : Knowledge) (x : MemView) : Type 0 where
   pub sound : Sound x
   pub begun : x.start ≡ v.start
   pub grown : StartsWith x.history v.seen
@@ -140,7 +140,7 @@ pub record Found (v : Knowledge) (x : MemView) : Type 0 where
 abbrev pub looked : At → Sat → ℕ → Sat → Type 0
 looked st m found m' =
     (t : ℕ) → m.0.stage ≡ Waiting t
-    → MatchBool (found == t) ((x : MemView) × Found m.0 x × (m' ≡ (serving_with t x m.0, (0, Some x) ∷ m.1))) (m' ≡ m)
+    → MatchBool (found == t) ((x : MemView) × FoundStore m.0 x × (m' ≡ (serving_with t x m.0, (0, Some x) ∷ m.1))) (m' ≡ m)
 
 abbrev pub told : At → Sat → ℕ → Sat → Type 0
 told st m found m' = (m' ≡ m) × StartsWith m.0.seen m.0.told

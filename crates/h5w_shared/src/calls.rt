@@ -2,7 +2,7 @@
 ghost use Rattle.std.specs.Prelude.{◌≡◌, ◌≤◌, ◌-◌, ◌+◌, ◌++◌, ◌∷◌, [], max, true, length, Err, IfOk, OnOk, OnErr};
 ghost use Rattle.h5w_model.specs.Numbers.{range};
 ghost use Rattle.h5w_image.specs.Memory.{MemView};
-ghost use Rattle.h5w_shared.specs.Turns.{Found};
+ghost use Rattle.h5w_shared.specs.Turns.{FoundStore};
 ghost use Rattle.h5w_shared.specs.Places.{AtRest, Came, IsAt, Refused};
 
 use crate::place::Place;
@@ -25,7 +25,7 @@ impl Place {
         requires rest { AtRest self.old }
         requires table { IsAt shelf.now.table_id self.old }
         requires piece { len ≤ 512 }
-        ensures looked { OnOk result ((x : MemView) × Came self.old self.new x × Found self.old.seat.me.0 x × (out.new ≡ range x.bytes at len)) }
+        ensures looked { OnOk result ((x : MemView) × Came self.old self.new x × FoundStore self.old.seat.me.0 x × (out.new ≡ range x.bytes at len)) }
         ensures bound { OnOk result (length out.new ≤ len) }
         ensures refused { OnErr result (Refused self.old self.new × (out.new ≡ out.old)) }
     {
@@ -64,7 +64,7 @@ impl Place {
         requires writes { self.old.seat.me.0.writes ≡ true }
         ensures room { OnOk result ((x : MemView) × Came self.old self.new x × (x.history ≡ self.old.seat.me.0.seen) × (x.pieces ≡ max self.old.seat.me.0.pieces pieces) × (x.end ≡ max self.old.seat.me.0.end end)) }
         ensures refused { result ≡ Err ImageError.Failed → Refused self.old self.new }
-        ensures memory { result ≡ Err ImageError.OutOfMemory → (x : MemView) × Came self.old self.new x × Found self.old.seat.me.0 x }
+        ensures memory { result ≡ Err ImageError.OutOfMemory → (x : MemView) × Came self.old self.new x × FoundStore self.old.seat.me.0 x }
     {
         let mut store = self.turn(rt, shelf)?;
         let room = store.reserve(pieces, end);
@@ -81,9 +81,9 @@ impl Place {
     ) -> Result<Journal, ImageError>
         requires rest { AtRest self.old }
         requires table { IsAt shelf.now.table_id self.old }
-        ensures copied { IfOk result (λ j. (x : MemView) × Came self.old self.new x × Found self.old.seat.me.0 x × (j.writes ≡ x.history)) }
+        ensures copied { IfOk result (λ j. (x : MemView) × Came self.old self.new x × FoundStore self.old.seat.me.0 x × (j.writes ≡ x.history)) }
         ensures refused { result ≡ Err ImageError.Failed → Refused self.old self.new }
-        ensures memory { result ≡ Err ImageError.OutOfMemory → (x : MemView) × Came self.old self.new x × Found self.old.seat.me.0 x }
+        ensures memory { result ≡ Err ImageError.OutOfMemory → (x : MemView) × Came self.old self.new x × FoundStore self.old.seat.me.0 x }
     {
         let store = self.turn(rt, shelf)?;
         let copy = copied(alloc, store.journal());

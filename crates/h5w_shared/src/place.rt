@@ -1,7 +1,7 @@
 //! A seat at the table with what it counts, and the turns that it takes.
 ghost use Rattle.std.specs.Prelude.{◌≡◌, ◌<◌, ◌∷◌, [], ℕ, false, true, IfOk, IfSome, IfNone, OnErr, None, Some};
 ghost use Rattle.h5w_shared.specs.declared.table.Stage.TheVariants.{Serving, Waiting};
-ghost use Rattle.h5w_shared.specs.Turns.{Found, Returned, finished, serving_with};
+ghost use Rattle.h5w_shared.specs.Turns.{FoundStore, Returned, finished, serving_with};
 ghost use Rattle.h5w_shared.specs.Places.{AtRest, Counts, IsAt, Keeps, Met, Refused, Turn, Twin as TwinOf, Unchanged, Waits};
 
 use crate::table::{Both, Draw, End, Look, Shelf, Tell, Token, Twin};
@@ -142,7 +142,7 @@ fn wait<R: Wait>(rt: &R, shelf: &Shelf, seat: &mut Token, ticket: u64)
     requires there { seat.old.me.0.spent ≡ false }
     requires bare { seat.old.me.1 ≡ [] }
     ensures table { seat.new.table_id ≡ seat.old.table_id }
-    ensures served { (x : _) × Found seat.old.me.0 x × (seat.new.me ≡ (serving_with ticket x seat.old.me.0, (0, Some x) ∷ [])) }
+    ensures served { (x : _) × FoundStore seat.old.me.0 x × (seat.new.me ≡ (serving_with ticket x seat.old.me.0, (0, Some x) ∷ [])) }
 {
     for _ in rt.forever() {
         if shelf.load::<Look>(seat, SERVING) == ticket {

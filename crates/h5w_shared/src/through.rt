@@ -1,7 +1,7 @@
 ghost use Rattle.std.specs.Prelude.{◌≡◌, ◌≤◌, ◌-◌, ◌+◌, ◌++◌, ◌∷◌, [], ℕ, false, true, max, length, refl, OnOk, OnErr, Err};
 ghost use Rattle.h5w_model.specs.Numbers.{range};
 ghost use Rattle.h5w_model.specs.Causes.{Rose};
-ghost use Rattle.h5w_image.specs.View.{Looked, Same, Shows, Wrote};
+ghost use Rattle.h5w_image.specs.View.{Looked, Same, GivesRange, Wrote};
 ghost use Rattle.h5w_shared.specs.Turns.{StartsWith};
 ghost use Rattle.h5w_shared.specs.Seats.{FailedSeat, bytes_of, seen_through};
 

@@ -45,7 +45,7 @@ pub record TakesEnd (old new : Space) (r : Extent) : Type 0 where
   pub free : new.free ≡ old.free
 
 -- the range was taken: a free place of just its size, or where there is none the file's end
-pub record Takes (old new : Space) (r : Extent) : Type 0 where
+pub record TakesPlace (old new : Space) (r : Extent) : Type 0 where
   pub by : TakesFree old new r ⊎ TakesEnd old new r
   pub limit : new.limit ≡ old.limit
   pub retired : new.retired ≡ old.retired

@@ -8,7 +8,7 @@
 
 ghost use Rattle.std.specs.Prelude.{◌≡◌, ℕ, ◌+◌, ◌-◌, ◌<◌, ◌≤◌, ◌↔◌, ◌∷◌, ◌++◌, [], ◌&&◌, not, nat_lt, max, IsTrue, IfOk, IfErr, OnErr, is_err, vec_capacity};
 ghost use Rattle.std.specs.List.{All};
-ghost use Rattle.h5w_space.specs.Space.{Apart, Space, extent, has_size, IsLive, Takes, Commits};
+ghost use Rattle.h5w_space.specs.Space.{Apart, Space, extent, has_size, IsLive, TakesPlace, Commits};
 
 mod groups;
 
@@ -146,7 +146,7 @@ impl Places {
     ///
     /// Takes no memory, and as many steps as the free places have sizes.
     pub fn take(&mut self, size: u64) -> Result<u64, Full>
-        ensures taken { IfOk result (λ at. Takes self.old self.new (extent at size)) }
+        ensures taken { IfOk result (λ at. TakesPlace self.old self.new (extent at size)) }
         // It overlaps nothing that is live or retired, and is live from now on.
         ensures off_live { IfOk result (λ at. (r : Extent) → IsLive self.old r → Apart (extent at size) r) }
         ensures off_retired { IfOk result (λ at. All (Apart (extent at size)) self.old.retired) }

@@ -19,7 +19,7 @@ use Rattle.h5w_examples.specs.OneRowFiles.{six_of_ones}
 use Rattle.h5w_examples.specs.Readings.{described_by, piece_of, data_name}
 use Rattle.h5w_visits.specs.Ranges.{Among, block_at}
 use Rattle.h5w_steps.specs.Moments.{Moment, reading_of, all_used}
-use Rattle.h5w_steps.specs.Steps.{Step, unseen, ends, switches, commits, Commits, LiesIn, InChunk}
+use Rattle.h5w_steps.specs.Steps.{Step, unseen, ends, switches, commits, Commits, LiesIn, InChunk0}
 use Rattle.h5w_steps.specs.Logs.{Goes, image_now}
 use Rattle.h5w_steps.proofs.GoesLemmas.{event_goes, piece_goes}
 use Rattle.h5w_model.specs.Datasets.{Described}
@@ -42,7 +42,7 @@ lies_nowhere : (w : Write) (us : List Used) → ((u : Used) → Among u us → u
 lies_nowhere w us none l = none l.used l.among l.from l.to
 
 -- and not in chunk 0 of the dataset header
-first_is : (m : Moment) (w : Write) (i : InChunk m w) (u : Used) → m.header ≡ u ∷ [] → (u.place ≤ w.at) × (w.at + length w.piece ≤ u.place + u.len)
+first_is : (m : Moment) (w : Write) (i : InChunk0 m w) (u : Used) → m.header ≡ u ∷ [] → (u.place ≤ w.at) × (w.at + length w.piece ≤ u.place + u.len)
 first_is m w i u e =
     let same : i.first ≡ u = one i.first u i.continued (sym i.header_is ∙ e) in
     subst (λ (x : Used). (x.place ≤ w.at) × (w.at + length w.piece ≤ x.place + x.len)) same (i.from, i.to)

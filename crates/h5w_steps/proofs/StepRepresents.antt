@@ -16,7 +16,7 @@ use Rattle.h5w_visits.proofs.HeaderLaws.{root_tells, root_missed, header_tells, 
 use Rattle.h5w_visits.proofs.IndexLaws.{index_missed, index_by_end}
 use Rattle.h5w_visits.proofs.NeededLaws.{table_laws}
 use Rattle.h5w_steps.specs.Moments.{Moment, Represents, HasCells, all_used}
-use Rattle.h5w_steps.specs.Steps.{Unseen, Ends, LiesIn, Switches, InChunk, Commits, Step, unseen, ends, switches, commits}
+use Rattle.h5w_steps.specs.Steps.{Unseen, Ends, LiesIn, Switches, InChunk0, Commits, Step, unseen, ends, switches, commits}
 use Rattle.h5w_steps.proofs.PartLemmas.{apart_sym, disjoint_left, disjoint_right}
 use Rattle.h5w_steps.proofs.MomentLemmas.{super_parts, super_from, inside, header_of, few, table_of_file, cells_missed, lies_missed, all_missed, in_root, in_header, in_index, Parts, parts_of}
 
@@ -146,7 +146,7 @@ switches_represents img name m n w r s =
 -- ---- The dataset header
 
 -- a write in chunk 0 of the dataset header misses all else
-pub chunk_lies : (m : Moment) (w : Write) → InChunk m w → LiesIn w m.header
+pub chunk_lies : (m : Moment) (w : Write) → InChunk0 m w → LiesIn w m.header
 chunk_lies m w i = record { used = i.first; among = subst (λ (us : List Used). Among i.first us) (sym i.header_is) (inl refl); from = i.from; to = i.to }
 
 pub header_off : (m : Moment) (w : Write) → Disjoint (all_used m) → LiesIn w m.header → MissesEach w (the_superblock ∷ (m.root ++ (m.fixed ++ m.behind)))
@@ -166,7 +166,7 @@ header_off m w d l = lies_missed w m.header (the_superblock ∷ (m.root ++ (m.fi
     apart u v a (inr b) = others u v a (among_split v m.root (m.fixed ++ m.behind) b)
 
 -- and its continuation blocks
-pub continued_missed : (m : Moment) (w : Write) (i : InChunk m w) → Disjoint (all_used m) → MissesEach w i.continued
+pub continued_missed : (m : Moment) (w : Write) (i : InChunk0 m w) → Disjoint (all_used m) → MissesEach w i.continued
 continued_missed m w i d v a =
     let own : Disjoint m.header = disjoint_left m.header (m.fixed ++ m.behind) (disjoint_right m.root (m.header ++ (m.fixed ++ m.behind)) d.2) in
     let parts : Disjoint (i.first ∷ i.continued) = subst (λ (us : List Used). Disjoint us) i.header_is own in

@@ -52,10 +52,10 @@ BeginGoes = (name : List ℕ) (log : Log) (m : Moment) → log.first ≡ shown l
     → 0 < log.columns → m.dataset.shape.cols ≡ log.columns → PrefixedEach name log → Goes name log m m.behind
 
 -- what a log is that has come to a moment: valid, and read as its values
-pub record Found (img name : List ℕ) (m : Moment) : Type 0 where
+pub record ValidAndRead (img name : List ℕ) (m : Moment) : Type 0 where
   pub summary : Summary
   pub valid : Valid img name summary
   pub reads : Reads img name m.dataset.shape.rows m.dataset.shape.cols m.values
 
 abbrev pub MomentFound : Type 0
-MomentFound = (img name : List ℕ) (m : Moment) → Represents img name m → Found img name m
+MomentFound = (img name : List ℕ) (m : Moment) → Represents img name m → ValidAndRead img name m

@@ -52,7 +52,7 @@ pub record Switches (img : List ℕ) (m : Moment) (w : Write) (n : Moment) : Typ
       → NamesBlock img m.dataset.layout.address a → NamesBlock (apply w img) m.dataset.layout.address b → StaysDefined a b
 
 -- a write lies in chunk 0 of the dataset header
-pub record InChunk (m : Moment) (w : Write) : Type 0 where
+pub record InChunk0 (m : Moment) (w : Write) : Type 0 where
   pub first : Used
   pub continued : List Used
   pub header_is : m.header ≡ first ∷ continued
@@ -63,7 +63,7 @@ pub record InChunk (m : Moment) (w : Write) : Type 0 where
 pub record Commits (img : List ℕ) (m : Moment) (w : Write) (n : Moment) : Type 0 where
   pub more : List ℤ
   pub is : n ≡ record m { dataset = n.dataset; fixed = n.fixed; behind = n.behind; table = n.table; values = m.values ++ more }
-  pub inside : InChunk m w
+  pub inside : InChunk0 m w
   pub header : eval (apply w img) (checked_dataset format_limits m.super m.place) ≡ Ok (n.dataset, m.header)
   pub described : SameDescribed m.dataset n.dataset
   pub chunk_0 : SameHeader (header_view (range img m.place 512)) (header_view (range (apply w img) m.place 512)) m.dataset.layout.address

@@ -11,7 +11,7 @@ use Rattle.h5w_model.specs.declared.piece.Write.{Write}
 use Rattle.h5w_visits.specs.Ranges.{AllEndBy, Disjoint, blocks_of}
 use Rattle.h5w_visits.specs.Indexes.{behind_visit}
 use Rattle.h5w_steps.specs.Moments.{Moment, all_used, HasCells, Represents}
-use Rattle.h5w_steps.specs.Steps.{LiesIn, InChunk, OffAll, Clear, Step}
+use Rattle.h5w_steps.specs.Steps.{LiesIn, InChunk0, OffAll, Clear, Step}
 
 -- The block in place that is written will say `blocks`; what stands behind it stands there already, and gives the needed
 -- chunks that had an address the same. The blocks in place stay, and one more may come behind them: an index block that
@@ -34,7 +34,7 @@ pub record Naming (img : List ℕ) (m : Moment) (w : Write) (blocks : InPlace) (
 pub record Growing (img : List ℕ) (m : Moment) (w : Write) (n : Moment) : Type 0 where
   pub more : List ℤ
   pub is : n ≡ record m { dataset = n.dataset; table = n.table; values = m.values ++ more }
-  pub inside : InChunk m w
+  pub inside : InChunk0 m w
   pub header : eval (apply w img) (checked_dataset format_limits m.super m.place) ≡ Ok (n.dataset, m.header)
   pub chunk_0 : SameHeader (header_view (range img m.place 512)) (header_view (range (apply w img) m.place 512)) m.dataset.layout.address
   pub shape : n.dataset ≡ record (m.dataset) { shape = record (m.dataset.shape) { rows = n.dataset.shape.rows } }
@@ -47,7 +47,7 @@ pub record Growing (img : List ℕ) (m : Moment) (w : Write) (n : Moment) : Type
 pub record Starting (img : List ℕ) (m : Moment) (w : Write) (n : Moment) : Type 0 where
   pub more : List ℤ
   pub is : n ≡ record m { dataset = n.dataset; fixed = n.fixed; behind = n.behind; table = n.table; values = m.values ++ more }
-  pub inside : InChunk m w
+  pub inside : InChunk0 m w
   pub header : eval (apply w img) (checked_dataset format_limits m.super m.place) ≡ Ok (n.dataset, m.header)
   pub chunk_0 : SameHeader (header_view (range img m.place 512)) (header_view (range (apply w img) m.place 512)) m.dataset.layout.address
   pub undefined_before : m.dataset.layout.address ≡ undefined

@@ -4,8 +4,8 @@ use Rattle.std.specs.Prelude.{IfOk, IfSome, option_map, slice_range}
 use Rattle.std.proofs.lemmas.List.{append_assoc, append-nil, length-take-le, take_all, take-append-drop, drop-drop, drop-take, take-append-le}
 use Rattle.std.proofs.Math.Seq.{take-append_seam}
 use Rattle.h5w_text.specs.Streams.{SourceView, Took}
-use Rattle.h5w_text.specs.Reading.{Cut, Ended, Given, Gives, IntakeView, IsLast, IsLine, IsOver, Keeps, Passed, Reading, Stays, lines_left, reading}
-use Rattle.h5w_text.specs.declared.line.Line.{Line}
+use Rattle.h5w_text.specs.LinesAhead.{Cut, Ended, Given, NextGives, IntakeView, IsLast, IsLine, IsOver, Keeps, Passed, LinesAhead, Stays, lines_left, lines_ahead}
+use Rattle.h5w_text.specs.declared.line.TextLine.{TextLine}
 use Rattle.h5w_text.specs.declared.line.Next.{Next}
 use Rattle.h5w_text.specs.declared.line.Next.TheVariants as nexts
 use Rattle.h5w_text.specs.declared.line.Partial.{Partial}
@@ -35,7 +35,7 @@ lacks_append byte [] ys h k = k
 lacks_append byte (x ∷ xs) ys h k = (h.0, lacks_append byte xs ys h.1 k)
 
 -- the line under way has these bytes so far
-pub record Before (line : Partial) (v w : Reading) : Type 0 where
+pub record Before (line : Partial) (v w : LinesAhead) : Type 0 where
   pub front : List ℕ
   pub keeps : Keeps line front
   pub lacks : Lacks 10 front
@@ -49,16 +49,16 @@ both_left : (xs ys : List ℕ) (a b c : Option (List ℕ)) → a ≡ option_map 
 both_left xs ys a b None p q = p ∙ ap (option_map (λ rest. xs ++ rest)) q
 both_left xs ys a b (Some c) p q = p ∙ ap (option_map (λ rest. xs ++ rest)) q ∙ ap Some (sym (append_assoc xs ys c))
 
-pub stays_itself : (v : Reading) → Stays v v
+pub stays_itself : (v : LinesAhead) → Stays v v
 stays_itself v = record { limit = refl; faults = omega arith; through = refl }
 
-pub stays_twice : {u v w : Reading} → Stays u v → Stays v w → Stays u w
+pub stays_twice : {u v w : LinesAhead} → Stays u v → Stays v w → Stays u w
 stays_twice p q = record { limit = q.limit ∙ p.limit; faults = omega arith; through = q.through ∙ p.through }
 
-pub passed_nothing : (v : Reading) → Passed [] v v
+pub passed_nothing : (v : LinesAhead) → Passed [] v v
 passed_nothing v = record { left = same_left v.left; room = omega arith; stays = stays_itself v }
 
-pub passed_twice : {u v w : Reading} (xs ys : List ℕ) → Passed xs u v → Passed ys v w → Passed (xs ++ ys) u w
+pub passed_twice : {u v w : LinesAhead} (xs ys : List ℕ) → Passed xs u v → Passed ys v w → Passed (xs ++ ys) u w
 passed_twice {u} {v} {w} xs ys p q = record {
   left = both_left xs ys u.left v.left w.left p.left q.left;
   room = omega (arith, length-append xs ys);
@@ -70,7 +70,7 @@ left_of_pieces piece held None whole e = refl
 left_of_pieces piece held (Some s) whole e = ap (λ l. Some (l ++ s)) e ∙ ap Some (append_assoc piece held s)
 
 -- all that was held belongs to the line
-pub cut_open : (s : SourceView) (piece : List ℕ) (i j : IntakeView) → Cut piece false i j → Passed piece (reading s i) (reading s j)
+pub cut_open : (s : SourceView) (piece : List ℕ) (i j : IntakeView) → Cut piece false i j → Passed piece (lines_ahead s i) (lines_ahead s j)
 cut_open s piece i j c = let none : j.held ≡ [] = c.rest refl in
     let all : i.held ≡ piece ++ j.held = c.held ∙ sym (append-nil piece) ∙ ap (λ l. piece ++ l) (sym none) in record {
       left = left_of_pieces piece j.held s.left i.held all;
@@ -79,7 +79,7 @@ cut_open s piece i j c = let none : j.held ≡ [] = c.rest refl in
     }
 
 -- the line is ended, and its end was passed over
-pub cut_ended : (s : SourceView) (piece : List ℕ) (i j : IntakeView) → Cut piece true i j → Passed (piece ++ 10 ∷ []) (reading s i) (reading s j)
+pub cut_ended : (s : SourceView) (piece : List ℕ) (i j : IntakeView) → Cut piece true i j → Passed (piece ++ 10 ∷ []) (lines_ahead s i) (lines_ahead s j)
 cut_ended s piece i j c = let all : i.held ≡ (piece ++ 10 ∷ []) ++ j.held = c.held ∙ sym (append_assoc piece (10 ∷ []) j.held) in record {
   left = left_of_pieces (piece ++ 10 ∷ []) j.held s.left i.held all;
   room = omega (arith, ap length all, length-append (piece ++ 10 ∷ []) j.held, c.more);
@@ -104,7 +104,7 @@ last_within line room None h none = tt
 last_within line room (Some b) h none = λ over. absurd (omega (arith, over.0, length-append line b, ap length none))
 
 -- a line with its end was passed over
-pub given_whole : (line : List ℕ) (v w : Reading) → Lacks 10 line → Passed (line ++ 10 ∷ []) v w → Given line v w
+pub given_whole : (line : List ℕ) (v w : LinesAhead) → Lacks 10 line → Passed (line ++ 10 ∷ []) v w → Given line v w
 given_whole line v w h p = record {
   lines = ap (option_map lines_of) p.left ∙ lines_of_whole line w.left h;
   room = omega (arith, length-append line (10 ∷ []), p.room);
@@ -117,7 +117,7 @@ lines_of_last line None h e none = refl
 lines_of_last line (Some b) h e none = ap Some (ap (λ l. lines_of (line ++ l)) none ∙ ap lines_of (append-nil line) ∙ lines_lacks [] line h ∙ e ∙ ap (λ l. line ∷ lines_of l) (sym none))
 
 -- the last line has no end
-pub given_last : (line : List ℕ) (v w : Reading) → Lacks 10 line → last_line line ≡ line ∷ [] → Passed line v w → 1 ≤ length line → IfSome w.left (λ rest. rest ≡ []) → Given line v w
+pub given_last : (line : List ℕ) (v w : LinesAhead) → Lacks 10 line → last_line line ≡ line ∷ [] → Passed line v w → 1 ≤ length line → IfSome w.left (λ rest. rest ≡ []) → Given line v w
 given_last line v w h e p some none = record {
   lines = ap (option_map lines_of) p.left ∙ lines_of_last line w.left h e none;
   room = omega (arith, p.room);
@@ -130,7 +130,7 @@ over_left front room None e h some = tt
 over_left front room (Some b) e h some = rw e (omega (arith, length-append front b), rw (take-append_seam front b) h)
 
 -- no byte more may be taken, and there is one
-pub is_over : (front : List ℕ) (v w : Reading) → Lacks 10 front → Passed front v w → w.room ≡ 0 → IfSome w.left (λ rest. 1 ≤ length rest) → IsOver v
+pub is_over : (front : List ℕ) (v w : LinesAhead) → Lacks 10 front → Passed front v w → w.room ≡ 0 → IfSome w.left (λ rest. 1 ≤ length rest) → IsOver v
 is_over front v w h p full some = let P : Option (List ℕ) → Type 0 = λ b. IfSome b (λ left. (v.room < length left) × Lacks 10 (take v.room left)) in
     subst P (sym p.left) (over_left front v.room w.left (omega (arith, p.room)) h some)
 
@@ -144,7 +144,7 @@ left_of_filled : (bytes held new : List ℕ) (a b : Option (List ℕ)) → a ≡
 left_of_filled bytes held new a b p e f = ap (λ l. option_map (λ rest. l ++ rest) a) e ∙ sym (same_left a) ∙ p ∙ ap (λ l. option_map (λ rest. l ++ rest) b) (sym f) ∙ same_left (option_map (λ rest. new ++ rest) b)
 
 -- bytes were taken from the source where none were held
-pub filled : (s t : SourceView) (i : IntakeView) (buffer : List ℕ) (n more limit : ℕ) → Took (take n buffer) s t → i.held ≡ [] → n ≤ length buffer → n ≤ i.more → more ≡ i.more - n → limit ≡ i.limit → Passed [] (reading s i) (reading t (record { held = slice_range buffer 0 n; more = more; limit = limit }))
+pub filled : (s t : SourceView) (i : IntakeView) (buffer : List ℕ) (n more limit : ℕ) → Took (take n buffer) s t → i.held ≡ [] → n ≤ length buffer → n ≤ i.more → more ≡ i.more - n → limit ≡ i.limit → Passed [] (lines_ahead s i) (lines_ahead t (record { held = slice_range buffer 0 n; more = more; limit = limit }))
 filled s t i buffer n more limit took none bound within fewer same = record {
   left = left_of_filled (take n buffer) i.held (slice_range buffer 0 n) s.left t.left took.left none (slice_front buffer n);
   room = omega (arith, ap length none, ap length (slice_front buffer n), length-take-le n buffer bound);
@@ -198,23 +198,23 @@ nonempty : (xs : List ℕ) → last_line xs ≡ xs ∷ [] → 1 ≤ length xs
 nonempty [] e = absurd (omega (arith, ap length e))
 nonempty (x ∷ xs) e = omega arith
 
-passed_more : {u v w : Reading} (xs : List ℕ) → Passed xs u v → Passed [] v w → Passed xs u w
+passed_more : {u v w : LinesAhead} (xs : List ℕ) → Passed xs u v → Passed [] v w → Passed xs u w
 passed_more {u} {v} {w} xs p q = subst (λ (l : List ℕ). Passed l u w) (append-nil xs) (passed_twice xs [] p q)
 
-last_from : (line : Partial) (next : Next) (v u : Reading) (t : SourceView) (j : IntakeView) → Before line v u → Passed [] u (reading t j) → (j.held ≡ []) × IfSome t.left (λ rest. rest ≡ [])
-    → ((front : List ℕ) → Keeps line front → IsLast next front) → Gives next v (reading t j)
+last_from : (line : Partial) (next : Next) (v u : LinesAhead) (t : SourceView) (j : IntakeView) → Before line v u → Passed [] u (lines_ahead t j) → (j.held ≡ []) × IfSome t.left (λ rest. rest ≡ [])
+    → ((front : List ℕ) → Keeps line front → IsLast next front) → NextGives next v (lines_ahead t j)
 last_from line (nexts.Line l) v u t j b p none k = absurd (k b.front b.keeps)
-last_from line nexts.End v u t j b p none k = let now : IfSome (reading t j).left (λ l. l ≡ []) = none_mapped j.held t.left none.0 none.1 in record {
-  before = none_left b.front v.left (reading t j).left (passed_more b.front b.passed p).left (k b.front b.keeps) now;
+last_from line nexts.End v u t j b p none k = let now : IfSome (lines_ahead t j).left (λ l. l ≡ []) = none_mapped j.held t.left none.0 none.1 in record {
+  before = none_left b.front v.left (lines_ahead t j).left (passed_more b.front b.passed p).left (k b.front b.keeps) now;
   now = now;
 }
 last_from line (nexts.Last l) v u t j b p none k = let r = k b.front b.keeps in
-    let now : IfSome (reading t j).left (λ l. l ≡ []) = none_mapped j.held t.left none.0 none.1 in
-    (b.front, r.0, given_last b.front v (reading t j) b.lacks r.1 (passed_more b.front b.passed p) (nonempty b.front r.1) now, now)
+    let now : IfSome (lines_ahead t j).left (λ l. l ≡ []) = none_mapped j.held t.left none.0 none.1 in
+    (b.front, r.0, given_last b.front v (lines_ahead t j) b.lacks r.1 (passed_more b.front b.passed p) (nonempty b.front r.1) now, now)
 
 -- the input ends: what was kept is its last line
-pub last_of : (line : Partial) (next : Next) (more : Bool) (v u : Reading) (t : SourceView) (j : IntakeView) → Before line v u → Passed [] u (reading t j) → more ≡ false
-    → MatchBool more (1 ≤ length j.held) ((j.held ≡ []) × IfSome t.left (λ rest. rest ≡ [])) → ((front : List ℕ) → Keeps line front → IsLast next front) → Gives next v (reading t j)
+pub last_of : (line : Partial) (next : Next) (more : Bool) (v u : LinesAhead) (t : SourceView) (j : IntakeView) → Before line v u → Passed [] u (lines_ahead t j) → more ≡ false
+    → MatchBool more (1 ≤ length j.held) ((j.held ≡ []) × IfSome t.left (λ rest. rest ≡ [])) → ((front : List ℕ) → Keeps line front → IsLast next front) → NextGives next v (lines_ahead t j)
 last_of line next more v u t j b p is m k =
     last_from line next v u t j b p (subst (λ (e : Bool). MatchBool e (1 ≤ length j.held) ((j.held ≡ []) × IfSome t.left (λ rest. rest ≡ []))) is m) k
 
@@ -222,21 +222,21 @@ abbrev Advance : Partial → Partial → Bool → IntakeView → IntakeView → 
 Advance line kept ended j k = (piece : List ℕ) × Cut piece ended j k × ((front : List ℕ) → Keeps line front → Keeps kept (front ++ piece))
 
 -- the line is ended
-pub whole_of : (line kept : Partial) (l : Line) (ended : Bool) (v u : Reading) (t : SourceView) (j k : IntakeView) → Before line v u → Passed [] u (reading t j) → ended ≡ true → Advance line kept ended j k
-    → ((front : List ℕ) → Keeps kept front → IsLine l front) → Gives (nexts.Line l) v (reading t k)
+pub whole_of : (line kept : Partial) (l : TextLine) (ended : Bool) (v u : LinesAhead) (t : SourceView) (j k : IntakeView) → Before line v u → Passed [] u (lines_ahead t j) → ended ≡ true → Advance line kept ended j k
+    → ((front : List ℕ) → Keeps kept front → IsLine l front) → NextGives (nexts.Line l) v (lines_ahead t k)
 whole_of line kept l ended v u t j k b p is a finish =
     let cut : Cut a.0 true j k = subst (λ (e : Bool). Cut a.0 e j k) is a.1 in
-    let all : Passed (b.front ++ (a.0 ++ 10 ∷ [])) v (reading t k) = passed_twice b.front (a.0 ++ 10 ∷ []) (passed_more b.front b.passed p) (cut_ended t a.0 j k cut) in
+    let all : Passed (b.front ++ (a.0 ++ 10 ∷ [])) v (lines_ahead t k) = passed_twice b.front (a.0 ++ 10 ∷ []) (passed_more b.front b.passed p) (cut_ended t a.0 j k cut) in
     let lacks : Lacks 10 (b.front ++ a.0) = lacks_append 10 b.front a.0 b.lacks cut.lacks in
-    let passed : Passed ((b.front ++ a.0) ++ 10 ∷ []) v (reading t k) = subst (λ (x : List ℕ). Passed x v (reading t k)) (sym (append_assoc b.front a.0 (10 ∷ []))) all in (
+    let passed : Passed ((b.front ++ a.0) ++ 10 ∷ []) v (lines_ahead t k) = subst (λ (x : List ℕ). Passed x v (lines_ahead t k)) (sym (append_assoc b.front a.0 (10 ∷ []))) all in (
       b.front ++ a.0,
       finish (b.front ++ a.0) (a.2 b.front b.keeps),
-      given_whole (b.front ++ a.0) v (reading t k) lacks passed,
+      given_whole (b.front ++ a.0) v (lines_ahead t k) lacks passed,
       record { lacks = lacks; passed = passed },
     )
 
 -- the line goes on
-pub open_of : (line kept : Partial) (ended : Bool) (v u : Reading) (t : SourceView) (j k : IntakeView) → Before line v u → Passed [] u (reading t j) → ended ≡ false → Advance line kept ended j k → Before kept v (reading t k)
+pub open_of : (line kept : Partial) (ended : Bool) (v u : LinesAhead) (t : SourceView) (j k : IntakeView) → Before line v u → Passed [] u (lines_ahead t j) → ended ≡ false → Advance line kept ended j k → Before kept v (lines_ahead t k)
 open_of line kept ended v u t j k b p is a = let cut : Cut a.0 false j k = subst (λ (e : Bool). Cut a.0 e j k) is a.1 in record {
   front = b.front ++ a.0;
   keeps = a.2 b.front b.keeps;
@@ -253,9 +253,9 @@ done_cases given None h = tt
 done_cases given (Some l) h = ap (λ x. given ++ lines_of x) h ∙ append-nil given
 
 -- for a loop over the lines: those given so far and those that are left are all of them
-pub lines_more : (all : Option (List (List ℕ))) (given : List (List ℕ)) (line : List ℕ) (v w : Reading) → all ≡ option_map (λ ls. given ++ ls) (lines_left v) → Given line v w → all ≡ option_map (λ ls. (given ++ line ∷ []) ++ ls) (lines_left w)
+pub lines_more : (all : Option (List (List ℕ))) (given : List (List ℕ)) (line : List ℕ) (v w : LinesAhead) → all ≡ option_map (λ ls. given ++ ls) (lines_left v) → Given line v w → all ≡ option_map (λ ls. (given ++ line ∷ []) ++ ls) (lines_left w)
 lines_more all given line v w e g = e ∙ ap (option_map (λ ls. given ++ ls)) g.lines ∙ more_cases given line (lines_left w)
 
 -- at the end those given are all of them
-pub lines_done : (all : Option (List (List ℕ))) (given : List (List ℕ)) (v w : Reading) → all ≡ option_map (λ ls. given ++ ls) (lines_left v) → Ended v w → IfSome all (λ ls. ls ≡ given)
+pub lines_done : (all : Option (List (List ℕ))) (given : List (List ℕ)) (v w : LinesAhead) → all ≡ option_map (λ ls. given ++ ls) (lines_left v) → Ended v w → IfSome all (λ ls. ls ≡ given)
 lines_done all given v w e ended = subst (λ (o : Option (List (List ℕ))). IfSome o (λ ls. ls ≡ given)) (sym e) (done_cases given v.left ended.before)

@@ -9,4 +9,4 @@ pub mod Scripts
 pub mod Words
 pub mod Replies
 pub mod Errors
-pub mod Reading
+pub mod LinesAhead

@@ -1,7 +1,7 @@
 ghost use Rattle.std.specs.Prelude.{◌≡◌, ◌≤◌, ◌++◌, ◌+◌, ℕ, List, [], ◌∷◌, length, take, Ok, Err, IfOk, OnOk, OnErr, IfSome, MatchBool};
 ghost use Rattle.h5w_model.specs.Causes.{Rose};
 ghost use Rattle.h5w_text.specs.Streams.{Took};
-ghost use Rattle.h5w_text.specs.Reading.{Cut, Keeps, Passed, Stays, reading};
+ghost use Rattle.h5w_text.specs.LinesAhead.{Cut, Keeps, Passed, Stays, lines_ahead};
 
 use crate::line::{LineError, Partial};
 use crate::places::first_place;
@@ -26,7 +26,7 @@ pub struct Intake {
 
 impl Model for Intake {
     ghost use Rattle.std.specs.Prelude.{◌≤◌, slice_range, length};
-    ghost use Rattle.h5w_text.specs.Reading.{IntakeView};
+    ghost use Rattle.h5w_text.specs.LinesAhead.{IntakeView};
 
     ghost Value = { IntakeView };
 
@@ -101,11 +101,11 @@ impl Intake {
 
     /// Takes bytes from the source where none are held. False: the source is at its end.
     pub fn fill<S: Source>(&mut self, source: &mut S) -> Result<bool, LineError>
-        ensures stays { Stays (reading (S.view source.old) self.old) (reading (S.view source.new) self.new) }
-        ensures passed { IfOk result (λ more. Passed [] (reading (S.view source.old) self.old) (reading (S.view source.new) self.new)) }
+        ensures stays { Stays (lines_ahead (S.view source.old) self.old) (lines_ahead (S.view source.new) self.new) }
+        ensures passed { IfOk result (λ more. Passed [] (lines_ahead (S.view source.old) self.old) (lines_ahead (S.view source.new) self.new)) }
         ensures more { IfOk result (λ more. MatchBool more (1 ≤ length self.new.held) ((self.new.held ≡ []) × IfSome (S.view source.new).left (λ rest. rest ≡ []))) }
         ensures over { (limit : ℕ) → result ≡ Err (LineError.Input limit) → ((byte : ℕ) × Took (byte ∷ []) (S.view source.old) (S.view source.new)) × (self.new.held ≡ []) × (self.new.more ≡ 0) }
-        ensures failed { result ≡ Err LineError.Failed → Passed [] (reading (S.view source.old) self.old) (reading (S.view source.new) self.new) × (self.new.held ≡ []) }
+        ensures failed { result ≡ Err LineError.Failed → Passed [] (lines_ahead (S.view source.old) self.old) (lines_ahead (S.view source.new) self.new) × (self.new.held ≡ []) }
         ensures input { (limit : ℕ) → result ≡ Err (LineError.Input limit) → (limit ≡ self.old.limit) × (self.old.held ≡ []) × (self.old.more ≡ 0) × IfSome (S.view source.old).left (λ rest. 1 ≤ length rest) }
         ensures cause { result ≡ Err LineError.Failed → Rose (S.view source.old).faults (S.view source.new).faults }
     {

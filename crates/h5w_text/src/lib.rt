@@ -18,7 +18,7 @@ pub use error::{ErrorLine, write_error};
 pub use h5w_image::Failed;
 pub use h5w_model::{Bytes, OutOfMemory, Reply, Values};
 pub use intake::Intake;
-pub use line::{Line, LineError, Next};
+pub use line::{LineError, Next, TextLine};
 pub use lines::Lines;
 pub use memory::{MemSink, MemSource};
 pub use number::count;

@@ -8,7 +8,7 @@ use thiserror::Error;
 
 /// A line of an input, without the byte 0a that ends it.
 #[derive(Drop)]
-pub enum Line {
+pub enum TextLine {
     /// Its bytes, up to 65,536.
     Whole(Bytes),
     /// It has more bytes.
@@ -19,9 +19,9 @@ pub enum Line {
 #[derive(Drop)]
 pub enum Next {
     /// A line, which the byte 0a ends.
-    Line(Line),
+    Line(TextLine),
     /// The last line, which no byte 0a ends: the input ends behind it.
-    Last(Line),
+    Last(TextLine),
     /// No line: the input has ended.
     End,
 }
@@ -80,7 +80,7 @@ pub struct Partial {
 }
 
 impl Partial {
-    ghost use Rattle.h5w_text.specs.Reading.{IsLast, IsLine, Keeps};
+    ghost use Rattle.h5w_text.specs.LinesAhead.{IsLast, IsLine, Keeps};
 
     /// No bytes.
     pub fn new(alloc: Global) -> Partial
@@ -106,13 +106,13 @@ impl Partial {
     }
 
     /// The line that these bytes are.
-    pub fn finish(self) -> Line
+    pub fn finish(self) -> TextLine
         ensures { (front : List ℕ) → Keeps self front → IsLine result front }
     {
         if self.long {
-            Line::Long
+            TextLine::Long
         } else {
-            Line::Whole(Bytes::from_vec(self.bytes))
+            TextLine::Whole(Bytes::from_vec(self.bytes))
         }
     }
 

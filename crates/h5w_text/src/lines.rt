@@ -1,6 +1,6 @@
 ghost use Rattle.std.specs.Prelude.{◌≡◌, ℕ, Err, IfOk};
 ghost use Rattle.h5w_model.specs.Causes.{Rose};
-ghost use Rattle.h5w_text.specs.Reading.{GivenUp, GivenUpOver, Gives, IsOver, Stays, reading};
+ghost use Rattle.h5w_text.specs.LinesAhead.{GivenUp, GivenUpOver, NextGives, IsOver, Stays, lines_ahead};
 
 use crate::intake::Intake;
 use crate::line::{LineError, Next, Partial};
@@ -36,11 +36,11 @@ impl<'a, S: Source> Lines<'a, S> {
     /// line that begins here is given up. Input: this line is not ended within the limit; what was taken of it is
     /// given up, with the byte behind the limit. After want of memory it is not said where in the input it stands.
     pub fn next(&mut self) -> Result<Next, LineError>
-        ensures line { IfOk result (λ next. Gives next (reading (S.view self.old.source.now) self.old.intake.now) (reading (S.view self.new.source.now) self.new.intake.now)) }
-        ensures stays { Stays (reading (S.view self.old.source.now) self.old.intake.now) (reading (S.view self.new.source.now) self.new.intake.now) }
-        ensures input { (limit : ℕ) → result ≡ Err (LineError.Input limit) → (limit ≡ self.old.intake.now.limit) × IsOver (reading (S.view self.old.source.now) self.old.intake.now) }
-        ensures over { (limit : ℕ) → result ≡ Err (LineError.Input limit) → GivenUpOver (reading (S.view self.old.source.now) self.old.intake.now) (reading (S.view self.new.source.now) self.new.intake.now) self.new.intake.now.held }
-        ensures failed { result ≡ Err LineError.Failed → GivenUp (reading (S.view self.old.source.now) self.old.intake.now) (reading (S.view self.new.source.now) self.new.intake.now) self.new.intake.now.held }
+        ensures line { IfOk result (λ next. NextGives next (lines_ahead (S.view self.old.source.now) self.old.intake.now) (lines_ahead (S.view self.new.source.now) self.new.intake.now)) }
+        ensures stays { Stays (lines_ahead (S.view self.old.source.now) self.old.intake.now) (lines_ahead (S.view self.new.source.now) self.new.intake.now) }
+        ensures input { (limit : ℕ) → result ≡ Err (LineError.Input limit) → (limit ≡ self.old.intake.now.limit) × IsOver (lines_ahead (S.view self.old.source.now) self.old.intake.now) }
+        ensures over { (limit : ℕ) → result ≡ Err (LineError.Input limit) → GivenUpOver (lines_ahead (S.view self.old.source.now) self.old.intake.now) (lines_ahead (S.view self.new.source.now) self.new.intake.now) self.new.intake.now.held }
+        ensures failed { result ≡ Err LineError.Failed → GivenUp (lines_ahead (S.view self.old.source.now) self.old.intake.now) (lines_ahead (S.view self.new.source.now) self.new.intake.now) self.new.intake.now.held }
         ensures cause { result ≡ Err LineError.Failed → Rose (S.view self.old.source.now).faults (S.view self.new.source.now).faults }
         ensures same_reference { self.new.source.ghost_name ≡ self.old.source.ghost_name }
         ensures same_intake { self.new.intake.ghost_name ≡ self.old.intake.ghost_name }

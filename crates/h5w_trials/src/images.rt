@@ -85,13 +85,13 @@ fn all_values(
 
 /// Which values of an answer are told.
 #[derive(Clone, Copy)]
-enum Told {
+enum SixValues {
     First,
     Last,
 }
 
 /// What a reader finds: the rows and six of the values, or a refusal.
-fn found(alloc: Global, image: &[u8], told: Told) -> Result<String, Fail> {
+fn found(alloc: Global, image: &[u8], told: SixValues) -> Result<String, Fail> {
     let (mut reader, opened, _) = opened(alloc, image)?;
     let rows = match opened {
         Ok(rows) => rows,
@@ -100,14 +100,14 @@ fn found(alloc: Global, image: &[u8], told: Told) -> Result<String, Fail> {
     let values = all_values(alloc, &mut reader, image, rows)?;
     let values = values.as_slice();
     let six = match told {
-        Told::First => &values[..values.len().min(6)],
-        Told::Last => &values[values.len().saturating_sub(6)..],
+        SixValues::First => &values[..values.len().min(6)],
+        SixValues::Last => &values[values.len().saturating_sub(6)..],
     };
     Ok(format!(in alloc; "rows {rows} {six:?}")?)
 }
 
 /// Panics where a reader finds something else.
-fn check_image(rt: &(impl Abort + AllocGlobal), row: &str, six: Told) -> Result<(), Fail> {
+fn check_image(rt: &(impl Abort + AllocGlobal), row: &str, six: SixValues) -> Result<(), Fail> {
     let (name, told) = row.split_once('\n').ok_or("a name")?;
     let (words, wanted) = told.split_once("\n= ").ok_or("an answer")?;
     let image = image_of(rt.alloc(), words)?;
@@ -117,7 +117,7 @@ fn check_image(rt: &(impl Abort + AllocGlobal), row: &str, six: Told) -> Result<
 }
 
 /// Panics where a reader finds something else in one of these files.
-fn check_images(rt: &(impl Abort + AllocGlobal), rows: &str, six: Told) -> Result<(), Fail> {
+fn check_images(rt: &(impl Abort + AllocGlobal), rows: &str, six: SixValues) -> Result<(), Fail> {
     for row in rows.split('#').skip(1) {
         check_image(rt, row, six)?;
     }
@@ -126,20 +126,20 @@ fn check_images(rt: &(impl Abort + AllocGlobal), rows: &str, six: Told) -> Resul
 
 #[test]
 fn files_from_outside_are_read(rt: HostRuntime) -> Result<(), Fail> {
-    check_images(&rt, OUTSIDE, Told::First)
+    check_images(&rt, OUTSIDE, SixValues::First)
 }
 
 #[test]
 fn groups_with_one_change_are_read(rt: HostRuntime) -> Result<(), Fail> {
-    check_images(&rt, GROUPS, Told::First)
+    check_images(&rt, GROUPS, SixValues::First)
 }
 
 #[test]
 fn datasets_with_one_change_are_read(rt: HostRuntime) -> Result<(), Fail> {
-    check_images(&rt, DATASETS, Told::First)
+    check_images(&rt, DATASETS, SixValues::First)
 }
 
 #[test]
 fn arrays_with_data_blocks_are_read(rt: HostRuntime) -> Result<(), Fail> {
-    check_images(&rt, ARRAYS, Told::Last)
+    check_images(&rt, ARRAYS, SixValues::Last)
 }

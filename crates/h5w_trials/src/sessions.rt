@@ -10,11 +10,11 @@ use std::process::Abort;
 use std::test::Fail;
 
 /// A piece as a table tells it: its place, its length, and its last four bytes, which are a block's checksum.
-type Told = (u64, usize, [u8; 4]);
+type PieceOutline = (u64, usize, [u8; 4]);
 
 /// The pieces of a new file of a dataset `data`: the index block, its header, the dataset's header, the root group's, the
 /// superblock.
-const FOUR_LETTERS: [Told; 5] = [
+const FOUR_LETTERS: [PieceOutline; 5] = [
     (260, 298, [0x4b, 0xf6, 0x17, 0x04]),
     (188, 72, [0x5b, 0x7e, 0x40, 0xbd]),
     (106, 82, [0x60, 0x9d, 0x35, 0x34]),
@@ -23,7 +23,7 @@ const FOUR_LETTERS: [Told; 5] = [
 ];
 
 /// The same where its name is `a`.
-const ONE_LETTER: [Told; 5] = [
+const ONE_LETTER: [PieceOutline; 5] = [
     (257, 298, [0x20, 0xab, 0xce, 0x74]),
     (185, 72, [0xa5, 0xe0, 0xaf, 0x89]),
     (103, 82, [0x8f, 0xe3, 0xe8, 0xaf]),
@@ -32,7 +32,7 @@ const ONE_LETTER: [Told; 5] = [
 ];
 
 /// The same where its name is 64 times `n`.
-const MOST_LETTERS: [Told; 5] = [
+const MOST_LETTERS: [PieceOutline; 5] = [
     (320, 298, [0x67, 0x0b, 0x3d, 0xed]),
     (248, 72, [0x52, 0x0e, 0x2a, 0xec]),
     (166, 82, [0xa9, 0xce, 0x91, 0x6f]),
@@ -41,7 +41,7 @@ const MOST_LETTERS: [Told; 5] = [
 ];
 
 /// Rows 1, 2, 3 by twos: two chunks, the superblock of 574 bytes, the blocks that name the chunks, and 3 rows.
-const THREE_ROWS: [Told; 6] = [
+const THREE_ROWS: [PieceOutline; 6] = [
     (558, 8, [2, 0, 0, 0]),
     (566, 8, [0, 0, 0, 0]),
     (0, 48, [0x57, 0x97, 0x72, 0xe9]),
@@ -51,7 +51,10 @@ const THREE_ROWS: [Told; 6] = [
 ];
 
 /// Row 4: its cell, and 4 rows.
-const A_FOURTH_ROW: [Told; 2] = [(570, 4, [4, 0, 0, 0]), (106, 82, [0x36, 0x08, 0x8e, 0x9f])];
+const A_FOURTH_ROW: [PieceOutline; 2] = [
+    (570, 4, [4, 0, 0, 0]),
+    (106, 82, [0x36, 0x08, 0x8e, 0x9f]),
+];
 
 /// A session that creates a file of a dataset of this name, in chunks of two rows.
 fn create(rt: &impl AllocGlobal, name: &[u8]) -> Result<WriterCore, Fail>
@@ -68,7 +71,10 @@ fn create(rt: &impl AllocGlobal, name: &[u8]) -> Result<WriterCore, Fail>
 }
 
 /// Makes the oldest pending piece visible and tells it; None where nothing is pending.
-fn show<W: PieceWrite>(core: &mut WriterCore, image: &mut W) -> Result<Option<Told>, ImageError>
+fn show<W: PieceWrite>(
+    core: &mut WriterCore,
+    image: &mut W,
+) -> Result<Option<PieceOutline>, ImageError>
     ensures cause { result ≡ Err ImageError.Failed → Rose (W.view image.old).faults (W.view image.new).faults }
 {
     let Some(w) = core.next() else {
@@ -96,7 +102,7 @@ fn check_pieces(
     rt: &impl Abort,
     core: &mut WriterCore,
     image: &mut MemImage,
-    table: &[Told],
+    table: &[PieceOutline],
 ) -> Result<(), Fail> {
     for &told in table {
         assert_eq!(rt; show(core, image)?, Some(told));
@@ -115,7 +121,7 @@ fn flush(core: &mut WriterCore, image: &mut MemImage, values: &[i128]) -> Result
 fn check_creation(
     rt: &(impl Abort + AllocGlobal),
     name: &[u8],
-    table: &[Told],
+    table: &[PieceOutline],
     end: u64,
 ) -> Result<(), Fail>
     requires named { 1 ≤ length name.now }

@@ -1,8 +1,8 @@
 //! Texts and lines that no run of today's program shows.
 
 use h5w_text::{
-    ErrorLine, Intake, Line, LineError, Lines, MemSource, Next, Reply, script_line, write_error,
-    write_reply,
+    ErrorLine, Intake, LineError, Lines, MemSource, Next, Reply, TextLine, script_line,
+    write_error, write_reply,
 };
 use std::alloc::Global;
 use std::test::Fail;
@@ -70,7 +70,7 @@ fn counted(alloc: Global, input: &[u8], limit: u64) -> Result<(u32, bool), Fail>
     let mut lines = Lines::new(alloc, &mut source, &mut intake);
     for count in 0..9 {
         match lines.next() {
-            Ok(Next::Line(Line::Whole(_))) => {}
+            Ok(Next::Line(TextLine::Whole(_))) => {}
             Ok(Next::Last(_)) => return Ok((count + 1, false)),
             Ok(_) => return Ok((count, false)),
             Err(LineError::Input { limit: _ }) => return Ok((count, true)),

@@ -18,7 +18,7 @@ use Rattle.h5w_laws.proofs.ResultLemmas.{fails, then_ok, choice_ok}
 use Rattle.h5w_laws.proofs.ReachLemmas.{IsNear, near_place}
 use Rattle.h5w_visits.specs.Ranges.{Among, AllAmong, AllEndBy, AllSome, AllWithin, block_at, chunk_at}
 use Rattle.h5w_visits.proofs.RangeLemmas.{among_left, among_right, ends_nil, ends_cons, some_nil, some_cons, within_more}
-use Rattle.h5w_visits.proofs.Told.{Told, no_visit, told_nil, told_both, told_choice, told_other, told_one, told_block, both_parts, block_parts}
+use Rattle.h5w_visits.proofs.VisitTells.{VisitTells, no_visit, told_nil, told_both, told_choice, told_other, told_one, told_block, both_parts, block_parts}
 
 -- ---- A look-up
 
@@ -113,14 +113,14 @@ chunks_known end bytes (a ∷ rest) us h = go (chunks_known end bytes rest) (eqb
         let v = then_ok (chunk_ranges end bytes rest) (λ us. ranges_are (chunk_at a bytes ∷ us)) us f.1 in
         more_chunk end bytes a rest v.0 us t.0 (ltb-false end (a + bytes) f.0) (same_ranges (chunk_at a bytes ∷ v.0) us v.2) (later v.0 v.1)
 
-pub chunks_told : (img : List ℕ) (end bytes : ℕ) (places : List ℕ) (us : List Used) → Chunks end bytes places us → Told img end bytes (λ e. ret (chunk_ranges e bytes places)) us us
+pub chunks_told : (img : List ℕ) (end bytes : ℕ) (places : List ℕ) (us : List Used) → Chunks end bytes places us → VisitTells img end bytes (λ e. ret (chunk_ranges e bytes places)) us us
 chunks_told img end bytes places us c = record { visited = tt; ends = c.ends; some = c.some; other = c.other }
 
 -- ---- A data block
 
 -- what a visit of a data block tells of it and of each slot
 pub record DataBlock (img : List ℕ) (end bytes n place : ℕ) (us : List Used) : Type 0 where
-  pub told : Told img end bytes (λ e. data_block_visit e bytes n place) us us
+  pub told : VisitTells img end bytes (λ e. data_block_visit e bytes n place) us us
   pub slots : (slot : ℕ) → Answers img bytes us (data_slot place n slot)
 
 -- a look-up of nothing, and one that begins with a block
@@ -180,9 +180,9 @@ pub by_place : (img : List ℕ) (us : List Used) (b : Bool) (q : Visited) → ev
 by_place img us true q h = inl (refl, same_ranges [] us h)
 by_place img us false q h = inr (refl, h)
 
-pub told_none : (img : List ℕ) (end bytes : ℕ) (b : Bool) (q : ℕ → Visited) (us : List Used) → b ≡ true → [] ≡ us → Told img end bytes (λ e. cond b no_visit (q e)) us us
+pub told_none : (img : List ℕ) (end bytes : ℕ) (b : Bool) (q : ℕ → Visited) (us : List Used) → b ≡ true → [] ≡ us → VisitTells img end bytes (λ e. cond b no_visit (q e)) us us
 told_none img end bytes b q us t e =
-    subst (λ (xs : List Used). Told img end bytes (λ e. cond b no_visit (q e)) xs xs) e (told_one img end bytes b (λ e. no_visit) q [] [] t (told_nil img end bytes))
+    subst (λ (xs : List Used). VisitTells img end bytes (λ e. cond b no_visit (q e)) xs xs) e (told_one img end bytes b (λ e. no_visit) q [] [] t (told_nil img end bytes))
 
 pub data_known : (img : List ℕ) (end bytes n place : ℕ) (us : List Used) → eval img (data_block_visit end bytes n place) ≡ Ok us → DataBlock img end bytes n place us
 data_known img end bytes n place us h = go (by_place img us (place == undefined) (block end) h)
@@ -217,12 +217,12 @@ right_of us vs ws e u h = subst (λ (xs : List Used). Among u xs) e (among_right
 -- ---- A secondary block
 
 pub record DataBlocks (img : List ℕ) (end bytes n : ℕ) (places : List ℕ) (us : List Used) : Type 0 where
-  pub told : Told img end bytes (λ e. visit_each (data_block_visit e bytes n) places) us us
+  pub told : VisitTells img end bytes (λ e. visit_each (data_block_visit e bytes n) places) us us
   pub each : (k : ℕ) → Slots img bytes us n (get_or places k undefined)
 
 pub each_known : (img : List ℕ) (end bytes n : ℕ) (places : List ℕ) (us : List Used) → eval img (visit_each (data_block_visit end bytes n) places) ≡ Ok us → DataBlocks img end bytes n places us
 each_known img end bytes n [] us h = record {
-  told = subst (λ (xs : List Used). Told img end bytes (λ e. no_visit) xs xs) (same_ranges [] us h) (told_nil img end bytes);
+  told = subst (λ (xs : List Used). VisitTells img end bytes (λ e. no_visit) xs xs) (same_ranges [] us h) (told_nil img end bytes);
   each = λ k. no_slots img bytes n k us;
 }
 each_known img end bytes n (a ∷ rest) us h =
@@ -240,7 +240,7 @@ each_known img end bytes n (a ∷ rest) us h =
     each one more (suc k) = more k
 
 pub record Secondary (img : List ℕ) (end bytes sblock place : ℕ) (us : List Used) : Type 0 where
-  pub told : Told img end bytes (λ e. secondary_block_visit e bytes sblock place) us us
+  pub told : VisitTells img end bytes (λ e. secondary_block_visit e bytes sblock place) us us
   pub slots : (block slot : ℕ) → Answers img bytes us (secondary_slot place sblock block slot)
 
 pub secondary_there : (img : List ℕ) (end bytes sblock place : ℕ) (us : List Used) → (place == undefined) ≡ false
@@ -301,12 +301,12 @@ secondary_known img end bytes sblock place us h = go (by_place img us (place == 
 
 -- the data blocks that it names
 pub record Firsts (img : List ℕ) (end bytes block : ℕ) (places : List ℕ) (us : List Used) : Type 0 where
-  pub told : Told img end bytes (λ e. first_visits e bytes block places) us us
+  pub told : VisitTells img end bytes (λ e. first_visits e bytes block places) us us
   pub each : (k : ℕ) → Slots img bytes us (super_block_of (super_block_of_first (block + k))).slots (get_or places k undefined)
 
 pub firsts_known : (img : List ℕ) (end bytes block : ℕ) (places : List ℕ) (us : List Used) → eval img (first_visits end bytes block places) ≡ Ok us → Firsts img end bytes block places us
 firsts_known img end bytes block [] us h = record {
-  told = subst (λ (xs : List Used). Told img end bytes (λ e. no_visit) xs xs) (same_ranges [] us h) (told_nil img end bytes);
+  told = subst (λ (xs : List Used). VisitTells img end bytes (λ e. no_visit) xs xs) (same_ranges [] us h) (told_nil img end bytes);
   each = λ k. no_slots img bytes (super_block_of (super_block_of_first (block + k))).slots k us;
 }
 firsts_known img end bytes block (a ∷ rest) us h =
@@ -337,12 +337,12 @@ behind_more img bytes sblock place us ws more s block slot = answers_more img by
 
 -- the secondary blocks that it names, those of super blocks up to 12
 pub record Seconds (img : List ℕ) (end bytes sblock : ℕ) (places : List ℕ) (us : List Used) : Type 0 where
-  pub told : Told img end bytes (λ e. second_visits e bytes sblock places) us us
+  pub told : VisitTells img end bytes (λ e. second_visits e bytes sblock places) us us
   pub each : (k : ℕ) → sblock + k ≤ 12 → Behind img bytes us (sblock + k) (get_or places k undefined)
 
 pub seconds_known : (img : List ℕ) (end bytes sblock : ℕ) (places : List ℕ) (us : List Used) → eval img (second_visits end bytes sblock places) ≡ Ok us → Seconds img end bytes sblock places us
 seconds_known img end bytes sblock [] us h = record {
-  told = subst (λ (xs : List Used). Told img end bytes (λ e. no_visit) xs xs) (same_ranges [] us h) (told_nil img end bytes);
+  told = subst (λ (xs : List Used). VisitTells img end bytes (λ e. no_visit) xs xs) (same_ranges [] us h) (told_nil img end bytes);
   each = λ k low. subst (λ place. Behind img bytes us (sblock + k) place) (sym (get_or_past [] k undefined (omega arith))) (λ block slot. answers_none img bytes us);
 }
 seconds_known img end bytes sblock (a ∷ rest) us h = go (seconds_known img end bytes (sblock + 1) rest) (by_place img us (nat_lt 12 sblock) (more end) h)
@@ -376,7 +376,7 @@ seconds_known img end bytes sblock (a ∷ rest) us h = go (seconds_known img end
 
 -- what a visit behind an index block tells
 pub record InArray (img : List ℕ) (end bytes : ℕ) (e : EaibFields) (us : List Used) : Type 0 where
-  pub told : Told img end bytes (λ x. both (ret (chunk_ranges x bytes e.slots)) (both (first_visits x bytes 0 e.first) (second_visits x bytes 4 e.second))) us us
+  pub told : VisitTells img end bytes (λ x. both (ret (chunk_ranges x bytes e.slots)) (both (first_visits x bytes 0 e.first) (second_visits x bytes 4 e.second))) us us
   pub slots : (i : ℕ) → i < 131060 → Answers img bytes us (array_slot e i)
 
 pub slot_from : (img : List ℕ) (bytes : ℕ) (us : List Used) (e : EaibFields)

@@ -2,7 +2,7 @@
 use Rattle.std.proofs.Common.{◌≡◌, ℕ, zero, suc, ◌<◌, true, List, Result, Ok, subst, arith}
 use Rattle.std.proofs.lemmas.Bool.{ltb-true}
 use Rattle.h5w_model.specs.Messages.{unsupported, IntTypeFields, LayoutFields, ShapeFields, shape_at, int_type_tests, int_type_fields, int_type_at, is_int_size, chunk_size, chunk_cols_at, layout_tests, layout_fields, layout_at}
-use Rattle.h5w_model.specs.Datasets.{Found, Described, described, dataspace_of, or_refuse, body_of, fill_of, is_filtered, shares_a_message, datatype_kind, layout_kind}
+use Rattle.h5w_model.specs.Datasets.{FoundMessage, Described, described, dataspace_of, or_refuse, body_of, fill_of, is_filtered, shares_a_message, datatype_kind, layout_kind}
 use Rattle.h5w_model.specs.declared.refusal.Unsupported.{Unsupported}
 use Rattle.h5w_model.proofs.CheckedLemmas.{checked-passed}
 use Rattle.h5w_model.proofs.LayoutLemmas.{product_bounds}
@@ -32,7 +32,7 @@ sizes d h =
     let low = product_bounds d.layout.chunk_rows d.layout.chunk_cols d.int_type.size h.0 h.1 h.2 in
     record { rows = h.0; cols = h.1; size = h.2; bytes = omega (arith, low.0, h.0) }
 
-pub sized : (ms : List Found) (d : Described) → described ms ≡ Ok d → IsSized d
+pub sized : (ms : List FoundMessage) (d : Described) → described ms ≡ Ok d → IsSized d
 sized ms d h =
     let a = fails (is_filtered ms) _ (unsupported 2) d h in
     let b = fails (shares_a_message ms) _ (unsupported 3) d a.1 in

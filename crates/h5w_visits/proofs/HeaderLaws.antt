@@ -7,7 +7,7 @@ use Rattle.h5w_model.specs.Images.{apply}
 use Rattle.h5w_model.specs.Programs.{Prog, ret, whole, eval, visits, Visit, all_of, Same}
 use Rattle.h5w_model.specs.Headers.{prefix_at, header_view}
 use Rattle.h5w_model.specs.Messages.{unsupported}
-use Rattle.h5w_model.specs.Datasets.{Range, HeaderFields, Described, from_chunk, root_view, root_header, header_refusal, linked, dataset_messages, dataset_from, described, then_also, refused_as}
+use Rattle.h5w_model.specs.Datasets.{Range, HeaderFields, Described, from_chunk_0, root_view, root_header, header_refusal, linked, dataset_messages, dataset_from, described, then_also, refused_as}
 use Rattle.h5w_model.specs.Tables.{Limits, limit_of, needed}
 use Rattle.h5w_model.specs.Findings.{Finding, found, Used, header_ranges, checked_root, checked_dataset, dataset_finding, bad_root, no_link, unsupported_dataset, too_many_chunks}
 use Rattle.h5w_model.specs.declared.message.Prefix.{Prefix}
@@ -21,7 +21,7 @@ use Rattle.h5w_laws.proofs.SlotLemmas.{refused_from}
 use Rattle.h5w_visits.specs.Ranges.{AllEndBy, AllSome, AllWithin, MissesBlocks, block_at}
 use Rattle.h5w_visits.specs.Headers.{AllBlocks, RootTells, RootMissed, HeaderTells, HeaderMissed}
 use Rattle.h5w_visits.proofs.RangeLemmas.{missed_stay, within_more, some_cons}
-use Rattle.h5w_visits.proofs.Told.{visits_next}
+use Rattle.h5w_visits.proofs.VisitTells.{visits_next}
 use Rattle.h5w_visits.proofs.DescribedLemmas.{sized}
 use Rattle.h5w_visits.proofs.HeaderVisits.{used_of, looks_of, AllLong, looks_are, within_looks, used_blocks, used_some, ranges_ok, ranges_from, choice_looks, from_chunk_walked, view_whole, view_missed, root_view_missed}
 
@@ -93,9 +93,9 @@ within_behind u rs = within_more (used_of rs) (u ∷ used_of rs) (looks_of rs) (
 pub root_looks : (img : List ℕ) (place : ℕ) (h : HeaderFields) → eval img (root_header place) ≡ Ok h → RootLooks img place h
 root_looks img place h e =
     let first : List ℕ = root_view (range img place 512) in
-    let more : Prefix → List ℕ → Prog (Result HeaderFields ReadError) = λ p rest. from_chunk place p (first ++ rest) in
+    let more : Prefix → List ℕ → Prog (Result HeaderFields ReadError) = λ p rest. from_chunk_0 place p (first ++ rest) in
     let long_chunk : Prefix → Prog (Result HeaderFields ReadError) = λ p. whole (place + 512) (p.total - 512) (more p) in
-    let go : Prefix → Prog (Result HeaderFields ReadError) = λ p. if nat_lt 512 p.total then long_chunk p else from_chunk place p first in
+    let go : Prefix → Prog (Result HeaderFields ReadError) = λ p. if nat_lt 512 p.total then long_chunk p else from_chunk_0 place p first in
     let d = choice_ok img (prefix_at first) go (header_refusal place) h e in
     let p : Prefix = d.0 in
     let says = root_view_found (range img place 512) p d.1 in
@@ -106,7 +106,7 @@ root_looks img place h e =
     let seen : visits img (root_header place) ≡ look ∷ visits img (go p) = ap (λ (vs : List Visit). look ∷ vs) (choice_looks img (prefix_at first) go (header_refusal place) p d.1) in
     elim (cases_Bool (nat_lt 512 p.total)) [
       | inl t ↦
-          let w = from_chunk_walked img place p (first ++ range img (place + 512) (p.total - 512)) h (ap (λ c. eval img (cond c (long_chunk p) (from_chunk place p first))) (sym t) ∙ d.2) in
+          let w = from_chunk_walked img place p (first ++ range img (place + 512) (p.total - 512)) h (ap (λ c. eval img (cond c (long_chunk p) (from_chunk_0 place p first))) (sym t) ∙ d.2) in
           let second : Visit = record { place = place + 512; len = p.total - 512; counts = all_of } in
           let big : 512 < p.total = ltb-true 512 p.total t in
           record {
@@ -117,11 +117,11 @@ root_looks img place h e =
             ranges = w.ranges;
             long = w.long;
             rest = second ∷ looks_of w.blocks;
-            looks = seen ∙ ap (λ c. look ∷ visits img (cond c (long_chunk p) (from_chunk place p first))) t ∙ ap (λ (vs : List Visit). look ∷ second ∷ vs) w.looks;
+            looks = seen ∙ ap (λ c. look ∷ visits img (cond c (long_chunk p) (from_chunk_0 place p first))) t ∙ ap (λ (vs : List Visit). look ∷ second ∷ vs) w.looks;
             inside = (record { used = block_at place p.total; among = inl refl; block = refl; from = omega arith; to = omega arith }, within_behind (block_at place p.total) w.blocks);
           }
       | inr t ↦
-          let w = from_chunk_walked img place p first h (ap (λ c. eval img (cond c (long_chunk p) (from_chunk place p first))) (sym t) ∙ d.2) in
+          let w = from_chunk_walked img place p first h (ap (λ c. eval img (cond c (long_chunk p) (from_chunk_0 place p first))) (sym t) ∙ d.2) in
           record {
             prefix = p;
             says = says;
@@ -130,7 +130,7 @@ root_looks img place h e =
             ranges = w.ranges;
             long = w.long;
             rest = looks_of w.blocks;
-            looks = seen ∙ ap (λ c. look ∷ visits img (cond c (long_chunk p) (from_chunk place p first))) t ∙ ap (λ (vs : List Visit). look ∷ vs) w.looks;
+            looks = seen ∙ ap (λ c. look ∷ visits img (cond c (long_chunk p) (from_chunk_0 place p first))) t ∙ ap (λ (vs : List Visit). look ∷ vs) w.looks;
             inside = within_behind (block_at place p.total) w.blocks;
           }
     ]
@@ -187,7 +187,7 @@ pub dataset_looks : (img : List ℕ) (place : ℕ) (h : HeaderFields) → eval i
 dataset_looks img place h e =
     let first : List ℕ = header_view (range img place 512) in
     let refused : Prog (Result HeaderFields ReadError) = ret (Err (read_errors.Unsupported (unsupported 1))) in
-    let go : Prefix → Prog (Result HeaderFields ReadError) = λ p. if nat_lt 512 p.total then refused else from_chunk place p first in
+    let go : Prefix → Prog (Result HeaderFields ReadError) = λ p. if nat_lt 512 p.total then refused else from_chunk_0 place p first in
     let d = choice_ok img (prefix_at first) go (header_refusal place) h e in
     let p : Prefix = d.0 in
     let says = (header_view_found (range img place 512) p d.1).0 in
@@ -196,9 +196,9 @@ dataset_looks img place h e =
     let inside_total = b.inside in
     let seen : visits img (dataset_messages place first) ≡ visits img (go p) = choice_looks img (prefix_at first) go (header_refusal place) p d.1 in
     elim (cases_Bool (nat_lt 512 p.total)) [
-      | inl t ↦ absurd (not_refused (ap (λ c. eval img (cond c refused (from_chunk place p first))) (sym t) ∙ d.2))
+      | inl t ↦ absurd (not_refused (ap (λ c. eval img (cond c refused (from_chunk_0 place p first))) (sym t) ∙ d.2))
       | inr t ↦
-          let w = from_chunk_walked img place p first h (ap (λ c. eval img (cond c refused (from_chunk place p first))) (sym t) ∙ d.2) in
+          let w = from_chunk_walked img place p first h (ap (λ c. eval img (cond c refused (from_chunk_0 place p first))) (sym t) ∙ d.2) in
           record {
             prefix = p;
             says = says;
@@ -207,7 +207,7 @@ dataset_looks img place h e =
             blocks = w.blocks;
             ranges = w.ranges;
             long = w.long;
-            looks = seen ∙ ap (λ c. visits img (cond c refused (from_chunk place p first))) t ∙ w.looks;
+            looks = seen ∙ ap (λ c. visits img (cond c refused (from_chunk_0 place p first))) t ∙ w.looks;
           }
     ]
   where

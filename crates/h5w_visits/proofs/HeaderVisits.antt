@@ -6,7 +6,7 @@ use Rattle.h5w_model.specs.Numbers.{range}
 use Rattle.h5w_model.specs.Images.{apply, Misses}
 use Rattle.h5w_model.specs.Programs.{Prog, ret, whole, eval, visits, Visit, all_of}
 use Rattle.h5w_model.specs.Headers.{prefix_at, messages_at, header_view}
-use Rattle.h5w_model.specs.Datasets.{Found, Range, HeaderFields, found_at, block_place, block_len, block_messages, splice, walk, from_chunk, root_view, header_refusal, then_also}
+use Rattle.h5w_model.specs.Datasets.{FoundMessage, Range, HeaderFields, found_at, block_place, block_len, block_messages, splice, walk, from_chunk_0, root_view, header_refusal, then_also}
 use Rattle.h5w_model.specs.Findings.{Finding, found, Used, header_ranges, block_past_end}
 use Rattle.h5w_model.specs.declared.message.Msg.{Msg}
 use Rattle.h5w_model.specs.declared.message.Prefix.{Prefix}
@@ -99,8 +99,8 @@ header_is h = Ok h
 pub same_header : (g h : HeaderFields) → header_is g ≡ header_is h → g ≡ h
 same_header g h e = cc
 
-pub splice_walked : (img : List ℕ) (at_block : List Found → Found → List Found → Prog (Result HeaderFields ReadError)) (visited : List Range) (done ms : List Found) (h : HeaderFields)
-    → ((before : List Found) (m : Found) (rest : List Found) → eval img (at_block before m rest) ≡ Ok h → Walked img (at_block before m rest) visited h)
+pub splice_walked : (img : List ℕ) (at_block : List FoundMessage → FoundMessage → List FoundMessage → Prog (Result HeaderFields ReadError)) (visited : List Range) (done ms : List FoundMessage) (h : HeaderFields)
+    → ((before : List FoundMessage) (m : FoundMessage) (rest : List FoundMessage) → eval img (at_block before m rest) ≡ Ok h → Walked img (at_block before m rest) visited h)
     → eval img (splice at_block visited done ms) ≡ Ok h → Walked img (splice at_block visited done ms) visited h
 splice_walked img at_block visited done [] h go e =
     let all : HeaderFields = record { messages = done; ranges = visited } in
@@ -116,16 +116,16 @@ pub choice_looks : {A E B F : Type 0} (img : List ℕ) (r : Result A E) (f : A �
     → visits img (elim r as (λ _. Prog (Result B F)) [ Ok a ↦ f a | Err e ↦ ret (Err (g e)) ]) ≡ visits img (f a)
 choice_looks {A} {E} {B} {F} img r f g a h = ap (λ (x : Result A E). visits img (elim x as (λ _. Prog (Result B F)) [ Ok a ↦ f a | Err e ↦ ret (Err (g e)) ])) h
 
-pub walk_walked : (img : List ℕ) (more header : ℕ) (tracked : Bool) (visited : List Range) (done ms : List Found) (h : HeaderFields) → eval img (walk more header tracked visited done ms) ≡ Ok h
+pub walk_walked : (img : List ℕ) (more header : ℕ) (tracked : Bool) (visited : List Range) (done ms : List FoundMessage) (h : HeaderFields) → eval img (walk more header tracked visited done ms) ≡ Ok h
     → Walked img (walk more header tracked visited done ms) visited h
 walk_walked img zero header tracked visited done ms h e =
     splice_walked img (λ before m rest. ret (Err (read_errors.Header header header_errors.Continuations))) visited done ms h (λ before m rest g. absurd cc) e
 walk_walked img (suc more) header tracked visited done ms h e =
-    let own : Found → Range = λ m. record { place = block_place m; len = block_len m } in
-    let onward : List Found → Found → List Found → List Found → Prog (Result HeaderFields ReadError) = λ before m rest inside. walk more header tracked (visited ++ own m ∷ []) before (inside ++ rest) in
-    let in_block : List Found → Found → List Found → List ℕ → Prog (Result HeaderFields ReadError) = λ before m rest b.
+    let own : FoundMessage → Range = λ m. record { place = block_place m; len = block_len m } in
+    let onward : List FoundMessage → FoundMessage → List FoundMessage → List FoundMessage → Prog (Result HeaderFields ReadError) = λ before m rest inside. walk more header tracked (visited ++ own m ∷ []) before (inside ++ rest) in
+    let in_block : List FoundMessage → FoundMessage → List FoundMessage → List ℕ → Prog (Result HeaderFields ReadError) = λ before m rest b.
     elim (block_messages tracked (block_place m) (block_len m) b) as (λ _. Prog (Result HeaderFields ReadError)) [ Ok inside ↦ onward before m rest inside | Err e ↦ ret (Err e) ] in
-    let at_block : List Found → Found → List Found → Prog (Result HeaderFields ReadError) = λ before m rest.
+    let at_block : List FoundMessage → FoundMessage → List FoundMessage → Prog (Result HeaderFields ReadError) = λ before m rest.
     if nat_lt (block_len m) 8 then ret (Err (header_refusal (block_place m) (header_errors.Short 8 (block_len m)))) else whole (block_place m) (block_len m) (in_block before m rest) in
     splice_walked img at_block visited done ms h
     (λ before m rest.
@@ -146,8 +146,8 @@ walk_walked img (suc more) header tracked visited done ms h e =
     e
 
 -- the messages from chunk 0 on
-pub from_chunk_walked : (img : List ℕ) (place : ℕ) (p : Prefix) (b : List ℕ) (h : HeaderFields) → eval img (from_chunk place p b) ≡ Ok h
-    → Walked img (from_chunk place p b) (record { place = place; len = p.total } ∷ []) h
+pub from_chunk_walked : (img : List ℕ) (place : ℕ) (p : Prefix) (b : List ℕ) (h : HeaderFields) → eval img (from_chunk_0 place p b) ≡ Ok h
+    → Walked img (from_chunk_0 place p b) (record { place = place; len = p.total } ∷ []) h
 from_chunk_walked img place p b h e =
     let chunk : Range = record { place = place; len = p.total } in
     let go : List Msg → Prog (Result HeaderFields ReadError) = λ ms. walk 32 place p.tracked (chunk ∷ []) [] (found_at place true ms) in

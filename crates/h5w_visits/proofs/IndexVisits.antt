@@ -19,7 +19,7 @@ use Rattle.h5w_laws.proofs.ResultLemmas.{then_ok, refused_ok, choice_ok, choice_
 use Rattle.h5w_visits.specs.Ranges.{Among, AllEndBy, block_at, blocks_of}
 use Rattle.h5w_visits.specs.Indexes.{IsNamed, behind_visit}
 use Rattle.h5w_visits.proofs.RangeLemmas.{ends_nil, ends_cons}
-use Rattle.h5w_visits.proofs.Told.{Told, no_visit, told_nil, told_as, told_choice, told_other, told_one, told_block, block_parts}
+use Rattle.h5w_visits.proofs.VisitTells.{VisitTells, no_visit, told_nil, told_as, told_choice, told_other, told_one, told_block, block_parts}
 use Rattle.h5w_visits.proofs.ArrayVisits.{Answers, answers_none, array_known, by_place}
 use Rattle.h5w_visits.proofs.TreeVisits.{node_known}
 
@@ -48,7 +48,7 @@ header_sound b place t h =
 -- ---- Behind them
 
 pub record BehindKnown (img : List ℕ) (end bytes : ℕ) (blocks : InPlace) (us : List Used) : Type 0 where
-  pub told : Told img end bytes (λ e. behind_visit e bytes blocks) us us
+  pub told : VisitTells img end bytes (λ e. behind_visit e bytes blocks) us us
   pub keys : (key : Key) → Names blocks key → Answers img bytes us (address_behind blocks key)
 
 abbrev pub ranges_are : List Used → Result (List Used) Finding
@@ -59,7 +59,7 @@ same_ranges us vs h = cc
 
 pub behind_known : (img : List ℕ) (end bytes : ℕ) (blocks : InPlace) (us : List Used) → IsSound blocks → eval img (behind_visit end bytes blocks) ≡ Ok us → BehindKnown img end bytes blocks us
 behind_known img end bytes nowhere us sound h = record {
-  told = subst (λ (xs : List Used). Told img end bytes (λ e. no_visit) xs xs) (same_ranges [] us h) (told_nil img end bytes);
+  told = subst (λ (xs : List Used). VisitTells img end bytes (λ e. no_visit) xs xs) (same_ranges [] us h) (told_nil img end bytes);
   keys = λ key n. answers_none img bytes us;
 }
 behind_known img end bytes (in_array e) us sound h = let a = array_known img end bytes e us h in record { told = a.told; keys = λ key n. a.slots key.i n }
@@ -72,7 +72,7 @@ behind_known img end bytes (in_tree t) us sound h =
       keys = λ key n. node.keys key;
     })
 
-pub nothing_behind : (img : List ℕ) (end bytes : ℕ) (blocks : InPlace) (us : List Used) → blocks ≡ nowhere → Told img end bytes (λ e. behind_visit e bytes blocks) us us → [] ≡ us
+pub nothing_behind : (img : List ℕ) (end bytes : ℕ) (blocks : InPlace) (us : List Used) → blocks ≡ nowhere → VisitTells img end bytes (λ e. behind_visit e bytes blocks) us us → [] ≡ us
 nothing_behind img end bytes blocks us e t = same_ranges [] us (ap (λ b. eval img (behind_visit end bytes b)) (sym e) ∙ t.other end t.ends)
 
 -- ---- An index, by the programs that read its blocks in place and visit it
@@ -90,7 +90,7 @@ pub record Parts (img : List ℕ) (end bytes : ℕ) (p : Prog (Result InPlace Re
 pub record Belong (img : List ℕ) (bytes : ℕ) (p : Prog (Result InPlace ReadError)) (q : ℕ → Visited) : Type 0 where
   pub sound : (blocks : InPlace) → eval img p ≡ Ok blocks → IsSound blocks
   pub build : (end : ℕ) (blocks : InPlace) (behind : List Used) → eval img p ≡ Ok blocks → AllEndBy end (blocks_of (visits img p))
-      → Told img end bytes (λ e. behind_visit e bytes blocks) behind behind → Told img end bytes q (blocks_of (visits img p) ++ behind) (blocks_of (visits img p) ++ behind)
+      → VisitTells img end bytes (λ e. behind_visit e bytes blocks) behind behind → VisitTells img end bytes q (blocks_of (visits img p) ++ behind) (blocks_of (visits img p) ++ behind)
   pub parts : (end : ℕ) (ranges : List Used) → eval img (q end) ≡ Ok ranges → Parts img end bytes p ranges
 
 abbrev pub place_is : InPlace → Result InPlace ReadError
@@ -104,7 +104,7 @@ same_place p q h = cc
 pub belong_none : (img : List ℕ) (bytes : ℕ) → Belong img bytes (ret (Ok nowhere)) (λ e. no_visit)
 belong_none img bytes = record {
   sound = λ blocks h. subst (λ (b : InPlace). IsSound b) (same_place nowhere blocks h) tt;
-  build = λ end blocks behind h ends t. subst (λ (xs : List Used). Told img end bytes (λ e. no_visit) xs xs) (nothing_behind img end bytes blocks behind (sym (same_place nowhere blocks h)) t) (told_nil img end bytes);
+  build = λ end blocks behind h ends t. subst (λ (xs : List Used). VisitTells img end bytes (λ e. no_visit) xs xs) (nothing_behind img end bytes blocks behind (sym (same_place nowhere blocks h)) t) (told_nil img end bytes);
   parts = λ end ranges h. record { blocks = nowhere; read = refl; behind = ranges; of_behind = h; parts = refl; ends = λ u a. absurd a };
 }
 
@@ -183,26 +183,26 @@ abbrev pub header_visit : ℕ → ℕ → ℕ → List ℕ → Visited
 header_visit bytes place e b = elim (eahd_at b place) as (λ _. Visited) [ Ok h ↦ behind_header bytes e h | Err f ↦ ret (Err (found bad_index_header place)) ]
 
 pub told_header : (img : List ℕ) (bytes place end : ℕ) (h : EahdFields) (us : List Used) → eahd_at (range img place eahd_len) place ≡ Ok h → place + eahd_len ≤ end
-    → Told img end bytes (λ e. behind_header bytes e h) us us → Told img end bytes (λ e. array_visit e bytes place) (block_at place eahd_len ∷ us) (block_at place eahd_len ∷ us)
+    → VisitTells img end bytes (λ e. behind_header bytes e h) us us → VisitTells img end bytes (λ e. array_visit e bytes place) (block_at place eahd_len ∷ us) (block_at place eahd_len ∷ us)
 told_header img bytes place end h us of_header fits t =
     told_block img end bytes place eahd_len (header_visit bytes place) us (block_at place eahd_len ∷ us) (omega arith) fits refl
     (told_choice img end bytes (eahd_at (range img place eahd_len) place) (behind_header bytes) (λ f. found bad_index_header place) h us us of_header t)
 
 pub told_index_block : (img : List ℕ) (bytes place end : ℕ) (x : EaibFields) (us : List Used) → eaib_at (range img place eaib_len) place ≡ Ok x → place + eaib_len ≤ end
-    → Told img end bytes (λ e. behind_visit e bytes (in_array x)) us us → Told img end bytes (λ e. index_block_visit e bytes place) (block_at place eaib_len ∷ us) (block_at place eaib_len ∷ us)
+    → VisitTells img end bytes (λ e. behind_visit e bytes (in_array x)) us us → VisitTells img end bytes (λ e. index_block_visit e bytes place) (block_at place eaib_len ∷ us) (block_at place eaib_len ∷ us)
 told_index_block img bytes place end x us of_block fits t =
     told_block img end bytes place eaib_len (behind_block bytes place) us (block_at place eaib_len ∷ us) (omega arith) fits refl
     (told_choice img end bytes (eaib_at (range img place eaib_len) place) (λ e x. behind_visit e bytes (in_array x)) (λ f. found bad_index_block place) x us us of_block t)
 
 pub array_build : (img : List ℕ) (bytes place end : ℕ) (blocks : InPlace) (behind : List Used) → AllEndBy end (blocks_of (visits img (array_in_place place)))
-    → Told img end bytes (λ e. behind_visit e bytes blocks) behind behind → NoBlock img place blocks ⊎ HasBlock img place blocks
-    → Told img end bytes (λ e. array_visit e bytes place) (blocks_of (visits img (array_in_place place)) ++ behind) (blocks_of (visits img (array_in_place place)) ++ behind)
+    → VisitTells img end bytes (λ e. behind_visit e bytes blocks) behind behind → NoBlock img place blocks ⊎ HasBlock img place blocks
+    → VisitTells img end bytes (λ e. array_visit e bytes place) (blocks_of (visits img (array_in_place place)) ++ behind) (blocks_of (visits img (array_in_place place)) ++ behind)
 array_build img bytes place end blocks behind ends t (inl n) =
     let own : Used = block_at place eahd_len in
     let fixed : blocks_of (visits img (array_in_place place)) ≡ own ∷ [] = ap blocks_of n.looks in
     let fits : place + eahd_len ≤ end = ends own (subst (λ (xs : List Used). Among own xs) (sym fixed) (inl refl)) in
     let none : [] ≡ behind = nothing_behind img end bytes blocks behind n.is t in
-    subst (λ (xs : List Used). Told img end bytes (λ e. array_visit e bytes place) xs xs)
+    subst (λ (xs : List Used). VisitTells img end bytes (λ e. array_visit e bytes place) xs xs)
     (ap (λ (xs : List Used). own ∷ xs) none ∙ ap (λ (xs : List Used). xs ++ behind) (sym fixed))
     (told_header img bytes place end n.header [] n.of_header fits
     (told_one img end bytes (n.header.block == undefined) (λ e. no_visit) (λ e. index_block_visit e bytes n.header.block) [] [] n.none (told_nil img end bytes)))
@@ -212,12 +212,12 @@ array_build img bytes place end blocks behind ends t (inr n) =
     let fixed : blocks_of (visits img (array_in_place place)) ≡ own ∷ index ∷ [] = ap blocks_of n.looks in
     let fits : place + eahd_len ≤ end = ends own (subst (λ (xs : List Used). Among own xs) (sym fixed) (inl refl)) in
     let fits_too : n.header.block + eaib_len ≤ end = ends index (subst (λ (xs : List Used). Among index xs) (sym fixed) (inr (inl refl))) in
-    subst (λ (xs : List Used). Told img end bytes (λ e. array_visit e bytes place) xs xs)
+    subst (λ (xs : List Used). VisitTells img end bytes (λ e. array_visit e bytes place) xs xs)
     (ap (λ (xs : List Used). xs ++ behind) (sym fixed))
     (told_header img bytes place end n.header (index ∷ behind) n.of_header fits
     (told_other img end bytes (n.header.block == undefined) (λ e. no_visit) (λ e. index_block_visit e bytes n.header.block) (index ∷ behind) (index ∷ behind) n.named
     (told_index_block img bytes n.header.block end n.fields behind n.of_block fits_too
-    (subst (λ (b : InPlace). Told img end bytes (λ e. behind_visit e bytes b) behind behind) n.is t))))
+    (subst (λ (b : InPlace). VisitTells img end bytes (λ e. behind_visit e bytes b) behind behind) n.is t))))
 
 pub ends_one : (end : ℕ) (u : Used) → u.place + u.len ≤ end → AllEndBy end (u ∷ [])
 ends_one end u h = ends_cons end u [] h (ends_nil end)
@@ -290,8 +290,8 @@ pub root_sound : (t : BthdFields) (b : Bool) → (t.depth ≤ 3) × (t.records �
 root_sound t true h = tt
 root_sound t false h = h
 
-pub told_root : (img : List ℕ) (bytes end : ℕ) (t : BthdFields) (us : List Used) (b : Bool) → Told img end bytes (λ e. behind_visit e bytes (cond b nowhere (in_tree t))) us us
-    → Told img end bytes (λ e. cond b no_visit (behind_visit e bytes (in_tree t))) us us
+pub told_root : (img : List ℕ) (bytes end : ℕ) (t : BthdFields) (us : List Used) (b : Bool) → VisitTells img end bytes (λ e. behind_visit e bytes (cond b nowhere (in_tree t))) us us
+    → VisitTells img end bytes (λ e. cond b no_visit (behind_visit e bytes (in_tree t))) us us
 told_root img bytes end t us true h = h
 told_root img bytes end t us false h = h
 
@@ -301,14 +301,14 @@ root_behind img bytes end t us true h = h
 root_behind img bytes end t us false h = h
 
 pub tree_build : (img : List ℕ) (bytes place end : ℕ) (blocks : InPlace) (behind : List Used) → eval img (tree_in_place place) ≡ Ok blocks → AllEndBy end (block_at place bthd_len ∷ [])
-    → Told img end bytes (λ e. behind_visit e bytes blocks) behind behind → Told img end bytes (λ e. tree_visit e bytes place) (block_at place bthd_len ∷ behind) (block_at place bthd_len ∷ behind)
+    → VisitTells img end bytes (λ e. behind_visit e bytes blocks) behind behind → VisitTells img end bytes (λ e. tree_visit e bytes place) (block_at place bthd_len ∷ behind) (block_at place bthd_len ∷ behind)
 tree_build img bytes place end blocks behind h ends t =
     let own : Used = block_at place bthd_len in
     let d = tree_read img place blocks h in
     told_block img end bytes place bthd_len (root_visit bytes place) behind (own ∷ behind) (omega arith) (ends own (inl refl)) refl
     (told_choice img end bytes (bthd_at (range img place bthd_len) place) (behind_root bytes) (λ f. found bad_index_header place) d.0 behind behind d.1
     (told_root img bytes end d.0 behind (d.0.root == undefined)
-    (subst (λ (b : InPlace). Told img end bytes (λ e. behind_visit e bytes b) behind behind) (sym d.2) t)))
+    (subst (λ (b : InPlace). VisitTells img end bytes (λ e. behind_visit e bytes b) behind behind) (sym d.2) t)))
 
 pub tree_parts : (img : List ℕ) (bytes place end : ℕ) (ranges : List Used) → eval img (tree_visit end bytes place) ≡ Ok ranges → Parts img end bytes (tree_in_place place) ranges
 tree_parts img bytes place end ranges h =

@@ -1,5 +1,5 @@
 pub mod RangeLemmas
-pub mod Told
+pub mod VisitTells
 pub mod ArrayVisits
 pub mod TreeVisits
 pub mod IndexVisits

@@ -17,7 +17,7 @@ use Rattle.h5w_model.proofs.CheckedLemmas.{AllPass, checked-passed}
 use Rattle.h5w_laws.proofs.ResultLemmas.{passes, then_ok, then_from, choice_ok, and_then_ok}
 use Rattle.h5w_visits.specs.Ranges.{Among, AllAmong, chunk_at}
 use Rattle.h5w_visits.proofs.RangeLemmas.{among_left, among_right, ends_nil, some_nil}
-use Rattle.h5w_visits.proofs.Told.{Told, told_as, told_next, told_choice, told_look}
+use Rattle.h5w_visits.proofs.VisitTells.{VisitTells, told_as, told_next, told_choice, told_look}
 use Rattle.h5w_visits.proofs.ArrayVisits.{chunks_known, Answers, answers_more, answers_none, looked_block, looked_on, looked_last}
 
 -- ---- A node's bytes, and its children's
@@ -31,27 +31,27 @@ inner_low (suc zero) n low h = omega (arith, h)
 inner_low (suc (suc zero)) n low h = omega (arith, h)
 inner_low (suc (suc (suc depth))) n low h = absurd (omega (arith, low))
 
-abbrev pub Fits : ℕ → ChildFields → Type 0
-Fits depth c = c.records ≤ capacity_of depth
+abbrev pub FitsCapacity : ℕ → ChildFields → Type 0
+FitsCapacity depth c = c.records ≤ capacity_of depth
 
 pub pass_right : {E : Type 0} (xs ys : List (Bool × E)) → AllPass (xs ++ ys) → AllPass ys
 pass_right [] ys h = h
 pass_right (x ∷ xs) ys h = pass_right xs ys h.1
 
-pub children_fit : (b : List ℕ) (place depth n from : ℕ) → AllPass (child_tests b place depth n from) → AllByRecursion (Fits (depth - 1)) (children_in b depth n from)
+pub children_fit : (b : List ℕ) (place depth n from : ℕ) → AllPass (child_tests b place depth n from) → AllByRecursion (FitsCapacity (depth - 1)) (children_in b depth n from)
 children_fit b place depth zero from h = tt
 children_fit b place depth (suc n) from h =
     (leb-true (field b (from + 8) 1) (capacity_of (depth - 1)) h.0, children_fit b place depth n (from + pointer_size depth) h.1)
 
-pub fit_in : (b : List ℕ) (place n depth : ℕ) (t : BtinFields) → btin_at b place n (suc depth) ≡ Ok t → AllByRecursion (Fits depth) t.children
+pub fit_in : (b : List ℕ) (place n depth : ℕ) (t : BtinFields) → btin_at b place n (suc depth) ≡ Ok t → AllByRecursion (FitsCapacity depth) t.children
 fit_in b place n depth t h =
     let front = block_tests (codes "BTIN") (btin_len n (suc depth)) b ++ node_tests b place in
     let own = child_tests b place (suc depth) (n + 1) (6 + 24 * n) in
     let fields = btin_fields b n (suc depth) in
     let passed = checked-passed (front ++ own) fields t h in
     let one_less : suc depth - 1 ≡ depth = omega arith in
-    subst (λ k. AllByRecursion (Fits k) t.children) one_less
-    (subst (λ (v : BtinFields). AllByRecursion (Fits (suc depth - 1)) v.children) passed.1 (children_fit b place (suc depth) (n + 1) (6 + 24 * n) (pass_right front own passed.0)))
+    subst (λ k. AllByRecursion (FitsCapacity k) t.children) one_less
+    (subst (λ (v : BtinFields). AllByRecursion (FitsCapacity (suc depth - 1)) v.children) passed.1 (children_fit b place (suc depth) (n + 1) (6 + 24 * n) (pass_right front own passed.0)))
 
 -- ---- A node's answer
 
@@ -87,7 +87,7 @@ node_parts img end place len visit u h =
 -- ---- Nodes
 
 pub record Node (img : List ℕ) (end bytes depth place n : ℕ) (u : Under) : Type 0 where
-  pub told : Told img end bytes (λ e. node_visit e bytes depth place n) u u.ranges
+  pub told : VisitTells img end bytes (λ e. node_visit e bytes depth place n) u u.ranges
   pub keys : (key : Key) → Answers img bytes u.ranges (tree_lookup depth key place n)
 
 -- what a node's own fields say, told of its place
@@ -119,7 +119,7 @@ leaf_known img end bytes place n u low h =
     let chunks = chunks_known end bytes (map (λ r. r.address) rs) us found_chunks.1 in
     let f = finished place true (as_under rs us) u found_chunks.2 in
     let whole_node : Under = node_at place (as_under rs us) in
-    let own : Told img end bytes (λ e. ret (after e rs)) whole_node us = record {
+    let own : VisitTells img end bytes (λ e. ret (after e rs)) whole_node us = record {
       visited = tt;
       ends = chunks.ends;
       some = chunks.some;
@@ -139,12 +139,12 @@ leaf_known img end bytes place n u low h =
 
 pub record Children (img : List ℕ) (end bytes : ℕ) (visit : ℕ → ChildFields → Prog (Result Under Finding)) (look : Key → ChildFields → Prog (Result ℕ ReadError)) (rs : List RecordFields) (cs : List ChildFields)
     (x : Bool × Under) : Type 0 where
-  pub told : Told img end bytes (λ e. children_under e bytes (visit e) rs cs) x x.1.ranges
+  pub told : VisitTells img end bytes (λ e. children_under e bytes (visit e) rs cs) x x.1.ranges
   pub keys : (key : Key) → Answers img bytes x.1.ranges (in_node (look key) key rs cs)
 
 -- what is known of each child that is visited
 pub record Child (img : List ℕ) (end bytes : ℕ) (visit : ℕ → ChildFields → Prog (Result Under Finding)) (look : Key → ChildFields → Prog (Result ℕ ReadError)) (c : ChildFields) (u : Under) : Type 0 where
-  pub told : Told img end bytes (λ e. visit e c) u u.ranges
+  pub told : VisitTells img end bytes (λ e. visit e c) u u.ranges
   pub keys : (key : Key) → Answers img bytes u.ranges (look key c)
 
 abbrev pub pair_is : Bool × Under → Result (Bool × Under) Finding
@@ -153,9 +153,9 @@ pair_is x = Ok x
 pub same_pair : (x y : Bool × Under) → pair_is x ≡ pair_is y → x ≡ y
 same_pair x y h = cc
 
-pub no_child : (img : List ℕ) (end bytes : ℕ) (x : Bool × Under) → pair_is (true, record { ranges = []; keys = [] }) ≡ pair_is x → Told {R = Bool × Under} img end bytes (λ e. ret (Ok (true, record { ranges = []; keys = [] }))) x x.1.ranges
+pub no_child : (img : List ℕ) (end bytes : ℕ) (x : Bool × Under) → pair_is (true, record { ranges = []; keys = [] }) ≡ pair_is x → VisitTells {R = Bool × Under} img end bytes (λ e. ret (Ok (true, record { ranges = []; keys = [] }))) x x.1.ranges
 no_child img end bytes x h =
-    subst (λ (y : Bool × Under). Told {R = Bool × Under} img end bytes (λ e. ret (Ok (true, record { ranges = []; keys = [] }))) y y.1.ranges) (same_pair (true, record { ranges = []; keys = [] }) x h)
+    subst (λ (y : Bool × Under). VisitTells {R = Bool × Under} img end bytes (λ e. ret (Ok (true, record { ranges = []; keys = [] }))) y y.1.ranges) (same_pair (true, record { ranges = []; keys = [] }) x h)
     (record { visited = tt; ends = ends_nil end; some = λ h. some_nil; other = λ new h. refl })
 
 -- a key that is asked for at a record, or before it
@@ -169,7 +169,7 @@ node_keys img bytes us look key r rs c cs own child later =
     (λ s. child))
 
 pub children_known : (img : List ℕ) (end bytes depth : ℕ) (visit : ℕ → ChildFields → Prog (Result Under Finding)) (look : Key → ChildFields → Prog (Result ℕ ReadError)) (rs : List RecordFields) (cs : List ChildFields) (x : Bool × Under)
-    → ((c : ChildFields) (u : Under) → Fits depth c → eval img (visit end c) ≡ Ok u → Child img end bytes visit look c u) → AllByRecursion (Fits depth) cs
+    → ((c : ChildFields) (u : Under) → FitsCapacity depth c → eval img (visit end c) ≡ Ok u → Child img end bytes visit look c u) → AllByRecursion (FitsCapacity depth) cs
     → eval img (children_under end bytes (visit end) rs cs) ≡ Ok x → Children img end bytes visit look rs cs x
 children_known img end bytes depth visit look [] [] x child fit h = record { told = no_child img end bytes x h; keys = λ key. answers_none img bytes x.1.ranges }
 children_known img end bytes depth visit look (r ∷ rs) [] x child fit h = record { told = no_child img end bytes x h; keys = λ key. answers_none img bytes x.1.ranges }
@@ -200,7 +200,7 @@ children_known img end bytes depth visit look (r ∷ rs) (c ∷ cs) x child fit 
     let is_own : its_under ≡ own.0 = same_under its_under own.0 its.2 in
     let all : Bool × Under = final first.0 its_under later.0 in
     let same : all ≡ x = ap (λ v. final first.0 v later.0) is_own ∙ same_pair (final first.0 own.0 later.0) x later.2 in
-    let told_record : Told img end bytes (λ e. ret (record_under e bytes r)) its_under its.0 = record {
+    let told_record : VisitTells img end bytes (λ e. ret (record_under e bytes r)) its_under its.0 = record {
       visited = tt;
       ends = chunks.ends;
       some = chunks.some;
@@ -221,7 +221,7 @@ children_known img end bytes depth visit look (r ∷ rs) (c ∷ cs) x child fit 
     })
 
 pub inner_known : (img : List ℕ) (end bytes depth place n : ℕ) (u : Under) → suc depth ≤ 3 → n ≤ capacity_of (suc depth)
-    → ((c : ChildFields) (v : Under) → Fits depth c → eval img (node_visit end bytes depth c.address c.records) ≡ Ok v → Node img end bytes depth c.address c.records v)
+    → ((c : ChildFields) (v : Under) → FitsCapacity depth c → eval img (node_visit end bytes depth c.address c.records) ≡ Ok v → Node img end bytes depth c.address c.records v)
     → eval img (node_visit end bytes (suc depth) place n) ≡ Ok u → Node img end bytes (suc depth) place n u
 inner_known img end bytes depth place n u shallow low under h =
     let len : ℕ = btin_len n (suc depth) in

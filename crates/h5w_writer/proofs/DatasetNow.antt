@@ -8,7 +8,7 @@ use Rattle.h5w_model.specs.Programs.{Prog, ret, eval, and_then, visits}
 use Rattle.h5w_model.specs.Headers.{prefix_at, header_view, messages_at, msgs_bytes, header_bytes, placed}
 use Rattle.h5w_model.specs.Messages.{shape_bytes, int_type_bytes, fill_bytes, layout_bytes}
 use Rattle.h5w_model.specs.Datasets as datasets
-use Rattle.h5w_model.specs.Datasets.{HeaderFields, dataset, dataset_from, described, found_at, walk, from_chunk, refused_as}
+use Rattle.h5w_model.specs.Datasets.{HeaderFields, dataset, dataset_from, described, found_at, walk, from_chunk_0, refused_as}
 use Rattle.h5w_model.specs.declared.refusal.ReadError.{ReadError}
 use Rattle.h5w_model.specs.declared.refusal.ReadError.TheVariants as read_errors
 use Rattle.h5w_model.specs.declared.message.Msg.{Msg}
@@ -56,7 +56,7 @@ dataset_look img f high stands =
     ∙ header_view-header_bytes (dataset_messages f) _ (omega arith)
 
 -- the messages of a dataset header within 512 bytes
-messages-by : (place : ℕ) (b : List ℕ) (p : Prefix) → prefix_at b ≡ Ok p → p.total ≤ 512 → datasets.dataset_messages place b ≡ from_chunk place p b
+messages-by : (place : ℕ) (b : List ℕ) (p : Prefix) → prefix_at b ≡ Ok p → p.total ≤ 512 → datasets.dataset_messages place b ≡ from_chunk_0 place p b
 messages-by place b p prefix short = rw (prefix, datasets.dataset_messages, le-ltb 512 p.total short) refl
 
 messages_are : (f : FileFields) → f.chunk_rows ≤ 65536 → datasets.dataset_messages (header_place (length f.name)) (header_bytes (dataset_messages f))

@@ -18,7 +18,7 @@ use Rattle.h5w_model.specs.Options.{AreOptions}
 use Rattle.h5w_writer.specs.Plans.{Step, options_of, creation_writes, first_moment}
 use Rattle.h5w_writer.specs.Sessions.{Session, IsSession, cutting_of, Creating, Running, Goes, Stands, Flushing, AllEndBy, log_of, rows_of, created, after_piece, with_values, planned, going, stopped_of}
 use Rattle.h5w_writer.specs.Flushes.{grown, after_rows, flush_writes, missing_chunks}
-use Rattle.h5w_writer.proofs.PlanLemmas.{Fits, plan_flushes}
+use Rattle.h5w_writer.proofs.PlanLemmas.{FitsLimit, plan_flushes}
 use Rattle.h5w_writer.proofs.ValidNow.{valid_now}
 use Rattle.h5w_writer.proofs.ReadsNow.{reads_now}
 use Rattle.h5w_writer.proofs.StepKept.{step_kept}
@@ -396,7 +396,7 @@ running_empty s es none no_rows r =
 abbrev planned_of : Session → List ℤ → Session
 planned_of s rows = record { file = after_rows rows s.file; committed = s.committed; waiting = []; pending = flush_writes s.file rows; stopped = s.stopped }
 
-running_planned : (s : Session) (v : ℤ) (vs : List ℤ) (es : List Happening) → IsSession s → s.stopped ≡ false → s.pending ≡ [] → s.waiting ≡ v ∷ vs → Fits s.file (length (v ∷ vs)) → Running s es
+running_planned : (s : Session) (v : ℤ) (vs : List ℤ) (es : List Happening) → IsSession s → s.stopped ≡ false → s.pending ≡ [] → s.waiting ≡ v ∷ vs → FitsLimit s.file (length (v ∷ vs)) → Running s es
     → Running (planned_of s (v ∷ vs)) (plans (length (flush_writes s.file (v ∷ vs))) ∷ es)
 running_planned s v vs es is running none rows fits r =
     let p = length (flush_writes s.file (v ∷ vs)) in
@@ -474,7 +474,7 @@ chunks_within s rows es is none are stands =
 none_planned : (s : Session) → s.pending ≡ [] → s.waiting ≡ [] → s ≡ planned_of s []
 none_planned s none rows = λ i. record { file = s.file; committed = s.committed; waiting = rows i; pending = none i; stopped = s.stopped }
 
-stands_planned : (s : Session) (rows : List ℤ) (es : List Happening) → IsSession s → s.stopped ≡ false → s.pending ≡ [] → s.waiting ≡ rows → Fits s.file (length rows) → Goes s (log_of es)
+stands_planned : (s : Session) (rows : List ℤ) (es : List Happening) → IsSession s → s.stopped ≡ false → s.pending ≡ [] → s.waiting ≡ rows → FitsLimit s.file (length rows) → Goes s (log_of es)
     → Goes (planned_of s rows) (log_of (plans (length (planned_of s rows).pending) ∷ es))
 stands_planned s [] es is running none rows fits stands =
     let r = running_empty s es none rows (running_idle s es none stands) in
@@ -499,7 +499,7 @@ stands_planned s (v ∷ vs) es is running none rows fits stands =
     }
 
 -- a flush that was accepted
-planned_goes : (s : Session) → IsSession s → s.stopped ≡ false → s.pending ≡ [] → Fits s.file (length s.waiting) → (log : Log) → Goes s log → Goes (planned s) (and_now (plans (length (planned s).pending)) log)
+planned_goes : (s : Session) → IsSession s → s.stopped ≡ false → s.pending ≡ [] → FitsLimit s.file (length s.waiting) → (log : Log) → Goes s log → Goes (planned s) (and_now (plans (length (planned s).pending)) log)
 planned_goes s is running none fits = over_log s (planned s) (plans (length (planned s).pending)) (λ es. stands_planned s s.waiting es is running none refl fits)
 
 -- ---- What a session tells of its log
@@ -549,7 +549,7 @@ piece_shown s w ws pending running log stands =
 pub rows_added : (s : Session) (vs : List ℤ) → s.pending ≡ [] → s.stopped ≡ false → (log : Log) → Stands s log → Stands (with_values s vs) (and_now (appends vs) log)
 rows_added s vs none running log stands = stands_of (with_values s vs) (and_now (appends vs) log) running (added_goes s vs none log (goes_of s log running stands))
 
-pub flush_planned : (s : Session) → IsSession s → s.stopped ≡ false → s.pending ≡ [] → Fits s.file (length s.waiting) → (log : Log) → Stands s log → Stands (planned s) (and_now (plans (length (planned s).pending)) log)
+pub flush_planned : (s : Session) → IsSession s → s.stopped ≡ false → s.pending ≡ [] → FitsLimit s.file (length s.waiting) → (log : Log) → Stands s log → Stands (planned s) (and_now (plans (length (planned s).pending)) log)
 flush_planned s is running none fits log stands =
     stands_of (planned s) (and_now (plans (length (planned s).pending)) log) running (planned_goes s is running none fits log (goes_of s log running stands))
 

@@ -12,7 +12,7 @@ use Rattle.h5w_writer.specs.Plans.{block_write}
 use Rattle.h5w_writer.specs.Flushes.{cell_list, chunk_values, chunk_writes, free_rows, missing_chunks, own_writes, new_writes, row_writes, naming_writes, block_writes, grown, after_rows, flush_writes}
 use Rattle.h5w_writer.specs.Sessions.{Session, IsSession, Stands, session_of, planned, cutting_of}
 use Rattle.h5w_writer.proofs.CellLemmas.{AllFit-take, AllFit-drop, length-cell_list, length-chunk}
-use Rattle.h5w_writer.proofs.PlanLemmas.{Fits}
+use Rattle.h5w_writer.proofs.PlanLemmas.{FitsLimit}
 use Rattle.h5w_writer.proofs.EventLemmas.{flush_planned, rows_are, flushed_rows}
 use Rattle.h5w_writer.proofs.SessionLemmas.{planned_is}
 use Rattle.h5w_writer.proofs.LoadLemmas.{touches, load_is}
@@ -25,12 +25,12 @@ planned_session old f next rows values items plan writes shown stop view file no
     (λ i. record { file = file i; committed = rows; waiting = none i; pending = is i; stopped = stop }) ∙ ap planned view
 
 pub planned_session_is : (old : Session) (f next : FileFields) (rows : ℕ) (values items : List ℤ) (plan writes : List Write) (shown : ℕ) (stop : Bool) → session_of f rows values plan shown stop ≡ old → next ≡ after_rows values f → items ≡ []
-    → writes ≡ flush_writes f values → old.stopped ≡ false → Fits old.file (length old.waiting) → IsSession (session_of f rows values plan shown stop) → IsSession (session_of next rows items writes 0 stop)
+    → writes ≡ flush_writes f values → old.stopped ≡ false → FitsLimit old.file (length old.waiting) → IsSession (session_of f rows values plan shown stop) → IsSession (session_of next rows items writes 0 stop)
 planned_session_is old f next rows values items plan writes shown stop view file none is running fits session =
     subst IsSession (sym (planned_session old f next rows values items plan writes shown stop view file none is)) (planned_is old running fits (subst IsSession view session))
 
 pub planned_session_stands : (old : Session) (f next : FileFields) (rows : ℕ) (values items : List ℤ) (plan writes : List Write) (shown count : ℕ) (stop : Bool) → session_of f rows values plan shown stop ≡ old → next ≡ after_rows values f
-    → items ≡ [] → writes ≡ flush_writes f values → count ≡ length writes → old.stopped ≡ false → length old.pending ≤ 0 → Fits old.file (length old.waiting) → IsSession (session_of f rows values plan shown stop)
+    → items ≡ [] → writes ≡ flush_writes f values → count ≡ length writes → old.stopped ≡ false → length old.pending ≤ 0 → FitsLimit old.file (length old.waiting) → IsSession (session_of f rows values plan shown stop)
     → (log : Log) → Stands old log → Stands (session_of next rows items writes 0 stop) (and_now (plans count) log)
 planned_session_stands old f next rows values items plan writes shown count stop view file none is counted running idle fits session log stands =
     let same = planned_session old f next rows values items plan writes shown stop view file none is in

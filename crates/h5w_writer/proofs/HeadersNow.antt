@@ -10,7 +10,7 @@ use Rattle.h5w_model.specs.Programs.{Prog, ret, whole, eval, Visit, visits}
 use Rattle.h5w_model.specs.Superblock.{super_bytes}
 use Rattle.h5w_model.specs.Headers.{prefix_at, header_view, messages_at, msgs_bytes, header_bytes, placed}
 use Rattle.h5w_model.specs.Links.{LinkFields, links_at, find_link, is_link, link_fields, link_bytes, link_info_bytes, group_info_bytes}
-use Rattle.h5w_model.specs.Datasets.{HeaderFields, then_also, refused_as, walk, from_chunk, header_refusal, superblock, root_header, root_view, found_at, linked}
+use Rattle.h5w_model.specs.Datasets.{HeaderFields, then_also, refused_as, walk, from_chunk_0, header_refusal, superblock, root_header, root_view, found_at, linked}
 use Rattle.h5w_model.specs.declared.message.Msg.{Msg}
 use Rattle.h5w_model.specs.declared.message.Prefix.{Prefix}
 use Rattle.h5w_model.specs.declared.refusal.LinkError.{LinkError}
@@ -79,16 +79,16 @@ root_look img name short stands =
 abbrev root_from : ℕ → List ℕ → Prog (Result HeaderFields ReadError)
 root_from place first =
     elim (prefix_at first) [
-      | Ok p ↦ (if nat_lt 512 p.total then whole (place + 512) (p.total - 512) (λ rest. from_chunk place p (first ++ rest)) else from_chunk place p first)
+      | Ok p ↦ (if nat_lt 512 p.total then whole (place + 512) (p.total - 512) (λ rest. from_chunk_0 place p (first ++ rest)) else from_chunk_0 place p first)
       | Err e ↦ ret (Err (header_refusal place e))
     ]
 
-root_from-by : (place : ℕ) (b : List ℕ) (p : Prefix) → prefix_at b ≡ Ok p → p.total ≤ 512 → root_from place b ≡ from_chunk place p b
+root_from-by : (place : ℕ) (b : List ℕ) (p : Prefix) → prefix_at b ≡ Ok p → p.total ≤ 512 → root_from place b ≡ from_chunk_0 place p b
 root_from-by place b p prefix short = rw (prefix, root_from, le-ltb 512 p.total short) refl
 
 pub from_chunk-by : (place : ℕ) (p : Prefix) (b : List ℕ) (ms : List Msg) → messages_at b ≡ Ok ms
-    → from_chunk place p b ≡ walk 32 place p.tracked (record { place = place; len = p.total } ∷ []) [] (found_at place true ms)
-from_chunk-by place p b ms read = rw (read, from_chunk) refl
+    → from_chunk_0 place p b ≡ walk 32 place p.tracked (record { place = place; len = p.total } ∷ []) [] (found_at place true ms)
+from_chunk-by place p b ms read = rw (read, from_chunk_0) refl
 
 -- a header within 512 bytes, by its messages
 root_header-by : (img : List ℕ) (place : ℕ) (b : List ℕ) (p : Prefix) (ms : List Msg) → root_view (range img place 512) ≡ b → prefix_at b ≡ Ok p → p.total ≤ 512 → messages_at b ≡ Ok ms

@@ -7,7 +7,7 @@ use Rattle.std.proofs.lemmas.Nat.{div_below}
 use Rattle.std.proofs.Math.Seq.{take-suc-set, set-append_seam}
 use Rattle.std.specs.Result.{IsOk, is_err, IfOk}
 use Rattle.h5w_model.specs.Numbers.{undefined}
-use Rattle.h5w_space.specs.Space.{Space, Takes, extent}
+use Rattle.h5w_space.specs.Space.{Space, TakesPlace, extent}
 use Rattle.h5w_model.specs.declared.options.Options.{Options}
 use Rattle.h5w_model.specs.Options.{AreOptions}
 use Rattle.h5w_writer.specs.Plans.{new_file}
@@ -19,7 +19,7 @@ use Rattle.h5w_writer.specs.Kept.{IsKept, fields_of, places_to}
 use Rattle.h5w_writer.proofs.PlanLemmas.{with_chunks_rise, cell_ends}
 
 -- where nothing is free, a place is taken at the end
-pub taken_at_end : (e most size place : ℕ) (old new : Space) → old ≡ places_to e most → Takes old new (extent place size) → (place ≡ e) × (new ≡ places_to (e + size) most)
+pub taken_at_end : (e most size place : ℕ) (old new : Space) → old ≡ places_to e most → TakesPlace old new (extent place size) → (place ≡ e) × (new ≡ places_to (e + size) most)
 taken_at_end e most size place old new is takes =
     elim takes.by [
       | inl free ↦ absurd (omega (arith, length_permutation old.free (extent place size ∷ new.free) free.free, ap (λ (s : Space). length s.free) is))

@@ -354,10 +354,10 @@ naming f values others (suc d) rows is counted few bound there =
 -- ---- The plan
 
 -- the chunks that so many more rows need end within the limit
-abbrev pub Fits : FileFields → ℕ → Type 0
-Fits f k = f.end + missing_chunks f k * chunk_len f.chunk_rows ≤ f.limit
+abbrev pub FitsLimit : FileFields → ℕ → Type 0
+FitsLimit f k = f.end + missing_chunks f k * chunk_len f.chunk_rows ≤ f.limit
 
-pub grown_is : (f : FileFields) (k : ℕ) → IsFile f → length f.addresses + missing_chunks f k ≤ 4 → Fits f k → IsFile (grown k f)
+pub grown_is : (f : FileFields) (k : ℕ) → IsFile f → length f.addresses + missing_chunks f k ≤ 4 → FitsLimit f k → IsFile (grown k f)
 grown_is f k is few bound =
     let c = missing_chunks f k in
     let count = with_chunks_count f c in
@@ -389,7 +389,7 @@ needed_less : (f : FileFields) (k : ℕ) → length f.addresses ≡ div_up f.row
 needed_less f k needed = omega arith
 
 pub plan_flushes : (f : FileFields) (values : List ℤ) (v : ℤ) (vs : List ℤ) → IsFile f → length f.addresses ≡ div_up f.rows f.chunk_rows → f.top ≡ length f.addresses
-    → Fits f (length (v ∷ vs)) → div_up (f.rows + length (v ∷ vs)) f.chunk_rows ≤ 4 → AllFit (v ∷ vs)
+    → FitsLimit f (length (v ∷ vs)) → div_up (f.rows + length (v ∷ vs)) f.chunk_rows ≤ 4 → AllFit (v ∷ vs)
     → Flushing (record { file = f; values = values; further = [] }) (flush_writes f (v ∷ vs)) (record { file = grown (length (v ∷ vs)) f; values = values ++ v ∷ vs; further = [] })
 plan_flushes f values v vs is needed counted bound room fit =
     let more = v ∷ vs in

@@ -20,7 +20,7 @@ use Rattle.h5w_writer.specs.declared.refusal.AppendError.TheVariants as answers
 use Rattle.h5w_writer.specs.declared.refusal.FlushError.{FlushError}
 use Rattle.h5w_writer.specs.declared.refusal.FlushError.TheVariants as flushes
 use Rattle.h5w_writer.proofs.ChunkLemmas.{div_up_is}
-use Rattle.h5w_writer.proofs.PlanLemmas.{Fits, in_chunk}
+use Rattle.h5w_writer.proofs.PlanLemmas.{FitsLimit, in_chunk}
 use Rattle.h5w_writer.proofs.EventLemmas.{rows_added, rows_are, flushed_rows, goes_of}
 use Rattle.h5w_writer.proofs.FullLemmas.{all_fit, is_full}
 use Rattle.h5w_writer.proofs.LoadLemmas.{none_missing, chunks_loaded}
@@ -207,7 +207,7 @@ is_ready s none =
     record { running = running; idle = idle; fits = none_full (full_for s.file (length s.waiting)) (sym (flush_left s running idle) ∙ none) }
 
 -- the new chunks end within the limit
-pub ready_fits : (s : Session) (r : Result (Unit {0}) FlushError) → MatchOption (flush_refusal s) (r ≡ Ok tt) (λ e. r ≡ Err e) → r ≡ Ok tt → IsSession s → Fits s.file (length s.waiting)
+pub ready_fits : (s : Session) (r : Result (Unit {0}) FlushError) → MatchOption (flush_refusal s) (r ≡ Ok tt) (λ e. r ≡ Err e) → r ≡ Ok tt → IsSession s → FitsLimit s.file (length s.waiting)
 ready_fits s r ready ok is = all_fit s.file (length s.waiting) is.is_file (is_ready s (accepted (flush_refusal s) r ready ok)).fits
 
 -- a refusal that is answered as it is

@@ -16,7 +16,7 @@ use Rattle.h5w_writer.specs.Flushes.{cell_list, chunk_values, chunk_writes, free
 use Rattle.h5w_writer.specs.Sessions.{Session, IsSession, AllEndBy, chunk_limit, session_of, rows_of, created, after_piece, with_values, planned, stopped_of}
 use Rattle.h5w_writer.proofs.CellLemmas.{RisingWrites, RisingWrites-append, AllFit-append, AllFit-drop, chunk_writes_rise}
 use Rattle.h5w_writer.proofs.ChunkLemmas.{is_needed, div_up-grows, div_up_none}
-use Rattle.h5w_writer.proofs.PlanLemmas.{Fits, with_chunks_count, grown_is, own_rows, div_up_spans}
+use Rattle.h5w_writer.proofs.PlanLemmas.{FitsLimit, with_chunks_count, grown_is, own_rows, div_up_spans}
 use Rattle.h5w_writer.proofs.BlockSizes.{lengths}
 use Rattle.h5w_writer.proofs.FileFacts.{places}
 use Rattle.h5w_writer.proofs.Created.{new_is_file}
@@ -206,7 +206,7 @@ needed_after f k some needed =
     let few : div_up f.rows f.chunk_rows ≤ div_up (f.rows + k) f.chunk_rows = div_up-grows f.rows (f.rows + k) f.chunk_rows some (omega arith) in
     omega arith
 
-planned_some : (s : Session) (v : ℤ) (vs : List ℤ) → s.waiting ≡ v ∷ vs → s.stopped ≡ false → Fits s.file (length (v ∷ vs)) → IsSession s
+planned_some : (s : Session) (v : ℤ) (vs : List ℤ) → s.waiting ≡ v ∷ vs → s.stopped ≡ false → FitsLimit s.file (length (v ∷ vs)) → IsSession s
     → IsSession (record { file = grown (length (v ∷ vs)) s.file; committed = s.committed; waiting = []; pending = flush_writes s.file (v ∷ vs); stopped = s.stopped })
 planned_some s v vs rows running fits is =
     let f = s.file in
@@ -238,14 +238,14 @@ planned_some s v vs rows running fits is =
       none_left = λ e. absurd (not_both s.stopped running e);
     }
 
-pub planned_by : (s : Session) (rows : List ℤ) → s.waiting ≡ rows → s.stopped ≡ false → Fits s.file (length rows) → IsSession s
+pub planned_by : (s : Session) (rows : List ℤ) → s.waiting ≡ rows → s.stopped ≡ false → FitsLimit s.file (length rows) → IsSession s
     → IsSession (record { file = after_rows rows s.file; committed = s.committed; waiting = []; pending = flush_writes s.file rows; stopped = s.stopped })
 planned_by s [] rows running fits is =
     let room : div_up (s.file.rows + length (let none : List ℤ = [] in none)) s.file.chunk_rows ≤ chunk_limit = subst (λ (xs : List ℤ). div_up (s.file.rows + length xs) s.file.chunk_rows ≤ 4) rows is.room in
     record { is_file = is.is_file; needed = is.needed; counted = is.counted; end = is.end; room = room; fit = λ j x e. absurd (no_value j x e); sized = tt; within = tt; none_left = λ e. refl }
 planned_by s (v ∷ vs) rows running fits is = planned_some s v vs rows running fits is
 
-pub planned_is : (s : Session) → s.stopped ≡ false → Fits s.file (length s.waiting) → IsSession s → IsSession (planned s)
+pub planned_is : (s : Session) → s.stopped ≡ false → FitsLimit s.file (length s.waiting) → IsSession s → IsSession (planned s)
 planned_is s running fits is = planned_by s s.waiting refl running fits is
 
 -- ---- The pieces of a plan, of which some became visible

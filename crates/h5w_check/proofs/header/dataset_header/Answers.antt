@@ -30,8 +30,8 @@ returns g c =
     let place = c.args.at in
     let b = c.in_ok-bytes.bytes.items in
     let p = c.in-Ok.p in
-    ran_on (λ img. Ok (range img place 512)) b (λ img. finding_for 8 place (eval img (model.from_chunk place p c.deref-2.result.now))) _ _ c.in_ok-bytes.ensures.ran c.from_chunk.ensures
+    ran_on (λ img. Ok (range img place 512)) b (λ img. finding_for 8 place (eval img (model.from_chunk_0 place p c.deref-2.result.now))) _ _ c.in_ok-bytes.ensures.ran c.from_chunk_0.ensures
     (λ img said.
     let e = same_value (range img place 512) b said in
     dataset_short img place p (ap prefix_at (e ∙ sym c.deref.ensures.value) ∙ sym c.prefix.ensures.exact ∙ c.in-Ok.is) c.if-p.false
-    ∙ ap (λ (x : List ℕ). finding_for 8 place (eval img (model.from_chunk place p x))) (ap (take p.total) e ∙ sym c.truncate.ensures.items ∙ sym c.deref-2.ensures.value))
+    ∙ ap (λ (x : List ℕ). finding_for 8 place (eval img (model.from_chunk_0 place p x))) (ap (take p.total) e ∙ sym c.truncate.ensures.items ∙ sym c.deref-2.ensures.value))

@@ -6,7 +6,7 @@ use Rattle.h5w_model.specs.Datasets as model
 use Rattle.h5w_model.specs.Findings.{found}
 use Rattle.h5w_check.specs.Headers.{finding_for, header_of}
 use Rattle.h5w_check.specs.Ran.{seen}
-use Rattle.h5w_check.specs.Roots.{whole_chunk}
+use Rattle.h5w_check.specs.Roots.{whole_chunk_0}
 use Rattle.h5w_check.proofs.RanLemmas.{ran_end, ran_on, ran_then_stop, told_finding, no_answer, same_value}
 use Rattle.h5w_check.proofs.RootLemmas.{root_ok, root_err}
 use Rattle.h5w_check.proofs.root.root_header.Goals as goal
@@ -30,11 +30,11 @@ returns g c =
     let b = c.in_ok-bytes.bytes.items in
     let p = c.in-Ok.p in
     let says : prefix_at b ≡ Ok p = ap prefix_at (sym c.deref.ensures.value) ∙ sym c.prefix.ensures.exact ∙ c.in-Ok.is in
-    let last = ran_on (λ img. Ok (whole_chunk img place p.total b)) c.in_ok-bytes-2.bytes.items
-    (λ img. finding_for 6 place (eval img (model.from_chunk place p c.deref-2.result.now)))
-    (λ img. finding_for 6 place (eval img (model.from_chunk place p (whole_chunk img place p.total b)))) (seen header_of c.from_chunk.result) c.in_ok-bytes-2.ensures.ran c.from_chunk.ensures
-    (λ img said. ap (λ (x : List ℕ). finding_for 6 place (eval img (model.from_chunk place p x))) (same_value (whole_chunk img place p.total b) c.in_ok-bytes-2.bytes.items said ∙ sym c.deref-2.ensures.value)) in
-    ran_on (λ img. Ok (range img place 512)) b (λ img. finding_for 6 place (eval img (model.from_chunk place p (whole_chunk img place p.total b)))) _ _ c.in_ok-bytes.ensures.ran last
+    let last = ran_on (λ img. Ok (whole_chunk_0 img place p.total b)) c.in_ok-bytes-2.bytes.items
+    (λ img. finding_for 6 place (eval img (model.from_chunk_0 place p c.deref-2.result.now)))
+    (λ img. finding_for 6 place (eval img (model.from_chunk_0 place p (whole_chunk_0 img place p.total b)))) (seen header_of c.from_chunk_0.result) c.in_ok-bytes-2.ensures.ran c.from_chunk_0.ensures
+    (λ img said. ap (λ (x : List ℕ). finding_for 6 place (eval img (model.from_chunk_0 place p x))) (same_value (whole_chunk_0 img place p.total b) c.in_ok-bytes-2.bytes.items said ∙ sym c.deref-2.ensures.value)) in
+    ran_on (λ img. Ok (range img place 512)) b (λ img. finding_for 6 place (eval img (model.from_chunk_0 place p (whole_chunk_0 img place p.total b)))) _ _ c.in_ok-bytes.ensures.ran last
     (λ img said.
     let e = same_value (range img place 512) b said in
-    root_ok img place p (ap prefix_at e ∙ says) ∙ ap (λ (x : List ℕ). finding_for 6 place (eval img (model.from_chunk place p (whole_chunk img place p.total x)))) e)
+    root_ok img place p (ap prefix_at e ∙ says) ∙ ap (λ (x : List ℕ). finding_for 6 place (eval img (model.from_chunk_0 place p (whole_chunk_0 img place p.total x)))) e)

@@ -7,7 +7,7 @@ use Rattle.h5w_check.proofs.stack.put_before.Given as goal
 
 abbrev pub invariant-loop-m : goal.invariant-loop-m
 invariant-loop-m l = record {
-  same : found_at l.place l.in_chunk l.list.items ++ stack l.next.items ≡ found_at l.place l.in_chunk l.initial.list.items ++ stack l.initial.next.items;
+  same : found_at l.place l.in_chunk_0 l.list.items ++ stack l.next.items ≡ found_at l.place l.in_chunk_0 l.initial.list.items ++ stack l.initial.next.items;
   listed : All (IsInside l.got) l.list.items;
 }
 

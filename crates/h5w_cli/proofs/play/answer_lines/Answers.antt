@@ -1,5 +1,5 @@
 use Rattle.std.proofs.Common.{◌≡◌, Result, Err, ap, subst, sym, rules}
-use Rattle.h5w_text.specs.Reading.{reading}
+use Rattle.h5w_text.specs.LinesAhead.{lines_ahead}
 use Rattle.h5w_cli.specs.Endings.{Runs, ending_of, outside}
 use Rattle.h5w_cli.specs.declared.ending.Ending.{Ending}
 use Rattle.h5w_core.specs.Worlds.{rules_of}
@@ -8,7 +8,7 @@ use Rattle.h5w_cli.proofs.play.answer_lines.Goals as goal
 
 pub loop-text-init : goal.loop-text-init
 loop-text-init g c = record {
-  going = whole_first (reading (g.S.Source.view c.args.lines.now.source.now) c.args.lines.now.intake.now) c.args.world.now (g.K.Sink.view c.args.sink.now) c.requires.fits;
+  going = whole_first (lines_ahead (g.S.Source.view c.args.lines.now.source.now) c.args.lines.now.intake.now) c.args.world.now (g.K.Sink.view c.args.sink.now) c.requires.fits;
   same_reference = search rules;
   same_intake = search rules;
 }
@@ -17,15 +17,15 @@ pub returns-in_err-line-clause-runs : goal.returns-in_err-line-clause-runs
 returns-in_err-line-clause-runs g c =
     let is : c.from_residual.result ≡ Err (ending_of c.in_err-line.field-0.0) = search rules in
     let t = g.S.Source.view c.next.new.self.source.now in
-    subst (λ (r : Result (Unit {0}) Ending). Runs (rules_of c.args.world.now) r (outside (reading (g.S.Source.view c.args.lines.now.source.now) c.args.lines.now.intake.now)) t (g.K.Sink.view c.args.sink.now) (g.K.Sink.view c.loop-text.sink)) (sym is)
+    subst (λ (r : Result (Unit {0}) Ending). Runs (rules_of c.args.world.now) r (outside (lines_ahead (g.S.Source.view c.args.lines.now.source.now) c.args.lines.now.intake.now)) t (g.K.Sink.view c.args.sink.now) (g.K.Sink.view c.loop-text.sink)) (sym is)
     (ended_at_source t c.next.new.self.intake.now c.in_err-line.field-0.0 c.loop-text.invariant.going c.requires.room (λ e. c.in_err-line.ensures.cause (ap Err e)) (λ e. c.in_err-line.ensures.failed (ap Err e)) (λ limit e. (c.in_err-line.ensures.input limit (ap Err e)).1))
 
 pub returns-in_err-answer_line-in-Line-clause-runs : goal.returns-in_err-answer_line-in-Line-clause-runs
 returns-in_err-answer_line-in-Line-clause-runs g c =
     let is : c.from_residual-in_err-answer_line-in-Line.result ≡ Err c.in_err-answer_line-in-Line.field-0.0 = search rules in
     let given = rw c.in-Line.is at c.in_ok-line.ensures.line in
-    subst (λ (r : Result (Unit {0}) Ending). Runs (rules_of c.args.world.now) r (outside (reading (g.S.Source.view c.args.lines.now.source.now) c.args.lines.now.intake.now)) (g.S.Source.view c.next.new.self.source.now) (g.K.Sink.view c.args.sink.now) (g.K.Sink.view c.answer_line.new.sink)) (sym is)
-    (ended_at_line {w = reading (g.S.Source.view c.next.new.self.source.now) c.next.new.self.intake.now} (g.S.Source.view c.next.new.self.source.now) (g.K.Sink.view c.answer_line.new.sink) given.0 c.in_err-answer_line-in-Line.field-0.0 c.requires.room c.loop-text.invariant.going.going given.2 (c.in_err-answer_line-in-Line.ensures.ended given.0 given.1))
+    subst (λ (r : Result (Unit {0}) Ending). Runs (rules_of c.args.world.now) r (outside (lines_ahead (g.S.Source.view c.args.lines.now.source.now) c.args.lines.now.intake.now)) (g.S.Source.view c.next.new.self.source.now) (g.K.Sink.view c.args.sink.now) (g.K.Sink.view c.answer_line.new.sink)) (sym is)
+    (ended_at_line {w = lines_ahead (g.S.Source.view c.next.new.self.source.now) c.next.new.self.intake.now} (g.S.Source.view c.next.new.self.source.now) (g.K.Sink.view c.answer_line.new.sink) given.0 c.in_err-answer_line-in-Line.field-0.0 c.requires.room c.loop-text.invariant.going.going given.2 (c.in_err-answer_line-in-Line.ensures.ended given.0 given.1))
 
 pub loop-text-preserved-in_ok-answer_line-in-Line : goal.loop-text-preserved-in_ok-answer_line-in-Line
 loop-text-preserved-in_ok-answer_line-in-Line g c =

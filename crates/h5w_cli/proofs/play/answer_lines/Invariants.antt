@@ -1,11 +1,11 @@
 use Rattle.std.proofs.Common.{◌≡◌, length, ◌+◌}
-use Rattle.h5w_text.specs.Reading.{reading}
+use Rattle.h5w_text.specs.LinesAhead.{lines_ahead}
 use Rattle.h5w_cli.proofs.PlayLemmas.{GoingWhole}
 use Rattle.h5w_cli.proofs.play.answer_lines.Given as goal
 
 abbrev pub invariant-loop-text : goal.invariant-loop-text
 invariant-loop-text g l = record {
-  going : GoingWhole (reading (g.S.Source.view l.fn.lines.source.now) l.fn.lines.intake.now) (reading (g.S.Source.view l.lines.source.now) l.lines.intake.now) l.fn.world l.world l.number (g.K.Sink.view l.fn.sink) (g.K.Sink.view l.sink);
+  going : GoingWhole (lines_ahead (g.S.Source.view l.fn.lines.source.now) l.fn.lines.intake.now) (lines_ahead (g.S.Source.view l.lines.source.now) l.lines.intake.now) l.fn.world l.world l.number (g.K.Sink.view l.fn.sink) (g.K.Sink.view l.sink);
   same_reference : l.lines.source.ghost_name ≡ l.fn.lines.source.ghost_name;
   same_intake : l.lines.intake.ghost_name ≡ l.fn.lines.intake.ghost_name;
 }

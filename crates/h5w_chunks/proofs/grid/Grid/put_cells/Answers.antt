@@ -3,7 +3,7 @@ use Rattle.std.proofs.lemmas.Option.{slice_get-get_or}
 use Rattle.std.specs.Int.{w128}
 use Rattle.h5w_model.specs.Integers.{cell_bytes_of}
 use Rattle.h5w_types.specs.Fields.{int_type_of}
-use Rattle.h5w_chunks.specs.Grids.{Fits, cells_of, dataset_of}
+use Rattle.h5w_chunks.specs.Grids.{FitsType, cells_of, dataset_of}
 use Rattle.h5w_chunks.proofs.Loops.{cells_more, cells_all}
 use Rattle.h5w_chunks.proofs.grid.Grid.put_cells.Goals as goal
 
@@ -14,7 +14,7 @@ loop-v-preserved c =
     let i = c.loop-v.v-index in
     let v = get_or values i (pos 0) in
     let inside : i < length values = c.loop-v-test.true in
-    let fits : Fits d v = c.requires.fit i v (slice_get-get_or values i (pos 0) inside) in
+    let fits : FitsType d v = c.requires.fit i v (slice_get-get_or values i (pos 0) inside) in
     let is : to_z w128 (of_z w128 v) ≡ v = search rules in
     let made : cell_bytes_of (to_z w128 (of_z w128 v)) (int_type_of c.args.self.now.int_type) ≡ Some fits.0 = ap (λ (x : ℤ). cell_bytes_of x (int_type_of c.args.self.now.int_type)) is ∙ fits.1 in
     cells_more d c.loop-v.out.items c.put_cell.new.out.items (c.args.out.now.items ++ cells_of d values) fits.0 values i inside fits.1 (c.in_ok-put_cell.ensures fits.0 made) c.loop-v.invariant

@@ -1,6 +1,6 @@
 use Rattle.std.proofs.Common.{◌≡◌, ◌∙◌, sym, length}
 use Rattle.h5w_model.specs.Datasets.{super_of}
-use Rattle.h5w_reader.specs.Walking.{chunk_rest}
+use Rattle.h5w_reader.specs.Walking.{chunk_0_rest}
 use Rattle.h5w_reader.specs.Opening.{super_rest}
 use Rattle.h5w_reader.proofs.WalkLemmas.{fed_more, fed_whole, fits_gather}
 use Rattle.h5w_reader.proofs.OpenLemmas.{super_ok, super_err}
@@ -11,7 +11,7 @@ pub feed-requires : goal.feed-requires
 feed-requires c = fits_gather c.in-Super.gather super_rest (length c.args.piece.now) (rw c.in-Super.is at c.requires)
 
 pub feed-requires-in-Rest : goal.feed-requires-in-Rest
-feed-requires-in-Rest c = fits_gather c.in-Rest.gather (chunk_rest c.in-Rest.gather.start c.in-Rest.p) (length c.args.piece.now) (rw c.in-Rest.is at c.requires)
+feed-requires-in-Rest c = fits_gather c.in-Rest.gather (chunk_0_rest c.in-Rest.gather.start c.in-Rest.p) (length c.args.piece.now) (rw c.in-Rest.is at c.requires)
 
 pub returns-in-More : goal.returns-in-More
 returns-in-More c =
@@ -31,10 +31,10 @@ returns-after-read_super c =
 pub returns-in-More-2 : goal.returns-in-More-2
 returns-in-More-2 c =
     let e = rw c.in-More-2.is at c.in_ok-gather-in-Rest.ensures in
-    rw (c.in-Rest.is, e.start) (fed_more c.in-Rest.gather c.in-More-2.gather c.args.piece.now (chunk_rest c.in-Rest.gather.start c.in-Rest.p) e.left)
+    rw (c.in-Rest.is, e.start) (fed_more c.in-Rest.gather c.in-More-2.gather c.args.piece.now (chunk_0_rest c.in-Rest.gather.start c.in-Rest.p) e.left)
 
 pub returns-in_ok-start-in-Whole-2 : goal.returns-in_ok-start-in-Whole-2
 returns-in_ok-start-in-Whole-2 c =
     let e = rw c.in-Whole-2.is at c.in_ok-gather-in-Rest.ensures in
-    let whole = fed_whole c.in-Rest.gather c.in-Whole-2.bytes.items c.args.piece.now (chunk_rest c.in-Rest.gather.start c.in-Rest.p) e.left in
+    let whole = fed_whole c.in-Rest.gather c.in-Whole-2.bytes.items c.args.piece.now (chunk_0_rest c.in-Rest.gather.start c.in-Rest.p) e.left in
     rw c.in-Rest.is (c.of.ensures ∙ c.in_ok-start-in-Whole-2.ensures ∙ rw (c.start-place.ensures, c.deref-in-Whole-2.ensures.value) whole)

@@ -1,7 +1,7 @@
 use Rattle.std.proofs.Common.{◌∙◌, sym, ap, length, subst}
 use Rattle.h5w_model.specs.Checked.{viewed}
 use Rattle.h5w_model.specs.Programs.{bind, and_then, next_look, fed}
-use Rattle.h5w_reader.specs.Looks.{Fits}
+use Rattle.h5w_reader.specs.Looks.{IsWithinLook}
 use Rattle.h5w_reader.specs.Opening.{opening, opened}
 use Rattle.h5w_reader.specs.Attempts.{known_of, rules_of}
 use Rattle.h5w_reader.specs.Descents.{reading_news}
@@ -19,7 +19,7 @@ feed-requires c =
 pub after_header-requires : goal.after_header-requires
 after_header-requires c =
     let h = rw c.in-Header.is at c.requires in
-    subst (λ p. Fits (next_look p) (length c.args.piece.now)) (rows_begin (rules_of c.in-Header.rules (known_of c.args.known.now))) h
+    subst (λ p. IsWithinLook (next_look p) (length c.args.piece.now)) (rows_begin (rules_of c.in-Header.rules (known_of c.args.known.now))) h
 
 pub feed-requires-in-Behind : goal.feed-requires-in-Behind
 feed-requires-in-Behind c =
@@ -32,7 +32,7 @@ pub view_at-last-requires : goal.view_at-last-requires
 view_at-last-requires c =
     let a = c.in-Confirm.attempt in
     let h = rw c.in-Confirm.is at c.requires in
-    subst (λ p. Fits (next_look p) (length c.args.piece.now)) (confirm_begins (rules_of a.rules (known_of c.args.known.now)) a.more a.view (viewed (reading_news (known_of c.args.known.now)) c.in-Confirm.answer)) h
+    subst (λ p. IsWithinLook (next_look p) (length c.args.piece.now)) (confirm_begins (rules_of a.rules (known_of c.args.known.now)) a.more a.view (viewed (reading_news (known_of c.args.known.now)) c.in-Confirm.answer)) h
 
 pub returns-in_ok-feed-in-Open : goal.returns-in_ok-feed-in-Open
 returns-in_ok-feed-in-Open c =

@@ -1,5 +1,5 @@
 use Rattle.std.proofs.Common.{arith, ap, sym, ◌∙◌, ◌-◌}
-use Rattle.h5w_text.specs.Reading.{IntakeView}
+use Rattle.h5w_text.specs.LinesAhead.{IntakeView}
 use Rattle.h5w_text.proofs.LineLemmas.{filled, slice_none}
 use Rattle.h5w_text.proofs.intake.Intake.fill.Goals as goal
 

@@ -2,7 +2,7 @@ use Rattle.std.proofs.Common.{arith, ◌^◌, ◌≡◌, ◌<◌, ◌+◌, ◌*�
 use Rattle.std.proofs.lemmas.Bool.{and_right}
 use Rattle.std.specs.Prelude.{not, nat_lt}
 use Rattle.std.specs.Result.{is_err}
-use Rattle.h5w_space.specs.Space.{Space, Takes, extent, has_size}
+use Rattle.h5w_space.specs.Space.{Space, TakesPlace, extent, has_size}
 use Rattle.h5w_writer.specs.Files.{FileFields, chunk_len}
 use Rattle.h5w_writer.specs.Flushes.{with_chunks}
 use Rattle.h5w_writer.specs.Kept.{places_to, fields_of}
@@ -24,8 +24,8 @@ unwrap-place-requires c =
 -- the chunk was put at the end
 placed : (c : goal.After-self-1) → (c.unwrap-place.result ≡ c.self.inside.places.end) × (c.take.new.self ≡ places_to (c.self.inside.places.end + c.self.inside.chunk_rows * 4) c.self.inside.limit)
 placed c =
-    let taken : Takes c.self.inside.places c.take.new.self (extent c.unwrap-place.result (c.self.inside.chunk_rows * 4)) =
-    given_ok (λ (x : ℕ). Takes c.self.inside.places c.take.new.self (extent x (c.self.inside.chunk_rows * 4))) c.take.result c.unwrap-place.result c.unwrap-place.ensures c.take.ensures.taken in
+    let taken : TakesPlace c.self.inside.places c.take.new.self (extent c.unwrap-place.result (c.self.inside.chunk_rows * 4)) =
+    given_ok (λ (x : ℕ). TakesPlace c.self.inside.places c.take.new.self (extent x (c.self.inside.chunk_rows * 4))) c.take.result c.unwrap-place.result c.unwrap-place.ensures c.take.ensures.taken in
     taken_at_end c.self.inside.places.end c.self.inside.limit (c.self.inside.chunk_rows * 4) c.unwrap-place.result c.self.inside.places c.take.new.self c.self.invariant.places_are taken
 
 moved : (c : goal.After-self-1) → c.take.new.self.end ≡ c.self.inside.places.end + c.self.inside.chunk_rows * 4

@@ -3,8 +3,8 @@ use Rattle.std.specs.Prelude.{◌≡◌, ◌⊎◌, ℕ, ◌+◌, ◌<◌, ◌�
 use Rattle.h5w_text.specs.Bytes.{Lacks}
 use Rattle.h5w_text.specs.Lines.{last_line, line_limit, lines_of}
 use Rattle.h5w_text.specs.Streams.{SourceView}
-use Rattle.h5w_text.specs.declared.line.Line as lines
-use Rattle.h5w_text.specs.declared.line.Line.TheVariants.{Whole, Long}
+use Rattle.h5w_text.specs.declared.line.TextLine as lines
+use Rattle.h5w_text.specs.declared.line.TextLine.TheVariants.{Whole, Long}
 use Rattle.h5w_text.specs.declared.line.Next.{Next}
 use Rattle.h5w_text.specs.declared.line.Next.TheVariants.{Line, Last, End}
 use Rattle.h5w_text.specs.declared.line.Partial.{Partial}
@@ -16,7 +16,7 @@ pub record IntakeView : Type 0 where
   pub limit : ℕ
 
 -- what a reader of lines has before it
-pub record Reading : Type 0 where
+pub record LinesAhead : Type 0 where
   -- the bytes that are not given yet, where the source tells its own
   pub left : Option (List ℕ)
   -- how many of them may be given
@@ -28,8 +28,8 @@ pub record Reading : Type 0 where
   -- the references that the source works through
   pub through : List ℕ
 
-abbrev pub reading : SourceView → IntakeView → Reading
-reading s i = record {
+abbrev pub lines_ahead : SourceView → IntakeView → LinesAhead
+lines_ahead s i = record {
   left = option_map (λ rest. i.held ++ rest) s.left;
   room = length i.held + i.more;
   limit = i.limit;
@@ -38,28 +38,28 @@ reading s i = record {
 }
 
 -- the lines that are left
-abbrev pub lines_left : Reading → Option (List (List ℕ))
+abbrev pub lines_left : LinesAhead → Option (List (List ℕ))
 lines_left v = option_map lines_of v.left
 
 -- the line, or that it is longer than the limit
-abbrev pub IsLine : lines.Line → List ℕ → Type 0
+abbrev pub IsLine : lines.TextLine → List ℕ → Type 0
 IsLine (Whole bytes) line = (bytes ≡ line) × (length line ≤ line_limit)
 IsLine Long line = line_limit < length line
 
 -- the outside is the same, but for more faults
-pub record Stays (v w : Reading) : Type 0 where
+pub record Stays (v w : LinesAhead) : Type 0 where
   pub limit : w.limit ≡ v.limit
   pub faults : v.faults ≤ w.faults
   pub through : w.through ≡ v.through
 
 -- these bytes were given
-pub record Passed (bytes : List ℕ) (v w : Reading) : Type 0 where
+pub record Passed (bytes : List ℕ) (v w : LinesAhead) : Type 0 where
   pub left : v.left ≡ option_map (λ rest. bytes ++ rest) w.left
   pub room : v.room ≡ w.room + length bytes
   pub stays : Stays v w
 
 -- this line was given
-pub record Given (line : List ℕ) (v w : Reading) : Type 0 where
+pub record Given (line : List ℕ) (v w : LinesAhead) : Type 0 where
   pub lines : lines_left v ≡ option_map (λ ls. line ∷ ls) (lines_left w)
   pub room : w.room < v.room
   -- the line and its end are within the room
@@ -68,36 +68,36 @@ pub record Given (line : List ℕ) (v w : Reading) : Type 0 where
   pub passed : Passed line v w ⊎ Passed (line ++ 10 ∷ []) v w
 
 -- this line has an end, and was passed over with it
-pub record IsWhole (line : List ℕ) (v w : Reading) : Type 0 where
+pub record IsWhole (line : List ℕ) (v w : LinesAhead) : Type 0 where
   pub lacks : Lacks 10 line
   pub passed : Passed (line ++ 10 ∷ []) v w
 
 -- nothing was left
-pub record Ended (v w : Reading) : Type 0 where
+pub record Ended (v w : LinesAhead) : Type 0 where
   pub before : IfSome v.left (λ left. left ≡ [])
   pub now : IfSome w.left (λ left. left ≡ [])
 
 -- the line under way has more bytes than may be given
-abbrev pub IsOver : Reading → Type 0
+abbrev pub IsOver : LinesAhead → Type 0
 IsOver v = IfSome v.left (λ left. (v.room < length left) × Lacks 10 (take v.room left))
 
 -- What the next step of a reader of lines is: a line that is ended, the last one that is not, or the end of the input. Behind
 -- the last two nothing is left.
-abbrev pub Gives : Next → Reading → Reading → Type 0
-Gives (Line l) v w = (line : List ℕ) × IsLine l line × Given line v w × IsWhole line v w
-Gives (Last l) v w = (line : List ℕ) × IsLine l line × Given line v w × IfSome w.left (λ left. left ≡ [])
-Gives End v w = Ended v w
+abbrev pub NextGives : Next → LinesAhead → LinesAhead → Type 0
+NextGives (Line l) v w = (line : List ℕ) × IsLine l line × Given line v w × IsWhole line v w
+NextGives (Last l) v w = (line : List ℕ) × IsLine l line × Given line v w × IfSome w.left (λ left. left ≡ [])
+NextGives End v w = Ended v w
 
 -- The line under way was given up: these bytes of it were taken, and its end is not among them. Nothing more is held, so that
 -- the source stands right behind them.
-pub record GivenUp (v w : Reading) (held : List ℕ) : Type 0 where
+pub record GivenUp (v w : LinesAhead) (held : List ℕ) : Type 0 where
   pub front : List ℕ
   pub lacks : Lacks 10 front
   pub passed : Passed front v w
   pub none : held ≡ []
 
 -- The same where no more bytes may be given: the byte behind them was taken too.
-pub record GivenUpOver (v w : Reading) (held : List ℕ) : Type 0 where
+pub record GivenUpOver (v w : LinesAhead) (held : List ℕ) : Type 0 where
   pub front : List ℕ
   pub lacks : Lacks 10 front
   pub all : length front ≡ v.room

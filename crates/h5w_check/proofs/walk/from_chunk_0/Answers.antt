@@ -2,7 +2,7 @@ use Rattle.std.proofs.Common.{◌≡◌, [], ◌∷◌}
 use Rattle.h5w_check.specs.Headers.{ranges_of, stack}
 use Rattle.h5w_check.proofs.RanLemmas.{ran_begin}
 use Rattle.h5w_check.proofs.WalkLemmas.{chunk_goes}
-use Rattle.h5w_check.proofs.walk.from_chunk.Goals as goal
+use Rattle.h5w_check.proofs.walk.from_chunk_0.Goals as goal
 
 pub returns : goal.returns
 returns g c =

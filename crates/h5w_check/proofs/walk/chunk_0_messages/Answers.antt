@@ -1,7 +1,7 @@
 use Rattle.std.proofs.Common.{length}
 use Rattle.h5w_model.specs.Headers.{messages_at}
 use Rattle.h5w_check.proofs.ListedLemmas.{messages_listed, listed_ok}
-use Rattle.h5w_check.proofs.walk.chunk_messages.Goals as goal
+use Rattle.h5w_check.proofs.walk.chunk_0_messages.Goals as goal
 
 pub put_before-requires-clause-listed : goal.put_before-requires-clause-listed
 put_before-requires-clause-listed c =

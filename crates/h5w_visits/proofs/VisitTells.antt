@@ -11,7 +11,7 @@ use Rattle.h5w_laws.proofs.ResultLemmas.{and_then_ok, and_then_from}
 use Rattle.h5w_visits.specs.Ranges.{AllEndBy, AllSome, AllWithin, block_at}
 use Rattle.h5w_visits.proofs.RangeLemmas.{among_left, among_right, ends_nil, ends_cons, ends_joined, ends_left, ends_right, some_nil, some_cons, some_joined, within_more, within_joined}
 
-pub record Told {R : Type 0} (img : List ℕ) (end bytes : ℕ) (p : ℕ → Prog (Result R Finding)) (r : R) (us : List Used) : Type 0 where
+pub record VisitTells {R : Type 0} (img : List ℕ) (end bytes : ℕ) (p : ℕ → Prog (Result R Finding)) (r : R) (us : List Used) : Type 0 where
   pub visited : AllWithin us (visits img (p end))
   pub ends : AllEndBy end us
   pub some : 0 < bytes → AllSome us
@@ -29,12 +29,12 @@ visits_next {A} {B} {E} img p f a h =
 abbrev pub no_visit : Visited
 no_visit = ret (Ok [])
 
-pub told_nil : (img : List ℕ) (end bytes : ℕ) → Told {R = List Used} img end bytes (λ e. no_visit) [] []
+pub told_nil : (img : List ℕ) (end bytes : ℕ) → VisitTells {R = List Used} img end bytes (λ e. no_visit) [] []
 told_nil img end bytes = record { visited = tt; ends = ends_nil end; some = λ h. some_nil; other = λ new h. refl }
 
 -- the same ranges, said in another way
 pub told_as : {A B : Type 0} (img : List ℕ) (end bytes : ℕ) (p : ℕ → Prog (Result A Finding)) (f : A → Result B Finding) (a : A) (b : B) (us : List Used)
-    → f a ≡ Ok b → Told img end bytes p a us → Told img end bytes (λ e. and_then (p e) (λ a. ret (f a))) b us
+    → f a ≡ Ok b → VisitTells img end bytes p a us → VisitTells img end bytes (λ e. and_then (p e) (λ a. ret (f a))) b us
 told_as img end bytes p f a b us e t = record {
   visited = subst (λ (vs : List Visit). AllWithin us vs) (sym (visits_next img (p end) (λ a. ret (f a)) a (t.other end t.ends) ∙ append-nil (visits img (p end)))) t.visited;
   ends = t.ends;
@@ -43,7 +43,7 @@ told_as img end bytes p f a b us e t = record {
 }
 
 pub told_next : {A B : Type 0} (img : List ℕ) (end bytes : ℕ) (p : ℕ → Prog (Result A Finding)) (f : ℕ → A → Prog (Result B Finding)) (a : A) (b : B) (us vs : List Used)
-    → Told img end bytes p a us → Told img end bytes (λ e. f e a) b vs → Told img end bytes (λ e. and_then (p e) (f e)) b (us ++ vs)
+    → VisitTells img end bytes p a us → VisitTells img end bytes (λ e. f e a) b vs → VisitTells img end bytes (λ e. and_then (p e) (f e)) b (us ++ vs)
 told_next img end bytes p f a b us vs t s = record {
   visited = subst (λ (xs : List Visit). AllWithin (us ++ vs) xs) (sym (visits_next img (p end) (f end) a (t.other end t.ends)))
       (within_joined (us ++ vs) (visits img (p end)) (visits img (f end a))
@@ -74,28 +74,28 @@ both_parts img p q us h =
     let b = and_then_ok img q (λ vs. ret (Ok (a.0 ++ vs))) us a.2 in
     record { first = a.0; second = b.0; of_first = a.1; of_second = b.1; parts = same_ranges (a.0 ++ b.0) us b.2 }
 
-pub told_both : (img : List ℕ) (end bytes : ℕ) (p q : ℕ → Visited) (us vs ws : List Used) → us ++ vs ≡ ws → Told img end bytes p us us → Told img end bytes q vs vs
-    → Told img end bytes (λ e. both (p e) (q e)) ws ws
+pub told_both : (img : List ℕ) (end bytes : ℕ) (p q : ℕ → Visited) (us vs ws : List Used) → us ++ vs ≡ ws → VisitTells img end bytes p us us → VisitTells img end bytes q vs vs
+    → VisitTells img end bytes (λ e. both (p e) (q e)) ws ws
 told_both img end bytes p q us vs ws parts t s =
-    subst (λ (xs : List Used). Told img end bytes (λ e. both (p e) (q e)) xs xs) parts
+    subst (λ (xs : List Used). VisitTells img end bytes (λ e. both (p e) (q e)) xs xs) parts
     (told_next img end bytes p (λ e xs. and_then (q e) (λ ys. ret (Ok (xs ++ ys)))) us (us ++ vs) us vs t
     (told_as img end bytes q (λ ys. Ok (us ++ ys)) vs (us ++ vs) vs refl s))
 
 -- ---- What was decoded, and what is tested first
 
 pub told_choice : {A E R : Type 0} (img : List ℕ) (end bytes : ℕ) (r : Result A E) (f : ℕ → A → Prog (Result R Finding)) (g : E → Finding) (a : A) (x : R) (us : List Used)
-    → r ≡ Ok a → Told img end bytes (λ e. f e a) x us → Told img end bytes (λ e. elim r as (λ _. Prog (Result R Finding)) [ Ok a ↦ f e a | Err e ↦ ret (Err (g e)) ]) x us
+    → r ≡ Ok a → VisitTells img end bytes (λ e. f e a) x us → VisitTells img end bytes (λ e. elim r as (λ _. Prog (Result R Finding)) [ Ok a ↦ f e a | Err e ↦ ret (Err (g e)) ]) x us
 told_choice {A} {E} {R} img end bytes r f g a x us h t =
-    subst (λ (y : Result A E). Told img end bytes (λ e. elim y as (λ _. Prog (Result R Finding)) [ Ok a ↦ f e a | Err e ↦ ret (Err (g e)) ]) x us) (sym h) t
+    subst (λ (y : Result A E). VisitTells img end bytes (λ e. elim y as (λ _. Prog (Result R Finding)) [ Ok a ↦ f e a | Err e ↦ ret (Err (g e)) ]) x us) (sym h) t
 
 -- the second branch
 pub told_other : {R : Type 0} (img : List ℕ) (end bytes : ℕ) (b : Bool) (p q : ℕ → Prog (Result R Finding)) (x : R) (us : List Used) → b ≡ false
-    → Told img end bytes q x us → Told img end bytes (λ e. cond b (p e) (q e)) x us
-told_other img end bytes b p q x us h t = subst (λ (c : Bool). Told img end bytes (λ e. cond c (p e) (q e)) x us) (sym h) t
+    → VisitTells img end bytes q x us → VisitTells img end bytes (λ e. cond b (p e) (q e)) x us
+told_other img end bytes b p q x us h t = subst (λ (c : Bool). VisitTells img end bytes (λ e. cond c (p e) (q e)) x us) (sym h) t
 
 pub told_one : {R : Type 0} (img : List ℕ) (end bytes : ℕ) (b : Bool) (p q : ℕ → Prog (Result R Finding)) (x : R) (us : List Used) → b ≡ true
-    → Told img end bytes p x us → Told img end bytes (λ e. cond b (p e) (q e)) x us
-told_one img end bytes b p q x us h t = subst (λ (c : Bool). Told img end bytes (λ e. cond c (p e) (q e)) x us) (sym h) t
+    → VisitTells img end bytes p x us → VisitTells img end bytes (λ e. cond b (p e) (q e)) x us
+told_one img end bytes b p q x us h t = subst (λ (c : Bool). VisitTells img end bytes (λ e. cond c (p e) (q e)) x us) (sym h) t
 
 -- ---- A block within the end
 
@@ -118,8 +118,8 @@ block_parts img end place n visit us h =
 
 -- a look at a place within a block, and what is visited then
 pub told_look : {R : Type 0} (img : List ℕ) (end bytes place n len : ℕ) (visit : ℕ → List ℕ → Prog (Result R Finding)) (x : R) (us : List Used) → 0 < n → len ≤ n → place + n ≤ end
-    → Told img end bytes (λ e. visit e (range img place len)) x us
-    → Told img end bytes (λ e. cond (nat_lt e (place + n)) (ret (Err (found block_past_end place))) (whole place len (visit e))) x (block_at place n ∷ us)
+    → VisitTells img end bytes (λ e. visit e (range img place len)) x us
+    → VisitTells img end bytes (λ e. cond (nat_lt e (place + n)) (ret (Err (found block_past_end place))) (whole place len (visit e))) x (block_at place n ∷ us)
 told_look {R} img end bytes place n len visit x us some low fits t =
     let own : Used = block_at place n in
     let after : ℕ → Prog (Result R Finding) = λ e. whole place len (visit e) in
@@ -138,10 +138,10 @@ told_look {R} img end bytes place n len visit x us some low fits t =
     }
 
 pub told_block : (img : List ℕ) (end bytes place n : ℕ) (visit : ℕ → List ℕ → Visited) (vs us : List Used) → 0 < n → place + n ≤ end → block_at place n ∷ vs ≡ us
-    → Told img end bytes (λ e. visit e (range img place n)) vs vs → Told img end bytes (λ e. block_in e place n (visit e)) us us
+    → VisitTells img end bytes (λ e. visit e (range img place n)) vs vs → VisitTells img end bytes (λ e. block_in e place n (visit e)) us us
 told_block img end bytes place n visit vs us some fits parts t =
     let own : Used = block_at place n in
     let after : ℕ → List ℕ → Visited = λ e b. and_then (visit e b) (λ us. ret (Ok (own ∷ us))) in
-    let given : Told img end bytes (λ e. after e (range img place n)) (own ∷ vs) vs = told_as img end bytes (λ e. visit e (range img place n)) (λ us. Ok (own ∷ us)) vs (own ∷ vs) vs refl t in
-    let whole_block : Told img end bytes (λ e. block_in e place n (visit e)) (own ∷ vs) (own ∷ vs) = told_look img end bytes place n n after (own ∷ vs) vs some (omega arith) fits given in
-    subst (λ (xs : List Used). Told img end bytes (λ e. block_in e place n (visit e)) xs xs) parts whole_block
+    let given : VisitTells img end bytes (λ e. after e (range img place n)) (own ∷ vs) vs = told_as img end bytes (λ e. visit e (range img place n)) (λ us. Ok (own ∷ us)) vs (own ∷ vs) vs refl t in
+    let whole_block : VisitTells img end bytes (λ e. block_in e place n (visit e)) (own ∷ vs) (own ∷ vs) = told_look img end bytes place n n after (own ∷ vs) vs some (omega arith) fits given in
+    subst (λ (xs : List Used). VisitTells img end bytes (λ e. block_in e place n (visit e)) xs xs) parts whole_block
