@@ -20,6 +20,3 @@ pub use header::Eahd;
 pub use index_block::Eaib;
 pub use secondary_block::Easb;
 pub use slots::Slots;
-
-#[cfg(test)]
-mod tests;

@@ -20,6 +20,3 @@ pub use journal::Journal;
 pub use mem_disk::MemDisk;
 pub use mem_image::MemImage;
 pub use traits::{PieceRead, PieceWrite};
-
-#[cfg(test)]
-mod tests;

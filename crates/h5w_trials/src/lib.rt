@@ -1,5 +1,5 @@
-//! Trials of public calls: of the writer and the readers, on files and pieces that other programs made and with calls that fail,
-//! and of what the program does not show yet. There are only tests here, so that no crate is proved once more for them.
+//! Trials of the readers' calls, on files that other programs made and with calls that fail, and of what the program does not
+//! show yet. There are only tests here, so that no crate is proved once more for them.
 #![tactic(auto)]
 
 #[cfg(test)]
@@ -11,14 +11,6 @@ mod images;
 #[cfg(test)]
 mod looks;
 #[cfg(test)]
-mod messages;
-#[cfg(test)]
 mod opens;
 #[cfg(test)]
 mod reads;
-#[cfg(test)]
-mod sessions;
-#[cfg(test)]
-mod spelling;
-#[cfg(test)]
-mod texts;

@@ -1,8 +1,10 @@
+//! Images and disks in memory.
+
 ghost use Rattle.std.specs.Prelude.{◌≡◌, ◌≤◌, ◌+◌, ◌∷◌, [], length, IsOk, OnOk, OnErr};
 ghost use Rattle.h5w_model.specs.Causes.{Rose};
 ghost use Rattle.h5w_image.specs.View.{DiskView, ImageView, IsThere, Looked, Same, Wrote};
 
-use crate::*;
+use h5w_image::*;
 use std::test::Fail;
 
 /// The bytes from `at` on, as any image shows them.
@@ -106,7 +108,7 @@ fn the_calls_of_the_list_fail_and_leave_the_image(rt: HostRuntime) -> Result<(),
 }
 
 /// Puts a byte at each place, in order, until the disk fails.
-#[tactic(auto, using(crate::proofs::DiskLemmas::kept))]
+#[tactic(auto, using(h5w_image::proofs::DiskLemmas::kept))]
 fn put_each<D: Disk>(disk: &mut D, name: &str, places: u64) -> Result<(), Failed>
     requires there { IsThere (D.view disk.old) name.now }
     requires puts { places ≤ (D.view disk.old).pieces }
@@ -120,7 +122,7 @@ fn put_each<D: Disk>(disk: &mut D, name: &str, places: u64) -> Result<(), Failed
 }
 
 /// Makes a file of so many bytes on any disk; false where the name was taken.
-#[tactic(auto, using(crate::proofs::DiskLemmas::kept))]
+#[tactic(auto, using(h5w_image::proofs::DiskLemmas::kept))]
 fn make_file<D: Disk>(disk: &mut D, name: &str, len: u64) -> Result<bool, MakeError>
     ensures cause { result ≡ Err MakeError.Failed → Rose (D.view disk.old).faults (D.view disk.new).faults }
 {
@@ -133,7 +135,7 @@ fn make_file<D: Disk>(disk: &mut D, name: &str, len: u64) -> Result<bool, MakeEr
 }
 
 /// The bytes from `at` on, as any disk shows them.
-#[tactic(auto, using(crate::proofs::DiskLemmas::kept))]
+#[tactic(auto, using(h5w_image::proofs::DiskLemmas::kept))]
 fn shown<D: Disk>(disk: &mut D, name: &str, at: u64) -> Result<Option<Piece>, Failed>
     ensures cause { OnErr result (Rose (D.view disk.old).faults (D.view disk.new).faults) }
 {

@@ -1,6 +1,6 @@
 use Rattle.std.proofs.Common.{◌≤◌, ◌+◌}
 use Rattle.h5w_image.specs.View.{IsThere}
-use Rattle.h5w_image.proofs.tests.put_each.Given as goal
+use Rattle.h5w_form_trials.proofs.disks.put_each.Given as goal
 
 abbrev pub invariant-loop-at : goal.invariant-loop-at
 invariant-loop-at g l =

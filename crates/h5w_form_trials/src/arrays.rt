@@ -1,4 +1,6 @@
-use crate::{BlockFault, Eadb, Eahd, Eaib, Easb, Place, Slots, place, super_block};
+//! The blocks of an extensible array.
+
+use h5w_ea::{BlockFault, Eadb, Eahd, Eaib, Easb, Place, Slots, place, super_block};
 use std::test::Fail;
 
 /// The array's header of a new file; its sum was taken by another program.
