@@ -1,5 +1,6 @@
 pub mod ReadLemmas
 pub mod RanLemmas
+pub mod KnownLemmas
 pub mod DescribedLemmas
 pub mod ListedLemmas
 pub mod ChunkLemmas
@@ -8,6 +9,7 @@ pub mod VerdictLemmas
 pub mod CheckLemmas
 pub mod SpanLemmas
 pub mod TreeLemmas
+pub mod FallenLemmas
 pub mod ArrayLemmas
 pub mod RootLemmas
 pub mod HeaderLemmas

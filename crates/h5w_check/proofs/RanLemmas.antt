@@ -26,7 +26,7 @@ stops_along given other (errors.Overlap place len other_place other_len) up h = 
 stops_along given other errors.Failed up h = tt
 stops_along given other errors.OutOfMemory up h = tt
 
-later : (a b c : ℕ) → a ≤ b → Rose b c → Rose a c
+pub later : (a b c : ℕ) → a ≤ b → Rose b c → Rose a c
 later a b c h g = omega arith
 
 sooner : (a b c : ℕ) → Rose a b → b ≤ c → Rose a c
@@ -62,7 +62,7 @@ ran_begin {B} {v} {w} q r answer two joined = record {
 abbrev as_error : {B : Type 0} → CheckError → Result B CheckError
 as_error e = Err e
 
-same_error : {A B : Type 0} (e : CheckError) → as_error {B = B} e ≡ Err errors.Failed → as_error {B = A} e ≡ Err errors.Failed
+pub same_error : {A B : Type 0} (e : CheckError) → as_error {B = B} e ≡ Err errors.Failed → as_error {B = A} e ≡ Err errors.Failed
 same_error e h = let k : e ≡ errors.Failed = cc in ap (λ x. Err x) k
 
 -- a call was refused

@@ -14,5 +14,6 @@ pub mod Described
 pub mod Roots
 pub mod Blocks
 pub mod Spans
+pub mod Known
 pub mod Nodes
 pub mod Verdicts

@@ -1,5 +1,5 @@
 -- What a visit of a tree's nodes gives, behind other ranges and keys.
-use Rattle.std.specs.Prelude.{◌≡◌, ℕ, ◌+◌, ◌-◌, ◌≤◌, Bool, true, not, ◌&&◌, ◌==◌, List, [], ◌∷◌, ◌++◌, length, map, if◌then◌else◌, Result, Ok, Err}
+use Rattle.std.specs.Prelude.{◌≡◌, ℕ, ◌+◌, ◌-◌, ◌≤◌, Bool, true, not, ◌&&◌, ◌||◌, ◌==◌, List, [], ◌∷◌, ◌++◌, length, map, if◌then◌else◌, Result, Ok, Err}
 use Rattle.std.specs.List.{All}
 use Rattle.h5w_model.specs.Trees.{RecordFields, ChildFields, BtinFields, BthdFields, bthd_at, btlf_at, btin_at, capacity_of}
 use Rattle.h5w_model.specs.Datasets.{then_also}
@@ -22,6 +22,17 @@ children_after totals old span given = then_also given (λ u. Ok (totals && u.0,
 -- the end of a node, behind its children: their totals, and then the keys
 abbrev pub ended : ℕ → Bool → List Used → Span → Result Spanned Finding
 ended at totals ranges span = if not totals then Err (found wrong_total at) else if not span.rising then Err (found keys_not_rising at) else Ok (ranges, span)
+
+-- the ranges, where they still count: not where keys have fallen
+abbrev pub counting : Bool → List Used → List Used
+counting fallen us = if fallen then [] else us
+
+abbrev pub faded : Bool → Result Spanned Finding → Result Spanned Finding
+faded fallen given = then_also given (λ x. Ok (counting fallen x.0, x.1))
+
+-- the same with totals: the ranges do not count either where these keys do not rise
+abbrev pub all_faded : Bool → Result (Bool × Spanned) Finding → Result (Bool × Spanned) Finding
+all_faded fallen given = then_also given (λ y. Ok (y.0, (counting (not y.1.1.rising || fallen) y.1.0, y.1.1)))
 
 -- records behind other ranges and keys
 abbrev pub records_after : ℕ → ℕ → List Used → Span → List RecordFields → Result Spanned Finding

@@ -1,7 +1,7 @@
 //! The check of a whole file: whether it is valid, and what it has; else the first finding.
 //!
-//! docs/FORMAT.md, "What a check finds, in the order tried". The file may be of any maker. A block is looked at where it is named, once for each name,
-//! in looks of at most 512 bytes; docs/DECISIONS.md says what bounds that.
+//! docs/FORMAT.md, "What a check finds, in the order tried". The file may be of any maker. A block is looked at where it is named, in looks of
+//! at most 512 bytes; but a node of a tree that is known is not looked at again where keys fell. docs/DECISIONS.md says what bounds that.
 #![tactic(auto)]
 
 mod array;
@@ -12,6 +12,7 @@ mod error;
 mod found;
 mod header;
 mod index;
+mod known;
 mod overlap;
 mod ranges;
 mod read;

@@ -1,5 +1,5 @@
 //! The version 2 B-tree: its header, and its nodes in the order of keys.
-ghost use Rattle.std.specs.Prelude.{◌≡◌, ◌+◌, ◌<◌, ◌≤◌, ◌^◌, ◌&&◌, ◌==◌, [], ℕ, List, length, map, drop, true, IfOk};
+ghost use Rattle.std.specs.Prelude.{◌≡◌, ◌+◌, ◌<◌, ◌≤◌, ◌^◌, ◌&&◌, ◌||◌, ◌==◌, [], ℕ, List, length, map, drop, not, true, IfOk, Some, IsSome, IsTrue};
 ghost use Rattle.h5w_model.specs.Programs.{eval};
 ghost use Rattle.h5w_model.specs.Trees.{btin_len, btlf_len, capacity_of};
 ghost use Rattle.h5w_model.specs.Findings.{Used, children_under, node_visit, tree_visit};
@@ -8,10 +8,12 @@ ghost use Rattle.h5w_bt.specs.Parts.{record_of};
 ghost use Rattle.h5w_check.specs.Ran.{Ran, Told, answering, seen};
 ghost use Rattle.h5w_check.specs.Ranges.{after};
 ghost use Rattle.h5w_check.specs.Spans.{span_of};
-ghost use Rattle.h5w_check.specs.Nodes.{add_found, children_after, ended, inner_found, leaf_found, records_after, root_found, under_after, IsInner};
+ghost use Rattle.h5w_check.specs.Known.{Visits, known};
+ghost use Rattle.h5w_check.specs.Nodes.{add_found, all_faded, children_after, counting, ended, faded, inner_found, leaf_found, records_after, root_found, under_after, IsInner};
 
 use crate::block::block;
 use crate::error::CheckError;
+use crate::known::KnownNodes;
 use crate::ranges::{Bounds, Ranges};
 use crate::span::Span;
 use h5w_bt::{Bthd, Btin, Btlf, Child, NODE, Record};
@@ -178,6 +180,13 @@ fn total_of(child: &Child) -> u64
     child.total
 }
 
+/// Whether ranges no longer count: the keys so far do not rise, or have fallen at a node above.
+fn falls(span: &Span, fallen: bool) -> bool
+    ensures { result ≡ (not span.now.rising || fallen) }
+{
+    !span.rising || fallen
+}
+
 /// Visits the children of an inner node and their records, in the order of keys. `depth` is that of the children.
 #[cycle(node)]
 fn children<I: PieceRead>(
@@ -186,13 +195,15 @@ fn children<I: PieceRead>(
     bounds: &Bounds,
     depth: u64,
     t: &Btin,
+    fallen: bool,
+    nodes: &mut KnownNodes,
     ranges: &mut Ranges,
 ) -> Result<Under, CheckError>
     requires shallow { depth ≤ 2 }
     requires formed { IsInner (depth + 1) (btin_of t.now) }
-    ensures { Ran (I.view image.old) (I.view image.new)
-        (λ img. children_after true ranges.old (span_of []) (eval img (children_under bounds.now.end bounds.now.chunk (λ c. node_visit bounds.now.end bounds.now.chunk depth c.address c.records) t.now.records t.now.children)))
-        (seen (λ u. (u.totals, (ranges.new, u.span))) result) }
+    ensures { Visits bounds.now.end bounds.now.chunk nodes.old nodes.new (I.view image.old) (I.view image.new)
+        (λ img. all_faded fallen (children_after true ranges.old (span_of []) (eval img (children_under bounds.now.end bounds.now.chunk (λ c. node_visit bounds.now.end bounds.now.chunk depth c.address c.records) t.now.records t.now.children))))
+        (seen (λ u. (u.totals, (counting (not u.span.rising || fallen) ranges.new, u.span))) result) }
 {
     let records = t.records.as_slice();
     let mut under = Under {
@@ -201,6 +212,7 @@ fn children<I: PieceRead>(
     };
     for (i, child) in t.children.as_slice().iter().enumerate() {
         let total = total_of(child);
+        let falls_here = falls(&under.span, fallen);
         let span = node(
             alloc,
             image,
@@ -208,6 +220,8 @@ fn children<I: PieceRead>(
             depth,
             child.address,
             child.records,
+            falls_here,
+            nodes,
             ranges,
         )?;
         under = add(bounds, under, total, &span, records, i, ranges)?;
@@ -215,7 +229,37 @@ fn children<I: PieceRead>(
     Ok(under)
 }
 
-/// Visits the node of a depth at `at`, with `n` records, and what stands under it.
+/// Looks at the node of a depth at `at`, with `n` records, and visits what stands under it.
+#[cycle(node)]
+fn look<I: PieceRead>(
+    alloc: Global,
+    image: &mut I,
+    bounds: &Bounds,
+    depth: u64,
+    at: u64,
+    n: u64,
+    fallen: bool,
+    nodes: &mut KnownNodes,
+    ranges: &mut Ranges,
+) -> Result<Span, CheckError>
+    requires shallow { depth ≤ 3 }
+    requires few { n ≤ capacity_of depth }
+    ensures { Visits bounds.now.end bounds.now.chunk nodes.old nodes.new (I.view image.old) (I.view image.new)
+        (λ img. faded fallen (under_after ranges.old (eval img (node_visit bounds.now.end bounds.now.chunk depth at n))))
+        (seen (λ s. (counting fallen ranges.new, s)) result) }
+{
+    let len = node_len(depth, n);
+    let b = block(alloc, image, bounds.end, at, NODE as u64, len, ranges)?;
+    if depth == 0 {
+        return leaf(alloc, bounds, at, n, &b, ranges);
+    }
+    let t = inner_of(alloc, at, n, depth, &b)?;
+    let under = children(alloc, image, bounds, depth - 1, &t, fallen, nodes, ranges)?;
+    under.end(at)
+}
+
+/// Visits the node of a depth at `at`, with `n` records, and what stands under it. Where the keys have `fallen` at a node above, the
+/// ranges no longer count, and a node that is known is not looked at again.
 #[cycle(node)]
 fn node<I: PieceRead>(
     alloc: Global,
@@ -224,22 +268,26 @@ fn node<I: PieceRead>(
     depth: u64,
     at: u64,
     n: u64,
+    fallen: bool,
+    nodes: &mut KnownNodes,
     ranges: &mut Ranges,
 ) -> Result<Span, CheckError>
     requires shallow { depth ≤ 3 }
     requires few { n ≤ capacity_of depth }
-    ensures { Ran (I.view image.old) (I.view image.new)
-        (λ img. under_after ranges.old (eval img (node_visit bounds.now.end bounds.now.chunk depth at n)))
-        (seen (λ s. (ranges.new, s)) result) }
+    ensures ran { Visits bounds.now.end bounds.now.chunk nodes.old nodes.new (I.view image.old) (I.view image.new)
+        (λ img. faded fallen (under_after ranges.old (eval img (node_visit bounds.now.end bounds.now.chunk depth at n))))
+        (seen (λ s. (counting fallen ranges.new, s)) result) }
+    ensures once { IsTrue fallen → IsSome (known nodes.old depth at n) → I.view image.new ≡ I.view image.old }
+    ensures kept { IfOk result (λ s. known nodes.new depth at n ≡ Some s) }
 {
-    let len = node_len(depth, n);
-    let b = block(alloc, image, bounds.end, at, NODE as u64, len, ranges)?;
-    if depth == 0 {
-        return leaf(alloc, bounds, at, n, &b, ranges);
+    if fallen {
+        if let Some(span) = nodes.get(depth, at, n) {
+            return Ok(span);
+        }
     }
-    let t = inner_of(alloc, at, n, depth, &b)?;
-    let under = children(alloc, image, bounds, depth - 1, &t, ranges)?;
-    under.end(at)
+    let span = look(alloc, image, bounds, depth, at, n, fallen, nodes, ranges)?;
+    nodes.put(depth, at, n, span)?;
+    Ok(span)
 }
 
 /// The header of a tree that these bytes at `at` are.
@@ -274,6 +322,9 @@ pub fn tree<I: PieceRead>(
     if t.root == UNDEFINED {
         return Ok(());
     }
-    node(alloc, image, bounds, t.depth, t.root, t.records, ranges)?;
+    let mut nodes = KnownNodes::new(alloc);
+    node(
+        alloc, image, bounds, t.depth, t.root, t.records, false, &mut nodes, ranges,
+    )?;
     Ok(())
 }

@@ -100,15 +100,21 @@ pub fn verdict_of(
     Ok(check(alloc, &mut image, size, name.as_bytes()))
 }
 
-/// What the check answers on a file of seven bytes whose k-th look fails.
-fn failing(alloc: Global, k: u64) -> Result<Result<Summary, CheckError>, OutOfMemory> {
-    let mut image = MemImage::with_faults(alloc, b"\x89HDF\r\n\x1a", &[k])?;
-    Ok(check(alloc, &mut image, 7, b"data"))
+/// What the check answers on a file whose k-th look fails.
+pub fn failing(
+    alloc: Global,
+    bytes: &[u8],
+    k: u64,
+) -> Result<Result<Summary, CheckError>, OutOfMemory> {
+    let mut image = MemImage::with_faults(alloc, bytes, &[k])?;
+    let size = image.len();
+    Ok(check(alloc, &mut image, size, b"data"))
 }
 
 #[test]
 fn a_look_that_fails_is_told(rt: HostRuntime) -> Result<(), Fail> {
-    assert_eq!(rt; failing(rt.alloc(), 1)?, Err(CheckError::Failed));
-    assert_eq!(rt; failing(rt.alloc(), 2)?, finding(1, 0));
+    let bytes = b"\x89HDF\r\n\x1a";
+    assert_eq!(rt; failing(rt.alloc(), bytes, 1)?, Err(CheckError::Failed));
+    assert_eq!(rt; failing(rt.alloc(), bytes, 2)?, finding(1, 0));
     Ok(())
 }

@@ -10,6 +10,7 @@ use Rattle.h5w_check.specs.declared.error.CheckError.{CheckError}
 use Rattle.h5w_check.proofs.RanLemmas.{ran_end, ran_on, ran_refused, ran_then_stop, told_ok, step_ok, step_err}
 use Rattle.h5w_check.proofs.ArrayLemmas.{run_absent, run_there}
 use Rattle.h5w_check.proofs.TreeLemmas.{tree_there, tree_node, root_rest}
+use Rattle.h5w_check.proofs.FallenLemmas.{ran_root}
 use Rattle.h5w_check.proofs.tree.tree.Goals as goal
 
 abbrev lost : CheckError → Result BthdFields CheckError
@@ -44,7 +45,8 @@ returns-in_err-node g c =
     let pair : List ℕ × List Used = (c.in_ok-b.b.items, c.block.new.ranges) in
     let told = subst (λ (b : List ℕ). Told (root_found a.at b) (Ok t)) c.deref.ensures.value c.in_ok-t.ensures.exact in
     let is : c.from_residual-in_err-node.result ≡ Err c.in_err-node.field-0.0 = search rules in
-    rw is (ran_then_stop _ pair _ c.in_err-node.field-0.0 _ c.in_ok-b.ensures.ran c.in_err-node.ensures (λ img f said gone.
+    let ran = ran_root a.bounds.now.end a.bounds.now.chunk _ _ _ _ t.depth t.root t.records c.block.new.ranges _ c.new-nodes.ensures c.in_err-node.ensures.ran in
+    rw is (ran_then_stop _ pair _ c.in_err-node.field-0.0 _ c.in_ok-b.ensures.ran ran (λ img f said gone.
     tree_there img a.ranges.now a.bounds.now.end a.bounds.now.chunk a.at
     ∙ step_ok _ pair (λ x. then_also (root_found a.at x.0) (root_rest img a.bounds.now.end a.bounds.now.chunk x.1)) said
     ∙ step_ok _ t (root_rest img a.bounds.now.end a.bounds.now.chunk c.block.new.ranges) told.exact
@@ -59,8 +61,9 @@ returns g c =
     let told = subst (λ (b : List ℕ). Told (root_found a.at b) (Ok t)) c.deref.ensures.value c.in_ok-t.ensures.exact in
     let x : Spanned = (c.node.new.ranges, c.in_ok-node.field-0) in
     let under : List ℕ → Result Spanned Finding = λ img. under_after c.block.new.ranges (eval img (node_visit a.bounds.now.end a.bounds.now.chunk t.depth t.root t.records)) in
+    let ran = ran_root a.bounds.now.end a.bounds.now.chunk _ _ _ _ t.depth t.root t.records c.block.new.ranges _ c.new-nodes.ensures c.in_ok-node.ensures.ran in
     ran_on _ pair (λ img. then_also (under img) (λ y. Ok y.0)) _ _ c.in_ok-b.ensures.ran
-    (ran_end under x (Ok c.node.new.ranges) _ _ c.in_ok-node.ensures (told_ok _ _ refl) (λ img said. step_ok (under img) x (λ y. Ok y.0) said))
+    (ran_end under x (Ok c.node.new.ranges) _ _ ran (told_ok _ _ refl) (λ img said. step_ok (under img) x (λ y. Ok y.0) said))
     (λ img said.
     tree_there img a.ranges.now a.bounds.now.end a.bounds.now.chunk a.at
     ∙ step_ok _ pair (λ x. then_also (root_found a.at x.0) (root_rest img a.bounds.now.end a.bounds.now.chunk x.1)) said

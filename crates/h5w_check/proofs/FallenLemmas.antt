@@ -1,0 +1,208 @@
+-- Visits of nodes where keys may have fallen, so that ranges no longer count.
+use Rattle.std.proofs.Common.{◌≡◌, ℕ, ◌+◌, ◌^◌, ◌<◌, Bool, true, false, cond, not, ◌&&◌, ◌||◌, List, [], ◌∷◌, ◌++◌, length, drop, Some, None, Result, Ok, Err, refl, sym, ◌∙◌, ap, subst}
+use Rattle.std.specs.Prelude.{◌==◌, nat_lt, IfSome}
+use Rattle.h5w_model.specs.Numbers.{undefined}
+use Rattle.h5w_model.specs.Programs.{Prog, eval}
+use Rattle.h5w_model.specs.Trees.{RecordFields, ChildFields}
+use Rattle.h5w_model.specs.Datasets.{then_also}
+use Rattle.h5w_model.specs.Findings.{Used, Finding, Under, found, children_under, node_visit, wrong_total, keys_not_rising}
+use Rattle.h5w_image.specs.View.{ImageView}
+use Rattle.h5w_image.proofs.ViewLemmas.{looked_itself}
+use Rattle.std.specs.BTreeMap.{Updates, IsUnchanged}
+use Rattle.h5w_check.specs.Ran.{Ran}
+use Rattle.h5w_check.specs.Spans.{span_of, joined_spans}
+use Rattle.h5w_check.specs.Known.{known, name_cmp, span_under, Visits}
+use Rattle.h5w_check.specs.Nodes.{Spanned, under_after, children_after, ended, add_found, counting, faded, all_faded}
+use Rattle.h5w_check.specs.declared.span.Span.{Span}
+use Rattle.h5w_check.specs.declared.known.KnownNodes.{KnownNodes}
+use Rattle.h5w_check.specs.declared.error.CheckError.{CheckError}
+use Rattle.h5w_check.specs.declared.error.CheckError.TheVariants as errors
+use Rattle.h5w_check.proofs.RanLemmas.{ran_begin, same_value}
+use Rattle.h5w_check.proofs.KnownLemmas.{known_more, known_same, ran_visits}
+use Rattle.h5w_check.proofs.TreeLemmas.{child_next, child_rest}
+
+-- ---- Ranges that do not count
+
+gone : (b : Bool) (us vs : List Used) → b ≡ true → counting b us ≡ counting b vs
+gone true us vs h = refl
+gone false us vs h = absurd cc
+
+-- keys that do not rise do not rise with others
+stays : (a b c f : Bool) → (not a || f) ≡ true → (not (a && b && c) || f) ≡ true
+stays true true true f h = h
+stays true true false f h = refl
+stays true false c f h = refl
+stays false b c f h = refl
+
+joined_stays : (s t : Span) (f : Bool) → (not s.rising || f) ≡ true → (not (joined_spans s t).rising || f) ≡ true
+joined_stays s t f h = stays s.rising _ t.rising f h
+
+abbrev totaled : Bool → List Used → Span → Result (Bool × Spanned) Finding
+totaled b us s = Ok (b, (us, s))
+
+-- the ranges before make no difference then
+behind : (down totals : Bool) (us vs : List Used) (s : Span) (r : Result (Bool × Under) Finding) → (not s.rising || down) ≡ true
+    → all_faded down (children_after totals us s r) ≡ all_faded down (children_after totals vs s r)
+behind down totals us vs s (Err f) h = refl
+behind down totals us vs s (Ok u) h =
+    let t = joined_spans s (span_of u.1.keys) in
+    ap (λ xs. totaled (totals && u.0) xs t) (gone (not t.rising || down) (us ++ u.1.ranges) (vs ++ u.1.ranges) (joined_stays s (span_of u.1.keys) down h))
+
+-- nor behind a child and a record
+add_behind : (img : List ℕ) (end bytes : ℕ) (go : ChildFields → Prog (Result Under Finding)) (down totals : Bool) (s : Span) (total : ℕ) (x : Span) (us vs : List Used) (qs rs : List RecordFields) (cs : List ChildFields) → (not s.rising || down) ≡ true
+    → all_faded down (then_also (add_found end bytes totals s total x qs us) (child_rest img end bytes go rs cs)) ≡ all_faded down (then_also (add_found end bytes totals s total x qs vs) (child_rest img end bytes go rs cs))
+add_behind img end bytes go down totals s total x us vs [] rs cs h =
+    behind down (totals && (total == x.count)) us vs (joined_spans s x) (eval img (children_under end bytes go rs cs)) (joined_stays s x down h)
+add_behind img end bytes go down totals s total x us vs (r ∷ qs) rs cs h =
+    let t = joined_spans (joined_spans s x) (span_of (r.key ∷ [])) in
+    let same : (ls ks : List Used) → all_faded down (children_after (totals && (total == x.count)) ls t (eval img (children_under end bytes go rs cs))) ≡ all_faded down (children_after (totals && (total == x.count)) ks t (eval img (children_under end bytes go rs cs))) = λ ls ks.
+    behind down (totals && (total == x.count)) ls ks t (eval img (children_under end bytes go rs cs)) (joined_stays (joined_spans s x) (span_of (r.key ∷ [])) down (joined_stays s x down h)) in
+    let chunk : Used = record { place = r.address; len = bytes; chunk = true } in
+    let past : Result (List Used) Finding = Err (found 17 r.address) in
+    let on : Result (List Used) Finding → Result (Bool × Spanned) Finding = λ put.
+    all_faded down (then_also (then_also (then_also put (λ mid. spanned mid t)) (λ y. with_total (totals && (total == x.count)) y)) (child_rest img end bytes go rs cs)) in
+    elim (r.address == undefined) as (λ c. on (cond c (Ok us) (cond (nat_lt end (r.address + bytes)) past (Ok (us ++ chunk ∷ [])))) ≡ on (cond c (Ok vs) (cond (nat_lt end (r.address + bytes)) past (Ok (vs ++ chunk ∷ []))))) [
+      | true ↦ same us vs
+      | false ↦ elim (nat_lt end (r.address + bytes)) as (λ c. on (cond c past (Ok (us ++ chunk ∷ []))) ≡ on (cond c past (Ok (vs ++ chunk ∷ [])))) [
+        | true ↦ refl
+        | false ↦ same (us ++ chunk ∷ []) (vs ++ chunk ∷ [])
+      ]
+    ]
+  where
+    spanned : List Used → Span → Result Spanned Finding
+    spanned ls k = Ok (ls, k)
+
+    with_total : Bool → Spanned → Result (Bool × Spanned) Finding
+    with_total b y = Ok (b, y)
+
+abbrev spanned_ok : List Used → Span → Result Spanned Finding
+spanned_ok us s = Ok (us, s)
+
+same_pair : (us vs : List Used) (s t : Span) → spanned_ok us s ≡ spanned_ok vs t → (us ≡ vs) × (s ≡ t)
+same_pair us vs s t h = let e = same_value (us, s) (vs, t) h in (ap (λ (x : Spanned). x.0) e, ap (λ (x : Spanned). x.1) e)
+
+-- a child, behind which the ranges count or do not
+child_ok : (img : List ℕ) (end bytes : ℕ) (go : ChildFields → Prog (Result Under Finding)) (down b totals : Bool) (s : Span) (total : ℕ) (x : Span) (old new : List Used) (qs rs : List RecordFields) (cs : List ChildFields) (r : Result Under Finding)
+    → (not s.rising || down) ≡ b → faded b (under_after old r) ≡ spanned_ok (counting b new) x
+    → all_faded down (then_also (under_after old r) (λ y. then_also (add_found end bytes totals s total y.1 qs y.0) (child_rest img end bytes go rs cs)))
+    ≡ all_faded down (then_also (add_found end bytes totals s total x qs new) (child_rest img end bytes go rs cs))
+child_ok img end bytes go down b totals s total x old new qs rs cs (Err f) is told = absurd cc
+child_ok img end bytes go down true totals s total x old new qs rs cs (Ok u) is told =
+    let same = same_pair [] [] (span_of u.keys) x told in
+    ap (λ k. all_faded down (then_also (add_found end bytes totals s total k qs (old ++ u.ranges)) (child_rest img end bytes go rs cs))) same.1
+    ∙ add_behind img end bytes go down totals s total x (old ++ u.ranges) new qs rs cs is
+child_ok img end bytes go down false totals s total x old new qs rs cs (Ok u) is told =
+    let same = same_pair (old ++ u.ranges) new (span_of u.keys) x told in
+    ap (λ k. all_faded down (then_also (add_found end bytes totals s total k qs (old ++ u.ranges)) (child_rest img end bytes go rs cs))) same.1
+    ∙ ap (λ us. all_faded down (then_also (add_found end bytes totals s total x qs us) (child_rest img end bytes go rs cs))) same.0
+
+pub child_step : (img : List ℕ) (end bytes : ℕ) (go : ChildFields → Prog (Result Under Finding)) (down b : Bool) (i : ℕ) (c : ChildFields) (rs : List RecordFields) (cs : List ChildFields) (totals : Bool) (old new : List Used) (s x : Span)
+    → b ≡ (not s.rising || down) → i < length cs → length cs ≡ length rs + 1 → c.total < 2 ^ 64 → drop i cs ≡ c ∷ drop (i + 1) cs → faded b (under_after old (eval img (go c))) ≡ spanned_ok (counting b new) x
+    → all_faded down (children_after totals old s (eval img (children_under end bytes go (drop i rs) (drop i cs))))
+    ≡ all_faded down (then_also (add_found end bytes totals s c.total x (drop i rs) new) (child_rest img end bytes go (drop (i + 1) rs) (drop (i + 1) cs)))
+child_step img end bytes go down b i c rs cs totals old new s x is inside count low head told =
+    ap (all_faded down) (child_next img end bytes go i c rs cs totals old s inside count low head)
+    ∙ child_ok img end bytes go down b totals s c.total x old new (drop i rs) (drop (i + 1) rs) (drop (i + 1) cs) (eval img (go c)) (sym is) told
+
+unfaded_err : (b : Bool) (r : Result Spanned Finding) (f : Finding) → faded b r ≡ Err f → r ≡ Err f
+unfaded_err b (Ok x) f h = absurd cc
+unfaded_err b (Err g) f h = cc
+
+pub child_err : (img : List ℕ) (end bytes : ℕ) (go : ChildFields → Prog (Result Under Finding)) (down b : Bool) (i : ℕ) (c : ChildFields) (rs : List RecordFields) (cs : List ChildFields) (totals : Bool) (old : List Used) (s : Span) (f : Finding)
+    → i < length cs → length cs ≡ length rs + 1 → c.total < 2 ^ 64 → drop i cs ≡ c ∷ drop (i + 1) cs → faded b (under_after old (eval img (go c))) ≡ Err f
+    → all_faded down (children_after totals old s (eval img (children_under end bytes go (drop i rs) (drop i cs)))) ≡ Err f
+child_err img end bytes go down b i c rs cs totals old s f inside count low head told =
+    ap (all_faded down) (child_next img end bytes go i c rs cs totals old s inside count low head
+    ∙ ap (λ r. then_also r (λ y. then_also (add_found end bytes totals s c.total y.1 (drop i rs) y.0) (child_rest img end bytes go (drop (i + 1) rs) (drop (i + 1) cs)))) (unfaded_err b (under_after old (eval img (go c))) f told))
+
+-- ---- The end of a node
+
+abbrev all_ok : Bool → List Used → Span → Result (Bool × Spanned) Finding
+all_ok b us s = Ok (b, (us, s))
+
+end_same : (at : ℕ) (down t rising : Bool) (us vs : List Used) (s : Span) → counting (not rising || down) us ≡ counting (not rising || down) vs
+    → faded down (cond (not t) (Err (found wrong_total at)) (cond (not rising) (Err (found keys_not_rising at)) (Ok (us, s)))) ≡ faded down (cond (not t) (Err (found wrong_total at)) (cond (not rising) (Err (found keys_not_rising at)) (Ok (vs, s))))
+end_same p down false rising us vs s h = refl
+end_same p down true false us vs s h = refl
+end_same p down true true us vs s h = ap (λ xs. spanned_ok xs s) h
+
+same_all : (b c : Bool) (us vs : List Used) (s t : Span) → all_ok b us s ≡ all_ok c vs t → (b ≡ c) × (us ≡ vs) × (s ≡ t)
+same_all b c us vs s t h = let e = same_value (b, (us, s)) (c, (vs, t)) h in (ap (λ (y : Bool × Spanned). y.0) e, ap (λ (y : Bool × Spanned). y.1.0) e, ap (λ (y : Bool × Spanned). y.1.1) e)
+
+pub end_faded : (at : ℕ) (down : Bool) (r : Result (Bool × Spanned) Finding) (t : Bool) (new : List Used) (s : Span) → all_faded down r ≡ all_ok t (counting (not s.rising || down) new) s
+    → faded down (then_also r (λ y. ended at y.0 y.1.0 y.1.1)) ≡ faded down (ended at t new s)
+end_faded p down (Err f) t new s h = absurd cc
+end_faded p down (Ok y) t new s h =
+    let same = same_all y.0 t (counting (not y.1.1.rising || down) y.1.0) (counting (not s.rising || down) new) y.1.1 s h in
+    let us : counting (not s.rising || down) y.1.0 ≡ counting (not s.rising || down) new = subst (λ (k : Span). counting (not k.rising || down) y.1.0 ≡ counting (not s.rising || down) new) same.2 same.1 in
+    ap (λ b. faded down (ended p b y.1.0 y.1.1)) same.0
+    ∙ ap (λ k. faded down (ended p t y.1.0 k)) same.2
+    ∙ end_same p down t s.rising y.1.0 new s us
+
+pub all_faded_err : (down : Bool) (r : Result (Bool × Spanned) Finding) (f : Finding) → all_faded down r ≡ Err f → r ≡ Err f
+all_faded_err b (Ok x) f h = absurd cc
+all_faded_err b (Err g) f h = cc
+
+-- ---- What is known
+
+of_known : (down : Bool) (old now : List Used) (r : Result Under Finding) (s : Span) → down ≡ true → span_under r ≡ Ok s → faded down (under_after old r) ≡ spanned_ok (counting down now) s
+of_known true old now (Ok u) s is h = let e : span_of u.keys ≡ s = cc in ap (spanned_ok []) e
+of_known true old now (Err f) s is h = absurd cc
+of_known false old now r s is h = absurd cc
+
+to_known : (down : Bool) (old now : List Used) (r : Result Under Finding) (s : Span) → faded down (under_after old r) ≡ spanned_ok now s → span_under r ≡ Ok s
+to_known down old now (Ok u) s h = let e : span_of u.keys ≡ s = (same_pair (counting down (old ++ u.ranges)) now (span_of u.keys) s h).1 in ap (λ k. span_ok k) e
+  where
+    span_ok : Span → Result Span Finding
+    span_ok k = Ok k
+to_known down old now (Err f) s h = absurd cc
+
+abbrev node_gives : ℕ → ℕ → Bool → ℕ → ℕ → ℕ → List Used → List ℕ → Result Spanned Finding
+node_gives end bytes down depth at n old img = faded down (under_after old (eval img (node_visit end bytes depth at n)))
+
+abbrev spanned_answer : List Used → Span → Result Spanned CheckError
+spanned_answer us s = Ok (us, s)
+
+-- a node that is known is not looked at
+pub visits_known : (end bytes : ℕ) (m : KnownNodes) (v : ImageView) (down : Bool) (depth at n : ℕ) (old now : List Used) (s : Span) → down ≡ true → known m depth at n ≡ Some s
+    → Visits end bytes m m v v (node_gives end bytes down depth at n old) (spanned_answer (counting down now) s)
+visits_known end bytes m v down depth p n old now s is known_so = record {
+  looked = looked_itself v;
+  cause = λ e. absurd cc;
+  exact = λ img still right. of_known down old now (eval img (node_visit end bytes depth p n)) s is (subst (λ o. IfSome o (λ k. span_under (eval img (node_visit end bytes depth p n)) ≡ Ok k)) known_so (right depth p n));
+  kept = λ img still right. right;
+}
+
+-- a node that ended well is known from then on
+pub visits_put : (end bytes : ℕ) (m n o : KnownNodes) (v w : ImageView) (down : Bool) (depth at k : ℕ) (old now : List Used) (s : Span) → Updates name_cmp n.spans o.spans (depth, (at, k)) (Some s)
+    → Visits end bytes m n v w (node_gives end bytes down depth at k old) (spanned_answer now s) → Visits end bytes m o v w (node_gives end bytes down depth at k old) (spanned_answer now s)
+visits_put end bytes m n o v w down depth p k old now s up one = record {
+  looked = one.looked;
+  cause = one.cause;
+  exact = one.exact;
+  kept = λ img still right.
+      known_more (λ d a i x. span_under (eval img (node_visit end bytes d a i)) ≡ Ok x) n o depth p k s up (one.kept img still right) (to_known down old now (eval img (node_visit end bytes depth p k)) s (one.exact img still right));
+}
+
+abbrev out_of_memory : Result Spanned CheckError
+out_of_memory = Err errors.OutOfMemory
+
+-- memory ran out after it
+pub visits_memory : (end bytes : ℕ) (m n o : KnownNodes) (v w : ImageView) (given : List ℕ → Result Spanned Finding) (answer : Result Spanned CheckError) → IsUnchanged n.spans o.spans
+    → Visits end bytes m n v w given answer → Visits end bytes m o v w given out_of_memory
+visits_memory end bytes m n o v w given answer same one = record {
+  looked = one.looked;
+  cause = λ e. absurd cc;
+  exact = λ img still right. tt;
+  kept = λ img still right depth p k. subst (λ x. IfSome x (λ s. span_under (eval img (node_visit end bytes depth p k)) ≡ Ok s)) (sym (known_same n o depth p k same)) (one.kept img still right depth p k);
+}
+
+-- the root, above which no keys have fallen
+counts : (r : Result Spanned Finding) → r ≡ faded false r
+counts (Ok x) = refl
+counts (Err f) = refl
+
+pub ran_root : (end bytes : ℕ) (m n : KnownNodes) (v w : ImageView) (depth at k : ℕ) (old : List Used) (answer : Result Spanned CheckError) → ((depth at n : ℕ) → known m depth at n ≡ None)
+    → Visits end bytes m n v w (node_gives end bytes false depth at k old) answer → Ran v w (λ img. under_after old (eval img (node_visit end bytes depth at k))) answer
+ran_root end bytes m n v w depth p k old answer none one =
+    ran_begin (node_gives end bytes false depth p k old) (λ img. under_after old (eval img (node_visit end bytes depth p k))) answer (ran_visits _ answer none one) (λ img. counts (under_after old (eval img (node_visit end bytes depth p k))))
