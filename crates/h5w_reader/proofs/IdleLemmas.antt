@@ -19,7 +19,8 @@ use Rattle.h5w_reader.specs.Seen.{answer_of, IsHeaderOf}
 use Rattle.h5w_reader.specs.Calling.{behind_rest}
 use Rattle.h5w_reader.specs.Idle.{IsIdle}
 use Rattle.h5w_reader.proofs.UnstoredLemmas.{unstored_then}
-use Rattle.h5w_reader.proofs.TableLemmas.{length_keys, lacks_none, table_if}
+use Rattle.h5w_reader.proofs.TableLemmas.{lacks_none, table_if}
+use Rattle.h5w_reader.proofs.KeyLemmas.{length_keys}
 
 -- ---- Answers
 

@@ -5,10 +5,13 @@ pub mod ViewLemmas
 pub mod OpenLemmas
 pub mod DescribedLemmas
 pub mod ChunkLemmas
+pub mod KeyLemmas
 pub mod TableLemmas
 pub mod StoreLemmas
 pub mod SizeLemmas
 pub mod SeekLemmas
+pub mod NodeLemmas
+pub mod IndexLemmas
 pub mod UnstoredLemmas
 pub mod LearnLemmas
 pub mod IdleLemmas
@@ -22,5 +25,7 @@ pub mod CellLemmas
 pub mod BandLemmas
 pub mod ValueLemmas
 pub mod ReadLemmas
+pub mod GridLemmas
+pub mod SideLemmas
 pub mod AskedLemmas
 pub mod CoreLemmas

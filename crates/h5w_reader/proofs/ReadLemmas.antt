@@ -1,16 +1,15 @@
 -- The steps of a read of rows.
-use Rattle.std.proofs.Common.{◌≡◌, ◌≢◌, ℕ, zero, suc, ◌+◌, ◌-◌, ◌*◌, ◌/◌, ◌%◌, ◌^◌, ◌<◌, ◌≤◌, min, max, Bool, true, false, cond, ltb, List, [], ◌∷◌, ◌++◌, length, map, take, drop, replicate, get_or, Option, Some, None, Result, Ok, Err, inl, inr, IsTrue, refl, sym, ◌∙◌, ap, arith}
+use Rattle.std.proofs.Common.{◌≡◌, ◌≢◌, ℕ, zero, suc, ◌+◌, ◌-◌, ◌*◌, ◌/◌, ◌%◌, ◌^◌, ◌<◌, ◌≤◌, min, max, Bool, true, false, cond, ltb, List, [], ◌∷◌, ◌++◌, length, map, take, drop, replicate, get_or, Option, Some, None, Result, Ok, Err, IsTrue, refl, sym, ◌∙◌, ap, arith}
 use Rattle.std.specs.Prelude.{◌==◌, ℤ}
 use Rattle.std.specs.List.{range_with_len}
 use Rattle.std.proofs.lemmas.List.{drop-drop, length-take-le}
-use Rattle.std.proofs.lemmas.Bool.{lt-ltb, le-ltb, ne_eqb, cases_lt}
-use Rattle.std.proofs.lemmas.Nat.{div-mul-add, le-div}
+use Rattle.std.proofs.lemmas.Bool.{lt-ltb, le-ltb, ne_eqb}
+use Rattle.std.proofs.lemmas.Nat.{div-mul-add, div_below}
 use Rattle.h5w_model.specs.Programs.{Prog, ret, whole, counted, bind, and_then, cut_up}
 use Rattle.h5w_model.specs.Numbers.{range, undefined}
 use Rattle.h5w_model.specs.Integers.{value_at, fill_value}
 use Rattle.h5w_model.specs.Messages.{IntTypeFields, is_int_size}
-use Rattle.h5w_model.specs.Logs.{div_up}
-use Rattle.h5w_model.specs.Tables.{Reading, chunks_across, bands, needed}
+use Rattle.h5w_model.specs.Tables.{Reading, chunks_across}
 use Rattle.h5w_model.specs.Calls.{chunk_range, first_in_band, last_in_band, none_of, value_from}
 use Rattle.h5w_model.specs.declared.refusal.ReadError.{ReadError}
 use Rattle.h5w_model.specs.declared.refusal.ReadError.TheVariants.{Damaged}
@@ -42,7 +41,7 @@ rows_before r i from = first_in_band r.dataset i from - i * r.dataset.layout.chu
 -- ---- The range of a chunk
 
 -- by its address, and where the range begins and ends in it
-abbrev range_at : ℕ → ℕ → ℕ → Prog (Result (Option (List ℕ)) ReadError)
+abbrev pub range_at : ℕ → ℕ → ℕ → Prog (Result (Option (List ℕ)) ReadError)
 range_at address start len =
     cond (address == undefined) (ret (Ok None))
     (cond (ltb (2 ^ 64) (address + start + len)) (counted address none_of (λ b. ret (Err (Damaged address (Cut len 0)))))
@@ -98,7 +97,7 @@ range_line r from to i t =
 none_values : (r : Reading) (from to i : ℕ) → band_values r i from to None ≡ replicate (rows_in_band r i from to) (fill_value r.dataset.fill r.dataset.int_type)
 none_values r from to i = map_same (fill_value r.dataset.fill r.dataset.int_type) (first_in_band r.dataset i from) (rows_in_band r i from to)
 
-cells_by : (t : IntTypeFields) (f : ℕ → ℤ) (n a : ℕ) (b : List ℕ) → ((j : ℕ) → j < n → f (a + j) ≡ value_at (take t.size (drop (j * t.size) b)) t) → map f (range_with_len a n) ≡ cell_values t n b
+pub cells_by : (t : IntTypeFields) (f : ℕ → ℤ) (n a : ℕ) (b : List ℕ) → ((j : ℕ) → j < n → f (a + j) ≡ value_at (take t.size (drop (j * t.size) b)) t) → map f (range_with_len a n) ≡ cell_values t n b
 unfolding cell_values
 cells_by t f zero a b h = refl
 cells_by t f (suc n) a b h =
@@ -172,10 +171,10 @@ rest_fill r from to i done t e =
     ∙ ap (λ m. plain (and_then (range_at m (rows_before r i from * r.dataset.int_type.size) (rows_in_band r i from to * r.dataset.int_type.size)) (after_range r from to i done))) e
     ∙ ap (λ (vs : List ℤ). plain (bands_from r from to (end_band r to - (i + 1)) (i + 1) (done ++ vs))) (none_values r from to i)
 
-range_past : (address start len : ℕ) → address ≢ undefined → 2 ^ 64 < address + start + len → range_at address start len ≡ counted address none_of (λ b. ret (Err (Damaged address (Cut len 0))))
+pub range_past : (address start len : ℕ) → address ≢ undefined → 2 ^ 64 < address + start + len → range_at address start len ≡ counted address none_of (λ b. ret (Err (Damaged address (Cut len 0))))
 range_past address start len there past = rw (ne_eqb address undefined there, lt-ltb (2 ^ 64) (address + start + len) past) refl
 
-range_whole : (address start len : ℕ) → address ≢ undefined → address + start + len ≤ 2 ^ 64
+pub range_whole : (address start len : ℕ) → address ≢ undefined → address + start + len ≤ 2 ^ 64
     → range_at address start len ≡ whole (address + start) len (λ b. ret (cond (ltb (length b) len) (Err (Damaged (address + start) (Cut len (length b)))) (Ok (Some b))))
 range_whole address start len there fits = rw (ne_eqb address undefined there, le-ltb (2 ^ 64) (address + start + len) fits) refl
 
@@ -241,23 +240,9 @@ size_above (suc n) h = omega arith
 pub some_size : (d : Dataset) → 0 < d.int_type.size
 some_size d = size_above d.int_type.size d.typed
 
--- some parts are needed for some
-div_up_some : (n d : ℕ) → 0 < d → 0 < n → 0 < div_up n d
-div_up_some n d some rows = le-div 1 (n + d - 1) d some (omega arith)
-
-none_across : (a b : ℕ) → 0 < a → a * b ≤ 0 → b ≡ 0
-none_across zero b some h = absurd (omega arith)
-none_across (suc a) zero some h = refl
-none_across (suc a) (suc b) some h = absurd (grind arith)
-
--- a dataset of two dimensions that is read has no columns
-pub no_columns : (d : Dataset) → needed (described_of d) ≡ 0 → 0 < d.shape.rows
-    → (chunks_across (described_of d) ≡ 0) × (d.shape.cols ≡ 0)
-no_columns d needs rows =
-    let none : chunks_across (described_of d) ≡ 0 = none_across (bands (described_of d)) (chunks_across (described_of d)) (div_up_some d.shape.rows d.layout.chunk.0 d.tall rows) (omega arith) in (
-      none,
-      elim (cases_lt 0 d.shape.cols) [
-        | inl h ↦ let some : 0 < div_up d.shape.cols d.layout.chunk.1 = div_up_some d.shape.cols d.layout.chunk.1 d.wide h in absurd (omega arith)
-        | inr h ↦ omega arith
-      ],
-    )
+-- without columns no chunk is needed
+pub none_beside : (d : Dataset) → d.shape.cols ≡ 0 → chunks_across (described_of d) ≡ 0
+none_beside d none =
+    let wide : 0 < d.layout.chunk.1 = d.wide in
+    let less : (d.shape.cols + d.layout.chunk.1 - 1) / d.layout.chunk.1 < 1 = div_below (d.shape.cols + d.layout.chunk.1 - 1) d.layout.chunk.1 1 (omega arith) (omega arith) in
+    omega arith

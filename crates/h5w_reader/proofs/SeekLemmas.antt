@@ -11,9 +11,10 @@ use Rattle.h5w_model.specs.declared.cell.Place.TheVariants.{Index, Direct, Secon
 use Rattle.h5w_model.specs.declared.refusal.BlockFault.{BlockFault}
 use Rattle.h5w_model.specs.declared.refusal.ReadError.{ReadError}
 use Rattle.h5w_model.specs.declared.refusal.ReadError.TheVariants.{Damaged}
-use Rattle.h5w_reader.specs.Blocks.{GivesSlots}
+use Rattle.h5w_reader.specs.Blocks.{GivesSlots, IsRead}
 use Rattle.h5w_reader.specs.Seeking.{store_rest, next_rest, data_given, second_given, wait_rest}
-use Rattle.h5w_reader.specs.Stores.{Finds}
+use Rattle.h5w_reader.specs.Contents.{slots_in}
+use Rattle.h5w_reader.specs.declared.content.Content.{Content}
 use Rattle.h5w_reader.specs.declared.wait.DataWait.{DataWait}
 use Rattle.h5w_reader.specs.declared.wait.SecondWait.{SecondWait}
 use Rattle.h5w_reader.specs.declared.wait.Wait.TheVariants as waits
@@ -21,13 +22,13 @@ use Rattle.h5w_reader.proofs.PieceLemmas.{cut_up_is}
 
 -- ---- A block, kept or not
 
-abbrev stored_by : List Kept → ℕ → ℕ → ℕ → (List ℕ → Prog (Result ℕ ReadError)) → (ℕ → Prog (Result Reading ReadError)) → Option (List ℕ) → Prog (Result Reading ReadError)
+abbrev pub stored_by : List Kept → ℕ → ℕ → ℕ → (List ℕ → Prog (Result ℕ ReadError)) → (ℕ → Prog (Result Reading ReadError)) → Option (List ℕ) → Prog (Result Reading ReadError)
 stored_by ks kind at len after next o = elim o [
   | Some b ↦ lowered 16 (used 16 kind at len b ks) (and_then (after b) next)
   | None ↦ cut_up at len (λ b. lowered 16 (used 16 kind at len b ks) (and_then (after b) next))
 ]
 
-stored_is : (ks : List Kept) (kind at len : ℕ) (after : List ℕ → Prog (Result ℕ ReadError)) (next : ℕ → Prog (Result Reading ReadError)) (o : Option (List ℕ)) → kept_bytes kind at len ks ≡ o
+pub stored_is : (ks : List Kept) (kind at len : ℕ) (after : List ℕ → Prog (Result ℕ ReadError)) (next : ℕ → Prog (Result Reading ReadError)) (o : Option (List ℕ)) → kept_bytes kind at len ks ≡ o
     → store_rest ks (stored kind at len after) next ≡ stored_by ks kind at len after next o
 unfolding store_rest
 stored_is ks kind at len after next o e = ap (stored_by ks kind at len after next) e
@@ -51,14 +52,13 @@ pub data_read : (ks : List Kept) (at n slot : ℕ) (b slots : List ℕ) (next : 
 unfolding store_rest next_rest
 data_read ks at n slot b slots next h = sym (ap (λ (p : Prog (Result ℕ ReadError)). lowered 16 ks (and_then p next)) (data_whole at slot (eadb_at b at n) slots h))
 
-pub data_kept : (old new : List Kept) (at n slot address : ℕ) (next : ℕ → Prog (Result Reading ReadError)) → at ≢ undefined → Finds data_block at (slots_len n) slot old new address
-    → next_rest new next address ≡ store_rest old (data_slot at n slot) next
+pub data_kept : (old new : List Kept) (at n slot : ℕ) (b : List ℕ) (c : Content) (next : ℕ → Prog (Result Reading ReadError)) → at ≢ undefined → kept_bytes data_block at (slots_len n) old ≡ Some b
+    → IsRead data_block at (slots_len n) b c → new ≡ used 16 data_block at (slots_len n) b old → next_rest new next (get_or (slots_in c) slot undefined) ≡ store_rest old (data_slot at n slot) next
 unfolding store_rest
-data_kept old new at n slot address next there f =
-    ap (next_rest new next) f.is
-    ∙ data_read new at n slot f.bytes f.slots next (f.read.of_data n refl refl)
-    ∙ ap (λ ks. store_rest ks (data_given at n slot f.bytes) next) f.then_used
-    ∙ sym (ap (λ (p : Prog (Result ℕ ReadError)). store_rest old p next) (data_stored at n slot there) ∙ stored_is old data_block at (slots_len n) (data_given at n slot) next (Some f.bytes) f.is_kept)
+data_kept old new p n slot b c next there some read used_is =
+    data_read new p n slot b (slots_in c) next (read.of_data n refl refl)
+    ∙ ap (λ ks. store_rest ks (data_given p n slot b) next) used_is
+    ∙ sym (ap (λ (q : Prog (Result ℕ ReadError)). store_rest old q next) (data_stored p n slot there) ∙ stored_is old data_block p (slots_len n) (data_given p n slot) next (Some b) some)
 
 pub data_waits : (ks : List Kept) (w : DataWait) (next : ℕ → Prog (Result Reading ReadError)) → w.at ≢ undefined → kept_bytes data_block w.at (slots_len w.n) ks ≡ None
     → wait_rest ks (waits.Data w) next ≡ store_rest ks (data_slot w.at w.n w.slot) next
@@ -86,15 +86,15 @@ pub second_read : (ks : List Kept) (at s block slot : ℕ) (b slots : List ℕ) 
     → store_rest ks (data_slot (get_or slots block undefined) (super_block_of s).slots slot) next ≡ store_rest ks (second_given at s block slot b) next
 second_read ks at s block slot b slots next h = sym (ap (λ (p : Prog (Result ℕ ReadError)). store_rest ks p next) (second_whole at s block slot (easb_at b at (super_block_of s).blocks) slots h))
 
-pub second_kept : (old new : List Kept) (at s block slot address : ℕ) (next : ℕ → Prog (Result Reading ReadError)) → at ≢ undefined → Finds secondary_block at (slots_len (super_block_of s).blocks) block old new address
-    → store_rest new (data_slot address (super_block_of s).slots slot) next ≡ store_rest old (secondary_slot at s block slot) next
+pub second_kept : (old new : List Kept) (at s block slot : ℕ) (b : List ℕ) (c : Content) (next : ℕ → Prog (Result Reading ReadError)) → at ≢ undefined → kept_bytes secondary_block at (slots_len (super_block_of s).blocks) old ≡ Some b
+    → IsRead secondary_block at (slots_len (super_block_of s).blocks) b c → new ≡ used 16 secondary_block at (slots_len (super_block_of s).blocks) b old
+    → store_rest new (data_slot (get_or (slots_in c) block undefined) (super_block_of s).slots slot) next ≡ store_rest old (secondary_slot at s block slot) next
 unfolding store_rest
-second_kept old new at s block slot address next there f =
-    ap (λ a. store_rest new (data_slot a (super_block_of s).slots slot) next) f.is
-    ∙ second_read new at s block slot f.bytes f.slots next (f.read.of_second (super_block_of s).blocks refl refl)
-    ∙ ap (λ ks. store_rest ks (second_given at s block slot f.bytes) next) f.then_used
-    ∙ sym (ap (λ (p : Prog (Result ℕ ReadError)). store_rest old p next) (second_stored at s block slot there)
-    ∙ stored_is old secondary_block at (slots_len (super_block_of s).blocks) (second_given at s block slot) next (Some f.bytes) f.is_kept)
+second_kept old new p s block slot b c next there some read used_is =
+    second_read new p s block slot b (slots_in c) next (read.of_second (super_block_of s).blocks refl refl)
+    ∙ ap (λ ks. store_rest ks (second_given p s block slot b) next) used_is
+    ∙ sym (ap (λ (q : Prog (Result ℕ ReadError)). store_rest old q next) (second_stored p s block slot there)
+    ∙ stored_is old secondary_block p (slots_len (super_block_of s).blocks) (second_given p s block slot) next (Some b) some)
 
 pub second_waits : (ks : List Kept) (w : SecondWait) (next : ℕ → Prog (Result Reading ReadError)) → w.at ≢ undefined → kept_bytes secondary_block w.at (slots_len (super_block_of w.sblock).blocks) ks ≡ None
     → wait_rest ks (waits.Second w) next ≡ store_rest ks (secondary_slot w.at w.sblock w.block w.slot) next

@@ -1,5 +1,5 @@
 -- What is awaited in a call for rows.
-use Rattle.std.proofs.Common.{◌≡◌, ℕ, min, List, Option, Some, None, refl, sym, ap, subst}
+use Rattle.std.proofs.Common.{◌≡◌, ℕ, min, length, List, Option, Some, None, refl, sym, ap, subst}
 use Rattle.std.specs.Prelude.{◌≢◌, IsSome}
 use Rattle.h5w_model.specs.Programs.{Prog, below_end, next_look}
 use Rattle.h5w_model.specs.Calls.{CallRules, known_table}
@@ -9,10 +9,11 @@ use Rattle.h5w_reader.specs.Described.{described_of}
 use Rattle.h5w_model.specs.Checked.{viewed}
 use Rattle.h5w_model.specs.Tables.{Reading}
 use Rattle.h5w_model.specs.Unfinished.{wanted}
-use Rattle.h5w_reader.specs.Attempts.{array_rest, index_rest, known_of, rules_of}
+use Rattle.h5w_reader.specs.Attempts.{array_rest, index_rest, tree_rest, known_of, rules_of}
 use Rattle.h5w_reader.specs.Descents.{reading_news}
 use Rattle.h5w_reader.proofs.DescentLemmas.{waiting_wants}
 use Rattle.h5w_reader.specs.Calling.{behind_left, stage_left}
+use Rattle.h5w_reader.specs.Grids.{grid_given}
 use Rattle.h5w_reader.specs.Values.{reading_values, band_rest, reading_with}
 use Rattle.h5w_reader.specs.Readers.{left_of}
 use Rattle.h5w_reader.specs.declared.call.Call.TheVariants as calls
@@ -42,6 +43,8 @@ pub behind_looks : (g : CallRules) (b : Behind) → IsLooking (behind_left g b)
 behind_looks g (behind_by.Visit b) = record { look = (b.gather.place, min 512 b.gather.rest); next = wants_bind (walking b) _ _ (walking_looks b) }
 behind_looks g (behind_by.Lookup (lookup_by.Array s k)) =
     record { look = (k.place, min 512 k.rest); next = wants_gather k.place k.rest (min 512 k.rest) k.got.items (array_rest g.place (known_table g.known (described_of s.dataset)) (described_of s.dataset) k.start) k.more refl }
+behind_looks g (behind_by.Lookup (lookup_by.Tree l k)) =
+    record { look = (k.place, min 512 k.rest); next = wants_gather k.place k.rest (min 512 k.rest) k.got.items (tree_rest g.place (known_table g.known (described_of l.dataset)) (described_of l.dataset) k.start) k.more refl }
 behind_looks g (behind_by.Lookup (lookup_by.Block w)) = record { look = (w.gather.place, min 512 w.gather.rest); next = waiting_wants g w (min 512 w.gather.rest) refl }
 behind_looks g (behind_by.Lookup (lookup_by.Index s k)) =
     record { look = (k.place, min 512 k.rest); next = wants_gather k.place k.rest (min 512 k.rest) k.got.items (index_rest g.place (known_table g.known (described_of s.dataset)) (described_of s.dataset) k.start) k.more refl }
@@ -65,6 +68,12 @@ read_looks k (reads_by.Range s) =
       look = (s.gather.place, min 512 s.gather.rest);
       next = wants_gather s.gather.place s.gather.rest (min 512 s.gather.rest) s.gather.got.items
           (band_rest (reading_with k s.span.dataset) s.span.from s.span.to s.band s.values.items s.gather.start) s.gather.more refl;
+    }
+read_looks k (reads_by.Beside s) =
+    record {
+      look = (s.gather.place, min 512 s.gather.rest);
+      next = wants_gather s.gather.place s.gather.rest (min 512 s.gather.rest) s.gather.got.items
+          (grid_given (reading_with k s.grid.dataset) s.grid.from s.grid.to s.band (length s.ranges.items) s.values.items s.ranges.items s.gather.start) s.gather.more refl;
     }
 read_looks k (reads_by.Past at len) = record { look = (at, below_end at 512); next = refl }
 

@@ -9,6 +9,8 @@ use Rattle.std.proofs.lemmas.List.{take-map}
 use Rattle.lru.specs.LruCache.{LruCache, IsValid, promoted, put_entries}
 use Rattle.h5w_model.specs.Programs.{Kept, is_of, kept_bytes, others, used}
 use Rattle.h5w_reader.specs.Blocks.{block_number}
+use Rattle.h5w_reader.specs.Blocks.{IsRead}
+use Rattle.h5w_reader.specs.Stores.{Keeps, IsBlockOf}
 use Rattle.h5w_reader.specs.Keyed.{kept_entry, kept_entries, IsKeyed}
 use Rattle.h5w_reader.specs.declared.block.Block.{Block}
 
@@ -253,3 +255,45 @@ used_again kind at n es b s keyed apart few h =
 pub either : {X E V : Type 0} (P : V → Type 0) (r : Result X E) (new good old : V) → OnOk r (new ≡ good) → OnErr r (new ≡ old) → P good → P old → P new
 either P (Ok x) new good old h k p q = subst P (sym h) p
 either P (Err e) new good old h k p q = subst P (sym k) q
+
+-- ---- What a block says
+
+pub read_of : (kind at len : ℕ) (bytes : List ℕ) (b : Block) → IsBlockOf kind at len bytes b → IsRead kind at len bytes b.content
+read_of kind p len bytes b is =
+    subst (λ k. IsRead k p len bytes b.content) is.kind_is
+    (subst (λ k. IsRead b.kind k len bytes b.content) is.place_is
+    (subst (λ k. IsRead b.kind b.place k bytes b.content) is.len_is
+    (subst (λ x. IsRead b.kind b.place b.len x b.content) is.bytes_are b.read)))
+
+-- a block that is found by its number
+pub keeps_found : (kind at n : ℕ) (es : List (ℕ × Block)) (b : Block) → IsSmall at n → IsKeyed es → lookup (nat_eq (block_number kind at n)) es ≡ Some b → Keeps kind at n (kept_entries es) b.content
+keeps_found kind p n es b s keyed h =
+    let key = block_number kind p n in
+    let entry = value_of_entry (nat_eq key) es b h in
+    let f = entry.0 in
+    let found = found_entry (nat_eq key) es f entry.1 in
+    let number : key ≡ f.0 = eqb-true key f.0 found.passes in
+    let same = same_number kind p n (kept_entry f) s (small_block f.1) (number ∙ keyed_found es (nat_eq key) f entry.1 keyed) in
+    let is : IsBlockOf kind p n b.bytes.items b = record {
+      kind_is = ap (λ (x : Block). x.kind) (sym entry.2) ∙ same.kind_is;
+      place_is = ap (λ (x : Block). x.place) (sym entry.2) ∙ same.place_is;
+      len_is = ap (λ (x : Block). x.len) (sym entry.2) ∙ same.len_is;
+      bytes_are = refl;
+    } in
+    record {
+      bytes = b.bytes.items;
+      is_kept = find_bytes kind p n es s keyed ∙ ap (λ (o : Option Block). option_map (λ b. b.bytes.items) o) h;
+      read = read_of kind p n b.bytes.items b is;
+    }
+
+some_bytes : (o : Option Block) (bytes : List ℕ) → option_map (λ b. b.bytes.items) o ≡ Some bytes → (b : Block) × (o ≡ Some b) × (b.bytes.items ≡ bytes)
+some_bytes None bytes h = absurd cc
+some_bytes (Some b) bytes h = (b, refl, cc)
+
+-- its use, by its bytes
+pub used_bytes : (kind at n : ℕ) (es : List (ℕ × Block)) (bytes : List ℕ) → IsSmall at n → IsKeyed es → IsDistinct nat_eq (keys_of es) → length es ≤ 16 → kept_bytes kind at n (kept_entries es) ≡ Some bytes
+    → kept_entries (promoted (nat_eq (block_number kind at n)) es) ≡ used 16 kind at n bytes (kept_entries es)
+used_bytes kind p n es bytes s keyed apart few h =
+    let some = some_bytes (lookup (nat_eq (block_number kind p n)) es) bytes (sym (find_bytes kind p n es s keyed) ∙ h) in
+    let u = used_again kind p n es some.0 s keyed apart few some.1 in
+    u.then_used ∙ ap (λ bs. used 16 kind p n bs (kept_entries es)) some.2

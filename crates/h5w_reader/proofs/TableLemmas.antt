@@ -1,20 +1,16 @@
 -- The addresses of needed chunks, from the index on.
-use Rattle.std.proofs.Common.{◌≡◌, ◌≢◌, ℕ, zero, suc, ◌+◌, ◌-◌, ◌*◌, ◌<◌, ◌≤◌, Bool, true, false, cond, List, [], ◌∷◌, ◌++◌, length, map, take, get_or, replicate, Result, Ok, Err, ◌⊎◌, inl, inr, refl, sym, ◌∙◌, ap, append_assoc, append-nil, arith}
-use Rattle.std.specs.Prelude.{◌==◌, nat_lt, flat_map}
-use Rattle.std.specs.List.{range_with_len}
-use Rattle.std.proofs.lemmas.List.{length-append}
-use Rattle.std.proofs.lemmas.List.FromFn.{length-map-range_with_len}
+use Rattle.std.proofs.Common.{◌≡◌, ◌≢◌, ℕ, zero, suc, ◌+◌, ◌-◌, ◌<◌, ◌≤◌, Bool, true, false, cond, List, [], ◌∷◌, ◌++◌, length, take, get_or, Result, Ok, Err, ◌⊎◌, inl, inr, refl, sym, ◌∙◌, ap, append_assoc, append-nil, arith}
+use Rattle.std.specs.Prelude.{◌==◌, nat_lt}
 use Rattle.std.proofs.lemmas.Bool.{lt-ltb, le-ltb, eq-eqb, ne_eqb, cases_Bool, cases_lt, eqb-true, eqb-false}
 use Rattle.h5w_model.specs.Programs.{Prog, ret, whole, bind, and_then, cut_up}
 use Rattle.h5w_model.specs.Numbers.{undefined}
-use Rattle.h5w_model.specs.Arrays.{EahdFields, EaibFields, eahd_at, eaib_at, eahd_len, eaib_len, place_of}
+use Rattle.h5w_model.specs.Arrays.{EahdFields, EaibFields, eahd_at, eaib_at, eahd_len, eaib_len}
+use Rattle.h5w_model.specs.Trees.{BthdFields, bthd_at, bthd_len}
 use Rattle.h5w_model.specs.Datasets.{Described, described, then_also, refused_as}
 use Rattle.h5w_model.specs.Datasets as model
-use Rattle.h5w_model.specs.Tables.{Reading, InPlace, nowhere, in_array, in_place, array_in_place, address_behind, needed, limit_of, needed_keys, bands, chunks_across}
-use Rattle.h5w_model.specs.Messages.{index_of}
+use Rattle.h5w_model.specs.Tables.{Reading, InPlace, nowhere, in_array, in_tree, in_place, array_in_place, tree_in_place, address_behind, needed, limit_of, needed_keys, chunks_across}
 use Rattle.h5w_model.specs.declared.cell.Key.{Key}
-use Rattle.h5w_model.specs.declared.cell.Place.{Place}
-use Rattle.h5w_model.specs.declared.cell.Place.TheVariants.{Index, Direct, Second}
+use Rattle.h5w_model.specs.declared.cell.IndexKind.{IndexKind}
 use Rattle.h5w_model.specs.declared.cell.IndexKind.TheVariants.{Array, Tree}
 use Rattle.h5w_model.specs.declared.refusal.Unsupported.{Unsupported}
 use Rattle.h5w_model.specs.declared.refusal.ReadError.TheVariants as read_errors
@@ -24,39 +20,15 @@ use Rattle.h5w_model.specs.declared.refusal.ReadError.{ReadError}
 use Rattle.h5w_model.specs.declared.refusal.ReadError.TheVariants.{Damaged}
 use Rattle.h5w_reader.specs.Looks.{with_store}
 use Rattle.h5w_reader.specs.Gathering.{cut_behind}
-use Rattle.h5w_reader.specs.Slots.{known_or, slots_from, answered, slots_rest, no_index}
-use Rattle.h5w_reader.specs.Attempts.{index_rest, array_rest, table_rest, described_rest, reader_limits}
+use Rattle.h5w_reader.specs.Slots.{key_of, known_or, slots_from, answered, slots_rest}
+use Rattle.h5w_reader.specs.Attempts.{index_rest, array_rest, tree_rest, table_rest, described_rest}
+use Rattle.h5w_reader.specs.declared.dataset.Dataset.{Dataset}
 use Rattle.h5w_reader.proofs.PieceLemmas.{cut_up_is}
 use Rattle.h5w_reader.proofs.CallLemmas.{then_assoc}
-use Rattle.h5w_reader.proofs.SeekLemmas.{slot_at}
+use Rattle.h5w_reader.proofs.KeyLemmas.{keys_from, keys_are, length_keys}
 
 cases_eqb : (a b : ℕ) → (a ≡ b) ⊎ (a ≡ b → ⊥)
 cases_eqb a b = elim (cases_Bool (a == b)) [ inl t ↦ inl (eqb-true a b t) | inr f ↦ inr (eqb-false a b f) ]
-
--- ---- Keys
-
--- side by side stands one chunk
-abbrev row_keys : ℕ → List ℕ → List Key
-row_keys across rows = flat_map (λ row. map (λ column. record { i = row; j = column }) (range_with_len 0 across)) rows
-
-pub line_keys : (rows : List ℕ) → row_keys 1 rows ≡ map (λ row. record { i = row; j = 0 }) rows
-line_keys [] = refl
-line_keys (r ∷ rs) = ap (λ (ks : List Key). record { i = r; j = 0 } ∷ ks) (line_keys rs)
-
--- the keys of a line of n chunks, from one on
-abbrev line : ℕ → ℕ → List Key
-line from n = map (λ row. record { i = row; j = 0 }) (range_with_len from n)
-
-length_row_keys : (across n from : ℕ) → length (row_keys across (range_with_len from n)) ≡ n * across
-length_row_keys across zero from = grind arith
-length_row_keys across (suc n) from =
-    length-append (map (λ column. let k : Key = record { i = from; j = column } in k) (range_with_len 0 across)) (row_keys across (range_with_len (from + 1) n))
-    ∙ ap (λ m. m + length (row_keys across (range_with_len (from + 1) n))) (length-map-range_with_len (λ column. let k : Key = record { i = from; j = column } in k) 0 across)
-    ∙ ap (λ m. across + m) (length_row_keys across n (from + 1))
-    ∙ grind arith
-
-pub length_keys : (d : Described) → length (needed_keys d) ≡ needed d
-length_keys d = length_row_keys (chunks_across d) (bands d) 0
 
 -- ---- Known addresses
 
@@ -74,101 +46,67 @@ unknown_behind (a ∷ known) (k ∷ ks) (suc full) defined first =
     rw (ne_eqb a undefined (defined 0 (omega arith))) (unknown_behind known ks full (λ i h. defined (suc i) (omega arith)) first ∙ sym (lt_suc full (length ks)))
 
 -- an address that may be known, by the definition and chunk by chunk
-first_step : (e : EaibFields) (known : List ℕ) (i a : ℕ) → get_or known i undefined ≡ a → address_or (in_array e) a (record { i = i; j = 0 }) ≡ known_or e known i
-first_step e known i a h = rw h refl
+first_step : (q : InPlace) (across : ℕ) (known : List ℕ) (i a : ℕ) → get_or known i undefined ≡ a → address_or q a (key_of across i) ≡ known_or q across known i
+first_step q across known i a h = rw h refl
 
-each_next : (at : ℕ) (d : Described) (e : EaibFields) (all known : List ℕ) (n from : ℕ) (done : List ℕ) (a : ℕ)
-    → and_then (each_unknown (in_array e) known (line (from + 1) n)) (λ t. answered at d ((done ++ a ∷ []) ++ t)) ≡ and_then (slots_from e all n (from + 1) (done ++ a ∷ [])) (answered at d)
-    → and_then (and_then (each_unknown (in_array e) known (line (from + 1) n)) (λ rs. ret (Ok (a ∷ rs)))) (λ t. answered at d (done ++ t)) ≡ and_then (slots_from e all n (from + 1) (done ++ a ∷ [])) (answered at d)
-each_next at d e all known n from done a rest_is =
-    let rest = each_unknown (in_array e) known (line (from + 1) n) in
+each_next : (at : ℕ) (d : Described) (p : InPlace) (across : ℕ) (all known : List ℕ) (n from : ℕ) (done : List ℕ) (a : ℕ)
+    → and_then (each_unknown p known (keys_from across (from + 1) n)) (λ t. answered at d ((done ++ a ∷ []) ++ t)) ≡ and_then (slots_from p across all n (from + 1) (done ++ a ∷ [])) (answered at d)
+    → and_then (and_then (each_unknown p known (keys_from across (from + 1) n)) (λ rs. ret (Ok (a ∷ rs)))) (λ t. answered at d (done ++ t)) ≡ and_then (slots_from p across all n (from + 1) (done ++ a ∷ [])) (answered at d)
+each_next at d p across all known n from done a rest_is =
+    let rest = each_unknown p known (keys_from across (from + 1) n) in
     then_assoc rest (λ rs. ret (Ok (a ∷ rs))) (λ t. answered at d (done ++ t))
     ∙ ap (λ (f : List ℕ → Prog (Result Reading ReadError)). and_then rest f) (λ i rs. ap (answered at d) (sym (append_assoc done (a ∷ []) rs)) i)
     ∙ rest_is
 
-each_is : (at : ℕ) (d : Described) (e : EaibFields) (all known : List ℕ) (n from : ℕ) (done : List ℕ) → ((j : ℕ) → get_or all (from + j) undefined ≡ get_or known j undefined)
-    → and_then (each_unknown (in_array e) known (line from n)) (λ t. answered at d (done ++ t)) ≡ and_then (slots_from e all n from done) (answered at d)
-each_is at d e all [] zero from done same = ap (answered at d) (append-nil done)
-each_is at d e all (a ∷ known) zero from done same = ap (answered at d) (append-nil done)
-each_is at d e all [] (suc n) from done same =
-    let k : Key = record { i = from; j = 0 } in
-    let p = known_or e all from in
+each_is : (at : ℕ) (d : Described) (p : InPlace) (across : ℕ) (all known : List ℕ) (n from : ℕ) (done : List ℕ) → ((j : ℕ) → get_or all (from + j) undefined ≡ get_or known j undefined)
+    → and_then (each_unknown p known (keys_from across from n)) (λ t. answered at d (done ++ t)) ≡ and_then (slots_from p across all n from done) (answered at d)
+each_is at d p across all [] zero from done same = ap (answered at d) (append-nil done)
+each_is at d p across all (a ∷ known) zero from done same = ap (answered at d) (append-nil done)
+each_is at d p across all [] (suc n) from done same =
+    let k = key_of across from in
+    let step = known_or p across all from in
     let none : get_or all from undefined ≡ undefined = ap (λ m. get_or all m undefined) (let z : from ≡ from + 0 = omega arith in z) ∙ same 0 in
-    let rest = each_unknown (in_array e) [] (line (from + 1) n) in
-    let step : address_behind (in_array e) k ≡ p = rw (none) refl in
-    ap (λ (q : Prog (Result ℕ ReadError)). and_then (and_then q (λ a. and_then rest (λ rs. ret (Ok (a ∷ rs))))) (λ t. answered at d (done ++ t))) step
-    ∙ then_assoc p (λ a. and_then rest (λ rs. ret (Ok (a ∷ rs)))) (λ t. answered at d (done ++ t))
-    ∙ ap (λ (f : ℕ → Prog (Result Reading ReadError)). and_then p f) (λ i a. (each_next at d e all [] n from done a (each_is at d e all [] n (from + 1) (done ++ a ∷ [])
+    let rest = each_unknown p [] (keys_from across (from + 1) n) in
+    let is : address_behind p k ≡ step = rw (none) refl in
+    ap (λ (q : Prog (Result ℕ ReadError)). and_then (and_then q (λ a. and_then rest (λ rs. ret (Ok (a ∷ rs))))) (λ t. answered at d (done ++ t))) is
+    ∙ then_assoc step (λ a. and_then rest (λ rs. ret (Ok (a ∷ rs)))) (λ t. answered at d (done ++ t))
+    ∙ ap (λ (f : ℕ → Prog (Result Reading ReadError)). and_then step f) (λ i a. (each_next at d p across all [] n from done a (each_is at d p across all [] n (from + 1) (done ++ a ∷ [])
     (λ j. ap (λ m. get_or all m undefined) (let z : from + 1 + j ≡ from + suc j = omega arith in z) ∙ same (suc j)))) i)
-    ∙ sym (then_assoc p (λ a. slots_from e all n (from + 1) (done ++ a ∷ [])) (answered at d))
-each_is at d e all (b ∷ known) (suc n) from done same =
-    let p = known_or e all from in
+    ∙ sym (then_assoc step (λ a. slots_from p across all n (from + 1) (done ++ a ∷ [])) (answered at d))
+each_is at d p across all (b ∷ known) (suc n) from done same =
+    let step = known_or p across all from in
     let first : get_or all from undefined ≡ b = ap (λ m. get_or all m undefined) (let z : from ≡ from + 0 = omega arith in z) ∙ same 0 in
-    let rest = each_unknown (in_array e) known (line (from + 1) n) in
-    ap (λ (q : Prog (Result ℕ ReadError)). and_then (and_then q (λ a. and_then rest (λ rs. ret (Ok (a ∷ rs))))) (λ t. answered at d (done ++ t))) (first_step e all from b first)
-    ∙ then_assoc p (λ a. and_then rest (λ rs. ret (Ok (a ∷ rs)))) (λ t. answered at d (done ++ t))
-    ∙ ap (λ (f : ℕ → Prog (Result Reading ReadError)). and_then p f) (λ i a. (each_next at d e all known n from done a (each_is at d e all known n (from + 1) (done ++ a ∷ [])
+    let rest = each_unknown p known (keys_from across (from + 1) n) in
+    ap (λ (q : Prog (Result ℕ ReadError)). and_then (and_then q (λ a. and_then rest (λ rs. ret (Ok (a ∷ rs))))) (λ t. answered at d (done ++ t))) (first_step p across all from b first)
+    ∙ then_assoc step (λ a. and_then rest (λ rs. ret (Ok (a ∷ rs)))) (λ t. answered at d (done ++ t))
+    ∙ ap (λ (f : ℕ → Prog (Result Reading ReadError)). and_then step f) (λ i a. (each_next at d p across all known n from done a (each_is at d p across all known n (from + 1) (done ++ a ∷ [])
     (λ j. ap (λ m. get_or all m undefined) (let z : from + 1 + j ≡ from + suc j = omega arith in z) ∙ same (suc j)))) i)
-    ∙ sym (then_assoc p (λ a. slots_from e all n (from + 1) (done ++ a ∷ [])) (answered at d))
-
--- ---- Without an index block
-
-none_at : (n i : ℕ) → get_or (replicate n undefined) i undefined ≡ undefined
-none_at zero i = refl
-none_at (suc n) zero = refl
-none_at (suc n) (suc i) = none_at n i
-
-abbrev nothing : Prog (Result ℕ ReadError)
-nothing = ret (Ok undefined)
-
-slot_nowhere : (p : Place) → slot_at no_index p ≡ nothing
-slot_nowhere (Index slot) = ap (λ (a : ℕ). let q : Prog (Result ℕ ReadError) = ret (Ok a) in q) (none_at 4 slot)
-slot_nowhere (Direct block slot) = rw (none_at 6 block) refl
-slot_nowhere (Second sblock block slot) = rw (none_at 25 (sblock - 4)) refl
-
-none_behind : (k : Key) → address_behind nowhere k ≡ address_behind (in_array no_index) k
-none_behind k = sym (slot_nowhere (place_of k.i))
-
-or_none : (a : ℕ) (k : Key) → address_or nowhere a k ≡ address_or (in_array no_index) a k
-or_none a k = ap (λ (q : Prog (Result ℕ ReadError)). cond (a == undefined) q (ret (Ok a))) (none_behind k)
-
-each_nowhere : (known : List ℕ) (ks : List Key) → each_unknown nowhere known ks ≡ each_unknown (in_array no_index) known ks
-each_nowhere [] [] = refl
-each_nowhere (a ∷ known) [] = refl
-each_nowhere [] (k ∷ ks) =
-    ap (λ (r : Prog (Result (List ℕ) ReadError)). and_then (address_behind nowhere k) (λ a. and_then r (λ rest. ret (Ok (a ∷ rest))))) (each_nowhere [] ks)
-    ∙ ap (λ (q : Prog (Result ℕ ReadError)). and_then q (λ a. and_then (each_unknown (in_array no_index) [] ks) (λ rest. ret (Ok (a ∷ rest))))) (none_behind k)
-each_nowhere (b ∷ known) (k ∷ ks) =
-    ap (λ (r : Prog (Result (List ℕ) ReadError)). and_then (address_or nowhere b k) (λ a. and_then r (λ rest. ret (Ok (a ∷ rest))))) (each_nowhere known ks)
-    ∙ ap (λ (q : Prog (Result ℕ ReadError)). and_then q (λ a. and_then (each_unknown (in_array no_index) known ks) (λ rest. ret (Ok (a ∷ rest))))) (or_none b k)
+    ∙ sym (then_assoc step (λ a. slots_from p across all n (from + 1) (done ++ a ∷ [])) (answered at d))
 
 -- ---- The blocks in place
 
 abbrev behind : ℕ → List ℕ → Described → List Key → InPlace → Prog (Result Reading ReadError)
 behind at known d ks p = with_store (and_then (each_unknown p known ks) (answered at d))
 
-behind_array : (at n : ℕ) (known : List ℕ) (d : Described) (e : EaibFields) → needed d ≡ n → behind at known d (line 0 n) (in_array e) ≡ slots_rest at known d e [] 0 []
+behind_placed : (at : ℕ) (known : List ℕ) (d : Described) (p : InPlace) → behind at known d (needed_keys d) p ≡ slots_rest at known d p [] 0 []
 unfolding slots_rest
-behind_array at n known d e count =
-    let all : n ≡ needed d - 0 = omega arith in
-    ap with_store (each_is at d e known known n 0 [] (λ j. ap (λ m. get_or known m undefined) (let z : 0 + j ≡ j = omega arith in z)))
-    ∙ ap (λ m. with_store (and_then (slots_from e known m 0 []) (answered at d))) all
-
-behind_nowhere : (at n : ℕ) (known : List ℕ) (d : Described) → needed d ≡ n → behind at known d (line 0 n) nowhere ≡ slots_rest at known d no_index [] 0 []
-behind_nowhere at n known d count =
-    ap (λ (q : Prog (Result (List ℕ) ReadError)). with_store (and_then q (answered at d))) (each_nowhere known (line 0 n))
-    ∙ behind_array at n known d no_index count
+behind_placed at known d p =
+    let all : needed d ≡ needed d - 0 = omega arith in
+    let across = chunks_across d in
+    ap (λ ks. behind at known d ks p) (keys_are d)
+    ∙ ap with_store (each_is at d p across known known (needed d) 0 [] (λ j. ap (λ m. get_or known m undefined) (let z : 0 + j ≡ j = omega arith in z)))
+    ∙ ap (λ m. with_store (and_then (slots_from p across known m 0 []) (answered at d))) all
 
 index_given : ℕ → List ℕ → Described → List Key → ℕ → Result EaibFields BlockFault → Prog (Result Reading ReadError)
 index_given at known d ks place r = with_store (and_then (and_then (ret (then_also (refused_as (Damaged place) r) (λ e. Ok (in_array e)))) (λ p. each_unknown p known ks)) (answered at d))
 
 index_left : ℕ → List ℕ → Described → ℕ → Result EaibFields BlockFault → Prog (Result Reading ReadError)
-index_left at known d place r = elim r [ Ok e ↦ slots_rest at known d e [] 0 [] | Err f ↦ ret (Err (Damaged place f)) ]
+index_left at known d place r = elim r [ Ok e ↦ slots_rest at known d (in_array e) [] 0 [] | Err f ↦ ret (Err (Damaged place f)) ]
 
-index_alike : (at n : ℕ) (known : List ℕ) (d : Described) (place : ℕ) (r : Result EaibFields BlockFault) → needed d ≡ n → index_given at known d (line 0 n) place r ≡ index_left at known d place r
+index_alike : (at : ℕ) (known : List ℕ) (d : Described) (place : ℕ) (r : Result EaibFields BlockFault) → index_given at known d (needed_keys d) place r ≡ index_left at known d place r
 unfolding index_given index_left
-index_alike at n known d place (Ok e) k = behind_array at n known d e k
-index_alike at n known d place (Err f) k = refl
+index_alike at known d place (Ok e) = behind_placed at known d (in_array e)
+index_alike at known d place (Err f) = refl
 
 array_given : ℕ → List ℕ → Described → List Key → ℕ → Result EahdFields BlockFault → Prog (Result Reading ReadError)
 array_given at known d ks place r =
@@ -179,23 +117,23 @@ array_given at known d ks place r =
 
 array_left : ℕ → List ℕ → Described → ℕ → Result EahdFields BlockFault → Prog (Result Reading ReadError)
 array_left at known d place r = elim r [
-  | Ok a ↦ cond (a.block == undefined) (slots_rest at known d no_index [] 0 []) (bind (cut_behind [] a.block eaib_len) (index_rest at known d a.block))
+  | Ok a ↦ cond (a.block == undefined) (slots_rest at known d nowhere [] 0 []) (bind (cut_behind [] a.block eaib_len) (index_rest at known d a.block))
   | Err f ↦ ret (Err (Damaged place f))
 ]
 
-array_alike : (at n : ℕ) (known : List ℕ) (d : Described) (place : ℕ) (r : Result EahdFields BlockFault) → needed d ≡ n → array_given at known d (line 0 n) place r ≡ array_left at known d place r
+array_alike : (at : ℕ) (known : List ℕ) (d : Described) (place : ℕ) (r : Result EahdFields BlockFault) → array_given at known d (needed_keys d) place r ≡ array_left at known d place r
 unfolding array_given array_left index_rest index_given index_left
-array_alike at n known d place (Err f) k = refl
-array_alike at n known d place (Ok a) k =
+array_alike at known d place (Err f) = refl
+array_alike at known d place (Ok a) =
     elim (a.block == undefined) as (λ c. with_store (and_then (and_then (cond c (ret (Ok nowhere)) (whole a.block eaib_len (λ b. ret (then_also (refused_as (Damaged a.block) (eaib_at b a.block)) (λ e. Ok (in_array e))))))
-    (λ p. each_unknown p known (line 0 n))) (answered at d))
-    ≡ cond c (slots_rest at known d no_index [] 0 []) (bind (cut_behind [] a.block eaib_len) (index_rest at known d a.block))) [
-      | true ↦ behind_nowhere at n known d k
-      | false ↦ ap (cut_up a.block eaib_len) (λ i b. index_alike at n known d a.block (eaib_at b a.block) k i) ∙ cut_up_is a.block eaib_len (index_rest at known d a.block)
+    (λ p. each_unknown p known (needed_keys d))) (answered at d))
+    ≡ cond c (slots_rest at known d nowhere [] 0 []) (bind (cut_behind [] a.block eaib_len) (index_rest at known d a.block))) [
+      | true ↦ behind_placed at known d nowhere
+      | false ↦ ap (cut_up a.block eaib_len) (λ i b. index_alike at known d a.block (eaib_at b a.block) i) ∙ cut_up_is a.block eaib_len (index_rest at known d a.block)
     ]
 
 -- given the blocks, the code's steps are these
-pub index_ok : (at : ℕ) (known : List ℕ) (d : Described) (place : ℕ) (b : List ℕ) (e : EaibFields) → eaib_at b place ≡ Ok e → index_rest at known d place b ≡ slots_rest at known d e [] 0 []
+pub index_ok : (at : ℕ) (known : List ℕ) (d : Described) (place : ℕ) (b : List ℕ) (e : EaibFields) → eaib_at b place ≡ Ok e → index_rest at known d place b ≡ slots_rest at known d (in_array e) [] 0 []
 unfolding index_rest index_left
 index_ok at known d place b e h = ap (index_left at known d place) h
 
@@ -207,7 +145,7 @@ pub array_err : (at : ℕ) (known : List ℕ) (d : Described) (place : ℕ) (b :
 unfolding array_rest array_left
 array_err at known d place b f h = ap (array_left at known d place) h
 
-pub array_none : (at : ℕ) (known : List ℕ) (d : Described) (place : ℕ) (b : List ℕ) (a : EahdFields) → eahd_at b place ≡ Ok a → a.block ≡ undefined → array_rest at known d place b ≡ slots_rest at known d no_index [] 0 []
+pub array_none : (at : ℕ) (known : List ℕ) (d : Described) (place : ℕ) (b : List ℕ) (a : EahdFields) → eahd_at b place ≡ Ok a → a.block ≡ undefined → array_rest at known d place b ≡ slots_rest at known d nowhere [] 0 []
 unfolding array_rest array_left
 array_none at known d place b a h e = ap (array_left at known d place) h ∙ rw (eq-eqb a.block undefined e) refl
 
@@ -216,17 +154,52 @@ pub array_some : (at : ℕ) (known : List ℕ) (d : Described) (place : ℕ) (b 
 unfolding array_rest array_left
 array_some at known d place b a h e = ap (array_left at known d place) h ∙ rw (ne_eqb a.block undefined e) refl
 
+-- the tree's header
+tree_given : ℕ → List ℕ → Described → List Key → ℕ → Result BthdFields BlockFault → Prog (Result Reading ReadError)
+tree_given at known d ks place r =
+    with_store (and_then (and_then (ret (then_also (refused_as (Damaged place) r) (λ t. Ok (cond (t.root == undefined) nowhere (in_tree t))))) (λ p. each_unknown p known ks)) (answered at d))
+
+tree_left : ℕ → List ℕ → Described → ℕ → Result BthdFields BlockFault → Prog (Result Reading ReadError)
+tree_left at known d place r = elim r [ Ok t ↦ slots_rest at known d (cond (t.root == undefined) nowhere (in_tree t)) [] 0 [] | Err f ↦ ret (Err (Damaged place f)) ]
+
+tree_alike : (at : ℕ) (known : List ℕ) (d : Described) (place : ℕ) (r : Result BthdFields BlockFault) → tree_given at known d (needed_keys d) place r ≡ tree_left at known d place r
+unfolding tree_given tree_left
+tree_alike at known d place (Ok t) = behind_placed at known d (cond (t.root == undefined) nowhere (in_tree t))
+tree_alike at known d place (Err f) = refl
+
+pub tree_err : (at : ℕ) (known : List ℕ) (d : Described) (place : ℕ) (b : List ℕ) (f : BlockFault) → bthd_at b place ≡ Err f → tree_rest at known d place b ≡ ret (Err (Damaged place f))
+unfolding tree_rest tree_left
+tree_err at known d place b f h = ap (tree_left at known d place) h
+
+pub tree_none : (at : ℕ) (known : List ℕ) (d : Described) (place : ℕ) (b : List ℕ) (t : BthdFields) → bthd_at b place ≡ Ok t → t.root ≡ undefined → tree_rest at known d place b ≡ slots_rest at known d nowhere [] 0 []
+unfolding tree_rest tree_left
+tree_none at known d place b t h e = ap (tree_left at known d place) h ∙ rw (eq-eqb t.root undefined e) refl
+
+pub tree_some : (at : ℕ) (known : List ℕ) (d : Described) (place : ℕ) (b : List ℕ) (t : BthdFields) → bthd_at b place ≡ Ok t → (t.root ≡ undefined → ⊥) → tree_rest at known d place b ≡ slots_rest at known d (in_tree t) [] 0 []
+unfolding tree_rest tree_left
+tree_some at known d place b t h e = ap (tree_left at known d place) h ∙ rw (ne_eqb t.root undefined e) refl
+
 pub rest_known : (at : ℕ) (known : List ℕ) (d : Described) → some_unknown known (needed_keys d) ≡ false → table_rest at known d ≡ answered at d (take (needed d) known)
 unfolding table_rest
 rest_known at known d e = rw e refl
 
-pub rest_nowhere : (at : ℕ) (known : List ℕ) (d : Described) → some_unknown known (needed_keys d) ≡ true → d.layout.address ≡ undefined → table_rest at known d ≡ slots_rest at known d no_index [] 0 []
+pub rest_nowhere : (at : ℕ) (known : List ℕ) (d : Described) → some_unknown known (needed_keys d) ≡ true → d.layout.address ≡ undefined → table_rest at known d ≡ slots_rest at known d nowhere [] 0 []
 unfolding table_rest
 rest_nowhere at known d some e = rw (some, eq-eqb d.layout.address undefined e) refl
 
-pub rest_array : (at : ℕ) (known : List ℕ) (d : Described) → some_unknown known (needed_keys d) ≡ true → (d.layout.address ≡ undefined → ⊥) → table_rest at known d ≡ bind (cut_behind [] d.layout.address eahd_len) (array_rest at known d d.layout.address)
+abbrev rest_by : ℕ → List ℕ → Described → IndexKind → Prog (Result Reading ReadError)
+rest_by at known d kind = elim kind [
+  | Array ↦ bind (cut_behind [] d.layout.address eahd_len) (array_rest at known d d.layout.address)
+  | Tree ↦ bind (cut_behind [] d.layout.address bthd_len) (tree_rest at known d d.layout.address)
+]
+
+pub rest_tree : (at : ℕ) (known : List ℕ) (d : Described) → some_unknown known (needed_keys d) ≡ true → (d.layout.address ≡ undefined → ⊥) → d.layout.index ≡ Tree → table_rest at known d ≡ bind (cut_behind [] d.layout.address bthd_len) (tree_rest at known d d.layout.address)
 unfolding table_rest
-rest_array at known d some e = rw (some, ne_eqb d.layout.address undefined e) refl
+rest_tree at known d some e kind = rw (some, ne_eqb d.layout.address undefined e) (ap (rest_by at known d) kind)
+
+pub rest_array : (at : ℕ) (known : List ℕ) (d : Described) → some_unknown known (needed_keys d) ≡ true → (d.layout.address ≡ undefined → ⊥) → d.layout.index ≡ Array → table_rest at known d ≡ bind (cut_behind [] d.layout.address eahd_len) (array_rest at known d d.layout.address)
+unfolding table_rest
+rest_array at known d some e kind = rw (some, ne_eqb d.layout.address undefined e) (ap (rest_by at known d) kind)
 
 -- by how many of the first are known
 pub lacks_none : (known : List ℕ) (d : Described) (full : ℕ) → ((i : ℕ) → i < full → get_or known i undefined ≢ undefined) → get_or known full undefined ≡ undefined → needed d ≤ full → some_unknown known (needed_keys d) ≡ false
@@ -234,6 +207,13 @@ lacks_none known d full defined first h = unknown_behind known (needed_keys d) f
 
 pub lacks_some : (known : List ℕ) (d : Described) (full : ℕ) → ((i : ℕ) → i < full → get_or known i undefined ≢ undefined) → get_or known full undefined ≡ undefined → full < needed d → some_unknown known (needed_keys d) ≡ true
 lacks_some known d full defined first h = unknown_behind known (needed_keys d) full defined first ∙ ap (nat_lt full) (length_keys d) ∙ lt-ltb full (needed d) h
+
+-- the kind of index is that of the shape
+pub array_kind : (d : Dataset) → d.shape.growing ≡ false → d.layout.index ≡ Array
+array_kind d e = d.indexed ∙ rw e refl
+
+pub tree_kind : (d : Dataset) → d.shape.growing ≡ true → d.layout.index ≡ Tree
+tree_kind d e = d.indexed ∙ rw e refl
 
 -- ---- The definition's way
 
@@ -252,16 +232,28 @@ place_array d there kind = rw (ne_eqb d.layout.address undefined there, kind) re
 abbrev placed : ℕ → List ℕ → Described → List Key → Prog (Result InPlace ReadError) → Prog (Result Reading ReadError)
 placed at known d ks p = with_store (and_then (and_then p (λ q. each_unknown q known ks)) (answered at d))
 
-placed_array : (at n : ℕ) (known : List ℕ) (d : Described) (address : ℕ) → needed d ≡ n → placed at known d (line 0 n) (array_in_place address) ≡ bind (cut_behind [] address eahd_len) (array_rest at known d address)
+placed_array : (at : ℕ) (known : List ℕ) (d : Described) (address : ℕ) → placed at known d (needed_keys d) (array_in_place address) ≡ bind (cut_behind [] address eahd_len) (array_rest at known d address)
 unfolding array_rest array_given array_left
-placed_array at n known d address e =
-    ap (cut_up address eahd_len) (λ i b. array_alike at n known d address (eahd_at b address) e i) ∙ cut_up_is address eahd_len (array_rest at known d address)
+placed_array at known d address =
+    ap (cut_up address eahd_len) (λ i b. array_alike at known d address (eahd_at b address) i) ∙ cut_up_is address eahd_len (array_rest at known d address)
 
-by_place : (at n : ℕ) (known : List ℕ) (d : Described) → d.layout.index ≡ Array → needed d ≡ n → some_unknown known (needed_keys d) ≡ true → placed at known d (line 0 n) (in_place d) ≡ table_rest at known d
-by_place at n known d kind e some =
+placed_tree : (at : ℕ) (known : List ℕ) (d : Described) (address : ℕ) → placed at known d (needed_keys d) (tree_in_place address) ≡ bind (cut_behind [] address bthd_len) (tree_rest at known d address)
+unfolding tree_rest tree_given tree_left
+placed_tree at known d address =
+    ap (cut_up address bthd_len) (λ i b. tree_alike at known d address (bthd_at b address) i) ∙ cut_up_is address bthd_len (tree_rest at known d address)
+
+place_tree : (d : Described) → (d.layout.address ≡ undefined → ⊥) → d.layout.index ≡ Tree → in_place d ≡ tree_in_place d.layout.address
+place_tree d there kind = rw (ne_eqb d.layout.address undefined there, kind) refl
+
+by_kind : (at : ℕ) (known : List ℕ) (d : Described) (kind : IndexKind) → d.layout.index ≡ kind → some_unknown known (needed_keys d) ≡ true → (d.layout.address ≡ undefined → ⊥) → placed at known d (needed_keys d) (in_place d) ≡ table_rest at known d
+by_kind at known d Array kind some there = ap (placed at known d (needed_keys d)) (place_array d there kind) ∙ placed_array at known d d.layout.address ∙ sym (rest_array at known d some there kind)
+by_kind at known d Tree kind some there = ap (placed at known d (needed_keys d)) (place_tree d there kind) ∙ placed_tree at known d d.layout.address ∙ sym (rest_tree at known d some there kind)
+
+by_place : (at : ℕ) (known : List ℕ) (d : Described) → some_unknown known (needed_keys d) ≡ true → placed at known d (needed_keys d) (in_place d) ≡ table_rest at known d
+by_place at known d some =
     elim (cases_eqb d.layout.address undefined) [
-      | inl none ↦ ap (placed at known d (line 0 n)) (place_none d none) ∙ behind_nowhere at n known d e ∙ sym (rest_nowhere at known d some none)
-      | inr there ↦ ap (placed at known d (line 0 n)) (place_array d there kind) ∙ placed_array at n known d d.layout.address e ∙ sym (rest_array at known d some there)
+      | inl none ↦ ap (placed at known d (needed_keys d)) (place_none d none) ∙ behind_placed at known d nowhere ∙ sym (rest_nowhere at known d some none)
+      | inr there ↦ by_kind at known d d.layout.index refl some there
     ]
 
 abbrev pub table_if : List ℕ → Described → List Key → Bool → Prog (Result (List ℕ) ReadError)
@@ -277,24 +269,12 @@ by_known at known d none =
 by_unknown : (at : ℕ) (known : List ℕ) (d : Described) (ks : List Key) → some_unknown known ks ≡ true → by_keys at known d ks ≡ placed at known d ks (in_place d)
 by_unknown at known d ks some = ap (λ c. with_store (and_then (table_if known d ks c) (answered at d))) some
 
--- an array of one chunk side by side
-pub table_line : (at : ℕ) (known : List ℕ) (d : Described) → d.layout.index ≡ Array → chunks_across d ≡ 1 → by_table at known d ≡ table_rest at known d
-table_line at known d kind one =
-    let n = bands d in
-    let e : needed d ≡ n = ap (λ m. n * m) one ∙ omega arith in
-    let keys : needed_keys d ≡ line 0 n = ap (λ m. row_keys m (range_with_len 0 n)) one ∙ line_keys (range_with_len 0 n) in
+pub table_is : (at : ℕ) (known : List ℕ) (d : Described) → by_table at known d ≡ table_rest at known d
+table_is at known d =
     elim (cases_Bool (some_unknown known (needed_keys d))) [
-      | inl t ↦ by_unknown at known d (needed_keys d) t ∙ ap (λ ks. placed at known d ks (in_place d)) keys ∙ by_place at n known d kind e t
+      | inl t ↦ by_unknown at known d (needed_keys d) t ∙ by_place at known d t
       | inr f ↦ by_known at known d f
     ]
-
-no_unknown : (known : List ℕ) (ks : List Key) → length ks ≡ 0 → some_unknown known ks ≡ false
-no_unknown [] [] h = refl
-no_unknown (a ∷ known) [] h = refl
-no_unknown known (k ∷ ks) h = absurd (omega arith)
-
-pub table_empty : (at : ℕ) (known : List ℕ) (d : Described) → needed d ≡ 0 → by_table at known d ≡ table_rest at known d
-table_empty at known d e = by_known at known d (no_unknown known (needed_keys d) (length_keys d ∙ e))
 
 -- ---- From the dataset header's messages on
 
@@ -321,25 +301,6 @@ settled_go : (g : CallRules) (ms : List model.FoundMessage) (d : Described) → 
 unfolding described_rest settled
 settled_go g ms d e h few = ap (settled g) e ∙ rw (le-ltb d.shape.rows (rows_seen g.known) h, le-ltb (limit_of g.limits d.layout.index) (needed d) few) refl
 
-pub settled_tree : (g : CallRules) (ms : List model.FoundMessage) (d : Described) → described ms ≡ Ok d → rows_seen g.known ≤ d.shape.rows → needed d ≤ limit_of g.limits d.layout.index → needed d ≡ 0 → described_rest g ms ≡ table_rest g.place (known_table g.known d) d
-settled_tree g ms d e h few none = settled_go g ms d e h few ∙ table_empty g.place (known_table g.known d) d none
-
-pub settled_line : (g : CallRules) (ms : List model.FoundMessage) (d : Described) → described ms ≡ Ok d → rows_seen g.known ≤ d.shape.rows → needed d ≤ limit_of g.limits d.layout.index → d.layout.index ≡ Array → chunks_across d ≡ 1
-    → described_rest g ms ≡ table_rest g.place (known_table g.known d) d
-settled_line g ms d e h few kind one = settled_go g ms d e h few ∙ table_line g.place (known_table g.known d) d kind one
-
--- a dataset whose index is that of its shape, within the reader's limits
-pub settled_any : (g : CallRules) (ms : List model.FoundMessage) (d : Described) → g.limits ≡ reader_limits → described ms ≡ Ok d → rows_seen g.known ≤ d.shape.rows → d.layout.index ≡ index_of d.shape
-    → (d.shape.growing ≡ false → (d.shape.cols ≡ 1) × (d.layout.chunk_cols ≡ 1)) → needed d ≤ limit_of g.limits d.layout.index → described_rest g ms ≡ table_rest g.place (known_table g.known d) d
-settled_any g ms d l e h indexed line few =
-    elim (cases_Bool d.shape.growing) [
-      | inl t ↦
-          let kind : d.layout.index ≡ Tree = indexed ∙ rw t refl in
-          let limit : limit_of g.limits d.layout.index ≡ 0 = rw (l, kind) refl in
-          settled_tree g ms d e h few (omega arith)
-      | inr f ↦
-          let kind : d.layout.index ≡ Array = indexed ∙ rw f refl in
-          let limit : limit_of g.limits d.layout.index ≡ 131060 = rw (l, kind) refl in
-          let one : chunks_across d ≡ 1 = rw ((line f).0, (line f).1) refl in
-          settled_line g ms d e h few kind one
-    ]
+-- within the limits
+pub settled_any : (g : CallRules) (ms : List model.FoundMessage) (d : Described) → described ms ≡ Ok d → rows_seen g.known ≤ d.shape.rows → needed d ≤ limit_of g.limits d.layout.index → described_rest g ms ≡ table_rest g.place (known_table g.known d) d
+settled_any g ms d e h few = settled_go g ms d e h few ∙ table_is g.place (known_table g.known d) d

@@ -29,14 +29,14 @@ bind_assoc (counted at counts next) f g = ap (counted at counts) (λ i b. bind_a
 bind_assoc (stored kind at n next) f g = ap (stored kind at n) (λ i b. bind_assoc (next b) f g i)
 
 -- what follows an answer
-abbrev follow : {A B E : Type 0} → (A → Prog (Result B E)) → Result A E → Prog (Result B E)
+abbrev pub follow : {A B E : Type 0} → (A → Prog (Result B E)) → Result A E → Prog (Result B E)
 follow f r = elim r [ Ok a ↦ f a | Err e ↦ ret (Err e) ]
 
 follow_twice : {A B C E : Type 0} (f : A → Prog (Result B E)) (g : B → Prog (Result C E)) (r : Result A E) → bind (follow f r) (follow g) ≡ follow (λ a. and_then (f a) g) r
 follow_twice f g (Ok a) = refl
 follow_twice f g (Err e) = refl
 
-and_then_assoc : {A B C E : Type 0} (p : Prog (Result A E)) (f : A → Prog (Result B E)) (g : B → Prog (Result C E)) → and_then (and_then p f) g ≡ and_then p (λ a. and_then (f a) g)
+pub and_then_assoc : {A B C E : Type 0} (p : Prog (Result A E)) (f : A → Prog (Result B E)) (g : B → Prog (Result C E)) → and_then (and_then p f) g ≡ and_then p (λ a. and_then (f a) g)
 and_then_assoc {A} {B} {C} {E} p f g = bind_assoc p (follow f) (follow g) ∙ ap (λ (h : Result A E → Prog (Result C E)). bind p h) (λ i r. follow_twice f g r i)
 
 -- ---- The ranges, one after another
@@ -51,7 +51,7 @@ values_of r from to zero i os = []
 values_of r from to (suc n) i [] = []
 values_of r from to (suc n) i (o ∷ os) = band_values r i from to o ++ values_of r from to n (i + 1) os
 
-abbrev key_range : Reading → ℕ → ℕ → ℕ × ℕ → Prog (Result (Option (List ℕ)) ReadError)
+abbrev pub key_range : Reading → ℕ → ℕ → ℕ × ℕ → Prog (Result (Option (List ℕ)) ReadError)
 key_range r from to k = chunk_range r k.0 k.1 from to
 
 -- values that are made of all ranges at the end, or band by band

@@ -4,8 +4,8 @@ use Rattle.h5w_model.specs.Programs.{Prog, ret, bind}
 use Rattle.h5w_model.specs.Tables.{Reading}
 use Rattle.h5w_model.specs.Calls.{CallRules, known_table}
 use Rattle.h5w_model.specs.declared.refusal.ReadError.{ReadError}
-use Rattle.h5w_ea.specs.Fields.{eaib_of}
 use Rattle.h5w_reader.specs.Described.{described_of}
+use Rattle.h5w_reader.specs.Indexes.{in_place_of}
 use Rattle.h5w_reader.specs.Gathering.{gathering}
 use Rattle.h5w_reader.specs.Seeking.{wait_given}
 use Rattle.h5w_reader.specs.Slots.{slots_rest, after_slot}
@@ -30,11 +30,11 @@ abbrev pub found_in : CallRules → Descent → List ℕ
 found_in g s = take s.kept (known_in g s) ++ s.tail.items
 
 abbrev pub descent_rest : CallRules → Descent → Prog (Result Reading ReadError)
-descent_rest g s = slots_rest g.place (known_in g s) (described_of s.dataset) (eaib_of s.index) (kept s.store) (s.kept + length s.tail.items) (found_in g s)
+descent_rest g s = slots_rest g.place (known_in g s) (described_of s.dataset) (in_place_of s.index) (kept s.store) (s.kept + length s.tail.items) (found_in g s)
 
 -- behind the address of its next chunk
 abbrev pub after_next : CallRules → Descent → ℕ → Prog (Result Reading ReadError)
-after_next g s = after_slot g.place (known_in g s) (described_of s.dataset) (eaib_of s.index) (s.kept + length s.tail.items) (found_in g s)
+after_next g s = after_slot g.place (known_in g s) (described_of s.dataset) (in_place_of s.index) (s.kept + length s.tail.items) (found_in g s)
 
 abbrev pub waiting : CallRules → Waiting → Prog (Result Reading ReadError)
 waiting g w = bind (gathering w.gather) (wait_given (kept w.descent.store) w.wait (after_next g w.descent))

@@ -4,6 +4,10 @@ pub mod Listed
 pub mod Walking
 pub mod Opening
 pub mod Described
+pub mod Contents
+pub mod Turns
+pub mod Turning
+pub mod Indexes
 pub mod Blocks
 pub mod Keyed
 pub mod Stores
@@ -17,7 +21,11 @@ pub mod Seen
 pub mod Calling
 pub mod Idle
 pub mod Cells
+pub mod Bands
+pub mod Grids
+pub mod Gridding
 pub mod Values
+pub mod Banding
 pub mod Readers
 pub mod Cores
 pub mod Asked

@@ -1,16 +1,16 @@
 -- What is left of a read of rows, of a dataset of one column.
-use Rattle.std.specs.Prelude.{ℕ, zero, suc, ◌+◌, ◌-◌, ◌*◌, ◌/◌, length, List, ◌++◌, map, nat_lt, if◌then◌else◌, Option, Some, Result, Ok, Err, ℤ}
+use Rattle.std.specs.Prelude.{ℕ, zero, suc, ◌+◌, ◌-◌, ◌*◌, length, List, ◌++◌, map, nat_lt, if◌then◌else◌, Option, Some, Result, Ok, Err, ℤ}
 use Rattle.std.specs.List.{range_with_len}
 use Rattle.h5w_model.specs.Programs.{Prog, ret, whole, bind, and_then, below_end}
 use Rattle.h5w_model.specs.Tables.{Reading}
-use Rattle.h5w_model.specs.Calls.{chunk_range, first_in_band, last_in_band, value_from}
+use Rattle.h5w_model.specs.Calls.{chunk_range, first_in_band, value_from}
 use Rattle.h5w_model.specs.declared.refusal.ReadError.{ReadError}
 use Rattle.h5w_model.specs.declared.refusal.ReadError.TheVariants.{Damaged}
 use Rattle.h5w_model.specs.declared.refusal.BlockFault.TheVariants.{Cut}
 use Rattle.h5w_reader.specs.Looks.{plain}
 use Rattle.h5w_reader.specs.Gathering.{gathering}
-use Rattle.h5w_reader.specs.Described.{described_of}
-use Rattle.h5w_reader.specs.declared.dataset.Dataset.{Dataset}
+pub use Rattle.h5w_reader.specs.Bands.{rows_in_band, end_band, reading_with}
+use Rattle.h5w_reader.specs.Gridding.{grid_left}
 use Rattle.h5w_reader.specs.declared.known.Known.{Known}
 use Rattle.h5w_reader.specs.declared.values.Ranged.{Ranged}
 use Rattle.h5w_reader.specs.declared.values.Reads.{Reads}
@@ -20,10 +20,6 @@ use Rattle.h5w_reader.specs.declared.values.Goes.TheVariants as goes_by
 use Rattle.h5w_reader.specs.declared.values.Valued.{Valued}
 use Rattle.h5w_reader.specs.declared.values.Valued.TheVariants as valued_by
 
--- how many rows of band i lie from `from` up to but not including `to`
-abbrev pub rows_in_band : Reading → ℕ → ℕ → ℕ → ℕ
-rows_in_band r i from to = last_in_band r.dataset i to - first_in_band r.dataset i from
-
 -- the values of these rows, from the range of the band's chunk
 abbrev pub band_values : Reading → ℕ → ℕ → ℕ → Option (List ℕ) → List ℤ
 band_values r i from to found = map (λ row. value_from r from found row 0) (range_with_len (first_in_band r.dataset i from) (rows_in_band r i from to))
@@ -32,10 +28,6 @@ band_values r i from to found = map (λ row. value_from r from found row 0) (ran
 abbrev pub bands_from : Reading → ℕ → ℕ → ℕ → ℕ → List ℤ → Prog (Result (List ℤ) ReadError)
 bands_from r from to zero i done = ret (Ok done)
 bands_from r from to (suc n) i done = and_then (chunk_range r i 0 from to) (λ found. bands_from r from to n (i + 1) (done ++ band_values r i from to found))
-
--- the band behind the last
-abbrev pub end_band : Reading → ℕ → ℕ
-end_band r to = (to - 1) / r.dataset.layout.chunk_rows + 1
 
 -- all bands from band i on
 unfoldable pub rows_rest : Reading → ℕ → ℕ → ℕ → List ℤ → Prog (Result (List ℤ) ReadError)
@@ -48,10 +40,6 @@ band_rest r from to i done place b =
     if nat_lt (length b) len then ret (Err (Damaged place (Cut len (length b))))
     else rows_rest r from to (i + 1) (done ++ band_values r i from to (Some b))
 
--- a dataset with the addresses that are known
-abbrev pub reading_with : Known → Dataset → Reading
-reading_with k d = record { place = k.place; dataset = described_of d; table = k.table.items }
-
 abbrev pub range_values : Known → Ranged → Prog (Result (List ℤ) ReadError)
 range_values k s =
     bind (gathering s.gather) (band_rest (reading_with k s.span.dataset) s.span.from s.span.to s.band s.values.items s.gather.start)
@@ -62,6 +50,7 @@ past_values at len = whole at (below_end at 512) (λ b. ret (Err (Damaged at (Cu
 
 abbrev pub reading_values : Known → Reads → Prog (Result (List ℤ) ReadError)
 reading_values k (reads_by.Range s) = range_values k s
+reading_values k (reads_by.Beside s) = grid_left k s
 reading_values k (reads_by.Past at len) = past_values at len
 
 abbrev pub goes : Known → Goes → Prog (Result (List ℤ) ReadError)

@@ -1,5 +1,5 @@
 //! The chunks that a dataset's rows need.
-ghost use Rattle.std.specs.Prelude.{◌≡◌, ◌<◌, ◌≤◌, ◌^◌};
+ghost use Rattle.std.specs.Prelude.{◌≡◌, ◌<◌, ◌≤◌, ◌^◌, false};
 ghost use Rattle.h5w_model.specs.Logs.{div_up};
 ghost use Rattle.h5w_model.specs.Tables.{bands, chunks_across, needed};
 ghost use Rattle.h5w_reader.specs.Described.{described_of};
@@ -7,7 +7,10 @@ ghost use Rattle.h5w_reader.specs.Described.{described_of};
 use crate::dataset::Dataset;
 
 /// How many chunks an array has at most whose data blocks have no pages.
-const CHUNKS: u64 = 131_060;
+const ARRAY: u64 = 131_060;
+
+/// How many chunks are read of a tree at most.
+const TREE: u64 = 1_000_000;
 
 /// How many parts of size `d` it takes for `n`.
 #[tactic(auto, using(crate::proofs::ChunkLemmas::div_up_even, crate::proofs::ChunkLemmas::div_up_odd, crate::proofs::ChunkLemmas::div_up_within))]
@@ -48,10 +51,12 @@ impl Dataset {
         self.bands() * self.across()
     }
 
-    /// How many chunks are read at most: those of an array whose data blocks have no pages, and none of a tree.
+    /// How many chunks are read at most: those of an array whose data blocks have no pages, or so many of a tree.
     pub fn limit(&self) -> u64
-        ensures { result ≡ limit_of reader_limits (described_of self.now).layout.index }
+        ensures exact { result ≡ limit_of reader_limits (described_of self.now).layout.index }
+        ensures few { result ≤ 1000000 }
+        ensures line { self.now.shape.growing ≡ false → result ≤ 131060 }
     {
-        if self.shape.growing { 0 } else { CHUNKS }
+        if self.shape.growing { TREE } else { ARRAY }
     }
 }

@@ -12,6 +12,7 @@ ghost use Rattle.h5w_reader.specs.Stores.{kept};
 ghost use Rattle.h5w_reader.specs.Descents.{descent_rest, after_next, waiting, descended};
 
 use crate::block::Block;
+use crate::content::Turn;
 use crate::descent::{Descended, Descent, Waiting};
 use crate::gather::{Gather, Gathered};
 use crate::known::{Known, Rules};
@@ -20,8 +21,7 @@ use crate::news::News;
 use crate::recall::addresses;
 use crate::seek::Sought;
 use crate::sizes::sizes;
-use crate::table::address_at;
-use crate::wait::{DataWait, SecondWait, Wait};
+use crate::wait::{DataWait, NodeWait, SecondWait, Wait};
 use h5w_bytes::UNDEFINED;
 use h5w_model::{BlockFault, OutOfMemory, Piece, ReadError};
 use std::alloc::Global;
@@ -69,8 +69,10 @@ impl Descent {
             mut store,
         } = self;
         let needed = dataset.needed() as usize;
+        let across = dataset.across() as u64;
         for i in kept + tail.len()..needed {
-            let address = match Sought::chunk(addresses(known, &dataset), &mut store, &index, i) {
+            let found = addresses(known, &dataset);
+            let address = match Sought::chunk(found, &mut store, &index, across, i) {
                 Sought::Found(address) => address,
                 Sought::Wait(wait) => {
                     let descent = Descent {
@@ -143,7 +145,7 @@ impl Descent {
             Ok(block) => block,
             Err(fault) => return refused(w.at, fault),
         };
-        let address = address_at(block.slots.as_slice(), w.slot as usize);
+        let address = block.content.slot(w.slot as usize);
         self.store.put(block)?;
         self.found(alloc, rules, known, address)
     }
@@ -166,10 +168,39 @@ impl Descent {
             Ok(block) => block,
             Err(fault) => return refused(w.at, fault),
         };
-        let address = address_at(block.slots.as_slice(), w.block as usize);
+        let address = block.content.slot(w.block as usize);
         self.store.put(block)?;
         let way = Sought::data(&mut self.store, address, slots, w.slot);
         self.resume(alloc, rules, known, way)
+    }
+
+    /// Goes on with the bytes of a node of a tree.
+    fn enter_node(
+        mut self,
+        alloc: Global,
+        rules: &Rules,
+        known: &Option<Known>,
+        w: NodeWait,
+        bytes: Vec<u8>,
+    ) -> Result<Descended, OutOfMemory>
+        requires more { self.kept + length self.tail.items < needed (described_of self.dataset) }
+        requires inside { w.at + length bytes.items ≤ 2 ^ 64 }
+        ensures { IfOk result (λ d. descended (rules_of rules.now (known_of known.now)) d ≡ wait_given (kept self.store) (Wait.Node w) (after_next (rules_of rules.now (known_of known.now)) self) bytes.items) }
+    {
+        let block = match Block::node(alloc, w.at, w.depth, w.n, bytes) {
+            Ok(block) => block,
+            Err(fault) => return refused(w.at, fault),
+        };
+        let turn = block.content.turn(w.depth, &w.key);
+        self.store.put(block)?;
+        match turn {
+            Turn::Found(address) => self.found(alloc, rules, known, address),
+            Turn::Under(child) => {
+                let (at, n) = (child.address, child.records);
+                let way = Sought::node(&mut self.store, w.depth - 1, w.key, at, n);
+                self.resume(alloc, rules, known, way)
+            }
+        }
     }
 
     /// Goes on with the bytes of the block that it waited for.
@@ -188,6 +219,7 @@ impl Descent {
         match wait {
             Wait::Data(w) => self.enter_data(alloc, rules, known, w, bytes),
             Wait::Second(w) => self.enter_second(alloc, rules, known, w, bytes),
+            Wait::Node(w) => self.enter_node(alloc, rules, known, w, bytes),
         }
     }
 }

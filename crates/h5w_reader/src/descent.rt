@@ -1,29 +1,31 @@
-//! The way from an array's index block to the addresses of its needed chunks.
-ghost use Rattle.std.specs.Prelude.{◌≡◌, ◌+◌, ◌≤◌, ◌<◌, length, true};
+//! The way from the blocks in place to the addresses of the needed chunks.
+ghost use Rattle.std.specs.Prelude.{◌≡◌, ◌+◌, ◌≤◌, ◌<◌, length};
 ghost use Rattle.h5w_model.specs.Tables.{needed};
 ghost use Rattle.h5w_reader.specs.Described.{described_of};
+ghost use Rattle.std.proofs.Props.{props};
+ghost use Rattle.h5w_reader.specs.Indexes.{IsIndexOf};
 ghost use Rattle.h5w_reader.specs.Seeking.{wait_at};
 
 use crate::dataset::Dataset;
 use crate::gather::Gather;
+use crate::index::Index;
 use crate::news::News;
 use crate::store::Store;
 use crate::wait::Wait;
-use h5w_ea::Eaib;
 use h5w_model::ReadError;
 
 /// A descent: the addresses of the first chunks are known, or were found.
 #[derive(Drop)]
 pub struct Descent {
     pub dataset: Dataset,
-    pub index: Eaib,
+    pub index: Index,
     /// How many of the known addresses stay.
     pub kept: usize,
     /// The addresses that were found behind them.
     pub tail: Vec<u64>,
     pub store: Store,
-    ghost few: { needed (described_of dataset) ≤ 131060 },
-    ghost none: { dataset.shape.growing ≡ true → needed (described_of dataset) ≡ 0 },
+    ghost few: { needed (described_of dataset) ≤ 1000000 },
+    ghost indexed: { IsIndexOf (needed (described_of dataset)) index } by { Prim.hlevel props },
     ghost within: { kept + length tail.items ≤ needed (described_of dataset) },
 }
 

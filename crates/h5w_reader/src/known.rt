@@ -1,5 +1,5 @@
 //! What a reader knows of a dataset.
-ghost use Rattle.std.specs.Prelude.{◌≡◌, ◌≢◌, ◌<◌, ℕ, List, Some, get_or, true};
+ghost use Rattle.std.specs.Prelude.{◌≡◌, ◌≢◌, ◌<◌, ◌≤◌, ℕ, List, Some, get_or};
 ghost use Rattle.std.proofs.Props.{props};
 ghost use Rattle.h5w_model.specs.Numbers.{undefined};
 ghost use Rattle.h5w_model.specs.Tables.{needed};
@@ -21,7 +21,7 @@ pub struct Known {
     pub full: usize,
     /// What counts of a look at the header, where nothing else was looked at for what the header says.
     pub view: Option<Piece>,
-    ghost few: { dataset.shape.growing ≡ true → needed (described_of dataset) ≡ 0 },
+    ghost few: { needed (described_of dataset) ≤ 1000000 },
     ghost defined: { (i : ℕ) → i < full → get_or table.items i undefined ≢ undefined },
     ghost first: { get_or table.items full undefined ≡ undefined },
     ghost seen: { (v : List ℕ) → view ≡ Some v → IsHeaderOf place (described_of dataset) v } by { Prim.hlevel props },

@@ -50,7 +50,7 @@ fn known_with(
     from: usize,
     view: Option<Piece>,
 ) -> Known
-    requires few { dataset.shape.growing ≡ true → needed (described_of dataset) ≡ 0 }
+    requires few { needed (described_of dataset) ≤ 1000000 }
     requires defined { (i : ℕ) → i < from → get_or table.items i undefined ≢ undefined }
     requires seen { (v : List ℕ) → view ≡ Some v → IsHeaderOf place (described_of dataset) v }
     ensures { reading_of result ≡ record { place = place; dataset = described_of dataset; table = table.items } }

@@ -10,11 +10,13 @@
 //! | `Open`, `Rest` | the next piece of its chunk 0 | `Rest`, or its messages |
 //! | `Open`, `Visit` | the next piece of a continuation block of it | `Visit`, or `Header` once the link is found |
 //! | `Header` | the dataset header: an attempt begins | rows where it looks no further, else `Behind` or `Confirm` |
-//! | `Behind`, `Visit` | the next piece of a continuation block of it | `Visit`, `Array`, or `Confirm` |
+//! | `Behind`, `Visit` | the next piece of a continuation block of it | `Visit`, `Array`, `Tree`, or `Confirm` |
 //! | `Behind`, `Array` and `Index` | the next piece of the array's header, or of its index block | `Index`, `Block`, or `Confirm` |
-//! | `Behind`, `Block` | the next piece of a secondary or data block that is not kept | `Block`, or `Confirm` |
+//! | `Behind`, `Tree` | the next piece of the tree's header | `Block`, or `Confirm` |
+//! | `Behind`, `Block` | the next piece of a secondary or data block, or of a node of the tree, that is not kept | `Block`, or `Confirm` |
 //! | `Confirm` | the dataset header again | the attempt's answer where it is the same, else the next attempt, else Again |
-//! | `Range` | the next piece of a chunk's range | `Range`, or the values, or a refusal |
+//! | `Range` | the next piece of a chunk's range, in one dimension | `Range`, or the values, or a refusal |
+//! | `Beside` | the next piece of a chunk's range, in two dimensions | `Beside`, or the values, or a refusal |
 //! | `Past` | a chunk whose range passes 2^64 | a refusal, whatever the look gives |
 //!
 //! Messages are visited without a look until a continuation message comes; a refusal behind the dataset header waits in
@@ -26,14 +28,17 @@ mod block;
 mod call;
 mod cells;
 mod chunks;
+mod content;
 mod dataset;
 mod descend;
 mod descent;
 mod describe;
 mod found;
 mod gather;
+mod grid;
 mod header;
 mod idle;
+mod index;
 mod known;
 mod learn;
 mod look;

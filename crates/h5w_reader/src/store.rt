@@ -1,11 +1,11 @@
 //! The blocks that an attempt keeps: the 16 that were used last.
-ghost use Rattle.std.specs.Prelude.{◌≡◌, ◌+◌, ◌*◌, ◌<◌, ◌^◌, [], IfOk, OnOk};
+ghost use Rattle.std.specs.Prelude.{◌≡◌, ◌+◌, ◌*◌, ◌<◌, ◌^◌, ℕ, List, [], Some, None, IfOk, OnOk, MatchOption};
 ghost use Rattle.std.proofs.Props.{props};
 ghost use Rattle.h5w_reader.specs.Blocks.{block_number};
 ghost use Rattle.h5w_reader.specs.Keyed.{IsKeyed};
 
 use crate::block::Block;
-use crate::table::address_at;
+use crate::content::Content;
 use h5w_model::OutOfMemory;
 use lru::LruCache;
 use std::alloc::Global;
@@ -31,8 +31,8 @@ fn number(kind: u8, place: u64, len: u64) -> u128
 }
 
 impl Store {
-    ghost use Rattle.h5w_model.specs.Programs.{used};
-    ghost use Rattle.h5w_reader.specs.Stores.{IsFound, kept};
+    ghost use Rattle.h5w_model.specs.Programs.{kept_bytes, used};
+    ghost use Rattle.h5w_reader.specs.Stores.{Keeps, kept};
 
     /// No blocks.
     pub fn new(alloc: Global) -> Result<Store, OutOfMemory>
@@ -42,20 +42,27 @@ impl Store {
         Ok(Store { cache })
     }
 
-    /// The address in a slot of a kept block, which is the last used from now on.
-    pub fn find(&mut self, kind: u8, place: u64, len: u64, slot: usize) -> Option<u64>
+    /// What a kept block says.
+    pub fn look(&self, kind: u8, place: u64, len: u64) -> Option<&Content>
         requires { len < 2 ^ 32 }
-        ensures { IsFound kind place len slot (kept self.old) (kept self.new) result }
+        ensures { MatchOption result (kept_bytes kind place len (kept self.now) ≡ None) (λ content. Keeps kind place len (kept self.now) content.now) }
+    {
+        let key = number(kind, place, len);
+        match self.cache.peek(&key) {
+            Some(block) => Some(&block.content),
+            None => None,
+        }
+    }
+
+    /// Uses a kept block, which is the last used from now on.
+    pub fn touch(&mut self, kind: u8, place: u64, len: u64)
+        requires { len < 2 ^ 32 }
+        ensures { (bytes : List ℕ) → kept_bytes kind place len (kept self.old) ≡ Some bytes → kept self.new ≡ used 16 kind place len bytes (kept self.old) }
     {
         // keys are apart, and no more than the capacity
         let _count = self.cache.len();
         let key = number(kind, place, len);
-        let address = match self.cache.peek(&key) {
-            Some(block) => address_at(block.slots.as_slice(), slot),
-            None => return None,
-        };
         self.cache.promote(&key);
-        Some(address)
     }
 
     /// Keeps a block, which is the last used from now on.

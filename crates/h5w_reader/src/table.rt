@@ -1,20 +1,20 @@
 //! The addresses of the chunks that a dataset's rows need.
-ghost use Rattle.std.specs.Prelude.{◌≡◌, ◌+◌, ◌≤◌, ◌^◌, get_or, length, true, [], Some, IfOk};
+ghost use Rattle.std.specs.Prelude.{◌≡◌, ◌+◌, ◌≤◌, ◌^◌, get_or, length, false, true, [], Some, IfOk};
 ghost use Rattle.h5w_model.specs.Numbers.{undefined};
 ghost use Rattle.h5w_model.specs.Calls.{known_table};
 ghost use Rattle.h5w_model.specs.Tables.{needed};
-ghost use Rattle.h5w_ea.specs.Fields.{eaib_of};
 ghost use Rattle.h5w_reader.specs.Described.{described_of};
-ghost use Rattle.h5w_reader.specs.Slots.{no_index};
 
 use crate::dataset::Dataset;
 use crate::descent::{Descended, Descent, Waiting};
 use crate::gather::{Gather, Gathered};
+use crate::index::Index;
 use crate::known::{Known, Rules};
 use crate::look::Look;
 use crate::news::News;
 use crate::recall::covered;
 use crate::store::Store;
+use h5w_bt::Bthd;
 use h5w_bytes::UNDEFINED;
 use h5w_ea::{Eahd, Eaib};
 use h5w_model::{OutOfMemory, Piece, ReadError};
@@ -25,7 +25,13 @@ use std::alloc::Global;
 pub struct Small {
     pub dataset: Dataset,
     ghost few: { needed (described_of dataset) ≤ 131060 },
-    ghost none: { dataset.shape.growing ≡ true → needed (described_of dataset) ≡ 0 },
+}
+
+/// A dataset that needs no more chunks than are read of a tree.
+#[derive(Clone, Copy)]
+pub struct Large {
+    pub dataset: Dataset,
+    ghost few: { needed (described_of dataset) ≤ 1000000 },
 }
 
 /// What is awaited.
@@ -35,7 +41,9 @@ pub enum Lookup {
     Array(Small, Gather),
     /// Its index block.
     Index(Small, Gather),
-    /// A block behind it.
+    /// The tree's header.
+    Tree(Large, Gather),
+    /// A block behind those.
     Block(Waiting),
 }
 
@@ -57,22 +65,10 @@ pub fn address_at(addresses: &[u64], i: usize) -> u64
     }
 }
 
-/// An index block without an address.
-fn no_index() -> Eaib
-    ensures { eaib_of result ≡ no_index }
-{
-    Eaib {
-        header: 0,
-        slots: [UNDEFINED; 4],
-        first: [UNDEFINED; 6],
-        second: [UNDEFINED; 25],
-    }
-}
-
 impl LookedUp {
     ghost use Rattle.h5w_model.specs.Calls.{CallRules};
-    ghost use Rattle.h5w_ea.specs.Fields.{eaib_of};
-    ghost use Rattle.h5w_reader.specs.Attempts.{known_of, rules_of, looked_up, table_rest, array_rest, index_rest};
+    ghost use Rattle.h5w_reader.specs.Indexes.{IsIndexOf, in_place_of};
+    ghost use Rattle.h5w_reader.specs.Attempts.{known_of, rules_of, looked_up, table_rest, array_rest, index_rest, tree_rest};
     ghost use Rattle.h5w_reader.specs.Descents.{descended};
     ghost use Rattle.h5w_reader.specs.Slots.{slots_rest};
 
@@ -87,17 +83,17 @@ impl LookedUp {
         }
     }
 
-    /// From the index block on.
+    /// From the blocks in place on.
     fn descend(
         alloc: Global,
         rules: &Rules,
         known: &Option<Known>,
         d: &Dataset,
-        index: Eaib,
+        index: Index,
     ) -> Result<LookedUp, OutOfMemory>
-        requires few { needed (described_of d.now) ≤ 131060 }
-        requires none { d.now.shape.growing ≡ true → needed (described_of d.now) ≡ 0 }
-        ensures { IfOk result (λ l. looked_up (rules_of rules.now (known_of known.now)) l ≡ slots_rest rules.now.place (known_table (known_of known.now) (described_of d.now)) (described_of d.now) (eaib_of index) [] 0 []) }
+        requires few { needed (described_of d.now) ≤ 1000000 }
+        requires indexed { IsIndexOf (needed (described_of d.now)) index }
+        ensures { IfOk result (λ l. looked_up (rules_of rules.now (known_of known.now)) l ≡ slots_rest rules.now.place (known_table (known_of known.now) (described_of d.now)) (described_of d.now) (in_place_of index) [] 0 []) }
     {
         let needed = d.needed() as usize;
         let kept = covered(known, d).min(needed);
@@ -118,8 +114,8 @@ impl LookedUp {
         known: &Option<Known>,
         d: &Dataset,
     ) -> Result<LookedUp, OutOfMemory>
-        requires few { needed (described_of d.now) ≤ 131060 }
-        requires none { d.now.shape.growing ≡ true → needed (described_of d.now) ≡ 0 }
+        requires few { needed (described_of d.now) ≤ 1000000 }
+        requires line { d.now.shape.growing ≡ false → needed (described_of d.now) ≤ 131060 }
         ensures { IfOk result (λ l. looked_up (rules_of rules.now (known_of known.now)) l ≡ table_rest rules.now.place (known_table (known_of known.now) (described_of d.now)) (described_of d.now)) }
     {
         let needed = d.needed() as usize;
@@ -135,7 +131,11 @@ impl LookedUp {
         }
         let address = d.layout.address;
         if address == UNDEFINED {
-            return LookedUp::descend(alloc, rules, known, d, no_index());
+            return LookedUp::descend(alloc, rules, known, d, Index::Nowhere);
+        }
+        if d.shape.growing {
+            let tree = Gather::new(address, Vec::new(alloc), address, Bthd::LEN as u64);
+            return Ok(LookedUp::Looks(Lookup::Tree(Large { dataset: *d }, tree)));
         }
         let header = Gather::new(address, Vec::new(alloc), address, Eahd::LEN as u64);
         Ok(LookedUp::Looks(Lookup::Array(Small { dataset: *d }, header)))
@@ -151,7 +151,6 @@ impl LookedUp {
         bytes: &[u8],
     ) -> Result<LookedUp, OutOfMemory>
         requires few { needed (described_of d.now) ≤ 131060 }
-        requires none { d.now.shape.growing ≡ true → needed (described_of d.now) ≡ 0 }
         requires inside { at + length bytes.now ≤ 2 ^ 64 }
         ensures { IfOk result (λ l. looked_up (rules_of rules.now (known_of known.now)) l ≡ array_rest rules.now.place (known_table (known_of known.now) (described_of d.now)) (described_of d.now) at bytes.now) }
     {
@@ -161,7 +160,7 @@ impl LookedUp {
         };
         let block = header.block;
         if block == UNDEFINED {
-            return LookedUp::descend(alloc, rules, known, d, no_index());
+            return LookedUp::descend(alloc, rules, known, d, Index::Nowhere);
         }
         let index = Gather::new(block, Vec::new(alloc), block, Eaib::LEN as u64);
         Ok(LookedUp::Looks(Lookup::Index(Small { dataset: *d }, index)))
@@ -177,14 +176,36 @@ impl LookedUp {
         bytes: &[u8],
     ) -> Result<LookedUp, OutOfMemory>
         requires few { needed (described_of d.now) ≤ 131060 }
-        requires none { d.now.shape.growing ≡ true → needed (described_of d.now) ≡ 0 }
         requires inside { at + length bytes.now ≤ 2 ^ 64 }
         ensures { IfOk result (λ l. looked_up (rules_of rules.now (known_of known.now)) l ≡ index_rest rules.now.place (known_table (known_of known.now) (described_of d.now)) (described_of d.now) at bytes.now) }
     {
         match Eaib::decode(bytes, at) {
-            Ok(index) => LookedUp::descend(alloc, rules, known, d, index),
+            Ok(index) => LookedUp::descend(alloc, rules, known, d, Index::Array(index)),
             Err(fault) => Ok(LookedUp::Refused(ReadError::Damaged { at, fault })),
         }
+    }
+
+    /// Goes on from the bytes of the tree's header at `at`.
+    fn after_tree(
+        alloc: Global,
+        rules: &Rules,
+        known: &Option<Known>,
+        d: &Dataset,
+        at: u64,
+        bytes: &[u8],
+    ) -> Result<LookedUp, OutOfMemory>
+        requires few { needed (described_of d.now) ≤ 1000000 }
+        requires inside { at + length bytes.now ≤ 2 ^ 64 }
+        ensures { IfOk result (λ l. looked_up (rules_of rules.now (known_of known.now)) l ≡ tree_rest rules.now.place (known_table (known_of known.now) (described_of d.now)) (described_of d.now) at bytes.now) }
+    {
+        let tree = match Bthd::decode(bytes, at) {
+            Ok(tree) => tree,
+            Err(fault) => return Ok(LookedUp::Refused(ReadError::Damaged { at, fault })),
+        };
+        if tree.root == UNDEFINED {
+            return LookedUp::descend(alloc, rules, known, d, Index::Nowhere);
+        }
+        LookedUp::descend(alloc, rules, known, d, Index::Tree(tree))
     }
 }
 
@@ -203,6 +224,7 @@ impl Lookup {
     {
         match self {
             Lookup::Array(_, gather) | Lookup::Index(_, gather) => gather.want(),
+            Lookup::Tree(_, gather) => gather.want(),
             Lookup::Block(waiting) => waiting.want(),
         }
     }
@@ -234,6 +256,15 @@ impl Lookup {
                     Gathered::More(gather) => Ok(LookedUp::Looks(Lookup::Index(small, gather))),
                     Gathered::Whole(bytes) => {
                         LookedUp::after_index(alloc, rules, known, &small.dataset, at, &bytes)
+                    }
+                }
+            }
+            Lookup::Tree(large, gather) => {
+                let at = gather.start();
+                match gather.feed(piece)? {
+                    Gathered::More(gather) => Ok(LookedUp::Looks(Lookup::Tree(large, gather))),
+                    Gathered::Whole(bytes) => {
+                        LookedUp::after_tree(alloc, rules, known, &large.dataset, at, &bytes)
                     }
                 }
             }

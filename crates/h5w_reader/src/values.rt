@@ -1,4 +1,4 @@
-//! A half-done read of rows, chunk by chunk, of a dataset of one column.
+//! A half-done read of rows, chunk by chunk; of a dataset of two dimensions it stands in [`crate::grid`].
 ghost use Rattle.std.specs.Prelude.{◌≡◌, ◌≢◌, ◌+◌, ◌-◌, ◌*◌, ◌/◌, ◌^◌, ◌<◌, ◌≤◌, get_or, length, ℕ, false, Some, IfOk};
 ghost use Rattle.h5w_model.specs.Numbers.{undefined};
 ghost use Rattle.h5w_model.specs.Calls.{first_in_band, last_in_band};
@@ -7,6 +7,7 @@ ghost use Rattle.h5w_reader.specs.Described.{described_of};
 use crate::cells::{put_cells, put_fill};
 use crate::dataset::Dataset;
 use crate::gather::{Gather, Gathered};
+use crate::grid::{Beside, Grid};
 use crate::known::Known;
 use crate::look::{Look, look_at};
 use crate::table::address_at;
@@ -44,6 +45,8 @@ pub struct Ranged {
 pub enum Reads {
     /// The range of a chunk.
     Range(Ranged),
+    /// The range of a chunk beside others.
+    Beside(Beside),
     /// A look at the chunk at `at`, whose range of `need` bytes passes 2^64.
     Past { at: u64, need: u64 },
 }
@@ -202,16 +205,14 @@ impl Goes {
         // from + count is at most these
         let _rows = known.dataset.shape.rows;
         let dataset = known.dataset;
-        if dataset.shape.growing {
-            // it needs no chunk, so it has no columns
-            return Ok(Goes::Done(Values::from_vec(Vec::new(alloc))));
+        let (to, band, none) = (from + count, from / dataset.layout.chunk.0, Vec::new(alloc));
+        if !dataset.shape.growing {
+            return Span { dataset, from, to }.go_on(alloc, known, band, none);
         }
-        let span = Span {
-            dataset,
-            from,
-            to: from + count,
-        };
-        span.go_on(alloc, known, from / dataset.layout.chunk.0, Vec::new(alloc))
+        if dataset.shape.cols == 0 {
+            return Ok(Goes::Done(Values::from_vec(none)));
+        }
+        Grid { dataset, from, to }.go_on(alloc, known, band, none)
     }
 }
 
@@ -258,6 +259,7 @@ impl Reads {
     {
         match self {
             Reads::Range(ranged) => ranged.gather.want(),
+            Reads::Beside(beside) => beside.gather.want(),
             Reads::Past { at, .. } => look_at(*at),
         }
     }
@@ -269,6 +271,7 @@ impl Reads {
     {
         match self {
             Reads::Range(ranged) => ranged.feed(alloc, known, piece),
+            Reads::Beside(beside) => beside.feed(alloc, known, piece),
             Reads::Past { at, need } => Ok(Valued::Refused(ReadError::Damaged {
                 at,
                 fault: BlockFault::Cut { need, got: 0 },

@@ -1,8 +1,10 @@
 //! A block that a descent waits for.
 ghost use Rattle.std.specs.Prelude.{◌≡◌, ◌≤◌, ◌<◌};
+ghost use Rattle.h5w_model.specs.Trees.{capacity_of};
 
-use crate::block::slots_len;
+use crate::block::{node_len, slots_len};
 use crate::sizes::sizes;
+use h5w_bt::Key;
 
 /// A data block of `n` slots, of one of which the address is asked for.
 #[derive(Clone, Copy)]
@@ -23,11 +25,25 @@ pub struct SecondWait {
     ghost known: { sblock ≤ 12 },
 }
 
+/// A node of a tree with `n` records, below which a key is looked up.
+#[derive(Clone, Copy)]
+pub struct NodeWait {
+    /// How many levels of nodes are below it.
+    pub depth: u64,
+    pub key: Key,
+    pub at: u64,
+    pub n: u64,
+    ghost shallow: { depth ≤ 3 },
+    ghost few: { n ≤ capacity_of depth },
+    ghost small: { n ≤ 84 },
+}
+
 /// A block that is looked at next.
 #[derive(Clone, Copy)]
 pub enum Wait {
     Data(DataWait),
     Second(SecondWait),
+    Node(NodeWait),
 }
 
 impl Wait {
@@ -40,6 +56,7 @@ impl Wait {
         match self {
             Wait::Data(data) => data.at,
             Wait::Second(second) => second.at,
+            Wait::Node(node) => node.at,
         }
     }
 
@@ -54,6 +71,7 @@ impl Wait {
                 let (blocks, _) = sizes(second.sblock);
                 slots_len(blocks)
             }
+            Wait::Node(node) => node_len(node.depth, node.n),
         }
     }
 }

@@ -10,13 +10,17 @@ use std::test::Fail;
 
 mod arrays;
 mod datasets;
+mod grids;
 mod groups;
 mod outside;
+mod trees;
 
 use arrays::ARRAYS;
 use datasets::DATASETS;
+use grids::GRIDS;
 use groups::GROUPS;
 use outside::OUTSIDE;
+use trees::TREES;
 
 /// The number of a hexadecimal digit.
 fn digit(byte: u8) -> u8
@@ -142,4 +146,14 @@ fn datasets_with_one_change_are_read(rt: HostRuntime) -> Result<(), Fail> {
 #[test]
 fn arrays_with_data_blocks_are_read(rt: HostRuntime) -> Result<(), Fail> {
     check_images(&rt, ARRAYS, SixValues::Last)
+}
+
+#[test]
+fn grids_from_outside_are_read(rt: HostRuntime) -> Result<(), Fail> {
+    check_images(&rt, GRIDS, SixValues::First)
+}
+
+#[test]
+fn trees_of_each_depth_are_read(rt: HostRuntime) -> Result<(), Fail> {
+    check_images(&rt, TREES, SixValues::First)
 }

@@ -18,7 +18,7 @@ returns c = λ e.
     let equal : k.full ≡ c.len-2.result = eqb-true k.full c.len-2.result e in
     let long = k.table.ok.0 in
     let full : k.full ≡ length k.table.items = omega (arith, equal, c.len-2.ensures, long) in
-    let few : needed d ≤ limit_of reader_limits d.layout.index = omega (arith, c.needed-needed.ensures, c.if-from-needed.false, c.from.ensures, c.limit.ensures) in
+    let few : needed d ≤ limit_of reader_limits d.layout.index = omega (arith, c.needed-needed.ensures, c.if-from-needed.false, c.from.ensures, c.limit.ensures.exact) in
     let count : needed d ≡ length k.table.items = omega (arith, c.needed-needed.ensures, c.if-needed-len.false, c.len.ensures, long) in
     let defined : (i : ℕ) → i < length k.table.items → get_or k.table.items i undefined ≢ undefined = λ i h. k.defined i (omega (arith, full, h)) in
     idle_is g (reading_of k) view seen refl (ap known_of c.in-Some.is) (pointwise_same view seen (sym c.is_same.ensures ∙ same)) (k.seen seen c.in-Some-view.is) c.if-known-rules.false few count defined

@@ -1,4 +1,4 @@
-use Rattle.std.proofs.Common.{◌≡◌, ◌<◌, ◌≤◌, ◌∙◌, sym, ap, refl, Ok, Err, arith}
+use Rattle.std.proofs.Common.{◌≡◌, ◌<◌, ◌≤◌, ◌∙◌, sym, ap, Ok, Err, arith}
 use Rattle.h5w_model.specs.Checked.{viewed}
 use Rattle.h5w_model.specs.Datasets.{described}
 use Rattle.h5w_model.specs.Calls.{known_table}
@@ -29,7 +29,7 @@ returns-then-from-needed c =
     let d = described_of c.in-Ok.d in
     let said : described ms ≡ Ok d = sym c.describe.ensures ∙ ap (viewed described_of) c.in-Ok.is in
     let count : c.needed-needed.result ≡ needed d = c.needed-needed.ensures in
-    let most : c.limit-limit.result ≡ limit_of reader_limits d.layout.index = c.limit-limit.ensures in
+    let most : c.limit-limit.result ≡ limit_of reader_limits d.layout.index = c.limit-limit.ensures.exact in
     let many : c.limit-limit.result < needed d = omega (arith, c.from.ensures, c.if-from-needed.true) in
     rw count (sym (settled_many (rules_of c.args.rules.now (known_of c.args.known.now)) ms d c.limit-limit.result said (rw c.rows_seen-seen.ensures at c.if-rows-seen.false) most many))
 
@@ -40,7 +40,7 @@ returns c =
     let d = described_of c.in-Ok.d in
     let said : described ms ≡ Ok d = sym c.describe.ensures ∙ ap (viewed described_of) c.in-Ok.is in
     let count : c.needed-needed.result ≡ needed d = c.needed-needed.ensures in
-    let most : c.limit-limit.result ≡ limit_of reader_limits d.layout.index = c.limit-limit.ensures in
+    let most : c.limit-limit.result ≡ limit_of reader_limits d.layout.index = c.limit-limit.ensures.exact in
     let few : needed d ≤ limit_of reader_limits d.layout.index = omega (arith, c.from.ensures, c.if-from-needed.false) in
     along (looked_up g) c.begin.result (table_rest g.place (known_table g.known d) d) (described_rest g ms) c.begin.ensures
-    (sym (settled_any g ms d refl said (rw c.rows_seen-seen.ensures at c.if-rows-seen.false) c.in-Ok.d.indexed c.in-Ok.d.line few))
+    (sym (settled_any g ms d said (rw c.rows_seen-seen.ensures at c.if-rows-seen.false) few))

@@ -1,14 +1,15 @@
-use Rattle.std.proofs.Common.{◌≡◌, ◌∙◌, get_or, ap}
-use Rattle.h5w_model.specs.Numbers.{undefined}
+use Rattle.std.proofs.Common.{◌∙◌, refl, ap}
 use Rattle.h5w_model.specs.Programs.{used}
 use Rattle.h5w_model.specs.Tables.{data_block}
 use Rattle.h5w_model.specs.Arrays.{eadb_at, slots_len}
 use Rattle.h5w_reader.specs.Attempts.{known_of, rules_of}
+use Rattle.h5w_reader.specs.Contents.{slots_in}
 use Rattle.h5w_reader.specs.Seeking.{next_rest, wait_given}
 use Rattle.h5w_reader.specs.Stores.{kept}
 use Rattle.h5w_reader.specs.Descents.{after_next, descended}
 use Rattle.h5w_reader.specs.declared.wait.Wait.TheVariants.{Data}
 use Rattle.h5w_reader.proofs.PieceLemmas.{along}
+use Rattle.h5w_reader.proofs.StoreLemmas.{read_of}
 use Rattle.h5w_reader.proofs.SeekLemmas.{data_read}
 use Rattle.h5w_reader.proofs.DescentLemmas.{put_used, data_refused, refused_block}
 use Rattle.h5w_reader.proofs.descent.Descent.enter_data.Goals as goal
@@ -32,8 +33,7 @@ returns c =
     let next = after_next g c.args.self in
     let old = kept c.args.self.store in
     let ks = used 16 data_block w.at (slots_len w.n) b old in
-    let address : c.address_at-address.result ≡ get_or x.slots w.slot undefined = rw (← c.as_slice.ensures) c.address_at-address.ensures in
     along (descended g) c.found.result _ (wait_given old (Data w) next b) c.found.ensures
-    (ap (λ k. next_rest k next c.address_at-address.result) (put_used data_block w.at (slots_len w.n) b (eadb_at b w.at w.n) x old (kept c.put.new.self) is c.in_ok-put.ensures)
-    ∙ ap (next_rest ks next) address
-    ∙ data_read ks w.at w.n w.slot b x.slots next is.slots_are)
+    (ap (λ k. next_rest k next c.slot-address.result) (put_used data_block w.at (slots_len w.n) b x old (kept c.put.new.self) is c.in_ok-put.ensures)
+    ∙ ap (next_rest ks next) c.slot-address.ensures
+    ∙ data_read ks w.at w.n w.slot b (slots_in x.content) next ((read_of data_block w.at (slots_len w.n) b x is).of_data w.n refl refl))

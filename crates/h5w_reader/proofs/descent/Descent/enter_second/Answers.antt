@@ -1,14 +1,15 @@
-use Rattle.std.proofs.Common.{◌≡◌, ◌∙◌, get_or, ap}
-use Rattle.h5w_model.specs.Numbers.{undefined}
+use Rattle.std.proofs.Common.{◌∙◌, refl, ap}
 use Rattle.h5w_model.specs.Programs.{used}
 use Rattle.h5w_model.specs.Tables.{data_slot, secondary_block}
 use Rattle.h5w_model.specs.Arrays.{super_block_of, easb_at, slots_len}
 use Rattle.h5w_reader.specs.Attempts.{known_of, rules_of}
+use Rattle.h5w_reader.specs.Contents.{slots_in}
 use Rattle.h5w_reader.specs.Seeking.{store_rest, wait_given}
 use Rattle.h5w_reader.specs.Stores.{kept}
 use Rattle.h5w_reader.specs.Descents.{after_next, descended}
 use Rattle.h5w_reader.specs.declared.wait.Wait.TheVariants.{Second}
 use Rattle.h5w_reader.proofs.PieceLemmas.{along}
+use Rattle.h5w_reader.proofs.StoreLemmas.{read_of}
 use Rattle.h5w_reader.proofs.SeekLemmas.{second_read}
 use Rattle.h5w_reader.proofs.DescentLemmas.{put_used, second_refused, refused_block}
 use Rattle.h5w_reader.proofs.descent.Descent.enter_second.Goals as goal
@@ -36,10 +37,9 @@ returns c =
     let next = after_next g c.args.self in
     let old = kept c.args.self.store in
     let ks = used 16 secondary_block w.at (slots_len blocks) b old in
-    let address : c.address_at-address.result ≡ get_or x.slots w.block undefined = rw (← c.as_slice.ensures) c.address_at-address.ensures in
     along (descended g) c.resume.result _ (wait_given old (Second w) next b) c.resume.ensures
     (c.data-way.ensures next
-    ∙ ap (λ k. store_rest k (data_slot c.address_at-address.result c.sizes-blocks.result.1 w.slot) next) (put_used secondary_block w.at (slots_len blocks) b (easb_at b w.at blocks) x old (kept c.put.new.self) is c.in_ok-put.ensures)
-    ∙ ap (λ n. store_rest ks (data_slot c.address_at-address.result n w.slot) next) c.sizes-blocks.ensures.slots
-    ∙ ap (λ a. store_rest ks (data_slot a slots w.slot) next) address
-    ∙ second_read ks w.at w.sblock w.block w.slot b x.slots next is.slots_are)
+    ∙ ap (λ k. store_rest k (data_slot c.slot-address.result c.sizes-blocks.result.1 w.slot) next) (put_used secondary_block w.at (slots_len blocks) b x old (kept c.put.new.self) is c.in_ok-put.ensures)
+    ∙ ap (λ n. store_rest ks (data_slot c.slot-address.result n w.slot) next) c.sizes-blocks.ensures.slots
+    ∙ ap (λ a. store_rest ks (data_slot a slots w.slot) next) c.slot-address.ensures
+    ∙ second_read ks w.at w.sblock w.block w.slot b (slots_in x.content) next ((read_of secondary_block w.at (slots_len blocks) b x is).of_second blocks refl refl))

@@ -3,9 +3,11 @@ use Rattle.h5w_model.specs.Checked.{viewed}
 use Rattle.h5w_model.specs.Arrays.{eahd_at}
 use Rattle.h5w_ea.specs.Fields.{eahd_of}
 use Rattle.h5w_reader.specs.Described.{described_of}
+use Rattle.h5w_model.specs.Tables.{needed}
 use Rattle.h5w_model.specs.Calls.{known_table}
 use Rattle.h5w_reader.specs.Attempts.{known_of, rules_of, looked_up, array_rest}
 use Rattle.h5w_reader.proofs.PieceLemmas.{along}
+use Rattle.h5w_reader.proofs.IndexLemmas.{nowhere_indexed}
 use Rattle.h5w_reader.proofs.TableLemmas.{array_err, array_none, array_some}
 use Rattle.h5w_reader.proofs.table.LookedUp.after_header.Goals as goal
 
@@ -21,7 +23,7 @@ returns-then-block c =
     let d = described_of c.args.d.now in
     let said : eahd_at b c.args.at ≡ Ok (eahd_of c.in-Ok.header) = sym c.decode.ensures.exact ∙ ap (viewed eahd_of) c.in-Ok.is in
     along (looked_up (rules_of c.args.rules.now (known_of c.args.known.now))) c.descend.result _ (array_rest c.args.rules.now.place (known_table (known_of c.args.known.now) d) d c.args.at b) c.descend.ensures
-    (rw c.no_index.ensures (sym (array_none c.args.rules.now.place (known_table (known_of c.args.known.now) d) d c.args.at b (eahd_of c.in-Ok.header) said c.if-block.true)))
+    (sym (array_none c.args.rules.now.place (known_table (known_of c.args.known.now) d) d c.args.at b (eahd_of c.in-Ok.header) said c.if-block.true))
 
 pub returns : goal.returns
 returns c =
@@ -29,3 +31,6 @@ returns c =
     let d = described_of c.args.d.now in
     let said : eahd_at b c.args.at ≡ Ok (eahd_of c.in-Ok.header) = sym c.decode.ensures.exact ∙ ap (viewed eahd_of) c.in-Ok.is in
     rw (c.new-index.ensures.left, c.new-index.ensures.start, c.new.ensures.items) (sym (array_some c.args.rules.now.place (known_table (known_of c.args.known.now) d) d c.args.at b (eahd_of c.in-Ok.header) said c.if-block.false))
+
+pub descend-requires-clause-indexed : goal.descend-requires-clause-indexed
+descend-requires-clause-indexed c = nowhere_indexed (needed (described_of c.args.d.now))

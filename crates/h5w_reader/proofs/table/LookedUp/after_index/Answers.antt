@@ -3,9 +3,11 @@ use Rattle.h5w_model.specs.Checked.{viewed}
 use Rattle.h5w_model.specs.Arrays.{eaib_at}
 use Rattle.h5w_ea.specs.Fields.{eaib_of}
 use Rattle.h5w_reader.specs.Described.{described_of}
+use Rattle.h5w_model.specs.Tables.{needed}
 use Rattle.h5w_model.specs.Calls.{known_table}
 use Rattle.h5w_reader.specs.Attempts.{known_of, rules_of, looked_up, index_rest}
 use Rattle.h5w_reader.proofs.PieceLemmas.{along}
+use Rattle.h5w_reader.proofs.IndexLemmas.{array_indexed}
 use Rattle.h5w_reader.proofs.TableLemmas.{index_ok, index_err}
 use Rattle.h5w_reader.proofs.table.LookedUp.after_index.Goals as goal
 
@@ -22,3 +24,6 @@ returns-in-Err c =
     let b = c.args.bytes.now in
     let said : eaib_at b c.args.at ≡ Err c.in-Err.fault = sym c.decode.ensures.exact ∙ ap (viewed eaib_of) c.in-Err.is in
     sym (index_err c.args.rules.now.place (known_table (known_of c.args.known.now) (described_of c.args.d.now)) (described_of c.args.d.now) c.args.at b c.in-Err.fault said)
+
+pub descend-requires-clause-indexed : goal.descend-requires-clause-indexed
+descend-requires-clause-indexed c = array_indexed (needed (described_of c.args.d.now)) c.in-Ok.index c.requires.few

@@ -5,7 +5,8 @@ use Rattle.h5w_reader.specs.Described.{described_of}
 use Rattle.h5w_reader.specs.Slots.{answered}
 use Rattle.h5w_reader.specs.Attempts.{known_of, rules_of, looked_up, table_rest}
 use Rattle.h5w_reader.proofs.PieceLemmas.{along}
-use Rattle.h5w_reader.proofs.TableLemmas.{rest_known, rest_nowhere, rest_array, lacks_none, lacks_some}
+use Rattle.h5w_reader.proofs.IndexLemmas.{nowhere_indexed}
+use Rattle.h5w_reader.proofs.TableLemmas.{rest_known, rest_nowhere, rest_array, rest_tree, array_kind, tree_kind, lacks_none, lacks_some}
 use Rattle.h5w_reader.proofs.table.LookedUp.begin.Goals as goal
 
 pub returns-then-needed-full : goal.returns-then-needed-full
@@ -26,7 +27,16 @@ returns-then-address c =
     let place = c.args.rules.now.place in
     let less : c.covered-full.result < needed d = omega (arith, c.needed-needed.ensures, c.if-needed-full.false) in
     let some : some_unknown known (needed_keys d) ≡ true = lacks_some known d c.covered-full.result c.covered-full.ensures.defined c.covered-full.ensures.first less in
-    along (looked_up (rules_of c.args.rules.now (known_of c.args.known.now))) c.descend.result _ (table_rest place known d) c.descend.ensures (rw c.no_index.ensures (sym (rest_nowhere place known d some c.if-address.true)))
+    along (looked_up (rules_of c.args.rules.now (known_of c.args.known.now))) c.descend.result _ (table_rest place known d) c.descend.ensures (sym (rest_nowhere place known d some c.if-address.true))
+
+pub returns-then-d : goal.returns-then-d
+returns-then-d c =
+    let d = described_of c.args.d.now in
+    let known = known_table (known_of c.args.known.now) d in
+    let place = c.args.rules.now.place in
+    let less : c.covered-full.result < needed d = omega (arith, c.needed-needed.ensures, c.if-needed-full.false) in
+    let some : some_unknown known (needed_keys d) ≡ true = lacks_some known d c.covered-full.result c.covered-full.ensures.defined c.covered-full.ensures.first less in
+    rw (c.new-tree.ensures.left, c.new-tree.ensures.start, c.new-then-d.ensures.items) (sym (rest_tree place known d some c.if-address.false (tree_kind c.args.d.now c.if-d.true)))
 
 pub returns : goal.returns
 returns c =
@@ -35,4 +45,7 @@ returns c =
     let place = c.args.rules.now.place in
     let less : c.covered-full.result < needed d = omega (arith, c.needed-needed.ensures, c.if-needed-full.false) in
     let some : some_unknown known (needed_keys d) ≡ true = lacks_some known d c.covered-full.result c.covered-full.ensures.defined c.covered-full.ensures.first less in
-    rw (c.new-header.ensures.left, c.new-header.ensures.start, c.new-2.ensures.items) (sym (rest_array place known d some c.if-address.false))
+    rw (c.new-header.ensures.left, c.new-header.ensures.start, c.new-2.ensures.items) (sym (rest_array place known d some c.if-address.false (array_kind c.args.d.now c.if-d.false)))
+
+pub descend-requires-clause-indexed : goal.descend-requires-clause-indexed
+descend-requires-clause-indexed c = nowhere_indexed (needed (described_of c.args.d.now))

@@ -3,8 +3,8 @@ use Rattle.std.specs.Prelude.{◌≢◌, ◌+◌}
 use Rattle.h5w_model.specs.Numbers.{undefined}
 use Rattle.h5w_model.specs.Calls.{known_table}
 use Rattle.h5w_model.specs.Tables.{needed}
-use Rattle.h5w_ea.specs.Fields.{eaib_of}
 use Rattle.h5w_reader.specs.Attempts.{known_of, rules_of}
+use Rattle.h5w_reader.specs.Indexes.{in_place_of}
 use Rattle.h5w_reader.specs.Described.{described_of}
 use Rattle.h5w_reader.specs.Slots.{slots_rest}
 use Rattle.h5w_reader.specs.Stores.{kept}
@@ -15,7 +15,7 @@ pub returns : goal.returns
 returns c =
     let g = rules_of c.args.rules.now (known_of c.args.known.now) in
     let d = described_of c.args.d.now in
-    let e = eaib_of c.args.index in
+    let e = in_place_of c.args.index in
     let known = known_table (known_of c.args.known.now) d in
     let m = c.min-kept.result in
     let few : m ≤ needed d = omega (arith, c.min-kept.ensures, c.needed-needed.ensures) in

@@ -2,7 +2,7 @@ use Rattle.std.proofs.Common.{length}
 use Rattle.h5w_model.specs.Programs.{fed}
 use Rattle.h5w_reader.specs.Described.{described_of}
 use Rattle.h5w_model.specs.Calls.{known_table}
-use Rattle.h5w_reader.specs.Attempts.{known_of, rules_of, looked_up, looking_up, array_rest, index_rest}
+use Rattle.h5w_reader.specs.Attempts.{known_of, rules_of, looked_up, looking_up, array_rest, index_rest, tree_rest}
 use Rattle.h5w_reader.proofs.PieceLemmas.{along}
 use Rattle.h5w_reader.proofs.WalkLemmas.{fed_more, fed_whole, fits_gather}
 use Rattle.h5w_reader.proofs.table.Lookup.feed.Goals as goal
@@ -38,3 +38,19 @@ returns-in-Whole-2 c =
     let whole = fed_whole c.in-Index.gather c.in-Whole-2.bytes.items c.args.piece.now (index_rest c.args.rules.now.place (known_table (known_of c.args.known.now) d) d c.in-Index.gather.start) e.left in
     along (looked_up (rules_of c.args.rules.now (known_of c.args.known.now))) c.after_index.result (index_rest c.args.rules.now.place (known_table (known_of c.args.known.now) d) d c.start-at-in-Index.result c.deref-in-Whole-2.result.now) (fed c.args.piece.now (looking_up (rules_of c.args.rules.now (known_of c.args.known.now)) c.args.self)) c.after_index.ensures
     (rw (c.in-Index.is, c.start-at-in-Index.ensures, c.deref-in-Whole-2.ensures.value) whole)
+
+pub feed-requires-in-Tree : goal.feed-requires-in-Tree
+feed-requires-in-Tree c = fits_gather c.in-Tree.gather (tree_rest c.args.rules.now.place (known_table (known_of c.args.known.now) (described_of c.in-Tree.large.dataset)) (described_of c.in-Tree.large.dataset) c.in-Tree.gather.start) (length c.args.piece.now) (rw c.in-Tree.is at c.requires)
+
+pub returns-in-More-3 : goal.returns-in-More-3
+returns-in-More-3 c =
+    let e = rw c.in-More-3.is at c.in_ok-gather-in-Tree.ensures in
+    rw (c.in-Tree.is, e.start) (fed_more c.in-Tree.gather c.in-More-3.gather c.args.piece.now (tree_rest c.args.rules.now.place (known_table (known_of c.args.known.now) (described_of c.in-Tree.large.dataset)) (described_of c.in-Tree.large.dataset) c.in-Tree.gather.start) e.left)
+
+pub returns-in-Whole-3 : goal.returns-in-Whole-3
+returns-in-Whole-3 c =
+    let e = rw c.in-Whole-3.is at c.in_ok-gather-in-Tree.ensures in
+    let d = described_of c.in-Tree.large.dataset in
+    let whole = fed_whole c.in-Tree.gather c.in-Whole-3.bytes.items c.args.piece.now (tree_rest c.args.rules.now.place (known_table (known_of c.args.known.now) d) d c.in-Tree.gather.start) e.left in
+    along (looked_up (rules_of c.args.rules.now (known_of c.args.known.now))) c.after_tree.result (tree_rest c.args.rules.now.place (known_table (known_of c.args.known.now) d) d c.start-at-in-Tree.result c.deref-in-Whole-3.result.now) (fed c.args.piece.now (looking_up (rules_of c.args.rules.now (known_of c.args.known.now)) c.args.self)) c.after_tree.ensures
+    (rw (c.in-Tree.is, c.start-at-in-Tree.ensures, c.deref-in-Whole-3.ensures.value) whole)

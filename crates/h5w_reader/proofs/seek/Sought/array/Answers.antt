@@ -4,7 +4,7 @@ use Rattle.h5w_model.specs.declared.cell.Place.TheVariants.{Index}
 use Rattle.h5w_ea.specs.Fields.{eaib_of}
 use Rattle.h5w_reader.specs.Stores.{kept}
 use Rattle.h5w_reader.proofs.SeekLemmas.{seek_index}
-use Rattle.h5w_reader.proofs.seek.Sought.seek.Goals as goal
+use Rattle.h5w_reader.proofs.seek.Sought.array.Goals as goal
 
 pub returns-in-Index : goal.returns-in-Index
 returns-in-Index c = λ next.
