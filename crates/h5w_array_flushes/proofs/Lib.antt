@@ -1,0 +1,4 @@
+pub mod ArrayFlushLemmas
+pub mod ArrayPlaceLemmas
+pub mod ArrayLaws
+pub mod ArrayRestLemmas

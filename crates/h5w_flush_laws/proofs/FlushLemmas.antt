@@ -1,0 +1,273 @@
+-- A flush up to its header piece.
+use Rattle.std.proofs.Common.{◌≡◌, ◌⊎◌, ℕ, ◌+◌, ◌<◌, ◌≤◌, List, [], ◌∷◌, ◌++◌, length, get_or, Ok, refl, sym, ◌∙◌, ap, subst, inl, inr, arith}
+use Rattle.std.specs.Prelude.{map}
+use Rattle.h5w_model.specs.Numbers.{range, undefined}
+use Rattle.h5w_model.specs.Images.{apply, image, AllMiss}
+use Rattle.h5w_model.specs.Programs.{eval, Visit}
+use Rattle.h5w_model.specs.Datasets.{Described}
+use Rattle.h5w_model.specs.Tables.{InPlace, in_place, needed_keys}
+use Rattle.h5w_model.specs.Findings.{Used, the_superblock, chunk_bytes}
+use Rattle.h5w_model.specs.Prefixed.{StaysDefined}
+use Rattle.h5w_model.specs.declared.cell.Key.{Key}
+use Rattle.h5w_model.specs.declared.root.Super.{Super}
+use Rattle.h5w_model.specs.declared.piece.Write.{Write}
+use Rattle.h5w_model.proofs.ImageLemmas.{image-grows, Apart-part}
+use Rattle.h5w_laws.proofs.ProgramLemmas.{same_eval, same_visits}
+use Rattle.h5w_visits.specs.Ranges.{Among, AllAmong, AllEndBy, AreApart, Disjoint, MissesBlocks, blocks_of}
+use Rattle.h5w_visits.specs.Indexes.{IsBehind, behind_visit}
+use Rattle.h5w_visits.specs.Needed.{AreFew}
+use Rattle.h5w_visits.specs.Headers.{IsSized}
+use Rattle.h5w_visits.proofs.RangeLemmas.{among_left, among_right, among_split}
+use Rattle.h5w_visits.proofs.IndexLaws.{visited_behind, place_same}
+use Rattle.h5w_visits.proofs.NeededLaws.{table_laws}
+use Rattle.h5w_space.specs.Space.{Space}
+use Rattle.h5w_steps.specs.Moments.{Moment, all_used, Represents, HasCells, row_of, column_of}
+use Rattle.h5w_steps.specs.Steps.{Ends, ends}
+use Rattle.h5w_steps.proofs.PartLemmas.{apart_sym, disjoint_part, disjoint_some}
+use Rattle.h5w_steps.proofs.MomentLemmas.{super_parts, few, header_of, in_behind, parts_of}
+use Rattle.h5w_steps.proofs.StepRepresents.{ends_missed}
+use Rattle.h5w_steps.proofs.PlanLaws.{plan_leads}
+use Rattle.h5w_flush_laws.specs.Knowledge.{Knows}
+use Rattle.h5w_flush_laws.specs.Parts.{Parts, fresh_of, block_writes, block_ranges, committed, flushed_to, copied, ended, AreEnded, SaysInPlace, EachSays, IsFlush}
+use Rattle.h5w_flush_laws.proofs.SpaceLemmas.{taken_disjoint}
+use Rattle.h5w_flush_laws.proofs.KeyLemmas.{table_behind, stay_defined, needed_asked, found_table}
+use Rattle.h5w_flush_laws.proofs.PartLemmas.{parts_among, parts_count, fresh_off, apart_kinds, own_off}
+use Rattle.h5w_flush_laws.proofs.EarlyLemmas.{Stage, header_kept, kept_itself, unseen_stage, fresh_unseen, blocks_unseen, blocks_are, blocks_whole, blocks_miss, cells_over}
+use Rattle.h5w_flush_laws.proofs.IndexLemmas.{behind_of_other, BehindBy, behind_by_missed, turned, Turning}
+use Rattle.h5w_flush_laws.proofs.CellLemmas.{HasChunks, all_chunks_missed, cell_of_value, cell_same, more_values, first_values}
+
+-- ---- What blocks in place say, after a write that misses them
+
+pub says_missed : (w : Write) (img : List ℕ) (end : ℕ) (d : Described) (blocks : InPlace) (fixed : List Used) → SaysInPlace img d blocks fixed → end ≤ length img → AllEndBy end fixed → MissesBlocks w fixed
+    → SaysInPlace (apply w img) d blocks fixed
+says_missed w img end d blocks fixed s fits by_end misses =
+    let same = place_same w img end d fixed s.looks fits by_end misses in
+    record {
+      says = same_eval img (apply w img) (in_place d) same ∙ s.says;
+      looks = s.looks ∙ ap (λ (vs : List Visit). blocks_of vs) (sym (same_visits img (apply w img) (in_place d) same));
+    }
+
+-- blocks in place are read somewhere, of a dataset of this index and these chunks
+pub record Seen (d : Described) (blocks : InPlace) : Type 0 where
+  pub of : Described
+  pub where_read : List ℕ
+  pub read : eval where_read (in_place of) ≡ Ok blocks
+  pub index : of.layout.index ≡ d.layout.index
+  pub bytes : chunk_bytes of ≡ chunk_bytes d
+
+pub seen_behind : (img : List ℕ) (end : ℕ) (d : Described) (blocks : InPlace) (behind : List Used) → Seen d blocks → eval img (behind_visit end (chunk_bytes d) blocks) ≡ Ok behind → IsBehind img end d blocks behind
+seen_behind img end d blocks behind s h =
+    behind_of_other img end s.of d blocks behind (sym s.index) (sym s.bytes)
+    (visited_behind img s.where_read end s.of blocks behind s.read (subst (λ n. eval img (behind_visit end n blocks) ≡ Ok behind) (sym s.bytes) h))
+
+pub seen_missed : (w : Write) (img : List ℕ) (end : ℕ) (d : Described) (blocks : InPlace) (behind : List Used) (f : Key → ℕ) → Seen d blocks → BehindBy img end d blocks behind f → end ≤ length img → MissesBlocks w behind
+    → BehindBy (apply w img) end d blocks behind f
+seen_missed w img end d blocks behind f s b fits misses =
+    let other : BehindBy img end s.of blocks behind f = record { stands = behind_of_other img end d s.of blocks behind s.index s.bytes b.stands; answers = λ key n. b.answers key (λ is. n (s.index ∙ is)) } in
+    let left = behind_by_missed w img s.where_read end s.of blocks behind f s.read other fits misses in
+    record { stands = behind_of_other (apply w img) end s.of d blocks behind (sym s.index) (sym s.bytes) left.stands; answers = λ key n. left.answers key (λ is. n (sym s.index ∙ is)) }
+
+-- ---- The superblock
+
+-- a file with another end
+abbrev pub with_end : ℕ → Moment → Moment
+with_end e m = record m { super = record (m.super) { end = e } }
+
+pub end_stage : (img name : List ℕ) (m : Moment) (e : ℕ) (ws : List Write) → Represents img name m → AreEnded m.super e ws → m.super.end ≤ e → e ≤ length img → Stage img m m.behind ws (with_end e m) m.behind
+end_stage img name m e [] r same rises fits = record { plan = (ap (λ n. with_end n m) same, refl); header = kept_itself img m.place }
+end_stage img name m e (w ∷ ws) r is rises fits = subst (λ (vs : List Write). Stage img m m.behind (w ∷ vs) (with_end e m) m.behind) (sym is.1) one
+  where
+    safe : Ends img m w (with_end e m)
+    safe = record {
+      is = refl;
+      place = is.0.place;
+      len = is.0.len;
+      reads = is.0.reads;
+      root = refl;
+      swmr = (super_parts (length img) (range img 0 48) m.super r.super).swmr;
+      rises = rises;
+      there = fits;
+    }
+
+    one : Stage img m m.behind (w ∷ []) (with_end e m) m.behind
+    one = record {
+      plan = (with_end e m, m.behind, ends safe refl, refl, (refl, refl));
+      header = header_kept img name m w r (λ u a b. ends_missed img m (with_end e m) w r.apart safe u (among_right u m.root (m.header ++ (m.fixed ++ m.behind)) (among_left u m.header (m.fixed ++ m.behind) a)));
+    }
+
+-- it meets nothing that the superblock does not
+pub end_misses : (s : Super) (e : ℕ) (ws : List Write) (u : Used) → AreEnded s e ws → AreApart the_superblock u → AllMiss ws u.place u.len
+end_misses s e [] u is apart = tt
+end_misses s e (w ∷ ws) u is apart =
+    let place = is.0.place in
+    let len = is.0.len in (
+      Apart-part 0 48 u.place u.len w.at (length w.piece) u.place u.len (omega arith) (omega (arith, place, len)) (omega arith) (omega arith) apart,
+      subst (λ (vs : List Write). AllMiss vs u.place u.len) (sym is.1) tt,
+    )
+
+-- ---- What holds before the blocks in place are written
+
+module _ (img name : List ℕ) (m : Moment) (old : Key → ℕ) (s t : Space) (f : Parts) (k : Knows img name m old s) (i : IsFlush img m old s f t) where
+  pub all_apart : Disjoint (fresh_of f ++ all_used m)
+  all_apart = taken_disjoint s i.between (fresh_of f) (all_used m) i.taken k.live k.file.apart
+
+  pub after_among : AllAmong (all_used (flushed_to m f)) (fresh_of f ++ all_used m)
+  after_among = parts_among m.root m.header (m.fixed ++ m.behind) (f.fixed ++ f.behind) (fresh_of f) i.index.known
+
+  pub after_apart : Disjoint (all_used (flushed_to m f))
+  after_apart = disjoint_part (fresh_of f ++ all_used m) (all_used (flushed_to m f)) all_apart after_among (λ p. parts_count m.root m.header (m.fixed ++ m.behind) (f.fixed ++ f.behind) (fresh_of f) p (i.index.counts p))
+
+  -- new rows and copies
+
+  pub copies_range : (u : Used) → Among u (block_ranges f.copies) → Among u (fresh_of f)
+  copies_range u a = among_right u f.chunks (block_ranges f.copies) a
+
+  pub rows_stage : Stage img m m.behind f.writes m m.behind
+  rows_stage = unseen_stage img name m f.writes k.file i.written.unseen
+
+  pub file_rows : Represents (image img f.writes) name m
+  file_rows = plan_leads img name m m m.behind m.behind f.writes k.file rows_stage.plan
+
+  pub copies_stage : Stage (image img f.writes) m m.behind (block_writes f.copies) m m.behind
+  copies_stage =
+      unseen_stage (image img f.writes) name m (block_writes f.copies) file_rows
+      (blocks_unseen m m.behind f.copies (λ u a. fresh_unseen img name m s i.between (fresh_of f) k.file k.live i.taken u (copies_range u a)))
+
+  pub file_copied : Represents (copied img f) name m
+  file_copied = plan_leads (image img f.writes) name m m m.behind m.behind (block_writes f.copies) file_rows copies_stage.plan
+
+  -- the new end is in the image
+
+  pub end_rises : m.super.end ≤ f.end
+  end_rises = omega (arith, k.ended, i.taken.rises, i.end)
+
+  pub fresh_there : (u : Used) → Among u (fresh_of f) → u.place + u.len ≤ length (copied img f)
+  fresh_there u a = go (among_split u f.chunks (block_ranges f.copies) a)
+    where
+      go : Among u f.chunks ⊎ Among u (block_ranges f.copies) → u.place + u.len ≤ length (copied img f)
+      go (inl b) = omega (arith, i.written.whole u b, image-grows (image img f.writes) (block_writes f.copies))
+      go (inr b) = blocks_whole (image img f.writes) f.copies u b (disjoint_some (fresh_of f) i.taken.apart u a)
+
+  pub end_there : f.end ≤ length (copied img f)
+  end_there = go i.taken.end
+    where
+      go : (i.between.end ≡ s.end) ⊎ ((u : Used) × Among u (fresh_of f) × (u.place + u.len ≡ i.between.end)) → f.end ≤ length (copied img f)
+      go (inl e) = omega (arith, i.end, e, k.covered, image-grows img f.writes, image-grows (image img f.writes) (block_writes f.copies))
+      go (inr e) = omega (arith, i.end, e.2, fresh_there e.0 e.1)
+
+  -- the superblock
+
+  pub ended_stage : Stage (copied img f) m m.behind f.supers (with_end f.end m) m.behind
+  ended_stage = end_stage (copied img f) name m f.end f.supers file_copied i.super end_rises end_there
+
+  pub file_ended : Represents (ended img f) name (with_end f.end m)
+  file_ended = plan_leads (copied img f) name m (with_end f.end m) m.behind m.behind f.supers file_copied ended_stage.plan
+
+  pub end_there_too : f.end ≤ length (ended img f)
+  end_there_too = omega (arith, end_there, image-grows (copied img f) f.supers)
+
+  -- all ranges after the flush end by the new end
+
+  pub after_ends : AllEndBy f.end (f.fixed ++ f.behind)
+  after_ends u a = go (among_split u (fresh_of f) (m.fixed ++ m.behind) (i.index.known u a))
+    where
+      go : Among u (fresh_of f) ⊎ Among u (m.fixed ++ m.behind) → u.place + u.len ≤ f.end
+      go (inl b) = let live = i.taken.live u b in let within = live.within in let end = i.end in omega arith
+      go (inr b) = omega (arith, k.file.index.ends u b, end_rises)
+
+  -- what the index says
+
+  pub seen : Seen m.dataset f.blocks
+  seen = go f.in_place i.index.each_says i.index.said
+    where
+      go : (ws : List Write) → EachSays m.dataset m.fixed f.blocks f.fixed (ended img f) ws → (ws ≡ [] → SaysInPlace (copied img f) (committed m.dataset f.rows f.named) f.blocks f.fixed) → Seen m.dataset f.blocks
+      go [] says said = record { of = committed m.dataset f.rows f.named; where_read = copied img f; read = (said refl).says; index = refl; bytes = refl }
+      go (w ∷ ws) says said = record { of = m.dataset; where_read = apply w (ended img f); read = says.1.says; index = refl; bytes = refl }
+
+  pub behind_copied : BehindBy (copied img f) f.end m.dataset f.blocks f.behind f.address
+  behind_copied = record { stands = seen_behind (copied img f) f.end m.dataset f.blocks f.behind seen i.index.behind; answers = i.index.answers }
+
+  pub super_off : (u : Used) → Among u (f.fixed ++ f.behind) → AreApart the_superblock u
+  super_off u a = (parts_of (flushed_to m f) after_apart).super u (among_right u m.root (m.header ++ (f.fixed ++ f.behind)) (among_right u m.header (f.fixed ++ f.behind) a))
+
+  pub supers_miss : (u : Used) → Among u (f.fixed ++ f.behind) → AllMiss f.supers u.place u.len
+  supers_miss u a = end_misses m.super f.end f.supers u i.super (super_off u a)
+
+  pub behind_ended : BehindBy (ended img f) f.end m.dataset f.blocks f.behind f.address
+  behind_ended = go (copied img f) f.supers behind_copied end_there (λ u a. supers_miss u (among_right u f.fixed f.behind a))
+    where
+      go : (img : List ℕ) (ws : List Write) → BehindBy img f.end m.dataset f.blocks f.behind f.address → f.end ≤ length img → ((u : Used) → Among u f.behind → AllMiss ws u.place u.len)
+          → BehindBy (image img ws) f.end m.dataset f.blocks f.behind f.address
+      go img [] b fits misses = b
+      go img (w ∷ ws) b fits misses =
+          go (apply w img) ws (seen_missed w img f.end m.dataset f.blocks f.behind f.address seen b fits (λ u a block. (misses u a).0)) (omega (arith, fits, image-grows img (w ∷ []))) (λ u a. (misses u a).1)
+
+  pub said_ended : f.in_place ≡ [] → SaysInPlace (ended img f) (committed m.dataset f.rows f.named) f.blocks f.fixed
+  said_ended h = go (copied img f) f.supers (i.index.said h) end_there (λ u a. supers_miss u (among_left u f.fixed f.behind a))
+    where
+      go : (img : List ℕ) (ws : List Write) → SaysInPlace img (committed m.dataset f.rows f.named) f.blocks f.fixed → f.end ≤ length img → ((u : Used) → Among u f.fixed → AllMiss ws u.place u.len)
+          → SaysInPlace (image img ws) (committed m.dataset f.rows f.named) f.blocks f.fixed
+      go img [] b fits misses = b
+      go img (w ∷ ws) b fits misses =
+          go (apply w img) ws (says_missed w img f.end (committed m.dataset f.rows f.named) f.blocks f.fixed b fits (λ u a. after_ends u (among_left u f.fixed f.behind a)) (λ u a block. (misses u a).0)) (omega (arith, fits, image-grows img (w ∷ []))) (λ u a. (misses u a).1)
+
+  -- the cells
+
+  pub sized : IsSized m.dataset
+  sized = (header_of img name m k.file).sized
+
+  pub has_chunks : HasChunks (flushed_to m f)
+  has_chunks =
+      let e : Described = committed m.dataset f.rows f.named in
+      record {
+        sized = record { rows = sized.rows; cols = sized.cols; size = sized.size; bytes = sized.bytes };
+        chunks =
+            table_laws.behind (copied img f) f.end e f.blocks f.behind (map f.address (needed_keys e)) (behind_of_other (copied img f) f.end m.dataset e f.blocks f.behind refl refl behind_copied.stands) i.few
+            (table_behind (copied img f) e f.blocks f.address i.few i.index.answers);
+      }
+
+  pub cells_copied : HasCells (copied img f) (flushed_to m f)
+  cells_copied =
+      cells_over (image img f.writes) (flushed_to m f) (block_writes f.copies) sized.size
+      (all_chunks_missed (block_writes f.copies) (flushed_to m f) has_chunks
+      (λ v a chunk. blocks_miss f.copies v.place v.len
+      (λ u b. apart_kinds (fresh_of f ++ all_used m) u v all_apart (among_left u (fresh_of f) (all_used m) (copies_range u b)) (after_among v (in_behind (flushed_to m f) v a)) (blocks_are f.copies u b) chunk)))
+      i.written.cells
+
+  pub cells_ended : HasCells (ended img f) (flushed_to m f)
+  cells_ended =
+      cells_over (copied img f) (flushed_to m f) f.supers sized.size
+      (all_chunks_missed f.supers (flushed_to m f) has_chunks (λ v a chunk. supers_miss v (among_right v f.fixed f.behind a))) cells_copied
+
+  -- the values of before, by the new map
+  pub cells_turned : HasCells (ended img f) (turned (with_end f.end m) f.fixed f.behind f.address)
+  cells_turned n low =
+      let rises = i.rises in
+      cell_same (ended img f) m.place m.dataset f.rows f.named f.address (row_of m n) (column_of m n) sized (omega arith) (cell_of_value m.dataset n (subst (λ c. n < c) k.file.count low))
+      ∙ cells_ended n (more_values m.values f.more n low) ∙ first_values m.values f.more n low
+
+  pub turning : Turning (ended img f) name (with_end f.end m) m.behind f.fixed f.behind f.blocks f.address
+  turning = record {
+    file = file_ended;
+    added = i.index.added;
+    begins = i.index.begins;
+    stands = behind_ended;
+    off = λ u v a b. off u v a (among_split v m.fixed i.index.added (subst (λ (us : List Used). Among v us) i.index.begins b));
+    clear = λ u v a block b chunk. apart_kinds (fresh_of f ++ all_used m) u v all_apart (among_right u (fresh_of f) (all_used m) (in_behind m u a)) (after_among v (in_behind (flushed_to m f) v b)) block chunk;
+    ends = λ u a. after_ends u (among_left u f.fixed f.behind a);
+    apart = after_apart;
+    addresses = λ n low. stays n (found_table img m.dataset old m.table few_now k.index k.file.table) low;
+    cells = cells_turned;
+  }
+    where
+      off : (u v : Used) → Among u m.behind → Among v m.fixed ⊎ Among v i.index.added → AreApart u v
+      off u v a (inl b) = own_off m k.file.apart u v a b
+      off u v a (inr b) = apart_sym v u (fresh_off m (fresh_of f) all_apart v u (i.index.added_fresh v b) (in_behind m u a))
+
+      few_now : AreFew m.dataset
+      few_now = few img name m k.file
+
+      stays : (n : ℕ) → m.table ≡ map old (needed_keys m.dataset) → n < length m.table → StaysDefined (get_or m.table n undefined) (get_or (map f.address (needed_keys m.dataset)) n undefined)
+      stays n is low =
+          subst (λ (xs : List ℕ). StaysDefined (get_or xs n undefined) (get_or (map f.address (needed_keys m.dataset)) n undefined)) (sym is)
+          (stay_defined m.dataset old f.address (needed_keys m.dataset) (needed_asked m.dataset few_now) i.index.kept n (subst (λ (xs : List ℕ). n < length xs) is low))

@@ -1,0 +1,103 @@
+-- What a session knows when it begins, and after pieces that no reader reaches.
+use Rattle.std.proofs.Common.{◌≡◌, ◌⊎◌, ℕ, ◌+◌, ◌≤◌, List, [], ◌∷◌, ◌++◌, length, Result, Ok, sym, ◌∙◌, subst, inl, inr, arith}
+use Rattle.std.proofs.lemmas.List.Elements.{All-nil}
+use Rattle.std.specs.List.{All}
+use Rattle.h5w_model.specs.Images.{apply, image}
+use Rattle.h5w_model.specs.Datasets.{Described}
+use Rattle.h5w_model.specs.Tables.{InPlace}
+use Rattle.h5w_model.specs.Findings.{Used}
+use Rattle.h5w_model.specs.declared.cell.Key.{Key}
+use Rattle.h5w_model.specs.declared.refusal.ReadError.{ReadError}
+use Rattle.h5w_model.specs.declared.piece.Write.{Write}
+use Rattle.h5w_model.proofs.ImageLemmas.{apply-grows, image-grows}
+use Rattle.h5w_visits.specs.Ranges.{Among, MissesBlocks}
+use Rattle.h5w_visits.specs.Indexes.{IsIndex}
+use Rattle.h5w_visits.proofs.RangeLemmas.{among_left, among_right}
+use Rattle.h5w_visits.proofs.IndexLaws.{index_missed}
+use Rattle.h5w_space.specs.Space.{Apart}
+use Rattle.h5w_space.specs.declared.Extent.{Extent}
+use Rattle.h5w_steps.specs.Moments.{Moment, all_used, Represents}
+use Rattle.h5w_steps.proofs.PartLemmas.{disjoint_some}
+use Rattle.h5w_steps.proofs.MomentLemmas.{inside, in_index}
+use Rattle.h5w_steps.proofs.StepRepresents.{ends_represents, ends_missed, unseen_represents, blocks_missed}
+use Rattle.h5w_steps.proofs.PlanLaws.{all_end, end_long, plan_leads}
+use Rattle.h5w_flush_laws.specs.Spaces.{extent_of}
+use Rattle.h5w_flush_laws.specs.Knowledge.{AnswersBy, IsMap, Knows}
+use Rattle.h5w_flush_laws.specs.Parts.{AllUnseen, block_writes, block_ranges}
+use Rattle.h5w_flush_laws.specs.Flushes.{BeginKnows, EndKnown, EarlyBlocks}
+use Rattle.h5w_flush_laws.proofs.EarlyLemmas.{header_kept, unseen_stage, fresh_unseen, blocks_unseen, blocks_whole}
+
+-- ---- The index's map
+
+one_answer : (p q : InPlace) → ◌≡◌ {A = Result InPlace ReadError} (Ok p) (Ok q) → p ≡ q
+one_answer p q h = cc
+
+pub answers_of : (img : List ℕ) (end : ℕ) (d : Described) (fixed behind : List Used) (f : Key → ℕ) → (i : IsIndex img end d fixed behind) → IsMap img d f → AnswersBy img d i.blocks f
+answers_of img end d fixed behind f i m = subst (λ (p : InPlace). AnswersBy img d p f) (one_answer m.blocks i.blocks (sym m.read ∙ i.read)) m.answers
+
+pub map_missed : (w : Write) (img name : List ℕ) (m : Moment) (f : Key → ℕ) → Represents img name m → IsMap img m.dataset f → MissesBlocks w (m.fixed ++ m.behind) → IsMap (apply w img) m.dataset f
+map_missed w img name m f r x misses =
+    let left = index_missed w img m.super.end m.dataset m.fixed m.behind r.index (inside img name m r) misses in
+    let answers = answers_of img m.super.end m.dataset m.fixed m.behind f r.index x in
+    record { blocks = r.index.blocks; read = left.read; answers = λ key n. left.answers key n ∙ answers key n }
+
+pub map_unseen : (img name : List ℕ) (m : Moment) (f : Key → ℕ) (ws : List Write) → Represents img name m → IsMap img m.dataset f → AllUnseen m ws → IsMap (image img ws) m.dataset f
+map_unseen img name m f [] r x u = x
+map_unseen img name m f (w ∷ ws) r x u =
+    map_unseen (apply w img) name m f ws (unseen_represents img name m w r u.0) (map_missed w img name m f r x (blocks_missed w (m.fixed ++ m.behind) (all_used m) (in_index m) u.0.off_blocks)) u.1
+
+-- ---- A session begins
+
+pub begin_knows : BeginKnows
+begin_knows img name m address s r index begun layout = record {
+  file = r;
+  index = index;
+  live = λ u a.
+      let ends = all_end img name m r (end_long img name m r) u a in
+      let same = begun.end in
+      record {
+        within = omega arith;
+        off_free = subst (λ (xs : List Extent). All (Apart (extent_of u)) xs) (sym begun.none_free) (All-nil (Apart (extent_of u)));
+        off_retired = subst (λ (xs : List Extent). All (Apart (extent_of u)) xs) (sym begun.none_retired) (All-nil (Apart (extent_of u)));
+      };
+  ended = let same = begun.end in omega arith;
+  covered = omega (arith, begun.end, inside img name m r);
+  layout = layout;
+}
+
+-- ---- The superblock again
+
+pub end_known : EndKnown
+end_known img name m n old s w k e fits =
+    let file = ends_represents img name m n w k.file e in
+    let off = ends_missed img m n w k.file.apart e in
+    subst (λ (x : Moment). Knows (apply w img) name x old s) (sym e.is) (record {
+      file = subst (λ (x : Moment). Represents (apply w img) name x) e.is file;
+      index = map_missed w img name m old k.file k.index (λ u a b. off u (among_right u m.root (m.header ++ (m.fixed ++ m.behind)) (among_right u m.header (m.fixed ++ m.behind) a)));
+      live = k.live;
+      ended = fits;
+      covered = omega (arith, k.covered, apply-grows w img);
+      layout = λ h. (header_kept img name m w k.file (λ u a b. off u (among_right u m.root (m.header ++ (m.fixed ++ m.behind)) (among_left u m.header (m.fixed ++ m.behind) a)))).layout (k.layout h);
+    })
+
+-- ---- Early blocks
+
+pub early_blocks : EarlyBlocks
+early_blocks img name m old s t bs k taken =
+    let unseen = blocks_unseen m m.behind bs (λ u a. fresh_unseen img name m s t (block_ranges bs) k.file k.live taken u a) in
+    let stage = unseen_stage img name m (block_writes bs) k.file unseen in
+    record {
+      plan = stage.plan;
+      known = record {
+        file = plan_leads img name m m m.behind m.behind (block_writes bs) k.file stage.plan;
+        index = map_unseen img name m old (block_writes bs) k.file k.index unseen;
+        live = λ u a. taken.stays_live (extent_of u) (k.live u a);
+        ended = omega (arith, k.ended, taken.rises);
+        covered = covered taken.end;
+        layout = λ h. stage.header.layout (k.layout h);
+      };
+    }
+  where
+    covered : (t.end ≡ s.end) ⊎ ((u : Used) × Among u (block_ranges bs) × (u.place + u.len ≡ t.end)) → t.end ≤ length (image img (block_writes bs))
+    covered (inl e) = omega (arith, e, k.covered, image-grows img (block_writes bs))
+    covered (inr e) = omega (arith, e.2, blocks_whole img bs e.0 e.1 (disjoint_some (block_ranges bs) taken.apart e.0 e.1))

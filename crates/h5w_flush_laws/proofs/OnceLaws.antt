@@ -1,0 +1,153 @@
+-- In a file no two keys have one chunk.
+use Rattle.std.proofs.Common.{◌≡◌, ◌⊎◌, ℕ, ◌+◌, ◌-◌, ◌/◌, Bool, true, false, cond, List, Result, Ok, refl, sym, ◌∙◌, ap, subst, inl, inr, arith}
+use Rattle.std.specs.Prelude.{◌==◌, ◌||◌}
+use Rattle.std.proofs.lemmas.Bool.Decides.{eqb_tells}
+use Rattle.h5w_model.specs.Numbers.{field, undefined}
+use Rattle.h5w_model.specs.Programs.{Prog, ret, eval}
+use Rattle.h5w_model.specs.Messages.{unsupported, ShapeFields, IntTypeFields, LayoutFields, index_of, byte, chunk_size, shape_at, shape_tests, shape_fields, layout_at, layout_tests, layout_fields, int_type_at}
+use Rattle.h5w_model.specs.Arrays.{EaibFields}
+use Rattle.h5w_model.specs.Trees.{BthdFields}
+use Rattle.h5w_model.specs.Datasets.{FoundMessage, Described, described, dataspace_of, or_refuse, body_of, fill_of, is_filtered, shares_a_message, datatype_kind, layout_kind}
+use Rattle.h5w_model.specs.Tables.{InPlace, nowhere, in_array, in_tree, in_place, array_in_place, tree_in_place, chunks_across, format_limits, tree_lookup}
+use Rattle.h5w_model.specs.Findings.{Used, Under, Finding, chunk_bytes, node_visit}
+use Rattle.h5w_model.specs.declared.cell.Key.{Key}
+use Rattle.h5w_model.specs.declared.cell.IndexKind.{IndexKind}
+use Rattle.h5w_model.specs.declared.cell.IndexKind.TheVariants.{Array, Tree}
+use Rattle.h5w_model.specs.declared.refusal.ReadError.{ReadError}
+use Rattle.h5w_model.proofs.CheckedLemmas.{checked-passed}
+use Rattle.h5w_laws.proofs.ResultLemmas.{fails, then_ok, and_then_ok}
+use Rattle.h5w_visits.specs.Ranges.{Disjoint, chunk_at}
+use Rattle.h5w_visits.specs.Indexes.{behind_visit}
+use Rattle.h5w_visits.proofs.ArrayVisits.{same_ranges}
+use Rattle.h5w_visits.proofs.DescribedLemmas.{ok_described}
+use Rattle.h5w_visits.proofs.HeaderLaws.{dataset_parts}
+use Rattle.h5w_visits.proofs.IndexVisits.{tree_read}
+use Rattle.h5w_steps.specs.Moments.{Moment, Represents}
+use Rattle.h5w_steps.proofs.MomentLemmas.{parts_of}
+use Rattle.h5w_flush_laws.specs.Knowledge.{AnswersBy, FileOnce}
+use Rattle.h5w_flush_laws.proofs.KnownLaws.{answers_of}
+use Rattle.h5w_flush_laws.proofs.OnceArrays.{Sep, Always, answer, address_in, array_once, twice_never}
+use Rattle.h5w_flush_laws.proofs.OnceTrees.{node_apart}
+
+-- ---- A dataset whose index is an array has one column of chunks
+
+-- one dimension
+pub record IsLine (s : ShapeFields) (l : LayoutFields) : Type 0 where
+  pub cols : s.cols ≡ 1
+  pub chunk_cols : l.chunk_cols ≡ 1
+
+not_growing : (g : Bool) → cond g Tree Array ≡ Array → g ≡ false
+not_growing false h = refl
+not_growing true h = absurd cc
+
+single : (a b : Bool) → (a || b) ≡ true → b ≡ false → a ≡ true
+single true b h e = refl
+single false b h e = absurd (never (sym h ∙ e))
+  where
+    never : ◌≡◌ {A = Bool} true false → ⊥
+    never x = cc
+
+one_column : (t : Bool) (n : ℕ) → t ≡ true → cond t 1 n ≡ 1
+one_column true n e = refl
+one_column false n e = absurd cc
+
+line_by : (space layout : List ℕ) (s : ShapeFields) (t : IntTypeFields) (l : LayoutFields) → shape_at space ≡ Ok s → layout_at layout s t ≡ Ok l → l.index ≡ Array → IsLine s l
+unfolding shape_at shape_tests shape_fields layout_at layout_fields
+line_by space layout s t l h g array =
+    let shape = checked-passed (shape_tests space) (shape_fields space) s h in
+    let laid = checked-passed (layout_tests layout s t) (layout_fields layout s) l g in
+    let kind : index_of s ≡ Array = ap (λ (x : LayoutFields). x.index) laid.1 ∙ array in
+    let flat : s.growing ≡ false = not_growing s.growing kind in
+    let one : (byte space 1 == 1) ≡ true = single (byte space 1 == 1) (byte space 1 == 2) shape.0.1.1.0 (ap (λ (x : ShapeFields). x.growing) shape.1 ∙ flat) in
+    let rank : (s.rank == 1) ≡ true = ap (λ (x : ShapeFields). x.rank == 1) (sym shape.1) ∙ one in
+    record {
+      cols = ap (λ (x : ShapeFields). x.cols) (sym shape.1) ∙ one_column (byte space 1 == 1) (field space 12 8) one;
+      chunk_cols = ap (λ (x : LayoutFields). x.chunk_cols) (sym laid.1) ∙ one_column (s.rank == 1) (chunk_size layout 1) rank;
+    }
+
+line_of : (ms : List FoundMessage) (d : Described) → described ms ≡ Ok d → d.layout.index ≡ Array → IsLine d.shape d.layout
+line_of ms d h array =
+    let a = fails (is_filtered ms) _ (unsupported 2) d h in
+    let b = fails (shares_a_message ms) _ (unsupported 3) d a.1 in
+    let space = then_ok (dataspace_of ms) _ d b.1 in
+    let datatype = then_ok (or_refuse (body_of datatype_kind ms) (unsupported 4)) _ d space.2 in
+    let layout = then_ok (or_refuse (body_of layout_kind ms) (unsupported 4)) _ d datatype.2 in
+    let s = then_ok (shape_at space.0) _ d layout.2 in
+    let t = then_ok (int_type_at datatype.0) _ d s.2 in
+    let f = then_ok (fill_of ms t.0) _ d t.2 in
+    let l = then_ok (layout_at layout.0 s.0 t.0) _ d f.2 in
+    let is : record { shape = s.0; int_type = t.0; fill = f.0; layout = l.0 } ≡ d = ok_described (record { shape = s.0; int_type = t.0; fill = f.0; layout = l.0 }) d l.2 in
+    subst (λ (x : Described). IsLine x.shape x.layout) is (line_by space.0 layout.0 s.0 t.0 l.0 s.1 l.1 (ap (λ (x : Described). x.layout.index) is ∙ array))
+
+pub one_across : (img name : List ℕ) (m : Moment) → Represents img name m → m.dataset.layout.index ≡ Array → chunks_across m.dataset ≡ 1
+one_across img name m r array =
+    let p = dataset_parts img format_limits m.super m.place m.dataset m.header r.header in
+    let line = line_of p.header.messages m.dataset p.says array in
+    ap (λ c. (c + m.dataset.layout.chunk_cols - 1) / m.dataset.layout.chunk_cols) line.cols ∙ ap (λ c. (1 + c - 1) / c) line.chunk_cols
+
+-- ---- The kind of index that blocks in place are of
+
+is_of : InPlace → Result InPlace ReadError
+is_of p = Ok p
+
+array_kind : (img : List ℕ) (d : Described) (e : EaibFields) → eval img (in_place d) ≡ Ok (in_array e) → d.layout.index ≡ Array
+array_kind img d e h = by (d.layout.address == undefined) d.layout.index h
+  where
+    of_tree : (t : BthdFields) (b : Bool) → cond b nowhere (in_tree t) ≡ in_array e → ⊥
+    of_tree t true x = cc
+    of_tree t false x = cc
+
+    by : (b : Bool) (kind : IndexKind) → eval img (cond b (ret (Ok nowhere)) (elim kind as (λ _. Prog (Result InPlace ReadError)) [ Array ↦ array_in_place d.layout.address | Tree ↦ tree_in_place d.layout.address ])) ≡ Ok (in_array e) → kind ≡ Array
+    by true kind x = absurd (never x)
+      where
+        never : ◌≡◌ {A = Result InPlace ReadError} (Ok nowhere) (Ok (in_array e)) → ⊥
+        never y = cc
+    by false Array x = refl
+    by false Tree x = let t = tree_read img d.layout.address (in_array e) x in absurd (of_tree t.0 (t.0.root == undefined) t.2)
+
+-- ---- No two keys have one chunk
+
+same_parts : (k l : Key) → l.i ≡ k.i → l.j ≡ k.j → l ≡ k
+same_parts k l row column = λ i. record { i = row i; j = column i }
+
+pub file_once : FileOnce
+file_once img name m f r x k l a b defined same = go r.index.blocks r.index.read r.index.stands (answers_of img m.super.end m.dataset m.fixed m.behind f r.index x)
+  where
+    apart : Disjoint m.behind
+    apart = (parts_of m r.apart).behind
+
+    ok_is : (y z : ℕ) → ◌≡◌ {A = Result ℕ ReadError} (Ok y) (Ok z) → y ≡ z
+    ok_is y z e = cc
+
+    keys_differ : (p q : Key) → (p ≡ q → ⊥) ⊎ (p ≡ q)
+    keys_differ p q = elim (eqb_tells p.i q.i) [
+      | inl s ↦ elim (eqb_tells p.j q.j) [ inl t ↦ inr (same_parts q p s.1 t.1) | inr t ↦ inl (λ e. t.1 (ap (λ (y : Key). y.j) e)) ]
+      | inr s ↦ inl (λ e. s.1 (ap (λ (y : Key). y.i) e))
+    ]
+
+    go : (p : InPlace) → eval img (in_place m.dataset) ≡ Ok p → eval img (behind_visit m.super.end (chunk_bytes m.dataset) p) ≡ Ok m.behind → AnswersBy img m.dataset p f → l ≡ k
+    go nowhere read stands answers = absurd (defined (sym (ok_is undefined (f k) (answers k a.named))))
+    go (in_array e) read stands answers =
+        let kind = array_kind img m.dataset e read in
+        let across = one_across img name m r kind in
+        let row : l.i ≡ k.i = array_once img m.super.end (chunk_bytes m.dataset) e m.behind apart stands k.i l.i (f k) (a.named kind) (b.named kind) defined (answers k a.named) (answers l b.named ∙ ap Ok same) in
+        same_parts k l row (omega (arith, a.across, b.across, across))
+    go (in_tree t) read stands answers = by (keys_differ l k)
+      where
+        ranges : Under → Result (List Used) Finding
+        ranges u = Ok u.ranges
+
+        step : (u : Under) × (eval img (node_visit m.super.end (chunk_bytes m.dataset) t.depth t.root t.records) ≡ Ok u) × (eval img (ret (ranges u)) ≡ Ok m.behind)
+        step = and_then_ok img (node_visit m.super.end (chunk_bytes m.dataset) t.depth t.root t.records) (λ u. ret (ranges u)) m.behind stands
+
+        s : Sep {K = Key} (chunk_bytes m.dataset) m.behind Always (λ key. answer img (tree_lookup t.depth key t.root t.records))
+        s = subst (λ (us : List Used). Sep {K = Key} (chunk_bytes m.dataset) us Always (λ key. answer img (tree_lookup t.depth key t.root t.records))) (same_ranges step.0.ranges m.behind step.2)
+            (node_apart img m.super.end (chunk_bytes m.dataset) t.depth t.root t.records step.0 step.1)
+
+        by : (l ≡ k → ⊥) ⊎ (l ≡ k) → l ≡ k
+        by (inr e) = e
+        by (inl differ) =
+            let one : answer img (tree_lookup t.depth k t.root t.records) ≡ f k = ap address_in (answers k a.named) in
+            let two : answer img (tree_lookup t.depth l t.root t.records) ≡ f l = ap address_in (answers l b.named) in
+            absurd (twice_never (chunk_at (answer img (tree_lookup t.depth k t.root t.records)) (chunk_bytes m.dataset)) m.behind apart
+            (s.twice k l tt tt (λ e. differ (sym e)) (λ none. defined (sym one ∙ none)) (two ∙ same ∙ sym one)))

@@ -1,0 +1,507 @@
+-- New rows in chunks as a part of a flush.
+use Rattle.std.proofs.Common.{◌≡◌, ◌≢◌, ◌⊎◌, ℕ, suc, ◌+◌, ◌-◌, ◌*◌, ◌/◌, ◌%◌, ◌<◌, ◌≤◌, Bool, true, false, eqb, List, [], ◌∷◌, ◌++◌, length, get_or, Some, refl, sym, ◌∙◌, ap, subst, inl, inr, arith, length-append}
+use Rattle.std.specs.Prelude.{ℤ, pos, slice_get}
+use Rattle.std.proofs.lemmas.Bool.{cases_lt, cases_Bool}
+use Rattle.std.proofs.lemmas.Bool.Decides.{eqb_tells}
+use Rattle.std.proofs.lemmas.Option.{slice_get-get_or, slice_get_within}
+use Rattle.h5w_model.specs.Numbers.{undefined}
+use Rattle.h5w_model.specs.Images.{image, Apart, AllMiss, At}
+use Rattle.h5w_model.specs.Integers.{cell_bytes_of}
+use Rattle.h5w_model.specs.Logs.{div_up}
+use Rattle.h5w_model.specs.Datasets.{Described}
+use Rattle.h5w_model.specs.Tables.{chunks_across, cell_offset}
+use Rattle.h5w_model.specs.Findings.{Used, chunk_bytes}
+use Rattle.h5w_model.specs.Prefixed.{StaysDefined}
+use Rattle.h5w_model.specs.declared.cell.Key.{Key}
+use Rattle.h5w_model.proofs.ImageLemmas.{Apart-part, At-fits}
+use Rattle.h5w_model.proofs.IntegerLemmas.{length-cell_bytes_of, value_at-cell_bytes_of}
+use Rattle.h5w_chunks.specs.Grids.{chunk_len, fill_cell}
+use Rattle.h5w_chunks.specs.Shares.{touched, touched_key, chunk_number}
+use Rattle.h5w_chunks.specs.Rows.{ChunksApart, IsChunkOf, IsOther, place_in}
+use Rattle.h5w_chunks.specs.declared.grid.ChunkPlace.{ChunkPlace}
+use Rattle.h5w_chunks.proofs.Geometry.{number_parts, quotient_of, row_is, div_grows}
+use Rattle.h5w_visits.specs.Ranges.{Among, AreApart, Disjoint, chunk_at}
+use Rattle.h5w_visits.specs.Indexes.{IsNamed}
+use Rattle.h5w_visits.specs.Headers.{IsSized}
+use Rattle.h5w_visits.specs.Needed.{AreFew}
+use Rattle.h5w_visits.proofs.NeededLaws.{one_address}
+use Rattle.h5w_space.specs.Space.{Space}
+use Rattle.h5w_header_laws.specs.Files.{with_rows}
+use Rattle.h5w_steps.specs.Moments.{Moment, all_used, Represents, HasCells, row_of, column_of, chunk_of, cell_place}
+use Rattle.h5w_steps.proofs.PartLemmas.{apart_sym, disjoint_two}
+use Rattle.h5w_steps.proofs.MomentLemmas.{nested, cell_within, few, header_of, in_behind}
+use Rattle.h5w_steps.proofs.PlanLaws.{plan_leads}
+use Rattle.h5w_flush_laws.specs.Spaces.{Taken}
+use Rattle.h5w_flush_laws.specs.Knowledge.{IsAsked, IsOnce, Knows}
+use Rattle.h5w_flush_laws.specs.Parts.{Parts, AllUnseen, committed, flushed_to}
+use Rattle.h5w_flush_laws.specs.Rows.{new_chunks, ArePlaced, RowsFlush}
+use Rattle.h5w_flush_laws.proofs.SpaceLemmas.{taken_disjoint}
+use Rattle.h5w_flush_laws.proofs.KeyLemmas.{key_at, found_table}
+use Rattle.h5w_flush_laws.proofs.PartLemmas.{fresh_off}
+use Rattle.h5w_flush_laws.proofs.EarlyLemmas.{unseen_each, unseen_stage}
+use Rattle.h5w_flush_laws.proofs.KnownLaws.{answers_of}
+use Rattle.h5w_flush_laws.proofs.OnceLaws.{file_once}
+use Rattle.h5w_flush_laws.proofs.CellLemmas.{IsCell, below_up, cell_of_value, chunk_by, cell_by, first_values}
+use Rattle.h5w_flush_laws.proofs.ValueLemmas.{fill_read, cell_there, cell_absent, cell_of}
+use Rattle.h5w_flush_laws.proofs.NewChunkLemmas.{touched_parts, one_number, number_of, has_number, few_named, new_member, new_from, new_apart, same_len, within_miss}
+
+-- ---- Numbers
+
+pub row_parts : (from r cols column : ℕ) → (from + r) * cols + column ≡ from * cols + (r * cols + column)
+row_parts from r cols column = grind arith
+
+-- the last cell of a chunk ends with it
+pub last_cell : (rows cols size : ℕ) → 0 < rows → 0 < cols → ((rows - 1) * cols + (cols - 1)) * size + size ≡ rows * cols * size
+last_cell rows cols size some any =
+    let r : ℕ = rows - 1 in
+    let c : ℕ = cols - 1 in
+    let is_rows : rows ≡ r + 1 = omega (arith, some) in
+    let is_cols : cols ≡ c + 1 = omega (arith, any) in
+    let step : (r * cols + c) * size + size ≡ (r * cols + (c + 1)) * size = grind arith in
+    let whole : r * cols + cols ≡ (r + 1) * cols = grind arith in
+    step ∙ ap (λ n. (r * cols + n) * size) (sym is_cols) ∙ ap (λ n. n * size) whole ∙ ap (λ n. n * cols * size) (sym is_rows)
+
+pub later_values : (vs more : List ℤ) (i : ℕ) → slice_get (vs ++ more) (length vs + i) ≡ slice_get more i
+later_values [] more i = ap (λ k. slice_get more k) (let e : 0 + i ≡ i = omega arith in e)
+later_values (v ∷ vs) more i = ap (λ k. slice_get (v ∷ (vs ++ more)) k) (let e : suc (length vs) + i ≡ suc (length vs + i) = omega arith in e) ∙ later_values vs more i
+
+-- the place of a key's chunk among those that the rows touch
+pub record HasPlace (d : Described) (old address : Key → ℕ) (from : ℕ) (places : List ChunkPlace) (key : Key) : Type 0 where
+  pub number : ℕ
+  pub place : ChunkPlace
+  pub found : slice_get places number ≡ Some place
+  pub is : touched_key d from number ≡ key
+  pub is_number : number ≡ number_of d from key
+  pub named : address key ≡ place.address
+  pub defined : place.address ≢ undefined
+  pub kept : StaysDefined (old key) place.address
+  pub stored : place.stored ≡ true → old key ≢ undefined
+  pub whole : place.stored ≡ false → old key ≢ undefined → from ≤ key.i * d.layout.chunk_rows
+
+-- the cell of a row that is new, as it stands in an image
+pub record OwnCell (img : List ℕ) (d : Described) (more : List ℤ) (from row column : ℕ) (p : ChunkPlace) : Type 0 where
+  pub value : ℤ
+  pub is : slice_get more ((row - from) * d.shape.cols + column) ≡ Some value
+  pub bytes : List ℕ
+  pub spelled : cell_bytes_of value d.int_type ≡ Some bytes
+  pub there : At img (place_in d p row column) bytes
+
+module _ (img name : List ℕ) (m : Moment) (old : Key → ℕ) (s t : Space) (f : Parts) (places : List ChunkPlace) (k : Knows img name m old s) (taken : Taken s f.chunks t) (rises : m.dataset.shape.rows < f.rows)
+    (small : AreFew (with_rows f.rows m.dataset)) (count : length (m.values ++ f.more) ≡ f.rows * m.dataset.shape.cols) (a : ArePlaced m old f places) where
+  sized : IsSized m.dataset
+  sized = (header_of img name m k.file).sized
+
+  once : IsOnce m.dataset old
+  once = file_once img name m old k.file k.index
+
+  few_now : AreFew m.dataset
+  few_now = few img name m k.file
+
+  all_apart : Disjoint (f.chunks ++ all_used m)
+  all_apart = taken_disjoint s t f.chunks (all_used m) taken k.live k.file.apart
+
+  new_disjoint : Disjoint (new_chunks m.dataset old m.dataset.shape.rows 0 places)
+  new_disjoint = subst (λ (us : List Used). Disjoint us) a.chunks taken.apart
+
+  -- ---- The touched chunks
+
+  number_low : (n : ℕ) (p : ChunkPlace) → slice_get places n ≡ Some p → n < touched m.dataset m.dataset.shape.rows f.rows
+  number_low n p found = omega (arith, slice_get_within places n p found, a.all)
+
+  number_asked : (n : ℕ) (p : ChunkPlace) → slice_get places n ≡ Some p → IsAsked m.dataset (touched_key m.dataset m.dataset.shape.rows n)
+  number_asked n p found =
+      let parts = touched_parts m.dataset m.dataset.shape.rows f.rows n rises (number_low n p found) in
+      record { named = few_named (with_rows f.rows m.dataset) small (touched_key m.dataset m.dataset.shape.rows n) (omega (arith, parts.band)) parts.column; across = parts.column }
+
+  -- a chunk that has an address is one of the file
+  old_chunk : (key : Key) → IsNamed m.dataset key → old key ≢ undefined → Among (chunk_at (old key) (chunk_bytes m.dataset)) m.behind
+  old_chunk key n defined =
+      let known = k.file.index.answered key n in
+      let same : known.address ≡ old key = one_address known.address (old key) (sym known.is ∙ answers_of img m.super.end m.dataset m.fixed m.behind old k.file.index k.index key n) in
+      subst (λ x. x ≢ undefined → Among (chunk_at x (chunk_bytes m.dataset)) m.behind) same known.chunk defined
+
+  place_new : (n : ℕ) (p : ChunkPlace) → slice_get places n ≡ Some p → old (touched_key m.dataset m.dataset.shape.rows n) ≡ undefined → Among (chunk_at p.address (chunk_bytes m.dataset)) f.chunks
+  place_new n p found e =
+      subst (λ (us : List Used). Among (chunk_at p.address (chunk_bytes m.dataset)) us) (sym a.chunks)
+      (new_member m.dataset old m.dataset.shape.rows 0 places n p found (ap (λ j. old (touched_key m.dataset m.dataset.shape.rows j)) (let h : 0 + n ≡ n = omega arith in h) ∙ e))
+
+  place_old : (n : ℕ) (p : ChunkPlace) → slice_get places n ≡ Some p → old (touched_key m.dataset m.dataset.shape.rows n) ≢ undefined → Among (chunk_at p.address (chunk_bytes m.dataset)) m.behind
+  place_old n p found defined =
+      subst (λ x. Among (chunk_at x (chunk_bytes m.dataset)) m.behind) (sym ((a.placed n p found).kept defined))
+      (old_chunk (touched_key m.dataset m.dataset.shape.rows n) (number_asked n p found).named defined)
+
+  -- it is apart from another range of the file
+  place_off : (n : ℕ) (p : ChunkPlace) → slice_get places n ≡ Some p → (v : Used) → Among v (all_used m)
+      → (old (touched_key m.dataset m.dataset.shape.rows n) ≢ undefined → chunk_at p.address (chunk_bytes m.dataset) ≢ v) → AreApart (chunk_at p.address (chunk_bytes m.dataset)) v
+  place_off n p found v b differ = go (eqb_tells (old (touched_key m.dataset m.dataset.shape.rows n)) undefined)
+    where
+      u : Used
+      u = chunk_at p.address (chunk_bytes m.dataset)
+
+      key : Key
+      key = touched_key m.dataset m.dataset.shape.rows n
+
+      go : ((eqb (old key) undefined ≡ true) × (old key ≡ undefined)) ⊎ ((eqb (old key) undefined ≡ false) × (old key ≢ undefined)) → AreApart u v
+      go (inl e) = fresh_off m f.chunks all_apart u v (place_new n p found e.1) b
+      go (inr e) = disjoint_two (all_used m) u v k.file.apart (in_behind m u (place_old n p found e.1)) b (differ e.1)
+
+  -- no two of them meet
+  places_apart : ChunksApart m.dataset places
+  places_apart j n p q other first second =
+      subst (λ c. Apart p.address c q.address c) (sym (same_len m.dataset)) (go (eqb_tells (old (touched_key m.dataset m.dataset.shape.rows j)) undefined) (eqb_tells (old (touched_key m.dataset m.dataset.shape.rows n)) undefined))
+    where
+      u : Used
+      u = chunk_at p.address (chunk_bytes m.dataset)
+
+      v : Used
+      v = chunk_at q.address (chunk_bytes m.dataset)
+
+      x : Key
+      x = touched_key m.dataset m.dataset.shape.rows j
+
+      y : Key
+      y = touched_key m.dataset m.dataset.shape.rows n
+
+      zero_less : (i : ℕ) → 0 + i ≡ i
+      zero_less i = omega arith
+
+      absent : (i : ℕ) → old (touched_key m.dataset m.dataset.shape.rows i) ≡ undefined → old (touched_key m.dataset m.dataset.shape.rows (0 + i)) ≡ undefined
+      absent i e = ap (λ h. old (touched_key m.dataset m.dataset.shape.rows h)) (zero_less i) ∙ e
+
+      both_new : (j < n) ⊎ (n ≤ j) → old x ≡ undefined → old y ≡ undefined → AreApart u v
+      both_new (inl less) e g = new_apart m.dataset old m.dataset.shape.rows 0 places j n p q new_disjoint less first second (absent j e) (absent n g)
+      both_new (inr more) e g = apart_sym v u (new_apart m.dataset old m.dataset.shape.rows 0 places n j q p new_disjoint (strictly more) second first (absent n g) (absent j e))
+        where
+          strictly : n ≤ j → n < j
+          strictly h = elim (cases_lt n j) [ inl less ↦ less | inr same ↦ absurd (other (omega (arith, h, same))) ]
+
+      one_chunk : old x ≢ undefined → old y ≢ undefined → u ≡ v → ⊥
+      one_chunk e g same =
+          let address : p.address ≡ q.address = ap (λ (r : Used). r.place) same in
+          let together : old y ≡ old x = sym ((a.placed n q second).kept g) ∙ sym address ∙ (a.placed j p first).kept e in
+          other (one_number m.dataset m.dataset.shape.rows j n (omega (arith, (number_asked j p first).across)) (sym (once x y (number_asked j p first) (number_asked n q second) e together)))
+
+      go : ((eqb (old x) undefined ≡ true) × (old x ≡ undefined)) ⊎ ((eqb (old x) undefined ≡ false) × (old x ≢ undefined)) → ((eqb (old y) undefined ≡ true) × (old y ≡ undefined)) ⊎ ((eqb (old y) undefined ≡ false) × (old y ≢ undefined)) → AreApart u v
+      go (inl e) (inl g) = both_new (cases_lt j n) e.1 g.1
+      go (inl e) (inr g) = fresh_off m f.chunks all_apart u v (place_new j p first e.1) (in_behind m v (place_old n q second g.1))
+      go (inr e) (inl g) = apart_sym v u (fresh_off m f.chunks all_apart v u (place_new n q second g.1) (in_behind m u (place_old j p first e.1)))
+      go (inr e) (inr g) = disjoint_two (all_used m) u v k.file.apart (in_behind m u (place_old j p first e.1)) (in_behind m v (place_old n q second g.1)) (one_chunk e.1 g.1)
+
+  has_place : (key : Key) → key.j < chunks_across m.dataset → m.dataset.shape.rows / m.dataset.layout.chunk_rows ≤ key.i → key.i < div_up f.rows m.dataset.layout.chunk_rows
+      → HasPlace m.dataset old f.address m.dataset.shape.rows places key
+  has_place key across low high =
+      let h = has_number m.dataset m.dataset.shape.rows f.rows key rises across low high in
+      let number : ℕ = number_of m.dataset m.dataset.shape.rows key in
+      let none : ChunkPlace = record { address = 0; stored = false } in
+      let place : ChunkPlace = get_or places number none in
+      let found : slice_get places number ≡ Some place = slice_get-get_or places number none (omega (arith, h.low, a.all)) in
+      let p = a.placed number place found in
+      record {
+        number = number;
+        place = place;
+        found = found;
+        is = h.is;
+        is_number = refl;
+        named = ap f.address (sym h.is) ∙ p.named;
+        defined = p.defined;
+        kept = subst (λ (x : Key). StaysDefined (old x) place.address) h.is p.kept;
+        stored = subst (λ (x : Key). place.stored ≡ true → old x ≢ undefined) h.is p.stored;
+        whole = subst (λ (x : Key). place.stored ≡ false → old x ≢ undefined → m.dataset.shape.rows ≤ x.i * m.dataset.layout.chunk_rows) h.is p.whole;
+      }
+
+  -- what the map says of any key: as before, or the place of a new chunk
+  classify : (key : Key) → IsAsked m.dataset key → (f.address key ≡ old key) ⊎ (HasPlace m.dataset old f.address m.dataset.shape.rows places key × (old key ≡ undefined))
+  classify key asked = before (cases_lt key.i (m.dataset.shape.rows / m.dataset.layout.chunk_rows))
+    where
+      by_old : HasPlace m.dataset old f.address m.dataset.shape.rows places key → ((eqb (old key) undefined ≡ true) × (old key ≡ undefined)) ⊎ ((eqb (old key) undefined ≡ false) × (old key ≢ undefined))
+          → (f.address key ≡ old key) ⊎ (HasPlace m.dataset old f.address m.dataset.shape.rows places key × (old key ≡ undefined))
+      by_old h (inl e) = inr (h, e.1)
+      by_old h (inr e) = inl (h.named ∙ h.kept e.1)
+
+      behind : m.dataset.shape.rows / m.dataset.layout.chunk_rows ≤ key.i → (key.i < div_up f.rows m.dataset.layout.chunk_rows) ⊎ (div_up f.rows m.dataset.layout.chunk_rows ≤ key.i)
+          → (f.address key ≡ old key) ⊎ (HasPlace m.dataset old f.address m.dataset.shape.rows places key × (old key ≡ undefined))
+      behind low (inl high) = by_old (has_place key asked.across low high) (eqb_tells (old key) undefined)
+      behind low (inr past) = inl (a.others key asked (inr past))
+
+      before : (key.i < m.dataset.shape.rows / m.dataset.layout.chunk_rows) ⊎ (m.dataset.shape.rows / m.dataset.layout.chunk_rows ≤ key.i)
+          → (f.address key ≡ old key) ⊎ (HasPlace m.dataset old f.address m.dataset.shape.rows places key × (old key ≡ undefined))
+      before (inl low) = inl (a.others key asked (inl low))
+      before (inr low) = behind low (cases_lt key.i (div_up f.rows m.dataset.layout.chunk_rows))
+
+  stays : (key : Key) → IsAsked m.dataset key → StaysDefined (old key) (f.address key)
+  stays key asked defined = elim (classify key asked) [ inl e ↦ e | inr h ↦ absurd (defined h.1) ]
+
+  -- ---- The writes are unseen
+
+  rows_miss_blocks : (u : Used) → Among u (all_used m) → u.chunk ≡ false → AllMiss f.writes u.place u.len
+  rows_miss_blocks u b block =
+      within_miss m.dataset places f.writes u.place u.len a.written.within
+      (λ n p found. subst (λ c. Apart p.address c u.place u.len) (sym (same_len m.dataset)) (place_off n p found u b (λ d e. never (ap (λ (x : Used). x.chunk) e ∙ block))))
+    where
+      never : ◌≡◌ {A = Bool} true false → ⊥
+      never e = cc
+
+  -- a value's row and column, and the key of its chunk
+  is_cell : (n : ℕ) → n < length m.values → IsCell m.dataset (row_of m n) (column_of m n)
+  is_cell n low = cell_of_value m.dataset n (subst (λ c. n < c) k.file.count low)
+
+  asked_cell : (row column : ℕ) → IsCell m.dataset row column → IsAsked m.dataset (key_at (row / m.dataset.layout.chunk_rows) (column / m.dataset.layout.chunk_cols))
+  asked_cell row column is =
+      let band = below_up row m.dataset.shape.rows m.dataset.layout.chunk_rows sized.rows is.in_rows in
+      let across = below_up column m.dataset.shape.cols m.dataset.layout.chunk_cols sized.cols is.in_columns in
+      record { named = few_named m.dataset few_now (key_at (row / m.dataset.layout.chunk_rows) (column / m.dataset.layout.chunk_cols)) band across; across = across }
+
+  chunk_is : (n : ℕ) → n < length m.values → chunk_of m n ≡ old (key_at (row_of m n / m.dataset.layout.chunk_rows) (column_of m n / m.dataset.layout.chunk_cols))
+  chunk_is n low =
+      ap (λ (xs : List ℕ). get_or xs (row_of m n / m.dataset.layout.chunk_rows * chunks_across m.dataset + column_of m n / m.dataset.layout.chunk_cols) undefined) (found_table img m.dataset old m.table few_now k.index k.file.table)
+      ∙ chunk_by m.dataset old (row_of m n) (column_of m n) sized (is_cell n low)
+
+  -- the chunk of a cell by its place
+  chunk_of_place : (row column : ℕ) → column < m.dataset.shape.cols → m.dataset.shape.rows / m.dataset.layout.chunk_rows ≤ row / m.dataset.layout.chunk_rows
+      → (h : HasPlace m.dataset old f.address m.dataset.shape.rows places (key_at (row / m.dataset.layout.chunk_rows) (column / m.dataset.layout.chunk_cols))) → IsChunkOf m.dataset m.dataset.shape.rows places row column h.place
+  chunk_of_place row column inside band h = record {
+    band = band;
+    across = quotient_of column (chunks_across m.dataset) m.dataset.layout.chunk_cols sized.cols (below_up column m.dataset.shape.cols m.dataset.layout.chunk_cols sized.cols inside);
+    stands = subst (λ n. slice_get places n ≡ Some h.place) h.is_number h.found;
+  }
+
+  -- what is apart from a cell's chunk is apart from the cell
+  off_old_cell : (n place len : ℕ) → n < length m.values → Apart place len (chunk_of m n) (chunk_bytes m.dataset) → Apart place len (cell_place m n) m.dataset.int_type.size
+  off_old_cell n place len low apart =
+      let within = cell_within m.dataset (row_of m n) (column_of m n) sized in
+      Apart-part place len (chunk_of m n) (chunk_bytes m.dataset) place len (cell_place m n) m.dataset.int_type.size (omega arith) (omega arith) (omega arith) (omega (arith, within)) apart
+
+  rows_miss_cells : (n : ℕ) → n < length m.values → chunk_of m n ≢ undefined → AllMiss f.writes (cell_place m n) m.dataset.int_type.size
+  rows_miss_cells n low defined = go (cases_lt (row_of m n / m.dataset.layout.chunk_rows) (m.dataset.shape.rows / m.dataset.layout.chunk_rows))
+    where
+      key : Key
+      key = key_at (row_of m n / m.dataset.layout.chunk_rows) (column_of m n / m.dataset.layout.chunk_cols)
+
+      known : old key ≢ undefined
+      known e = defined (chunk_is n low ∙ e)
+
+      u : Used
+      u = chunk_at (chunk_of m n) (chunk_bytes m.dataset)
+
+      among : Among u m.behind
+      among = subst (λ x. Among (chunk_at x (chunk_bytes m.dataset)) m.behind) (sym (chunk_is n low)) (old_chunk key (asked_cell (row_of m n) (column_of m n) (is_cell n low)).named known)
+
+      -- of an earlier band no chunk is touched
+      other : row_of m n / m.dataset.layout.chunk_rows < m.dataset.shape.rows / m.dataset.layout.chunk_rows → (j : ℕ) (q : ChunkPlace) → slice_get places j ≡ Some q → old (touched_key m.dataset m.dataset.shape.rows j) ≢ undefined
+          → chunk_at q.address (chunk_bytes m.dataset) ≢ u
+      other before j q found d same =
+          let together : old (touched_key m.dataset m.dataset.shape.rows j) ≡ old key = sym ((a.placed j q found).kept d) ∙ ap (λ (x : Used). x.place) same ∙ chunk_is n low in
+          let one : touched_key m.dataset m.dataset.shape.rows j ≡ key = once key (touched_key m.dataset m.dataset.shape.rows j) (asked_cell (row_of m n) (column_of m n) (is_cell n low)) (number_asked j q found) known together in
+          let band : m.dataset.shape.rows / m.dataset.layout.chunk_rows + j / chunks_across m.dataset ≡ row_of m n / m.dataset.layout.chunk_rows = ap (λ (x : Key). x.i) one in
+          omega (arith, before, band)
+
+      in_touched : (h : HasPlace m.dataset old f.address m.dataset.shape.rows places key) → m.dataset.shape.rows / m.dataset.layout.chunk_rows ≤ row_of m n / m.dataset.layout.chunk_rows → (h.place.stored ≡ true) ⊎ (h.place.stored ≡ false)
+          → AllMiss f.writes (cell_place m n) m.dataset.int_type.size
+      in_touched h band (inl stored) =
+          let same : h.place.address ≡ chunk_of m n = h.kept known ∙ sym (chunk_is n low) in
+          subst (λ x. AllMiss f.writes (x + cell_offset m.dataset (row_of m n) (column_of m n)) m.dataset.int_type.size) same
+          (a.written.missed (row_of m n) (column_of m n) h.place places_apart (chunk_of_place (row_of m n) (column_of m n) (is_cell n low).in_columns band h) (inl (is_cell n low).in_rows) stored)
+      in_touched h band (inr new) =
+          let past = h.whole new known in
+          let parts = row_is (row_of m n) m.dataset.layout.chunk_rows sized.rows in
+          let inside = (is_cell n low).in_rows in
+          absurd (omega (arith, past, parts.0, inside))
+
+      go : (row_of m n / m.dataset.layout.chunk_rows < m.dataset.shape.rows / m.dataset.layout.chunk_rows) ⊎ (m.dataset.shape.rows / m.dataset.layout.chunk_rows ≤ row_of m n / m.dataset.layout.chunk_rows)
+          → AllMiss f.writes (cell_place m n) m.dataset.int_type.size
+      go (inl before) =
+          within_miss m.dataset places f.writes (cell_place m n) m.dataset.int_type.size a.written.within
+          (λ j q found. off_old_cell n q.address (chunk_len m.dataset) low
+          (subst (λ c. Apart q.address c (chunk_of m n) (chunk_bytes m.dataset)) (sym (same_len m.dataset)) (place_off j q found u (in_behind m u among) (other before j q found))))
+      go (inr band) =
+          let inside = (is_cell n low).in_rows in
+          in_touched (has_place key (asked_cell (row_of m n) (column_of m n) (is_cell n low)).across band (below_up (row_of m n) f.rows m.dataset.layout.chunk_rows sized.rows (omega (arith, inside, rises)))) band
+          (cases_Bool (has_place key (asked_cell (row_of m n) (column_of m n) (is_cell n low)).across band (below_up (row_of m n) f.rows m.dataset.layout.chunk_rows sized.rows (omega (arith, inside, rises)))).place.stored)
+
+  rows_unseen : AllUnseen m f.writes
+  rows_unseen = unseen_each m m.behind f.writes (rows_miss_blocks, λ u b block. rows_miss_blocks u (in_behind m u b) block, rows_miss_cells)
+
+  file_rows : Represents (image img f.writes) name m
+  file_rows = plan_leads img name m m m.behind m.behind f.writes k.file (unseen_stage img name m f.writes k.file rows_unseen).plan
+
+  -- ---- The cells of new rows
+
+  own_cell : (row column : ℕ) (p : ChunkPlace) → m.dataset.shape.rows ≤ row → row < f.rows → column < m.dataset.shape.cols → IsChunkOf m.dataset m.dataset.shape.rows places row column p
+      → OwnCell (image img f.writes) m.dataset f.more m.dataset.shape.rows row column p
+  own_cell row column p low high inside c =
+      let cols : ℕ = m.dataset.shape.cols in
+      let from : ℕ = m.dataset.shape.rows in
+      let i : ℕ = (row - from) * cols + column in
+      let below : i < (f.rows - from) * cols = nested (row - from) column (f.rows - from) cols (omega (arith, low, high)) inside in
+      let parts = row_parts from (f.rows - from) cols 0 in
+      let whole : from + (f.rows - from) ≡ f.rows = omega (arith, rises) in
+      let all : f.rows * cols ≡ from * cols + (f.rows - from) * cols = ap (λ n. n * cols) (sym whole) ∙ omega (arith, parts) in
+      let many : i < length f.more = omega (arith, below, all, count, k.file.count, length-append m.values f.more) in
+      let is = slice_get-get_or f.more i (pos 0) many in
+      let own = cell_of m.dataset f.more i (get_or f.more i (pos 0)) a.fit is in
+      record {
+        value = get_or f.more i (pos 0);
+        is = is;
+        bytes = own.bytes;
+        spelled = own.spelled;
+        there = subst (λ (b : List ℕ). At (image img f.writes) (place_in m.dataset p row column) b) own.there (a.written.stands img row column p places_apart c low high inside);
+      }
+
+  -- the cell of a new row is read as its value
+  new_value : (n row column : ℕ) → n ≡ row * m.dataset.shape.cols + column → m.dataset.shape.rows ≤ row → row < f.rows → column < m.dataset.shape.cols
+      → cell_by (image img f.writes) m.dataset (f.address (key_at (row / m.dataset.layout.chunk_rows) (column / m.dataset.layout.chunk_cols))) row column ≡ slice_get (m.values ++ f.more) n
+  new_value n row column is low high inside =
+      let cols : ℕ = m.dataset.shape.cols in
+      let from : ℕ = m.dataset.shape.rows in
+      let key : Key = key_at (row / m.dataset.layout.chunk_rows) (column / m.dataset.layout.chunk_cols) in
+      let band = div_grows from row m.dataset.layout.chunk_rows sized.rows low in
+      let h = has_place key (below_up column cols m.dataset.layout.chunk_cols sized.cols inside) band (below_up row f.rows m.dataset.layout.chunk_rows sized.rows high) in
+      let own = own_cell row column h.place low high inside (chunk_of_place row column inside band h) in
+      let read = cell_there (image img f.writes) m.dataset h.place.address row column own.bytes h.defined own.there (length-cell_bytes_of own.value m.dataset.int_type own.bytes own.spelled) in
+      let i : ℕ = (row - from) * cols + column in
+      let whole : from + (row - from) ≡ row = omega (arith, low) in
+      let number : n ≡ length m.values + i = is ∙ ap (λ r. r * cols + column) (sym whole) ∙ row_parts from (row - from) cols column ∙ ap (λ c. c + i) (sym k.file.count) in
+      ap (λ x. cell_by (image img f.writes) m.dataset x row column) h.named
+      ∙ read
+      ∙ ap Some (value_at-cell_bytes_of own.value m.dataset.int_type own.bytes a.typed own.spelled)
+      ∙ sym own.is
+      ∙ sym (later_values m.values f.more i)
+      ∙ ap (λ j. slice_get (m.values ++ f.more) j) (sym number)
+
+  -- the cell of a row that was there is read as before
+  old_value : (n : ℕ) → n < length m.values
+      → cell_by (image img f.writes) m.dataset (f.address (key_at (row_of m n / m.dataset.layout.chunk_rows) (column_of m n / m.dataset.layout.chunk_cols))) (row_of m n) (column_of m n) ≡ slice_get m.values n
+  old_value n low = go (classify key (asked_cell (row_of m n) (column_of m n) (is_cell n low)))
+    where
+      key : Key
+      key = key_at (row_of m n / m.dataset.layout.chunk_rows) (column_of m n / m.dataset.layout.chunk_cols)
+
+      was : cell_by (image img f.writes) m.dataset (chunk_of m n) (row_of m n) (column_of m n) ≡ slice_get m.values n
+      was = file_rows.cells n low
+
+      filled : (h : HasPlace m.dataset old f.address m.dataset.shape.rows places key) → old key ≡ undefined → m.dataset.shape.rows / m.dataset.layout.chunk_rows ≤ row_of m n / m.dataset.layout.chunk_rows
+          → (h.place.stored ≡ true) ⊎ (h.place.stored ≡ false) → cell_by (image img f.writes) m.dataset (f.address key) (row_of m n) (column_of m n) ≡ slice_get m.values n
+      filled h e band (inl stored) = absurd (h.stored stored e)
+      filled h e band (inr new) =
+          let there = a.written.filled img (row_of m n) (column_of m n) h.place places_apart (chunk_of_place (row_of m n) (column_of m n) (is_cell n low).in_columns band h) (inl (is_cell n low).in_rows) new in
+          ap (λ x. cell_by (image img f.writes) m.dataset x (row_of m n) (column_of m n)) h.named
+          ∙ cell_there (image img f.writes) m.dataset h.place.address (row_of m n) (column_of m n) (fill_cell m.dataset) h.defined there a.filled
+          ∙ ap Some (fill_read m.dataset a.typed)
+          ∙ sym (cell_absent (image img f.writes) m.dataset (chunk_of m n) (row_of m n) (column_of m n) (chunk_is n low ∙ e))
+          ∙ was
+
+      -- its band is touched, since its place has that number
+      band_of : (h : HasPlace m.dataset old f.address m.dataset.shape.rows places key) → m.dataset.shape.rows / m.dataset.layout.chunk_rows ≤ row_of m n / m.dataset.layout.chunk_rows
+      band_of h = let e : m.dataset.shape.rows / m.dataset.layout.chunk_rows + h.number / chunks_across m.dataset ≡ row_of m n / m.dataset.layout.chunk_rows = ap (λ (x : Key). x.i) h.is in omega (arith, e)
+
+      go : (f.address key ≡ old key) ⊎ (HasPlace m.dataset old f.address m.dataset.shape.rows places key × (old key ≡ undefined)) → cell_by (image img f.writes) m.dataset (f.address key) (row_of m n) (column_of m n) ≡ slice_get m.values n
+      go (inl e) = ap (λ x. cell_by (image img f.writes) m.dataset x (row_of m n) (column_of m n)) (e ∙ sym (chunk_is n low)) ∙ was
+      go (inr h) = filled h.0 h.1 (band_of h.0) (cases_Bool h.0.place.stored)
+
+  all_cells : HasCells (image img f.writes) (flushed_to m f)
+  all_cells n low =
+      ap (λ x. cell_by (image img f.writes) m.dataset x (n / m.dataset.shape.cols) (n % m.dataset.shape.cols))
+      (chunk_by (committed m.dataset f.rows f.named) f.address (n / m.dataset.shape.cols) (n % m.dataset.shape.cols) sized_too there)
+      ∙ go (cases_lt (n / m.dataset.shape.cols) m.dataset.shape.rows)
+    where
+      sized_too : IsSized (committed m.dataset f.rows f.named)
+      sized_too = record { rows = sized.rows; cols = sized.cols; size = sized.size; bytes = sized.bytes }
+
+      there : IsCell (committed m.dataset f.rows f.named) (n / m.dataset.shape.cols) (n % m.dataset.shape.cols)
+      there = cell_of_value (committed m.dataset f.rows f.named) n (subst (λ c. n < c) count low)
+
+      some : 0 < m.dataset.shape.cols
+      some = let c = there.in_columns in omega (arith, c)
+
+      go : (n / m.dataset.shape.cols < m.dataset.shape.rows) ⊎ (m.dataset.shape.rows ≤ n / m.dataset.shape.cols)
+          → cell_by (image img f.writes) m.dataset (f.address (key_at (n / m.dataset.shape.cols / m.dataset.layout.chunk_rows) (n % m.dataset.shape.cols / m.dataset.layout.chunk_cols))) (n / m.dataset.shape.cols) (n % m.dataset.shape.cols) ≡ slice_get (m.values ++ f.more) n
+      go (inl before) =
+          let was : n < length m.values = subst (λ c. n < c) (sym k.file.count) (quotient_of n m.dataset.shape.rows m.dataset.shape.cols some before) in
+          old_value n was ∙ sym (first_values m.values f.more n was)
+      go (inr behind) = new_value n (n / m.dataset.shape.cols) (n % m.dataset.shape.cols) (row_is n m.dataset.shape.cols some).0 behind there.in_rows there.in_columns
+
+  -- ---- New chunks are written to their ends
+
+  new_whole : (u : Used) → Among u f.chunks → u.place + u.len ≤ length (image img f.writes)
+  new_whole u b =
+      let from = new_from m.dataset old m.dataset.shape.rows 0 places u (subst (λ (us : List Used). Among u us) a.chunks b) in
+      subst (λ (x : Used). x.place + x.len ≤ length (image img f.writes)) (sym from.is)
+      (place_whole from.number from.place from.found (ap (λ j. old (touched_key m.dataset m.dataset.shape.rows j)) (let h : from.number ≡ 0 + from.number = omega arith in h) ∙ from.absent))
+    where
+      place_whole : (n : ℕ) (p : ChunkPlace) → slice_get places n ≡ Some p → old (touched_key m.dataset m.dataset.shape.rows n) ≡ undefined → p.address + chunk_bytes m.dataset ≤ length (image img f.writes)
+      place_whole n p found absent = last_there (cases_lt last_row m.dataset.shape.rows) (cases_lt last_row f.rows) (cases_lt last_column m.dataset.shape.cols)
+        where
+          R : ℕ
+          R = m.dataset.layout.chunk_rows
+
+          C : ℕ
+          C = m.dataset.layout.chunk_cols
+
+          key : Key
+          key = touched_key m.dataset m.dataset.shape.rows n
+
+          last_row : ℕ
+          last_row = key.i * R + (R - 1)
+
+          last_column : ℕ
+          last_column = key.j * C + (C - 1)
+
+          row_number : (last_row / R ≡ key.i) × (last_row % R ≡ R - 1)
+          row_number = number_parts key.i R (R - 1) (let some = sized.rows in omega (arith, some))
+
+          column_number : (last_column / C ≡ key.j) × (last_column % C ≡ C - 1)
+          column_number = number_parts key.j C (C - 1) (let some = sized.cols in omega (arith, some))
+
+          across : key.j < chunks_across m.dataset
+          across = (number_asked n p found).across
+
+          number : chunk_number m.dataset m.dataset.shape.rows last_row last_column ≡ n
+          number =
+              ap (λ x. (x - m.dataset.shape.rows / R) * chunks_across m.dataset + last_column / C) row_number.0
+              ∙ ap (λ x. (key.i - m.dataset.shape.rows / R) * chunks_across m.dataset + x) column_number.0
+              ∙ ap (λ x. x * chunks_across m.dataset + key.j) (let e : key.i - m.dataset.shape.rows / R ≡ n / chunks_across m.dataset = omega arith in e)
+              ∙ sym (row_is n (chunks_across m.dataset) (omega (arith, across))).0
+
+          is_chunk : IsChunkOf m.dataset m.dataset.shape.rows places last_row last_column p
+          is_chunk = record {
+            band = let e = row_number.0 in omega (arith, e);
+            across = quotient_of last_column (chunks_across m.dataset) C sized.cols (subst (λ x. x < chunks_across m.dataset) (sym column_number.0) across);
+            stands = subst (λ x. slice_get places x ≡ Some p) (sym number) found;
+          }
+
+          new : p.stored ≡ false
+          new = elim (cases_Bool p.stored) [ inl e ↦ absurd ((a.placed n p found).stored e absent) | inr e ↦ e ]
+
+          reaches : (bytes : List ℕ) → At (image img f.writes) (place_in m.dataset p last_row last_column) bytes → length bytes ≡ m.dataset.int_type.size → p.address + chunk_bytes m.dataset ≤ length (image img f.writes)
+          reaches bytes there long =
+              let some = sized.size in
+              let fits = At-fits (image img f.writes) (place_in m.dataset p last_row last_column) bytes there (omega (arith, long, some)) in
+              let offset : cell_offset m.dataset last_row last_column ≡ ((R - 1) * C + (C - 1)) * m.dataset.int_type.size =
+              ap (λ x. (x * C + last_column % C) * m.dataset.int_type.size) row_number.1 ∙ ap (λ x. ((R - 1) * C + x) * m.dataset.int_type.size) column_number.1 in
+              let whole = last_cell R C m.dataset.int_type.size sized.rows sized.cols in
+              omega (arith, fits, offset, whole, long)
+
+          other : IsOther m.dataset m.dataset.shape.rows f.rows last_row last_column → p.address + chunk_bytes m.dataset ≤ length (image img f.writes)
+          other o = reaches (fill_cell m.dataset) (a.written.filled img last_row last_column p places_apart is_chunk o new) a.filled
+
+          own : m.dataset.shape.rows ≤ last_row → last_row < f.rows → last_column < m.dataset.shape.cols → p.address + chunk_bytes m.dataset ≤ length (image img f.writes)
+          own low high inside =
+              let c = own_cell last_row last_column p low high inside is_chunk in
+              reaches c.bytes c.there (length-cell_bytes_of c.value m.dataset.int_type c.bytes c.spelled)
+
+          last_there : (last_row < m.dataset.shape.rows) ⊎ (m.dataset.shape.rows ≤ last_row) → (last_row < f.rows) ⊎ (f.rows ≤ last_row) → (last_column < m.dataset.shape.cols) ⊎ (m.dataset.shape.cols ≤ last_column)
+              → p.address + chunk_bytes m.dataset ≤ length (image img f.writes)
+          last_there (inl low) second third = other (inl low)
+          last_there (inr low) (inr high) third = other (inr (inl high))
+          last_there (inr low) (inl high) (inr past) = other (inr (inr past))
+          last_there (inr low) (inl high) (inl inside) = own low high inside
+
+pub rows_flush : RowsFlush
+rows_flush img name m old s t f places k taken rises small count a = record {
+  flushed = record {
+    unseen = rows_unseen img name m old s t f places k taken rises small count a;
+    whole = new_whole img name m old s t f places k taken rises small count a;
+    cells = all_cells img name m old s t f places k taken rises small count a;
+  };
+  kept = stays img name m old s t f places k taken rises small count a;
+}

@@ -1,0 +1,49 @@
+-- What a session knows of its file when nothing is pending.
+use Rattle.std.specs.Prelude.{◌≡◌, ◌≢◌, ℕ, ◌<◌, ◌≤◌, List, length, Ok}
+use Rattle.h5w_model.specs.Numbers.{undefined}
+use Rattle.h5w_model.specs.Programs.{eval}
+use Rattle.h5w_model.specs.Datasets.{Described}
+use Rattle.h5w_model.specs.Tables.{InPlace, in_place, address_behind, chunks_across}
+use Rattle.h5w_model.specs.declared.cell.Key.{Key}
+use Rattle.h5w_visits.specs.Indexes.{IsNamed}
+use Rattle.h5w_space.specs.Space.{Space}
+use Rattle.h5w_header_laws.specs.Files.{LayoutInChunk0}
+use Rattle.h5w_steps.specs.Moments.{Moment, all_used, Represents}
+use Rattle.h5w_flush_laws.specs.Spaces.{AllLive}
+
+-- a key of a chunk of the dataset, one of the chunks that stand side by side
+pub record IsAsked (d : Described) (key : Key) : Type 0 where
+  pub named : IsNamed d key
+  pub across : key.j < chunks_across d
+
+-- each key's address behind these blocks in place
+abbrev pub AnswersBy : List ℕ → Described → InPlace → (Key → ℕ) → Type 0
+AnswersBy img d blocks address = (key : Key) → IsNamed d key → eval img (address_behind blocks key) ≡ Ok (address key)
+
+-- the index of the image is this map from keys to addresses
+pub record IsMap (img : List ℕ) (d : Described) (address : Key → ℕ) : Type 0 where
+  pub blocks : InPlace
+  pub read : eval img (in_place d) ≡ Ok blocks
+  pub answers : AnswersBy img d blocks address
+
+-- no two keys have one chunk
+abbrev pub IsOnce : Described → (Key → ℕ) → Type 0
+IsOnce d address = (k l : Key) → IsAsked d k → IsAsked d l → address k ≢ undefined → address l ≡ address k → l ≡ k
+
+-- What a session knows of its file when nothing is pending: the image is the file; the index's map, which the session keeps; and its
+-- places, which are taken over none of the file's ranges. Of what readers may hold nothing more is known, since after a header piece
+-- readers hold no more than what the file has.
+pub record Knows (img name : List ℕ) (m : Moment) (address : Key → ℕ) (s : Space) : Type 0 where
+  pub file : Represents img name m
+  pub index : IsMap img m.dataset address
+  pub live : AllLive s (all_used m)
+  pub ended : m.super.end ≤ s.end
+  pub covered : s.end ≤ length img
+  -- an index address that is not there yet can be written with the rows
+  pub layout : m.dataset.layout.address ≡ undefined → LayoutInChunk0 img m.place
+
+-- ---- Laws
+
+-- In a file, whose ranges do not meet, no two keys have one chunk, whatever the index and whoever made it.
+abbrev pub FileOnce : Type 0
+FileOnce = (img name : List ℕ) (m : Moment) (address : Key → ℕ) → Represents img name m → IsMap img m.dataset address → IsOnce m.dataset address

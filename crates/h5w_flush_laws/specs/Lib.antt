@@ -1,0 +1,6 @@
+pub mod Spaces
+pub mod Knowledge
+pub mod Parts
+pub mod Rows
+pub mod Flushes
+pub mod Copies

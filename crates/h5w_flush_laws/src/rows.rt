@@ -1,0 +1,18 @@
+//! New rows in chunks as a part of a flush.
+
+ghost use Rattle.h5w_flush_laws.specs.Rows.{NewChunksMore, RowsAnywhere, RowsFlush};
+
+/// The writes of new rows change nothing for readers, and put all cells at the places by which the index will name their chunks.
+pub fn rows_flush()
+    ensures { RowsFlush }
+{}
+
+/// The new chunks of one more touched chunk.
+pub fn new_chunks_more()
+    ensures { NewChunksMore }
+{}
+
+/// The writes of new rows do the same for a dataset with other rows.
+pub fn rows_anywhere()
+    ensures { RowsAnywhere }
+{}
