@@ -1,0 +1,13 @@
+pub mod ByteLemmas
+pub mod PartLemmas
+pub mod StoreLemmas
+pub mod ArrayLemmas
+pub mod OrderLemmas
+pub mod StepLemmas
+pub mod SetLemmas
+pub mod FreshLemmas
+pub mod TouchLemmas
+pub mod CountLemmas
+pub mod WayLemmas
+pub mod CreateLemmas
+pub mod ResultLemmas

@@ -1,0 +1,261 @@
+-- What an address that is set changes: the map at one chunk number.
+use Rattle.std.proofs.Common.{◌≡◌, ◌≢◌, inl, inr, ℕ, ◌+◌, ◌-◌, ◌*◌, ◌^◌, ◌<◌, ◌≤◌, List, [], ◌∷◌, ◌++◌, length, replicate, true, false, refl, sym, ap, subst, ◌∙◌, arith, eq-eqb, ne_eqb}
+use Rattle.std.proofs.Math.ListN.{set}
+use Rattle.std.proofs.lemmas.Bool.{cases_eq, cases_lt}
+use Rattle.std.proofs.lemmas.Bool.Decides.{nat_tests}
+use Rattle.std.specs.Prelude.{Some, IsSome, IfSome, cond, nat_lt, flat_map, ◌==◌, if◌then◌else◌}
+use Rattle.h5w_model.specs.Numbers.{undefined, field}
+use Rattle.h5w_model.specs.Arrays.{numbers_in, slot_place_of, super_block_of, IsSlotPlace}
+use Rattle.h5w_model.specs.Findings.{Used}
+use Rattle.h5w_model.proofs.ArrayGeometry.{slot_place-stands}
+use Rattle.h5w_cache.specs.Blocks.{BlockView, numbered, with_number}
+use Rattle.h5w_cache.specs.Plans.{bytes_of, bytes_in}
+use Rattle.h5w_cache.specs.Stores.{Store, block_of, is_changed, is_listed, changed_to}
+use Rattle.h5w_visits.specs.Ranges.{chunk_at}
+use Rattle.h5w_array_laws.specs.Among.{AreAmong}
+use Rattle.h5w_array_laws.specs.Parts.{Part, data_of, index_block, IsPart, number_of, head_of, children, names_from, slot_count, slots_from, holder, slot_offset, visit_order}
+use Rattle.h5w_array_laws.specs.ArrayStores.{IsArray, IsBlock, Names, block_at_part, header_place, address_in, map_of, slots_in, chunks_in, own_range, ranges_of, behind_of}
+use Rattle.h5w_array_laws.proofs.AmongLemmas.{part_itself, part_as, part_onward, part_none, part_joined, part_more, each-among, chunks_set}
+use Rattle.h5w_ea_index.specs.Steps.{IsSet}
+use Rattle.h5w_ea_index.proofs.ByteLemmas.{Off, length-with_number, field-with_number, field-with_other, take-with_number, numbers_in-with_other, numbers_in-with_number}
+use Rattle.h5w_ea_index.proofs.PartLemmas.{number_decides, held_at, IsHeldAt, holder_low, holder_high, head_fits, slots_fit, slots_apart}
+use Rattle.h5w_ea_index.proofs.StoreLemmas.{none-listed, set-same, set-other, set-cases}
+use Rattle.h5w_ea_index.proofs.ArrayLemmas.{Suits, part_inside}
+use Rattle.h5w_ea_index.proofs.OrderLemmas.{visited_parts, visited_once, ByRecursion-same, only, only-once, none_of}
+use Rattle.h5w_ea_index.proofs.StepLemmas.{IsLater, later_standing, later_stands}
+
+-- ---- Slots are apart
+
+slots_equal : (i j s b r c p q : ℕ) → data_of s b ≡ data_of r c → (super_block_of s).start + b * (super_block_of s).slots + p ≡ i → (super_block_of r).start + c * (super_block_of r).slots + q ≡ j → p ≡ q → i ≡ j
+slots_equal i j s b r c p q e f g h =
+    let es : s ≡ r = cc in
+    let eb : b ≡ c = cc in
+    sym f ∙ (λ t. (super_block_of (es t)).start + eb t * (super_block_of (es t)).slots + h t) ∙ g
+
+pub slot_decides : (i j : ℕ) → i < 131060 → j < 131060 → holder i ≡ holder j → slot_offset i ≡ slot_offset j → i ≡ j
+slot_decides i j hi hj e o =
+    elim (cases_lt i 4) [
+      | inl li ↦
+          elim (cases_lt j 4) [
+            | inl lj ↦ let a = (holder_low i li).1 in let b = (holder_low j lj).1 in omega arith
+            | inr gj ↦ let t : index_block ≡ data_of (slot_place_of (j - 4)).sblock (slot_place_of (j - 4)).block = sym (holder_low i li).0 ∙ e ∙ (holder_high j gj).0 in absurd (cc)
+          ]
+      | inr gi ↦
+          elim (cases_lt j 4) [
+            | inl lj ↦ let t : index_block ≡ data_of (slot_place_of (i - 4)).sblock (slot_place_of (i - 4)).block = sym (holder_low j lj).0 ∙ sym e ∙ (holder_high i gi).0 in absurd (cc)
+            | inr gj ↦
+                let a : IsSlotPlace (i - 4) (slot_place_of (i - 4)) = slot_place-stands (i - 4) (omega arith) in
+                let b : IsSlotPlace (j - 4) (slot_place_of (j - 4)) = slot_place-stands (j - 4) (omega arith) in
+                let x = (holder_high i gi).1 in
+                let y = (holder_high j gj).1 in
+                let f : i - 4 ≡ j - 4 = slots_equal (i - 4) (j - 4) (slot_place_of (i - 4)).sblock (slot_place_of (i - 4)).block (slot_place_of (j - 4)).sblock (slot_place_of (j - 4)).block (slot_place_of (i - 4)).slot (slot_place_of (j - 4)).slot
+                (sym (holder_high i gi).0 ∙ e ∙ (holder_high j gj).0) a.number b.number (omega arith) in
+                omega arith
+          ]
+    ]
+
+-- ---- The block with the address
+
+-- where the slot of chunk number i lies in its block
+record IsInside (at i : ℕ) (b : BlockView) : Type 0 where
+  pub inside : slot_offset i + 8 ≤ length b.bytes
+  pub head : length (head_of at (holder i)) ≤ slot_offset i
+  pub names : Off (names_from (holder i)) (8 * length (children (holder i))) (slot_offset i) 8
+  pub beyond : holder i ≡ index_block → Off 166 (8 * 16) (slot_offset i) 8
+
+inside_block : (at i : ℕ) (b : BlockView) → i < 131060 → IsBlock at (holder i) b → IsInside at i b
+inside_block at i b lt s =
+    let h : IsHeldAt i = held_at i lt in
+    let fit = slots_fit (holder i) h.part in
+    let o = h.offset in
+    let j = h.inside in
+    let len = s.len in
+    let heads = head_fits at (holder i) in
+    record {
+      inside = omega arith;
+      head = let hd = heads.1 in omega arith;
+      names = elim (slots_apart (holder i)) [ inl a ↦ inr (omega arith) | inr a ↦ inl (omega arith) ];
+      beyond = λ e. let c : slot_count (holder i) ≡ 4 = ap slot_count e in let f : slots_from (holder i) ≡ 14 = ap slots_from e in inr (omega arith);
+    }
+
+pub suits_set : (v : Store) (i x : ℕ) (b : BlockView) → i < 131060 → Suits v (holder i) b → Suits v (holder i) (numbered (slot_offset i) x b)
+suits_set v i x b lt s =
+    let h : IsHeldAt i = held_at i lt in
+    let at : ℕ = header_place v in
+    let o : ℕ = slot_offset i in
+    let in' = inside_block at i b lt s.block in
+    record {
+      block = record {
+        len = length-with_number o x b.bytes in'.inside ∙ s.block.len;
+        links = s.block.links;
+        turn = s.block.turn;
+        in_place = s.block.in_place;
+        sealed = s.block.sealed;
+        head = take-with_number o x b.bytes (length (head_of at (holder i))) in'.inside in'.head ∙ s.block.head;
+      };
+      names = numbers_in-with_other o x b.bytes (length (children (holder i))) (names_from (holder i)) in'.inside in'.names ∙ s.names;
+      beyond = λ e. numbers_in-with_other o x b.bytes 16 166 in'.inside (in'.beyond e) ∙ s.beyond e;
+    }
+
+-- the slots with one set
+pub slots_set : (at i x bytes : ℕ) (b : BlockView) → i < 131060 → x < 2 ^ 64 → IsBlock at (holder i) b
+    → AreAmong (chunks_in bytes (slots_in (Some (numbered (slot_offset i) x b)) (holder i))) (chunk_at x bytes ∷ chunks_in bytes (slots_in (Some b) (holder i)))
+slots_set at i x bytes b lt fits s =
+    let h : IsHeldAt i = held_at i lt in
+    let k : Part = holder i in
+    let fit = slots_fit k h.part in
+    let len = s.len in
+    let e : slots_in (Some (numbered (slot_offset i) x b)) k ≡ set (numbers_in b.bytes (slot_count k) (slots_from k)) h.index x =
+    ap (λ o. numbers_in (with_number o x b.bytes) (slot_count k) (slots_from k)) h.offset ∙ numbers_in-with_number x b.bytes (slot_count k) (slots_from k) h.index h.inside (omega arith) fits in
+    subst (λ l. AreAmong (chunks_in bytes l) (chunk_at x bytes ∷ chunks_in bytes (slots_in (Some b) k))) (sym e) (chunks_set bytes (numbers_in b.bytes (slot_count k) (slots_from k)) h.index x)
+
+-- another slot keeps its address
+other_slot : (at i j x : ℕ) (b : BlockView) → i < 131060 → j < 131060 → x < 2 ^ 64 → IsBlock at (holder i) b → holder i ≡ holder j → i ≢ j → field (with_number (slot_offset i) x b.bytes) (slot_offset j) 8 ≡ field b.bytes (slot_offset j) 8
+other_slot at i j x b hi hj fits s e ne =
+    let a : IsHeldAt i = held_at i hi in
+    let c : IsHeldAt j = held_at j hj in
+    let in' = inside_block at i b hi s in
+    let same : slots_from (holder i) ≡ slots_from (holder j) = ap slots_from e in
+    let oi = a.offset in
+    let oj = c.offset in
+    let apart : slot_offset i ≢ slot_offset j = λ o. ne (slot_decides i j hi hj e o) in
+    field-with_other (slot_offset i) x b.bytes (slot_offset j) in'.inside
+    (elim (cases_lt a.index c.index) [
+      | inl lt ↦ inr (omega arith)
+      | inr ge ↦ inl (elim (cases_eq a.index c.index) [
+        | inl f ↦ absurd (apart (oi ∙ ap (λ n. slots_from (holder i) + 8 * n) f ∙ ap (λ n. n + 8 * c.index) same ∙ sym oj))
+        | inr nf ↦ omega arith
+      ])
+    ])
+
+-- ---- The store with it
+
+-- an address that may be set
+pub record MaySet (v : Store) (i x : ℕ) (b : BlockView) : Type 0 where
+  pub below : i < 131060
+  pub fits : x < 2 ^ 64
+  pub array : IsArray v
+  pub changed : is_changed v (number_of (holder i)) ≡ true
+  pub is : block_at_part v (holder i) ≡ Some b
+
+abbrev pub with_set : Store → ℕ → ℕ → BlockView → Store
+with_set v i x b = changed_to (number_of (holder i)) (numbered (slot_offset i) x b) v
+
+pub set_suits : (v : Store) (i x : ℕ) (b : BlockView) → MaySet v i x b → Suits v (holder i) b
+set_suits v i x b m =
+    let p : IsPart (holder i) = (held_at i m.below).part in
+    record {
+      block = subst (λ o. IfSome o (IsBlock (header_place v) (holder i))) m.is (m.array.each (holder i) p);
+      names = subst (λ o. IfSome o (Names v (holder i))) m.is (m.array.names (holder i) p);
+      beyond = λ e. subst (λ o. numbers_in (bytes_of o) 16 166 ≡ replicate 16 undefined) (subst (λ k. block_at_part v k ≡ Some b) e m.is) m.array.none_beyond;
+    }
+
+later_set : (v : Store) (i x : ℕ) (b : BlockView) → MaySet v i x b → IsLater v (with_set v i x b)
+later_set v i x b m =
+    let p : IsPart (holder i) = (held_at i m.below).part in
+    let n : ℕ = number_of (holder i) in
+    let c : BlockView = numbered (slot_offset i) x b in
+    let w : Store = with_set v i x b in
+    let inside : n < length v.blocks = part_inside v (holder i) p m.array in
+    let kept : IsSome (block_of v n) = m.array.kept n m.changed in
+    let s = inside_block (header_place v) i b m.below (set_suits v i x b m).block in
+    record {
+      places = λ k. refl;
+      marks = λ k h. h;
+      kept = λ k h. elim (cases_eq n k) [ inl e ↦ subst (λ y. IsSome (block_of v y)) e kept | inr ne ↦ subst IsSome (set-other v.blocks n k c ne) h.kept ];
+      lengths = λ k h. set-cases (λ o. length (bytes_of o) ≡ length (bytes_in v.blocks k)) v.blocks n k c inside
+          (λ e. length-with_number (slot_offset i) x b.bytes s.inside ∙ sym (ap (λ o. length (bytes_of o)) (subst (λ y. block_of v y ≡ Some b) e m.is))) (λ ne. refl);
+      clean = λ k h t. set-cases (λ o. o ≡ block_of v k) v.blocks n k c inside
+          (λ e. absurd (let l : is_listed k v.changed ≡ true = subst (λ y. is_listed y v.changed ≡ true) e m.changed in let z = none-listed k v.changed t in cc)) (λ ne. refl);
+    }
+
+map_at : (v : Store) (i x : ℕ) (b : BlockView) → MaySet v i x b → (j : ℕ) → map_of (with_set v i x b) j ≡ (if j == i then x else map_of v j)
+map_at v i x b m j =
+    let p : IsPart (holder i) = (held_at i m.below).part in
+    let n : ℕ = number_of (holder i) in
+    let c : BlockView = numbered (slot_offset i) x b in
+    let inside : n < length v.blocks = part_inside v (holder i) p m.array in
+    let s = (set_suits v i x b m).block in
+    let in' = inside_block (header_place v) i b m.below s in
+    elim (cases_lt j 131060) [
+      | inl lt ↦
+          let q : IsPart (holder j) = (held_at j lt).part in
+          let t : nat_lt j 131060 ≡ true = grind (arith, nat_tests) in
+          elim (cases_eq j i) [
+            | inl e ↦
+                let here : address_in (block_of (with_set v i x b) n) (slot_offset i) ≡ x = ap (λ o. address_in o (slot_offset i)) (set-same v.blocks n c inside) ∙ field-with_number (slot_offset i) x b.bytes in'.inside m.fits in
+                ap (λ y. map_of (with_set v i x b) y) e ∙ ap (λ u. cond u (address_in (block_of (with_set v i x b) n) (slot_offset i)) undefined) (let u : nat_lt i 131060 ≡ true = subst (λ y. nat_lt y 131060 ≡ true) e t in u) ∙ here
+                ∙ sym (ap (λ u. cond u x (map_of v j)) (eq-eqb j i e))
+            | inr ne ↦
+                let same : address_in (block_of (with_set v i x b) (number_of (holder j))) (slot_offset j) ≡ address_in (block_of v (number_of (holder j))) (slot_offset j) =
+                set-cases (λ o. address_in o (slot_offset j) ≡ address_in (block_of v (number_of (holder j))) (slot_offset j)) v.blocks n (number_of (holder j)) c inside
+                (λ e. other_slot (header_place v) i j x b m.below lt m.fits s (number_decides (holder i) (holder j) p q e) (λ f. ne (sym f)) ∙ sym (ap (λ o. address_in o (slot_offset j)) (subst (λ y. block_of v y ≡ Some b) e m.is)))
+                (λ f. refl) in
+                ap (λ a. cond (nat_lt j 131060) a undefined) same ∙ sym (ap (λ u. cond u x (map_of v j)) (ne_eqb j i ne))
+          ]
+      | inr ge ↦
+          let f : nat_lt j 131060 ≡ false = grind (arith, nat_tests) in
+          let low = m.below in
+          let ne : j ≢ i = omega arith in
+          ap (λ u. cond u (address_in (block_of (with_set v i x b) (number_of (holder j))) (slot_offset j)) undefined) f
+          ∙ sym (ap (λ u. cond u (address_in (block_of v (number_of (holder j))) (slot_offset j)) undefined) f) ∙ sym (ap (λ u. cond u x (map_of v j)) (ne_eqb j i ne))
+    ]
+
+-- the chunks of each block, with those of one more
+chunks_after : (v : Store) (i x : ℕ) (b : BlockView) → MaySet v i x b → (bytes : ℕ) (k : Part) → IsPart k
+    → AreAmong (chunks_in bytes (slots_in (block_at_part (with_set v i x b) k) k)) (only (number_of (holder i)) (chunk_at x bytes ∷ []) k ++ chunks_in bytes (slots_in (block_at_part v k) k))
+chunks_after v i x b m bytes k q =
+    let p : IsPart (holder i) = (held_at i m.below).part in
+    let n : ℕ = number_of (holder i) in
+    let c : BlockView = numbered (slot_offset i) x b in
+    let inside : n < length v.blocks = part_inside v (holder i) p m.array in
+    let s = (set_suits v i x b m).block in
+    set-cases (λ o. AreAmong (chunks_in bytes (slots_in o k)) (only n (chunk_at x bytes ∷ []) k ++ chunks_in bytes (slots_in (block_at_part v k) k))) v.blocks n (number_of k) c inside
+    (λ e. subst (λ t. AreAmong (chunks_in bytes (slots_in (Some c) k)) (cond t (chunk_at x bytes ∷ []) [] ++ chunks_in bytes (slots_in (block_at_part v k) k))) (sym (eq-eqb (number_of k) n (sym e)))
+    (subst (λ (y : Part). AreAmong (chunks_in bytes (slots_in (Some c) y)) (chunk_at x bytes ∷ chunks_in bytes (slots_in (block_at_part v y) y))) (number_decides (holder i) k p q e)
+    (subst (λ o. AreAmong (chunks_in bytes (slots_in (Some c) (holder i))) (chunk_at x bytes ∷ chunks_in bytes (slots_in o (holder i)))) (sym m.is) (slots_set (header_place v) i x bytes b m.below m.fits s))))
+    (λ ne. subst (λ t. AreAmong (chunks_in bytes (slots_in (block_at_part v k) k)) (cond t (chunk_at x bytes ∷ []) [] ++ chunks_in bytes (slots_in (block_at_part v k) k))) (sym (ne_eqb (number_of k) n (λ e. ne (sym e))))
+    (part_itself (chunks_in bytes (slots_in (block_at_part v k) k))))
+
+ranges_after : (v : Store) (i x : ℕ) (b : BlockView) → MaySet v i x b → (bytes : ℕ) (k : Part) → IsPart k
+    → AreAmong (ranges_of bytes (with_set v i x b) k) (only (number_of (holder i)) (chunk_at x bytes ∷ []) k ++ ranges_of bytes v k)
+ranges_after v i x b m bytes k q =
+    part_more (own_range v k) (chunks_in bytes (slots_in (block_at_part (with_set v i x b) k) k)) [] (only (number_of (holder i)) (chunk_at x bytes ∷ []) k) (own_range v k) (chunks_in bytes (slots_in (block_at_part v k) k))
+    (part_itself (own_range v k)) (chunks_after v i x b m bytes k q)
+
+all_once : (n : ℕ) (us : List Used) → AreAmong (flat_map (only n us) visit_order) us
+all_once n us =
+    elim (only-once n us visit_order (visited_once n)) [
+      | inl e ↦ subst (λ (l : List Used). AreAmong l us) (sym e) (part_none us)
+      | inr e ↦ part_as (flat_map (only n us) visit_order) us e
+    ]
+
+-- where the slot is in no block of the order, its chunks are the index block's
+none_visited : (n : ℕ) (us : List Used) → n ≡ number_of index_block → flat_map (only n us) visit_order ≡ []
+none_visited n us e = subst (λ y. flat_map (only y us) visit_order ≡ []) (sym e) (none_of us)
+
+behind_after : (v : Store) (i x : ℕ) (b : BlockView) → MaySet v i x b → (bytes : ℕ) → AreAmong (behind_of bytes (with_set v i x b)) (chunk_at x bytes ∷ behind_of bytes v)
+behind_after v i x b m bytes =
+    let n : ℕ = number_of (holder i) in
+    let us : List Used = chunk_at x bytes ∷ [] in
+    let own : List Used = chunks_in bytes (slots_in (block_at_part v index_block) index_block) in
+    let rest : List Used = flat_map (ranges_of bytes v) visit_order in
+    let each : AreAmong (flat_map (ranges_of bytes (with_set v i x b)) visit_order) (flat_map (only n us) visit_order ++ rest) =
+    each-among (ranges_of bytes (with_set v i x b)) (only n us) (ranges_of bytes v) visit_order
+    (ByRecursion-same IsPart (λ k. AreAmong (ranges_of bytes (with_set v i x b) k) (only n us k ++ ranges_of bytes v k)) visit_order (λ k p. ranges_after v i x b m bytes k p) visited_parts) in
+    let first : AreAmong (chunks_in bytes (slots_in (block_at_part (with_set v i x b) index_block) index_block)) (only n us index_block ++ own) = chunks_after v i x b m bytes index_block tt in
+    let all : AreAmong (behind_of bytes (with_set v i x b)) ((only n us index_block ++ flat_map (only n us) visit_order) ++ (own ++ rest)) =
+    part_more (chunks_in bytes (slots_in (block_at_part (with_set v i x b) index_block) index_block)) (flat_map (ranges_of bytes (with_set v i x b)) visit_order) (only n us index_block) (flat_map (only n us) visit_order) own rest first each in
+    let once : AreAmong (only n us index_block ++ flat_map (only n us) visit_order) us =
+    elim (cases_eq (number_of index_block) n) [
+      | inl e ↦ part_as (only n us index_block ++ flat_map (only n us) visit_order) us
+          (ap (λ t. cond t us [] ++ flat_map (only n us) visit_order) (eq-eqb (number_of index_block) n e) ∙ ap (λ l. us ++ l) (none_visited n us (sym e)))
+      | inr ne ↦ subst (λ (l : List Used). AreAmong l us) (sym (ap (λ t. cond t us [] ++ flat_map (only n us) visit_order) (ne_eqb (number_of index_block) n ne))) (all_once n us)
+    ] in
+    part_onward (behind_of bytes (with_set v i x b)) ((only n us index_block ++ flat_map (only n us) visit_order) ++ (own ++ rest)) (us ++ (own ++ rest)) all
+    (part_joined (only n us index_block ++ flat_map (only n us) visit_order) (own ++ rest) us (own ++ rest) once (part_itself (own ++ rest)))
+
+pub set_from : (v : Store) (i x : ℕ) (b : BlockView) → MaySet v i x b → IsSet i x v (with_set v i x b)
+set_from v i x b m =
+    let l : IsLater v (with_set v i x b) = later_set v i x b m in
+    record { map = map_at v i x b m; behind = behind_after v i x b m; places = λ n. refl; standing = later_standing v (with_set v i x b) l; stands = later_stands v (with_set v i x b) l; marks = λ n h. h }

@@ -1,0 +1,34 @@
+-- The six numbers of an array's header while they change.
+use Rattle.std.specs.Prelude.{◌≡◌, ℕ, ◌+◌, ◌<◌, ◌^◌, List, slice_index_or, slice_set, is_some}
+use Rattle.std.specs.List.{All}
+use Rattle.h5w_model.specs.Arrays.{numbers_in}
+use Rattle.h5w_cache.specs.Stores.{Store, block_of}
+use Rattle.h5w_array_laws.specs.Parts.{header, number_of}
+use Rattle.h5w_array_laws.specs.ArrayStores.{IsArray, bytes_at_part}
+use Rattle.h5w_ea_index.specs.Steps.{IsHeld, Touches}
+
+-- secondary blocks, their bytes, data blocks, their bytes, max index set, number of elements
+abbrev pub six : Store → List ℕ
+six v = numbers_in (bytes_at_part v header) 6 12
+
+abbrev pub number_at : ℕ → Store → ℕ
+number_at i v = slice_index_or (six v) i 0
+
+-- there is room above each of them
+abbrev pub AreSmall : Store → Type 0
+AreSmall v = All (λ (n : ℕ). n < 2 ^ 62) (six v)
+
+-- one of them is another, and the rest as it was
+pub record IsCounted (numbers : List ℕ) (v w : Store) : Type 0 where
+  pub array : IsArray w
+  pub held : IsHeld v w
+  pub six : numbers_in (bytes_at_part w header) 6 12 ≡ numbers
+  pub kept : (n : ℕ) → is_some (block_of w n) ≡ is_some (block_of v n)
+  pub others : Touches (λ n. n ≡ number_of header) v w
+
+abbrev pub with_at : ℕ → ℕ → List ℕ → List ℕ
+with_at i n numbers = slice_set numbers i n
+
+-- one of them is more by so many
+abbrev pub more_at : ℕ → ℕ → List ℕ → List ℕ
+more_at i n numbers = slice_set numbers i (slice_index_or numbers i 0 + n)

@@ -1,0 +1,9 @@
+pub use Rattle.h5w_array_laws.specs.Parts
+pub use Rattle.h5w_array_laws.specs.ArrayStores
+pub use Rattle.h5w_array_laws.specs.ArrayImages
+pub use Rattle.h5w_array_laws.specs.ArrayPlans
+pub use Rattle.h5w_array_laws.specs.Among
+pub mod Steps
+pub mod Fresh
+pub mod Counts
+pub mod Created

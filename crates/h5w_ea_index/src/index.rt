@@ -1,0 +1,135 @@
+ghost use Rattle.std.specs.Prelude.{◌≡◌, ◌≢◌, ℕ, ◌+◌, ◌<◌, ◌^◌, IsTrue, IfErr, IfOk, OnErr, OnOk};
+ghost use Rattle.h5w_model.specs.Numbers.{undefined};
+ghost use Rattle.h5w_cache.specs.Plans.{HasNoRoom, IfFull};
+ghost use Rattle.h5w_cache.specs.Stores.{is_changed};
+ghost use Rattle.h5w_array_laws.specs.Parts.{header, holder, index_block, number_of};
+ghost use Rattle.h5w_array_laws.specs.ArrayStores.{IsArray, IsCreated, IsNumbered, bytes_at_part, map_of};
+ghost use Rattle.h5w_array_laws.specs.ArrayImages.{StartsArray};
+ghost use Rattle.h5w_array_laws.specs.ArrayPlans.{IsArrayPlan};
+ghost use Rattle.h5w_ea_index.specs.Steps.{IsHeld, IsSet, IsSlotOrHeader, OnWay, Touches, found};
+
+use crate::address;
+use crate::create::create;
+use crate::plan::plan;
+use crate::slot::{HEADER, INDEX_BLOCK, bytes};
+use h5w_bytes::UNDEFINED;
+use h5w_cache::{Cache, Plan, PlanError};
+use h5w_model::OutOfMemory;
+use h5w_space::Places;
+use std::alloc::Global;
+use std::marker::Model;
+
+/// The extensible array of a session: the address of each chunk by its number, up to 131,060 chunks, in the blocks that the session
+/// holds ("The Extensible Array Index").
+#[derive(Drop)]
+pub struct ArrayIndex {
+    alloc: Global,
+    cache: Cache,
+}
+
+impl Model for ArrayIndex {
+    ghost use Rattle.h5w_cache.specs.Stores.{Store};
+    ghost use Rattle.h5w_array_laws.specs.ArrayStores.{IsArray, IsNumbered};
+
+    ghost Value = { Store };
+
+    ghost view = { λ a. a.cache };
+
+    ghost invariant = { λ a. IsArray a.cache × IsNumbered a.cache };
+}
+
+impl ArrayIndex {
+    /// An array without chunks, whose header stands at place `header` and whose index block at place `block`. Both are clean: who makes
+    /// the file writes [`ArrayIndex::header`] and [`ArrayIndex::index_block`] to these places.
+    pub fn new(alloc: Global, header: u64, block: u64) -> Result<ArrayIndex, OutOfMemory>
+        requires header_ends { header + 72 < 2 ^ 64 }
+        requires block_ends { block + 298 < 2 ^ 64 }
+        ensures created { IfOk result (λ a. IsCreated header block a) }
+        // it is a store of an array without chunks
+        ensures starts { IfOk result (λ a. StartsArray a) }
+    {
+        let cache = create(alloc, header, block)?;
+        Ok(ArrayIndex { alloc, cache })
+    }
+
+    /// The bytes of its header.
+    pub fn header(&self) -> &[u8]
+        ensures { result.now ≡ bytes_at_part self.now header }
+    {
+        bytes(&self.cache, HEADER)
+    }
+
+    /// The bytes of its index block.
+    pub fn index_block(&self) -> &[u8]
+        ensures { result.now ≡ bytes_at_part self.now index_block }
+    {
+        bytes(&self.cache, INDEX_BLOCK)
+    }
+
+    /// The address of chunk number `i`. None exactly where it has none.
+    pub fn get(&self, i: u64) -> Option<u64>
+        requires { i < 131060 }
+        ensures exact { result ≡ found (map_of self.now i) }
+        ensures array { IsArray self.now }
+        ensures numbered { IsNumbered self.now }
+    {
+        let address = address::address(&self.cache, i);
+        if address == UNDEFINED {
+            return None;
+        }
+        Some(address)
+    }
+
+    /// The blocks on the way to the slot of chunk number `i` are there, and changed from now on. Map and ranges stay, also where
+    /// memory ran out.
+    pub fn hold(&mut self, i: u64) -> Result<(), OutOfMemory>
+        requires { i < 131060 }
+        ensures held { IsHeld self.old self.new }
+        // Only the blocks on this way are others, or changed from now on.
+        ensures way { Touches (OnWay (holder i)) self.old self.new }
+        ensures changed { OnOk result (IsTrue (is_changed self.new (number_of (holder i)))) }
+        ensures array { IsArray self.new }
+        ensures numbered { IsNumbered self.new }
+    {
+        address::hold(self.alloc, &mut self.cache, i)
+    }
+
+    /// Chunk number `i`, which is held, has this address from now on, and each other one that which it had.
+    pub fn set(&mut self, i: u64, address: u64)
+        requires below { i < 131060 }
+        requires held { IsTrue (is_changed self.old (number_of (holder i))) }
+        requires defined { address ≢ undefined }
+        ensures set { IsSet i address self.old self.new }
+        ensures way { Touches (IsSlotOrHeader i) self.old self.new }
+        ensures array { IsArray self.new }
+        ensures numbered { IsNumbered self.new }
+    {
+        address::set(&mut self.cache, i, address);
+    }
+
+    /// The writes of all changed blocks, those in place last: data blocks and secondary blocks at new places, the index block and the
+    /// header where they stand. All are clean from then on.
+    ///
+    /// A refused plan changes nothing.
+    pub fn plan(&mut self, places: &mut Places) -> Result<Plan, PlanError>
+        ensures planned { IfOk result (λ p. IsArrayPlan self.old places.old p.moves.items p.copies.items p.in_place.items self.new places.new) }
+        ensures array { IsArray self.new }
+        ensures numbered { IsNumbered self.new }
+        // the first block in turn that has no room
+        ensures full { IfErr result (λ e. IfFull e (HasNoRoom self.old.blocks self.old.places self.old.changed places.old)) }
+        ensures kept { OnErr result (self.new ≡ self.old) }
+        ensures places { OnErr result (places.new ≡ places.old) }
+    {
+        plan(&mut self.cache, places)
+    }
+
+    /// A copy.
+    pub fn copy(&self) -> Result<ArrayIndex, OutOfMemory>
+        ensures { IfOk result (λ a. a ≡ self.now) }
+    {
+        Ok(ArrayIndex {
+            alloc: self.alloc,
+            cache: self.cache.copy()?,
+        })
+    }
+}
