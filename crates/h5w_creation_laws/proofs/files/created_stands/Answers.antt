@@ -1,0 +1,5 @@
+use Rattle.h5w_creation_laws.proofs.files.created_stands.Goals as goal
+use Rattle.h5w_creation_laws.proofs.CreatedLaws as lemmas
+
+pub returns : goal.returns
+returns c = lemmas.created_new

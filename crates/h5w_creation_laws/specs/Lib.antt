@@ -1,0 +1,3 @@
+pub mod CreatedFiles
+pub mod CreationLaws
+pub mod CreatedExamples
