@@ -1,0 +1,10 @@
+pub mod CellLemmas
+pub mod StateLemmas
+pub mod CreationLemmas
+pub mod HeaderReads
+pub mod Looks
+pub mod RootReads
+pub mod ArrayStarts
+pub mod CreatedLemmas
+pub mod StandLemmas
+pub mod CreatingLemmas

@@ -1,0 +1,313 @@
+-- What each call makes of a session that stands over a log.
+use Rattle.std.proofs.Common.{◌≡◌, ◌⊎◌, ℕ, ◌+◌, ◌*◌, ◌/◌, ◌%◌, ◌≤◌, Bool, true, false, nat_lt, List, [], ◌∷◌, ◌++◌, length, ℤ, Option, None, Ok, refl, sym, ap, ◌∙◌, subst, inl, inr, arith, length-append, append_assoc}
+use Rattle.std.proofs.lemmas.Nat.{div-mul-add}
+use Rattle.std.proofs.lemmas.Bool.{eq-eqb, lt-ltb}
+use Rattle.std.specs.Prelude.{if◌then◌else◌}
+use Rattle.std.specs.Option.{unwrap_or}
+use Rattle.h5w_model.specs.Images.{apply, image}
+use Rattle.h5w_model.specs.Integers.{cell_bytes_of}
+use Rattle.h5w_model.specs.Lawful.{first_outside}
+use Rattle.h5w_model.specs.Messages.{IntTypeFields}
+use Rattle.h5w_model.specs.Logs.{Log, appends, shows, appended_in, flushed, flushed_rows, and_now}
+use Rattle.h5w_model.specs.Superblock.{super_at, super_bytes}
+use Rattle.h5w_model.specs.Datasets.{Described, is_swmr}
+use Rattle.h5w_model.specs.Findings.{Used}
+use Rattle.h5w_model.specs.declared.cell.Key.{Key}
+use Rattle.h5w_model.specs.declared.piece.Write.{Write}
+use Rattle.h5w_model.specs.declared.root.Super.{Super}
+use Rattle.h5w_model.proofs.SuperLemmas.{length-super_bytes}
+use Rattle.h5w_chunks.specs.Grids.{cells_of}
+use Rattle.h5w_header_laws.specs.Files.{chunk_0}
+use Rattle.h5w_space.specs.Space.{Space}
+use Rattle.h5w_visits.specs.Ranges.{Among}
+use Rattle.h5w_visits.proofs.RangeLemmas.{among_left, among_right}
+use Rattle.h5w_steps.specs.Moments.{Moment}
+use Rattle.h5w_steps.specs.Steps.{Ends, ends}
+use Rattle.h5w_steps.specs.Logs.{Goes, image_now}
+use Rattle.h5w_steps.specs.Sessions.{Runs}
+use Rattle.h5w_steps.proofs.GoesLemmas.{image_pushed}
+use Rattle.h5w_steps.proofs.SessionLaws.{piece_runs}
+use Rattle.h5w_steps.proofs.StepRepresents.{ends_missed}
+use Rattle.h5w_flush_laws.specs.Flushes.{Rests}
+use Rattle.h5w_flush_laws.specs.Spaces.{extent_of}
+use Rattle.h5w_flush_laws.specs.Knowledge.{Knows}
+use Rattle.h5w_flush_laws.proofs.EarlyLemmas.{header_kept}
+use Rattle.h5w_flush_laws.proofs.KnownLaws.{end_known}
+use Rattle.h5w_flush_laws.proofs.SpaceLemmas.{committed_live}
+use Rattle.h5w_flush_laws.proofs.SessionLaws.{session_laws}
+use Rattle.h5w_session.specs.Sessions.{Session, AreRows, Freed, cleared, closed_of, closed_root, stopped_of, with_values}
+use Rattle.h5w_session.specs.Stands.{Running, Stands}
+use Rattle.h5w_session.proofs.CellLemmas.{by_cell, first_has_cell, first_outside-cons}
+use Rattle.h5w_session.proofs.StateLemmas.{Accepted, rows_are}
+
+-- ---- What is left
+
+not_both : (b : Bool) → b ≡ false → b ≡ true → ⊥
+not_both b first second = let clash : false ≡ true = sym first ∙ second in cc
+
+some_is : (w : Write) (ws : List Write) → w ∷ ws ≡ [] → ⊥
+some_is w ws e = cc
+
+-- of a session that was not stopped nothing was dropped
+pub left_running : (s : Session) (left : List Write) → s.stopped ≡ false → (left ≡ s.pending) ⊎ ((s.stopped ≡ true) × (s.pending ≡ [])) → left ≡ s.pending
+left_running s left running (inl same) = same
+left_running s left running (inr gone) = absurd (not_both s.stopped running gone.0)
+
+-- nor where some are pending
+pub left_pending : (s : Session) (left : List Write) (w : Write) (ws : List Write) → s.pending ≡ w ∷ ws → (left ≡ s.pending) ⊎ ((s.stopped ≡ true) × (s.pending ≡ [])) → left ≡ w ∷ ws
+left_pending s left w ws pending (inl same) = same ∙ pending
+left_pending s left w ws pending (inr gone) = absurd (some_is w ws (sym pending ∙ gone.1))
+
+-- ---- Values
+
+pub cells_of-append : (d : Described) (vs ws : List ℤ) → cells_of d (vs ++ ws) ≡ cells_of d vs ++ cells_of d ws
+unfolding cells_of
+cells_of-append d [] ws = refl
+cells_of-append d (v ∷ vs) ws =
+    let cell : List ℕ = unwrap_or (cell_bytes_of v d.int_type) [] in
+    ap (λ (b : List ℕ). cell ++ b) (cells_of-append d vs ws) ∙ sym (append_assoc cell (cells_of d vs) (cells_of d ws))
+
+-- the index of the first does not matter where there is none
+none_anywhere : (t : IntTypeFields) (i j : ℕ) (vs : List ℤ) → first_outside t i vs ≡ None → first_outside t j vs ≡ None
+none_anywhere t i j [] none = refl
+none_anywhere t i j (v ∷ vs) none =
+    let first = first_has_cell t i v vs none in
+    first_outside-cons t j v vs ∙ ap (λ (o : Option (List ℕ)). by_cell t j v vs o) first.is ∙ none_anywhere t (i + 1) (j + 1) vs first.rest
+
+pub none_outside : (t : IntTypeFields) (i : ℕ) (vs ws : List ℤ) → first_outside t i vs ≡ None → first_outside t 0 ws ≡ None → first_outside t i (vs ++ ws) ≡ None
+none_outside t i [] ws first second = none_anywhere t 0 i ws second
+none_outside t i (v ∷ vs) ws first second =
+    let cell = first_has_cell t i v vs first in
+    first_outside-cons t i v (vs ++ ws) ∙ ap (λ (o : Option (List ℕ)). by_cell t i v (vs ++ ws) o) cell.is ∙ none_outside t (i + 1) vs ws cell.rest second
+
+-- ---- Rows are appended
+
+values_running : (s : Session) (values : List ℤ) (log : Log) → 1 ≤ s.dataset.shape.cols → AreRows s values → first_outside s.dataset.int_type 0 values ≡ None → Running s [] log → Running (with_values s values) [] (and_now (appends values) log)
+values_running s values log some rows fit r =
+    let rests : Rests s.name log r.after r.address s.places = record { runs = r.runs; knows = r.knows } in
+    let next = session_laws.appends_values s.name log r.after r.address s.places values rests in
+    let count = rows_are s values some rows in
+    let split : (s.waits + length values / s.dataset.shape.cols) * s.dataset.shape.cols ≡ s.waits * s.dataset.shape.cols + length values / s.dataset.shape.cols * s.dataset.shape.cols = omega arith in
+    record {
+      after = r.after;
+      address = r.address;
+      runs = next.runs;
+      knows = next.knows;
+      keeps = record { root = r.keeps.root; place = r.keeps.place; dataset = r.keeps.dataset; header = r.keeps.header };
+      more = r.more ++ values;
+      waiting = ap (λ (b : List ℕ). b ++ cells_of s.dataset values) r.waiting ∙ sym (cells_of-append s.dataset r.more values);
+      fit = none_outside s.dataset.int_type 0 r.more values r.fit fit;
+      count = length-append r.more values ∙ omega (arith, r.count, count, split);
+      appended = sym (append_assoc r.after.values r.more values) ∙ ap (λ (vs : List ℤ). vs ++ values) r.appended ∙ append_assoc log.values (appended_in log.events) values;
+      committed = r.committed;
+      columns = r.columns;
+    }
+
+pub values_stand : (s : Session) (values : List ℤ) (log : Log) → 1 ≤ s.dataset.shape.cols → AreRows s values → s.pending ≡ [] → Accepted s values → Stands s log → Stands (with_values s values) (and_now (appends values) log)
+values_stand s values log some rows idle by st =
+    let none : st.left ≡ [] = left_running s st.left by.running st.dropped ∙ idle in
+    elim st.phase [
+      | inl c ↦ absurd (c.1.some none)
+      | inr r ↦
+          let next = values_running s values log some rows by.fit (subst (λ (ws : List Write). Running s ws log) none r) in
+          let goes = next.runs.goes in
+          record { left = []; dropped = inl (sym idle); phase = inr next; prefixed = goes.prefixed; still = goes.still }
+    ]
+
+-- ---- A stop
+
+pub stop_stands : (s : Session) (log : Log) → Stands s log → Stands (stopped_of s) log
+stop_stands s log st =
+    record {
+      left = st.left;
+      dropped = inr (refl, refl);
+      phase = elim st.phase [
+        | inl c ↦ inl (
+          c.0,
+          record {
+            is = c.1.is;
+            some = c.1.some;
+            pieces = c.1.pieces;
+            session = ap stopped_of c.1.session;
+            log_is = c.1.log_is;
+            appended = c.1.appended;
+            flushed = c.1.flushed;
+          },
+        )
+        | inr r ↦ inr (record {
+          after = r.after;
+          address = r.address;
+          runs = r.runs;
+          knows = r.knows;
+          keeps = record { root = r.keeps.root; place = r.keeps.place; dataset = r.keeps.dataset; header = r.keeps.header };
+          more = r.more;
+          waiting = r.waiting;
+          fit = r.fit;
+          count = r.count;
+          appended = r.appended;
+          committed = r.committed;
+          columns = r.columns;
+        })
+      ];
+      prefixed = st.prefixed;
+      still = st.still;
+    }
+
+-- ---- A piece that became visible
+
+image_shown : (log : Log) (w : Write) (ws : List Write) → image (image_now log) (w ∷ ws) ≡ image (image_now (and_now (shows w) log)) ws
+image_shown log w ws = ap (λ (x : List ℕ). image x ws) (sym (image_pushed log w))
+
+-- a run without pending pieces is at its moment
+pub resting : (name : List ℕ) (log : Log) (n : Moment) (after : List Used) → Runs name log [] n after → Goes name log n after
+resting name log n after r = subst (λ (h : List Used). Goes name log n h) (sym r.flush.1) (subst (λ (m : Moment). Goes name log m r.held) (sym r.flush.0) r.goes)
+
+-- its rows are those that are flushed
+pub goes_rows : (name : List ℕ) (log : Log) (m : Moment) (held : List Used) → Goes name log m held → flushed_rows log ≡ m.dataset.shape.rows
+goes_rows name log m held g =
+    let rows = m.dataset.shape.rows in
+    let len : length (flushed log) ≡ rows * log.columns = ap length (sym g.values) ∙ g.now.count ∙ ap (λ (n : ℕ). rows * n) g.columns in
+    ap (λ (n : ℕ). n / log.columns) (len ∙ omega arith) ∙ div-mul-add rows log.columns 0 g.some_columns
+
+-- what is known stays known where what was retired becomes free
+pub freed_known : (keeps : Bool) (img name : List ℕ) (m : Moment) (address : Key → ℕ) (s t : Space) → Freed keeps s t → Knows img name m address s → Knows img name m address t
+freed_known true img name m address s t freed k = subst (λ (x : Space). Knows img name m address x) (sym freed) k
+freed_known false img name m address s t freed k = record {
+  file = k.file;
+  index = k.index;
+  live = λ u among. committed_live s t freed (extent_of u) (k.live u among);
+  ended = omega (arith, k.ended, freed.end);
+  covered = omega (arith, k.covered, freed.end);
+  layout = k.layout;
+}
+
+-- the session once its last piece became visible
+abbrev pub settled : Session → Space → Session
+settled s t = record s { places = t; committed = s.dataset.shape.rows; pending = [] }
+
+abbrev pub with_pending : Session → List Write → Session
+with_pending s ws = record s { pending = ws }
+
+pub last_running : (s : Session) (w : Write) (log : Log) (t : Space) → Freed s.keeps s.places t → Running s (w ∷ []) log → Running (settled s t) [] (and_now (shows w) log)
+last_running s w log t freed r =
+    let next = and_now (shows w) log in
+    let runs = piece_runs s.name log w [] r.after r.after.behind r.runs in
+    let img : image (image_now log) (w ∷ []) ≡ image_now next = image_shown log w [] in
+    record {
+      after = r.after;
+      address = r.address;
+      runs = runs;
+      knows = freed_known s.keeps (image_now next) s.name r.after r.address s.places t freed (subst (λ (x : List ℕ). Knows x s.name r.after r.address s.places) img r.knows);
+      keeps = record { root = r.keeps.root; place = r.keeps.place; dataset = r.keeps.dataset; header = subst (λ (x : List ℕ). chunk_0 x s.place ≡ s.header) img r.keeps.header };
+      more = r.more;
+      waiting = r.waiting;
+      fit = r.fit;
+      count = r.count;
+      appended = r.appended;
+      committed = goes_rows s.name next r.after r.after.behind (resting s.name next r.after r.after.behind runs) ∙ ap (λ (d : Described). d.shape.rows) r.keeps.dataset;
+      columns = r.columns;
+    }
+
+picks : (b : Bool) (x y : List ℤ) → b ≡ true → (if b then x else y) ≡ x
+picks b x y e = rw e refl
+
+pub more_running : (s : Session) (w x : Write) (xs : List Write) (log : Log) → Running s (w ∷ x ∷ xs) log → Running (with_pending s (x ∷ xs)) (x ∷ xs) (and_now (shows w) log)
+more_running s w x xs log r =
+    let next = and_now (shows w) log in
+    let img : image (image_now log) (w ∷ x ∷ xs) ≡ image (image_now next) (x ∷ xs) = image_shown log w (x ∷ xs) in
+    let count = length (w ∷ x ∷ xs) in
+    let now : flushed log ≡ r.runs.before.values = r.runs.flushed 0 ∙ picks (nat_lt 0 count) r.runs.before.values r.after.values (lt-ltb 0 count (omega arith)) in
+    let later : flushed next ≡ r.runs.before.values = r.runs.flushed 1 ∙ picks (nat_lt 1 count) r.runs.before.values r.after.values (lt-ltb 1 count (omega arith)) in
+    record {
+      after = r.after;
+      address = r.address;
+      runs = piece_runs s.name log w (x ∷ xs) r.after r.after.behind r.runs;
+      knows = subst (λ (y : List ℕ). Knows y s.name r.after r.address s.places) img r.knows;
+      keeps = record { root = r.keeps.root; place = r.keeps.place; dataset = r.keeps.dataset; header = subst (λ (y : List ℕ). chunk_0 y s.place ≡ s.header) img r.keeps.header };
+      more = r.more;
+      waiting = r.waiting;
+      fit = r.fit;
+      count = r.count;
+      appended = r.appended;
+      committed = ap (λ (vs : List ℤ). length vs / log.columns) (later ∙ sym now) ∙ r.committed;
+      columns = r.columns;
+    }
+
+-- ---- A close
+
+cleared_swmr : (flags : ℕ) → is_swmr (cleared flags) ≡ true
+cleared_swmr flags =
+    let low : cleared flags % 2 ≡ 0 = omega arith in
+    let high : cleared flags / 4 % 2 ≡ 0 = omega arith in
+    eq-eqb (cleared flags % 2) (cleared flags / 4 % 2) (low ∙ sym high)
+
+either : (b : Bool) (x y : List ℤ) → x ≡ y → (if b then x else y) ≡ y
+either true x y e = e
+either false x y e = refl
+
+same_either : (b : Bool) (x : List ℤ) → x ≡ (if b then x else x)
+same_either true x = refl
+same_either false x = refl
+
+close_running : (s : Session) (log : Log) → super_at (super_bytes (closed_root s)) ≡ Ok (closed_root s) → Running s [] log → Running (closed_of s) (closed_of s).pending log
+close_running s log reads r =
+    let m = r.after in
+    let root = closed_root s in
+    let w : Write = record { at = 0; piece = super_bytes root } in
+    let n : Moment = record m { super = root } in
+    let img = image_now log in
+    let same : m.super ≡ s.root = r.keeps.root in
+    let end : m.super.end ≡ root.end = ap (λ (x : Super). x.end) same in
+    let raised : Ends img m w n = record {
+      is = refl;
+      place = refl;
+      len = length-super_bytes root;
+      reads = reads;
+      root = ap (λ (x : Super). x.root) (sym same);
+      swmr = cleared_swmr s.root.flags;
+      rises = omega (arith, end);
+      there = omega (arith, end, r.knows.ended, r.knows.covered);
+    } in
+    let off = ends_missed img m n w r.knows.file.apart raised in
+    let header_off = λ (u : Used) (a : Among u m.header) (b : u.chunk ≡ false). off u (among_right u m.root (m.header ++ (m.fixed ++ m.behind)) (among_left u m.header (m.fixed ++ m.behind) a)) in
+    let kept = header_kept img s.name m w r.knows.file header_off in
+    let place : m.place ≡ s.place = r.keeps.place in
+    record {
+      after = n;
+      address = r.address;
+      runs = record {
+        before = m;
+        held = m.behind;
+        goes = resting s.name log m m.behind r.runs;
+        flush = (n, m.behind, ends raised refl, (λ more. refl), (refl, refl));
+        flushed = λ k. r.runs.flushed k ∙ either (nat_lt k 0) r.runs.before.values m.values (ap (λ (x : Moment). x.values) (sym r.runs.flush.0)) ∙ same_either (nat_lt k 1) m.values;
+      };
+      knows = end_known img s.name m n r.address s.places w r.knows raised (omega (arith, end, r.knows.ended));
+      keeps = record {
+        root = refl;
+        place = place;
+        dataset = r.keeps.dataset;
+        header = ap (λ (p : ℕ). chunk_0 (apply w img) p) (sym place) ∙ kept.chunk ∙ ap (λ (p : ℕ). chunk_0 img p) place ∙ r.keeps.header;
+      };
+      more = r.more;
+      waiting = r.waiting;
+      fit = r.fit;
+      count = r.count;
+      appended = r.appended;
+      committed = r.committed;
+      columns = r.columns;
+    }
+
+pub close_stands : (s : Session) (log : Log) → super_at (super_bytes (closed_root s)) ≡ Ok (closed_root s) → s.stopped ≡ false → s.pending ≡ [] → Stands s log → Stands (closed_of s) log
+close_stands s log reads running idle st =
+    let none : st.left ≡ [] = left_running s st.left running st.dropped ∙ idle in
+    elim st.phase [
+      | inl c ↦ absurd (c.1.some none)
+      | inr r ↦ record {
+        left = (closed_of s).pending;
+        dropped = inl refl;
+        phase = inr (close_running s log reads (subst (λ (ws : List Write). Running s ws log) none r));
+        prefixed = st.prefixed;
+        still = st.still;
+      }
+    ]

@@ -1,0 +1,106 @@
+-- A session: what its values are, and what each call makes of it.
+use Rattle.std.specs.Prelude.{◌≡◌, ℕ, ◌+◌, ◌-◌, ◌*◌, ◌/◌, ◌%◌, ◌≤◌, Bool, true, false, List, [], ◌∷◌, ◌++◌, length, ℤ}
+use Rattle.h5w_model.specs.Images.{AllSized}
+use Rattle.h5w_model.specs.Superblock.{super_bytes}
+use Rattle.h5w_model.specs.Datasets.{Described}
+use Rattle.h5w_model.specs.Tables.{format_limits, limit_of, needed}
+use Rattle.h5w_model.specs.declared.root.Super.{Super}
+use Rattle.h5w_model.specs.declared.piece.Write.{Write}
+use Rattle.h5w_space.specs.Space.{Space, Commits}
+use Rattle.h5w_chunks.specs.Grids.{cells_of}
+
+-- The dataset's name; the superblock; the dataset header's place and its chunk 0; the dataset; the places of the file: all as they
+-- are once all pending pieces became visible. The rows that the file has until the last of them does; the cells of the rows that no
+-- flush has planned, and how many rows these are; the pending pieces, the oldest first; whether the session was stopped, and whether
+-- what is retired stays so.
+pub record Session : Type 0 where
+  pub name : List ℕ
+  pub root : Super
+  pub place : ℕ
+  pub header : List ℕ
+  pub dataset : Described
+  pub places : Space
+  pub committed : ℕ
+  pub waiting : List ℕ
+  pub waits : ℕ
+  pub pending : List Write
+  pub stopped : Bool
+  pub keeps : Bool
+
+-- the rows appended in all
+abbrev pub rows_of : Session → ℕ
+rows_of s = s.dataset.shape.rows + s.waits
+
+-- the dataset with so many rows
+abbrev pub with_rows : ℕ → Described → Described
+with_rows rows d = record d { shape = record (d.shape) { rows = rows } }
+
+-- the chunks that the rows need with so many more
+abbrev pub chunks_with : Session → ℕ → ℕ
+chunks_with s more = needed (with_rows (rows_of s + more) s.dataset)
+
+-- the most chunks of the dataset's index
+abbrev pub chunk_limit : Session → ℕ
+chunk_limit s = limit_of format_limits s.dataset.layout.index
+
+-- these values are rows of the dataset
+abbrev pub AreRows : Session → List ℤ → Type 0
+AreRows s values = (n : ℕ) × (length values ≡ n * s.dataset.shape.cols)
+
+-- how many bytes the cells of a row have
+abbrev pub row_bytes : Described → ℕ
+row_bytes d = d.shape.cols * d.int_type.size
+
+-- what holds of every session
+pub record IsSession (s : Session) : Type 0 where
+  pub some_columns : 1 ≤ s.dataset.shape.cols
+  pub cells : length s.waiting ≡ s.waits * row_bytes s.dataset
+  pub few : needed (with_rows (rows_of s) s.dataset) ≤ chunk_limit s
+  pub version : s.root.version ≡ 3
+  pub begun : 48 ≤ s.places.end
+
+-- each write ends by a place
+abbrev pub AllEndBy : ℕ → List Write → Type 0
+AllEndBy end [] = Unit {0}
+AllEndBy end (w ∷ ws) = (w.at + length w.piece ≤ end) × AllEndBy end ws
+
+-- pieces that end by a place
+pub record ArePieces (end : ℕ) (ws : List Write) : Type 0 where
+  pub sized : AllSized ws
+  pub within : AllEndBy end ws
+
+-- ---- What calls make of a session
+
+-- with some more values that wait
+abbrev pub with_values : Session → List ℤ → Session
+with_values s values = record s { waiting = s.waiting ++ cells_of s.dataset values; waits = s.waits + length values / s.dataset.shape.cols }
+
+-- what was retired is free, but where it stays retired
+abbrev pub Freed : Bool → Space → Space → Type 0
+Freed true s t = t ≡ s
+Freed false s t = Commits s t
+
+-- the session once its oldest piece became visible, with these left: the last brings the rows, and frees what was retired
+abbrev pub AfterPiece : Session → List Write → Session → Type 0
+AfterPiece s [] t = Freed s.keeps s.places t.places × (t ≡ record s { places = t.places; committed = s.dataset.shape.rows; pending = [] })
+AfterPiece s (w ∷ ws) t = t ≡ record s { pending = w ∷ ws }
+
+-- the session once it was stopped: what was pending is dropped
+abbrev pub stopped_of : Session → Session
+stopped_of s = record s { pending = []; stopped = true }
+
+-- flags without bit 0, open for writing, and bit 2, open for SWMR writing
+abbrev pub cleared : ℕ → ℕ
+cleared flags = flags - flags % 2 - flags / 4 % 2 * 4
+
+-- the superblock of a closed session
+abbrev pub closed_root : Session → Super
+closed_root s = record (s.root) { flags = cleared s.root.flags }
+
+-- the session once it was closed: the superblock is pending, and rows that wait will never be written
+abbrev pub closed_of : Session → Session
+closed_of s = record s {
+  root = closed_root s;
+  pending = record { at = 0; piece = super_bytes (closed_root s) } ∷ [];
+  stopped = true;
+}

@@ -1,0 +1,61 @@
+-- Of which logs a session can be the session.
+use Rattle.std.specs.Prelude.{◌≡◌, ◌≢◌, ◌⊎◌, ℕ, ◌*◌, true, List, [], ◌++◌, length, ℤ, None}
+use Rattle.h5w_model.specs.Images.{image}
+use Rattle.h5w_model.specs.Lawful.{first_outside}
+use Rattle.h5w_model.specs.Logs.{Log, Happening, hist, appended, appended_in, flushed_in, flushed_rows}
+use Rattle.h5w_model.specs.Prefixed.{PrefixedEach, Still}
+use Rattle.h5w_model.specs.declared.cell.Key.{Key}
+use Rattle.h5w_model.specs.declared.piece.Write.{Write}
+use Rattle.h5w_chunks.specs.Grids.{cells_of}
+use Rattle.h5w_header_laws.specs.Files.{chunk_0}
+use Rattle.h5w_steps.specs.Moments.{Moment}
+use Rattle.h5w_steps.specs.Logs.{image_now}
+use Rattle.h5w_steps.specs.Sessions.{Runs}
+use Rattle.h5w_flush_laws.specs.Knowledge.{Knows}
+use Rattle.h5w_session.specs.Sessions.{Session}
+use Rattle.h5w_session.specs.Creations.{IsNewFile, NewFile, created, creation_writes}
+
+-- the log of a session that creates its file, after these events
+abbrev pub log_of : List Happening → Log
+log_of happened = record { start = []; columns = 1; values = []; first = 5; events = happened }
+
+-- what the session keeps of the file is what the file is once all pieces that are left became visible
+pub record Keeps (s : Session) (img : List ℕ) (m : Moment) : Type 0 where
+  pub root : m.super ≡ s.root
+  pub place : m.place ≡ s.place
+  pub dataset : m.dataset ≡ s.dataset
+  pub header : chunk_0 img s.place ≡ s.header
+
+-- a new file's pieces are left, and nothing else happened but that some of them became visible
+pub record Creating (f : NewFile) (s : Session) (left : List Write) (log : Log) : Type 0 where
+  pub is : IsNewFile f
+  pub some : left ≢ []
+  pub pieces : hist log.events ++ left ≡ creation_writes f
+  pub session : s ≡ record (created f) { pending = s.pending; stopped = s.stopped; keeps = s.keeps }
+  pub log_is : log ≡ log_of log.events
+  pub appended : appended_in log.events ≡ []
+  pub flushed : (k : ℕ) → flushed_in k [] log.events ≡ []
+
+-- the image is a file that the pieces left lead to the next, which the session knows; the rows that wait are those behind its own
+pub record Running (s : Session) (left : List Write) (log : Log) : Type 0 where
+  pub after : Moment
+  pub address : Key → ℕ
+  pub runs : Runs s.name log left after after.behind
+  pub knows : Knows (image (image_now log) left) s.name after address s.places
+  pub keeps : Keeps s (image (image_now log) left) after
+  pub more : List ℤ
+  pub waiting : s.waiting ≡ cells_of s.dataset more
+  pub fit : first_outside s.dataset.int_type 0 more ≡ None
+  pub count : length more ≡ s.waits * s.dataset.shape.cols
+  pub appended : after.values ++ more ≡ appended log
+  pub committed : flushed_rows log ≡ s.committed
+  pub columns : s.dataset.shape.cols ≡ log.columns
+
+-- The session is that of this log, at every position of which the image is valid, reads as the flushed rows, and keeps what readers
+-- rest on. Where the session was stopped, the pieces that were left of its last plan were dropped.
+pub record Stands (s : Session) (log : Log) : Type 0 where
+  pub left : List Write
+  pub dropped : (left ≡ s.pending) ⊎ ((s.stopped ≡ true) × (s.pending ≡ []))
+  pub phase : ((f : NewFile) × Creating f s left log) ⊎ Running s left log
+  pub prefixed : PrefixedEach s.name log
+  pub still : Still s.name log

@@ -1,0 +1,62 @@
+use h5w_image::ImageError;
+use h5w_model::OutOfMemory;
+use thiserror::Error;
+
+/// Why rows were not appended, tried in this order. The session is as before.
+#[derive(Clone, Copy, Debug, PartialEq, Eq, Error)]
+pub enum AppendError {
+    /// The session was stopped or closed.
+    #[error("the session was stopped")]
+    Stopped,
+    /// So many pieces are pending.
+    #[error("{pending} pieces are pending")]
+    Busy { pending: u64 },
+    /// The first value outside the type, by its index in the append.
+    #[error("value {index} is {value}")]
+    OutOfRange { index: u64, value: i128 },
+    /// More chunks than the dataset's index has.
+    #[error("{chunks} chunks, at most {limit}")]
+    Chunks { chunks: u64, limit: u64 },
+    /// The image's count of faults rose in this call.
+    #[error("image failed")]
+    Failed,
+    /// It may come in place of Failed, and of no other refusal.
+    #[error("out of memory")]
+    OutOfMemory,
+}
+
+/// Why a session was not closed, tried in this order. It is as before.
+#[derive(Clone, Copy, Debug, PartialEq, Eq, Error)]
+pub enum CloseError {
+    /// The session was stopped or closed.
+    #[error("the session was stopped")]
+    Stopped,
+    /// So many pieces are pending.
+    #[error("{pending} pieces are pending")]
+    Busy { pending: u64 },
+}
+
+impl From<ImageError> for AppendError {
+    ghost use Rattle.h5w_session.specs.Refusals.{append_fault};
+    ghost use Rattle.std.specs.Prelude.{◌≡◌};
+
+    ghost from_gives = { λ e r. r ≡ append_fault e };
+
+    fn from(e: ImageError) -> AppendError {
+        match e {
+            ImageError::Failed => AppendError::Failed,
+            ImageError::OutOfMemory => AppendError::OutOfMemory,
+        }
+    }
+}
+
+impl From<OutOfMemory> for AppendError {
+    ghost use Rattle.h5w_session.specs.declared.refusal.AppendError.TheVariants.{OutOfMemory as no_memory};
+    ghost use Rattle.std.specs.Prelude.{◌≡◌};
+
+    ghost from_gives = { λ _ r. r ≡ no_memory };
+
+    fn from(_e: OutOfMemory) -> AppendError {
+        AppendError::OutOfMemory
+    }
+}

@@ -1,0 +1,359 @@
+//! What a session is but for the index of its chunks.
+ghost use Rattle.std.specs.Prelude.{◌≡◌, ℕ, ◌+◌, ◌*◌, ◌^◌, ◌<◌, ◌≤◌, true, [], ◌∷◌, List, length, slice_get, IfOk, IfErr, IfSome, MatchOption, OnOk, OnErr, Ok, Err, Some, ◌⊎◌};
+ghost use Rattle.std.specs.Option.{option_copied};
+ghost use Rattle.h5w_model.specs.declared.piece.Write.{Write};
+ghost use Rattle.h5w_model.specs.Causes.{Rose};
+ghost use Rattle.h5w_model.specs.Logs.{Log, and_now, appended, appends, flushed_rows, rows_in, shows};
+ghost use Rattle.h5w_model.specs.Messages.{IsIntType};
+ghost use Rattle.h5w_model.specs.Options.{AreOptions};
+ghost use Rattle.h5w_model.specs.Superblock.{super_at, super_bytes};
+ghost use Rattle.h5w_types.specs.Fields.{int_type_of};
+ghost use Rattle.h5w_session.specs.Creations.{IsFillOf, created, new_file};
+ghost use Rattle.h5w_image.specs.View.{Same};
+ghost use Rattle.h5w_session.specs.Room.{HasRoomFor};
+ghost use Rattle.h5w_session.specs.Sessions.{AfterPiece, AreRows, chunk_limit, chunks_with, cleared, closed_of, closed_root, rows_of, stopped_of, with_values};
+ghost use Rattle.h5w_session.specs.Refusals.{append_refusal, close_refusal};
+ghost use Rattle.h5w_session.specs.Stands.{Stands, log_of};
+ghost use Rattle.h5w_session.specs.declared.refusal.AppendError.{AppendError};
+ghost use Rattle.h5w_session.specs.declared.refusal.CloseError.{CloseError};
+
+use crate::creation::{create_file, new_super};
+use crate::refusal::{AppendError, CloseError};
+use crate::waiting::{add_cells, first_outside};
+use h5w_chunks::{Fill, Grid, IndexKind, IntType};
+use h5w_image::PieceWrite;
+use h5w_model::{Options, OutOfMemory, Piece, Super, Write};
+use h5w_space::Places;
+use std::alloc::Global;
+use std::marker::Model;
+
+/// The most chunks of an extensible array whose data blocks have no pages.
+const ARRAY_CHUNKS: u64 = 131_060;
+
+/// The most chunks of a version 2 B-tree.
+const TREE_CHUNKS: u64 = 1_000_000;
+
+/// A session but for the index of its chunks: rows are appended and wait as cells; the pieces that a flush planned become visible, one
+/// after another. A session that was stopped or closed takes no rows and plans nothing.
+#[derive(Drop)]
+pub struct WriterState {
+    /// The dataset's name.
+    name: Piece,
+    /// The superblock, the dataset header's place and chunk 0, the dataset and the places once all planned pieces became visible.
+    root: Super,
+    place: u64,
+    header: Piece,
+    grid: Grid,
+    places: Places,
+    /// The rows that the file has before the last of them does.
+    committed: u64,
+    /// The cells of the rows that no flush has planned, and how many rows these are.
+    waiting: Vec<u8>,
+    waits: u64,
+    /// The pieces of the last plan, and how many of them became visible.
+    plan: Vec<Write>,
+    shown: usize,
+    stopped: bool,
+    /// What is retired stays retired.
+    keeps: bool,
+}
+
+impl Model for WriterState {
+    ghost use Rattle.std.specs.Prelude.{◌≤◌, length, drop, vec_capacity};
+    ghost use Rattle.h5w_chunks.specs.Grids.{IsGrid, dataset_of};
+    ghost use Rattle.h5w_session.specs.Sessions.{ArePieces, IsSession, Session};
+
+    ghost Value = { Session };
+
+    ghost view = { λ w. record {
+      name = w.name;
+      root = w.root;
+      place = w.place;
+      header = w.header;
+      dataset = dataset_of w.grid;
+      places = w.places;
+      committed = w.committed;
+      waiting = w.waiting.items;
+      waits = w.waits;
+      pending = drop w.shown w.plan.items;
+      stopped = w.stopped;
+      keeps = w.keeps;
+    } };
+
+    ghost invariant = { λ w.
+        IsSession (record {
+          name = w.name;
+          root = w.root;
+          place = w.place;
+          header = w.header;
+          dataset = dataset_of w.grid;
+          places = w.places;
+          committed = w.committed;
+          waiting = w.waiting.items;
+          waits = w.waits;
+          pending = drop w.shown w.plan.items;
+          stopped = w.stopped;
+          keeps = w.keeps;
+        })
+        × IsGrid w.grid
+        × ArePieces w.places.end w.plan.items
+        × (w.shown ≤ length w.plan.items)
+        × (1 ≤ vec_capacity w.plan) };
+}
+
+impl WriterState {
+    /// A session that creates a file with a dataset of one dimension, of integers of this type and with this fill. The creation's pieces
+    /// are pending; they end by the file's end. Whoever makes them visible reserves room for them and one more in the image first.
+    pub fn create(
+        alloc: Global,
+        options: &Options,
+        int_type: &IntType,
+        fill: &Fill,
+    ) -> Result<WriterState, OutOfMemory>
+        requires options { AreOptions options.now }
+        requires typed { IsIntType (int_type_of int_type.now) }
+        requires filled { IsFillOf fill.now int_type.now }
+        ensures session { IfOk result (λ s. s ≡ created (new_file options.now int_type.now fill.now)) }
+        ensures stands { IfOk result (λ s. Stands s (log_of [])) }
+    {
+        let file = create_file(alloc, options, int_type, fill)?;
+        Ok(WriterState {
+            name: Piece::of(options.name.as_slice()),
+            root: new_super(file.sites.end),
+            place: file.sites.header,
+            header: file.header,
+            grid: file.grid,
+            places: Places::new(alloc, file.sites.end, options.limit),
+            committed: 0,
+            waiting: Vec::new(alloc),
+            waits: 0,
+            plan: file.writes,
+            shown: 0,
+            stopped: false,
+            keeps: false,
+        })
+    }
+
+    /// Appends values, rows one after another, whose cells wait for the next flush. Answers how many rows were appended in all.
+    /// Room is reserved in the image for one piece, up to the file's end.
+    pub fn append<W: PieceWrite>(
+        &mut self,
+        values: &[i128],
+        image: &mut W,
+    ) -> Result<u64, AppendError>
+        requires rows { AreRows self.old values.now }
+        ensures added { OnOk result (self.new ≡ with_values self.old values.now) }
+        ensures rows { IfOk result (λ rows. rows ≡ rows_of self.new) }
+        ensures stands { OnOk result ((log : Log) → Stands self.old log → Stands self.new (and_now (appends values.now) log)) }
+        ensures refused { (e : AppendError) → append_refusal self.old values.now ≡ Some e → result ≡ Err e }
+        ensures causes { IfErr result (λ e. (append_refusal self.old values.now ≡ Some e) ⊎ (e ≡ AppendError.Failed) ⊎ (e ≡ AppendError.OutOfMemory)) }
+        ensures fault { result ≡ Err AppendError.Failed → Rose (W.view image.old).faults (W.view image.new).faults }
+        ensures kept { OnErr result (self.new ≡ self.old) }
+        ensures image { Same (W.view image.old) (W.view image.new) }
+        ensures room { OnOk result (HasRoomFor self.new (W.view image.new)) }
+    {
+        self.check(values)?;
+        image.reserve(1, self.places.end())?;
+        add_cells(values, &self.grid, &mut self.waiting)?;
+        self.waits += values.len() as u64 / self.grid.shape.cols;
+        Ok(self.rows())
+    }
+
+    /// Why these values are not appended, but for the image and memory.
+    fn check(&self, values: &[i128]) -> Result<(), AppendError>
+        requires rows { AreRows self.now values.now }
+        ensures { MatchOption (append_refusal self.now values.now) (result ≡ Ok tt) (λ e. result ≡ Err e) }
+    {
+        if self.stopped {
+            return Err(AppendError::Stopped);
+        }
+        let pending = self.pending();
+        if pending > 0 {
+            return Err(AppendError::Busy { pending });
+        }
+        if let Some((index, value)) = first_outside(values, &self.grid.int_type) {
+            return Err(AppendError::OutOfRange { index, value });
+        }
+        let chunks = self.chunks_with(values.len() as u64 / self.grid.shape.cols);
+        let limit = self.chunk_limit();
+        if chunks > limit {
+            return Err(AppendError::Chunks { chunks, limit });
+        }
+        Ok(())
+    }
+
+    /// How many chunks the rows need with so many more.
+    fn chunks_with(&self, more: u64) -> u64
+        requires { more * self.now.dataset.shape.cols < 2 ^ 62 }
+        ensures { result ≡ chunks_with self.now more }
+    {
+        let (rows, cols) = self.grid.layout.chunk;
+        let bands = (self.rows() + more).div_ceil(rows);
+        let across = self.grid.shape.cols.div_ceil(cols);
+        bands * across
+    }
+
+    /// The most chunks that the index has.
+    fn chunk_limit(&self) -> u64
+        ensures { result ≡ chunk_limit self.now }
+    {
+        match self.grid.layout.index {
+            IndexKind::Array => ARRAY_CHUNKS,
+            IndexKind::Tree => TREE_CHUNKS,
+        }
+    }
+
+    /// How many pieces are pending.
+    pub fn pending(&self) -> u64
+        ensures { result ≡ length self.now.pending }
+    {
+        (self.plan.len() - self.shown) as u64
+    }
+
+    /// The oldest pending piece; None exactly where nothing is pending.
+    pub fn next(&self) -> Option<&Write>
+        ensures oldest { option_copied result ≡ slice_get self.now.pending 0 }
+        ensures some { IfSome result (λ w. 1 ≤ length w.now.piece) }
+        ensures within { IfSome result (λ w. w.now.at + length w.now.piece ≤ self.now.places.end) }
+    {
+        self.plan.get(self.shown)
+    }
+
+    /// The oldest pending piece became visible. With the last one the file has the planned rows, and what was retired is free. Takes
+    /// no memory.
+    pub fn written(&mut self)
+        requires { 0 < length self.old.pending }
+        ensures piece { (w : Write) (ws : List Write) → self.old.pending ≡ w ∷ ws → AfterPiece self.old ws self.new }
+        ensures stands { (w : Write) (ws : List Write) → self.old.pending ≡ w ∷ ws → (log : Log) → Stands self.old log → Stands self.new (and_now (shows w) log) }
+    {
+        self.advance();
+    }
+
+    /// The oldest pending piece is pending no more.
+    fn advance(&mut self)
+        requires { 0 < length self.old.pending }
+        ensures { (w : Write) (ws : List Write) → self.old.pending ≡ w ∷ ws → AfterPiece self.old ws self.new }
+    {
+        self.shown += 1;
+        if self.shown == self.plan.len() {
+            self.settle();
+        }
+    }
+
+    /// All pieces became visible.
+    fn settle(&mut self)
+        requires { self.old.pending ≡ [] }
+        ensures { AfterPiece self.old [] self.new }
+    {
+        self.committed = self.grid.shape.rows;
+        if !self.keeps {
+            self.places.commit();
+        }
+    }
+
+    /// Drops the pending pieces. The session is stopped from then on: nothing is pending, and what was flushed stays.
+    /// Takes no memory.
+    pub fn stop(&mut self)
+        ensures session { self.new ≡ stopped_of self.old }
+        ensures stands { (log : Log) → Stands self.old log → Stands self.new log }
+    {
+        self.plan.clear();
+        self.shown = 0;
+        self.stopped = true;
+    }
+
+    /// The image failed at a piece, so that the pieces behind it cannot become visible: the session is stopped.
+    pub fn failed(&mut self)
+        ensures session { self.new ≡ stopped_of self.old }
+        ensures stands { (log : Log) → Stands self.old log → Stands self.new log }
+    {
+        self.stop();
+    }
+
+    /// Plans the superblock with the flags of a file that nobody writes, as one pending piece: rows that wait stay unwritten. The
+    /// session is stopped from then on. Takes no memory.
+    pub fn close(&mut self) -> Result<(), CloseError>
+        ensures closed { OnOk result (self.new ≡ closed_of self.old) }
+        ensures stands { OnOk result ((log : Log) → Stands self.old log → Stands self.new log) }
+        ensures refused { MatchOption (close_refusal self.old) (result ≡ Ok tt) (λ e. result ≡ Err e) }
+        ensures kept { OnErr result (self.new ≡ self.old) }
+    {
+        if self.stopped {
+            return Err(CloseError::Stopped);
+        }
+        let pending = self.pending();
+        if pending > 0 {
+            return Err(CloseError::Busy { pending });
+        }
+        self.clear();
+        Ok(())
+    }
+
+    /// Plans the superblock with cleared flags, and nothing else.
+    fn clear(&mut self)
+        ensures session { self.new ≡ closed_of self.old }
+        ensures reads { super_at (super_bytes (closed_root self.old)) ≡ Ok (closed_root self.old) }
+    {
+        self.root.flags = cleared(self.root.flags);
+        let piece = Piece::of(&h5w_super::encode(&self.root));
+        self.plan.clear();
+        self.plan.push_reserved(Write { at: 0, piece });
+        self.shown = 0;
+        self.stopped = true;
+    }
+
+    /// What is retired stays retired from now on, so that no place of this session is used twice.
+    pub fn keep_retired(&mut self)
+        ensures session { self.new ≡ record self.old { keeps = true } }
+        ensures stands { (log : Log) → Stands self.old log → Stands self.new log }
+    {
+        self.keeps = true;
+    }
+
+    /// How many rows were appended.
+    pub fn rows(&self) -> u64
+        ensures value { result ≡ rows_of self.now }
+        ensures bound { result < 2 ^ 52 }
+        ensures appended { (log : Log) → Stands self.now log → result ≡ rows_in log (appended log) }
+    {
+        self.grid.shape.rows + self.waits
+    }
+
+    /// How many rows the file has by the pieces that became visible.
+    pub fn committed(&self) -> u64
+        ensures value { result ≡ self.now.committed }
+        ensures flushed { (log : Log) → Stands self.now log → result ≡ flushed_rows log }
+    {
+        self.committed
+    }
+
+    /// How many columns the dataset has, 1 in one dimension.
+    pub fn columns(&self) -> u64
+        ensures value { result ≡ self.now.dataset.shape.cols }
+        ensures log { (log : Log) → Stands self.now log → result ≡ log.columns }
+        ensures some { 1 ≤ result }
+    {
+        self.grid.shape.cols
+    }
+
+    /// How many bytes the file has once all planned pieces became visible.
+    pub fn end(&self) -> u64
+        ensures { result ≡ self.now.places.end }
+    {
+        self.places.end()
+    }
+
+    /// The dataset's name.
+    pub fn name(&self) -> &[u8]
+        ensures { result.now ≡ self.now.name }
+    {
+        self.name.as_slice()
+    }
+}
+
+/// Flags without those of a file that is open for writing, and for SWMR writing.
+fn cleared(flags: u8) -> u8
+    ensures { result ≡ cleared flags }
+{
+    flags - flags % 2 - flags / 4 % 2 * 4
+}
