@@ -1,0 +1,16 @@
+pub mod Keys
+pub mod Records
+pub mod Joined
+pub mod Places
+pub mod Steps
+pub mod Edits
+pub mod Parts
+pub mod Grown
+pub mod Children
+pub mod Bounds
+pub mod Over
+pub mod Halves
+pub mod Marks
+pub mod Searched
+pub mod Down
+pub mod Laws

@@ -1,0 +1,38 @@
+use Rattle.std.proofs.Common.{◌≡◌, sym, ap, subst, ◌∙◌, if◌then◌else◌}
+use Rattle.h5w_model.specs.declared.cell.Key.{Key}
+use Rattle.h5w_model.specs.Tables.{key_equal}
+use Rattle.h5w_bt.specs.declared.records.Record.{Record}
+use Rattle.h5w_bt_index.specs.Held.{view_of}
+use Rattle.h5w_bt_index.specs.Index.{Index, IsClean, IsHalfFull, address_of, inserted, records}
+use Rattle.h5w_bt_index.specs.Marks.{Part}
+use Rattle.h5w_bt_index.specs.Puts.{put_record}
+use Rattle.h5w_bt_index.proofs.Laws.{on_ok, inserted-map, inserted-records, inserted-half, inserted-clean}
+use Rattle.h5w_bt_index.proofs.index.TreeIndex.insert.Goals as goal
+
+pub returns-clause-map : goal.returns-clause-map
+returns-clause-map c =
+    let x : Record = record { address = c.args.address; key = c.args.key } in
+    let v : Index = view_of c.args.self.now in
+    let w : Index = view_of c.put.new.self in
+    on_ok c.put.result (w ≡ inserted x v) ((k : Key) → address_of w k ≡ (if key_equal c.args.key k then c.args.address else address_of v k)) (λ h. λ k. ap (λ (u : Index). address_of u k) h ∙ inserted-map x v k c.requires.index) c.put.ensures.ok
+
+pub returns-clause-sorted : goal.returns-clause-sorted
+returns-clause-sorted c =
+    let x : Record = record { address = c.args.address; key = c.args.key } in
+    let v : Index = view_of c.args.self.now in
+    let w : Index = view_of c.put.new.self in
+    on_ok c.put.result (w ≡ inserted x v) (records w ≡ put_record x (records v)) (λ h. ap records h ∙ inserted-records x v c.requires.index) c.put.ensures.ok
+
+pub returns-clause-half : goal.returns-clause-half
+returns-clause-half c =
+    let x : Record = record { address = c.args.address; key = c.args.key } in
+    let v : Index = view_of c.args.self.now in
+    let w : Index = view_of c.put.new.self in
+    on_ok c.put.result (w ≡ inserted x v) (IsHalfFull v → IsHalfFull w) (λ h. λ q. subst IsHalfFull (sym h) (inserted-half x v c.requires.index q)) c.put.ensures.ok
+
+pub returns-clause-clean : goal.returns-clause-clean
+returns-clause-clean c =
+    let x : Record = record { address = c.args.address; key = c.args.key } in
+    let v : Index = view_of c.args.self.now in
+    let w : Index = view_of c.put.new.self in
+    on_ok c.put.result (w ≡ inserted x v) ((p : Part) → IsClean p w → IsClean p v) (λ h. λ p q. inserted-clean p x v c.requires.index (subst (IsClean p) h q)) c.put.ensures.ok

@@ -1,0 +1,92 @@
+use Rattle.std.proofs.Common.{◌<◌, refl, sym, ap, ◌∙◌, map, length, set, arith, List, slice_get, length-set}
+use Rattle.std.proofs.lemmas.List.{length-map}
+use Rattle.h5w_model.specs.Trees.{capacity_of}
+use Rattle.h5w_bt_index.specs.Sound.{IsSound}
+use Rattle.h5w_bt_index.specs.Puts.{changed_node}
+use Rattle.h5w_bt_index.specs.Typed.{inner_of}
+use Rattle.h5w_bt_index.proofs.Steps.{rank-inside}
+use Rattle.h5w_bt_index.proofs.Places.{at_place}
+use Rattle.h5w_bt_index.proofs.Children.{child-there, same-child}
+use Rattle.h5w_bt_index.proofs.Down.{down-children, down-sound, down-full, down-put, down-fits, same-node}
+use Rattle.h5w_bt_index.proofs.inner.Inner.put_below.Goals as goal
+
+pub spare-requires-clause-inside : goal.spare-requires-clause-inside
+spare-requires-clause-inside g c =
+    omega (arith, c.requires.place, rank-inside c.args.item.key c.args.self.now.records.items, c.requires.sound.children, length-map c.args.self.now.children.items g.C.Subtree.tree)
+
+pub index_mut-requires : goal.index_mut-requires
+index_mut-requires g c =
+    omega (arith, c.requires.place, rank-inside c.args.item.key c.args.self.now.records.items, c.requires.sound.children, length-map c.args.self.now.children.items g.C.Subtree.tree, c.reserve-2.ensures.len)
+
+pub put-requires-clause-sound : goal.put-requires-clause-sound
+put-requires-clause-sound g c =
+    let t = g.C.Subtree.tree in
+    let ds = c.reserve-2.new.self.items in
+    let e = c.reserve-2.ensures.items in
+    let h : c.args.at < length ds = omega (arith, c.requires.place, rank-inside c.args.item.key c.args.self.now.records.items, c.requires.sound.children, length-map c.args.self.now.children.items t, ap length e) in
+    at_place (IsSound g.C.Subtree.depth (capacity_of g.C.Subtree.depth)) (map t c.args.self.now.children.items) c.args.at (t c.index_mut.result.now) c.requires.sound.each
+    (ap (λ (l : List _). slice_get (map t l) c.args.at) (sym e) ∙ child-there t ds c.args.at c.index_mut.result.now h c.index_mut.ensures.value)
+
+pub divide_if_over-requires-clause-inside : goal.divide_if_over-requires-clause-inside
+divide_if_over-requires-clause-inside g c =
+    omega (
+      arith,
+      c.requires.place,
+      rank-inside c.args.item.key c.args.self.now.records.items,
+      c.requires.sound.children,
+      length-map c.args.self.now.children.items g.C.Subtree.tree,
+      ap length c.reserve-2.ensures.items,
+      length-set c.reserve-2.new.self.items c.args.at c.put.new.self,
+    )
+
+pub divide_if_over-requires-clause-place : goal.divide_if_over-requires-clause-place
+divide_if_over-requires-clause-place g c = omega (arith, c.requires.place, rank-inside c.args.item.key c.args.self.now.records.items, ap length c.reserve.ensures.items)
+
+pub divide_if_over-requires-clause-sound : goal.divide_if_over-requires-clause-sound
+divide_if_over-requires-clause-sound g c = λ b e.
+    let d = g.C.Subtree.depth in
+    let t = g.C.Subtree.tree in
+    let u = inner_of d t c.args.self.now in
+    let ds = c.reserve-2.new.self.items in
+    let h : c.args.at < length ds = omega (arith, c.requires.place, rank-inside c.args.item.key c.args.self.now.records.items, c.requires.sound.children, length-map c.args.self.now.children.items t, ap length c.reserve-2.ensures.items) in
+    let m = down-children d t c.args.self.now.children.items ds c.args.at c.index_mut.result.now c.put.new.self c.args.item u refl c.reserve-2.ensures.items c.requires.place h c.index_mut.ensures.value c.in-Ok.ensures.ok in
+    down-sound d c.args.item u c.args.at (map t (set ds c.args.at c.put.new.self)) c.requires.sound m c.requires.place b e
+
+pub divide_if_over-requires-clause-spare : goal.divide_if_over-requires-clause-spare
+divide_if_over-requires-clause-spare g c = λ b e o.
+    let d = g.C.Subtree.depth in
+    let t = g.C.Subtree.tree in
+    let u = inner_of d t c.args.self.now in
+    let ds = c.reserve-2.new.self.items in
+    let h : c.args.at < length ds = omega (arith, c.requires.place, rank-inside c.args.item.key c.args.self.now.records.items, c.requires.sound.children, length-map c.args.self.now.children.items t, ap length c.reserve-2.ensures.items) in
+    let m = down-children d t c.args.self.now.children.items ds c.args.at c.index_mut.result.now c.put.new.self c.args.item u refl c.reserve-2.ensures.items c.requires.place h c.index_mut.ensures.value c.in-Ok.ensures.ok in
+    let w = down-full d c.args.item u c.args.at (map t (set ds c.args.at c.put.new.self)) c.requires.sound m c.requires.place b e o in
+    c.in_ok-spare.ensures.full w.child w.there w.full
+
+pub recount-requires : goal.recount-requires
+recount-requires g c =
+    let d = g.C.Subtree.depth in
+    let t = g.C.Subtree.tree in
+    let u = inner_of d t c.args.self.now in
+    let ds = c.reserve-2.new.self.items in
+    let h : c.args.at < length ds = omega (arith, c.requires.place, rank-inside c.args.item.key c.args.self.now.records.items, c.requires.sound.children, length-map c.args.self.now.children.items t, ap length c.reserve-2.ensures.items) in
+    let m = down-children d t c.args.self.now.children.items ds c.args.at c.index_mut.result.now c.put.new.self c.args.item u refl c.reserve-2.ensures.items c.requires.place h c.index_mut.ensures.value c.in-Ok.ensures.ok in
+    let e = c.divide_if_over.ensures ∙ down-put d c.args.item u c.args.at c.reserve.new.self.items (map t (set ds c.args.at c.put.new.self)) c.reserve.ensures.items m c.requires.place c.requires.new in
+    down-fits d c.args.item u (changed_node d c.divide_if_over.new.self.records.items (map t c.divide_if_over.new.self.children.items) c.divide_if_over.new.self.block) e c.requires.shallow c.requires.sound
+
+pub returns-clause-ok : goal.returns-clause-ok
+returns-clause-ok g c =
+    let d = g.C.Subtree.depth in
+    let t = g.C.Subtree.tree in
+    let u = inner_of d t c.args.self.now in
+    let ds = c.reserve-2.new.self.items in
+    let h : c.args.at < length ds = omega (arith, c.requires.place, rank-inside c.args.item.key c.args.self.now.records.items, c.requires.sound.children, length-map c.args.self.now.children.items t, ap length c.reserve-2.ensures.items) in
+    let m = down-children d t c.args.self.now.children.items ds c.args.at c.index_mut.result.now c.put.new.self c.args.item u refl c.reserve-2.ensures.items c.requires.place h c.index_mut.ensures.value c.in-Ok.ensures.ok in
+    c.recount.ensures
+    ∙ (c.divide_if_over.ensures ∙ down-put d c.args.item u c.args.at c.reserve.new.self.items (map t (set ds c.args.at c.put.new.self)) c.reserve.ensures.items m c.requires.place c.requires.new)
+
+pub returns-in-Err-clause-err : goal.returns-in-Err-clause-err
+returns-in-Err-clause-err g c =
+    let t = g.C.Subtree.tree in
+    same-node g.C.Subtree.depth (inner_of g.C.Subtree.depth t c.args.self.now) c.reserve.new.self.items (map t (set c.reserve-2.new.self.items c.args.at c.put.new.self)) c.reserve.ensures.items
+    (same-child t c.reserve-2.new.self.items c.args.at c.index_mut.result.now c.put.new.self c.index_mut.ensures.value c.in-Err.ensures.err ∙ ap (map t) c.reserve-2.ensures.items)

@@ -1,0 +1,6 @@
+-- What an index of the code is.
+use Rattle.h5w_bt_index.specs.Index.{Index, index_of}
+use Rattle.h5w_bt_index.specs.declared.index.TreeIndex.{TreeIndex}
+
+abbrev pub view_of : TreeIndex → Index
+view_of t = index_of t.root

@@ -1,0 +1,76 @@
+-- A tree of any depth as a finite map from keys to addresses.
+use Rattle.std.specs.Prelude.{◌≡◌, ℕ, suc, ◌≤◌, ◌==◌, true, List, [], map, if◌then◌else◌, Option, Some, None}
+use Rattle.h5w_model.specs.declared.cell.Key.{Key}
+use Rattle.h5w_model.specs.Numbers.{undefined}
+use Rattle.h5w_model.specs.Tables.{in_leaf}
+use Rattle.h5w_model.specs.Trees.{capacity_of}
+use Rattle.h5w_bt.specs.declared.records.Record.{Record}
+use Rattle.h5w_bt.specs.Parts.{record_of}
+use Rattle.h5w_bt_index.specs.Nodes.{Tree, LeafNode, all_records, address_in}
+use Rattle.h5w_bt_index.specs.Puts.{put, is_over, is_full_path, raised}
+use Rattle.h5w_bt_index.specs.Sound.{IsRising, IsSound, AtLeast}
+use Rattle.h5w_bt_index.specs.Marks.{IsMarked, Part, IsCleanPart}
+use Rattle.h5w_bt_index.specs.Typed.{leaf_of, inner_of}
+use Rattle.h5w_bt_index.specs.declared.root.Root.{Root}
+use Rattle.h5w_bt_index.specs.declared.root.Root.TheVariants.{Zero, One, Two, Three}
+
+pub record Index : Type 0 where
+  pub depth : ℕ
+  pub root : Tree depth
+
+-- its records, by rising key
+abbrev pub records : Index → List Record
+records v = all_records v.depth v.root
+
+-- the address of a key: that of the first record not below it, where that has the key, else undefined
+abbrev pub address_of : Index → Key → ℕ
+address_of v key = in_leaf key (map record_of (records v))
+
+abbrev pub defined : ℕ → Option ℕ
+defined address = if address == undefined then None else Some address
+
+-- a record has the key
+abbrev pub IsThere : Index → Key → Type 0
+IsThere v key = address_in key (records v) ≡ None → ⊥
+
+abbrev pub blank_leaf : LeafNode
+blank_leaf = record { records = []; block = None; clean = true }
+
+-- a tree without records
+abbrev pub no_tree : Index
+no_tree = record { depth = 0; root = blank_leaf }
+
+-- a root with a record too many is divided below a new root
+abbrev pub regrown : (d : ℕ) → Tree d → Index
+regrown d t = if is_over d t then record { depth = suc d; root = raised d t } else record { depth = d; root = t }
+
+-- with a record at its place
+abbrev pub inserted : Record → Index → Index
+inserted x v = regrown v.depth (put v.depth x v.root)
+
+-- a record more would make a tree of depth 4
+pub record IsDeep (v : Index) (key : Key) : Type 0 where
+  pub absent : address_in key (records v) ≡ None
+  pub deepest : v.depth ≡ 3
+  pub full : is_full_path v.depth key v.root ≡ true
+
+pub record IsIndex (v : Index) : Type 0 where
+  pub shallow : v.depth ≤ 3
+  pub sound : IsSound v.depth (capacity_of v.depth) v.root
+  pub rises : IsRising (records v)
+  pub marked : IsMarked v.depth v.root
+
+-- a clean node with all that is under it
+abbrev pub IsClean : Part → Index → Type 0
+IsClean p v = IsCleanPart p v.depth v.root
+
+-- each node but the root has at least half of its capacity
+abbrev pub IsHalfFull : Index → Type 0
+IsHalfFull v = AtLeast v.depth 0 v.root
+
+-- the root of the code
+abbrev pub index_of : Root → Index
+index_of (Zero t) = record { depth = 0; root = leaf_of t }
+index_of (One t) = record { depth = 1; root = inner_of 0 leaf_of t }
+index_of (Two t) = record { depth = 2; root = inner_of 1 (inner_of 0 leaf_of) t }
+index_of (Three t) = record { depth = 3; root = inner_of 2 (inner_of 1 (inner_of 0 leaf_of)) t }

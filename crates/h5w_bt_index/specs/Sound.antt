@@ -1,0 +1,30 @@
+-- What holds of the trees of a session.
+use Rattle.std.specs.Prelude.{◌≡◌, ℕ, zero, suc, ◌+◌, ◌≤◌, true, List, [], ◌∷◌, length}
+use Rattle.std.specs.List.{All}
+use Rattle.h5w_model.specs.Tables.{key_below}
+use Rattle.h5w_model.specs.Trees.{capacity_of}
+use Rattle.h5w_bt.specs.declared.records.Record.{Record}
+use Rattle.h5w_bt_index.specs.Nodes.{Tree}
+use Rattle.h5w_bt_index.specs.Puts.{counted, half}
+
+-- keys strictly rise
+abbrev pub IsRising : List Record → Type 0
+IsRising [] = Unit {0}
+IsRising (r ∷ rs) = All (λ (s : Record). key_below r.key s.key ≡ true) rs × IsRising rs
+
+-- an inner node: how many records it has at most, one child more than records, and it says how many are under it
+pub record IsInner (d : ℕ) (most : ℕ) (below : Tree d → Type 0) (t : Tree (suc d)) : Type 0 where
+  pub few : length t.records ≤ most
+  pub children : length t.children ≡ length t.records + 1
+  pub total : t.total ≡ counted d t.records t.children
+  pub each : All below t.children
+
+-- a tree whose root has at most so many records, and each other node at most its capacity
+abbrev pub IsSound : (d : ℕ) → ℕ → Tree d → Type 0
+IsSound zero most t = length t.records ≤ most
+IsSound (suc d) most t = IsInner d most (IsSound d (capacity_of d)) t
+
+-- each node below the root has at least half of its capacity, and the root at least so many records
+abbrev pub AtLeast : (d : ℕ) → ℕ → Tree d → Type 0
+AtLeast zero least t = least ≤ length t.records
+AtLeast (suc d) least t = (least ≤ length t.records) × All (AtLeast d (half d)) t.children

@@ -1,0 +1,162 @@
+ghost use Rattle.std.specs.Prelude.{◌≡◌, ◌≤◌, length, IsTrue, ◌↔◌, IfErr, OnOk, OnErr, if◌then◌else◌};
+ghost use Rattle.std.specs.Option.{unwrap_or};
+ghost use Rattle.h5w_model.specs.Numbers.{undefined};
+ghost use Rattle.h5w_model.specs.Tables.{key_equal};
+ghost use Rattle.h5w_bt_index.specs.Index.{IsClean, IsDeep, IsHalfFull, IsIndex, IsThere, address_of, defined, inserted, no_tree, records};
+ghost use Rattle.h5w_bt_index.specs.Held.{view_of};
+ghost use Rattle.h5w_bt_index.specs.Marks.{Part};
+ghost use Rattle.h5w_bt_index.specs.Nodes.{address_in, records_of};
+ghost use Rattle.h5w_bt_index.specs.Puts.{put_record};
+
+use crate::error::InsertError;
+use crate::leaf::Leaf;
+use crate::root::Root;
+use h5w_bt::{Key, Record};
+use h5w_bytes::UNDEFINED;
+use std::alloc::Global;
+
+/// The address that was found; none where it is undefined.
+fn given(found: Option<u64>) -> Option<u64>
+    ensures { result ≡ defined (unwrap_or found undefined) }
+{
+    match found {
+        Some(address) if address != UNDEFINED => Some(address),
+        _ => None,
+    }
+}
+
+/// The addresses of a dataset's chunks by their keys: a version 2 B-tree of depth 0 to 3.
+#[derive(Drop)]
+pub struct TreeIndex {
+    root: Root,
+    alloc: Global,
+}
+
+impl TreeIndex {
+    /// The index of no chunk.
+    pub fn new(alloc: Global) -> TreeIndex
+        ensures tree { view_of result ≡ no_tree }
+        ensures index { IsIndex (view_of result) }
+        ensures half { IsHalfFull (view_of result) }
+    {
+        let root = Leaf {
+            records: Vec::new(alloc),
+            block: None,
+            clean: true,
+        };
+        TreeIndex {
+            root: Root::Zero(root),
+            alloc,
+        }
+    }
+
+    /// How deep the tree is, as its header says.
+    pub fn depth(&self) -> u64
+        requires { IsIndex (view_of self.now) }
+        ensures exact { result ≡ (view_of self.now).depth }
+        ensures shallow { result ≤ 3 }
+    {
+        self.root.depth()
+    }
+
+    /// How many records the root has, as the header says.
+    pub fn root_records(&self) -> usize
+        ensures { result ≡ length (records_of (view_of self.now).depth (view_of self.now).root) }
+    {
+        self.root.len()
+    }
+
+    /// How many records the tree has, as the header says.
+    pub fn total(&self) -> u64
+        requires { IsIndex (view_of self.now) }
+        ensures { result ≡ length (records (view_of self.now)) }
+    {
+        self.root.total()
+    }
+
+    /// The address of the record of a key.
+    fn find(&self, key: Key) -> Option<u64>
+        requires { IsIndex (view_of self.now) }
+        ensures { result ≡ address_in key (records (view_of self.now)) }
+    {
+        self.root.find(key)
+    }
+
+    /// The address of a chunk; None where it has none.
+    pub fn get(&mut self, key: Key) -> Option<u64>
+        requires { IsIndex (view_of self.old) }
+        ensures exact { result ≡ defined (address_of (view_of self.old) key) }
+        ensures kept { (view_of self.new) ≡ (view_of self.old) }
+    {
+        given(self.find(key))
+    }
+
+    /// Whether a record of a key that has none would make a tree of depth 4.
+    fn is_deep(&self, key: Key) -> bool
+        requires { IsIndex (view_of self.now) }
+        ensures { IsTrue result ↔ IsDeep (view_of self.now) key }
+    {
+        match self.find(key) {
+            Some(_) => false,
+            None => self.root.is_deepest(key),
+        }
+    }
+
+    /// Puts a record to its place.
+    fn put(&mut self, item: Record) -> Result<(), InsertError>
+        requires { IsIndex (view_of self.old) }
+        ensures index { IsIndex (view_of self.new) }
+        ensures ok { OnOk result ((view_of self.new) ≡ inserted item (view_of self.old)) }
+        ensures deep { IfErr result (λ e. e ≡ InsertError.Deep → IsDeep (view_of self.old) item.key) }
+        ensures refused { IsDeep (view_of self.old) item.key → result ≡ Err InsertError.Deep }
+        ensures kept { OnErr result ((view_of self.new) ≡ (view_of self.old)) }
+    {
+        if self.is_deep(item.key) {
+            return Err(InsertError::Deep);
+        }
+        self.root.put(item, self.alloc)?;
+        Ok(())
+    }
+
+    /// Gives a chunk an address. Deep comes exactly where the tree has no record of the key, depth 3, and no room on the way to the key:
+    /// then, and where memory ends, nothing changed.
+    pub fn insert(&mut self, key: Key, address: u64) -> Result<(), InsertError>
+        requires index { IsIndex (view_of self.old) }
+        requires defined { address ≡ undefined → ⊥ }
+        ensures index { IsIndex (view_of self.new) }
+        ensures ok { OnOk result ((view_of self.new) ≡ inserted (record { address = address; key = key }) (view_of self.old)) }
+        ensures map { OnOk result ((k : Key) → address_of (view_of self.new) k ≡ (if key_equal key k then address else address_of (view_of self.old) k)) }
+        ensures sorted { OnOk result (records (view_of self.new) ≡ put_record (record { address = address; key = key }) (records (view_of self.old))) }
+        ensures half { OnOk result (IsHalfFull (view_of self.old) → IsHalfFull (view_of self.new)) }
+        ensures clean { OnOk result ((p : Part) → IsClean p (view_of self.new) → IsClean p (view_of self.old)) }
+        ensures deep { IfErr result (λ e. e ≡ InsertError.Deep → IsDeep (view_of self.old) key) }
+        ensures refused { IsDeep (view_of self.old) key → result ≡ Err InsertError.Deep }
+        ensures kept { OnErr result ((view_of self.new) ≡ (view_of self.old)) }
+    {
+        self.put(Record { address, key })
+    }
+
+    /// Holds a place for a chunk: a record of its key is there then, with an undefined address where it was not there before. What each
+    /// key gives stays.
+    pub fn hold(&mut self, key: Key) -> Result<(), InsertError>
+        requires { IsIndex (view_of self.old) }
+        ensures index { IsIndex (view_of self.new) }
+        ensures there { OnOk result (IsThere (view_of self.new) key) }
+        ensures map { OnOk result ((k : Key) → address_of (view_of self.new) k ≡ address_of (view_of self.old) k) }
+        ensures same { OnOk result (IsThere (view_of self.old) key → (view_of self.new) ≡ (view_of self.old)) }
+        ensures new { OnOk result (address_in key (records (view_of self.old)) ≡ None → (view_of self.new) ≡ inserted (record { address = undefined; key = key }) (view_of self.old)) }
+        ensures half { OnOk result (IsHalfFull (view_of self.old) → IsHalfFull (view_of self.new)) }
+        ensures clean { OnOk result ((p : Part) → IsClean p (view_of self.new) → IsClean p (view_of self.old)) }
+        ensures deep { IfErr result (λ e. e ≡ InsertError.Deep → IsDeep (view_of self.old) key) }
+        ensures refused { IsDeep (view_of self.old) key → result ≡ Err InsertError.Deep }
+        ensures kept { OnErr result ((view_of self.new) ≡ (view_of self.old)) }
+    {
+        if self.find(key).is_some() {
+            return Ok(());
+        }
+        self.put(Record {
+            address: UNDEFINED,
+            key,
+        })
+    }
+}

@@ -1,0 +1,194 @@
+//! The root of a tree of depth 0 to 3.
+
+ghost use Rattle.std.specs.Prelude.{◌≡◌, suc, ◌≤◌, true, false, length, IfOk, IfSome, is_some, IsTrue, ◌↔◌, OnOk, OnErr, MatchOption};
+ghost use Rattle.h5w_model.specs.Trees.{capacity_of};
+ghost use Rattle.h5w_bt_index.specs.Index.{IsIndex, index_of, inserted};
+ghost use Rattle.h5w_bt_index.specs.Nodes.{found, records_of, total_of};
+ghost use Rattle.h5w_bt_index.specs.Puts.{is_full_path, is_over, put, raised};
+ghost use Rattle.h5w_bt_index.specs.Sound.{IsSound};
+ghost use Rattle.h5w_bt_index.specs.Typed.{IsRoomyInner, inner_of};
+
+use crate::inner::{Inner, count, is_full, is_over};
+use crate::leaf::Leaf;
+use crate::subtree::Subtree;
+use h5w_bt::{Key, Record};
+use h5w_model::OutOfMemory;
+use std::alloc::Global;
+use std::mem;
+
+/// The root, by the tree's depth.
+#[derive(Drop)]
+pub enum Root {
+    Zero(Leaf),
+    One(Inner<Leaf>),
+    Two(Inner<Inner<Leaf>>),
+    Three(Inner<Inner<Inner<Leaf>>>),
+}
+
+/// The right part of a root that will be divided, and the new root above both.
+#[derive(Drop)]
+struct Spare<C> {
+    right: C,
+    above: Inner<C>,
+}
+
+/// Nodes for a root that is full.
+fn spare_for<C: Subtree>(root: &C, alloc: Global) -> Result<Option<Spare<C>>, OutOfMemory>
+    requires shallow { C.depth ≤ 3 }
+    ensures full { IfOk result (λ o. capacity_of C.depth ≤ length (records_of C.depth (C.tree root.now)) → is_some o ≡ true) }
+    ensures right { IfOk result (λ o. IfSome o (λ s. C.roomy s.right)) }
+    ensures above { IfOk result (λ o. IfSome o (λ s. IsRoomyInner s.above)) }
+{
+    if !is_full(root) {
+        return Ok(None);
+    }
+    let right = C::with_room(alloc)?;
+    let above = Inner::with_room(alloc)?;
+    Ok(Some(Spare { right, above }))
+}
+
+/// A new root above the two parts of one that has a record too many.
+fn raise<C: Subtree>(root: &mut C, spare: Spare<C>, alloc: Global) -> Inner<C>
+    requires shallow { C.depth ≤ 2 }
+    requires sound { IsSound C.depth (suc (capacity_of C.depth)) (C.tree root.old) }
+    requires over { is_over C.depth (C.tree root.old) ≡ true }
+    requires right { C.roomy spare.right }
+    requires above { IsRoomyInner spare.above }
+    ensures { inner_of C.depth C.tree result ≡ raised C.depth (C.tree root.old) }
+{
+    let Spare { right, above } = spare;
+    let (middle, right) = root.divide(right);
+    let left = mem::replace(root, C::blank(alloc));
+    let Inner {
+        mut records,
+        mut children,
+        ..
+    } = above;
+    records.push_reserved(middle);
+    children.push_reserved(left);
+    children.push_reserved(right);
+    let total = count(records.len(), &children);
+    Inner {
+        records,
+        children,
+        total,
+        block: None,
+        clean: false,
+    }
+}
+
+/// Puts a record into a root. Where that has a record too many then, the answer is the new root above its two parts.
+fn put_at_root<C: Subtree>(
+    root: &mut C,
+    item: Record,
+    alloc: Global,
+) -> Result<Option<Inner<C>>, OutOfMemory>
+    requires shallow { C.depth ≤ 2 }
+    requires sound { IsSound C.depth (capacity_of C.depth) (C.tree root.old) }
+    ensures ok { IfOk result (λ o. MatchOption o
+        ((is_over C.depth (put C.depth item (C.tree root.old)) ≡ false) × (C.tree root.new ≡ put C.depth item (C.tree root.old)))
+        (λ r. (is_over C.depth (put C.depth item (C.tree root.old)) ≡ true) × (inner_of C.depth C.tree r ≡ raised C.depth (put C.depth item (C.tree root.old))))) }
+    ensures err { OnErr result (C.tree root.new ≡ C.tree root.old) }
+{
+    let spare = spare_for(root, alloc)?;
+    root.put(item)?;
+    if !is_over(root) {
+        return Ok(None);
+    }
+    match spare {
+        Some(spare) => Ok(Some(raise(root, spare, alloc))),
+        None => Ok(None),
+    }
+}
+
+impl Root {
+    /// How deep the tree is.
+    pub fn depth(&self) -> u64
+        ensures { result ≡ (index_of self.now).depth }
+    {
+        match self {
+            Root::Zero(_) => 0,
+            Root::One(_) => 1,
+            Root::Two(_) => 2,
+            Root::Three(_) => 3,
+        }
+    }
+
+    /// How many records the root has.
+    pub fn len(&self) -> usize
+        ensures { result ≡ length (records_of (index_of self.now).depth (index_of self.now).root) }
+    {
+        match self {
+            Root::Zero(root) => root.len(),
+            Root::One(root) => root.len(),
+            Root::Two(root) => root.len(),
+            Root::Three(root) => root.len(),
+        }
+    }
+
+    /// How many records the tree has.
+    pub fn total(&self) -> u64
+        ensures { result ≡ total_of (index_of self.now).depth (index_of self.now).root }
+    {
+        match self {
+            Root::Zero(root) => root.total(),
+            Root::One(root) => root.total(),
+            Root::Two(root) => root.total(),
+            Root::Three(root) => root.total(),
+        }
+    }
+
+    /// The address of the record with this key.
+    pub fn find(&self, key: Key) -> Option<u64>
+        requires { IsIndex (index_of self.now) }
+        ensures { result ≡ found (index_of self.now).depth key (index_of self.now).root }
+    {
+        match self {
+            Root::Zero(root) => root.find(key),
+            Root::One(root) => root.find(key),
+            Root::Two(root) => root.find(key),
+            Root::Three(root) => root.find(key),
+        }
+    }
+
+    /// Whether the tree has depth 3 and each node on the way to this key is full.
+    pub fn is_deepest(&self, key: Key) -> bool
+        requires { IsIndex (index_of self.now) }
+        ensures { IsTrue result ↔ (((index_of self.now).depth ≡ 3) × (is_full_path (index_of self.now).depth key (index_of self.now).root ≡ true)) }
+    {
+        match self {
+            Root::Three(root) => root.is_full_path(key),
+            _ => false,
+        }
+    }
+
+    /// Puts a record to its place, or in the place of the one with its key.
+    pub fn put(&mut self, item: Record, alloc: Global) -> Result<(), OutOfMemory>
+        requires index { IsIndex (index_of self.old) }
+        requires shallow { is_over (index_of self.old).depth (put (index_of self.old).depth item (index_of self.old).root) ≡ true → (index_of self.old).depth ≤ 2 }
+        ensures ok { OnOk result (index_of self.new ≡ inserted item (index_of self.old)) }
+        ensures err { OnErr result (index_of self.new ≡ index_of self.old) }
+    {
+        match self {
+            Root::Zero(root) => {
+                if let Some(above) = put_at_root(root, item, alloc)? {
+                    *self = Root::One(above);
+                }
+                Ok(())
+            }
+            Root::One(root) => {
+                if let Some(above) = put_at_root(root, item, alloc)? {
+                    *self = Root::Two(above);
+                }
+                Ok(())
+            }
+            Root::Two(root) => {
+                if let Some(above) = put_at_root(root, item, alloc)? {
+                    *self = Root::Three(above);
+                }
+                Ok(())
+            }
+            Root::Three(root) => root.put(item),
+        }
+    }
+}
