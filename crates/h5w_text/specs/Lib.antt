@@ -10,3 +10,7 @@ pub mod Words
 pub mod Replies
 pub mod Errors
 pub mod LinesAhead
+pub mod Refusals
+pub mod Statuses
+pub mod Says
+pub mod Table

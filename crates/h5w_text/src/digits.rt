@@ -1,5 +1,6 @@
 ghost use Rattle.std.specs.Prelude.{◌≡◌, ◌++◌, OnOk, decimal};
 ghost use Rattle.h5w_text.specs.Replies.{spaced, spaced_value};
+ghost use Rattle.h5w_text.specs.Table.{value_text};
 
 use h5w_model::OutOfMemory;
 
@@ -33,13 +34,28 @@ pub fn number(out: &mut Vec<u8>, n: u64) -> Result<(), OutOfMemory>
     digits(out, u128::from(n))
 }
 
+/// Adds a space and a number of up to 39 digits.
+pub fn large_number(out: &mut Vec<u8>, n: u128) -> Result<(), OutOfMemory>
+    ensures { OnOk result (out.new.items ≡ out.old.items ++ spaced n) }
+{
+    text(out, b" ")?;
+    digits(out, n)
+}
+
+/// Adds a value.
+pub fn unspaced_value(out: &mut Vec<u8>, v: i128) -> Result<(), OutOfMemory>
+    ensures { OnOk result (out.new.items ≡ out.old.items ++ value_text v) }
+{
+    if v < 0 {
+        text(out, b"-")?;
+    }
+    digits(out, v.unsigned_abs())
+}
+
 /// Adds a space and a value.
 pub fn value(out: &mut Vec<u8>, v: i128) -> Result<(), OutOfMemory>
     ensures { OnOk result (out.new.items ≡ out.old.items ++ spaced_value v) }
 {
     text(out, b" ")?;
-    if v < 0 {
-        text(out, b"-")?;
-    }
-    digits(out, v.unsigned_abs())
+    unspaced_value(out, v)
 }

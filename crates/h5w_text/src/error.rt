@@ -1,22 +1,84 @@
 ghost use Rattle.std.specs.Prelude.{◌≡◌, ◌++◌, OnOk};
 ghost use Rattle.h5w_text.specs.Errors.{error_text, error_words};
+ghost use Rattle.h5w_text.specs.Statuses.{refusal_status, status_of};
 
 use crate::digits::{text, value};
+use crate::refusal::refusal;
 use crate::reply::with_numbers;
-use h5w_model::OutOfMemory;
+use crate::status::Status;
+use h5w_model::{OutOfMemory, ReadError};
 
 /// An error that ends the program, with what its line tells. Lines count from 1.
 #[derive(Drop)]
 pub enum ErrorLine {
     Usage,
+    /// No file has the name.
+    Missing,
+    /// A reader's call is refused.
+    Read(ReadError),
+    /// The first finding of a check, by its kind, and its place.
+    Finding {
+        kind: u8,
+        at: u64,
+    },
+    /// The range of `len` bytes at `at` begins before the end of the one of `other_len` bytes at `other`.
+    Overlap {
+        at: u64,
+        len: u64,
+        other: u64,
+        other_len: u64,
+    },
     /// This line is outside the grammar.
     Line(u64),
     /// A value outside the type, by its line and its index there.
-    Range { line: u64, index: u64, value: i128 },
+    Range {
+        line: u64,
+        index: u64,
+        value: i128,
+    },
     /// The input has more than so many bytes.
-    Input { limit: u64 },
+    Input {
+        limit: u64,
+    },
+    Disk,
     Source,
     Memory,
+}
+
+/// The status of a reader's refusal.
+fn refusal_status(error: ReadError) -> Status
+    ensures { result ≡ refusal_status error }
+{
+    match error {
+        ReadError::NotHdf5
+        | ReadError::Super(_)
+        | ReadError::Header { .. }
+        | ReadError::Link(_)
+        | ReadError::Unsupported(_) => Status::Format,
+        ReadError::NotSwmr { .. } => Status::Flags,
+        ReadError::TooManyChunks { .. } => Status::Limit,
+        ReadError::Damaged { .. } | ReadError::Shrunk { .. } => Status::Damaged,
+        ReadError::Again { .. } => Status::Again,
+        ReadError::OutOfMemory => Status::Memory,
+    }
+}
+
+impl ErrorLine {
+    /// The status with which the program ends behind this line.
+    pub fn status(&self) -> Status
+        ensures { result ≡ status_of self.now }
+    {
+        match self {
+            ErrorLine::Usage => Status::Usage,
+            ErrorLine::Missing => Status::Missing,
+            ErrorLine::Read(error) => refusal_status(*error),
+            ErrorLine::Finding { .. } | ErrorLine::Overlap { .. } => Status::Damaged,
+            ErrorLine::Line(_) | ErrorLine::Range { .. } | ErrorLine::Input { .. } => Status::Input,
+            ErrorLine::Disk => Status::Disk,
+            ErrorLine::Source => Status::Source,
+            ErrorLine::Memory => Status::Memory,
+        }
+    }
 }
 
 fn words(out: &mut Vec<u8>, error: &ErrorLine) -> Result<(), OutOfMemory>
@@ -24,6 +86,17 @@ fn words(out: &mut Vec<u8>, error: &ErrorLine) -> Result<(), OutOfMemory>
 {
     match error {
         ErrorLine::Usage => text(out, b"error usage"),
+        ErrorLine::Missing => text(out, b"error missing"),
+        ErrorLine::Read(error) => refusal(out, *error),
+        ErrorLine::Finding { kind, at } => {
+            with_numbers(out, b"finding", &[u64::from(*kind), *at])
+        }
+        ErrorLine::Overlap {
+            at,
+            len,
+            other,
+            other_len,
+        } => with_numbers(out, b"finding 19", &[*at, *len, *other, *other_len]),
         ErrorLine::Line(line) => with_numbers(out, b"error line", &[*line]),
         ErrorLine::Range {
             line,
@@ -34,6 +107,7 @@ fn words(out: &mut Vec<u8>, error: &ErrorLine) -> Result<(), OutOfMemory>
             value(out, *v)
         }
         ErrorLine::Input { limit } => with_numbers(out, b"error input", &[*limit]),
+        ErrorLine::Disk => text(out, b"error disk"),
         ErrorLine::Source => text(out, b"error source"),
         ErrorLine::Memory => text(out, b"error memory"),
     }

@@ -46,7 +46,8 @@ fn full_chunks(out: &mut Vec<u8>, chunks: u64, limit: u64) -> Result<(), OutOfMe
     number(out, limit)
 }
 
-fn values(out: &mut Vec<u8>, values: &[i128]) -> Result<(), OutOfMemory>
+/// Adds values, each with a space before it.
+pub fn values(out: &mut Vec<u8>, values: &[i128]) -> Result<(), OutOfMemory>
     ensures { OnOk result (out.new.items ≡ out.old.items ++ flat_map spaced_value values.now) }
 {
     for v in values {

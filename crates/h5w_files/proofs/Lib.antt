@@ -1,0 +1,4 @@
+pub mod EndLemmas
+pub mod ClearLemmas
+pub mod CheckLemmas
+pub mod ImageLemmas

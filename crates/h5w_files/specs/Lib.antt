@@ -1,0 +1,10 @@
+pub use Rattle.h5w_model.specs.Numbers
+pub use Rattle.h5w_model.specs.Causes
+pub use Rattle.h5w_model.specs.Findings
+pub use Rattle.h5w_image.specs.View
+pub use Rattle.h5w_text.specs.Streams
+pub use Rattle.h5w_text.specs.Says
+pub mod Images
+pub mod Ends
+pub mod Checks
+pub mod Clears

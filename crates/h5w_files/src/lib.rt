@@ -1,0 +1,11 @@
+//! The commands on files, over any disk and any sink: a check, a poll, and the clearing of the flags of writers.
+#![tactic(auto)]
+
+mod checking;
+mod clearing;
+mod flags;
+mod image;
+
+pub use checking::check;
+pub use clearing::clear;
+pub use image::DiskImage;

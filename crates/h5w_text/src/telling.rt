@@ -1,0 +1,31 @@
+//! The last line of a run, and its status.
+ghost use Rattle.std.specs.Prelude.{◌≡◌};
+ghost use Rattle.h5w_text.specs.Errors.{error_text};
+ghost use Rattle.h5w_text.specs.Says.{Said, SaidUnlessMemory};
+ghost use Rattle.h5w_text.specs.Statuses.{status_of};
+
+use crate::error::{ErrorLine, write_error};
+use crate::status::Status;
+use crate::streams::Sink;
+use std::alloc::Global;
+
+/// Writes these bytes as the last ones.
+pub fn say<K: Sink>(bytes: &[u8], status: Status, sink: &mut K) -> Status
+    ensures { Said bytes.now status result (K.view sink.old) (K.view sink.new) }
+{
+    match sink.write(bytes) {
+        Ok(()) => status,
+        Err(_) => Status::Sink,
+    }
+}
+
+/// Writes the line of an error as the last one.
+pub fn tell<K: Sink>(alloc: Global, error: &ErrorLine, sink: &mut K) -> Status
+    ensures { SaidUnlessMemory (error_text error.now) (status_of error.now) result (K.view sink.old) (K.view sink.new) }
+{
+    let mut text = Vec::new(alloc);
+    match write_error(&mut text, error) {
+        Ok(()) => say(&text, error.status(), sink),
+        Err(_) => say(b"error memory\n", Status::Memory, sink),
+    }
+}
