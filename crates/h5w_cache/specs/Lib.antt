@@ -5,4 +5,5 @@ pub use Rattle.h5w_space.specs.Space
 pub mod Blocks
 pub mod Stores
 pub mod Plans
+pub mod Starts
 pub mod StoreLaws

@@ -1,8 +1,8 @@
 -- What a plan does: the changed blocks get their places, name each other's places, and are written; the places that they
 -- leave are retired.
-use Rattle.std.specs.Prelude.{◌≡◌, ℕ, ◌+◌, ◌-◌, ◌/◌, ◌<◌, ◌≤◌, ◌^◌, max, vec_capacity, ◌==◌, ◌&&◌, Bool, true, false, not, List, [], ◌∷◌, ◌++◌, length, take, drop, map, flat_map, slice_index_or, slice_set, ◌⊎◌, Option, Some, None, IsSome, IsSomeAnd}
+use Rattle.std.specs.Prelude.{◌≡◌, ℕ, ◌+◌, ◌-◌, ◌/◌, ◌<◌, ◌≤◌, ◌^◌, max, ◌==◌, ◌&&◌, Bool, true, false, not, List, [], ◌∷◌, ◌++◌, length, take, drop, map, flat_map, slice_index_or, slice_set, ◌⊎◌, Option, Some, None, IsSome, IsSomeAnd}
 use Rattle.std.specs.Option.{option_map}
-use Rattle.std.specs.List.{All, HoldsAt, sum_by}
+use Rattle.std.specs.List.{All, HoldsAt}
 use Rattle.std.specs.List.Sorted.{IsPermutation, IsNonDecreasingBy}
 use Rattle.h5w_model.specs.Numbers.{undefined}
 use Rattle.h5w_model.specs.Images.{pieces}
@@ -13,7 +13,6 @@ use Rattle.h5w_space.specs.declared.Full.{Full}
 use Rattle.h5w_cache.specs.Blocks.{BlockView, spelled}
 use Rattle.h5w_cache.specs.Stores.{Store, place_in, times}
 use Rattle.h5w_cache.specs.declared.moves.Move.{Move}
-use Rattle.h5w_cache.specs.declared.plan.Begun.{Begun}
 use Rattle.h5w_cache.specs.declared.plan.PlanError.{PlanError}
 use Rattle.h5w_cache.specs.declared.plan.PlanError.TheVariants.{Full as no_room, OutOfMemory as no_memory}
 
@@ -160,16 +159,6 @@ pub record AreTaken (blocks : List (Option BlockView)) (places : List ℕ) (s : 
   pub taken : Space
   pub moves : AreMoves blocks places s ms taken
   pub roomy : t ≡ record taken { spare = max taken.spare (length ms) }
-
--- all that a plan needs is there
-pub record IsBegun (blocks : List (Option BlockView)) (places changed : List ℕ) (s : Space) (b : Begun) : Type 0 where
-  pub order : IsOrder blocks changed (numbers b.plan.moves.items)
-  pub taken : AreTaken blocks places s b.plan.moves.items b.next
-  pub split : IsSplit b.plan.moves.items b.split
-  pub no_copies : b.plan.copies.items ≡ []
-  pub none_in_place : b.plan.in_place.items ≡ []
-  pub room_copies : sum_by piece_count (take b.split b.plan.moves.items) ≤ vec_capacity b.plan.copies
-  pub room_in_place : sum_by piece_count (drop b.split b.plan.moves.items) ≤ vec_capacity b.plan.in_place
 
 -- the store with blocks at their new places, which name each other's, and all clean
 abbrev pub settled : List Move → Store → Store

@@ -13,5 +13,5 @@ mod write;
 
 pub use block::{Block, Link};
 pub use moves::Move;
-pub use plan::{Plan, PlanError};
+pub use plan::{Begun, Plan, PlanError};
 pub use store::Cache;

@@ -2,7 +2,8 @@
 
 ghost use Rattle.std.specs.Prelude.{◌≡◌, ℕ, ◌+◌, ◌<◌, ◌≤◌, ◌++◌, [], length, take, drop, IfOk, IfErr, IsSome, vec_len, vec_capacity};
 ghost use Rattle.std.specs.List.{All, sum_by};
-ghost use Rattle.h5w_cache.specs.Plans.{AreTaken, HasNoRoom, IfFull, IsBegun, IsFull, IsWritten, block_in, bytes_in, cleaned, moved, numbers, piece_count, respelled, writes_of};
+ghost use Rattle.h5w_cache.specs.Plans.{AreTaken, HasNoRoom, IfFull, IsFull, IsSplit, IsWritten, block_in, bytes_in, cleaned, moved, numbers, piece_count, respelled, writes_of};
+ghost use Rattle.h5w_cache.specs.Starts.{HasRooms, IsBegun, copy_pieces, in_place_pieces};
 ghost use Rattle.h5w_cache.specs.Stores.{place_in};
 ghost use Rattle.h5w_cache.specs.declared.moves.Move.{Move};
 
@@ -13,6 +14,7 @@ use crate::write::{put_all, room_for};
 use h5w_model::{OutOfMemory, Write};
 use h5w_space::{Full, Places};
 use std::alloc::AllocError;
+use std::marker::Model;
 use thiserror::Error;
 
 /// The writes of all changed blocks, in their order.
@@ -58,13 +60,68 @@ impl From<AllocError> for PlanError {
     }
 }
 
-/// All that a plan needs: its moves, with room for their writes, the places after them, and how many blocks stand
-/// before the first in place.
+/// A plan that is begun: its moves, with room for their writes, and the places after them. Nothing has changed yet.
 #[derive(Drop)]
 pub struct Begun {
-    pub plan: Plan,
-    pub next: Places,
-    pub split: usize,
+    plan: Plan,
+    next: Places,
+    /// How many blocks stand before the first in place.
+    split: usize,
+    copies: usize,
+    in_place: usize,
+}
+
+impl Model for Begun {
+    ghost use Rattle.h5w_cache.specs.Starts.{HasRooms, Start};
+
+    ghost Value = { Start };
+
+    ghost view = { λ b. record {
+      moves = b.plan.moves.items;
+      split = b.split;
+      next = b.next;
+    } };
+
+    ghost invariant = { λ b. HasRooms b.plan b.split b.copies b.in_place };
+}
+
+impl Begun {
+    /// How many pieces the writes of the blocks before the first in place will be.
+    pub fn copies(&self) -> usize
+        ensures { result ≡ copy_pieces self.now }
+    {
+        self.copies
+    }
+
+    /// How many pieces the writes of the blocks from the first in place on will be.
+    pub fn in_place(&self) -> usize
+        ensures { result ≡ in_place_pieces self.now }
+    {
+        self.in_place
+    }
+
+    /// The first byte after the file, once the plan is finished.
+    pub fn end(&self) -> u64
+        ensures { result ≡ self.now.next.end }
+    {
+        self.next.end()
+    }
+}
+
+/// The plan without writes, the places after it, and how many blocks stand before the first in place.
+pub fn parts(begun: Begun) -> (Plan, Places, usize)
+    ensures moves { result.0.moves.items ≡ begun.moves }
+    ensures next { result.1 ≡ begun.next }
+    ensures split { result.2 ≡ begun.split }
+    ensures rooms { HasRooms result.0 result.2 (copy_pieces begun) (in_place_pieces begun) }
+{
+    let Begun {
+        plan,
+        next,
+        split,
+        ..
+    } = begun;
+    (plan, next, split)
 }
 
 /// The moves of blocks in this order, and the places after them.
@@ -86,17 +143,42 @@ fn moves_of(
     Ok((moves, next))
 }
 
-/// Room for the writes of the blocks before the first in place, and from it on.
-fn rooms(moves: &Vec<Move>, split: usize) -> Result<(Vec<Write>, Vec<Write>), OutOfMemory>
+/// How many pieces the blocks before the first in place have, and from it on, each with room for their writes.
+fn rooms(
+    moves: &Vec<Move>,
+    split: usize,
+) -> Result<((usize, Vec<Write>), (usize, Vec<Write>)), OutOfMemory>
     requires { split ≤ vec_len moves.now }
-    ensures copies { IfOk result (λ r. (r.0.items ≡ []) × (sum_by piece_count (take split moves.now.items) ≤ vec_capacity r.0)) }
-    ensures in_place { IfOk result (λ r. (r.1.items ≡ []) × (sum_by piece_count (drop split moves.now.items) ≤ vec_capacity r.1)) }
+    ensures copies { IfOk result (λ r. (r.0.0 ≡ sum_by piece_count (take split moves.now.items)) × (r.0.1.items ≡ []) × (r.0.0 ≤ vec_capacity r.0.1)) }
+    ensures in_place { IfOk result (λ r. (r.1.0 ≡ sum_by piece_count (drop split moves.now.items)) × (r.1.1.items ≡ []) × (r.1.0 ≤ vec_capacity r.1.1)) }
 {
     let alloc = *moves.allocator();
     let (before, from) = moves.split_at(split);
     let copies = room_for(alloc, before)?;
     let in_place = room_for(alloc, from)?;
     Ok((copies, in_place))
+}
+
+/// The plan of these moves, begun.
+fn with_rooms(moves: Vec<Move>, next: Places) -> Result<Begun, OutOfMemory>
+    ensures moves { IfOk result (λ b. b.moves ≡ moves.items) }
+    ensures split { IfOk result (λ b. IsSplit moves.items b.split) }
+    ensures next { IfOk result (λ b. b.next ≡ next) }
+{
+    let split = copies(&moves);
+    let ((copies, copy_writes), (in_place, in_place_writes)) = rooms(&moves, split)?;
+    let plan = Plan {
+        moves,
+        copies: copy_writes,
+        in_place: in_place_writes,
+    };
+    Ok(Begun {
+        plan,
+        next,
+        split,
+        copies,
+        in_place,
+    })
 }
 
 /// All that a plan of the changed blocks needs.
@@ -112,14 +194,7 @@ pub fn begin(
 {
     let order = in_turn(blocks, changed)?;
     let (moves, next) = moves_of(blocks, stood, &order, places)?;
-    let split = copies(&moves);
-    let (copies, in_place) = rooms(&moves, split)?;
-    let plan = Plan {
-        moves,
-        copies,
-        in_place,
-    };
-    Ok(Begun { plan, next, split })
+    Ok(with_rooms(moves, next)?)
 }
 
 /// Blocks at their new places name each other's places, and are clean.
@@ -152,6 +227,8 @@ impl Plan {
         ensures moves { self.new.moves ≡ self.old.moves }
         ensures copies { self.new.copies.items ≡ self.old.copies.items ++ writes_of blocks.now (take split self.old.moves.items) }
         ensures in_place { self.new.in_place.items ≡ self.old.in_place.items ++ writes_of blocks.now (drop split self.old.moves.items) }
+        ensures len_copies { vec_len self.new.copies ≡ vec_len self.old.copies + sum_by piece_count (take split self.old.moves.items) }
+        ensures len_in_place { vec_len self.new.in_place ≡ vec_len self.old.in_place + sum_by piece_count (drop split self.old.moves.items) }
     {
         let (before, from) = self.moves.split_at(split);
         put_all(blocks, before, &mut self.copies);

@@ -2,12 +2,13 @@ ghost use Rattle.std.specs.Prelude.{◌≡◌, ℕ, ◌+◌, ◌-◌, ◌<◌, �
 ghost use Rattle.std.specs.Option.{option_copied, option_map};
 ghost use Rattle.h5w_cache.specs.Blocks.{numbered, with_number};
 ghost use Rattle.h5w_cache.specs.Plans.{HasNoRoom, IfFull, IsPlan};
+ghost use Rattle.h5w_cache.specs.Starts.{IsBegun, copy_pieces, in_place_pieces};
 ghost use Rattle.h5w_cache.specs.StoreLaws.{KeepsStore};
 ghost use Rattle.h5w_cache.specs.Stores.{FitsAddresses, block_of, changed_to, grown, is_changed, kept_under, marked, no_blocks, place_of};
 
 use crate::block::{Block, copied, place_at};
 use crate::moves::retire_all;
-use crate::plan::{Begun, Plan, PlanError, begin, carry_out};
+use crate::plan::{Begun, Plan, PlanError, begin, carry_out, parts};
 use h5w_bytes::UNDEFINED;
 use h5w_model::OutOfMemory;
 use h5w_space::Places;
@@ -206,6 +207,44 @@ impl Cache {
         self.blocks[number as usize] = Some(block);
     }
 
+    /// Begins the plan of all changed blocks: takes all memory and places that [`Cache::finish`] needs, and changes nothing.
+    pub fn begin(&self, places: &Places) -> Result<Begun, PlanError>
+        ensures begun { IfOk result (λ b. IsBegun self.now.blocks self.now.places self.now.changed places.now b) }
+        // the first block in turn that has no room
+        ensures full { IfErr result (λ e. IfFull e (HasNoRoom self.now.blocks self.now.places self.now.changed places.now)) }
+    {
+        begin(&self.blocks, &self.places, &self.changed, places)
+    }
+
+    /// The writes of all changed blocks, by rising turn, of a plan that was begun of this store and these places; they
+    /// are clean from then on. A block in place stays at the place that it has; each other one takes a place, and the
+    /// place that it had is retired, where it is live.
+    ///
+    /// It cannot fail.
+    pub fn finish(&mut self, places: &mut Places, begun: Begun) -> Plan
+        requires { IsBegun self.old.blocks self.old.places self.old.changed places.old begun }
+        ensures planned { IsPlan self.old places.old result.moves.items result.copies.items result.in_place.items self.new places.new }
+        ensures keeps { KeepsStore self.old places.old result.moves.items (result.copies.items ++ result.in_place.items) self.new places.new }
+        // as it was begun
+        ensures moves { result.moves.items ≡ begun.moves }
+        ensures copies { length result.copies.items ≡ copy_pieces begun }
+        ensures in_place { length result.in_place.items ≡ in_place_pieces begun }
+        ensures end { places.new.end ≡ begun.next.end }
+    {
+        let (mut plan, next, split) = parts(begun);
+        *places = next;
+        retire_all(&plan.moves, places);
+        carry_out(
+            &mut self.blocks,
+            &mut self.places,
+            &mut self.marks,
+            &plan.moves,
+        );
+        self.changed.clear();
+        plan.write(&self.blocks, split);
+        plan
+    }
+
     /// The writes of all changed blocks, by rising turn; they are clean from then on. A block in place stays at the
     /// place that it has; each other one takes a place, and the place that it had is retired, where it is live.
     ///
@@ -218,22 +257,8 @@ impl Cache {
         ensures kept { OnErr result (self.new ≡ self.old) }
         ensures places { OnErr result (places.new ≡ places.old) }
     {
-        let Begun {
-            mut plan,
-            next,
-            split,
-        } = begin(&self.blocks, &self.places, &self.changed, places)?;
-        *places = next;
-        retire_all(&plan.moves, places);
-        carry_out(
-            &mut self.blocks,
-            &mut self.places,
-            &mut self.marks,
-            &plan.moves,
-        );
-        self.changed.clear();
-        plan.write(&self.blocks, split);
-        Ok(plan)
+        let begun = self.begin(places)?;
+        Ok(self.finish(places, begun))
     }
 
     /// A copy, with as much room.

@@ -42,7 +42,8 @@ fn put_block(blocks: &[Option<Block>], step: &Move, out: &mut Vec<Write>)
 pub fn put_all(blocks: &[Option<Block>], moves: &[Move], out: &mut Vec<Write>)
     requires written { All (IsWritten blocks.now) moves.now }
     requires room { vec_len out.old + sum_by piece_count moves.now ≤ vec_capacity out.old }
-    ensures { out.new.items ≡ out.old.items ++ writes_of blocks.now moves.now }
+    ensures items { out.new.items ≡ out.old.items ++ writes_of blocks.now moves.now }
+    ensures len { vec_len out.new ≡ vec_len out.old + sum_by piece_count moves.now }
 {
     for step in moves {
         put_block(blocks, step, out);
@@ -61,10 +62,11 @@ fn count(moves: &[Move]) -> Option<usize>
     Some(count)
 }
 
-/// A list with room for the writes of these blocks.
-pub fn room_for(alloc: Global, moves: &[Move]) -> Result<Vec<Write>, OutOfMemory>
-    ensures { IfOk result (λ v. (v.items ≡ []) × (sum_by piece_count moves.now ≤ vec_capacity v)) }
+/// How many pieces these blocks have, and a list with room for their writes.
+pub fn room_for(alloc: Global, moves: &[Move]) -> Result<(usize, Vec<Write>), OutOfMemory>
+    ensures count { IfOk result (λ r. r.0 ≡ sum_by piece_count moves.now) }
+    ensures room { IfOk result (λ r. (r.1.items ≡ []) × (r.0 ≤ vec_capacity r.1)) }
 {
     let count = count(moves).ok_or(OutOfMemory)?;
-    Ok(Vec::with_capacity(alloc, count)?)
+    Ok((count, Vec::with_capacity(alloc, count)?))
 }

@@ -10,4 +10,4 @@ pub mod TouchLemmas
 pub mod CountLemmas
 pub mod WayLemmas
 pub mod CreateLemmas
-pub mod ResultLemmas
+mod UnsetLemmas

@@ -1,6 +1,7 @@
 -- What an address that is set changes: the map at one chunk number.
-use Rattle.std.proofs.Common.{◌≡◌, ◌≢◌, inl, inr, ℕ, ◌+◌, ◌-◌, ◌*◌, ◌^◌, ◌<◌, ◌≤◌, List, [], ◌∷◌, ◌++◌, length, replicate, true, false, refl, sym, ap, subst, ◌∙◌, arith, eq-eqb, ne_eqb}
+use Rattle.std.proofs.Common.{◌≡◌, ◌≢◌, inl, inr, ℕ, ◌+◌, ◌-◌, ◌*◌, ◌^◌, ◌<◌, ◌≤◌, List, [], ◌∷◌, ◌++◌, length, replicate, zero, suc, true, false, refl, sym, ap, subst, ◌∙◌, arith, eq-eqb, ne_eqb}
 use Rattle.std.proofs.Math.ListN.{set}
+use Rattle.std.proofs.lemmas.List.{append-nil}
 use Rattle.std.proofs.lemmas.Bool.{cases_eq, cases_lt}
 use Rattle.std.proofs.lemmas.Bool.Decides.{nat_tests}
 use Rattle.std.specs.Prelude.{Some, IsSome, IfSome, cond, nat_lt, flat_map, ◌==◌, if◌then◌else◌}
@@ -15,8 +16,8 @@ use Rattle.h5w_visits.specs.Ranges.{chunk_at}
 use Rattle.h5w_array_laws.specs.Among.{AreAmong}
 use Rattle.h5w_array_laws.specs.Parts.{Part, data_of, index_block, IsPart, number_of, head_of, children, names_from, slot_count, slots_from, holder, slot_offset, visit_order}
 use Rattle.h5w_array_laws.specs.ArrayStores.{IsArray, IsBlock, Names, block_at_part, header_place, address_in, map_of, slots_in, chunks_in, own_range, ranges_of, behind_of}
-use Rattle.h5w_array_laws.proofs.AmongLemmas.{part_itself, part_as, part_onward, part_none, part_joined, part_more, each-among, chunks_set}
-use Rattle.h5w_ea_index.specs.Steps.{IsSet}
+use Rattle.h5w_array_laws.proofs.AmongLemmas.{part_itself, part_as, part_onward, part_none, part_joined, part_more, part_right, each-among, chunks_set, chunks_split, chunks_undefined, one_chunk}
+use Rattle.h5w_ea_index.specs.Steps.{IsSet, IsUnset}
 use Rattle.h5w_ea_index.proofs.ByteLemmas.{Off, length-with_number, field-with_number, field-with_other, take-with_number, numbers_in-with_other, numbers_in-with_number}
 use Rattle.h5w_ea_index.proofs.PartLemmas.{number_decides, held_at, IsHeldAt, holder_low, holder_high, head_fits, slots_fit, slots_apart}
 use Rattle.h5w_ea_index.proofs.StoreLemmas.{none-listed, set-same, set-other, set-cases}
@@ -201,27 +202,30 @@ map_at v i x b m j =
           ∙ sym (ap (λ u. cond u (address_in (block_of v (number_of (holder j))) (slot_offset j)) undefined) f) ∙ sym (ap (λ u. cond u x (map_of v j)) (ne_eqb j i ne))
     ]
 
--- the chunks of each block, with those of one more
-chunks_after : (v : Store) (i x : ℕ) (b : BlockView) → MaySet v i x b → (bytes : ℕ) (k : Part) → IsPart k
-    → AreAmong (chunks_in bytes (slots_in (block_at_part (with_set v i x b) k) k)) (only (number_of (holder i)) (chunk_at x bytes ∷ []) k ++ chunks_in bytes (slots_in (block_at_part v k) k))
-chunks_after v i x b m bytes k q =
+-- of the chunks of the block with the slot there are these more
+abbrev SlotsBring : ℕ → ℕ → ℕ → BlockView → List Used → Type 0
+SlotsBring i x bytes b us = AreAmong (chunks_in bytes (slots_in (Some (numbered (slot_offset i) x b)) (holder i))) (us ++ chunks_in bytes (slots_in (Some b) (holder i)))
+
+-- the chunks of each block, with those that are more
+chunks_after : (v : Store) (i x : ℕ) (b : BlockView) → MaySet v i x b → (bytes : ℕ) (us : List Used) → SlotsBring i x bytes b us → (k : Part) → IsPart k
+    → AreAmong (chunks_in bytes (slots_in (block_at_part (with_set v i x b) k) k)) (only (number_of (holder i)) us k ++ chunks_in bytes (slots_in (block_at_part v k) k))
+chunks_after v i x b m bytes us slots k q =
     let p : IsPart (holder i) = (held_at i m.below).part in
     let n : ℕ = number_of (holder i) in
     let c : BlockView = numbered (slot_offset i) x b in
     let inside : n < length v.blocks = part_inside v (holder i) p m.array in
-    let s = (set_suits v i x b m).block in
-    set-cases (λ o. AreAmong (chunks_in bytes (slots_in o k)) (only n (chunk_at x bytes ∷ []) k ++ chunks_in bytes (slots_in (block_at_part v k) k))) v.blocks n (number_of k) c inside
-    (λ e. subst (λ t. AreAmong (chunks_in bytes (slots_in (Some c) k)) (cond t (chunk_at x bytes ∷ []) [] ++ chunks_in bytes (slots_in (block_at_part v k) k))) (sym (eq-eqb (number_of k) n (sym e)))
-    (subst (λ (y : Part). AreAmong (chunks_in bytes (slots_in (Some c) y)) (chunk_at x bytes ∷ chunks_in bytes (slots_in (block_at_part v y) y))) (number_decides (holder i) k p q e)
-    (subst (λ o. AreAmong (chunks_in bytes (slots_in (Some c) (holder i))) (chunk_at x bytes ∷ chunks_in bytes (slots_in o (holder i)))) (sym m.is) (slots_set (header_place v) i x bytes b m.below m.fits s))))
-    (λ ne. subst (λ t. AreAmong (chunks_in bytes (slots_in (block_at_part v k) k)) (cond t (chunk_at x bytes ∷ []) [] ++ chunks_in bytes (slots_in (block_at_part v k) k))) (sym (ne_eqb (number_of k) n (λ e. ne (sym e))))
+    set-cases (λ o. AreAmong (chunks_in bytes (slots_in o k)) (only n us k ++ chunks_in bytes (slots_in (block_at_part v k) k))) v.blocks n (number_of k) c inside
+    (λ e. subst (λ t. AreAmong (chunks_in bytes (slots_in (Some c) k)) (cond t us [] ++ chunks_in bytes (slots_in (block_at_part v k) k))) (sym (eq-eqb (number_of k) n (sym e)))
+    (subst (λ (y : Part). AreAmong (chunks_in bytes (slots_in (Some c) y)) (us ++ chunks_in bytes (slots_in (block_at_part v y) y))) (number_decides (holder i) k p q e)
+    (subst (λ o. AreAmong (chunks_in bytes (slots_in (Some c) (holder i))) (us ++ chunks_in bytes (slots_in o (holder i)))) (sym m.is) slots)))
+    (λ ne. subst (λ t. AreAmong (chunks_in bytes (slots_in (block_at_part v k) k)) (cond t us [] ++ chunks_in bytes (slots_in (block_at_part v k) k))) (sym (ne_eqb (number_of k) n (λ e. ne (sym e))))
     (part_itself (chunks_in bytes (slots_in (block_at_part v k) k))))
 
-ranges_after : (v : Store) (i x : ℕ) (b : BlockView) → MaySet v i x b → (bytes : ℕ) (k : Part) → IsPart k
-    → AreAmong (ranges_of bytes (with_set v i x b) k) (only (number_of (holder i)) (chunk_at x bytes ∷ []) k ++ ranges_of bytes v k)
-ranges_after v i x b m bytes k q =
-    part_more (own_range v k) (chunks_in bytes (slots_in (block_at_part (with_set v i x b) k) k)) [] (only (number_of (holder i)) (chunk_at x bytes ∷ []) k) (own_range v k) (chunks_in bytes (slots_in (block_at_part v k) k))
-    (part_itself (own_range v k)) (chunks_after v i x b m bytes k q)
+ranges_after : (v : Store) (i x : ℕ) (b : BlockView) → MaySet v i x b → (bytes : ℕ) (us : List Used) → SlotsBring i x bytes b us → (k : Part) → IsPart k
+    → AreAmong (ranges_of bytes (with_set v i x b) k) (only (number_of (holder i)) us k ++ ranges_of bytes v k)
+ranges_after v i x b m bytes us slots k q =
+    part_more (own_range v k) (chunks_in bytes (slots_in (block_at_part (with_set v i x b) k) k)) [] (only (number_of (holder i)) us k) (own_range v k) (chunks_in bytes (slots_in (block_at_part v k) k))
+    (part_itself (own_range v k)) (chunks_after v i x b m bytes us slots k q)
 
 all_once : (n : ℕ) (us : List Used) → AreAmong (flat_map (only n us) visit_order) us
 all_once n us =
@@ -234,22 +238,21 @@ all_once n us =
 none_visited : (n : ℕ) (us : List Used) → n ≡ number_of index_block → flat_map (only n us) visit_order ≡ []
 none_visited n us e = subst (λ y. flat_map (only y us) visit_order ≡ []) (sym e) (none_of us)
 
-behind_after : (v : Store) (i x : ℕ) (b : BlockView) → MaySet v i x b → (bytes : ℕ) → AreAmong (behind_of bytes (with_set v i x b)) (chunk_at x bytes ∷ behind_of bytes v)
-behind_after v i x b m bytes =
+behind_after : (v : Store) (i x : ℕ) (b : BlockView) → MaySet v i x b → (bytes : ℕ) (us : List Used) → SlotsBring i x bytes b us → AreAmong (behind_of bytes (with_set v i x b)) (us ++ behind_of bytes v)
+behind_after v i x b m bytes us slots =
     let n : ℕ = number_of (holder i) in
-    let us : List Used = chunk_at x bytes ∷ [] in
     let own : List Used = chunks_in bytes (slots_in (block_at_part v index_block) index_block) in
     let rest : List Used = flat_map (ranges_of bytes v) visit_order in
     let each : AreAmong (flat_map (ranges_of bytes (with_set v i x b)) visit_order) (flat_map (only n us) visit_order ++ rest) =
     each-among (ranges_of bytes (with_set v i x b)) (only n us) (ranges_of bytes v) visit_order
-    (ByRecursion-same IsPart (λ k. AreAmong (ranges_of bytes (with_set v i x b) k) (only n us k ++ ranges_of bytes v k)) visit_order (λ k p. ranges_after v i x b m bytes k p) visited_parts) in
-    let first : AreAmong (chunks_in bytes (slots_in (block_at_part (with_set v i x b) index_block) index_block)) (only n us index_block ++ own) = chunks_after v i x b m bytes index_block tt in
+    (ByRecursion-same IsPart (λ k. AreAmong (ranges_of bytes (with_set v i x b) k) (only n us k ++ ranges_of bytes v k)) visit_order (λ k p. ranges_after v i x b m bytes us slots k p) visited_parts) in
+    let first : AreAmong (chunks_in bytes (slots_in (block_at_part (with_set v i x b) index_block) index_block)) (only n us index_block ++ own) = chunks_after v i x b m bytes us slots index_block tt in
     let all : AreAmong (behind_of bytes (with_set v i x b)) ((only n us index_block ++ flat_map (only n us) visit_order) ++ (own ++ rest)) =
     part_more (chunks_in bytes (slots_in (block_at_part (with_set v i x b) index_block) index_block)) (flat_map (ranges_of bytes (with_set v i x b)) visit_order) (only n us index_block) (flat_map (only n us) visit_order) own rest first each in
     let once : AreAmong (only n us index_block ++ flat_map (only n us) visit_order) us =
     elim (cases_eq (number_of index_block) n) [
       | inl e ↦ part_as (only n us index_block ++ flat_map (only n us) visit_order) us
-          (ap (λ t. cond t us [] ++ flat_map (only n us) visit_order) (eq-eqb (number_of index_block) n e) ∙ ap (λ l. us ++ l) (none_visited n us (sym e)))
+          (ap (λ t. cond t us [] ++ flat_map (only n us) visit_order) (eq-eqb (number_of index_block) n e) ∙ ap (λ l. us ++ l) (none_visited n us (sym e)) ∙ append-nil us)
       | inr ne ↦ subst (λ (l : List Used). AreAmong l us) (sym (ap (λ t. cond t us [] ++ flat_map (only n us) visit_order) (ne_eqb (number_of index_block) n ne))) (all_once n us)
     ] in
     part_onward (behind_of bytes (with_set v i x b)) ((only n us index_block ++ flat_map (only n us) visit_order) ++ (own ++ rest)) (us ++ (own ++ rest)) all
@@ -258,4 +261,38 @@ behind_after v i x b m bytes =
 pub set_from : (v : Store) (i x : ℕ) (b : BlockView) → MaySet v i x b → IsSet i x v (with_set v i x b)
 set_from v i x b m =
     let l : IsLater v (with_set v i x b) = later_set v i x b m in
-    record { map = map_at v i x b m; behind = behind_after v i x b m; places = λ n. refl; standing = later_standing v (with_set v i x b) l; stands = later_stands v (with_set v i x b) l; marks = λ n h. h }
+    record { map = map_at v i x b m; behind = λ bytes. behind_after v i x b m bytes (chunk_at x bytes ∷ []) (slots_set (header_place v) i x bytes b m.below m.fits (set_suits v i x b m).block); places = λ n. refl; standing = later_standing v (with_set v i x b) l; stands = later_stands v (with_set v i x b) l; marks = λ n h. h }
+
+-- ---- No address
+
+chunks_unset : (bytes : ℕ) (places : List ℕ) (k : ℕ) → AreAmong (chunks_in bytes (set places k undefined)) (chunks_in bytes places)
+chunks_unset bytes [] k = part_none []
+chunks_unset bytes (x ∷ rest) zero =
+    subst (λ (us : List Used). AreAmong us (chunks_in bytes (x ∷ rest))) (sym (chunks_undefined bytes undefined rest refl))
+    (subst (λ (us : List Used). AreAmong (chunks_in bytes rest) us) (sym (chunks_split bytes x rest)) (part_right (one_chunk bytes x) (chunks_in bytes rest)))
+chunks_unset bytes (x ∷ rest) (suc k) =
+    subst (λ (us : List Used). AreAmong us (chunks_in bytes (x ∷ rest))) (sym (chunks_split bytes x (set rest k undefined)))
+    (subst (λ (us : List Used). AreAmong (one_chunk bytes x ++ chunks_in bytes (set rest k undefined)) us) (sym (chunks_split bytes x rest))
+    (part_joined (one_chunk bytes x) (chunks_in bytes (set rest k undefined)) (one_chunk bytes x) (chunks_in bytes rest) (part_itself (one_chunk bytes x)) (chunks_unset bytes rest k)))
+
+slots_unset : (at i bytes : ℕ) (b : BlockView) → i < 131060 → IsBlock at (holder i) b → SlotsBring i undefined bytes b []
+slots_unset at i bytes b lt s =
+    let h : IsHeldAt i = held_at i lt in
+    let k : Part = holder i in
+    let fit = slots_fit k h.part in
+    let len = s.len in
+    let e : slots_in (Some (numbered (slot_offset i) undefined b)) k ≡ set (numbers_in b.bytes (slot_count k) (slots_from k)) h.index undefined =
+    ap (λ o. numbers_in (with_number o undefined b.bytes) (slot_count k) (slots_from k)) h.offset ∙ numbers_in-with_number undefined b.bytes (slot_count k) (slots_from k) h.index h.inside (omega arith) (omega arith) in
+    subst (λ l. AreAmong (chunks_in bytes l) (chunks_in bytes (slots_in (Some b) k))) (sym e) (chunks_unset bytes (numbers_in b.bytes (slot_count k) (slots_from k)) h.index)
+
+pub unset_from : (v : Store) (i : ℕ) (b : BlockView) → MaySet v i undefined b → IsUnset i v (with_set v i undefined b)
+unset_from v i b m =
+    let s : IsSet i undefined v (with_set v i undefined b) = set_from v i undefined b m in
+    record {
+      map = s.map;
+      behind = λ bytes. behind_after v i undefined b m bytes [] (slots_unset (header_place v) i bytes b m.below (set_suits v i undefined b m).block);
+      places = s.places;
+      standing = s.standing;
+      stands = s.stands;
+      marks = s.marks;
+    }

@@ -1,10 +1,8 @@
 -- Which blocks a change leaves as they are.
-use Rattle.std.proofs.Common.{◌≡◌, ◌≢◌, ◌⊎◌, inl, inr, ℕ, ◌<◌, List, [], ◌∷◌, refl, sym, ap, subst, ◌∙◌}
-use Rattle.std.proofs.Math.ListN.{set}
-use Rattle.std.specs.Prelude.{Some}
+use Rattle.std.proofs.Common.{◌≡◌, inl, inr, ℕ, refl, sym, ap, subst, ◌∙◌}
 use Rattle.h5w_cache.specs.Blocks.{BlockView}
-use Rattle.h5w_cache.specs.Stores.{Store, block_of, is_changed, marked, changed_to}
-use Rattle.h5w_array_laws.specs.Parts.{Part, data_of, secondary_of, index_block, header, number_of, parent}
+use Rattle.h5w_cache.specs.Stores.{Store, marked, changed_to}
+use Rattle.h5w_array_laws.specs.Parts.{Part, secondary_of, index_block, header, number_of, parent}
 use Rattle.h5w_ea_index.specs.Steps.{Touches, OnWay}
 use Rattle.h5w_ea_index.proofs.StoreLemmas.{marks, marked-is, marks-other, set-other}
 use Rattle.h5w_ea_index.proofs.ArrayLemmas.{added, added_as, added-is}

@@ -250,7 +250,7 @@ pub record Setting (v u : Store) (i x : ℕ) : Type 0 where
   pub changed : is_changed v (number_of (holder i)) ≡ true
   pub is : IfSome (block_at_part v (holder i)) (λ b. u ≡ with_set v i x b)
 
-setting_block : (v u : Store) (i x : ℕ) → Setting v u i x → (b : BlockView) × MaySet v i x b × (u ≡ with_set v i x b)
+pub setting_block : (v u : Store) (i x : ℕ) → Setting v u i x → (b : BlockView) × MaySet v i x b × (u ≡ with_set v i x b)
 setting_block v u i x s =
     let k = is_some_of (block_at_part v (holder i)) (s.array.kept (number_of (holder i)) s.changed) in
     (k.0, record { below = s.below; fits = s.fits; array = s.array; changed = s.changed; is = k.1 }, of_some (λ b. u ≡ with_set v i x b) (block_at_part v (holder i)) k.0 k.1 s.is)
@@ -271,10 +271,10 @@ setting_other v u i x n s ne =
 pub setting_top : (v u : Store) (i x : ℕ) → Setting v u i x → is_changed u 846 ≡ true
 setting_top v u i x s = (setting_set v u i x s).marks 846 (top_changed v (holder i) (held_at i s.below).part s.array s.changed)
 
-setting_six : (v u : Store) (i x : ℕ) → Setting v u i x → six u ≡ six v
+pub setting_six : (v u : Store) (i x : ℕ) → Setting v u i x → six u ≡ six v
 setting_six v u i x s = ap (λ o. numbers_in (bytes_of o) 6 12) (setting_other v u i x 846 s (holder_other i s.below))
 
-setting_kept : (v u : Store) (i x n : ℕ) → Setting v u i x → is_some (block_of u n) ≡ is_some (block_of v n)
+pub setting_kept : (v u : Store) (i x n : ℕ) → Setting v u i x → is_some (block_of u n) ≡ is_some (block_of v n)
 setting_kept v u i x n s =
     elim (cases_eq n (number_of (holder i))) [
       | inl e ↦

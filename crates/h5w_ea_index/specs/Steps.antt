@@ -28,6 +28,15 @@ pub record IsSet (i address : ℕ) (v w : Store) : Type 0 where
   pub stands : (img : List ℕ) → StandsArray v img → StandsArray w img
   pub marks : (n : ℕ) → is_changed v n ≡ true → is_changed w n ≡ true
 
+-- The map is undefined at one chunk number, and of ranges there is none other; the rest stays as above.
+pub record IsUnset (i : ℕ) (v w : Store) : Type 0 where
+  pub map : (j : ℕ) → map_of w j ≡ (if j == i then undefined else map_of v j)
+  pub behind : (bytes : ℕ) → AreAmong (behind_of bytes w) (behind_of bytes v)
+  pub places : (n : ℕ) → place_of w n ≡ place_of v n
+  pub standing : (s : Space) → Standing v s → Standing w s
+  pub stands : (img : List ℕ) → StandsArray v img → StandsArray w img
+  pub marks : (n : ℕ) → is_changed v n ≡ true → is_changed w n ≡ true
+
 -- an address, where it is defined
 abbrev pub found : ℕ → Option ℕ
 found a = if a == undefined then None else Some a

@@ -1,15 +1,15 @@
 //! The addresses of chunks in the blocks that are kept.
 
-ghost use Rattle.std.specs.Prelude.{◌≡◌, ◌≢◌, ℕ, ◌+◌, ◌*◌, ◌<◌, ◌≤◌, ◌^◌, true, IfSome, OnOk, length};
+ghost use Rattle.std.specs.Prelude.{◌≡◌, ◌≢◌, ◌⊎◌, ℕ, ◌+◌, ◌-◌, ◌*◌, ◌<◌, ◌≤◌, ◌^◌, true, IfSome, OnOk, length};
 ghost use Rattle.h5w_model.specs.Numbers.{undefined};
 ghost use Rattle.h5w_cache.specs.Stores.{block_of, is_changed};
 ghost use Rattle.h5w_array_laws.specs.Parts.{IsPart, holder, number_of};
 ghost use Rattle.h5w_array_laws.specs.ArrayStores.{IsArray, IsNumbered, address_in, map_of};
 ghost use Rattle.h5w_ea_index.specs.Fresh.{part_of};
-ghost use Rattle.h5w_ea_index.specs.Steps.{IsHeld, IsSet, IsSlotOrHeader, OnWay, Touches};
+ghost use Rattle.h5w_ea_index.specs.Steps.{IsHeld, IsSet, IsSlotOrHeader, IsUnset, OnWay, Touches};
 
 use crate::fresh::data_number;
-use crate::header::reach;
+use crate::header::{max_index_set, reach, set_max_index};
 use crate::slot::{Holder, INDEX_BLOCK, locate};
 use crate::way::{hold_in_place, hold_way};
 use h5w_bytes::{UNDEFINED, number};
@@ -98,4 +98,38 @@ pub fn set(cache: &mut Cache, i: u64, address: u64)
     let slot = locate(i);
     cache.set_number(holder_number(slot.holder), slot.offset, address);
     reach(cache, i + 1);
+}
+
+/// One more than the greatest chunk number below `count` that has an address, 0 where none has.
+fn last_set(cache: &Cache, count: u64) -> u64
+    requires below { count ≤ 131060 }
+    requires array { IsArray cache.now }
+    ensures above { (j : ℕ) → result ≤ j → j < count → map_of cache.now j ≡ undefined }
+    ensures least { (result ≡ 0) ⊎ (map_of cache.now (result - 1) ≢ undefined) }
+{
+    let mut last = count;
+    for _step in 0..count {
+        if address(cache, last - 1) != UNDEFINED {
+            return last;
+        }
+        last -= 1;
+    }
+    0
+}
+
+/// Chunk number `i` has no address from now on.
+pub fn unset(cache: &mut Cache, i: u64)
+    requires below { i < 131060 }
+    requires array { IsArray cache.old }
+    requires numbered { IsNumbered cache.old }
+    requires changed { is_changed cache.old (number_of (holder i)) ≡ true }
+    ensures array { IsArray cache.new }
+    ensures numbered { IsNumbered cache.new }
+    ensures unset { IsUnset i cache.old cache.new }
+    ensures way { Touches (IsSlotOrHeader i) cache.old cache.new }
+{
+    let slot = locate(i);
+    cache.set_number(holder_number(slot.holder), slot.offset, UNDEFINED);
+    let count = last_set(cache, max_index_set(cache));
+    set_max_index(cache, count);
 }

@@ -95,3 +95,20 @@ pub fn reach(cache: &mut Cache, count: u64)
     let now = read(cache, MAX_INDEX_SET);
     write(cache, MAX_INDEX_SET, now.max(count));
 }
+
+/// The max index set.
+pub fn max_index_set(cache: &Cache) -> u64
+    requires array { IsArray cache.now }
+    ensures { result ≡ number_at 4 cache.now }
+{
+    read(cache, MAX_INDEX_SET)
+}
+
+/// The max index set is this many.
+pub fn set_max_index(cache: &mut Cache, count: u64)
+    requires array { IsArray cache.old }
+    requires changed { is_changed cache.old 846 ≡ true }
+    ensures { IsCounted (with_at 4 count (six cache.old)) cache.old cache.new }
+{
+    write(cache, MAX_INDEX_SET, count);
+}

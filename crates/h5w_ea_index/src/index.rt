@@ -1,19 +1,20 @@
-ghost use Rattle.std.specs.Prelude.{◌≡◌, ◌≢◌, ℕ, ◌+◌, ◌<◌, ◌^◌, IsTrue, IfErr, IfOk, OnErr, OnOk};
+ghost use Rattle.std.specs.Prelude.{◌≡◌, ◌≢◌, ℕ, ◌+◌, ◌<◌, ◌^◌, IsTrue, IfErr, IfOk, OnErr, OnOk, length};
 ghost use Rattle.h5w_model.specs.Numbers.{undefined};
 ghost use Rattle.h5w_cache.specs.Plans.{HasNoRoom, IfFull};
+ghost use Rattle.h5w_cache.specs.Starts.{IsBegun, copy_pieces, in_place_pieces};
 ghost use Rattle.h5w_cache.specs.Stores.{is_changed};
 ghost use Rattle.h5w_array_laws.specs.Parts.{header, holder, index_block, number_of};
 ghost use Rattle.h5w_array_laws.specs.ArrayStores.{IsArray, IsCreated, IsNumbered, bytes_at_part, map_of};
 ghost use Rattle.h5w_array_laws.specs.ArrayImages.{StartsArray};
 ghost use Rattle.h5w_array_laws.specs.ArrayPlans.{IsArrayPlan};
-ghost use Rattle.h5w_ea_index.specs.Steps.{IsHeld, IsSet, IsSlotOrHeader, OnWay, Touches, found};
+ghost use Rattle.h5w_ea_index.specs.Steps.{IsHeld, IsSet, IsSlotOrHeader, IsUnset, OnWay, Touches, found};
 
 use crate::address;
 use crate::create::create;
-use crate::plan::plan;
+use crate::plan::finish;
 use crate::slot::{HEADER, INDEX_BLOCK, bytes};
 use h5w_bytes::UNDEFINED;
-use h5w_cache::{Cache, Plan, PlanError};
+use h5w_cache::{Begun, Cache, Plan, PlanError};
 use h5w_model::OutOfMemory;
 use h5w_space::Places;
 use std::alloc::Global;
@@ -107,6 +108,47 @@ impl ArrayIndex {
         address::set(&mut self.cache, i, address);
     }
 
+    /// Chunk number `i`, whose slot is held, has no address from now on, and each other one that which it had.
+    pub fn unset(&mut self, i: u64)
+        requires below { i < 131060 }
+        requires held { IsTrue (is_changed self.old (number_of (holder i))) }
+        ensures unset { IsUnset i self.old self.new }
+        ensures way { Touches (IsSlotOrHeader i) self.old self.new }
+        ensures array { IsArray self.new }
+        ensures numbered { IsNumbered self.new }
+    {
+        address::unset(&mut self.cache, i);
+    }
+
+    /// Begins the plan of all changed blocks: takes all memory and places that [`ArrayIndex::finish`] needs, and changes nothing.
+    pub fn begin(&self, places: &Places) -> Result<Begun, PlanError>
+        ensures begun { IfOk result (λ b. IsBegun self.now.blocks self.now.places self.now.changed places.now b) }
+        // the first block in turn that has no room
+        ensures full { IfErr result (λ e. IfFull e (HasNoRoom self.now.blocks self.now.places self.now.changed places.now)) }
+        ensures array { IsArray self.now }
+        ensures numbered { IsNumbered self.now }
+    {
+        self.cache.begin(places)
+    }
+
+    /// The writes of all changed blocks, those in place last, of a plan that was begun of this array and these places: data blocks and
+    /// secondary blocks at new places, the index block and the header where they stand. All are clean from then on.
+    ///
+    /// It cannot fail.
+    pub fn finish(&mut self, places: &mut Places, begun: Begun) -> Plan
+        requires { IsBegun self.old.blocks self.old.places self.old.changed places.old begun }
+        ensures planned { IsArrayPlan self.old places.old result.moves.items result.copies.items result.in_place.items self.new places.new }
+        ensures array { IsArray self.new }
+        ensures numbered { IsNumbered self.new }
+        // as it was begun
+        ensures moves { result.moves.items ≡ begun.moves }
+        ensures copies { length result.copies.items ≡ copy_pieces begun }
+        ensures in_place { length result.in_place.items ≡ in_place_pieces begun }
+        ensures end { places.new.end ≡ begun.next.end }
+    {
+        finish(&mut self.cache, places, begun)
+    }
+
     /// The writes of all changed blocks, those in place last: data blocks and secondary blocks at new places, the index block and the
     /// header where they stand. All are clean from then on.
     ///
@@ -120,7 +162,8 @@ impl ArrayIndex {
         ensures kept { OnErr result (self.new ≡ self.old) }
         ensures places { OnErr result (places.new ≡ places.old) }
     {
-        plan(&mut self.cache, places)
+        let begun = self.begin(places)?;
+        Ok(self.finish(places, begun))
     }
 
     /// A copy.
