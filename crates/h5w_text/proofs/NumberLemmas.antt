@@ -1,9 +1,23 @@
 -- Numbers of digits, and their limits.
-use Rattle.std.proofs.Common.{ℕ, ◌+◌, ◌-◌, ◌*◌, ◌/◌, ◌%◌, ◌^◌, ◌++◌, ◌<◌, ◌≤◌, ◌≡◌, List, [], ◌∷◌, Option, Some, None, sym, refl, ap, ◌∙◌, arith, tests}
-use Rattle.std.specs.Prelude.{decimal}
-use Rattle.std.proofs.lemmas.List.{append_assoc}
-use Rattle.std.proofs.lemmas.Fmt.{decimal_digit, decimal_step_wide}
-use Rattle.h5w_text.specs.Lines.{below, number_from}
+use Rattle.std.proofs.Common.{ℕ, suc, ◌+◌, ◌-◌, ◌*◌, ◌%◌, ◌^◌, ◌++◌, ◌<◌, ◌≤◌, ◌≡◌, Bool, true, false, not, ◌||◌, eqb, leb, le-leb, List, [], ◌∷◌, length, take, drop, get_or, Option, Some, None, ℤ, pos, negsuc, sym, refl, ap, subst, ◌∙◌, arith, tests}
+use Rattle.std.specs.Prelude.{decimal, option_and_then, slice_range}
+use Rattle.std.specs.Fmt.{signed_decimal}
+use Rattle.std.specs.List.{list_all}
+use Rattle.std.specs.Char.{digit_value}
+use Rattle.std.specs.Str.Parse.{AllDigits, digits_value, digits_value_after}
+use Rattle.std.specs.Float.Numeral.{digits_len}
+use Rattle.std.proofs.Math.Nat.{pow-le-pow_right}
+use Rattle.std.proofs.lemmas.Bool.{eqb-true, ne_eqb, not-true}
+use Rattle.std.proofs.lemmas.List.{append_assoc, length-take-le, get_or-take}
+use Rattle.std.proofs.lemmas.Int.Digits.{digits_value-lt}
+use Rattle.std.proofs.lemmas.Str.Parse.{digit_from_value}
+use Rattle.core.proofs.dec2flt.DigitsLemmas.{is_digit as digit_of}
+use Rattle.core.proofs.dec2flt.Rows.{AllDigits-digits_len}
+use Rattle.h5w_text.specs.Bytes.{Lacks}
+use Rattle.h5w_text.specs.Lines.{below, below_zero, is_digit, natural_of, number_from, value_of}
+use Rattle.h5w_text.specs.Replies.{spaced_value}
+use Rattle.h5w_text.specs.Table.{value_text}
+use Rattle.h5w_text.specs.WordLists.{LeadsWith}
 
 pub number_from_ge : (n : ℕ) (ds : List ℕ) → n ≤ number_from n ds
 number_from_ge n [] = omega arith
@@ -18,10 +32,83 @@ pub below_below : (low high : ℕ) (o : Option ℕ) → low ≤ high → below l
 below_below low high None h = refl
 below_below low high (Some n) h = grind (arith, tests)
 
--- the text of a digit, behind some bytes
-pub decimal_one : (front : List ℕ) (n : ℕ) → n < 10 → front ++ (48 + n) ∷ [] ≡ front ++ decimal n
-decimal_one front n h = ap (λ l. front ++ l) (sym (decimal_digit n h))
+-- ---- Numbers of few digits
 
--- the text of a number is that of its tenth and the last digit
-pub decimal_more : (front : List ℕ) (n : ℕ) → 10 ≤ n → n < 2 ^ 128 → (front ++ decimal (n / 10)) ++ (48 + n % 10) ∷ [] ≡ front ++ decimal n
-decimal_more front n h small = append_assoc front (decimal (n / 10)) ((48 + n % 10) ∷ []) ∙ ap (λ l. front ++ l) (sym (decimal_step_wide n h (omega arith)))
+-- each digit is one of ours
+pub all_are : (ds : List ℕ) → AllDigits 10 ds → list_all is_digit ds ≡ true
+all_are [] h = refl
+all_are (d ∷ ds) h = let range = digit_from_value d h.0 in let e : is_digit d ≡ true = (digit_of d range.0 range.1).0 in rw e (all_are ds h.1)
+
+-- their value is ours
+pub value_is : (n : ℕ) (ds : List ℕ) → AllDigits 10 ds → digits_value_after 10 n ds ≡ number_from n ds
+value_is n [] h = refl
+value_is n (d ∷ ds) h = let range = digit_from_value d h.0 in
+    value_is (n * 10 + digit_value d) ds h.1 ∙ ap (λ m. number_from m ds) (omega (arith, (digit_of d range.0 range.1).1))
+
+-- no digit is a space
+pub digits_lack : (ds : List ℕ) → AllDigits 10 ds → Lacks 32 ds
+digits_lack [] h = tt
+digits_lack (d ∷ ds) h = let range = digit_from_value d h.0 in (ne_eqb d 32 (λ e. omega arith), digits_lack ds h.1)
+
+-- so few digits make a number below 2^64
+pub digits_small : (ds : List ℕ) → AllDigits 10 ds → length ds ≤ 18 → digits_value 10 ds < 2 ^ 64
+digits_small ds h few = let most : 10 ^ length ds ≤ 10 ^ 18 = pow-le-pow_right (omega arith) few in omega (arith, digits_value-lt 10 ds h)
+
+lean_one : (d : ℕ) (t : Bool) → eqb d 48 ≡ t → 48 ≤ d → d ≤ 57 → natural_of (d ∷ []) ≡ Some (number_from 0 (d ∷ []))
+lean_one d true e low high = let is : d ≡ 48 = eqb-true d 48 e in rw is refl
+lean_one d false e low high = let digit : is_digit d ≡ true = (digit_of d low high).0 in rw e (rw digit refl)
+
+lean_more : (d c : ℕ) (ds : List ℕ) → AllDigits 10 (d ∷ c ∷ ds) → length (d ∷ c ∷ ds) ≤ 18 → eqb d 48 ≡ false → natural_of (d ∷ c ∷ ds) ≡ Some (number_from 0 (d ∷ c ∷ ds))
+lean_more d c ds h few e =
+    let range = digit_from_value d h.0 in
+    let digit : is_digit d ≡ true = (digit_of d range.0 range.1).0 in
+    let others : list_all is_digit (c ∷ ds) ≡ true = all_are (c ∷ ds) h.1 in
+    let short : leb (length (c ∷ ds)) 38 ≡ true = le-leb _ _ (omega arith) in
+    rw e (rw digit (rw others (rw short refl)))
+
+-- digits without a zero before them are a number
+pub lean : (ds : List ℕ) → AllDigits 10 ds → 1 ≤ length ds → length ds ≤ 18 → (eqb (length ds) 1 || not (eqb (get_or ds 0 0) 48)) ≡ true → natural_of ds ≡ Some (number_from 0 ds)
+lean [] h some few l = absurd (omega arith)
+lean (d ∷ []) h some few l = let range = digit_from_value d h.0 in lean_one d (eqb d 48) refl range.0 range.1
+lean (d ∷ c ∷ ds) h some few l = let two : eqb (length (d ∷ c ∷ ds)) 1 ≡ false = ne_eqb _ _ (λ e. omega (arith, e)) in lean_more d c ds h few (not-true (eqb d 48) (rw two at l))
+
+-- what the first digits of a line spell
+pub leads_natural : (line : List ℕ) (len n : ℕ) → len ≡ digits_len line → len ≤ length line → n ≡ (0 * 10 ^ (len - 0) + digits_value 10 (slice_range line 0 len)) % 2 ^ 64 → 1 ≤ len → len ≤ 18
+    → (eqb len 1 || not (eqb (get_or line 0 0) 48)) ≡ true → (len < length line → drop len line ≡ 32 ∷ drop (len + 1) line) → LeadsWith natural_of line len n
+leads_natural line len n is within value some few l ends =
+    let ds : List ℕ = take len line in
+    let digits : AllDigits 10 ds = AllDigits-digits_len line len (omega arith) in
+    let long : length ds ≡ len = length-take-le len line within in
+    let first : get_or ds 0 0 ≡ get_or line 0 0 = get_or-take len line 0 0 some in
+    let piece : slice_range line 0 len ≡ ds = (let none : len - 0 ≡ len = omega arith in ap (λ k. take k line) none) in
+    let read : n ≡ digits_value 10 ds = omega (arith, value, ap (digits_value 10) piece, digits_small ds digits (omega arith)) in
+    record {
+      within = within;
+      lacks = digits_lack ds digits;
+      ends = ends;
+      value = lean ds digits (omega arith) (omega arith) (rw (long, first) l) ∙ ap Some (sym (value_is 0 ds digits) ∙ sym read);
+    }
+
+signed_value : (o : Option ℕ) (n : ℕ) (v : ℤ) → o ≡ Some n → below_zero n ≡ Some v → option_and_then below_zero o ≡ Some v
+signed_value o n v e z = ap (option_and_then below_zero) e ∙ z
+
+-- the same behind a sign
+pub leads_negative : (line ds : List ℕ) (len n : ℕ) (v : ℤ) → line ≡ 45 ∷ ds → LeadsWith natural_of ds len n → Some v ≡ below_zero n → LeadsWith value_of line (len + 1) v
+leads_negative line ds len n v is l z = let more : len + 1 ≡ suc len = omega arith in
+    subst (λ (xs : List ℕ). LeadsWith value_of xs (len + 1) v) (sym is) (subst (λ (k : ℕ). LeadsWith value_of (45 ∷ ds) k v) (sym more) (record {
+      within = omega (arith, l.within);
+      lacks = (refl, l.lacks);
+      ends = λ h. (let yet : suc len + 1 ≡ suc (len + 1) = omega arith in subst (λ (k : ℕ). drop len ds ≡ 32 ∷ drop k (45 ∷ ds)) (sym yet) (l.ends (omega arith)));
+      value = signed_value (natural_of (take len ds)) n v l.value (sym z);
+    }))
+
+-- ---- Texts of values
+
+pub value_text_is : (v : ℤ) → signed_decimal v ≡ value_text v
+value_text_is (pos n) = refl
+value_text_is (negsuc n) = refl
+
+-- a space and a value behind some bytes
+pub spaced_value_is : (front : List ℕ) (v : ℤ) → (front ++ 32 ∷ []) ++ value_text v ≡ front ++ spaced_value v
+spaced_value_is front (pos n) = append_assoc front (32 ∷ []) (decimal n)
+spaced_value_is front (negsuc n) = append_assoc front (32 ∷ []) (45 ∷ decimal (suc n))

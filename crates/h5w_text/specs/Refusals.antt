@@ -2,7 +2,6 @@
 -- digits, all else in decimal.
 use Rattle.std.specs.Prelude.{ℕ, zero, suc, ◌+◌, ◌/◌, ◌%◌, List, [], ◌∷◌, ◌++◌, flat_map, nat_lt, if◌then◌else◌, codes}
 use Rattle.h5w_model.specs.declared.refusal.Sums.{Sums}
-use Rattle.h5w_model.specs.declared.refusal.Unsupported.{Unsupported}
 use Rattle.h5w_model.specs.declared.refusal.BlockFault.{BlockFault}
 use Rattle.h5w_model.specs.declared.refusal.BlockFault.TheVariants as faults
 use Rattle.h5w_model.specs.declared.refusal.SuperError.{SuperError}

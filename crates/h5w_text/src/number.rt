@@ -1,7 +1,10 @@
-ghost use Rattle.std.specs.Prelude.{◌≡◌, ◌≤◌, ◌<◌, ◌+◌, ◌*◌, ◌-◌, ◌^◌, IsTrue, Some, None, if◌then◌else◌};
+ghost use Rattle.std.specs.Prelude.{◌≡◌, ◌≤◌, ◌<◌, ◌∷◌, ◌+◌, ◌*◌, ◌-◌, ◌^◌, ◌==◌, ◌||◌, not, length, drop, IfSome, IsTrue, Some, None, if◌then◌else◌};
 ghost use Rattle.std.specs.List.{list_all};
 ghost use Rattle.std.specs.Option.{SomeIff};
 ghost use Rattle.h5w_text.specs.Lines.{below, below_zero, count_of, is_digit, natural_of, number_from, value_of};
+ghost use Rattle.h5w_text.specs.WordLists.{LeadsWith};
+
+use core::dec2flt::read_digits;
 
 /// The number with one more digit; None where 128 bits are too few.
 fn with_digit(n: u128, digit: u8) -> Option<u128>
@@ -51,6 +54,7 @@ pub fn count(word: &[u8]) -> Option<u64>
 }
 
 /// The number below zero, where 128 bits are enough.
+#[inline(always)]
 fn negated(n: u128) -> Option<i128>
     ensures { result ≡ below_zero n }
 {
@@ -68,5 +72,62 @@ pub fn value(word: &[u8]) -> Option<i128>
     match word {
         [b'-', digits @ ..] => negated(natural(digits)?),
         _ => i128::try_from(natural(word)?).ok(),
+    }
+}
+
+/// Whether so many digits, of which this is the first, have no zero before them.
+#[inline(always)]
+fn is_lean(first: u8, len: usize) -> bool
+    ensures { result ≡ (len == 1 || not (first == 48)) }
+{
+    len == 1 || first != b'0'
+}
+
+/// Whether a word of so many bytes ends there: the line ends, or a space follows.
+#[inline(always)]
+fn is_end(line: &[u8], len: usize) -> bool
+    requires { len ≤ length line.now }
+    ensures { IsTrue result → len < length line.now → drop len line.now ≡ 32 ∷ drop (len + 1) line.now }
+{
+    len == line.len() || line[len] == b' '
+}
+
+/// The number that a line's first word spells, where it has at most 18 digits, behind the word's length.
+#[inline(always)]
+fn short_natural(line: &[u8]) -> Option<(usize, u64)>
+    ensures { IfSome result (λ r. LeadsWith natural_of line.now r.0 r.1) }
+{
+    let (len, n) = read_digits(line, 0, 0);
+    if len == 0 {
+        return None;
+    }
+    if len > 18 {
+        return None;
+    }
+    if !is_lean(line[0], len) {
+        return None;
+    }
+    if !is_end(line, len) {
+        return None;
+    }
+    Some((len, n))
+}
+
+/// The value that a line's first word spells, where it has at most 18 digits, behind the word's length. None says
+/// nothing of the word.
+#[inline(always)]
+pub fn short_value(line: &[u8]) -> Option<(usize, i128)>
+    ensures { IfSome result (λ r. LeadsWith value_of line.now r.0 r.1) }
+{
+    match line {
+        [b'-', digits @ ..] => {
+            let (len, n) = short_natural(digits)?;
+            let v = negated(u128::from(n))?;
+            Some((len + 1, v))
+        }
+        _ => {
+            let (len, n) = short_natural(line)?;
+            Some((len, i128::from(n)))
+        }
     }
 }

@@ -1,4 +1,4 @@
-ghost use Rattle.std.specs.Prelude.{◌≡◌, ◌≤◌, ℕ, Some, None, option_map};
+ghost use Rattle.std.specs.Prelude.{◌≡◌, ◌≤◌, ◌++◌, ℕ, length, Some, None, Err, option_map, OnOk, OnErr};
 ghost use Rattle.std.specs.Result.{MatchResult};
 ghost use Rattle.h5w_model.specs.Lawful.{opens, refreshes};
 ghost use Rattle.h5w_text.specs.Lines.{values_of};
@@ -95,19 +95,38 @@ fn at_end(mut words: Words, line: ScriptLine) -> Option<ScriptLine>
     }
 }
 
-/// The values of words, each of them a value.
+/// Takes the short values that stand next, and adds them. It stops before any other word.
+#[inline(always)]
+#[tactic(auto, using(crate::proofs::ScriptLemmas::values_more))]
+fn short_values(words: &mut Words<'_>, values: &mut Vec<i128>) -> Result<(), TextError>
+    ensures same { OnOk result (option_map (λ vs. values.old.items ++ vs) (values_of words.old) ≡ option_map (λ vs. values.new.items ++ vs) (values_of words.new)) }
+    ensures fewer { OnOk result (length words.new ≤ length words.old) }
+    ensures memory { OnErr result (result ≡ Err TextError.OutOfMemory) }
+{
+    while let Some(value) = words.next_short() {
+        values.push(value)?;
+    }
+    Ok(())
+}
+
+/// The values of words, each of them a value. There is room for all of them from the beginning: each but the first
+/// has a space before it.
 #[tactic(auto, using(crate::proofs::ScriptLemmas::values_more))]
 fn values(alloc: Global, mut words: Words) -> Result<Vec<i128>, TextError>
     ensures { MatchResult result (λ values. values_of words.entry ≡ Some values.items) (λ e. e ≡ TextError.Grammar → values_of words.entry ≡ None) }
 {
     let mut values = Vec::new(alloc);
-    while let Some(word) = words.next() {
+    values.reserve(words.most_spaces() / 2 + 1)?;
+    loop {
+        short_values(&mut words, &mut values)?;
+        let Some(word) = words.next() else {
+            return Ok(values);
+        };
         let Some(value) = value(word) else {
             return Err(TextError::Grammar);
         };
         values.push(value)?;
     }
-    Ok(values)
 }
 
 fn append(alloc: Global, words: Words, columns: u64) -> Result<ScriptLine, TextError>

@@ -1,6 +1,8 @@
-ghost use Rattle.std.specs.Prelude.{◌≡◌, ◌∷◌, [], None, MatchOption};
+ghost use Rattle.std.specs.Prelude.{◌≡◌, ◌∷◌, ◌≤◌, ◌+◌, [], None, length, MatchOption};
 ghost use Rattle.h5w_text.specs.Lines.{words_of};
+ghost use Rattle.h5w_text.specs.WordLists.{FirstSpells};
 
+use crate::number::short_value;
 use crate::places::first_place;
 use std::marker::Model;
 
@@ -27,7 +29,19 @@ impl<'a> Words<'a> {
         Words { rest: Some(line) }
     }
 
+    /// At least as many as there are spaces between the words left.
+    #[tactic(auto, using(crate::proofs::WordLemmas::most_left))]
+    pub fn most_spaces(&self) -> usize
+        ensures { length self.now ≤ result + 1 }
+    {
+        match self.rest {
+            Some(rest) => rest.len(),
+            None => 0,
+        }
+    }
+
     /// Takes the next word.
+    #[inline(always)]
     #[tactic(auto, using(crate::proofs::WordLemmas::words_cut, crate::proofs::WordLemmas::words_end))]
     pub fn next(&mut self) -> Option<&'a [u8]>
         ensures words { MatchOption result (self.old ≡ []) (λ word. self.old ≡ word.now ∷ self.new) }
@@ -41,5 +55,20 @@ impl<'a> Words<'a> {
         }
         self.rest = Some(&line[place + 1..]);
         Some(&line[..place])
+    }
+
+    /// Takes the next word and gives its value, where it is one of at most 18 digits. None: no word is taken.
+    #[inline(always)]
+    pub fn next_short(&mut self) -> Option<i128>
+        ensures { MatchOption result (self.new ≡ self.old) (λ v. FirstSpells v self.old self.new) }
+    {
+        let line = self.rest?;
+        let (len, v) = short_value(line)?;
+        if len == line.len() {
+            self.rest = None;
+            return Some(v);
+        }
+        self.rest = Some(&line[len + 1..]);
+        Some(v)
     }
 }
