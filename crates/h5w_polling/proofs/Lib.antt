@@ -8,3 +8,4 @@ pub mod BoundLemmas
 pub mod LookLemmas
 pub mod ScriptLemmas
 pub mod OneByOneLemmas
+pub mod LookupLemmas

@@ -3,3 +3,4 @@ pub mod Premises
 pub mod Laws
 pub mod Scripts
 pub mod OneByOne
+pub mod Lookups

@@ -6,10 +6,12 @@
 
 mod calls;
 mod looks;
+mod lookups;
 mod one_by_one;
 mod scripts;
 
 pub use calls::{call_begins, other_events};
 pub use looks::looks_reply;
+pub use lookups::lookups_visit;
 pub use one_by_one::looks_one_by_one;
 pub use scripts::{begin_lines, look_lines, writer_lines};

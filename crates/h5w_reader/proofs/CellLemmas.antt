@@ -14,14 +14,18 @@ one_more d n some =
     let sum : d + n ≡ (n / d + 1) * d + n % d = omega arith in
     ap (λ m. m / d) sum ∙ div-mul-add (n / d + 1) d (n % d) (mod_below n d some) ∙ (omega arith)
 
+-- one cell more is one value more
+pub cells_count : (size : ℕ) (old cell left : List ℕ) → 0 < size → old ≡ cell ++ left → length cell ≡ size → length old / size ≡ suc (length left / size)
+cells_count size old cell left some e is =
+    let long : length old ≡ size + length left = ap length e ∙ length-append cell left ∙ ap (λ n. n + length left) is in
+    ap (λ n. n / size) long ∙ one_more size (length left) some
+
 -- the first cell, and the others
 pub cells_next : (t : IntTypeFields) (old cell left : List ℕ) → 0 < t.size → old ≡ cell ++ left → length cell ≡ t.size
     → cell_values t (length old / t.size) old ≡ value_at cell t ∷ cell_values t (length left / t.size) left
 unfolding cell_values
 cells_next t old cell left some e size =
-    let long : length old ≡ t.size + length left = ap length e ∙ length-append cell left ∙ ap (λ n. n + length left) size in
-    let count : length old / t.size ≡ suc (length left / t.size) = ap (λ n. n / t.size) long ∙ one_more t.size (length left) some in
-    ap (λ n. cell_values t n old) count
+    ap (λ n. cell_values t n old) (cells_count t.size old cell left some e size)
     ∙ ap (λ (b : List ℕ). value_at (take t.size b) t ∷ cell_values t (length left / t.size) (drop t.size b)) e
     ∙ ap (λ (b : List ℕ). value_at b t ∷ cell_values t (length left / t.size) (drop t.size (cell ++ left))) (take_at cell left t.size size)
     ∙ ap (λ (b : List ℕ). value_at cell t ∷ cell_values t (length left / t.size) b) (drop_at cell left t.size size)

@@ -1,24 +1,29 @@
 -- A reader's calls.
-use Rattle.std.proofs.Common.{◌≡◌, ℕ, ◌<◌, List, [], Option, Some, None, Result, Ok, sym, ◌∙◌, ap, subst, arith, cond, refl}
+use Rattle.std.proofs.Common.{◌≡◌, ℕ, ◌<◌, List, [], Option, Some, None, Result, Ok, sym, ◌∙◌, ◌-◌, ap, subst, arith, cond, refl}
 use Rattle.std.specs.Prelude.{option_map}
 use Rattle.std.proofs.lemmas.Bool.{ne_eqb}
 use Rattle.h5w_model.specs.Programs.{Prog, ret, fed}
 use Rattle.h5w_model.specs.Tables.{Reading}
+use Rattle.h5w_model.specs.Headers.{header_view}
 use Rattle.h5w_model.specs.Calls.{open_call, rows_call, values_call}
 use Rattle.h5w_model.specs.Unfinished.{rows_left, values_left, Reader, fed_left, rows_program, values_program}
 use Rattle.h5w_model.specs.declared.refusal.ReadError.{ReadError}
 use Rattle.h5w_reader.specs.Attempts.{reader_limits, reading_of, known_of, rules_of}
-use Rattle.h5w_reader.specs.Calling.{stage_left, came, same_rest}
+use Rattle.h5w_reader.specs.Calling.{stage_left, came}
+use Rattle.h5w_reader.specs.Idle.{IsIdle}
 use Rattle.h5w_reader.specs.Values.{reading_values}
 use Rattle.h5w_reader.specs.Readers.{reader_rules, new_reader, reader_of, left_of, reads_left}
 use Rattle.h5w_reader.specs.Descents.{reading_news}
 use Rattle.h5w_reader.specs.declared.known.Known.{Known}
+use Rattle.h5w_reader.specs.declared.known.Rules.{Rules}
 use Rattle.h5w_reader.specs.declared.news.News.{News}
 use Rattle.h5w_reader.specs.declared.stage.Stage.{Stage}
+use Rattle.h5w_reader.specs.declared.stage.Stage.TheVariants as stages
 use Rattle.h5w_reader.specs.declared.stage.Came.TheVariants as came_by
 use Rattle.h5w_reader.specs.declared.values.Reads.{Reads}
 use Rattle.h5w_reader.specs.declared.call.Call.{Call}
 use Rattle.h5w_reader.specs.declared.call.Call.TheVariants as calls
+use Rattle.h5w_reader.proofs.CallLemmas.{rows_begin, rows_given_is, attempt_settled}
 
 -- a reader that knows this, with a call for rows of which this is left
 abbrev for_rows : ℕ → List ℕ → Option Known → Prog (Result Reading ReadError) → Reader
@@ -60,8 +65,13 @@ pub found_rows : (most : ℕ) (name b : List ℕ) (k : Option Known) (call : Opt
 found_rows most name b k call s news e h = ap (λ x. option_map (fed_left b) (left_of most name k x)) e ∙ ap (λ p. Some (rows_left p)) (sym h)
 
 -- all is as it is known
-pub same_rows : (most : ℕ) (name b : List ℕ) (k : Option Known) (call : Option Call) (s : Stage) (known : Known) → call ≡ Some (calls.Rows s) → k ≡ Some known → came most name (known_of k) came_by.Same ≡ fed b (stage_left most name (known_of k) s)
+pub idle_rows : (most : ℕ) (name b : List ℕ) (k : Option Known) (call : Option Call) (rules : Rules) (known : Known) → call ≡ Some (calls.Rows (stages.Header rules)) → k ≡ Some known → IsIdle (rules_of rules (known_of k)) (header_view b)
     → option_map (fed_left b) (left_of most name k call) ≡ Some (rows_left (ret (Ok (reading_of known))))
-same_rows most name b k call s known e is h =
+idle_rows most name b k call rules known e is idle =
+    let g = rules_of rules (known_of k) in
+    let some : Some idle.reading ≡ Some (reading_of known) = sym idle.known ∙ ap known_of is in
+    let same : idle.reading ≡ reading_of known = cc in
     ap (λ x. option_map (fed_left b) (left_of most name k x)) e
-    ∙ ap (λ p. Some (rows_left p)) (sym h ∙ ap (λ x. same_rest (known_of x)) is)
+    ∙ ap (λ (p : Prog (Result Reading ReadError)). Some (rows_left (fed b p))) (rows_begin g)
+    ∙ ap (λ (p : Prog (Result Reading ReadError)). Some (rows_left p)) (rows_given_is g b ∙ sym (attempt_settled g (g.attempts - 1) (header_view b) idle.reading idle.uncut idle.settled))
+    ∙ ap (λ (r : Reading). let p : Prog (Result Reading ReadError) = ret (Ok r) in Some (rows_left p)) same

@@ -95,7 +95,7 @@ view_long : (look : List ℕ) (p : Prefix) → prefix_at look ≡ Ok p → 512 <
 unfolding header_view view_given
 view_long look p e h = ap (view_given look) e ∙ rw (lt-ltb 512 p.total h) refl
 
-view_short : (look : List ℕ) (p : Prefix) → prefix_at look ≡ Ok p → p.total ≤ 512 → header_view look ≡ take p.total look
+pub view_short : (look : List ℕ) (p : Prefix) → prefix_at look ≡ Ok p → p.total ≤ 512 → header_view look ≡ take p.total look
 unfolding header_view view_given
 view_short look p e h = ap (view_given look) e ∙ rw (le-ltb 512 p.total h) refl
 

@@ -1,4 +1,5 @@
 pub mod PieceLemmas
+pub mod AbsorbLemmas
 pub mod ListedLemmas
 pub mod WalkLemmas
 pub mod ViewLemmas

@@ -97,12 +97,6 @@ stage_left most name known (stages.Header r) = rows_rest (rules_of r known)
 stage_left most name known (stages.Behind a b) = bind (behind_left (rules_of a.rules known) b) (confirm_rest (rules_of a.rules known) a.more a.view)
 stage_left most name known (stages.Confirm a r) = confirm_rest (rules_of a.rules known) a.more a.view (viewed (reading_news known) r)
 
--- what is known, where something is
-abbrev pub same_rest : Option Reading → Prog (Result Reading ReadError)
-same_rest None = ret (Err read_errors.OutOfMemory)
-same_rest (Some r) = ret (Ok r)
-
 abbrev pub came : ℕ → List ℕ → Option Reading → Came → Prog (Result Reading ReadError)
-came most name known came_by.Same = same_rest known
 came most name known (came_by.Answer r) = ret (viewed (reading_news known) r)
 came most name known (came_by.Looks s) = stage_left most name known s

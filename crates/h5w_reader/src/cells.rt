@@ -1,5 +1,5 @@
 //! The values of cells.
-ghost use Rattle.std.specs.Prelude.{◌≡◌, ◌/◌, ◌++◌, length, replicate, OnOk};
+ghost use Rattle.std.specs.Prelude.{◌≡◌, ◌/◌, ◌++◌, length, replicate, false, OnOk};
 ghost use Rattle.std.specs.Option.{ForSome};
 ghost use Rattle.h5w_model.specs.Integers.{fill_value};
 ghost use Rattle.h5w_model.specs.Messages.{IsIntType};
@@ -12,14 +12,52 @@ use h5w_model::OutOfMemory;
 use h5w_types::{IntType, value_of};
 
 /// Puts the values of some whole cells behind those of `out`.
+#[inline(always)]
+fn put_run(bytes: &[u8], t: &IntType, out: &mut Vec<i128>) -> Result<(), OutOfMemory>
+    requires { IsIntType (int_type_of t.now) }
+    ensures { OnOk result (out.new.items ≡ out.old.items ++ cell_values (int_type_of t.now) (length bytes.now / t.now.size) bytes.now) }
+{
+    let size = usize::from(t.size);
+    out.reserve(bytes.len() / size)?;
+    for cell in bytes.chunks_exact(size) {
+        out.push_reserved(value_of(cell, t));
+    }
+    Ok(())
+}
+
+/// The same of a type whose least significant byte comes first. Where size and order are known at the call, the loop is for
+/// that type alone.
+#[inline(always)]
+fn put_little(bytes: &[u8], size: u8, signed: bool, out: &mut Vec<i128>) -> Result<(), OutOfMemory>
+    requires { IsIntType (record { size = size; big = false; signed = signed }) }
+    ensures { OnOk result (out.new.items ≡ out.old.items ++ cell_values (record { size = size; big = false; signed = signed }) (length bytes.now / size) bytes.now) }
+{
+    let big = false;
+    if signed {
+        let signed = true;
+        put_run(bytes, &IntType { size, big, signed }, out)
+    } else {
+        let signed = false;
+        put_run(bytes, &IntType { size, big, signed }, out)
+    }
+}
+
+/// Puts the values of some whole cells behind those of `out`. Where the least significant byte comes first, there is a
+/// loop for each type.
 pub fn put_cells(bytes: &[u8], t: &IntType, out: &mut Vec<i128>) -> Result<(), OutOfMemory>
     requires { IsIntType (int_type_of t.now) }
     ensures { OnOk result (out.new.items ≡ out.old.items ++ cell_values (int_type_of t.now) (length bytes.now / t.now.size) bytes.now) }
 {
-    for cell in bytes.chunks_exact(usize::from(t.size)) {
-        out.push(value_of(cell, t))?;
+    if t.big {
+        return put_run(bytes, t, out);
     }
-    Ok(())
+    match t.size {
+        1 => put_little(bytes, 1, t.signed, out),
+        2 => put_little(bytes, 2, t.signed, out),
+        4 => put_little(bytes, 4, t.signed, out),
+        8 => put_little(bytes, 8, t.signed, out),
+        _ => put_run(bytes, t, out),
+    }
 }
 
 /// The value of cells that were never written.

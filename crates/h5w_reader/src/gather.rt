@@ -1,5 +1,5 @@
 //! A block that is looked at in pieces.
-ghost use Rattle.std.specs.Prelude.{◌≡◌, ◌+◌, ◌-◌, ◌<◌, ◌≤◌, ◌^◌, min, length, ℕ, Some, IfOk};
+ghost use Rattle.std.specs.Prelude.{◌≡◌, ◌+◌, ◌-◌, ◌<◌, ◌≤◌, ◌^◌, min, length, ℕ, true, false, Ok, Some, IfOk};
 
 use crate::look::{Look, below_end};
 use h5w_model::{OutOfMemory, PIECE, Piece};
@@ -66,6 +66,22 @@ impl Gather {
             at: self.place,
             len: self.rest.min(PIECE as u64) as usize,
         }
+    }
+
+    /// Takes up a full piece behind which the range goes on; false where the piece may be the last.
+    #[tactic(auto, using(crate::proofs::PieceLemmas::gather_more))]
+    pub fn absorb(&mut self, piece: &Piece) -> Result<bool, OutOfMemory>
+        ensures more { result ≡ Ok true → gathering self.new ≡ fed piece.now (gathering self.old) }
+        ensures start { self.new.start ≡ self.old.start }
+        ensures same { result ≡ Ok false → self.new ≡ self.old }
+    {
+        if piece.len() < PIECE || self.rest <= PIECE as u64 {
+            return Ok(false);
+        }
+        self.got.extend_from_slice(piece.as_slice())?;
+        self.place += PIECE as u64;
+        self.rest -= PIECE as u64;
+        Ok(true)
     }
 
     /// Goes on with the piece that the look gave.

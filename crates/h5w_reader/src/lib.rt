@@ -23,6 +23,7 @@
 //! `Confirm`, too.
 #![tactic(auto)]
 
+mod absorb;
 mod behind;
 mod block;
 mod call;

@@ -9,7 +9,9 @@ ghost use Rattle.h5w_reader.specs.declared.values.Reads.{Reads};
 ghost use Rattle.h5w_reader.specs.declared.step.ReadBegin.{ReadBegin};
 ghost use Rattle.h5w_reader.specs.declared.step.Step.TheVariants as steps;
 
+use crate::absorb::absorb;
 use crate::call::Call;
+use crate::idle::is_idle;
 use crate::known::{Known, Rules};
 use crate::learn::learn;
 use crate::look::Look;
@@ -146,7 +148,26 @@ impl ReaderCore {
         }
     }
 
-    /// Goes on with the piece that the wanted look gave.
+    /// The rows that are known, where the wanted look is the first at the header of a call, and shows that all is as it was.
+    fn same_rows(&self, piece: &Piece) -> Option<u64>
+        ensures { IfSome result (λ rows. StepTells (option_map (fed_left piece.now) (reader self.now).left) (reader self.now) (steps.Rows rows) (with_left (reader self.now) None)) }
+    {
+        let Some(call) = &self.call else {
+            return None;
+        };
+        let Call::Rows(stage) = call else {
+            return None;
+        };
+        let Stage::Header(rules) = stage else {
+            return None;
+        };
+        match &self.known {
+            Some(known) if is_idle(rules, &self.known, piece) => Some(known.dataset.shape.rows),
+            _ => None,
+        }
+    }
+
+    /// Goes on with the piece that the wanted look gave, whatever is awaited.
     fn go_on(&mut self, piece: &Piece) -> Step
         requires { IsWithinLook (wanted (reader self.old).left) (length piece.now) }
         ensures told { StepTells (option_map (fed_left piece.now) (reader self.old).left) (reader self.old) result (reader self.new) }
@@ -168,11 +189,6 @@ impl ReaderCore {
                         Err(OutOfMemory) => Step::Refused(ReadError::OutOfMemory),
                     }
                 }
-                // only a reader that knows something comes to this
-                Ok(Came::Same) => match &self.known {
-                    Some(known) => Step::Rows(known.dataset.shape.rows),
-                    None => Step::Refused(ReadError::OutOfMemory),
-                },
                 Ok(Came::Answer(Err(error))) => Step::Refused(error),
                 Ok(Came::Looks(stage)) => {
                     self.call = Some(Call::Rows(stage));
@@ -193,6 +209,27 @@ impl ReaderCore {
         }
     }
 
+    /// Goes on with the piece that the wanted look gave: first where it changes nothing, then where the block that is looked at
+    /// goes on behind it.
+    fn step(&mut self, piece: &Piece) -> Step
+        requires { IsWithinLook (wanted (reader self.old).left) (length piece.now) }
+        ensures told { StepTells (option_map (fed_left piece.now) (reader self.old).left) (reader self.old) result (reader self.new) }
+        ensures wanting { result ≡ steps.More → IsSome (wanted (reader self.new).left) }
+    {
+        if let Some(rows) = self.same_rows(piece) {
+            self.call = None;
+            return Step::Rows(rows);
+        }
+        match absorb(&mut self.call, piece) {
+            Ok(true) => Step::More,
+            Ok(false) => self.go_on(piece),
+            Err(OutOfMemory) => {
+                self.call = None;
+                Step::Refused(ReadError::OutOfMemory)
+            }
+        }
+    }
+
     /// Goes on with the piece that the wanted look gave.
     pub fn give(&mut self, piece: &Piece) -> Step
         requires { IsWithinLook (wanted (reader self.old).left) (length piece.now) }
@@ -200,7 +237,7 @@ impl ReaderCore {
         ensures wanting { result ≡ steps.More → IsSome (wanted (reader self.new).left) }
         ensures asked { (asks : Asks) (look : model.Look) → Asked (reader self.old) asks → IsWanted (wanted (reader self.old).left) piece.now look → Asked (reader self.new) (looking look result (reader self.new).known asks) }
     {
-        self.go_on(piece)
+        self.step(piece)
     }
 
     /// Ends the unfinished call, if there is one, as if it had not begun.

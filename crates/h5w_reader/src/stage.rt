@@ -12,7 +12,6 @@ ghost use Rattle.h5w_reader.specs.Seen.{IsHeaderOf};
 use crate::behind::{Behind, Reached};
 use crate::found::FoundMessage;
 use crate::header::{again, cut_header, is_same, view_at};
-use crate::idle::is_idle;
 use crate::known::{Known, Rules};
 use crate::look::{Look, look_at};
 use crate::news::News;
@@ -49,8 +48,6 @@ pub enum Stage {
 /// What a call comes to.
 #[derive(Drop)]
 pub enum Came {
-    /// All is as it is known.
-    Same,
     Answer(Result<News, ReadError>),
     Looks(Stage),
 }
@@ -103,9 +100,6 @@ impl Attempt {
     {
         if let Some(error) = cut_header(rules.place, &view) {
             return Ok(Came::Answer(Err(error)));
-        }
-        if is_idle(&rules, known, &view) {
-            return Ok(Came::Same);
         }
         match Reached::begin(alloc, &rules, known, &view)? {
             Reached::Answer(Ok(news)) => Ok(Came::Answer(Ok(with_view(news, view)))),

@@ -35,7 +35,7 @@ pub struct Ranged {
     band: u64,
     /// The values of the rows of the bands before.
     values: Vec<i128>,
-    gather: Gather,
+    pub gather: Gather,
     ghost low: { span.from / span.dataset.layout.chunk.0 ≤ band },
     ghost high: { band ≤ (span.to - 1) / span.dataset.layout.chunk.0 },
 }

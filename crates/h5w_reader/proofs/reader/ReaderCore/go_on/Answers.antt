@@ -1,12 +1,12 @@
 use Rattle.std.proofs.Common.{◌≡◌, ◌∙◌, sym, refl, ap, Option, Some, None}
 use Rattle.h5w_model.specs.Unfinished.{Reader}
 use Rattle.h5w_model.specs.Tables.{Reading}
-use Rattle.h5w_reader.specs.Attempts.{known_of, reading_of}
+use Rattle.h5w_reader.specs.Attempts.{known_of}
 use Rattle.h5w_reader.specs.Descents.{reading_news}
 use Rattle.h5w_reader.specs.Readers.{left_of, reader_rules}
 use Rattle.h5w_reader.specs.declared.call.Call.{Call}
 use Rattle.h5w_reader.specs.declared.call.Call.TheVariants as calls
-use Rattle.h5w_reader.proofs.CoreLemmas.{found_rows, same_rows}
+use Rattle.h5w_reader.proofs.CoreLemmas.{found_rows}
 use Rattle.h5w_reader.proofs.StageLemmas.{rows_want, values_want}
 use Rattle.h5w_reader.proofs.reader.ReaderCore.go_on.Goals as goal
 
@@ -26,22 +26,6 @@ returns-in-Ok-clause-told c =
       found_rows s.attempts s.name piece s.known s.call stage news call e,
       refl,
       ap (at (known_of known)) took.after ∙ ap (λ k. at k None) c.in-Ok.ensures.learnt,
-    )
-
-pub returns-in-Some-clause-told : goal.returns-in-Some-clause-told
-returns-in-Some-clause-told c =
-    let s = c.args.self.now in
-    let k = c.in-Some.known in
-    let stage = c.in-Some-Rows.stage in
-    let took = c.in-Some-Rows.ensures in
-    let call : s.call ≡ Some (calls.Rows stage) = sym took.value ∙ ap Some c.in-Some-Rows.field-0-is in
-    let e = rw (c.in-Ok-Same.field-0-is, c.as_slice-name.ensures) at c.in-Ok-Same.ensures in
-    let rules = reader_rules s.name s.attempts in
-    let at : Option Reading → Option Call → Reader = λ x y. record { rules = rules; known = x; left = left_of s.attempts s.name s.known y } in (
-      reading_of k,
-      same_rows s.attempts s.name c.args.piece.now s.known s.call stage k call c.in-Some.is e,
-      refl,
-      ap (at (known_of s.known)) took.after ∙ ap (λ x. at x None) (ap known_of c.in-Some.is),
     )
 
 pub returns-in-Ok-Looks-clause-wanting : goal.returns-in-Ok-Looks-clause-wanting

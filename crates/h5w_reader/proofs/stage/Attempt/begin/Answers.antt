@@ -5,7 +5,7 @@ use Rattle.h5w_model.specs.declared.refusal.ReadError.{ReadError}
 use Rattle.h5w_model.specs.Calls.{cut_header}
 use Rattle.h5w_reader.specs.Attempts.{known_of, rules_of}
 use Rattle.h5w_reader.specs.Descents.{reading_news}
-use Rattle.h5w_reader.specs.Calling.{behind_left, same_rest}
+use Rattle.h5w_reader.specs.Calling.{behind_left}
 use Rattle.h5w_reader.proofs.CallLemmas.{attempt_cut, attempt_settled, attempt_refused, attempt_looks}
 use Rattle.h5w_reader.proofs.StageLemmas.{behind_looks}
 use Rattle.h5w_reader.proofs.IdleLemmas.{header_of}
@@ -14,11 +14,6 @@ use Rattle.h5w_reader.proofs.stage.Attempt.begin.Goals as goal
 pub returns-in-Some : goal.returns-in-Some
 returns-in-Some c = λ most name.
     sym (attempt_cut (rules_of c.args.rules (known_of c.args.known.now)) c.args.more c.args.view c.in-Some.error (sym c.cut_header.ensures ∙ c.in-Some.is))
-
-pub returns-then-is_idle : goal.returns-then-is_idle
-returns-then-is_idle c = λ most name.
-    let idle = c.is_idle.ensures c.if-is_idle.true in
-    ap same_rest idle.known ∙ attempt_settled (rules_of c.args.rules (known_of c.args.known.now)) c.args.more c.args.view idle.reading idle.uncut idle.settled
 
 pub with_view-requires : goal.with_view-requires
 with_view-requires c =

@@ -1,0 +1,152 @@
+-- A piece behind which a block, or a chunk's range, goes on.
+use Rattle.std.proofs.Common.{◌≡◌, ℕ, min, length, List, Option, Some, None, Result, refl, sym, ◌∙◌, ap}
+use Rattle.std.specs.Prelude.{◌≢◌, option_map, IsSome, ℤ}
+use Rattle.h5w_model.specs.Programs.{Prog, bind, fed}
+use Rattle.h5w_model.specs.Tables.{Reading}
+use Rattle.h5w_model.specs.Calls.{CallRules}
+use Rattle.h5w_model.specs.Unfinished.{Unfinished, rows_left, values_left, fed_left, wanted}
+use Rattle.h5w_model.specs.declared.refusal.ReadError.{ReadError}
+use Rattle.h5w_reader.specs.Attempts.{known_of, rules_of}
+use Rattle.h5w_reader.specs.Bands.{reading_with}
+use Rattle.h5w_reader.specs.Calling.{confirm_rest}
+use Rattle.h5w_reader.specs.Descents.{waiting, after_next}
+use Rattle.h5w_reader.specs.Gathering.{gathering}
+use Rattle.h5w_reader.specs.Grids.{grid_given}
+use Rattle.h5w_reader.specs.Gridding.{grid_left}
+use Rattle.h5w_reader.specs.Readers.{left_of, reads_left}
+use Rattle.h5w_reader.specs.Seeking.{wait_given}
+use Rattle.h5w_reader.specs.Stores.{kept}
+use Rattle.h5w_reader.specs.Values.{band_rest, reading_values}
+use Rattle.h5w_reader.specs.declared.behind.Behind.TheVariants as behind_by
+use Rattle.h5w_reader.specs.declared.call.Call.{Call}
+use Rattle.h5w_reader.specs.declared.call.Call.TheVariants as calls
+use Rattle.h5w_reader.specs.declared.descent.Descent.{Descent}
+use Rattle.h5w_reader.specs.declared.descent.Waiting.{Waiting}
+use Rattle.h5w_reader.specs.declared.gather.Gather.{Gather}
+use Rattle.h5w_reader.specs.declared.grid.Beside.{Beside}
+use Rattle.h5w_reader.specs.declared.grid.Grid.{Grid}
+use Rattle.h5w_reader.specs.declared.known.Known.{Known}
+use Rattle.h5w_reader.specs.declared.stage.Attempt.{Attempt}
+use Rattle.h5w_reader.specs.declared.stage.Stage.TheVariants as stages
+use Rattle.h5w_reader.specs.declared.table.Lookup.TheVariants as lookup_by
+use Rattle.h5w_reader.specs.declared.values.Ranged.{Ranged}
+use Rattle.h5w_reader.specs.declared.values.Span.{Span}
+use Rattle.h5w_reader.specs.declared.values.Reads.{Reads}
+use Rattle.h5w_reader.specs.declared.values.Reads.TheVariants as reads_by
+use Rattle.h5w_reader.specs.declared.wait.Wait.{Wait}
+use Rattle.h5w_reader.proofs.CallLemmas.{fed_bind}
+use Rattle.h5w_reader.proofs.DescentLemmas.{waiting_wants}
+use Rattle.h5w_reader.proofs.PieceLemmas.{fed_gather}
+use Rattle.h5w_reader.proofs.StageLemmas.{rows_want, values_want}
+
+-- a range that took up these bytes
+pub record TookUp (g h : Gather) (b : List ℕ) : Type 0 where
+  pub left : gathering h ≡ fed b (gathering g)
+  pub start : h.start ≡ g.start
+
+-- what follows it goes on as the range does
+range_goes : {A : Type 0} (g h : Gather) (b : List ℕ) (f : ℕ → List ℕ → Prog A) → TookUp g h b → bind (gathering h) (f h.start) ≡ fed b (bind (gathering g) (f g.start))
+range_goes g h b f t =
+    ap (λ n. bind (gathering h) (f n)) t.start
+    ∙ ap (λ (p : Prog (List ℕ)). bind p (f g.start)) t.left
+    ∙ sym (fed_gather g.place g.rest g.got.items b (f g.start) g.more)
+
+-- ---- A block on the way to a chunk
+
+abbrev waiting_by : CallRules → Waiting → Gather → Prog (Result Reading ReadError)
+waiting_by g w h = bind (gathering h) (wait_given (kept w.descent.store) w.wait (after_next g w.descent))
+
+-- the way's call, once what is gathered is this
+abbrev pub block_left : ℕ → List ℕ → Option Known → Attempt → Waiting → Gather → Option Unfinished
+block_left most name k a w h =
+    let g = rules_of a.rules (known_of k) in
+    Some (rows_left (bind (waiting_by g w h) (confirm_rest g a.more a.view)))
+
+abbrev pub block_call : Attempt → Waiting → Option Call
+block_call a w = Some (calls.Rows (stages.Behind a (behind_by.Lookup (lookup_by.Block w))))
+
+pub block_goes : (most : ℕ) (name : List ℕ) (k : Option Known) (call : Option Call) (a : Attempt) (w : Waiting) (h : Gather) (b : List ℕ) → call ≡ block_call a w → TookUp w.gather h b
+    → block_left most name k a w h ≡ option_map (fed_left b) (left_of most name k call)
+block_goes most name k call a w h b e t =
+    let g = rules_of a.rules (known_of k) in
+    let next : List ℕ → Prog (Result Reading ReadError) = wait_given (kept w.descent.store) w.wait (after_next g w.descent) in
+    let rest : Result Reading ReadError → Prog (Result Reading ReadError) = confirm_rest g a.more a.view in
+    ap (λ (p : Prog (Result Reading ReadError)). Some (rows_left (bind p rest))) (range_goes w.gather h b (λ n. next) t)
+    ∙ ap (λ (p : Prog (Result Reading ReadError)). Some (rows_left p)) (sym (fed_bind (waiting g w) rest b (w.gather.place, min 512 w.gather.rest) (waiting_wants g w (min 512 w.gather.rest) refl)))
+    ∙ ap (λ c. option_map (fed_left b) (left_of most name k c)) (sym e)
+
+pub block_same : (most : ℕ) (name : List ℕ) (k : Option Known) (call : Option Call) (a : Attempt) (w : Waiting) (h : Gather) → call ≡ block_call a w → h ≡ w.gather
+    → block_left most name k a w h ≡ left_of most name k call
+block_same most name k call a w h e same = ap (block_left most name k a w) same ∙ ap (left_of most name k) (sym e)
+
+-- ---- A chunk's range
+
+pub record IsRangeBy (s v : Ranged) (h : Gather) : Type 0 where
+  pub span : v.span ≡ s.span
+  pub band : v.band ≡ s.band
+  pub values : v.values.items ≡ s.values.items
+  pub gather : v.gather ≡ h
+
+range_by : (k : Known) (s v : Ranged) (h : Gather) → IsRangeBy s v h
+    → reading_values k (reads_by.Range v) ≡ bind (gathering h) (band_rest (reading_with k s.span.dataset) s.span.from s.span.to s.band s.values.items h.start)
+range_by k s v h is =
+    let rest : Span → ℕ → List ℤ → Gather → Prog (Result (List ℤ) ReadError) = λ x i vs g. bind (gathering g) (band_rest (reading_with k x.dataset) x.from x.to i vs g.start) in
+    ap (λ x. rest x v.band v.values.items v.gather) is.span ∙ ap (λ i. rest s.span i v.values.items v.gather) is.band ∙ ap (λ vs. rest s.span s.band vs v.gather) is.values
+    ∙ ap (rest s.span s.band s.values.items) is.gather
+
+pub range_reads : (most : ℕ) (name : List ℕ) (k : Option Known) (call : Option Call) (s v : Ranged) (h : Gather) (b : List ℕ) → call ≡ Some (calls.Values (reads_by.Range s)) → IsRangeBy s v h → TookUp s.gather h b
+    → reads_left k (reads_by.Range v) ≡ option_map (fed_left b) (left_of most name k call)
+range_reads most name None call s v h b e is t = ap (λ c. option_map (fed_left b) (left_of most name None c)) (sym e)
+range_reads most name (Some k) call s v h b e is t =
+    ap (λ (p : Prog (Result (List ℤ) ReadError)). Some (values_left p))
+    (range_by k s v h is ∙ range_goes s.gather h b (band_rest (reading_with k s.span.dataset) s.span.from s.span.to s.band s.values.items) t)
+    ∙ ap (λ c. option_map (fed_left b) (left_of most name (Some k) c)) (sym e)
+
+pub range_same : (most : ℕ) (name : List ℕ) (k : Option Known) (call : Option Call) (s v : Ranged) (h : Gather) → call ≡ Some (calls.Values (reads_by.Range s)) → IsRangeBy s v h → h ≡ s.gather
+    → reads_left k (reads_by.Range v) ≡ left_of most name k call
+range_same most name None call s v h e is same = ap (left_of most name None) (sym e)
+range_same most name (Some k) call s v h e is same =
+    ap (λ (p : Prog (Result (List ℤ) ReadError)). Some (values_left p))
+    (range_by k s v h is ∙ ap (λ g. bind (gathering g) (band_rest (reading_with k s.span.dataset) s.span.from s.span.to s.band s.values.items g.start)) same)
+    ∙ ap (left_of most name (Some k)) (sym e)
+
+-- ---- The range of a chunk beside others
+
+pub record IsBesideBy (s v : Beside) (h : Gather) : Type 0 where
+  pub grid : v.grid ≡ s.grid
+  pub band : v.band ≡ s.band
+  pub values : v.values.items ≡ s.values.items
+  pub ranges : v.ranges.items ≡ s.ranges.items
+  pub gather : v.gather ≡ h
+
+beside_by : (k : Known) (s v : Beside) (h : Gather) → IsBesideBy s v h
+    → grid_left k v ≡ bind (gathering h) (grid_given (reading_with k s.grid.dataset) s.grid.from s.grid.to s.band (length s.ranges.items) s.values.items s.ranges.items h.start)
+beside_by k s v h is =
+    let rest : Grid → ℕ → List ℤ → List (Option (List ℕ)) → Gather → Prog (Result (List ℤ) ReadError) = λ x i vs os g.
+    bind (gathering g) (grid_given (reading_with k x.dataset) x.from x.to i (length os) vs os g.start) in
+    ap (λ x. rest x v.band v.values.items v.ranges.items v.gather) is.grid ∙ ap (λ i. rest s.grid i v.values.items v.ranges.items v.gather) is.band
+    ∙ ap (λ vs. rest s.grid s.band vs v.ranges.items v.gather) is.values ∙ ap (λ os. rest s.grid s.band s.values.items os v.gather) is.ranges ∙ ap (rest s.grid s.band s.values.items s.ranges.items) is.gather
+
+pub beside_reads : (most : ℕ) (name : List ℕ) (k : Option Known) (call : Option Call) (s v : Beside) (h : Gather) (b : List ℕ) → call ≡ Some (calls.Values (reads_by.Beside s)) → IsBesideBy s v h → TookUp s.gather h b
+    → reads_left k (reads_by.Beside v) ≡ option_map (fed_left b) (left_of most name k call)
+beside_reads most name None call s v h b e is t = ap (λ c. option_map (fed_left b) (left_of most name None c)) (sym e)
+beside_reads most name (Some k) call s v h b e is t =
+    ap (λ (p : Prog (Result (List ℤ) ReadError)). Some (values_left p))
+    (beside_by k s v h is ∙ range_goes s.gather h b (grid_given (reading_with k s.grid.dataset) s.grid.from s.grid.to s.band (length s.ranges.items) s.values.items s.ranges.items) t)
+    ∙ ap (λ c. option_map (fed_left b) (left_of most name (Some k) c)) (sym e)
+
+pub beside_same : (most : ℕ) (name : List ℕ) (k : Option Known) (call : Option Call) (s v : Beside) (h : Gather) → call ≡ Some (calls.Values (reads_by.Beside s)) → IsBesideBy s v h → h ≡ s.gather
+    → reads_left k (reads_by.Beside v) ≡ left_of most name k call
+beside_same most name None call s v h e is same = ap (left_of most name None) (sym e)
+beside_same most name (Some k) call s v h e is same =
+    ap (λ (p : Prog (Result (List ℤ) ReadError)). Some (values_left p))
+    (beside_by k s v h is ∙ ap (λ g. bind (gathering g) (grid_given (reading_with k s.grid.dataset) s.grid.from s.grid.to s.band (length s.ranges.items) s.values.items s.ranges.items g.start)) same)
+    ∙ ap (left_of most name (Some k)) (sym e)
+
+-- ---- A call that goes on
+
+-- it wants a look
+pub goes_wants : (most : ℕ) (name : List ℕ) (k : Option Known) (call : Option Call) → call ≢ None → ((v : Reads) → call ≡ Some (calls.Values v) → k ≢ None) → IsSome (wanted (left_of most name k call))
+goes_wants most name k None some known = absurd (some refl)
+goes_wants most name k (Some (calls.Rows s)) some known = rows_want most name k s
+goes_wants most name k (Some (calls.Values v)) some known = values_want most name k v (known v refl)

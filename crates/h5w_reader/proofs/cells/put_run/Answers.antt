@@ -1,0 +1,42 @@
+use Rattle.std.proofs.Common.{◌≡◌, ◌∙◌, ◌<◌, ◌≤◌, ◌+◌, ◌/◌, ◌++◌, ◌∷◌, List, [], length, suc, ap, arith, rules, to_z, of_z}
+use Rattle.std.specs.Int.{w128}
+use Rattle.std.specs.Prelude.{ℤ}
+use Rattle.h5w_types.specs.Fields.{int_type_of}
+use Rattle.h5w_reader.specs.Cells.{cell_values}
+use Rattle.h5w_reader.proofs.CellLemmas.{cells_count, cells_step, cells_end}
+use Rattle.h5w_reader.proofs.cells.put_run.Goals as goal
+
+pub push_reserved-requires : goal.push_reserved-requires
+push_reserved-requires c =
+    let steps = c.in-Some.ensures.steps in
+    let kept = c.loop-cell.invariant in
+    let some : 0 < c.args.t.now.size = omega (arith, c.loop-cell.iterator.0, kept.size) in
+    let more = cells_count c.args.t.now.size c.loop-cell.cell-iterator.rest.now c.in-Some.cell.now c.next.new.self.rest.now some steps.1.0 (steps.1.1 ∙ kept.size) in
+    omega (arith, kept.room, more)
+
+pub loop-cell-preserved : goal.loop-cell-preserved
+loop-cell-preserved c =
+    let t = int_type_of c.args.t.now in
+    let steps = c.in-Some.ensures.steps in
+    let kept = c.loop-cell.invariant in
+    let all = c.reserve.new.self.items ++ cell_values t (length c.args.bytes.now / t.size) c.args.bytes.now in
+    let some : 0 < c.args.t.now.size = omega (arith, c.loop-cell.iterator.0, kept.size) in
+    let v = c.value_of.result in
+    let is : to_z w128 (of_z w128 v) ≡ v = search rules in
+    let put = c.push_reserved.ensures in
+    let added = put.items ∙ ap (λ (v : ℤ). c.loop-cell.out.items ++ v ∷ []) (is ∙ c.value_of.ensures.exact) in
+    let more = cells_count c.args.t.now.size c.loop-cell.cell-iterator.rest.now c.in-Some.cell.now c.next.new.self.rest.now some steps.1.0 (steps.1.1 ∙ kept.size) in
+    record {
+      size = steps.0 ∙ kept.size;
+      goes = rw added (cells_step t c.loop-cell.out.items all c.loop-cell.cell-iterator.rest.now c.in-Some.cell.now c.next.new.self.rest.now some steps.1.0 (steps.1.1 ∙ kept.size) kept.goes);
+      room = omega (arith, kept.room, more, put.len, put.capacity);
+    }
+
+pub returns : goal.returns
+returns c =
+    let t = int_type_of c.args.t.now in
+    let kept = c.loop-cell.invariant in
+    let all = c.reserve.new.self.items ++ cell_values t (length c.args.bytes.now / t.size) c.args.bytes.now in
+    let short : length c.loop-cell.cell-iterator.rest.now < c.args.t.now.size = omega (arith, c.in-None.ensures.steps.1.0, kept.size) in
+    cells_end t c.loop-cell.out.items all c.loop-cell.cell-iterator.rest.now short kept.goes
+    ∙ ap (λ (vs : List ℤ). vs ++ cell_values t (length c.args.bytes.now / t.size) c.args.bytes.now) c.reserve.ensures.items
