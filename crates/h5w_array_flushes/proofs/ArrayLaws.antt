@@ -19,7 +19,7 @@ use Rattle.h5w_array_flushes.specs.ArrayFlushes.{AreChunks, array_parts, chunks_
 use Rattle.h5w_array_flushes.proofs.ArrayFlushLemmas.{array_flushed}
 use Rattle.h5w_array_flushes.proofs.ArrayPlaceLemmas.{array_places}
 
-new_are : (d : Described) (old : Key → ℕ) (from base : ℕ) (places : List ChunkPlace) → AreChunks (new_chunks d old from base places)
+pub new_are : (d : Described) (old : Key → ℕ) (from base : ℕ) (places : List ChunkPlace) → AreChunks (new_chunks d old from base places)
 new_are d old from base [] u a = absurd a
 new_are d old from base (p ∷ places) u a = go (old (touched_key d from base) == undefined) (λ b. new_are d old from (suc base) places u b) a
   where

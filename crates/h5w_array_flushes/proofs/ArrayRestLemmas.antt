@@ -7,10 +7,10 @@ use Rattle.h5w_model.specs.declared.cell.Key.{Key}
 use Rattle.h5w_model.specs.declared.piece.Write.{Write}
 use Rattle.h5w_visits.specs.Ranges.{Among, block_at}
 use Rattle.h5w_visits.proofs.RangeLemmas.{among_right}
-use Rattle.h5w_space.specs.Space.{Space}
+use Rattle.h5w_space.specs.Space.{Space, Commits}
 use Rattle.h5w_cache.specs.Stores.{Store, place_of}
 use Rattle.h5w_cache.specs.Plans.{bytes_in}
-use Rattle.h5w_cache.specs.StoreLaws.{range_of}
+use Rattle.h5w_cache.specs.StoreLaws.{Standing, range_of}
 use Rattle.h5w_cache.specs.declared.moves.Move.{Move}
 use Rattle.h5w_header_laws.specs.Files.{commit_at}
 use Rattle.h5w_steps.specs.Moments.{Moment}
@@ -26,7 +26,7 @@ use Rattle.h5w_flush_laws.specs.Parts.{IsFlush, block_writes, pieces_of}
 use Rattle.h5w_flush_laws.proofs.SpaceLemmas.{committed_live}
 use Rattle.h5w_flush_laws.proofs.FlushLemmas.{end_misses, supers_miss}
 use Rattle.h5w_flush_laws.proofs.FlushLaws.{final_image, index_missed_by_header}
-use Rattle.h5w_array_flushes.specs.ArrayFlushes.{AreChunks, IsArrayPart, array_parts, ArrayRestsAgain}
+use Rattle.h5w_array_flushes.specs.ArrayFlushes.{AreChunks, IsArrayPart, array_parts, ArrayRestsAgain, ArrayRestsThen}
 use Rattle.h5w_array_flushes.proofs.ArrayFlushLemmas.{placed_range, stands_copies, behind_copies, block_in_file, at_after}
 
 module _ (img name : List ℕ) (m : Moment) (old : Key → ℕ) (s b t : Space) (v w : Store) (ms : List Move) (rows : ℕ) (more : List ℤ) (writes : List Write) (chunks : List Used) (copies : List (ℕ × List ℕ))
@@ -76,17 +76,34 @@ module _ (img name : List ℕ) (m : Moment) (old : Key → ℕ) (s b t : Space) 
       subst (λ (y : List ℕ). StandsArray w y) (sym (final_image img name m old s t (array_parts (chunk_bytes m.dataset) w rows more writes chunks copies supers last fixed) k i))
       (writes_leave.array w (image (image (image (image img writes) (block_writes copies)) supers) fixed) (commit_at (image (image (image (image img writes) (block_writes copies)) supers) fixed) m.place rows None ∷ []) x.plan.after header_piece_misses before_header)
 
+pub array_rests_then : ArrayRestsThen
+array_rests_then img name m old s b t v w ms rows more writes chunks copies supers fixed last k are i x = record {
+  kind = x.kind;
+  at = at img name m old s b t v w ms rows more writes chunks copies supers fixed last k are i x;
+  array = x.plan.after;
+  clean = (planned img name m old s b t v w ms rows more writes chunks copies supers fixed last k are i x).clean;
+  stands = all_stands img name m old s b t v w ms rows more writes chunks copies supers fixed last k are i x;
+  standing = x.plan.keeps.standing x.plan.standing;
+  fixed = refl;
+  behind = refl;
+  map = λ key. refl;
+}
+
+-- an array whose blocks are live stays so where what was let go becomes free
+pub standing_freed : (v : Store) (t u : Space) → Commits t u → Standing v t → Standing v u
+standing_freed v t u c standing = record { live = λ n placed. committed_live t u c (range_of v n) (standing.live n placed); some = standing.some; apart = standing.apart }
+
 pub array_rests_again : ArrayRestsAgain
 array_rests_again img name m old s b t u v w ms rows more writes chunks copies supers fixed last k are i x c =
-    let standing = x.plan.keeps.standing x.plan.standing in
+    let then = array_rests_then img name m old s b t v w ms rows more writes chunks copies supers fixed last k are i x in
     record {
-      kind = x.kind;
-      at = at img name m old s b t v w ms rows more writes chunks copies supers fixed last k are i x;
-      array = x.plan.after;
-      clean = (planned img name m old s b t v w ms rows more writes chunks copies supers fixed last k are i x).clean;
-      stands = all_stands img name m old s b t v w ms rows more writes chunks copies supers fixed last k are i x;
-      standing = record { live = λ n placed. committed_live t u c (range_of w n) (standing.live n placed); some = standing.some; apart = standing.apart };
-      fixed = refl;
-      behind = refl;
-      map = λ key. refl;
+      kind = then.kind;
+      at = then.at;
+      array = then.array;
+      clean = then.clean;
+      stands = then.stands;
+      standing = standing_freed w t u c then.standing;
+      fixed = then.fixed;
+      behind = then.behind;
+      map = then.map;
     }

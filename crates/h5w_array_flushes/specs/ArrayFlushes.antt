@@ -104,7 +104,15 @@ pub record ArrayRests (img : List ℕ) (m : Moment) (old : Key → ℕ) (s : Spa
   pub behind : m.behind ≡ behind_of (chunk_bytes m.dataset) v
   pub map : (key : Key) → old key ≡ map_of v key.i
 
--- So it does again once all pieces of such a flush are shown, and what was let go is free.
+-- So it does again once all pieces of such a flush are shown, with the places as the flush left them: what was let go is not free yet.
+abbrev pub ArrayRestsThen : Type 0
+ArrayRestsThen = (img name : List ℕ) (m : Moment) (old : Key → ℕ) (s b t : Space) (v w : Store) (ms : List Move) (rows : ℕ) (more : List ℤ) (writes : List Write) (chunks : List Used) (copies : List (ℕ × List ℕ))
+    (supers fixed : List Write) (last : ℕ) → Knows img name m old s → AreChunks chunks
+    → IsFlush img m old s (array_parts (chunk_bytes m.dataset) w rows more writes chunks copies supers last fixed) t → IsArrayPart img m v b ms w t chunks copies fixed
+    → ArrayRests (image img (pieces_of img m (array_parts (chunk_bytes m.dataset) w rows more writes chunks copies supers last fixed)))
+    (flushed_to m (array_parts (chunk_bytes m.dataset) w rows more writes chunks copies supers last fixed)) (λ key. map_of w key.i) t w
+
+-- and where what was let go is free
 abbrev pub ArrayRestsAgain : Type 0
 ArrayRestsAgain = (img name : List ℕ) (m : Moment) (old : Key → ℕ) (s b t u : Space) (v w : Store) (ms : List Move) (rows : ℕ) (more : List ℤ) (writes : List Write) (chunks : List Used) (copies : List (ℕ × List ℕ))
     (supers fixed : List Write) (last : ℕ) → Knows img name m old s → AreChunks chunks

@@ -2,7 +2,7 @@
 //! a definition in specs/. Nothing here runs.
 #![tactic(auto)]
 
-ghost use Rattle.h5w_array_flushes.specs.ArrayFlushes.{ArrayFlushed, ArrayIsFlush, ArrayPlaces, ArrayRestsAgain};
+ghost use Rattle.h5w_array_flushes.specs.ArrayFlushes.{ArrayFlushed, ArrayIsFlush, ArrayPlaces, ArrayRestsAgain, ArrayRestsThen};
 
 /// What an array's plan does is what a flush asks of the index.
 pub fn array_flushed()
@@ -20,6 +20,11 @@ pub fn array_is_flush()
 {}
 
 /// Once all pieces of such a flush are shown, the array stands as the session keeps it.
+pub fn array_rests_then()
+    ensures { ArrayRestsThen }
+{}
+
+/// So it does where what was let go is free.
 pub fn array_rests_again()
     ensures { ArrayRestsAgain }
 {}

@@ -248,6 +248,9 @@ cond_once false = omega arith
 pub once_each : (blocks : List (Option BlockView)) (places : List ℕ) (marks : List Bool) (changed : List ℕ) (capacity : ℕ) (ms : List Move) (n : ℕ) → IsStore blocks places marks changed capacity → IsPermutation changed (numbers ms) → times n (numbers ms) ≤ 1
 once_each blocks places marks changed capacity ms n s p = let a = same_times changed ms n p in let b = s.once n in let c = cond_once (get_or marks n false) in omega arith
 
+pub listed_once : (blocks : List (Option BlockView)) (places : List ℕ) (marks : List Bool) (changed : List ℕ) (capacity : ℕ) (n : ℕ) → IsStore blocks places marks changed capacity → times n changed ≤ 1
+listed_once blocks places marks changed capacity n s = let b = s.once n in let c = cond_once (get_or marks n false) in omega arith
+
 off_by : (b : Bool) (n : ℕ) → n ≡ cond b 1 0 → (b ≡ false) ⊎ (0 < n)
 off_by true n e = inr (omega arith)
 off_by false n e = inl refl

@@ -4,7 +4,7 @@ ghost use Rattle.h5w_cache.specs.Blocks.{numbered, with_number};
 ghost use Rattle.h5w_cache.specs.Plans.{HasNoRoom, IfFull, IsPlan};
 ghost use Rattle.h5w_cache.specs.Starts.{IsBegun, copy_pieces, in_place_pieces};
 ghost use Rattle.h5w_cache.specs.StoreLaws.{KeepsStore};
-ghost use Rattle.h5w_cache.specs.Stores.{FitsAddresses, block_of, changed_to, grown, is_changed, kept_under, marked, no_blocks, place_of};
+ghost use Rattle.h5w_cache.specs.Stores.{FitsAddresses, block_of, changed_to, grown, is_changed, kept_under, marked, no_blocks, place_of, times};
 
 use crate::block::{Block, copied, place_at};
 use crate::moves::retire_all;
@@ -212,6 +212,8 @@ impl Cache {
         ensures begun { IfOk result (λ b. IsBegun self.now.blocks self.now.places self.now.changed places.now b) }
         // the first block in turn that has no room
         ensures full { IfErr result (λ e. IfFull e (HasNoRoom self.now.blocks self.now.places self.now.changed places.now)) }
+        // no block is listed twice
+        ensures once { (n : ℕ) → times n self.now.changed ≤ 1 }
     {
         begin(&self.blocks, &self.places, &self.changed, places)
     }

@@ -1,5 +1,5 @@
 -- Looks at a world that are taken one by one are the looks of one line.
-use Rattle.std.proofs.Common.{ℕ, suc, ◌+◌, ◌≤◌, ◌≡◌, Result, Ok, Err, sym, refl, ◌∙◌, subst, arith}
+use Rattle.std.proofs.Common.{ℕ, suc, ◌+◌, ◌≡◌, Result, Ok, Err, sym, refl, ◌∙◌, subst, arith}
 use Rattle.std.specs.Prelude.{IfOk}
 use Rattle.h5w_model.specs.Lawful.{looks, Rules, ScriptState, Allowed, next_state}
 use Rattle.h5w_model.specs.declared.reply.Reply.{Reply}

@@ -23,7 +23,7 @@ use Rattle.h5w_cli.specs.Endings.{Answered, EndsAt, Runs, ending_of, outside}
 use Rattle.h5w_cli.specs.Plays.{Begun, Finished, HasFirst, Replied, SameSource, Stopped, input_limit}
 use Rattle.h5w_cli.specs.declared.ending.Ending.{Ending}
 use Rattle.h5w_cli.specs.declared.ending.Ending.TheVariants as endings
-use Rattle.h5w_cli.specs.declared.status.Status.TheVariants as statuses
+use Rattle.h5w_text.specs.declared.status.Status.TheVariants as statuses
 
 -- ---- What sinks were given
 

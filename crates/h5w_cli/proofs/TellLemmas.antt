@@ -5,16 +5,21 @@ use Rattle.h5w_model.specs.Lawful.{Rules}
 use Rattle.h5w_text.specs.Streams.{SourceView, SinkView}
 use Rattle.h5w_text.specs.Errors.{error_text}
 use Rattle.h5w_text.specs.declared.error.ErrorLine.TheVariants as errors
-use Rattle.h5w_cli.specs.Endings.{Leaves, Runs, Said, SaidUnlessMemory, whole, failed}
+use Rattle.h5w_text.specs.Says.{Said, SaidUnlessMemory, whole, failed}
+use Rattle.h5w_cli.specs.Endings.{Leaves, Runs}
 use Rattle.h5w_cli.specs.declared.ending.Ending.{Ending}
 use Rattle.h5w_core.specs.Worlds.{rules_for}
 use Rattle.h5w_words.specs.declared.job.WordsError.{WordsError}
 use Rattle.h5w_words.specs.declared.job.Job.{Job}
-use Rattle.h5w_words.specs.declared.job.Job.TheVariants.{Play}
+use Rattle.h5w_words.specs.declared.job.Job.TheVariants.{Play, Check, Poll, Clear}
+use Rattle.h5w_image.specs.View.{DiskView}
+use Rattle.h5w_files.proofs.CheckLemmas.{checks_nothing}
+use Rattle.h5w_files.proofs.ClearLemmas.{clears_wanted}
+use Rattle.h5w_files.proofs.PollEndLemmas.{polls_nothing}
 use Rattle.h5w_cli.specs.Runs.{Does, Ran}
 use Rattle.h5w_cli.specs.Plays.{Begun, Finished, HasFirst, Plays}
-use Rattle.h5w_cli.specs.declared.status.Status.{Status}
-use Rattle.h5w_cli.specs.declared.status.Status.TheVariants.{Done, Usage, Input, Source, Sink, Memory}
+use Rattle.h5w_text.specs.declared.status.Status.{Status}
+use Rattle.h5w_text.specs.declared.status.Status.TheVariants.{Done, Usage, Missing, Format, Damaged, Flags, Again, Input, Limit, Disk, Source, Sink, Memory}
 use Rattle.h5w_cli.proofs.PlayLemmas.{gave_both, gave_nothing, gave_then_some, replied_nothing, rose_before}
 
 -- any other bytes behind the answers
@@ -41,6 +46,13 @@ leaves_first g s k = record { text = []; begun = begun_first g s []; writes = be
 pub plays_finished : (g : Rules) (status : Status) (s t : SourceView) (k l : SinkView) → status ≢ Sink → Finished g status s t k l → Plays g status s t k l
 plays_finished g Done s t k l n h = h
 plays_finished g Usage s t k l n h = h
+plays_finished g Missing s t k l n h = h
+plays_finished g Format s t k l n h = h
+plays_finished g Damaged s t k l n h = h
+plays_finished g Flags s t k l n h = h
+plays_finished g Again s t k l n h = h
+plays_finished g Limit s t k l n h = h
+plays_finished g Disk s t k l n h = h
 plays_finished g Input s t k l n h = h
 plays_finished g Source s t k l n h = h
 plays_finished g Sink s t k l n h = absurd (n refl)
@@ -70,17 +82,20 @@ runs_at g h e x s t k l p q r = subst (λ (h : Rules). Runs {A = Unit {0}} h (Er
 -- ---- Words
 
 -- memory was refused before the words were known
-pub ran_wanting : (o : Option Job) (status : Status) (s : SourceView) (k l : SinkView) → Said (error_text errors.Memory) Memory status k l → Ran o status s s k l
-ran_wanting None status s k l said = record { unread = refl; told = inr said }
-ran_wanting (Some (Play options attempts)) status s k l said =
-    let g = rules_for options attempts in ends_said g Memory status (error_text errors.Memory) s s k k l (λ e. cc) (leaves_first g s k) said
+pub ran_wanting : (o : Option Job) (status : Status) (s : SourceView) (k l : SinkView) (v : DiskView) → Said (error_text errors.Memory) Memory status k l → Ran o status s s k l v v
+ran_wanting None status s k l v said = record { unread = refl; disk = refl; told = inr said }
+ran_wanting (Some (Play options attempts)) status s k l v said =
+    let g = rules_for options attempts in (ends_said g Memory status (error_text errors.Memory) s s k k l (λ e. cc) (leaves_first g s k) said, refl)
+ran_wanting (Some (Check file name)) status s k l v said = (refl, checks_nothing file name status said)
+ran_wanting (Some (Poll file name times attempts values)) status s k l v said = (refl, polls_nothing file name times attempts values status said)
+ran_wanting (Some (Clear file)) status s k l v said = (refl, clears_wanted file status said)
 
 -- the words are outside the command set
-pub ran_outside : (o : Option Job) (status : Status) (s : SourceView) (k l : SinkView) → o ≡ None → Said (error_text errors.Usage) Usage status k l → Ran o status s s k l
-ran_outside o status s k l e said = subst (λ (x : Option Job). Ran x status s s k l) (sym e) (record { unread = refl; told = inl said })
+pub ran_outside : (o : Option Job) (status : Status) (s : SourceView) (k l : SinkView) (v : DiskView) → o ≡ None → Said (error_text errors.Usage) Usage status k l → Ran o status s s k l v v
+ran_outside o status s k l v e said = subst (λ (x : Option Job). Ran x status s s k l v v) (sym e) (record { unread = refl; disk = refl; told = inl said })
 
-pub ran_job : (o : Option Job) (job : Job) (status : Status) (s t : SourceView) (k l : SinkView) → o ≡ Some job → Does job status s t k l → Ran o status s t k l
-ran_job o job status s t k l e does = subst (λ (x : Option Job). Ran x status s t k l) (sym e) does
+pub ran_job : (o : Option Job) (job : Job) (status : Status) (s t : SourceView) (k l : SinkView) (v w : DiskView) → o ≡ Some job → Does job status s t k l v w → Ran o status s t k l v w
+ran_job o job status s t k l v w e does = subst (λ (x : Option Job). Ran x status s t k l v w) (sym e) does
 
 pub not_wanting : (e : WordsError) (P : Type 0) → e ≡ WordsError.Usage → (e ≡ WordsError.OutOfMemory) ⊎ P → P
 not_wanting e P is (inl wanting) = let clash : WordsError.Usage ≡ WordsError.OutOfMemory = sym is ∙ wanting in absurd (cc)

@@ -1,5 +1,5 @@
 -- Why a script ends before its input does, and what is left to write then.
-use Rattle.std.specs.Prelude.{◌≡◌, ◌⊎◌, ℕ, List, [], ◌++◌, Some, None, Result, Ok, Err}
+use Rattle.std.specs.Prelude.{◌≡◌, ℕ, List, [], ◌++◌, Some, None, Result, Ok, Err}
 use Rattle.h5w_model.specs.Causes.{Rose}
 use Rattle.h5w_model.specs.Lawful.{Line as ScriptedLine, Rules}
 use Rattle.h5w_model.specs.declared.reply.Reply.{Reply}
@@ -15,8 +15,8 @@ use Rattle.h5w_cli.specs.Answers.{Answers, play_line_of}
 use Rattle.h5w_cli.specs.Plays.{Begun, Broken, Finished, Writes, input_limit}
 use Rattle.h5w_cli.specs.declared.ending.Ending.{Ending}
 use Rattle.h5w_cli.specs.declared.ending.Ending.TheVariants.{Line, Input, Source, Sink, Memory}
-use Rattle.h5w_cli.specs.declared.status.Status.{Status}
-use Rattle.h5w_cli.specs.declared.status.Status.TheVariants as statuses
+use Rattle.h5w_text.specs.declared.status.Status.{Status}
+use Rattle.h5w_text.specs.declared.status.Status.TheVariants as statuses
 
 abbrev pub ending_of : LineError → Ending
 ending_of line_errors.Failed = Source
@@ -68,12 +68,3 @@ Runs g (Err Input) s t k l = Leaves g statuses.Input (error_text (errors.Input i
 Runs g (Err Source) s t k l = Leaves g statuses.Source (error_text errors.Source) s t k l
 Runs g (Err Sink) s t k l = Broken g s t k l
 Runs g (Err Memory) s t k l = Leaves g statuses.Memory (error_text errors.Memory) s t k l
-
--- these last bytes were written, unless the sink failed
-pub data Said (last : List ℕ) (status result : Status) (k l : SinkView) : Type 0 where
-  whole : result ≡ status → Gave last k l → Said last status result k l
-  failed : result ≡ statuses.Sink → Rose k.faults l.faults → GaveSome last k l → Said last status result k l
-
--- the same, unless memory for them was refused
-abbrev pub SaidUnlessMemory : List ℕ → Status → Status → SinkView → SinkView → Type 0
-SaidUnlessMemory last status result k l = Said last status result k l ⊎ Said (error_text errors.Memory) statuses.Memory result k l

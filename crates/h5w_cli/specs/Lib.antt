@@ -5,10 +5,13 @@ pub use Rattle.h5w_text.specs.Lines
 pub use Rattle.h5w_text.specs.Scripts
 pub use Rattle.h5w_text.specs.Replies
 pub use Rattle.h5w_text.specs.Errors
+pub use Rattle.h5w_files.specs.Ends
+pub use Rattle.h5w_files.specs.Checks
+pub use Rattle.h5w_files.specs.Polls
+pub use Rattle.h5w_files.specs.Clears
 pub use Rattle.h5w_words.specs.Commands
 pub use Rattle.h5w_words.specs.Limits
 pub use Rattle.h5w_core.specs.Worlds
-pub mod Statuses
 pub mod Answers
 pub mod Plays
 pub mod Endings

@@ -10,8 +10,8 @@ use Rattle.h5w_text.specs.Replies.{reply_text}
 use Rattle.h5w_text.specs.Errors.{error_text}
 use Rattle.h5w_text.specs.declared.error.ErrorLine.TheVariants as errors
 use Rattle.h5w_cli.specs.Answers.{play_line_of}
-use Rattle.h5w_cli.specs.declared.status.Status.{Status}
-use Rattle.h5w_cli.specs.declared.status.Status.TheVariants.{Done, Usage, Input, Source, Sink, Memory}
+use Rattle.h5w_text.specs.declared.status.Status.{Status}
+use Rattle.h5w_text.specs.declared.status.Status.TheVariants.{Done, Usage, Missing, Format, Damaged, Flags, Again, Input, Limit, Disk, Source, Sink, Memory}
 
 -- the most bytes of an input
 abbrev pub input_limit : ℕ
@@ -88,7 +88,14 @@ pub record TooLong (g : Rules) (s : SourceView) (text : List ℕ) : Type 0 where
 abbrev pub Writes : Rules → Status → SourceView → SourceView → List ℕ → Type 0
 Writes g Done s t text = Whole g s t text
 Writes g Usage s t text = ⊥
+Writes g Missing s t text = ⊥
+Writes g Format s t text = ⊥
+Writes g Damaged s t text = ⊥
+Writes g Flags s t text = ⊥
+Writes g Again s t text = ⊥
 Writes g Input s t text = Refused g s text ⊎ TooLong g s text
+Writes g Limit s t text = ⊥
+Writes g Disk s t text = ⊥
 Writes g Source s t text = Rose s.faults t.faults × Stopped g s t (error_text errors.Source) text
 Writes g Sink s t text = Begun g s [] text
 Writes g Memory s t text = Begun g s (error_text errors.Memory) text

@@ -1,35 +1,48 @@
 -- What a run of the program leaves, by its words.
 use Rattle.std.specs.Prelude.{◌≡◌, Option, Some, None}
+use Rattle.h5w_image.specs.View.{DiskView}
+use Rattle.h5w_reader.specs.Readers.{reader_rules}
 use Rattle.h5w_text.specs.Streams.{SourceView, SinkView}
 use Rattle.h5w_text.specs.Errors.{error_text}
+use Rattle.h5w_text.specs.Says.{SaidUnlessMemory}
 use Rattle.h5w_text.specs.declared.error.ErrorLine.TheVariants as errors
+use Rattle.h5w_text.specs.declared.status.Status.{Status}
+use Rattle.h5w_text.specs.declared.status.Status.TheVariants as statuses
+use Rattle.h5w_files.specs.Ends.{EndsWell}
+use Rattle.h5w_files.specs.Checks.{CheckEnds, check_of}
+use Rattle.h5w_files.specs.Polls.{PollEnds, poll_of}
+use Rattle.h5w_files.specs.Clears.{ClearEnds, flags_of}
 use Rattle.h5w_core.specs.Worlds.{rules_for}
 use Rattle.h5w_words.specs.declared.job.Job.{Job}
-use Rattle.h5w_words.specs.declared.job.Job.TheVariants.{Play}
-use Rattle.h5w_cli.specs.Endings.{SaidUnlessMemory}
+use Rattle.h5w_words.specs.declared.job.Job.TheVariants.{Play, Check, Poll, Clear}
 use Rattle.h5w_cli.specs.Plays.{Completes, Plays}
-use Rattle.h5w_cli.specs.declared.status.Status.{Status}
-use Rattle.h5w_cli.specs.declared.status.Status.TheVariants as statuses
 
--- what a job leaves of source and sink
-abbrev pub Does : Job → Status → SourceView → SourceView → SinkView → SinkView → Type 0
-Does (Play options attempts) status s t k l = Plays (rules_for options attempts) status s t k l
+-- What a job leaves of source, sink and disk. A script leaves the disk as it is, and the commands on files read nothing.
+abbrev pub Does : Job → Status → SourceView → SourceView → SinkView → SinkView → DiskView → DiskView → Type 0
+Does (Play options attempts) status s t k l v w = Plays (rules_for options attempts) status s t k l × (w ≡ v)
+Does (Check file name) status s t k l v w = (t ≡ s) × CheckEnds file name v w status k l
+Does (Poll file name times attempts values) status s t k l v w = (t ≡ s) × PollEnds file name times attempts values v w status k l
+Does (Clear file) status s t k l v w = (t ≡ s) × ClearEnds file v w status k l
 
--- the words are outside the command set: nothing is read, and that is said
-pub record Refuses (status : Status) (s t : SourceView) (k l : SinkView) : Type 0 where
+-- the words are outside the command set: nothing is read, no file is looked at, and that is said
+pub record Refuses (status : Status) (s t : SourceView) (k l : SinkView) (v w : DiskView) : Type 0 where
   pub unread : t ≡ s
+  pub disk : w ≡ v
   pub told : SaidUnlessMemory (error_text errors.Usage) statuses.Usage status k l
 
 -- what a run leaves, by the job of its words
-abbrev pub Ran : Option Job → Status → SourceView → SourceView → SinkView → SinkView → Type 0
-Ran None status s t k l = Refuses status s t k l
-Ran (Some job) status s t k l = Does job status s t k l
+abbrev pub Ran : Option Job → Status → SourceView → SourceView → SinkView → SinkView → DiskView → DiskView → Type 0
+Ran None status s t k l v w = Refuses status s t k l v w
+Ran (Some job) status s t k l v w = Does job status s t k l v w
 
 -- a job is done, or memory is wanted, where nothing else stands in its way
-abbrev pub DoesWhole : Job → Status → SourceView → SourceView → SinkView → SinkView → Type 0
-DoesWhole (Play options attempts) status s t k l = Completes status s t k l
+abbrev pub DoesWhole : Job → Status → SourceView → SourceView → SinkView → SinkView → DiskView → DiskView → Type 0
+DoesWhole (Play options attempts) status s t k l v w = Completes status s t k l
+DoesWhole (Check file name) status s t k l v w = EndsWell (check_of name) file v w status k l
+DoesWhole (Poll file name times attempts values) status s t k l v w = EndsWell (poll_of (reader_rules name attempts) values) file v w status k l
+DoesWhole (Clear file) status s t k l v w = EndsWell flags_of file v w status k l
 
 -- the same of the job that words of the command set have
-abbrev pub RanWhole : Option Job → Status → SourceView → SourceView → SinkView → SinkView → Type 0
-RanWhole None status s t k l = Unit {0}
-RanWhole (Some job) status s t k l = DoesWhole job status s t k l
+abbrev pub RanWhole : Option Job → Status → SourceView → SourceView → SinkView → SinkView → DiskView → DiskView → Type 0
+RanWhole None status s t k l v w = Unit {0}
+RanWhole (Some job) status s t k l v w = DoesWhole job status s t k l v w

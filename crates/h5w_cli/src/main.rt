@@ -1,19 +1,19 @@
-//! The program `h5swmr`: it makes a source and a sink of the standard streams, and runs what its words ask for.
+//! The program `h5swmr`: it makes a source and a sink of the standard streams and a disk of the files, and runs what its words ask for.
 #![tactic(auto)]
 
 mod answer;
+mod disk;
 mod ending;
 mod plain;
 mod play;
 mod run;
-mod status;
 mod streams;
 
-use crate::play::say;
+use crate::disk::FileDisk;
 use crate::run::run;
-use crate::status::Status;
 use crate::streams::{StdSink, StdSource};
-use h5w_image::{MemDisk, OpenGate};
+use h5w_image::OpenGate;
+use h5w_text::{Status, say};
 use std::alloc::AllocError;
 use std::env;
 use std::io::ErrorKind;
@@ -32,7 +32,7 @@ fn words(rt: &HostRuntime) -> Result<Vec<String>, AllocError> {
 fn main(rt: HostRuntime) -> ExitCode {
     let mut source = StdSource::new(rt.stdin());
     let mut sink = StdSink::new(rt.stdout());
-    let mut disk = MemDisk::new(rt.alloc());
+    let mut disk = FileDisk::new(&rt);
     let status = match words(&rt) {
         Ok(words) => run(
             &rt,

@@ -1,13 +1,12 @@
 //! The commands that wait for nobody.
-ghost use Rattle.std.specs.Prelude.{◌≡◌};
 ghost use Rattle.h5w_cli.specs.Plays.{SameSource};
 ghost use Rattle.h5w_cli.specs.Runs.{Does, DoesWhole};
 ghost use Rattle.h5w_words.specs.Limits.{IsWithinLimits};
 
 use crate::play::play;
-use crate::status::Status;
+use h5w_files::{check, clear, poll};
 use h5w_image::Disk;
-use h5w_text::{Sink, Source};
+use h5w_text::{Sink, Source, Status};
 use h5w_words::Job;
 use std::alloc::Global;
 
@@ -17,15 +16,32 @@ pub fn plain<S: Source, K: Sink, D: Disk>(
     job: &Job,
     source: &mut S,
     sink: &mut K,
-    _disk: &mut D,
+    disk: &mut D,
 ) -> Status
     requires { IsWithinLimits job.now }
-    ensures does { Does job.now result (S.view source.old) (S.view source.new) (K.view sink.old) (K.view sink.new) }
-    ensures completes { DoesWhole job.now result (S.view source.old) (S.view source.new) (K.view sink.old) (K.view sink.new) }
+    ensures does { Does job.now result (S.view source.old) (S.view source.new) (K.view sink.old) (K.view sink.new) (D.view disk.old) (D.view disk.new) }
+    ensures completes { DoesWhole job.now result (S.view source.old) (S.view source.new) (K.view sink.old) (K.view sink.new) (D.view disk.old) (D.view disk.new) }
     ensures source { SameSource (S.view source.old) (S.view source.new) }
-    ensures disk { D.view _disk.new ≡ D.view _disk.old }
 {
     match job {
         Job::Play { options, attempts } => play(alloc, options, *attempts, source, sink),
+        Job::Check { file, name } => check(alloc, file.as_str(), name.as_slice(), sink, disk),
+        Job::Poll {
+            file,
+            name,
+            times,
+            attempts,
+            values,
+        } => poll(
+            alloc,
+            file.as_str(),
+            name.as_slice(),
+            *times,
+            *attempts,
+            *values,
+            sink,
+            disk,
+        ),
+        Job::Clear { file } => clear(alloc, file.as_str(), sink, disk),
     }
 }

@@ -1,18 +1,18 @@
 //! A script of a writer and readers.
 ghost use Rattle.std.specs.Prelude.{◌≡◌, ◌≤◌, ◌+◌, ◌^◌, ℕ, List, [], length, OnOk, IfErr, IfOk};
 ghost use Rattle.h5w_model.specs.Lawful.{at_first};
-ghost use Rattle.h5w_model.specs.Options.{AreAttempts, AreOptions};
-ghost use Rattle.h5w_text.specs.Errors.{error_text};
+ghost use Rattle.h5w_options.specs.Options.{AreAttempts, AreOptions};
 ghost use Rattle.h5w_text.specs.LinesAhead.{IsLine, lines_ahead};
 ghost use Rattle.h5w_core.specs.Worlds.{HaveOneLog, rules_for, rules_of};
-ghost use Rattle.h5w_cli.specs.Endings.{Answered, EndsAt, Runs, Said, SaidUnlessMemory, outside};
+ghost use Rattle.h5w_cli.specs.Endings.{Answered, EndsAt, Runs, outside};
 ghost use Rattle.h5w_cli.specs.Plays.{Plays, SameSource, input_limit};
 
 use crate::answer::{Refusal, answer};
 use crate::ending::Ending;
-use crate::status::Status;
 use h5w_core::{Options, World};
-use h5w_text::{ErrorLine, Intake, Lines, Next, Sink, Source, TextLine, write_error, write_reply};
+use h5w_text::{
+    ErrorLine, Intake, Lines, Next, Sink, Source, Status, TextLine, say, tell, write_reply,
+};
 use std::alloc::Global;
 
 /// The most bytes of an input.
@@ -89,27 +89,6 @@ fn script<S: Source, K: Sink>(
     answer_lines(alloc, world, &mut lines, sink)
 }
 
-/// Writes these bytes as the last ones.
-pub fn say<K: Sink>(bytes: &[u8], status: Status, sink: &mut K) -> Status
-    ensures { Said bytes.now status result (K.view sink.old) (K.view sink.new) }
-{
-    match sink.write(bytes) {
-        Ok(()) => status,
-        Err(_) => Status::Sink,
-    }
-}
-
-/// Writes the line of an error as the last one.
-fn tell<K: Sink>(alloc: Global, error: &ErrorLine, status: Status, sink: &mut K) -> Status
-    ensures { SaidUnlessMemory (error_text error.now) status result (K.view sink.old) (K.view sink.new) }
-{
-    let mut text = Vec::new(alloc);
-    match write_error(&mut text, error) {
-        Ok(()) => say(&text, status, sink),
-        Err(_) => say(b"error memory\n", Status::Memory, sink),
-    }
-}
-
 /// Runs the script from the source on a new world, by these options.
 pub fn play<S: Source, K: Sink>(
     alloc: Global,
@@ -128,13 +107,13 @@ pub fn play<S: Source, K: Sink>(
     };
     match script(alloc, &mut world, source, sink) {
         Ok(()) => Status::Done,
-        Err(Ending::Line(number)) => { tell(alloc, &ErrorLine::Line(number), Status::Input, sink) }
+        Err(Ending::Line(number)) => tell(alloc, &ErrorLine::Line(number), sink),
         Err(Ending::Input) => {
             let limit = INPUT_LIMIT;
-            tell(alloc, &ErrorLine::Input { limit }, Status::Input, sink)
+            tell(alloc, &ErrorLine::Input { limit }, sink)
         }
-        Err(Ending::Source) => tell(alloc, &ErrorLine::Source, Status::Source, sink),
-        Err(Ending::Memory) => tell(alloc, &ErrorLine::Memory, Status::Memory, sink),
+        Err(Ending::Source) => tell(alloc, &ErrorLine::Source, sink),
+        Err(Ending::Memory) => tell(alloc, &ErrorLine::Memory, sink),
         Err(Ending::Sink) => Status::Sink,
     }
 }

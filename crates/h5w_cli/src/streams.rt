@@ -5,7 +5,7 @@ use h5w_text::{Failed, Sink, Source};
 use std::io::{Read, Write};
 
 /// Counts a fault.
-fn count_fault(faults: &mut u64) -> Failed
+pub fn count_fault(faults: &mut u64) -> Failed
     ensures later { faults.old ≤ faults.new }
     ensures cause { Rose faults.old faults.new }
 {

@@ -1,5 +1,5 @@
 -- The writer appends values.
-use Rattle.std.proofs.Common.{◌≡◌, ◌≢◌, ◌⊎◌, ℕ, ◌+◌, List, [], ◌∷◌, ◌++◌, length, ℤ, Bool, true, false, nat_lt, if◌then◌else◌, Option, Some, None, Result, Ok, Err, sym, refl, ap, ◌∙◌, subst, inl, inr, arith, append_assoc, length-append}
+use Rattle.std.proofs.Common.{◌≡◌, ◌≢◌, ◌⊎◌, ℕ, ◌+◌, ◌/◌, List, [], ◌∷◌, ◌++◌, length, ℤ, Bool, true, false, nat_lt, if◌then◌else◌, Option, Some, None, Result, Ok, Err, sym, refl, ap, ◌∙◌, subst, inl, inr, arith, append_assoc}
 use Rattle.std.proofs.lemmas.Bool.{lt-ltb}
 use Rattle.h5w_model.specs.declared.piece.Write.{Write}
 use Rattle.h5w_model.specs.Logs.{Log, appends, appended, appended_in, load, and_now, needed_chunks}
@@ -8,15 +8,14 @@ use Rattle.h5w_model.specs.declared.event.Event.TheVariants as events
 use Rattle.h5w_model.specs.declared.reply.Reply.{Reply}
 use Rattle.h5w_model.specs.declared.reply.Reply.TheVariants as replies
 use Rattle.h5w_polling.proofs.ScriptLemmas.{writer_line_laws}
-use Rattle.h5w_writer.specs.Files.{int_type}
-use Rattle.h5w_writer.specs.Refusals.{append_refusal, chunks_with}
-use Rattle.h5w_writer.specs.Sessions.{Session, Stands, chunk_limit, cutting_of, rows_of, with_values}
-use Rattle.h5w_writer.specs.declared.refusal.AppendError.{AppendError}
-use Rattle.h5w_writer.specs.declared.refusal.AppendError.TheVariants as errors
-use Rattle.h5w_writer.specs.Plans.{options_of}
-use Rattle.h5w_writer.proofs.LawLemmas.{standing_laws}
-use Rattle.h5w_core.specs.Worlds.{WorldView, HaveOneLog, IsStateOf, Steps, polling_of, rules_of}
-use Rattle.h5w_core.proofs.StateLemmas.{rows_in-length, in_rows, load_of-log, spent_in-events}
+use Rattle.h5w_session.specs.Refusals.{append_refusal, chunks_refusal}
+use Rattle.h5w_session.specs.Sessions.{Session, chunk_limit, chunks_with, cutting_of, rows_of, with_values}
+use Rattle.h5w_session.specs.Stands.{Stands}
+use Rattle.h5w_session.specs.declared.refusal.AppendError.{AppendError}
+use Rattle.h5w_session.specs.declared.refusal.AppendError.TheVariants as errors
+use Rattle.h5w_session.proofs.LawLemmas.{standing_laws}
+use Rattle.h5w_core.specs.Worlds.{AreRowsBy, WorldView, HaveOneLog, IsStateOf, Steps, polling_of, rules_of}
+use Rattle.h5w_core.proofs.StateLemmas.{columns_of, in_rows, load_of-log, more_rows, some_columns, spent_in-events}
 use Rattle.h5w_core.proofs.WorldLemmas.{world_of, changed}
 use Rattle.h5w_image.specs.Memory.{MemView}
 use Rattle.h5w_image.specs.View.{Same}
@@ -34,28 +33,29 @@ append_answer (Some (errors.Chunks chunks limit)) rows = replies.FullChunks chun
 append_answer (Some errors.Failed) rows = replies.Stopped
 append_answer (Some errors.OutOfMemory) rows = replies.Stopped
 
+-- so many rows that these values are
+abbrev pub rows_more : Session → List ℤ → ℕ
+rows_more s vs = length vs / s.dataset.shape.cols
+
 -- the rows of a state with these values, by the session
-rows_with : (w : WorldView) (s : ScriptState) (log : Log) (vs : List ℤ) → Stands w.session log → IsStateOf w s log
-    → rows_in (rules_of w) (s.appended ++ vs) ≡ rows_of w.session + length vs
-rows_with w s log vs stands state =
-    rows_in-length (options_of w.session.file) w.attempts (s.appended ++ vs) ∙ length-append s.appended vs
-    ∙ ap (λ n. n + length vs) (ap length state.appended ∙ sym (standing_laws.appended_rows w.session log stands ∙ in_rows w.session log (appended log) stands))
+rows_with : (w : WorldView) (s : ScriptState) (log : Log) (vs : List ℤ) → AreRowsBy (rules_of w) vs → Stands w.session log → IsStateOf w s log
+    → rows_in (rules_of w) (s.appended ++ vs) ≡ rows_of w.session + rows_more w.session vs
+rows_with w s log vs rows stands state =
+    more_rows (rules_of w) s.appended vs (some_columns w.session log stands) rows
+    ∙ ap (λ n. n + rows_more w.session vs) (ap (λ (xs : List ℤ). rows_in (rules_of w) xs) state.appended ∙ sym (standing_laws.appended_rows w.session log stands ∙ in_rows w.session log (appended log) stands))
 
-chosen : (b : Bool) (chunks rows : ℕ) → (if b then replies.FullChunks chunks chunk_limit else replies.Appended rows 0)
-    ≡ append_answer (if b then Some (errors.Chunks chunks chunk_limit) else None) rows
-chosen true chunks rows = refl
-chosen false chunks rows = refl
+chosen : (b : Bool) (chunks limit rows : ℕ) → (if b then replies.FullChunks chunks limit else replies.Appended rows 0)
+    ≡ append_answer (if b then Some (errors.Chunks chunks limit) else None) rows
+chosen true chunks limit rows = refl
+chosen false chunks limit rows = refl
 
-fitting : (w : WorldView) (s : ScriptState) (log : Log) (vs : List ℤ) → Stands w.session log → IsStateOf w s log
-    → fitting_reply (rules_of w) (s.appended ++ vs)
-    ≡ append_answer (if nat_lt chunk_limit (chunks_with w.session (length vs)) then Some (errors.Chunks (chunks_with w.session (length vs)) chunk_limit) else None) (rows_of w.session + length vs)
-fitting w s log vs stands state =
-    let rows = rows_with w s log vs stands state in
-    let n = rows_of w.session + length vs in
-    let chunks : needed_chunks (rules_of w).cutting n ≡ chunks_with w.session (length vs) = omega arith in
-    ap (λ (m : ℕ). if nat_lt chunk_limit (needed_chunks (rules_of w).cutting m) then replies.FullChunks (needed_chunks (rules_of w).cutting m) chunk_limit else replies.Appended m 0) rows
-    ∙ ap (λ (m : ℕ). if nat_lt chunk_limit m then replies.FullChunks m chunk_limit else replies.Appended n 0) chunks
-    ∙ chosen (nat_lt chunk_limit (chunks_with w.session (length vs))) (chunks_with w.session (length vs)) n
+fitting : (w : WorldView) (s : ScriptState) (log : Log) (vs : List ℤ) → AreRowsBy (rules_of w) vs → Stands w.session log → IsStateOf w s log
+    → fitting_reply (rules_of w) (s.appended ++ vs) ≡ append_answer (chunks_refusal w.session (rows_more w.session vs)) (rows_of w.session + rows_more w.session vs)
+fitting w s log vs rows stands state =
+    let n = rows_of w.session + rows_more w.session vs in
+    let limit = chunk_limit w.session in
+    ap (λ (m : ℕ). if nat_lt limit (needed_chunks (rules_of w).cutting m) then replies.FullChunks (needed_chunks (rules_of w).cutting m) limit else replies.Appended m 0) (rows_with w s log vs rows stands state)
+    ∙ chosen (nat_lt limit (chunks_with w.session (rows_more w.session vs))) (chunks_with w.session (rows_more w.session vs)) limit n
 
 inside : (o : Option (ℕ × ℤ)) (rest : Reply) (refusal : Option AppendError) (rows : ℕ) → rest ≡ append_answer refusal rows
     → elim o as (λ _. Reply) [ Some x ↦ replies.OutOfRange x.0 x.1 | None ↦ rest ]
@@ -74,13 +74,13 @@ stopped_or true rest refusal rows is = refl
 stopped_or false rest refusal rows is = is
 
 -- the lawful reply is the one to the session's refusal
-pub append_reply-answer : (w : WorldView) (s : ScriptState) (log : Log) (vs : List ℤ) → Stands w.session log → IsStateOf w s log
-    → append_reply (rules_of w) s vs ≡ append_answer (append_refusal w.session vs) (rows_of w.session + length vs)
-append_reply-answer w s log vs stands state =
+pub append_reply-answer : (w : WorldView) (s : ScriptState) (log : Log) (vs : List ℤ) → AreRowsBy (rules_of w) vs → Stands w.session log → IsStateOf w s log
+    → append_reply (rules_of w) s vs ≡ append_answer (append_refusal w.session vs) (rows_of w.session + rows_more w.session vs)
+append_reply-answer w s log vs are stands state =
     let g = rules_of w in
-    let rows = rows_of w.session + length vs in
-    let within : Option AppendError = if nat_lt chunk_limit (chunks_with w.session (length vs)) then Some (errors.Chunks (chunks_with w.session (length vs)) chunk_limit) else None in
-    let outside : Option AppendError = elim (first_outside int_type 0 vs) [ Some x ↦ Some (errors.OutOfRange x.0 x.1) | None ↦ within ] in
+    let rows = rows_of w.session + rows_more w.session vs in
+    let within : Option AppendError = chunks_refusal w.session (rows_more w.session vs) in
+    let outside : Option AppendError = elim (first_outside g.int_type 0 vs) [ Some x ↦ Some (errors.OutOfRange x.0 x.1) | None ↦ within ] in
     let rest : Reply = elim (first_outside g.int_type 0 vs) [ Some x ↦ replies.OutOfRange x.0 x.1 | None ↦ fitting_reply g (s.appended ++ vs) ] in
     let n = length w.session.pending in
     let busy : Option AppendError = if nat_lt 0 n then Some (errors.Busy n) else outside in
@@ -88,7 +88,7 @@ append_reply-answer w s log vs stands state =
     ∙ ap (λ (k : ℕ). if w.session.stopped then replies.Stopped else (if nat_lt 0 k then replies.Busy k else rest)) state.pending
     ∙ stopped_or w.session.stopped (if nat_lt 0 n then replies.Busy n else rest) busy rows
     (busy_or (nat_lt 0 n) n rest outside rows
-    (inside (first_outside int_type 0 vs) (fitting_reply g (s.appended ++ vs)) within rows (fitting w s log vs stands state)))
+    (inside (first_outside g.int_type 0 vs) (fitting_reply g (s.appended ++ vs)) within rows (fitting w s log vs are stands state)))
 
 -- ---- Refused
 
@@ -119,13 +119,13 @@ refused_rows errors.Failed rows = refl
 refused_rows errors.OutOfMemory rows = refl
 
 -- a refusal leaves the world
-refused_steps : (w : WorldView) (vs : List ℤ) (e : AppendError) → append_refusal w.session vs ≡ Some e → IsOwn e → Steps w (events.Append vs) (append_answer (Some e) 0) w
-refused_steps w vs e refusal own =
+refused_steps : (w : WorldView) (vs : List ℤ) (e : AppendError) → AreRowsBy (rules_of w) vs → append_refusal w.session vs ≡ Some e → IsOwn e → Steps w (events.Append vs) (append_answer (Some e) 0) w
+refused_steps w vs e rows refusal own =
     record {
       rules = refl;
       lawful = λ s fits. (
-        sym (refused_rows e (rows_of w.session + length vs)) ∙ ap (λ (r : Option AppendError). append_answer r (rows_of w.session + length vs)) (sym refusal)
-            ∙ sym (append_reply-answer w s fits.log vs fits.stands.stands fits.state),
+        sym (refused_rows e (rows_of w.session + rows_more w.session vs)) ∙ ap (λ (r : Option AppendError). append_answer r (rows_of w.session + rows_more w.session vs)) (sym refusal)
+            ∙ sym (append_reply-answer w s fits.log vs rows fits.stands.stands fits.state),
         subst (λ (t : ScriptState). HaveOneLog w t) (sym (refused_state (rules_of w) s vs e own)) fits,
       );
     }
@@ -139,14 +139,15 @@ own_cause s vs e f (inl refusal) is own = refusal ∙ ap Some is
 own_cause s vs e f (inr (inl failed)) is own = absurd (subst IsOwn (sym is ∙ failed) own)
 own_cause s vs e f (inr (inr memory)) is own = absurd (subst IsOwn (sym is ∙ memory) own)
 
-pub refused_done : (s t : Session) (m n : MemView) (attempts : ℕ) (readers : List (Option ReaderCore)) (w : WorldView) (vs : List ℤ) (e f : AppendError) → world_of s m attempts readers ≡ w → Same (steady m) (steady n) → t ≡ s
+pub refused_done : (s t : Session) (m n : MemView) (attempts : ℕ) (readers : List (Option ReaderCore)) (w : WorldView) (vs : List ℤ) (e f : AppendError) → AreRowsBy (rules_of w) vs → world_of s m attempts readers ≡ w → Same (steady m) (steady n) → t ≡ s
     → Causes s vs e → e ≡ f → IsOwn f → Steps w (events.Append vs) (append_answer (Some f) 0) (world_of t n attempts readers)
-refused_done s t m n attempts readers w vs e f view same kept causes is own =
+refused_done s t m n attempts readers w vs e f are view same kept causes is own =
     let old = world_of s m attempts readers in
+    let rows : AreRowsBy (rules_of old) vs = subst (λ (x : WorldView). AreRowsBy (rules_of x) vs) (sym view) are in
     let reply = append_answer (Some f) 0 in
     let unchanged : world_of t n attempts readers ≡ old = changed s t m n attempts readers same (λ x. x) kept in
     subst (λ (x : WorldView). Steps x (events.Append vs) reply (world_of t n attempts readers)) view
-    (subst (λ (x : WorldView). Steps old (events.Append vs) reply x) (sym unchanged) (refused_steps old vs f (own_cause s vs e f causes is own) own))
+    (subst (λ (x : WorldView). Steps old (events.Append vs) reply x) (sym unchanged) (refused_steps old vs f rows (own_cause s vs e f causes is own) own))
 
 -- ---- Appended
 
@@ -180,7 +181,7 @@ appended_state w vs s log accepted stands state =
       ends_flush = state.ends_flush;
       taken = λ some. absurd (busy_none w.session.pending _ (going_rest w.session.stopped _ accepted) some);
       spent =
-          (λ i. state.spent i + load_of-log (options_of w.session.file) w.attempts s (s.appended ++ vs) (and_now (appends vs) log) (standing_laws.columns w.session log stands) state.flushed more i)
+          (λ i. state.spent i + load_of-log (rules_of w) s (s.appended ++ vs) (and_now (appends vs) log) (columns_of w.session log stands) state.flushed more i)
           ∙ ap (λ n. n + load (cutting_of w.session) (and_now (appends vs) log)) (sym (spent_in-events (cutting_of w.session) log (appends vs ∷ log.events) log.events));
       stopped = state.stopped;
       tries = state.tries;
@@ -188,14 +189,14 @@ appended_state w vs s log accepted stands state =
       polls = writer_line_laws.appended (polling_of w) log s (reader_at w.readers) vs state.polls;
     }
 
-pub appended_steps : (w : WorldView) (vs : List ℤ) → append_refusal w.session vs ≡ None → CarriesValues w.session vs
-    → Steps w (events.Append vs) (replies.Appended (rows_of w.session + length vs) 0) (appended_world w vs)
-appended_steps w vs accepted carries =
+pub appended_steps : (w : WorldView) (vs : List ℤ) → AreRowsBy (rules_of w) vs → append_refusal w.session vs ≡ None → CarriesValues w.session vs
+    → Steps w (events.Append vs) (replies.Appended (rows_of w.session + rows_more w.session vs) 0) (appended_world w vs)
+appended_steps w vs rows accepted carries =
     record {
       rules = refl;
       lawful = λ s fits. (
-        ap (λ (r : Option AppendError). append_answer r (rows_of w.session + length vs)) (sym accepted)
-            ∙ sym (append_reply-answer w s fits.log vs fits.stands.stands fits.state),
+        ap (λ (r : Option AppendError). append_answer r (rows_of w.session + rows_more w.session vs)) (sym accepted)
+            ∙ sym (append_reply-answer w s fits.log vs rows fits.stands.stands fits.state),
         record {
           log = and_now (appends vs) fits.log;
           stands = record { stands = carries fits.log fits.stands.stands; journal = fits.stands.journal; bytes = fits.stands.bytes };
@@ -211,14 +212,15 @@ not_refused : (refusal : Option AppendError) (r : Result ℕ AppendError) (rows 
 not_refused None r rows refused ok = refl
 not_refused (Some e) r rows refused ok = absurd (ok_err e r rows ok (refused e refl))
 
-pub append_done : (s t : Session) (m n : MemView) (attempts rows : ℕ) (readers : List (Option ReaderCore)) (w : WorldView) (vs : List ℤ) (r : Result ℕ AppendError) → world_of s m attempts readers ≡ w → Same (steady m) (steady n)
-    → t ≡ with_values s vs → rows ≡ rows_of t → ((e : AppendError) → append_refusal s vs ≡ Some e → r ≡ Err e) → r ≡ Ok rows
+pub append_done : (s t : Session) (m n : MemView) (attempts rows : ℕ) (readers : List (Option ReaderCore)) (w : WorldView) (vs : List ℤ) (r : Result ℕ AppendError) → AreRowsBy (rules_of w) vs → world_of s m attempts readers ≡ w
+    → Same (steady m) (steady n) → t ≡ with_values s vs → rows ≡ rows_of t → ((e : AppendError) → append_refusal s vs ≡ Some e → r ≡ Err e) → r ≡ Ok rows
     → ((log : Log) → Stands s log → Stands t (and_now (appends vs) log)) → Steps w (events.Append vs) (replies.Appended rows 0) (world_of t n attempts readers)
-append_done s t m n attempts rows readers w vs r view same is count refused ok stands =
+append_done s t m n attempts rows readers w vs r are view same is count refused ok stands =
     let old = world_of s m attempts readers in
+    let own : AreRowsBy (rules_of old) vs = subst (λ (x : WorldView). AreRowsBy (rules_of x) vs) (sym view) are in
     let accepted = not_refused (append_refusal s vs) r rows refused ok in
     let carries : CarriesValues s vs = λ log stood. subst (λ (x : Session). Stands x (and_now (appends vs) log)) is (stands log stood) in
-    let all : rows ≡ rows_of s + length vs = count ∙ ap rows_of is ∙ ap (λ n. s.file.rows + n) (length-append s.waiting vs) ∙ omega arith in
+    let all : rows ≡ rows_of s + rows_more s vs = count ∙ ap rows_of is ∙ omega arith in
     subst (λ (x : WorldView). Steps x (events.Append vs) (replies.Appended rows 0) (world_of t n attempts readers)) view
     (subst (λ (x : WorldView). Steps old (events.Append vs) (replies.Appended rows 0) x) (sym (changed s t m n attempts readers same (λ x. with_values x vs) is))
-    (subst (λ (k : ℕ). Steps old (events.Append vs) (replies.Appended k 0) (appended_world old vs)) (sym all) (appended_steps old vs accepted carries)))
+    (subst (λ (k : ℕ). Steps old (events.Append vs) (replies.Appended k 0) (appended_world old vs)) (sym all) (appended_steps old vs own accepted carries)))

@@ -1,9 +1,10 @@
 -- The pieces of a new file become visible, one after another.
-use Rattle.std.proofs.Common.{◌≡◌, ℕ, zero, suc, ◌+◌, ◌<◌, ◌≤◌, List, [], ◌∷◌, ◌++◌, length, replicate, get_or, sym, refl, ap, ◌∙◌, subst, arith, append_assoc, length-append, nat_lt, Option, Some, None, option_map}
+use Rattle.std.proofs.Common.{◌≡◌, ℕ, zero, suc, ◌+◌, ◌/◌, ◌<◌, ◌≤◌, List, [], ◌∷◌, ◌++◌, length, replicate, get_or, sym, refl, ap, ◌∙◌, subst, arith, append_assoc, length-append, nat_lt, Option, Some, None, option_map}
 use Rattle.std.proofs.lemmas.List.{append-nil, nil_from_length}
 use Rattle.std.specs.Option.{unwrap_or}
 use Rattle.h5w_model.specs.Images.{image}
-use Rattle.h5w_model.specs.Logs.{Log, and_now, appended, hist, spent, shows}
+use Rattle.h5w_model.specs.Datasets.{Described}
+use Rattle.h5w_model.specs.Logs.{Cutting, Log, and_now, appended, hist, spent, shows}
 use Rattle.h5w_model.specs.Lawful.{at_first}
 use Rattle.h5w_model.specs.declared.piece.Write.{Write}
 use Rattle.h5w_model.proofs.ImageLemmas.{image-push}
@@ -12,29 +13,25 @@ use Rattle.h5w_image.specs.View.{Same, Wrote}
 use Rattle.h5w_polling.specs.Polling.{MayPoll}
 use Rattle.h5w_model.specs.Unfinished.{Reader}
 use Rattle.h5w_reader.specs.declared.reader.ReaderCore.{ReaderCore}
-use Rattle.h5w_writer.specs.Files.{FileFields}
-use Rattle.h5w_writer.specs.Plans.{creation_writes, new_file, options_of}
-use Rattle.h5w_writer.specs.Room.{HasRoomFor}
-use Rattle.h5w_writer.specs.Sessions.{Session, Stands, after_piece, created, cutting_of, log_of}
-use Rattle.h5w_model.specs.declared.options.Options.{Options}
-use Rattle.h5w_writer.proofs.LawLemmas.{standing_laws}
+use Rattle.h5w_options.specs.declared.options.Options.{Options}
+use Rattle.h5w_session.specs.Creations.{created, creation_writes, log_of, new_dataset, new_file}
+use Rattle.h5w_session.specs.Room.{HasRoomFor}
+use Rattle.h5w_session.specs.Sessions.{Session, AfterPiece, cutting_of, rows_of}
+use Rattle.h5w_session.specs.Stands.{Stands}
+use Rattle.h5w_session.proofs.LawLemmas.{standing_laws}
 use Rattle.h5w_core.specs.Creation.{Creates}
 use Rattle.h5w_core.specs.Readers.{placed, reader_at}
 use Rattle.h5w_core.specs.Steady.{steady}
 use Rattle.h5w_core.specs.Worlds.{HaveOneLog, HoldsTogether, nobody, polling_of, rules_for, rules_of}
-use Rattle.h5w_core.proofs.ShowLemmas.{after_file, after_stopped, after_waiting, after_pending}
-use Rattle.h5w_core.proofs.StateLemmas.{in_rows, spent_in-events}
+use Rattle.h5w_core.proofs.ShowLemmas.{after_facts, same_cutting}
+use Rattle.h5w_core.proofs.StateLemmas.{in_rows, rules_by, spent_in-events}
 use Rattle.h5w_core.proofs.WorldLemmas.{world_of}
 
 some_is : {A : Type 0} (a b : A) → Some a ≡ Some b → a ≡ b
 some_is a b same = ap (λ o. unwrap_or o a) same
 
--- the loads with so many rows in a chunk
-abbrev spent_for : ℕ → Log → ℕ
-spent_for chunk_rows log = spent (record { chunk_rows = chunk_rows; chunk_columns = 1; columns = 1; value_size = 4 }) log
-
 -- none is visible yet
-pub begins : (o : Options) (s : Session) (m n : MemView) → s ≡ created o → Stands s (log_of []) → m ≡ fresh [] [] → Same (steady m) (steady n) → length s.pending + 1 ≤ n.pieces → s.file.end ≤ n.end
+pub begins : (o : Options) (s : Session) (m n : MemView) → s ≡ created (new_file o) → Stands s (log_of []) → m ≡ fresh [] [] → Same (steady m) (steady n) → length s.pending + 1 ≤ n.pieces → s.places.end ≤ n.end
     → Creates o 0 s n
 begins o s m n is stands empty same pieces end =
     let history : n.history ≡ [] = some_is n.history m.history same.history ∙ ap (λ (v : MemView). v.history) empty in
@@ -43,9 +40,10 @@ begins o s m n is stands empty same pieces end =
       stands = stands;
       history = history;
       bytes = some_is n.bytes m.bytes same.bytes ∙ ap (λ (v : MemView). v.bytes) empty;
-      file = ap (λ (x : Session). x.file) is;
+      dataset = ap (λ (x : Session). x.dataset) is;
+      limit = ap (λ (x : Session). x.places.limit) is;
       committed = ap (λ (x : Session). x.committed) is;
-      waiting = ap (λ (x : Session). x.waiting) is;
+      waits = ap (λ (x : Session). x.waits) is;
       going = ap (λ (x : Session). x.stopped) is;
       loads = refl;
       pieces = ap (λ (ws : List Write). ws ++ s.pending) history ∙ ap (λ (x : Session). x.pending) is;
@@ -58,30 +56,30 @@ some_left : (o : Options) (count : ℕ) (s : Session) (m : MemView) → Creates 
 some_left o count s m start = omega (arith, length-append m.history s.pending, ap length start.pieces, start.shown)
 
 -- one more
-new_committed : (s : Session) (ws : List Write) (o : Options) → s.file ≡ new_file o → s.committed ≡ 0 → (after_piece s ws).committed ≡ 0
-new_committed s [] o file none = ap (λ (f : FileFields). f.rows) file
-new_committed s (w ∷ ws) o file none = none
+new_committed : (s : Session) (ws : List Write) (t : Session) (o : Options) → AfterPiece s ws t → s.dataset ≡ new_dataset (new_file o) → s.committed ≡ 0 → t.committed ≡ 0
+new_committed s [] t o after dataset none = ap (λ (x : Session). x.committed) after.1 ∙ ap (λ (d : Described). d.shape.rows) dataset
+new_committed s (w ∷ ws) t o after dataset none = ap (λ (x : Session). x.committed) after ∙ none
 
-piece_more : (o : Options) (count : ℕ) (s t : Session) (m n : MemView) (piece : Write) (pieces : List Write) → s.pending ≡ piece ∷ pieces → Creates o count s m → t ≡ after_piece s pieces
+piece_more : (o : Options) (count : ℕ) (s t : Session) (m n : MemView) (piece : Write) (pieces : List Write) → s.pending ≡ piece ∷ pieces → Creates o count s m → AfterPiece s pieces t
     → Wrote (piece ∷ []) (steady m) (steady n) → ((log : Log) → Stands s log → Stands t (and_now (shows piece) log)) → HasRoomFor t (steady n) → Creates o (count + 1) t n
-piece_more o count s t m n piece pieces pending start is wrote stands room =
+piece_more o count s t m n piece pieces pending start shown wrote stands room =
     let log = start.log in
+    let after = after_facts s pieces t shown in
     let history : n.history ≡ m.history ++ piece ∷ [] = some_is n.history (m.history ++ piece ∷ []) wrote.history in
-    let file : t.file ≡ s.file = ap (λ (x : Session). x.file) is ∙ after_file s pieces in
     record {
       log = and_now (shows piece) log;
       stands = stands log start.stands;
       history = history ∙ ap (λ (ws : List Write). ws ++ piece ∷ []) start.history;
       bytes = some_is n.bytes (image m.bytes (piece ∷ [])) wrote.bytes ∙ ap (λ (b : List ℕ). image b (piece ∷ [])) start.bytes ∙ sym (image-push [] (hist log.events) piece);
-      file = file ∙ start.file;
-      committed = ap (λ (x : Session). x.committed) is ∙ new_committed s pieces o start.file start.committed;
-      waiting = ap (λ (x : Session). x.waiting) is ∙ after_waiting s pieces ∙ start.waiting;
-      going = ap (λ (x : Session). x.stopped) is ∙ after_stopped s pieces ∙ start.going;
-      loads =
-          ap (λ (f : FileFields). spent_for f.chunk_rows (and_now (shows piece) log)) file ∙ spent_in-events (cutting_of s) log (shows piece ∷ log.events) log.events ∙ start.loads;
+      dataset = after.dataset ∙ start.dataset;
+      limit = after.limit ∙ start.limit;
+      committed = new_committed s pieces t o shown start.dataset start.committed;
+      waits = after.waits ∙ start.waits;
+      going = after.stopped ∙ start.going;
+      loads = ap (λ (c : Cutting). spent c (and_now (shows piece) log)) (same_cutting s t pieces after) ∙ spent_in-events (cutting_of s) log (shows piece ∷ log.events) log.events ∙ start.loads;
       pieces =
           ap (λ (ws : List Write). ws ++ t.pending) history
-          ∙ ap (λ (ws : List Write). (m.history ++ piece ∷ []) ++ ws) (ap (λ (x : Session). x.pending) is ∙ after_pending s pieces)
+          ∙ ap (λ (ws : List Write). (m.history ++ piece ∷ []) ++ ws) after.pending
           ∙ append_assoc m.history (piece ∷ []) pieces ∙ ap (λ (ws : List Write). m.history ++ ws) (sym pending) ∙ start.pieces;
       shown = ap length history ∙ length-append m.history (piece ∷ []) ∙ ap (λ n. n + 1) start.shown;
       room = room;
@@ -89,7 +87,7 @@ piece_more o count s t m n piece pieces pending start is wrote stands room =
 
 -- what a shown piece leaves, where there is one
 abbrev pub ShowsPiece : Session → Session → MemView → MemView → Type 0
-ShowsPiece s t m n = (w : Write) (ws : List Write) → s.pending ≡ w ∷ ws → (t ≡ after_piece s ws) × Wrote (w ∷ []) (steady m) (steady n) × ((log : Log) → Stands s log → Stands t (and_now (shows w) log))
+ShowsPiece s t m n = (w : Write) (ws : List Write) → s.pending ≡ w ∷ ws → AfterPiece s ws t × Wrote (w ∷ []) (steady m) (steady n) × ((log : Log) → Stands s log → Stands t (and_now (shows w) log))
 
 pieces_more : (o : Options) (count : ℕ) (s t : Session) (m n : MemView) (ws : List Write) → s.pending ≡ ws → 1 ≤ length ws → Creates o count s m → ShowsPiece s t m n → HasRoomFor t (steady n) → Creates o (count + 1) t n
 pieces_more o count s t m n [] pending some start shown room = absurd (omega arith)
@@ -104,7 +102,7 @@ shows_more o count s t m n few start shown room = pieces_more o count s t m n s.
 all_shown : (o : Options) (s : Session) (m : MemView) → Creates o 5 s m → s.pending ≡ []
 all_shown o s m start = nil_from_length s.pending (omega (arith, some_left o 5 s m start))
 
-pub all_created : (o : Options) (s : Session) (m : MemView) → Creates o 5 s m → m.history ≡ creation_writes o
+pub all_created : (o : Options) (s : Session) (m : MemView) → Creates o 5 s m → m.history ≡ creation_writes (new_file o)
 all_created o s m start = sym (append-nil m.history) ∙ ap (λ (ws : List Write). m.history ++ ws) (sym (all_shown o s m start)) ∙ start.pieces
 
 -- no place has a reader
@@ -123,19 +121,21 @@ created_fits : (o : Options) (attempts : ℕ) (s : Session) (m : MemView) → 1 
 created_fits o attempts s m some start =
     let w = world_of s m attempts nobody in
     let shown = all_shown o s m start in
-    let rows_none : s.file.rows ≡ 0 = ap (λ (f : FileFields). f.rows) start.file in
-    let waits : length s.waiting ≡ 0 = ap length start.waiting in
-    let values : s.file.rows + length s.waiting ≡ length (appended start.log) = standing_laws.appended_rows s start.log start.stands ∙ in_rows s start.log (appended start.log) start.stands in
+    let one : s.dataset.shape.cols ≡ 1 = ap (λ (d : Described). d.shape.cols) start.dataset in
+    let rows_none : s.dataset.shape.rows ≡ 0 = ap (λ (d : Described). d.shape.rows) start.dataset in
+    let whole : length (appended start.log) / 1 ≡ length (appended start.log) = omega arith in
+    let counted : rows_of s ≡ length (appended start.log) =
+    standing_laws.appended_rows s start.log start.stands ∙ in_rows s start.log (appended start.log) start.stands ∙ ap (λ (c : ℕ). length (appended start.log) / c) one ∙ whole in
     let pieces : length (hist start.log.events) ≡ 5 = ap length (sym start.history) ∙ start.shown in
     record {
       log = start.log;
       stands = record { stands = start.stands; journal = start.history; bytes = start.bytes };
       state = record {
-        appended = sym (nil_from_length (appended start.log) (omega arith));
+        appended = sym (nil_from_length (appended start.log) (omega (arith, counted, rows_none, start.waits)));
         flushed = sym start.committed ∙ standing_laws.flushed_rows s start.log start.stands;
         pending = ap length (sym shown);
         ends_flush = ap (λ (ws : List Write). nat_lt 0 (length ws)) (sym shown);
-        taken = λ some. start.waiting;
+        taken = λ some. start.waits;
         spent = sym start.loads;
         stopped = sym start.going;
         tries = some;
@@ -145,7 +145,7 @@ created_fits o attempts s m some start =
     }
 
 pub created_rules : (o : Options) (attempts : ℕ) (s : Session) (m : MemView) (readers : List (Option ReaderCore)) → Creates o 5 s m → rules_of (world_of s m attempts readers) ≡ rules_for o attempts
-created_rules o attempts s m readers start = ap (λ (f : FileFields). rules_for (options_of f) attempts) start.file
+created_rules o attempts s m readers start = λ i. rules_by (start.dataset i) (start.limit i) attempts
 
 pub created_world_fits : (o : Options) (attempts : ℕ) (s : Session) (m : MemView) (readers : List (Option ReaderCore)) → 1 ≤ attempts → Creates o 5 s m → readers ≡ nobody
     → HaveOneLog (world_of s m attempts readers) at_first
@@ -158,6 +158,7 @@ created_holds o attempts s m readers some start none =
       room = start.room;
       folds = start.bytes ∙ ap (image []) (sym start.history);
       places = ap length none;
+      one_column = ap (λ (d : Described). d.shape.cols) start.dataset;
       script = at_first;
       fits = created_world_fits o attempts s m readers some start none;
     }

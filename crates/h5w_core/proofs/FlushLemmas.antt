@@ -1,37 +1,70 @@
 -- The writer plans a flush.
-use Rattle.std.proofs.Common.{◌≡◌, ◌⊎◌, ◌↔◌, ℕ, ◌+◌, ◌<◌, ◌≤◌, List, [], ◌∷◌, length, ℤ, Bool, true, false, nat_lt, sym, refl, ap, ◌∙◌, subst, inl, inr, arith}
+use Rattle.std.proofs.Common.{◌≡◌, ◌⊎◌, ℕ, ◌+◌, ◌<◌, ◌≤◌, List, [], ◌∷◌, length, ℤ, Bool, true, false, nat_lt, sym, refl, ap, ◌∙◌, subst, inl, inr, arith, Option, Some, None, Result, Ok, Err, if◌then◌else◌}
 use Rattle.std.specs.Prelude.{MatchBool}
+use Rattle.std.specs.Option.{unwrap_or}
 use Rattle.std.proofs.lemmas.Bool.{cases_lt, lt-ltb, le-ltb}
-use Rattle.std.proofs.lemmas.List.{nil_from_length}
-use Rattle.h5w_model.specs.Logs.{Log, Cutting, plans, appended, flushed_rows, load, spent_in, and_now}
+use Rattle.h5w_model.specs.Logs.{Log, plans, appended, flushed_rows, load, spent, spent_in, Cutting, and_now}
+use Rattle.h5w_model.specs.Datasets.{Described}
+use Rattle.h5w_model.specs.Lawful.{Rules, ScriptState, FlushAllowed, IsPlanned, IsFull, load_of, rows_in, rows_of}
+use Rattle.h5w_model.specs.declared.event.Event.TheVariants as events
+use Rattle.h5w_model.specs.declared.piece.Write.{Write}
+use Rattle.h5w_model.specs.declared.reply.Reply.TheVariants as replies
 use Rattle.h5w_polling.specs.Polling.{Polling}
 use Rattle.h5w_polling.specs.Scripts.{AllPoll, Readers}
 use Rattle.h5w_polling.proofs.EventLemmas.{counts_same, goes_on_still, polls_on}
 use Rattle.h5w_polling.proofs.ScriptLemmas.{all_kept}
 use Rattle.h5w_space.specs.declared.Full.{Full}
-use Rattle.h5w_writer.specs.Files.{FileFields}
-use Rattle.h5w_writer.specs.Plans.{options_of}
-use Rattle.h5w_model.specs.declared.options.Options.{Options}
-use Rattle.h5w_writer.specs.Flushes.{after_rows}
-use Rattle.h5w_model.specs.Lawful.{Rules, ScriptState, FlushAllowed, IsPlanned, IsFull, load_of, rows_of}
-use Rattle.h5w_model.specs.declared.event.Event.TheVariants as events
-use Rattle.h5w_model.specs.declared.piece.Write.{Write}
-use Rattle.h5w_model.specs.declared.reply.Reply.TheVariants as replies
-use Rattle.h5w_writer.specs.Sessions.{Session, Stands, cutting_of, planned}
-use Rattle.h5w_writer.proofs.LawLemmas.{standing_laws}
-use Rattle.h5w_core.specs.Worlds.{WorldView, IsStateOf, MayBeFull, Steps, polling_by, polling_of, rules_for, rules_of}
-use Rattle.h5w_core.proofs.StateLemmas.{rows_in-length, in_rows, load_of-log, spent_in-events}
-use Rattle.h5w_core.proofs.WorldLemmas.{world_of, changed}
 use Rattle.h5w_image.specs.Memory.{MemView}
 use Rattle.h5w_image.specs.View.{Same}
 use Rattle.h5w_reader.specs.declared.reader.ReaderCore.{ReaderCore}
+use Rattle.h5w_session.specs.Flushes.{SameBut}
+use Rattle.h5w_session.specs.Sessions.{Session, TakesRows, cutting_of, with_rows}
+use Rattle.h5w_session.specs.Sessions as sessions
+use Rattle.h5w_session.specs.Refusals.{IsSpace, flush_refusal}
+use Rattle.h5w_session.specs.Loads.{NoPlace}
+use Rattle.h5w_session.specs.Stands.{Stands}
+use Rattle.h5w_session.specs.declared.refusal.FlushError.{FlushError}
+use Rattle.h5w_session.specs.declared.refusal.FlushError.TheVariants as errors
+use Rattle.h5w_session.proofs.LawLemmas.{standing_laws}
 use Rattle.h5w_core.specs.Readers.{reader_at}
 use Rattle.h5w_core.specs.Steady.{steady}
-use Rattle.h5w_writer.specs.Refusals.{IsRefused, NoPlace, flush_refusal, full_for}
-use Rattle.h5w_writer.specs.declared.refusal.FlushError.{FlushError}
-use Rattle.h5w_writer.specs.declared.refusal.FlushError.TheVariants as errors
-use Rattle.std.proofs.Common.{Option, Some, None, Result, Ok, Err, option_map, if◌then◌else◌}
-use Rattle.std.specs.Option.{unwrap_or}
+use Rattle.h5w_core.specs.Worlds.{WorldView, HaveOneLog, IsStateOf, Steps, polling_by, polling_of, rules_of}
+use Rattle.h5w_core.proofs.StateLemmas.{columns_of, in_rows, load_of-log, rules_by, spent_in-events}
+use Rattle.h5w_core.proofs.WorldLemmas.{world_of, replaced}
+
+-- ---- A session that may hold more blocks
+
+-- the world with another session
+abbrev pub with_session : WorldView → Session → WorldView
+with_session w t = record w { session = t }
+
+-- the state is that of the world with it
+pub held_state : (w : WorldView) (t : Session) (s : ScriptState) (log : Log) → SameBut w.session t → IsStateOf w s log → IsStateOf (with_session w t) s log
+held_state w t s log same state =
+    subst (λ (x : Session). IsStateOf (with_session w x) s log) (sym same.session)
+    (record {
+      appended = state.appended;
+      flushed = state.flushed;
+      pending = state.pending;
+      ends_flush = state.ends_flush;
+      taken = state.taken;
+      spent = state.spent;
+      stopped = state.stopped;
+      tries = state.tries;
+      begun = state.begun;
+      polls = state.polls;
+    })
+
+pub held_rules : (w : WorldView) (t : Session) → SameBut w.session t → rules_of (with_session w t) ≡ rules_of w
+held_rules w t same = ap (λ (x : Session). rules_of (with_session w x)) same.session
+
+-- the log is as before
+pub held_log : (w : WorldView) (t : Session) (s : ScriptState) → SameBut w.session t → ((log : Log) → Stands w.session log → Stands t log) → HaveOneLog w s → HaveOneLog (with_session w t) s
+held_log w t s same stands fits = record {
+  log = fits.log;
+  stands = record { stands = stands fits.log fits.stands.stands; journal = fits.stands.journal; bytes = fits.stands.bytes };
+  state = held_state w t s fits.log same fits.state;
+}
 
 -- ---- Busy
 
@@ -42,83 +75,74 @@ busy_allowed : (g : Rules) (s : ScriptState) → s.stopped ≡ false → 0 < s.p
 busy_allowed g s running some =
     rw (running, lt-ltb 0 s.pending some) refl
 
-pub stopped_steps : (w : WorldView) → w.session.stopped ≡ true → Steps w events.Flush replies.Stopped w
-stopped_steps w stopped =
+-- what a refused flush leaves of its session
+pub record LeavesSession (s t : Session) : Type 0 where
+  pub same : SameBut s t
+  pub stands : (log : Log) → Stands s log → Stands t log
+
+stopped_steps : (w : WorldView) (t : Session) → w.session.stopped ≡ true → LeavesSession w.session t → Steps w events.Flush replies.Stopped (with_session w t)
+stopped_steps w t stopped left =
     record {
-      rules = refl;
-      lawful = λ s fits. (stopped_allowed (rules_of w) s (fits.state.stopped ∙ stopped), fits);
+      rules = held_rules w t left.same;
+      lawful = λ s fits. (stopped_allowed (rules_of w) s (fits.state.stopped ∙ stopped), held_log w t s left.same left.stands fits);
     }
 
-pub busy_steps : (w : WorldView) (n : ℕ) → w.session.stopped ≡ false → n ≡ length w.session.pending → 0 < n → Steps w events.Flush (replies.Busy n) w
-busy_steps w n going is some =
+busy_steps : (w : WorldView) (t : Session) (n : ℕ) → w.session.stopped ≡ false → n ≡ length w.session.pending → 0 < n → LeavesSession w.session t → Steps w events.Flush (replies.Busy n) (with_session w t)
+busy_steps w t n going is some left =
     record {
-      rules = refl;
+      rules = held_rules w t left.same;
       lawful = λ s fits.
           let same : s.pending ≡ n = fits.state.pending ∙ sym is in
-          (subst (λ (k : ℕ). FlushAllowed (rules_of w) s (replies.Busy k)) same (busy_allowed (rules_of w) s (fits.state.stopped ∙ going) (omega arith)), fits);
+          (subst (λ (k : ℕ). FlushAllowed (rules_of w) s (replies.Busy k)) same (busy_allowed (rules_of w) s (fits.state.stopped ∙ going) (omega arith)), held_log w t s left.same left.stands fits);
     }
 
 -- ---- Planned
 
 -- what a session's flush tells of the pieces that it planned
-pub record IsFlush (s : Session) (pieces : ℕ) : Type 0 where
+pub record IsFlush (s t : Session) (pieces : ℕ) : Type 0 where
   pub going : s.stopped ≡ false
   pub idle : s.pending ≡ []
-  pub count : pieces ≡ length (planned s).pending
-  pub none : (pieces ≡ 0) ↔ (s.waiting ≡ [])
+  pub takes : TakesRows s t
+  pub count : pieces ≡ length t.pending
+  pub some : 0 < s.waits → 1 ≤ pieces
+  pub none : s.waits ≡ 0 → pieces ≡ 0
   pub load_bound : (log : Log) → Stands s log → pieces ≤ load (cutting_of s) log
-  pub carries : (log : Log) → Stands s log → Stands (planned s) (and_now (plans pieces) log)
+  pub carries : (log : Log) → Stands s log → Stands t (and_now (plans pieces) log)
 
 unflushed : (w : WorldView) (s : ScriptState) (log : Log) → w.session.stopped ≡ false → w.session.pending ≡ [] → Stands w.session log → IsStateOf w s log
-    → rows_of (rules_of w) s ≡ s.flushed + length w.session.waiting
+    → rows_of (rules_of w) s ≡ s.flushed + w.session.waits
 unflushed w s log going idle stands state =
-    let all : w.session.file.rows + length w.session.waiting ≡ length (appended log) = standing_laws.appended_rows w.session log stands ∙ in_rows w.session log (appended log) stands in
-    let old : flushed_rows log ≡ w.session.file.rows = standing_laws.planned_rows w.session log stands going idle in
-    let values : length s.appended ≡ length (appended log) = ap length state.appended in
-    rows_in-length (options_of w.session.file) w.attempts s.appended ∙ omega (arith, state.flushed)
+    let all : rows_of (rules_of w) s ≡ sessions.rows_of w.session =
+    ap (λ (vs : List ℤ). rows_in (rules_of w) vs) state.appended ∙ sym (standing_laws.appended_rows w.session log stands ∙ in_rows w.session log (appended log) stands) in
+    let old : flushed_rows log ≡ w.session.dataset.shape.rows = standing_laws.planned_rows w.session log stands going idle in
+    omega (arith, all, old, state.flushed)
 
-some_pieces : (waiting : List ℤ) (pieces : ℕ) → (pieces ≡ 0 → waiting ≡ []) → 0 < length waiting → 1 ≤ pieces
-some_pieces waiting pieces none some =
-    elim (cases_lt 0 pieces) [ inl more ↦ more | inr few ↦ (let waits : length waiting ≡ 0 = ap length (none (omega arith)) in absurd (omega arith)) ]
-
--- a flush leaves by what the file was created
-planned_options : (f : FileFields) (waiting : List ℤ) → options_of (after_rows waiting f) ≡ options_of f
-planned_options f [] = refl
-planned_options f (v ∷ vs) = refl
-
-planned_allowed : (w : WorldView) (s : ScriptState) (log : Log) (pieces : ℕ) → IsFlush w.session pieces → Stands w.session log → IsStateOf w s log
+planned_allowed : (w : WorldView) (t : Session) (s : ScriptState) (log : Log) (pieces : ℕ) → IsFlush w.session t pieces → Stands w.session log → IsStateOf w s log
     → MatchBool (nat_lt s.flushed (rows_of (rules_of w) s)) (IsPlanned (rules_of w) s (replies.Flushing pieces) ⊎ IsFull (rules_of w) s (replies.Flushing pieces)) (replies.Flushing pieces ≡ replies.Flushing 0)
-planned_allowed w s log pieces flush stands state =
+planned_allowed w t s log pieces flush stands state =
     let g = rules_of w in
     let reply = replies.Flushing pieces in
     let rows = unflushed w s log flush.going flush.idle stands state in
-    elim (cases_lt 0 (length w.session.waiting)) [
+    elim (cases_lt 0 w.session.waits) [
       | inl some ↦
           let bound : pieces ≤ load_of g s s.appended =
-          subst (λ (n : ℕ). pieces ≤ n) (sym (load_of-log (options_of w.session.file) w.attempts s s.appended log (standing_laws.columns w.session log stands) state.flushed state.appended)) (flush.load_bound log stands) in
+          subst (λ (n : ℕ). pieces ≤ n) (sym (load_of-log g s s.appended log (columns_of w.session log stands) state.flushed state.appended)) (flush.load_bound log stands) in
           subst (λ (b : Bool). MatchBool b (IsPlanned g s reply ⊎ IsFull g s reply) (reply ≡ replies.Flushing 0)) (sym (lt-ltb s.flushed (rows_of g s) (omega (arith, rows))))
-          (inl (record { pieces = pieces; is = refl; positive = some_pieces w.session.waiting pieces flush.none.0 some; bound = bound }))
+          (inl (record { pieces = pieces; is = refl; positive = flush.some some; bound = bound }))
       | inr none ↦
-          let waits : w.session.waiting ≡ [] = nil_from_length w.session.waiting (omega arith) in
           subst (λ (b : Bool). MatchBool b (IsPlanned g s reply ⊎ IsFull g s reply) (reply ≡ replies.Flushing 0)) (sym (le-ltb s.flushed (rows_of g s) (omega (arith, rows))))
-          (ap replies.Flushing (flush.none.1 waits))
+          (ap replies.Flushing (flush.none (omega arith)))
     ]
 
-flush_allowed : (w : WorldView) (s : ScriptState) (log : Log) (pieces : ℕ) → IsFlush w.session pieces → Stands w.session log → IsStateOf w s log
+flush_allowed : (w : WorldView) (t : Session) (s : ScriptState) (log : Log) (pieces : ℕ) → IsFlush w.session t pieces → Stands w.session log → IsStateOf w s log
     → FlushAllowed (rules_of w) s (replies.Flushing pieces)
-flush_allowed w s log pieces flush stands state =
+flush_allowed w t s log pieces flush stands state =
     let g = rules_of w in
     let none : s.pending ≡ 0 = state.pending ∙ ap length flush.idle in
     let reply = replies.Flushing pieces in
     let free : Type 0 = MatchBool (nat_lt s.flushed (rows_of g s)) (IsPlanned g s reply ⊎ IsFull g s reply) (reply ≡ replies.Flushing 0) in
     subst (λ (b : Bool). MatchBool b (reply ≡ replies.Stopped) (MatchBool (nat_lt 0 s.pending) (reply ≡ replies.Busy s.pending) free)) (sym (state.stopped ∙ flush.going))
-    (subst (λ (n : ℕ). MatchBool (nat_lt 0 n) (reply ≡ replies.Busy n) free) (sym none) (planned_allowed w s log pieces flush stands state))
-
-abbrev cutting_for : ℕ → Cutting
-cutting_for chunk_rows = record { chunk_rows = chunk_rows; chunk_columns = 1; columns = 1; value_size = 4 }
-
-abbrev pub planned_world : WorldView → WorldView
-planned_world w = record w { session = planned w.session }
+    (subst (λ (n : ℕ). MatchBool (nat_lt 0 n) (reply ≡ replies.Busy n) free) (sym none) (planned_allowed w t s log pieces flush stands state))
 
 -- readers poll on over a plan that flushes nothing by itself
 plan_polls : (g : Polling) (log : Log) (s t : ScriptState) (rs : Readers) (pieces : ℕ) → t.readers ≡ s.readers → flushed_rows (and_now (plans pieces) log) ≡ flushed_rows log
@@ -128,40 +152,54 @@ plan_polls g log s t rs pieces same level all =
     let on = goes_on_still (plans pieces) log refl level in
     all_kept g log new s t rs same (λ x r h. polls_on g log new x r on (λ from n within. counts_same log new from n on refl) h) all
 
-planned_state : (w : WorldView) (s : ScriptState) (log : Log) (pieces : ℕ) → IsFlush w.session pieces → Stands w.session log → IsStateOf w s log
-    → IsStateOf (planned_world w) (record s { pending = pieces; ends_flush = nat_lt 0 pieces; spent = s.spent + load_of (rules_of w) s s.appended }) (and_now (plans pieces) log)
-planned_state w s log pieces flush stands state =
+-- the rules and what readers poll for stay
+planned_rules : (w : WorldView) (t : Session) → TakesRows w.session t → rules_of (with_session w t) ≡ rules_of w
+planned_rules w t takes = λ i. rules_by (takes.dataset i) (takes.limit i) w.attempts
+
+planned_polling : (w : WorldView) (t : Session) → TakesRows w.session t → polling_of (with_session w t) ≡ polling_of w
+planned_polling w t takes = λ i. polling_by (takes.name i) (rules_by (takes.dataset i) (takes.limit i) w.attempts)
+
+planned_cutting : (s t : Session) → TakesRows s t → cutting_of t ≡ cutting_of s
+planned_cutting s t takes =
+    ap (λ (d : Described). record { chunk_rows = d.layout.chunk_rows; chunk_columns = d.layout.chunk_cols; columns = d.shape.cols; value_size = d.int_type.size }) takes.dataset
+
+-- the state of the script after it
+abbrev planned_script : WorldView → ScriptState → ℕ → ScriptState
+planned_script w s pieces = record s { pending = pieces; ends_flush = nat_lt 0 pieces; spent = s.spent + load_of (rules_of w) s s.appended }
+
+planned_state : (w : WorldView) (t : Session) (s : ScriptState) (log : Log) (pieces : ℕ) → IsFlush w.session t pieces → Stands w.session log → IsStateOf w s log
+    → IsStateOf (with_session w t) (planned_script w s pieces) (and_now (plans pieces) log)
+planned_state w t s log pieces flush stands state =
+    let takes = flush.takes in
     let level : flushed_rows (and_now (plans pieces) log) ≡ flushed_rows log =
-    sym (standing_laws.flushed_rows (planned w.session) (and_now (plans pieces) log) (flush.carries log stands)) ∙ standing_laws.flushed_rows w.session log stands in
-    let polls = plan_polls (polling_of w) log s (record s { pending = pieces; ends_flush = nat_lt 0 pieces; spent = s.spent + load_of (rules_of w) s s.appended }) (reader_at w.readers) pieces refl level state.polls in
+    sym (standing_laws.flushed_rows t (and_now (plans pieces) log) (flush.carries log stands)) ∙ takes.committed ∙ standing_laws.flushed_rows w.session log stands in
+    let polls = plan_polls (polling_of w) log s (planned_script w s pieces) (reader_at w.readers) pieces refl level state.polls in
     record {
       appended = state.appended;
       flushed = state.flushed ∙ sym level;
       pending = flush.count;
       ends_flush = ap (λ n. nat_lt 0 n) flush.count;
-      taken = λ some. refl;
+      taken = λ some. takes.waits;
       spent =
-          (λ i. state.spent i + load_of-log (options_of w.session.file) w.attempts s s.appended log (standing_laws.columns w.session log stands) state.flushed state.appended i)
+          (λ i. state.spent i + load_of-log (rules_of w) s s.appended log (columns_of w.session log stands) state.flushed state.appended i)
           ∙ ap (λ n. n + load (cutting_of w.session) log) (sym (spent_in-events (cutting_of w.session) log (plans pieces ∷ log.events) log.events))
-          ∙ ap (λ (c : Cutting). spent_in c (and_now (plans pieces) log) log.events + load c log) (sym (ap (λ (o : Options). cutting_for o.chunk_rows) (planned_options w.session.file w.session.waiting)));
-      stopped = state.stopped;
+          ∙ ap (λ (c : Cutting). spent_in c (and_now (plans pieces) log) log.events + load c log) (sym (planned_cutting w.session t takes));
+      stopped = state.stopped ∙ sym takes.stopped;
       tries = state.tries;
       begun = state.begun;
-      polls =
-          subst (λ (o : Options). AllPoll (polling_by o.name (rules_for o w.attempts)) (and_now (plans pieces) log) (record s { pending = pieces; ends_flush = nat_lt 0 pieces; spent = s.spent + load_of (rules_of w) s s.appended }) (reader_at w.readers))
-          (sym (planned_options w.session.file w.session.waiting)) polls;
+      polls = subst (λ (g : Polling). AllPoll g (and_now (plans pieces) log) (planned_script w s pieces) (reader_at w.readers)) (sym (planned_polling w t takes)) polls;
     }
 
-pub planned_steps : (w : WorldView) (pieces : ℕ) → IsFlush w.session pieces → Steps w events.Flush (replies.Flushing pieces) (planned_world w)
-planned_steps w pieces flush =
+planned_steps : (w : WorldView) (t : Session) (pieces : ℕ) → IsFlush w.session t pieces → Steps w events.Flush (replies.Flushing pieces) (with_session w t)
+planned_steps w t pieces flush =
     record {
-      rules = ap (λ (o : Options). rules_for o w.attempts) (planned_options w.session.file w.session.waiting);
+      rules = planned_rules w t flush.takes;
       lawful = λ s fits. (
-        flush_allowed w s fits.log pieces flush fits.stands.stands fits.state,
+        flush_allowed w t s fits.log pieces flush fits.stands.stands fits.state,
         record {
           log = and_now (plans pieces) fits.log;
           stands = record { stands = flush.carries fits.log fits.stands.stands; journal = fits.stands.journal; bytes = fits.stands.bytes };
-          state = planned_state w s fits.log pieces flush fits.stands.stands fits.state;
+          state = planned_state w t s fits.log pieces flush fits.stands.stands fits.state;
         },
       );
     }
@@ -174,7 +212,7 @@ full_free : (w : WorldView) (s : ScriptState) (log : Log) (full : Full) → NoPl
 full_free w s log full none some stands state =
     let g = rules_of w in
     let reply = replies.FullSpace full.at full.size full.limit in
-    let load_is = load_of-log (options_of w.session.file) w.attempts s s.appended log (standing_laws.columns w.session log stands) state.flushed state.appended in
+    let load_is = load_of-log (rules_of w) s s.appended log (columns_of w.session log stands) state.flushed state.appended in
     let size : full.size ≤ load_of g s s.appended = subst (λ (n : ℕ). full.size ≤ n) (sym load_is) none.size_bound in
     let place : full.at ≤ 1024 + s.spent + load_of g s s.appended =
     subst (λ (n : ℕ). full.at ≤ 1024 + s.spent + n) (sym load_is) (subst (λ (n : ℕ). full.at ≤ 1024 + n + load g.cutting log) (sym state.spent) none.at_bound) in
@@ -200,176 +238,161 @@ full_allowed w s log full going idle none stands state =
     subst (λ (b : Bool). MatchBool b (reply ≡ replies.Stopped) (MatchBool (nat_lt 0 s.pending) (reply ≡ replies.Busy s.pending) free)) (sym (state.stopped ∙ going))
     (subst (λ (n : ℕ). MatchBool (nat_lt 0 n) (reply ≡ replies.Busy n) free) (sym empty) (full_free w s log full none (omega (arith, rows, none.waits)) stands state))
 
-pub full_steps : (w : WorldView) (full : Full) → w.session.stopped ≡ false → w.session.pending ≡ [] → ((log : Log) → Stands w.session log → NoPlace w.session log full)
-    → Steps w events.Flush (replies.FullSpace full.at full.size full.limit) w
-full_steps w full going idle none =
+full_steps : (w : WorldView) (t : Session) (full : Full) → w.session.stopped ≡ false → w.session.pending ≡ [] → ((log : Log) → Stands w.session log → NoPlace w.session log full) → LeavesSession w.session t
+    → Steps w events.Flush (replies.FullSpace full.at full.size full.limit) (with_session w t)
+full_steps w t full going idle none left =
     record {
-      rules = refl;
-      lawful = λ s fits. (full_allowed w s fits.log full going idle (none fits.log fits.stands.stands) fits.stands.stands fits.state, fits);
+      rules = held_rules w t left.same;
+      lawful = λ s fits. (full_allowed w s fits.log full going idle (none fits.log fits.stands.stands) fits.stands.stands fits.state, held_log w t s left.same left.stands fits);
     }
 
 -- ---- By the parts of a world
 
 -- why a session plans nothing
 abbrev FlushCauses : Session → FlushError → Type 0
-FlushCauses s e = (flush_refusal s ≡ Some e) ⊎ ((e ≡ errors.Failed) ⊎ (e ≡ errors.OutOfMemory))
+FlushCauses s e = (flush_refusal s ≡ Some e) ⊎ (IsSpace e ⊎ ((e ≡ errors.Failed) ⊎ (e ≡ errors.OutOfMemory)))
 
-pending_of : Option FlushError → ℕ
-pending_of (Some (errors.Busy n)) = n
-pending_of e = 0
+abbrev FlushRefused : Session → Result ℕ FlushError → Type 0
+FlushRefused s r = (e : FlushError) → flush_refusal s ≡ Some e → r ≡ Err e
 
-stopped_busy : (n : ℕ) → Some errors.Stopped ≡ Some (errors.Busy n) → ⊥
-stopped_busy n e = cc
+-- what is refused first, by what is asked of the session
+abbrev refusal_by : Bool → ℕ → Option FlushError
+refusal_by stopped pending = if stopped then Some errors.Stopped else (if nat_lt 0 pending then Some (errors.Busy pending) else None)
 
-some_none : (e : FlushError) → None ≡ Some e → ⊥
-some_none e clash = cc
+idle_none : (b : Bool) (ws : List Write) → refusal_by b (length ws) ≡ None → (b ≡ false) × (ws ≡ [])
+idle_none true ws none = absurd cc
+idle_none false [] none = (refl, refl)
+idle_none false (w ∷ ws) none =
+    let busy : Some (errors.Busy (length (w ∷ ws))) ≡ None = ap (λ (b : Bool). if b then Some (errors.Busy (length (w ∷ ws))) else None) (sym (lt-ltb 0 (length (w ∷ ws)) (omega arith))) ∙ none in
+    absurd cc
 
--- of a session that goes on
-going_of : (b : Bool) (n : ℕ) (rest : Option FlushError) → (if b then Some errors.Stopped else rest) ≡ Some (errors.Busy n) → (b ≡ false) × (rest ≡ Some (errors.Busy n))
-going_of true n rest is = absurd (stopped_busy n is)
-going_of false n rest is = (refl, is)
-
-none_of : (b : Bool) (rest : Option FlushError) → (if b then Some errors.Stopped else rest) ≡ None → (b ≡ false) × (rest ≡ None)
-none_of true rest is = absurd (some_none errors.Stopped (sym is))
-none_of false rest is = (refl, is)
-
--- nothing is pending, so that a flush is refused for want of a place alone
-no_other : (o : Option Full) (e : FlushError) → ((full : Full) → e ≡ errors.Space full → ⊥) → option_map errors.Space o ≡ Some e → ⊥
-no_other None e other is = some_none e is
-no_other (Some full) e other is = other full (sym (ap (λ (x : Option FlushError). unwrap_or x e) is))
-
--- what is answered with so many pieces pending
-abbrev pending_or : ℕ → Option Full → Option FlushError
-pending_or k o = if nat_lt 0 k then Some (errors.Busy k) else option_map errors.Space o
-
-is_pending : (k : ℕ) (o : Option Full) → 0 < k → pending_or k o ≡ Some (errors.Busy k)
-is_pending k o some = ap (λ (b : Bool). if b then Some (errors.Busy k) else option_map errors.Space o) (lt-ltb 0 k some)
-
-is_free : (k : ℕ) (o : Option Full) → k ≤ 0 → pending_or k o ≡ option_map errors.Space o
-is_free k o none = ap (λ (b : Bool). if b then Some (errors.Busy k) else option_map errors.Space o) (le-ltb 0 k none)
-
-busy_full : (n : ℕ) (full : Full) → errors.Busy n ≡ errors.Space full → ⊥
-busy_full n full e = cc
-
-stopped_full : (full : Full) → errors.Stopped ≡ errors.Space full → ⊥
-stopped_full full e = cc
-
--- and of one that was stopped
-stopped_by : (b : Bool) (k : ℕ) (o : Option Full) → (if b then Some errors.Stopped else pending_or k o) ≡ Some errors.Stopped → b ≡ true
-stopped_by true k o is = refl
-stopped_by false k o is =
-    elim (cases_lt 0 k) [
-      | inl some ↦ absurd (stopped_busy k (sym is ∙ is_pending k o some))
-      | inr none ↦ absurd (no_other o errors.Stopped (λ full e. stopped_full full e) (sym (is_free k o none) ∙ is))
-    ]
-
-is_busy : (k n : ℕ) (o : Option Full) → pending_or k o ≡ Some (errors.Busy n) → (n ≡ k) × (0 < n)
-unfolding pending_of
-is_busy k n o refusal =
+busy_is : (b : Bool) (k n : ℕ) → refusal_by b k ≡ Some (errors.Busy n) → (b ≡ false) × ((n ≡ k) × (0 < n))
+busy_is true k n is = absurd cc
+busy_is false k n is =
     elim (cases_lt 0 k) [
       | inl some ↦
-          let same : k ≡ n = ap pending_of (sym (is_pending k o some) ∙ refusal) in
-          (sym same, omega arith)
-      | inr none ↦ absurd (no_other o (errors.Busy n) (λ full e. busy_full n full e) (sym (is_free k o none) ∙ refusal))
+          let same : Some (errors.Busy k) ≡ Some (errors.Busy n) = ap (λ (b : Bool). if b then Some (errors.Busy k) else None) (sym (lt-ltb 0 k some)) ∙ is in
+          let own : k ≡ n = cc in
+          (refl, (sym own, omega arith))
+      | inr none ↦
+          let clash : None ≡ Some (errors.Busy n) = ap (λ (b : Bool). if b then Some (errors.Busy k) else None) (sym (le-ltb 0 k none)) ∙ is in
+          absurd cc
     ]
 
--- without a place the session goes on, and nothing is pending
-is_full : (b : Bool) (ws : List Write) (o : Option Full) (full : Full) → (if b then Some errors.Stopped else pending_or (length ws) o) ≡ Some (errors.Space full) → (b ≡ false) × (ws ≡ [])
-is_full true ws o full is = absurd (stopped_full full (ap (λ (x : Option FlushError). unwrap_or x errors.Stopped) is))
-is_full false [] o full is = (refl, refl)
-is_full false (w ∷ ws) o full is =
-    let busy : errors.Busy (length (w ∷ ws)) ≡ errors.Space full =
-    ap (λ (x : Option FlushError). unwrap_or x errors.Stopped) (sym (is_pending (length (w ∷ ws)) o (omega arith)) ∙ is) in
-    absurd (busy_full (length (w ∷ ws)) full busy)
+stopped_is : (b : Bool) (k : ℕ) → refusal_by b k ≡ Some errors.Stopped → b ≡ true
+stopped_is true k is = refl
+stopped_is false k is =
+    elim (cases_lt 0 k) [
+      | inl some ↦
+          let clash : Some (errors.Busy k) ≡ Some errors.Stopped = ap (λ (b : Bool). if b then Some (errors.Busy k) else None) (sym (lt-ltb 0 k some)) ∙ is in
+          absurd cc
+      | inr none ↦
+          let clash : None ≡ Some errors.Stopped = ap (λ (b : Bool). if b then Some (errors.Busy k) else None) (sym (le-ltb 0 k none)) ∙ is in
+          absurd cc
+    ]
 
-busy_cause : (s : Session) (n : ℕ) (e : FlushError) → FlushCauses s e → e ≡ errors.Busy n → flush_refusal s ≡ Some (errors.Busy n)
-busy_cause s n e (inl refusal) is = refusal ∙ ap Some is
-busy_cause s n e (inr (inl failed)) is = let clash : errors.Failed ≡ errors.Busy n = sym failed ∙ is in cc
-busy_cause s n e (inr (inr memory)) is = let clash : errors.OutOfMemory ≡ errors.Busy n = sym memory ∙ is in cc
-
-pub busy_done : (s t : Session) (m k : MemView) (attempts n : ℕ) (readers : List (Option ReaderCore)) (w : WorldView) (e : FlushError) → world_of s m attempts readers ≡ w → Same (steady m) (steady k) → t ≡ s → FlushCauses s e → e ≡ errors.Busy n
-    → Steps w events.Flush (replies.Busy n) (world_of t k attempts readers)
-busy_done s t m k attempts n readers w e view same kept causes is =
-    let old = world_of s m attempts readers in
-    let going = going_of s.stopped n _ (busy_cause s n e causes is) in
-    let busy = is_busy (length s.pending) n (full_for s.file (length s.waiting)) going.1 in
-    subst (λ (x : WorldView). Steps x events.Flush (replies.Busy n) (world_of t k attempts readers)) view
-    (subst (λ (x : WorldView). Steps old events.Flush (replies.Busy n) x) (sym (changed s t m k attempts readers same (λ x. x) kept)) (busy_steps old n going.0 busy.0 busy.1))
-
-stopped_cause : (s : Session) (e : FlushError) → FlushCauses s e → e ≡ errors.Stopped → flush_refusal s ≡ Some errors.Stopped
-stopped_cause s e (inl refusal) is = refusal ∙ ap Some is
-stopped_cause s e (inr (inl failed)) is = let clash : errors.Failed ≡ errors.Stopped = sym failed ∙ is in cc
-stopped_cause s e (inr (inr memory)) is = let clash : errors.OutOfMemory ≡ errors.Stopped = sym memory ∙ is in cc
-
-pub stopped_done : (s t : Session) (m k : MemView) (attempts : ℕ) (readers : List (Option ReaderCore)) (w : WorldView) (e : FlushError) → world_of s m attempts readers ≡ w → Same (steady m) (steady k) → t ≡ s
-    → FlushCauses s e → e ≡ errors.Stopped → Steps w events.Flush replies.Stopped (world_of t k attempts readers)
-stopped_done s t m k attempts readers w e view same kept causes is =
-    let old = world_of s m attempts readers in
-    let stopped = stopped_by s.stopped (length s.pending) (full_for s.file (length s.waiting)) (stopped_cause s e causes is) in
-    subst (λ (x : WorldView). Steps x events.Flush replies.Stopped (world_of t k attempts readers)) view
-    (subst (λ (x : WorldView). Steps old events.Flush replies.Stopped x) (sym (changed s t m k attempts readers same (λ x. x) kept)) (stopped_steps old stopped))
-
-space_cause : (s : Session) (full : Full) (e : FlushError) → FlushCauses s e → e ≡ errors.Space full → flush_refusal s ≡ Some (errors.Space full)
-space_cause s full e (inl refusal) is = refusal ∙ ap Some is
-space_cause s full e (inr (inl failed)) is = let clash : errors.Failed ≡ errors.Space full = sym failed ∙ is in cc
-space_cause s full e (inr (inr memory)) is = let clash : errors.OutOfMemory ≡ errors.Space full = sym memory ∙ is in cc
-
-pub full_done : (s t : Session) (m k : MemView) (attempts : ℕ) (readers : List (Option ReaderCore)) (w : WorldView) (e : FlushError) (full : Full) (r : Result ℕ FlushError) → world_of s m attempts readers ≡ w → Same (steady m) (steady k) → t ≡ s
-    → FlushCauses s e → e ≡ errors.Space full → r ≡ Err e → ((f : Full) → r ≡ Err (errors.Space f) → (log : Log) → Stands s log → NoPlace s log f)
-    → Steps w events.Flush (replies.FullSpace full.at full.size full.limit) (world_of t k attempts readers)
-full_done s t m k attempts readers w e full r view same kept causes is result space =
-    let old = world_of s m attempts readers in
-    let free = is_full s.stopped s.pending (full_for s.file (length s.waiting)) full (space_cause s full e causes is) in
-    let answered : r ≡ Err (errors.Space full) = result ∙ ap Err is in
-    let reply = replies.FullSpace full.at full.size full.limit in
-    subst (λ (x : WorldView). Steps x events.Flush reply (world_of t k attempts readers)) view
-    (subst (λ (x : WorldView). Steps old events.Flush reply x) (sym (changed s t m k attempts readers same (λ x. x) kept)) (full_steps old full free.0 free.1 (space full answered)))
-
-idle_list : (ws : List Write) (o : Option Full) → pending_or (length ws) o ≡ None → ws ≡ []
-idle_list [] o none = refl
-idle_list (w ∷ ws) o none = absurd (some_none (errors.Busy (length (w ∷ ws))) (sym none ∙ is_pending (length (w ∷ ws)) o (omega arith)))
+-- nothing is refused at first where the answer is another
+no_refusal : (o : Option FlushError) (r : Result ℕ FlushError) → ((e : FlushError) → o ≡ Some e → r ≡ Err e) → ((e : FlushError) → o ≡ Some e → r ≡ Err e → ⊥) → o ≡ None
+no_refusal None r refused other = refl
+no_refusal (Some e) r refused other = absurd (other e refl (refused e refl))
 
 ok_err : (e : FlushError) (r : Result ℕ FlushError) (pieces : ℕ) → r ≡ Ok pieces → r ≡ Err e → ⊥
 ok_err e r pieces ok err = cc
 
+-- neither a full file nor want of memory is a first refusal
+not_space : (b : Bool) (k : ℕ) (full : Full) → refusal_by b k ≡ Some (errors.Space full) → ⊥
+not_space true k full is = cc
+not_space false k full is =
+    elim (cases_lt 0 k) [
+      | inl some ↦ (let clash : Some (errors.Busy k) ≡ Some (errors.Space full) = ap (λ (b : Bool). if b then Some (errors.Busy k) else None) (sym (lt-ltb 0 k some)) ∙ is in cc)
+      | inr none ↦ (let clash : None ≡ Some (errors.Space full) = ap (λ (b : Bool). if b then Some (errors.Busy k) else None) (sym (le-ltb 0 k none)) ∙ is in cc)
+    ]
+
+not_memory : (b : Bool) (k : ℕ) → refusal_by b k ≡ Some errors.OutOfMemory → ⊥
+not_memory true k is = cc
+not_memory false k is =
+    elim (cases_lt 0 k) [
+      | inl some ↦ (let clash : Some (errors.Busy k) ≡ Some errors.OutOfMemory = ap (λ (b : Bool). if b then Some (errors.Busy k) else None) (sym (lt-ltb 0 k some)) ∙ is in cc)
+      | inr none ↦ (let clash : None ≡ Some errors.OutOfMemory = ap (λ (b : Bool). if b then Some (errors.Busy k) else None) (sym (le-ltb 0 k none)) ∙ is in cc)
+    ]
+
 error_is : (e f : FlushError) → ◌≡◌ {A = Result ℕ FlushError} (Err e) (Err f) → e ≡ f
 error_is e f h = cc
 
-refused_ok : (e : FlushError) (pieces : ℕ) → IsRefused e (Ok pieces) → ⊥
-refused_ok errors.Stopped pieces h = cc
-refused_ok (errors.Busy n) pieces h = cc
-refused_ok (errors.Space full) pieces (inl h) = cc
-refused_ok (errors.Space full) pieces (inr h) = cc
-refused_ok errors.Failed pieces h = cc
-refused_ok errors.OutOfMemory pieces h = cc
+free_of_space : (s : Session) (full : Full) (r : Result ℕ FlushError) → FlushRefused s r → r ≡ Err (errors.Space full) → flush_refusal s ≡ None
+free_of_space s full r refused is =
+    no_refusal (flush_refusal s) r refused
+    (λ e refusal answer. not_space s.stopped (length s.pending) full (refusal ∙ ap Some (error_is e (errors.Space full) (sym answer ∙ is))))
 
-not_refused : (refusal : Option FlushError) (r : Result ℕ FlushError) (pieces : ℕ) → ((e : FlushError) → refusal ≡ Some e → IsRefused e r) → r ≡ Ok pieces → refusal ≡ None
-not_refused None r pieces refused ok = refl
-not_refused (Some e) r pieces refused ok = absurd (refused_ok e pieces (subst (λ (x : Result ℕ FlushError). IsRefused e x) ok (refused e refl)))
+-- memory is wanted where nothing is refused first
+pub memory_only : (s : Session) (r : Result ℕ FlushError) → FlushRefused s r → r ≡ Err errors.OutOfMemory → flush_refusal s ≡ None
+memory_only s r refused is =
+    no_refusal (flush_refusal s) r refused
+    (λ e refusal answer. not_memory s.stopped (length s.pending) (refusal ∙ ap Some (error_is e errors.OutOfMemory (sym answer ∙ is))))
 
--- memory is wanted where nothing but a place may be wanting
-pub memory_only : (refusal : Option FlushError) (r : Result ℕ FlushError) → ((e : FlushError) → refusal ≡ Some e → IsRefused e r) → r ≡ Err errors.OutOfMemory → MayBeFull refusal
-memory_only None r refused is = tt
-memory_only (Some errors.Stopped) r refused is = absurd (let clash : errors.Stopped ≡ errors.OutOfMemory = error_is errors.Stopped errors.OutOfMemory (sym (refused errors.Stopped refl) ∙ is) in cc)
-memory_only (Some (errors.Busy n)) r refused is = absurd (let clash : errors.Busy n ≡ errors.OutOfMemory = error_is (errors.Busy n) errors.OutOfMemory (sym (refused (errors.Busy n) refl) ∙ is) in cc)
-memory_only (Some (errors.Space full)) r refused is = tt
-memory_only (Some errors.Failed) r refused is = absurd (let clash : errors.Failed ≡ errors.OutOfMemory = error_is errors.Failed errors.OutOfMemory (sym (refused errors.Failed refl) ∙ is) in cc)
-memory_only (Some errors.OutOfMemory) r refused is = tt
+first_cause : (s : Session) (e f : FlushError) → FlushCauses s e → e ≡ f → (IsSpace f → ⊥) → (f ≡ errors.Failed → ⊥) → (f ≡ errors.OutOfMemory → ⊥) → flush_refusal s ≡ Some f
+first_cause s e f (inl refusal) is space failed memory = refusal ∙ ap Some is
+first_cause s e f (inr (inl full)) is space failed memory = absurd (space (subst IsSpace is full))
+first_cause s e f (inr (inr (inl h))) is space failed memory = absurd (failed (sym is ∙ h))
+first_cause s e f (inr (inr (inr h))) is space failed memory = absurd (memory (sym is ∙ h))
 
-pub flush_done : (s t : Session) (m k : MemView) (attempts pieces : ℕ) (readers : List (Option ReaderCore)) (w : WorldView) (r : Result ℕ FlushError) → world_of s m attempts readers ≡ w → Same (steady m) (steady k) → t ≡ planned s
-    → pieces ≡ length t.pending → (pieces ≡ 0) ↔ (s.waiting ≡ []) → ((log : Log) → Stands s log → pieces ≤ load (cutting_of s) log)
-    → ((log : Log) → Stands s log → Stands t (and_now (plans pieces) log)) → ((e : FlushError) → flush_refusal s ≡ Some e → IsRefused e r) → r ≡ Ok pieces
-    → Steps w events.Flush (replies.Flushing pieces) (world_of t k attempts readers)
-flush_done s t m k attempts pieces readers w r view same is count none bound stands refused ok =
+no_space_busy : (n : ℕ) → IsSpace (errors.Busy n) → ⊥
+no_space_busy n h = let clash = h.1 in cc
+
+no_space_stopped : IsSpace errors.Stopped → ⊥
+no_space_stopped h = let clash = h.1 in cc
+
+-- the worlds before and after a refused flush, by their parts
+module _ (s t : Session) (m k : MemView) (attempts : ℕ) (readers : List (Option ReaderCore)) (w : WorldView) (view : world_of s m attempts readers ≡ w) (same : Same (steady m) (steady k)) (left : LeavesSession s t) where
+  pub busy_done : (n : ℕ) (e : FlushError) → FlushCauses s e → e ≡ errors.Busy n → Steps w events.Flush (replies.Busy n) (world_of t k attempts readers)
+  busy_done n e causes is =
+      let old = world_of s m attempts readers in
+      let busy = busy_is s.stopped (length s.pending) n (first_cause s e (errors.Busy n) causes is (λ h. no_space_busy n h) (λ h. cc) (λ h. cc)) in
+      subst (λ (x : WorldView). Steps x events.Flush (replies.Busy n) (world_of t k attempts readers)) view
+      (subst (λ (x : WorldView). Steps old events.Flush (replies.Busy n) x) (sym (replaced s t m k attempts readers same)) (busy_steps old t n busy.0 busy.1.0 busy.1.1 left))
+
+  pub stopped_done : (e : FlushError) → FlushCauses s e → e ≡ errors.Stopped → Steps w events.Flush replies.Stopped (world_of t k attempts readers)
+  stopped_done e causes is =
+      let old = world_of s m attempts readers in
+      let stopped = stopped_is s.stopped (length s.pending) (first_cause s e errors.Stopped causes is (λ h. no_space_stopped h) (λ h. cc) (λ h. cc)) in
+      subst (λ (x : WorldView). Steps x events.Flush replies.Stopped (world_of t k attempts readers)) view
+      (subst (λ (x : WorldView). Steps old events.Flush replies.Stopped x) (sym (replaced s t m k attempts readers same)) (stopped_steps old t stopped left))
+
+  pub full_done : (e : FlushError) (full : Full) (r : Result ℕ FlushError) → e ≡ errors.Space full → r ≡ Err e → FlushRefused s r
+      → ((f : Full) → r ≡ Err (errors.Space f) → (log : Log) → Stands s log → NoPlace s log f) → Steps w events.Flush (replies.FullSpace full.at full.size full.limit) (world_of t k attempts readers)
+  full_done e full r is result refused space =
+      let old = world_of s m attempts readers in
+      let answered : r ≡ Err (errors.Space full) = result ∙ ap Err is in
+      let free = idle_none s.stopped s.pending (free_of_space s full r refused answered) in
+      let reply = replies.FullSpace full.at full.size full.limit in
+      subst (λ (x : WorldView). Steps x events.Flush reply (world_of t k attempts readers)) view
+      (subst (λ (x : WorldView). Steps old events.Flush reply x) (sym (replaced s t m k attempts readers same)) (full_steps old t full free.0 free.1 (space full answered) left))
+
+-- what a flush that is answered with pieces tells
+pub record IsAnswered (s t : Session) (r : Result ℕ FlushError) (pieces : ℕ) : Type 0 where
+  pub ok : r ≡ Ok pieces
+  pub refused : FlushRefused s r
+  pub takes : TakesRows s t
+  pub count : pieces ≡ length t.pending
+  pub some : 0 < s.waits → 1 ≤ pieces
+  pub nothing : s.waits ≡ 0 → t ≡ s
+  pub bound : (log : Log) → Stands s log → pieces ≤ load (cutting_of s) log
+  pub stands : (log : Log) → Stands s log → Stands t (and_now (plans pieces) log)
+
+pub flush_done : (s t : Session) (m k : MemView) (attempts pieces : ℕ) (readers : List (Option ReaderCore)) (w : WorldView) (r : Result ℕ FlushError) → world_of s m attempts readers ≡ w → Same (steady m) (steady k)
+    → IsAnswered s t r pieces → Steps w events.Flush (replies.Flushing pieces) (world_of t k attempts readers)
+flush_done s t m k attempts pieces readers w r view same by =
     let old = world_of s m attempts readers in
-    let free = none_of s.stopped _ (not_refused (flush_refusal s) r pieces refused ok) in
-    let flush : IsFlush s pieces = record {
+    let free = idle_none s.stopped s.pending (no_refusal (flush_refusal s) r by.refused (λ e refusal answer. ok_err e r pieces by.ok answer)) in
+    let flush : IsFlush s t pieces = record {
       going = free.0;
-      idle = idle_list s.pending (full_for s.file (length s.waiting)) free.1;
-      count = count ∙ ap (λ (x : Session). length x.pending) is;
-      none = none;
-      load_bound = bound;
-      carries = λ log stood. subst (λ (x : Session). Stands x (and_now (plans pieces) log)) is (stands log stood);
+      idle = free.1;
+      takes = by.takes;
+      count = by.count;
+      some = by.some;
+      none = λ none. by.count ∙ ap (λ (x : Session). length x.pending) (by.nothing none) ∙ ap length free.1;
+      load_bound = by.bound;
+      carries = by.stands;
     } in
     subst (λ (x : WorldView). Steps x events.Flush (replies.Flushing pieces) (world_of t k attempts readers)) view
-    (subst (λ (x : WorldView). Steps old events.Flush (replies.Flushing pieces) x) (sym (changed s t m k attempts readers same planned is)) (planned_steps old pieces flush))
+    (subst (λ (x : WorldView). Steps old events.Flush (replies.Flushing pieces) x) (sym (replaced s t m k attempts readers same)) (planned_steps old t pieces flush))

@@ -1,9 +1,9 @@
 -- What holds of every world is kept.
-use Rattle.std.proofs.Common.{◌≡◌, ◌↔◌, ℕ, ◌≤◌, true, false, List, [], ◌∷◌, length, ℤ, Option, Some, Result, Ok, Err, sym, refl, ap, ◌∙◌, subst, arith}
+use Rattle.std.proofs.Common.{◌≡◌, ℕ, ◌*◌, ◌<◌, ◌≤◌, true, false, List, [], ◌∷◌, length, ℤ, Option, Some, Result, Ok, Err, sym, refl, ap, ◌∙◌, subst, arith}
 use Rattle.std.specs.Result.{OnOk, OnErr, IfOk}
 use Rattle.h5w_model.specs.Images.{image}
 use Rattle.h5w_model.specs.Logs.{Log, and_now, appends, plans, shows, load}
-use Rattle.h5w_model.specs.Lawful.{ScriptState, line_of, next_state}
+use Rattle.h5w_model.specs.Lawful.{Rules, ScriptState, line_of, next_state}
 use Rattle.h5w_model.specs.declared.event.Event.{Event}
 use Rattle.h5w_model.specs.declared.event.Event.TheVariants as events
 use Rattle.h5w_model.specs.declared.piece.Write.{Write}
@@ -12,17 +12,19 @@ use Rattle.h5w_model.specs.declared.reply.Reply.TheVariants as replies
 use Rattle.h5w_image.specs.Memory.{MemView}
 use Rattle.h5w_image.specs.View.{Same, Wrote}
 use Rattle.h5w_reader.specs.declared.reader.ReaderCore.{ReaderCore}
-use Rattle.h5w_writer.specs.Refusals.{IsRefused, append_refusal, flush_refusal}
-use Rattle.h5w_writer.specs.Room.{HasRoomFor}
-use Rattle.h5w_writer.specs.Sessions.{Session, Stands, after_piece, cutting_of, planned, rows_of, stopped_of, with_values}
-use Rattle.h5w_writer.specs.declared.refusal.AppendError.{AppendError}
-use Rattle.h5w_writer.specs.declared.refusal.FlushError.{FlushError}
+use Rattle.h5w_session.specs.Refusals.{append_refusal, flush_refusal}
+use Rattle.h5w_session.specs.Room.{HasRoomFor}
+use Rattle.h5w_session.specs.Flushes.{SameBut}
+use Rattle.h5w_session.specs.Sessions.{Session, AfterPiece, TakesRows, cutting_of, rows_of, stopped_of, with_values}
+use Rattle.h5w_session.specs.Stands.{Stands}
+use Rattle.h5w_session.specs.declared.refusal.AppendError.{AppendError}
+use Rattle.h5w_session.specs.declared.refusal.FlushError.{FlushError}
 use Rattle.h5w_core.specs.Steady.{steady}
-use Rattle.h5w_core.specs.Worlds.{HaveOneLog, HoldsTogether, IsStateOf, StandsFor, Steps, WorldView, logged, rules_of}
+use Rattle.h5w_core.specs.Worlds.{AreRowsBy, HaveOneLog, HoldsMore, HoldsTogether, IsStateOf, StandsFor, Steps, WorldView, logged, rules_of}
 use Rattle.h5w_core.proofs.AppendLemmas.{append_done}
-use Rattle.h5w_core.proofs.FlushLemmas.{flush_done}
+use Rattle.h5w_core.proofs.FlushLemmas.{IsAnswered, LeavesSession, flush_done, held_log}
 use Rattle.h5w_core.proofs.ShowLemmas.{idle_steps, nothing_logged, show_done, show_logged}
-use Rattle.h5w_core.proofs.WorldLemmas.{changed, same_folded, still_folded, world_of}
+use Rattle.h5w_core.proofs.WorldLemmas.{changed, replaced, same_folded, still_folded, world_of}
 
 -- after an event, whatever the reply
 pub steps_hold : (s t : Session) (m n : MemView) (attempts : ℕ) (places others : List (Option ReaderCore)) (event : Event) (reply : Reply) → HoldsTogether s m attempts places
@@ -31,6 +33,7 @@ steps_hold s t m n attempts places others event reply h steps room folds count =
   room = room;
   folds = folds;
   places = count;
+  one_column = ap (λ (g : Rules). g.cutting.columns) steps.rules ∙ h.one_column;
   script = next_state (rules_of (world_of s m attempts places)) h.script (line_of event) reply;
   fits = (steps.lawful h.script h.fits).1;
 }
@@ -38,7 +41,7 @@ steps_hold s t m n attempts places others event reply h steps room folds count =
 pub same_room : (s t : Session) (m n : MemView) → Same (steady m) (steady n) → t ≡ s → HasRoomFor s (steady m) → HasRoomFor t (steady n)
 same_room s t m n same is room =
     let pieces : length t.pending ≡ length s.pending = ap (λ (x : Session). length x.pending) is in
-    let end : t.file.end ≡ s.file.end = ap (λ (x : Session). x.file.end) is in
+    let end : t.places.end ≡ s.places.end = ap (λ (x : Session). x.places.end) is in
     record { pieces = omega (arith, room.pieces, same.pieces, pieces); end = omega (arith, room.end, same.end, end) }
 
 -- nothing happened
@@ -47,28 +50,69 @@ same_hold s t m n attempts places h same is = record {
   room = same_room s t m n same is h.room;
   folds = same_folded m n same h.folds;
   places = h.places;
+  one_column = ap (λ (x : Session). x.dataset.shape.cols) is ∙ h.one_column;
   script = h.script;
   fits = subst (λ (w : WorldView). HaveOneLog w h.script) (sym (changed s t m n attempts places same (λ x. x) is)) h.fits;
 }
 
 -- ---- The writer's calls
 
-pub append_hold : (s t : Session) (m n : MemView) (attempts : ℕ) (places : List (Option ReaderCore)) (vs : List ℤ) (r : Result ℕ AppendError) → HoldsTogether s m attempts places → Same (steady m) (steady n)
+-- a world's dataset has one column, so that any values are rows of it
+pub are_rows : (s : Session) (m : MemView) (attempts : ℕ) (places : List (Option ReaderCore)) (vs : List ℤ) → HoldsTogether s m attempts places → AreRowsBy (rules_of (world_of s m attempts places)) vs
+are_rows s m attempts places vs h =
+    (length vs, (let whole : length vs ≡ length vs * 1 = omega arith in whole ∙ ap (λ (n : ℕ). length vs * n) (sym h.one_column)))
+
+pub are_rows_of : (s : Session) (m : MemView) (attempts : ℕ) (places : List (Option ReaderCore)) (w : WorldView) (vs : List ℤ) → world_of s m attempts places ≡ w → HoldsTogether s m attempts places → AreRowsBy (rules_of w) vs
+are_rows_of s m attempts places w vs view h = subst (λ (x : WorldView). AreRowsBy (rules_of x) vs) view (are_rows s m attempts places vs h)
+
+pub append_hold : (s t : Session) (m n : MemView) (attempts : ℕ) (places : List (Option ReaderCore)) (vs : List ℤ) (r : Result ℕ AppendError) → AreRowsBy (rules_of (world_of s m attempts places)) vs → HoldsTogether s m attempts places → Same (steady m) (steady n)
     → OnOk r (t ≡ with_values s vs) → IfOk r (λ rows. rows ≡ rows_of t) → OnOk r ((log : Log) → Stands s log → Stands t (and_now (appends vs) log)) → ((e : AppendError) → append_refusal s vs ≡ Some e → r ≡ Err e)
     → OnErr r (t ≡ s) → OnOk r (HasRoomFor t (steady n)) → HoldsTogether t n attempts places
-append_hold s t m n attempts places vs (Ok rows) h same added count stands refused kept room =
+append_hold s t m n attempts places vs (Ok rows) are h same added count stands refused kept room =
     steps_hold s t m n attempts places places (events.Append vs) (replies.Appended rows 0) h
-    (append_done s t m n attempts rows places (world_of s m attempts places) vs (Ok rows) refl same added count refused refl stands) room (same_folded m n same h.folds) h.places
-append_hold s t m n attempts places vs (Err e) h same added count stands refused kept room = same_hold s t m n attempts places h same kept
+    (append_done s t m n attempts rows places (world_of s m attempts places) vs (Ok rows) are refl same added count refused refl stands) room (same_folded m n same h.folds) h.places
+append_hold s t m n attempts places vs (Err e) are h same added count stands refused kept room = same_hold s t m n attempts places h same kept
+
+-- a session that may hold more blocks
+held_room : (s t : Session) (m n : MemView) → Same (steady m) (steady n) → SameBut s t → HasRoomFor s (steady m) → HasRoomFor t (steady n)
+held_room s t m n same kept room =
+    let pieces : length t.pending ≡ length s.pending = ap (λ (x : Session). length x.pending) kept.session in
+    let end : t.places.end ≡ s.places.end = ap (λ (x : Session). x.places.end) kept.session in
+    record { pieces = omega (arith, room.pieces, same.pieces, pieces); end = omega (arith, room.end, same.end, end) }
+
+pub held_hold : (s t : Session) (m n : MemView) (attempts : ℕ) (places : List (Option ReaderCore)) → HoldsTogether s m attempts places → Same (steady m) (steady n) → LeavesSession s t → HoldsTogether t n attempts places
+held_hold s t m n attempts places h same left = record {
+  room = held_room s t m n same left.same h.room;
+  folds = same_folded m n same h.folds;
+  places = h.places;
+  one_column = ap (λ (x : Session). x.dataset.shape.cols) left.same.session ∙ h.one_column;
+  script = h.script;
+  fits =
+      subst (λ (w : WorldView). HaveOneLog w h.script) (sym (replaced s t m n attempts places same))
+      (held_log (world_of s m attempts places) t h.script left.same left.stands h.fits);
+}
+
+-- what the session's flush tells
+pub record FlushTells (s t : Session) (r : Result ℕ FlushError) : Type 0 where
+  pub flushed : OnOk r (TakesRows s t)
+  pub pieces : IfOk r (λ n. n ≡ length t.pending)
+  pub some : 0 < s.waits → IfOk r (λ n. 1 ≤ n)
+  pub nothing : s.waits ≡ 0 → OnOk r (t ≡ s)
+  pub stands : IfOk r (λ n. (log : Log) → Stands s log → Stands t (and_now (plans n) log))
+  pub bound : IfOk r (λ n. (log : Log) → Stands s log → n ≤ load (cutting_of s) log)
+  pub refused : (e : FlushError) → flush_refusal s ≡ Some e → r ≡ Err e
+  pub kept : OnErr r (SameBut s t)
+  pub left : OnErr r ((log : Log) → Stands s log → Stands t log)
+
+pub answered : (s t : Session) (pieces : ℕ) → FlushTells s t (Ok pieces) → IsAnswered s t (Ok pieces) pieces
+answered s t pieces e = record { ok = refl; refused = e.refused; takes = e.flushed; count = e.pieces; some = e.some; nothing = e.nothing; bound = e.bound; stands = e.stands }
 
 pub flush_hold : (s t : Session) (m n : MemView) (attempts : ℕ) (places : List (Option ReaderCore)) (r : Result ℕ FlushError) → HoldsTogether s m attempts places → Same (steady m) (steady n)
-    → OnOk r (t ≡ planned s) → IfOk r (λ pieces. pieces ≡ length t.pending) → IfOk r (λ pieces. (pieces ≡ 0) ↔ (s.waiting ≡ []))
-    → IfOk r (λ pieces. (log : Log) → Stands s log → pieces ≤ load (cutting_of s) log) → IfOk r (λ pieces. (log : Log) → Stands s log → Stands t (and_now (plans pieces) log))
-    → ((e : FlushError) → flush_refusal s ≡ Some e → IsRefused e r) → OnErr r (t ≡ s) → OnOk r (HasRoomFor t (steady n)) → HoldsTogether t n attempts places
-flush_hold s t m n attempts places (Ok pieces) h same is count none bound stands refused kept room =
+    → FlushTells s t r → OnOk r (HasRoomFor t (steady n)) → HoldsTogether t n attempts places
+flush_hold s t m n attempts places (Ok pieces) h same tells room =
     steps_hold s t m n attempts places places events.Flush (replies.Flushing pieces) h
-    (flush_done s t m n attempts pieces places (world_of s m attempts places) (Ok pieces) refl same is count none bound stands refused refl) room (same_folded m n same h.folds) h.places
-flush_hold s t m n attempts places (Err e) h same is count none bound stands refused kept room = same_hold s t m n attempts places h same kept
+    (flush_done s t m n attempts pieces places (world_of s m attempts places) (Ok pieces) refl same (answered s t pieces tells)) room (same_folded m n same h.folds) h.places
+flush_hold s t m n attempts places (Err e) h same tells room = held_hold s t m n attempts places h same (record { same = tells.kept; stands = tells.left })
 
 -- ---- A stop
 
@@ -129,7 +173,7 @@ stop_logs s t m attempts places w view stands log stood =
 -- what the call says where nothing is pending, and where something is
 pub record ShowsCount (s t : Session) (m n : MemView) (count : ℕ) : Type 0 where
   pub nothing : s.pending ≡ [] → (count ≡ 0) × (t ≡ s) × (n ≡ m)
-  pub piece : (w : Write) (ws : List Write) → s.pending ≡ w ∷ ws → (count ≡ 1) × (t ≡ after_piece s ws) × Wrote (w ∷ []) (steady m) (steady n)
+  pub piece : (w : Write) (ws : List Write) → s.pending ≡ w ∷ ws → (count ≡ 1) × AfterPiece s ws t × Wrote (w ∷ []) (steady m) (steady n)
   pub stands : (w : Write) (ws : List Write) → s.pending ≡ w ∷ ws → (log : Log) → Stands s log → Stands t (and_now (shows w) log)
 
 shown_steps : (s t : Session) (m n : MemView) (attempts count left : ℕ) (places : List (Option ReaderCore)) (ws : List Write) → s.pending ≡ ws → ShowsCount s t m n count → left ≡ length t.pending
@@ -167,7 +211,7 @@ shown_logged s t m n attempts count places reply [] pending shown log stood =
     subst (λ (x : WorldView). StandsFor x (logged (world_of s m attempts places) events.Visible reply log)) (λ i. world_of (sym h.1 i) (sym h.2 i) attempts places)
     (nothing_logged (world_of s m attempts places) reply pending log stood)
 shown_logged s t m n attempts count places reply (w ∷ ws) pending shown log stood =
-    let h = shown.piece w ws pending in show_logged s t m n attempts places (world_of s m attempts places) w ws reply refl pending h.2 h.1 (shown.stands w ws pending) log stood
+    let h = shown.piece w ws pending in show_logged s t m n attempts places (world_of s m attempts places) w ws reply refl pending h.2 (shown.stands w ws pending) log stood
 
 pub show_logs : (s t : Session) (m n : MemView) (attempts count : ℕ) (places : List (Option ReaderCore)) (w : WorldView) (reply : Reply) → world_of s m attempts places ≡ w → ShowsCount s t m n count
     → (log : Log) → StandsFor w log → StandsFor (world_of t n attempts places) (logged w events.Visible reply log)
@@ -183,9 +227,30 @@ same_stands s t m n attempts places others w log view same is stood =
     let there : StandsFor (world_of s m attempts others) log = subst (λ (x : WorldView). StandsFor (record x { readers = others }) log) (sym view) (record { stands = stood.stands; journal = stood.journal; bytes = stood.bytes }) in
     subst (λ (x : WorldView). StandsFor x log) (sym (changed s t m n attempts others same (λ x. x) is)) there
 
+pub held_stands : (s t : Session) (m n : MemView) (attempts : ℕ) (places : List (Option ReaderCore)) (w : WorldView) (log : Log) → world_of s m attempts places ≡ w → Same (steady m) (steady n)
+    → ((l : Log) → Stands s l → Stands t l) → StandsFor w log → StandsFor (world_of t n attempts places) log
+held_stands s t m n attempts places w log view same stands stood =
+    let there : StandsFor (world_of s m attempts places) log = subst (λ (x : WorldView). StandsFor x log) (sym view) stood in
+    subst (λ (x : WorldView). StandsFor x log) (sym (replaced s t m n attempts places same))
+    (record { stands = stands log there.stands; journal = there.journal; bytes = there.bytes })
+
+-- want of memory leaves all but blocks that are held
+pub holds_more : (s t : Session) (m n : MemView) (attempts : ℕ) (places : List (Option ReaderCore)) (w : WorldView) → world_of s m attempts places ≡ w → Same (steady m) (steady n) → SameBut s t
+    → HoldsMore w (world_of t n attempts places)
+holds_more s t m n attempts places w view same kept =
+    subst (λ (x : WorldView). HoldsMore x (world_of t n attempts places)) view
+    (record { session = kept; others = replaced s t m n attempts places same })
+
+pub appended_stands : (s t : Session) (m n : MemView) (attempts : ℕ) (vs : List ℤ) (places : List (Option ReaderCore)) (w : WorldView) (log : Log) → world_of s m attempts places ≡ w → Same (steady m) (steady n)
+    → ((l : Log) → Stands s l → Stands t (and_now (appends vs) l)) → StandsFor w log → StandsFor (world_of t n attempts places) (and_now (appends vs) log)
+appended_stands s t m n attempts vs places w log view same stands stood =
+    let there : StandsFor (world_of s m attempts places) log = subst (λ (x : WorldView). StandsFor x log) (sym view) stood in
+    subst (λ (x : WorldView). StandsFor x (and_now (appends vs) log)) (sym (replaced s t m n attempts places same))
+    (record { stands = stands log there.stands; journal = there.journal; bytes = there.bytes })
+
 pub planned_stands : (s t : Session) (m n : MemView) (attempts pieces : ℕ) (places : List (Option ReaderCore)) (w : WorldView) (log : Log) → world_of s m attempts places ≡ w → Same (steady m) (steady n)
     → ((l : Log) → Stands s l → Stands t (and_now (plans pieces) l)) → StandsFor w log → StandsFor (world_of t n attempts places) (and_now (plans pieces) log)
 planned_stands s t m n attempts pieces places w log view same stands stood =
     let there : StandsFor (world_of s m attempts places) log = subst (λ (x : WorldView). StandsFor x log) (sym view) stood in
-    let image_same : StandsFor (world_of s n attempts places) log = subst (λ (x : WorldView). StandsFor x log) (sym (changed s s m n attempts places same (λ x. x) refl)) there in
-    record { stands = stands log there.stands; journal = image_same.journal; bytes = image_same.bytes }
+    subst (λ (x : WorldView). StandsFor x (and_now (plans pieces) log)) (sym (replaced s t m n attempts places same))
+    (record { stands = stands log there.stands; journal = there.journal; bytes = there.bytes })

@@ -1,10 +1,17 @@
 -- A session's log is one that readers can poll.
-use Rattle.std.proofs.Common.{◌≤◌, ap, arith}
+use Rattle.std.proofs.Common.{◌≡◌, ◌≤◌, ap, refl, arith}
+use Rattle.h5w_model.specs.Tables.{limit_of}
 use Rattle.h5w_model.specs.Logs.{Log}
 use Rattle.h5w_polling.specs.Premises.{LogHolds}
-use Rattle.h5w_writer.specs.Sessions.{Stands}
-use Rattle.h5w_writer.proofs.LawLemmas.{shown_laws, standing_laws}
+use Rattle.h5w_session.specs.Sessions.{chunk_limit}
+use Rattle.h5w_session.specs.Stands.{Stands}
+use Rattle.h5w_session.proofs.LawLemmas.{shown_laws, standing_laws}
 use Rattle.h5w_core.specs.Worlds.{WorldView, polling_of}
+use Rattle.h5w_core.proofs.StateLemmas.{columns_of, some_columns}
+
+-- a reader takes the chunks that a session's index has
+limit_is : (w : WorldView) → chunk_limit w.session ≤ limit_of (polling_of w).limits w.session.dataset.layout.index
+limit_is w = let same : limit_of (polling_of w).limits w.session.dataset.layout.index ≡ chunk_limit w.session = refl in omega (arith, same)
 
 pub log_holds : (w : WorldView) (log : Log) → 1 ≤ w.attempts → Stands w.session log → LogHolds (polling_of w) log
 log_holds w log tries stands =
@@ -15,7 +22,7 @@ log_holds w log tries stands =
         held = standing_laws.held s log stands;
         fits = λ p at. omega (arith, shown_laws.fits s log p stands at, standing_laws.limited s log stands);
       };
-      within = λ p r at shows. shown_laws.within s log (polling_of w).limits p r stands (omega arith) at shows;
+      within = λ p r at shows. shown_laws.within s log (polling_of w).limits p r stands (limit_is w) at shows;
       headers = record {
         root = λ p at. shown_laws.root_header s log p stands at;
         dataset = λ p r at shows. shown_laws.dataset_header s log p r stands at shows;
@@ -28,7 +35,7 @@ log_holds w log tries stands =
             value_size = ap (λ t. t.size) d.int_type;
             addressed = λ k below. shown_laws.addressed s log p r stands at shows k below;
           };
-      columns = standing_laws.columns s log stands;
-      some_columns = omega arith;
+      columns = columns_of s log stands;
+      some_columns = some_columns s log stands;
       some_attempts = tries;
     }

@@ -18,7 +18,7 @@ use Rattle.h5w_polling.specs.Scripts.{AllPoll, Moves, Polled, Readers, Refuses, 
 use Rattle.h5w_polling.proofs.LookLemmas.{look_laws}
 use Rattle.h5w_polling.proofs.ScriptLemmas.{begin_line_laws, look_line_laws}
 use Rattle.h5w_reader.specs.Readers.{reader_rules}
-use Rattle.h5w_writer.proofs.LawLemmas.{standing_laws}
+use Rattle.h5w_session.proofs.LawLemmas.{standing_laws}
 use Rattle.h5w_core.specs.Readers.{LookGives, LooksTo, LookReplies, CallReplies, OpenGives, ReadGives, ReadLooks, ReadsTo, ReadsPast, ReadsNothing, ReadBegins, RefreshGives, RefreshesTo, looked, reader_at}
 use Rattle.h5w_core.specs.Worlds.{WorldView, IsStateOf, StandsFor, polling_of}
 
@@ -107,7 +107,7 @@ module _ (w : WorldView) (s : ScriptState) (log : Log) (at : PollsAt w s log) (n
 
   -- ---- Open
 
-  pub open_acts : (old new : Option Reader) (reply : Reply) → reader_at w.readers n ≡ old → OpenGives n (reader_rules w.session.file.name w.attempts) old reply new
+  pub open_acts : (old new : Option Reader) (reply : Reply) → reader_at w.readers n ≡ old → OpenGives n (reader_rules w.session.name w.attempts) old reply new
       → Acts (polling_of w) log s (opens n) reply (with_reader_at new)
   open_acts None new reply there gives =
       given (opens n) reply (replies.Opening n) new gives.0

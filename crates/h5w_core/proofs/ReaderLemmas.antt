@@ -23,7 +23,7 @@ use Rattle.h5w_polling.proofs.EventLemmas.{knows_later}
 use Rattle.h5w_polling.proofs.PutLemmas.{put_other}
 use Rattle.h5w_reader.specs.Readers.{reader_rules}
 use Rattle.h5w_reader.specs.declared.reader.ReaderCore.{ReaderCore}
-use Rattle.h5w_writer.specs.Sessions.{Session}
+use Rattle.h5w_session.specs.Sessions.{Session}
 use Rattle.h5w_core.specs.Readers.{LookGives, LookReplies, OpenGives, ReadGives, ReadLooks, RefreshGives, ended, placed, reader_at}
 use Rattle.h5w_core.specs.Steady.{steady}
 use Rattle.h5w_core.specs.Worlds.{HaveOneLog, HoldsTogether, IsKept, Steps, WorldView, polling_of}
@@ -175,6 +175,7 @@ place_ends s m n attempts r places new h few same is =
       room = same_room s s m n same refl h.room;
       folds = same_folded m n same h.folds;
       places = length-set places r new ∙ h.places;
+      one_column = h.one_column;
       script = record (h.script) { readers = e.states };
       fits =
           subst (λ (x : WorldView). HaveOneLog x (record (h.script) { readers = e.states })) (sym (changed s s m n attempts (slice_set places r new) same (λ x. x) refl))
@@ -189,6 +190,7 @@ place_keeps s m attempts r places new h few is =
       room = h.room;
       folds = h.folds;
       places = length-set places r new ∙ h.places;
+      one_column = h.one_column;
       script = h.script;
       fits =
           other_fits w h.script (h.script).readers r new (omega (arith, h.places)) h.fits
@@ -226,12 +228,12 @@ module _ (s : Session) (m : MemView) (attempts r : ℕ) (places : List (Option R
   itself : Same (steady m) (steady m)
   itself = same_itself (steady m)
 
-  pub open_steps : (reply : Reply) → OpenGives r (reader_rules s.file.name attempts) (placed place) reply (placed new) → Steps (world_of s m attempts places) (events.Open r) reply (world_of s m attempts (slice_set places r new))
+  pub open_steps : (reply : Reply) → OpenGives r (reader_rules s.name attempts) (placed place) reply (placed new) → Steps (world_of s m attempts places) (events.Open r) reply (world_of s m attempts (slice_set places r new))
   open_steps reply gives =
       place_steps s m m attempts r places new (events.Open r) reply h few itself
       (λ t log at. open_acts (world_of s m attempts places) t log at r (placed place) (placed new) reply here gives)
 
-  pub open_hold : (result : Result Reply OutOfMemory) → IfOk result (λ reply. OpenGives r (reader_rules s.file.name attempts) (placed place) reply (placed new)) → OnErr result (placed new ≡ placed place)
+  pub open_hold : (result : Result Reply OutOfMemory) → IfOk result (λ reply. OpenGives r (reader_rules s.name attempts) (placed place) reply (placed new)) → OnErr result (placed new ≡ placed place)
       → HoldsTogether s m attempts (slice_set places r new)
   open_hold (Ok reply) gives kept =
       place_hold s m m attempts r places new (events.Open r) reply h few itself
@@ -286,7 +288,7 @@ module _ (s : Session) (m : MemView) (attempts r : ℕ) (places : List (Option R
   look_may = look_replies (world_of s m attempts places) h.script h.fits.log (polls_at (world_of s m attempts places) h.script h.fits) r (placed place) here
 
   -- by the value of the world, and the call's result
-  pub open_answers : (w : WorldView) (result : Result Reply OutOfMemory) → world_of s m attempts places ≡ w → IfOk result (λ reply. OpenGives r (reader_rules s.file.name attempts) (placed place) reply (placed new))
+  pub open_answers : (w : WorldView) (result : Result Reply OutOfMemory) → world_of s m attempts places ≡ w → IfOk result (λ reply. OpenGives r (reader_rules s.name attempts) (placed place) reply (placed new))
       → IfOk result (λ reply. Steps w (events.Open r) reply (world_of s m attempts (slice_set places r new)))
   open_answers w (Ok reply) view gives = subst (λ (x : WorldView). Steps x (events.Open r) reply (world_of s m attempts (slice_set places r new))) view (open_steps reply gives)
   open_answers w (Err e) view gives = tt

@@ -1,24 +1,25 @@
 -- The oldest pending piece becomes visible.
-use Rattle.std.proofs.Common.{◌≡◌, ◌≢◌, ◌⊎◌, ℕ, suc, ◌+◌, ◌-◌, ◌<◌, ◌≤◌, List, [], ◌∷◌, ◌++◌, length, Bool, true, false, nat_lt, if◌then◌else◌, min, sym, refl, ap, ◌∙◌, subst, inl, inr, arith, length-append, Option, None}
+use Rattle.std.proofs.Common.{◌≡◌, ◌≢◌, ◌⊎◌, ℕ, suc, ◌+◌, ◌-◌, ◌<◌, ◌≤◌, List, [], ◌∷◌, ◌++◌, length, Bool, true, false, nat_lt, if◌then◌else◌, min, sym, refl, ap, ◌∙◌, subst, inl, inr, arith, length-append, Option, None, ℤ}
 use Rattle.std.specs.List.{slice_get}
 use Rattle.std.proofs.lemmas.Bool.{lt-ltb}
 use Rattle.h5w_model.specs.Images.{image}
-use Rattle.h5w_model.specs.Logs.{Log, Happening, appends, plans, shows, hist, appended, flushed, flushed_rows, and_now}
-use Rattle.h5w_model.specs.Lawful.{Rules, ScriptState, after_shows, committed}
+use Rattle.h5w_model.specs.Logs.{Log, Cutting, Happening, appends, plans, shows, hist, appended, flushed, flushed_rows, spent, and_now}
+use Rattle.h5w_model.specs.Lawful.{Rules, ScriptState, after_shows, committed, rows_in}
 use Rattle.h5w_model.specs.declared.event.Event.TheVariants as events
 use Rattle.h5w_model.specs.declared.piece.Write.{Write}
 use Rattle.h5w_model.specs.declared.reply.Reply.{Reply}
 use Rattle.h5w_model.specs.declared.reply.Reply.TheVariants as replies
 use Rattle.h5w_model.proofs.ImageLemmas.{image-push}
-use Rattle.h5w_polling.specs.Polling.{now}
+use Rattle.h5w_polling.specs.Polling.{Polling, now}
 use Rattle.h5w_polling.specs.Scripts.{AllPoll}
 use Rattle.h5w_polling.proofs.ScriptLemmas.{writer_line_laws}
-use Rattle.h5w_writer.specs.Files.{FileFields}
-use Rattle.h5w_writer.specs.Sessions.{Session, Stands, after_piece, cutting_of}
-use Rattle.h5w_writer.specs.Plans.{options_of}
-use Rattle.h5w_writer.proofs.LawLemmas.{standing_laws}
-use Rattle.h5w_core.specs.Worlds.{WorldView, HaveOneLog, IsStateOf, StandsFor, Steps, logged, polling_of, rules_for, rules_of, shown_world}
-use Rattle.h5w_core.proofs.StateLemmas.{rows_in-length, in_rows, spent_in-events}
+use Rattle.h5w_model.specs.Datasets.{Described}
+use Rattle.h5w_space.specs.Space.{Space}
+use Rattle.h5w_session.specs.Sessions.{Session, AfterPiece, Freed, cutting_of, rows_of}
+use Rattle.h5w_session.specs.Stands.{Stands}
+use Rattle.h5w_session.proofs.LawLemmas.{standing_laws}
+use Rattle.h5w_core.specs.Worlds.{WorldView, HaveOneLog, IsStateOf, StandsFor, Steps, logged, polling_by, polling_of, rules_of, shown_world}
+use Rattle.h5w_core.proofs.StateLemmas.{in_rows, rules_by, spent_in-events}
 use Rattle.h5w_core.proofs.WorldLemmas.{world_of, shown_is}
 use Rattle.h5w_image.specs.Memory.{MemView}
 use Rattle.h5w_image.specs.View.{Wrote}
@@ -63,28 +64,57 @@ idle_steps w none =
 
 -- ---- A piece becomes visible
 
-pub after_file : (s : Session) (ws : List Write) → (after_piece s ws).file ≡ s.file
-after_file s [] = refl
-after_file s (w ∷ ws) = refl
+-- what was freed leaves the limit
+freed_limit : (b : Bool) (s t : Space) → Freed b s t → t.limit ≡ s.limit
+freed_limit true s t is = ap (λ (x : Space). x.limit) is
+freed_limit false s t is = is.limit
 
-pub after_stopped : (s : Session) (ws : List Write) → (after_piece s ws).stopped ≡ s.stopped
-after_stopped s [] = refl
-after_stopped s (w ∷ ws) = refl
+-- what a piece leaves of its session
+pub record AfterFacts (s t : Session) (ws : List Write) : Type 0 where
+  pub name : t.name ≡ s.name
+  pub dataset : t.dataset ≡ s.dataset
+  pub limit : t.places.limit ≡ s.places.limit
+  pub waits : t.waits ≡ s.waits
+  pub stopped : t.stopped ≡ s.stopped
+  pub pending : t.pending ≡ ws
 
-pub after_waiting : (s : Session) (ws : List Write) → (after_piece s ws).waiting ≡ s.waiting
-after_waiting s [] = refl
-after_waiting s (w ∷ ws) = refl
+pub after_facts : (s : Session) (ws : List Write) (t : Session) → AfterPiece s ws t → AfterFacts s t ws
+after_facts s [] t after =
+    let is = after.1 in
+    record {
+      name = ap (λ (x : Session). x.name) is;
+      dataset = ap (λ (x : Session). x.dataset) is;
+      limit = freed_limit s.keeps s.places t.places after.0;
+      waits = ap (λ (x : Session). x.waits) is;
+      stopped = ap (λ (x : Session). x.stopped) is;
+      pending = ap (λ (x : Session). x.pending) is;
+    }
+after_facts s (w ∷ ws) t is =
+    record {
+      name = ap (λ (x : Session). x.name) is;
+      dataset = ap (λ (x : Session). x.dataset) is;
+      limit = ap (λ (x : Session). x.places.limit) is;
+      waits = ap (λ (x : Session). x.waits) is;
+      stopped = ap (λ (x : Session). x.stopped) is;
+      pending = ap (λ (x : Session). x.pending) is;
+    }
 
-pub after_pending : (s : Session) (ws : List Write) → (after_piece s ws).pending ≡ ws
-after_pending s [] = refl
-after_pending s (w ∷ ws) = refl
+-- so rules and polling stay
+pub shown_rules : (w : WorldView) (piece : Write) (t : Session) (ws : List Write) → AfterFacts w.session t ws → rules_of (shown_world w piece t) ≡ rules_of w
+shown_rules w piece t ws after = λ i. rules_by (after.dataset i) (after.limit i) w.attempts
+
+shown_polling : (w : WorldView) (piece : Write) (t : Session) (ws : List Write) → AfterFacts w.session t ws → polling_of (shown_world w piece t) ≡ polling_of w
+shown_polling w piece t ws after = λ i. polling_by (after.name i) (rules_by (after.dataset i) (after.limit i) w.attempts)
+
+pub same_cutting : (s t : Session) (ws : List Write) → AfterFacts s t ws → cutting_of t ≡ cutting_of s
+same_cutting s t ws after =
+    ap (λ (d : Described). record { chunk_rows = d.layout.chunk_rows; chunk_columns = d.layout.chunk_cols; columns = d.shape.cols; value_size = d.int_type.size }) after.dataset
 
 cons_some : (w : Write) (ws : List Write) → w ∷ ws ≢ []
 cons_some w ws e = cc
 
-pub shown_stands : (w : WorldView) (piece : Write) (pieces : List Write) (log : Log) → Stands (after_piece w.session pieces) (and_now (shows piece) log)
-    → StandsFor w log → StandsFor (shown_world w piece pieces) (and_now (shows piece) log)
-shown_stands w piece pieces log stands stood =
+pub shown_stands : (w : WorldView) (piece : Write) (t : Session) (log : Log) → Stands t (and_now (shows piece) log) → StandsFor w log → StandsFor (shown_world w piece t) (and_now (shows piece) log)
+shown_stands w piece t log stands stood =
     record {
       stands = stands;
       journal = ap (λ (ws : List Write). ws ++ piece ∷ []) stood.journal;
@@ -112,84 +142,95 @@ last_alone : (s : ScriptState) (log : Log) (piece : Write) → s.pending ≡ 1 �
 last_alone s log piece one ends (inl more) = absurd (omega arith)
 last_alone s log piece one ends (inr open_still) = let clash : true ≡ false = sym ends ∙ open_still in cc
 
+-- readers poll on, and the loads stay
+shown_polls : (w : WorldView) (piece : Write) (t : Session) (ws : List Write) (s : ScriptState) (log : Log) → AfterFacts w.session t ws → AllPoll (polling_of w) (and_now (shows piece) log) s (reader_at w.readers)
+    → AllPoll (polling_of (shown_world w piece t)) (and_now (shows piece) log) s (reader_at w.readers)
+shown_polls w piece t ws s log after polls = subst (λ (g : Polling). AllPoll g (and_now (shows piece) log) s (reader_at w.readers)) (sym (shown_polling w piece t ws after)) polls
+
+shown_spent : (w : WorldView) (piece : Write) (t : Session) (ws : List Write) (n : ℕ) (log : Log) → AfterFacts w.session t ws → n ≡ spent (cutting_of w.session) log → n ≡ spent (cutting_of t) (and_now (shows piece) log)
+shown_spent w piece t ws n log after is =
+    is ∙ sym (spent_in-events (cutting_of w.session) log (shows piece ∷ log.events) log.events) ∙ ap (λ (c : Cutting). spent c (and_now (shows piece) log)) (sym (same_cutting w.session t ws after))
+
 -- the last piece of a flush brings all rows
-last_shown : (w : WorldView) (piece : Write) (s : ScriptState) (log : Log) → w.session.pending ≡ piece ∷ [] → Stands w.session log
-    → Stands (after_piece w.session []) (and_now (shows piece) log) → IsStateOf w s log
-    → IsStateOf (shown_world w piece []) (committed (rules_of w) s) (and_now (shows piece) log)
-last_shown w piece s log pending stood stands state =
+last_shown : (w : WorldView) (piece : Write) (t : Session) (s : ScriptState) (log : Log) → w.session.pending ≡ piece ∷ [] → AfterPiece w.session [] t → Stands w.session log
+    → Stands t (and_now (shows piece) log) → IsStateOf w s log → IsStateOf (shown_world w piece t) (committed (rules_of w) s) (and_now (shows piece) log)
+last_shown w piece t s log pending shown stood stands state =
+    let after = after_facts w.session [] t shown in
     let one : s.pending ≡ 1 = state.pending ∙ ap length pending in
     let ends : s.ends_flush ≡ true = state.ends_flush ∙ lt-ltb 0 (length w.session.pending) (omega (arith, ap length pending)) in
-    let taken : w.session.waiting ≡ [] = state.taken (λ e. cons_some piece [] (sym pending ∙ e)) in
-    let rows : w.session.file.rows + length w.session.waiting ≡ length (appended log) = standing_laws.appended_rows w.session log stood ∙ in_rows w.session log (appended log) stood in
-    let values : length s.appended ≡ length (appended log) = ap length state.appended in
-    let none_wait : length w.session.waiting ≡ 0 = ap length taken in
-    let all : length s.appended ≡ w.session.file.rows = omega arith in
+    let none_wait : w.session.waits ≡ 0 = state.taken (λ e. cons_some piece [] (sym pending ∙ e)) in
+    let rows : rows_of w.session ≡ rows_in (rules_of w) s.appended = standing_laws.appended_rows w.session log stood ∙ in_rows w.session log (appended log) stood ∙ ap (λ (vs : List ℤ). rows_in (rules_of w) vs) (sym state.appended) in
+    let committed_is : t.committed ≡ w.session.dataset.shape.rows = ap (λ (x : Session). x.committed) shown.1 in
+    let all : rows_in (rules_of w) s.appended ≡ t.committed = omega (arith, rows, none_wait, committed_is) in
     record {
       appended = state.appended;
-      flushed = rows_in-length (options_of w.session.file) w.attempts s.appended ∙ all ∙ standing_laws.flushed_rows (after_piece w.session []) (and_now (shows piece) log) stands;
-      pending = refl;
-      ends_flush = refl;
-      taken = λ some. absurd (some refl);
-      spent = state.spent ∙ sym (spent_in-events (cutting_of w.session) log (shows piece ∷ log.events) log.events);
-      stopped = state.stopped;
+      flushed = all ∙ standing_laws.flushed_rows t (and_now (shows piece) log) stands;
+      pending = sym (ap length after.pending);
+      ends_flush = sym (ap (λ (ws : List Write). nat_lt 0 (length ws)) after.pending);
+      taken = λ some. absurd (some after.pending);
+      spent = shown_spent w piece t [] s.spent log after state.spent;
+      stopped = state.stopped ∙ sym after.stopped;
       tries = state.tries;
       begun = begun_on (shows piece) log state.begun;
       polls =
-          subst (λ (t : ScriptState). AllPoll (polling_of w) (and_now (shows piece) log) t (reader_at w.readers)) (last_state (rules_of w) s one ends)
-          (writer_line_laws.shown (polling_of w) log s (reader_at w.readers) piece 1 (last_alone s log piece one ends) state.polls);
+          shown_polls w piece t [] (committed (rules_of w) s) log after
+          (subst (λ (x : ScriptState). AllPoll (polling_of w) (and_now (shows piece) log) x (reader_at w.readers)) (last_state (rules_of w) s one ends)
+          (writer_line_laws.shown (polling_of w) log s (reader_at w.readers) piece 1 (last_alone s log piece one ends) state.polls));
     }
 
 -- each other one leaves the rows
-more_shown : (w : WorldView) (piece next : Write) (rest : List Write) (s : ScriptState) (log : Log) → w.session.pending ≡ piece ∷ next ∷ rest → Stands w.session log
-    → Stands (after_piece w.session (next ∷ rest)) (and_now (shows piece) log) → IsStateOf w s log
-    → IsStateOf (shown_world w piece (next ∷ rest)) (record s { pending = s.pending - 1 }) (and_now (shows piece) log)
-more_shown w piece next rest s log pending stood stands state =
+more_shown : (w : WorldView) (piece next : Write) (rest : List Write) (t : Session) (s : ScriptState) (log : Log) → w.session.pending ≡ piece ∷ next ∷ rest → AfterPiece w.session (next ∷ rest) t → Stands w.session log
+    → Stands t (and_now (shows piece) log) → IsStateOf w s log → IsStateOf (shown_world w piece t) (record s { pending = s.pending - 1 }) (and_now (shows piece) log)
+more_shown w piece next rest t s log pending shown stood stands state =
+    let after = after_facts w.session (next ∷ rest) t shown in
     let count : s.pending ≡ suc (length (next ∷ rest)) = state.pending ∙ ap length pending in
+    let same : t.committed ≡ w.session.committed = ap (λ (x : Session). x.committed) shown in
     let level : flushed_rows log ≡ flushed_rows (and_now (shows piece) log) =
-    sym (standing_laws.flushed_rows w.session log stood) ∙ standing_laws.flushed_rows (after_piece w.session (next ∷ rest)) (and_now (shows piece) log) stands in
+    sym (standing_laws.flushed_rows w.session log stood) ∙ sym same ∙ standing_laws.flushed_rows t (and_now (shows piece) log) stands in
+    let left : length t.pending ≡ length (next ∷ rest) = ap length after.pending in
     record {
       appended = state.appended;
       flushed = state.flushed ∙ level;
-      pending = omega arith;
-      ends_flush = state.ends_flush ∙ lt-ltb 0 (length w.session.pending) (omega (arith, ap length pending)) ∙ sym (lt-ltb 0 (length (next ∷ rest)) (omega arith));
-      taken = λ some. state.taken (λ e. cons_some piece (next ∷ rest) (sym pending ∙ e));
-      spent = state.spent ∙ sym (spent_in-events (cutting_of w.session) log (shows piece ∷ log.events) log.events);
-      stopped = state.stopped;
+      pending = omega (arith, count, left);
+      ends_flush = state.ends_flush ∙ lt-ltb 0 (length w.session.pending) (omega (arith, ap length pending)) ∙ sym (lt-ltb 0 (length t.pending) (omega (arith, left)));
+      taken = λ some. after.waits ∙ state.taken (λ e. cons_some piece (next ∷ rest) (sym pending ∙ e));
+      spent = shown_spent w piece t (next ∷ rest) s.spent log after state.spent;
+      stopped = state.stopped ∙ sym after.stopped;
       tries = state.tries;
       begun = begun_on (shows piece) log state.begun;
       polls =
-          subst (λ (t : ScriptState). AllPoll (polling_of w) (and_now (shows piece) log) t (reader_at w.readers)) (more_state (rules_of w) s (length rest) count)
-          (writer_line_laws.shown (polling_of w) log s (reader_at w.readers) piece 1 (λ _. sym level) state.polls);
+          shown_polls w piece t (next ∷ rest) (record s { pending = s.pending - 1 }) log after
+          (subst (λ (x : ScriptState). AllPoll (polling_of w) (and_now (shows piece) log) x (reader_at w.readers)) (more_state (rules_of w) s (length rest) count)
+          (writer_line_laws.shown (polling_of w) log s (reader_at w.readers) piece 1 (λ _. sym level) state.polls));
     }
 
-piece_fits : (w : WorldView) (piece : Write) (pieces : List Write) (s : ScriptState) (log : Log) → w.session.pending ≡ piece ∷ pieces → StandsFor w log
-    → Stands (after_piece w.session pieces) (and_now (shows piece) log) → IsStateOf w s log
-    → HaveOneLog (shown_world w piece pieces) (after_shows (rules_of w) s 1)
-piece_fits w piece [] s log pending stood stands state =
+piece_fits : (w : WorldView) (piece : Write) (pieces : List Write) (t : Session) (s : ScriptState) (log : Log) → w.session.pending ≡ piece ∷ pieces → AfterPiece w.session pieces t → StandsFor w log
+    → Stands t (and_now (shows piece) log) → IsStateOf w s log → HaveOneLog (shown_world w piece t) (after_shows (rules_of w) s 1)
+piece_fits w piece [] t s log pending shown stood stands state =
     let one : s.pending ≡ 1 = state.pending ∙ ap length pending in
     let ends : s.ends_flush ≡ true = state.ends_flush ∙ lt-ltb 0 (length w.session.pending) (omega (arith, ap length pending)) in
-    subst (λ (t : ScriptState). HaveOneLog (shown_world w piece []) t) (sym (last_state (rules_of w) s one ends))
-    (record { log = and_now (shows piece) log; stands = shown_stands w piece [] log stands stood; state = last_shown w piece s log pending stood.stands stands state })
-piece_fits w piece (next ∷ rest) s log pending stood stands state =
+    subst (λ (x : ScriptState). HaveOneLog (shown_world w piece t) x) (sym (last_state (rules_of w) s one ends))
+    (record { log = and_now (shows piece) log; stands = shown_stands w piece t log stands stood; state = last_shown w piece t s log pending shown stood.stands stands state })
+piece_fits w piece (next ∷ rest) t s log pending shown stood stands state =
     let more : s.pending ≡ suc (suc (length rest)) = state.pending ∙ ap length pending in
-    subst (λ (t : ScriptState). HaveOneLog (shown_world w piece (next ∷ rest)) t) (sym (more_state (rules_of w) s (length rest) more))
-    (record { log = and_now (shows piece) log; stands = shown_stands w piece (next ∷ rest) log stands stood; state = more_shown w piece next rest s log pending stood.stands stands state })
+    subst (λ (x : ScriptState). HaveOneLog (shown_world w piece t) x) (sym (more_state (rules_of w) s (length rest) more))
+    (record { log = and_now (shows piece) log; stands = shown_stands w piece t log stands stood; state = more_shown w piece next rest t s log pending shown stood.stands stands state })
 
 -- the session's own clause, for each log
-abbrev pub Carries : Session → Write → List Write → Type 0
-Carries s piece pieces = (log : Log) → Stands s log → Stands (after_piece s pieces) (and_now (shows piece) log)
+abbrev pub Carries : Session → Write → Session → Type 0
+Carries s piece t = (log : Log) → Stands s log → Stands t (and_now (shows piece) log)
 
-pub piece_steps : (w : WorldView) (piece : Write) (pieces : List Write) → w.session.pending ≡ piece ∷ pieces → Carries w.session piece pieces
-    → Steps w events.Visible (replies.Written 1 (length pieces)) (shown_world w piece pieces)
-piece_steps w piece pieces pending carries =
+pub piece_steps : (w : WorldView) (piece : Write) (pieces : List Write) (t : Session) → w.session.pending ≡ piece ∷ pieces → AfterPiece w.session pieces t → Carries w.session piece t
+    → Steps w events.Visible (replies.Written 1 (length pieces)) (shown_world w piece t)
+piece_steps w piece pieces t pending shown carries =
     record {
-      rules = ap (λ (f : FileFields). rules_for (options_of f) w.attempts) (after_file w.session pieces);
+      rules = shown_rules w piece t pieces (after_facts w.session pieces t shown);
       lawful = λ s fits.
           let count : s.pending ≡ suc (length pieces) = fits.state.pending ∙ ap length pending in
           let one : 1 ≡ min 1 s.pending = omega arith in
           let left : length pieces ≡ s.pending - min 1 s.pending = omega arith in (
             λ i. replies.Written (one i) (left i),
-            piece_fits w piece pieces s fits.log pending fits.stands (carries fits.log fits.stands.stands) fits.state,
+            piece_fits w piece pieces t s fits.log pending shown fits.stands (carries fits.log fits.stands.stands) fits.state,
           );
     }
 
@@ -197,15 +238,15 @@ piece_steps w piece pieces pending carries =
 
 -- the worlds before and after it, by their parts
 pub show_done : (s t : Session) (m n : MemView) (attempts left : ℕ) (readers : List (Option ReaderCore)) (w : WorldView) (piece : Write) (pieces : List Write) → world_of s m attempts readers ≡ w → s.pending ≡ piece ∷ pieces
-    → Wrote (piece ∷ []) (steady m) (steady n) → t ≡ after_piece s pieces → left ≡ length t.pending → ((log : Log) → Stands s log → Stands t (and_now (shows piece) log))
+    → Wrote (piece ∷ []) (steady m) (steady n) → AfterPiece s pieces t → left ≡ length t.pending → ((log : Log) → Stands s log → Stands t (and_now (shows piece) log))
     → Steps w events.Visible (replies.Written 1 left) (world_of t n attempts readers)
-show_done s t m n attempts left readers w piece pieces view pending wrote is count stands =
-    let carries : Carries s piece pieces = λ log stood. subst (λ (x : Session). Stands x (and_now (shows piece) log)) is (stands log stood) in
-    let rest : left ≡ length pieces = count ∙ ap (λ (x : Session). length x.pending) is ∙ ap length (after_pending s pieces) in
-    let steps = piece_steps (world_of s m attempts readers) piece pieces pending carries in
+show_done s t m n attempts left readers w piece pieces view pending wrote shown count stands =
+    let after = after_facts s pieces t shown in
+    let rest : left ≡ length pieces = count ∙ ap length after.pending in
+    let steps = piece_steps (world_of s m attempts readers) piece pieces t pending shown stands in
     subst (λ (x : WorldView). Steps x events.Visible (replies.Written 1 left) (world_of t n attempts readers)) view
-    (subst (λ (x : WorldView). Steps (world_of s m attempts readers) events.Visible (replies.Written 1 left) x) (sym (shown_is s t m n attempts readers piece pieces wrote is))
-    (subst (λ (k : ℕ). Steps (world_of s m attempts readers) events.Visible (replies.Written 1 k) (shown_world (world_of s m attempts readers) piece pieces)) (sym rest) steps))
+    (subst (λ (x : WorldView). Steps (world_of s m attempts readers) events.Visible (replies.Written 1 left) x) (sym (shown_is s t m n attempts readers piece wrote))
+    (subst (λ (k : ℕ). Steps (world_of s m attempts readers) events.Visible (replies.Written 1 k) (shown_world (world_of s m attempts readers) piece t)) (sym rest) steps))
 
 pub logged_piece : (w : WorldView) (piece : Write) (pieces : List Write) (reply : Reply) (log : Log) → w.session.pending ≡ piece ∷ pieces → logged w events.Visible reply log ≡ and_now (shows piece) log
 logged_piece w piece pieces reply log pending = ap (λ (ws : List Write). elim ws as (λ _. Log) [ [] ↦ log | x ∷ xs ↦ and_now (shows x) log ]) pending
@@ -214,14 +255,14 @@ pub logged_nothing : (w : WorldView) (reply : Reply) (log : Log) → w.session.p
 logged_nothing w reply log none = ap (λ (ws : List Write). elim ws as (λ _. Log) [ [] ↦ log | x ∷ xs ↦ and_now (shows x) log ]) none
 
 pub show_logged : (s t : Session) (m n : MemView) (attempts : ℕ) (readers : List (Option ReaderCore)) (w : WorldView) (piece : Write) (pieces : List Write) (reply : Reply) → world_of s m attempts readers ≡ w → s.pending ≡ piece ∷ pieces
-    → Wrote (piece ∷ []) (steady m) (steady n) → t ≡ after_piece s pieces → ((log : Log) → Stands s log → Stands t (and_now (shows piece) log))
+    → Wrote (piece ∷ []) (steady m) (steady n) → ((log : Log) → Stands s log → Stands t (and_now (shows piece) log))
     → (log : Log) → StandsFor w log → StandsFor (world_of t n attempts readers) (logged w events.Visible reply log)
-show_logged s t m n attempts readers w piece pieces reply view pending wrote is stands log stood =
+show_logged s t m n attempts readers w piece pieces reply view pending wrote stands log stood =
     let there : w.session.pending ≡ piece ∷ pieces = ap (λ (x : WorldView). x.session.pending) (sym view) ∙ pending in
     let stood_there : StandsFor (world_of s m attempts readers) log = subst (λ (x : WorldView). StandsFor x log) (sym view) stood in
     subst (λ (l : Log). StandsFor (world_of t n attempts readers) l) (sym (logged_piece w piece pieces reply log there))
-    (subst (λ (x : WorldView). StandsFor x (and_now (shows piece) log)) (sym (shown_is s t m n attempts readers piece pieces wrote is))
-    (shown_stands (world_of s m attempts readers) piece pieces log (subst (λ (x : Session). Stands x (and_now (shows piece) log)) is (stands log stood_there.stands)) stood_there))
+    (subst (λ (x : WorldView). StandsFor x (and_now (shows piece) log)) (sym (shown_is s t m n attempts readers piece wrote))
+    (shown_stands (world_of s m attempts readers) piece t log (stands log stood_there.stands) stood_there))
 
 pub no_piece : (ws : List Write) → None ≡ slice_get ws 0 → ws ≡ []
 no_piece [] none = refl

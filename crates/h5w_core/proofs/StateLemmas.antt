@@ -1,19 +1,34 @@
 -- What a world's state in a script is worth: its loads and rows by the log.
-use Rattle.std.proofs.Common.{◌≡◌, ℕ, ◌+◌, ◌*◌, ◌/◌, List, [], ◌∷◌, length, ℤ, refl, sym, ap, ◌∙◌, arith}
+use Rattle.std.proofs.Common.{◌≡◌, ℕ, ◌+◌, ◌*◌, ◌/◌, ◌<◌, List, [], ◌∷◌, ◌++◌, length, ℤ, refl, sym, ap, ◌∙◌, arith, length-append}
+use Rattle.std.proofs.Math.Nat.{add-mul-div_right}
+use Rattle.std.proofs.lemmas.Nat.{div-mul-add}
+use Rattle.h5w_model.specs.Datasets.{Described}
+use Rattle.h5w_model.specs.Tables.{format_limits, limit_of}
 use Rattle.h5w_model.specs.Logs.{Log, Happening, Cutting, appends, plans, shows, appended, flushed, flushed_rows, load, spent_in, touched_chunks}
 use Rattle.h5w_model.specs.Logs as logs
-use Rattle.h5w_model.specs.Lawful.{ScriptState, load_of, rows_in}
-use Rattle.h5w_model.specs.declared.options.Options.{Options}
-use Rattle.h5w_writer.specs.Sessions.{Session, Stands}
-use Rattle.h5w_writer.proofs.LawLemmas.{standing_laws}
-use Rattle.h5w_core.specs.Worlds.{rules_for}
+use Rattle.h5w_model.specs.Lawful.{Rules, ScriptState, load_of, rows_in}
+use Rattle.h5w_session.specs.Sessions.{Session, with_rows}
+use Rattle.h5w_session.specs.Stands.{Stands}
+use Rattle.h5w_session.proofs.LawLemmas.{standing_laws}
+use Rattle.h5w_core.specs.Worlds.{AreRowsBy, WorldView, rules_of}
 
--- with one column there are as many rows as values, in a script and in a session's log
-pub rows_in-length : (options : Options) (attempts : ℕ) (vs : List ℤ) → rows_in (rules_for options attempts) vs ≡ length vs
-rows_in-length options attempts vs = omega arith
+-- a session's log has its dataset's columns
+pub columns_of : (s : Session) (log : Log) → Stands s log → log.columns ≡ s.dataset.shape.cols
+columns_of s log stands = standing_laws.columns s log stands
 
-pub in_rows : (s : Session) (log : Log) (vs : List ℤ) → Stands s log → logs.rows_in log vs ≡ length vs
-in_rows s log vs stands = let one : length vs / 1 ≡ length vs = omega arith in ap (λ (c : ℕ). length vs / c) (standing_laws.columns s log stands) ∙ one
+pub some_columns : (s : Session) (log : Log) → Stands s log → 0 < s.dataset.shape.cols
+some_columns s log stands = standing_laws.some_columns s log stands
+
+-- rows are counted by them, as those of a script are
+pub in_rows : (s : Session) (log : Log) (vs : List ℤ) → Stands s log → logs.rows_in log vs ≡ length vs / s.dataset.shape.cols
+in_rows s log vs stands = ap (λ (c : ℕ). length vs / c) (columns_of s log stands)
+
+-- with so many more rows there are so many more
+pub more_rows : (g : Rules) (all vs : List ℤ) → 0 < g.cutting.columns → AreRowsBy g vs → rows_in g (all ++ vs) ≡ rows_in g all + length vs / g.cutting.columns
+more_rows g all vs some rows =
+    let c = g.cutting.columns in
+    let own : length vs / c ≡ rows.0 = ap (λ (n : ℕ). n / c) (rows.1 ∙ (let whole : rows.0 * c ≡ rows.0 * c + 0 = omega arith in whole)) ∙ div-mul-add rows.0 c 0 some in
+    ap (λ (n : ℕ). n / c) (length-append all vs ∙ ap (λ (n : ℕ). length all + n) rows.1) ∙ add-mul-div_right (length all) rows.0 some ∙ ap (λ (n : ℕ). rows_in g all + n) (sym own)
 
 -- the loads of a log rest on what it began with alone
 pub spent_in-events : (c : Cutting) (log : Log) (other es : List Happening) → spent_in c (record log { events = other }) es ≡ spent_in c log es
@@ -23,10 +38,29 @@ spent_in-events c log other (plans k ∷ es) = ap (λ n. n + load c (record log 
 spent_in-events c log other (shows w ∷ es) = spent_in-events c log other es
 
 -- the load by the state is that by the log
-pub load_of-log : (options : Options) (attempts : ℕ) (s : ScriptState) (vs : List ℤ) (log : Log) → log.columns ≡ 1 → s.flushed ≡ flushed_rows log → vs ≡ appended log
-    → load_of (rules_for options attempts) s vs ≡ load (rules_for options attempts).cutting log
-load_of-log options attempts s vs log columns flushed_is values =
-    let g = rules_for options attempts in
-    let old : s.flushed ≡ length (flushed log) / 1 = flushed_is ∙ ap (λ (c : ℕ). length (flushed log) / c) columns in
+pub load_of-log : (g : Rules) (s : ScriptState) (vs : List ℤ) (log : Log) → log.columns ≡ g.cutting.columns → s.flushed ≡ flushed_rows log → vs ≡ appended log → load_of g s vs ≡ load g.cutting log
+load_of-log g s vs log columns flushed_is values =
+    let c = g.cutting.columns in
+    let old : s.flushed ≡ length (flushed log) / c = flushed_is ∙ ap (λ (n : ℕ). length (flushed log) / n) columns in
     ap (λ n. 1000 + touched_chunks g.cutting n (rows_in g vs) * (g.cutting.chunk_rows * g.cutting.chunk_columns * g.cutting.value_size + 20000)) old
-    ∙ ap (λ (xs : List ℤ). 1000 + touched_chunks g.cutting (length (flushed log) / 1) (rows_in g xs) * (g.cutting.chunk_rows * g.cutting.chunk_columns * g.cutting.value_size + 20000)) values
+    ∙ ap (λ (xs : List ℤ). 1000 + touched_chunks g.cutting (length (flushed log) / c) (rows_in g xs) * (g.cutting.chunk_rows * g.cutting.chunk_columns * g.cutting.value_size + 20000)) values
+
+-- ---- By what a world's rules go
+
+-- the rules of a dataset, of a file that may grow so far, with so many attempts
+abbrev pub rules_by : Described → ℕ → ℕ → Rules
+rules_by d limit attempts = record {
+  cutting = record { chunk_rows = d.layout.chunk_rows; chunk_columns = d.layout.chunk_cols; columns = d.shape.cols; value_size = d.int_type.size };
+  int_type = d.int_type;
+  chunk_limit = limit_of format_limits d.layout.index;
+  space_limit = limit;
+  attempts = attempts;
+}
+
+-- sessions whose datasets differ in their rows at most, in files that may grow so far, have the same rules
+pub same_rules : (s t : Session) (attempts rows : ℕ) (v w : WorldView) → v.session ≡ s → w.session ≡ t → v.attempts ≡ attempts → w.attempts ≡ attempts → t.dataset ≡ with_rows rows s.dataset → t.places.limit ≡ s.places.limit
+    → rules_of w ≡ rules_of v
+same_rules s t attempts rows v w old new before after is limit =
+    let first : rules_of w ≡ rules_by t.dataset t.places.limit attempts = λ i. rules_by (new i).dataset (new i).places.limit (after i) in
+    let last : rules_of v ≡ rules_by s.dataset s.places.limit attempts = λ i. rules_by (old i).dataset (old i).places.limit (before i) in
+    first ∙ (λ i. rules_by (is i) (limit i) attempts) ∙ sym last

@@ -7,7 +7,7 @@ use Rattle.h5w_model.specs.declared.piece.Write.{Write}
 use Rattle.h5w_model.proofs.ImageLemmas.{image-push}
 use Rattle.h5w_image.specs.Memory.{MemView}
 use Rattle.h5w_image.specs.View.{Same, Wrote}
-use Rattle.h5w_writer.specs.Sessions.{Session, after_piece}
+use Rattle.h5w_session.specs.Sessions.{Session}
 use Rattle.h5w_reader.specs.declared.reader.ReaderCore.{ReaderCore}
 use Rattle.h5w_core.specs.Steady.{steady}
 use Rattle.h5w_core.specs.Worlds.{WorldView, shown_world}
@@ -32,13 +32,20 @@ pub oldest : (w : Write) (ws : List Write) → Some w ≡ slice_get ws 0 → ws 
 oldest w [] none = cc
 oldest w (x ∷ xs) same = ap (λ y. y ∷ xs) (sym (some_is w x same))
 
+-- the image is as before, whatever the session is
+pub replaced : (s t : Session) (m n : MemView) (attempts : ℕ) (readers : List (Option ReaderCore)) → Same (steady m) (steady n) → world_of t n attempts readers ≡ record (world_of s m attempts readers) { session = t }
+replaced s t m n attempts readers same =
+    let bytes = some_is n.bytes m.bytes same.bytes in
+    let journal = some_is n.history m.history same.history in
+    λ i. record { session = t; bytes = bytes i; journal = journal i; attempts = attempts; readers = readers }
+
 -- a piece became visible
-pub shown_is : (s t : Session) (m n : MemView) (attempts : ℕ) (readers : List (Option ReaderCore)) (piece : Write) (pieces : List Write) → Wrote (piece ∷ []) (steady m) (steady n) → t ≡ after_piece s pieces
-    → world_of t n attempts readers ≡ shown_world (world_of s m attempts readers) piece pieces
-shown_is s t m n attempts readers piece pieces wrote is =
+pub shown_is : (s t : Session) (m n : MemView) (attempts : ℕ) (readers : List (Option ReaderCore)) (piece : Write) → Wrote (piece ∷ []) (steady m) (steady n)
+    → world_of t n attempts readers ≡ shown_world (world_of s m attempts readers) piece t
+shown_is s t m n attempts readers piece wrote =
     let bytes = some_is n.bytes (image m.bytes (piece ∷ [])) wrote.bytes in
     let journal = some_is n.history (m.history ++ piece ∷ []) wrote.history in
-    λ i. record { session = is i; bytes = bytes i; journal = journal i; attempts = attempts; readers = readers }
+    λ i. record { session = t; bytes = bytes i; journal = journal i; attempts = attempts; readers = readers }
 
 -- the image is what its journal makes of no bytes
 pub still_folded : (m n : MemView) (piece : Write) → Wrote (piece ∷ []) (steady m) (steady n) → m.bytes ≡ image [] m.history → n.bytes ≡ image [] n.history

@@ -3,10 +3,11 @@ use Rattle.std.specs.Prelude.{◌≡◌, ℕ, false, [], ◌++◌, length}
 use Rattle.h5w_model.specs.Images.{image}
 use Rattle.h5w_model.specs.Logs.{Log, hist, spent}
 use Rattle.h5w_image.specs.Memory.{MemView}
-use Rattle.h5w_writer.specs.Plans.{creation_writes, new_file}
-use Rattle.h5w_writer.specs.Room.{HasRoomFor}
-use Rattle.h5w_writer.specs.Sessions.{Session, Stands, cutting_of}
-use Rattle.h5w_model.specs.declared.options.Options.{Options}
+use Rattle.h5w_session.specs.Creations.{creation_writes, new_dataset, new_file}
+use Rattle.h5w_session.specs.Room.{HasRoomFor}
+use Rattle.h5w_session.specs.Sessions.{Session, cutting_of}
+use Rattle.h5w_session.specs.Stands.{Stands}
+use Rattle.h5w_options.specs.declared.options.Options.{Options}
 use Rattle.h5w_core.specs.Steady.{steady}
 
 -- So many of the creation's pieces are visible in its image, and nothing was appended.
@@ -15,11 +16,12 @@ pub record Creates (options : Options) (count : ℕ) (s : Session) (m : MemView)
   pub stands : Stands s log
   pub history : m.history ≡ hist log.events
   pub bytes : m.bytes ≡ image [] (hist log.events)
-  pub file : s.file ≡ new_file options
+  pub dataset : s.dataset ≡ new_dataset (new_file options)
+  pub limit : s.places.limit ≡ options.limit
   pub committed : s.committed ≡ 0
-  pub waiting : s.waiting ≡ []
+  pub waits : s.waits ≡ 0
   pub going : s.stopped ≡ false
   pub loads : spent (cutting_of s) log ≡ 0
-  pub pieces : m.history ++ s.pending ≡ creation_writes options
+  pub pieces : m.history ++ s.pending ≡ creation_writes (new_file options)
   pub shown : length m.history ≡ count
   pub room : HasRoomFor s (steady m)

@@ -1,10 +1,12 @@
 -- A world of one writer, one image and some readers: what its value is, of which logs it can be the world, and of which
 -- states of a script.
-use Rattle.std.specs.Prelude.{◌≡◌, ◌≢◌, ℕ, ◌≤◌, List, [], ◌∷◌, ◌++◌, length, replicate, nat_lt, ◌==◌, if◌then◌else◌, Option, Some, None, option_map}
+use Rattle.std.specs.Prelude.{◌≡◌, ◌≢◌, ℕ, ◌*◌, ◌≤◌, ℤ, List, [], ◌∷◌, ◌++◌, length, replicate, nat_lt, ◌==◌, if◌then◌else◌, Option, Some, None, option_map}
 use Rattle.h5w_model.specs.Images.{image}
 use Rattle.h5w_model.specs.Logs.{Log, appends, plans, shows, hist, appended, flushed_rows, spent, and_now}
+use Rattle.h5w_model.specs.Tables.{format_limits, limit_of}
+use Rattle.h5w_model.specs.declared.cell.IndexKind.TheVariants.{Array}
 use Rattle.h5w_model.specs.Lawful.{Rules, ScriptState, Allowed, line_of, next_state}
-use Rattle.h5w_model.specs.declared.options.Options.{Options}
+use Rattle.h5w_options.specs.declared.options.Options.{Options}
 use Rattle.h5w_model.specs.declared.event.Event.{Event}
 use Rattle.h5w_model.specs.declared.event.Event.TheVariants as events
 use Rattle.h5w_model.specs.declared.piece.Write.{Write}
@@ -18,13 +20,12 @@ use Rattle.h5w_reader.specs.Readers.{reader_rules}
 use Rattle.h5w_reader.specs.declared.reader.ReaderCore.{ReaderCore}
 use Rattle.h5w_core.specs.Readers.{IsCalling, MayRead, ended, reader_at}
 use Rattle.h5w_core.specs.Steady.{steady}
-use Rattle.h5w_writer.specs.Files.{int_type}
-use Rattle.h5w_writer.specs.Plans.{options_of}
-use Rattle.h5w_writer.specs.Refusals.{append_refusal, flush_refusal}
-use Rattle.h5w_writer.specs.Room.{HasRoomFor}
-use Rattle.h5w_writer.specs.declared.refusal.FlushError.{FlushError}
-use Rattle.h5w_writer.specs.declared.refusal.FlushError.TheVariants as errors
-use Rattle.h5w_writer.specs.Sessions.{Session, Stands, after_piece, chunk_limit, cutting_of}
+use Rattle.h5w_types.specs.Fields.{int_type_of}
+use Rattle.h5w_session.specs.Refusals.{append_refusal, flush_refusal}
+use Rattle.h5w_session.specs.Room.{HasRoomFor}
+use Rattle.h5w_session.specs.Flushes.{SameBut}
+use Rattle.h5w_session.specs.Sessions.{Session, chunk_limit, cutting_of}
+use Rattle.h5w_session.specs.Stands.{Stands}
 
 -- The session, the bytes of its image, the pieces that became visible, the oldest first, the most attempts of a
 -- reader's call, and the readers that were opened, by number.
@@ -38,23 +39,29 @@ pub record WorldView : Type 0 where
 -- the rules of a script on a file that is created by these options, with so many attempts in a reader's call
 abbrev pub rules_for : Options → ℕ → Rules
 rules_for options attempts = record {
-  cutting = record { chunk_rows = options.chunk_rows; chunk_columns = 1; columns = 1; value_size = 4 };
-  int_type = int_type;
-  chunk_limit = chunk_limit;
+  cutting = record { chunk_rows = options.chunk_rows; chunk_columns = 1; columns = 1; value_size = options.int_type.size };
+  int_type = int_type_of options.int_type;
+  chunk_limit = limit_of format_limits Array;
   space_limit = options.limit;
   attempts = attempts;
 }
 
 -- the rules by which a world's replies are lawful
 abbrev pub rules_of : WorldView → Rules
-rules_of w = rules_for (options_of w.session.file) w.attempts
+rules_of w = record {
+  cutting = cutting_of w.session;
+  int_type = w.session.dataset.int_type;
+  chunk_limit = chunk_limit w.session;
+  space_limit = w.session.places.limit;
+  attempts = w.attempts;
+}
 
 -- what readers poll for by some rules: the dataset of this name, by what each reader calls
 abbrev pub polling_by : List ℕ → Rules → Polling
 polling_by name g = let by = reader_rules name g.attempts in record { name = name; limits = by.limits; keeps = by.keeps; rules = g }
 
 abbrev pub polling_of : WorldView → Polling
-polling_of w = polling_by w.session.file.name (rules_of w)
+polling_of w = polling_by w.session.name (rules_of w)
 
 -- places for readers 0 to 16, of which none was opened
 abbrev pub nobody : List (Option ReaderCore)
@@ -74,7 +81,7 @@ pub record IsStateOf (w : WorldView) (s : ScriptState) (log : Log) : Type 0 wher
   pub flushed : s.flushed ≡ flushed_rows log
   pub pending : s.pending ≡ length w.session.pending
   pub ends_flush : s.ends_flush ≡ nat_lt 0 (length w.session.pending)
-  pub taken : w.session.pending ≢ [] → w.session.waiting ≡ []
+  pub taken : w.session.pending ≢ [] → w.session.waits ≡ 0
   pub spent : s.spent ≡ spent (cutting_of w.session) log
   pub stopped : s.stopped ≡ w.session.stopped
   pub tries : 1 ≤ w.attempts
@@ -88,11 +95,12 @@ pub record HaveOneLog (w : WorldView) (s : ScriptState) : Type 0 where
   pub state : IsStateOf w s log
 
 -- What holds of each world, by its session, its image, its attempts and its readers: the image has room for what is
--- pending, it is what its journal makes of no bytes, readers 0 to 16 have a place, and some state of a script fits.
+-- pending, it is what its journal makes of no bytes, readers 0 to 16 have a place, the dataset has one column, and some state of a script fits.
 pub record HoldsTogether (s : Session) (m : MemView) (attempts : ℕ) (readers : List (Option ReaderCore)) : Type 0 where
   pub room : HasRoomFor s (steady m)
   pub folds : m.bytes ≡ image [] m.history
   pub places : length readers ≡ 17
+  pub one_column : s.dataset.shape.cols ≡ 1
   pub script : ScriptState
   pub fits : HaveOneLog (record { session = s; bytes = m.bytes; journal = m.history; attempts = attempts; readers = readers }) script
 
@@ -103,9 +111,13 @@ logged w events.Flush (replies.Flushing pieces) log = and_now (plans pieces) log
 logged w events.Visible reply log = elim w.session.pending [ [] ↦ log | piece ∷ pieces ↦ and_now (shows piece) log ]
 logged w event reply log = log
 
--- the world once its oldest pending piece became visible, with these left
-abbrev pub shown_world : WorldView → Write → List Write → WorldView
-shown_world w piece pieces = record w { session = after_piece w.session pieces; bytes = image w.bytes (piece ∷ []); journal = w.journal ++ piece ∷ [] }
+-- the world once its oldest pending piece became visible, with this session
+abbrev pub shown_world : WorldView → Write → Session → WorldView
+shown_world w piece s = record w { session = s; bytes = image w.bytes (piece ∷ []); journal = w.journal ++ piece ∷ [] }
+
+-- these values are rows of the dataset
+abbrev pub AreRowsBy : Rules → List ℤ → Type 0
+AreRowsBy g values = (n : ℕ) × (length values ≡ n * g.cutting.columns)
 
 -- an event of the writer, or of a reader that has a place
 abbrev pub IsHeard : Event → Type 0
@@ -118,17 +130,10 @@ IsHeard (events.Refresh reader) = reader ≤ 16
 IsHeard (events.Read reader from count) = reader ≤ 16
 IsHeard (events.Look reader) = reader ≤ 16
 
--- nothing stands before a flush but, maybe, want of a place
-abbrev pub MayBeFull : Option FlushError → Type 0
-MayBeFull None = Unit {0}
-MayBeFull (Some (errors.Space full)) = Unit {0}
-MayBeFull (Some errors.OutOfMemory) = Unit {0}
-MayBeFull (Some e) = ⊥
-
--- an event that may want memory: one that is not refused, or a flush that has no place
+-- an event that may want memory: one that is not refused, but maybe for want of a place
 abbrev pub MayWantMemory : WorldView → Event → Type 0
 MayWantMemory w (events.Append values) = append_refusal w.session values ≡ None
-MayWantMemory w events.Flush = MayBeFull (flush_refusal w.session)
+MayWantMemory w events.Flush = flush_refusal w.session ≡ None
 MayWantMemory w (events.Open reader) = reader_at w.readers reader ≡ None
 MayWantMemory w (events.Read reader from count) = MayRead from count (reader_at w.readers reader)
 MayWantMemory w (events.Look reader) = IsCalling (reader_at w.readers reader)
@@ -142,8 +147,14 @@ pub record IsKept (old new : WorldView) (r : ℕ) (reader : Option Reader) : Typ
   pub attempts : new.attempts ≡ old.attempts
   pub readers : (q : ℕ) → reader_at new.readers q ≡ (if r == q then reader else reader_at old.readers q)
 
--- What want of memory leaves: all as before; a look's call is taken away.
+-- the world as before, but that its session may hold more blocks of its index
+pub record HoldsMore (old new : WorldView) : Type 0 where
+  pub session : SameBut old.session new.session
+  pub others : new ≡ record old { session = new.session }
+
+-- What want of memory leaves: all as before; a look's call is taken away, and a flush may have held blocks.
 abbrev pub IsLeft : WorldView → Event → WorldView → Type 0
+IsLeft old events.Flush new = HoldsMore old new
 IsLeft old (events.Open reader) new = IsKept old new reader (reader_at old.readers reader)
 IsLeft old (events.Refresh reader) new = new ≡ old
 IsLeft old (events.Read reader from count) new = IsKept old new reader (reader_at old.readers reader)

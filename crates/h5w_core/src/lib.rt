@@ -9,6 +9,6 @@ mod world;
 
 pub use h5w_image::Journal;
 pub use h5w_model::{Event, OutOfMemory, Reply};
-pub use h5w_writer::Options;
+pub use h5w_options::Options;
 pub use laws::runs_lawfully;
 pub use world::World;

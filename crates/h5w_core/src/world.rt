@@ -3,23 +3,25 @@ ghost use Rattle.std.specs.Prelude.{◌≡◌, ◌≤◌, [], ◌∷◌, ◌^◌
 ghost use Rattle.h5w_model.specs.Images.{image};
 ghost use Rattle.h5w_model.specs.Lawful.{ScriptState, Allowed, at_first, line_of, next_state};
 ghost use Rattle.h5w_model.specs.Logs.{Log, and_now, shows};
-ghost use Rattle.h5w_model.specs.Options.{AreAttempts, AreOptions};
+ghost use Rattle.h5w_options.specs.Options.{AreAttempts, AreOptions};
 ghost use Rattle.h5w_model.specs.declared.piece.Write.{Write};
 ghost use Rattle.h5w_image.specs.View.{Wrote};
-ghost use Rattle.h5w_writer.specs.Plans.{creation_writes};
-ghost use Rattle.h5w_writer.specs.Room.{HasRoomFor};
-ghost use Rattle.h5w_writer.specs.Sessions.{Stands, after_piece, rows_of as session_rows};
+ghost use Rattle.h5w_session.specs.Creations.{creation_writes, new_file};
+ghost use Rattle.h5w_session.specs.Room.{HasRoomFor};
+ghost use Rattle.h5w_session.specs.Sessions.{AfterPiece, rows_of as session_rows};
+ghost use Rattle.h5w_session.specs.Stands.{Stands};
 ghost use Rattle.h5w_core.specs.Readers.{IsCalling, MayRead, ended, reader_at};
 ghost use Rattle.h5w_core.specs.Steady.{steady};
 ghost use Rattle.h5w_core.specs.Creation.{Creates};
-ghost use Rattle.h5w_core.specs.Worlds.{HaveOneLog, IsHeard, IsKept, IsLeft, MayWantMemory, StandsFor, Steps, logged, nobody, rules_for, rules_of};
+ghost use Rattle.h5w_core.specs.Worlds.{HaveOneLog, HoldsMore, IsHeard, IsKept, IsLeft, MayWantMemory, StandsFor, Steps, logged, nobody, rules_for, rules_of};
 
 use crate::readers;
 use crate::steady::SteadyImage;
 use h5w_image::Journal;
 use h5w_model::{Event, OutOfMemory, Reply};
+use h5w_options::Options;
 use h5w_reader::ReaderCore;
-use h5w_writer::{AppendError, FlushError, Full, Options, WriterCore};
+use h5w_session::{AppendError, FlushError, Full, WriterCore};
 use std::alloc::Global;
 use std::marker::Model;
 
@@ -53,7 +55,7 @@ impl Model for World {
 fn show(session: &mut WriterCore, image: &mut SteadyImage) -> u64
     requires { HasRoomFor session.old (steady image.old) }
     ensures nothing { session.old.pending ≡ [] → (result ≡ 0) × (session.new ≡ session.old) × (image.new ≡ image.old) }
-    ensures piece { (w : Write) (ws : List Write) → session.old.pending ≡ w ∷ ws → (result ≡ 1) × (session.new ≡ after_piece session.old ws) × Wrote (w ∷ []) (steady image.old) (steady image.new) }
+    ensures piece { (w : Write) (ws : List Write) → session.old.pending ≡ w ∷ ws → (result ≡ 1) × AfterPiece session.old ws session.new × Wrote (w ∷ []) (steady image.old) (steady image.new) }
     ensures stands { (w : Write) (ws : List Write) → session.old.pending ≡ w ∷ ws → (log : Log) → Stands session.old log → Stands session.new (and_now (shows w) log) }
     ensures room { HasRoomFor session.new (steady image.new) }
 {
@@ -98,7 +100,7 @@ impl World {
         requires attempts { AreAttempts attempts }
         ensures fits { IfOk result (λ w. HaveOneLog w at_first) }
         ensures rules { IfOk result (λ w. rules_of w ≡ rules_for options.now attempts) }
-        ensures created { IfOk result (λ w. w.journal ≡ creation_writes options.now) }
+        ensures created { IfOk result (λ w. w.journal ≡ creation_writes (new_file options.now)) }
     {
         let readers = places(alloc)?;
         let (session, image) = create(alloc, options)?;
@@ -113,8 +115,8 @@ impl World {
 
     /// Does what an event asks, and answers. The reply is lawful in each state that fits the world, and the state after
     /// it fits the world then; to each log for which the world stood the event was added, unless it was refused. What an
-    /// error leaves is as before, but that a look's call is taken away; memory is not wanted for what is refused, nor for a
-    /// piece that becomes visible.
+    /// error leaves is as before, but that a look's call is taken away, and that a flush may have held more blocks of the index;
+    /// memory is not wanted for what is refused, but maybe for want of a place, nor for a piece that becomes visible.
     pub fn step(&mut self, event: Event) -> Result<Reply, OutOfMemory>
         requires { IsHeard event }
         ensures lawful { IfOk result (λ reply. (s : ScriptState) → HaveOneLog self.old s → Allowed (rules_of self.old) s (line_of event) reply × HaveOneLog self.new (next_state (rules_of self.old) s (line_of event) reply)) }
@@ -163,7 +165,7 @@ impl World {
     fn flush(&mut self) -> Result<Reply, OutOfMemory>
         ensures steps { IfOk result (λ reply. Steps self.old Event.Flush reply self.new) }
         ensures logged { IfOk result (λ reply. (log : Log) → StandsFor self.old log → StandsFor self.new (logged self.old Event.Flush reply log)) }
-        ensures kept { OnErr result (self.new ≡ self.old) }
+        ensures kept { OnErr result (HoldsMore self.old self.new) }
         ensures memory { OnErr result (MayWantMemory self.old Event.Flush) }
     {
         match self.session.flush(&mut self.image) {

@@ -1,8 +1,8 @@
-ghost use Rattle.std.specs.Prelude.{◌≡◌, ◌≢◌, ℕ, ◌+◌, ◌<◌, ◌^◌, IsTrue, IfErr, IfOk, OnErr, OnOk, length};
+ghost use Rattle.std.specs.Prelude.{◌≡◌, ◌≢◌, ℕ, ◌+◌, ◌<◌, ◌≤◌, ◌^◌, IsTrue, IfErr, IfOk, OnErr, OnOk, length};
 ghost use Rattle.h5w_model.specs.Numbers.{undefined};
 ghost use Rattle.h5w_cache.specs.Plans.{HasNoRoom, IfFull};
 ghost use Rattle.h5w_cache.specs.Starts.{IsBegun, copy_pieces, in_place_pieces};
-ghost use Rattle.h5w_cache.specs.Stores.{is_changed};
+ghost use Rattle.h5w_cache.specs.Stores.{is_changed, times};
 ghost use Rattle.h5w_array_laws.specs.Parts.{header, holder, index_block, number_of};
 ghost use Rattle.h5w_array_laws.specs.ArrayStores.{IsArray, IsCreated, IsNumbered, bytes_at_part, map_of};
 ghost use Rattle.h5w_array_laws.specs.ArrayImages.{StartsArray};
@@ -125,6 +125,8 @@ impl ArrayIndex {
         ensures begun { IfOk result (λ b. IsBegun self.now.blocks self.now.places self.now.changed places.now b) }
         // the first block in turn that has no room
         ensures full { IfErr result (λ e. IfFull e (HasNoRoom self.now.blocks self.now.places self.now.changed places.now)) }
+        // no block is listed twice
+        ensures once { (n : ℕ) → times n self.now.changed ≤ 1 }
         ensures array { IsArray self.now }
         ensures numbered { IsNumbered self.now }
     {

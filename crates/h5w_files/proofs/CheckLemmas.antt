@@ -1,6 +1,6 @@
 -- What a check of a file tells.
-use Rattle.std.proofs.Common.{◌≡◌, ◌≤◌, ◌⊎◌, ℕ, true, ◌∷◌, ◌++◌, List, [], length, append_assoc, append-nil, Option, Some, None, Result, Ok, Err, refl, sym, ap, ◌∙◌, subst, inl, inr, arith}
-use Rattle.std.specs.Prelude.{IfSome, IsSome, IfErr, IsTrue, OnOk, codes, flat_map, option_map}
+use Rattle.std.proofs.Common.{◌≡◌, ◌≤◌, ℕ, true, ◌∷◌, ◌++◌, List, [], length, append_assoc, append-nil, Option, Some, None, Result, Ok, Err, refl, sym, ap, ◌∙◌, subst, arith}
+use Rattle.std.specs.Prelude.{IfSome, IsSome, IsTrue, OnOk, codes, flat_map, option_map}
 use Rattle.h5w_text.specs.Replies.{spaced}
 use Rattle.h5w_text.specs.Table.{numbers_text}
 use Rattle.h5w_model.specs.Causes.{Rose}
@@ -9,7 +9,7 @@ use Rattle.h5w_model.specs.Tables.{format_limits}
 use Rattle.h5w_model.specs.Datasets.{refused_as}
 use Rattle.h5w_model.specs.Findings.{Finding, Summary, check, found, overlap}
 use Rattle.h5w_image.specs.View.{DiskState, DiskView, IsThere, Leaves, Looked, file}
-use Rattle.h5w_check.specs.Ran.{Tells, seen}
+use Rattle.h5w_check.specs.Ran.{Tells}
 use Rattle.h5w_check.specs.Verdicts.{summary_of}
 use Rattle.h5w_check.specs.declared.error.Summary as checked
 use Rattle.h5w_check.specs.declared.error.CheckError.{CheckError}
@@ -23,8 +23,8 @@ use Rattle.h5w_text.specs.declared.error.ErrorLine.TheVariants as errors
 use Rattle.h5w_text.specs.declared.status.Status.{Status}
 use Rattle.h5w_text.specs.declared.status.Status.TheVariants as statuses
 use Rattle.h5w_files.specs.Images.{LeavesFiles, file_image, told_bytes}
-use Rattle.h5w_files.specs.Ends.{IsGivenBy, EndsWell, EndsBy}
-use Rattle.h5w_files.specs.Checks.{CheckEnds, ChecksTo, IsOfCheck, check_line, check_of, check_text, finding_line, summary_seen, valid_text}
+use Rattle.h5w_files.specs.Ends.{IsGivenBy, EndsWell}
+use Rattle.h5w_files.specs.Checks.{CheckEnds, ChecksTo, IsOfCheck, check_line, check_of, finding_line, valid_text}
 use Rattle.h5w_files.proofs.EndLemmas.{completes, ends_done, ends_error}
 use Rattle.h5w_files.proofs.ClearLemmas.{any_told, leaves_files, none_of}
 

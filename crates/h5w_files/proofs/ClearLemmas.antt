@@ -1,5 +1,5 @@
 -- What a clearing finds and leaves.
-use Rattle.std.proofs.Common.{◌≡◌, ◌≢◌, ◌⊎◌, ℕ, ◌+◌, ◌-◌, ◌*◌, ◌/◌, ◌%◌, ◌≤◌, ◌<◌, ◌^◌, Bool, true, false, cond, List, [], ◌∷◌, ◌++◌, length, take, drop, Option, Some, None, Result, Ok, Err, refl, sym, ap, ap₂, ◌∙◌, subst, inl, inr, arith, append_assoc, length-append, length-drop}
+use Rattle.std.proofs.Common.{◌≡◌, ◌≢◌, ◌⊎◌, ℕ, ◌+◌, ◌-◌, ◌%◌, ◌≤◌, ◌<◌, List, [], ◌∷◌, ◌++◌, length, take, drop, Option, Some, None, Result, Ok, Err, refl, sym, ap, ap₂, ◌∙◌, subst, inl, inr, arith, append_assoc, length-append, length-drop}
 use Rattle.std.specs.Prelude.{◌==◌, IfSome, IsSome, IfErr, OnOk, option_map}
 use Rattle.std.specs.Option.{unwrap_or}
 use Rattle.std.proofs.lemmas.Bool.{cond-true, cond-false, eq-eqb, ne_eqb}
@@ -18,7 +18,7 @@ use Rattle.h5w_text.specs.declared.error.ErrorLine.TheVariants as errors
 use Rattle.h5w_text.specs.declared.status.Status.{Status}
 use Rattle.h5w_text.specs.declared.status.Status.TheVariants as statuses
 use Rattle.h5w_files.specs.Images.{LeavesFiles}
-use Rattle.h5w_files.specs.Ends.{IsGivenBy, EndsWell, EndsBy}
+use Rattle.h5w_files.specs.Ends.{IsGivenBy, EndsWell}
 use Rattle.h5w_files.specs.Clears.{ClearEnds, ClearsTo, FindsFlags, Puts, IsOfClear, after_clear, clear_text, cleared, cleared_file, flagged, flags_at, flags_of}
 use Rattle.h5w_files.proofs.EndLemmas.{answers_same, completes, ends_done, ends_error}
 

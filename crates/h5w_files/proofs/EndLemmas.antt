@@ -1,9 +1,9 @@
 -- How commands end.
-use Rattle.std.proofs.Common.{◌≡◌, ◌⊎◌, ℕ, List, [], ◌++◌, Option, Some, None, Result, Ok, Err, refl, sym, ap, ◌∙◌, subst, inl, inr}
+use Rattle.std.proofs.Common.{◌≡◌, ◌⊎◌, ℕ, List, Option, Result, Ok, Err, refl, ◌∙◌, subst, inl, inr}
 use Rattle.std.specs.Prelude.{IfSome}
 use Rattle.h5w_model.specs.Causes.{Rose}
-use Rattle.h5w_image.specs.View.{DiskState, DiskView, file}
-use Rattle.h5w_text.specs.Streams.{SinkView, Gave}
+use Rattle.h5w_image.specs.View.{DiskView, file}
+use Rattle.h5w_text.specs.Streams.{SinkView}
 use Rattle.h5w_text.specs.Says.{Said, SaidUnlessMemory, whole, failed}
 use Rattle.h5w_text.specs.Errors.{error_text}
 use Rattle.h5w_text.specs.Statuses.{status_of}

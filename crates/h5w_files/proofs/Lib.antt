@@ -2,3 +2,9 @@ pub mod EndLemmas
 pub mod ClearLemmas
 pub mod CheckLemmas
 pub mod ImageLemmas
+pub mod SinkLemmas
+pub mod AnsweringLemmas
+pub mod PollLemmas
+pub mod OnceLemmas
+pub mod TimesLemmas
+pub mod PollEndLemmas

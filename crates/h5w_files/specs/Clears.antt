@@ -1,12 +1,11 @@
 -- What the clearing of a file's flags tells, and what it leaves.
-use Rattle.std.specs.Prelude.{◌≡◌, ℕ, ◌+◌, ◌-◌, ◌*◌, ◌/◌, ◌%◌, ◌≤◌, ◌⊎◌, List, [], ◌∷◌, ◌++◌, length, take, drop, codes, ◌==◌, if◌then◌else◌, Option, Some, None, IfSome, IfErr, OnOk, OnErr, Result, Ok, Err, option_map, unwrap_or}
+use Rattle.std.specs.Prelude.{◌≡◌, ℕ, ◌-◌, ◌*◌, ◌/◌, ◌%◌, ◌≤◌, ◌⊎◌, List, [], ◌∷◌, ◌++◌, length, take, codes, ◌==◌, if◌then◌else◌, Option, Some, None, IfSome, IfErr, OnOk, OnErr, Result, Ok, Err, option_map, unwrap_or}
 use Rattle.h5w_model.specs.Causes.{Rose}
 use Rattle.h5w_model.specs.Numbers.{range}
 use Rattle.h5w_model.specs.Checksum.{sealed_block}
 use Rattle.h5w_model.specs.Superblock.{super_at}
 use Rattle.h5w_model.specs.Datasets.{refused_as, super_refusal, then_also}
 use Rattle.h5w_model.specs.declared.refusal.SuperError.{SuperError}
-use Rattle.h5w_model.specs.declared.root.Super.{Super}
 use Rattle.h5w_image.specs.View.{DiskState, DiskView, IsThere, file, put}
 use Rattle.h5w_text.specs.Errors.{error_text}
 use Rattle.h5w_text.specs.Streams.{SinkView}

@@ -11,7 +11,7 @@ use Rattle.h5w_model.specs.declared.piece.Write.{Write}
 use Rattle.h5w_model.proofs.ImageLemmas.{image-push, image-grows}
 use Rattle.h5w_visits.specs.Ranges.{Among, AreApart}
 use Rattle.h5w_visits.proofs.RangeLemmas.{among_left, among_right, among_split}
-use Rattle.h5w_space.specs.Space.{Space, IsLive, Commits}
+use Rattle.h5w_space.specs.Space.{Space, IsLive}
 use Rattle.h5w_header_laws.specs.Files.{chunk_0, commit_at, LayoutInChunk0}
 use Rattle.h5w_steps.specs.Moments.{Moment, all_used, Represents}
 use Rattle.h5w_steps.specs.Steps.{Step}
@@ -23,7 +23,7 @@ use Rattle.h5w_steps.proofs.PlanLaws.{flush_from, flush_leads}
 use Rattle.h5w_flush_laws.specs.Spaces.{extent_of}
 use Rattle.h5w_flush_laws.specs.Knowledge.{IsMap, Knows}
 use Rattle.h5w_flush_laws.specs.Parts.{Parts, fresh_of, block_writes, committed, flushed_to, early_of, pieces_of, copied, ended, IsFlush}
-use Rattle.h5w_flush_laws.specs.Flushes.{FlushSafe, KnowsAgain}
+use Rattle.h5w_flush_laws.specs.Flushes.{FlushSafe, FreedKnown, KnowsAgain, KnowsThen}
 use Rattle.h5w_flush_laws.proofs.SpaceLemmas.{have_no_byte, committed_live}
 use Rattle.h5w_flush_laws.proofs.PartLemmas.{fresh_off}
 use Rattle.h5w_flush_laws.proofs.EarlyLemmas.{Stage, stages_join}
@@ -119,10 +119,9 @@ module _ (img name : List ℕ) (m : Moment) (old : Key → ℕ) (s t : Space) (f
       go cut (inl e) = apart_sym u l (subst (λ (x : Used). AreApart x l) e ((parts_of m k.file.apart).super l (among_right l m.root (m.header ++ (m.fixed ++ m.behind)) (among_right l m.header (m.fixed ++ m.behind) own))))
       go cut (inr b) = rest (cut b)
 
-  pub live_after : (v : Space) → Commits t v → (u : Used) → Among u (all_used (flushed_to m f)) → IsLive v (extent_of u)
-  live_after v c u a =
-      committed_live t v c (extent_of u)
-      (i.let_go.stays_live (extent_of u) (taken (among_split u (fresh_of f) (all_used m) (after_among img name m old s t f k i u a))) (λ l gone. have_no_byte l u (left_off l u gone a)))
+  pub live_after : (u : Used) → Among u (all_used (flushed_to m f)) → IsLive t (extent_of u)
+  live_after u a =
+      i.let_go.stays_live (extent_of u) (taken (among_split u (fresh_of f) (all_used m) (after_among img name m old s t f k i u a))) (λ l gone. have_no_byte l u (left_off l u gone a))
     where
       taken : Among u (fresh_of f) ⊎ Among u (all_used m) → IsLive i.between (extent_of u)
       taken (inl b) = i.taken.live u b
@@ -136,23 +135,43 @@ module _ (img name : List ℕ) (m : Moment) (old : Key → ℕ) (s t : Space) (f
       was None a n h = h
       was (Some x) a n h = n.0
 
-  pub known : (v : Space) → Commits t v → Knows (image img (pieces_of img m f)) name (flushed_to m f) f.address v
-  known v c =
+  pub known : Knows (image img (pieces_of img m f)) name (flushed_to m f) f.address t
+  known =
       let now : List ℕ = apply (commit_at (last_image img f) m.place f.rows f.named) (last_image img f) in
       let file : Represents now name (flushed_to m f) =
       subst (λ (x : List ℕ). Represents x name (flushed_to m f)) final_image (flush_leads img name m (flushed_to m f) m.behind f.behind (pieces_of img m f) k.file safe) in
-      let same_end : v.end ≡ f.end = c.end ∙ i.let_go.end ∙ sym i.end in
-      subst (λ (x : List ℕ). Knows x name (flushed_to m f) f.address v) (sym final_image) (record {
+      let same_end : t.end ≡ f.end = i.let_go.end ∙ sym i.end in
+      subst (λ (x : List ℕ). Knows x name (flushed_to m f) f.address t) (sym final_image) (record {
         file = file;
         index = map_after;
-        live = live_after v c;
+        live = live_after;
         ended = omega (arith, same_end);
         covered = omega (arith, same_end, last_fits, image-grows (last_image img f) (commit_at (last_image img f) m.place f.rows f.named ∷ []));
         layout = layout_after;
       })
 
+  -- chunk 0 of the header is what its piece wrote
+  pub header_then : chunk_0 (image img (pieces_of img m f)) m.place ≡ with_rows_bytes (chunk_0 img m.place) f.rows f.named
+  header_then =
+      ap (λ (x : List ℕ). chunk_0 x m.place) final_image
+      ∙ before.now
+      ∙ ap (λ (b : List ℕ). with_rows_bytes b f.rows f.named) same_chunk
+
 pub flush_safe : FlushSafe
 flush_safe img name m old s t f k i = safe img name m old s t f k i
 
+pub knows_then : KnowsThen
+knows_then img name m old s t f k i = record { knows = known img name m old s t f k i; header = header_then img name m old s t f k i }
+
+pub freed_known : FreedKnown
+freed_known img name m address t v c k = record {
+  file = k.file;
+  index = k.index;
+  live = λ u among. committed_live t v c (extent_of u) (k.live u among);
+  ended = omega (arith, k.ended, c.end);
+  covered = omega (arith, k.covered, c.end);
+  layout = k.layout;
+}
+
 pub knows_again : KnowsAgain
-knows_again img name m old s t v f k i c = known img name m old s t f k i v c
+knows_again img name m old s t v f k i c = freed_known (image img (pieces_of img m f)) name (flushed_to m f) f.address t v c (known img name m old s t f k i)

@@ -18,7 +18,7 @@ use Rattle.h5w_visits.proofs.RangeLemmas.{among_left}
 use Rattle.h5w_visits.proofs.IndexLaws.{index_as}
 use Rattle.h5w_visits.proofs.NeededLaws.{by_blocks}
 use Rattle.h5w_space.specs.Space.{Space}
-use Rattle.h5w_header_laws.specs.Files.{commit_at, LayoutInChunk0}
+use Rattle.h5w_header_laws.specs.Files.{chunk_0, commit_at, LayoutInChunk0}
 use Rattle.h5w_header_laws.proofs.FileLaws.{growing_header, starting_header}
 use Rattle.h5w_header_laws.proofs.StepLaws.{growing_step, starting_step}
 use Rattle.h5w_steps.specs.Moments.{Moment, Represents, HasCells}
@@ -55,6 +55,7 @@ pub record Before (img name : List ℕ) (m : Moment) (f : Parts) : Type 0 where
   pub says : SaysInPlace (last_image img f) (committed m.dataset f.rows f.named) f.blocks f.fixed
   pub stands : BehindBy (last_image img f) f.end m.dataset f.blocks f.behind f.address
   pub layout : LayoutInChunk0 (last_image img f) m.place → LayoutInChunk0 (apply (commit_at (last_image img f) m.place f.rows f.named) (last_image img f)) m.place
+  pub now : chunk_0 (apply (commit_at (last_image img f) m.place f.rows f.named) (last_image img f)) m.place ≡ (commit_at (last_image img f) m.place f.rows f.named).piece
 
 -- ---- The rows rise, and the index is named already
 
@@ -81,6 +82,7 @@ grows img name m old s t f k i held stage says stands cells =
       says = says;
       stands = stands;
       layout = header.layout;
+      now = header.now;
     }
 
 -- without a piece in place the index is as it was
@@ -150,6 +152,7 @@ starts img name m old s t f a k i =
       says = says;
       stands = stands;
       layout = header.layout;
+      now = header.now;
     }
 
 -- an index without an address has no blocks in place

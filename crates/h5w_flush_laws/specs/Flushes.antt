@@ -2,6 +2,7 @@
 use Rattle.std.specs.Prelude.{◌≡◌, ℕ, ◌*◌, ◌^◌, ◌<◌, ◌≤◌, List, [], ◌∷◌, ◌++◌, length, None, ℤ}
 use Rattle.h5w_model.specs.Numbers.{undefined}
 use Rattle.h5w_model.specs.Images.{apply, image}
+use Rattle.h5w_model.specs.Headers.{with_rows_bytes}
 use Rattle.h5w_model.specs.Logs.{Log, appends, plans, shows, appended, and_now}
 use Rattle.h5w_model.specs.Tables.{InPlace}
 use Rattle.h5w_model.specs.Findings.{Used}
@@ -9,7 +10,7 @@ use Rattle.h5w_model.specs.declared.cell.Key.{Key}
 use Rattle.h5w_model.specs.declared.piece.Write.{Write}
 use Rattle.h5w_visits.specs.Needed.{AreFew}
 use Rattle.h5w_space.specs.Space.{Space, Commits}
-use Rattle.h5w_header_laws.specs.Files.{with_rows, LayoutInChunk0}
+use Rattle.h5w_header_laws.specs.Files.{chunk_0, with_rows, LayoutInChunk0}
 use Rattle.h5w_steps.specs.Moments.{Moment, Represents}
 use Rattle.h5w_steps.specs.Steps.{Ends}
 use Rattle.h5w_steps.specs.Logs.{image_now}
@@ -39,7 +40,20 @@ abbrev pub FlushSafe : Type 0
 FlushSafe = (img name : List ℕ) (m : Moment) (old : Key → ℕ) (s t : Space) (f : Parts) → Knows img name m old s → IsFlush img m old s f t
     → Flush img m m.behind (pieces_of img m f) (flushed_to m f) f.behind
 
--- once all are shown, and what was let go is free, the file is known as before
+-- Once all are shown the file is known as before, with the places as the flush left them: what was let go is not free yet. Chunk 0 of
+-- the dataset header is the one before with the new rows, and with the index's address where the header names it for the first time.
+pub record IsKnownThen (img name : List ℕ) (m : Moment) (t : Space) (f : Parts) : Type 0 where
+  pub knows : Knows (image img (pieces_of img m f)) name (flushed_to m f) f.address t
+  pub header : chunk_0 (image img (pieces_of img m f)) m.place ≡ with_rows_bytes (chunk_0 img m.place) f.rows f.named
+
+abbrev pub KnowsThen : Type 0
+KnowsThen = (img name : List ℕ) (m : Moment) (old : Key → ℕ) (s t : Space) (f : Parts) → Knows img name m old s → IsFlush img m old s f t → IsKnownThen img name m t f
+
+-- a known file stays known where what was let go becomes free
+abbrev pub FreedKnown : Type 0
+FreedKnown = (img name : List ℕ) (m : Moment) (address : Key → ℕ) (t v : Space) → Commits t v → Knows img name m address t → Knows img name m address v
+
+-- so it is once all are shown, and what was let go is free
 abbrev pub KnowsAgain : Type 0
 KnowsAgain = (img name : List ℕ) (m : Moment) (old : Key → ℕ) (s t v : Space) (f : Parts) → Knows img name m old s → IsFlush img m old s f t → Commits t v
     → Knows (image img (pieces_of img m f)) name (flushed_to m f) f.address v

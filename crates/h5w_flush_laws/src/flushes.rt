@@ -1,7 +1,7 @@
 //! A flush, and a session over its log.
 
 ghost use Rattle.h5w_flush_laws.specs.Knowledge.{FileOnce};
-ghost use Rattle.h5w_flush_laws.specs.Flushes.{BeginKnows, EarlyBlocks, EndKnown, FlushSafe, KnowsAgain, RowsAloneFlush, SessionLaws};
+ghost use Rattle.h5w_flush_laws.specs.Flushes.{BeginKnows, EarlyBlocks, EndKnown, FlushSafe, FreedKnown, KnowsAgain, KnowsThen, RowsAloneFlush, SessionLaws};
 
 /// In a file no two keys have one chunk, whatever the index and whoever made it.
 pub fn file_once()
@@ -18,7 +18,17 @@ pub fn flush_safe()
     ensures { FlushSafe }
 {}
 
-/// Once all pieces are shown the file is known as before.
+/// Once all pieces are shown the file is known as before, and its header is the one before with the new rows.
+pub fn knows_then()
+    ensures { KnowsThen }
+{}
+
+/// A known file stays known where what was let go becomes free.
+pub fn freed_known()
+    ensures { FreedKnown }
+{}
+
+/// Once all pieces are shown and what was let go is free, the file is known as before.
 pub fn knows_again()
     ensures { KnowsAgain }
 {}

@@ -9,8 +9,8 @@ mod rows;
 mod spaces;
 
 pub use flushes::{
-    begin_knows, early_blocks, end_known, file_once, flush_safe, knows_again, rows_alone_flush,
-    session_laws,
+    begin_knows, early_blocks, end_known, file_once, flush_safe, freed_known, knows_again,
+    knows_then, rows_alone_flush, session_laws,
 };
 pub use rows::{new_chunks_more, rows_anywhere, rows_flush};
 pub use spaces::{committed_live, copy_laws, move_laws, taken_laws};

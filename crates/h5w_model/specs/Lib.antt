@@ -17,7 +17,6 @@ pub mod Datasets
 pub mod Tables
 pub mod Findings
 pub mod Prefixed
-pub mod Options
 pub mod Lawful
 pub mod Causes
 pub mod Calls

@@ -9,6 +9,7 @@ use Rattle.h5w_model.specs.Images.{At, Holds, apply, image}
 use Rattle.h5w_model.specs.Programs.{eval, visits}
 use Rattle.h5w_model.specs.Superblock.{super_bytes}
 use Rattle.h5w_model.specs.Headers.{header_bytes}
+use Rattle.h5w_model.specs.Datasets.{root_header, root_view}
 use Rattle.h5w_model.specs.Logs.{div_up}
 use Rattle.h5w_model.specs.Tables.{chunks_across, format_limits, in_place, limit_of, needed, needed_keys, table_of}
 use Rattle.h5w_model.specs.Findings.{Used, checked_super, chunk_bytes}
@@ -22,7 +23,7 @@ use Rattle.h5w_visits.specs.Ranges.{AllEndBy, Among, Disjoint, block_at, blocks_
 use Rattle.h5w_visits.specs.Indexes.{IsIndex}
 use Rattle.h5w_visits.proofs.IndexLaws.{index_of_parts}
 use Rattle.h5w_array_laws.specs.ArrayStores.{behind_of, blocks_in_place, fixed_of}
-use Rattle.h5w_array_laws.specs.ArrayImages.{BehindStands, IsRead, SaysArray, StartsArray}
+use Rattle.h5w_array_laws.specs.ArrayImages.{BehindStands, IsRead, SaysArray, StandsArray, StartsArray}
 use Rattle.h5w_array_laws.proofs.CreatedLemmas.{created_stands, created_starts}
 use Rattle.h5w_array_laws.proofs.FoundLemmas.{address_found}
 use Rattle.h5w_array_laws.proofs.VisitedLemmas.{visited}
@@ -33,11 +34,11 @@ use Rattle.h5w_header_laws.specs.Spelled.{IsSpellable, StandsSpelled, spelled_he
 use Rattle.h5w_header_laws.proofs.SpelledLemmas.{spelled_stands}
 use Rattle.h5w_steps.specs.Moments.{Moment, Represents, all_used}
 use Rattle.h5w_flush_laws.specs.Knowledge.{IsMap}
-use Rattle.h5w_session.specs.Creations.{IsNewFile, NewFile, array_place, array_write, creation_writes, first_end, header_place, header_write, index_place, index_write, new_dataset, new_super, root_messages, root_place, root_write, super_write}
-use Rattle.h5w_session.proofs.ArrayStarts.{new_array, new_array_is}
+use Rattle.h5w_session.specs.Creations.{IsNewFile, NewFile, array_place, array_write, creation_writes, first_end, header_place, header_write, index_place, index_write, new_array, new_dataset, new_super, root_messages, root_place, root_write, super_write}
+use Rattle.h5w_session.proofs.ArrayStarts.{new_array_is}
 use Rattle.h5w_session.proofs.CreationLemmas.{Lengths, lengths, length_array, length_index, length_layout}
 use Rattle.h5w_session.proofs.Looks.{look_at}
-use Rattle.h5w_session.proofs.RootReads.{root_checked}
+use Rattle.h5w_session.proofs.RootReads.{root_checked, root_visits}
 use Rattle.h5w_session.proofs.StateLemmas.{up_few}
 
 -- the file without rows
@@ -63,14 +64,14 @@ abbrev block_of_write : Write → ℕ × List ℕ
 block_of_write w = (w.at, w.piece)
 
 -- how long its blocks are, and where they stand
-record Sizes (f : NewFile) : Type 0 where
-  lens : Lengths f
-  array : length (array_write (array_place f) (index_place f)).piece ≡ 72
-  index : length (index_write (array_place f) (index_place f)).piece ≡ 298
-  short : length f.name ≤ 64
-  end : first_end f ≤ 700
+pub record Sizes (f : NewFile) : Type 0 where
+  pub lens : Lengths f
+  pub array : length (array_write (array_place f) (index_place f)).piece ≡ 72
+  pub index : length (index_write (array_place f) (index_place f)).piece ≡ 298
+  pub short : length f.name ≤ 64
+  pub end : first_end f ≤ 700
 
-sizes : (f : NewFile) → IsNewFile f → Sizes f
+pub sizes : (f : NewFile) → IsNewFile f → Sizes f
 sizes f is =
     let l = lengths f is in
     record {
@@ -80,6 +81,9 @@ sizes f is =
       short = is.name_bound;
       end = omega (arith, is.name_bound, l.width, l.fill);
     }
+
+pub first_end_small : (f : NewFile) → IsNewFile f → first_end f ≤ 700
+first_end_small f is = (sizes f is).end
 
 -- each of the blocks is behind those that are written after it
 created_holds : (f : NewFile) → Sizes f → Holds (new_image f)
@@ -144,12 +148,12 @@ super_checked f img small st =
     ap (checked_super (length img)) (look_at img 0 48 (super_bytes (new_super f)) st.super_there (length-super_bytes (new_super f)))
     ∙ rw (super_at-super_bytes (new_super f) refl (omega arith) (omega arith), le-ltb (length img) (first_end f) st.size) refl
 
-no_chunks : (f : NewFile) → IsNewFile f → needed (new_dataset f) ≡ 0
+pub no_chunks : (f : NewFile) → IsNewFile f → needed (new_dataset f) ≡ 0
 no_chunks f is =
     let bands : div_up 0 f.chunk_rows ≡ 0 = omega (arith, up_few 0 f.chunk_rows is.some_rows) in
     ap (λ (n : ℕ). n * chunks_across (new_dataset f)) bands ∙ omega arith
 
-spellable : (f : NewFile) → IsNewFile f → Sizes f → IsSpellable (new_dataset f)
+pub spellable : (f : NewFile) → IsNewFile f → Sizes f → IsSpellable (new_dataset f)
 spellable f is z =
     let size = int_size_bounds f.int_type.size is.typed in
     let layout = length_layout f size.0 in
@@ -175,6 +179,7 @@ header_stands f img is z st =
 
 record IndexStands (f : NewFile) (img : List ℕ) : Type 0 where
   says : SaysArray (new_array (array_place f) (index_place f)) (new_dataset f) img
+  stands : StandsArray (new_array (array_place f) (index_place f)) img
   starts : StartsArray (new_array (array_place f) (index_place f))
   read : IsRead (new_array (array_place f) (index_place f)) img
 
@@ -190,11 +195,12 @@ index_stands f img z st =
     let behind : BehindStands v img = λ n placed below. absurd (none_is (block_of v n) (c.none n (λ e. absurd (omega (arith, e))) (λ e. absurd (omega (arith, e)))).0 placed.kept) in
     record {
       says = standing_says v img (new_dataset f) starts.array c.changed stands refl (sym c.header_at);
+      stands = stands;
       starts = starts;
       read = record { visited = visited v img starts.array c.changed behind; found = address_found v img starts.array c.changed behind };
     }
 
-fixed_are : (f : NewFile) → fixed_of (new_array (array_place f) (index_place f)) ≡ (new_moment f).fixed
+pub fixed_are : (f : NewFile) → fixed_of (new_array (array_place f) (index_place f)) ≡ (new_moment f).fixed
 fixed_are f =
     let c = new_array_is (array_place f) (index_place f) in
     ap (λ (p : ℕ). block_at p 72 ∷ block_at (place_of (new_array (array_place f) (index_place f)) 845) 298 ∷ []) c.header_at
@@ -254,8 +260,11 @@ no_keys f is =
 pub record IsCreatedFile (f : NewFile) (img : List ℕ) : Type 0 where
   pub represents : Represents img f.name (new_moment f)
   pub index : IsMap img (new_dataset f) (λ key. undefined)
+  pub stands : StandsArray (new_array (array_place f) (index_place f)) img
   pub chunk : chunk_0 img (header_place f) ≡ spelled_header (new_dataset f)
   pub layout : LayoutInChunk0 img (header_place f)
+  -- the root header is one look
+  pub root : visits img (root_header root_place) ≡ record { place = root_place; len = 512; counts = root_view } ∷ []
 
 pub created_file : (f : NewFile) → IsNewFile f → IsCreatedFile f (new_image f)
 created_file f is =
@@ -277,6 +286,8 @@ created_file f is =
         cells = λ k below. absurd (omega arith);
       };
       index = record { blocks = blocks_in_place (new_array (array_place f) (index_place f)); read = s.says.says; answers = λ key named. s.read.found key (named refl) ∙ ap (λ (n : ℕ). Ok n) (s.starts.map key.i) };
+      stands = s.stands;
       chunk = h.chunk;
       layout = h.layout;
+      root = root_visits img f.name (header_place f) is.name_bound st.root;
     }

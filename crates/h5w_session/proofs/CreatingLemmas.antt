@@ -5,6 +5,7 @@ use Rattle.std.proofs.lemmas.Nat.{div-mul-add}
 use Rattle.std.specs.List.Sorted.{IsPermutation}
 use Rattle.std.proofs.lemmas.List.Sorted.{length_permutation}
 use Rattle.h5w_model.specs.Numbers.{undefined}
+use Rattle.h5w_model.specs.Findings.{chunk_bytes}
 use Rattle.h5w_model.specs.Images.{image}
 use Rattle.h5w_model.specs.Logs.{Log, Happening, appends, plans, shows, hist, shown, appended, appended_in, flushed, flushed_in, flushed_rows, rows_in, and_now}
 use Rattle.h5w_model.specs.Datasets.{Described}
@@ -17,12 +18,18 @@ use Rattle.h5w_space.specs.declared.Extent.{Extent}
 use Rattle.h5w_steps.specs.Logs.{image_now}
 use Rattle.h5w_steps.proofs.GoesLemmas.{begin_goes, reads_now}
 use Rattle.h5w_steps.proofs.SessionLaws.{goes_runs}
+use Rattle.h5w_array_laws.proofs.CreatedLemmas.{created_starts}
 use Rattle.h5w_flush_laws.proofs.KnownLaws.{begin_knows}
 use Rattle.h5w_session.specs.Sessions.{Session, AfterPiece, Freed, rows_of}
-use Rattle.h5w_session.specs.Creations.{IsNewFile, NewFile, created, creation_writes, first_end, new_dataset, places_to}
-use Rattle.h5w_session.specs.Stands.{Creating, Running, Stands, log_of}
-use Rattle.h5w_session.proofs.CreatedLemmas.{IsCreatedFile, created_file, new_image, new_moment}
-use Rattle.h5w_session.proofs.StandLemmas.{goes_rows, last_running, left_pending, more_running, settled, with_pending}
+use Rattle.h5w_session.specs.Creations.{IsNewFile, NewFile, array_place, created, creation_writes, first_end, index_place, log_of, new_array, new_dataset, places_to}
+use Rattle.h5w_session.specs.Indexes.{IsIndexed}
+use Rattle.h5w_session.specs.Stands.{Creating, Running, Stands}
+use Rattle.h5w_session.proofs.ArrayStarts.{new_array_is}
+use Rattle.h5w_session.proofs.CreatedLemmas.{IsCreatedFile, created_file, first_end_small, fixed_are, new_image, new_moment, no_chunks}
+use Rattle.h5w_session.proofs.CreationLemmas.{created_pieces}
+use Rattle.h5w_session.proofs.IndexLemmas.{clean_marks, created_standing}
+use Rattle.h5w_session.proofs.PastLemmas.{past_begins, past_same}
+use Rattle.h5w_session.proofs.StandLemmas.{freed_keeps, goes_rows, last_running, left_pending, more_running, settled, with_pending}
 
 -- ---- Before the first position
 
@@ -39,12 +46,12 @@ none_still name log few k low high = absurd (omega (arith, length_hist log.event
 some_is : (w : Write) (ws : List Write) → w ∷ ws ≡ [] → ⊥
 some_is w ws e = cc
 
-some_length : (ws : List Write) → ws ≢ [] → 0 < length ws
+pub some_length : (ws : List Write) → ws ≢ [] → 0 < length ws
 some_length [] some = absurd (some refl)
 some_length (w ∷ ws) some = omega arith
 
 -- of a file's five pieces so many were shown
-shown_so_far : (f : NewFile) (es : List Happening) (left : List Write) → hist es ++ left ≡ creation_writes f → shown es + length left ≡ 5
+pub shown_so_far : (f : NewFile) (es : List Happening) (left : List Write) → hist es ++ left ≡ creation_writes f → shown es + length left ≡ 5
 shown_so_far f es left pieces =
     let count : length (hist es ++ left) ≡ 5 = ap length pieces in
     omega (arith, length_hist es, length-append (hist es) left)
@@ -100,6 +107,26 @@ no_cells : (d : Described) → [] ≡ cells_of d []
 unfolding cells_of
 no_cells d = refl
 
+-- the array of a new file, with its places
+new_indexed : (f : NewFile) (img : List ℕ) (t : Space) → IsNewFile f → IsCreatedFile f img → t.end ≡ first_end f → t.free ≡ [] → t.retired ≡ [] → IsIndexed img (new_moment f) (λ key. undefined) t (new_array (array_place f) (index_place f))
+new_indexed f img t is made ends none_free none_retired =
+    let at = array_place f in
+    let place = index_place f in
+    let v = new_array at place in
+    let c = new_array_is at place in
+    let small = first_end_small f is in
+    let starts = created_starts at place v c (omega arith) (omega arith) in
+    record {
+      kind = refl;
+      at = sym c.header_at;
+      array = starts.array;
+      stands = made.stands;
+      standing = created_standing at place v t c (omega arith) (omega (arith, ends)) none_free none_retired;
+      fixed = sym (fixed_are f);
+      behind = sym (starts.behind (chunk_bytes (new_dataset f)));
+      map = λ key. sym (starts.map key.i);
+    }
+
 -- the last of them makes the file
 file_made : (f : NewFile) (ws : List Write) (stop keep : Bool) (w : Write) (es : List Happening) (t : Space) → IsNewFile f → Freed keep (places_to (first_end f) f.limit) t → hist es ++ w ∷ [] ≡ creation_writes f
     → appended_in es ≡ [] → ((k : ℕ) → flushed_in k [] es ≡ []) → Running (settled (creating f ws stop keep) t) [] (log_of (shows w ∷ es))
@@ -113,6 +140,7 @@ file_made f ws stop keep w es t is freed pieces none_appended none_flushed =
     let prefixed : PrefixedEach f.name next = ((λ begun. reads_now f.name next m made.represents none (omega arith) refl), none_read f.name next es (omega arith)) in
     let goes = begin_goes f.name next m (omega (arith, before)) made.represents none (omega arith) refl prefixed in
     let begun = places_begin keep (first_end f) f.limit t freed in
+    let kept = freed_keeps keep (places_to (first_end f) f.limit) t freed in
     record {
       after = m;
       address = λ key. undefined;
@@ -120,6 +148,8 @@ file_made f ws stop keep w es t is freed pieces none_appended none_flushed =
       knows = begin_knows (image_now next) f.name m (λ key. undefined) t made.represents made.index
           (record { end = begun.0; none_free = begun.1; none_retired = begun.2 }) (λ h. made.layout);
       keeps = record { root = refl; place = refl; dataset = refl; header = made.chunk };
+      index = new_indexed f (image_now next) t is made begun.0 begun.1 begun.2;
+      marks = clean_marks (new_dataset f) 0 0 (new_array (array_place f) (index_place f)) (new_array_is (array_place f) (index_place f)).changed;
       more = [];
       waiting = no_cells (new_dataset f);
       fit = refl;
@@ -127,6 +157,7 @@ file_made f ws stop keep w es t is freed pieces none_appended none_flushed =
       appended = sym none_appended;
       committed = goes_rows f.name next m [] goes;
       columns = refl;
+      past = past_begins f (settled (creating f ws stop keep) t) next m is refl pieces refl refl refl kept.1 kept.0 (first_end_small f is) (created_pieces f is).within made.represents (no_chunks f is);
     }
 
 creating_last : (f : NewFile) (s : Session) (w : Write) (log : Log) (t : Space) → Freed s.keeps s.places t → Creating f s (w ∷ []) log → Running (settled s t) [] (and_now (shows w) log)
@@ -199,6 +230,8 @@ keep_stands s log st = record {
       runs = r.runs;
       knows = r.knows;
       keeps = record { root = r.keeps.root; place = r.keeps.place; dataset = r.keeps.dataset; header = r.keeps.header };
+      index = r.index;
+      marks = r.marks;
       more = r.more;
       waiting = r.waiting;
       fit = r.fit;
@@ -206,6 +239,7 @@ keep_stands s log st = record {
       appended = r.appended;
       committed = r.committed;
       columns = r.columns;
+      past = past_same s (record s { keeps = true }) st.left log r.after (record { name = refl; place = refl; dataset = refl; limit = refl }) refl r.past;
     })
   ];
   prefixed = st.prefixed;

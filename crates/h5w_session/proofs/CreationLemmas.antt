@@ -1,5 +1,5 @@
 -- How long the blocks of a new file are, and that the session that creates it is one.
-use Rattle.std.proofs.Common.{◌≡◌, ℕ, ◌+◌, ◌-◌, ◌*◌, ◌^◌, ◌≤◌, max, List, [], ◌∷◌, ◌++◌, length, replicate, true, Option, Some, None, refl, ap, ◌∙◌, inl, inr, arith, length-append}
+use Rattle.std.proofs.Common.{◌≡◌, ℕ, ◌+◌, ◌-◌, ◌*◌, ◌^◌, ◌≤◌, max, List, [], ◌∷◌, ◌++◌, length, replicate, true, Option, Some, None, ℤ, refl, ap, sym, subst, ◌∙◌, inl, inr, arith, length-append}
 use Rattle.std.specs.List.{flat_map}
 use Rattle.std.specs.Option.{IfSome, option_map}
 use Rattle.std.proofs.lemmas.Bool.{cases_lt, le-leb}
@@ -8,32 +8,28 @@ use Rattle.h5w_model.specs.Numbers.{le, undefined, width_of}
 use Rattle.h5w_model.specs.Checksum.{sealed_block}
 use Rattle.h5w_model.specs.Headers.{header_bytes, msgs_bytes, prefix_bytes}
 use Rattle.h5w_model.specs.Links.{link_bytes, link_info_bytes, group_info_bytes}
-use Rattle.h5w_model.specs.Logs.{div_up}
-use Rattle.h5w_model.specs.Messages.{FillFields, IsIntType, is_int_size, fill_bytes, fill_value_bytes, index_bytes, int_type_bytes, layout_bytes, layout_width, shape_bytes}
-use Rattle.h5w_model.specs.Integers.{cell_bytes}
+use Rattle.h5w_model.specs.Messages.{FillFields, IntTypeFields, is_int_size, fill_bytes, fill_value_bytes, index_bytes, int_type_bytes, layout_bytes, layout_width, shape_bytes}
+use Rattle.h5w_model.specs.Integers.{cell_bytes, cell_bytes_of, cell_of}
 use Rattle.h5w_model.specs.Arrays.{number_bytes}
 use Rattle.h5w_model.specs.Datasets.{Described}
-use Rattle.h5w_model.specs.Options.{AreOptions}
+use Rattle.h5w_options.specs.Options.{AreOptions}
 use Rattle.h5w_model.specs.declared.cell.Cell.{Cell}
 use Rattle.h5w_model.specs.declared.cell.IndexKind.TheVariants.{Array}
 use Rattle.h5w_model.specs.declared.message.Msg.{Msg}
-use Rattle.h5w_model.specs.declared.options.Options.{Options}
+use Rattle.h5w_options.specs.declared.options.Options.{Options}
 use Rattle.h5w_model.proofs.ArrayLemmas.{length-number_bytes}
 use Rattle.h5w_model.proofs.ChecksumLemmas.{length-sealed_block}
 use Rattle.h5w_model.proofs.HeaderLemmas.{length-header_bytes, length-msgs_bytes}
 use Rattle.h5w_model.proofs.HeaderRoundTrip.{prefix_bytes-small}
-use Rattle.h5w_model.proofs.IntegerLemmas.{int_size_bounds}
+use Rattle.h5w_model.proofs.IntegerLemmas.{cell_bytes-cell_of, int_size_bounds, length-cell_bytes_of}
 use Rattle.h5w_model.proofs.MessageLemmas.{fill_none_bytes, fill_value_length, length-int_type_bytes, length-shape_bytes, shape_rank}
 use Rattle.h5w_model.proofs.NumberLemmas.{length-le, width_of-spans, width_of-within}
 use Rattle.h5w_model.proofs.SuperLemmas.{length-super_bytes}
 use Rattle.h5w_types.specs.Fields.{int_type_of}
-use Rattle.h5w_types.specs.declared.int_type.IntType.{IntType}
-use Rattle.h5w_layout.specs.declared.fill.Fill.{Fill}
 use Rattle.h5w_chunks.specs.Grids.{IsGrid, dataset_of}
 use Rattle.h5w_chunks.specs.declared.grid.Grid.{Grid}
-use Rattle.h5w_session.specs.Sessions.{ArePieces, IsSession}
-use Rattle.h5w_session.specs.Creations.{IsFillOf, IsNewFile, NewFile, array_place, array_write, created, creation_writes, dataset_messages, fill_len, first_end, header_len, header_place, index_place, index_write, message, new_dataset, new_file, new_super, root_messages, size_width}
-use Rattle.h5w_session.proofs.StateLemmas.{up_few}
+use Rattle.h5w_session.specs.Sessions.{ArePieces}
+use Rattle.h5w_session.specs.Creations.{IsFillOf, IsNewFile, NewFile, array_place, array_write, creation_writes, dataset_messages, fill_by, fill_len, first_end, header_len, header_place, index_place, index_write, message, new_dataset, new_file, new_super, root_messages, size_width}
 
 -- ---- Headers
 
@@ -145,14 +141,49 @@ length_layout f some =
 
 -- ---- A new file
 
-pub is_new : (o : Options) (t : IntType) (f : Fill) → AreOptions o → IsIntType (int_type_of t) → IsFillOf f t → IsNewFile (new_file o t f)
-is_new o t f by typed filled = record {
+-- a value of the type has bytes of its size
+if_some : (o : Option (List ℕ)) (size : ℕ) → ((bytes : List ℕ) → o ≡ Some bytes → length bytes ≡ size) → IfSome o (λ bytes. length bytes ≡ size)
+if_some None size each = tt
+if_some (Some bytes) size each = each bytes refl
+
+fill_sized : (t : IntTypeFields) (fill : Option ℤ) → IfSome (fill_by fill t).value (λ bytes. length bytes ≡ t.size)
+fill_sized t None = tt
+fill_sized t (Some v) = if_some (cell_bytes_of v t) t.size (length-cell_bytes_of v t)
+
+-- the cell of a fill
+module _ (o : Options) (v : ℤ) (value : Option Cell) (is : value ≡ option_map cell_of (cell_bytes_of v (int_type_of o.int_type))) where
+  cells_back : (b : Option (List ℕ)) → option_map cell_bytes (option_map cell_of b) ≡ b
+  cells_back None = refl
+  cells_back (Some bytes) = ap (λ (l : List ℕ). Some l) (cell_bytes-cell_of bytes)
+
+  cells_sized : (b : Option (List ℕ)) (size : ℕ) → ((bytes : List ℕ) → b ≡ Some bytes → length bytes ≡ size) → IfSome (option_map cell_of b) (λ (c : Cell). (c.size ≡ size) × (length (cell_bytes c) ≡ size))
+  cells_sized None size each = tt
+  cells_sized (Some bytes) size each = (each bytes refl, ap length (cell_bytes-cell_of bytes) ∙ each bytes refl)
+
+  fill_some : o.fill ≡ Some v → IsFillOf (record { value = value }) o
+  fill_some some = record {
+    bytes =
+        let t = int_type_of o.int_type in
+        let own : option_map cell_bytes value ≡ cell_bytes_of v t = ap (λ (x : Option Cell). option_map cell_bytes x) is ∙ cells_back (cell_bytes_of v t) in
+        let put : Option (List ℕ) → FillFields = λ x. record { value = x } in
+        ap put own ∙ ap (λ (x : Option ℤ). fill_by x t) (sym some);
+    sized = subst (λ (x : Option Cell). IfSome x (λ (c : Cell). (c.size ≡ o.int_type.size) × (length (cell_bytes c) ≡ o.int_type.size))) (sym is)
+        (cells_sized (cell_bytes_of v (int_type_of o.int_type)) o.int_type.size (length-cell_bytes_of v (int_type_of o.int_type)));
+  }
+
+pub some_fill : (o : Options) (v : ℤ) (value : Option Cell) → value ≡ option_map cell_of (cell_bytes_of v (int_type_of o.int_type)) → o.fill ≡ Some v → IsFillOf (record { value = value }) o
+some_fill o v value is some = fill_some o v value is some
+
+pub is_new : (o : Options) → AreOptions o → IsNewFile (new_file o)
+is_new o by = record {
   named = by.named;
   name_bound = by.name_bound;
   some_rows = by.some_rows;
   chunk_bound = by.chunk_bound;
-  typed = typed;
-  filled = filled_by f.value t.size filled;
+  typed = by.typed;
+  filled = fill_sized (int_type_of o.int_type) o.fill;
+  limit_low = by.limit_low;
+  limit_high = by.limit_high;
 }
 
 -- how long its blocks are
@@ -216,16 +247,4 @@ created_pieces f is =
         ((omega (arith, array), omega (arith, array)), ((omega (arith, l.header), omega (arith, l.header)), ((omega (arith, l.root), omega (arith, l.root)), ((omega (arith, super_len), omega (arith, super_len)), tt)))),
       );
       within = (omega (arith, index), (omega (arith, array), (omega (arith, l.header), (omega (arith, l.root), (omega (arith, super_len), tt)))));
-    }
-
-pub created_is : (f : NewFile) → IsNewFile f → IsSession (created f)
-created_is f is =
-    let bands : div_up 0 f.chunk_rows ≤ 0 = up_few 0 f.chunk_rows is.some_rows in
-    let none : div_up (0 + 0) f.chunk_rows * div_up 1 1 ≡ 0 = ap (λ (n : ℕ). n * div_up 1 1) (let e : div_up (0 + 0) f.chunk_rows ≡ 0 = omega (arith, bands) in e) in
-    record {
-      some_columns = omega arith;
-      cells = omega arith;
-      few = omega (arith, none);
-      version = refl;
-      begun = omega arith;
     }

@@ -6,7 +6,7 @@ use Rattle.std.proofs.lemmas.Bool.{le-ltb, eq-eqb}
 use Rattle.std.proofs.lemmas.List.{append-nil}
 use Rattle.h5w_model.specs.Numbers.{num, le, range}
 use Rattle.h5w_model.specs.Images.{At}
-use Rattle.h5w_model.specs.Programs.{Prog, ret, whole, eval}
+use Rattle.h5w_model.specs.Programs.{Prog, Visit, ret, whole, eval, visits}
 use Rattle.h5w_model.specs.Headers.{prefix_at, header_view, messages_at, msgs_bytes, header_bytes, placed}
 use Rattle.h5w_model.specs.Links.{LinkFields, links_at, find_link, is_link, link_fields, link_bytes, link_info_bytes, group_info_bytes}
 use Rattle.h5w_model.specs.Datasets.{HeaderFields, then_also, refused_as, walk, from_chunk_0, header_refusal, root_header, root_view, found_at, linked}
@@ -72,6 +72,18 @@ root_header_now img name address short stands =
     let prefix = prefix_at-alone ms (small name address short) ∙ ap (λ (n : ℕ). Ok (prefix_of n)) (length_root name address) in
     root_header-by img root_place (header_bytes ms) (prefix_of (43 + length name)) (placed 7 ms) (root_look img name address short stands)
     prefix (omega arith) (messages_at-alone ms (small name address short) refl refl)
+
+-- and it is all that is looked at
+pub root_visits : (img name : List ℕ) (address : ℕ) → length name ≤ 64 → At img root_place (header_bytes (root_messages name address))
+    → visits img (root_header root_place) ≡ record { place = root_place; len = 512; counts = root_view } ∷ []
+root_visits img name address short stands =
+    let ms = root_messages name address in
+    let b = header_bytes ms in
+    let n = 43 + length name in
+    let prefix = prefix_at-alone ms (small name address short) ∙ ap (λ (n : ℕ). Ok (prefix_of n)) (length_root name address) in
+    ap (λ (vs : List Visit). record { place = root_place; len = 512; counts = root_view } ∷ vs)
+    (ap (λ (b : List ℕ). visits img (root_from root_place b)) (root_look img name address short stands)
+    ∙ ap (visits img) (root_from-by root_place b (prefix_of n) prefix (omega arith) ∙ from_chunk-by root_place (prefix_of n) b (placed 7 ms) (messages_at-alone ms (small name address short) refl refl)))
 
 -- ---- The link
 

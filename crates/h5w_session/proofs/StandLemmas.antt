@@ -29,15 +29,17 @@ use Rattle.h5w_steps.proofs.GoesLemmas.{image_pushed}
 use Rattle.h5w_steps.proofs.SessionLaws.{piece_runs}
 use Rattle.h5w_steps.proofs.StepRepresents.{ends_missed}
 use Rattle.h5w_flush_laws.specs.Flushes.{Rests}
-use Rattle.h5w_flush_laws.specs.Spaces.{extent_of}
 use Rattle.h5w_flush_laws.specs.Knowledge.{Knows}
 use Rattle.h5w_flush_laws.proofs.EarlyLemmas.{header_kept}
 use Rattle.h5w_flush_laws.proofs.KnownLaws.{end_known}
-use Rattle.h5w_flush_laws.proofs.SpaceLemmas.{committed_live}
+use Rattle.h5w_flush_laws.proofs.FlushLaws.{freed_known}
 use Rattle.h5w_flush_laws.proofs.SessionLaws.{session_laws}
 use Rattle.h5w_session.specs.Sessions.{Session, AreRows, Freed, cleared, closed_of, closed_root, stopped_of, with_values}
+use Rattle.h5w_session.specs.Indexes.{IsIndexed}
 use Rattle.h5w_session.specs.Stands.{Running, Stands}
 use Rattle.h5w_session.proofs.CellLemmas.{by_cell, first_has_cell, first_outside-cons}
+use Rattle.h5w_session.proofs.IndexLemmas.{freed_index, marks_more, missed_index}
+use Rattle.h5w_session.proofs.PastLemmas.{limit_low, past_more, past_same, past_shown, past_values}
 use Rattle.h5w_session.proofs.StateLemmas.{Accepted, rows_are}
 
 -- ---- What is left
@@ -94,6 +96,8 @@ values_running s values log some rows fit r =
       runs = next.runs;
       knows = next.knows;
       keeps = record { root = r.keeps.root; place = r.keeps.place; dataset = r.keeps.dataset; header = r.keeps.header };
+      index = r.index;
+      marks = marks_more s.dataset s.dataset.shape.rows (s.dataset.shape.rows + s.waits) (s.dataset.shape.rows + (s.waits + length values / s.dataset.shape.cols)) s.index (omega arith) r.marks;
       more = r.more ++ values;
       waiting = ap (λ (b : List ℕ). b ++ cells_of s.dataset values) r.waiting ∙ sym (cells_of-append s.dataset r.more values);
       fit = none_outside s.dataset.int_type 0 r.more values r.fit fit;
@@ -101,6 +105,7 @@ values_running s values log some rows fit r =
       appended = sym (append_assoc r.after.values r.more values) ∙ ap (λ (vs : List ℤ). vs ++ values) r.appended ∙ append_assoc log.values (appended_in log.events) values;
       committed = r.committed;
       columns = r.columns;
+      past = past_values s (with_values s values) values log r.after (record { name = refl; place = refl; dataset = refl; limit = refl }) refl r.past;
     }
 
 pub values_stand : (s : Session) (values : List ℤ) (log : Log) → 1 ≤ s.dataset.shape.cols → AreRows s values → s.pending ≡ [] → Accepted s values → Stands s log → Stands (with_values s values) (and_now (appends values) log)
@@ -140,6 +145,8 @@ stop_stands s log st =
           runs = r.runs;
           knows = r.knows;
           keeps = record { root = r.keeps.root; place = r.keeps.place; dataset = r.keeps.dataset; header = r.keeps.header };
+          index = r.index;
+          marks = r.marks;
           more = r.more;
           waiting = r.waiting;
           fit = r.fit;
@@ -147,6 +154,7 @@ stop_stands s log st =
           appended = r.appended;
           committed = r.committed;
           columns = r.columns;
+          past = past_same s (stopped_of s) st.left log r.after (record { name = refl; place = refl; dataset = refl; limit = refl }) refl r.past;
         })
       ];
       prefixed = st.prefixed;
@@ -169,17 +177,15 @@ goes_rows name log m held g =
     let len : length (flushed log) ≡ rows * log.columns = ap length (sym g.values) ∙ g.now.count ∙ ap (λ (n : ℕ). rows * n) g.columns in
     ap (λ (n : ℕ). n / log.columns) (len ∙ omega arith) ∙ div-mul-add rows log.columns 0 g.some_columns
 
--- what is known stays known where what was retired becomes free
-pub freed_known : (keeps : Bool) (img name : List ℕ) (m : Moment) (address : Key → ℕ) (s t : Space) → Freed keeps s t → Knows img name m address s → Knows img name m address t
-freed_known true img name m address s t freed k = subst (λ (x : Space). Knows img name m address x) (sym freed) k
-freed_known false img name m address s t freed k = record {
-  file = k.file;
-  index = k.index;
-  live = λ u among. committed_live s t freed (extent_of u) (k.live u among);
-  ended = omega (arith, k.ended, freed.end);
-  covered = omega (arith, k.covered, freed.end);
-  layout = k.layout;
-}
+-- what is known stays known where what was retired becomes free, or stays
+pub freed_or_kept : (keeps : Bool) (img name : List ℕ) (m : Moment) (address : Key → ℕ) (s t : Space) → Freed keeps s t → Knows img name m address s → Knows img name m address t
+freed_or_kept true img name m address s t freed k = subst (λ (x : Space). Knows img name m address x) (sym freed) k
+freed_or_kept false img name m address s t freed k = freed_known img name m address s t freed k
+
+-- the end and the limit stay there
+pub freed_keeps : (keeps : Bool) (s t : Space) → Freed keeps s t → (t.end ≡ s.end) × (t.limit ≡ s.limit)
+freed_keeps true s t freed = (ap (λ (x : Space). x.end) freed, ap (λ (x : Space). x.limit) freed)
+freed_keeps false s t freed = (freed.end, freed.limit)
 
 -- the session once its last piece became visible
 abbrev pub settled : Session → Space → Session
@@ -197,8 +203,10 @@ last_running s w log t freed r =
       after = r.after;
       address = r.address;
       runs = runs;
-      knows = freed_known s.keeps (image_now next) s.name r.after r.address s.places t freed (subst (λ (x : List ℕ). Knows x s.name r.after r.address s.places) img r.knows);
+      knows = freed_or_kept s.keeps (image_now next) s.name r.after r.address s.places t freed (subst (λ (x : List ℕ). Knows x s.name r.after r.address s.places) img r.knows);
       keeps = record { root = r.keeps.root; place = r.keeps.place; dataset = r.keeps.dataset; header = subst (λ (x : List ℕ). chunk_0 x s.place ≡ s.header) img r.keeps.header };
+      index = freed_index s.keeps (image_now next) r.after r.address s.places t s.index freed (subst (λ (x : List ℕ). IsIndexed x r.after r.address s.places s.index) img r.index);
+      marks = r.marks;
       more = r.more;
       waiting = r.waiting;
       fit = r.fit;
@@ -206,6 +214,7 @@ last_running s w log t freed r =
       appended = r.appended;
       committed = goes_rows s.name next r.after r.after.behind (resting s.name next r.after r.after.behind runs) ∙ ap (λ (d : Described). d.shape.rows) r.keeps.dataset;
       columns = r.columns;
+      past = past_shown s (settled s t) w [] log r.after (record { name = refl; place = refl; dataset = refl; limit = (freed_keeps s.keeps s.places t freed).1 }) (freed_keeps s.keeps s.places t freed).0 r.runs r.past;
     }
 
 picks : (b : Bool) (x y : List ℤ) → b ≡ true → (if b then x else y) ≡ x
@@ -224,6 +233,8 @@ more_running s w x xs log r =
       runs = piece_runs s.name log w (x ∷ xs) r.after r.after.behind r.runs;
       knows = subst (λ (y : List ℕ). Knows y s.name r.after r.address s.places) img r.knows;
       keeps = record { root = r.keeps.root; place = r.keeps.place; dataset = r.keeps.dataset; header = subst (λ (y : List ℕ). chunk_0 y s.place ≡ s.header) img r.keeps.header };
+      index = subst (λ (y : List ℕ). IsIndexed y r.after r.address s.places s.index) img r.index;
+      marks = r.marks;
       more = r.more;
       waiting = r.waiting;
       fit = r.fit;
@@ -231,6 +242,7 @@ more_running s w x xs log r =
       appended = r.appended;
       committed = ap (λ (vs : List ℤ). length vs / log.columns) (later ∙ sym now) ∙ r.committed;
       columns = r.columns;
+      past = past_shown s (with_pending s (x ∷ xs)) w (x ∷ xs) log r.after (record { name = refl; place = refl; dataset = refl; limit = refl }) refl r.runs r.past;
     }
 
 -- ---- A close
@@ -270,6 +282,8 @@ close_running s log reads r =
     } in
     let off = ends_missed img m n w r.knows.file.apart raised in
     let header_off = λ (u : Used) (a : Among u m.header) (b : u.chunk ≡ false). off u (among_right u m.root (m.header ++ (m.fixed ++ m.behind)) (among_left u m.header (m.fixed ++ m.behind) a)) in
+    let index_off = λ (u : Used) (a : Among u (m.fixed ++ m.behind)). off u (among_right u m.root (m.header ++ (m.fixed ++ m.behind)) (among_right u m.header (m.fixed ++ m.behind) a)) in
+    let index = missed_index img m r.address s.places s.index w index_off r.index in
     let kept = header_kept img s.name m w r.knows.file header_off in
     let place : m.place ≡ s.place = r.keeps.place in
     record {
@@ -289,6 +303,8 @@ close_running s log reads r =
         dataset = r.keeps.dataset;
         header = ap (λ (p : ℕ). chunk_0 (apply w img) p) (sym place) ∙ kept.chunk ∙ ap (λ (p : ℕ). chunk_0 img p) place ∙ r.keeps.header;
       };
+      index = record { kind = index.kind; at = index.at; array = index.array; stands = index.stands; standing = index.standing; fixed = index.fixed; behind = index.behind; map = index.map };
+      marks = r.marks;
       more = r.more;
       waiting = r.waiting;
       fit = r.fit;
@@ -296,6 +312,7 @@ close_running s log reads r =
       appended = r.appended;
       committed = r.committed;
       columns = r.columns;
+      past = past_more s (closed_of s) (closed_of s).pending log m n (record { name = refl; place = refl; dataset = refl; limit = refl }) refl (omega (arith, length-super_bytes root, limit_low s [] log m r.past), tt) refl r.past;
     }
 
 pub close_stands : (s : Session) (log : Log) → super_at (super_bytes (closed_root s)) ≡ Ok (closed_root s) → s.stopped ≡ false → s.pending ≡ [] → Stands s log → Stands (closed_of s) log

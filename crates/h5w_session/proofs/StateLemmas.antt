@@ -215,6 +215,15 @@ values_is s values is rows by =
       few = subst (λ (n : ℕ). needed (with_rows n s.dataset) ≤ chunk_limit s) (sym sum) by.room;
       version = is.version;
       begun = is.begun;
+      array = is.array;
+      across = is.across;
+      header = is.header;
+      header_ends = is.header_ends;
+      limited = is.limited;
+      limit = is.limit;
+      inside = is.inside;
+      standing = is.standing;
+      blocks = is.blocks;
     }
 
 -- the same as fields tell it

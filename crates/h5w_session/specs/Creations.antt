@@ -1,23 +1,26 @@
 -- A new file: its blocks and their places, one behind the other, and the session that creates it.
-use Rattle.std.specs.Prelude.{◌≡◌, ℕ, ◌+◌, ◌*◌, ◌≤◌, max, false, List, [], ◌∷◌, length, replicate, Option, Some, None, IfSome}
+use Rattle.std.specs.Prelude.{◌≡◌, ℕ, ◌+◌, ◌*◌, ◌^◌, ◌≤◌, max, false, List, [], ◌∷◌, length, replicate, Option, Some, None, IfSome, ℤ}
 use Rattle.h5w_model.specs.Numbers.{undefined, width_of}
+use Rattle.h5w_model.specs.Logs.{Log, Happening}
 use Rattle.h5w_model.specs.Superblock.{super_bytes}
 use Rattle.h5w_model.specs.Headers.{header_bytes}
 use Rattle.h5w_model.specs.Links.{link_info_bytes, group_info_bytes, link_bytes}
 use Rattle.h5w_model.specs.Messages.{IntTypeFields, FillFields, IsIntType, shape_bytes, int_type_bytes, fill_bytes, layout_bytes}
 use Rattle.h5w_model.specs.Arrays.{eahd_bytes, eaib_bytes, eahd_len, eaib_len}
 use Rattle.h5w_model.specs.Datasets.{Described}
-use Rattle.h5w_model.specs.Integers.{cell_bytes}
+use Rattle.h5w_model.specs.Integers.{cell_bytes, cell_bytes_of}
 use Rattle.h5w_model.specs.declared.cell.Cell.{Cell}
 use Rattle.h5w_model.specs.declared.cell.IndexKind.TheVariants.{Array}
 use Rattle.h5w_model.specs.declared.message.Msg.{Msg}
-use Rattle.h5w_model.specs.declared.options.Options.{Options}
+use Rattle.h5w_options.specs.declared.options.Options.{Options}
 use Rattle.h5w_model.specs.declared.piece.Write.{Write}
 use Rattle.h5w_model.specs.declared.root.Super.{Super}
 use Rattle.h5w_types.specs.Fields.{int_type_of}
-use Rattle.h5w_types.specs.declared.int_type.IntType.{IntType}
 use Rattle.h5w_layout.specs.Layouts.{fill_of}
 use Rattle.h5w_layout.specs.declared.fill.Fill.{Fill}
+use Rattle.h5w_cache.specs.Stores.{Store, grown, kept_under, no_blocks}
+use Rattle.h5w_array_laws.specs.Parts.{header, index_block, number_count, number_of}
+use Rattle.h5w_array_laws.specs.ArrayStores.{created_header, created_index}
 use Rattle.h5w_space.specs.Space.{Space}
 use Rattle.h5w_session.specs.Sessions.{Session}
 
@@ -29,10 +32,21 @@ pub record NewFile : Type 0 where
   pub int_type : IntTypeFields
   pub fill : FillFields
 
-abbrev pub new_file : Options → IntType → Fill → NewFile
-new_file o t f = record { name = o.name; limit = o.limit; chunk_rows = o.chunk_rows; int_type = int_type_of t; fill = fill_of f }
+-- the bytes of a fill of the type
+abbrev pub fill_by : Option ℤ → IntTypeFields → FillFields
+fill_by None t = record { value = None }
+fill_by (Some v) t = record { value = cell_bytes_of v t }
 
--- a type that can be written, and a fill of its size
+abbrev pub new_file : Options → NewFile
+new_file o = record {
+  name = o.name;
+  limit = o.limit;
+  chunk_rows = o.chunk_rows;
+  int_type = int_type_of o.int_type;
+  fill = fill_by o.fill (int_type_of o.int_type);
+}
+
+-- a type that can be written, a fill of its size, and a limit that a file may have
 pub record IsNewFile (f : NewFile) : Type 0 where
   pub named : 1 ≤ length f.name
   pub name_bound : length f.name ≤ 64
@@ -40,10 +54,13 @@ pub record IsNewFile (f : NewFile) : Type 0 where
   pub chunk_bound : f.chunk_rows ≤ 65536
   pub typed : IsIntType f.int_type
   pub filled : IfSome f.fill.value (λ bytes. length bytes ≡ f.int_type.size)
+  pub limit_low : 1024 ≤ f.limit
+  pub limit_high : f.limit ≤ 2 ^ 40
 
--- the fill is one of the type
-abbrev pub IsFillOf : Fill → IntType → Type 0
-IsFillOf f t = IfSome f.value (λ (c : Cell). (c.size ≡ t.size) × (length (cell_bytes c) ≡ t.size))
+-- the cell of the options' fill
+pub record IsFillOf (f : Fill) (o : Options) : Type 0 where
+  pub bytes : fill_of f ≡ fill_by o.fill (int_type_of o.int_type)
+  pub sized : IfSome f.value (λ (c : Cell). (c.size ≡ o.int_type.size) × (length (cell_bytes c) ≡ o.int_type.size))
 
 -- ---- Where the blocks stand: the superblock at 0, and behind it one behind the other
 
@@ -113,16 +130,20 @@ header_write f = record { at = header_place f; piece = header_bytes (dataset_mes
 
 -- the header and the index block of an array without chunks, which stand at these places
 abbrev pub array_write : ℕ → ℕ → Write
-array_write header block = record { at = header; piece = eahd_bytes (record { numbers = 0 ∷ 0 ∷ 0 ∷ 0 ∷ 0 ∷ 4 ∷ []; block = block }) }
+array_write at block = record { at = at; piece = eahd_bytes (record { numbers = 0 ∷ 0 ∷ 0 ∷ 0 ∷ 0 ∷ 4 ∷ []; block = block }) }
 
 abbrev pub index_write : ℕ → ℕ → Write
-index_write header block = record { at = block; piece = eaib_bytes (record { header = header; slots = replicate 4 undefined; first = replicate 6 undefined; second = replicate 25 undefined }) }
+index_write at block = record { at = block; piece = eaib_bytes (record { header = at; slots = replicate 4 undefined; first = replicate 6 undefined; second = replicate 25 undefined }) }
 
 -- the pieces of a new file: the index, the dataset header, the root header, and last the superblock
 abbrev pub creation_writes : NewFile → List Write
 creation_writes f = index_write (array_place f) (index_place f) ∷ array_write (array_place f) (index_place f) ∷ header_write f ∷ root_write f ∷ super_write f ∷ []
 
 -- ---- The session
+
+-- the store of an array without chunks, whose header stands at one place and whose index block at the other
+unfoldable pub new_array : ℕ → ℕ → Store
+new_array at place = kept_under (number_of header) (created_header place) at (kept_under (number_of index_block) (created_index at) place (grown number_count no_blocks))
 
 -- the places of a file that ends there and may grow up to this limit, with nothing free
 abbrev pub places_to : ℕ → ℕ → Space
@@ -143,4 +164,9 @@ created f = record {
   pending = creation_writes f;
   stopped = false;
   keeps = false;
+  index = new_array (array_place f) (index_place f);
 }
+
+-- the log of a session that creates its file, after these events
+abbrev pub log_of : List Happening → Log
+log_of happened = record { start = []; columns = 1; values = []; first = 5; events = happened }

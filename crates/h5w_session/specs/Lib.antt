@@ -1,7 +1,7 @@
 pub use Rattle.h5w_model.specs.Numbers
 pub use Rattle.h5w_model.specs.Images
 pub use Rattle.h5w_model.specs.Lawful
-pub use Rattle.h5w_model.specs.Options
+pub use Rattle.h5w_options.specs.Options
 pub use Rattle.h5w_model.specs.Superblock
 pub use Rattle.h5w_model.specs.Tables
 pub use Rattle.h5w_model.specs.Logs
@@ -14,5 +14,11 @@ pub use Rattle.h5w_types.specs.Fields
 pub mod Sessions
 pub mod Creations
 pub mod Refusals
+pub mod Indexes
+pub mod Loads
+pub mod Placing
+pub mod Past
 pub mod Stands
+pub mod Flushes
 pub mod Room
+pub mod Laws

@@ -1,11 +1,23 @@
 -- Why a session's calls are refused.
-use Rattle.std.specs.Prelude.{ℕ, ◌/◌, List, length, ℤ, nat_lt, if◌then◌else◌, Option, Some, None}
+use Rattle.std.specs.Prelude.{◌≡◌, ◌⊎◌, ℕ, ◌/◌, ◌≤◌, List, length, ℤ, nat_lt, if◌then◌else◌, Option, Some, None}
 use Rattle.h5w_model.specs.Lawful.{first_outside}
+use Rattle.h5w_model.specs.Datasets.{Described}
+use Rattle.h5w_space.specs.Space.{Space}
+use Rattle.h5w_space.specs.declared.Full.{Full}
+use Rattle.h5w_cache.specs.Plans.{HasNoRoom}
+use Rattle.h5w_cache.specs.Stores.{Store, times}
+use Rattle.h5w_cache.specs.declared.plan.PlanError.{PlanError}
+use Rattle.h5w_cache.specs.declared.plan.PlanError.TheVariants as plan
+use Rattle.h5w_chunks.specs.Shares.{touched}
+use Rattle.h5w_chunks.specs.declared.grid.ChunkPlace.{ChunkPlace}
 use Rattle.h5w_image.specs.declared.fault.ImageError.{ImageError}
 use Rattle.h5w_image.specs.declared.fault.ImageError.TheVariants as image
-use Rattle.h5w_session.specs.Sessions.{Session, chunk_limit, chunks_with}
+use Rattle.h5w_session.specs.Sessions.{Session, chunk_limit, chunks_with, rows_of}
+use Rattle.h5w_session.specs.Placing.{IsChunkFull, IsPlacing}
 use Rattle.h5w_session.specs.declared.refusal.AppendError.{AppendError}
 use Rattle.h5w_session.specs.declared.refusal.AppendError.TheVariants as appends
+use Rattle.h5w_session.specs.declared.refusal.FlushError.{FlushError}
+use Rattle.h5w_session.specs.declared.refusal.FlushError.TheVariants as flushes
 use Rattle.h5w_session.specs.declared.refusal.CloseError.{CloseError}
 use Rattle.h5w_session.specs.declared.refusal.CloseError.TheVariants as closes
 
@@ -34,3 +46,44 @@ close_refusal s =
 abbrev pub append_fault : ImageError → AppendError
 append_fault image.Failed = appends.Failed
 append_fault image.OutOfMemory = appends.OutOfMemory
+
+-- ---- A flush
+
+-- the session was stopped, or pieces are pending
+abbrev pub flush_refusal : Session → Option FlushError
+flush_refusal s =
+    if s.stopped then Some flushes.Stopped
+    else if nat_lt 0 (length s.pending) then Some (flushes.Busy (length s.pending))
+    else None
+
+-- the file has no place
+abbrev pub IsSpace : FlushError → Type 0
+IsSpace e = (full : Full) × (e ≡ flushes.Space full)
+
+-- all chunks that rows go into have their places, and the first block in turn that has none is refused
+pub record IsBlockFull (d : Described) (to : ℕ) (v : Store) (s : Space) (full : Full) : Type 0 where
+  pub chunks : List ChunkPlace
+  pub added : List ℕ
+  pub held : Store
+  pub between : Space
+  pub placing : IsPlacing d to v s chunks added held between
+  pub all : length chunks ≡ touched d d.shape.rows to
+  pub once : (n : ℕ) → times n held.changed ≤ 1
+  pub refused : HasNoRoom held.blocks held.places held.changed between full
+
+-- the first new chunk by its key has no place, or else the first block of the index in turn
+abbrev pub IsFullPart : Described → ℕ → Store → Space → Full → Type 0
+IsFullPart d to v s full = IsChunkFull d to v s full ⊎ IsBlockFull d to v s full
+
+-- so it is for the rows that wait
+abbrev pub IsFullFor : Session → Full → Type 0
+IsFullFor s full = IsFullPart s.dataset (rows_of s) s.index s.places full
+
+-- what is answered where the image made no room, and where the index has no plan
+abbrev pub flush_fault : ImageError → FlushError
+flush_fault image.Failed = flushes.Failed
+flush_fault image.OutOfMemory = flushes.OutOfMemory
+
+abbrev pub plan_fault : PlanError → FlushError
+plan_fault (plan.Full full) = flushes.Space full
+plan_fault plan.OutOfMemory = flushes.OutOfMemory

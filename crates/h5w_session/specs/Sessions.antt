@@ -1,18 +1,26 @@
 -- A session: what its values are, and what each call makes of it.
-use Rattle.std.specs.Prelude.{◌≡◌, ℕ, ◌+◌, ◌-◌, ◌*◌, ◌/◌, ◌%◌, ◌≤◌, Bool, true, false, List, [], ◌∷◌, ◌++◌, length, ℤ}
+use Rattle.std.specs.Prelude.{◌≡◌, ◌≢◌, ◌==◌, ◌^◌, ℕ, ◌+◌, ◌-◌, ◌*◌, ◌/◌, ◌%◌, ◌≤◌, Bool, true, false, List, [], ◌∷◌, ◌++◌, length, ℤ, Option, None, Some, Ok, find}
 use Rattle.h5w_model.specs.Images.{AllSized}
 use Rattle.h5w_model.specs.Superblock.{super_bytes}
-use Rattle.h5w_model.specs.Datasets.{Described}
-use Rattle.h5w_model.specs.Tables.{format_limits, limit_of, needed}
+use Rattle.h5w_model.specs.Logs.{Cutting}
+use Rattle.h5w_model.specs.Datasets.{Described, dataspace_kind}
+use Rattle.h5w_model.specs.Tables.{chunks_across, format_limits, limit_of, needed}
+use Rattle.h5w_model.specs.Numbers.{undefined}
+use Rattle.h5w_model.specs.Headers.{messages_at}
+use Rattle.h5w_model.specs.declared.cell.IndexKind.TheVariants.{Array}
+use Rattle.h5w_model.specs.declared.message.Msg.{Msg}
 use Rattle.h5w_model.specs.declared.root.Super.{Super}
 use Rattle.h5w_model.specs.declared.piece.Write.{Write}
 use Rattle.h5w_space.specs.Space.{Space, Commits}
-use Rattle.h5w_chunks.specs.Grids.{cells_of}
+use Rattle.h5w_cache.specs.Stores.{Store}
+use Rattle.h5w_cache.specs.StoreLaws.{Standing}
+use Rattle.h5w_array_laws.specs.ArrayStores.{IsArray, map_of}
+use Rattle.h5w_chunks.specs.Grids.{cells_of, chunk_len}
 
 -- The dataset's name; the superblock; the dataset header's place and its chunk 0; the dataset; the places of the file: all as they
 -- are once all pending pieces became visible. The rows that the file has until the last of them does; the cells of the rows that no
 -- flush has planned, and how many rows these are; the pending pieces, the oldest first; whether the session was stopped, and whether
--- what is retired stays so.
+-- what is retired stays so. Last the blocks of the index of chunks.
 pub record Session : Type 0 where
   pub name : List ℕ
   pub root : Super
@@ -26,6 +34,7 @@ pub record Session : Type 0 where
   pub pending : List Write
   pub stopped : Bool
   pub keeps : Bool
+  pub index : Store
 
 -- the rows appended in all
 abbrev pub rows_of : Session → ℕ
@@ -34,6 +43,15 @@ rows_of s = s.dataset.shape.rows + s.waits
 -- the dataset with so many rows
 abbrev pub with_rows : ℕ → Described → Described
 with_rows rows d = record d { shape = record (d.shape) { rows = rows } }
+
+-- how its rows are cut into chunks
+abbrev pub cutting_of : Session → Cutting
+cutting_of s = record {
+  chunk_rows = s.dataset.layout.chunk_rows;
+  chunk_columns = s.dataset.layout.chunk_cols;
+  columns = s.dataset.shape.cols;
+  value_size = s.dataset.int_type.size;
+}
 
 -- the chunks that the rows need with so many more
 abbrev pub chunks_with : Session → ℕ → ℕ
@@ -51,6 +69,19 @@ AreRows s values = (n : ℕ) × (length values ≡ n * s.dataset.shape.cols)
 abbrev pub row_bytes : Described → ℕ
 row_bytes d = d.shape.cols * d.int_type.size
 
+-- chunk 0 of a dataset header in which the rows can be written again
+pub record IsWritable (b : List ℕ) : Type 0 where
+  pub some : 1 ≤ length b
+  pub list : List Msg
+  pub space : Msg
+  pub read : messages_at b ≡ Ok list
+  pub first : find (λ (m : Msg). m.kind == dataspace_kind) list ≡ Some space
+  pub long : 12 ≤ length space.body
+
+-- each chunk that has an address ends by a place
+abbrev pub AreInside : Described → ℕ → Store → Type 0
+AreInside d end v = (i : ℕ) → map_of v i ≢ undefined → map_of v i + chunk_len d ≤ end
+
 -- what holds of every session
 pub record IsSession (s : Session) : Type 0 where
   pub some_columns : 1 ≤ s.dataset.shape.cols
@@ -58,6 +89,17 @@ pub record IsSession (s : Session) : Type 0 where
   pub few : needed (with_rows (rows_of s) s.dataset) ≤ chunk_limit s
   pub version : s.root.version ≡ 3
   pub begun : 48 ≤ s.places.end
+  -- the index is an array, of one chunk for each band of rows
+  pub array : s.dataset.layout.index ≡ Array
+  pub across : chunks_across s.dataset ≡ 1
+  pub header : IsWritable s.header
+  pub header_ends : s.place + length s.header ≤ s.places.end
+  pub limited : s.places.end ≤ s.places.limit
+  pub limit : s.places.limit ≤ 2 ^ 40
+  -- its chunks and its blocks stand in the file
+  pub inside : AreInside s.dataset s.places.end s.index
+  pub standing : Standing s.index s.places
+  pub blocks : IsArray s.index
 
 -- each write ends by a place
 abbrev pub AllEndBy : ℕ → List Write → Type 0
@@ -104,3 +146,22 @@ closed_of s = record s {
   pending = record { at = 0; piece = super_bytes (closed_root s) } ∷ [];
   stopped = true;
 }
+
+-- an option's element, where there is one
+abbrev pub option_list : {A : Type 0} → Option A → List A
+option_list None = []
+option_list (Some x) = x ∷ []
+
+-- The session after a flush has all rows: none waits, and nothing but the places, the superblock's end, the header, the index and the
+-- pieces is another.
+pub record TakesRows (old new : Session) : Type 0 where
+  pub name : new.name ≡ old.name
+  pub place : new.place ≡ old.place
+  pub dataset : new.dataset ≡ with_rows (rows_of old) old.dataset
+  pub waiting : new.waiting ≡ []
+  pub waits : new.waits ≡ 0
+  pub committed : new.committed ≡ old.committed
+  pub stopped : new.stopped ≡ old.stopped
+  pub keeps : new.keeps ≡ old.keeps
+  pub limit : new.places.limit ≡ old.places.limit
+  pub rises : old.places.end ≤ new.places.end

@@ -2,7 +2,7 @@
 use Rattle.std.specs.Prelude.{◌≡◌, ◌≢◌, ◌⊎◌, ℕ, ◌*◌, true, List, [], ◌++◌, length, ℤ, None}
 use Rattle.h5w_model.specs.Images.{image}
 use Rattle.h5w_model.specs.Lawful.{first_outside}
-use Rattle.h5w_model.specs.Logs.{Log, Happening, hist, appended, appended_in, flushed_in, flushed_rows}
+use Rattle.h5w_model.specs.Logs.{Log, hist, appended, appended_in, flushed_in, flushed_rows}
 use Rattle.h5w_model.specs.Prefixed.{PrefixedEach, Still}
 use Rattle.h5w_model.specs.declared.cell.Key.{Key}
 use Rattle.h5w_model.specs.declared.piece.Write.{Write}
@@ -12,12 +12,10 @@ use Rattle.h5w_steps.specs.Moments.{Moment}
 use Rattle.h5w_steps.specs.Logs.{image_now}
 use Rattle.h5w_steps.specs.Sessions.{Runs}
 use Rattle.h5w_flush_laws.specs.Knowledge.{Knows}
-use Rattle.h5w_session.specs.Sessions.{Session}
-use Rattle.h5w_session.specs.Creations.{IsNewFile, NewFile, created, creation_writes}
-
--- the log of a session that creates its file, after these events
-abbrev pub log_of : List Happening → Log
-log_of happened = record { start = []; columns = 1; values = []; first = 5; events = happened }
+use Rattle.h5w_session.specs.Sessions.{Session, rows_of}
+use Rattle.h5w_session.specs.Indexes.{AreMarks, IsIndexed}
+use Rattle.h5w_session.specs.Creations.{IsNewFile, NewFile, created, creation_writes, log_of}
+use Rattle.h5w_session.specs.Past.{Past}
 
 -- what the session keeps of the file is what the file is once all pieces that are left became visible
 pub record Keeps (s : Session) (img : List ℕ) (m : Moment) : Type 0 where
@@ -43,6 +41,8 @@ pub record Running (s : Session) (left : List Write) (log : Log) : Type 0 where
   pub runs : Runs s.name log left after after.behind
   pub knows : Knows (image (image_now log) left) s.name after address s.places
   pub keeps : Keeps s (image (image_now log) left) after
+  pub index : IsIndexed (image (image_now log) left) after address s.places s.index
+  pub marks : AreMarks s.dataset s.dataset.shape.rows (rows_of s) s.index
   pub more : List ℤ
   pub waiting : s.waiting ≡ cells_of s.dataset more
   pub fit : first_outside s.dataset.int_type 0 more ≡ None
@@ -50,6 +50,7 @@ pub record Running (s : Session) (left : List Write) (log : Log) : Type 0 where
   pub appended : after.values ++ more ≡ appended log
   pub committed : flushed_rows log ≡ s.committed
   pub columns : s.dataset.shape.cols ≡ log.columns
+  pub past : Past s left log after
 
 -- The session is that of this log, at every position of which the image is valid, reads as the flushed rows, and keeps what readers
 -- rest on. Where the session was stopped, the pieces that were left of its last plan were dropped.

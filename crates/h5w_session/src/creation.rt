@@ -2,10 +2,8 @@
 ghost use Rattle.std.specs.Prelude.{◌≡◌, ◌+◌, ◌*◌, ◌<◌, ◌≤◌, [], ◌∷◌, length, vec_capacity, IfOk};
 ghost use Rattle.h5w_model.specs.Headers.{header_bytes};
 ghost use Rattle.h5w_model.specs.Superblock.{super_bytes};
-ghost use Rattle.h5w_model.specs.Messages.{IsIntType};
-ghost use Rattle.h5w_model.specs.Options.{AreOptions};
-ghost use Rattle.h5w_types.specs.Fields.{int_type_of};
-ghost use Rattle.h5w_layout.specs.Layouts.{fill_of};
+ghost use Rattle.h5w_options.specs.Options.{AreOptions};
+ghost use Rattle.h5w_array_laws.specs.ArrayStores.{IsCreated};
 ghost use Rattle.h5w_chunks.specs.Grids.{IsGrid, dataset_of};
 ghost use Rattle.h5w_session.specs.Creations.{IsFillOf, array_place, array_write, creation_writes, dataset_messages, fill_len, first_end, header_place, index_place, index_write, new_dataset, new_file, root_messages, root_place, size_width};
 
@@ -13,7 +11,10 @@ use crate::header::{dataset_header, root_header};
 use crate::index::{BLOCK_LEN, HEADER_LEN, array_header, index_block};
 use h5w_bytes::width_of;
 use h5w_chunks::{Fill, Grid, IndexKind, IntType, Layout, Shape};
-use h5w_model::{Options, OutOfMemory, Piece, Super, Write};
+use h5w_ea_index::ArrayIndex;
+use h5w_model::{OutOfMemory, Piece, Super, Write};
+use h5w_options::Options;
+use h5w_types::bytes_of;
 use std::alloc::Global;
 
 /// Where the root header stands, behind the superblock.
@@ -34,20 +35,34 @@ pub struct Sites {
     pub end: u64,
 }
 
-/// A new file: its dataset, where its blocks stand, the dataset header, and the pieces that make it.
+/// A new file: its dataset, where its blocks stand, the dataset header, its index, and the pieces that make it.
 #[derive(Drop)]
 pub struct Creation {
     pub grid: Grid,
     pub sites: Sites,
     pub header: Piece,
+    pub index: ArrayIndex,
     pub writes: Vec<Write>,
 }
 
+/// The fill of a new file: the cell of its value.
+fn fill_of(options: &Options) -> Fill
+    requires options { AreOptions options.now }
+    ensures { IsFillOf result options.now }
+{
+    match options.fill {
+        Some(v) => Fill {
+            value: bytes_of(v, &options.int_type),
+        },
+        None => Fill { value: None },
+    }
+}
+
 /// How many bytes the fill value message has.
-fn fill_len(fill: &Fill, int_type: &IntType) -> u64
-    requires filled { IsFillOf fill.now int_type.now }
-    requires typed { IsIntType (int_type_of int_type.now) }
-    ensures exact { result ≡ fill_len (fill_of fill.now).value }
+fn fill_len(options: &Options, fill: &Fill) -> u64
+    requires options { AreOptions options.now }
+    requires filled { IsFillOf fill.now options.now }
+    ensures exact { result ≡ fill_len (new_file options.now).fill.value }
     ensures bound { result ≤ 14 }
 {
     match fill.value {
@@ -67,18 +82,17 @@ fn size_width(chunk_rows: u64, int_type: &IntType) -> u64
 }
 
 /// Where the blocks of a new file stand.
-fn sites_of(options: &Options, int_type: &IntType, fill: &Fill) -> Sites
+fn sites_of(options: &Options, fill: &Fill) -> Sites
     requires options { AreOptions options.now }
-    requires typed { IsIntType (int_type_of int_type.now) }
-    requires filled { IsFillOf fill.now int_type.now }
-    ensures header { result.header ≡ header_place (new_file options.now int_type.now fill.now) }
-    ensures array { result.array ≡ array_place (new_file options.now int_type.now fill.now) }
-    ensures index { result.index ≡ index_place (new_file options.now int_type.now fill.now) }
-    ensures end { result.end ≡ first_end (new_file options.now int_type.now fill.now) }
+    requires filled { IsFillOf fill.now options.now }
+    ensures header { result.header ≡ header_place (new_file options.now) }
+    ensures array { result.array ≡ array_place (new_file options.now) }
+    ensures index { result.index ≡ index_place (new_file options.now) }
+    ensures end { result.end ≡ first_end (new_file options.now) }
 {
     let header = ROOT_PLACE + ROOT_LEN + options.name.as_slice().len() as u64;
-    let sizes = 2 * size_width(options.chunk_rows, int_type);
-    let array = header + (DATASET_LEN + fill_len(fill, int_type) + sizes);
+    let sizes = 2 * size_width(options.chunk_rows, &options.int_type);
+    let array = header + (DATASET_LEN + fill_len(options, fill) + sizes);
     let index = array + HEADER_LEN;
     Sites {
         header,
@@ -89,12 +103,11 @@ fn sites_of(options: &Options, int_type: &IntType, fill: &Fill) -> Sites
 }
 
 /// A dataset of one dimension without rows, whose array's header stands there.
-fn new_grid(options: &Options, int_type: &IntType, fill: &Fill, array: u64) -> Grid
+fn new_grid(options: &Options, fill: &Fill, array: u64) -> Grid
     requires options { AreOptions options.now }
-    requires typed { IsIntType (int_type_of int_type.now) }
-    requires filled { IsFillOf fill.now int_type.now }
-    requires place { array ≡ array_place (new_file options.now int_type.now fill.now) }
-    ensures dataset { dataset_of result ≡ new_dataset (new_file options.now int_type.now fill.now) }
+    requires filled { IsFillOf fill.now options.now }
+    requires place { array ≡ array_place (new_file options.now) }
+    ensures dataset { dataset_of result ≡ new_dataset (new_file options.now) }
     ensures grid { IsGrid result }
 {
     Grid {
@@ -104,13 +117,13 @@ fn new_grid(options: &Options, int_type: &IntType, fill: &Fill, array: u64) -> G
             cols: 1,
             growing: false,
         },
-        int_type: *int_type,
+        int_type: options.int_type,
         fill: *fill,
         layout: Layout {
             chunk: (options.chunk_rows, 1),
             index: IndexKind::Array,
             address: array,
-            at: 11 + 2 * size_width(options.chunk_rows, int_type) as usize,
+            at: 11 + 2 * size_width(options.chunk_rows, &options.int_type) as usize,
         },
     }
 }
@@ -144,7 +157,9 @@ fn creation_writes(
     name: &[u8],
     sites: &Sites,
     header: &Piece,
+    index: &ArrayIndex,
 ) -> Result<Vec<Write>, OutOfMemory>
+    requires index { IsCreated sites.now.array sites.now.index index.now }
     requires name { length name.now ≤ 64 }
     requires header { length header.now ≤ 512 }
     ensures room { IfOk result (λ ws. 1 ≤ vec_capacity ws) }
@@ -156,8 +171,8 @@ fn creation_writes(
 {
     let root = root_header(alloc, name, sites.header)?;
     let mut writes = Vec::with_capacity(alloc, 5)?;
-    writes.push(index_block(sites.array, sites.index))?;
-    writes.push(array_header(sites.array, sites.index))?;
+    writes.push(index_block(index, sites.array, sites.index))?;
+    writes.push(array_header(index, sites.array, sites.index))?;
     writes.push(Write {
         at: sites.header,
         piece: Piece::of(header.as_slice()),
@@ -170,32 +185,29 @@ fn creation_writes(
     Ok(writes)
 }
 
-/// A new file by its options, its type and its fill.
-pub fn create_file(
-    alloc: Global,
-    options: &Options,
-    int_type: &IntType,
-    fill: &Fill,
-) -> Result<Creation, OutOfMemory>
+/// A new file by its options.
+pub fn create_file(alloc: Global, options: &Options) -> Result<Creation, OutOfMemory>
     requires options { AreOptions options.now }
-    requires typed { IsIntType (int_type_of int_type.now) }
-    requires filled { IsFillOf fill.now int_type.now }
-    ensures dataset { IfOk result (λ c. dataset_of c.grid ≡ new_dataset (new_file options.now int_type.now fill.now)) }
+    ensures dataset { IfOk result (λ c. dataset_of c.grid ≡ new_dataset (new_file options.now)) }
     ensures grid { IfOk result (λ c. IsGrid c.grid) }
-    ensures place { IfOk result (λ c. c.sites.header ≡ header_place (new_file options.now int_type.now fill.now)) }
-    ensures end { IfOk result (λ c. c.sites.end ≡ first_end (new_file options.now int_type.now fill.now)) }
-    ensures header { IfOk result (λ c. c.header ≡ header_bytes (dataset_messages (new_dataset (new_file options.now int_type.now fill.now)))) }
+    ensures place { IfOk result (λ c. c.sites.header ≡ header_place (new_file options.now)) }
+    ensures end { IfOk result (λ c. c.sites.end ≡ first_end (new_file options.now)) }
+    ensures header { IfOk result (λ c. c.header ≡ header_bytes (dataset_messages (new_dataset (new_file options.now)))) }
+    ensures index { IfOk result (λ c. IsCreated (array_place (new_file options.now)) (index_place (new_file options.now)) c.index) }
     ensures room { IfOk result (λ c. 1 ≤ vec_capacity c.writes) }
-    ensures writes { IfOk result (λ c. c.writes.items ≡ creation_writes (new_file options.now int_type.now fill.now)) }
+    ensures writes { IfOk result (λ c. c.writes.items ≡ creation_writes (new_file options.now)) }
 {
-    let sites = sites_of(options, int_type, fill);
-    let grid = new_grid(options, int_type, fill, sites.array);
+    let fill = fill_of(options);
+    let sites = sites_of(options, &fill);
+    let grid = new_grid(options, &fill, sites.array);
     let header = dataset_header(alloc, &grid)?;
-    let writes = creation_writes(alloc, options.name.as_slice(), &sites, &header)?;
+    let index = ArrayIndex::new(alloc, sites.array, sites.index)?;
+    let writes = creation_writes(alloc, options.name.as_slice(), &sites, &header, &index)?;
     Ok(Creation {
         grid,
         sites,
         header,
+        index,
         writes,
     })
 }

@@ -2,13 +2,19 @@
 #![tactic(auto)]
 
 mod creation;
+mod flush;
 mod header;
 mod index;
+mod laws;
 mod refusal;
 mod state;
+mod taking;
 mod waiting;
 
 pub use h5w_chunks::{Fill, Grid, IndexKind, IntType, Layout, Shape};
-pub use h5w_model::{Bytes, Cell, Options, OutOfMemory, Piece, Super, Write};
-pub use refusal::{AppendError, CloseError};
-pub use state::WriterState;
+pub use h5w_model::{Bytes, Cell, OutOfMemory, Piece, Super, Write};
+pub use h5w_options::Options;
+pub use h5w_space::Full;
+pub use laws::{room_stays, shown_laws, standing_laws};
+pub use refusal::{AppendError, CloseError, FlushError};
+pub use state::WriterCore;

@@ -1,5 +1,7 @@
+use h5w_cache::PlanError;
 use h5w_image::ImageError;
 use h5w_model::OutOfMemory;
+use h5w_space::Full;
 use thiserror::Error;
 
 /// Why rows were not appended, tried in this order. The session is as before.
@@ -21,6 +23,26 @@ pub enum AppendError {
     #[error("image failed")]
     Failed,
     /// It may come in place of Failed, and of no other refusal.
+    #[error("out of memory")]
+    OutOfMemory,
+}
+
+/// Why a flush was not planned, tried in this order. Name, rows and pieces of the session are as before.
+#[derive(Clone, Copy, Debug, PartialEq, Eq, Error)]
+pub enum FlushError {
+    /// The session was stopped or closed.
+    #[error("the session was stopped")]
+    Stopped,
+    /// So many pieces are pending.
+    #[error("{pending} pieces are pending")]
+    Busy { pending: u64 },
+    /// The first new chunk that has no place in the file, or else the first block of the index.
+    #[error("{0}")]
+    Space(Full),
+    /// The image's count of faults rose in this call.
+    #[error("image failed")]
+    Failed,
+    /// It may come in place of Space and Failed, and of no other refusal.
     #[error("out of memory")]
     OutOfMemory,
 }
@@ -58,5 +80,55 @@ impl From<OutOfMemory> for AppendError {
 
     fn from(_e: OutOfMemory) -> AppendError {
         AppendError::OutOfMemory
+    }
+}
+
+impl From<ImageError> for FlushError {
+    ghost use Rattle.h5w_session.specs.Refusals.{flush_fault};
+    ghost use Rattle.std.specs.Prelude.{◌≡◌};
+
+    ghost from_gives = { λ e r. r ≡ flush_fault e };
+
+    fn from(e: ImageError) -> FlushError {
+        match e {
+            ImageError::Failed => FlushError::Failed,
+            ImageError::OutOfMemory => FlushError::OutOfMemory,
+        }
+    }
+}
+
+impl From<PlanError> for FlushError {
+    ghost use Rattle.h5w_session.specs.Refusals.{plan_fault};
+    ghost use Rattle.std.specs.Prelude.{◌≡◌};
+
+    ghost from_gives = { λ e r. r ≡ plan_fault e };
+
+    fn from(e: PlanError) -> FlushError {
+        match e {
+            PlanError::Full(full) => FlushError::Space(full),
+            PlanError::OutOfMemory => FlushError::OutOfMemory,
+        }
+    }
+}
+
+impl From<Full> for FlushError {
+    ghost use Rattle.h5w_session.specs.declared.refusal.FlushError.TheVariants.{Space as no_space};
+    ghost use Rattle.std.specs.Prelude.{◌≡◌};
+
+    ghost from_gives = { λ full r. r ≡ no_space full };
+
+    fn from(full: Full) -> FlushError {
+        FlushError::Space(full)
+    }
+}
+
+impl From<OutOfMemory> for FlushError {
+    ghost use Rattle.h5w_session.specs.declared.refusal.FlushError.TheVariants.{OutOfMemory as no_memory};
+    ghost use Rattle.std.specs.Prelude.{◌≡◌};
+
+    ghost from_gives = { λ _ r. r ≡ no_memory };
+
+    fn from(_e: OutOfMemory) -> FlushError {
+        FlushError::OutOfMemory
     }
 }

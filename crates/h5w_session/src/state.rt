@@ -1,28 +1,28 @@
-//! What a session is but for the index of its chunks.
+//! A session, and its calls but for the flush.
 ghost use Rattle.std.specs.Prelude.{◌≡◌, ℕ, ◌+◌, ◌*◌, ◌^◌, ◌<◌, ◌≤◌, true, [], ◌∷◌, List, length, slice_get, IfOk, IfErr, IfSome, MatchOption, OnOk, OnErr, Ok, Err, Some, ◌⊎◌};
 ghost use Rattle.std.specs.Option.{option_copied};
 ghost use Rattle.h5w_model.specs.declared.piece.Write.{Write};
 ghost use Rattle.h5w_model.specs.Causes.{Rose};
 ghost use Rattle.h5w_model.specs.Logs.{Log, and_now, appended, appends, flushed_rows, rows_in, shows};
-ghost use Rattle.h5w_model.specs.Messages.{IsIntType};
-ghost use Rattle.h5w_model.specs.Options.{AreOptions};
+ghost use Rattle.h5w_options.specs.Options.{AreOptions};
 ghost use Rattle.h5w_model.specs.Superblock.{super_at, super_bytes};
-ghost use Rattle.h5w_types.specs.Fields.{int_type_of};
-ghost use Rattle.h5w_session.specs.Creations.{IsFillOf, created, new_file};
+ghost use Rattle.h5w_session.specs.Creations.{created, log_of, new_file};
 ghost use Rattle.h5w_image.specs.View.{Same};
 ghost use Rattle.h5w_session.specs.Room.{HasRoomFor};
 ghost use Rattle.h5w_session.specs.Sessions.{AfterPiece, AreRows, chunk_limit, chunks_with, cleared, closed_of, closed_root, rows_of, stopped_of, with_values};
 ghost use Rattle.h5w_session.specs.Refusals.{append_refusal, close_refusal};
-ghost use Rattle.h5w_session.specs.Stands.{Stands, log_of};
+ghost use Rattle.h5w_session.specs.Stands.{Stands};
 ghost use Rattle.h5w_session.specs.declared.refusal.AppendError.{AppendError};
 ghost use Rattle.h5w_session.specs.declared.refusal.CloseError.{CloseError};
 
 use crate::creation::{create_file, new_super};
 use crate::refusal::{AppendError, CloseError};
 use crate::waiting::{add_cells, first_outside};
-use h5w_chunks::{Fill, Grid, IndexKind, IntType};
+use h5w_chunks::{Grid, IndexKind};
+use h5w_ea_index::ArrayIndex;
 use h5w_image::PieceWrite;
-use h5w_model::{Options, OutOfMemory, Piece, Super, Write};
+use h5w_model::{OutOfMemory, Piece, Super, Write};
+use h5w_options::Options;
 use h5w_space::Places;
 use std::alloc::Global;
 use std::marker::Model;
@@ -33,32 +33,34 @@ const ARRAY_CHUNKS: u64 = 131_060;
 /// The most chunks of a version 2 B-tree.
 const TREE_CHUNKS: u64 = 1_000_000;
 
-/// A session but for the index of its chunks: rows are appended and wait as cells; the pieces that a flush planned become visible, one
+/// A session: rows are appended and wait as cells; the pieces that a flush planned become visible, one
 /// after another. A session that was stopped or closed takes no rows and plans nothing.
 #[derive(Drop)]
-pub struct WriterState {
+pub struct WriterCore {
     /// The dataset's name.
-    name: Piece,
+    pub(crate) name: Piece,
     /// The superblock, the dataset header's place and chunk 0, the dataset and the places once all planned pieces became visible.
-    root: Super,
-    place: u64,
-    header: Piece,
-    grid: Grid,
-    places: Places,
+    pub(crate) root: Super,
+    pub(crate) place: u64,
+    pub(crate) header: Piece,
+    pub(crate) grid: Grid,
+    pub(crate) places: Places,
     /// The rows that the file has before the last of them does.
-    committed: u64,
+    pub(crate) committed: u64,
     /// The cells of the rows that no flush has planned, and how many rows these are.
-    waiting: Vec<u8>,
-    waits: u64,
+    pub(crate) waiting: Vec<u8>,
+    pub(crate) waits: u64,
     /// The pieces of the last plan, and how many of them became visible.
-    plan: Vec<Write>,
-    shown: usize,
-    stopped: bool,
+    pub(crate) plan: Vec<Write>,
+    pub(crate) shown: usize,
+    pub(crate) stopped: bool,
     /// What is retired stays retired.
-    keeps: bool,
+    pub(crate) keeps: bool,
+    /// The index of the chunks.
+    pub(crate) index: ArrayIndex,
 }
 
-impl Model for WriterState {
+impl Model for WriterCore {
     ghost use Rattle.std.specs.Prelude.{◌≤◌, length, drop, vec_capacity};
     ghost use Rattle.h5w_chunks.specs.Grids.{IsGrid, dataset_of};
     ghost use Rattle.h5w_session.specs.Sessions.{ArePieces, IsSession, Session};
@@ -78,6 +80,7 @@ impl Model for WriterState {
       pending = drop w.shown w.plan.items;
       stopped = w.stopped;
       keeps = w.keeps;
+      index = w.index;
     } };
 
     ghost invariant = { λ w.
@@ -94,6 +97,7 @@ impl Model for WriterState {
           pending = drop w.shown w.plan.items;
           stopped = w.stopped;
           keeps = w.keeps;
+          index = w.index;
         })
         × IsGrid w.grid
         × ArePieces w.places.end w.plan.items
@@ -101,23 +105,16 @@ impl Model for WriterState {
         × (1 ≤ vec_capacity w.plan) };
 }
 
-impl WriterState {
-    /// A session that creates a file with a dataset of one dimension, of integers of this type and with this fill. The creation's pieces
-    /// are pending; they end by the file's end. Whoever makes them visible reserves room for them and one more in the image first.
-    pub fn create(
-        alloc: Global,
-        options: &Options,
-        int_type: &IntType,
-        fill: &Fill,
-    ) -> Result<WriterState, OutOfMemory>
-        requires options { AreOptions options.now }
-        requires typed { IsIntType (int_type_of int_type.now) }
-        requires filled { IsFillOf fill.now int_type.now }
-        ensures session { IfOk result (λ s. s ≡ created (new_file options.now int_type.now fill.now)) }
+impl WriterCore {
+    /// A session that creates a file with a dataset of one dimension by these options. The creation's pieces are pending; they end by the
+    /// file's end. Whoever makes them visible reserves room for them and one more in the image first.
+    pub fn create(alloc: Global, options: &Options) -> Result<WriterCore, OutOfMemory>
+        requires { AreOptions options.now }
+        ensures session { IfOk result (λ s. s ≡ created (new_file options.now)) }
         ensures stands { IfOk result (λ s. Stands s (log_of [])) }
     {
-        let file = create_file(alloc, options, int_type, fill)?;
-        Ok(WriterState {
+        let file = create_file(alloc, options)?;
+        Ok(WriterCore {
             name: Piece::of(options.name.as_slice()),
             root: new_super(file.sites.end),
             place: file.sites.header,
@@ -131,6 +128,7 @@ impl WriterState {
             shown: 0,
             stopped: false,
             keeps: false,
+            index: file.index,
         })
     }
 

@@ -2,7 +2,7 @@
 use Rattle.std.proofs.Common.{◌≡◌, ◌≢◌, ◌||◌, ◌∙◌, Bool, true, false, List, [], ◌∷◌, Option, Some, None, refl, sym, ap, ap₂, inl, inr, option_map}
 use Rattle.std.specs.Prelude.{Box}
 use Rattle.std.specs.Box.{box_value}
-use Rattle.clap.specs.Words.{AddsArg, HasKind, Kinds, Row, Text, fault_of, first_of, first_value, is_simple_and_free, kind_of, rows_of, subcommand_name_of, subcommand_of, subcommand_rows, subcommand_rows_of}
+use Rattle.clap.specs.Words.{AddsArg, AddsSubcommand, App, HasKind, Kinds, Row, Text, fault_of, first_of, first_value, app_of, is_simple_and_free, kind_of, rows_of, subcommand_name_of, subcommand_of, subcommand_rows, subcommand_rows_of, with_subcommand}
 use Rattle.clap.specs.declared.builder.arg.Arg.{Arg}
 use Rattle.clap.specs.declared.builder.command.Command.{Command}
 use Rattle.clap.specs.declared.error.Error.{Error}
@@ -24,6 +24,10 @@ or_false false b h = h
 -- an argument that is not global leaves a command so
 pub added_globals : (old : Command) (a : Arg) (new : Command) → AddsArg old a new → a.global ≡ false → has_globals new ≡ has_globals old
 added_globals old a new added local = added.globals ∙ or_false (has_globals old) a.global local
+
+-- a command that is added, by its arguments
+pub command_added : {before app : App} (old sub new : Command) → AddsSubcommand old sub new → has_globals sub ≡ false → app_of old ≡ before → app_of sub ≡ app → app_of new ≡ with_subcommand before app.top
+command_added old sub new added local e f = added.shape local ∙ ap₂ with_subcommand e (ap (λ (a : App). a.top) f)
 
 -- the text that is found for an id is that of its row
 pub first_text : (f : Found) (id : Text) → first_value f id ≡ first_of id (rows_of f)

@@ -1,8 +1,10 @@
-pub use Rattle.h5w_model.specs.Options
+pub use Rattle.h5w_options.specs.Options
 pub use Rattle.h5w_text.specs.Lines
 pub use Rattle.h5w_text.specs.Scripts
 pub mod Names
+pub mod Types
 pub mod Arguments
 pub mod Limits
 pub mod Play
+pub mod Files
 pub mod Commands

@@ -1,17 +1,41 @@
+use crate::file::FileName;
 use clap::error::ErrorKind;
-use h5w_model::Options;
+use h5w_model::Bytes;
+use h5w_options::Options;
 use std::alloc::AllocError;
 use thiserror::Error;
 
 /// What the words of a command line ask for.
 #[derive(Drop)]
 pub enum Job {
-    /// Runs a script of a writer and readers of 32-bit integers.
+    /// Runs a script of a writer and readers.
     Play {
         /// By what the file is created. The name has letters, digits and underscores alone.
         options: Options,
         /// How many attempts a reader's call makes at most, 1 to 1,000.
         attempts: u32,
+    },
+    /// Checks a whole file.
+    Check {
+        file: FileName,
+        /// The name of the root group's link to the dataset.
+        name: Bytes,
+    },
+    /// Opens a dataset and refreshes it.
+    Poll {
+        file: FileName,
+        /// The name of the root group's link to the dataset.
+        name: Bytes,
+        /// How many calls, the open among them, 1 to 1,000,000.
+        times: u64,
+        /// How many attempts a call makes at most, 1 to 1,000.
+        attempts: u32,
+        /// Whether each new row is printed.
+        values: bool,
+    },
+    /// Clears the flags of writers in a file.
+    Clear {
+        file: FileName,
     },
 }
 

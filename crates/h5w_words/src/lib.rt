@@ -4,13 +4,18 @@
 #![tactic(auto)]
 
 mod arguments;
+mod file;
+mod files;
 mod job;
 mod name;
 mod number;
 mod play;
+mod types;
 mod values;
 mod words;
 
-pub use h5w_model::{Bytes, Options};
+pub use file::FileName;
+pub use h5w_model::Bytes;
+pub use h5w_options::{IntType, Options};
 pub use job::{Job, WordsError};
 pub use words::read_words;

@@ -1,10 +1,10 @@
 //! The values of a command's options.
 ghost use Rattle.std.specs.Prelude.{◌≡◌, ◌≤◌, IfSome, IsTrue, length, option_map};
 ghost use Rattle.clap.specs.Words.{first_of, found_of, rows_of};
-ghost use Rattle.h5w_words.specs.Arguments.{count_given, count_or, name_or};
-ghost use Rattle.h5w_words.specs.Names.{is_name};
+ghost use Rattle.h5w_words.specs.Arguments.{count_given, count_or, is_given, link_name_or, name_or};
+ghost use Rattle.h5w_words.specs.Names.{is_link_name, is_name};
 
-use crate::name::is_name;
+use crate::name::{is_link_name, is_name};
 use crate::number::count_in;
 use clap::ArgMatches;
 
@@ -52,5 +52,26 @@ pub fn name_or<'a>(options: &ArgMatches<'a>, name: &str, default: &'a str) -> Op
         Some(text) if is_name(text.as_bytes()) => Some(text),
         Some(_) => None,
         None => Some(default),
+    }
+}
+
+/// The name of a link that an option gives, or `default` where it was not given.
+pub fn link_name_or<'a>(options: &ArgMatches<'a>, name: &str, default: &'a str) -> Option<&'a str>
+    ensures name { option_map (λ s. s.now) result ≡ link_name_or default.now (first_of name.now (rows_of (found_of options.now))) }
+{
+    match text(options, name) {
+        Some(text) if is_link_name(text.as_bytes()) => Some(text),
+        Some(_) => None,
+        None => Some(default),
+    }
+}
+
+/// Whether an option without a value was given.
+pub fn is_given(options: &ArgMatches<'_>, name: &str) -> bool
+    ensures { result ≡ is_given (first_of name.now (rows_of (found_of options.now))) }
+{
+    match text(options, name) {
+        Some(text) => text == "true",
+        None => false,
     }
 }

@@ -1,8 +1,9 @@
 ghost use Rattle.std.specs.Prelude.{◌≡◌, ◌≢◌, ◌⊎◌, [], Some, None, map, string_bytes, IfOk, IfErr};
-ghost use Rattle.clap.specs.Words.{app_of, fault_of, subcommand_of, subcommand_rows_of};
-ghost use Rattle.h5w_words.specs.Commands.{asked_of, job_of, program};
+ghost use Rattle.clap.specs.Words.{app_of, fault_of, found_of, rows_of, subcommand_of, subcommand_rows_of};
+ghost use Rattle.h5w_words.specs.Commands.{asked_of, job_of, named_of, program};
 ghost use Rattle.h5w_words.specs.Limits.{IsWithinLimits};
 
+use crate::files::{check, check_job, clear, clear_job, poll, poll_job};
 use crate::job::{Job, WordsError};
 use crate::play::{play, play_job};
 use clap::{ArgMatches, Command};
@@ -12,8 +13,10 @@ use std::alloc::{AllocError, Global};
 fn program<'a>(alloc: Global) -> Result<Command<'a>, AllocError>
     ensures { IfOk result (λ c. app_of c ≡ program) }
 {
-    let play = play(alloc)?;
-    let command = Command::new(alloc, "h5swmr").subcommand(play)?;
+    let command = Command::new(alloc, "h5swmr").subcommand(play(alloc)?)?;
+    let command = command.subcommand(check(alloc)?)?;
+    let command = command.subcommand(poll(alloc)?)?;
+    let command = command.subcommand(clear(alloc)?)?;
     Ok(command)
 }
 
@@ -28,7 +31,22 @@ fn matches_for<'a>(alloc: Global, words: &'a [String]) -> Result<ArgMatches<'a>,
     Ok(matches)
 }
 
-/// What the command that was found asks for, by its options.
+/// What the command of this name asks for, by its options.
+fn named(alloc: Global, name: &str, options: &ArgMatches<'_>) -> Result<Job, WordsError>
+    ensures ok { IfOk result (λ job. named_of name.now (rows_of (found_of options.now)) ≡ Some job) }
+    ensures usage { IfErr result (λ e. (e ≡ WordsError.OutOfMemory) ⊎ (named_of name.now (rows_of (found_of options.now)) ≡ None)) }
+    ensures limits { IfOk result IsWithinLimits }
+{
+    match name {
+        "play" => play_job(alloc, options),
+        "check" => check_job(alloc, options),
+        "poll" => poll_job(alloc, options),
+        "clear" => clear_job(alloc, options),
+        _ => Err(WordsError::Usage),
+    }
+}
+
+/// What the command that was found asks for.
 #[tactic(auto, using(crate::proofs::WordLemmas::entered))]
 fn asked(alloc: Global, matches: &ArgMatches<'_>) -> Result<Job, WordsError>
     ensures ok { IfOk result (λ job. asked_of (subcommand_rows_of matches.now) ≡ Some job) }
@@ -36,8 +54,8 @@ fn asked(alloc: Global, matches: &ArgMatches<'_>) -> Result<Job, WordsError>
     ensures limits { IfOk result IsWithinLimits }
 {
     match matches.subcommand() {
-        Some((name, options)) if name == "play" => play_job(alloc, options),
-        _ => Err(WordsError::Usage),
+        Some((name, options)) => named(alloc, name, options),
+        None => Err(WordsError::Usage),
     }
 }
 

@@ -2,7 +2,7 @@
 /// A step is the program's words behind `$`, then a line each:
 ///
 /// - `LINE => REPLY`: a line of the input, and the line that answers it; `LINE` one that is not answered; `=> TEXT` a line
-///   of text that no line of the input asks for;
+///   of text that no line of the input asks for; in a line of the input `WORD*COUNT` is a word so often;
 /// - `= STATUS`, which is 0 where it is left out;
 /// - `+ NAME BYTES`: a file after it;
 /// - `source N`, `sink N`: the call of the source or of the sink that fails.
@@ -159,11 +159,6 @@ $ play --type i32le --chunk 2
 $ play --type i32le --chunk 2
 flush => flushing 0
 write 2 => written 0 pending 0
-
-# more chunks than there may be
-$ play --type i32le --chunk 1
-append 1 2 3 4 5 => full chunks 5 4
-append 1 => appended 1
 
 # values outside the type
 $ play --type i32le --chunk 1

@@ -1,5 +1,4 @@
 use Rattle.std.proofs.Common.{subst, sym}
-use Rattle.h5w_model.specs.Lawful.{adds, flushes, ends, opens, refreshes, reads}
 use Rattle.h5w_text.specs.Words.{line_of_script}
 use Rattle.h5w_text.specs.declared.script.ScriptLine.{ScriptLine}
 use Rattle.h5w_cli.specs.Answers.{Answers}

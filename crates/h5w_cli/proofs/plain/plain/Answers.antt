@@ -2,8 +2,26 @@ use Rattle.std.proofs.Common.{rules}
 use Rattle.h5w_cli.proofs.CompleteLemmas.{does_whole}
 use Rattle.h5w_cli.proofs.plain.plain.Goals as goal
 
-pub returns-clause-does : goal.returns-clause-does
-returns-clause-does g c = search rules
+pub returns-in-Play-clause-does : goal.returns-in-Play-clause-does
+returns-in-Play-clause-does g c = search rules
 
-pub returns-clause-completes : goal.returns-clause-completes
-returns-clause-completes g c = does_whole _ _ _ _ _ _ (returns-clause-does g c)
+pub returns-in-Check-clause-does : goal.returns-in-Check-clause-does
+returns-in-Check-clause-does g c = search rules
+
+pub returns-in-Poll-clause-does : goal.returns-in-Poll-clause-does
+returns-in-Poll-clause-does g c = search rules
+
+pub returns-in-Clear-clause-does : goal.returns-in-Clear-clause-does
+returns-in-Clear-clause-does g c = search rules
+
+pub returns-in-Play-clause-completes : goal.returns-in-Play-clause-completes
+returns-in-Play-clause-completes g c = does_whole _ _ _ _ _ _ _ _ (returns-in-Play-clause-does g c)
+
+pub returns-in-Check-clause-completes : goal.returns-in-Check-clause-completes
+returns-in-Check-clause-completes g c = does_whole _ _ _ _ _ _ _ _ (returns-in-Check-clause-does g c)
+
+pub returns-in-Poll-clause-completes : goal.returns-in-Poll-clause-completes
+returns-in-Poll-clause-completes g c = does_whole _ _ _ _ _ _ _ _ (returns-in-Poll-clause-does g c)
+
+pub returns-in-Clear-clause-completes : goal.returns-in-Clear-clause-completes
+returns-in-Clear-clause-completes g c = does_whole _ _ _ _ _ _ _ _ (returns-in-Clear-clause-does g c)

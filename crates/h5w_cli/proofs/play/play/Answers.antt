@@ -4,7 +4,7 @@ use Rattle.h5w_text.specs.declared.error.ErrorLine.TheVariants as errors
 use Rattle.h5w_core.specs.Worlds.{rules_for, rules_of}
 use Rattle.h5w_cli.specs.Plays.{input_limit}
 use Rattle.h5w_cli.specs.declared.ending.Ending.TheVariants as endings
-use Rattle.h5w_cli.specs.declared.status.Status.TheVariants as statuses
+use Rattle.h5w_text.specs.declared.status.Status.TheVariants as statuses
 use Rattle.h5w_cli.proofs.TellLemmas.{ends, leaves_first, runs_at}
 use Rattle.h5w_cli.proofs.play.play.Goals as goal
 

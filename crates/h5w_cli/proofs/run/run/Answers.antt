@@ -3,20 +3,20 @@ use Rattle.h5w_cli.proofs.TellLemmas.{not_wanting, ran_job, ran_outside, ran_wan
 use Rattle.h5w_cli.proofs.run.run.Goals as goal
 
 pub returns-in-Ok-clause-ran : goal.returns-in-Ok-clause-ran
-returns-in-Ok-clause-ran g c = ran_job _ c.in-Ok.job _ _ _ _ _ c.in-Ok.ensures.ok c.plain.ensures.does
+returns-in-Ok-clause-ran g c = ran_job _ c.in-Ok.job _ _ _ _ _ _ _ c.in-Ok.ensures.ok c.plain.ensures.does
 
 pub returns-in-Err-Usage-clause-ran : goal.returns-in-Err-Usage-clause-ran
 returns-in-Err-Usage-clause-ran g c =
-    ran_outside _ _ _ _ _ (not_wanting c.in-Err-Usage.field-0 _ c.in-Err-Usage.field-0-is c.in-Err-Usage.ensures.usage) c.say.ensures
+    ran_outside _ _ _ _ _ _ (not_wanting c.in-Err-Usage.field-0 _ c.in-Err-Usage.field-0-is c.in-Err-Usage.ensures.usage) c.say.ensures
 
 pub returns-in-Err-OutOfMemory-clause-ran : goal.returns-in-Err-OutOfMemory-clause-ran
-returns-in-Err-OutOfMemory-clause-ran g c = ran_wanting _ _ _ _ _ c.say-in-Err-OutOfMemory.ensures
+returns-in-Err-OutOfMemory-clause-ran g c = ran_wanting _ _ _ _ _ _ c.say-in-Err-OutOfMemory.ensures
 
 pub returns-in-Ok-clause-completes : goal.returns-in-Ok-clause-completes
-returns-in-Ok-clause-completes g c = ran_whole _ _ _ _ _ _ (returns-in-Ok-clause-ran g c)
+returns-in-Ok-clause-completes g c = ran_whole _ _ _ _ _ _ _ _ (returns-in-Ok-clause-ran g c)
 
 pub returns-in-Err-Usage-clause-completes : goal.returns-in-Err-Usage-clause-completes
-returns-in-Err-Usage-clause-completes g c = ran_whole _ _ _ _ _ _ (returns-in-Err-Usage-clause-ran g c)
+returns-in-Err-Usage-clause-completes g c = ran_whole _ _ _ _ _ _ _ _ (returns-in-Err-Usage-clause-ran g c)
 
 pub returns-in-Err-OutOfMemory-clause-completes : goal.returns-in-Err-OutOfMemory-clause-completes
-returns-in-Err-OutOfMemory-clause-completes g c = ran_whole _ _ _ _ _ _ (returns-in-Err-OutOfMemory-clause-ran g c)
+returns-in-Err-OutOfMemory-clause-completes g c = ran_whole _ _ _ _ _ _ _ _ (returns-in-Err-OutOfMemory-clause-ran g c)

@@ -1,7 +1,5 @@
-use Rattle.std.proofs.Common.{drop, subst, sym}
-use Rattle.h5w_writer.specs.Room.{HasRoomFor}
-use Rattle.h5w_writer.specs.Sessions.{Session}
-use Rattle.h5w_writer.proofs.LawLemmas.{room_stays}
+use Rattle.std.proofs.Common.{drop}
+use Rattle.h5w_session.proofs.LawLemmas.{room_stays}
 use Rattle.h5w_core.specs.Steady.{steady}
 use Rattle.h5w_core.proofs.WorldLemmas.{oldest}
 use Rattle.h5w_core.proofs.world.show.Goals as goal
@@ -12,5 +10,4 @@ returns-clause-room c =
     let piece = c.in-Some.w.now in
     let pieces = drop 1 s.pending in
     let pending = oldest piece s.pending c.in-Some.ensures.oldest in
-    subst (λ (x : Session). HasRoomFor x (steady c.put.new.self)) (sym (c.written.ensures.piece piece pieces pending))
-    (room_stays s piece pieces (steady c.args.image.now) (steady c.put.new.self) pending c.requires c.put.ensures)
+    room_stays s c.written.new.self piece pieces (steady c.args.image.now) (steady c.put.new.self) pending c.requires (c.written.ensures.piece piece pieces pending) c.put.ensures

@@ -7,6 +7,5 @@ use Rattle.h5w_session.proofs.creation.create_file.Goals as goal
 
 pub dataset_header-requires-clause-short : goal.dataset_header-requires-clause-short
 dataset_header-requires-clause-short c =
-    let f = new_file c.args.options.now c.args.int_type.now c.args.fill.now in
-    let is = is_new c.args.options.now c.args.int_type.now c.args.fill.now c.requires.options c.requires.typed c.requires.filled in
-    subst (λ (d : Described). length (layout_bytes d.layout d.shape d.int_type) ≤ 32) (sym c.new_grid-grid.ensures.dataset) (lengths f is).layout
+    let f = new_file c.args.options.now in
+    subst (λ (d : Described). length (layout_bytes d.layout d.shape d.int_type) ≤ 32) (sym c.new_grid-grid.ensures.dataset) (lengths f (is_new c.args.options.now c.requires.options)).layout

@@ -5,8 +5,8 @@ use Rattle.h5w_model.specs.declared.reply.Reply.TheVariants as replies
 use Rattle.h5w_core.specs.Worlds.{Steps}
 use Rattle.h5w_core.proofs.WorldLemmas.{world_of}
 use Rattle.h5w_core.proofs.AppendLemmas.{append_done, refused_done}
-use Rattle.h5w_writer.specs.declared.refusal.AppendError.TheVariants as errors
-use Rattle.h5w_core.proofs.HoldLemmas.{append_hold}
+use Rattle.h5w_session.specs.declared.refusal.AppendError.TheVariants as errors
+use Rattle.h5w_core.proofs.HoldLemmas.{append_hold, appended_stands, are_rows, are_rows_of, same_stands}
 use Rattle.h5w_core.proofs.world.World.append.Goals as goal
 use Rattle.h5w_core.proofs.world.World.append.Goals.{in-Ok, in-Err-Stopped, in-Err-Busy, in-Err-OutOfRange, in-Err-Chunks, in-Err-OutOfMemory}
 
@@ -18,25 +18,26 @@ returns-clause-steps c =
     let n = c.append.new.image in
     let attempts = c.self.inside.attempts in
     let vs = c.args.values.now in
+    let rows = are_rows_of s m attempts c.self.inside.readers.items c.args.self.now vs c.self.view_is c.self.invariant in
     elim c.match-append.branch [
       | in-Ok w ↦
           let e = w.in-Ok.ensures in
           rw w.result-is
-          (append_done s t m n attempts w.in-Ok.rows c.self.inside.readers.items c.args.self.now vs (Ok w.in-Ok.rows) c.self.view_is e.image e.added e.rows e.refused refl e.stands)
+          (append_done s t m n attempts w.in-Ok.rows c.self.inside.readers.items c.args.self.now vs (Ok w.in-Ok.rows) rows c.self.view_is e.image e.added e.rows e.refused refl e.stands)
       | in-Err-Stopped w ↦
           let e = w.in-Err-Stopped in
-          rw w.result-is (refused_done s t m n attempts c.self.inside.readers.items c.args.self.now vs e.field-0 errors.Stopped c.self.view_is e.ensures.image e.ensures.kept e.ensures.causes e.field-0-is tt)
+          rw w.result-is (refused_done s t m n attempts c.self.inside.readers.items c.args.self.now vs e.field-0 errors.Stopped rows c.self.view_is e.ensures.image e.ensures.kept e.ensures.causes e.field-0-is tt)
       | in-Err-Busy w ↦
           let e = w.in-Err-Busy in
-          rw w.result-is (refused_done s t m n attempts c.self.inside.readers.items c.args.self.now vs e.field-0 (errors.Busy e.pending) c.self.view_is e.ensures.image e.ensures.kept e.ensures.causes e.field-0-is tt)
+          rw w.result-is (refused_done s t m n attempts c.self.inside.readers.items c.args.self.now vs e.field-0 (errors.Busy e.pending) rows c.self.view_is e.ensures.image e.ensures.kept e.ensures.causes e.field-0-is tt)
       | in-Err-OutOfRange w ↦
           let e = w.in-Err-OutOfRange in
           let value : to_z w128 (of_z w128 e.value) ≡ e.value = search rules in
-          let steps = refused_done s t m n attempts c.self.inside.readers.items c.args.self.now vs e.field-0 (errors.OutOfRange e.index e.value) c.self.view_is e.ensures.image e.ensures.kept e.ensures.causes e.field-0-is tt in
+          let steps = refused_done s t m n attempts c.self.inside.readers.items c.args.self.now vs e.field-0 (errors.OutOfRange e.index e.value) rows c.self.view_is e.ensures.image e.ensures.kept e.ensures.causes e.field-0-is tt in
           rw w.result-is (subst (λ (v : ℤ). Steps c.args.self.now (events.Append vs) (replies.OutOfRange e.index v) (world_of t n attempts c.self.inside.readers.items)) (sym value) steps)
       | in-Err-Chunks w ↦
           let e = w.in-Err-Chunks in
-          rw w.result-is (refused_done s t m n attempts c.self.inside.readers.items c.args.self.now vs e.field-0 (errors.Chunks e.chunks e.limit) c.self.view_is e.ensures.image e.ensures.kept e.ensures.causes e.field-0-is tt)
+          rw w.result-is (refused_done s t m n attempts c.self.inside.readers.items c.args.self.now vs e.field-0 (errors.Chunks e.chunks e.limit) rows c.self.view_is e.ensures.image e.ensures.kept e.ensures.causes e.field-0-is tt)
       | in-Err-OutOfMemory w ↦ rw w.result-is tt
     ]
 
@@ -44,4 +45,36 @@ pub invariant_of-self : goal.invariant_of-self
 invariant_of-self c =
     let i = c.self.inside in
     let e = c.append.ensures in
-    append_hold i.session c.append.new.self i.image c.append.new.image i.attempts i.readers.items c.args.values.now c.append.result c.self.invariant e.image e.added e.rows e.stands e.refused e.kept e.room
+    append_hold i.session c.append.new.self i.image c.append.new.image i.attempts i.readers.items c.args.values.now c.append.result
+    (are_rows i.session i.image i.attempts i.readers.items c.args.values.now c.self.invariant) c.self.invariant e.image e.added e.rows e.stands e.refused e.kept e.room
+
+pub append-requires : goal.append-requires
+append-requires c =
+    let i = c.self.inside in
+    record { rows = are_rows i.session i.image i.attempts i.readers.items c.args.values.now c.self.invariant }
+
+pub returns-clause-logged : goal.returns-clause-logged
+returns-clause-logged c =
+    let i = c.self.inside in
+    let t = c.append.new.self in
+    let n = c.append.new.image in
+    let places = i.readers.items in
+    let vs = c.args.values.now in
+    elim c.match-append.branch [
+      | in-Ok b ↦
+          let e = b.in-Ok.ensures in
+          rw b.result-is (λ log stood. appended_stands i.session t i.image n i.attempts vs places c.args.self.now log c.self.view_is e.image e.stands stood)
+      | in-Err-Stopped b ↦
+          let e = b.in-Err-Stopped.ensures in
+          rw b.result-is (λ log stood. same_stands i.session t i.image n i.attempts places places c.args.self.now log c.self.view_is e.image e.kept stood)
+      | in-Err-Busy b ↦
+          let e = b.in-Err-Busy.ensures in
+          rw b.result-is (λ log stood. same_stands i.session t i.image n i.attempts places places c.args.self.now log c.self.view_is e.image e.kept stood)
+      | in-Err-OutOfRange b ↦
+          let e = b.in-Err-OutOfRange.ensures in
+          rw b.result-is (λ log stood. same_stands i.session t i.image n i.attempts places places c.args.self.now log c.self.view_is e.image e.kept stood)
+      | in-Err-Chunks b ↦
+          let e = b.in-Err-Chunks.ensures in
+          rw b.result-is (λ log stood. same_stands i.session t i.image n i.attempts places places c.args.self.now log c.self.view_is e.image e.kept stood)
+      | in-Err-OutOfMemory b ↦ rw b.result-is tt
+    ]

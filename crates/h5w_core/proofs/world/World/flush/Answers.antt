@@ -1,8 +1,8 @@
-use Rattle.std.proofs.Common.{Ok, Err, refl, ap, subst}
-use Rattle.h5w_writer.specs.Refusals.{flush_refusal}
-use Rattle.h5w_core.specs.Worlds.{MayBeFull, WorldView}
-use Rattle.h5w_core.proofs.FlushLemmas.{busy_done, flush_done, full_done, memory_only, stopped_done}
-use Rattle.h5w_core.proofs.HoldLemmas.{flush_hold, planned_stands, same_stands}
+use Rattle.std.proofs.Common.{◌≡◌, None, Ok, Err, refl, ap, subst}
+use Rattle.h5w_session.specs.Refusals.{flush_refusal}
+use Rattle.h5w_core.specs.Worlds.{WorldView}
+use Rattle.h5w_core.proofs.FlushLemmas.{LeavesSession, busy_done, flush_done, full_done, memory_only, stopped_done}
+use Rattle.h5w_core.proofs.HoldLemmas.{answered, flush_hold, held_stands, holds_more, planned_stands}
 use Rattle.h5w_core.proofs.world.World.flush.Goals as goal
 use Rattle.h5w_core.proofs.world.World.flush.Goals.{in-Ok, in-Err-Stopped, in-Err-Busy, in-Err-Space, in-Err-OutOfMemory}
 
@@ -13,57 +13,80 @@ returns-clause-steps c =
     let m = c.self.inside.image in
     let n = c.flush.new.image in
     let attempts = c.self.inside.attempts in
+    let readers = c.self.inside.readers.items in
+    let w = c.args.self.now in
     elim c.match-flush.branch [
-      | in-Ok w ↦
-          let e = w.in-Ok.ensures in
-          rw w.result-is (flush_done s t m n attempts w.in-Ok.pieces c.self.inside.readers.items c.args.self.now (Ok w.in-Ok.pieces) c.self.view_is e.image e.planned e.pieces e.none e.load e.stands e.refused refl)
-      | in-Err-Stopped w ↦
-          let e = w.in-Err-Stopped in
-          rw w.result-is (stopped_done s t m n attempts c.self.inside.readers.items c.args.self.now e.field-0 c.self.view_is e.ensures.image e.ensures.kept e.ensures.causes e.field-0-is)
-      | in-Err-Busy w ↦
-          let e = w.in-Err-Busy in
-          rw w.result-is (busy_done s t m n attempts e.pending c.self.inside.readers.items c.args.self.now e.field-0 c.self.view_is e.ensures.image e.ensures.kept e.ensures.causes e.field-0-is)
-      | in-Err-Space w ↦
-          let e = w.in-Err-Space in
-          rw w.result-is (full_done s t m n attempts c.self.inside.readers.items c.args.self.now e.field-0 e.field-0-0 (Err e.field-0) c.self.view_is e.ensures.image e.ensures.kept e.ensures.causes e.field-0-is refl e.ensures.space)
-      | in-Err-OutOfMemory w ↦ rw w.result-is tt
+      | in-Ok b ↦
+          let e = b.in-Ok.ensures in
+          rw b.result-is
+          (flush_done s t m n attempts b.in-Ok.pieces readers w (Ok b.in-Ok.pieces) c.self.view_is e.image
+          (answered s t b.in-Ok.pieces (record { flushed = e.flushed; pieces = e.pieces; some = e.some; nothing = e.nothing; stands = e.stands; bound = e.bound; refused = e.refused; kept = tt; left = tt })))
+      | in-Err-Stopped b ↦
+          let e = b.in-Err-Stopped in
+          let left : LeavesSession s t = record { same = e.ensures.kept; stands = e.ensures.left } in
+          rw b.result-is (stopped_done s t m n attempts readers w c.self.view_is e.ensures.image left e.field-0 e.ensures.causes e.field-0-is)
+      | in-Err-Busy b ↦
+          let e = b.in-Err-Busy in
+          let left : LeavesSession s t = record { same = e.ensures.kept; stands = e.ensures.left } in
+          rw b.result-is (busy_done s t m n attempts readers w c.self.view_is e.ensures.image left e.pending e.field-0 e.ensures.causes e.field-0-is)
+      | in-Err-Space b ↦
+          let e = b.in-Err-Space in
+          let left : LeavesSession s t = record { same = e.ensures.kept; stands = e.ensures.left } in
+          rw b.result-is (full_done s t m n attempts readers w c.self.view_is e.ensures.image left e.field-0 e.field-0-0 (Err e.field-0) e.field-0-is refl e.ensures.refused e.ensures.bounds)
+      | in-Err-OutOfMemory b ↦ rw b.result-is tt
     ]
 
 pub invariant_of-self : goal.invariant_of-self
 invariant_of-self c =
     let i = c.self.inside in
     let e = c.flush.ensures in
-    flush_hold i.session c.flush.new.self i.image c.flush.new.image i.attempts i.readers.items c.flush.result c.self.invariant e.image e.planned e.pieces e.none e.load e.stands e.refused e.kept e.room
+    flush_hold i.session c.flush.new.self i.image c.flush.new.image i.attempts i.readers.items c.flush.result c.self.invariant e.image
+    (record { flushed = e.flushed; pieces = e.pieces; some = e.some; nothing = e.nothing; stands = e.stands; bound = e.bound; refused = e.refused; kept = e.kept; left = e.left }) e.room
 
 pub returns-clause-logged : goal.returns-clause-logged
 returns-clause-logged c =
     let i = c.self.inside in
+    let t = c.flush.new.self in
+    let n = c.flush.new.image in
     elim c.match-flush.branch [
-      | in-Ok w ↦
-          let e = w.in-Ok.ensures in
-          rw w.result-is (λ log stood. planned_stands i.session c.flush.new.self i.image c.flush.new.image i.attempts w.in-Ok.pieces i.readers.items c.args.self.now log c.self.view_is e.image e.stands stood)
-      | in-Err-Stopped w ↦
-          let e = w.in-Err-Stopped.ensures in
-          rw w.result-is (λ log stood. same_stands i.session c.flush.new.self i.image c.flush.new.image i.attempts i.readers.items i.readers.items c.args.self.now log c.self.view_is e.image e.kept stood)
-      | in-Err-Busy w ↦
-          let e = w.in-Err-Busy.ensures in
-          rw w.result-is (λ log stood. same_stands i.session c.flush.new.self i.image c.flush.new.image i.attempts i.readers.items i.readers.items c.args.self.now log c.self.view_is e.image e.kept stood)
-      | in-Err-Space w ↦
-          let e = w.in-Err-Space.ensures in
-          rw w.result-is (λ log stood. same_stands i.session c.flush.new.self i.image c.flush.new.image i.attempts i.readers.items i.readers.items c.args.self.now log c.self.view_is e.image e.kept stood)
-      | in-Err-OutOfMemory w ↦ rw w.result-is tt
+      | in-Ok b ↦
+          let e = b.in-Ok.ensures in
+          rw b.result-is (λ log stood. planned_stands i.session t i.image n i.attempts b.in-Ok.pieces i.readers.items c.args.self.now log c.self.view_is e.image e.stands stood)
+      | in-Err-Stopped b ↦
+          let e = b.in-Err-Stopped.ensures in
+          rw b.result-is (λ log stood. held_stands i.session t i.image n i.attempts i.readers.items c.args.self.now log c.self.view_is e.image e.left stood)
+      | in-Err-Busy b ↦
+          let e = b.in-Err-Busy.ensures in
+          rw b.result-is (λ log stood. held_stands i.session t i.image n i.attempts i.readers.items c.args.self.now log c.self.view_is e.image e.left stood)
+      | in-Err-Space b ↦
+          let e = b.in-Err-Space.ensures in
+          rw b.result-is (λ log stood. held_stands i.session t i.image n i.attempts i.readers.items c.args.self.now log c.self.view_is e.image e.left stood)
+      | in-Err-OutOfMemory b ↦ rw b.result-is tt
+    ]
+
+pub returns-clause-kept : goal.returns-clause-kept
+returns-clause-kept c =
+    let i = c.self.inside in
+    elim c.match-flush.branch [
+      | in-Ok b ↦ rw b.result-is tt
+      | in-Err-Stopped b ↦ rw b.result-is tt
+      | in-Err-Busy b ↦ rw b.result-is tt
+      | in-Err-Space b ↦ rw b.result-is tt
+      | in-Err-OutOfMemory b ↦
+          let e = b.in-Err-OutOfMemory.ensures in
+          rw b.result-is (holds_more i.session c.flush.new.self i.image c.flush.new.image i.attempts i.readers.items c.args.self.now c.self.view_is e.image e.kept)
     ]
 
 pub returns-clause-memory : goal.returns-clause-memory
 returns-clause-memory c =
     elim c.match-flush.branch [
-      | in-Ok w ↦ rw w.result-is tt
-      | in-Err-Stopped w ↦ rw w.result-is tt
-      | in-Err-Busy w ↦ rw w.result-is tt
-      | in-Err-Space w ↦ rw w.result-is tt
-      | in-Err-OutOfMemory w ↦
-          let e = w.in-Err-OutOfMemory in
-          rw w.result-is
-          (subst (λ (x : WorldView). MayBeFull (flush_refusal x.session)) c.self.view_is
-          (memory_only (flush_refusal c.self.inside.session) (Err e.field-0) e.ensures.refused (ap Err e.field-0-is)))
+      | in-Ok b ↦ rw b.result-is tt
+      | in-Err-Stopped b ↦ rw b.result-is tt
+      | in-Err-Busy b ↦ rw b.result-is tt
+      | in-Err-Space b ↦ rw b.result-is tt
+      | in-Err-OutOfMemory b ↦
+          let e = b.in-Err-OutOfMemory in
+          rw b.result-is
+          (subst (λ (x : WorldView). flush_refusal x.session ≡ None) c.self.view_is
+          (memory_only c.self.inside.session (Err e.field-0) e.ensures.refused (ap Err e.field-0-is)))
     ]

@@ -1,0 +1,181 @@
+-- What a poll finds and writes.
+use Rattle.std.proofs.Common.{◌≡◌, ◌⊎◌, ℕ, ◌+◌, ◌≤◌, ◌^◌, List, length, Option, Some, None, Result, Ok, Err, refl, sym, ap, ◌∙◌, subst, inl, inr}
+use Rattle.std.specs.Prelude.{nat_lt, ℤ, option_map}
+use Rattle.std.specs.List.{AllByRecursion}
+use Rattle.std.proofs.lemmas.Bool.{cond-false, le-ltb}
+use Rattle.h5w_model.specs.Numbers.{range}
+use Rattle.h5w_model.specs.Programs.{Prog, ret, whole, counted, stored, eval, IsLookAt}
+use Rattle.h5w_model.specs.Tables.{Reading, reading}
+use Rattle.h5w_model.specs.Calls.{open_call, rows_call, rows_seen}
+use Rattle.h5w_model.specs.Unfinished.{Reader, ReaderRules, Unfinished, rows_left, values_left, rows_program, values_program, refresh_rules, with_left}
+use Rattle.h5w_model.specs.declared.refusal.ReadError.{ReadError}
+use Rattle.h5w_model.specs.declared.refusal.ReadError.TheVariants as reads
+use Rattle.h5w_laws.specs.Programs.{looks_on}
+use Rattle.h5w_laws.proofs.LookLemmas.{takes_on}
+use Rattle.h5w_headline.proofs.EndLemmas.{plain_open, plain_rows}
+use Rattle.h5w_headline.proofs.StillLemmas.{still_calls, still_refresh}
+use Rattle.h5w_reader.specs.Readers.{IsRefusedRead, StepTells, read_refusal}
+use Rattle.h5w_reader.specs.declared.step.ReadBegin.{ReadBegin}
+use Rattle.h5w_reader.specs.declared.step.ReadBegin.TheVariants as begins
+use Rattle.h5w_reader.specs.declared.step.Step.TheVariants as steps
+use Rattle.h5w_text.specs.declared.error.ErrorLine.{ErrorLine}
+use Rattle.h5w_text.specs.declared.error.ErrorLine.TheVariants as errors
+use Rattle.h5w_files.specs.Answering.{AnswersCall, IsForRows, IsForValues, evaluated}
+use Rattle.h5w_files.specs.Polls.{Shown}
+use Rattle.h5w_files.specs.Polling.{FindsRows, FindsValues, IsOfCall, RefusedBy, read_line}
+
+-- ---- On an image that stays as it is
+
+looks_there : {A : Type 0} (img : List ℕ) (p : Prog A) → AllByRecursion (IsLookAt img) (looks_on img p)
+looks_there img (ret a) = tt
+looks_there img (whole place n next) = (refl, looks_there img (next (range img place n)))
+looks_there img (counted place counts next) = tt
+looks_there img (stored kind place n next) = tt
+
+-- an open finds what is shown, or the refusal of the first step that fails
+pub opens_still : (img : List ℕ) (g : ReaderRules) → length img ≤ 2 ^ 64 → eval img (rows_program g None) ≡ eval img (reading g.limits g.name)
+opens_still img g fits =
+    let p : Prog (Result Reading ReadError) = open_call g.limits g.keeps g.attempts g.name in
+    still_calls.opens img g.name g.limits g.keeps g.attempts (looks_on img p) (eval img p) fits (looks_there img p) (takes_on img p (plain_open g.limits g.keeps g.attempts g.name))
+
+-- and a refresh finds it again
+pub refreshes_still : (img : List ℕ) (g : ReaderRules) (r : Reading) → length img ≤ 2 ^ 64 → Shown img g r → eval img (rows_program g (Some r)) ≡ Ok r
+refreshes_still img g r fits shown =
+    let p : Prog (Result Reading ReadError) = rows_call (refresh_rules g r) in
+    still_refresh img g.name (refresh_rules g r) r (looks_on img p) (eval img p) fits shown refl refl (looks_there img p) (takes_on img p (plain_rows (refresh_rules g r)))
+
+-- ---- A call for rows
+
+pub line_kind : (e : ReadError) → IsOfCall (read_line e)
+line_kind reads.NotHdf5 = tt
+line_kind (reads.Super e) = tt
+line_kind (reads.NotSwmr flags) = tt
+line_kind (reads.Header at e) = tt
+line_kind (reads.Link e) = tt
+line_kind (reads.Unsupported n) = tt
+line_kind (reads.TooManyChunks needed limit) = tt
+line_kind (reads.Damaged at fault) = tt
+line_kind (reads.Again attempts at first last) = tt
+line_kind (reads.Shrunk seen found) = tt
+line_kind reads.OutOfMemory = tt
+
+refused_line : {A : Type 0} (given : Result A ReadError) (e : ReadError) → given ≡ Err e → RefusedBy given (read_line e)
+refused_line given reads.NotHdf5 h = h
+refused_line given (reads.Super e) h = h
+refused_line given (reads.NotSwmr flags) h = h
+refused_line given (reads.Header at e) h = h
+refused_line given (reads.Link e) h = h
+refused_line given (reads.Unsupported n) h = h
+refused_line given (reads.TooManyChunks needed limit) h = h
+refused_line given (reads.Damaged at fault) h = h
+refused_line given (reads.Again attempts at first last) h = h
+refused_line given (reads.Shrunk seen found) h = h
+refused_line given reads.OutOfMemory h = tt
+
+wanting_line : {A : Type 0} (given : Result A ReadError) (e : ReadError) → e ≡ reads.OutOfMemory → RefusedBy given (read_line e)
+wanting_line given e h = subst (λ x. RefusedBy given (read_line x)) (sym h) tt
+
+rows_same : (p q : Prog (Result Reading ReadError)) → ◌≡◌ {A = Option Unfinished} (Some (rows_left p)) (Some (rows_left q)) → p ≡ q
+rows_same p q e = cc
+
+ret_same : (a b : Result Reading ReadError) → ◌≡◌ {A = Option Unfinished} (Some (rows_left (ret a))) (Some (rows_left (ret b))) → a ≡ b
+ret_same a b e = cc
+
+values_same : (a b : Result (List ℤ) ReadError) → ◌≡◌ {A = Option Unfinished} (Some (values_left (ret a))) (Some (values_left (ret b))) → a ≡ b
+values_same a b e = cc
+
+pub rows_told : (img : List ℕ) (old new : Reader) (rows : ℕ) → StepTells (option_map (evaluated img) old.left) old (steps.Rows rows) new → FindsRows img old (Ok rows) new
+rows_told img old new rows tells = λ p left.
+    (tells.0, ret_same (eval img p) (Ok tells.0) (sym (ap (option_map (evaluated img)) left) ∙ tells.1), tells.2, tells.3)
+
+pub rows_refused : (img : List ℕ) (old new : Reader) (e : ReadError) → StepTells (option_map (evaluated img) old.left) old (steps.Refused e) new → FindsRows img old (Err (read_line e)) new
+rows_refused img old new e tells = λ p left.
+    elim tells.0 [
+      | inl a ↦ refused_line (eval img p) e (ret_same (eval img p) (Err e) (sym (ap (option_map (evaluated img)) left) ∙ a))
+      | inr b ↦ elim b [
+        | inl v ↦ absurd (let clash : ◌≡◌ {A = Option Unfinished} (Some (rows_left (ret (eval img p)))) (Some (values_left (ret (Err e)))) = sym (ap (option_map (evaluated img)) left) ∙ v in cc)
+        | inr m ↦ wanting_line (eval img p) e m
+      ]
+    ]
+
+-- a disk that failed, or want of memory
+pub free_kind : (e : ErrorLine) → (e ≡ errors.Disk) ⊎ (e ≡ errors.Memory) → IsOfCall e
+free_kind e (inl disk) = subst (λ x. IsOfCall x) (sym disk) tt
+free_kind e (inr memory) = subst (λ x. IsOfCall x) (sym memory) tt
+
+free_refused : {A : Type 0} (given : Result A ReadError) (e : ErrorLine) → (e ≡ errors.Disk) ⊎ (e ≡ errors.Memory) → RefusedBy given e
+free_refused given e (inl disk) = subst (λ x. RefusedBy given x) (sym disk) tt
+free_refused given e (inr memory) = subst (λ x. RefusedBy given x) (sym memory) tt
+
+pub free_rows : (img : List ℕ) (old new : Reader) (e : ErrorLine) → (e ≡ errors.Disk) ⊎ (e ≡ errors.Memory) → FindsRows img old (Err e) new
+free_rows img old new e free = λ p left. free_refused (eval img p) e free
+
+pub free_values : (img : List ℕ) (from count : ℕ) (old new : Reader) (e : ErrorLine) → (e ≡ errors.Disk) ⊎ (e ≡ errors.Memory) → FindsValues img from count old (Err e) new
+free_values img from count old new e free = λ r known left. free_refused (eval img (values_program (Some r) from count)) e free
+
+-- a call for rows is not answered with values
+pub no_values : (old new : Reader) (vs : List ℤ) → IsForRows old.left → AnswersCall old (steps.Values vs) new → ⊥
+no_values old new vs call a = subst (λ (l : Option Unfinished). IsForRows l) a.tells.0 (a.rows call)
+
+-- its rows are known from then on
+pub rows_known : (old new : Reader) (rows : ℕ) → AnswersCall old (steps.Rows rows) new → rows_seen new.known ≡ rows
+rows_known old new rows a = ap (λ (r : Reader). rows_seen r.known) a.tells.3 ∙ sym a.tells.2
+
+pub rows_idle : (old new : Reader) (rows : ℕ) → AnswersCall old (steps.Rows rows) new → new.left ≡ None
+rows_idle old new rows a = ap (λ (r : Reader). r.left) a.tells.3
+
+-- ---- A read
+
+idle : (old : Reader) → old.left ≡ None → with_left old None ≡ old
+idle old e = ap (λ l. with_left old l) (sym e)
+
+-- whose values are known at once
+pub values_known : (img : List ℕ) (from count : ℕ) (old new : Reader) (vs : List ℤ) → (new ≡ old) × (values_program old.known from count ≡ ret (Ok vs)) → FindsValues img from count old (Ok vs) new
+values_known img from count old new vs h = λ r known left. (ap (eval img) (sym (ap (λ k. values_program k from count) known) ∙ h.1), h.0)
+
+abbrev Begun : ℕ → ℕ → Reader → Reader → Type 0
+Begun from count old mid = mid ≡ with_left old (Some (values_left (values_program old.known from count)))
+
+given_values : (img : List ℕ) (from count : ℕ) (old mid : Reader) (r : Reading) → Begun from count old mid → old.known ≡ Some r
+    → option_map (evaluated img) mid.left ≡ Some (values_left (ret (eval img (values_program (Some r) from count))))
+given_values img from count old mid r is known =
+    ap (λ (x : Reader). option_map (evaluated img) x.left) is ∙ ap (λ k. Some (values_left (ret (eval img (values_program k from count))))) known
+
+pub values_told : (img : List ℕ) (from count : ℕ) (old mid new : Reader) (vs : List ℤ) → Begun from count old mid
+    → StepTells (option_map (evaluated img) mid.left) mid (steps.Values vs) new → FindsValues img from count old (Ok vs) new
+values_told img from count old mid new vs is tells = λ r known left. (
+  values_same (eval img (values_program (Some r) from count)) (Ok vs) (sym (given_values img from count old mid r is known) ∙ tells.0),
+  tells.1 ∙ ap (λ (x : Reader). with_left x None) is ∙ idle old left,
+)
+
+pub values_refused : (img : List ℕ) (from count : ℕ) (old mid new : Reader) (e : ReadError) → Begun from count old mid
+    → StepTells (option_map (evaluated img) mid.left) mid (steps.Refused e) new → FindsValues img from count old (Err (read_line e)) new
+values_refused img from count old mid new e is tells = λ r known left.
+    elim tells.0 [
+      | inl a ↦ absurd (let clash : ◌≡◌ {A = Option Unfinished} (Some (values_left (ret (eval img (values_program (Some r) from count))))) (Some (rows_left (ret (Err e)))) = sym (given_values img from count old mid r is known) ∙ a in cc)
+      | inr b ↦ elim b [
+        | inl v ↦ refused_line (eval img (values_program (Some r) from count)) e (values_same (eval img (values_program (Some r) from count)) (Err e) (sym (given_values img from count old mid r is known) ∙ v))
+        | inr m ↦ wanting_line (eval img (values_program (Some r) from count)) e m
+      ]
+    ]
+
+-- a read is not answered with rows
+pub no_rows : (old new : Reader) (rows : ℕ) → IsForValues old.left → AnswersCall old (steps.Rows rows) new → ⊥
+no_rows old new rows call a = subst (λ (l : Option Unfinished). IsForValues l) a.tells.1 (a.values call)
+
+pub values_idle : (old new : Reader) (vs : List ℤ) → AnswersCall old (steps.Values vs) new → new.left ≡ None
+values_idle old new vs a = ap (λ (r : Reader). r.left) a.tells.1
+
+-- an idle reader reads what was seen, unless memory is wanting
+read_begins : (old : Reader) (from count : ℕ) → old.left ≡ None → from + count ≤ rows_seen old.known → read_refusal old from count ≡ None
+read_begins old from count idle seen =
+    subst (λ (l : Option Unfinished). read_refusal (with_left old l) from count ≡ None) (sym idle)
+    (cond-false (nat_lt (rows_seen old.known) (from + count)) (Some (begins.OutOfRows from count (rows_seen old.known))) None (le-ltb (rows_seen old.known) (from + count) seen))
+
+wanting_alone : (refusal : Option ReadBegin) (e : ReadBegin) → refusal ≡ None → IsRefusedRead refusal e → e ≡ begins.OutOfMemory
+wanting_alone refusal begins.Busy none h = cc
+wanting_alone refusal (begins.OutOfRows from count rows) none h = cc
+wanting_alone refusal begins.OutOfMemory none h = refl
+
+pub read_wanting : (old : Reader) (from count : ℕ) (e : ReadBegin) → old.left ≡ None → from + count ≤ rows_seen old.known → IsRefusedRead (read_refusal old from count) e → e ≡ begins.OutOfMemory
+read_wanting old from count e idle seen h = wanting_alone (read_refusal old from count) e (read_begins old from count idle seen) h

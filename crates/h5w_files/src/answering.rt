@@ -1,0 +1,44 @@
+//! A reader's call over an image, to its answer.
+ghost use Rattle.std.specs.Prelude.{◌≡◌, ◌≢◌, ◌⊎◌, ℕ, List, Some, Err, IsSome, IfErr, IfOk, option_map};
+ghost use Rattle.h5w_model.specs.Causes.{Rose};
+ghost use Rattle.h5w_model.specs.Unfinished.{wanted};
+ghost use Rattle.h5w_image.specs.View.{Looked};
+ghost use Rattle.h5w_check.specs.Still.{IsStill};
+ghost use Rattle.h5w_reader.specs.Cores as cores;
+ghost use Rattle.h5w_reader.specs.Readers.{StepTells};
+ghost use Rattle.h5w_reader.specs.declared.step.Step.TheVariants as steps;
+ghost use Rattle.h5w_files.specs.Answering.{AnswersCall, evaluated};
+
+use h5w_image::{Piece, PieceRead};
+use h5w_reader::{ReaderCore, Step};
+use h5w_text::ErrorLine;
+
+/// The most looks of one call.
+const LOOKS: u64 = u64::MAX;
+
+/// Takes the looks of the reader's unfinished call to its answer. A disk that is looked at so often that they are too many to
+/// count is answered as for want of memory.
+pub fn answered<I: PieceRead>(reader: &mut ReaderCore, image: &mut I) -> Result<Step, ErrorLine>
+    requires { IsSome (wanted (cores.reader reader.old).left) }
+    ensures looked { Looked (I.view image.old) (I.view image.new) }
+    ensures causes { IfErr result (λ e. (e ≡ ErrorLine.Disk) ⊎ (e ≡ ErrorLine.Memory)) }
+    ensures cause { result ≡ Err ErrorLine.Disk → Rose (I.view image.old).faults (I.view image.new).faults }
+    ensures ended { IfOk result (λ step. step ≢ steps.More) }
+    ensures answers { IfOk result (λ step. AnswersCall (cores.reader reader.old) step (cores.reader reader.new)) }
+    ensures exact { IfOk result (λ step. (img : List ℕ) → IsStill (I.view image.old) img → StepTells (option_map (evaluated img) (cores.reader reader.old).left) (cores.reader reader.old) step (cores.reader reader.new)) }
+{
+    let mut piece = Piece::new();
+    for _ in 0..LOOKS {
+        let Some(look) = reader.want() else {
+            unreachable!()
+        };
+        match image.look(look.at, look.len, &mut piece) {
+            Ok(()) => match reader.give(&piece) {
+                Step::More => {}
+                step => return Ok(step),
+            },
+            Err(_) => return Err(ErrorLine::Disk),
+        }
+    }
+    Err(ErrorLine::Memory)
+}

@@ -1,0 +1,264 @@
+//! The command that polls a file.
+ghost use Rattle.std.specs.Prelude.{◌≡◌, ◌≤◌, ◌+◌, ◌&&◌, ℕ, List, nat_lt, None, IsSome, IfErr, IfOk, OnOk, Some, Err};
+ghost use Rattle.h5w_model.specs.Calls.{rows_seen};
+ghost use Rattle.h5w_model.specs.Causes.{Rose};
+ghost use Rattle.h5w_model.specs.Unfinished.{rows_left, rows_program, wanted, with_left};
+ghost use Rattle.h5w_image.specs.View.{Looked};
+ghost use Rattle.h5w_check.specs.Still.{IsStill};
+ghost use Rattle.h5w_reader.specs.Cores as cores;
+ghost use Rattle.h5w_reader.specs.Readers.{reader_rules};
+ghost use Rattle.h5w_files.specs.Answering.{IsForRows};
+ghost use Rattle.h5w_files.specs.Ends.{EndsWell};
+ghost use Rattle.h5w_files.specs.Polling.{FindsRows, FindsValues, IsOfCall, OnceGives, PollGives, TimesGive, ToldBy, read_line};
+ghost use Rattle.h5w_files.specs.Polls.{PollEnds, count_text, poll_of, values_text};
+
+use crate::answering::answered;
+use crate::image::DiskImage;
+use h5w_image::{Disk, Failed, PieceRead};
+use h5w_model::{OutOfMemory, ReadError, Values};
+use h5w_reader::{ReadBegin, ReaderCore, Step};
+use h5w_text::{ErrorLine, Sink, Status, tell, write_numbers, write_rows};
+use std::alloc::Global;
+
+/// Why a poll ends before its last call.
+enum Ending {
+    Error(ErrorLine),
+    /// The sink failed.
+    Sink,
+}
+
+impl From<ErrorLine> for Ending {
+    ghost use Rattle.std.specs.Prelude.{◌≡◌};
+    ghost use Rattle.h5w_files.specs.declared.polling.Ending.TheVariants.{Error as error};
+
+    ghost from_gives = { λ e ending. ending ≡ error e };
+
+    fn from(e: ErrorLine) -> Ending {
+        Ending::Error(e)
+    }
+}
+
+impl From<Failed> for Ending {
+    ghost use Rattle.std.specs.Prelude.{◌≡◌};
+    ghost use Rattle.h5w_files.specs.declared.polling.Ending.TheVariants.{Sink};
+
+    ghost from_gives = { λ _ ending. ending ≡ Sink };
+
+    fn from(_e: Failed) -> Ending {
+        Ending::Sink
+    }
+}
+
+impl From<OutOfMemory> for Ending {
+    ghost use Rattle.std.specs.Prelude.{◌≡◌};
+    ghost use Rattle.h5w_text.specs.declared.error.ErrorLine.TheVariants.{Memory as no_memory};
+    ghost use Rattle.h5w_files.specs.declared.polling.Ending.TheVariants.{Error as error};
+
+    ghost from_gives = { λ _ ending. ending ≡ error no_memory };
+
+    fn from(_e: OutOfMemory) -> Ending {
+        Ending::Error(ErrorLine::Memory)
+    }
+}
+
+/// The line of a reader's refusal.
+fn read_line(error: ReadError) -> ErrorLine
+    ensures { result ≡ read_line error }
+{
+    match error {
+        ReadError::OutOfMemory => ErrorLine::Memory,
+        error => ErrorLine::Read(error),
+    }
+}
+
+/// The rows that the reader's call finds.
+fn rows_found<I: PieceRead>(reader: &mut ReaderCore, image: &mut I) -> Result<u64, ErrorLine>
+    requires begun { IsSome (wanted (cores.reader reader.old).left) }
+    requires call { IsForRows (cores.reader reader.old).left }
+    ensures looked { Looked (I.view image.old) (I.view image.new) }
+    ensures kinds { IfErr result IsOfCall }
+    ensures cause { result ≡ Err ErrorLine.Disk → Rose (I.view image.old).faults (I.view image.new).faults }
+    ensures idle { OnOk result ((cores.reader reader.new).left ≡ None) }
+    ensures seen { IfOk result (λ rows. rows_seen (cores.reader reader.new).known ≡ rows) }
+    ensures exact { (img : List ℕ) → IsStill (I.view image.old) img → FindsRows img (cores.reader reader.old) result (cores.reader reader.new) }
+{
+    match answered(reader, image)? {
+        Step::Rows(rows) => Ok(rows),
+        Step::Refused(error) => Err(read_line(error)),
+        Step::More => unreachable!(),
+        Step::Values(_) => unreachable!(),
+    }
+}
+
+/// The values of `count` rows from row `from` on, all of which the reader's last call found.
+fn values_found<I: PieceRead>(
+    reader: &mut ReaderCore,
+    image: &mut I,
+    from: u64,
+    count: u64,
+) -> Result<Values, ErrorLine>
+    requires idle { (cores.reader reader.old).left ≡ None }
+    requires seen { from + count ≤ rows_seen (cores.reader reader.old).known }
+    ensures looked { Looked (I.view image.old) (I.view image.new) }
+    ensures kinds { IfErr result IsOfCall }
+    ensures cause { result ≡ Err ErrorLine.Disk → Rose (I.view image.old).faults (I.view image.new).faults }
+    ensures still_idle { OnOk result ((cores.reader reader.new).left ≡ None) }
+    ensures exact { (img : List ℕ) → IsStill (I.view image.old) img → FindsValues img from count (cores.reader reader.old) result (cores.reader reader.new) }
+{
+    match reader.read(from, count) {
+        Ok(Some(values)) => return Ok(values),
+        Ok(None) => {}
+        Err(ReadBegin::OutOfMemory) => return Err(ErrorLine::Memory),
+        Err(_) => unreachable!(),
+    }
+    match answered(reader, image)? {
+        Step::Values(values) => Ok(values),
+        Step::Refused(error) => Err(read_line(error)),
+        Step::More => unreachable!(),
+        Step::Rows(_) => unreachable!(),
+    }
+}
+
+/// Writes how many rows a call found.
+fn write_count<K: Sink>(alloc: Global, rows: u64, sink: &mut K) -> Result<(), Ending>
+    ensures { ToldBy result (count_text rows) (K.view sink.old) (K.view sink.new) }
+{
+    let mut text = Vec::new(alloc);
+    write_numbers(&mut text, b"rows", &[rows])?;
+    sink.write(&text)?;
+    Ok(())
+}
+
+/// Writes the lines of so many rows.
+fn write_lines<K: Sink>(
+    alloc: Global,
+    rows: u64,
+    values: &[i128],
+    sink: &mut K,
+) -> Result<(), Ending>
+    requires { 1 ≤ rows }
+    ensures { ToldBy result (values_text rows values.now) (K.view sink.old) (K.view sink.new) }
+{
+    let mut text = Vec::new(alloc);
+    write_rows(&mut text, rows, values.len() as u64 / rows, values)?;
+    sink.write(&text)?;
+    Ok(())
+}
+
+/// Whether rows behind the first `printed` are to be written.
+fn has_new(values: bool, printed: u64, rows: u64) -> bool
+    ensures { result ≡ (values && nat_lt printed rows) }
+{
+    values && printed < rows
+}
+
+/// Answers the reader's call: writes how many rows it finds, and then, where `values` is set, those behind the first `printed`.
+fn write_once<I: PieceRead, K: Sink>(
+    alloc: Global,
+    reader: &mut ReaderCore,
+    image: &mut I,
+    values: bool,
+    printed: u64,
+    sink: &mut K,
+) -> Result<u64, Ending>
+    requires begun { IsSome (wanted (cores.reader reader.old).left) }
+    requires call { IsForRows (cores.reader reader.old).left }
+    ensures looked { Looked (I.view image.old) (I.view image.new) }
+    ensures idle { OnOk result ((cores.reader reader.new).left ≡ None) }
+    ensures gives { OnceGives values printed (I.view image.old) (I.view image.new) (cores.reader reader.old) result (cores.reader reader.new) (K.view sink.old) (K.view sink.new) }
+{
+    let rows = rows_found(reader, image)?;
+    write_count(alloc, rows, sink)?;
+    if !has_new(values, printed, rows) {
+        return Ok(rows);
+    }
+    let found = values_found(reader, image, printed, rows - printed)?;
+    write_lines(alloc, rows - printed, found.as_slice(), sink)?;
+    Ok(rows)
+}
+
+/// Begins a refresh.
+fn refresh(reader: &mut ReaderCore)
+    requires { (cores.reader reader.old).left ≡ None }
+    ensures begun { cores.reader reader.new ≡ with_left (cores.reader reader.old) (Some (rows_left (rows_program (cores.reader reader.old).rules (cores.reader reader.old).known))) }
+    ensures wanting { IsSome (wanted (cores.reader reader.new).left) }
+    ensures call { IsForRows (cores.reader reader.new).left }
+{
+    match reader.refresh() {
+        Ok(()) => {}
+        Err(_) => unreachable!(),
+    }
+}
+
+/// Makes so many calls of a new reader, the first of which has begun.
+fn write_times<I: PieceRead, K: Sink>(
+    alloc: Global,
+    reader: &mut ReaderCore,
+    image: &mut I,
+    times: u64,
+    values: bool,
+    sink: &mut K,
+) -> Result<(), Ending>
+    requires begun { IsSome (wanted (cores.reader reader.old).left) }
+    requires call { IsForRows (cores.reader reader.old).left }
+    requires some { 1 ≤ times }
+    ensures looked { Looked (I.view image.old) (I.view image.new) }
+    ensures gives { TimesGive times values (I.view image.old) (I.view image.new) (cores.reader reader.old) result (K.view sink.old) (K.view sink.new) }
+{
+    let mut printed = write_once(alloc, reader, image, values, 0, sink)?;
+    for _ in 1..times {
+        refresh(reader);
+        printed = write_once(alloc, reader, image, values, printed, sink)?;
+    }
+    Ok(())
+}
+
+/// Polls the file of the name `file`, whose errors are not told yet.
+fn polled<K: Sink, D: Disk>(
+    alloc: Global,
+    file: &str,
+    name: &[u8],
+    times: u64,
+    attempts: u32,
+    values: bool,
+    sink: &mut K,
+    disk: &mut D,
+) -> Result<(), Ending>
+    requires { 1 ≤ times }
+    ensures { PollGives file.now name.now times attempts values (D.view disk.old) (D.view disk.new) result (K.view sink.old) (K.view sink.new) }
+{
+    match disk.size(file) {
+        Ok(Some(_)) => {}
+        Ok(None) => return Err(Ending::Error(ErrorLine::Missing)),
+        Err(_) => return Err(Ending::Error(ErrorLine::Disk)),
+    }
+    let Ok(mut reader) = ReaderCore::open(alloc, name, attempts) else {
+        return Err(Ending::Error(ErrorLine::Memory));
+    };
+    let mut image = DiskImage { disk, name: file };
+    write_times(alloc, &mut reader, &mut image, times, values, sink)
+}
+
+/// Opens the dataset that the root group's link of `name` leads to in the file of the name `file`, and refreshes it `times` less
+/// one times. Writes how many rows each of these calls finds before the next begins, and where `values` is set, behind it each row
+/// that was not written yet.
+pub fn poll<K: Sink, D: Disk>(
+    alloc: Global,
+    file: &str,
+    name: &[u8],
+    times: u64,
+    attempts: u32,
+    values: bool,
+    sink: &mut K,
+    disk: &mut D,
+) -> Status
+    requires { 1 ≤ times }
+    ensures completes { EndsWell (poll_of (reader_rules name.now attempts) values) file.now (D.view disk.old) (D.view disk.new) result (K.view sink.old) (K.view sink.new) }
+    ensures polls { PollEnds file.now name.now times attempts values (D.view disk.old) (D.view disk.new) result (K.view sink.old) (K.view sink.new) }
+{
+    match polled(alloc, file, name, times, attempts, values, sink, disk) {
+        Ok(()) => Status::Done,
+        Err(Ending::Error(error)) => tell(alloc, &error, sink),
+        Err(Ending::Sink) => Status::Sink,
+    }
+}

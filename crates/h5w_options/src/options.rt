@@ -1,0 +1,17 @@
+use h5w_model::Bytes;
+use h5w_types::IntType;
+
+/// By what a session creates a file with a dataset of one dimension.
+#[derive(Debug, Drop)]
+pub struct Options {
+    /// The dataset's name, 1 to 64 bytes.
+    pub name: Bytes,
+    /// The type of its integers, of 1, 2, 4 or 8 bytes.
+    pub int_type: IntType,
+    /// How many rows a chunk has, 1 to 65,536.
+    pub chunk_rows: u64,
+    /// The value of the type that cells have which no row was written to; without one it is 0, and the file says no fill.
+    pub fill: Option<i128>,
+    /// The most bytes of the file, 1,024 to 2^40.
+    pub limit: u64,
+}

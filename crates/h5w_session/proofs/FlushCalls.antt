@@ -1,0 +1,100 @@
+-- What the call of a flush tells of the session that it leaves.
+use Rattle.std.proofs.Common.{◌≡◌, ℕ, zero, suc, ◌<◌, ◌≤◌, Bool, true, false, nat_lt, if◌then◌else◌, List, [], ◌∷◌, ◌++◌, length, Option, Some, None, Result, Ok, Err, refl, sym, ap, ◌∙◌, subst, arith, length-append}
+use Rattle.std.specs.Option.{MatchOption}
+use Rattle.std.specs.Prelude.{IfOk, OnErr, OnOk}
+use Rattle.std.proofs.lemmas.Bool.{lt-ltb}
+use Rattle.h5w_model.specs.Logs.{Log, and_now, load, plans}
+use Rattle.h5w_model.specs.declared.piece.Write.{Write}
+use Rattle.h5w_space.specs.declared.Full.{Full}
+use Rattle.h5w_cache.specs.StoreLaws.{Standing, range_of}
+use Rattle.h5w_session.specs.Sessions.{AllEndBy, IsSession, Session, TakesRows, cutting_of}
+use Rattle.h5w_session.specs.Loads.{NoPlace}
+use Rattle.h5w_session.specs.Flushes.{IsFlushed, SameBut, header_piece}
+use Rattle.h5w_session.specs.Refusals.{IsFullFor, flush_refusal}
+use Rattle.h5w_session.specs.Stands.{Stands}
+use Rattle.h5w_session.specs.declared.refusal.FlushError.{FlushError}
+use Rattle.h5w_session.specs.declared.refusal.FlushError.TheVariants as flushes
+use Rattle.h5w_session.proofs.FlushStands.{refused_stands}
+use Rattle.h5w_session.proofs.FlushedLemmas.{plan_ends}
+use Rattle.h5w_session.proofs.LoadLemmas.{flush_bound, flush_carries, full_no_place}
+
+-- ---- Where a flush is not refused at once
+
+pub record IsIdle (s : Session) : Type 0 where
+  pub running : s.stopped ≡ false
+  pub idle : s.pending ≡ []
+
+none_long : (ws : List Write) → nat_lt 0 (length ws) ≡ false → ws ≡ []
+none_long [] e = refl
+none_long (w ∷ ws) e = let clash : true ≡ false = sym (lt-ltb 0 (length (w ∷ ws)) (omega arith)) ∙ e in cc
+
+abbrev refusal_by : Bool → Bool → ℕ → Option FlushError
+refusal_by stopped busy pending = if stopped then Some flushes.Stopped else if busy then Some (flushes.Busy pending) else None
+
+neither : (stopped busy : Bool) (pending : ℕ) → refusal_by stopped busy pending ≡ None → (stopped ≡ false) × (busy ≡ false)
+neither true busy pending none = cc
+neither false true pending none = cc
+neither false false pending none = (refl, refl)
+
+none_refused : {E : Type 0} (refusal : Option E) (r : Result (Unit {0}) E) → MatchOption refusal (r ≡ Ok tt) (λ e. r ≡ Err e) → r ≡ Ok tt → refusal ≡ None
+none_refused None r is ok = refl
+none_refused (Some e) r is ok = let clash : Err e ≡ Ok tt = sym is ∙ ok in cc
+
+pub is_idle : (s : Session) (r : Result (Unit {0}) FlushError) → MatchOption (flush_refusal s) (r ≡ Ok tt) (λ e. r ≡ Err e) → r ≡ Ok tt → IsIdle s
+is_idle s r is ok =
+    let by = neither s.stopped (nat_lt 0 (length s.pending)) (length s.pending) (none_refused (flush_refusal s) r is ok) in
+    record { running = by.0; idle = none_long s.pending by.1 }
+
+-- ---- What a flush of some rows does
+
+some_pieces : (old new : Session) → IsFlushed old new → 1 ≤ length new.pending
+some_pieces old new x =
+    let fixed = x.fixed ++ header_piece old ∷ [] in
+    omega (arith, ap length x.pending, length-append x.rows (x.copies ++ (x.supers ++ fixed)), length-append x.copies (x.supers ++ fixed), length-append x.supers fixed, length-append x.fixed (header_piece old ∷ []))
+
+takes_rows : (old new : Session) → IsSession old → IsFlushed old new → TakesRows old new
+takes_rows old new is x =
+    let before = x.named.standing old.places is.standing in
+    let standing : Standing x.held x.between = record { live = λ n there. x.taken.stays_live (range_of x.held n) (before.live n there); some = before.some; apart = before.apart } in
+    let ends = plan_ends x.held x.named.array x.between x.moves x.copies x.fixed new.index new.places x.plan standing in
+    record {
+      name = ap (λ (s : Session). s.name) x.session;
+      place = ap (λ (s : Session). s.place) x.session;
+      dataset = ap (λ (s : Session). s.dataset) x.session;
+      waiting = ap (λ (s : Session). s.waiting) x.session;
+      waits = ap (λ (s : Session). s.waits) x.session;
+      committed = ap (λ (s : Session). s.committed) x.session;
+      stopped = ap (λ (s : Session). s.stopped) x.session;
+      keeps = ap (λ (s : Session). s.keeps) x.session;
+      limit = ends.0 ∙ x.raised.limit;
+      rises = omega (arith, x.raised.rises, x.plan.end);
+    }
+
+pub told_rows : (old new : Session) (r : Result ℕ FlushError) → IsSession old → OnOk r (IsFlushed old new) → OnOk r (TakesRows old new)
+told_rows old new (Ok n) is x = takes_rows old new is x
+told_rows old new (Err e) is x = tt
+
+pub told_some : (old new : Session) (r : Result ℕ FlushError) → OnOk r (IsFlushed old new) → IfOk r (λ n. n ≡ length new.pending) → IfOk r (λ n. 1 ≤ n)
+told_some old new (Ok n) x count = omega (arith, some_pieces old new x, count)
+told_some old new (Err e) x count = tt
+
+pub told_stands : (old new : Session) (r : Result ℕ FlushError) → IsIdle old → OnOk r (IsFlushed old new) → OnOk r (AllEndBy new.places.end new.pending) → IfOk r (λ n. n ≡ length new.pending)
+    → IfOk r (λ n. (log : Log) → Stands old log → Stands new (and_now (plans n) log))
+told_stands old new (Ok n) i x ends count = λ log stands. subst (λ (k : ℕ). Stands new (and_now (plans k) log)) (sym count) (flush_carries old new log x i.running i.idle ends stands)
+told_stands old new (Err e) i x ends count = tt
+
+pub told_left : (old new : Session) (r : Result ℕ FlushError) → IsIdle old → OnErr r (SameBut old new) → OnErr r ((log : Log) → Stands old log → Stands new log)
+told_left old new (Ok n) i kept = tt
+told_left old new (Err e) i kept = λ log stands. refused_stands old new log kept i.running i.idle stands
+
+pub told_bound : (old new : Session) (r : Result ℕ FlushError) → IsIdle old → OnOk r (IsFlushed old new) → IfOk r (λ n. n ≡ length new.pending) → IfOk r (λ n. (log : Log) → Stands old log → n ≤ load (cutting_of old) log)
+told_bound old new (Ok n) i x count = λ log stands. omega (arith, count, flush_bound old new log x i.running i.idle stands)
+told_bound old new (Err e) i x count = tt
+
+pub told_bounds : (s : Session) (r : Result ℕ FlushError) → IsIdle s → 0 < s.waits → ((full : Full) → r ≡ Err (flushes.Space full) → IsFullFor s full)
+    → (full : Full) → r ≡ Err (flushes.Space full) → (log : Log) → Stands s log → NoPlace s log full
+told_bounds s r i waits told full is log stands = full_no_place s log i.running i.idle stands waits full (told full is)
+
+pub some_waits : (n : ℕ) → (n ≡ 0 → ⊥) → 0 < n
+some_waits zero some = absurd (some refl)
+some_waits (suc n) some = omega arith

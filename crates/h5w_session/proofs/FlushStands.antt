@@ -1,0 +1,127 @@
+-- What a flush makes of a session that stands over a log.
+use Rattle.std.proofs.Common.{◌≡◌, ℕ, ◌*◌, Bool, false, List, [], ◌∷◌, ◌++◌, length, ℤ, refl, sym, ap, ◌∙◌, subst, inl, inr, arith, append-nil}
+use Rattle.std.specs.Prelude.{if◌then◌else◌}
+use Rattle.std.proofs.lemmas.Bool.{le-leb}
+use Rattle.h5w_model.specs.Logs.{Log, plans, appended, appended_in, flushed_in, and_now}
+use Rattle.h5w_model.specs.Findings.{chunk_bytes}
+use Rattle.h5w_model.specs.declared.piece.Write.{Write}
+use Rattle.h5w_cache.specs.Stores.{Store}
+use Rattle.h5w_array_laws.specs.Parts.{header, number_of}
+use Rattle.h5w_steps.specs.Logs.{Goes, image_now}
+use Rattle.h5w_steps.proofs.GoesLemmas.{event_goes}
+use Rattle.h5w_steps.proofs.SessionLaws.{goes_runs}
+use Rattle.h5w_session.specs.Sessions.{Session, rows_of}
+use Rattle.h5w_session.specs.Indexes.{AreMarks}
+use Rattle.h5w_session.specs.Flushes.{AreWays, IsFlushed, SameBut, flushed_of}
+use Rattle.h5w_session.specs.Past.{Past}
+use Rattle.h5w_session.specs.Stands.{Running, Stands}
+use Rattle.h5w_session.proofs.PastLemmas.{like_itself, past_planned, past_same}
+use Rattle.h5w_session.proofs.RaisedLemmas.{raised_more, raised_none}
+use Rattle.h5w_session.proofs.StandLemmas.{goes_rows, left_running, resting}
+use Rattle.h5w_session.proofs.FlushLemmas.{after_flush, flush_running, same_ranges}
+
+-- ---- Rows are flushed
+
+planned_stands : (old new : Session) (log : Log) (x : IsFlushed old new) (r : Running old [] log) → Past new new.pending (and_now (plans (length new.pending)) log) (after_flush old new log x r)
+    → Stands new (and_now (plans (length new.pending)) log)
+planned_stands old new log x r past =
+    let next = and_now (plans (length new.pending)) log in
+    let s = flushed_of old new.places new.pending new.index in
+    let own : Past s new.pending next (after_flush old new log x r) = subst (λ (t : Session). Past t new.pending next (after_flush old new log x r)) x.session past in
+    let running : Running s new.pending next = flush_running old new log x r own in
+    let goes = running.runs.goes in
+    subst (λ (t : Session). Stands t next) (sym x.session) (record { left = new.pending; dropped = inl refl; phase = inr running; prefixed = goes.prefixed; still = goes.still })
+
+-- a session that is neither stopped nor waits for pieces runs
+pub idle_running : (s : Session) (log : Log) → s.stopped ≡ false → s.pending ≡ [] → Stands s log → Running s [] log
+idle_running s log running idle st =
+    let none : st.left ≡ [] = left_running s st.left running st.dropped ∙ idle in
+    elim st.phase [
+      | inl c ↦ absurd (c.1.some none)
+      | inr r ↦ subst (λ (ws : List Write). Running s ws log) none r
+    ]
+
+pub flush_stands : (old new : Session) (log : Log) (x : IsFlushed old new) → old.stopped ≡ false → old.pending ≡ []
+    → ((r : Running old [] log) → Past new new.pending (and_now (plans (length new.pending)) log) (after_flush old new log x r))
+    → Stands old log → Stands new (and_now (plans (length new.pending)) log)
+flush_stands old new log x running idle past st = let r = idle_running old log running idle st in planned_stands old new log x r (past r)
+
+-- ---- No row waits
+
+none_long : (vs : List ℤ) → length vs ≡ 0 → vs ≡ []
+none_long [] e = refl
+none_long (v ∷ vs) e = absurd (omega (arith, e))
+
+nothing_running : (s : Session) (log : Log) → s.waits ≡ 0 → Running s [] log → Running s [] (and_now (plans 0) log)
+nothing_running s log none r =
+    let next = and_now (plans 0) log in
+    let m = r.after in
+    let goes = resting s.name log m m.behind r.runs in
+    let chosen : Bool → ℕ → List ℤ = λ b k. if b then log.values ++ appended_in log.events else flushed_in k log.values log.events in
+    let more : r.more ≡ [] = none_long r.more (r.count ∙ ap (λ (n : ℕ). n * s.dataset.shape.cols) none ∙ omega arith) in
+    let all : m.values ≡ appended log = sym (append-nil m.values) ∙ ap (λ (vs : List ℤ). m.values ++ vs) (sym more) ∙ r.appended in
+    let each : (k : ℕ) → flushed_in k next.values next.events ≡ m.values = λ k. ap (λ b. chosen b k) (le-leb 0 k (omega arith)) ∙ sym all in
+    let later : Goes s.name next m m.behind = event_goes s.name (plans 0) log m m.behind refl (sym (each 0)) goes in
+    record {
+      after = m;
+      address = r.address;
+      runs = goes_runs s.name next m m.behind later each;
+      knows = r.knows;
+      keeps = r.keeps;
+      index = r.index;
+      marks = r.marks;
+      more = r.more;
+      waiting = r.waiting;
+      fit = r.fit;
+      count = r.count;
+      appended = r.appended;
+      committed = goes_rows s.name next m m.behind later ∙ sym (goes_rows s.name log m m.behind goes) ∙ r.committed;
+      columns = r.columns;
+      past = past_planned s s 0 [] log m m (like_itself s) (raised_more s.places s.places 0 _ (omega arith) (raised_none s.places s.places refl refl)) tt r.past.next r.past;
+    }
+
+-- a flush of no rows plans no pieces
+pub nothing_stands : (s : Session) (log : Log) → s.stopped ≡ false → s.pending ≡ [] → s.waits ≡ 0 → Stands s log → Stands s (and_now (plans 0) log)
+nothing_stands s log running idle none st =
+    let next = nothing_running s log none (idle_running s log running idle st) in
+    let goes = next.runs.goes in
+    record { left = []; dropped = inl (sym idle); phase = inr next; prefixed = goes.prefixed; still = goes.still }
+
+-- ---- A flush is refused
+
+pub ways_marks : (s : Session) (v : Store) → AreWays s v → AreMarks s.dataset s.dataset.shape.rows (rows_of s) s.index → AreMarks s.dataset s.dataset.shape.rows (rows_of s) v
+ways_marks s v ways marks n changed = elim (ways n changed) [ inl before ↦ marks n before | inr way ↦ way ]
+
+refused_running : (old new : Session) (log : Log) → SameBut old new → Running old [] log → Running (record old { index = new.index }) [] log
+refused_running old new log b r = record {
+  after = r.after;
+  address = r.address;
+  runs = r.runs;
+  knows = r.knows;
+  keeps = record { root = r.keeps.root; place = r.keeps.place; dataset = r.keeps.dataset; header = r.keeps.header };
+  index = record {
+    kind = r.index.kind;
+    at = r.index.at ∙ sym (b.held.places (number_of header));
+    array = b.array;
+    stands = b.held.stands (image_now log) r.index.stands;
+    standing = b.held.standing old.places r.index.standing;
+    fixed = r.index.fixed ∙ sym (same_ranges old.index new.index b.held.places);
+    behind = r.index.behind ∙ sym (b.held.behind (chunk_bytes r.after.dataset));
+    map = λ key. r.index.map key ∙ sym (b.held.map key.i);
+  };
+  marks = ways_marks old new.index b.ways r.marks;
+  more = r.more;
+  waiting = r.waiting;
+  fit = r.fit;
+  count = r.count;
+  appended = r.appended;
+  committed = r.committed;
+  columns = r.columns;
+  past = past_same old (record old { index = new.index }) [] log r.after (record { name = refl; place = refl; dataset = refl; limit = refl }) refl r.past;
+}
+
+pub refused_stands : (old new : Session) (log : Log) → SameBut old new → old.stopped ≡ false → old.pending ≡ [] → Stands old log → Stands new log
+refused_stands old new log b running idle st =
+    let own = refused_running old new log b (idle_running old log running idle st) in
+    let goes = own.runs.goes in
+    subst (λ (t : Session). Stands t log) (sym b.session) (record { left = []; dropped = inl (sym idle); phase = inr own; prefixed = goes.prefixed; still = goes.still })

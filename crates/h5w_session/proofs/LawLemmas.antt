@@ -1,0 +1,255 @@
+-- What a session's relation to its log gives.
+use Rattle.std.proofs.Common.{◌≡◌, ℕ, suc, ◌^◌, ◌≤◌, false, nat_lt, List, [], ◌∷◌, length, take, Ok, Err, refl, ap, sym, ◌∙◌, subst, inl, inr, arith}
+use Rattle.std.proofs.lemmas.Bool.{cond-false, le-ltb, ltb-false}
+use Rattle.h5w_model.specs.Programs.{Visit, eval, ret, and_then, visits}
+use Rattle.h5w_model.specs.Logs.{Log, Happening, flushed, hist, rows_in, shown}
+use Rattle.h5w_model.specs.Datasets.{Described, dataset, dataset_place, root_header, root_view}
+use Rattle.h5w_model.specs.Tables.{Limits, Reading, Shows, format_limits, limit_of, needed, needed_keys, needed_table, table_of}
+use Rattle.h5w_model.specs.Prefixed.{EachReads, Held, IsPosition, Keeps, Prefixed, ReadsNow, continuation_blocks, image_at, root_address}
+use Rattle.h5w_model.specs.declared.cell.IndexKind.{IndexKind}
+use Rattle.h5w_model.specs.declared.piece.Write.{Write}
+use Rattle.h5w_model.specs.declared.refusal.ReadError.TheVariants as read_errors
+use Rattle.h5w_laws.proofs.HeldLemmas.{still_gives_held}
+use Rattle.h5w_laws.proofs.LogLemmas.{each_gives_prefixed, length_hist}
+use Rattle.h5w_laws.proofs.ProgramLemmas.{same_visits}
+use Rattle.h5w_laws.proofs.ResultLemmas.{and_then_from}
+use Rattle.h5w_laws.proofs.ValidLemmas.{dataset_ok, place_ok}
+use Rattle.h5w_steps.specs.Moments.{Moment, Represents, reading_of}
+use Rattle.h5w_steps.proofs.FoundLemmas.{moment_shows, opens, shown_is}
+use Rattle.h5w_steps.proofs.GoesLemmas.{reads_now}
+use Rattle.h5w_steps.proofs.MomentLemmas.{few}
+use Rattle.h5w_session.specs.Creations.{NewFile, array_place, log_of, new_dataset, root_place}
+use Rattle.h5w_session.specs.Laws.{IsDatasetOf, RoomStays, ShownLaws, StandingLaws}
+use Rattle.h5w_session.specs.Past.{HasCreated, Past}
+use Rattle.h5w_session.specs.Sessions.{Session, chunk_limit, with_rows}
+use Rattle.h5w_session.specs.Stands.{Creating, Running, Stands}
+use Rattle.h5w_session.proofs.BeginLemmas.{beginning, since_first}
+use Rattle.h5w_session.proofs.CreatedLemmas.{first_end_small, new_image, new_moment}
+use Rattle.h5w_session.proofs.CreatingLemmas.{committed_told, rows_told, shown_so_far, some_length}
+use Rattle.h5w_session.proofs.PastLemmas.{ends_front, ends_take, image_ends, limit_high}
+use Rattle.h5w_session.proofs.StandLemmas.{freed_keeps, goes_rows, left_running, resting}
+
+-- ---- How a log began
+
+-- what both phases tell of the file that the session created
+record Started (s : Session) (log : Log) : Type 0 where
+  file : NewFile
+  log_is : log ≡ log_of log.events
+  dataset : s.dataset ≡ with_rows s.dataset.shape.rows (new_dataset file)
+  limit : s.places.limit ≤ 2 ^ 40
+
+started : (s : Session) (log : Log) → Stands s log → Started s log
+started s log st =
+    elim st.phase [
+      | inl c ↦
+          let f = c.0 in
+          let new : s.dataset ≡ new_dataset f = ap (λ (x : Session). x.dataset) c.1.session in
+          let limit : s.places.limit ≡ f.limit = ap (λ (x : Session). x.places.limit) c.1.session in
+          record {
+            file = f;
+            log_is = c.1.log_is;
+            dataset = new ∙ ap (λ (d : Described). with_rows d.shape.rows (new_dataset f)) (sym new);
+            limit = omega (arith, limit, c.1.is.limit_high);
+          }
+      | inr r ↦
+          let b = r.past.begun in
+          record { file = b.file; log_is = b.log_is; dataset = b.dataset; limit = limit_high s st.left log r.after r.past }
+    ]
+
+one_column : (s : Session) (log : Log) → Stands s log → s.dataset.shape.cols ≡ 1
+one_column s log st = ap (λ (d : Described). d.shape.cols) (started s log st).dataset
+
+-- ---- What a log is
+
+stands_prefixed : (s : Session) (log : Log) → Stands s log → Prefixed s.name log
+stands_prefixed s log st = each_gives_prefixed s.name log st.prefixed
+
+stands_held : (s : Session) (log : Log) → Stands s log → Held s.name log
+stands_held s log st = still_gives_held s.name log (stands_prefixed s log st) st.still
+
+-- where nothing was dropped and nothing is pending
+at_rest : (s : Session) (log : Log) → (st : Stands s log) → s.stopped ≡ false → s.pending ≡ [] → Running s [] log
+at_rest s log st running idle =
+    let none : st.left ≡ [] = left_running s st.left running st.dropped ∙ idle in
+    elim st.phase [
+      | inl c ↦ absurd (c.1.some none)
+      | inr r ↦ subst (λ (ws : List Write). Running s ws log) none r
+    ]
+
+reads_all : (s : Session) (log : Log) → Stands s log → s.stopped ≡ false → s.pending ≡ [] → ReadsNow s.name log
+reads_all s log st running idle =
+    let r = at_rest s log st running idle in
+    let g = resting s.name log r.after r.after.behind r.runs in
+    reads_now s.name log r.after g.now g.values g.some_columns g.columns
+
+all_planned : (s : Session) (log : Log) → Stands s log → s.stopped ≡ false → s.pending ≡ [] → rows_in log (flushed log) ≡ s.dataset.shape.rows
+all_planned s log st running idle =
+    let r = at_rest s log st running idle in
+    goes_rows s.name log r.after r.after.behind (resting s.name log r.after r.after.behind r.runs) ∙ ap (λ (d : Described). d.shape.rows) r.keeps.dataset
+
+last_reads : (name : List ℕ) (log : Log) (es : List Happening) → EachReads name log es → log.first ≤ shown es → ReadsNow name (record log { events = es })
+last_reads name log [] each begun = each begun
+last_reads name log (e ∷ es) each begun = each.0 begun
+
+pub standing_laws : StandingLaws
+standing_laws = record {
+  start = λ s log st. ap (λ (l : Log). l.start) (started s log st).log_is;
+  values = λ s log st. ap (λ (l : Log). l.values) (started s log st).log_is;
+  first = λ s log st. ap (λ (l : Log). l.first) (started s log st).log_is;
+  columns = λ s log st. ap (λ (l : Log). l.columns) (started s log st).log_is ∙ sym (one_column s log st);
+  some_columns = λ s log st. omega (arith, one_column s log st);
+  flushed_rows = λ s log st. sym (committed_told s log st);
+  appended_rows = λ s log st. sym (rows_told s log (omega (arith, one_column s log st)) st);
+  prefixed = stands_prefixed;
+  still = λ s log st. st.still;
+  held = stands_held;
+  reads = λ s log st running idle. (reads_all s log st running idle).reads;
+  planned_rows = all_planned;
+  stopped = λ s log st stopped begun. last_reads s.name log log.events st.prefixed (omega (arith, begun, length_hist log.events));
+  limited = λ s log st. (started s log st).limit;
+}
+
+-- ---- What an image shows at a position
+
+-- before the first position there is none
+none_yet : (f : NewFile) (s : Session) (left : List Write) (log : Log) (p : ℕ) → Creating f s left log → IsPosition log p → ⊥
+none_yet f s left log p c at =
+    let count = shown_so_far f log.events left c.pieces in
+    let some = some_length left c.some in
+    let first : log.first ≡ 5 = ap (λ (l : Log). l.first) c.log_is in
+    absurd (omega (arith, count, some, first, at.begun, at.reached, length_hist log.events))
+
+past_at : (s : Session) (log : Log) (p : ℕ) → (st : Stands s log) → IsPosition log p → (m : Moment) × Past s st.left log m
+past_at s log p st at =
+    elim st.phase [
+      | inl c ↦ absurd (none_yet c.0 s st.left log p c.1 at)
+      | inr r ↦ (r.after, r.past)
+    ]
+
+begun_at : (s : Session) (log : Log) (p : ℕ) → Stands s log → IsPosition log p → HasCreated s log
+begun_at s log p st at = (past_at s log p st at).1.begun
+
+kept_at : (s : Session) (log : Log) (p : ℕ) (r : Reading) → (st : Stands s log) → (at : IsPosition log p) → Shows format_limits (image_at log p) s.name r
+    → Keeps (new_image (begun_at s log p st at).file) (reading_of (new_moment (begun_at s log p st at).file)) (image_at log p) r
+kept_at s log p r st at shows = since_first s log p r (begun_at s log p st at) (stands_held s log st) at shows
+
+-- the file at a position
+moment_at : (s : Session) (log : Log) (p : ℕ) → Stands s log → IsPosition log p → (m : Moment) × Represents (image_at log p) s.name m
+moment_at s log p st at =
+    let here = stands_prefixed s log st p at in
+    let file = opens (image_at log p) s.name _ log.columns _ here.summary here.valid here.reads in
+    (file.0, file.1)
+
+dataset_is : (s : Session) (log : Log) (p : ℕ) (r : Reading) → Stands s log → IsPosition log p → Shows format_limits (image_at log p) s.name r → IsDatasetOf s r
+dataset_is s log p r st at shows =
+    let b = begun_at s log p st at in
+    let f = b.file in
+    let kept = kept_at s log p r st at shows in
+    let described = kept.stays.described in
+    let address : r.dataset.layout.address ≡ array_place f = described.address (λ e. absurd (omega (arith, e, first_end_small f b.is))) in
+    let new : r.dataset ≡ with_rows r.dataset.shape.rows (new_dataset f) =
+    described.rows_alone ∙ ap (λ (a : ℕ). record (with_rows r.dataset.shape.rows (new_dataset f)) { layout = record ((new_dataset f).layout) { address = a } }) address in
+    let same : r.dataset ≡ with_rows r.dataset.shape.rows s.dataset = new ∙ ap (with_rows r.dataset.shape.rows) (sym b.dataset) in
+    record {
+      place = kept.stays.place ∙ sym b.place;
+      rank = ap (λ (d : Described). d.shape.rank) same;
+      columns = ap (λ (d : Described). d.shape.cols) same;
+      growing = ap (λ (d : Described). d.shape.growing) same;
+      int_type = ap (λ (d : Described). d.int_type) same;
+      fill = ap (λ (d : Described). d.fill) same;
+      index = ap (λ (d : Described). d.layout.index) same;
+      chunk_rows = ap (λ (d : Described). d.layout.chunk_rows) same;
+      chunk_columns = ap (λ (d : Described). d.layout.chunk_cols) same;
+      needed = ap needed same;
+    }
+
+-- within any limits that allow the needed chunks
+moment_within : (limits : Limits) (img name : List ℕ) (m : Moment) → needed m.dataset ≤ limit_of limits m.dataset.layout.index → Represents img name m → Shows limits img name (reading_of m)
+moment_within limits img name m few r =
+    let d : Described = m.dataset in
+    let shown : Reading = reading_of m in
+    let header = dataset_ok img m.super m.place (d, m.header) r.header in
+    let table = ap (eval img) (cond-false (nat_lt (limit_of limits d.layout.index) (needed d)) (ret (Err (read_errors.TooManyChunks (needed d) (limit_of limits d.layout.index)))) (table_of d (needed_keys d)) (le-ltb (limit_of limits d.layout.index) (needed d) few)) ∙ r.table in
+    and_then_from img (dataset_place name) (λ at. and_then (dataset at) (λ d. and_then (needed_table limits d) (λ t. ret (Ok (record { place = at; dataset = d; table = t }))))) m.place shown
+    (place_ok img name m.super (m.place, m.root) r.super r.root)
+    (and_then_from img (dataset m.place) (λ d. and_then (needed_table limits d) (λ t. ret (Ok (record { place = m.place; dataset = d; table = t })))) d shown header.0
+    (and_then_from img (needed_table limits d) (λ t. ret (Ok (record { place = m.place; dataset = d; table = t }))) m.table shown table refl))
+
+few_needed : (s : Session) (log : Log) (p : ℕ) (r : Reading) → Stands s log → IsPosition log p → Shows format_limits (image_at log p) s.name r → needed r.dataset ≤ limit_of format_limits r.dataset.layout.index
+few_needed s log p r st at shows =
+    let file = moment_at s log p st at in
+    let m = file.0 in
+    let top = limit_of format_limits m.dataset.layout.index in
+    let inside : needed m.dataset ≤ top = ltb-false top (needed m.dataset) (few (image_at log p) s.name m file.1) in
+    subst (λ (x : Reading). needed x.dataset ≤ limit_of format_limits x.dataset.layout.index) (sym (shown_is (image_at log p) s.name m r file.1 shows)) inside
+
+-- by the session's own index
+few_of : (s : Session) (log : Log) (p : ℕ) (r : Reading) → Stands s log → IsPosition log p → Shows format_limits (image_at log p) s.name r → needed r.dataset ≤ chunk_limit s
+few_of s log p r st at shows =
+    let same = (dataset_is s log p r st at shows).index in
+    subst (λ (k : IndexKind). needed r.dataset ≤ limit_of format_limits k) same (few_needed s log p r st at shows)
+
+few_within : (s : Session) (log : Log) (limits : Limits) (p : ℕ) (r : Reading) → Stands s log → chunk_limit s ≤ limit_of limits s.dataset.layout.index → IsPosition log p → Shows format_limits (image_at log p) s.name r
+    → needed r.dataset ≤ limit_of limits r.dataset.layout.index
+few_within s log limits p r st most at shows =
+    let same = (dataset_is s log p r st at shows).index in
+    subst (λ (k : IndexKind). needed r.dataset ≤ limit_of limits k) (sym same) (omega (arith, few_of s log p r st at shows, most))
+
+shows_within : (s : Session) (log : Log) (limits : Limits) (p : ℕ) (r : Reading) → Stands s log → chunk_limit s ≤ limit_of limits s.dataset.layout.index → IsPosition log p → Shows format_limits (image_at log p) s.name r
+    → Shows limits (image_at log p) s.name r
+shows_within s log limits p r st most at shows =
+    let img = image_at log p in
+    let file = moment_at s log p st at in
+    let m = file.0 in
+    let same : r ≡ reading_of m = shown_is img s.name m r file.1 shows in
+    let inside : needed m.dataset ≤ limit_of limits m.dataset.layout.index = subst (λ (x : Reading). needed x.dataset ≤ limit_of limits x.dataset.layout.index) same (few_within s log limits p r st most at shows) in
+    subst (λ (x : Reading). Shows limits img s.name x) (sym same) (moment_within limits img s.name m inside file.1)
+
+root_one : (s : Session) (log : Log) (p : ℕ) → Stands s log → IsPosition log p → (v : Visit) × (visits (image_at log p) (root_header (root_address (image_at log p))) ≡ v ∷ [])
+root_one s log p st at =
+    let img = image_at log p in
+    let b = begun_at s log p st at in
+    let old = new_image b.file in
+    let file = moment_at s log p st at in
+    let kept = (kept_at s log p (reading_of file.0) st at (moment_shows img s.name file.0 file.1)).stays in
+    let begins = beginning b.file b.is in (
+      record { place = root_place; len = 512; counts = root_view },
+      ap (λ (a : ℕ). visits img (root_header a)) kept.root ∙ same_visits old img (root_header (root_address old)) kept.root_header ∙ begins.root,
+    )
+
+header_alone : (s : Session) (log : Log) (p : ℕ) (r : Reading) → Stands s log → IsPosition log p → Shows format_limits (image_at log p) s.name r → continuation_blocks (image_at log p) r ≡ []
+header_alone s log p r st at shows =
+    let b = begun_at s log p st at in
+    (kept_at s log p r st at shows).stays.named ∙ (beginning b.file b.is).header
+
+image_fits : (s : Session) (log : Log) (p : ℕ) → Stands s log → IsPosition log p → length (image_at log p) ≤ s.places.limit
+image_fits s log p st at =
+    let past = (past_at s log p st at).1 in
+    let start : log.start ≡ [] = ap (λ (l : Log). l.start) past.begun.log_is in
+    image_ends s.places.limit log.start (take p (hist log.events)) (omega (arith, ap length start)) (ends_take s.places.limit p (hist log.events) (ends_front s.places.limit (hist log.events) st.left past.ends))
+
+pub shown_laws : ShownLaws
+shown_laws = record {
+  dataset = dataset_is;
+  shown = shows_within;
+  within = few_within;
+  few = few_of;
+  addressed = λ s log p r st at shows. (past_at s log p st at).1.addressed p r at shows;
+  root_header = root_one;
+  dataset_header = header_alone;
+  fits = image_fits;
+}
+
+-- ---- Room
+
+pub room_stays : RoomStays
+room_stays s t w [] v u pending room after wrote =
+    let count : length s.pending ≡ 1 = ap length pending in
+    let end : t.places.end ≡ s.places.end = (freed_keeps s.keeps s.places t.places after.0).0 in
+    let none : length t.pending ≡ 0 = ap (λ (x : Session). length x.pending) after.1 in
+    record { pieces = omega (arith, count, none, room.pieces, wrote.pieces); end = omega (arith, end, room.end, wrote.end) }
+room_stays s t w (x ∷ xs) v u pending room after wrote =
+    let count : length s.pending ≡ suc (length (x ∷ xs)) = ap length pending in
+    let left : length t.pending ≡ length (x ∷ xs) = ap (λ (y : Session). length y.pending) after in
+    let end : t.places.end ≡ s.places.end = ap (λ (y : Session). y.places.end) after in
+    record { pieces = omega (arith, count, left, room.pieces, wrote.pieces); end = omega (arith, end, room.end, wrote.end) }

@@ -1,0 +1,243 @@
+-- What a session keeps of the past, event by event.
+use Rattle.std.proofs.Common.{◌≡◌, ℕ, zero, suc, ◌+◌, ◌^◌, ◌≤◌, List, [], ◌∷◌, ◌++◌, length, take, ℤ, refl, sym, ap, ◌∙◌, subst, inl, inr, arith}
+use Rattle.std.proofs.lemmas.Bool.{cases_lt}
+use Rattle.std.proofs.lemmas.List.{append_assoc, append-nil, length-take, take-append-le}
+use Rattle.h5w_model.specs.Images.{apply, image}
+use Rattle.h5w_model.specs.Logs.{Log, Cutting, Happening, appends, plans, shows, hist, shown, load, spent, spent_in, and_now}
+use Rattle.h5w_model.specs.Datasets.{Described}
+use Rattle.h5w_model.specs.Prefixed.{IsPosition, image_at}
+use Rattle.h5w_model.specs.Tables.{Reading, Shows, format_limits, needed}
+use Rattle.h5w_model.specs.declared.piece.Write.{Write}
+use Rattle.h5w_model.proofs.ImageLemmas.{length-apply}
+use Rattle.h5w_laws.proofs.LogLemmas.{image_earlier, length_hist}
+use Rattle.h5w_steps.specs.Moments.{Moment, Represents, reading_of}
+use Rattle.h5w_steps.specs.Logs.{image_now}
+use Rattle.h5w_steps.specs.Sessions.{Runs}
+use Rattle.h5w_steps.proofs.FoundLemmas.{moment_shows}
+use Rattle.h5w_steps.proofs.GoesLemmas.{image_last, image_pushed}
+use Rattle.h5w_steps.proofs.StepRepresents.{step_represents}
+use Rattle.h5w_session.specs.Creations.{IsNewFile, NewFile, creation_writes, first_end, header_place, log_of, new_dataset}
+use Rattle.h5w_session.specs.Loads.{IsRaised}
+use Rattle.h5w_session.specs.Past.{AllAddressed, HasCreated, Past}
+use Rattle.h5w_session.specs.Sessions.{Session, AllEndBy, cutting_of, with_rows}
+use Rattle.h5w_session.proofs.AddressedLemmas.{shown_addressed, step_addressed}
+
+-- ---- Lists of writes
+
+pub ends_joined : (end : ℕ) (ws vs : List Write) → AllEndBy end ws → AllEndBy end vs → AllEndBy end (ws ++ vs)
+ends_joined end [] vs first second = second
+ends_joined end (w ∷ ws) vs first second = (first.0, ends_joined end ws vs first.1 second)
+
+pub ends_front : (end : ℕ) (ws vs : List Write) → AllEndBy end (ws ++ vs) → AllEndBy end ws
+ends_front end [] vs all = tt
+ends_front end (w ∷ ws) vs all = (all.0, ends_front end ws vs all.1)
+
+pub ends_take : (end n : ℕ) (ws : List Write) → AllEndBy end ws → AllEndBy end (take n ws)
+ends_take end zero ws all = tt
+ends_take end (suc n) [] all = tt
+ends_take end (suc n) (w ∷ ws) all = (all.0, ends_take end n ws all.1)
+
+pub ends_later : (end later : ℕ) (ws : List Write) → end ≤ later → AllEndBy end ws → AllEndBy later ws
+ends_later end later [] less all = tt
+ends_later end later (w ∷ ws) less all = (omega (arith, all.0), ends_later end later ws less all.1)
+
+-- ---- The loads of a log
+
+-- they rest on what it began with alone
+pub spent_in-events : (c : Cutting) (log : Log) (other es : List Happening) → spent_in c (record log { events = other }) es ≡ spent_in c log es
+spent_in-events c log other [] = refl
+spent_in-events c log other (appends vs ∷ es) = ap (λ n. n + load c (record log { events = appends vs ∷ es })) (spent_in-events c log other es)
+spent_in-events c log other (plans k ∷ es) = ap (λ n. n + load c (record log { events = es })) (spent_in-events c log other es)
+spent_in-events c log other (shows w ∷ es) = spent_in-events c log other es
+
+-- ---- How the log began
+
+-- another session with the same name, place, limit and dataset, but for its rows
+pub record IsLike (s t : Session) : Type 0 where
+  pub name : t.name ≡ s.name
+  pub place : t.place ≡ s.place
+  pub dataset : t.dataset ≡ with_rows t.dataset.shape.rows s.dataset
+  pub limit : t.places.limit ≡ s.places.limit
+
+pub like_itself : (s : Session) → IsLike s s
+like_itself s = record { name = refl; place = refl; dataset = refl; limit = refl }
+
+first_kept : (f : NewFile) (e : Happening) (es : List Happening) → take 5 (hist es) ≡ creation_writes f → take 5 (hist (e ∷ es)) ≡ creation_writes f
+first_kept f (appends vs) es pieces = pieces
+first_kept f (plans k) es pieces = pieces
+first_kept f (shows w) es pieces =
+    let count : 5 ≤ length (hist es) = omega (arith, ap length pieces, length-take 5 (hist es)) in
+    take-append-le 5 (hist es) (w ∷ []) count ∙ pieces
+
+begun_later : (s t : Session) (e : Happening) (log : Log) → IsLike s t → HasCreated s log → HasCreated t (and_now e log)
+begun_later s t e log like b = record {
+  file = b.file;
+  is = b.is;
+  log_is = ap (and_now e) b.log_is;
+  pieces = first_kept b.file e log.events b.pieces;
+  name = like.name ∙ b.name;
+  place = like.place ∙ b.place;
+  dataset = like.dataset ∙ ap (with_rows t.dataset.shape.rows) b.dataset;
+  limit = like.limit ∙ b.limit;
+}
+
+begun_still : (s t : Session) (log : Log) → IsLike s t → HasCreated s log → HasCreated t log
+begun_still s t log like b = record {
+  file = b.file;
+  is = b.is;
+  log_is = b.log_is;
+  pieces = b.pieces;
+  name = like.name ∙ b.name;
+  place = like.place ∙ b.place;
+  dataset = like.dataset ∙ ap (with_rows t.dataset.shape.rows) b.dataset;
+  limit = like.limit ∙ b.limit;
+}
+
+-- the rows do not tell how they are cut
+cut_alike : (s t : Session) → IsLike s t → cutting_of t ≡ cutting_of s
+cut_alike s t like = ap (λ d. record { chunk_rows = d.layout.chunk_rows; chunk_columns = d.layout.chunk_cols; columns = d.shape.cols; value_size = d.int_type.size }) like.dataset
+
+-- ---- Events
+
+-- the positions are those of before an event that shows no piece
+same_positions : (e : Happening) (log : Log) (name : List ℕ) → shown (e ∷ log.events) ≡ shown log.events
+    → ((p : ℕ) (r : Reading) → IsPosition log p → Shows format_limits (image_at log p) name r → AllAddressed r)
+    → (p : ℕ) (r : Reading) → IsPosition (and_now e log) p → Shows format_limits (image_at (and_now e log) p) name r → AllAddressed r
+same_positions e log name same each p r at seen =
+    let high : p ≤ shown log.events = omega (arith, at.reached, length_hist (e ∷ log.events), same) in
+    each p r (record { begun = at.begun; reached = omega (arith, high, length_hist log.events) }) (subst (λ (img : List ℕ). Shows format_limits img name r) (image_earlier e log p high) seen)
+
+-- rows are appended
+pub past_values : (s t : Session) (vs : List ℤ) (log : Log) (m : Moment) → IsLike s t → t.places.end ≡ s.places.end → Past s [] log m → Past t [] (and_now (appends vs) log) m
+past_values s t vs log m like end past = record {
+  begun = begun_later s t (appends vs) log like past.begun;
+  addressed = subst (λ (name : List ℕ). (p : ℕ) (r : Reading) → IsPosition (and_now (appends vs) log) p → Shows format_limits (image_at (and_now (appends vs) log) p) name r → AllAddressed r) (sym like.name)
+      (same_positions (appends vs) log s.name refl past.addressed);
+  next = past.next;
+  grew =
+      let more = spent_in-events (cutting_of s) log (appends vs ∷ log.events) log.events in
+      subst (λ (c : Cutting). t.places.end ≤ 1024 + spent c (and_now (appends vs) log)) (sym (cut_alike s t like)) (omega (arith, past.grew, end, more));
+  fits = omega (arith, past.fits, like.limit, end);
+  ends = subst (λ (limit : ℕ). AllEndBy limit (hist log.events ++ [])) (sym like.limit) past.ends;
+}
+
+-- a flush is planned, and all needed chunks of the file after it have addresses
+pub past_planned : (s t : Session) (k : ℕ) (ws : List Write) (log : Log) (m n : Moment) → IsLike s t → IsRaised s.places t.places (load (cutting_of s) log) → AllEndBy t.places.end ws → AllAddressed (reading_of n)
+    → Past s [] log m → Past t ws (and_now (plans k) log) n
+past_planned s t k ws log m n like raised within next past = record {
+  begun = begun_later s t (plans k) log like past.begun;
+  addressed = subst (λ (name : List ℕ). (p : ℕ) (r : Reading) → IsPosition (and_now (plans k) log) p → Shows format_limits (image_at (and_now (plans k) log) p) name r → AllAddressed r) (sym like.name)
+      (same_positions (plans k) log s.name refl past.addressed);
+  next = next;
+  grew =
+      let more = spent_in-events (cutting_of s) log (plans k ∷ log.events) log.events in
+      subst (λ (c : Cutting). t.places.end ≤ 1024 + spent c (and_now (plans k) log)) (sym (cut_alike s t like)) (omega (arith, past.grew, raised.bound, more));
+  fits = raised.fits past.fits;
+  ends = ends_joined t.places.limit (hist log.events) ws (subst (λ (limit : ℕ). AllEndBy limit (hist log.events)) (sym like.limit) (ends_front s.places.limit (hist log.events) [] past.ends)) (ends_later t.places.end t.places.limit ws (raised.fits past.fits) within);
+}
+
+-- Pieces are planned that bring no rows and take no place, as the superblock with other flags.
+pub past_more : (s t : Session) (ws : List Write) (log : Log) (m n : Moment) → IsLike s t → t.places.end ≡ s.places.end → AllEndBy t.places.limit ws → reading_of n ≡ reading_of m → Past s [] log m → Past t ws log n
+past_more s t ws log m n like end fits same past = record {
+  begun = begun_still s t log like past.begun;
+  addressed = subst (λ (name : List ℕ). (p : ℕ) (r : Reading) → IsPosition log p → Shows format_limits (image_at log p) name r → AllAddressed r) (sym like.name) past.addressed;
+  next = subst AllAddressed (sym same) past.next;
+  grew = subst (λ (c : Cutting). t.places.end ≤ 1024 + spent c log) (sym (cut_alike s t like)) (omega (arith, past.grew, end));
+  fits = omega (arith, past.fits, like.limit, end);
+  ends = ends_joined t.places.limit (hist log.events) ws (subst (λ (limit : ℕ). AllEndBy limit (hist log.events)) (sym like.limit) (ends_front s.places.limit (hist log.events) [] past.ends)) fits;
+}
+
+-- a session of which nothing else is told by places, name and dataset
+pub past_same : (s t : Session) (ws : List Write) (log : Log) (m : Moment) → IsLike s t → t.places.end ≡ s.places.end → Past s ws log m → Past t ws log m
+past_same s t ws log m like end past = record {
+  begun = begun_still s t log like past.begun;
+  addressed = subst (λ (name : List ℕ). (p : ℕ) (r : Reading) → IsPosition log p → Shows format_limits (image_at log p) name r → AllAddressed r) (sym like.name) past.addressed;
+  next = past.next;
+  grew = subst (λ (c : Cutting). t.places.end ≤ 1024 + spent c log) (sym (cut_alike s t like)) (omega (arith, past.grew, end));
+  fits = omega (arith, past.fits, like.limit, end);
+  ends = subst (λ (limit : ℕ). AllEndBy limit (hist log.events ++ ws)) (sym like.limit) past.ends;
+}
+
+-- ---- A piece becomes visible
+
+-- at the moment now the needed chunks have addresses
+pub now_addressed : (s : Session) (ws : List Write) (log : Log) (m : Moment) → Past s ws log m → (now : Moment) → log.first ≤ shown log.events → Represents (image_now log) s.name now → AllAddressed (reading_of now)
+now_addressed s ws log m past now begun here =
+    let p = shown log.events in
+    let at : IsPosition log p = record { begun = begun; reached = omega (arith, length_hist log.events) } in
+    past.addressed p (reading_of now) at (subst (λ (img : List ℕ). Shows format_limits img s.name (reading_of now)) (sym (image_last log p (omega arith))) (moment_shows (image_now log) s.name now here))
+
+between_addressed : (s : Session) (w : Write) (ws : List Write) (log : Log) (n : Moment) → (r : Runs s.name log (w ∷ ws) n n.behind) → Past s (w ∷ ws) log n → AllAddressed (reading_of r.flush.0)
+between_addressed s w [] log n r past = subst (λ (x : Moment). AllAddressed (reading_of x)) r.flush.4.0 past.next
+between_addressed s w (x ∷ xs) log n r past =
+    let g = r.goes in
+    step_addressed (image_now log) s.name r.before r.held w r.flush.0 r.flush.1 g.now (omega (arith, g.columns, g.some_columns)) r.flush.2 (r.flush.3 (λ e. cc)) (now_addressed s (w ∷ x ∷ xs) log n past r.before g.begun g.now)
+
+pub past_shown : (s t : Session) (w : Write) (ws : List Write) (log : Log) (n : Moment) → IsLike s t → t.places.end ≡ s.places.end → Runs s.name log (w ∷ ws) n n.behind → Past s (w ∷ ws) log n
+    → Past t ws (and_now (shows w) log) n
+past_shown s t w ws log n like end r past =
+    let next = and_now (shows w) log in
+    let g = r.goes in
+    let between = r.flush.0 in
+    let here : Represents (image_now next) s.name between = subst (λ (img : List ℕ). Represents img s.name between) (sym (image_pushed log w)) (step_represents (image_now log) s.name r.before r.held w between r.flush.1 g.now r.flush.2) in
+    let addressed : (p : ℕ) (x : Reading) → IsPosition next p → Shows format_limits (image_at next p) s.name x → AllAddressed x = λ p x at seen.
+    elim (cases_lt (shown log.events) p) [
+      | inl last ↦
+          let img : image_at next p ≡ image_now next = image_last next p (omega (arith, last)) in
+          shown_addressed (image_now next) s.name between x here (between_addressed s w ws log n r past) (subst (λ (i : List ℕ). Shows format_limits i s.name x) img seen)
+      | inr early ↦
+          past.addressed p x (record { begun = at.begun; reached = omega (arith, early, length_hist log.events) })
+          (subst (λ (i : List ℕ). Shows format_limits i s.name x) (image_earlier (shows w) log p early) seen)
+    ] in
+    record {
+      begun = begun_later s t (shows w) log like past.begun;
+      addressed = subst (λ (name : List ℕ). (p : ℕ) (x : Reading) → IsPosition next p → Shows format_limits (image_at next p) name x → AllAddressed x) (sym like.name) addressed;
+      next = past.next;
+      grew =
+          let more = spent_in-events (cutting_of s) log (shows w ∷ log.events) log.events in
+          subst (λ (c : Cutting). t.places.end ≤ 1024 + spent c next) (sym (cut_alike s t like)) (omega (arith, past.grew, end, more));
+      fits = omega (arith, past.fits, like.limit, end);
+      ends = subst (λ (limit : ℕ). AllEndBy limit ((hist log.events ++ w ∷ []) ++ ws)) (sym like.limit) (subst (AllEndBy s.places.limit) (sym (append_assoc (hist log.events) (w ∷ []) ws)) past.ends);
+    }
+
+-- ---- A new file
+
+pub past_begins : (f : NewFile) (s : Session) (log : Log) (m : Moment) → IsNewFile f → log ≡ log_of log.events → hist log.events ≡ creation_writes f → s.name ≡ f.name → s.place ≡ header_place f → s.dataset ≡ new_dataset f
+    → s.places.limit ≡ f.limit → s.places.end ≡ first_end f → first_end f ≤ 700 → AllEndBy (first_end f) (creation_writes f) → Represents (image_now log) s.name m → needed m.dataset ≡ 0 → Past s [] log m
+past_begins f s log m is log_is pieces name place dataset limit end small fits here none =
+    let first : log.first ≡ 5 = ap (λ (l : Log). l.first) log_is in
+    let count : length (hist log.events) ≡ 5 = ap length pieces in
+    let nothing : AllAddressed (reading_of m) = λ k below. absurd (omega (arith, below, none)) in
+    record {
+      begun = record {
+        file = f;
+        is = is;
+        log_is = log_is;
+        pieces = ap (take 5) pieces;
+        name = name;
+        place = place;
+        dataset = dataset ∙ ap (λ (d : Described). with_rows d.shape.rows (new_dataset f)) (sym dataset);
+        limit = limit;
+      };
+      addressed = λ p r at seen.
+          let now : shown log.events ≤ p = omega (arith, length_hist log.events, count, first, at.begun) in
+          shown_addressed (image_now log) s.name m r here nothing (subst (λ (i : List ℕ). Shows format_limits i s.name r) (image_last log p now) seen);
+      next = nothing;
+      grew = omega (arith, end, small);
+      fits = omega (arith, small, limit, end, is.limit_low);
+      ends =
+          let later : AllEndBy s.places.limit (creation_writes f) = ends_later (first_end f) s.places.limit (creation_writes f) (omega (arith, small, limit, is.limit_low)) fits in
+          subst (AllEndBy s.places.limit) (sym (append-nil (hist log.events) ∙ pieces)) later;
+    }
+
+-- ---- Bounds
+
+pub limit_low : (s : Session) (ws : List Write) (log : Log) (m : Moment) → Past s ws log m → 1024 ≤ s.places.limit
+limit_low s ws log m past = omega (arith, past.begun.limit, past.begun.is.limit_low)
+
+pub limit_high : (s : Session) (ws : List Write) (log : Log) (m : Moment) → Past s ws log m → s.places.limit ≤ 2 ^ 40
+limit_high s ws log m past = omega (arith, past.begun.limit, past.begun.is.limit_high)
+
+pub image_ends : (end : ℕ) (start : List ℕ) (ws : List Write) → length start ≤ end → AllEndBy end ws → length (image start ws) ≤ end
+image_ends end start [] short h = short
+image_ends end start (w ∷ ws) short h = image_ends end (apply w start) ws (omega (arith, length-apply w start, h.0)) h.1

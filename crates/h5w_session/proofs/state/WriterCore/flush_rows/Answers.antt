@@ -1,0 +1,305 @@
+use Rattle.std.proofs.Common.{◌≡◌, ◌<◌, ◌∙◌, [], List, ℕ, length, drop, ap, sym, subst, arith}
+use Rattle.std.specs.List.{All}
+use Rattle.h5w_chunks.specs.Grids.{dataset_of}
+use Rattle.h5w_space.specs.Space.{Space}
+use Rattle.h5w_session.specs.Sessions.{IsSession, Session, option_list, rows_of}
+use Rattle.h5w_session.specs.Placing.{HasSlot, IsPartly}
+use Rattle.h5w_session.specs.Refusals.{IsFullFor, IsFullPart}
+use Rattle.h5w_session.proofs.CarriedLemmas.{Carried, carried_flushed, carried_is, carried_pieces, has_rows, lengths_joined, one_at_most, refused_is, refused_same, same_error}
+use Rattle.h5w_session.proofs.TakingLemmas.{filled_cell}
+use Rattle.h5w_session.proofs.WritableLemmas.{written_length}
+use Rattle.h5w_session.proofs.state.WriterCore.flush_rows.Goals as goal
+
+pub header_with_rows-self-inside-requires-clause-rows : goal.header_with_rows-self-inside-requires-clause-rows
+header_with_rows-self-inside-requires-clause-rows g c = has_rows c.self.inside.header c.self.invariant.0.header
+
+pub invariant_of-self : goal.invariant_of-self
+invariant_of-self g c =
+    let i = c.self.inside in
+    let v : Session = record {
+      name = i.name;
+      root = i.root;
+      place = i.place;
+      header = i.header;
+      dataset = dataset_of i.grid;
+      places = i.places;
+      committed = i.committed;
+      waiting = i.waiting.items;
+      waits = i.waits;
+      pending = drop i.shown i.plan.items;
+      stopped = i.stopped;
+      keeps = i.keeps;
+      index = i.index;
+    } in
+    let is : IsSession v = c.self.invariant.0 in
+    let to = c.rows-to.result in
+    let t = c.finish-plan.new.places in
+    let w = c.finish-plan.new.self in
+    let ws = c.join.result.items in
+    let r = c.raise-superblock.new.root in
+    let b = c.header_with_rows-self-inside.result in
+    let e = c.clear.new.self.items in
+    let x : Carried v to t w ws r b e = record {
+      some = subst (λ (u : Session). 0 < u.waits) (sym c.self.view_is) c.requires.waits;
+      to_is = c.rows-to.ensures.value ∙ ap rows_of (sym c.self.view_is);
+      small = c.rows-to.ensures.bound;
+      typed = c.self.invariant.1.typed;
+      filled = filled_cell i.grid c.self.invariant.1;
+      chunks = c.prepare.new.taking.chunks.items;
+      added = c.prepare.new.taking.added.items;
+      between = c.prepare.new.taking.places;
+      held = c.prepare.new.index;
+      places = c.new-taking.result.places;
+      places_are = c.new-taking.ensures.places ∙ c.in_ok-copy.ensures;
+      placing = c.in-Ok.ensures.placed;
+      all = c.in-Ok.ensures.all;
+      cells = c.deref.result.now;
+      cells_are = c.deref.ensures.value;
+      rows = c.in-Ok.prepared.writes.items;
+      exact = c.in-Ok.ensures.exact;
+      written = c.in-Ok.ensures.does;
+      moves = c.finish-plan.result.moves.items;
+      copies = c.finish-plan.result.copies.items;
+      fixed = c.finish-plan.result.in_place.items;
+      plan = c.finish-plan.ensures.planned;
+      supers = option_list c.raise-superblock.result;
+      end = c.end.result;
+      end_is = c.end.ensures;
+      ended = c.raise-superblock.ensures.ended;
+      root = c.raise-superblock.ensures.root;
+      header = c.header_with_rows-self-inside.ensures;
+      piece = c.of.result;
+      piece_is = c.of.ensures ∙ c.as_slice.ensures.value;
+      items = c.join.ensures.items;
+      header_short = omega (arith, written_length i.header to is.header, ap length c.header_with_rows-self-inside.ensures, ap length c.as_slice.ensures.value, c.as_slice.ensures.bound);
+      none_waits = c.clear.ensures.items;
+    } in
+    let grid = c.self.invariant.1 in (
+      carried_is v to t w ws r b e x is,
+      record {
+        shaped = grid.shaped;
+        typed = grid.typed;
+        chunked = record { rows = grid.chunked.rows; cols = grid.chunked.cols; line = grid.chunked.line; small = grid.chunked.small; index = grid.chunked.index };
+        filled = grid.filled;
+      },
+      carried_pieces v to t w ws r b e x is,
+      omega arith,
+      c.join.ensures.room,
+    )
+
+pub unset-requires : goal.unset-requires
+unset-requires g c = subst (λ (ks : List ℕ). All (HasSlot c.prepare.new.index) ks) (sym c.deref-in-Err.ensures.value) c.in-Err.ensures.partly.slots
+
+pub invariant_of-self-in-Err-1 : goal.invariant_of-self-in-Err-1
+invariant_of-self-in-Err-1 g c =
+    let i = c.self.inside in
+    let v : Session = record {
+      name = i.name;
+      root = i.root;
+      place = i.place;
+      header = i.header;
+      dataset = dataset_of i.grid;
+      places = i.places;
+      committed = i.committed;
+      waiting = i.waiting.items;
+      waits = i.waits;
+      pending = drop i.shown i.plan.items;
+      stopped = i.stopped;
+      keeps = i.keeps;
+      index = i.index;
+    } in
+    let is : IsSession v = c.self.invariant.0 in
+    let to = c.rows-to.result in
+    let u = c.unset.new.index in
+    let to_is : to ≡ rows_of v = c.rows-to.ensures.value ∙ ap rows_of (sym c.self.view_is) in
+    let p : IsPartly v.dataset to v.index [] u =
+    c.unset.ensures v.dataset to v.index (subst (λ (ks : List ℕ). IsPartly v.dataset to v.index ks c.prepare.new.index) (sym c.deref-in-Err.ensures.value) c.in-Err.ensures.partly) in
+    (refused_is v to u to_is p is, c.self.invariant.1, c.self.invariant.2, c.self.invariant.3, c.self.invariant.4)
+
+pub returns-in-Ok-clause-flushed : goal.returns-in-Ok-clause-flushed
+returns-in-Ok-clause-flushed g c =
+    let i = c.self.inside in
+    let v : Session = record {
+      name = i.name;
+      root = i.root;
+      place = i.place;
+      header = i.header;
+      dataset = dataset_of i.grid;
+      places = i.places;
+      committed = i.committed;
+      waiting = i.waiting.items;
+      waits = i.waits;
+      pending = drop i.shown i.plan.items;
+      stopped = i.stopped;
+      keeps = i.keeps;
+      index = i.index;
+    } in
+    let is : IsSession v = c.self.invariant.0 in
+    let to = c.rows-to.result in
+    let t = c.finish-plan.new.places in
+    let w = c.finish-plan.new.self in
+    let ws = c.join.result.items in
+    let r = c.raise-superblock.new.root in
+    let b = c.header_with_rows-self-inside.result in
+    let e = c.clear.new.self.items in
+    let x : Carried v to t w ws r b e = record {
+      some = subst (λ (u : Session). 0 < u.waits) (sym c.self.view_is) c.requires.waits;
+      to_is = c.rows-to.ensures.value ∙ ap rows_of (sym c.self.view_is);
+      small = c.rows-to.ensures.bound;
+      typed = c.self.invariant.1.typed;
+      filled = filled_cell i.grid c.self.invariant.1;
+      chunks = c.prepare.new.taking.chunks.items;
+      added = c.prepare.new.taking.added.items;
+      between = c.prepare.new.taking.places;
+      held = c.prepare.new.index;
+      places = c.new-taking.result.places;
+      places_are = c.new-taking.ensures.places ∙ c.in_ok-copy.ensures;
+      placing = c.in-Ok.ensures.placed;
+      all = c.in-Ok.ensures.all;
+      cells = c.deref.result.now;
+      cells_are = c.deref.ensures.value;
+      rows = c.in-Ok.prepared.writes.items;
+      exact = c.in-Ok.ensures.exact;
+      written = c.in-Ok.ensures.does;
+      moves = c.finish-plan.result.moves.items;
+      copies = c.finish-plan.result.copies.items;
+      fixed = c.finish-plan.result.in_place.items;
+      plan = c.finish-plan.ensures.planned;
+      supers = option_list c.raise-superblock.result;
+      end = c.end.result;
+      end_is = c.end.ensures;
+      ended = c.raise-superblock.ensures.ended;
+      root = c.raise-superblock.ensures.root;
+      header = c.header_with_rows-self-inside.ensures;
+      piece = c.of.result;
+      piece_is = c.of.ensures ∙ c.as_slice.ensures.value;
+      items = c.join.ensures.items;
+      header_short = omega (arith, written_length i.header to is.header, ap length c.header_with_rows-self-inside.ensures, ap length c.as_slice.ensures.value, c.as_slice.ensures.bound);
+      none_waits = c.clear.ensures.items;
+    } in
+    carried_flushed v to t w ws r b e x is c.args.self.now c.self.view_is
+
+pub returns-in-Ok-clause-ends : goal.returns-in-Ok-clause-ends
+returns-in-Ok-clause-ends g c =
+    let i = c.self.inside in
+    let v : Session = record {
+      name = i.name;
+      root = i.root;
+      place = i.place;
+      header = i.header;
+      dataset = dataset_of i.grid;
+      places = i.places;
+      committed = i.committed;
+      waiting = i.waiting.items;
+      waits = i.waits;
+      pending = drop i.shown i.plan.items;
+      stopped = i.stopped;
+      keeps = i.keeps;
+      index = i.index;
+    } in
+    let is : IsSession v = c.self.invariant.0 in
+    let to = c.rows-to.result in
+    let t = c.finish-plan.new.places in
+    let w = c.finish-plan.new.self in
+    let ws = c.join.result.items in
+    let r = c.raise-superblock.new.root in
+    let b = c.header_with_rows-self-inside.result in
+    let e = c.clear.new.self.items in
+    let x : Carried v to t w ws r b e = record {
+      some = subst (λ (u : Session). 0 < u.waits) (sym c.self.view_is) c.requires.waits;
+      to_is = c.rows-to.ensures.value ∙ ap rows_of (sym c.self.view_is);
+      small = c.rows-to.ensures.bound;
+      typed = c.self.invariant.1.typed;
+      filled = filled_cell i.grid c.self.invariant.1;
+      chunks = c.prepare.new.taking.chunks.items;
+      added = c.prepare.new.taking.added.items;
+      between = c.prepare.new.taking.places;
+      held = c.prepare.new.index;
+      places = c.new-taking.result.places;
+      places_are = c.new-taking.ensures.places ∙ c.in_ok-copy.ensures;
+      placing = c.in-Ok.ensures.placed;
+      all = c.in-Ok.ensures.all;
+      cells = c.deref.result.now;
+      cells_are = c.deref.ensures.value;
+      rows = c.in-Ok.prepared.writes.items;
+      exact = c.in-Ok.ensures.exact;
+      written = c.in-Ok.ensures.does;
+      moves = c.finish-plan.result.moves.items;
+      copies = c.finish-plan.result.copies.items;
+      fixed = c.finish-plan.result.in_place.items;
+      plan = c.finish-plan.ensures.planned;
+      supers = option_list c.raise-superblock.result;
+      end = c.end.result;
+      end_is = c.end.ensures;
+      ended = c.raise-superblock.ensures.ended;
+      root = c.raise-superblock.ensures.root;
+      header = c.header_with_rows-self-inside.ensures;
+      piece = c.of.result;
+      piece_is = c.of.ensures ∙ c.as_slice.ensures.value;
+      items = c.join.ensures.items;
+      header_short = omega (arith, written_length i.header to is.header, ap length c.header_with_rows-self-inside.ensures, ap length c.as_slice.ensures.value, c.as_slice.ensures.bound);
+      none_waits = c.clear.ensures.items;
+    } in
+    (carried_pieces v to t w ws r b e x is).within
+
+pub returns-in-Ok-clause-room : goal.returns-in-Ok-clause-room
+returns-in-Ok-clause-room g c =
+    let rows = c.in-Ok.prepared.writes.items in
+    let copies = c.finish-plan.result.copies.items in
+    let fixed = c.finish-plan.result.in_place.items in
+    let supers = option_list c.raise-superblock.result in
+    let long = ap length c.join.ensures.items ∙ lengths_joined rows copies supers fixed (record { at = c.self.inside.place; piece = c.of.result }) in
+    record {
+      pieces = omega (arith, long, one_at_most c.raise-superblock.result, c.finish-plan.ensures.copies, c.finish-plan.ensures.in_place, c.in-Ok.ensures.pieces, c.in-Ok.prepared.writes.ok);
+      end = omega (arith, c.finish-plan.ensures.end, c.in-Ok.ensures.end);
+    }
+
+pub returns-in-Err-clause-kept : goal.returns-in-Err-clause-kept
+returns-in-Err-clause-kept g c =
+    let i = c.self.inside in
+    let v : Session = record {
+      name = i.name;
+      root = i.root;
+      place = i.place;
+      header = i.header;
+      dataset = dataset_of i.grid;
+      places = i.places;
+      committed = i.committed;
+      waiting = i.waiting.items;
+      waits = i.waits;
+      pending = drop i.shown i.plan.items;
+      stopped = i.stopped;
+      keeps = i.keeps;
+      index = i.index;
+    } in
+    let to = c.rows-to.result in
+    let u = c.unset.new.index in
+    let to_is : to ≡ rows_of v = c.rows-to.ensures.value ∙ ap rows_of (sym c.self.view_is) in
+    let p : IsPartly v.dataset to v.index [] u =
+    c.unset.ensures v.dataset to v.index (subst (λ (ks : List ℕ). IsPartly v.dataset to v.index ks c.prepare.new.index) (sym c.deref-in-Err.ensures.value) c.in-Err.ensures.partly) in
+    refused_same v to u to_is p c.args.self.now c.self.view_is
+
+pub returns-in-Err-clause-full : goal.returns-in-Err-clause-full
+returns-in-Err-clause-full g c full told =
+    let i = c.self.inside in
+    let v : Session = record {
+      name = i.name;
+      root = i.root;
+      place = i.place;
+      header = i.header;
+      dataset = dataset_of i.grid;
+      places = i.places;
+      committed = i.committed;
+      waiting = i.waiting.items;
+      waits = i.waits;
+      pending = drop i.shown i.plan.items;
+      stopped = i.stopped;
+      keeps = i.keeps;
+      index = i.index;
+    } in
+    let to = c.rows-to.result in
+    let to_is : to ≡ rows_of v = c.rows-to.ensures.value ∙ ap rows_of (sym c.self.view_is) in
+    let places_are = c.new-taking.ensures.places ∙ c.in_ok-copy.ensures in
+    let part = c.in-Err.ensures.full full (same_error c.in-Err.e _ told) in
+    let now : IsFullPart v.dataset to v.index v.places full = subst (λ (s : Space). IsFullPart v.dataset to v.index s full) places_are part in
+    subst (λ (s : Session). IsFullFor s full) c.self.view_is (subst (λ (n : ℕ). IsFullPart v.dataset n v.index v.places full) to_is now)

@@ -1,0 +1,31 @@
+use Rattle.std.proofs.Common.{arith, sym, subst, ℕ}
+use Rattle.h5w_array_flushes.proofs.ArrayRestLemmas.{standing_freed}
+use Rattle.h5w_session.specs.Sessions.{ArePieces}
+use Rattle.h5w_session.proofs.state.WriterCore.settle.Goals as goal
+
+pub invariant_of-self : goal.invariant_of-self
+invariant_of-self c =
+    let i = c.self.inside in
+    let is = c.self.invariant.0 in
+    let freed = c.commit.ensures.committed in (
+      record {
+        some_columns = is.some_columns;
+        cells = is.cells;
+        few = is.few;
+        version = is.version;
+        begun = omega (arith, is.begun, freed.end);
+        array = is.array;
+        across = is.across;
+        header = is.header;
+        header_ends = omega (arith, is.header_ends, freed.end);
+        limited = omega (arith, is.limited, freed.end, freed.limit);
+        limit = omega (arith, is.limit, freed.limit);
+        inside = λ k named. omega (arith, is.inside k named, freed.end);
+        standing = standing_freed i.index i.places c.commit.new.self freed is.standing;
+        blocks = is.blocks;
+      },
+      c.self.invariant.1,
+      subst (λ (n : ℕ). ArePieces n i.plan.items) (sym freed.end) c.self.invariant.2,
+      c.self.invariant.3,
+      c.self.invariant.4,
+    )

@@ -1,0 +1,271 @@
+//! The flush of a session: all memory and all places are taken before anything changes.
+ghost use Rattle.std.specs.Prelude.{◌≡◌, ◌⊎◌, ℕ, ◌+◌, ◌*◌, ◌-◌, ◌^◌, ◌<◌, ◌≤◌, [], ◌∷◌, ◌++◌, List, length, IfOk, IfErr, IfSome, IsOk, IsSome, MatchOption, OnOk, OnErr, None, Some, Ok, Err, vec_len, vec_capacity};
+ghost use Rattle.h5w_model.specs.Causes.{Rose};
+ghost use Rattle.h5w_model.specs.Headers.{messages_at, rows_in_header, with_rows_bytes};
+ghost use Rattle.h5w_model.specs.Logs.{Log, and_now, div_up, load, plans};
+ghost use Rattle.h5w_model.specs.Tables.{chunks_across};
+ghost use Rattle.h5w_array_laws.specs.ArrayStores.{IsArray};
+ghost use Rattle.h5w_cache.specs.Starts.{IsBegun, copy_pieces, in_place_pieces};
+ghost use Rattle.std.specs.List.{slice_get};
+ghost use Rattle.h5w_chunks.specs.Grids.{IsGrid, chunk_len, dataset_of};
+ghost use Rattle.h5w_chunks.specs.declared.grid.ChunkPlace.{ChunkPlace};
+ghost use Rattle.h5w_chunks.specs.Rows.{RowsWritten};
+ghost use Rattle.h5w_chunks.specs.Shares.{new_writes, touched};
+ghost use Rattle.h5w_flush_laws.specs.Parts.{AreEnded};
+ghost use Rattle.h5w_image.specs.View.{Same};
+ghost use Rattle.h5w_space.specs.declared.Full.{Full};
+ghost use Rattle.h5w_session.specs.Flushes.{IsFlushed, SameBut};
+ghost use Rattle.h5w_session.specs.Loads.{NoPlace};
+ghost use Rattle.h5w_session.specs.Placing.{IsPartly, IsPlacing, first_number};
+ghost use Rattle.h5w_session.specs.Refusals.{IsFullFor, IsFullPart, IsSpace, flush_refusal};
+ghost use Rattle.h5w_session.specs.Room.{HasRoomFor};
+ghost use Rattle.h5w_session.specs.Sessions.{AllEndBy, AreInside, TakesRows, cutting_of, option_list, rows_of};
+ghost use Rattle.h5w_session.specs.Stands.{Stands};
+ghost use Rattle.h5w_session.specs.declared.refusal.FlushError.{FlushError};
+
+use crate::refusal::FlushError;
+use crate::state::WriterCore;
+use crate::taking::{Taking, place_chunks, unset};
+use h5w_cache::{Begun, Plan};
+use h5w_chunks::Grid;
+use h5w_ea_index::ArrayIndex;
+use h5w_image::PieceWrite;
+use h5w_model::{OutOfMemory, PIECE, Piece, Super, Write};
+use h5w_ohdr::with_rows;
+
+/// A flush that only has to be carried out: the writes of the new rows, with room for all that follow, and the plan of the index's blocks.
+#[derive(Drop)]
+struct Prepared {
+    writes: Vec<Write>,
+    begun: Begun,
+}
+
+/// How many pieces follow the writes of the rows at most: copies, superblock, blocks in place, header.
+fn pieces_after(begun: &Begun) -> Option<usize>
+    ensures { IfSome result (λ n. n ≡ copy_pieces begun.now + in_place_pieces begun.now + 2) }
+{
+    begun.copies().checked_add(begun.in_place())?.checked_add(2)
+}
+
+/// Makes room for all pieces of a flush, and one more in the image.
+fn make_room<W: PieceWrite>(
+    writes: &mut Vec<Write>,
+    begun: &Begun,
+    image: &mut W,
+) -> Result<(), FlushError>
+    ensures writes { writes.new.items ≡ writes.old.items }
+    ensures room { OnOk result (vec_len writes.new + (copy_pieces begun.now + in_place_pieces begun.now + 2) ≤ vec_capacity writes.new) }
+    ensures pieces { OnOk result (vec_len writes.new + (copy_pieces begun.now + in_place_pieces begun.now + 2) + 1 ≤ (W.view image.new).pieces) }
+    ensures end { OnOk result (begun.now.next.end ≤ (W.view image.new).end) }
+    ensures image { Same (W.view image.old) (W.view image.new) }
+    ensures fault { result ≡ Err FlushError.Failed → Rose (W.view image.old).faults (W.view image.new).faults }
+    ensures causes { IfErr result (λ e. (e ≡ FlushError.Failed) ⊎ (e ≡ FlushError.OutOfMemory)) }
+{
+    let after = pieces_after(begun).ok_or(OutOfMemory)?;
+    let all = writes.len().checked_add(after).ok_or(OutOfMemory)?;
+    let pieces = (all as u64).checked_add(1).ok_or(OutOfMemory)?;
+    writes.reserve(after).map_err(OutOfMemory::from)?;
+    image.reserve(pieces, begun.end())?;
+    Ok(())
+}
+
+/// The writes of the new rows, whose chunks have these places.
+fn put_rows(grid: &Grid, cells: &[u8], to: u64, taking: &Taking) -> Result<Vec<Write>, OutOfMemory>
+    requires grid { IsGrid grid.now }
+    requires order { grid.now.shape.rows ≤ to }
+    requires count { length cells.now ≡ (to - grid.now.shape.rows) * grid.now.shape.cols * grid.now.int_type.size }
+    requires all { length taking.now.chunks.items ≡ touched (dataset_of grid.now) grid.now.shape.rows to }
+    requires ends { (k : ℕ) (p : ChunkPlace) → slice_get taking.now.chunks.items k ≡ Some p → p.address + chunk_len (dataset_of grid.now) < 2 ^ 64 }
+    ensures exact { IfOk result (λ ws. ws.items ≡ new_writes (dataset_of grid.now) cells.now grid.now.shape.rows to taking.now.chunks.items) }
+    ensures does { IfOk result (λ ws. RowsWritten (dataset_of grid.now) cells.now grid.now.shape.rows to taking.now.chunks.items ws.items) }
+{
+    let mut writes = Vec::new(*taking.chunks.allocator());
+    grid.new_bytes(cells, grid.shape.rows, to, &taking.chunks, &mut writes)?;
+    Ok(writes)
+}
+
+/// Takes all places and all memory of a flush of these cells, the rows up to but not including `to`. After a refusal some of the new
+/// chunks have an address.
+fn prepare<W: PieceWrite>(
+    grid: &Grid,
+    cells: &[u8],
+    to: u64,
+    taking: &mut Taking,
+    index: &mut ArrayIndex,
+    image: &mut W,
+) -> Result<Prepared, FlushError>
+    requires grid { IsGrid grid.now }
+    requires one { chunks_across (dataset_of grid.now) ≡ 1 }
+    requires order { grid.now.shape.rows < to }
+    requires few { div_up to grid.now.layout.chunk.0 ≤ 131060 }
+    requires count { length cells.now ≡ (to - grid.now.shape.rows) * grid.now.shape.cols * grid.now.int_type.size }
+    requires inside { AreInside (dataset_of grid.now) taking.old.places.end index.old }
+    requires limited { taking.old.places.end ≤ taking.old.places.limit }
+    requires limit { taking.old.places.limit ≤ 2 ^ 40 }
+    requires no_chunks { taking.old.chunks.items ≡ [] }
+    requires none_added { taking.old.added.items ≡ [] }
+    requires array { IsArray index.old }
+    ensures placed { OnOk result (IsPlacing (dataset_of grid.now) to index.old taking.old.places taking.new.chunks.items taking.new.added.items index.new taking.new.places) }
+    ensures all { OnOk result (first_number (dataset_of grid.now) + length taking.new.chunks.items ≡ div_up to grid.now.layout.chunk.0) }
+    ensures exact { IfOk result (λ p. p.writes.items ≡ new_writes (dataset_of grid.now) cells.now grid.now.shape.rows to taking.new.chunks.items) }
+    ensures does { IfOk result (λ p. RowsWritten (dataset_of grid.now) cells.now grid.now.shape.rows to taking.new.chunks.items p.writes.items) }
+    ensures begun { IfOk result (λ p. IsBegun index.new.blocks index.new.places index.new.changed taking.new.places p.begun) }
+    ensures room { IfOk result (λ p. vec_len p.writes + (copy_pieces p.begun + in_place_pieces p.begun + 2) ≤ vec_capacity p.writes) }
+    ensures pieces { IfOk result (λ p. vec_len p.writes + (copy_pieces p.begun + in_place_pieces p.begun + 2) + 1 ≤ (W.view image.new).pieces) }
+    ensures end { IfOk result (λ p. p.begun.next.end ≤ (W.view image.new).end) }
+    ensures partly { OnErr result (IsPartly (dataset_of grid.now) to index.old taking.new.added.items index.new) }
+    ensures full { (full : Full) → result ≡ Err (FlushError.Space full) → IsFullPart (dataset_of grid.now) to index.old taking.old.places full }
+    ensures image { Same (W.view image.old) (W.view image.new) }
+    ensures fault { result ≡ Err FlushError.Failed → Rose (W.view image.old).faults (W.view image.new).faults }
+    ensures causes { IfErr result (λ e. IsSpace e ⊎ ((e ≡ FlushError.Failed) ⊎ (e ≡ FlushError.OutOfMemory))) }
+{
+    place_chunks(grid, to, taking, index)?;
+    let mut writes = put_rows(grid, cells, to, taking)?;
+    let begun = index.begin(&taking.places)?;
+    make_room(&mut writes, &begun, image)?;
+    Ok(Prepared { writes, begun })
+}
+
+/// The superblock with this end of the file, to be written where its end is another.
+fn raise(root: &mut Super, end: u64) -> Option<Write>
+    requires { root.old.version ≡ 3 }
+    ensures root { root.new ≡ record root.old { end = end } }
+    ensures ended { AreEnded root.old end (option_list result) }
+    ensures sized { IfSome result (λ w. (w.at ≡ 0) × (length w.piece ≡ 48)) }
+{
+    if root.end == end {
+        return None;
+    }
+    root.end = end;
+    Some(Write {
+        at: 0,
+        piece: Piece::of(&h5w_super::encode(root)),
+    })
+}
+
+/// A dataset's header with another number of rows.
+fn header_with_rows(header: &Piece, rows: u64) -> Piece
+    requires read { IsOk (messages_at header.now) }
+    requires rows { IsSome (rows_in_header header.now) }
+    ensures { result ≡ with_rows_bytes header.now rows None }
+{
+    let mut bytes = [0; PIECE];
+    let chunk = &mut bytes[..header.len()];
+    chunk.copy_from_slice(header.as_slice());
+    with_rows(chunk, rows, None);
+    Piece::of(chunk)
+}
+
+/// All pieces in their order: the rows, copies, the superblock, blocks in place, and last the header.
+fn join(mut writes: Vec<Write>, plan: Plan, superblock: Option<Write>, header: Write) -> Vec<Write>
+    requires { vec_len writes + (vec_len plan.copies + vec_len plan.in_place + 2) ≤ vec_capacity writes }
+    ensures items { result.items ≡ writes.items ++ (plan.copies.items ++ (option_list superblock ++ (plan.in_place.items ++ header ∷ []))) }
+    ensures room { 1 ≤ vec_capacity result }
+{
+    let Plan {
+        mut copies,
+        mut in_place,
+        ..
+    } = plan;
+    writes.append(&mut copies).unwrap();
+    if let Some(block) = superblock {
+        writes.push_reserved(block);
+    }
+    writes.append(&mut in_place).unwrap();
+    writes.push_reserved(header);
+    writes
+}
+
+impl WriterCore {
+    /// Plans the pieces that make the rows that wait visible, which are pending then, and answers how many they are: none exactly where
+    /// no row waits. Where the file has no place for a new chunk the first such chunk by its key is told, or else the first block of the
+    /// index in turn; or want of memory. All memory and all places are taken here, so that nothing after it fails. Room is reserved in
+    /// the image for these pieces and one more, up to the file's new end.
+    ///
+    /// A refused flush leaves no more than blocks of the index held, which the next flush writes in any case.
+    pub fn flush<W: PieceWrite>(&mut self, image: &mut W) -> Result<u64, FlushError>
+        ensures flushed { OnOk result (TakesRows self.old self.new) }
+        ensures pieces { IfOk result (λ pieces. pieces ≡ length self.new.pending) }
+        ensures some { 0 < self.old.waits → IfOk result (λ pieces. 1 ≤ pieces) }
+        ensures nothing { self.old.waits ≡ 0 → OnOk result (self.new ≡ self.old) }
+        ensures stands { IfOk result (λ pieces. (log : Log) → Stands self.old log → Stands self.new (and_now (plans pieces) log)) }
+        ensures bound { IfOk result (λ pieces. (log : Log) → Stands self.old log → pieces ≤ load (cutting_of self.old) log) }
+        ensures refused { (e : FlushError) → flush_refusal self.old ≡ Some e → result ≡ Err e }
+        ensures causes { IfErr result (λ e. (flush_refusal self.old ≡ Some e) ⊎ (IsSpace e ⊎ ((e ≡ FlushError.Failed) ⊎ (e ≡ FlushError.OutOfMemory)))) }
+        ensures full { (full : Full) → result ≡ Err (FlushError.Space full) → IsFullFor self.old full }
+        ensures bounds { (full : Full) → result ≡ Err (FlushError.Space full) → (log : Log) → Stands self.old log → NoPlace self.old log full }
+        ensures fault { result ≡ Err FlushError.Failed → Rose (W.view image.old).faults (W.view image.new).faults }
+        ensures kept { OnErr result (SameBut self.old self.new) }
+        ensures left { OnErr result ((log : Log) → Stands self.old log → Stands self.new log) }
+        ensures image { Same (W.view image.old) (W.view image.new) }
+        ensures room { OnOk result (HasRoomFor self.new (W.view image.new)) }
+    {
+        self.ready()?;
+        if self.waits == 0 {
+            image.reserve(1, self.places.end())?;
+            return Ok(0);
+        }
+        self.flush_rows(image)
+    }
+
+    /// Why no flush is planned, but for places, the image and memory.
+    fn ready(&self) -> Result<(), FlushError>
+        ensures { MatchOption (flush_refusal self.now) (result ≡ Ok tt) (λ e. result ≡ Err e) }
+    {
+        if self.stopped {
+            return Err(FlushError::Stopped);
+        }
+        let pending = self.pending();
+        if pending > 0 {
+            return Err(FlushError::Busy { pending });
+        }
+        Ok(())
+    }
+
+    /// Plans the pieces that make the rows that wait visible.
+    fn flush_rows<W: PieceWrite>(&mut self, image: &mut W) -> Result<u64, FlushError>
+        requires waits { 0 < self.old.waits }
+        ensures flushed { OnOk result (IsFlushed self.old self.new) }
+        ensures pieces { IfOk result (λ pieces. pieces ≡ length self.new.pending) }
+        ensures ends { OnOk result (AllEndBy self.new.places.end self.new.pending) }
+        ensures kept { OnErr result (SameBut self.old self.new) }
+        ensures full { (full : Full) → result ≡ Err (FlushError.Space full) → IsFullFor self.old full }
+        ensures causes { IfErr result (λ e. IsSpace e ⊎ ((e ≡ FlushError.Failed) ⊎ (e ≡ FlushError.OutOfMemory))) }
+        ensures fault { result ≡ Err FlushError.Failed → Rose (W.view image.old).faults (W.view image.new).faults }
+        ensures image { Same (W.view image.old) (W.view image.new) }
+        ensures room { OnOk result (HasRoomFor self.new (W.view image.new)) }
+    {
+        let to = self.rows();
+        let mut taking = Taking::new(*self.plan.allocator(), self.places.copy()?);
+        match prepare(
+            &self.grid,
+            &self.waiting,
+            to,
+            &mut taking,
+            &mut self.index,
+            image,
+        ) {
+            Ok(prepared) => {
+                let Prepared { writes, begun } = prepared;
+                let plan = self.index.finish(&mut taking.places, begun);
+                let superblock = raise(&mut self.root, taking.places.end());
+                self.header = header_with_rows(&self.header, to);
+                let header = Write {
+                    at: self.place,
+                    piece: Piece::of(self.header.as_slice()),
+                };
+                self.plan = join(writes, plan, superblock, header);
+                self.shown = 0;
+                self.grid.shape.rows = to;
+                self.places = taking.places;
+                self.waiting.clear();
+                self.waits = 0;
+                Ok(self.plan.len() as u64)
+            }
+            Err(e) => {
+                unset(&taking.added, &mut self.index);
+                Err(e)
+            }
+        }
+    }
+}

@@ -1,0 +1,24 @@
+//! What is true of every log of which a session is the session.
+
+ghost use Rattle.h5w_session.specs.Laws.{RoomStays, ShownLaws, StandingLaws};
+
+/// A session's log begins over no bytes, and its dataset has one column. The session knows how many rows are flushed and
+/// appended; at each position of its log the image is valid and reads as the rows that are flushed there, and what readers
+/// rest on stays from each position to each later one. What a stopped session left is valid and reads as the flushed rows.
+#[tactic(auto, using(crate::proofs::LawLemmas::standing_laws))]
+pub fn standing_laws()
+    ensures { StandingLaws }
+{}
+
+/// At each position of its log the image shows a dataset of the session's shape, within all limits that allow the chunks
+/// of a session, by one look at each header, and is no longer than a file may be.
+#[tactic(auto, using(crate::proofs::LawLemmas::shown_laws))]
+pub fn shown_laws()
+    ensures { ShownLaws }
+{}
+
+/// An image with room for a session has room for it after the oldest piece was written.
+#[tactic(auto, using(crate::proofs::LawLemmas::room_stays))]
+pub fn room_stays()
+    ensures { RoomStays }
+{}

@@ -1,0 +1,44 @@
+-- The commands on files: check FILE [--name N], poll FILE [--name N] [--times T] [--attempts A] [--values], clear FILE
+use Rattle.std.specs.Prelude.{ℕ, false, List, Option, option_map, option_and_then, codes}
+use Rattle.clap.specs.Words.{App, Row, Text, first_of, new_app, with_rule}
+use Rattle.h5w_words.specs.Arguments.{count_or, flag_rule, is_given, link_name_or, option_rule, word_rule}
+use Rattle.h5w_words.specs.Play.{attempts_of}
+use Rattle.h5w_words.specs.declared.job.Job.{Job}
+use Rattle.h5w_words.specs.declared.job.Job.TheVariants.{Check, Poll, Clear}
+
+abbrev pub check_app : App
+check_app = with_rule (with_rule (new_app (codes "check")) (word_rule (codes "FILE"))) (option_rule (codes "name") false)
+
+abbrev pub poll_app : App
+poll_app =
+    with_rule (with_rule (with_rule (with_rule (with_rule (new_app (codes "poll")) (word_rule (codes "FILE"))) (option_rule (codes "name") false))
+    (option_rule (codes "times") false)) (option_rule (codes "attempts") false)) (flag_rule (codes "values"))
+
+abbrev pub clear_app : App
+clear_app = with_rule (new_app (codes "clear")) (word_rule (codes "FILE"))
+
+-- the name of the file
+abbrev pub file_of : List Row → Option Text
+file_of rows = first_of (codes "FILE") rows
+
+-- the name of the root group's link to the dataset; where none is given, data
+abbrev pub link_name_of : List Row → Option Text
+link_name_of rows = link_name_or (codes "data") (first_of (codes "name") rows)
+
+-- 1 to 1,000,000; where none are given, 1
+abbrev pub times_of : List Row → Option ℕ
+times_of rows = count_or 1 1 1000000 (first_of (codes "times") rows)
+
+abbrev pub check_of : List Row → Option Job
+check_of rows = option_and_then (λ file. option_map (λ name. Check file name) (link_name_of rows)) (file_of rows)
+
+-- the numbers of a poll of this file with this name
+abbrev pub poll_numbers_of : List Row → Text → Text → Option Job
+poll_numbers_of rows file name =
+    option_and_then (λ times. option_map (λ attempts. Poll file name times attempts (is_given (first_of (codes "values") rows))) (attempts_of rows)) (times_of rows)
+
+abbrev pub poll_of : List Row → Option Job
+poll_of rows = option_and_then (λ file. option_and_then (poll_numbers_of rows file) (link_name_of rows)) (file_of rows)
+
+abbrev pub clear_of : List Row → Option Job
+clear_of rows = option_map Clear (file_of rows)

@@ -1,0 +1,122 @@
+//! The commands on files.
+ghost use Rattle.std.specs.Prelude.{◌≡◌, ◌⊎◌, false, None, Some, IfErr, IfOk};
+ghost use Rattle.clap.specs.Words.{app_of, found_of, rows_of};
+ghost use Rattle.h5w_words.specs.Arguments.{has_globals};
+ghost use Rattle.h5w_words.specs.Files.{check_app, check_of, clear_app, clear_of, poll_app, poll_numbers_of, poll_of};
+ghost use Rattle.h5w_words.specs.Limits.{IsWithinLimits};
+
+use crate::arguments::{flag, option_or, word};
+use crate::file::FileName;
+use crate::job::{Job, WordsError};
+use crate::values::{count_or, is_given, link_name_or, text};
+use clap::{ArgMatches, Command};
+use h5w_model::Bytes;
+use std::alloc::{AllocError, Global};
+
+/// The command that checks a file, with its arguments.
+pub fn check<'a>(alloc: Global) -> Result<Command<'a>, AllocError>
+    ensures shape { IfOk result (λ c. app_of c ≡ check_app) }
+    ensures local { IfOk result (λ c. has_globals c ≡ false) }
+{
+    let command = Command::new(alloc, "check");
+    let command = word(alloc, command, "FILE")?;
+    let command = option_or(alloc, command, "name")?;
+    Ok(command)
+}
+
+/// The command that polls a file, with its arguments.
+pub fn poll<'a>(alloc: Global) -> Result<Command<'a>, AllocError>
+    ensures shape { IfOk result (λ c. app_of c ≡ poll_app) }
+    ensures local { IfOk result (λ c. has_globals c ≡ false) }
+{
+    let command = Command::new(alloc, "poll");
+    let command = word(alloc, command, "FILE")?;
+    let command = option_or(alloc, command, "name")?;
+    let command = option_or(alloc, command, "times")?;
+    let command = option_or(alloc, command, "attempts")?;
+    let command = flag(alloc, command, "values")?;
+    Ok(command)
+}
+
+/// The command that clears the flags of writers, with its argument.
+pub fn clear<'a>(alloc: Global) -> Result<Command<'a>, AllocError>
+    ensures shape { IfOk result (λ c. app_of c ≡ clear_app) }
+    ensures local { IfOk result (λ c. has_globals c ≡ false) }
+{
+    let command = Command::new(alloc, "clear");
+    let command = word(alloc, command, "FILE")?;
+    Ok(command)
+}
+
+/// The name of a link, owned.
+fn owned(alloc: Global, name: &str) -> Result<Bytes, AllocError>
+    ensures { IfOk result (λ b. b ≡ name.now) }
+{
+    Ok(Bytes::from_vec(Vec::from_slice(alloc, name.as_bytes())?))
+}
+
+/// The check that the arguments ask for; `Usage` where they are outside the command set.
+pub fn check_job(alloc: Global, options: &ArgMatches<'_>) -> Result<Job, WordsError>
+    ensures ok { IfOk result (λ job. check_of (rows_of (found_of options.now)) ≡ Some job) }
+    ensures usage { IfErr result (λ e. (e ≡ WordsError.OutOfMemory) ⊎ (check_of (rows_of (found_of options.now)) ≡ None)) }
+    ensures limits { IfOk result IsWithinLimits }
+{
+    let Some(file) = text(options, "FILE") else {
+        return Err(WordsError::Usage);
+    };
+    let Some(name) = link_name_or(options, "name", "data") else {
+        return Err(WordsError::Usage);
+    };
+    Ok(Job::Check {
+        file: FileName::of(alloc, file)?,
+        name: owned(alloc, name)?,
+    })
+}
+
+/// The poll of this file that the options ask for; `Usage` where a number is not within its limits.
+fn poll_named(options: &ArgMatches<'_>, file: FileName, name: Bytes) -> Result<Job, WordsError>
+    ensures ok { IfOk result (λ job. poll_numbers_of (rows_of (found_of options.now)) file name ≡ Some job) }
+    ensures usage { IfErr result (λ e. poll_numbers_of (rows_of (found_of options.now)) file name ≡ None) }
+    ensures limits { IfOk result IsWithinLimits }
+{
+    let times = count_or(options, "times", 1, 1, 1_000_000).ok_or(WordsError::Usage)?;
+    let attempts = count_or(options, "attempts", 8, 1, 1_000).ok_or(WordsError::Usage)?;
+    Ok(Job::Poll {
+        file,
+        name,
+        times,
+        attempts: attempts as u32,
+        values: is_given(options, "values"),
+    })
+}
+
+/// The poll that the arguments ask for; `Usage` where they are outside the command set.
+pub fn poll_job(alloc: Global, options: &ArgMatches<'_>) -> Result<Job, WordsError>
+    ensures ok { IfOk result (λ job. poll_of (rows_of (found_of options.now)) ≡ Some job) }
+    ensures usage { IfErr result (λ e. (e ≡ WordsError.OutOfMemory) ⊎ (poll_of (rows_of (found_of options.now)) ≡ None)) }
+    ensures limits { IfOk result IsWithinLimits }
+{
+    let Some(file) = text(options, "FILE") else {
+        return Err(WordsError::Usage);
+    };
+    let Some(name) = link_name_or(options, "name", "data") else {
+        return Err(WordsError::Usage);
+    };
+    let file = FileName::of(alloc, file)?;
+    let name = owned(alloc, name)?;
+    poll_named(options, file, name)
+}
+
+/// The clearing that the argument asks for; `Usage` where it is outside the command set.
+pub fn clear_job(alloc: Global, options: &ArgMatches<'_>) -> Result<Job, WordsError>
+    ensures ok { IfOk result (λ job. clear_of (rows_of (found_of options.now)) ≡ Some job) }
+    ensures usage { IfErr result (λ e. (e ≡ WordsError.OutOfMemory) ⊎ (clear_of (rows_of (found_of options.now)) ≡ None)) }
+    ensures limits { IfOk result IsWithinLimits }
+{
+    let Some(file) = text(options, "FILE") else {
+        return Err(WordsError::Usage);
+    };
+    Ok(Job::Clear {
+        file: FileName::of(alloc, file)?,
+    })
+}
