@@ -47,7 +47,7 @@ def cost(run, name):
 
 total = cost("append", "PROGRAM TOTALS")
 read = cost("append", r":h5w_text::script::\w+")
-printed = cost("read", r":h5w_text::(?:reply::\w+|digits::value)")
+printed = cost("read", r":h5w_text::digits::\w*value")
 loop, strtoll, printf = map(int, sys.argv[2:])
 print("append, all in all: %.1f instructions a value (at most 130)" % (total / VALUES))
 print("read from text: %.1f a value; in C a plain loop %.1f, strtoll %.1f" % (read / VALUES, loop / VALUES, strtoll / VALUES))
