@@ -20,7 +20,7 @@ use Rattle.h5w_header_laws.proofs.CommitLaws.{rows_place_is, rows_there}
 use Rattle.h5w_session.specs.Sessions.{ArePieces, IsSession, IsWritable, Session, option_list, rows_of, with_rows}
 use Rattle.h5w_session.specs.Flushes.{IsFlushed, SameBut, flushed_of}
 use Rattle.h5w_session.specs.Placing.{IsPartly, IsPlacing, first_number}
-use Rattle.h5w_session.proofs.FlushedLemmas.{Shown, flushed_is, flushed_pieces, shown_flushed}
+use Rattle.h5w_session.proofs.FlushedLemmas.{Shown, flushed_is, flushed_pieces, shown_flushed, tops_kept}
 use Rattle.h5w_session.proofs.PlacingLemmas.{partly_kept, same_but}
 
 -- the rows have a place in the header
@@ -141,8 +141,8 @@ module _ (v : Session) (to : ℕ) (u : Store) (to_is : to ≡ rows_of v) (p : Is
         header_ends = is.header_ends;
         limited = is.limited;
         limit = is.limit;
-        inside = λ i named. let same : map_of u i ≡ map_of v.index i = kept.map i in omega (arith, same, is.inside i (λ e. named (same ∙ e)));
-        standing = p.standing v.places is.standing;
+        inside = λ i from named. let same : map_of u i ≡ map_of v.index i = kept.map i in omega (arith, same, is.inside i from (λ e. named (same ∙ e)));
+        tops = tops_kept v.places.end v.places.end v.index u p.places (omega arith) is.tops;
         blocks = p.array;
       }
 

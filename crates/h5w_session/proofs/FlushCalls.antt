@@ -54,9 +54,7 @@ some_pieces old new x =
 
 takes_rows : (old new : Session) → IsSession old → IsFlushed old new → TakesRows old new
 takes_rows old new is x =
-    let before = x.named.standing old.places is.standing in
-    let standing : Standing x.held x.between = record { live = λ n there. x.taken.stays_live (range_of x.held n) (before.live n there); some = before.some; apart = before.apart } in
-    let ends = plan_ends x.held x.named.array x.between x.moves x.copies x.fixed new.index new.places x.plan standing in
+    let ends = plan_ends x.held x.named.array x.between x.moves x.copies x.fixed new.index new.places x.plan in
     record {
       name = ap (λ (s : Session). s.name) x.session;
       place = ap (λ (s : Session). s.place) x.session;

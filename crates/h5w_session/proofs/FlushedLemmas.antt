@@ -14,10 +14,9 @@ use Rattle.h5w_model.specs.declared.piece.Write.{Write}
 use Rattle.h5w_model.proofs.ImageLemmas.{AllSized-append}
 use Rattle.h5w_visits.specs.Ranges as ranges
 use Rattle.h5w_space.specs.Space.{Space}
-use Rattle.h5w_cache.specs.Stores.{Store}
+use Rattle.h5w_cache.specs.Stores.{Store, place_of}
 use Rattle.h5w_cache.specs.Blocks.{BlockView}
 use Rattle.h5w_cache.specs.Plans.{AreRetired, bytes_of}
-use Rattle.h5w_cache.specs.StoreLaws.{Standing, range_of}
 use Rattle.h5w_cache.specs.declared.moves.Move.{Move}
 use Rattle.h5w_chunks.specs.Grids.{chunk_len, fill_cell}
 use Rattle.h5w_chunks.specs.Rows.{RowsWritten}
@@ -28,7 +27,8 @@ use Rattle.h5w_array_laws.specs.ArrayStores.{IsArray, IsBlock, block_at_part, by
 use Rattle.h5w_array_laws.specs.ArrayPlans.{IsArrayPlan}
 use Rattle.h5w_array_laws.proofs.WriteLemmas.{plan_copies}
 use Rattle.h5w_flush_laws.specs.Parts.{AreEnded}
-use Rattle.h5w_session.specs.Sessions.{AreInside, ArePieces, IsSession, Session, chunk_limit, rows_of, with_rows}
+use Rattle.h5w_laws.proofs.LogLemmas.{div_rises}
+use Rattle.h5w_session.specs.Sessions.{AreInside, ArePieces, EndInPlace, IsSession, Session, chunk_limit, rows_of, with_rows}
 use Rattle.h5w_session.specs.Flushes.{IsFlushed, flushed_of, header_piece}
 use Rattle.h5w_session.specs.Placing.{IsPlacing, first_number}
 use Rattle.h5w_session.proofs.MoveBounds.{moves_raised}
@@ -51,8 +51,21 @@ retired_ends s (m ∷ ms) t is =
     ] in
     (rest.0 ∙ first.0, rest.1 ∙ first.1)
 
+-- the places of the first and the second of some ranges
+abbrev first_place : List Used → ℕ
+first_place [] = 0
+first_place (u ∷ us) = u.place
+
+abbrev second_place : List Used → ℕ
+second_place [] = 0
+second_place (u ∷ us) = first_place us
+
+-- blocks that stay where they are end by each later place
+pub tops_kept : (e f : ℕ) (v w : Store) → ((n : ℕ) → place_of w n ≡ place_of v n) → e ≤ f → EndInPlace e v → EndInPlace f w
+tops_kept e f v w places le tops = record { head = omega (arith, places (number_of header), tops.head, le); block = omega (arith, places (number_of index_block), tops.block, le) }
+
 -- the array, the places and the plan before it
-module _ (v : Store) (a : IsArray v) (s : Space) (ms : List Move) (copies fixed : List Write) (w : Store) (t : Space) (p : IsArrayPlan v s ms copies fixed w t) (st : Standing v s) where
+module _ (v : Store) (a : IsArray v) (s : Space) (ms : List Move) (copies fixed : List Write) (w : Store) (t : Space) (p : IsArrayPlan v s ms copies fixed w t) where
   pub plan_ends : (t.limit ≡ s.limit) × (s.end ≤ s.limit → t.end ≤ t.limit)
   plan_ends =
       let taken = p.plan.taken.taken in
@@ -62,8 +75,12 @@ module _ (v : Store) (a : IsArray v) (s : Space) (ms : List Move) (copies fixed 
       let limit : t.limit ≡ taken.limit = same.1 ∙ ap (λ (x : Space). x.limit) p.plan.taken.roomy in
       (limit ∙ raised.limit, λ within. omega (arith, end, limit, raised.fits within))
 
-  standing_then : Standing w t
-  standing_then = p.keeps.standing st
+  -- the blocks in place stay where they are
+  pub tops_then : EndInPlace s.end v → EndInPlace t.end w
+  tops_then tops =
+      let head : header_place w ≡ header_place v = ap first_place p.stay in
+      let block : place_at_part w index_block ≡ place_at_part v index_block = ap second_place p.stay in
+      record { head = omega (arith, head, tops.head, p.end); block = omega (arith, block, tops.block, p.end) }
 
   pub copies_are : ArePieces t.end copies
   copies_are =
@@ -75,22 +92,19 @@ module _ (v : Store) (a : IsArray v) (s : Space) (ms : List Move) (copies fixed 
   block_long (Some b) at k some is = is.len
 
   -- index block or header
-  top_ends : (k : Part) → IsPart k → stays_in_place k ≡ true → (length (bytes_at_part w k) ≡ length_of k) × (place_at_part w k + length (bytes_at_part w k) ≤ t.end)
-  top_ends k part stays =
-      let there = p.array.in_place k part stays in (
-        block_long (block_at_part w k) (header_place w) k there.0 (p.array.each k part),
-        (standing_then.live (number_of k) (record { kept = there.0; placed = there.1 })).within,
-      )
+  top_long : (k : Part) → IsPart k → stays_in_place k ≡ true → length (bytes_at_part w k) ≡ length_of k
+  top_long k part stays = block_long (block_at_part w k) (header_place w) k (p.array.in_place k part stays).0 (p.array.each k part)
 
-  pub fixed_are : ArePieces t.end fixed
-  fixed_are =
-      let i = top_ends index_block tt refl in
-      let h = top_ends header tt refl in
+  pub fixed_are : EndInPlace s.end v → ArePieces t.end fixed
+  fixed_are tops =
+      let i = top_long index_block tt refl in
+      let h = top_long header tt refl in
+      let then = tops_then tops in
       elim p.fixed [
         | inl none ↦ subst (ArePieces t.end) (sym none) (record { sized = tt; within = tt })
         | inr two ↦ subst (ArePieces t.end) (sym two) (record {
-          sized = ((omega (arith, i.0), omega (arith, i.0)), ((omega (arith, h.0), omega (arith, h.0)), tt));
-          within = (i.1, (h.1, tt));
+          sized = ((omega (arith, i), omega (arith, i)), ((omega (arith, h), omega (arith, h)), tt));
+          within = (omega (arith, i, then.block), (omega (arith, h, then.head), tt));
         })
       ]
 
@@ -146,25 +160,24 @@ module _ (s : Session) (is : IsSession s) (t : Space) (v : Store) (ws : List Wri
   abbrev after : Session
   after = flushed_of s t ws v
 
-  standing_held : Standing x.held x.between
-  standing_held =
-      let before = x.placing.partly.standing s.places is.standing in
-      record { live = λ n there. x.placing.taken.stays_live (range_of x.held n) (before.live n there); some = before.some; apart = before.apart }
+  -- the blocks in place of the array that names the new chunks
+  tops_held : EndInPlace x.between.end x.held
+  tops_held = tops_kept s.places.end x.between.end s.index x.held x.placing.partly.places x.placing.raised.rises is.tops
 
   ends : (t.limit ≡ x.between.limit) × (x.between.end ≤ x.between.limit → t.end ≤ t.limit)
-  ends = plan_ends x.held x.placing.partly.array x.between x.moves x.copies x.fixed v t x.plan standing_held
+  ends = plan_ends x.held x.placing.partly.array x.between x.moves x.copies x.fixed v t x.plan
 
   rises : s.places.end ≤ t.end
   rises = omega (arith, x.placing.raised.rises, x.plan.end)
 
-  -- each chunk that has an address then ends in the file
+  -- each chunk that rows may still go into ends in the file then, where it has an address
   inside_then : AreInside s.dataset t.end v
-  inside_then i named =
+  inside_then i from named =
       let same : map_of v i ≡ map_of x.held i = x.plan.map i in
       let held : map_of x.held i ≢ undefined = λ e. named (same ∙ e) in
       let d = s.dataset in
       let old : map_of x.held i ≡ map_of s.index i → map_of v i + chunk_len d ≤ t.end = λ e.
-      let fits : map_of s.index i + chunk_len d ≤ s.places.end = is.inside i (λ none. held (e ∙ none)) in
+      let fits : map_of s.index i + chunk_len d ≤ s.places.end = is.inside i from (λ none. held (e ∙ none)) in
       omega (arith, same, e, fits, rises) in
       elim (cases_lt i (first_number d)) [
         | inl low ↦ old (x.placing.others i (inl low))
@@ -198,8 +211,8 @@ module _ (s : Session) (is : IsSession s) (t : Space) (v : Store) (ws : List Wri
         header_ends = omega (arith, written_length s.header rows is.header, is.header_ends, rises);
         limited = ends.1 (x.placing.raised.fits is.limited);
         limit = subst (λ (n : ℕ). n ≤ 2 ^ 40) (sym (ends.0 ∙ x.placing.raised.limit)) is.limit;
-        inside = inside_then;
-        standing = standing_then x.held x.placing.partly.array x.between x.moves x.copies x.fixed v t x.plan standing_held;
+        inside = λ i from named. inside_then i (omega (arith, from, div_rises s.dataset.layout.chunk_rows s.dataset.shape.rows rows (omega arith))) named;
+        tops = tops_then x.held x.placing.partly.array x.between x.moves x.copies x.fixed v t x.plan tops_held;
         blocks = x.plan.array;
       }
 
@@ -208,8 +221,8 @@ module _ (s : Session) (is : IsSession s) (t : Space) (v : Store) (ws : List Wri
       let array = x.placing.partly.array in
       let inside : (k : ℕ) (p : ChunkPlace) → slice_get x.chunks k ≡ Some p → p.address + chunk_len s.dataset ≤ t.end = λ k p at. omega (arith, x.placing.inside k p at, x.plan.end) in
       let rows : ArePieces t.end x.rows = record { sized = x.written.sized; within = rows_within s.dataset t.end x.chunks x.rows inside x.written.within } in
-      let copies = copies_are x.held array x.between x.moves x.copies x.fixed v t x.plan standing_held in
-      let fixed = fixed_are x.held array x.between x.moves x.copies x.fixed v t x.plan standing_held in
+      let copies = copies_are x.held array x.between x.moves x.copies x.fixed v t x.plan in
+      let fixed = fixed_are x.held array x.between x.moves x.copies x.fixed v t x.plan tops_held in
       let supers = supers_are t.end s.root t.end x.supers (omega (arith, is.begun, rises)) x.ended in
       let long = written_length s.header (rows_of s) is.header in
       let header = one_piece t.end (header_piece s) (omega (arith, long, is.header.some)) (omega (arith, long, x.header_short)) (omega (arith, long, is.header_ends, rises)) in

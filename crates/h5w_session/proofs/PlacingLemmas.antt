@@ -253,7 +253,7 @@ module _ (d : Described) (to : ℕ) (v w : Store) (s t : Space) (chunks : List C
         elim (get_pushed chunks p k q at) [
           | inl before ↦ x.inside k q before
           | inr last ↦
-              let own = within i is_there in
+              let own = within i (omega (arith, number)) is_there in
               subst (λ (c : ChunkPlace). c.address + chunk_len d ≤ t.end) last.1 (omega (arith, own, before_there, x.raised.rises))
         ];
   }

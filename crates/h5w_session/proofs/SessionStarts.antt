@@ -9,7 +9,6 @@ use Rattle.h5w_session.specs.Sessions.{IsSession, IsWritable}
 use Rattle.h5w_session.specs.Creations.{IsNewFile, NewFile, array_place, created, first_end, header_write, index_place, new_array, new_dataset, places_to}
 use Rattle.h5w_session.proofs.ArrayStarts.{new_array_is}
 use Rattle.h5w_session.proofs.CreatedLemmas.{sizes, spellable}
-use Rattle.h5w_session.proofs.IndexLemmas.{created_standing}
 use Rattle.h5w_session.proofs.StateLemmas.{up_few}
 
 writable : (f : NewFile) → IsNewFile f → IsWritable (header_write f).piece
@@ -38,7 +37,7 @@ created_is f is =
       header_ends = omega (arith, z.lens.header);
       limited = omega (arith, z.end, is.limit_low);
       limit = is.limit_high;
-      inside = λ i named. absurd (named (starts.map i));
-      standing = created_standing (array_place f) (index_place f) (new_array (array_place f) (index_place f)) (places_to (first_end f) f.limit) array (omega arith) (omega arith) refl refl;
+      inside = λ i from named. absurd (named (starts.map i));
+      tops = record { head = omega (arith, array.header_at); block = omega (arith, array.index_at) };
       blocks = starts.array;
     }

@@ -222,7 +222,7 @@ values_is s values is rows by =
       limited = is.limited;
       limit = is.limit;
       inside = is.inside;
-      standing = is.standing;
+      tops = is.tops;
       blocks = is.blocks;
     }
 

@@ -13,8 +13,9 @@ use Rattle.h5w_model.specs.declared.root.Super.{Super}
 use Rattle.h5w_model.specs.declared.piece.Write.{Write}
 use Rattle.h5w_space.specs.Space.{Space, Commits}
 use Rattle.h5w_cache.specs.Stores.{Store}
-use Rattle.h5w_cache.specs.StoreLaws.{Standing}
-use Rattle.h5w_array_laws.specs.ArrayStores.{IsArray, map_of}
+use Rattle.h5w_model.specs.Arrays.{eahd_len, eaib_len}
+use Rattle.h5w_array_laws.specs.Parts.{index_block}
+use Rattle.h5w_array_laws.specs.ArrayStores.{IsArray, header_place, map_of, place_at_part}
 use Rattle.h5w_chunks.specs.Grids.{cells_of, chunk_len}
 
 -- The dataset's name; the superblock; the dataset header's place and its chunk 0; the dataset; the places of the file: all as they
@@ -78,9 +79,14 @@ pub record IsWritable (b : List ℕ) : Type 0 where
   pub first : find (λ (m : Msg). m.kind == dataspace_kind) list ≡ Some space
   pub long : 12 ≤ length space.body
 
--- each chunk that has an address ends by a place
+-- each chunk that has an address, of those from the band of the next row on, ends by a place
 abbrev pub AreInside : Described → ℕ → Store → Type 0
-AreInside d end v = (i : ℕ) → map_of v i ≢ undefined → map_of v i + chunk_len d ≤ end
+AreInside d end v = (i : ℕ) → d.shape.rows / d.layout.chunk_rows ≤ i → map_of v i ≢ undefined → map_of v i + chunk_len d ≤ end
+
+-- the blocks in place of an array end by a place
+pub record EndInPlace (end : ℕ) (v : Store) : Type 0 where
+  pub head : header_place v + eahd_len ≤ end
+  pub block : place_at_part v index_block + eaib_len ≤ end
 
 -- what holds of every session
 pub record IsSession (s : Session) : Type 0 where
@@ -96,9 +102,9 @@ pub record IsSession (s : Session) : Type 0 where
   pub header_ends : s.place + length s.header ≤ s.places.end
   pub limited : s.places.end ≤ s.places.limit
   pub limit : s.places.limit ≤ 2 ^ 40
-  -- its chunks and its blocks stand in the file
+  -- the chunks that rows may still go into and the blocks in place stand in the file
   pub inside : AreInside s.dataset s.places.end s.index
-  pub standing : Standing s.index s.places
+  pub tops : EndInPlace s.places.end s.index
   pub blocks : IsArray s.index
 
 -- each write ends by a place

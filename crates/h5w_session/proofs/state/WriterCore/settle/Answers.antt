@@ -1,5 +1,4 @@
 use Rattle.std.proofs.Common.{arith, sym, subst, ℕ}
-use Rattle.h5w_array_flushes.proofs.ArrayRestLemmas.{standing_freed}
 use Rattle.h5w_session.specs.Sessions.{ArePieces}
 use Rattle.h5w_session.proofs.state.WriterCore.settle.Goals as goal
 
@@ -20,8 +19,8 @@ invariant_of-self c =
         header_ends = omega (arith, is.header_ends, freed.end);
         limited = omega (arith, is.limited, freed.end, freed.limit);
         limit = omega (arith, is.limit, freed.limit);
-        inside = λ k named. omega (arith, is.inside k named, freed.end);
-        standing = standing_freed i.index i.places c.commit.new.self freed is.standing;
+        inside = λ k from named. omega (arith, is.inside k from named, freed.end);
+        tops = record { head = omega (arith, is.tops.head, freed.end); block = omega (arith, is.tops.block, freed.end) };
         blocks = is.blocks;
       },
       c.self.invariant.1,
