@@ -1,5 +1,5 @@
 -- What a flush leaves is a session again.
-use Rattle.std.proofs.Common.{◌≡◌, ◌≢◌, ℕ, zero, suc, ◌+◌, ◌-◌, ◌/◌, ◌^◌, ◌<◌, ◌≤◌, true, false, List, [], ◌∷◌, ◌++◌, length, Option, Some, None, IsSome, refl, ap, sym, ◌∙◌, subst, inl, inr, arith}
+use Rattle.std.proofs.Common.{max, ◌≡◌, ◌≢◌, ℕ, zero, suc, ◌+◌, ◌-◌, ◌/◌, ◌^◌, ◌<◌, ◌≤◌, true, false, List, [], ◌∷◌, ◌++◌, length, Option, Some, None, IsSome, refl, ap, sym, ◌∙◌, subst, inl, inr, arith}
 use Rattle.std.proofs.lemmas.Bool.{cases_lt}
 use Rattle.std.specs.Option.{IfSome}
 use Rattle.std.specs.List.{slice_get}
@@ -66,14 +66,14 @@ tops_kept e f v w places le tops = record { head = omega (arith, places (number_
 
 -- the array, the places and the plan before it
 module _ (v : Store) (a : IsArray v) (s : Space) (ms : List Move) (copies fixed : List Write) (w : Store) (t : Space) (p : IsArrayPlan v s ms copies fixed w t) where
-  pub plan_ends : (t.limit ≡ s.limit) × (s.end ≤ s.limit → t.end ≤ t.limit)
+  pub plan_ends : (t.limit ≡ s.limit) × (t.end ≤ max s.end t.limit)
   plan_ends =
       let taken = p.plan.taken.taken in
       let raised = moves_raised v a s ms taken p.plan.taken.moves in
       let same = retired_ends p.plan.roomy ms t p.plan.retired in
       let end : t.end ≡ taken.end = same.0 ∙ ap (λ (x : Space). x.end) p.plan.taken.roomy in
       let limit : t.limit ≡ taken.limit = same.1 ∙ ap (λ (x : Space). x.limit) p.plan.taken.roomy in
-      (limit ∙ raised.limit, λ within. omega (arith, end, limit, raised.fits within))
+      (limit ∙ raised.limit, omega (arith, end, limit, raised.fits))
 
   -- the blocks in place stay where they are
   pub tops_then : EndInPlace s.end v → EndInPlace t.end w
@@ -164,7 +164,7 @@ module _ (s : Session) (is : IsSession s) (t : Space) (v : Store) (ws : List Wri
   tops_held : EndInPlace x.between.end x.held
   tops_held = tops_kept s.places.end x.between.end s.index x.held x.placing.partly.places x.placing.raised.rises is.tops
 
-  ends : (t.limit ≡ x.between.limit) × (x.between.end ≤ x.between.limit → t.end ≤ t.limit)
+  ends : (t.limit ≡ x.between.limit) × (t.end ≤ max x.between.end t.limit)
   ends = plan_ends x.held x.placing.partly.array x.between x.moves x.copies x.fixed v t x.plan
 
   rises : s.places.end ≤ t.end
@@ -209,7 +209,7 @@ module _ (s : Session) (is : IsSession s) (t : Space) (v : Store) (ws : List Wri
         across = is.across;
         header = writable_again s.header rows is.header;
         header_ends = omega (arith, written_length s.header rows is.header, is.header_ends, rises);
-        limited = ends.1 (x.placing.raised.fits is.limited);
+        limited = omega (arith, ends.0, ends.1, x.placing.raised.fits, x.placing.raised.limit, is.limited);
         limit = subst (λ (n : ℕ). n ≤ 2 ^ 40) (sym (ends.0 ∙ x.placing.raised.limit)) is.limit;
         inside = λ i from named. inside_then i (omega (arith, from, div_rises s.dataset.layout.chunk_rows s.dataset.shape.rows rows (omega arith))) named;
         tops = tops_then x.held x.placing.partly.array x.between x.moves x.copies x.fixed v t x.plan tops_held;

@@ -1,5 +1,5 @@
 -- What a session's relation to its log gives.
-use Rattle.std.proofs.Common.{◌≡◌, ℕ, suc, ◌^◌, ◌≤◌, false, nat_lt, List, [], ◌∷◌, length, take, Ok, Err, refl, ap, sym, ◌∙◌, subst, inl, inr, arith}
+use Rattle.std.proofs.Common.{◌≡◌, ◌⊎◌, ℕ, suc, ◌^◌, ◌≤◌, false, nat_lt, List, [], ◌∷◌, length, take, Ok, Err, refl, ap, sym, ◌∙◌, subst, inl, inr, arith}
 use Rattle.std.proofs.lemmas.Bool.{cond-false, le-ltb, ltb-false}
 use Rattle.h5w_model.specs.Programs.{Visit, eval, ret, and_then, visits}
 use Rattle.h5w_model.specs.Logs.{Log, Happening, flushed, hist, rows_in, shown}
@@ -18,24 +18,24 @@ use Rattle.h5w_steps.specs.Moments.{Moment, Represents, reading_of}
 use Rattle.h5w_steps.proofs.FoundLemmas.{moment_shows, opens, shown_is}
 use Rattle.h5w_steps.proofs.GoesLemmas.{reads_now}
 use Rattle.h5w_steps.proofs.MomentLemmas.{few}
-use Rattle.h5w_session.specs.Creations.{NewFile, array_place, log_of, new_dataset, root_place}
+use Rattle.h5w_session.specs.Creations.{NewFile, array_place, new_dataset, root_place}
 use Rattle.h5w_session.specs.Laws.{IsDatasetOf, RoomStays, ShownLaws, StandingLaws}
-use Rattle.h5w_session.specs.Past.{HasCreated, Past}
+use Rattle.h5w_session.specs.Past.{HasCreated, HasOpened, IsNew, Past, most_of}
 use Rattle.h5w_session.specs.Sessions.{Session, chunk_limit, with_rows}
 use Rattle.h5w_session.specs.Stands.{Creating, Running, Stands}
 use Rattle.h5w_session.proofs.BeginLemmas.{beginning, since_first}
 use Rattle.h5w_session.proofs.CreatedLemmas.{first_end_small, new_image, new_moment}
 use Rattle.h5w_session.proofs.CreatingLemmas.{committed_told, rows_told, shown_so_far, some_length}
-use Rattle.h5w_session.proofs.PastLemmas.{ends_front, ends_take, image_ends, limit_high}
+use Rattle.h5w_session.proofs.PastLemmas.{ends_front, ends_take, image_ends, new_end}
 use Rattle.h5w_session.proofs.StandLemmas.{freed_keeps, goes_rows, left_running, resting}
 
 -- ---- How a log began
 
--- what both phases tell of the file that the session created
+-- what both phases tell of the dataset and the limit
 record Started (s : Session) (log : Log) : Type 0 where
-  file : NewFile
-  log_is : log ≡ log_of log.events
-  dataset : s.dataset ≡ with_rows s.dataset.shape.rows (new_dataset file)
+  begun : IsNew log ⊎ HasOpened s log
+  column : s.dataset.shape.cols ≡ 1
+  columns : log.columns ≡ s.dataset.shape.cols
   limit : s.places.limit ≤ 2 ^ 40
 
 started : (s : Session) (log : Log) → Stands s log → Started s log
@@ -44,20 +44,25 @@ started s log st =
       | inl c ↦
           let f = c.0 in
           let new : s.dataset ≡ new_dataset f = ap (λ (x : Session). x.dataset) c.1.session in
+          let one : s.dataset.shape.cols ≡ 1 = ap (λ (d : Described). d.shape.cols) new in
           let limit : s.places.limit ≡ f.limit = ap (λ (x : Session). x.places.limit) c.1.session in
           record {
-            file = f;
-            log_is = c.1.log_is;
-            dataset = new ∙ ap (λ (d : Described). with_rows d.shape.rows (new_dataset f)) (sym new);
+            begun = inl c.1.log_is;
+            column = one;
+            columns = ap (λ (l : Log). l.columns) c.1.log_is ∙ sym one;
             limit = omega (arith, limit, c.1.is.limit_high);
           }
       | inr r ↦
-          let b = r.past.begun in
-          record { file = b.file; log_is = b.log_is; dataset = b.dataset; limit = limit_high s st.left log r.after r.past }
+          record {
+            begun = elim r.past.begun [ inl b ↦ inl b.log_is | inr b ↦ inr b ];
+            column = r.past.counted.column;
+            columns = sym r.columns;
+            limit = r.past.limit_high;
+          }
     ]
 
 one_column : (s : Session) (log : Log) → Stands s log → s.dataset.shape.cols ≡ 1
-one_column s log st = ap (λ (d : Described). d.shape.cols) (started s log st).dataset
+one_column s log st = (started s log st).column
 
 -- ---- What a log is
 
@@ -93,10 +98,8 @@ last_reads name log (e ∷ es) each begun = each.0 begun
 
 pub standing_laws : StandingLaws
 standing_laws = record {
-  start = λ s log st. ap (λ (l : Log). l.start) (started s log st).log_is;
-  values = λ s log st. ap (λ (l : Log). l.values) (started s log st).log_is;
-  first = λ s log st. ap (λ (l : Log). l.first) (started s log st).log_is;
-  columns = λ s log st. ap (λ (l : Log). l.columns) (started s log st).log_is ∙ sym (one_column s log st);
+  begun = λ s log st. (started s log st).begun;
+  columns = λ s log st. (started s log st).columns;
   some_columns = λ s log st. omega (arith, one_column s log st);
   flushed_rows = λ s log st. sym (committed_told s log st);
   appended_rows = λ s log st. sym (rows_told s log (omega (arith, one_column s log st)) st);
@@ -126,12 +129,17 @@ past_at s log p st at =
       | inr r ↦ (r.after, r.past)
     ]
 
-begun_at : (s : Session) (log : Log) (p : ℕ) → Stands s log → IsPosition log p → HasCreated s log
-begun_at s log p st at = (past_at s log p st at).1.begun
+-- a log that is new began with the pieces of a new file
+is_created : (s : Session) (log : Log) → IsNew log → HasCreated s log ⊎ HasOpened s log → HasCreated s log
+is_created s log new (inl b) = b
+is_created s log new (inr b) = let first : log.first ≡ 5 = ap (λ (l : Log). l.first) new in absurd (omega (arith, first, b.first))
 
-kept_at : (s : Session) (log : Log) (p : ℕ) (r : Reading) → (st : Stands s log) → (at : IsPosition log p) → Shows format_limits (image_at log p) s.name r
-    → Keeps (new_image (begun_at s log p st at).file) (reading_of (new_moment (begun_at s log p st at).file)) (image_at log p) r
-kept_at s log p r st at shows = since_first s log p r (begun_at s log p st at) (stands_held s log st) at shows
+begun_at : (s : Session) (log : Log) (p : ℕ) → Stands s log → IsNew log → IsPosition log p → HasCreated s log
+begun_at s log p st new at = is_created s log new (past_at s log p st at).1.begun
+
+kept_at : (s : Session) (log : Log) (p : ℕ) (r : Reading) → (st : Stands s log) → (new : IsNew log) → (at : IsPosition log p) → Shows format_limits (image_at log p) s.name r
+    → Keeps (new_image (begun_at s log p st new at).file) (reading_of (new_moment (begun_at s log p st new at).file)) (image_at log p) r
+kept_at s log p r st new at shows = since_first s log p r (begun_at s log p st new at) (stands_held s log st) at shows
 
 -- the file at a position
 moment_at : (s : Session) (log : Log) (p : ℕ) → Stands s log → IsPosition log p → (m : Moment) × Represents (image_at log p) s.name m
@@ -140,11 +148,11 @@ moment_at s log p st at =
     let file = opens (image_at log p) s.name _ log.columns _ here.summary here.valid here.reads in
     (file.0, file.1)
 
-dataset_is : (s : Session) (log : Log) (p : ℕ) (r : Reading) → Stands s log → IsPosition log p → Shows format_limits (image_at log p) s.name r → IsDatasetOf s r
-dataset_is s log p r st at shows =
-    let b = begun_at s log p st at in
+dataset_is : (s : Session) (log : Log) (p : ℕ) (r : Reading) → Stands s log → IsNew log → IsPosition log p → Shows format_limits (image_at log p) s.name r → IsDatasetOf s r
+dataset_is s log p r st new at shows =
+    let b = begun_at s log p st new at in
     let f = b.file in
-    let kept = kept_at s log p r st at shows in
+    let kept = kept_at s log p r st new at shows in
     let described = kept.stays.described in
     let address : r.dataset.layout.address ≡ array_place f = described.address (λ e. absurd (omega (arith, e, first_end_small f b.is))) in
     let new : r.dataset ≡ with_rows r.dataset.shape.rows (new_dataset f) =
@@ -184,49 +192,51 @@ few_needed s log p r st at shows =
     subst (λ (x : Reading). needed x.dataset ≤ limit_of format_limits x.dataset.layout.index) (sym (shown_is (image_at log p) s.name m r file.1 shows)) inside
 
 -- by the session's own index
-few_of : (s : Session) (log : Log) (p : ℕ) (r : Reading) → Stands s log → IsPosition log p → Shows format_limits (image_at log p) s.name r → needed r.dataset ≤ chunk_limit s
-few_of s log p r st at shows =
-    let same = (dataset_is s log p r st at shows).index in
+few_of : (s : Session) (log : Log) (p : ℕ) (r : Reading) → Stands s log → IsNew log → IsPosition log p → Shows format_limits (image_at log p) s.name r → needed r.dataset ≤ chunk_limit s
+few_of s log p r st new at shows =
+    let same = (dataset_is s log p r st new at shows).index in
     subst (λ (k : IndexKind). needed r.dataset ≤ limit_of format_limits k) same (few_needed s log p r st at shows)
 
-few_within : (s : Session) (log : Log) (limits : Limits) (p : ℕ) (r : Reading) → Stands s log → chunk_limit s ≤ limit_of limits s.dataset.layout.index → IsPosition log p → Shows format_limits (image_at log p) s.name r
+few_within : (s : Session) (log : Log) (limits : Limits) (p : ℕ) (r : Reading) → Stands s log → IsNew log → chunk_limit s ≤ limit_of limits s.dataset.layout.index → IsPosition log p → Shows format_limits (image_at log p) s.name r
     → needed r.dataset ≤ limit_of limits r.dataset.layout.index
-few_within s log limits p r st most at shows =
-    let same = (dataset_is s log p r st at shows).index in
-    subst (λ (k : IndexKind). needed r.dataset ≤ limit_of limits k) (sym same) (omega (arith, few_of s log p r st at shows, most))
+few_within s log limits p r st new most at shows =
+    let same = (dataset_is s log p r st new at shows).index in
+    subst (λ (k : IndexKind). needed r.dataset ≤ limit_of limits k) (sym same) (omega (arith, few_of s log p r st new at shows, most))
 
-shows_within : (s : Session) (log : Log) (limits : Limits) (p : ℕ) (r : Reading) → Stands s log → chunk_limit s ≤ limit_of limits s.dataset.layout.index → IsPosition log p → Shows format_limits (image_at log p) s.name r
+shows_within : (s : Session) (log : Log) (limits : Limits) (p : ℕ) (r : Reading) → Stands s log → IsNew log → chunk_limit s ≤ limit_of limits s.dataset.layout.index → IsPosition log p → Shows format_limits (image_at log p) s.name r
     → Shows limits (image_at log p) s.name r
-shows_within s log limits p r st most at shows =
+shows_within s log limits p r st new most at shows =
     let img = image_at log p in
     let file = moment_at s log p st at in
     let m = file.0 in
     let same : r ≡ reading_of m = shown_is img s.name m r file.1 shows in
-    let inside : needed m.dataset ≤ limit_of limits m.dataset.layout.index = subst (λ (x : Reading). needed x.dataset ≤ limit_of limits x.dataset.layout.index) same (few_within s log limits p r st most at shows) in
+    let inside : needed m.dataset ≤ limit_of limits m.dataset.layout.index = subst (λ (x : Reading). needed x.dataset ≤ limit_of limits x.dataset.layout.index) same (few_within s log limits p r st new most at shows) in
     subst (λ (x : Reading). Shows limits img s.name x) (sym same) (moment_within limits img s.name m inside file.1)
 
-root_one : (s : Session) (log : Log) (p : ℕ) → Stands s log → IsPosition log p → (v : Visit) × (visits (image_at log p) (root_header (root_address (image_at log p))) ≡ v ∷ [])
-root_one s log p st at =
+root_one : (s : Session) (log : Log) (p : ℕ) → Stands s log → IsNew log → IsPosition log p → (v : Visit) × (visits (image_at log p) (root_header (root_address (image_at log p))) ≡ v ∷ [])
+root_one s log p st new at =
     let img = image_at log p in
-    let b = begun_at s log p st at in
+    let b = begun_at s log p st new at in
     let old = new_image b.file in
     let file = moment_at s log p st at in
-    let kept = (kept_at s log p (reading_of file.0) st at (moment_shows img s.name file.0 file.1)).stays in
+    let kept = (kept_at s log p (reading_of file.0) st new at (moment_shows img s.name file.0 file.1)).stays in
     let begins = beginning b.file b.is in (
       record { place = root_place; len = 512; counts = root_view },
       ap (λ (a : ℕ). visits img (root_header a)) kept.root ∙ same_visits old img (root_header (root_address old)) kept.root_header ∙ begins.root,
     )
 
-header_alone : (s : Session) (log : Log) (p : ℕ) (r : Reading) → Stands s log → IsPosition log p → Shows format_limits (image_at log p) s.name r → continuation_blocks (image_at log p) r ≡ []
-header_alone s log p r st at shows =
-    let b = begun_at s log p st at in
-    (kept_at s log p r st at shows).stays.named ∙ (beginning b.file b.is).header
+header_alone : (s : Session) (log : Log) (p : ℕ) (r : Reading) → Stands s log → IsNew log → IsPosition log p → Shows format_limits (image_at log p) s.name r → continuation_blocks (image_at log p) r ≡ []
+header_alone s log p r st new at shows =
+    let b = begun_at s log p st new at in
+    (kept_at s log p r st new at shows).stays.named ∙ (beginning b.file b.is).header
 
-image_fits : (s : Session) (log : Log) (p : ℕ) → Stands s log → IsPosition log p → length (image_at log p) ≤ s.places.limit
-image_fits s log p st at =
+image_fits : (s : Session) (log : Log) (p : ℕ) → Stands s log → IsNew log → IsPosition log p → length (image_at log p) ≤ s.places.limit
+image_fits s log p st new at =
     let past = (past_at s log p st at).1 in
-    let start : log.start ≡ [] = ap (λ (l : Log). l.start) past.begun.log_is in
-    image_ends s.places.limit log.start (take p (hist log.events)) (omega (arith, ap length start)) (ends_take s.places.limit p (hist log.events) (ends_front s.places.limit (hist log.events) st.left past.ends))
+    let start : log.start ≡ [] = ap (λ (l : Log). l.start) new in
+    let most = most_of s log in
+    let ends = image_ends most log.start (take p (hist log.events)) (omega (arith, ap length start)) (ends_take most p (hist log.events) (ends_front most (hist log.events) st.left past.ends)) in
+    omega (arith, ends, new_end log new, past.limit_low)
 
 pub shown_laws : ShownLaws
 shown_laws = record {
@@ -234,7 +244,7 @@ shown_laws = record {
   shown = shows_within;
   within = few_within;
   few = few_of;
-  addressed = λ s log p r st at shows. (past_at s log p st at).1.addressed p r at shows;
+  addressed = λ s log p r st new at shows. (past_at s log p st at).1.addressed new p r at shows;
   root_header = root_one;
   dataset_header = header_alone;
   fits = image_fits;

@@ -2,9 +2,7 @@
 use Rattle.std.proofs.Common.{◌≡◌, ℕ, ◌+◌, ◌-◌, ◌*◌, ◌/◌, ◌<◌, ◌≤◌, true, false, cond, nat_lt, List, [], ◌∷◌, ◌++◌, length, Option, Some, None, refl, sym, ap, ◌∙◌, subst, inl, inr, arith, length-append}
 use Rattle.std.proofs.lemmas.Bool.{cond-true, lt-ltb}
 use Rattle.std.proofs.lemmas.Nat.{mul-le}
-use Rattle.std.specs.Prelude.{◌==◌, IfSome, IsSomeAnd, replicate}
-use Rattle.std.specs.Option.{unwrap_or}
-use Rattle.std.proofs.lemmas.List.{length-replicate}
+use Rattle.std.specs.Prelude.{◌==◌, IsSomeAnd}
 use Rattle.std.proofs.lemmas.List.Sorted.{sum_by-IsPermutation}
 use Rattle.h5w_model.specs.Logs.{Log, appended, div_up, flushed, load, plans, spent, touched_chunks, and_now}
 use Rattle.h5w_model.specs.Datasets.{Described}
@@ -12,7 +10,6 @@ use Rattle.h5w_model.specs.Findings.{chunk_bytes}
 use Rattle.h5w_model.specs.Tables.{chunks_across}
 use Rattle.h5w_model.specs.declared.piece.Write.{Write}
 use Rattle.h5w_model.specs.declared.root.Super.{Super}
-use Rattle.h5w_model.proofs.IntegerLemmas.{int_size_bounds}
 use Rattle.h5w_space.specs.Space.{Space}
 use Rattle.h5w_space.specs.declared.Full.{Full}
 use Rattle.h5w_cache.specs.Blocks.{BlockView}
@@ -20,7 +17,7 @@ use Rattle.h5w_cache.specs.Plans.{AreRetired, HasNoRoom, IsPlan, IsRefused, Reti
 use Rattle.h5w_cache.specs.Stores.{Store, block_of, is_changed, times}
 use Rattle.h5w_cache.specs.declared.moves.Move.{Move}
 use Rattle.h5w_cache.proofs.PlannedLemmas.{same_times}
-use Rattle.h5w_chunks.specs.Grids.{chunk_len, fill_cell}
+use Rattle.h5w_chunks.specs.Grids.{chunk_len}
 use Rattle.h5w_chunks.specs.Shares.{touched}
 use Rattle.h5w_chunks.proofs.Geometry.{IsCut, lt_up}
 use Rattle.h5w_array_laws.specs.Parts.{IsPart, Part, data_of, header, index_block, length_of, secondary_of}
@@ -29,8 +26,8 @@ use Rattle.h5w_array_laws.proofs.PlanLemmas.{block_known}
 use Rattle.h5w_flush_laws.specs.Parts.{AreEnded}
 use Rattle.h5w_session.specs.Flushes.{AreWays, IsFlushed, flushed_of, header_piece}
 use Rattle.h5w_session.specs.Indexes.{AreMarks}
-use Rattle.h5w_session.specs.Loads.{IsRaised, NoPlace}
-use Rattle.h5w_session.specs.Past.{HasCreated, Past}
+use Rattle.h5w_session.specs.Loads.{IsRaised, NoPlace, first_end_of}
+use Rattle.h5w_session.specs.Past.{IsCounted, Past}
 use Rattle.h5w_session.specs.Refusals.{IsFullFor}
 use Rattle.h5w_session.specs.Sessions.{Session, AllEndBy, cutting_of, rows_of, with_rows}
 use Rattle.h5w_session.specs.Stands.{Running, Stands}
@@ -63,40 +60,23 @@ load_is s log running idle st =
 
 -- ---- The dataset of a session
 
-record IsCounted (s : Session) : Type 0 where
+record Counts (s : Session) : Type 0 where
   cut : IsCut s.dataset
   column : s.dataset.shape.cols ≡ 1
   across : chunks_across s.dataset ≡ 1
   bytes : 1 ≤ chunk_bytes s.dataset
   same : chunk_len s.dataset ≡ chunk_bytes s.dataset
 
-fill_sized : (value : Option (List ℕ)) (size : ℕ) → IfSome value (λ (b : List ℕ). length b ≡ size) → length (unwrap_or value (replicate size 0)) ≡ size
-fill_sized None size filled = length-replicate size 0
-fill_sized (Some b) size filled = filled
-
-counted : (s : Session) (log : Log) → HasCreated s log → IsCounted s
-counted s log b =
-    let f = b.file in
-    let rows : s.dataset.layout.chunk_rows ≡ f.chunk_rows = ap (λ (d : Described). d.layout.chunk_rows) b.dataset in
-    let cols : s.dataset.layout.chunk_cols ≡ 1 = ap (λ (d : Described). d.layout.chunk_cols) b.dataset in
-    let width : s.dataset.shape.cols ≡ 1 = ap (λ (d : Described). d.shape.cols) b.dataset in
-    let size : s.dataset.int_type.size ≡ f.int_type.size = ap (λ (d : Described). d.int_type.size) b.dataset in
-    let sizes = int_size_bounds f.int_type.size b.is.typed in
-    let bytes : chunk_bytes s.dataset ≡ f.chunk_rows * 1 * f.int_type.size = ap chunk_bytes b.dataset in
-    let most : f.chunk_rows * 1 * f.int_type.size ≤ 65536 * 8 = mul-le (f.chunk_rows * 1) f.int_type.size 65536 8 (omega (arith, b.is.chunk_bound)) sizes.1 in
-    let least : 1 * 1 ≤ f.chunk_rows * 1 * f.int_type.size = mul-le 1 1 (f.chunk_rows * 1) f.int_type.size (omega (arith, b.is.some_rows)) sizes.0 in
+counted : (s : Session) → IsCounted s.dataset → Counts s
+counted s c =
+    let d = s.dataset in
+    let cells : 1 * 1 ≤ d.layout.chunk_rows * d.layout.chunk_cols = mul-le 1 1 d.layout.chunk_rows d.layout.chunk_cols (omega (arith, c.rows)) (omega (arith, c.cols)) in
+    let bytes : 1 * 1 ≤ d.layout.chunk_rows * d.layout.chunk_cols * d.int_type.size = mul-le 1 1 (d.layout.chunk_rows * d.layout.chunk_cols) d.int_type.size (omega (arith, cells)) (omega (arith, c.some)) in
     record {
-      cut = record {
-        rows = omega (arith, rows, b.is.some_rows);
-        cols = omega (arith, cols);
-        some = omega (arith, size, sizes.0);
-        few = omega (arith, size, sizes.1);
-        small = omega (arith, bytes, most);
-        fill = ap (λ (d : Described). length (fill_cell d)) b.dataset ∙ fill_sized f.fill.value f.int_type.size b.is.filled ∙ sym size;
-      };
-      column = width;
-      across = ap chunks_across b.dataset;
-      bytes = omega (arith, bytes, least);
+      cut = record { rows = c.rows; cols = c.cols; some = c.some; few = c.few; small = c.small; fill = c.fill };
+      column = c.column;
+      across = c.across;
+      bytes = omega (arith, bytes);
       same = grind arith;
     }
 
@@ -105,7 +85,7 @@ record IsSome (s : Session) : Type 0 where
   chunks : chunks_of s ≡ bands_of s.dataset s.dataset.shape.rows (rows_of s)
   some : 1 ≤ chunks_of s
 
-some_touched : (s : Session) → IsCounted s → 0 < s.waits → IsSome s
+some_touched : (s : Session) → Counts s → 0 < s.waits → IsSome s
 some_touched s c waits =
     let from = s.dataset.shape.rows in
     let to = rows_of s in
@@ -174,8 +154,8 @@ module _ (old new : Session) (log : Log) (x : IsFlushed old new) (running : old.
   marks : AreMarks old.dataset old.dataset.shape.rows (rows_of old) x.held
   marks = ways_marks old x.held x.ways r.marks
 
-  counts : IsCounted old
-  counts = counted old log r.past.begun
+  counts : Counts old
+  counts = counted old r.past.counted
 
   touches : IsSome old
   touches = some_touched old counts x.some
@@ -221,7 +201,7 @@ module _ (old new : Session) (log : Log) (x : IsFlushed old new) (running : old.
   -- what it keeps of the past
   pub past_flushed : AllEndBy new.places.end new.pending → Past new new.pending (and_now (plans (length new.pending)) log) (after_flush old new log x r)
   past_flushed within =
-      past_planned old new (length new.pending) new.pending log r.after (after_flush old new log x r) (like_flushed old new x.session flush_raised.limit) flush_raised within (next_addressed old new log x r) r.past
+      past_planned old new (length new.pending) new.pending log r.after (after_flush old new log x r) (like_flushed old new x.session flush_raised.limit) flush_raised within (λ new_log. next_addressed old new log x r new_log) r.past
 
 -- the pieces of a flush, and what is left of the relation to the log
 pub flush_bound : (old new : Session) (log : Log) → IsFlushed old new → old.stopped ≡ false → old.pending ≡ [] → Stands old log → length new.pending ≤ load (cutting_of old) log
@@ -232,7 +212,7 @@ flush_carries old new log x running idle within st = flush_stands old new log x 
 
 -- ---- A full file
 
-refused_bound : (s : Session) (log : Log) (t : Space) (n size : ℕ) (full : Full) → 0 < s.waits → s.places.end ≤ 1024 + spent (cutting_of s) log → IsRaised s.places t n → n ≤ load (cutting_of s) log → IsRefused t size full
+refused_bound : (s : Session) (log : Log) (t : Space) (n size : ℕ) (full : Full) → 0 < s.waits → s.places.end ≤ first_end_of log + spent (cutting_of s) log → IsRaised s.places t n → n ≤ load (cutting_of s) log → IsRefused t size full
     → 1 ≤ size → size ≤ load (cutting_of s) log → NoPlace s log full
 refused_bound s log t n size full waits grew raised few refused some small =
     let at : full.at ≡ t.end = ap (λ (f : Full). f.at) refused.is in
@@ -268,7 +248,7 @@ module _ (s : Session) (log : Log) (running : s.stopped ≡ false) (idle : s.pen
   pub chunk_no_place : (t : Space) (k : ℕ) → IsRaised s.places t (k * chunk_bytes s.dataset) → k ≤ chunks_of s → IsRefused t (chunk_len s.dataset) full → NoPlace s log full
   chunk_no_place t k raised few refused =
       let r = idle_running s log running idle st in
-      let c = counted s log r.past.begun in
+      let c = counted s r.past.counted in
       let some = some_touched s c waits in
       let n = chunks_of s in
       let b = chunk_bytes s.dataset in
@@ -283,7 +263,7 @@ module _ (s : Session) (log : Log) (running : s.stopped ≡ false) (idle : s.pen
       → HasNoRoom held.blocks held.places held.changed between full → NoPlace s log full
   block_no_place held between array ways once raised none =
       let r = idle_running s log running idle st in
-      let c = counted s log r.past.begun in
+      let c = counted s r.past.counted in
       let some = some_touched s c waits in
       let n = chunks_of s in
       let b = chunk_bytes s.dataset in
@@ -309,7 +289,7 @@ module _ (s : Session) (log : Log) (running : s.stopped ≡ false) (idle : s.pen
   -- is not there is bounded.
   pub full_no_place : IsFullFor s full → NoPlace s log full
   full_no_place (inl chunk) =
-      let some = some_touched s (counted s log (idle_running s log running idle st).past.begun) waits in
+      let some = some_touched s (counted s (idle_running s log running idle st).past.counted) waits in
       let high = chunk.touched.high in
       chunk_no_place chunk.t (length chunk.chunks) chunk.placing.raised (omega (arith, high, some.chunks)) chunk.refused
   full_no_place (inr block) =

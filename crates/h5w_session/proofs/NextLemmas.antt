@@ -20,7 +20,7 @@ use Rattle.h5w_flush_laws.proofs.NewChunkLemmas.{has_number, number_of, some_acr
 use Rattle.h5w_session.specs.Sessions.{Session, rows_of}
 use Rattle.h5w_session.specs.Indexes.{address_in}
 use Rattle.h5w_session.specs.Flushes.{IsFlushed}
-use Rattle.h5w_session.specs.Past.{AllAddressed}
+use Rattle.h5w_session.specs.Past.{AllAddressed, IsNew}
 use Rattle.h5w_session.specs.Stands.{Running}
 use Rattle.h5w_session.proofs.AddressedLemmas.{key_at}
 use Rattle.h5w_session.proofs.FlushLemmas.{after_flush}
@@ -38,14 +38,14 @@ key_low i j rows across low side =
 no_place : ChunkPlace
 no_place = record { address = 0; stored = false }
 
-module _ (old new : Session) (log : Log) (x : IsFlushed old new) (r : Running old [] log) where
+module _ (old new : Session) (log : Log) (x : IsFlushed old new) (r : Running old [] log) (new_log : IsNew log) where
   -- of a chunk that the file had before
   before_defined : (i j : ℕ) → i < bands r.after.dataset → j < chunks_across r.after.dataset → r.address (key_at i j) ≢ undefined
   before_defined i j row column e =
       let d : Described = r.after.dataset in
       let at = i * chunks_across d + j in
       let table : r.after.table ≡ map r.address (needed_keys d) = found_table (image_now log) d r.address r.after.table (few (image_now log) old.name r.after r.knows.file) r.knows.index r.knows.file.table in
-      r.past.next at (key_low i j (bands d) (chunks_across d) row column)
+      r.past.next new_log at (key_low i j (bands d) (chunks_across d) row column)
       (ap (λ (t : List ℕ). get_or t at undefined) table ∙ needed_at r.address d i j row column ∙ e)
 
   touched_defined : (key : Key) → key.j < chunks_across old.dataset → old.dataset.shape.rows / old.dataset.layout.chunk_rows ≤ key.i → key.i < div_up (rows_of old) old.dataset.layout.chunk_rows

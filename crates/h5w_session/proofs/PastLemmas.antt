@@ -1,12 +1,17 @@
 -- What a session keeps of the past, event by event.
-use Rattle.std.proofs.Common.{◌≡◌, ℕ, zero, suc, ◌+◌, ◌^◌, ◌≤◌, List, [], ◌∷◌, ◌++◌, length, take, ℤ, refl, sym, ap, ◌∙◌, subst, inl, inr, arith}
+use Rattle.std.proofs.Common.{◌≡◌, ℕ, zero, suc, ◌+◌, ◌*◌, ◌^◌, ◌≤◌, max, ◌⊎◌, Option, Some, None, List, [], ◌∷◌, ◌++◌, length, take, ℤ, refl, sym, ap, ◌∙◌, subst, inl, inr, arith}
 use Rattle.std.proofs.lemmas.Bool.{cases_lt}
-use Rattle.std.proofs.lemmas.List.{append_assoc, append-nil, length-take, take-append-le}
+use Rattle.std.proofs.lemmas.List.{append_assoc, append-nil, length-replicate, length-take, take-append-le}
+use Rattle.std.proofs.lemmas.Nat.{mul-le}
+use Rattle.std.specs.Prelude.{IfSome, replicate}
+use Rattle.std.specs.Option.{unwrap_or}
+use Rattle.h5w_model.proofs.IntegerLemmas.{int_size_bounds}
+use Rattle.h5w_model.specs.Findings.{Valid}
 use Rattle.h5w_model.specs.Images.{apply, image}
 use Rattle.h5w_model.specs.Logs.{Log, Cutting, Happening, appends, plans, shows, hist, shown, load, spent, spent_in, and_now}
 use Rattle.h5w_model.specs.Datasets.{Described}
 use Rattle.h5w_model.specs.Prefixed.{IsPosition, image_at}
-use Rattle.h5w_model.specs.Tables.{Reading, Shows, format_limits, needed}
+use Rattle.h5w_model.specs.Tables.{Reading, Reads, Shows, format_limits, needed}
 use Rattle.h5w_model.specs.declared.piece.Write.{Write}
 use Rattle.h5w_model.proofs.ImageLemmas.{length-apply}
 use Rattle.h5w_laws.proofs.LogLemmas.{image_earlier, length_hist}
@@ -17,8 +22,8 @@ use Rattle.h5w_steps.proofs.FoundLemmas.{moment_shows}
 use Rattle.h5w_steps.proofs.GoesLemmas.{image_last, image_pushed}
 use Rattle.h5w_steps.proofs.StepRepresents.{step_represents}
 use Rattle.h5w_session.specs.Creations.{IsNewFile, NewFile, creation_writes, first_end, header_place, log_of, new_dataset}
-use Rattle.h5w_session.specs.Loads.{IsRaised}
-use Rattle.h5w_session.specs.Past.{AllAddressed, HasCreated, Past}
+use Rattle.h5w_session.specs.Loads.{IsRaised, first_end_of}
+use Rattle.h5w_session.specs.Past.{AllAddressed, HasCreated, HasOpened, IsCounted, IsNew, Past, most_of}
 use Rattle.h5w_session.specs.Sessions.{Session, AllEndBy, cutting_of, with_rows}
 use Rattle.h5w_session.proofs.AddressedLemmas.{shown_addressed, step_addressed}
 
@@ -69,8 +74,8 @@ first_kept f (shows w) es pieces =
     let count : 5 ≤ length (hist es) = omega (arith, ap length pieces, length-take 5 (hist es)) in
     take-append-le 5 (hist es) (w ∷ []) count ∙ pieces
 
-begun_later : (s t : Session) (e : Happening) (log : Log) → IsLike s t → HasCreated s log → HasCreated t (and_now e log)
-begun_later s t e log like b = record {
+created_later : (s t : Session) (e : Happening) (log : Log) → IsLike s t → HasCreated s log → HasCreated t (and_now e log)
+created_later s t e log like b = record {
   file = b.file;
   is = b.is;
   log_is = ap (and_now e) b.log_is;
@@ -81,8 +86,8 @@ begun_later s t e log like b = record {
   limit = like.limit ∙ b.limit;
 }
 
-begun_still : (s t : Session) (log : Log) → IsLike s t → HasCreated s log → HasCreated t log
-begun_still s t log like b = record {
+created_still : (s t : Session) (log : Log) → IsLike s t → HasCreated s log → HasCreated t log
+created_still s t log like b = record {
   file = b.file;
   is = b.is;
   log_is = b.log_is;
@@ -92,6 +97,33 @@ begun_still s t log like b = record {
   dataset = like.dataset ∙ ap (with_rows t.dataset.shape.rows) b.dataset;
   limit = like.limit ∙ b.limit;
 }
+
+opened_still : (s t : Session) (e : Happening) (log : Log) → IsLike s t → HasOpened s log → HasOpened t log × HasOpened t (and_now e log)
+opened_still s t e log like b =
+    let valid = subst (λ (name : List ℕ). Valid log.start name b.summary) (sym like.name) b.valid in
+    let reads = subst (λ (name : List ℕ). Reads log.start name b.rows log.columns log.values) (sym like.name) b.reads in (
+      record { summary = b.summary; valid = valid; rows = b.rows; reads = reads; some_columns = b.some_columns; first = b.first },
+      record { summary = b.summary; valid = valid; rows = b.rows; reads = reads; some_columns = b.some_columns; first = b.first },
+    )
+
+begun_later : (s t : Session) (e : Happening) (log : Log) → IsLike s t → HasCreated s log ⊎ HasOpened s log → HasCreated t (and_now e log) ⊎ HasOpened t (and_now e log)
+begun_later s t e log like (inl b) = inl (created_later s t e log like b)
+begun_later s t e log like (inr b) = inr (opened_still s t e log like b).1
+
+begun_still : (s t : Session) (log : Log) → IsLike s t → HasCreated s log ⊎ HasOpened s log → HasCreated t log ⊎ HasOpened t log
+begun_still s t log like (inl b) = inl (created_still s t log like b)
+begun_still s t log like (inr b) = inr (opened_still s t (plans 0) log like b).0
+
+-- a dataset is counted with whatever its rows are
+counted_rows : (n : ℕ) (d : Described) → IsCounted d → IsCounted (with_rows n d)
+counted_rows n d c = record { rows = c.rows; cols = c.cols; some = c.some; few = c.few; small = c.small; fill = c.fill; column = c.column; across = c.across }
+
+counted_alike : (s t : Session) → IsLike s t → IsCounted s.dataset → IsCounted t.dataset
+counted_alike s t like c = subst IsCounted (sym like.dataset) (counted_rows t.dataset.shape.rows s.dataset c)
+
+-- the log is new where it was before
+new_before : (e : Happening) (log : Log) → IsNew (and_now e log) → IsNew log
+new_before e log new = ap (λ (l : Log). record l { events = log.events }) new
 
 -- the rows do not tell how they are cut
 cut_alike : (s t : Session) → IsLike s t → cutting_of t ≡ cutting_of s
@@ -107,100 +139,150 @@ same_positions e log name same each p r at seen =
     let high : p ≤ shown log.events = omega (arith, at.reached, length_hist (e ∷ log.events), same) in
     each p r (record { begun = at.begun; reached = omega (arith, high, length_hist log.events) }) (subst (λ (img : List ℕ). Shows format_limits img name r) (image_earlier e log p high) seen)
 
+-- what the needed chunks of each position of a log have
+abbrev EachAddressed : List ℕ → Log → Type 0
+EachAddressed name log = (p : ℕ) (r : Reading) → IsPosition log p → Shows format_limits (image_at log p) name r → AllAddressed r
+
+module _ (s t : Session) (log : Log) (like : IsLike s t) where
+  most_alike : most_of t log ≡ most_of s log
+  most_alike = ap (λ (limit : ℕ). max limit (first_end_of log)) like.limit
+
+  fits_alike : (end : ℕ) → end ≤ most_of s log → t.places.end ≡ end → t.places.end ≤ most_of t log
+  fits_alike end fits same = omega (arith, fits, same, most_alike)
+
+  ends_alike : (ws : List Write) → AllEndBy (most_of s log) ws → AllEndBy (most_of t log) ws
+  ends_alike ws ends = subst (λ (n : ℕ). AllEndBy n ws) (sym most_alike) ends
+
+  grew_alike : (later : Log) (end : ℕ) → end ≤ first_end_of log + spent (cutting_of s) later → t.places.end ≡ end → t.places.end ≤ first_end_of log + spent (cutting_of t) later
+  grew_alike later end grew same = subst (λ (c : Cutting). t.places.end ≤ first_end_of log + spent c later) (sym (cut_alike s t like)) (omega (arith, grew, same))
+
 -- rows are appended
 pub past_values : (s t : Session) (vs : List ℤ) (log : Log) (m : Moment) → IsLike s t → t.places.end ≡ s.places.end → Past s [] log m → Past t [] (and_now (appends vs) log) m
-past_values s t vs log m like end past = record {
-  begun = begun_later s t (appends vs) log like past.begun;
-  addressed = subst (λ (name : List ℕ). (p : ℕ) (r : Reading) → IsPosition (and_now (appends vs) log) p → Shows format_limits (image_at (and_now (appends vs) log) p) name r → AllAddressed r) (sym like.name)
-      (same_positions (appends vs) log s.name refl past.addressed);
-  next = past.next;
-  grew =
-      let more = spent_in-events (cutting_of s) log (appends vs ∷ log.events) log.events in
-      subst (λ (c : Cutting). t.places.end ≤ 1024 + spent c (and_now (appends vs) log)) (sym (cut_alike s t like)) (omega (arith, past.grew, end, more));
-  fits = omega (arith, past.fits, like.limit, end);
-  ends = subst (λ (limit : ℕ). AllEndBy limit (hist log.events ++ [])) (sym like.limit) past.ends;
-}
+past_values s t vs log m like end past =
+    let e = appends vs in record {
+      begun = begun_later s t e log like past.begun;
+      counted = counted_alike s t like past.counted;
+      limit_low = omega (arith, past.limit_low, like.limit);
+      limit_high = omega (arith, past.limit_high, like.limit);
+      addressed = λ new. subst (λ (name : List ℕ). EachAddressed name (and_now e log)) (sym like.name) (same_positions e log s.name refl (past.addressed (new_before e log new)));
+      next = λ new. past.next (new_before e log new);
+      grew =
+          let more = spent_in-events (cutting_of s) log (e ∷ log.events) log.events in
+          grew_alike s t log like (and_now e log) s.places.end (omega (arith, past.grew, more)) end;
+      fits = fits_alike s t log like s.places.end past.fits end;
+      ends = ends_alike s t log like (hist log.events ++ []) past.ends;
+    }
 
 -- a flush is planned, and all needed chunks of the file after it have addresses
-pub past_planned : (s t : Session) (k : ℕ) (ws : List Write) (log : Log) (m n : Moment) → IsLike s t → IsRaised s.places t.places (load (cutting_of s) log) → AllEndBy t.places.end ws → AllAddressed (reading_of n)
-    → Past s [] log m → Past t ws (and_now (plans k) log) n
-past_planned s t k ws log m n like raised within next past = record {
-  begun = begun_later s t (plans k) log like past.begun;
-  addressed = subst (λ (name : List ℕ). (p : ℕ) (r : Reading) → IsPosition (and_now (plans k) log) p → Shows format_limits (image_at (and_now (plans k) log) p) name r → AllAddressed r) (sym like.name)
-      (same_positions (plans k) log s.name refl past.addressed);
-  next = next;
-  grew =
-      let more = spent_in-events (cutting_of s) log (plans k ∷ log.events) log.events in
-      subst (λ (c : Cutting). t.places.end ≤ 1024 + spent c (and_now (plans k) log)) (sym (cut_alike s t like)) (omega (arith, past.grew, raised.bound, more));
-  fits = raised.fits past.fits;
-  ends = ends_joined t.places.limit (hist log.events) ws (subst (λ (limit : ℕ). AllEndBy limit (hist log.events)) (sym like.limit) (ends_front s.places.limit (hist log.events) [] past.ends)) (ends_later t.places.end t.places.limit ws (raised.fits past.fits) within);
-}
+pub past_planned : (s t : Session) (k : ℕ) (ws : List Write) (log : Log) (m n : Moment) → IsLike s t → IsRaised s.places t.places (load (cutting_of s) log) → AllEndBy t.places.end ws
+    → (IsNew log → AllAddressed (reading_of n)) → Past s [] log m → Past t ws (and_now (plans k) log) n
+past_planned s t k ws log m n like raised within next past =
+    let e = plans k in
+    let fits : t.places.end ≤ most_of t log = omega (arith, raised.fits, past.fits, most_alike s t log like, raised.limit) in
+    record {
+      begun = begun_later s t e log like past.begun;
+      counted = counted_alike s t like past.counted;
+      limit_low = omega (arith, past.limit_low, like.limit);
+      limit_high = omega (arith, past.limit_high, like.limit);
+      addressed = λ new. subst (λ (name : List ℕ). EachAddressed name (and_now e log)) (sym like.name) (same_positions e log s.name refl (past.addressed (new_before e log new)));
+      next = λ new. next (new_before e log new);
+      grew =
+          let more = spent_in-events (cutting_of s) log (e ∷ log.events) log.events in
+          grew_alike s t log like (and_now e log) t.places.end (omega (arith, past.grew, raised.bound, more)) refl;
+      fits = fits;
+      ends = ends_joined (most_of t log) (hist log.events) ws (ends_alike s t log like (hist log.events) (ends_front (most_of s log) (hist log.events) [] past.ends)) (ends_later t.places.end (most_of t log) ws fits within);
+    }
 
 -- Pieces are planned that bring no rows and take no place, as the superblock with other flags.
 pub past_more : (s t : Session) (ws : List Write) (log : Log) (m n : Moment) → IsLike s t → t.places.end ≡ s.places.end → AllEndBy t.places.limit ws → reading_of n ≡ reading_of m → Past s [] log m → Past t ws log n
 past_more s t ws log m n like end fits same past = record {
   begun = begun_still s t log like past.begun;
-  addressed = subst (λ (name : List ℕ). (p : ℕ) (r : Reading) → IsPosition log p → Shows format_limits (image_at log p) name r → AllAddressed r) (sym like.name) past.addressed;
-  next = subst AllAddressed (sym same) past.next;
-  grew = subst (λ (c : Cutting). t.places.end ≤ 1024 + spent c log) (sym (cut_alike s t like)) (omega (arith, past.grew, end));
-  fits = omega (arith, past.fits, like.limit, end);
-  ends = ends_joined t.places.limit (hist log.events) ws (subst (λ (limit : ℕ). AllEndBy limit (hist log.events)) (sym like.limit) (ends_front s.places.limit (hist log.events) [] past.ends)) fits;
+  counted = counted_alike s t like past.counted;
+  limit_low = omega (arith, past.limit_low, like.limit);
+  limit_high = omega (arith, past.limit_high, like.limit);
+  addressed = λ new. subst (λ (name : List ℕ). EachAddressed name log) (sym like.name) (past.addressed new);
+  next = λ new. subst AllAddressed (sym same) (past.next new);
+  grew = grew_alike s t log like log s.places.end past.grew end;
+  fits = fits_alike s t log like s.places.end past.fits end;
+  ends = ends_joined (most_of t log) (hist log.events) ws (ends_alike s t log like (hist log.events) (ends_front (most_of s log) (hist log.events) [] past.ends)) (ends_later t.places.limit (most_of t log) ws (omega arith) fits);
 }
 
 -- a session of which nothing else is told by places, name and dataset
 pub past_same : (s t : Session) (ws : List Write) (log : Log) (m : Moment) → IsLike s t → t.places.end ≡ s.places.end → Past s ws log m → Past t ws log m
 past_same s t ws log m like end past = record {
   begun = begun_still s t log like past.begun;
-  addressed = subst (λ (name : List ℕ). (p : ℕ) (r : Reading) → IsPosition log p → Shows format_limits (image_at log p) name r → AllAddressed r) (sym like.name) past.addressed;
+  counted = counted_alike s t like past.counted;
+  limit_low = omega (arith, past.limit_low, like.limit);
+  limit_high = omega (arith, past.limit_high, like.limit);
+  addressed = λ new. subst (λ (name : List ℕ). EachAddressed name log) (sym like.name) (past.addressed new);
   next = past.next;
-  grew = subst (λ (c : Cutting). t.places.end ≤ 1024 + spent c log) (sym (cut_alike s t like)) (omega (arith, past.grew, end));
-  fits = omega (arith, past.fits, like.limit, end);
-  ends = subst (λ (limit : ℕ). AllEndBy limit (hist log.events ++ ws)) (sym like.limit) past.ends;
+  grew = grew_alike s t log like log s.places.end past.grew end;
+  fits = fits_alike s t log like s.places.end past.fits end;
+  ends = ends_alike s t log like (hist log.events ++ ws) past.ends;
 }
 
 -- ---- A piece becomes visible
 
 -- at the moment now the needed chunks have addresses
-pub now_addressed : (s : Session) (ws : List Write) (log : Log) (m : Moment) → Past s ws log m → (now : Moment) → log.first ≤ shown log.events → Represents (image_now log) s.name now → AllAddressed (reading_of now)
-now_addressed s ws log m past now begun here =
+pub now_addressed : (s : Session) (ws : List Write) (log : Log) (m : Moment) → IsNew log → Past s ws log m → (now : Moment) → log.first ≤ shown log.events → Represents (image_now log) s.name now → AllAddressed (reading_of now)
+now_addressed s ws log m new past now begun here =
     let p = shown log.events in
     let at : IsPosition log p = record { begun = begun; reached = omega (arith, length_hist log.events) } in
-    past.addressed p (reading_of now) at (subst (λ (img : List ℕ). Shows format_limits img s.name (reading_of now)) (sym (image_last log p (omega arith))) (moment_shows (image_now log) s.name now here))
+    past.addressed new p (reading_of now) at (subst (λ (img : List ℕ). Shows format_limits img s.name (reading_of now)) (sym (image_last log p (omega arith))) (moment_shows (image_now log) s.name now here))
 
-between_addressed : (s : Session) (w : Write) (ws : List Write) (log : Log) (n : Moment) → (r : Runs s.name log (w ∷ ws) n n.behind) → Past s (w ∷ ws) log n → AllAddressed (reading_of r.flush.0)
-between_addressed s w [] log n r past = subst (λ (x : Moment). AllAddressed (reading_of x)) r.flush.4.0 past.next
-between_addressed s w (x ∷ xs) log n r past =
+between_addressed : (s : Session) (w : Write) (ws : List Write) (log : Log) (n : Moment) → IsNew log → (r : Runs s.name log (w ∷ ws) n n.behind) → Past s (w ∷ ws) log n → AllAddressed (reading_of r.flush.0)
+between_addressed s w [] log n new r past = subst (λ (x : Moment). AllAddressed (reading_of x)) r.flush.4.0 (past.next new)
+between_addressed s w (x ∷ xs) log n new r past =
     let g = r.goes in
-    step_addressed (image_now log) s.name r.before r.held w r.flush.0 r.flush.1 g.now (omega (arith, g.columns, g.some_columns)) r.flush.2 (r.flush.3 (λ e. cc)) (now_addressed s (w ∷ x ∷ xs) log n past r.before g.begun g.now)
+    step_addressed (image_now log) s.name r.before r.held w r.flush.0 r.flush.1 g.now (omega (arith, g.columns, g.some_columns)) r.flush.2 (r.flush.3 (λ e. cc)) (now_addressed s (w ∷ x ∷ xs) log n new past r.before g.begun g.now)
 
 pub past_shown : (s t : Session) (w : Write) (ws : List Write) (log : Log) (n : Moment) → IsLike s t → t.places.end ≡ s.places.end → Runs s.name log (w ∷ ws) n n.behind → Past s (w ∷ ws) log n
     → Past t ws (and_now (shows w) log) n
 past_shown s t w ws log n like end r past =
-    let next = and_now (shows w) log in
+    let e = shows w in
+    let next = and_now e log in
     let g = r.goes in
     let between = r.flush.0 in
     let here : Represents (image_now next) s.name between = subst (λ (img : List ℕ). Represents img s.name between) (sym (image_pushed log w)) (step_represents (image_now log) s.name r.before r.held w between r.flush.1 g.now r.flush.2) in
-    let addressed : (p : ℕ) (x : Reading) → IsPosition next p → Shows format_limits (image_at next p) s.name x → AllAddressed x = λ p x at seen.
+    let addressed : IsNew log → EachAddressed s.name next = λ new p x at seen.
     elim (cases_lt (shown log.events) p) [
       | inl last ↦
           let img : image_at next p ≡ image_now next = image_last next p (omega (arith, last)) in
-          shown_addressed (image_now next) s.name between x here (between_addressed s w ws log n r past) (subst (λ (i : List ℕ). Shows format_limits i s.name x) img seen)
+          shown_addressed (image_now next) s.name between x here (between_addressed s w ws log n new r past) (subst (λ (i : List ℕ). Shows format_limits i s.name x) img seen)
       | inr early ↦
-          past.addressed p x (record { begun = at.begun; reached = omega (arith, early, length_hist log.events) })
+          past.addressed new p x (record { begun = at.begun; reached = omega (arith, early, length_hist log.events) })
           (subst (λ (i : List ℕ). Shows format_limits i s.name x) (image_earlier (shows w) log p early) seen)
     ] in
     record {
-      begun = begun_later s t (shows w) log like past.begun;
-      addressed = subst (λ (name : List ℕ). (p : ℕ) (x : Reading) → IsPosition next p → Shows format_limits (image_at next p) name x → AllAddressed x) (sym like.name) addressed;
-      next = past.next;
+      begun = begun_later s t e log like past.begun;
+      counted = counted_alike s t like past.counted;
+      limit_low = omega (arith, past.limit_low, like.limit);
+      limit_high = omega (arith, past.limit_high, like.limit);
+      addressed = λ new. subst (λ (name : List ℕ). EachAddressed name next) (sym like.name) (addressed (new_before e log new));
+      next = λ new. past.next (new_before e log new);
       grew =
-          let more = spent_in-events (cutting_of s) log (shows w ∷ log.events) log.events in
-          subst (λ (c : Cutting). t.places.end ≤ 1024 + spent c next) (sym (cut_alike s t like)) (omega (arith, past.grew, end, more));
-      fits = omega (arith, past.fits, like.limit, end);
-      ends = subst (λ (limit : ℕ). AllEndBy limit ((hist log.events ++ w ∷ []) ++ ws)) (sym like.limit) (subst (AllEndBy s.places.limit) (sym (append_assoc (hist log.events) (w ∷ []) ws)) past.ends);
+          let more = spent_in-events (cutting_of s) log (e ∷ log.events) log.events in
+          grew_alike s t log like next s.places.end (omega (arith, past.grew, more)) end;
+      fits = fits_alike s t log like s.places.end past.fits end;
+      ends = subst (AllEndBy (most_of t log)) (sym (append_assoc (hist log.events) (w ∷ []) ws)) (ends_alike s t log like (hist log.events ++ (w ∷ ws)) past.ends);
     }
 
 -- ---- A new file
+
+-- the dataset of a new file
+fill_sized : (value : Option (List ℕ)) (size : ℕ) → IfSome value (λ (b : List ℕ). length b ≡ size) → length (unwrap_or value (replicate size 0)) ≡ size
+fill_sized None size filled = length-replicate size 0
+fill_sized (Some b) size filled = filled
+
+new_counted : (f : NewFile) → IsNewFile f → IsCounted (new_dataset f)
+new_counted f is =
+    let sizes = int_size_bounds f.int_type.size is.typed in
+    let most : f.chunk_rows * 1 * f.int_type.size ≤ 65536 * 8 = mul-le (f.chunk_rows * 1) f.int_type.size 65536 8 (omega (arith, is.chunk_bound)) sizes.1 in
+    record { rows = omega (arith, is.some_rows); cols = omega arith; some = omega (arith, sizes.0); few = omega (arith, sizes.1); small = omega (arith, most); fill = fill_sized f.fill.value f.int_type.size is.filled; column = refl; across = refl }
+
+-- no file began
+pub new_end : (log : Log) → IsNew log → first_end_of log ≡ 1024
+new_end log is = ap first_end_of is
 
 pub past_begins : (f : NewFile) (s : Session) (log : Log) (m : Moment) → IsNewFile f → log ≡ log_of log.events → hist log.events ≡ creation_writes f → s.name ≡ f.name → s.place ≡ header_place f → s.dataset ≡ new_dataset f
     → s.places.limit ≡ f.limit → s.places.end ≡ first_end f → first_end f ≤ 700 → AllEndBy (first_end f) (creation_writes f) → Represents (image_now log) s.name m → needed m.dataset ≡ 0 → Past s [] log m
@@ -208,8 +290,9 @@ past_begins f s log m is log_is pieces name place dataset limit end small fits h
     let first : log.first ≡ 5 = ap (λ (l : Log). l.first) log_is in
     let count : length (hist log.events) ≡ 5 = ap length pieces in
     let nothing : AllAddressed (reading_of m) = λ k below. absurd (omega (arith, below, none)) in
+    let most : 1024 ≤ most_of s log = omega (arith, limit, is.limit_low) in
     record {
-      begun = record {
+      begun = inl (record {
         file = f;
         is = is;
         log_is = log_is;
@@ -218,25 +301,22 @@ past_begins f s log m is log_is pieces name place dataset limit end small fits h
         place = place;
         dataset = dataset ∙ ap (λ (d : Described). with_rows d.shape.rows (new_dataset f)) (sym dataset);
         limit = limit;
-      };
-      addressed = λ p r at seen.
+      });
+      counted = subst IsCounted (sym dataset) (new_counted f is);
+      limit_low = omega (arith, limit, is.limit_low);
+      limit_high = omega (arith, limit, is.limit_high);
+      addressed = λ new p r at seen.
           let now : shown log.events ≤ p = omega (arith, length_hist log.events, count, first, at.begun) in
           shown_addressed (image_now log) s.name m r here nothing (subst (λ (i : List ℕ). Shows format_limits i s.name r) (image_last log p now) seen);
-      next = nothing;
-      grew = omega (arith, end, small);
-      fits = omega (arith, small, limit, end, is.limit_low);
+      next = λ new. nothing;
+      grew = omega (arith, end, small, new_end log log_is);
+      fits = omega (arith, small, end, most);
       ends =
-          let later : AllEndBy s.places.limit (creation_writes f) = ends_later (first_end f) s.places.limit (creation_writes f) (omega (arith, small, limit, is.limit_low)) fits in
-          subst (AllEndBy s.places.limit) (sym (append-nil (hist log.events) ∙ pieces)) later;
+          let later : AllEndBy (most_of s log) (creation_writes f) = ends_later (first_end f) (most_of s log) (creation_writes f) (omega (arith, small, most)) fits in
+          subst (AllEndBy (most_of s log)) (sym (append-nil (hist log.events) ∙ pieces)) later;
     }
 
 -- ---- Bounds
-
-pub limit_low : (s : Session) (ws : List Write) (log : Log) (m : Moment) → Past s ws log m → 1024 ≤ s.places.limit
-limit_low s ws log m past = omega (arith, past.begun.limit, past.begun.is.limit_low)
-
-pub limit_high : (s : Session) (ws : List Write) (log : Log) (m : Moment) → Past s ws log m → s.places.limit ≤ 2 ^ 40
-limit_high s ws log m past = omega (arith, past.begun.limit, past.begun.is.limit_high)
 
 pub image_ends : (end : ℕ) (start : List ℕ) (ws : List Write) → length start ≤ end → AllEndBy end ws → length (image start ws) ≤ end
 image_ends end start [] short h = short

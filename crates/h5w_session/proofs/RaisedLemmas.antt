@@ -4,14 +4,14 @@ use Rattle.h5w_space.specs.Space.{Space, TakesPlace, extent}
 use Rattle.h5w_session.specs.Loads.{IsRaised}
 
 pub raised_none : (s t : Space) → t.end ≡ s.end → t.limit ≡ s.limit → IsRaised s t 0
-raised_none s t end limit = record { rises = omega (arith, end); bound = omega (arith, end); limit = limit; fits = λ f. omega (arith, f, end, limit) }
+raised_none s t end limit = record { rises = omega (arith, end); bound = omega (arith, end); limit = limit; fits = omega (arith, end) }
 
 pub raised_on : (s t u : Space) (a b : ℕ) → IsRaised s t a → IsRaised t u b → IsRaised s u (a + b)
 raised_on s t u a b first next = record {
   rises = omega (arith, first.rises, next.rises);
   bound = omega (arith, first.bound, next.bound);
   limit = next.limit ∙ first.limit;
-  fits = λ f. next.fits (first.fits f);
+  fits = omega (arith, first.fits, next.fits, next.limit);
 }
 
 pub raised_more : (s t : Space) (a b : ℕ) → a ≤ b → IsRaised s t a → IsRaised s t b
@@ -26,7 +26,7 @@ raised_one s t at size takes =
         rises = omega (arith, last.end);
         bound = omega (arith, last.end);
         limit = takes.limit;
-        fits = λ f. omega (arith, last.fits, takes.limit);
+        fits = omega (arith, last.end, last.fits, takes.limit);
       }
     ]
 

@@ -39,7 +39,7 @@ use Rattle.h5w_session.specs.Indexes.{IsIndexed}
 use Rattle.h5w_session.specs.Stands.{Running, Stands}
 use Rattle.h5w_session.proofs.CellLemmas.{by_cell, first_has_cell, first_outside-cons}
 use Rattle.h5w_session.proofs.IndexLemmas.{freed_index, marks_more, missed_index}
-use Rattle.h5w_session.proofs.PastLemmas.{limit_low, past_more, past_same, past_shown, past_values}
+use Rattle.h5w_session.proofs.PastLemmas.{past_more, past_same, past_shown, past_values}
 use Rattle.h5w_session.proofs.StateLemmas.{Accepted, rows_are}
 
 -- ---- What is left
@@ -312,7 +312,7 @@ close_running s log reads r =
       appended = r.appended;
       committed = r.committed;
       columns = r.columns;
-      past = past_more s (closed_of s) (closed_of s).pending log m n (record { name = refl; place = refl; dataset = refl; limit = refl }) refl (omega (arith, length-super_bytes root, limit_low s [] log m r.past), tt) refl r.past;
+      past = past_more s (closed_of s) (closed_of s).pending log m n (record { name = refl; place = refl; dataset = refl; limit = refl }) refl (omega (arith, length-super_bytes root, r.past.limit_low), tt) refl r.past;
     }
 
 pub close_stands : (s : Session) (log : Log) → super_at (super_bytes (closed_root s)) ≡ Ok (closed_root s) → s.stopped ≡ false → s.pending ≡ [] → Stands s log → Stands (closed_of s) log

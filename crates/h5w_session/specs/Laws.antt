@@ -1,5 +1,5 @@
 -- What is true of a log of which a session is the session.
-use Rattle.std.specs.Prelude.{◌≡◌, ◌^◌, ◌≢◌, ℕ, ◌<◌, ◌≤◌, true, false, List, [], ◌∷◌, length, get_or}
+use Rattle.std.specs.Prelude.{◌≡◌, ◌^◌, ◌≢◌, ℕ, ◌<◌, ◌≤◌, true, false, List, [], ◌∷◌, length, get_or, ◌⊎◌}
 use Rattle.h5w_model.specs.Numbers.{undefined}
 use Rattle.h5w_model.specs.Images.{image}
 use Rattle.h5w_model.specs.Programs.{Visit, visits}
@@ -9,20 +9,19 @@ use Rattle.h5w_model.specs.Tables.{Limits, Reading, Shows, Reads, format_limits,
 use Rattle.h5w_model.specs.Prefixed.{image_at, IsPosition, Prefixed, ReadsNow, Still, Held, root_address, continuation_blocks}
 use Rattle.h5w_model.specs.declared.piece.Write.{Write}
 use Rattle.h5w_image.specs.View.{ImageView, Wrote}
+use Rattle.h5w_session.specs.Past.{HasOpened, IsNew}
 use Rattle.h5w_session.specs.Room.{HasRoomFor}
 use Rattle.h5w_session.specs.Sessions.{Session, AfterPiece, chunk_limit, cutting_of, rows_of}
 use Rattle.h5w_session.specs.Stands.{Stands}
 
--- The log of a session begins over no bytes and no values, a reader finds a file after its fifth piece, and the columns are the
--- dataset's, at least one. The session tells of its log how many rows are flushed and appended. At each position the image is valid
+-- The log of a session is new, over no bytes and no values, and a reader finds a file after its fifth piece; or it began over a file
+-- that was opened. The columns are the dataset's, at least one. The session tells of its log how many rows are flushed and appended. At each position the image is valid
 -- and reads as the rows that are flushed there, and what readers rest on stays from each position to each later one. Where nothing
 -- is pending in a session that was not stopped, the image reads as all rows that were planned. The image of a session that was
 -- stopped, once a reader finds a file in it, is valid and reads as the rows that are flushed, whatever the pieces were that were
 -- dropped. The limit is one that a file may have.
 pub record StandingLaws : Type 0 where
-  pub start : (s : Session) (log : Log) → Stands s log → log.start ≡ []
-  pub values : (s : Session) (log : Log) → Stands s log → log.values ≡ []
-  pub first : (s : Session) (log : Log) → Stands s log → log.first ≡ 5
+  pub begun : (s : Session) (log : Log) → Stands s log → IsNew log ⊎ HasOpened s log
   pub columns : (s : Session) (log : Log) → Stands s log → log.columns ≡ s.dataset.shape.cols
   pub some_columns : (s : Session) (log : Log) → Stands s log → 0 < s.dataset.shape.cols
   pub flushed_rows : (s : Session) (log : Log) → Stands s log → s.committed ≡ rows_in log (flushed log)
@@ -51,21 +50,21 @@ pub record IsDatasetOf (s : Session) (r : Reading) : Type 0 where
   pub chunk_columns : r.dataset.layout.chunk_cols ≡ s.dataset.layout.chunk_cols
   pub needed : needed r.dataset ≡ needed_chunks (cutting_of s) r.dataset.shape.rows
 
--- At each position of the session's log: whatever the image shows is a dataset of the session's shape, and is shown within all
--- limits that allow the chunks of a session, of which few are needed, each with an address; the root header is one look, the dataset
+-- At each position of the log of a session that created its file: whatever the image shows is a dataset of the session's shape, and is
+-- shown within all limits that allow the chunks of a session, of which few are needed, each with an address; the root header is one look, the dataset
 -- header names no further block; and the image ends within the limit.
 pub record ShownLaws : Type 0 where
-  pub dataset : (s : Session) (log : Log) (p : ℕ) (r : Reading) → Stands s log → IsPosition log p → Shows format_limits (image_at log p) s.name r → IsDatasetOf s r
-  pub shown : (s : Session) (log : Log) (limits : Limits) (p : ℕ) (r : Reading) → Stands s log → chunk_limit s ≤ limit_of limits s.dataset.layout.index → IsPosition log p
+  pub dataset : (s : Session) (log : Log) (p : ℕ) (r : Reading) → Stands s log → IsNew log → IsPosition log p → Shows format_limits (image_at log p) s.name r → IsDatasetOf s r
+  pub shown : (s : Session) (log : Log) (limits : Limits) (p : ℕ) (r : Reading) → Stands s log → IsNew log → chunk_limit s ≤ limit_of limits s.dataset.layout.index → IsPosition log p
       → Shows format_limits (image_at log p) s.name r → Shows limits (image_at log p) s.name r
-  pub within : (s : Session) (log : Log) (limits : Limits) (p : ℕ) (r : Reading) → Stands s log → chunk_limit s ≤ limit_of limits s.dataset.layout.index → IsPosition log p
+  pub within : (s : Session) (log : Log) (limits : Limits) (p : ℕ) (r : Reading) → Stands s log → IsNew log → chunk_limit s ≤ limit_of limits s.dataset.layout.index → IsPosition log p
       → Shows format_limits (image_at log p) s.name r → needed r.dataset ≤ limit_of limits r.dataset.layout.index
-  pub few : (s : Session) (log : Log) (p : ℕ) (r : Reading) → Stands s log → IsPosition log p → Shows format_limits (image_at log p) s.name r → needed r.dataset ≤ chunk_limit s
-  pub addressed : (s : Session) (log : Log) (p : ℕ) (r : Reading) → Stands s log → IsPosition log p → Shows format_limits (image_at log p) s.name r
+  pub few : (s : Session) (log : Log) (p : ℕ) (r : Reading) → Stands s log → IsNew log → IsPosition log p → Shows format_limits (image_at log p) s.name r → needed r.dataset ≤ chunk_limit s
+  pub addressed : (s : Session) (log : Log) (p : ℕ) (r : Reading) → Stands s log → IsNew log → IsPosition log p → Shows format_limits (image_at log p) s.name r
       → (k : ℕ) → k < needed r.dataset → get_or r.table k undefined ≢ undefined
-  pub root_header : (s : Session) (log : Log) (p : ℕ) → Stands s log → IsPosition log p → (v : Visit) × (visits (image_at log p) (root_header (root_address (image_at log p))) ≡ v ∷ [])
-  pub dataset_header : (s : Session) (log : Log) (p : ℕ) (r : Reading) → Stands s log → IsPosition log p → Shows format_limits (image_at log p) s.name r → continuation_blocks (image_at log p) r ≡ []
-  pub fits : (s : Session) (log : Log) (p : ℕ) → Stands s log → IsPosition log p → length (image_at log p) ≤ s.places.limit
+  pub root_header : (s : Session) (log : Log) (p : ℕ) → Stands s log → IsNew log → IsPosition log p → (v : Visit) × (visits (image_at log p) (root_header (root_address (image_at log p))) ≡ v ∷ [])
+  pub dataset_header : (s : Session) (log : Log) (p : ℕ) (r : Reading) → Stands s log → IsNew log → IsPosition log p → Shows format_limits (image_at log p) s.name r → continuation_blocks (image_at log p) r ≡ []
+  pub fits : (s : Session) (log : Log) (p : ℕ) → Stands s log → IsNew log → IsPosition log p → length (image_at log p) ≤ s.places.limit
 
 -- an image with room for a session has room for it after the oldest piece was written
 abbrev pub RoomStays : Type 0

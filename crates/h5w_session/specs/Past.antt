@@ -1,12 +1,16 @@
 -- What a session keeps of the positions of its log, and of the bounds of its file.
-use Rattle.std.specs.Prelude.{◌≡◌, ◌≢◌, ℕ, ◌+◌, ◌<◌, ◌≤◌, List, ◌++◌, get_or, take}
+use Rattle.std.specs.Prelude.{◌≡◌, ◌≢◌, ◌⊎◌, ℕ, ◌+◌, ◌*◌, ◌^◌, ◌<◌, ◌≤◌, max, List, ◌++◌, length, get_or, take}
 use Rattle.h5w_model.specs.Numbers.{undefined}
 use Rattle.h5w_model.specs.Logs.{Log, hist, spent}
 use Rattle.h5w_model.specs.Prefixed.{IsPosition, image_at}
-use Rattle.h5w_model.specs.Tables.{Reading, Shows, format_limits, needed}
+use Rattle.h5w_model.specs.Datasets.{Described}
+use Rattle.h5w_model.specs.Findings.{Summary, Valid}
+use Rattle.h5w_model.specs.Tables.{Reading, Reads, Shows, chunks_across, format_limits, needed}
+use Rattle.h5w_chunks.specs.Grids.{fill_cell}
 use Rattle.h5w_model.specs.declared.piece.Write.{Write}
 use Rattle.h5w_steps.specs.Moments.{Moment, reading_of}
 use Rattle.h5w_session.specs.Creations.{IsNewFile, NewFile, creation_writes, header_place, log_of, new_dataset}
+use Rattle.h5w_session.specs.Loads.{first_end_of}
 use Rattle.h5w_session.specs.Sessions.{Session, AllEndBy, cutting_of, with_rows}
 
 -- each needed chunk of what an image shows has an address
@@ -24,14 +28,45 @@ pub record HasCreated (s : Session) (log : Log) : Type 0 where
   pub dataset : s.dataset ≡ with_rows s.dataset.shape.rows (new_dataset file)
   pub limit : s.places.limit ≡ file.limit
 
--- How the log began; at each position each needed chunk has an address, and so it has at the moment to which the pieces left lead; and
--- the file's end and all pieces are bounded.
+-- The log began over a file that was opened: valid, with rows of so many columns under the session's name.
+pub record HasOpened (s : Session) (log : Log) : Type 0 where
+  pub summary : Summary
+  pub valid : Valid log.start s.name summary
+  pub rows : ℕ
+  pub reads : Reads log.start s.name rows log.columns log.values
+  pub some_columns : 0 < log.columns
+  pub first : log.first ≡ 0
+
+-- the log is that of a session that created its file
+abbrev pub IsNew : Log → Type 0
+IsNew log = log ≡ log_of log.events
+
+-- the most bytes that the file may come to
+abbrev pub most_of : Session → Log → ℕ
+most_of s log = max s.places.limit (first_end_of log)
+
+-- The dataset has one column, and its chunks and cells have sizes that can be counted with.
+pub record IsCounted (d : Described) : Type 0 where
+  pub rows : 0 < d.layout.chunk_rows
+  pub cols : 0 < d.layout.chunk_cols
+  pub some : 0 < d.int_type.size
+  pub few : d.int_type.size ≤ 8
+  pub small : d.layout.chunk_rows * d.layout.chunk_cols * d.int_type.size < 2 ^ 32
+  pub fill : length (fill_cell d) ≡ d.int_type.size
+  pub column : d.shape.cols ≡ 1
+  pub across : chunks_across d ≡ 1
+
+-- How the log began; in a file that the session created, at each position each needed chunk has an address, and so it has at the moment
+-- to which the pieces left lead; and the file's end and all pieces are bounded.
 pub record Past (s : Session) (left : List Write) (log : Log) (after : Moment) : Type 0 where
-  pub begun : HasCreated s log
-  pub addressed : (p : ℕ) (r : Reading) → IsPosition log p → Shows format_limits (image_at log p) s.name r → AllAddressed r
-  pub next : AllAddressed (reading_of after)
+  pub begun : HasCreated s log ⊎ HasOpened s log
+  pub counted : IsCounted s.dataset
+  pub limit_low : 1024 ≤ s.places.limit
+  pub limit_high : s.places.limit ≤ 2 ^ 40
+  pub addressed : IsNew log → (p : ℕ) (r : Reading) → IsPosition log p → Shows format_limits (image_at log p) s.name r → AllAddressed r
+  pub next : IsNew log → AllAddressed (reading_of after)
   -- the file grew by no more than what its plans were bound to
-  pub grew : s.places.end ≤ 1024 + spent (cutting_of s) log
-  -- the end and all pieces are within the limit
-  pub fits : s.places.end ≤ s.places.limit
-  pub ends : AllEndBy s.places.limit (hist log.events ++ left)
+  pub grew : s.places.end ≤ first_end_of log + spent (cutting_of s) log
+  -- the end and all pieces are within the limit, or within the file that it began with
+  pub fits : s.places.end ≤ most_of s log
+  pub ends : AllEndBy (most_of s log) (hist log.events ++ left)

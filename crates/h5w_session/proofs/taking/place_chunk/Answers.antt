@@ -70,7 +70,7 @@ returns-clause-placed c to v s x number touches within =
     } in
     let took : Took t next (extent at (chunk_len d)) = subst (λ (n : ℕ). Took t next (extent at n)) c.chunk_len.ensures.exact took_len in
     let raised = raised_one t next at (chunk_len d) took.takes in
-    let ends : next.end ≤ next.limit = raised.fits c.requires.limited in
+    let ends : next.end ≤ next.limit = omega (arith, raised.fits, raised.limit, c.requires.limited) in
     let defined : at ≢ undefined = λ e. absurd (omega (arith, took.live.within, ends, raised.limit, c.requires.limit, e)) in
     let none : map_of w i ≡ undefined = found_none (map_of w i) (sym c.get.ensures.exact ∙ c.in_default.is) in
     let made = placing_new d to v w h u s t next chunks added i p c.requires.one (sizes_of c.args.grid.now c.requires.grid).some number c.requires.below touches none refl defined
