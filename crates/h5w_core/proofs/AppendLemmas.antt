@@ -199,7 +199,7 @@ appended_steps w vs rows accepted carries =
             ∙ sym (append_reply-answer w s fits.log vs rows fits.stands.stands fits.state),
         record {
           log = and_now (appends vs) fits.log;
-          stands = record { stands = carries fits.log fits.stands.stands; journal = fits.stands.journal; bytes = fits.stands.bytes };
+          stands = record { stands = carries fits.log fits.stands.stands; new = ap (and_now (appends vs)) fits.stands.new; journal = fits.stands.journal; bytes = fits.stands.bytes };
           state = appended_state w vs s fits.log accepted fits.stands.stands fits.state;
         },
       );

@@ -38,6 +38,7 @@ begins o s m n is stands empty same pieces end =
     record {
       log = log_of [];
       stands = stands;
+      new = refl;
       history = history;
       bytes = some_is n.bytes m.bytes same.bytes ∙ ap (λ (v : MemView). v.bytes) empty;
       dataset = ap (λ (x : Session). x.dataset) is;
@@ -69,6 +70,7 @@ piece_more o count s t m n piece pieces pending start shown wrote stands room =
     record {
       log = and_now (shows piece) log;
       stands = stands log start.stands;
+      new = ap (and_now (shows piece)) start.new;
       history = history ∙ ap (λ (ws : List Write). ws ++ piece ∷ []) start.history;
       bytes = some_is n.bytes (image m.bytes (piece ∷ [])) wrote.bytes ∙ ap (λ (b : List ℕ). image b (piece ∷ [])) start.bytes ∙ sym (image-push [] (hist log.events) piece);
       dataset = after.dataset ∙ start.dataset;
@@ -129,7 +131,7 @@ created_fits o attempts s m some start =
     let pieces : length (hist start.log.events) ≡ 5 = ap length (sym start.history) ∙ start.shown in
     record {
       log = start.log;
-      stands = record { stands = start.stands; journal = start.history; bytes = start.bytes };
+      stands = record { stands = start.stands; new = start.new; journal = start.history; bytes = start.bytes };
       state = record {
         appended = sym (nil_from_length (appended start.log) (omega (arith, counted, rows_none, start.waits)));
         flushed = sym start.committed ∙ standing_laws.flushed_rows s start.log start.stands;
@@ -139,7 +141,7 @@ created_fits o attempts s m some start =
         spent = sym start.loads;
         stopped = sym start.going;
         tries = some;
-        begun = omega (arith, pieces, standing_laws.first s start.log start.stands);
+        begun = let first : start.log.first ≡ 5 = ap (λ (l : Log). l.first) start.new in omega (arith, pieces, first);
         polls = λ r. subst (λ (o : Option Reader). MayPoll (polling_of w) start.log None o) (sym (nobody_at r)) tt;
       };
     }

@@ -25,7 +25,9 @@ use Rattle.h5w_session.specs.Loads.{NoPlace}
 use Rattle.h5w_session.specs.Stands.{Stands}
 use Rattle.h5w_session.specs.declared.refusal.FlushError.{FlushError}
 use Rattle.h5w_session.specs.declared.refusal.FlushError.TheVariants as errors
+use Rattle.h5w_session.specs.Past.{IsNew}
 use Rattle.h5w_session.proofs.LawLemmas.{standing_laws}
+use Rattle.h5w_session.proofs.PastLemmas.{new_end}
 use Rattle.h5w_core.specs.Readers.{reader_at}
 use Rattle.h5w_core.specs.Steady.{steady}
 use Rattle.h5w_core.specs.Worlds.{WorldView, HaveOneLog, IsStateOf, Steps, polling_by, polling_of, rules_of}
@@ -62,7 +64,7 @@ held_rules w t same = ap (λ (x : Session). rules_of (with_session w x)) same.se
 pub held_log : (w : WorldView) (t : Session) (s : ScriptState) → SameBut w.session t → ((log : Log) → Stands w.session log → Stands t log) → HaveOneLog w s → HaveOneLog (with_session w t) s
 held_log w t s same stands fits = record {
   log = fits.log;
-  stands = record { stands = stands fits.log fits.stands.stands; journal = fits.stands.journal; bytes = fits.stands.bytes };
+  stands = record { stands = stands fits.log fits.stands.stands; new = fits.stands.new; journal = fits.stands.journal; bytes = fits.stands.bytes };
   state = held_state w t s fits.log same fits.state;
 }
 
@@ -198,7 +200,7 @@ planned_steps w t pieces flush =
         flush_allowed w t s fits.log pieces flush fits.stands.stands fits.state,
         record {
           log = and_now (plans pieces) fits.log;
-          stands = record { stands = flush.carries fits.log fits.stands.stands; journal = fits.stands.journal; bytes = fits.stands.bytes };
+          stands = record { stands = flush.carries fits.log fits.stands.stands; new = ap (and_now (plans pieces)) fits.stands.new; journal = fits.stands.journal; bytes = fits.stands.bytes };
           state = planned_state w t s fits.log pieces flush fits.stands.stands fits.state;
         },
       );
@@ -206,16 +208,16 @@ planned_steps w t pieces flush =
 
 -- ---- Without a place
 
-full_free : (w : WorldView) (s : ScriptState) (log : Log) (full : Full) → NoPlace w.session log full → s.flushed < rows_of (rules_of w) s → Stands w.session log → IsStateOf w s log
+full_free : (w : WorldView) (s : ScriptState) (log : Log) (full : Full) → NoPlace w.session log full → s.flushed < rows_of (rules_of w) s → Stands w.session log → IsNew log → IsStateOf w s log
     → MatchBool (nat_lt s.flushed (rows_of (rules_of w) s))
     (IsPlanned (rules_of w) s (replies.FullSpace full.at full.size full.limit) ⊎ IsFull (rules_of w) s (replies.FullSpace full.at full.size full.limit)) (replies.FullSpace full.at full.size full.limit ≡ replies.Flushing 0)
-full_free w s log full none some stands state =
+full_free w s log full none some stands new state =
     let g = rules_of w in
     let reply = replies.FullSpace full.at full.size full.limit in
     let load_is = load_of-log (rules_of w) s s.appended log (columns_of w.session log stands) state.flushed state.appended in
     let size : full.size ≤ load_of g s s.appended = subst (λ (n : ℕ). full.size ≤ n) (sym load_is) none.size_bound in
     let place : full.at ≤ 1024 + s.spent + load_of g s s.appended =
-    subst (λ (n : ℕ). full.at ≤ 1024 + s.spent + n) (sym load_is) (subst (λ (n : ℕ). full.at ≤ 1024 + n + load g.cutting log) (sym state.spent) none.at_bound) in
+    subst (λ (n : ℕ). full.at ≤ 1024 + s.spent + n) (sym load_is) (subst (λ (n : ℕ). full.at ≤ 1024 + n + load g.cutting log) (sym state.spent) (subst (λ (n : ℕ). full.at ≤ n + spent g.cutting log + load g.cutting log) (new_end log new) none.at_bound)) in
     subst (λ (b : Bool). MatchBool b (IsPlanned g s reply ⊎ IsFull g s reply) (reply ≡ replies.Flushing 0)) (sym (lt-ltb s.flushed (rows_of g s) some))
     (inr (record {
       place = full.at;
@@ -227,23 +229,23 @@ full_free w s log full none some stands state =
       full = subst (λ (n : ℕ). n < full.at + full.size) none.limit none.past;
     }))
 
-full_allowed : (w : WorldView) (s : ScriptState) (log : Log) (full : Full) → w.session.stopped ≡ false → w.session.pending ≡ [] → NoPlace w.session log full → Stands w.session log → IsStateOf w s log
+full_allowed : (w : WorldView) (s : ScriptState) (log : Log) (full : Full) → w.session.stopped ≡ false → w.session.pending ≡ [] → NoPlace w.session log full → Stands w.session log → IsNew log → IsStateOf w s log
     → FlushAllowed (rules_of w) s (replies.FullSpace full.at full.size full.limit)
-full_allowed w s log full going idle none stands state =
+full_allowed w s log full going idle none stands new state =
     let g = rules_of w in
     let rows = unflushed w s log going idle stands state in
     let empty : s.pending ≡ 0 = state.pending ∙ ap length idle in
     let reply = replies.FullSpace full.at full.size full.limit in
     let free : Type 0 = MatchBool (nat_lt s.flushed (rows_of g s)) (IsPlanned g s reply ⊎ IsFull g s reply) (reply ≡ replies.Flushing 0) in
     subst (λ (b : Bool). MatchBool b (reply ≡ replies.Stopped) (MatchBool (nat_lt 0 s.pending) (reply ≡ replies.Busy s.pending) free)) (sym (state.stopped ∙ going))
-    (subst (λ (n : ℕ). MatchBool (nat_lt 0 n) (reply ≡ replies.Busy n) free) (sym empty) (full_free w s log full none (omega (arith, rows, none.waits)) stands state))
+    (subst (λ (n : ℕ). MatchBool (nat_lt 0 n) (reply ≡ replies.Busy n) free) (sym empty) (full_free w s log full none (omega (arith, rows, none.waits)) stands new state))
 
 full_steps : (w : WorldView) (t : Session) (full : Full) → w.session.stopped ≡ false → w.session.pending ≡ [] → ((log : Log) → Stands w.session log → NoPlace w.session log full) → LeavesSession w.session t
     → Steps w events.Flush (replies.FullSpace full.at full.size full.limit) (with_session w t)
 full_steps w t full going idle none left =
     record {
       rules = held_rules w t left.same;
-      lawful = λ s fits. (full_allowed w s fits.log full going idle (none fits.log fits.stands.stands) fits.stands.stands fits.state, held_log w t s left.same left.stands fits);
+      lawful = λ s fits. (full_allowed w s fits.log full going idle (none fits.log fits.stands.stands) fits.stands.stands fits.stands.new fits.state, held_log w t s left.same left.stands fits);
     }
 
 -- ---- By the parts of a world

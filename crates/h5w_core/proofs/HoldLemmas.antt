@@ -140,7 +140,7 @@ stopped_steps w carries = record {
     refl,
     record {
       log = fits.log;
-      stands = record { stands = carries fits.log fits.stands.stands; journal = fits.stands.journal; bytes = fits.stands.bytes };
+      stands = record { stands = carries fits.log fits.stands.stands; new = fits.stands.new; journal = fits.stands.journal; bytes = fits.stands.bytes };
       state = stop_state w s fits.log fits.state;
     },
   );
@@ -166,7 +166,7 @@ pub stop_logs : (s t : Session) (m : MemView) (attempts : ℕ) (places : List (O
     → (log : Log) → StandsFor w log → StandsFor (world_of t m attempts places) log
 stop_logs s t m attempts places w view stands log stood =
     let there : StandsFor (world_of s m attempts places) log = subst (λ (x : WorldView). StandsFor x log) (sym view) stood in
-    record { stands = stands log there.stands; journal = there.journal; bytes = there.bytes }
+    record { stands = stands log there.stands; new = there.new; journal = there.journal; bytes = there.bytes }
 
 -- ---- A piece
 
@@ -224,7 +224,7 @@ show_logs s t m n attempts count places w reply view shown =
 pub same_stands : (s t : Session) (m n : MemView) (attempts : ℕ) (places others : List (Option ReaderCore)) (w : WorldView) (log : Log) → world_of s m attempts places ≡ w → Same (steady m) (steady n)
     → t ≡ s → StandsFor w log → StandsFor (world_of t n attempts others) log
 same_stands s t m n attempts places others w log view same is stood =
-    let there : StandsFor (world_of s m attempts others) log = subst (λ (x : WorldView). StandsFor (record x { readers = others }) log) (sym view) (record { stands = stood.stands; journal = stood.journal; bytes = stood.bytes }) in
+    let there : StandsFor (world_of s m attempts others) log = subst (λ (x : WorldView). StandsFor (record x { readers = others }) log) (sym view) (record { stands = stood.stands; new = stood.new; journal = stood.journal; bytes = stood.bytes }) in
     subst (λ (x : WorldView). StandsFor x log) (sym (changed s t m n attempts others same (λ x. x) is)) there
 
 pub held_stands : (s t : Session) (m n : MemView) (attempts : ℕ) (places : List (Option ReaderCore)) (w : WorldView) (log : Log) → world_of s m attempts places ≡ w → Same (steady m) (steady n)
@@ -232,7 +232,7 @@ pub held_stands : (s t : Session) (m n : MemView) (attempts : ℕ) (places : Lis
 held_stands s t m n attempts places w log view same stands stood =
     let there : StandsFor (world_of s m attempts places) log = subst (λ (x : WorldView). StandsFor x log) (sym view) stood in
     subst (λ (x : WorldView). StandsFor x log) (sym (replaced s t m n attempts places same))
-    (record { stands = stands log there.stands; journal = there.journal; bytes = there.bytes })
+    (record { stands = stands log there.stands; new = there.new; journal = there.journal; bytes = there.bytes })
 
 -- want of memory leaves all but blocks that are held
 pub holds_more : (s t : Session) (m n : MemView) (attempts : ℕ) (places : List (Option ReaderCore)) (w : WorldView) → world_of s m attempts places ≡ w → Same (steady m) (steady n) → SameBut s t
@@ -246,11 +246,11 @@ pub appended_stands : (s t : Session) (m n : MemView) (attempts : ℕ) (vs : Lis
 appended_stands s t m n attempts vs places w log view same stands stood =
     let there : StandsFor (world_of s m attempts places) log = subst (λ (x : WorldView). StandsFor x log) (sym view) stood in
     subst (λ (x : WorldView). StandsFor x (and_now (appends vs) log)) (sym (replaced s t m n attempts places same))
-    (record { stands = stands log there.stands; journal = there.journal; bytes = there.bytes })
+    (record { stands = stands log there.stands; new = ap (and_now (appends vs)) there.new; journal = there.journal; bytes = there.bytes })
 
 pub planned_stands : (s t : Session) (m n : MemView) (attempts pieces : ℕ) (places : List (Option ReaderCore)) (w : WorldView) (log : Log) → world_of s m attempts places ≡ w → Same (steady m) (steady n)
     → ((l : Log) → Stands s l → Stands t (and_now (plans pieces) l)) → StandsFor w log → StandsFor (world_of t n attempts places) (and_now (plans pieces) log)
 planned_stands s t m n attempts pieces places w log view same stands stood =
     let there : StandsFor (world_of s m attempts places) log = subst (λ (x : WorldView). StandsFor x log) (sym view) stood in
     subst (λ (x : WorldView). StandsFor x (and_now (plans pieces) log)) (sym (replaced s t m n attempts places same))
-    (record { stands = stands log there.stands; journal = there.journal; bytes = there.bytes })
+    (record { stands = stands log there.stands; new = ap (and_now (plans pieces)) there.new; journal = there.journal; bytes = there.bytes })

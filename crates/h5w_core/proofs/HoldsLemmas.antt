@@ -3,6 +3,7 @@ use Rattle.std.proofs.Common.{◌≡◌, ◌≤◌, ap, refl, arith}
 use Rattle.h5w_model.specs.Tables.{limit_of}
 use Rattle.h5w_model.specs.Logs.{Log}
 use Rattle.h5w_polling.specs.Premises.{LogHolds}
+use Rattle.h5w_session.specs.Past.{IsNew}
 use Rattle.h5w_session.specs.Sessions.{chunk_limit}
 use Rattle.h5w_session.specs.Stands.{Stands}
 use Rattle.h5w_session.proofs.LawLemmas.{shown_laws, standing_laws}
@@ -13,27 +14,27 @@ use Rattle.h5w_core.proofs.StateLemmas.{columns_of, some_columns}
 limit_is : (w : WorldView) → chunk_limit w.session ≤ limit_of (polling_of w).limits w.session.dataset.layout.index
 limit_is w = let same : limit_of (polling_of w).limits w.session.dataset.layout.index ≡ chunk_limit w.session = refl in omega (arith, same)
 
-pub log_holds : (w : WorldView) (log : Log) → 1 ≤ w.attempts → Stands w.session log → LogHolds (polling_of w) log
-log_holds w log tries stands =
+pub log_holds : (w : WorldView) (log : Log) → 1 ≤ w.attempts → Stands w.session log → IsNew log → LogHolds (polling_of w) log
+log_holds w log tries stands new =
     let s = w.session in
     record {
       served = record {
         prefixed = standing_laws.prefixed s log stands;
         held = standing_laws.held s log stands;
-        fits = λ p at. omega (arith, shown_laws.fits s log p stands at, standing_laws.limited s log stands);
+        fits = λ p at. omega (arith, shown_laws.fits s log p stands new at, standing_laws.limited s log stands);
       };
-      within = λ p r at shows. shown_laws.within s log (polling_of w).limits p r stands (limit_is w) at shows;
+      within = λ p r at shows. shown_laws.within s log (polling_of w).limits p r stands new (limit_is w) at shows;
       headers = record {
-        root = λ p at. shown_laws.root_header s log p stands at;
-        dataset = λ p r at shows. shown_laws.dataset_header s log p r stands at shows;
+        root = λ p at. shown_laws.root_header s log p stands new at;
+        dataset = λ p r at shows. shown_laws.dataset_header s log p r stands new at shows;
       };
       cut = λ p r at shows.
-          let d = shown_laws.dataset s log p r stands at shows in
+          let d = shown_laws.dataset s log p r stands new at shows in
           record {
             chunk_rows = d.chunk_rows;
             chunk_columns = d.chunk_columns;
             value_size = ap (λ t. t.size) d.int_type;
-            addressed = λ k below. shown_laws.addressed s log p r stands at shows k below;
+            addressed = λ k below. shown_laws.addressed s log p r stands new at shows k below;
           };
       columns = columns_of s log stands;
       some_columns = some_columns s log stands;

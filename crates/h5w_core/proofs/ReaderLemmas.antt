@@ -57,7 +57,7 @@ acts_fit w s log r new event reply inside at acts =
     subst (λ (t : ScriptState). HaveOneLog after t) (sym acts.is)
     (record {
       log = log;
-      stands = record { stands = at.stands.stands; journal = at.stands.journal; bytes = at.stands.bytes };
+      stands = record { stands = at.stands.stands; new = at.stands.new; journal = at.stands.journal; bytes = at.stands.bytes };
       state = record {
         appended = state.appended;
         flushed = state.flushed;
@@ -73,7 +73,7 @@ acts_fit w s log r new event reply inside at acts =
     })
 
 polls_at : (w : WorldView) (s : ScriptState) → (fits : HaveOneLog w s) → PollsAt w s fits.log
-polls_at w s fits = record { holds = log_holds w fits.log fits.state.tries fits.stands.stands; stands = fits.stands; state = fits.state }
+polls_at w s fits = record { holds = log_holds w fits.log fits.state.tries fits.stands.stands fits.stands.new; stands = fits.stands; state = fits.state }
 
 -- what a reader's event may be given, at each state that fits
 abbrev pub ActsAt : WorldView → ℕ → Option ReaderCore → Event → Reply → Type 0
@@ -110,7 +110,7 @@ other_fits w s states r new inside fits polls =
     let state = fits.state in
     record {
       log = fits.log;
-      stands = record { stands = fits.stands.stands; journal = fits.stands.journal; bytes = fits.stands.bytes };
+      stands = record { stands = fits.stands.stands; new = fits.stands.new; journal = fits.stands.journal; bytes = fits.stands.bytes };
       state = record {
         appended = state.appended;
         flushed = state.flushed;

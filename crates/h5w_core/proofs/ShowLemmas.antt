@@ -117,6 +117,7 @@ pub shown_stands : (w : WorldView) (piece : Write) (t : Session) (log : Log) →
 shown_stands w piece t log stands stood =
     record {
       stands = stands;
+      new = ap (and_now (shows piece)) stood.new;
       journal = ap (λ (ws : List Write). ws ++ piece ∷ []) stood.journal;
       bytes = ap (λ (b : List ℕ). image b (piece ∷ [])) stood.bytes ∙ sym (image-push [] (hist log.events) piece);
     }

@@ -4,6 +4,7 @@ use Rattle.h5w_model.specs.Images.{image}
 use Rattle.h5w_model.specs.Logs.{Log, hist, spent}
 use Rattle.h5w_image.specs.Memory.{MemView}
 use Rattle.h5w_session.specs.Creations.{creation_writes, new_dataset, new_file}
+use Rattle.h5w_session.specs.Past.{IsNew}
 use Rattle.h5w_session.specs.Room.{HasRoomFor}
 use Rattle.h5w_session.specs.Sessions.{Session, cutting_of}
 use Rattle.h5w_session.specs.Stands.{Stands}
@@ -14,6 +15,7 @@ use Rattle.h5w_core.specs.Steady.{steady}
 pub record Creates (options : Options) (count : ℕ) (s : Session) (m : MemView) : Type 0 where
   pub log : Log
   pub stands : Stands s log
+  pub new : IsNew log
   pub history : m.history ≡ hist log.events
   pub bytes : m.bytes ≡ image [] (hist log.events)
   pub dataset : s.dataset ≡ new_dataset (new_file options)

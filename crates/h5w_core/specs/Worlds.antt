@@ -25,6 +25,7 @@ use Rattle.h5w_session.specs.Refusals.{append_refusal, flush_refusal}
 use Rattle.h5w_session.specs.Room.{HasRoomFor}
 use Rattle.h5w_session.specs.Flushes.{SameBut}
 use Rattle.h5w_session.specs.Sessions.{Session, chunk_limit, cutting_of}
+use Rattle.h5w_session.specs.Past.{IsNew}
 use Rattle.h5w_session.specs.Stands.{Stands}
 
 -- The session, the bytes of its image, the pieces that became visible, the oldest first, the most attempts of a
@@ -71,6 +72,7 @@ nobody = replicate 17 None
 -- makes of no bytes.
 pub record StandsFor (w : WorldView) (log : Log) : Type 0 where
   pub stands : Stands w.session log
+  pub new : IsNew log
   pub journal : w.journal ≡ hist log.events
   pub bytes : w.bytes ≡ image [] (hist log.events)
 
