@@ -139,7 +139,7 @@ module _ (v : Session) (to : ℕ) (u : Store) (to_is : to ≡ rows_of v) (p : Is
         across = is.across;
         header = is.header;
         header_ends = is.header_ends;
-        limited = is.limited;
+        small = is.small;
         limit = is.limit;
         inside = λ i from named. let same : map_of u i ≡ map_of v.index i = kept.map i in omega (arith, same, is.inside i from (λ e. named (same ∙ e)));
         tops = tops_kept v.places.end v.places.end v.index u p.places (omega arith) is.tops;

@@ -209,7 +209,7 @@ module _ (s : Session) (is : IsSession s) (t : Space) (v : Store) (ws : List Wri
         across = is.across;
         header = writable_again s.header rows is.header;
         header_ends = omega (arith, written_length s.header rows is.header, is.header_ends, rises);
-        limited = omega (arith, ends.0, ends.1, x.placing.raised.fits, x.placing.raised.limit, is.limited);
+        small = omega (arith, ends.0, ends.1, x.placing.raised.fits, x.placing.raised.limit, is.small, is.limit);
         limit = subst (λ (n : ℕ). n ≤ 2 ^ 40) (sym (ends.0 ∙ x.placing.raised.limit)) is.limit;
         inside = λ i from named. inside_then i (omega (arith, from, div_rises s.dataset.layout.chunk_rows s.dataset.shape.rows rows (omega arith))) named;
         tops = tops_then x.held x.placing.partly.array x.between x.moves x.copies x.fixed v t x.plan tops_held;

@@ -35,7 +35,7 @@ created_is f is =
       across = refl;
       header = writable f is;
       header_ends = omega (arith, z.lens.header);
-      limited = omega (arith, z.end, is.limit_low);
+      small = omega (arith, z.end);
       limit = is.limit_high;
       inside = λ i from named. absurd (named (starts.map i));
       tops = record { head = omega (arith, array.header_at); block = omega (arith, array.index_at) };

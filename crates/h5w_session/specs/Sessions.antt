@@ -1,5 +1,5 @@
 -- A session: what its values are, and what each call makes of it.
-use Rattle.std.specs.Prelude.{◌≡◌, ◌≢◌, ◌==◌, ◌^◌, ℕ, ◌+◌, ◌-◌, ◌*◌, ◌/◌, ◌%◌, ◌≤◌, Bool, true, false, List, [], ◌∷◌, ◌++◌, length, ℤ, Option, None, Some, Ok, find}
+use Rattle.std.specs.Prelude.{◌≡◌, ◌≢◌, ◌==◌, ◌^◌, ℕ, ◌+◌, ◌-◌, ◌*◌, ◌/◌, ◌%◌, ◌<◌, ◌≤◌, Bool, true, false, List, [], ◌∷◌, ◌++◌, length, ℤ, Option, None, Some, Ok, find}
 use Rattle.h5w_model.specs.Images.{AllSized}
 use Rattle.h5w_model.specs.Superblock.{super_bytes}
 use Rattle.h5w_model.specs.Logs.{Cutting}
@@ -100,7 +100,7 @@ pub record IsSession (s : Session) : Type 0 where
   pub across : chunks_across s.dataset ≡ 1
   pub header : IsWritable s.header
   pub header_ends : s.place + length s.header ≤ s.places.end
-  pub limited : s.places.end ≤ s.places.limit
+  pub small : s.places.end < 2 ^ 64
   pub limit : s.places.limit ≤ 2 ^ 40
   -- the chunks that rows may still go into and the blocks in place stand in the file
   pub inside : AreInside s.dataset s.places.end s.index

@@ -100,7 +100,7 @@ fn prepare<W: PieceWrite>(
     requires few { div_up to grid.now.layout.chunk.0 ≤ 131060 }
     requires count { length cells.now ≡ (to - grid.now.shape.rows) * grid.now.shape.cols * grid.now.int_type.size }
     requires inside { AreInside (dataset_of grid.now) taking.old.places.end index.old }
-    requires limited { taking.old.places.end ≤ taking.old.places.limit }
+    requires small { taking.old.places.end < 2 ^ 64 }
     requires limit { taking.old.places.limit ≤ 2 ^ 40 }
     requires no_chunks { taking.old.chunks.items ≡ [] }
     requires none_added { taking.old.added.items ≡ [] }

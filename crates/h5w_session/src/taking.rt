@@ -70,7 +70,7 @@ fn place_chunk(
     requires grid { IsGrid grid.now }
     requires one { chunks_across (dataset_of grid.now) ≡ 1 }
     requires below { i < 131060 }
-    requires limited { taking.old.places.end ≤ taking.old.places.limit }
+    requires small { taking.old.places.end < 2 ^ 64 }
     requires limit { taking.old.places.limit ≤ 2 ^ 40 }
     ensures placed { OnOk result ((to : ℕ) (v : Store) (s : Space)
         → IsPlacing (dataset_of grid.now) to v s taking.old.chunks.items taking.old.added.items index.old taking.old.places
@@ -113,7 +113,7 @@ pub fn place_chunks(
     requires order { grid.now.shape.rows < to }
     requires few { div_up to grid.now.layout.chunk.0 ≤ 131060 }
     requires inside { AreInside (dataset_of grid.now) taking.old.places.end index.old }
-    requires limited { taking.old.places.end ≤ taking.old.places.limit }
+    requires small { taking.old.places.end < 2 ^ 64 }
     requires limit { taking.old.places.limit ≤ 2 ^ 40 }
     requires no_chunks { taking.old.chunks.items ≡ [] }
     requires none_added { taking.old.added.items ≡ [] }

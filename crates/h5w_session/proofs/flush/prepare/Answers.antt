@@ -10,7 +10,7 @@ use Rattle.h5w_session.proofs.flush.prepare.Goals as goal
 pub put_rows-requires-clause-ends : goal.put_rows-requires-clause-ends
 put_rows-requires-clause-ends g c k p at =
     let placed = c.in_ok-place_chunks.ensures.placed in
-    omega (arith, placed.inside k p at, placed.raised.fits, c.requires.limited, placed.raised.limit, c.requires.limit)
+    omega (arith, placed.inside k p at, placed.raised.fits, c.requires.small, placed.raised.limit, c.requires.limit)
 
 pub put_rows-requires-clause-all : goal.put_rows-requires-clause-all
 put_rows-requires-clause-all g c = all_touched (dataset_of c.args.grid.now) c.args.to (length c.place_chunks.new.taking.chunks.items) c.requires.one c.requires.order c.in_ok-place_chunks.ensures.all

@@ -1,4 +1,4 @@
-use Rattle.std.proofs.Common.{◌≡◌, ◌≢◌, ℕ, ◌*◌, ◌≤◌, ◌∷◌, [], ◌++◌, false, nat_lt, List, sym, ◌∙◌, subst, arith, refl}
+use Rattle.std.proofs.Common.{◌≡◌, ◌≢◌, ℕ, ◌*◌, ◌^◌, ◌<◌, ◌≤◌, ◌∷◌, [], ◌++◌, false, nat_lt, List, sym, ◌∙◌, subst, arith, refl}
 use Rattle.h5w_model.specs.Numbers.{undefined}
 use Rattle.h5w_space.specs.Space.{extent}
 use Rattle.h5w_cache.specs.Plans.{Took}
@@ -26,6 +26,14 @@ returns-in-Some-clause-placed c to v s x number touches within =
     let defined : p.address ≢ undefined = λ e. there.1 (there.0 ∙ e) in
     subst (λ (ps : List ChunkPlace). IsPlacing d to v s ps added w c.args.taking.now.places) (sym c.in_ok-keep.ensures.added)
     (placing_stored d to v w s c.args.taking.now.places chunks added i p c.requires.one number there.0 defined (λ fresh. not_less (i * d.layout.chunk_rows) d.shape.rows fresh) within x)
+
+pub set-requires-clause-defined : goal.set-requires-clause-defined
+set-requires-clause-defined c e =
+    let t = c.args.taking.now.places in
+    let next = c.take.new.self in
+    let raised = raised_one t next c.in_ok-address.address c.chunk_len.result c.in_ok-address.ensures.taken in
+    let small : next.end < 2 ^ 64 = omega (arith, raised.fits, raised.limit, c.requires.small, c.requires.limit) in
+    absurd (omega (arith, c.in_ok-address.ensures.live.within, small, c.chunk_len.ensures.exact, (sizes_of c.args.grid.now c.requires.grid).some, e))
 
 pub returns-in_err-hold-clause-partly : goal.returns-in_err-hold-clause-partly
 returns-in_err-hold-clause-partly c =
@@ -70,8 +78,8 @@ returns-clause-placed c to v s x number touches within =
     } in
     let took : Took t next (extent at (chunk_len d)) = subst (λ (n : ℕ). Took t next (extent at n)) c.chunk_len.ensures.exact took_len in
     let raised = raised_one t next at (chunk_len d) took.takes in
-    let ends : next.end ≤ next.limit = omega (arith, raised.fits, raised.limit, c.requires.limited) in
-    let defined : at ≢ undefined = λ e. absurd (omega (arith, took.live.within, ends, raised.limit, c.requires.limit, e)) in
+    let small : next.end < 2 ^ 64 = omega (arith, raised.fits, raised.limit, c.requires.small, c.requires.limit) in
+    let defined : at ≢ undefined = λ e. absurd (omega (arith, took.live.within, small, (sizes_of c.args.grid.now c.requires.grid).some, e)) in
     let none : map_of w i ≡ undefined = found_none (map_of w i) (sym c.get.ensures.exact ∙ c.in_default.is) in
     let made = placing_new d to v w h u s t next chunks added i p c.requires.one (sizes_of c.args.grid.now c.requires.grid).some number c.requires.below touches none refl defined
     c.hold.ensures.held c.hold.ensures.way c.hold.ensures.array c.in_ok-hold.ensures.changed took c.set.ensures.set c.set.ensures.way c.set.ensures.array x in

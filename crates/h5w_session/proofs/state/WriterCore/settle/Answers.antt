@@ -17,7 +17,7 @@ invariant_of-self c =
         across = is.across;
         header = is.header;
         header_ends = omega (arith, is.header_ends, freed.end);
-        limited = omega (arith, is.limited, freed.end, freed.limit);
+        small = omega (arith, is.small, freed.end);
         limit = omega (arith, is.limit, freed.limit);
         inside = λ k from named. omega (arith, is.inside k from named, freed.end);
         tops = record { head = omega (arith, is.tops.head, freed.end); block = omega (arith, is.tops.block, freed.end) };
