@@ -1,0 +1,4 @@
+pub use Rattle.h5w_model.specs.Numbers
+pub use Rattle.h5w_model.specs.Causes
+pub use Rattle.h5w_image.specs.View
+pub mod Still
