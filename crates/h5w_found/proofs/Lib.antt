@@ -1,0 +1,10 @@
+pub mod RanLemmas
+pub mod ListedLemmas
+pub mod DescribedLemmas
+pub mod ChunkLemmas
+pub mod WalkLemmas
+pub mod RootLemmas
+pub mod HeaderLemmas
+pub mod ViewLemmas
+pub mod ReadingLemmas
+pub mod KindLemmas

@@ -1,0 +1,231 @@
+-- The messages of a header, one after another.
+use Rattle.std.proofs.Common.{◌≡◌, ℕ, zero, suc, ◌-◌, ◌<◌, ◌≤◌, ◌⊎◌, inl, inr, Bool, true, false, cond, ltb, List, [], ◌∷◌, ◌++◌, length, map, reverse, Some, None, Result, Ok, Err, refl, sym, ◌∙◌, ap, arith}
+use Rattle.std.proofs.lemmas.List.{reverse-append, map-append}
+use Rattle.std.proofs.lemmas.Bool.{lt-ltb, le-ltb, ne_eqb}
+use Rattle.h5w_model.specs.Numbers.{range}
+use Rattle.h5w_model.specs.Programs.{Prog, ret, whole, eval}
+use Rattle.h5w_model.specs.Headers.{block_at, messages_at}
+use Rattle.h5w_model.specs.Datasets.{Range, HeaderFields, found_at, block_place, block_len, splice, header_refusal, then_also, refused_as}
+use Rattle.h5w_model.specs.Datasets as model
+use Rattle.h5w_model.specs.declared.message.Msg.{Msg}
+use Rattle.h5w_model.specs.declared.message.Prefix.{Prefix}
+use Rattle.h5w_model.specs.declared.refusal.ReadError.{ReadError}
+use Rattle.h5w_model.specs.declared.refusal.ReadError.TheVariants.{Header}
+use Rattle.h5w_model.specs.declared.refusal.HeaderError.{HeaderError}
+use Rattle.h5w_model.specs.declared.refusal.HeaderError.TheVariants as header_errors
+use Rattle.h5w_found.specs.Ran.{Told, seen}
+use Rattle.h5w_found.specs.Errors.{find_errors, refused_header}
+use Rattle.h5w_found.specs.declared.error.FindError.TheVariants.{Refused}
+use Rattle.h5w_found.specs.Walks.{known_by, block_for, walk_for, from_chunk_0_for}
+use Rattle.h5w_found.specs.Headers.{found_of, founds, stack, ranges_of, range_of, Visit, Passed, block_before, entered}
+use Rattle.h5w_found.specs.declared.found.FoundMessage.{FoundMessage}
+use Rattle.h5w_found.specs.declared.walk.Extent.{Extent}
+
+-- ---- Lists
+
+pub stack_push : (fs : List FoundMessage) (f : FoundMessage) → stack (fs ++ f ∷ []) ≡ found_of f ∷ stack fs
+stack_push fs f = ap reverse (map-append found_of fs (f ∷ [])) ∙ reverse-append (map found_of fs) (found_of f ∷ [])
+
+pub founds_push : (fs : List FoundMessage) (f : FoundMessage) → founds (fs ++ f ∷ []) ≡ founds fs ++ found_of f ∷ []
+founds_push fs f = map-append found_of fs (f ∷ [])
+
+pub ranges_push : (es : List Extent) (e : Extent) → ranges_of (es ++ e ∷ []) ≡ ranges_of es ++ range_of e ∷ []
+ranges_push es e = map-append range_of es (e ∷ [])
+
+pub empty : {A : Type 0} (xs : List A) → length xs ≡ 0 → xs ≡ []
+empty [] e = refl
+empty (x ∷ xs) e = absurd (omega arith)
+
+-- ---- Up to a continuation
+
+pub pass_step : (visit : Visit) (visited : List Range) (done next left : List FoundMessage) (m : FoundMessage) → next ≡ left ++ m ∷ [] → (m.kind ≡ 16 → ⊥)
+    → splice visit visited (founds (done ++ m ∷ [])) (stack left) ≡ splice visit visited (founds done) (stack next)
+pass_step visit visited done next left m e other = rw (e, founds_push, stack_push, ne_eqb m.kind 16 other) refl
+
+pub pass_visit : (visit : Visit) (visited : List Range) (done next left : List FoundMessage) (m : FoundMessage) → next ≡ left ++ m ∷ [] → m.kind ≡ 16
+    → splice visit visited (founds done) (stack next) ≡ visit (founds done) (found_of m) (stack left)
+pass_visit visit visited done next left m e is = rw (e, stack_push, is) refl
+
+pub pass_end : (visit : Visit) (visited : List Range) (done next : List FoundMessage) → next ≡ [] → splice visit visited (founds done) (stack next) ≡ ret (Ok (record { messages = founds done; ranges = visited }))
+pass_end visit visited done next e = rw e refl
+
+-- ---- The walk
+
+-- at the end the messages are there
+pub walk_done : (img : List ℕ) (writes : Bool) (more h : ℕ) (t : Bool) (v : List Range) (done ms now rest : List model.FoundMessage) → Passed None done ms now rest
+    → eval img (walk_for writes more h t v done ms) ≡ Ok (record { messages = now; ranges = v })
+walk_done img writes zero h t v done ms now rest passed = ap (λ p. eval img p) (passed _ v)
+walk_done img writes (suc more) h t v done ms now rest passed = ap (λ p. eval img p) (passed _ v)
+
+-- no block more may come
+pub walk_full : (img : List ℕ) (writes : Bool) (h : ℕ) (t : Bool) (v : List Range) (done ms now rest : List model.FoundMessage) (m : FoundMessage) → Passed (Some m) done ms now rest
+    → eval img (walk_for writes 0 h t v done ms) ≡ Err (Header h header_errors.Continuations)
+walk_full img writes h t v done ms now rest m passed = ap (λ p. eval img p) (passed _ v)
+
+-- what is left after a block
+abbrev pub walk_on : Bool → ℕ → ℕ → Bool → List model.FoundMessage → List ℕ → List model.FoundMessage × List Range → Result HeaderFields ReadError
+walk_on writes more h t done img x = eval img (walk_for writes more h t x.1 done x.0)
+
+-- a block's messages given
+resumed : (img : List ℕ) (writes : Bool) (more h : ℕ) (t : Bool) (w : List Range) (done rest : List model.FoundMessage) (r : Result (List model.FoundMessage) ReadError)
+    → eval img (elim r as (λ _. Prog (Result HeaderFields ReadError)) [ Ok inside ↦ walk_for writes more h t w done (inside ++ rest) | Err e ↦ ret (Err e) ])
+    ≡ then_also (elim (elim r as (λ _. Result (List model.FoundMessage) ReadError) [ Ok inside ↦ Ok (inside ++ rest) | Err e ↦ Err e ]) as (λ _. Result (List model.FoundMessage × List Range) ReadError) [ Ok ms ↦ Ok (ms, w) | Err f ↦ Err f ]) (walk_on writes more h t done img)
+resumed img writes more h t w done rest (Ok inside) = refl
+resumed img writes more h t w done rest (Err e) = refl
+
+step_suc : (img : List ℕ) (writes : Bool) (more h : ℕ) (t : Bool) (v : List Range) (done ms now rest : List model.FoundMessage) (m : FoundMessage) → Passed (Some m) done ms now rest
+    → eval img (walk_for writes (suc more) h t v done ms) ≡ then_also (entered writes t (found_of m) rest v img) (walk_on writes more h t now img)
+step_suc img writes more h t v done ms now rest m passed =
+    let f = found_of m in
+    let p = block_place f in
+    let l = block_len f in
+    let small : Prog (Result HeaderFields ReadError) = ret (Err (header_refusal p (header_errors.Short 8 l))) in
+    let go : Prog (Result HeaderFields ReadError) = whole p l (λ b. elim (block_for writes t p l b) as (λ _. Prog (Result HeaderFields ReadError)) [
+      | Ok inside ↦ walk_for writes more h t (v ++ record { place = p; len = l } ∷ []) now (inside ++ rest)
+      | Err e ↦ ret (Err e)
+    ]) in
+    let next : Result (List model.FoundMessage × List Range) ReadError = elim (block_before writes t p l (range img p l) rest) as (λ _. Result (List model.FoundMessage × List Range) ReadError) [
+      | Ok ms ↦ Ok (ms, v ++ record { place = p; len = l } ∷ [])
+      | Err e ↦ Err e
+    ] in
+    ap (λ q. eval img q) (passed _ v)
+    ∙ elim (ltb l 8) as (λ c. eval img (cond c small go) ≡ then_also (cond c (Err (header_refusal p (header_errors.Short 8 l))) next) (walk_on writes more h t now img)) [
+      | true ↦ refl
+      | false ↦ resumed img writes more h t (v ++ record { place = p; len = l } ∷ []) now rest (block_for writes t p l (range img p l))
+    ]
+
+-- a block is looked at, and what it holds comes before the other messages
+pub walk_step : (img : List ℕ) (writes : Bool) (more less h : ℕ) (t : Bool) (v : List Range) (done ms now rest : List model.FoundMessage) (m : FoundMessage) → 0 < more → less ≡ more - 1 → Passed (Some m) done ms now rest
+    → eval img (walk_for writes more h t v done ms) ≡ then_also (entered writes t (found_of m) rest v img) (walk_on writes less h t now img)
+walk_step img writes more less h t v done ms now rest m some down passed =
+    let n : more ≡ suc less = omega arith in
+    rw n (step_suc img writes less h t v done ms now rest m passed)
+
+-- ---- A block
+
+-- a refusal that a header's decoder gave, or want of memory
+pub told_header : {B : Type 0} (given : Result B ReadError) (place : ℕ) (f : HeaderError) → (given ≡ Err (header_refusal place f)) ⊎ (f ≡ header_errors.OutOfMemory) → Told find_errors given (Err (refused_header place f))
+told_header given place header_errors.OutOfMemory h = record { exact = tt; quiet = λ e. absurd cc }
+told_header given place (header_errors.Short need got) (inl e) = record { exact = e; quiet = λ g. absurd cc }
+told_header given place (header_errors.Short need got) (inr e) = absurd cc
+told_header given place (header_errors.Sum sums) (inl e) = record { exact = e; quiet = λ g. absurd cc }
+told_header given place (header_errors.Sum sums) (inr e) = absurd cc
+told_header given place (header_errors.Overrun there) (inl e) = record { exact = e; quiet = λ g. absurd cc }
+told_header given place (header_errors.Overrun there) (inr e) = absurd cc
+told_header given place header_errors.Signature (inl e) = record { exact = e; quiet = λ g. absurd cc }
+told_header given place header_errors.Signature (inr e) = absurd cc
+told_header given place (header_errors.Version n) (inl e) = record { exact = e; quiet = λ g. absurd cc }
+told_header given place (header_errors.Version n) (inr e) = absurd cc
+told_header given place (header_errors.Unknown kind) (inl e) = record { exact = e; quiet = λ g. absurd cc }
+told_header given place (header_errors.Unknown kind) (inr e) = absurd cc
+told_header given place header_errors.Continuations (inl e) = record { exact = e; quiet = λ g. absurd cc }
+told_header given place header_errors.Continuations (inr e) = absurd cc
+
+pub told_refused : {B : Type 0} (given : Result B ReadError) (e : ReadError) → given ≡ Err e → Told find_errors given (Err (Refused e))
+told_refused given e h = record { exact = h; quiet = λ g. absurd cc }
+
+-- what a decoder answered is what is said, where it was not want of memory
+pub gives_ok : (r said : Result (List Msg) HeaderError) (ms : List Msg) → (r ≡ said) ⊎ (r ≡ Err header_errors.OutOfMemory) → r ≡ Ok ms → said ≡ Ok ms
+gives_ok r said ms (inl e) h = sym e ∙ h
+gives_ok r said ms (inr e) h = absurd cc
+
+pub gives_err : (r said : Result (List Msg) HeaderError) (f : HeaderError) → (r ≡ said) ⊎ (r ≡ Err header_errors.OutOfMemory) → r ≡ Err f → (said ≡ Err f) ⊎ (f ≡ header_errors.OutOfMemory)
+gives_err r said f (inl e) h = inl (sym e ∙ h)
+gives_err r said f (inr e) h = inr cc
+
+before : List model.FoundMessage → Result (List model.FoundMessage) ReadError → Result (List model.FoundMessage) ReadError
+before next r = elim r [ Ok inside ↦ Ok (inside ++ next) | Err e ↦ Err e ]
+
+pub before_cut : (writes t : Bool) (p len : ℕ) (b : List ℕ) (next : List model.FoundMessage) → length b < len → block_before writes t p len b next ≡ Err (header_refusal p (header_errors.Short len (length b)))
+unfolding before
+before_cut writes t p len b next short =
+    let said : block_for writes t p len b ≡ Err (header_refusal p (header_errors.Short len (length b))) = rw (lt-ltb (length b) len short) refl in
+    ap (before next) said
+
+pub before_ok : (writes t : Bool) (p len : ℕ) (b : List ℕ) (next : List model.FoundMessage) (inside : List Msg) → len ≤ length b → known_by writes (block_at t b) ≡ Ok inside
+    → block_before writes t p len b next ≡ Ok (found_at p false inside ++ next)
+unfolding before
+before_ok writes t p len b next inside long e =
+    let said : block_for writes t p len b ≡ Ok (found_at p false inside) = rw (le-ltb (length b) len long, e) refl in
+    ap (before next) said
+
+before_err : (writes t : Bool) (p len : ℕ) (b : List ℕ) (next : List model.FoundMessage) (f : HeaderError) → len ≤ length b → known_by writes (block_at t b) ≡ Err f
+    → block_before writes t p len b next ≡ Err (header_refusal p f)
+unfolding before
+before_err writes t p len b next f long e =
+    let said : block_for writes t p len b ≡ Err (header_refusal p f) = rw (le-ltb (length b) len long, e) refl in
+    ap (before next) said
+
+pub before_refused : (writes t : Bool) (p len : ℕ) (b : List ℕ) (next : List model.FoundMessage) (f : HeaderError) → len ≤ length b → (known_by writes (block_at t b) ≡ Err f) ⊎ (f ≡ header_errors.OutOfMemory)
+    → Told find_errors (block_before writes t p len b next) (Err (refused_header p f))
+before_refused writes t p len b next f long (inl e) = told_header (block_before writes t p len b next) p f (inl (before_err writes t p len b next f long e))
+before_refused writes t p len b next f long (inr e) = told_header (block_before writes t p len b next) p f (inr e)
+
+-- a block of too few bytes
+pub entered_small : (writes t : Bool) (m : model.FoundMessage) (next : List model.FoundMessage) (v : List Range) (img : List ℕ) → block_len m < 8
+    → entered writes t m next v img ≡ Err (header_refusal (block_place m) (header_errors.Short 8 (block_len m)))
+entered_small writes t m next v img small = rw (lt-ltb (block_len m) 8 small) refl
+
+entry : List Range → Result (List model.FoundMessage) ReadError → Result (List model.FoundMessage × List Range) ReadError
+entry w r = elim r [ Ok ms ↦ Ok (ms, w) | Err f ↦ Err f ]
+
+entered_is : (writes t : Bool) (m : model.FoundMessage) (next : List model.FoundMessage) (v : List Range) (img : List ℕ) → 8 ≤ block_len m
+    → entered writes t m next v img ≡ entry (v ++ record { place = block_place m; len = block_len m } ∷ []) (block_before writes t (block_place m) (block_len m) (range img (block_place m) (block_len m)) next)
+unfolding entry
+entered_is writes t m next v img long = rw (le-ltb (block_len m) 8 long) refl
+
+pub entered_ok : (writes t : Bool) (m : model.FoundMessage) (next ms : List model.FoundMessage) (v : List Range) (img b : List ℕ) (p l : ℕ) → p ≡ block_place m → l ≡ block_len m → 8 ≤ l
+    → b ≡ range img p l → block_before writes t p l b next ≡ Ok ms → entered writes t m next v img ≡ Ok (ms, v ++ record { place = p; len = l } ∷ [])
+unfolding entry
+entered_ok writes t m next ms v img b p l there size long is e =
+    let k : 8 ≤ block_len m = omega arith in
+    let q : block_before writes t (block_place m) (block_len m) (range img (block_place m) (block_len m)) next ≡ Ok ms = rw (← there, ← size, ← is) e in
+    entered_is writes t m next v img k ∙ ap (entry (v ++ record { place = block_place m; len = block_len m } ∷ [])) q ∙ rw (← there, ← size) refl
+
+pub entered_err : (writes t : Bool) (m : model.FoundMessage) (next : List model.FoundMessage) (v : List Range) (img b : List ℕ) (p l : ℕ) (f : ReadError) → p ≡ block_place m → l ≡ block_len m → 8 ≤ l
+    → b ≡ range img p l → block_before writes t p l b next ≡ Err f → entered writes t m next v img ≡ Err f
+unfolding entry
+entered_err writes t m next v img b p l f there size long is e =
+    let k : 8 ≤ block_len m = omega arith in
+    let q : block_before writes t (block_place m) (block_len m) (range img (block_place m) (block_len m)) next ≡ Err f = rw (← there, ← size, ← is) e in
+    entered_is writes t m next v img k ∙ ap (entry (v ++ record { place = block_place m; len = block_len m } ∷ [])) q
+
+-- ---- Chunk 0
+
+-- what chunk 0 lists, or the refusal
+abbrev pub chunk_found : Bool → ℕ → List ℕ → Result (List model.FoundMessage) ReadError
+chunk_found writes place b = seen (found_at place true) (refused_as (header_refusal place) (known_by writes (messages_at b)))
+
+chunk_given : (img : List ℕ) (writes : Bool) (place : ℕ) (p : Prefix) (r : Result (List Msg) HeaderError)
+    → eval img (elim r as (λ _. Prog (Result HeaderFields ReadError)) [
+      | Ok ms ↦ walk_for writes 32 place p.tracked (record { place = place; len = p.total } ∷ []) [] (found_at place true ms)
+      | Err e ↦ ret (Err (header_refusal place e))
+    ])
+    ≡ then_also (seen (found_at place true) (refused_as (header_refusal place) r)) (λ ms. eval img (walk_for writes 32 place p.tracked (record { place = place; len = p.total } ∷ []) [] ms))
+chunk_given img writes place p (Ok ms) = refl
+chunk_given img writes place p (Err e) = refl
+
+pub chunk_walks : (img : List ℕ) (writes : Bool) (place : ℕ) (p : Prefix) (b : List ℕ)
+    → eval img (from_chunk_0_for writes place p b)
+    ≡ then_also (chunk_found writes place b) (λ ms. eval img (walk_for writes 32 place p.tracked (record { place = place; len = p.total } ∷ []) [] ms))
+chunk_walks img writes place p b = chunk_given img writes place p (known_by writes (messages_at b))
+
+pub chunk_ok : (writes : Bool) (place : ℕ) (b : List ℕ) (ms : List Msg) → known_by writes (messages_at b) ≡ Ok ms → chunk_found writes place b ≡ Ok (found_at place true ms)
+chunk_ok writes place b ms e = ap (λ r. seen (found_at place true) (refused_as (header_refusal place) r)) e
+
+chunk_err : (writes : Bool) (place : ℕ) (b : List ℕ) (f : HeaderError) → known_by writes (messages_at b) ≡ Err f → chunk_found writes place b ≡ Err (header_refusal place f)
+chunk_err writes place b f e = ap (λ r. seen (found_at place true) (refused_as (header_refusal place) r)) e
+
+pub chunk_refused : (writes : Bool) (place : ℕ) (b : List ℕ) (f : HeaderError) → (known_by writes (messages_at b) ≡ Err f) ⊎ (f ≡ header_errors.OutOfMemory)
+    → Told find_errors (chunk_found writes place b) (Err (refused_header place f))
+chunk_refused writes place b f (inl e) = told_header (chunk_found writes place b) place f (inl (chunk_err writes place b f e))
+chunk_refused writes place b f (inr e) = told_header (chunk_found writes place b) place f (inr e)
+
+-- the walk after chunk 0, whose messages and range are held
+pub chunk_goes : (img : List ℕ) (writes : Bool) (place : ℕ) (p : Prefix) (b : List ℕ) (next : List model.FoundMessage) (visited : List Range)
+    → chunk_found writes place b ≡ Ok next → visited ≡ record { place = place; len = p.total } ∷ []
+    → eval img (from_chunk_0_for writes place p b) ≡ eval img (walk_for writes 32 place p.tracked visited [] next)
+chunk_goes img writes place p b next visited said are =
+    chunk_walks img writes place p b
+    ∙ ap (λ r. then_also r (λ ms. eval img (walk_for writes 32 place p.tracked (record { place = place; len = p.total } ∷ []) [] ms))) said
+    ∙ ap (λ v. eval img (walk_for writes 32 place p.tracked v [] next)) (sym are)

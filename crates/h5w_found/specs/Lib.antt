@@ -1,0 +1,12 @@
+pub use Rattle.h5w_model.specs.Numbers
+pub use Rattle.h5w_model.specs.Causes
+pub use Rattle.h5w_model.specs.Programs
+pub use Rattle.h5w_model.specs.Datasets
+pub use Rattle.h5w_image.specs.View
+pub use Rattle.h5w_looks.specs.Still
+pub mod Ran
+pub mod Errors
+pub mod Listed
+pub mod Walks
+pub mod Headers
+pub mod Described
