@@ -1,0 +1,79 @@
+-- What is looked at of a file that is opened for appending, up to the index of its chunks, and what it has.
+use Rattle.std.specs.Prelude.{ℕ, ◌/◌, ◌%◌, Bool, true, false, not, ◌||◌, ◌&&◌, ◌==◌, List, nat_lt, if◌then◌else◌, Option, Some, None, Result, Ok, Err}
+use Rattle.h5w_model.specs.Numbers.{range, undefined}
+use Rattle.h5w_model.specs.Programs.{Prog, ret, whole, eval, bind, and_then}
+use Rattle.h5w_model.specs.Superblock.{super_at}
+use Rattle.h5w_model.specs.Datasets.{Described, FoundMessage, HeaderFields, super_refusal, linked, described, first_of, layout_kind, then_also, refused_as}
+use Rattle.h5w_model.specs.Tables.{format_limits, limit_of, needed}
+use Rattle.h5w_model.specs.Findings.{chunk_bytes}
+use Rattle.h5w_model.specs.declared.root.Super.{Super}
+use Rattle.h5w_model.specs.declared.refusal.ReadError.{ReadError}
+use Rattle.h5w_model.specs.declared.refusal.ReadError.TheVariants as read_errors
+use Rattle.h5w_found.specs.Walks.{root_header_for, dataset_header_for}
+use Rattle.h5w_opening.specs.declared.error.OpenError.{OpenError}
+use Rattle.h5w_opening.specs.declared.error.OpenError.TheVariants.{Read, Flags, Cut, Layout, ChunkBytes, NoColumns}
+
+-- The superblock; the dataset header's place, and what it says; whether the first layout message stands in its chunk 0.
+pub record Opened : Type 0 where
+  pub root : Super
+  pub place : ℕ
+  pub dataset : Described
+  pub in_chunk_0 : Bool
+
+-- open for writing, or for SWMR writing
+abbrev pub is_open : ℕ → Bool
+is_open flags = not (flags % 2 == 0) || not (flags / 4 % 2 == 0)
+
+-- the superblock of a file of this size that nobody writes
+abbrev pub closed_super : ℕ → Super → Result Super OpenError
+closed_super size s = if is_open s.flags then Err (Flags s.flags) else if nat_lt size s.end then Err (Cut s.end size) else Ok s
+
+-- the first layout message stands in chunk 0
+abbrev pub in_chunk_0 : List FoundMessage → Bool
+in_chunk_0 ms = elim (first_of layout_kind ms) [ Some m ↦ m.in_chunk_0 | None ↦ false ]
+
+-- what a dataset's messages say, where its rows need no more chunks than are read
+abbrev pub known : List FoundMessage → Result (Described × Bool) OpenError
+known ms =
+    then_also (refused_as (λ e. Read (read_errors.Unsupported e)) (described ms)) (λ d.
+    if nat_lt (limit_of format_limits d.layout.index) (needed d) then Err (Read (read_errors.TooManyChunks (needed d) (limit_of format_limits d.layout.index)))
+    else Ok (d, in_chunk_0 ms))
+
+-- a reader's program, whose refusals are those of an open
+abbrev pub reading : {A : Type 0} → Prog (Result A ReadError) → Prog (Result A OpenError)
+reading p = bind p (λ r. ret (refused_as Read r))
+
+-- all that is looked at before the index
+abbrev pub looked_for : ℕ → List ℕ → Prog (Result Opened OpenError)
+looked_for size name =
+    and_then (reading (whole 0 48 (λ b. ret (refused_as super_refusal (super_at b))))) (λ s.
+    and_then (ret (closed_super size s)) (λ s.
+    and_then (reading (root_header_for true s.root)) (λ h.
+    and_then (ret (refused_as Read (linked name h.messages))) (λ place.
+    and_then (reading (dataset_header_for true place)) (λ h.
+    ret (then_also (known h.messages) (λ d. Ok (record { root = s; place = place; dataset = d.0; in_chunk_0 = d.1 }))))))))
+
+-- ---- Its parts on an image
+
+abbrev pub super_found : ℕ → List ℕ → Result Super OpenError
+super_found size img = then_also (refused_as Read (refused_as super_refusal (super_at (range img 0 48)))) (closed_super size)
+
+abbrev pub place_found : List ℕ → ℕ → List ℕ → Result ℕ OpenError
+place_found name root img = then_also (refused_as Read (eval img (root_header_for true root))) (λ h. refused_as Read (linked name h.messages))
+
+abbrev pub dataset_found : ℕ → List ℕ → Result (Described × Bool) OpenError
+dataset_found place img = then_also (refused_as Read (eval img (dataset_header_for true place))) (λ h. known h.messages)
+
+-- ---- What is appended to
+
+-- the most bytes of a chunk that is written
+abbrev pub most_chunk_bytes : ℕ
+most_chunk_bytes = 16777216
+
+-- why no rows are appended to it: tried once all was read
+abbrev pub refused_dataset : Opened → Option OpenError
+refused_dataset o =
+    if (o.dataset.layout.address == undefined) && not o.in_chunk_0 then Some Layout
+    else if nat_lt most_chunk_bytes (chunk_bytes o.dataset) then Some (ChunkBytes (chunk_bytes o.dataset) most_chunk_bytes)
+    else if o.dataset.shape.cols == 0 then Some NoColumns
+    else None

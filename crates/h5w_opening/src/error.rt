@@ -1,0 +1,46 @@
+use h5w_found::FindError;
+use h5w_model::ReadError;
+use thiserror::Error;
+
+/// Why a file is not opened for appending. Flags and Cut are tried right after the superblock; Layout, ChunkBytes and NoColumns in this
+/// order after all of Read.
+#[derive(Clone, Copy, Debug, PartialEq, Eq, Error)]
+pub enum OpenError {
+    /// It is not read. Two looks are never compared here, and no rows were seen before.
+    #[error("{0}")]
+    Read(ReadError),
+    /// It is open for writing, or was not closed: flag bit 0 or 2 is set.
+    #[error("flags {flags}")]
+    Flags { flags: u8 },
+    /// The end-of-file address is past the file's size.
+    #[error("end {end} of {size} bytes")]
+    Cut { end: u64, size: u64 },
+    /// There is no index yet, and the layout message, which is to have its address, stands outside of the dataset header's chunk 0.
+    #[error("layout message outside of chunk 0")]
+    Layout,
+    /// A chunk has more bytes than are written here.
+    #[error("{bytes} bytes in a chunk, at most {limit}")]
+    ChunkBytes { bytes: u64, limit: u64 },
+    #[error("no columns")]
+    NoColumns,
+    /// The image's count of faults rose in this call.
+    #[error("image failed")]
+    Failed,
+    #[error("out of memory")]
+    OutOfMemory,
+}
+
+impl From<FindError> for OpenError {
+    ghost use Rattle.std.specs.Prelude.{◌≡◌};
+    ghost use Rattle.h5w_opening.specs.Errors.{open_error};
+
+    ghost from_gives = { λ cause e. e ≡ open_error cause };
+
+    fn from(e: FindError) -> OpenError {
+        match e {
+            FindError::Refused(refusal) => OpenError::Read(refusal),
+            FindError::Failed => OpenError::Failed,
+            FindError::OutOfMemory => OpenError::OutOfMemory,
+        }
+    }
+}

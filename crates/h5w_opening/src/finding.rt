@@ -1,0 +1,157 @@
+//! A file that is opened for appending, up to the index of its chunks.
+ghost use Rattle.std.specs.Prelude.{◌≡◌, MatchOption, Ok, Err};
+ghost use Rattle.h5w_model.specs.Programs.{eval};
+ghost use Rattle.h5w_found.specs.Ran.{Ran, Told, seen};
+ghost use Rattle.h5w_found.specs.Headers.{founds};
+ghost use Rattle.h5w_found.specs.Described.{described_of};
+ghost use Rattle.h5w_opening.specs.Errors.{open_errors};
+ghost use Rattle.h5w_opening.specs.Openings.{closed_super, dataset_found, in_chunk_0, is_open, known, looked_for, place_found, refused_dataset, super_found};
+ghost use Rattle.h5w_opening.specs.Views.{opened_of};
+
+use crate::error::OpenError;
+use h5w_bytes::UNDEFINED;
+use h5w_found::{
+    Dataset, FoundMessage, dataset_header, describe, first, place_of, root_header, superblock,
+};
+use h5w_image::PieceRead;
+use h5w_model::{ReadError, Super};
+use std::alloc::Global;
+
+/// The type of a layout message.
+const LAYOUT: u8 = 0x08;
+
+/// The most bytes of a chunk that is written.
+const CHUNK_BYTES: u64 = 16_777_216;
+
+/// What a file has that is opened for appending, up to the index of its chunks.
+#[derive(Clone, Copy)]
+pub struct Opening {
+    pub root: Super,
+    /// The place of the dataset header.
+    pub place: u64,
+    pub dataset: Dataset,
+    /// Whether the layout message stands in the dataset header's chunk 0, which is written in one piece.
+    pub in_chunk_0: bool,
+}
+
+/// Whether the file is open for writing, or for SWMR writing.
+fn is_open(flags: u8) -> bool
+    ensures { result ≡ is_open flags }
+{
+    flags % 2 != 0 || flags / 4 % 2 != 0
+}
+
+/// The superblock, where nobody writes the file and it has all its bytes.
+fn closed(s: Super, size: u64) -> Result<Super, OpenError>
+    ensures { Told open_errors (closed_super size s) result }
+{
+    if is_open(s.flags) {
+        return Err(OpenError::Flags { flags: s.flags });
+    }
+    if size < s.end {
+        return Err(OpenError::Cut { end: s.end, size });
+    }
+    Ok(s)
+}
+
+/// The superblock of a file of `size` bytes.
+fn start<I: PieceRead>(alloc: Global, image: &mut I, size: u64) -> Result<Super, OpenError>
+    ensures { Ran open_errors (I.view image.old) (I.view image.new) (super_found size) result }
+{
+    let s = superblock(alloc, image)?;
+    closed(s, size)
+}
+
+/// The place of the dataset header, by the link of this name in the root header at `root`.
+fn header_place<I: PieceRead>(
+    alloc: Global,
+    image: &mut I,
+    root: u64,
+    name: &[u8],
+) -> Result<u64, OpenError>
+    ensures { Ran open_errors (I.view image.old) (I.view image.new) (place_found name.now root) result }
+{
+    let header = root_header(alloc, image, true, root)?;
+    let place = place_of(alloc, header.messages, name)?;
+    Ok(place)
+}
+
+/// Whether the first layout message stands in chunk 0.
+#[tactic(auto, using(h5w_found::proofs::DescribedLemmas::first_found))]
+fn in_chunk_0(found: &[FoundMessage]) -> bool
+    ensures { result ≡ in_chunk_0 (founds found.now) }
+{
+    match first(found, LAYOUT) {
+        Some(m) => m.in_chunk_0,
+        None => false,
+    }
+}
+
+/// What these messages say of a dataset, and whether its layout stands in chunk 0.
+fn known(found: &[FoundMessage]) -> Result<(Dataset, bool), OpenError>
+    ensures { Told open_errors (known (founds found.now)) (seen (λ x. (described_of x.0, x.1)) result) }
+{
+    let d = match describe(found) {
+        Ok(d) => d,
+        Err(error) => return Err(OpenError::Read(ReadError::Unsupported(error))),
+    };
+    let (needed, limit) = (d.needed(), d.limit());
+    if needed > u128::from(limit) {
+        return Err(OpenError::Read(ReadError::TooManyChunks { needed, limit }));
+    }
+    Ok((d, in_chunk_0(found)))
+}
+
+/// The dataset whose header stands at `place`.
+fn dataset_at<I: PieceRead>(
+    alloc: Global,
+    image: &mut I,
+    place: u64,
+) -> Result<(Dataset, bool), OpenError>
+    ensures { Ran open_errors (I.view image.old) (I.view image.new) (dataset_found place) (seen (λ x. (described_of x.0, x.1)) result) }
+{
+    let header = dataset_header(alloc, image, true, place)?;
+    known(&header.messages)
+}
+
+/// Finds the dataset of this name in a file of `size` bytes that is to be written.
+pub fn find<I: PieceRead>(
+    alloc: Global,
+    image: &mut I,
+    size: u64,
+    name: &[u8],
+) -> Result<Opening, OpenError>
+    // Where the image tells its bytes and nobody else writes it: Ok exactly where they have this, and else the first refusal, unless the
+    // image failed, which its count of faults shows, or memory ran out.
+    ensures { Ran open_errors (I.view image.old) (I.view image.new) (λ img. eval img (looked_for size name.now)) (seen opened_of result) }
+{
+    let root = start(alloc, image, size)?;
+    let place = header_place(alloc, image, root.root, name)?;
+    let found = dataset_at(alloc, image, place)?;
+    Ok(Opening {
+        root,
+        place,
+        dataset: found.0,
+        in_chunk_0: found.1,
+    })
+}
+
+/// Why no rows are appended to what was found. Tried once the index was read.
+pub fn check(found: &Opening) -> Result<(), OpenError>
+    ensures { MatchOption (refused_dataset (opened_of found.now)) (result ≡ Ok tt) (λ e. result ≡ Err e) }
+{
+    if found.dataset.layout.address == UNDEFINED && !found.in_chunk_0 {
+        return Err(OpenError::Layout);
+    }
+    let bytes = found.dataset.chunk_bytes();
+    if bytes > CHUNK_BYTES {
+        return Err(OpenError::ChunkBytes {
+            bytes,
+            limit: CHUNK_BYTES,
+        });
+    }
+    if found.dataset.shape.cols == 0 {
+        return Err(OpenError::NoColumns);
+    }
+    Ok(())
+}
