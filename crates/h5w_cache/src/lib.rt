@@ -11,7 +11,8 @@ mod store;
 mod tests;
 mod write;
 
-pub use block::{Block, Link};
-pub use moves::Move;
+pub use block::{Block, Link, copied};
+pub use moves::{Move, retire_all, take_place};
 pub use plan::{Begun, Plan, PlanError};
 pub use store::Cache;
+pub use write::put_pieces;

@@ -46,7 +46,7 @@ pub fn in_turn(blocks: &[Option<Block>], changed: &Vec<u32>) -> Result<Vec<u32>,
 }
 
 /// A new place of `len` bytes.
-fn take(len: u64, places: &mut Places) -> Result<u64, Full>
+pub fn take_place(len: u64, places: &mut Places) -> Result<u64, Full>
     ensures ok { IfOk result (λ new. Took places.old places.new (extent new len)) }
     ensures refused { IfErr result (λ e. IsRefused places.old len e) }
     ensures ends { IfOk result (λ new. new + len < 2 ^ 64) }
@@ -65,7 +65,11 @@ fn place_for(stays: bool, old: u64, len: u64, places: &mut Places) -> Result<u64
     ensures ends { IfOk result (λ new. stays ≡ false → new + len < 2 ^ 64) }
     ensures kept { OnErr result (places.new ≡ places.old) }
 {
-    if stays { Ok(old) } else { take(len, places) }
+    if stays {
+        Ok(old)
+    } else {
+        take_place(len, places)
+    }
 }
 
 /// The move of the block under a number.

@@ -10,8 +10,8 @@ use crate::moves::Move;
 use h5w_model::{OutOfMemory, PIECE, Piece, Write};
 use std::alloc::Global;
 
-/// Adds the writes that put some bytes at a place.
-fn put_pieces(place: u64, bytes: &[u8], out: &mut Vec<Write>)
+/// Adds the writes that put some bytes at a place: pieces of 512 bytes and a rest.
+pub fn put_pieces(place: u64, bytes: &[u8], out: &mut Vec<Write>)
     requires ends { place + length bytes.now < 2 ^ 64 }
     requires room { vec_len out.old + (length bytes.now + 511) / 512 ≤ vec_capacity out.old }
     ensures items { out.new.items ≡ out.old.items ++ pieces place bytes.now }
