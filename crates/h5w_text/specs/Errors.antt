@@ -3,12 +3,13 @@ use Rattle.std.specs.Prelude.{ℕ, List, [], ◌∷◌, ◌++◌, codes}
 use Rattle.h5w_text.specs.Replies.{spaced, spaced_value}
 use Rattle.h5w_text.specs.Refusals.{refusal_words}
 use Rattle.h5w_text.specs.declared.error.ErrorLine.{ErrorLine}
-use Rattle.h5w_text.specs.declared.error.ErrorLine.TheVariants.{Usage, Missing, Read, Finding, Overlap, Line, Range, Input, Disk, Source, Memory}
+use Rattle.h5w_text.specs.declared.error.ErrorLine.TheVariants.{Usage, Missing, Exists, Read, Finding, Overlap, Line, Range, Input, Disk, Source, Memory}
 
 -- the text of an error, without the byte 0a that ends it
 abbrev pub error_words : ErrorLine → List ℕ
 error_words Usage = codes "error usage"
 error_words Missing = codes "error missing"
+error_words Exists = codes "error exists"
 error_words (Read e) = refusal_words e
 error_words (Finding kind at) = codes "finding" ++ spaced kind ++ spaced at
 error_words (Overlap at len other other_len) = codes "finding 19" ++ spaced at ++ spaced len ++ spaced other ++ spaced other_len

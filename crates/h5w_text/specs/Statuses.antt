@@ -5,12 +5,13 @@ use Rattle.h5w_model.specs.declared.refusal.ReadError.TheVariants as read_errors
 use Rattle.h5w_text.specs.declared.error.ErrorLine.{ErrorLine}
 use Rattle.h5w_text.specs.declared.error.ErrorLine.TheVariants as errors
 use Rattle.h5w_text.specs.declared.status.Status.{Status}
-use Rattle.h5w_text.specs.declared.status.Status.TheVariants.{Done, Usage, Missing, Format, Damaged, Flags, Again, Input, Limit, Disk, Source, Sink, Memory}
+use Rattle.h5w_text.specs.declared.status.Status.TheVariants.{Done, Usage, Missing, Exists, Format, Damaged, Flags, Again, Input, Limit, Disk, Source, Sink, Memory}
 
 abbrev pub number_of : Status → ℕ
 number_of Done = 0
 number_of Usage = 2
 number_of Missing = 3
+number_of Exists = 3
 number_of Format = 4
 number_of Damaged = 5
 number_of Flags = 6
@@ -39,6 +40,7 @@ refusal_status read_errors.OutOfMemory = Memory
 abbrev pub status_of : ErrorLine → Status
 status_of errors.Usage = Usage
 status_of errors.Missing = Missing
+status_of errors.Exists = Exists
 status_of (errors.Read e) = refusal_status e
 status_of (errors.Finding kind at) = Damaged
 status_of (errors.Overlap at len other other_len) = Damaged

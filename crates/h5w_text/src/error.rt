@@ -14,6 +14,8 @@ pub enum ErrorLine {
     Usage,
     /// No file has the name.
     Missing,
+    /// Something has the name.
+    Exists,
     /// A reader's call is refused.
     Read(ReadError),
     /// The first finding of a check, by its kind, and its place.
@@ -71,6 +73,7 @@ impl ErrorLine {
         match self {
             ErrorLine::Usage => Status::Usage,
             ErrorLine::Missing => Status::Missing,
+            ErrorLine::Exists => Status::Exists,
             ErrorLine::Read(error) => refusal_status(*error),
             ErrorLine::Finding { .. } | ErrorLine::Overlap { .. } => Status::Damaged,
             ErrorLine::Line(_) | ErrorLine::Range { .. } | ErrorLine::Input { .. } => Status::Input,
@@ -87,6 +90,7 @@ fn words(out: &mut Vec<u8>, error: &ErrorLine) -> Result<(), OutOfMemory>
     match error {
         ErrorLine::Usage => text(out, b"error usage"),
         ErrorLine::Missing => text(out, b"error missing"),
+        ErrorLine::Exists => text(out, b"error exists"),
         ErrorLine::Read(error) => refusal(out, *error),
         ErrorLine::Finding { kind, at } => {
             with_numbers(out, b"finding", &[u64::from(*kind), *at])

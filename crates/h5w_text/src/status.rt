@@ -10,6 +10,8 @@ pub enum Status {
     Usage,
     /// No file has the name.
     Missing,
+    /// Something has the name of the file that was to be made.
+    Exists,
     /// The file is no HDF5 file, or outside the part of the format that is read.
     Format,
     /// The file is damaged.
@@ -40,7 +42,7 @@ impl Status {
         match self {
             Status::Done => 0,
             Status::Usage => 2,
-            Status::Missing => 3,
+            Status::Missing | Status::Exists => 3,
             Status::Format => 4,
             Status::Damaged => 5,
             Status::Flags => 6,
