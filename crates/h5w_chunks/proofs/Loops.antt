@@ -69,40 +69,6 @@ pieces_next before done all at_place rest part more is count some added goes =
     let next = pieces_more before done all at_place (at_place + length part) rest some first (ap (λ b. at_place + length b) (sym parts.0)) goes in
     subst (λ (b : List ℕ). done ++ pieces (at_place + length part) b ≡ all) parts.1 next
 
--- ---- Cells of values
-
--- the bytes of a cell made of these
-cell_back : (b : List ℕ) → take (length b) (b ++ replicate (8 - length b) 0) ≡ b
-cell_back b = take-append_seam b (replicate (8 - length b) 0)
-
-some_same : {A : Type 0} (a b : A) → Some a ≡ Some b → a ≡ b
-some_same a b e = cc
-
--- the bytes of the cell that was made of a value
-pub cell_is : (d : Described) (v : ℤ) (cell : Cell) (bytes : List ℕ) → Some cell ≡ option_map cell_of (cell_bytes_of v d.int_type) → cell_bytes_of v d.int_type ≡ Some bytes → take cell.size cell.bytes ≡ bytes
-cell_is d v cell bytes made is =
-    let same : cell ≡ cell_of bytes = some_same cell (cell_of bytes) (made ∙ ap (λ (o : Option (List ℕ)). option_map cell_of o) is) in
-    ap (λ (x : Cell). take x.size x.bytes) same ∙ cell_back bytes
-
-cells_of-drop : (d : Described) (values : List ℤ) (i : ℕ) → i < length values → cells_of d (drop i values) ≡ unwrap_or (cell_bytes_of (get_or values i (pos 0)) d.int_type) [] ++ cells_of d (drop (i + 1) values)
-unfolding cells_of
-cells_of-drop d [] i inside = absurd (omega arith)
-cells_of-drop d (v ∷ vs) zero inside = refl
-cells_of-drop d (v ∷ vs) (suc i) inside =
-    cells_of-drop d vs i (omega arith) ∙ ap (λ (n : ℕ). unwrap_or (cell_bytes_of (get_or vs i (pos 0)) d.int_type) [] ++ cells_of d (drop n (v ∷ vs))) (let e : suc (i + 1) ≡ suc i + 1 = omega arith in e)
-
-pub cells_more : (d : Described) (before done all bytes : List ℕ) (values : List ℤ) (i : ℕ) → i < length values → cell_bytes_of (get_or values i (pos 0)) d.int_type ≡ Some bytes
-    → done ≡ before ++ bytes → before ++ cells_of d (drop i values) ≡ all → done ++ cells_of d (drop (i + 1) values) ≡ all
-cells_more d before done all bytes values i inside is added goes =
-    let rest = cells_of d (drop (i + 1) values) in
-    let value : unwrap_or (cell_bytes_of (get_or values i (pos 0)) d.int_type) [] ≡ bytes = ap (λ (o : Option (List ℕ)). unwrap_or o []) is in
-    ap (λ (x : List ℕ). x ++ rest) added ∙ append_assoc before bytes rest
-    ∙ ap (λ (b : List ℕ). before ++ (b ++ rest)) (sym value) ∙ ap (λ (r : List ℕ). before ++ r) (sym (cells_of-drop d values i inside)) ∙ goes
-
-pub cells_all : (d : Described) (done all : List ℕ) (values : List ℤ) (i : ℕ) → length values ≤ i → done ++ cells_of d (drop i values) ≡ all → done ≡ all
-unfolding cells_of
-cells_all d done all values i past goes = sym (append-nil done) ∙ ap (λ (vs : List ℤ). done ++ cells_of d vs) (sym (drop_all i values past)) ∙ goes
-
 -- ---- Copies
 
 pub copies_more : (before done all bytes : List ℕ) (n m : ℕ) → n ≡ suc m → done ≡ before ++ bytes → before ++ copies n bytes ≡ all → done ++ copies m bytes ≡ all

@@ -1,5 +1,5 @@
 -- A dataset's grid of chunks, and the cells that chunks are made of.
-use Rattle.std.specs.Prelude.{ℕ, zero, suc, ◌+◌, ◌-◌, ◌*◌, ◌/◌, ◌≡◌, List, [], ◌++◌, length, replicate, flat_map, unwrap_or, IfSome, Some, ℤ}
+use Rattle.std.specs.Prelude.{ℕ, zero, suc, ◌+◌, ◌-◌, ◌*◌, ◌/◌, ◌≡◌, List, [], ◌++◌, length, replicate, unwrap_or, IfSome, Some, ℤ}
 use Rattle.h5w_model.specs.Numbers.{range}
 use Rattle.h5w_model.specs.Datasets.{Described}
 use Rattle.h5w_model.specs.Messages.{IsIntType, IsLayout, IsShape}
@@ -7,6 +7,7 @@ use Rattle.h5w_model.specs.Integers.{cell_bytes, cell_bytes_of}
 use Rattle.h5w_model.specs.declared.cell.Cell.{Cell}
 use Rattle.h5w_model.specs.declared.cell.Key.{Key}
 use Rattle.h5w_types.specs.Fields.{int_type_of, shape_of}
+use Rattle.h5w_types.specs.Runs.{run_bytes}
 use Rattle.h5w_layout.specs.Layouts.{fill_of, layout_of}
 use Rattle.h5w_chunks.specs.declared.grid.Grid.{Grid}
 
@@ -51,8 +52,8 @@ abbrev pub FitsType : Described → ℤ → Type 0
 FitsType d v = (bytes : List ℕ) × (cell_bytes_of v d.int_type ≡ Some bytes)
 
 -- the cells of some values, one behind the other
-unfoldable pub cells_of : Described → List ℤ → List ℕ
-cells_of d values = flat_map (λ (v : ℤ). unwrap_or (cell_bytes_of v d.int_type) []) values
+abbrev pub cells_of : Described → List ℤ → List ℕ
+cells_of d values = run_bytes d.int_type values
 
 -- the cell of a row and a column, among the cells of rows from `first` on
 abbrev pub cell_in : Described → List ℕ → ℕ → ℕ → ℕ → List ℕ

@@ -4,6 +4,7 @@ pub use Rattle.h5w_model.specs.Logs
 pub use Rattle.h5w_model.specs.Tables
 pub use Rattle.h5w_types.specs.Integers
 pub use Rattle.h5w_types.specs.Fields
+pub use Rattle.h5w_types.specs.Runs
 pub use Rattle.h5w_layout.specs.Layouts
 pub mod Grids
 pub mod Shares

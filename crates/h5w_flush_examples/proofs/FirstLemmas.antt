@@ -17,6 +17,7 @@ use Rattle.h5w_model.specs.Findings.{Used}
 use Rattle.h5w_model.specs.declared.piece.Write.{Write}
 use Rattle.h5w_space.specs.Space.{Apart}
 use Rattle.h5w_space.specs.declared.Extent.{Extent}
+use Rattle.h5w_chunks.specs.Runs.{run_bytes}
 use Rattle.h5w_chunks.specs.Grids.{FitsType, cells_of, copies}
 use Rattle.h5w_chunks.specs.Shares.{new_writes, padded_rows, row_blocks, writes_from, writes_of}
 use Rattle.h5w_chunks.specs.Rows.{RowsWritten}
@@ -90,11 +91,11 @@ cut = record { rows = lit≤ tt; cols = lit≤ tt; some = lit≤ tt; few = lit�
 
 -- the writes of three rows
 are_writes : new_writes (described_by 2 0 188) (cells_of (described_by 2 0 188) values_of_three) 0 3 two_places ≡ first_parts.writes
-unfolding writes_from writes_of pieces first_pieces padded_rows row_blocks copies cells_of cell_bytes_of le num
+unfolding writes_from writes_of pieces first_pieces padded_rows row_blocks copies run_bytes cell_bytes_of le num
 are_writes = refl
 
 cells_length : length (cells_of (described_by 2 0 188) values_of_three) ≡ 12
-unfolding cells_of cell_bytes_of le
+unfolding run_bytes cell_bytes_of le
 cells_length = refl
 
 written : RowsWritten (described_by 2 0 188) (cells_of (described_by 2 0 188) values_of_three) 0 3 two_places first_parts.writes

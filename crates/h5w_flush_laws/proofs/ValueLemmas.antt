@@ -11,6 +11,7 @@ use Rattle.h5w_model.specs.Datasets.{Described}
 use Rattle.h5w_model.specs.Tables.{value_in, cell_offset}
 use Rattle.h5w_model.proofs.IntegerLemmas.{int_sizes, length-cell_bytes_of}
 use Rattle.h5w_model.proofs.NumberLemmas.{range-append-left, range-append-right}
+use Rattle.h5w_chunks.specs.Runs.{run_bytes}
 use Rattle.h5w_chunks.specs.Grids.{FitsType, cells_of, fill_cell}
 use Rattle.h5w_steps.proofs.SessionLaws.{lt-leb-false}
 use Rattle.h5w_flush_laws.proofs.CellLemmas.{cell_by}
@@ -109,7 +110,7 @@ first_range b rest size long =
         all (x ∷ xs) = ap (λ ys. x ∷ ys) (all xs)
 
 pub cell_of : (d : Described) (values : List ℤ) (i : ℕ) (v : ℤ) → ((k : ℕ) (w : ℤ) → slice_get values k ≡ Some w → FitsType d w) → slice_get values i ≡ Some v → CellOf d values i v
-unfolding cells_of
+unfolding run_bytes
 cell_of d [] i v fit found = absurd cc
 cell_of d (x ∷ xs) zero v fit found =
     let fits = fit zero v found in

@@ -12,6 +12,7 @@ use Rattle.h5w_model.specs.Datasets.{Described}
 use Rattle.h5w_model.specs.Prefixed.{EachReads, PrefixedEach, Still}
 use Rattle.h5w_model.specs.declared.piece.Write.{Write}
 use Rattle.h5w_laws.proofs.LogLemmas.{length_hist}
+use Rattle.h5w_types.specs.Runs.{run_bytes}
 use Rattle.h5w_chunks.specs.Grids.{cells_of}
 use Rattle.h5w_space.specs.Space.{Space}
 use Rattle.h5w_space.specs.declared.Extent.{Extent}
@@ -104,7 +105,7 @@ abbrev creating : NewFile → List Write → Bool → Bool → Session
 creating f ws stop keep = record (created f) { pending = ws; stopped = stop; keeps = keep }
 
 no_cells : (d : Described) → [] ≡ cells_of d []
-unfolding cells_of
+unfolding run_bytes
 no_cells d = refl
 
 -- the array of a new file, with its places

@@ -18,6 +18,7 @@ use Rattle.h5w_visits.specs.Ranges.{block_at}
 use Rattle.h5w_visits.specs.Needed.{AreFew}
 use Rattle.h5w_cache.specs.Stores.{Store, place_of}
 use Rattle.h5w_cache.specs.StoreLaws.{Standing, range_of}
+use Rattle.h5w_types.specs.Runs.{run_bytes}
 use Rattle.h5w_chunks.specs.Grids.{FitsType, cells_of, fill_cell}
 use Rattle.h5w_chunks.specs.Shares.{touched}
 use Rattle.h5w_chunks.specs.Rows.{RowsWritten}
@@ -48,7 +49,7 @@ use Rattle.h5w_session.specs.Indexes.{IsIndexed, address_in}
 use Rattle.h5w_session.specs.Flushes.{IsFlushed, flushed_of, header_piece}
 use Rattle.h5w_session.specs.Past.{Past}
 use Rattle.h5w_session.specs.Stands.{Running}
-use Rattle.h5w_session.proofs.CellLemmas.{first_has_cell}
+use Rattle.h5w_types.proofs.RunLemmas.{first_has_cell}
 use Rattle.h5w_session.proofs.IndexLemmas.{clean_marks}
 
 -- ---- Values
@@ -78,7 +79,7 @@ pub same_ranges : (v w : Store) → ((n : ℕ) → place_of w n ≡ place_of v n
 same_ranges v w stay = λ i. block_at (stay 846 i) 72 ∷ block_at (stay 845 i) 298 ∷ []
 
 no_cells : (d : Described) → [] ≡ cells_of d []
-unfolding cells_of
+unfolding run_bytes
 no_cells d = refl
 
 module _ (old new : Session) (log : Log) (x : IsFlushed old new) (r : Running old [] log) where

@@ -1,4 +1,3 @@
-pub mod CellLemmas
 pub mod StateLemmas
 pub mod CreationLemmas
 pub mod HeaderReads

@@ -31,7 +31,7 @@ use Rattle.h5w_session.specs.Past.{IsCounted, Past}
 use Rattle.h5w_session.specs.Refusals.{IsFullFor}
 use Rattle.h5w_session.specs.Sessions.{Session, AllEndBy, cutting_of, rows_of, with_rows}
 use Rattle.h5w_session.specs.Stands.{Running, Stands}
-use Rattle.h5w_session.proofs.CellLemmas.{length-cells_of}
+use Rattle.h5w_types.proofs.RunLemmas.{length-run_bytes}
 use Rattle.h5w_session.proofs.CountLemmas.{Listed, listed_times, taken_listed, taken_times}
 use Rattle.h5w_session.proofs.FlushLemmas.{after_flush}
 use Rattle.h5w_session.proofs.FlushStands.{flush_stands, idle_running, ways_marks}
@@ -176,7 +176,7 @@ module _ (old new : Session) (log : Log) (x : IsFlushed old new) (running : old.
   rows_few =
       let d = old.dataset in
       let cells : length old.waiting ≡ old.waits * d.shape.cols * d.int_type.size =
-      ap length r.waiting ∙ length-cells_of d 0 r.more r.fit ∙ ap (λ (n : ℕ). n * d.int_type.size) r.count in
+      ap length r.waiting ∙ length-run_bytes d.int_type 0 r.more r.fit ∙ ap (λ (n : ℕ). n * d.int_type.size) r.count in
       let waits : rows_of old - d.shape.rows ≡ old.waits = omega arith in
       let count : length old.waiting ≡ (rows_of old - d.shape.rows) * d.shape.cols * d.int_type.size = cells ∙ ap (λ (n : ℕ). n * d.shape.cols * d.int_type.size) (sym waits) in
       let few = new_writes_few d old.waiting d.shape.rows (rows_of old) x.chunks counts.cut count x.named.all in

@@ -16,6 +16,7 @@ use Rattle.h5w_model.specs.declared.cell.Key.{Key}
 use Rattle.h5w_model.specs.declared.piece.Write.{Write}
 use Rattle.h5w_model.specs.declared.root.Super.{Super}
 use Rattle.h5w_model.proofs.SuperLemmas.{length-super_bytes}
+use Rattle.h5w_types.specs.Runs.{run_bytes}
 use Rattle.h5w_chunks.specs.Grids.{cells_of}
 use Rattle.h5w_header_laws.specs.Files.{chunk_0}
 use Rattle.h5w_space.specs.Space.{Space}
@@ -37,7 +38,7 @@ use Rattle.h5w_flush_laws.proofs.SessionLaws.{session_laws}
 use Rattle.h5w_session.specs.Sessions.{Session, AreRows, Freed, cleared, closed_of, closed_root, stopped_of, with_values}
 use Rattle.h5w_session.specs.Indexes.{IsIndexed}
 use Rattle.h5w_session.specs.Stands.{Running, Stands}
-use Rattle.h5w_session.proofs.CellLemmas.{by_cell, first_has_cell, first_outside-cons}
+use Rattle.h5w_types.proofs.RunLemmas.{by_cell, first_has_cell, first_outside-cons}
 use Rattle.h5w_session.proofs.IndexLemmas.{freed_index, marks_more, missed_index}
 use Rattle.h5w_session.proofs.PastLemmas.{past_more, past_same, past_shown, past_values}
 use Rattle.h5w_session.proofs.StateLemmas.{Accepted, rows_are}
@@ -63,7 +64,7 @@ left_pending s left w ws pending (inr gone) = absurd (some_is w ws (sym pending 
 -- ---- Values
 
 pub cells_of-append : (d : Described) (vs ws : List ℤ) → cells_of d (vs ++ ws) ≡ cells_of d vs ++ cells_of d ws
-unfolding cells_of
+unfolding run_bytes
 cells_of-append d [] ws = refl
 cells_of-append d (v ∷ vs) ws =
     let cell : List ℕ = unwrap_or (cell_bytes_of v d.int_type) [] in

@@ -23,7 +23,7 @@ use Rattle.h5w_session.specs.Sessions.{Session, IsSession, AllEndBy, AfterPiece,
 use Rattle.h5w_session.specs.Refusals.{append_refusal, chunks_refusal}
 use Rattle.h5w_session.specs.declared.refusal.AppendError.{AppendError}
 use Rattle.h5w_session.specs.declared.refusal.AppendError.TheVariants as appends
-use Rattle.h5w_session.proofs.CellLemmas.{length-cells_of}
+use Rattle.h5w_types.proofs.RunLemmas.{length-run_bytes}
 
 -- ---- How many rows and chunks there can be
 
@@ -203,7 +203,7 @@ pub values_is : (s : Session) (values : List ℤ) → IsSession s → AreRows s 
 values_is s values is rows by =
     let more = length values / s.dataset.shape.cols in
     let cells : length (s.waiting ++ cells_of s.dataset values) ≡ length s.waiting + length values * s.dataset.int_type.size =
-    length-append s.waiting (cells_of s.dataset values) ∙ ap (λ (n : ℕ). length s.waiting + n) (length-cells_of s.dataset 0 values by.fit) in
+    length-append s.waiting (cells_of s.dataset values) ∙ ap (λ (n : ℕ). length s.waiting + n) (length-run_bytes s.dataset.int_type 0 values by.fit) in
     let count = rows_are s values is.some_columns rows in
     let size = s.dataset.int_type.size in
     let regrouped : length values * size ≡ more * (s.dataset.shape.cols * size) = ap (λ (n : ℕ). n * size) (sym count) ∙ omega arith in

@@ -9,7 +9,6 @@ mod laws;
 mod refusal;
 mod state;
 mod taking;
-mod waiting;
 
 pub use h5w_chunks::{Fill, Grid, IndexKind, IntType, Layout, Shape};
 pub use h5w_model::{Bytes, Cell, OutOfMemory, Piece, Super, Write};

@@ -17,13 +17,13 @@ ghost use Rattle.h5w_session.specs.declared.refusal.CloseError.{CloseError};
 
 use crate::creation::{create_file, new_super};
 use crate::refusal::{AppendError, CloseError};
-use crate::waiting::{add_cells, first_outside};
 use h5w_chunks::{Grid, IndexKind};
 use h5w_ea_index::ArrayIndex;
 use h5w_image::PieceWrite;
 use h5w_model::{OutOfMemory, Piece, Super, Write};
 use h5w_options::Options;
 use h5w_space::Places;
+use h5w_types::{first_outside, put_cells};
 use std::alloc::Global;
 use std::marker::Model;
 
@@ -152,7 +152,7 @@ impl WriterCore {
     {
         self.check(values)?;
         image.reserve(1, self.places.end())?;
-        add_cells(values, &self.grid, &mut self.waiting)?;
+        put_cells(values, &self.grid.int_type, &mut self.waiting)?;
         self.waits += values.len() as u64 / self.grid.shape.cols;
         Ok(self.rows())
     }

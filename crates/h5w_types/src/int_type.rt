@@ -1,4 +1,4 @@
-ghost use Rattle.std.specs.Prelude.{◌≡◌, ◌+◌, ◌++◌, ◌≤◌, ◌^◌, ◌<◌, pos, length, drop, List, ℕ, true, Ok, Some, IfOk, IfSome, option_map};
+ghost use Rattle.std.specs.Prelude.{◌≡◌, ◌+◌, ◌++◌, ◌≤◌, ◌^◌, ◌<◌, pos, length, drop, List, ℕ, true, Ok, Some, IfOk, IfSome, option_map, ◌&&◌, int_le, int_lt, ℤ};
 ghost use Rattle.h5w_model.specs.Checked.{viewed};
 ghost use Rattle.h5w_types.specs.Messages.{int_type_at, int_type_bytes, is_int_size, IsIntType};
 ghost use Rattle.h5w_types.specs.Numbers.{le, num};
@@ -74,17 +74,26 @@ impl IntType {
         1 << (8 * u32::from(self.size))
     }
 
+    /// The least of them, and the first number above the greatest.
+    pub(crate) fn bounds(&self) -> (i128, i128)
+        requires { IsIntType (int_type_of self.now) }
+        ensures { (v : ℤ) → is_in_span self.now.signed (span_of (int_type_of self.now)) v ≡ (int_le result.0 v && int_lt v result.1) }
+    {
+        let span = self.span();
+        if self.signed {
+            (-(span / 2), span / 2)
+        } else {
+            (0, span)
+        }
+    }
+
     /// Whether `v` is one of them.
     fn contains(&self, v: i128) -> bool
         requires { IsIntType (int_type_of self.now) }
         ensures { result ≡ is_in_span self.now.signed (span_of (int_type_of self.now)) v }
     {
-        let span = self.span();
-        if self.signed {
-            -(span / 2) <= v && v < span / 2
-        } else {
-            0 <= v && v < span
-        }
+        let (least, above) = self.bounds();
+        least <= v && v < above
     }
 }
 
@@ -128,7 +137,7 @@ pub fn value_of(bytes: &[u8], t: &IntType) -> i128
 }
 
 /// A value of the type as a number.
-fn number_of(v: i128, t: &IntType) -> u64
+pub(crate) fn number_of(v: i128, t: &IntType) -> u64
     requires typed { IsIntType (int_type_of t.now) }
     requires inside { is_in_span t.now.signed (span_of (int_type_of t.now)) v ≡ true }
     ensures exact { result ≡ unsigned_of (span_of (int_type_of t.now)) v }
@@ -142,7 +151,7 @@ fn number_of(v: i128, t: &IntType) -> u64
 }
 
 /// The cell of the number `n` in the type's order.
-fn cell(n: u64, t: &IntType) -> Cell
+pub(crate) fn cell(n: u64, t: &IntType) -> Cell
     requires typed { IsIntType (int_type_of t.now) }
     requires fits { n < span_of (int_type_of t.now) }
     ensures { result ≡ cell_of (in_order t.now.big (le t.now.size n)) }

@@ -26,7 +26,7 @@ invariant_of-self-2 g c =
     let values = c.args.values.now in
     let by = accepted s values (Ok tt) c.in_ok-check.ensures refl in
     let is = values_is s values (subst IsSession c.self.view_is c.self.invariant.0) c.requires.rows by in
-    (waits_is _ s values c.add_cells.new.out.items c.self.view_is c.in_ok-add_cells.ensures.added is, c.self.invariant.1, c.self.invariant.2, c.self.invariant.3, c.self.invariant.4)
+    (waits_is _ s values c.put_cells.new.out.items c.self.view_is c.in_ok-put_cells.ensures.added is, c.self.invariant.1, c.self.invariant.2, c.self.invariant.3, c.self.invariant.4)
 
 pub returns-clause-stands : goal.returns-clause-stands
 returns-clause-stands g c log stands =
@@ -34,5 +34,5 @@ returns-clause-stands g c log stands =
     let values = c.args.values.now in
     let by = accepted s values (Ok tt) c.in_ok-check.ensures refl in
     let is = subst IsSession c.self.view_is c.self.invariant.0 in
-    subst (λ (t : Session). Stands t (and_now (appends values) log)) (sym (with_values_is _ s values c.add_cells.new.out.items c.self.view_is c.in_ok-add_cells.ensures.added))
+    subst (λ (t : Session). Stands t (and_now (appends values) log)) (sym (with_values_is _ s values c.put_cells.new.out.items c.self.view_is c.in_ok-put_cells.ensures.added))
     (values_stand s values log is.some_columns c.requires.rows by.idle by stands)
