@@ -14,6 +14,7 @@ pub mod BehindLemmas
 pub mod IndexLemmas
 pub mod PlacingLemmas
 pub mod StandLemmas
+pub mod OpenedLemmas
 pub mod CreatingLemmas
 pub mod FlushLemmas
 pub mod NextLemmas

@@ -37,6 +37,7 @@ use Rattle.h5w_flush_laws.proofs.FlushLaws.{freed_known}
 use Rattle.h5w_flush_laws.proofs.SessionLaws.{session_laws}
 use Rattle.h5w_session.specs.Sessions.{Session, AreRows, Freed, cleared, closed_of, closed_root, stopped_of, with_values}
 use Rattle.h5w_session.specs.Indexes.{IsIndexed}
+use Rattle.h5w_session.specs.Openings.{flagged, flagged_root}
 use Rattle.h5w_session.specs.Stands.{Running, Stands}
 use Rattle.h5w_types.proofs.RunLemmas.{by_cell, first_has_cell, first_outside-cons}
 use Rattle.h5w_session.proofs.IndexLemmas.{freed_index, marks_more, missed_index}
@@ -262,10 +263,11 @@ same_either : (b : Bool) (x : List ℤ) → x ≡ (if b then x else x)
 same_either true x = refl
 same_either false x = refl
 
-close_running : (s : Session) (log : Log) → super_at (super_bytes (closed_root s)) ≡ Ok (closed_root s) → Running s [] log → Running (closed_of s) (closed_of s).pending log
-close_running s log reads r =
+flagged_running : (s : Session) (log : Log) (flags : ℕ) (stop : Bool) → super_at (super_bytes (flagged_root flags s)) ≡ Ok (flagged_root flags s) → is_swmr flags ≡ true → Running s [] log
+    → Running (flagged flags stop s) (flagged flags stop s).pending log
+flagged_running s log flags stop reads swmr r =
     let m = r.after in
-    let root = closed_root s in
+    let root = flagged_root flags s in
     let w : Write = record { at = 0; piece = super_bytes root } in
     let n : Moment = record m { super = root } in
     let img = image_now log in
@@ -277,7 +279,7 @@ close_running s log reads r =
       len = length-super_bytes root;
       reads = reads;
       root = ap (λ (x : Super). x.root) (sym same);
-      swmr = cleared_swmr s.root.flags;
+      swmr = swmr;
       rises = omega (arith, end);
       there = omega (arith, end, r.knows.ended, r.knows.covered);
     } in
@@ -313,19 +315,24 @@ close_running s log reads r =
       appended = r.appended;
       committed = r.committed;
       columns = r.columns;
-      past = past_more s (closed_of s) (closed_of s).pending log m n (record { name = refl; place = refl; dataset = refl; limit = refl }) refl (omega (arith, length-super_bytes root, r.past.limit_low), tt) refl r.past;
+      past = past_more s (flagged flags stop s) (flagged flags stop s).pending log m n (record { name = refl; place = refl; dataset = refl; limit = refl }) refl (omega (arith, length-super_bytes root, r.past.limit_low), tt) refl r.past;
     }
 
-pub close_stands : (s : Session) (log : Log) → super_at (super_bytes (closed_root s)) ≡ Ok (closed_root s) → s.stopped ≡ false → s.pending ≡ [] → Stands s log → Stands (closed_of s) log
-close_stands s log reads running idle st =
+-- the superblock is written with other flags
+pub flagged_stands : (s : Session) (log : Log) (flags : ℕ) (stop : Bool) → super_at (super_bytes (flagged_root flags s)) ≡ Ok (flagged_root flags s) → is_swmr flags ≡ true → s.stopped ≡ false → s.pending ≡ [] → Stands s log
+    → Stands (flagged flags stop s) log
+flagged_stands s log flags stop reads swmr running idle st =
     let none : st.left ≡ [] = left_running s st.left running st.dropped ∙ idle in
     elim st.phase [
       | inl c ↦ absurd (c.1.some none)
       | inr r ↦ record {
-        left = (closed_of s).pending;
+        left = (flagged flags stop s).pending;
         dropped = inl refl;
-        phase = inr (close_running s log reads (subst (λ (ws : List Write). Running s ws log) none r));
+        phase = inr (flagged_running s log flags stop reads swmr (subst (λ (ws : List Write). Running s ws log) none r));
         prefixed = st.prefixed;
         still = st.still;
       }
     ]
+
+pub close_stands : (s : Session) (log : Log) → super_at (super_bytes (closed_root s)) ≡ Ok (closed_root s) → s.stopped ≡ false → s.pending ≡ [] → Stands s log → Stands (closed_of s) log
+close_stands s log reads running idle st = flagged_stands s log (cleared s.root.flags) true reads (cleared_swmr s.root.flags) running idle st

@@ -19,6 +19,7 @@ pub mod Loads
 pub mod Placing
 pub mod Past
 pub mod Stands
+pub mod Openings
 pub mod Flushes
 pub mod Room
 pub mod Laws

@@ -1,8 +1,9 @@
 //! What is true of every log of which a session is the session.
 
 ghost use Rattle.h5w_session.specs.Laws.{RoomStays, ShownLaws, StandingLaws};
+ghost use Rattle.h5w_session.specs.Openings.{OverLaws};
 
-/// A session's log begins over no bytes, and its dataset has one column. The session knows how many rows are flushed and
+/// A session's log is new, or began over a valid file; its columns are the dataset's. The session knows how many rows are flushed and
 /// appended; at each position of its log the image is valid and reads as the rows that are flushed there, and what readers
 /// rest on stays from each position to each later one. What a stopped session left is valid and reads as the flushed rows.
 #[tactic(auto, using(crate::proofs::LawLemmas::standing_laws))]
@@ -10,8 +11,8 @@ pub fn standing_laws()
     ensures { StandingLaws }
 {}
 
-/// At each position of its log the image shows a dataset of the session's shape, within all limits that allow the chunks
-/// of a session, by one look at each header, and is no longer than a file may be.
+/// At each position of the log of a session that created its file the image shows a dataset of the session's shape, within all limits
+/// that allow the chunks of a session, by one look at each header, and is no longer than the limit.
 #[tactic(auto, using(crate::proofs::LawLemmas::shown_laws))]
 pub fn shown_laws()
     ensures { ShownLaws }
@@ -21,4 +22,11 @@ pub fn shown_laws()
 #[tactic(auto, using(crate::proofs::LawLemmas::room_stays))]
 pub fn room_stays()
     ensures { RoomStays }
+{}
+
+/// A session that has what a valid file has stands for the log over that file to which nothing happened yet; and a session stands for its
+/// log with the superblock pending by which it says that it writes, or that it writes no more.
+#[tactic(auto, using(crate::proofs::OpenedLemmas::over_laws))]
+pub fn over_laws()
+    ensures { OverLaws }
 {}

@@ -1,0 +1,90 @@
+-- A session over a file that was opened stands for the log without events.
+use Rattle.std.proofs.Common.{◌≡◌, ℕ, ◌+◌, ◌*◌, ◌<◌, ◌≤◌, max, List, [], ◌++◌, length, ℤ, Ok, refl, sym, ap, ◌∙◌, subst, inl, inr, arith}
+use Rattle.std.proofs.lemmas.List.{append-nil}
+use Rattle.h5w_model.specs.Datasets.{Described}
+use Rattle.h5w_model.specs.Findings.{Summary, Valid}
+use Rattle.h5w_model.specs.Logs.{Log, spent}
+use Rattle.h5w_model.specs.Numbers.{range}
+use Rattle.h5w_model.specs.Superblock.{super_at}
+use Rattle.h5w_model.specs.Tables.{Reads}
+use Rattle.h5w_steps.specs.Logs.{Goes}
+use Rattle.h5w_steps.specs.Moments.{Moment, Represents}
+use Rattle.h5w_steps.proofs.MomentLemmas.{super_parts}
+use Rattle.h5w_steps.proofs.SessionLaws.{goes_runs, opened_goes}
+use Rattle.h5w_chunks.specs.Grids.{cells_of}
+use Rattle.h5w_session.specs.Indexes.{address_in}
+use Rattle.h5w_session.specs.Loads.{end_in, first_end_of}
+use Rattle.h5w_session.specs.Openings.{IsOver, OverLaws, opened_log}
+use Rattle.h5w_session.specs.Past.{HasOpened, IsNew, Past, most_of}
+use Rattle.h5w_session.specs.Sessions.{Session, cutting_of, rows_of}
+use Rattle.h5w_session.specs.Stands.{Running, Stands}
+use Rattle.h5w_session.proofs.IndexLemmas.{clean_marks}
+use Rattle.h5w_session.proofs.StandLemmas.{flagged_stands, goes_rows}
+
+no_cells : (d : Described) → [] ≡ cells_of d []
+unfolding cells_of
+no_cells d = refl
+
+-- the end-of-file address of what was opened
+first_end_is : (img name : List ℕ) (m : Moment) (columns : ℕ) (values : List ℤ) → Represents img name m → first_end_of (opened_log img columns values) ≡ m.super.end
+first_end_is img name m columns values r = ap end_in (super_parts (length img) (range img 0 48) m.super r.super).read
+
+module _ (s : Session) (img : List ℕ) (rows columns : ℕ) (values : List ℤ) (sm : Summary) (m : Moment) (valid : Valid img s.name sm) (reads : Reads img s.name rows columns values) (some : 0 < columns)
+    (same : m.values ≡ values) (goes : Goes s.name (opened_log img columns values) m m.behind) (b : IsOver s img m) where
+  abbrev log : Log
+  log = opened_log img columns values
+
+  not_new : {A : Type 0} → IsNew log → A
+  not_new new = let first : 0 ≡ 5 = ap (λ (l : Log). l.first) new in absurd (omega (arith, first))
+
+  past : Past s [] log m
+  past =
+      let end = first_end_is img s.name m columns values goes.now in
+      record {
+        begun = inr (record { summary = sm; valid = valid; rows = rows; reads = reads; some_columns = some; first = refl });
+        counted = b.counted;
+        limit_low = b.limit_low;
+        limit_high = b.limit_high;
+        addressed = λ new. not_new new;
+        next = λ new. not_new new;
+        grew = omega (arith, b.end, end);
+        fits = omega (arith, b.end, end);
+        ends = tt;
+      }
+
+  running : Running s [] log
+  running = record {
+    after = m;
+    address = address_in s.index;
+    runs = goes_runs s.name log m m.behind goes (λ k. sym same);
+    knows = b.knows;
+    keeps = b.keeps;
+    index = b.index;
+    marks = clean_marks s.dataset s.dataset.shape.rows (rows_of s) s.index b.clean;
+    more = [];
+    waiting = b.waiting ∙ no_cells s.dataset;
+    fit = refl;
+    count = subst (λ (n : ℕ). 0 ≡ n * s.dataset.shape.cols) (sym b.waits) (omega arith);
+    appended = ap (λ (vs : List ℤ). vs ++ []) same;
+    committed = goes_rows s.name log m m.behind goes ∙ ap (λ (d : Described). d.shape.rows) b.keeps.dataset ∙ sym b.committed;
+    columns = ap (λ (d : Described). d.shape.cols) (sym b.keeps.dataset) ∙ goes.columns;
+    past = past;
+  }
+
+  pub over_stands : Stands s log
+  over_stands = record { left = []; dropped = inl (sym b.idle); phase = inr running; prefixed = goes.prefixed; still = goes.still }
+
+pub over_laws : OverLaws
+over_laws = record {
+  over = λ img name rows columns values sm valid reads some.
+      let g = opened_goes img name rows columns values sm valid reads some in (
+        g.0,
+        g.2.now,
+        λ s named over.
+            let own : (n : List ℕ) → s.name ≡ n → Valid img n sm → Reads img n rows columns values → Goes n (opened_log img columns values) g.0 g.0.behind → Stands s (opened_log img columns values) = λ n e v r goes.
+            over_stands s img rows columns values sm g.0 (subst (λ (x : List ℕ). Valid img x sm) (sym e) v) (subst (λ (x : List ℕ). Reads img x rows columns values) (sym e) r) some g.1
+            (subst (λ (x : List ℕ). Goes x (opened_log img columns values) g.0 g.0.behind) (sym e) goes) over in
+            own name named valid reads g.2,
+      );
+  rewritten = flagged_stands;
+}
