@@ -25,7 +25,7 @@ room_small (suc (suc (suc zero))) h = omega arith
 room_small (suc (suc (suc (suc d)))) h = absurd (omega arith)
 
 -- no tree of a depth has so many records
-abbrev most_under : ℕ → ℕ
+abbrev pub most_under : ℕ → ℕ
 most_under zero = 256
 most_under (suc d) = 256 * most_under d
 
@@ -36,7 +36,7 @@ most_some (suc d) = omega (arith, most_some d)
 last : (r q t P : ℕ) → t ≡ r + q → r ≤ 85 → q ≤ 86 * P → 0 < P → t < 256 * P
 last r q t P e x y z = omega arith
 
-total_small : (d m : ℕ) (t : Tree d) → d ≤ 3 → m ≤ 85 → IsSound d m t → total_of d t < most_under d
+pub total_small : (d m : ℕ) (t : Tree d) → d ≤ 3 → m ≤ 85 → IsSound d m t → total_of d t < most_under d
 total_small zero m t h k s = omega (arith, s)
 total_small (suc d) m t h k s =
     let each : All (λ (c : Tree d). total_of d c ≤ most_under d) t.children =

@@ -2,6 +2,7 @@
 use Rattle.std.proofs.Common.{◌≡◌, ℕ, suc, ◌+◌, ◌/◌, ◌<◌, ◌≤◌, ◌^◌, true, false, List, [], ◌∷◌, ◌++◌, length, map, get_or, set, take, drop, sym, ap, ap₂, ◌∙◌, subst, arith, Option, Some, None, is_some, slice_get, add-one}
 use Rattle.std.proofs.lemmas.Bool.{ltb-true}
 use Rattle.std.proofs.lemmas.List.{take-map, drop-map}
+use Rattle.h5w_model.specs.Numbers.{undefined}
 use Rattle.h5w_model.specs.Trees.{capacity_of}
 use Rattle.h5w_bt.specs.declared.records.Record.{Record}
 use Rattle.h5w_bt_index.specs.Nodes.{Tree, records_of, total_of, rank, address_in}
@@ -45,9 +46,9 @@ down-full d item t k ms s m p c e o =
     }
 
 pub down-put : (d : ℕ) (item : Record) (t : Tree (suc d)) (k : ℕ) (rs : List Record) (ms : List (Tree d)) → rs ≡ t.records → ms ≡ (went_down d item t).children →
-    k ≡ rank item.key t.records → address_in item.key t.records ≡ None → settled d k (changed_node d rs ms t.block) ≡ put (suc d) item t
+    k ≡ rank item.key t.records → address_in item.key t.records ≡ None → settled d k (changed_node d rs ms t.place) ≡ put (suc d) item t
 down-put d item t k rs ms v m p e =
-    ap₂ (λ (l : List Record) (u : List (Tree d)). settled d k (changed_node d l u t.block)) v m
+    ap₂ (λ (l : List Record) (u : List (Tree d)). settled d k (changed_node d l u t.place)) v m
     ∙ ap (λ (n : ℕ). settled d n (went_down d item t)) p ∙ sym (put_below d item t e)
 
 pub down-fits : (d : ℕ) (item : Record) (t u : Tree (suc d)) → u ≡ put (suc d) item t → suc d ≤ 3 → IsSound (suc d) (capacity_of (suc d)) t → total_of (suc d) u < 2 ^ 64
@@ -61,32 +62,32 @@ half_is : (d k : ℕ) → k ≡ capacity_of d → k / 2 ≡ half d
 half_is d k e = ap (λ (n : ℕ). n / 2) e
 
 pub divide-left : {A : Type 0} (d : ℕ) (T : A → Tree d) (t : Tree (suc d)) (cs ds : List A) (rs : List Record) (k : ℕ) (y : Record) → map T cs ≡ t.children → k ≡ capacity_of (suc d) →
-    half (suc d) < length t.records → take (k / 2 + 1) t.records ≡ rs ++ y ∷ [] → ds ≡ take (k / 2 + 1) cs → changed_node d rs (map T ds) t.block ≡ left_of (suc d) t
+    half (suc d) < length t.records → take (k / 2 + 1) t.records ≡ rs ++ y ∷ [] → ds ≡ take (k / 2 + 1) cs → changed_node d rs (map T ds) t.place ≡ left_of (suc d) t
 divide-left d T t cs ds rs k y m e h f g =
     let n : k / 2 + 1 ≡ suc (half (suc d)) = add-one (k / 2) ∙ ap suc (half_is (suc d) k e) in
     let p = front_of (half (suc d)) t.records rs y no_record h (ap (λ (i : ℕ). take i t.records) (sym n) ∙ f) in
-    ap₂ (λ (a : List Record) (b : List (Tree d)). changed_node d a b t.block) (p.0)
+    ap₂ (λ (a : List Record) (b : List (Tree d)). changed_node d a b t.place) (p.0)
     (ap (map T) (g ∙ ap (λ (i : ℕ). take i cs) n) ∙ sym (take-map T (suc (half (suc d))) cs) ∙ ap (take (suc (half (suc d)))) m)
 
 pub divide-right : {A : Type 0} (d : ℕ) (T : A → Tree d) (t : Tree (suc d)) (cs ds : List A) (rs : List Record) (k : ℕ) → map T cs ≡ t.children → k ≡ capacity_of (suc d) →
-    rs ≡ drop (k / 2 + 1) t.records → ds ≡ drop (k / 2 + 1) cs → changed_node d rs (map T ds) None ≡ right_of (suc d) t
+    rs ≡ drop (k / 2 + 1) t.records → ds ≡ drop (k / 2 + 1) cs → changed_node d rs (map T ds) undefined ≡ right_of (suc d) t
 divide-right d T t cs ds rs k m e f g =
     let n : k / 2 + 1 ≡ suc (half (suc d)) = add-one (k / 2) ∙ ap suc (half_is (suc d) k e) in
-    ap₂ (λ (a : List Record) (b : List (Tree d)). changed_node d a b None) (f ∙ ap (λ (i : ℕ). drop i t.records) n)
+    ap₂ (λ (a : List Record) (b : List (Tree d)). changed_node d a b undefined) (f ∙ ap (λ (i : ℕ). drop i t.records) n)
     (ap (map T) (g ∙ ap (λ (i : ℕ). drop i cs) n) ∙ sym (drop-map T (suc (half (suc d))) cs) ∙ ap (drop (suc (half (suc d)))) m)
 
 -- a node whose total is counted
-pub counted-node : (d : ℕ) (rs : List Record) (ms : List (Tree d)) (block : Option ℕ) (n : ℕ) → n ≡ counted d rs ms →
-    record { records = rs; children = ms; total = n; block = block; clean = false } ≡ changed_node d rs ms block
-counted-node d rs ms block n e = λ i. record { records = rs; children = ms; total = e i; block = block; clean = false }
+pub counted-node : (d : ℕ) (rs : List Record) (ms : List (Tree d)) (place : ℕ) (n : ℕ) → n ≡ counted d rs ms →
+    record { records = rs; children = ms; total = n; place = place; clean = false } ≡ changed_node d rs ms place
+counted-node d rs ms place n e = λ i. record { records = rs; children = ms; total = e i; place = place; clean = false }
 
 pub part-fits : (d : ℕ) (t u : Tree d) → u ≡ t → d ≤ 3 → IsSound d (capacity_of d) t → total_of d u < 2 ^ 64
 part-fits d t u e h s = subst (λ (w : Tree d). total_of d w < 2 ^ 64) (sym e) (total_fits d (capacity_of d) t h (omega (arith, room_small d h)) s)
 
 -- a node of the same records and children
 pub same-node : (d : ℕ) (t : Tree (suc d)) (rs : List Record) (ms : List (Tree d)) → rs ≡ t.records → ms ≡ t.children →
-    record { records = rs; children = ms; total = t.total; block = t.block; clean = t.clean } ≡ t
-same-node d t rs ms v m = λ i. record { records = v i; children = m i; total = t.total; block = t.block; clean = t.clean }
+    record { records = rs; children = ms; total = t.total; place = t.place; clean = t.clean } ≡ t
+same-node d t rs ms v m = λ i. record { records = v i; children = m i; total = t.total; place = t.place; clean = t.clean }
 
 pub sums_small : (a b p q : ℕ) → a ≡ b → p ≡ q → b + q < 2 ^ 64 → a + p < 2 ^ 64
 sums_small a b p q e f h = subst (λ (n : ℕ). n + p < 2 ^ 64) (sym e) (subst (λ (n : ℕ). b + n < 2 ^ 64) (sym f) h)

@@ -14,3 +14,8 @@ pub mod Marks
 pub mod Searched
 pub mod Down
 pub mod Laws
+pub mod Placed
+pub mod Turns
+pub mod NodeBytes
+pub mod Written
+pub mod Started

@@ -1,5 +1,5 @@
 -- A record put into a sound tree leaves it sound, with at most a record too many in the root.
-use Rattle.std.proofs.Common.{◌≡◌, ℕ, zero, suc, ◌+◌, ◌/◌, ◌<◌, ◌≤◌, Bool, true, false, List, [], ◌∷◌, length, take, drop, set, refl, sym, ap, subst, ◌∙◌, arith, Option, Some, slice_get, length-set, insert, sum_by}
+use Rattle.std.proofs.Common.{◌≡◌, ℕ, zero, suc, ◌+◌, ◌/◌, ◌<◌, ◌≤◌, Bool, true, false, List, [], ◌∷◌, length, take, drop, set, refl, sym, ap, subst, ◌∙◌, arith, Some, slice_get, length-set, insert, sum_by}
 use Rattle.std.proofs.lemmas.List.{length-take, length-drop}
 use Rattle.std.proofs.lemmas.List.Edits.{length-insert}
 use Rattle.std.proofs.lemmas.Bool.{ltb-true, ltb-false}
@@ -74,18 +74,18 @@ divided_long f i xs l r n =
     length-insert (set (changed_at i f xs) i l) (suc i) r (omega (arith, n, e)) ∙ ap (λ (n : ℕ). n + 1) e
 
 -- what a change of a child on the way must give
-pub settled_sound : (d i : ℕ) (f : Tree d → Tree d) (rs : List Record) (cs : List (Tree d)) (block : Option ℕ) →
+pub settled_sound : (d i : ℕ) (f : Tree d → Tree d) (rs : List Record) (cs : List (Tree d)) (place : ℕ) →
     length rs ≤ capacity_of (suc d) → length cs ≡ length rs + 1 → i ≤ length rs → All (IsSound d (capacity_of d)) cs →
     ((c : Tree d) → IsSound d (capacity_of d) c → IsSound d (suc (capacity_of d)) (f c)) →
-    IsSound (suc d) (suc (capacity_of (suc d))) (settled d i (changed_node d rs (changed_at i f cs) block))
-settled_sound d i f rs cs block few n le each k =
+    IsSound (suc d) (suc (capacity_of (suc d))) (settled d i (changed_node d rs (changed_at i f cs) place))
+settled_sound d i f rs cs place few n le each k =
     let (c, e) = there_is cs i (omega (arith, n, le)) in
     go c e (at_place (IsSound d (capacity_of d)) cs i c each e) (is_over d (f c)) refl
   where
     go : (c : Tree d) → slice_get cs i ≡ Some c → IsSound d (capacity_of d) c → (o : Bool) → is_over d (f c) ≡ o →
-        IsSound (suc d) (suc (capacity_of (suc d))) (settled d i (changed_node d rs (changed_at i f cs) block))
+        IsSound (suc d) (suc (capacity_of (suc d))) (settled d i (changed_node d rs (changed_at i f cs) place))
     go c e s true o =
-        subst (IsSound (suc d) (suc (capacity_of (suc d)))) (sym (settled_over d i (changed_node d rs (changed_at i f cs) block) (f c) (get-changed i f cs c e) o)) (record {
+        subst (IsSound (suc d) (suc (capacity_of (suc d)))) (sym (settled_over d i (changed_node d rs (changed_at i f cs) place) (f c) (get-changed i f cs c e) o)) (record {
           few = omega (arith, length-insert rs i (middle_of d (f c)) le, few);
           children = divided_long f i cs (left_of d (f c)) (right_of d (f c)) (inside_from cs i c e)
               ∙ ap (λ (n : ℕ). n + 1) (n ∙ sym (length-insert rs i (middle_of d (f c)) le));
@@ -94,7 +94,7 @@ settled_sound d i f rs cs block few n le each k =
               (left_sound d (suc (capacity_of d)) (f c) (over-half d (f c) o) (k c s)) (right_sound d (f c) (over-half d (f c) o) (k c s)) each;
         })
     go c e s false o =
-        subst (IsSound (suc d) (suc (capacity_of (suc d)))) (sym (settled_not d i (changed_node d rs (changed_at i f cs) block) (f c) (get-changed i f cs c e) o)) (record {
+        subst (IsSound (suc d) (suc (capacity_of (suc d)))) (sym (settled_not d i (changed_node d rs (changed_at i f cs) place) (f c) (get-changed i f cs c e) o)) (record {
           few = omega (arith, few);
           children = length-changed i f cs ∙ n;
           total = refl;
@@ -112,7 +112,7 @@ put_sound (suc d) x t s = elim (is_there x.key t.records) [
     each = s.each;
   })
   | not_there e ↦ subst (IsSound (suc d) (suc (capacity_of (suc d)))) (sym (put_below d x t e))
-      (settled_sound d (rank x.key t.records) (put d x) t.records t.children t.block s.few s.children (rank-inside x.key t.records) s.each (put_sound d x))
+      (settled_sound d (rank x.key t.records) (put d x) t.records t.children t.place s.few s.children (rank-inside x.key t.records) s.each (put_sound d x))
 ]
 
 -- a root above two parts

@@ -19,7 +19,7 @@ settled_not d i t c e o = settled_some d i t c e ∙ cond-false (is_over d c) _ 
 
 -- the node with the child on the way changed
 abbrev pub went_down : (d : ℕ) → Record → Tree (suc d) → Tree (suc d)
-went_down d x t = changed_node d t.records (changed_at (rank x.key t.records) (put d x) t.children) t.block
+went_down d x t = changed_node d t.records (changed_at (rank x.key t.records) (put d x) t.children) t.place
 
 abbrev pub renewed : (d : ℕ) → Record → Tree (suc d) → Tree (suc d)
 renewed d x t = record t { records = put_record x t.records; clean = false }

@@ -34,7 +34,7 @@ abbrev pub IsThere : Index → Key → Type 0
 IsThere v key = address_in key (records v) ≡ None → ⊥
 
 abbrev pub blank_leaf : LeafNode
-blank_leaf = record { records = []; block = None; clean = true }
+blank_leaf = record { records = []; place = undefined; clean = true }
 
 -- a tree without records
 abbrev pub no_tree : Index

@@ -5,4 +5,5 @@ pub mod Sound
 pub mod Marks
 pub mod Typed
 pub mod Index
+pub mod Plans
 pub mod Held

@@ -6,9 +6,9 @@ use Rattle.h5w_bt.specs.declared.records.Record.{Record}
 
 pub record LeafNode : Type 0 where
   pub records : List Record
-  -- the number of its block, where it has one
-  pub block : Option ℕ
-  -- its block says what it says
+  -- where it stands in the file, undefined while it was never written
+  pub place : ℕ
+  -- what stands there says what it says
   pub clean : Bool
 
 pub record InnerNode (T : Type 0) : Type 0 where
@@ -16,7 +16,7 @@ pub record InnerNode (T : Type 0) : Type 0 where
   pub children : List T
   -- how many records are under it, its own included
   pub total : ℕ
-  pub block : Option ℕ
+  pub place : ℕ
   pub clean : Bool
 
 abbrev pub Tree : ℕ → Type 0

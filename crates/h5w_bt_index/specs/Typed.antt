@@ -5,11 +5,11 @@ use Rattle.h5w_bt_index.specs.declared.leaf.Leaf.{Leaf}
 use Rattle.h5w_bt_index.specs.declared.inner.Inner.{Inner}
 
 abbrev pub leaf_of : Leaf → LeafNode
-leaf_of t = record { records = t.records.items; block = t.block; clean = t.clean }
+leaf_of t = record { records = t.records.items; place = t.place; clean = t.clean }
 
 abbrev pub inner_of : {C : Type 0} → (d : ℕ) → (C → Tree d) → Inner C → Tree (suc d)
 inner_of d tree t =
-    record { records = t.records.items; children = map tree t.children.items; total = t.total; block = t.block; clean = t.clean }
+    record { records = t.records.items; children = map tree t.children.items; total = t.total; place = t.place; clean = t.clean }
 
 -- a node without records, and with room for those of a node that is divided
 pub record IsRoomyLeaf (t : Leaf) : Type 0 where

@@ -1,18 +1,26 @@
-ghost use Rattle.std.specs.Prelude.{◌≡◌, ◌≤◌, length, IsTrue, ◌↔◌, IfErr, OnOk, OnErr, if◌then◌else◌};
+ghost use Rattle.std.specs.Prelude.{◌≡◌, ◌≤◌, length, IsTrue, ◌↔◌, IfErr, IfOk, OnOk, OnErr, if◌then◌else◌};
 ghost use Rattle.std.specs.Option.{unwrap_or};
 ghost use Rattle.h5w_model.specs.Numbers.{undefined};
 ghost use Rattle.h5w_model.specs.Tables.{key_equal};
 ghost use Rattle.h5w_bt_index.specs.Index.{IsClean, IsDeep, IsHalfFull, IsIndex, IsThere, address_of, defined, inserted, no_tree, records};
-ghost use Rattle.h5w_bt_index.specs.Held.{view_of};
+ghost use Rattle.h5w_cache.specs.Plans.{IfFull};
+ghost use Rattle.h5w_bt.specs.Fields.{bthd_of};
+ghost use Rattle.h5w_bt.specs.Parts.{IsHeader};
+ghost use Rattle.h5w_bt_index.specs.Held.{header_place, view_of};
+ghost use Rattle.h5w_bt_index.specs.Plans.{HasNoPlace, IsBegun, IsTreePlan, changes, header_of};
 ghost use Rattle.h5w_bt_index.specs.Marks.{Part};
 ghost use Rattle.h5w_bt_index.specs.Nodes.{address_in, records_of};
 ghost use Rattle.h5w_bt_index.specs.Puts.{put_record};
 
 use crate::error::InsertError;
 use crate::leaf::Leaf;
+use crate::plan::{Begun, begin, finish};
 use crate::root::Root;
-use h5w_bt::{Key, Record};
+use h5w_bt::{Bthd, Key, Record};
 use h5w_bytes::UNDEFINED;
+use h5w_cache::{Plan, PlanError};
+use h5w_model::OutOfMemory;
+use h5w_space::Places;
 use std::alloc::Global;
 
 /// The address that was found; none where it is undefined.
@@ -29,23 +37,27 @@ fn given(found: Option<u64>) -> Option<u64>
 #[derive(Drop)]
 pub struct TreeIndex {
     root: Root,
+    /// Where its header stands.
+    header: u64,
     alloc: Global,
 }
 
 impl TreeIndex {
-    /// The index of no chunk.
-    pub fn new(alloc: Global) -> TreeIndex
+    /// The index of no chunk, whose header stands at place `header`. It is clean: who makes the file writes [`TreeIndex::header`] there.
+    pub fn new(alloc: Global, header: u64) -> TreeIndex
         ensures tree { view_of result ≡ no_tree }
+        ensures place { header_place result ≡ header }
         ensures index { IsIndex (view_of result) }
         ensures half { IsHalfFull (view_of result) }
     {
         let root = Leaf {
             records: Vec::new(alloc),
-            block: None,
+            place: UNDEFINED,
             clean: true,
         };
         TreeIndex {
             root: Root::Zero(root),
+            header,
             alloc,
         }
     }
@@ -74,6 +86,20 @@ impl TreeIndex {
         self.root.total()
     }
 
+    /// What its header says.
+    pub fn header(&self) -> Bthd
+        requires { IsIndex (view_of self.now) }
+        ensures exact { bthd_of result ≡ header_of (view_of self.now) }
+        ensures form { IsHeader (bthd_of result) }
+    {
+        Bthd {
+            depth: self.root.depth(),
+            root: self.root.place(),
+            records: self.root.len() as u64,
+            total: self.root.total(),
+        }
+    }
+
     /// The address of the record of a key.
     fn find(&self, key: Key) -> Option<u64>
         requires { IsIndex (view_of self.now) }
@@ -87,6 +113,7 @@ impl TreeIndex {
         requires { IsIndex (view_of self.old) }
         ensures exact { result ≡ defined (address_of (view_of self.old) key) }
         ensures kept { (view_of self.new) ≡ (view_of self.old) }
+        ensures place { header_place self.new ≡ header_place self.old }
     {
         given(self.find(key))
     }
@@ -110,6 +137,7 @@ impl TreeIndex {
         ensures deep { IfErr result (λ e. e ≡ InsertError.Deep → IsDeep (view_of self.old) item.key) }
         ensures refused { IsDeep (view_of self.old) item.key → result ≡ Err InsertError.Deep }
         ensures kept { OnErr result ((view_of self.new) ≡ (view_of self.old)) }
+        ensures place { header_place self.new ≡ header_place self.old }
     {
         if self.is_deep(item.key) {
             return Err(InsertError::Deep);
@@ -132,6 +160,7 @@ impl TreeIndex {
         ensures deep { IfErr result (λ e. e ≡ InsertError.Deep → IsDeep (view_of self.old) key) }
         ensures refused { IsDeep (view_of self.old) key → result ≡ Err InsertError.Deep }
         ensures kept { OnErr result ((view_of self.new) ≡ (view_of self.old)) }
+        ensures place { header_place self.new ≡ header_place self.old }
     {
         self.put(Record { address, key })
     }
@@ -150,6 +179,7 @@ impl TreeIndex {
         ensures deep { IfErr result (λ e. e ≡ InsertError.Deep → IsDeep (view_of self.old) key) }
         ensures refused { IsDeep (view_of self.old) key → result ≡ Err InsertError.Deep }
         ensures kept { OnErr result ((view_of self.new) ≡ (view_of self.old)) }
+        ensures place { header_place self.new ≡ header_place self.old }
     {
         if self.find(key).is_some() {
             return Ok(());
@@ -157,6 +187,67 @@ impl TreeIndex {
         self.put(Record {
             address: UNDEFINED,
             key,
+        })
+    }
+
+    /// Begins the plan of all changed nodes: takes all memory and places that [`TreeIndex::finish`] needs, and changes nothing.
+    pub fn begin(&self, places: &Places) -> Result<Begun, PlanError>
+        requires { IsIndex (view_of self.now) }
+        ensures begun { IfOk result (λ b. IsBegun (header_place self.now) (view_of self.now) places.now b) }
+        // the first node in turn that has no place
+        ensures full { IfErr result (λ e. IfFull e (HasNoPlace (changes (view_of self.now).depth (view_of self.now).root) places.now)) }
+    {
+        begin(&self.root, self.header, self.alloc, places)
+    }
+
+    /// The writes of all changed nodes and of the header, of a plan that was begun of this tree and these places: nodes at new places,
+    /// children before their parent, the header where it stands. All is clean from then on.
+    ///
+    /// It cannot fail.
+    pub fn finish(&mut self, places: &mut Places, begun: Begun) -> Plan
+        requires index { IsIndex (view_of self.old) }
+        requires begun { IsBegun (header_place self.old) (view_of self.old) places.old begun }
+        ensures planned { IsTreePlan (header_place self.old) (view_of self.old) places.old result.moves.items result.copies.items result.in_place.items (view_of self.new) places.new }
+        ensures index { IsIndex (view_of self.new) }
+        ensures half { IsHalfFull (view_of self.old) → IsHalfFull (view_of self.new) }
+        ensures place { header_place self.new ≡ header_place self.old }
+        // as it was begun
+        ensures moves { result.moves.items ≡ begun.moves }
+        ensures copies { result.copies.items ≡ begun.copies }
+        ensures in_place { result.in_place.items ≡ begun.in_place }
+        ensures end { places.new.end ≡ begun.next.end }
+    {
+        finish(&mut self.root, places, begun)
+    }
+
+    /// The writes of all changed nodes and of the header: nodes at new places, children before their parent, the header where it
+    /// stands. All is clean from then on.
+    ///
+    /// A refused plan changes nothing.
+    pub fn plan(&mut self, places: &mut Places) -> Result<Plan, PlanError>
+        requires { IsIndex (view_of self.old) }
+        ensures planned { IfOk result (λ p. IsTreePlan (header_place self.old) (view_of self.old) places.old p.moves.items p.copies.items p.in_place.items (view_of self.new) places.new) }
+        ensures index { IsIndex (view_of self.new) }
+        ensures half { IsHalfFull (view_of self.old) → IsHalfFull (view_of self.new) }
+        ensures place { header_place self.new ≡ header_place self.old }
+        // the first node in turn that has no place
+        ensures full { IfErr result (λ e. IfFull e (HasNoPlace (changes (view_of self.old).depth (view_of self.old).root) places.old)) }
+        ensures kept { OnErr result (view_of self.new ≡ view_of self.old) }
+        ensures places { OnErr result (places.new ≡ places.old) }
+    {
+        let begun = self.begin(places)?;
+        Ok(self.finish(places, begun))
+    }
+
+    /// A copy.
+    pub fn copy(&self) -> Result<TreeIndex, OutOfMemory>
+        ensures tree { IfOk result (λ t. view_of t ≡ view_of self.now) }
+        ensures place { IfOk result (λ t. header_place t ≡ header_place self.now) }
+    {
+        Ok(TreeIndex {
+            root: self.root.copy()?,
+            header: self.header,
+            alloc: self.alloc,
         })
     }
 }

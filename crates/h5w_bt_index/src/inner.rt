@@ -1,15 +1,20 @@
-ghost use Rattle.std.specs.Prelude.{◌≡◌, ◌+◌, ◌<◌, ◌≤◌, ◌^◌, suc, true, None, length, map, slice_get, slice_set, IfOk, IfSome, OnOk, OnErr, IsSome, is_some, nat_le, vec_len, vec_capacity};
-ghost use Rattle.std.specs.List.{insert, sum_by};
+ghost use Rattle.std.specs.Prelude.{◌≡◌, ℕ, ◌+◌, ◌<◌, ◌≤◌, ◌^◌, ◌++◌, suc, true, None, flat_map, length, map, slice_get, slice_set, IfOk, IfSome, OnOk, OnErr, IsSome, is_some, nat_le, vec_len, vec_capacity};
+ghost use Rattle.std.specs.List.{All, insert, sum_by};
 ghost use Rattle.h5w_model.specs.Trees.{capacity_of};
 ghost use Rattle.h5w_bt_index.specs.Nodes.{Tree, address_in, rank, records_of, total_of};
 ghost use Rattle.h5w_bt_index.specs.Puts.{changed_node, is_over, left_of, middle_of, put, right_of, settled};
 ghost use Rattle.h5w_bt_index.specs.Sound.{IsSound};
+ghost use Rattle.h5w_bt_index.specs.Plans.{AllRead, EachBy, changes, each_by, joined_blocks, placed, pointer_of, stood, writes_of, written};
+ghost use Rattle.h5w_bt.specs.Parts.{child_of};
 
+use crate::bytes::{inner_bytes, put_node};
 use crate::lists::{insert_reserved, move_tail};
 use crate::search::{put_record, search};
 use crate::subtree::Subtree;
-use h5w_bt::{Key, Record, capacity};
-use h5w_model::OutOfMemory;
+use h5w_bt::{Child, Key, Record, capacity};
+use h5w_bytes::UNDEFINED;
+use h5w_cache::copied;
+use h5w_model::{OutOfMemory, Write};
 use std::alloc::Global;
 
 /// A node between the root and the leaves: records, and one child more.
@@ -19,9 +24,9 @@ pub struct Inner<C> {
     pub children: Vec<C>,
     /// How many records are under it, its own included.
     pub total: u64,
-    /// The number of its block, where it has one.
-    pub block: Option<u32>,
-    /// Whether its block says what it says.
+    /// Where it stands in the file, UNDEFINED while it was never written.
+    pub place: u64,
+    /// Whether what stands there says what it says.
     pub clean: bool,
 }
 
@@ -53,16 +58,87 @@ pub fn is_over<C: Subtree>(tree: &C) -> bool
     tree.len() as u64 > capacity(C::depth())
 }
 
+/// Adds the places that changed nodes under these children leave.
+fn stood_below<C: Subtree>(children: &Vec<C>, out: &mut Vec<u64>) -> Result<(), OutOfMemory>
+    ensures { OnOk result (out.new.items ≡ out.old.items ++ flat_map (stood C.depth) (map C.tree children.now.items)) }
+{
+    for child in children {
+        child.stood(out)?;
+    }
+    Ok(())
+}
+
+/// Adds the writes of changed nodes under these children at these places. Answers how many nodes those are, and the pointers to the
+/// children then.
+fn write_below<C: Subtree>(
+    children: &Vec<C>,
+    places: &[u64],
+    out: &mut Vec<Write>,
+) -> Result<(usize, Vec<Child>), OutOfMemory>
+    requires shallow { C.depth ≤ 3 }
+    requires sound { All (IsSound C.depth (capacity_of C.depth)) (map C.tree children.now.items) }
+    requires enough { length (flat_map (stood C.depth) (map C.tree children.now.items)) ≤ length places.now }
+    requires ends { All (λ (p : ℕ). p + 2048 < 2 ^ 64) places.now }
+    ensures count { IfOk result (λ r. r.0 ≡ length (flat_map (stood C.depth) (map C.tree children.now.items))) }
+    ensures pointers { IfOk result (λ r. map child_of r.1.items ≡ map (pointer_of C.depth) (each_by (placed C.depth) (changes C.depth) places.now (map C.tree children.now.items))) }
+    ensures written { OnOk result (out.new.items ≡ out.old.items ++ writes_of (joined_blocks (each_by (written C.depth) (changes C.depth) places.now (map C.tree children.now.items)))) }
+    ensures reads { OnOk result (EachBy (AllRead C.depth) (changes C.depth) places.now (map C.tree children.now.items)) }
+{
+    let mut pointers = Vec::new(*children.allocator());
+    let mut below = 0usize;
+    for child in children {
+        let (count, pointer) = child.write(&places[below..], out)?;
+        pointers.push(pointer)?;
+        below += count;
+    }
+    Ok((below, pointers))
+}
+
+/// Changed nodes under these children stand at these places from now on, and are clean. Answers how many they are.
+fn settle_below<C: Subtree>(children: &mut Vec<C>, places: &[u64]) -> usize
+    requires { length (flat_map (stood C.depth) (map C.tree children.old.items)) ≤ length places.now }
+    ensures count { result ≡ length (flat_map (stood C.depth) (map C.tree children.old.items)) }
+    ensures placed { map C.tree children.new.items ≡ each_by (placed C.depth) (changes C.depth) places.now (map C.tree children.old.items) }
+{
+    let mut below = 0usize;
+    for at in 0..children.len() {
+        below += children[at].settle(&places[below..]);
+    }
+    below
+}
+
+/// Copies of children.
+fn copy_below<C: Subtree>(children: &Vec<C>) -> Result<Vec<C>, OutOfMemory>
+    ensures { IfOk result (λ v. map C.tree v.items ≡ map C.tree children.now.items) }
+{
+    let mut copy = Vec::with_capacity(*children.allocator(), children.len())?;
+    for child in children {
+        copy.push(child.copy()?)?;
+    }
+    Ok(copy)
+}
+
 impl<C: Subtree> Inner<C> {
     ghost use Rattle.h5w_bt_index.specs.Typed.{inner_of};
 
     /// Counts what is under it, and marks it as changed.
     fn recount(&mut self)
         requires { length self.old.records.items + sum_by (total_of C.depth) (map C.tree self.old.children.items) < 2 ^ 64 }
-        ensures { inner_of C.depth C.tree self.new ≡ changed_node C.depth self.old.records.items (map C.tree self.old.children.items) self.old.block }
+        ensures { inner_of C.depth C.tree self.new ≡ changed_node C.depth self.old.records.items (map C.tree self.old.children.items) self.old.place }
     {
         self.total = count(self.records.len(), &self.children);
-        self.clean = false; // its block says what it was before
+        self.clean = false; // the file says what it was before
+    }
+
+    /// What its parent says of it, where it stands at a place.
+    fn pointer(&self, place: u64) -> Child
+        ensures { child_of result ≡ record { address = place; records = length self.now.records.items; total = self.now.total } }
+    {
+        Child {
+            address: place,
+            records: self.records.len() as u64,
+            total: self.total,
+        }
     }
 
     /// A node for the right part of the child at a place, where the child is full.
@@ -95,7 +171,7 @@ impl<C: Subtree> Inner<C> {
             → self.new.records.items ≡ insert self.old.records.items at (middle_of C.depth c) }
         ensures children { (c : Tree C.depth) → slice_get (map C.tree self.old.children.items) at ≡ Some c
             → map C.tree self.new.children.items ≡ insert (slice_set (map C.tree self.old.children.items) at (left_of C.depth c)) (suc at) (right_of C.depth c) }
-        ensures block { self.new.block ≡ self.old.block }
+        ensures place { self.new.place ≡ self.old.place }
     {
         let (middle, right) = self.children[at].divide(right);
         insert_reserved(&mut self.records, at, middle);
@@ -112,8 +188,8 @@ impl<C: Subtree> Inner<C> {
         requires roomy { IfSome spare C.roomy }
         requires room { vec_len self.old.records < vec_capacity self.old.records }
         requires room_below { vec_len self.old.children < vec_capacity self.old.children }
-        ensures { changed_node C.depth self.new.records.items (map C.tree self.new.children.items) self.new.block
-            ≡ settled C.depth at (changed_node C.depth self.old.records.items (map C.tree self.old.children.items) self.old.block) }
+        ensures { changed_node C.depth self.new.records.items (map C.tree self.new.children.items) self.new.place
+            ≡ settled C.depth at (changed_node C.depth self.old.records.items (map C.tree self.old.children.items) self.old.place) }
     {
         if !is_over(&self.children[at]) {
             return;
@@ -165,7 +241,7 @@ impl<C: Subtree> Subtree for Inner<C> {
             records: Vec::new(alloc),
             children: Vec::new(alloc),
             total: 0,
-            block: None,
+            place: UNDEFINED,
             clean: false,
         }
     }
@@ -177,7 +253,7 @@ impl<C: Subtree> Subtree for Inner<C> {
             records,
             children,
             total: 0,
-            block: None,
+            place: UNDEFINED,
             clean: false,
         })
     }
@@ -234,9 +310,49 @@ impl<C: Subtree> Subtree for Inner<C> {
             records,
             children,
             total,
-            block: None,
+            place: UNDEFINED,
             clean: false,
         };
         (middle, right)
+    }
+
+    fn stood(&self, out: &mut Vec<u64>) -> Result<(), OutOfMemory> {
+        if self.clean {
+            return Ok(());
+        }
+        stood_below(&self.children, out)?;
+        out.push(self.place)?;
+        Ok(())
+    }
+
+    fn write(&self, places: &[u64], out: &mut Vec<Write>) -> Result<(usize, Child), OutOfMemory> {
+        if self.clean {
+            return Ok((0, self.pointer(self.place)));
+        }
+        let (below, children) = write_below(&self.children, places, out)?;
+        let place = places[below];
+        let bytes = inner_bytes(&self.records, children, C::depth() + 1)?;
+        put_node(place, &bytes, out)?;
+        Ok((below + 1, self.pointer(place)))
+    }
+
+    fn settle(&mut self, places: &[u64]) -> usize {
+        if self.clean {
+            return 0;
+        }
+        let below = settle_below(&mut self.children, places);
+        self.place = places[below];
+        self.clean = true;
+        below + 1
+    }
+
+    fn copy(&self) -> Result<Inner<C>, OutOfMemory> {
+        Ok(Inner {
+            records: copied(&self.records)?,
+            children: copy_below(&self.children)?,
+            total: self.total,
+            place: self.place,
+            clean: self.clean,
+        })
     }
 }

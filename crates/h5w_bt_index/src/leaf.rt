@@ -1,20 +1,38 @@
-ghost use Rattle.std.specs.Prelude.{◌≡◌, ◌+◌, ◌≤◌};
+ghost use Rattle.std.specs.Prelude.{◌≡◌, ◌+◌, ◌≤◌, length};
+ghost use Rattle.h5w_bt.specs.Parts.{child_of};
 
+use crate::bytes::{leaf_bytes, put_node};
 use crate::lists::move_tail;
 use crate::search::{put_record, search};
 use crate::subtree::Subtree;
-use h5w_bt::{Key, Record, capacity};
-use h5w_model::OutOfMemory;
+use h5w_bt::{Child, Key, Record, capacity};
+use h5w_bytes::UNDEFINED;
+use h5w_cache::copied;
+use h5w_model::{OutOfMemory, Write};
 use std::alloc::Global;
 
 /// A leaf: records alone.
 #[derive(Drop)]
 pub struct Leaf {
     pub records: Vec<Record>,
-    /// The number of its block, where it has one.
-    pub block: Option<u32>,
-    /// Whether its block says what it says.
+    /// Where it stands in the file, UNDEFINED while it was never written.
+    pub place: u64,
+    /// Whether what stands there says what it says.
     pub clean: bool,
+}
+
+impl Leaf {
+    /// What its parent says of it, where it stands at a place.
+    fn pointer(&self, place: u64) -> Child
+        ensures { child_of result ≡ record { address = place; records = length self.now.records.items; total = length self.now.records.items } }
+    {
+        let records = self.records.len() as u64;
+        Child {
+            address: place,
+            records,
+            total: records,
+        }
+    }
 }
 
 impl Subtree for Leaf {
@@ -33,7 +51,7 @@ impl Subtree for Leaf {
     fn blank(alloc: Global) -> Leaf {
         Leaf {
             records: Vec::new(alloc),
-            block: None,
+            place: UNDEFINED,
             clean: false,
         }
     }
@@ -41,7 +59,7 @@ impl Subtree for Leaf {
     fn with_room(alloc: Global) -> Result<Leaf, OutOfMemory> {
         Ok(Leaf {
             records: Vec::with_capacity(alloc, 85)?,
-            block: None,
+            place: UNDEFINED,
             clean: false,
         })
     }
@@ -76,9 +94,43 @@ impl Subtree for Leaf {
         self.clean = false;
         let right = Leaf {
             records,
-            block: None,
+            place: UNDEFINED,
             clean: false,
         };
         (middle, right)
+    }
+
+    fn stood(&self, out: &mut Vec<u64>) -> Result<(), OutOfMemory> {
+        if !self.clean {
+            out.push(self.place)?;
+        }
+        Ok(())
+    }
+
+    fn write(&self, places: &[u64], out: &mut Vec<Write>) -> Result<(usize, Child), OutOfMemory> {
+        if self.clean {
+            return Ok((0, self.pointer(self.place)));
+        }
+        let place = places[0];
+        let bytes = leaf_bytes(&self.records)?;
+        put_node(place, &bytes, out)?;
+        Ok((1, self.pointer(place)))
+    }
+
+    fn settle(&mut self, places: &[u64]) -> usize {
+        if self.clean {
+            return 0;
+        }
+        self.place = places[0];
+        self.clean = true;
+        1
+    }
+
+    fn copy(&self) -> Result<Leaf, OutOfMemory> {
+        Ok(Leaf {
+            records: copied(&self.records)?,
+            place: self.place,
+            clean: self.clean,
+        })
     }
 }

@@ -4,11 +4,13 @@
 //! HDF5 File Format Specification 3.0, "Version 2 B-trees"; docs/FORMAT.md, "Version 2 B-tree".
 #![tactic(auto)]
 
+mod bytes;
 mod error;
 mod index;
 mod inner;
 mod leaf;
 mod lists;
+mod plan;
 mod root;
 mod search;
 mod subtree;
@@ -16,3 +18,4 @@ mod subtree;
 pub use error::InsertError;
 pub use h5w_bt::Key;
 pub use index::TreeIndex;
+pub use plan::Begun;

@@ -1,18 +1,23 @@
 //! The root of a tree of depth 0 to 3.
 
-ghost use Rattle.std.specs.Prelude.{◌≡◌, suc, ◌≤◌, true, false, length, IfOk, IfSome, is_some, IsTrue, ◌↔◌, OnOk, OnErr, MatchOption};
+ghost use Rattle.std.specs.Prelude.{◌≡◌, ℕ, suc, ◌+◌, ◌<◌, ◌≤◌, ◌^◌, ◌++◌, true, false, length, IfOk, IfSome, is_some, IsTrue, ◌↔◌, OnOk, OnErr, MatchOption};
+ghost use Rattle.std.specs.List.{All};
 ghost use Rattle.h5w_model.specs.Trees.{capacity_of};
 ghost use Rattle.h5w_bt_index.specs.Index.{IsIndex, index_of, inserted};
 ghost use Rattle.h5w_bt_index.specs.Nodes.{found, records_of, total_of};
 ghost use Rattle.h5w_bt_index.specs.Puts.{is_full_path, is_over, put, raised};
 ghost use Rattle.h5w_bt_index.specs.Sound.{IsSound};
 ghost use Rattle.h5w_bt_index.specs.Typed.{IsRoomyInner, inner_of};
+ghost use Rattle.h5w_bt_index.specs.Plans.{AllRead, changes, place_of, placed, planned, pointer_of, stood, writes_of, written};
+ghost use Rattle.h5w_bt_index.specs.Marks.{clean_of};
+ghost use Rattle.h5w_bt.specs.Parts.{child_of};
 
 use crate::inner::{Inner, count, is_full, is_over};
 use crate::leaf::Leaf;
 use crate::subtree::Subtree;
-use h5w_bt::{Key, Record};
-use h5w_model::OutOfMemory;
+use h5w_bt::{Child, Key, Record};
+use h5w_bytes::UNDEFINED;
+use h5w_model::{OutOfMemory, Write};
 use std::alloc::Global;
 use std::mem;
 
@@ -72,7 +77,7 @@ fn raise<C: Subtree>(root: &mut C, spare: Spare<C>, alloc: Global) -> Inner<C>
         records,
         children,
         total,
-        block: None,
+        place: UNDEFINED,
         clean: false,
     }
 }
@@ -189,6 +194,93 @@ impl Root {
                 Ok(())
             }
             Root::Three(root) => root.put(item),
+        }
+    }
+
+    /// Where the root stands, UNDEFINED while it was never written.
+    pub fn place(&self) -> u64
+        ensures { result ≡ place_of (index_of self.now).depth (index_of self.now).root }
+    {
+        match self {
+            Root::Zero(root) => root.place,
+            Root::One(root) => root.place,
+            Root::Two(root) => root.place,
+            Root::Three(root) => root.place,
+        }
+    }
+
+    /// Whether the root did not change, and so no node.
+    pub fn is_clean(&self) -> bool
+        ensures { result ≡ clean_of (index_of self.now).depth (index_of self.now).root }
+    {
+        match self {
+            Root::Zero(root) => root.clean,
+            Root::One(root) => root.clean,
+            Root::Two(root) => root.clean,
+            Root::Three(root) => root.clean,
+        }
+    }
+
+    /// Adds the places that changed nodes leave, children first.
+    pub fn stood(&self, out: &mut Vec<u64>) -> Result<(), OutOfMemory>
+        ensures { OnOk result (out.new.items ≡ out.old.items ++ stood (index_of self.now).depth (index_of self.now).root) }
+    {
+        match self {
+            Root::Zero(root) => root.stood(out),
+            Root::One(root) => root.stood(out),
+            Root::Two(root) => root.stood(out),
+            Root::Three(root) => root.stood(out),
+        }
+    }
+
+    /// Adds the writes of changed nodes at these places, children first. Answers how many nodes that are, and the pointer to the root
+    /// then.
+    pub fn write(&self, places: &[u64], out: &mut Vec<Write>) -> Result<(usize, Child), OutOfMemory>
+        requires index { IsIndex (index_of self.now) }
+        requires enough { changes (index_of self.now).depth (index_of self.now).root ≤ length places.now }
+        requires ends { All (λ (p : ℕ). p + 2048 < 2 ^ 64) places.now }
+        ensures pointer { IfOk result (λ r. child_of r.1 ≡ pointer_of (index_of self.now).depth (placed (index_of self.now).depth places.now (index_of self.now).root)) }
+        ensures written { OnOk result (out.new.items ≡ out.old.items ++ writes_of (written (index_of self.now).depth places.now (index_of self.now).root)) }
+        ensures reads { OnOk result (AllRead (index_of self.now).depth places.now (index_of self.now).root) }
+    {
+        match self {
+            Root::Zero(root) => root.write(places, out),
+            Root::One(root) => root.write(places, out),
+            Root::Two(root) => root.write(places, out),
+            Root::Three(root) => root.write(places, out),
+        }
+    }
+
+    /// The changed nodes stand at these places from now on, and are clean.
+    pub fn settle(&mut self, places: &[u64])
+        requires { changes (index_of self.old).depth (index_of self.old).root ≤ length places.now }
+        ensures { index_of self.new ≡ planned places.now (index_of self.old) }
+    {
+        match self {
+            Root::Zero(root) => {
+                root.settle(places);
+            }
+            Root::One(root) => {
+                root.settle(places);
+            }
+            Root::Two(root) => {
+                root.settle(places);
+            }
+            Root::Three(root) => {
+                root.settle(places);
+            }
+        }
+    }
+
+    /// A copy.
+    pub fn copy(&self) -> Result<Root, OutOfMemory>
+        ensures { IfOk result (λ r. index_of r ≡ index_of self.now) }
+    {
+        match self {
+            Root::Zero(root) => Ok(Root::Zero(root.copy()?)),
+            Root::One(root) => Ok(Root::One(root.copy()?)),
+            Root::Two(root) => Ok(Root::Two(root.copy()?)),
+            Root::Three(root) => Ok(Root::Three(root.copy()?)),
         }
     }
 }

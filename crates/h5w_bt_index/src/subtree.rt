@@ -1,13 +1,16 @@
 //! What leaves and inner nodes have in common.
 
-ghost use Rattle.std.specs.Prelude.{◌≡◌, suc, ◌≤◌, ◌^◌, true, length, IfOk, OnOk, OnErr};
+ghost use Rattle.std.specs.Prelude.{◌≡◌, ℕ, suc, ◌+◌, ◌<◌, ◌≤◌, ◌^◌, ◌++◌, true, length, IfOk, OnOk, OnErr};
+ghost use Rattle.std.specs.List.{All};
 ghost use Rattle.h5w_model.specs.Trees.{capacity_of};
 ghost use Rattle.h5w_bt_index.specs.Nodes.{found, records_of, total_of};
 ghost use Rattle.h5w_bt_index.specs.Puts.{is_full_path, is_over, left_of, middle_of, put, right_of};
 ghost use Rattle.h5w_bt_index.specs.Sound.{IsSound};
+ghost use Rattle.h5w_bt_index.specs.Plans.{AllRead, changes, placed, pointer_of, stood, writes_of, written};
+ghost use Rattle.h5w_bt.specs.Parts.{child_of};
 
-use h5w_bt::{Key, Record};
-use h5w_model::OutOfMemory;
+use h5w_bt::{Child, Key, Record};
+use h5w_model::{OutOfMemory, Write};
 use std::alloc::Global;
 
 /// A tree of one depth: a leaf, or a node whose children are trees of the depth below.
@@ -69,4 +72,30 @@ pub trait Subtree: Drop {
         ensures left { tree self.new ≡ left_of depth (tree self.old) }
         ensures middle { result.0 ≡ middle_of depth (tree self.old) }
         ensures right { tree result.1 ≡ right_of depth (tree self.old) };
+
+    /// Adds the places that its changed nodes leave, children first.
+    fn stood(&self, out: &mut Vec<u64>) -> Result<(), OutOfMemory>
+        ensures { OnOk result (out.new.items ≡ out.old.items ++ stood depth (tree self.now)) };
+
+    /// Adds the writes of its changed nodes at these places, children first. Answers how many nodes that are, and the pointer to it
+    /// then.
+    fn write(&self, places: &[u64], out: &mut Vec<Write>) -> Result<(usize, Child), OutOfMemory>
+        requires shallow { depth ≤ 3 }
+        requires sound { IsSound depth (capacity_of depth) (tree self.now) }
+        requires enough { changes depth (tree self.now) ≤ length places.now }
+        requires ends { All (λ (p : ℕ). p + 2048 < 2 ^ 64) places.now }
+        ensures count { IfOk result (λ r. r.0 ≡ changes depth (tree self.now)) }
+        ensures pointer { IfOk result (λ r. child_of r.1 ≡ pointer_of depth (placed depth places.now (tree self.now))) }
+        ensures written { OnOk result (out.new.items ≡ out.old.items ++ writes_of (written depth places.now (tree self.now))) }
+        ensures reads { OnOk result (AllRead depth places.now (tree self.now)) };
+
+    /// Its changed nodes stand at these places from now on, and are clean. Answers how many they are.
+    fn settle(&mut self, places: &[u64]) -> usize
+        requires { changes depth (tree self.old) ≤ length places.now }
+        ensures count { result ≡ changes depth (tree self.old) }
+        ensures placed { tree self.new ≡ placed depth places.now (tree self.old) };
+
+    /// A copy.
+    fn copy(&self) -> Result<Self, OutOfMemory>
+        ensures { IfOk result (λ t. tree t ≡ tree self.now) };
 }

@@ -4,4 +4,4 @@ pub mod PieceLemmas
 pub mod PlannedLemmas
 pub mod MoveLemmas
 pub mod LawLemmas
-mod FinishLemmas
+pub mod FinishLemmas

@@ -72,7 +72,7 @@ recount-requires g c =
     let h : c.args.at < length ds = omega (arith, c.requires.place, rank-inside c.args.item.key c.args.self.now.records.items, c.requires.sound.children, length-map c.args.self.now.children.items t, ap length c.reserve-2.ensures.items) in
     let m = down-children d t c.args.self.now.children.items ds c.args.at c.index_mut.result.now c.put.new.self c.args.item u refl c.reserve-2.ensures.items c.requires.place h c.index_mut.ensures.value c.in-Ok.ensures.ok in
     let e = c.divide_if_over.ensures ∙ down-put d c.args.item u c.args.at c.reserve.new.self.items (map t (set ds c.args.at c.put.new.self)) c.reserve.ensures.items m c.requires.place c.requires.new in
-    down-fits d c.args.item u (changed_node d c.divide_if_over.new.self.records.items (map t c.divide_if_over.new.self.children.items) c.divide_if_over.new.self.block) e c.requires.shallow c.requires.sound
+    down-fits d c.args.item u (changed_node d c.divide_if_over.new.self.records.items (map t c.divide_if_over.new.self.children.items) c.divide_if_over.new.self.place) e c.requires.shallow c.requires.sound
 
 pub returns-clause-ok : goal.returns-clause-ok
 returns-clause-ok g c =

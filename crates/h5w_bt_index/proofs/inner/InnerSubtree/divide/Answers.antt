@@ -1,4 +1,5 @@
-use Rattle.std.proofs.Common.{◌≡◌, ◌+◌, ◌<◌, ◌^◌, ℕ, List, length, sum_by, refl, sym, ap, ap₂, ◌∙◌, map, add-one, suc, None}
+use Rattle.std.proofs.Common.{◌≡◌, ◌+◌, ◌<◌, ◌^◌, ℕ, List, length, sum_by, refl, sym, ap, ap₂, ◌∙◌, map, add-one, suc}
+use Rattle.h5w_model.specs.Numbers.{undefined}
 use Rattle.h5w_model.specs.Trees.{capacity_of}
 use Rattle.h5w_bt_index.specs.Typed.{inner_of}
 use Rattle.h5w_bt_index.specs.Puts.{changed_node, counted, left_of, right_of}
@@ -16,7 +17,7 @@ recount-requires g c =
     let h = over-half (suc d) u c.requires.over in
     let l = divide-left d t u c.args.self.now.children.items c.move_tail.new.from.items c.take_last-middle.new.self.items c.capacity.result c.take_last-middle.result refl e h
     (sym c.move_tail-2.ensures.stay ∙ c.take_last-middle.ensures.items) c.move_tail.ensures.stay in
-    part-fits (suc d) (left_of (suc d) u) (changed_node d c.take_last-middle.new.self.items (map t c.move_tail.new.from.items) c.args.self.now.block) l c.requires.shallow
+    part-fits (suc d) (left_of (suc d) u) (changed_node d c.take_last-middle.new.self.items (map t c.move_tail.new.from.items) c.args.self.now.place) l c.requires.shallow
     (left_sound (suc d) (suc (capacity_of (suc d))) u h c.requires.sound)
 
 pub count-total-requires : goal.count-total-requires
@@ -29,7 +30,7 @@ count-total-requires g c =
     let r = divide-right d t u c.args.self.now.children.items c.move_tail.new.to.items c.move_tail-2.new.to.items c.capacity.result refl e c.move_tail-2.ensures.moved c.move_tail.ensures.moved in
     let q : sum_by (total_of d) (map t c.deref.result.now) ≡ sum_by (total_of d) (map t c.move_tail.new.to.items) = ap (λ (l : List _). sum_by (total_of d) (map t l)) c.deref.ensures.value in
     let n : c.len.result ≡ length c.move_tail-2.new.to.items = c.len.ensures ∙ c.move_tail-2.new.to.ok.0 in
-    let f : length c.move_tail-2.new.to.items + sum_by (total_of d) (map t c.move_tail.new.to.items) < 2 ^ 64 = part-fits (suc d) (right_of (suc d) u) (changed_node d c.move_tail-2.new.to.items (map t c.move_tail.new.to.items) None) r c.requires.shallow (right_sound (suc d) u h c.requires.sound) in
+    let f : length c.move_tail-2.new.to.items + sum_by (total_of d) (map t c.move_tail.new.to.items) < 2 ^ 64 = part-fits (suc d) (right_of (suc d) u) (changed_node d c.move_tail-2.new.to.items (map t c.move_tail.new.to.items) undefined) r c.requires.shallow (right_sound (suc d) u h c.requires.sound) in
     sums_small c.len.result (length c.move_tail-2.new.to.items) (sum_by (total_of d) (map t c.deref.result.now)) (sum_by (total_of d) (map t c.move_tail.new.to.items)) n q f
 
 pub returns-clause-left : goal.returns-clause-left
@@ -54,4 +55,4 @@ returns-clause-right g c =
     let q : sum_by (total_of d) (map t c.deref.result.now) ≡ sum_by (total_of d) (map t c.move_tail.new.to.items) = ap (λ (l : List _). sum_by (total_of d) (map t l)) c.deref.ensures.value in
     let m : c.len.result ≡ length c.move_tail-2.new.to.items = c.len.ensures ∙ c.move_tail-2.new.to.ok.0 in
     let n : c.count-total.result ≡ counted d c.move_tail-2.new.to.items (map t c.move_tail.new.to.items) = c.count-total.ensures ∙ ap₂ (λ (a b : ℕ). a + b) m q in
-    counted-node d c.move_tail-2.new.to.items (map t c.move_tail.new.to.items) None c.count-total.result n ∙ r
+    counted-node d c.move_tail-2.new.to.items (map t c.move_tail.new.to.items) undefined c.count-total.result n ∙ r

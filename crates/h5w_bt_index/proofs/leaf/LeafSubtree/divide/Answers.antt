@@ -10,4 +10,4 @@ pub returns-clause-left : goal.returns-clause-left
 returns-clause-left c =
     let p = front_of 42 c.args.self.now.records.items c.take_last-middle.new.self.items c.take_last-middle.result no_record
     (over-half 0 (leaf_of c.args.self.now) c.requires.over) (ap (λ (n : ℕ). take (n / 2 + 1) c.args.self.now.records.items) (sym c.capacity.ensures.exact) ∙ sym c.move_tail.ensures.stay ∙ c.take_last-middle.ensures.items) in
-    ap (λ (l : List Record). changed_leaf l c.args.self.now.block) (p.0)
+    ap (λ (l : List Record). changed_leaf l c.args.self.now.place) (p.0)

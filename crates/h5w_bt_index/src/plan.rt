@@ -1,0 +1,189 @@
+//! The plan of a tree's changed nodes.
+
+ghost use Rattle.std.specs.Prelude.{◌≡◌, ℕ, ◌+◌, ◌<◌, ◌≤◌, ◌^◌, [], length, IfErr, IfOk, OnErr, OnOk, vec_capacity};
+ghost use Rattle.std.specs.List.{All};
+ghost use Rattle.h5w_cache.specs.Plans.{AreRetired, IfFull, IsRefused};
+ghost use Rattle.h5w_bt.specs.Fields.{bthd_of};
+ghost use Rattle.h5w_bt_index.specs.Index.{IsIndex, index_of};
+ghost use Rattle.h5w_bt_index.specs.Plans.{AllRead, AreNodeMoves, AreTaken, HasNoPlace, IsBegun, IsNodeMove, changes, header_writes, news, olds, planned, stood, writes_of, written};
+
+use crate::bytes::put_header;
+use crate::root::Root;
+use h5w_bt::{Bthd, Child, NODE};
+use h5w_cache::{Move, Plan, PlanError, retire_all, take_place};
+use h5w_model::{OutOfMemory, Write};
+use h5w_space::{Full, Places};
+use std::alloc::Global;
+use std::marker::Model;
+
+/// A plan that is begun: its moves and its writes, and the places after them. Nothing has changed yet.
+#[derive(Drop)]
+pub struct Begun {
+    plan: Plan,
+    /// The places that the changed nodes get, in the order in which they are written.
+    new: Vec<u64>,
+    next: Places,
+}
+
+impl Model for Begun {
+    ghost use Rattle.std.specs.Prelude.{◌≡◌};
+    ghost use Rattle.h5w_bt_index.specs.Plans.{Start, news};
+
+    ghost Value = { Start };
+
+    ghost view = { λ b. record {
+      moves = b.plan.moves.items;
+      copies = b.plan.copies.items;
+      in_place = b.plan.in_place.items;
+      next = b.next;
+    } };
+
+    ghost invariant = { λ b. b.new.items ≡ news b.plan.moves.items };
+}
+
+impl Begun {
+    /// How many pieces the writes of the changed nodes will be.
+    pub fn copies(&self) -> usize
+        ensures { result ≡ length self.now.copies }
+    {
+        self.plan.copies.len()
+    }
+
+    /// How many pieces the writes of the header will be.
+    pub fn in_place(&self) -> usize
+        ensures { result ≡ length self.now.in_place }
+    {
+        self.plan.in_place.len()
+    }
+
+    /// The first byte after the file, once the plan is finished.
+    pub fn end(&self) -> u64
+        ensures { result ≡ self.now.next.end }
+    {
+        self.next.end()
+    }
+}
+
+/// A node at a place gets a new one.
+fn move_from(old: u64, places: &mut Places) -> Result<Move, Full>
+    ensures old { IfOk result (λ m. m.old ≡ old) }
+    ensures ok { IfOk result (λ m. IsNodeMove places.old m places.new) }
+    ensures refused { IfErr result (λ e. IsRefused places.old 2048 e) }
+    ensures kept { OnErr result (places.new ≡ places.old) }
+{
+    let new = take_place(NODE as u64, places)?;
+    Ok(Move {
+        number: 0,
+        old,
+        new,
+        len: NODE as u64,
+        in_place: false,
+    })
+}
+
+/// Nodes at these places get new ones.
+fn move_all(stood: &[u64], moves: &mut Vec<Move>, places: &mut Places) -> Result<(), Full>
+    requires empty { moves.old.items ≡ [] }
+    requires room { length stood.now ≤ vec_capacity moves.old }
+    ensures old { OnOk result (olds moves.new.items ≡ stood.now) }
+    ensures moves { OnOk result (AreNodeMoves places.old moves.new.items places.new) }
+    ensures full { IfErr result (HasNoPlace (length stood.now) places.old) }
+{
+    for old in stood {
+        let step = move_from(*old, places)?;
+        moves.push_reserved(step);
+    }
+    Ok(())
+}
+
+/// The moves of the changed nodes, and the places after them.
+fn moves_of(root: &Root, alloc: Global, places: &Places) -> Result<(Vec<Move>, Places), PlanError>
+    ensures taken { IfOk result (λ r. AreTaken (index_of root.now) places.now r.0.items r.1) }
+    ensures full { IfErr result (λ e. IfFull e (HasNoPlace (changes (index_of root.now).depth (index_of root.now).root) places.now)) }
+{
+    let mut stood = Vec::new(alloc);
+    root.stood(&mut stood)?;
+    let mut moves = Vec::with_capacity(alloc, stood.len())?;
+    let mut next = places.copy()?;
+    move_all(&stood, &mut moves, &mut next).map_err(PlanError::Full)?;
+    next.reserve(moves.len() as u64)?;
+    Ok((moves, next))
+}
+
+/// The places that nodes get.
+fn news(moves: &Vec<Move>) -> Result<Vec<u64>, OutOfMemory>
+    ensures { IfOk result (λ v. v.items ≡ news moves.now.items) }
+{
+    let mut places = Vec::with_capacity(*moves.allocator(), moves.len())?;
+    for step in moves {
+        places.push(step.new)?;
+    }
+    Ok(places)
+}
+
+/// What the header says where this is the pointer to the root.
+fn header(depth: u64, root: Child) -> Bthd
+    ensures { bthd_of result ≡ record { depth = depth; root = root.address; records = root.records; total = root.total } }
+{
+    Bthd {
+        depth,
+        root: root.address,
+        records: root.records,
+        total: root.total,
+    }
+}
+
+/// The writes of the changed nodes at these places, and of the header.
+fn writes_at(
+    root: &Root,
+    place: u64,
+    places: &Vec<u64>,
+) -> Result<(Vec<Write>, Vec<Write>), OutOfMemory>
+    requires index { IsIndex (index_of root.now) }
+    requires enough { changes (index_of root.now).depth (index_of root.now).root ≤ length places.now.items }
+    requires ends { All (λ (p : ℕ). p + 2048 < 2 ^ 64) places.now.items }
+    ensures copies { IfOk result (λ r. r.0.items ≡ writes_of (written (index_of root.now).depth places.now.items (index_of root.now).root)) }
+    ensures in_place { IfOk result (λ r. r.1.items ≡ header_writes place (index_of root.now) (planned places.now.items (index_of root.now))) }
+    ensures reads { OnOk result (AllRead (index_of root.now).depth places.now.items (index_of root.now).root) }
+{
+    let mut copies = Vec::new(*places.allocator());
+    let mut in_place = Vec::new(*places.allocator());
+    let (_, pointer) = root.write(places, &mut copies)?;
+    if !root.is_clean() {
+        put_header(place, header(root.depth(), pointer), &mut in_place)?;
+    }
+    Ok((copies, in_place))
+}
+
+/// All that a plan of the changed nodes needs.
+pub fn begin(root: &Root, place: u64, alloc: Global, places: &Places) -> Result<Begun, PlanError>
+    requires { IsIndex (index_of root.now) }
+    ensures begun { IfOk result (λ b. IsBegun place (index_of root.now) places.now b) }
+    ensures full { IfErr result (λ e. IfFull e (HasNoPlace (changes (index_of root.now).depth (index_of root.now).root) places.now)) }
+{
+    let (moves, next) = moves_of(root, alloc, places)?;
+    let new = news(&moves)?;
+    let (copies, in_place) = writes_at(root, place, &new)?;
+    let plan = Plan {
+        moves,
+        copies,
+        in_place,
+    };
+    Ok(Begun { plan, new, next })
+}
+
+/// The plan that was begun of this tree and these places; all nodes are clean from then on.
+pub fn finish(root: &mut Root, places: &mut Places, begun: Begun) -> Plan
+    requires taken { AreTaken (index_of root.old) places.old begun.moves begun.next }
+    ensures moves { result.moves.items ≡ begun.moves }
+    ensures copies { result.copies.items ≡ begun.copies }
+    ensures in_place { result.in_place.items ≡ begun.in_place }
+    ensures retired { AreRetired begun.next begun.moves places.new }
+    ensures planned { index_of root.new ≡ planned (news begun.moves) (index_of root.old) }
+{
+    let Begun { plan, new, next } = begun;
+    *places = next;
+    retire_all(&plan.moves, places);
+    root.settle(&new);
+    plan
+}
