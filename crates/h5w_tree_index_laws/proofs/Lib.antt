@@ -1,0 +1,11 @@
+pub mod TreeReadLemmas
+pub mod TreeVisitLemmas
+pub mod TreeStandLemmas
+pub mod TreePlanLemmas
+pub mod TreeRangeLemmas
+pub mod TreeHeaderLemmas
+pub mod TreeFlushLemmas
+pub mod TreeInsertLemmas
+pub mod TreePlaceLemmas
+pub mod TreeLaws
+pub mod TreeRestLemmas

@@ -1,0 +1,160 @@
+-- The header of a tree, and nodes that other writes miss.
+use Rattle.std.proofs.Common.{◌≡◌, ◌≢◌, ℕ, zero, suc, ◌+◌, ◌<◌, ◌≤◌, ◌^◌, Bool, true, false, cond, eqb, List, [], ◌∷◌, ◌++◌, length, map, Result, Ok, refl, sym, ap, subst, ◌∙◌, inl, inr, arith}
+use Rattle.std.specs.List.{All}
+use Rattle.std.proofs.lemmas.Bool.{cond-false, eqb-true}
+use Rattle.std.proofs.lemmas.List.{length-map}
+use Rattle.std.proofs.lemmas.List.Elements.{All-head, All-tail}
+use Rattle.h5w_model.specs.Numbers.{le, range, undefined}
+use Rattle.h5w_model.specs.Images.{AllMiss, apply, image}
+use Rattle.h5w_model.specs.Programs.{Prog, eval, visits}
+use Rattle.h5w_model.specs.Trees.{BthdFields, bthd_at, bthd_bytes, bthd_len, capacity_of, node_size}
+use Rattle.h5w_model.specs.Datasets.{Described, refused_as}
+use Rattle.h5w_model.specs.Tables.{InPlace, nowhere, in_tree, in_place, array_in_place, tree_in_place}
+use Rattle.h5w_model.specs.Findings.{Used}
+use Rattle.h5w_model.specs.declared.cell.IndexKind.{IndexKind}
+use Rattle.h5w_model.specs.declared.cell.IndexKind.TheVariants.{Array, Tree as a_tree}
+use Rattle.h5w_model.specs.declared.piece.Write.{Write}
+use Rattle.h5w_model.specs.declared.refusal.ReadError.{ReadError}
+use Rattle.h5w_model.specs.declared.refusal.ReadError.TheVariants.{Damaged}
+use Rattle.h5w_model.proofs.ChecksumLemmas.{length-sealed_block}
+use Rattle.h5w_model.proofs.ImageLemmas.{At-apply, At-image_missed}
+use Rattle.h5w_laws.proofs.ResultLemmas.{then_from}
+use Rattle.h5w_laws.proofs.SlotLemmas.{refused_from}
+use Rattle.h5w_visits.specs.Ranges.{Among, blocks_of}
+use Rattle.h5w_visits.proofs.RangeLemmas.{among_left, among_right}
+use Rattle.h5w_flush_laws.specs.Parts.{SaysInPlace}
+use Rattle.h5w_bt.proofs.Spelling.{bthd_at-bthd_body, bthd_body, bthd_bytes-is}
+use Rattle.h5w_bt.specs.declared.records.Record.{Record}
+use Rattle.h5w_bt_index.specs.Nodes.{Tree, records_of}
+use Rattle.h5w_bt_index.specs.Sound.{IsSound}
+use Rattle.h5w_bt_index.specs.Marks.{IsCleanPart, Part, Some_of}
+use Rattle.h5w_bt_index.specs.Index.{Index, IsClean, IsIndex}
+use Rattle.h5w_bt_index.specs.Plans.{header_of, node_bytes, place_of}
+use Rattle.h5w_tree_index_laws.specs.TreeImages.{StandsNode, StandsTree, around, blocks_in_place, chunk_of, chunks_of, own_range, ranges_under}
+use Rattle.h5w_tree_index_laws.specs.TreeFlushes.{header_range}
+use Rattle.h5w_bt_index.proofs.Bounds.{room_small, total_fits}
+use Rattle.h5w_tree_index_laws.proofs.TreePlanLemmas.{node_long}
+use Rattle.h5w_tree_index_laws.specs.TreeImages.{node_range}
+use Rattle.h5w_tree_index_laws.proofs.TreeStandLemmas.{PartStands, placed_differs}
+
+-- ---- The header
+
+pub header_long : (t : BthdFields) → length (bthd_bytes t) ≡ 38
+unfolding le
+header_long t = ap length (bthd_bytes-is t) ∙ length-sealed_block (bthd_body t)
+
+pub root_few : (d m : ℕ) (t : Tree d) → IsSound d m t → length (records_of d t) ≤ m
+root_few zero m t s = s
+root_few (suc d) m t s = s.few
+
+pub header_reads : (v : Index) (place : ℕ) → IsIndex v → place_of v.depth v.root < 2 ^ 64 → bthd_at (bthd_bytes (header_of v)) place ≡ Ok (header_of v)
+header_reads v place i low =
+    ap (λ b. bthd_at b place) (bthd_bytes-is (header_of v))
+    ∙ bthd_at-bthd_body (header_of v) place (record { shallow = i.shallow; few = root_few v.depth (capacity_of v.depth) v.root i.sound }) low
+    (total_fits v.depth (capacity_of v.depth) v.root i.shallow (omega (arith, room_small v.depth i.shallow)) i.sound)
+
+abbrev in_place_ok : InPlace → Result InPlace ReadError
+in_place_ok p = Ok p
+
+pub address_other : (a place : ℕ) → a ≡ place → place ≢ undefined → eqb a undefined ≡ false
+address_other a place e n = go (eqb a undefined) refl
+  where
+    go : (b : Bool) → eqb a undefined ≡ b → b ≡ false
+    go true f = absurd (n (sym e ∙ eqb-true a undefined f))
+    go false f = refl
+
+abbrev by_kind : IndexKind → ℕ → Prog (Result InPlace ReadError)
+by_kind kind a = elim kind as (λ _. Prog (Result InPlace ReadError)) [ Array ↦ array_in_place a | a_tree ↦ tree_in_place a ]
+
+in_place_is : (d : Described) (place : ℕ) → d.layout.index ≡ a_tree → d.layout.address ≡ place → place ≢ undefined → in_place d ≡ tree_in_place place
+in_place_is d place kind e n =
+    cond-false (eqb d.layout.address undefined) _ _ (address_other d.layout.address place e n)
+    ∙ ap (λ k. by_kind k d.layout.address) kind ∙ ap tree_in_place e
+
+-- where the header at its place says this tree, the block in place does
+pub header_says : (v : Index) (img : List ℕ) (d : Described) (place : ℕ) → d.layout.index ≡ a_tree → d.layout.address ≡ place → place ≢ undefined → bthd_at (range img place bthd_len) place ≡ Ok (header_of v)
+    → SaysInPlace img d (blocks_in_place v) (header_range place ∷ [])
+header_says v img d place kind e n reads =
+    let is : in_place d ≡ tree_in_place place = in_place_is d place kind e n in
+    record {
+      says = ap (eval img) is
+          ∙ then_from (refused_as (Damaged place) (bthd_at (range img place bthd_len) place)) (λ (t : BthdFields). in_place_ok (cond (eqb t.root undefined) nowhere (in_tree t))) (header_of v) (blocks_in_place v)
+          (refused_from (Damaged place) (bthd_at (range img place bthd_len) place) (header_of v) reads) refl;
+      looks = sym (ap (λ p. blocks_of (visits img p)) is);
+    }
+
+-- the header once it is written
+pub header_written : (v : Index) (img : List ℕ) (place : ℕ) → IsIndex v → place_of v.depth v.root < 2 ^ 64
+    → bthd_at (range (apply (record { at = place; piece = bthd_bytes (header_of v) }) img) place bthd_len) place ≡ Ok (header_of v)
+header_written v img place i low =
+    let w : Write = record { at = place; piece = bthd_bytes (header_of v) } in
+    let there : range (apply w img) place (length (bthd_bytes (header_of v))) ≡ bthd_bytes (header_of v) = At-apply w img in
+    ap (λ b. bthd_at b place) (ap (range (apply w img) place) (sym (header_long (header_of v))) ∙ there) ∙ header_reads v place i low
+
+-- ---- Nodes that writes miss
+
+pub record PartIs (p : Part) : Type 0 where
+  pub low : p.depth ≤ 3
+  pub sound : IsSound p.depth (capacity_of p.depth) p.tree
+
+some_sound : (d : ℕ) (p : Part) (cs : List (Tree d)) → ((c : Tree d) → IsSound d (capacity_of d) c → IsCleanPart p d c → PartIs p) → All (IsSound d (capacity_of d)) cs → Some_of (IsCleanPart p d) cs → PartIs p
+some_sound d p [] f s h = absurd h
+some_sound d p (c ∷ cs) f s (inl h) = f c (All-head (IsSound d (capacity_of d)) c cs s) h
+some_sound d p (c ∷ cs) f s (inr h) = some_sound d p cs f (All-tail (IsSound d (capacity_of d)) c cs s) h
+
+pub part_sound : (p : Part) (d : ℕ) (t : Tree d) → d ≤ 3 → IsSound d (capacity_of d) t → IsCleanPart p d t → PartIs p
+part_sound p zero t low s h = subst PartIs (sym h.1) (record { low = low; sound = s })
+part_sound p (suc d) t low s (inl h) = subst PartIs (sym h.1) (record { low = low; sound = s })
+part_sound p (suc d) t low s (inr h) = some_sound d p t.children (λ c. part_sound p d c (omega (arith, low))) s.each h
+
+-- a write that misses a node leaves it
+pub node_left : (img : List ℕ) (ws : List Write) (d : ℕ) (t : Tree d) → d ≤ 3 → IsSound d (capacity_of d) t → AllMiss ws (place_of d t) node_size → StandsNode img d t → StandsNode (image img ws) d t
+node_left img ws d t low sound miss s = record {
+  there = At-image_missed img ws (place_of d t) (node_bytes d t) (subst (λ (n : ℕ). AllMiss ws (place_of d t) n) (sym (node_long d t low sound)) miss) s.there;
+  reads = s.reads;
+  ends = s.ends;
+}
+
+pub tree_left : (v : Index) (img : List ℕ) (ws : List Write) → IsIndex v → StandsTree v img → ((p : Part) → IsClean p v → StandsNode img p.depth p.tree → AllMiss ws (place_of p.depth p.tree) node_size) → StandsTree v (image img ws)
+tree_left v img ws i stands miss p clean = go (stands p clean) (part_sound p v.depth v.root i.shallow i.sound clean)
+  where
+    go : PartStands img p → PartIs p → PartStands (image img ws) p
+    go (inl b) is = inl b
+    go (inr s) is = inr (node_left img ws p.depth p.tree is.low is.sound (miss p clean s) s)
+
+-- ---- A node among the ranges
+
+own_there : (place : ℕ) → place + node_size < 2 ^ 64 → Among (node_range place) (own_range place)
+own_there place h = subst (λ (us : List Used). Among (node_range place) us) (sym (cond-false (eqb place undefined) [] (node_range place ∷ []) (placed_differs place h))) (inl refl)
+
+around_has : (bytes : ℕ) (u : Used) (rs : List Record) (cs : List (List Used)) → Some_of (λ (l : List Used). Among u l) cs → length cs ≡ length rs + 1 → Among u (around bytes rs cs)
+around_has bytes u rs [] h n = absurd h
+around_has bytes u [] (c ∷ []) (inl h) n = h
+around_has bytes u [] (c ∷ []) (inr h) n = absurd h
+around_has bytes u [] (c ∷ d ∷ cs) h n = absurd (omega (arith, n))
+around_has bytes u (r ∷ rs) (c ∷ cs) (inl h) n = among_left u c (chunk_of bytes r ++ around bytes rs cs) h
+around_has bytes u (r ∷ rs) (c ∷ cs) (inr h) n = among_right u c (chunk_of bytes r ++ around bytes rs cs) (among_right u (chunk_of bytes r) (around bytes rs cs) (around_has bytes u rs cs h (omega (arith, n))))
+
+some_mapped : {A B : Type 0} (P : A → Type 0) (Q : B → Type 0) (f : A → B) (xs : List A) → ((x : A) → P x → Q (f x)) → Some_of P xs → Some_of Q (map f xs)
+some_mapped P Q f [] k h = h
+some_mapped P Q f (x ∷ xs) k (inl h) = inl (k x h)
+some_mapped P Q f (x ∷ xs) k (inr h) = inr (some_mapped P Q f xs k h)
+
+some_range : (bytes : ℕ) (p : Part) (d : ℕ) (cs : List (Tree d)) → ((c : Tree d) → IsSound d (capacity_of d) c → place_of p.depth p.tree + node_size < 2 ^ 64 → IsCleanPart p d c → Among (node_range (place_of p.depth p.tree)) (ranges_under bytes d c))
+    → All (IsSound d (capacity_of d)) cs → place_of p.depth p.tree + node_size < 2 ^ 64 → Some_of (IsCleanPart p d) cs → Some_of (λ (l : List Used). Among (node_range (place_of p.depth p.tree)) l) (map (ranges_under bytes d) cs)
+some_range bytes p d [] f s low h = h
+some_range bytes p d (c ∷ cs) f s low (inl h) = inl (f c (All-head (IsSound d (capacity_of d)) c cs s) low h)
+some_range bytes p d (c ∷ cs) f s low (inr h) = inr (some_range bytes p d cs f (All-tail (IsSound d (capacity_of d)) c cs s) low h)
+
+-- with all its nodes sound: a clean node's range
+pub part_range : (bytes : ℕ) (p : Part) (d : ℕ) (t : Tree d) → IsSound d (capacity_of d) t → place_of p.depth p.tree + node_size < 2 ^ 64 → IsCleanPart p d t → Among (node_range (place_of p.depth p.tree)) (ranges_under bytes d t)
+part_range bytes p zero t s low h =
+    let e : place_of p.depth p.tree ≡ t.place = ap (λ (q : Part). place_of q.depth q.tree) h.1 in
+    subst (λ (n : ℕ). Among (node_range n) (ranges_under bytes zero t)) (sym e) (among_left (node_range t.place) (own_range t.place) (chunks_of bytes t.records) (own_there t.place (subst (λ (n : ℕ). n + node_size < 2 ^ 64) e low)))
+part_range bytes p (suc d) t s low (inl h) =
+    let e : place_of p.depth p.tree ≡ t.place = ap (λ (q : Part). place_of q.depth q.tree) h.1 in
+    subst (λ (n : ℕ). Among (node_range n) (ranges_under bytes (suc d) t)) (sym e) (among_left (node_range t.place) (own_range t.place) (around bytes t.records (map (ranges_under bytes d) t.children)) (own_there t.place (subst (λ (n : ℕ). n + node_size < 2 ^ 64) e low)))
+part_range bytes p (suc d) t s low (inr h) =
+    let u : Used = node_range (place_of p.depth p.tree) in
+    among_right u (own_range t.place) (around bytes t.records (map (ranges_under bytes d) t.children))
+    (around_has bytes u t.records (map (ranges_under bytes d) t.children) (some_range bytes p d t.children (λ c. part_range bytes p d c) s.each low h) (length-map t.children (ranges_under bytes d) ∙ s.children))

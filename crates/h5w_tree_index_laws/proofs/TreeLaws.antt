@@ -1,0 +1,68 @@
+-- A flush whose index is a tree.
+use Rattle.std.proofs.Common.{◌≡◌, ℕ, suc, Bool, true, false, List, [], ◌∷◌, ◌++◌, length, map, sym, ◌∙◌, ap, subst, inl, inr, arith}
+use Rattle.std.specs.Prelude.{◌==◌}
+use Rattle.std.proofs.lemmas.List.{length-map}
+use Rattle.h5w_model.specs.Numbers.{undefined}
+use Rattle.h5w_model.specs.Datasets.{Described}
+use Rattle.h5w_model.specs.Findings.{Used, chunk_bytes}
+use Rattle.h5w_model.specs.declared.cell.Key.{Key}
+use Rattle.h5w_visits.specs.Ranges.{Among, chunk_at}
+use Rattle.h5w_cache.specs.declared.moves.Move.{Move}
+use Rattle.h5w_chunks.specs.Shares.{touched_key}
+use Rattle.h5w_chunks.specs.declared.grid.ChunkPlace.{ChunkPlace}
+use Rattle.h5w_flush_laws.specs.Spaces.{Taken}
+use Rattle.h5w_flush_laws.specs.Parts.{block_ranges}
+use Rattle.h5w_flush_laws.specs.Rows.{new_chunks}
+use Rattle.h5w_flush_laws.proofs.SpaceLemmas.{taken_laws}
+use Rattle.h5w_flush_laws.proofs.NewChunkLemmas.{or_none}
+use Rattle.h5w_flush_laws.proofs.RowsLaws.{rows_flush}
+use Rattle.h5w_bt_index.specs.Index.{Index, IsIndex}
+use Rattle.h5w_bt_index.specs.Plans.{changes, news, olds, stood, written}
+use Rattle.h5w_tree_index_laws.specs.TreeImages.{node_range}
+use Rattle.h5w_tree_index_laws.specs.TreeFlushes.{AreChunks, TreeIsFlush, chunks_for, fresh, tree_parts}
+use Rattle.h5w_tree_index_laws.proofs.TreeFlushLemmas.{same_news, take_them, tree_flushed}
+use Rattle.h5w_tree_index_laws.proofs.TreePlaceLemmas.{tree_places}
+use Rattle.h5w_tree_index_laws.proofs.TreePlanLemmas.{takes}
+
+new_are : (d : Described) (old : Key → ℕ) (from base : ℕ) (places : List ChunkPlace) → AreChunks (new_chunks d old from base places)
+new_are d old from base [] u a = absurd a
+new_are d old from base (p ∷ places) u a = go (old (touched_key d from base) == undefined) (λ b. new_are d old from (suc base) places u b) a
+  where
+    go : (t : Bool) → (Among u (new_chunks d old from (suc base) places) → u.chunk ≡ true) → Among u (or_none t (chunk_at p.address (chunk_bytes d)) (new_chunks d old from (suc base) places)) → u.chunk ≡ true
+    go true later (inl e) = ap (λ (x : Used). x.chunk) (sym e)
+    go true later (inr b) = later b
+    go false later b = later b
+
+-- the copies of the plan take the places of its moves
+copies_are : (v : Index) (ms : List Move) (copies : List (ℕ × List ℕ)) → IsIndex v → olds ms ≡ stood v.depth v.root → copies ≡ written v.depth (news ms) v.root → block_ranges copies ≡ fresh ms
+copies_are v ms copies i old is =
+    let ps : List ℕ = news ms in
+    let count : changes v.depth v.root ≡ length ps = ap length (sym old) ∙ length-map ms (λ (m : Move). m.old) ∙ sym (length-map ms (λ (m : Move). m.new)) in
+    ap block_ranges is ∙ takes v.depth v.root ps i.shallow i.sound (omega (arith, count)) ∙ ap (map node_range) (take_them ps (changes v.depth v.root) count) ∙ same_news ms
+
+pub tree_is_flush : TreeIsFlush
+tree_is_flush img name m old s b t place v w ms rows more writes places copies supers fixed k first rises small few count placed ended x =
+    let chunks : List Used = chunks_for m old places in
+    let f = tree_parts (chunk_bytes m.dataset) place w rows more writes chunks copies supers t.end fixed in
+    let part = rows_flush img name m old s b f places k first rises few count placed in
+    let are = new_are m.dataset old m.dataset.shape.rows 0 places in
+    let p = tree_places img name m old s b t place v w ms chunks copies fixed k first are x in
+    let same : fresh ms ≡ block_ranges copies = sym (copies_are v ms copies x.index x.plan.taken.old x.copied) in
+    let taken : Taken s (chunks ++ block_ranges copies) p.between = subst (λ (us : List Used). Taken s (chunks ++ us) p.between) same (taken_laws.joined s b p.between chunks (fresh ms) first p.taken) in
+    record {
+      rises = rises;
+      small = small;
+      few = few;
+      count = count;
+      named = tt;
+      written = part.flushed;
+      index = tree_flushed img name m old s b p.between t place v w ms rows more writes chunks copies supers t.end fixed k taken p.let_go.end ended part.flushed.unseen are part.kept x;
+      between = p.between;
+      taken = taken;
+      end = p.let_go.end;
+      super = ended;
+      left = p.left;
+      let_go = p.let_go;
+      left_before = p.left_before;
+      left_after = p.left_after;
+    }

@@ -1,0 +1,93 @@
+-- A tree of a session on the image of a file: where its nodes stand, and the ranges that it uses.
+use Rattle.std.specs.Prelude.{◌≡◌, ◌⊎◌, ℕ, zero, suc, ◌+◌, ◌<◌, ◌≤◌, ◌^◌, ◌==◌, true, List, [], ◌∷◌, ◌++◌, map, flat_map, if◌then◌else◌, Ok}
+use Rattle.std.specs.List.{All}
+use Rattle.h5w_model.specs.Numbers.{undefined}
+use Rattle.h5w_model.specs.Images.{At}
+use Rattle.h5w_model.specs.Programs.{eval}
+use Rattle.h5w_model.specs.Trees.{node_size}
+use Rattle.h5w_model.specs.Tables.{InPlace, nowhere, in_tree, address_behind}
+use Rattle.h5w_model.specs.Findings.{Used}
+use Rattle.h5w_model.specs.declared.cell.Key.{Key}
+use Rattle.h5w_visits.specs.Ranges.{AllAmong, AllEndBy, block_at, chunk_at}
+use Rattle.h5w_steps.specs.Counts.{count_at}
+use Rattle.h5w_visits.specs.Indexes.{behind_visit}
+use Rattle.h5w_bt.specs.declared.records.Record.{Record}
+use Rattle.h5w_bt_index.specs.Nodes.{Tree}
+use Rattle.h5w_bt_index.specs.Marks.{Part, clean_of}
+use Rattle.h5w_bt_index.specs.Index.{Index, IsClean, IsHalfFull, IsIndex, address_of, blank_leaf, inserted}
+use Rattle.h5w_bt_index.specs.Plans.{ReadsBack, header_of, node_bytes, place_of}
+
+-- the node stands at its place, ends below 2^64, and reads back
+pub record StandsNode (img : List ℕ) (d : ℕ) (t : Tree d) : Type 0 where
+  pub there : At img (place_of d t) (node_bytes d t)
+  pub reads : ReadsBack d t
+  pub ends : place_of d t + node_size < 2 ^ 64
+
+-- each node does
+abbrev pub AllStand : List ℕ → (d : ℕ) → Tree d → Type 0
+AllStand img zero t = StandsNode img zero t
+AllStand img (suc d) t = StandsNode img (suc d) t × All (AllStand img d) t.children
+
+-- the tree without records stands nowhere
+abbrev pub blank : Part
+blank = record { depth = 0; tree = blank_leaf }
+
+-- Each node that did not change since it was written stands at its place.
+abbrev pub StandsTree : Index → List ℕ → Type 0
+StandsTree v img = (p : Part) → IsClean p v → (p ≡ blank) ⊎ StandsNode img p.depth p.tree
+
+-- ---- Ranges
+
+-- of a record's chunk, where it has an address
+abbrev pub chunk_of : ℕ → Record → List Used
+chunk_of bytes r = if r.address == undefined then [] else chunk_at r.address bytes ∷ []
+
+abbrev pub chunks_of : ℕ → List Record → List Used
+chunks_of bytes rs = flat_map (chunk_of bytes) rs
+
+-- of a node at a place
+abbrev pub node_range : ℕ → Used
+node_range place = block_at place node_size
+
+-- of a node, where it has a place
+abbrev pub own_range : ℕ → List Used
+own_range place = if place == undefined then [] else node_range place ∷ []
+
+-- of records with what is under the children around them
+abbrev pub around : ℕ → List Record → List (List Used) → List Used
+around bytes rs [] = []
+around bytes [] (c ∷ cs) = c
+around bytes (r ∷ rs) (c ∷ cs) = c ++ (chunk_of bytes r ++ around bytes rs cs)
+
+-- of a node and of all that is under it, in the order of a check
+abbrev pub ranges_under : ℕ → (d : ℕ) → Tree d → List Used
+ranges_under bytes zero t = own_range t.place ++ chunks_of bytes t.records
+ranges_under bytes (suc d) t = own_range t.place ++ around bytes t.records (map (ranges_under bytes d) t.children)
+
+-- those behind the header
+abbrev pub behind_of : ℕ → Index → List Used
+behind_of bytes v = ranges_under bytes v.depth v.root
+
+-- what the header says: no chunk has an address where the root has no place
+abbrev pub blocks_in_place : Index → InPlace
+blocks_in_place v = if place_of v.depth v.root == undefined then nowhere else in_tree (header_of v)
+
+-- ---- Laws
+
+-- Where all nodes stand, a check behind the header finds the tree's ranges, and each key its address.
+pub record IsRead (v : Index) (img : List ℕ) : Type 0 where
+  pub visited : (end bytes : ℕ) → AllEndBy end (behind_of bytes v) → eval img (behind_visit end bytes (blocks_in_place v)) ≡ Ok (behind_of bytes v)
+  pub found : (key : Key) → eval img (address_behind (blocks_in_place v) key) ≡ Ok (address_of v key)
+
+-- a tree that stands, unchanged, is read
+abbrev pub TreeIsRead : Type 0
+TreeIsRead = (v : Index) (img : List ℕ) → IsIndex v → IsHalfFull v → clean_of v.depth v.root ≡ true → StandsTree v img → IsRead v img
+
+-- ranges that are among others, none of them more often: so that they meet as little as those
+pub record AreAmong (us vs : List Used) : Type 0 where
+  pub among : AllAmong us vs
+  pub counts : (p : ℕ) → count_at p us ≤ count_at p vs
+
+-- With a record more, of ranges there is that of its chunk more, where it has an address, and none other.
+abbrev pub InsertedBehind : Type 0
+InsertedBehind = (x : Record) (v : Index) (bytes : ℕ) → IsIndex v → IsIndex (inserted x v) → AreAmong (behind_of bytes (inserted x v)) (chunk_of bytes x ++ behind_of bytes v)

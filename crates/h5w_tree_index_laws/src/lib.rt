@@ -1,0 +1,37 @@
+//! A version 2 B-tree as a session holds it (HDF5 File Format Specification 3.0, "Version 2 B-trees"): its nodes, a record put into them,
+//! the plan of those that changed, and what a reader and a check find on the image of a file. Each law is the clause of a function
+//! without parameters; its statement is a definition in specs/. Nothing here runs.
+#![tactic(auto)]
+
+ghost use Rattle.h5w_tree_index_laws.specs.TreeFlushes.{TreeFlushed, TreeIsFlush, TreePlaces, TreeRestsThen};
+ghost use Rattle.h5w_tree_index_laws.specs.TreeImages.{InsertedBehind, TreeIsRead};
+
+/// Where a tree stands, unchanged, a check behind its header finds its ranges, and a reader each key's address.
+pub fn tree_is_read()
+    ensures { TreeIsRead }
+{}
+
+/// With a record more, of ranges there is that of its chunk more, and none other.
+pub fn inserted_behind()
+    ensures { InsertedBehind }
+{}
+
+/// The plan of a tree's changed nodes is what a flush asks of its index.
+pub fn tree_flushed()
+    ensures { TreeFlushed }
+{}
+
+/// The places that a tree's plan takes and lets go are those that a flush asks for.
+pub fn tree_places()
+    ensures { TreePlaces }
+{}
+
+/// A flush whose index is a tree: from what a session knows and what its calls show.
+pub fn tree_is_flush()
+    ensures { TreeIsFlush }
+{}
+
+/// Once all pieces of such a flush are shown, the tree stands as the session keeps it.
+pub fn tree_rests_then()
+    ensures { TreeRestsThen }
+{}
