@@ -1,4 +1,4 @@
-ghost use Rattle.std.specs.Prelude.{◌≡◌, ℕ, ◌+◌, ◌-◌, ◌<◌, ◌≤◌, ◌++◌, length, replicate, true, false, IfErr, IfOk, OnOk, OnErr, IfNone, IfSome, IsSome, IsTrue, slice_index_or, vec_len, vec_capacity};
+ghost use Rattle.std.specs.Prelude.{◌≡◌, ℕ, ◌+◌, ◌-◌, ◌<◌, ◌≤◌, ◌++◌, ◌==◌, length, replicate, true, false, IfErr, IfOk, OnOk, OnErr, IfNone, IfSome, IsSome, IsTrue, slice_index_or, vec_len, vec_capacity};
 ghost use Rattle.std.specs.Option.{option_copied, option_map};
 ghost use Rattle.h5w_cache.specs.Blocks.{numbered, with_number};
 ghost use Rattle.h5w_cache.specs.Plans.{HasNoRoom, IfFull, IsPlan};
@@ -161,6 +161,13 @@ impl Cache {
             Some(mark) => *mark,
             None => false,
         }
+    }
+
+    /// Whether no block changed since it was written.
+    pub fn is_clean(&self) -> bool
+        ensures { result ≡ (length self.now.changed == 0) }
+    {
+        self.changed.is_empty()
     }
 
     /// Keeps a block under a number, with its place, or UNDEFINED while it has none. It is clean.

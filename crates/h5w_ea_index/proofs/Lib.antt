@@ -1,3 +1,4 @@
+pub mod CleanLemmas
 pub mod ByteLemmas
 pub mod PartLemmas
 pub mod StoreLemmas

@@ -1,4 +1,5 @@
-ghost use Rattle.std.specs.Prelude.{◌≡◌, ◌≢◌, ℕ, ◌+◌, ◌<◌, ◌≤◌, ◌^◌, IsTrue, IfErr, IfOk, OnErr, OnOk, length};
+ghost use Rattle.std.specs.Prelude.{◌≡◌, ◌≢◌, ℕ, ◌+◌, ◌<◌, ◌≤◌, ◌^◌, IsTrue, IfErr, IfOk, OnErr, OnOk, length, ◌==◌, []};
+ghost use Rattle.h5w_space.specs.Space.{Space};
 ghost use Rattle.h5w_model.specs.Numbers.{undefined};
 ghost use Rattle.h5w_cache.specs.Plans.{HasNoRoom, IfFull};
 ghost use Rattle.h5w_cache.specs.Starts.{IsBegun, copy_pieces, in_place_pieces};
@@ -118,6 +119,16 @@ impl ArrayIndex {
         ensures numbered { IsNumbered self.new }
     {
         address::unset(&mut self.cache, i);
+    }
+
+    /// Whether no block changed since it was written. Then the plan of the changed blocks writes nothing, and leaves the array and all
+    /// places as they are.
+    pub fn is_clean(&self) -> bool
+        ensures clean { result ≡ (length self.now.changed == 0) }
+        ensures planned { IsTrue result → (s : Space) → IsArrayPlan self.now s [] [] [] self.now s }
+        ensures array { IsArray self.now }
+    {
+        self.cache.is_clean()
     }
 
     /// Begins the plan of all changed blocks: takes all memory and places that [`ArrayIndex::finish`] needs, and changes nothing.

@@ -1,3 +1,4 @@
+pub mod AloneLemmas
 pub mod StateLemmas
 pub mod CreationLemmas
 pub mod HeaderReads

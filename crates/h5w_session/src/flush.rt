@@ -5,6 +5,7 @@ ghost use Rattle.h5w_model.specs.Headers.{messages_at, rows_in_header, with_rows
 ghost use Rattle.h5w_model.specs.Logs.{Log, and_now, div_up, load, plans};
 ghost use Rattle.h5w_model.specs.Tables.{chunks_across};
 ghost use Rattle.h5w_array_laws.specs.ArrayStores.{IsArray};
+ghost use Rattle.h5w_array_laws.specs.ArrayPlans.{IsArrayPlan};
 ghost use Rattle.h5w_cache.specs.Starts.{IsBegun, copy_pieces, in_place_pieces};
 ghost use Rattle.std.specs.List.{slice_get};
 ghost use Rattle.h5w_chunks.specs.Grids.{IsGrid, chunk_len, dataset_of};
@@ -25,9 +26,9 @@ ghost use Rattle.h5w_session.specs.declared.refusal.FlushError.{FlushError};
 
 use crate::refusal::FlushError;
 use crate::state::WriterCore;
-use crate::taking::{Taking, place_chunks, unset};
+use crate::taking::{Taking, named_chunk, place_chunks, unset};
 use h5w_cache::{Begun, Plan};
-use h5w_chunks::Grid;
+use h5w_chunks::{ChunkPlace, Grid};
 use h5w_ea_index::ArrayIndex;
 use h5w_image::PieceWrite;
 use h5w_model::{OutOfMemory, PIECE, Piece, Super, Write};
@@ -126,6 +127,40 @@ fn prepare<W: PieceWrite>(
     Ok(Prepared { writes, begun })
 }
 
+/// Adds the writes of rows that all go into this chunk, and makes room for a superblock and a header behind them, for all of these and
+/// one more in the image.
+fn put_chunk<W: PieceWrite>(
+    grid: &Grid,
+    cells: &[u8],
+    to: u64,
+    place: ChunkPlace,
+    end: u64,
+    mut writes: Vec<Write>,
+    image: &mut W,
+) -> Result<Vec<Write>, FlushError>
+    requires grid { IsGrid grid.now }
+    requires one { chunks_across (dataset_of grid.now) ≡ 1 }
+    requires order { grid.now.shape.rows < to }
+    requires count { length cells.now ≡ (to - grid.now.shape.rows) * grid.now.shape.cols * grid.now.int_type.size }
+    requires all { first_number (dataset_of grid.now) + 1 ≡ div_up to grid.now.layout.chunk.0 }
+    requires ends { place.address + chunk_len (dataset_of grid.now) < 2 ^ 64 }
+    requires none { writes.items ≡ [] }
+    ensures exact { IfOk result (λ ws. ws.items ≡ new_writes (dataset_of grid.now) cells.now grid.now.shape.rows to (place ∷ [])) }
+    ensures does { IfOk result (λ ws. RowsWritten (dataset_of grid.now) cells.now grid.now.shape.rows to (place ∷ []) ws.items) }
+    ensures room { IfOk result (λ ws. vec_len ws + 2 ≤ vec_capacity ws) }
+    ensures pieces { IfOk result (λ ws. vec_len ws + 3 ≤ (W.view image.new).pieces) }
+    ensures end { OnOk result (end ≤ (W.view image.new).end) }
+    ensures image { Same (W.view image.old) (W.view image.new) }
+    ensures fault { result ≡ Err FlushError.Failed → Rose (W.view image.old).faults (W.view image.new).faults }
+    ensures causes { IfErr result (λ e. (e ≡ FlushError.Failed) ⊎ (e ≡ FlushError.OutOfMemory)) }
+{
+    grid.new_bytes(cells, grid.shape.rows, to, &[place], &mut writes)?;
+    let pieces = (writes.len() as u64).checked_add(3).ok_or(OutOfMemory)?;
+    writes.reserve(2).map_err(OutOfMemory::from)?;
+    image.reserve(pieces, end)?;
+    Ok(writes)
+}
+
 /// The superblock with this end of the file, to be written where its end is another.
 fn raise(root: &mut Super, end: u64) -> Option<Write>
     requires { root.old.version ≡ 3 }
@@ -154,6 +189,35 @@ fn header_with_rows(header: &Piece, rows: u64) -> Piece
     chunk.copy_from_slice(header.as_slice());
     with_rows(chunk, rows, None);
     Piece::of(chunk)
+}
+
+/// A dataset's header gets another number of rows, and the piece that writes it.
+fn raise_rows(header: &mut Piece, rows: u64) -> Piece
+    requires read { IsOk (messages_at header.old) }
+    requires rows { IsSome (rows_in_header header.old) }
+    ensures header { header.new ≡ with_rows_bytes header.old rows None }
+    ensures piece { result ≡ header.new }
+    ensures short { length header.old ≤ 512 }
+{
+    let mut bytes = [0; PIECE];
+    let chunk = &mut bytes[..header.len()];
+    chunk.copy_from_slice(header.as_slice());
+    with_rows(chunk, rows, None);
+    header.set(chunk);
+    Piece::of(chunk)
+}
+
+/// Pieces where the index has none: the rows, the superblock, and last the header.
+fn end_with(mut rows: Vec<Write>, superblock: Option<Write>, header: Write) -> Vec<Write>
+    requires { vec_len rows + 2 ≤ vec_capacity rows }
+    ensures items { result.items ≡ rows.items ++ (option_list superblock ++ header ∷ []) }
+    ensures room { 1 ≤ vec_capacity result }
+{
+    if let Some(block) = superblock {
+        rows.push_reserved(block);
+    }
+    rows.push_reserved(header);
+    rows
 }
 
 /// All pieces in their order: the rows, copies, the superblock, blocks in place, and last the header.
@@ -224,6 +288,77 @@ impl WriterCore {
 
     /// Plans the pieces that make the rows that wait visible.
     fn flush_rows<W: PieceWrite>(&mut self, image: &mut W) -> Result<u64, FlushError>
+        requires waits { 0 < self.old.waits }
+        ensures flushed { OnOk result (IsFlushed self.old self.new) }
+        ensures pieces { IfOk result (λ pieces. pieces ≡ length self.new.pending) }
+        ensures ends { OnOk result (AllEndBy self.new.places.end self.new.pending) }
+        ensures kept { OnErr result (SameBut self.old self.new) }
+        ensures full { (full : Full) → result ≡ Err (FlushError.Space full) → IsFullFor self.old full }
+        ensures causes { IfErr result (λ e. IsSpace e ⊎ ((e ≡ FlushError.Failed) ⊎ (e ≡ FlushError.OutOfMemory))) }
+        ensures fault { result ≡ Err FlushError.Failed → Rose (W.view image.old).faults (W.view image.new).faults }
+        ensures image { Same (W.view image.old) (W.view image.new) }
+        ensures room { OnOk result (HasRoomFor self.new (W.view image.new)) }
+    {
+        match self.chunk_alone() {
+            Some(place) => self.flush_chunk(place, image),
+            None => self.flush_taking(image),
+        }
+    }
+
+    /// The chunk that has its place and that all rows that wait go into, where no block of the index changed.
+    fn chunk_alone(&self) -> Option<ChunkPlace>
+        requires waits { 0 < self.now.waits }
+        ensures placing { IfSome result (λ p. IsPlacing self.now.dataset (rows_of self.now) self.now.index self.now.places (p ∷ []) [] self.now.index self.now.places) }
+        ensures all { IfSome result (λ p. first_number self.now.dataset + 1 ≡ div_up (rows_of self.now) self.now.dataset.layout.chunk_rows) }
+        ensures plan { IsSome result → IsArrayPlan self.now.index self.now.places [] [] [] self.now.index self.now.places }
+    {
+        if !self.index.is_clean() {
+            return None;
+        }
+        named_chunk(&self.grid, self.rows(), &self.index)
+    }
+
+    /// Plans the pieces that make the rows that wait visible, which all go into this chunk: it has its place, and no block of the index
+    /// changed.
+    fn flush_chunk<W: PieceWrite>(
+        &mut self,
+        place: ChunkPlace,
+        image: &mut W,
+    ) -> Result<u64, FlushError>
+        requires waits { 0 < self.old.waits }
+        requires placing { IsPlacing self.old.dataset (rows_of self.old) self.old.index self.old.places (place ∷ []) [] self.old.index self.old.places }
+        requires all { first_number self.old.dataset + 1 ≡ div_up (rows_of self.old) self.old.dataset.layout.chunk_rows }
+        requires plan { IsArrayPlan self.old.index self.old.places [] [] [] self.old.index self.old.places }
+        ensures flushed { OnOk result (IsFlushed self.old self.new) }
+        ensures pieces { IfOk result (λ pieces. pieces ≡ length self.new.pending) }
+        ensures ends { OnOk result (AllEndBy self.new.places.end self.new.pending) }
+        ensures kept { OnErr result (SameBut self.old self.new) }
+        ensures full { (full : Full) → result ≡ Err (FlushError.Space full) → IsFullFor self.old full }
+        ensures causes { IfErr result (λ e. IsSpace e ⊎ ((e ≡ FlushError.Failed) ⊎ (e ≡ FlushError.OutOfMemory))) }
+        ensures fault { result ≡ Err FlushError.Failed → Rose (W.view image.old).faults (W.view image.new).faults }
+        ensures image { Same (W.view image.old) (W.view image.new) }
+        ensures room { OnOk result (HasRoomFor self.new (W.view image.new)) }
+    {
+        let to = self.rows();
+        let writes = Vec::with_capacity(*self.plan.allocator(), 2).map_err(OutOfMemory::from)?;
+        let end = self.places.end();
+        let writes = put_chunk(&self.grid, &self.waiting, to, place, end, writes, image)?;
+        let superblock = raise(&mut self.root, end);
+        let piece = raise_rows(&mut self.header, to);
+        let header = Write {
+            at: self.place,
+            piece,
+        };
+        self.plan = end_with(writes, superblock, header);
+        self.shown = 0;
+        self.grid.shape.rows = to;
+        self.waiting.clear();
+        self.waits = 0;
+        Ok(self.plan.len() as u64)
+    }
+
+    /// Plans the pieces that make the rows that wait visible, and takes all places that they need.
+    fn flush_taking<W: PieceWrite>(&mut self, image: &mut W) -> Result<u64, FlushError>
         requires waits { 0 < self.old.waits }
         ensures flushed { OnOk result (IsFlushed self.old self.new) }
         ensures pieces { IfOk result (λ pieces. pieces ≡ length self.new.pending) }

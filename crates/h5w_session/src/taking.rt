@@ -1,5 +1,5 @@
 //! The chunks that rows go into, and their places.
-ghost use Rattle.std.specs.Prelude.{◌≡◌, ◌⊎◌, ℕ, ◌+◌, ◌^◌, ◌<◌, ◌≤◌, [], ◌∷◌, ◌++◌, length, IfErr, OnErr, OnOk, Err};
+ghost use Rattle.std.specs.Prelude.{◌≡◌, ◌⊎◌, ℕ, ◌+◌, ◌^◌, ◌<◌, ◌≤◌, [], ◌∷◌, ◌++◌, length, IfErr, IfSome, OnErr, OnOk, Err};
 ghost use Rattle.std.specs.List.{All};
 ghost use Rattle.h5w_model.specs.Datasets.{Described};
 ghost use Rattle.h5w_model.specs.Logs.{div_up};
@@ -129,6 +129,26 @@ pub fn place_chunks(
         place_chunk(grid, i, taking, index)?;
     }
     Ok(())
+}
+
+/// The chunk that all rows up to but not including `to` go into, where it is one alone and the array names its place.
+pub fn named_chunk(grid: &Grid, to: u64, index: &ArrayIndex) -> Option<ChunkPlace>
+    requires grid { IsGrid grid.now }
+    requires one { chunks_across (dataset_of grid.now) ≡ 1 }
+    requires order { grid.now.shape.rows < to }
+    requires few { div_up to grid.now.layout.chunk.0 ≤ 131060 }
+    ensures placed { IfSome result (λ p. (s : Space) → AreInside (dataset_of grid.now) s.end index.now → IsPlacing (dataset_of grid.now) to index.now s (p ∷ []) [] index.now s) }
+    ensures all { IfSome result (λ p. first_number (dataset_of grid.now) + 1 ≡ div_up to grid.now.layout.chunk.0) }
+{
+    let rows = grid.layout.chunk.0;
+    let i = grid.shape.rows / rows;
+    let last = to.div_ceil(rows);
+    if last != i + 1 {
+        return None;
+    }
+    let address = index.get(i)?;
+    let stored = i * rows < grid.shape.rows;
+    Some(ChunkPlace { address, stored })
 }
 
 /// Chunks of these numbers have no address, as before.

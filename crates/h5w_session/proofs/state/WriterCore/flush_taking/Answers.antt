@@ -8,7 +8,7 @@ use Rattle.h5w_session.specs.Refusals.{IsFullFor, IsFullPart}
 use Rattle.h5w_session.proofs.CarriedLemmas.{Carried, carried_flushed, carried_is, carried_pieces, has_rows, lengths_joined, one_at_most, refused_is, refused_same, same_error}
 use Rattle.h5w_session.proofs.TakingLemmas.{filled_cell}
 use Rattle.h5w_session.proofs.WritableLemmas.{written_length}
-use Rattle.h5w_session.proofs.state.WriterCore.flush_rows.Goals as goal
+use Rattle.h5w_session.proofs.state.WriterCore.flush_taking.Goals as goal
 
 pub header_with_rows-self-inside-requires-clause-rows : goal.header_with_rows-self-inside-requires-clause-rows
 header_with_rows-self-inside-requires-clause-rows g c = has_rows c.self.inside.header c.self.invariant.0.header

@@ -1,0 +1,276 @@
+use Rattle.std.proofs.Common.{◌≡◌, ℕ, zero, ◌+◌, ◌<◌, ◌∙◌, [], ◌∷◌, List, length, drop, refl, ap, sym, subst, arith}
+use Rattle.h5w_model.specs.Logs.{div_up}
+use Rattle.h5w_chunks.specs.Grids.{chunk_len, dataset_of}
+use Rattle.h5w_array_laws.specs.ArrayPlans.{IsArrayPlan}
+use Rattle.h5w_session.specs.Sessions.{IsSession, Session, option_list, rows_of}
+use Rattle.h5w_session.specs.Placing.{IsPlacing, first_number}
+use Rattle.h5w_session.proofs.CarriedLemmas.{Carried, carried_flushed, carried_is, carried_pieces, has_rows, lengths_joined, one_at_most, refused_same}
+use Rattle.h5w_session.proofs.TakingLemmas.{filled_cell}
+use Rattle.h5w_session.proofs.state.WriterCore.flush_chunk.Goals as goal
+
+pub put_chunk-requires-clause-all : goal.put_chunk-requires-clause-all
+put_chunk-requires-clause-all g c =
+    let i = c.self.inside in
+    let v : Session = record {
+      name = i.name;
+      root = i.root;
+      place = i.place;
+      header = i.header;
+      dataset = dataset_of i.grid;
+      places = i.places;
+      committed = i.committed;
+      waiting = i.waiting.items;
+      waits = i.waits;
+      pending = drop i.shown i.plan.items;
+      stopped = i.stopped;
+      keeps = i.keeps;
+      index = i.index;
+    } in
+    let back = sym c.self.view_is in
+    let to_is : c.rows-to.result ≡ rows_of v = c.rows-to.ensures.value ∙ ap rows_of back in
+    subst (λ (n : ℕ). first_number v.dataset + 1 ≡ div_up n v.dataset.layout.chunk_rows) (sym to_is)
+    (subst (λ (s : Session). first_number s.dataset + 1 ≡ div_up (rows_of s) s.dataset.layout.chunk_rows) back c.requires.all)
+
+pub put_chunk-requires-clause-ends : goal.put_chunk-requires-clause-ends
+put_chunk-requires-clause-ends g c =
+    let i = c.self.inside in
+    let v : Session = record {
+      name = i.name;
+      root = i.root;
+      place = i.place;
+      header = i.header;
+      dataset = dataset_of i.grid;
+      places = i.places;
+      committed = i.committed;
+      waiting = i.waiting.items;
+      waits = i.waits;
+      pending = drop i.shown i.plan.items;
+      stopped = i.stopped;
+      keeps = i.keeps;
+      index = i.index;
+    } in
+    let is : IsSession v = c.self.invariant.0 in
+    let placing : IsPlacing v.dataset (rows_of v) v.index v.places (c.args.place ∷ []) [] v.index v.places =
+    subst (λ (s : Session). IsPlacing s.dataset (rows_of s) s.index s.places (c.args.place ∷ []) [] s.index s.places) (sym c.self.view_is) c.requires.placing in
+    omega (arith, placing.inside zero c.args.place refl, is.limited, is.limit)
+
+pub raise_rows-piece-requires-clause-rows : goal.raise_rows-piece-requires-clause-rows
+raise_rows-piece-requires-clause-rows g c = has_rows c.self.inside.header c.self.invariant.0.header
+
+pub invariant_of-self : goal.invariant_of-self
+invariant_of-self g c =
+    let i = c.self.inside in
+    let v : Session = record {
+      name = i.name;
+      root = i.root;
+      place = i.place;
+      header = i.header;
+      dataset = dataset_of i.grid;
+      places = i.places;
+      committed = i.committed;
+      waiting = i.waiting.items;
+      waits = i.waits;
+      pending = drop i.shown i.plan.items;
+      stopped = i.stopped;
+      keeps = i.keeps;
+      index = i.index;
+    } in
+    let is : IsSession v = c.self.invariant.0 in
+    let to = c.rows-to.result in
+    let t = v.places in
+    let w = v.index in
+    let ws = c.end_with.result.items in
+    let r = c.raise-superblock.new.root in
+    let b = c.raise_rows-piece.new.header in
+    let e = c.clear.new.self.items in
+    let back = sym c.self.view_is in
+    let to_is : to ≡ rows_of v = c.rows-to.ensures.value ∙ ap rows_of back in
+    let placing : IsPlacing v.dataset (rows_of v) v.index v.places (c.args.place ∷ []) [] v.index v.places =
+    subst (λ (s : Session). IsPlacing s.dataset (rows_of s) s.index s.places (c.args.place ∷ []) [] s.index s.places) back c.requires.placing in
+    let all : first_number v.dataset + 1 ≡ div_up (rows_of v) v.dataset.layout.chunk_rows =
+    subst (λ (s : Session). first_number s.dataset + 1 ≡ div_up (rows_of s) s.dataset.layout.chunk_rows) back c.requires.all in
+    let x : Carried v to t w ws r b e = record {
+      some = subst (λ (u : Session). 0 < u.waits) back c.requires.waits;
+      to_is = to_is;
+      small = c.rows-to.ensures.bound;
+      typed = c.self.invariant.1.typed;
+      filled = filled_cell i.grid c.self.invariant.1;
+      chunks = c.args.place ∷ [];
+      added = [];
+      between = v.places;
+      held = v.index;
+      places = v.places;
+      places_are = refl;
+      placing = subst (λ (n : ℕ). IsPlacing v.dataset n v.index v.places (c.args.place ∷ []) [] v.index v.places) (sym to_is) placing;
+      all = subst (λ (n : ℕ). first_number v.dataset + 1 ≡ div_up n v.dataset.layout.chunk_rows) (sym to_is) all;
+      cells = c.deref.result.now;
+      cells_are = c.deref.ensures.value;
+      rows = c.in_ok-writes-2.writes.items;
+      exact = c.in_ok-writes-2.ensures.exact;
+      written = c.in_ok-writes-2.ensures.does;
+      moves = [];
+      copies = [];
+      fixed = [];
+      plan = subst (λ (s : Session). IsArrayPlan s.index s.places [] [] [] s.index s.places) back c.requires.plan;
+      supers = option_list c.raise-superblock.result;
+      end = c.end-end.result;
+      end_is = c.end-end.ensures;
+      ended = c.raise-superblock.ensures.ended;
+      root = c.raise-superblock.ensures.root;
+      header = c.raise_rows-piece.ensures.header;
+      piece = c.raise_rows-piece.result;
+      piece_is = c.raise_rows-piece.ensures.piece;
+      items = c.end_with.ensures.items;
+      header_short = c.raise_rows-piece.ensures.short;
+      none_waits = c.clear.ensures.items;
+    } in
+    let grid = c.self.invariant.1 in (
+      carried_is v to t w ws r b e x is,
+      record {
+        shaped = grid.shaped;
+        typed = grid.typed;
+        chunked = record { rows = grid.chunked.rows; cols = grid.chunked.cols; line = grid.chunked.line; small = grid.chunked.small; index = grid.chunked.index };
+        filled = grid.filled;
+      },
+      carried_pieces v to t w ws r b e x is,
+      omega arith,
+      c.end_with.ensures.room,
+    )
+
+pub returns-clause-flushed : goal.returns-clause-flushed
+returns-clause-flushed g c =
+    let i = c.self.inside in
+    let v : Session = record {
+      name = i.name;
+      root = i.root;
+      place = i.place;
+      header = i.header;
+      dataset = dataset_of i.grid;
+      places = i.places;
+      committed = i.committed;
+      waiting = i.waiting.items;
+      waits = i.waits;
+      pending = drop i.shown i.plan.items;
+      stopped = i.stopped;
+      keeps = i.keeps;
+      index = i.index;
+    } in
+    let is : IsSession v = c.self.invariant.0 in
+    let to = c.rows-to.result in
+    let t = v.places in
+    let w = v.index in
+    let ws = c.end_with.result.items in
+    let r = c.raise-superblock.new.root in
+    let b = c.raise_rows-piece.new.header in
+    let e = c.clear.new.self.items in
+    let back = sym c.self.view_is in
+    let to_is : to ≡ rows_of v = c.rows-to.ensures.value ∙ ap rows_of back in
+    let placing : IsPlacing v.dataset (rows_of v) v.index v.places (c.args.place ∷ []) [] v.index v.places =
+    subst (λ (s : Session). IsPlacing s.dataset (rows_of s) s.index s.places (c.args.place ∷ []) [] s.index s.places) back c.requires.placing in
+    let all : first_number v.dataset + 1 ≡ div_up (rows_of v) v.dataset.layout.chunk_rows =
+    subst (λ (s : Session). first_number s.dataset + 1 ≡ div_up (rows_of s) s.dataset.layout.chunk_rows) back c.requires.all in
+    let x : Carried v to t w ws r b e = record {
+      some = subst (λ (u : Session). 0 < u.waits) back c.requires.waits;
+      to_is = to_is;
+      small = c.rows-to.ensures.bound;
+      typed = c.self.invariant.1.typed;
+      filled = filled_cell i.grid c.self.invariant.1;
+      chunks = c.args.place ∷ [];
+      added = [];
+      between = v.places;
+      held = v.index;
+      places = v.places;
+      places_are = refl;
+      placing = subst (λ (n : ℕ). IsPlacing v.dataset n v.index v.places (c.args.place ∷ []) [] v.index v.places) (sym to_is) placing;
+      all = subst (λ (n : ℕ). first_number v.dataset + 1 ≡ div_up n v.dataset.layout.chunk_rows) (sym to_is) all;
+      cells = c.deref.result.now;
+      cells_are = c.deref.ensures.value;
+      rows = c.in_ok-writes-2.writes.items;
+      exact = c.in_ok-writes-2.ensures.exact;
+      written = c.in_ok-writes-2.ensures.does;
+      moves = [];
+      copies = [];
+      fixed = [];
+      plan = subst (λ (s : Session). IsArrayPlan s.index s.places [] [] [] s.index s.places) back c.requires.plan;
+      supers = option_list c.raise-superblock.result;
+      end = c.end-end.result;
+      end_is = c.end-end.ensures;
+      ended = c.raise-superblock.ensures.ended;
+      root = c.raise-superblock.ensures.root;
+      header = c.raise_rows-piece.ensures.header;
+      piece = c.raise_rows-piece.result;
+      piece_is = c.raise_rows-piece.ensures.piece;
+      items = c.end_with.ensures.items;
+      header_short = c.raise_rows-piece.ensures.short;
+      none_waits = c.clear.ensures.items;
+    } in
+    carried_flushed v to t w ws r b e x is c.args.self.now c.self.view_is
+
+pub returns-clause-ends : goal.returns-clause-ends
+returns-clause-ends g c =
+    let i = c.self.inside in
+    let v : Session = record {
+      name = i.name;
+      root = i.root;
+      place = i.place;
+      header = i.header;
+      dataset = dataset_of i.grid;
+      places = i.places;
+      committed = i.committed;
+      waiting = i.waiting.items;
+      waits = i.waits;
+      pending = drop i.shown i.plan.items;
+      stopped = i.stopped;
+      keeps = i.keeps;
+      index = i.index;
+    } in
+    let is : IsSession v = c.self.invariant.0 in
+    let to = c.rows-to.result in
+    let t = v.places in
+    let w = v.index in
+    let ws = c.end_with.result.items in
+    let r = c.raise-superblock.new.root in
+    let b = c.raise_rows-piece.new.header in
+    let e = c.clear.new.self.items in
+    let back = sym c.self.view_is in
+    let to_is : to ≡ rows_of v = c.rows-to.ensures.value ∙ ap rows_of back in
+    let placing : IsPlacing v.dataset (rows_of v) v.index v.places (c.args.place ∷ []) [] v.index v.places =
+    subst (λ (s : Session). IsPlacing s.dataset (rows_of s) s.index s.places (c.args.place ∷ []) [] s.index s.places) back c.requires.placing in
+    let all : first_number v.dataset + 1 ≡ div_up (rows_of v) v.dataset.layout.chunk_rows =
+    subst (λ (s : Session). first_number s.dataset + 1 ≡ div_up (rows_of s) s.dataset.layout.chunk_rows) back c.requires.all in
+    let x : Carried v to t w ws r b e = record {
+      some = subst (λ (u : Session). 0 < u.waits) back c.requires.waits;
+      to_is = to_is;
+      small = c.rows-to.ensures.bound;
+      typed = c.self.invariant.1.typed;
+      filled = filled_cell i.grid c.self.invariant.1;
+      chunks = c.args.place ∷ [];
+      added = [];
+      between = v.places;
+      held = v.index;
+      places = v.places;
+      places_are = refl;
+      placing = subst (λ (n : ℕ). IsPlacing v.dataset n v.index v.places (c.args.place ∷ []) [] v.index v.places) (sym to_is) placing;
+      all = subst (λ (n : ℕ). first_number v.dataset + 1 ≡ div_up n v.dataset.layout.chunk_rows) (sym to_is) all;
+      cells = c.deref.result.now;
+      cells_are = c.deref.ensures.value;
+      rows = c.in_ok-writes-2.writes.items;
+      exact = c.in_ok-writes-2.ensures.exact;
+      written = c.in_ok-writes-2.ensures.does;
+      moves = [];
+      copies = [];
+      fixed = [];
+      plan = subst (λ (s : Session). IsArrayPlan s.index s.places [] [] [] s.index s.places) back c.requires.plan;
+      supers = option_list c.raise-superblock.result;
+      end = c.end-end.result;
+      end_is = c.end-end.ensures;
+      ended = c.raise-superblock.ensures.ended;
+      root = c.raise-superblock.ensures.root;
+      header = c.raise_rows-piece.ensures.header;
+      piece = c.raise_rows-piece.result;
+      piece_is = c.raise_rows-piece.ensures.piece;
+      items = c.end_with.ensures.items;
+      header_short = c.raise_rows-piece.ensures.short;
+      none_waits = c.clear.ensures.items;
+    } in
+    (carried_pieces v to t w ws r b e x is).within
