@@ -1,5 +1,5 @@
 -- A block in pieces of at most 512 bytes.
-use Rattle.std.proofs.Common.{◌≡◌, ℕ, zero, suc, ◌+◌, ◌-◌, ◌/◌, ◌<◌, ◌≤◌, min, Bool, true, false, cond, List, [], ◌++◌, append_assoc, length, Some, Result, Ok, Err, refl, sym, ◌∙◌, ap, arith, add-one}
+use Rattle.std.proofs.Common.{◌≡◌, ℕ, zero, suc, ◌+◌, ◌-◌, ◌/◌, ◌<◌, ◌≤◌, min, Bool, true, false, cond, List, [], ◌++◌, append_assoc, length, Some, Result, Ok, Err, refl, sym, ◌∙◌, ap, arith, add-one, subst}
 use Rattle.std.specs.Prelude.{◌==◌}
 use Rattle.std.specs.Result.{IfOk}
 use Rattle.std.proofs.lemmas.List.{append-nil}
@@ -117,3 +117,8 @@ plain_bind (stored kind at len next) f =
 pub along : {X Y E : Type 0} (view : X → Y) (r : Result X E) (x y : Y) → IfOk r (λ w. view w ≡ x) → x ≡ y → IfOk r (λ w. view w ≡ y)
 along view (Ok w) x y h e = h ∙ e
 along view (Err f) x y h e = h
+
+-- what is answered is known, and this holds of it
+pub told : {A E : Type 0} (r : Result A E) (a : A) (P : A → Type 0) → IfOk r (λ v. v ≡ a) → P a → IfOk r P
+told (Ok v) a P e p = subst P (sym e) p
+told (Err f) a P h p = h

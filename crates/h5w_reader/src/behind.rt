@@ -9,7 +9,7 @@ use crate::refusal::header_refusal;
 use crate::settle::settle;
 use crate::table::{LookedUp, Lookup};
 use crate::walk::{Block, Walk, Walked};
-use h5w_model::{OutOfMemory, PIECE, Piece, ReadError, Unsupported};
+use h5w_model::{Bytes, OutOfMemory, PIECE, Piece, ReadError, Unsupported};
 use h5w_ohdr::prefix;
 use std::alloc::Global;
 
@@ -68,7 +68,7 @@ impl Reached {
         alloc: Global,
         rules: &Rules,
         known: &Option<Known>,
-        view: &Piece,
+        view: &Bytes,
     ) -> Result<Reached, OutOfMemory>
         requires { IsView rules.now.place view.now }
         ensures { IfOk result (λ r. reached (rules_of rules.now (known_of known.now)) r ≡ behind_rest (rules_of rules.now (known_of known.now)) view.now) }

@@ -1,5 +1,5 @@
 //! The dataset header, of which two looks are compared.
-ghost use Rattle.std.specs.Prelude.{◌≡◌, ◌+◌, ◌≤◌, ◌^◌, ℕ, Option, false, take, drop, length, nat_eq, slice_index};
+ghost use Rattle.std.specs.Prelude.{◌≡◌, ◌+◌, ◌≤◌, ◌^◌, ℕ, Option, false, IfOk, take, drop, length, nat_eq, slice_index};
 ghost use Rattle.std.specs.Cmp.Lexicographic.{pointwise};
 ghost use Rattle.h5w_model.specs.Headers.{header_view};
 ghost use Rattle.h5w_model.specs.Programs.{below_end};
@@ -10,20 +10,21 @@ ghost use Rattle.h5w_reader.specs.Headers.{IsView, IsWhole};
 
 use crate::known::Rules;
 use crate::view::header_view;
-use h5w_model::{BlockFault, HeaderError, PIECE, Piece, ReadError};
+use h5w_model::{BlockFault, Bytes, HeaderError, OutOfMemory, PIECE, Piece, ReadError};
 use h5w_ohdr::prefix;
+use std::alloc::Global;
 
 /// What counts of a look at the header at `place`.
-pub fn view_at(place: u64, look: &Piece) -> Piece
+pub fn view_at(alloc: Global, place: u64, look: &Piece) -> Result<Bytes, OutOfMemory>
     requires { length look.now ≤ below_end place 512 }
-    ensures exact { result ≡ header_view look.now }
-    ensures seen { IsView place result }
+    ensures exact { IfOk result (λ v. v ≡ header_view look.now) }
+    ensures seen { IfOk result (λ v. IsView place v) }
 {
-    header_view(look)
+    header_view(alloc, look)
 }
 
 /// What counts of a look at the header at `place` is less than its chunk 0.
-pub fn cut_header(place: u64, view: &Piece) -> Option<ReadError>
+pub fn cut_header(place: u64, view: &Bytes) -> Option<ReadError>
     ensures { result ≡ cut_header place view.now }
 {
     let b = view.as_slice();
@@ -43,7 +44,7 @@ pub fn cut_header(place: u64, view: &Piece) -> Option<ReadError>
 }
 
 /// Whether two looks show the same header.
-pub fn is_same(a: &Piece, b: &Piece) -> bool
+pub fn is_same(a: &Bytes, b: &Bytes) -> bool
     ensures { result ≡ pointwise nat_eq a.now b.now }
 {
     a.as_slice() == b.as_slice()
@@ -71,7 +72,7 @@ fn byte_or_0(b: &[u8], at: usize) -> u8
 }
 
 /// The refusal where an attempt's two looks show two headers: the first place at which they differ, and both bytes there.
-pub fn again(rules: &Rules, first: &Piece, last: &Piece) -> ReadError
+pub fn again(rules: &Rules, first: &Bytes, last: &Bytes) -> ReadError
     requires first { IsView rules.now.place first.now }
     requires last { IsView rules.now.place last.now }
     requires whole_first { IsWhole rules.now.place first.now }

@@ -5,11 +5,11 @@ ghost use Rattle.h5w_reader.specs.Attempts.{known_of, rules_of};
 ghost use Rattle.h5w_reader.specs.Idle.{IsIdle};
 
 use crate::known::{Known, Rules};
-use h5w_model::{PIECE, Piece};
+use h5w_model::{Bytes, PIECE, Piece};
 use h5w_ohdr::prefix;
 
 /// Whether these bytes are all that counts of a look at a header.
-fn shows(look: &Piece, seen: &Piece) -> bool
+fn shows(look: &Piece, seen: &Bytes) -> bool
     ensures { result ≡ true → header_view look.now ≡ seen.now }
 {
     let b = look.as_slice();

@@ -7,7 +7,7 @@ ghost use Rattle.h5w_reader.specs.Described.{described_of};
 ghost use Rattle.h5w_reader.specs.Seen.{IsHeaderOf};
 
 use crate::dataset::Dataset;
-use h5w_model::Piece;
+use h5w_model::Bytes;
 
 /// A dataset, and the addresses of the chunks that its rows need.
 #[derive(Drop)]
@@ -20,7 +20,7 @@ pub struct Known {
     /// The number of the first of them that is undefined, or how many they are.
     pub full: usize,
     /// What counts of a look at the header, where nothing else was looked at for what the header says.
-    pub view: Option<Piece>,
+    pub view: Option<Bytes>,
     ghost few: { needed (described_of dataset) ≤ 1000000 },
     ghost defined: { (i : ℕ) → i < full → get_or table.items i undefined ≢ undefined },
     ghost first: { get_or table.items full undefined ≡ undefined },

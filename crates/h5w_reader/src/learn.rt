@@ -14,7 +14,7 @@ use crate::news::News;
 use crate::recall::is_cut_alike;
 use crate::table::address_at;
 use h5w_bytes::UNDEFINED;
-use h5w_model::{OutOfMemory, Piece};
+use h5w_model::{Bytes, OutOfMemory};
 
 /// The number of the first chunk without an address, where those before `from` have one.
 pub fn first_absent(table: &[u64], from: usize) -> usize
@@ -48,7 +48,7 @@ fn known_with(
     dataset: Dataset,
     table: Vec<u64>,
     from: usize,
-    view: Option<Piece>,
+    view: Option<Bytes>,
 ) -> Known
     requires few { needed (described_of dataset) ≤ 1000000 }
     requires defined { (i : ℕ) → i < from → get_or table.items i undefined ≢ undefined }

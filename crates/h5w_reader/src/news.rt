@@ -6,7 +6,7 @@ ghost use Rattle.h5w_reader.specs.Described.{described_of};
 ghost use Rattle.h5w_reader.specs.Seen.{IsHeaderOf};
 
 use crate::dataset::Dataset;
-use h5w_model::Piece;
+use h5w_model::Bytes;
 
 /// A dataset, and the addresses of its chunks that were not known.
 #[derive(Drop)]
@@ -19,7 +19,7 @@ pub struct News {
     /// The addresses of the chunks behind them.
     pub tail: Vec<u64>,
     /// What counts of the look at the header, where nothing else was looked at.
-    pub view: Option<Piece>,
+    pub view: Option<Bytes>,
     ghost few: { needed (described_of dataset) ≤ 1000000 },
     ghost seen: { (v : List ℕ) → view ≡ Some v → IsHeaderOf place (described_of dataset) v } by { Prim.hlevel props },
 }

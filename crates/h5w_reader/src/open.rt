@@ -8,7 +8,7 @@ use crate::look::{Look, look_at};
 use crate::refusal::{header_refusal, super_refusal};
 use crate::view::root_view;
 use crate::walk::{Block, Walk, Walked};
-use h5w_model::{OutOfMemory, PIECE, Piece, Prefix, ReadError};
+use h5w_model::{Bytes, OutOfMemory, PIECE, Piece, Prefix, ReadError};
 use h5w_ohdr::prefix;
 use h5w_super::{LEN, Super, decode};
 use std::alloc::Global;
@@ -65,8 +65,9 @@ impl Opened {
     }
 
     /// Goes on from what counts of the first look at the root header.
-    fn after_look(alloc: Global, place: u64, first: &Piece) -> Result<Opened, OutOfMemory>
-        requires { place + length first.now ≤ 2 ^ 64 }
+    fn after_look(alloc: Global, place: u64, first: &Bytes) -> Result<Opened, OutOfMemory>
+        requires inside { place + length first.now ≤ 2 ^ 64 }
+        requires small { length first.now ≤ 512 }
         ensures { IfOk result (λ o. opened o ≡ first_rest place first.now) }
     {
         let bytes = first.as_slice();
@@ -126,7 +127,10 @@ impl Opening {
                     Err(error) => Opened::Refused(error),
                 }),
             },
-            Opening::Root(place) => Opened::after_look(alloc, place, &root_view(piece)),
+            Opening::Root(place) => {
+                let first = root_view(alloc, piece)?;
+                Opened::after_look(alloc, place, &first)
+            }
             Opening::Rest(p, gather) => {
                 let place = gather.start();
                 match gather.feed(piece)? {

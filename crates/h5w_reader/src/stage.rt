@@ -17,7 +17,7 @@ use crate::look::{Look, look_at};
 use crate::news::News;
 use crate::open::{Opened, Opening};
 use crate::place::place_of;
-use h5w_model::{OutOfMemory, Piece, ReadError};
+use h5w_model::{Bytes, OutOfMemory, Piece, ReadError};
 use std::alloc::Global;
 
 /// An attempt, from its first look at the dataset header on.
@@ -27,7 +27,7 @@ pub struct Attempt {
     /// How many attempts may follow.
     pub more: u32,
     /// What counts of that look.
-    pub view: Piece,
+    pub view: Bytes,
     ghost seen: { IsView rules.place view },
     ghost whole: { IsWhole rules.place view },
 }
@@ -64,7 +64,7 @@ fn refused(error: ReadError) -> Result<Came, OutOfMemory>
 }
 
 /// The news, with all that was looked at for them.
-fn with_view(news: News, view: Piece) -> News
+fn with_view(news: News, view: Bytes) -> News
     requires { IsHeaderOf news.place (described_of news.dataset) view }
     ensures { (known : Option Reading) → reading_news known result ≡ reading_news known news }
 {
@@ -93,7 +93,7 @@ impl Attempt {
         rules: Rules,
         known: &Option<Known>,
         more: u32,
-        view: Piece,
+        view: Bytes,
     ) -> Result<Came, OutOfMemory>
         requires { IsView rules.place view }
         ensures { (most : ℕ) (name : List ℕ) → IfOk result (λ c. came most name (known_of known.now) c ≡ attempt_rest (rules_of rules (known_of known.now)) more view) }
@@ -120,7 +120,7 @@ impl Attempt {
         alloc: Global,
         known: &Option<Known>,
         answer: Result<News, ReadError>,
-        last: Piece,
+        last: Bytes,
     ) -> Result<Came, OutOfMemory>
         requires { IsView self.rules.place last }
         ensures { (most : ℕ) (name : List ℕ) → IfOk result (λ c. came most name (known_of known.now) c ≡ confirm_given (rules_of self.rules (known_of known.now)) self.more self.view (viewed (reading_news (known_of known.now)) answer) last) }
@@ -183,7 +183,7 @@ impl Came {
         requires { length look.now ≤ below_end rules.place 512 }
         ensures { (most : ℕ) (name : List ℕ) → IfOk result (λ c. came most name (known_of known.now) c ≡ rows_given (rules_of rules (known_of known.now)) look.now) }
     {
-        let view = view_at(rules.place, look);
+        let view = view_at(alloc, rules.place, look)?;
         Attempt::begin(alloc, rules, known, rules.attempts.saturating_sub(1), view)
     }
 
@@ -261,7 +261,7 @@ impl Stage {
                 Ok(Came::after_behind(attempt, found))
             }
             Stage::Confirm(attempt, answer) => {
-                let last = view_at(attempt.rules.place, piece);
+                let last = view_at(alloc, attempt.rules.place, piece)?;
                 attempt.end(alloc, known, answer, last)
             }
         }

@@ -9,5 +9,5 @@ overflow_add-result c =
     let n = c.same_front-n.result in
     let told = c.same_front-n.ensures in
     let low : c.args.rules.now.place + n < 2 ^ 64 = differ_below c.args.rules.now.place n v w c.requires.first c.requires.last c.requires.whole_first c.requires.whole_last c.requires.differ
-    (rw (← c.as_slice-a.ensures.value) told.first) (rw (← c.as_slice-b.ensures.value) told.last) (rw (← c.as_slice-a.ensures.value, ← c.as_slice-b.ensures.value) told.front) in
+    (rw (← c.as_slice-a.ensures) told.first) (rw (← c.as_slice-b.ensures) told.last) (rw (← c.as_slice-a.ensures, ← c.as_slice-b.ensures) told.front) in
     omega arith

@@ -17,4 +17,4 @@ returns-in-Ok c = λ same.
     view_short b p is fits ∙ sym (take_min p.total b) ∙ ap (λ n. take n b) (sym counts)
     ∙ ap (take c.min-counts.result) (sym c.as_slice-b.ensures.value)
     ∙ pointwise_same (take c.min-counts.result c.as_slice-b.result.now) c.args.seen.now
-    (ap (pointwise nat_eq (take c.min-counts.result c.as_slice-b.result.now)) (sym c.as_slice.ensures.value) ∙ sym c.eq.ensures ∙ same)
+    (ap (pointwise nat_eq (take c.min-counts.result c.as_slice-b.result.now)) (sym c.as_slice.ensures) ∙ sym c.eq.ensures ∙ same)

@@ -28,8 +28,8 @@ feed-requires-in-Behind c =
     let l = behind_looks g c.in-Behind.behind in
     fits_bind (behind_left g c.in-Behind.behind) (confirm_rest g a.more a.view) (length c.args.piece.now) l.look l.next (rw c.in-Behind.is at c.requires)
 
-pub view_at-last-requires : goal.view_at-last-requires
-view_at-last-requires c =
+pub view_at-requires : goal.view_at-requires
+view_at-requires c =
     let a = c.in-Confirm.attempt in
     let h = rw c.in-Confirm.is at c.requires in
     subst (λ p. IsWithinLook (next_look p) (length c.args.piece.now)) (confirm_begins (rules_of a.rules (known_of c.args.known.now)) a.more a.view (viewed (reading_news (known_of c.args.known.now)) c.in-Confirm.answer)) h
@@ -64,12 +64,12 @@ returns-in_ok-found-in-Behind c =
     ∙ ap (λ p. bind p (confirm_rest g a.more a.view)) c.in_ok-found-in-Behind.ensures
     ∙ sym (fed_bind (behind_left g b) (confirm_rest g a.more a.view) c.args.piece.now l.look l.next))
 
-pub returns-in-Confirm : goal.returns-in-Confirm
-returns-in-Confirm c =
+pub returns-in_ok-last-in-Confirm : goal.returns-in_ok-last-in-Confirm
+returns-in_ok-last-in-Confirm c =
     let a = c.in-Confirm.attempt in
     let g = rules_of a.rules (known_of c.args.known.now) in
     let r = viewed (reading_news (known_of c.args.known.now)) c.in-Confirm.answer in
     let most = c.args.attempts in
     let name = c.args.name.now in
-    along (came most name (known_of c.args.known.now)) c.end.result (confirm_given g a.more a.view r c.view_at-last.result) (fed c.args.piece.now (stage_left most name (known_of c.args.known.now) c.args.self)) (c.end.ensures most name)
-    (rw (c.in-Confirm.is, c.view_at-last.ensures.exact) (sym (ap (fed c.args.piece.now) (confirm_begins g a.more a.view r))))
+    along (came most name (known_of c.args.known.now)) c.end.result (confirm_given g a.more a.view r c.in_ok-last-in-Confirm.last) (fed c.args.piece.now (stage_left most name (known_of c.args.known.now) c.args.self)) (c.end.ensures most name)
+    (rw (c.in-Confirm.is, c.in_ok-last-in-Confirm.ensures.exact) (sym (ap (fed c.args.piece.now) (confirm_begins g a.more a.view r))))
