@@ -38,18 +38,19 @@ fn refused(at: u64, fault: BlockFault) -> Result<Descended, OutOfMemory>
 }
 
 impl Descent {
-    /// Waits for a block on the way to its next chunk.
-    fn wait(self, alloc: Global, wait: Wait) -> Waiting
+    /// Waits for a block on the way to its next chunk. There is room for all of it.
+    fn wait(self, alloc: Global, wait: Wait) -> Result<Waiting, OutOfMemory>
         requires { self.kept + length self.tail.items < needed (described_of self.dataset) }
-        ensures { (g : CallRules) → waiting g result ≡ wait_rest (kept self.store) wait (after_next g self) }
+        ensures { IfOk result (λ w. (g : CallRules) → waiting g w ≡ wait_rest (kept self.store) wait (after_next g self)) }
     {
-        let at = wait.at();
-        let gather = Gather::new(at, Vec::new(alloc), at, wait.len());
-        Waiting {
+        let (at, len) = (wait.at(), wait.len());
+        let room = Vec::with_capacity(alloc, len as usize)?;
+        let gather = Gather::new(at, room, at, len);
+        Ok(Waiting {
             descent: self,
             wait,
             gather,
-        }
+        })
     }
 
     /// Goes on to the next chunk whose way leads over a block that is not kept, or to the end.
@@ -82,7 +83,7 @@ impl Descent {
                         tail,
                         store,
                     };
-                    return Ok(Descended::Looks(descent.wait(alloc, wait)));
+                    return Ok(Descended::Looks(descent.wait(alloc, wait)?));
                 }
             };
             tail.push(address)?;
@@ -124,7 +125,7 @@ impl Descent {
     {
         match way {
             Sought::Found(address) => self.found(alloc, rules, known, address),
-            Sought::Wait(wait) => Ok(Descended::Looks(self.wait(alloc, wait))),
+            Sought::Wait(wait) => Ok(Descended::Looks(self.wait(alloc, wait)?)),
         }
     }
 

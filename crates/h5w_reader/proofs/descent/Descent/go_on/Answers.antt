@@ -22,7 +22,7 @@ returns-in-Wait c =
     let done = take s.kept known ++ c.loop-i.tail.items in
     let at = c.loop-i.invariant.at in
     let less : n < needed d = omega (arith, at, c.loop-i-test.true, c.needed-needed.ensures) in
-    c.wait.ensures g
+    c.in_ok-wait-in-Wait.ensures g
     ∙ c.in-Wait.ensures (after_slot g.place known d e n done)
     ∙ slots_at g.place known c.addresses-found.result.now d e (kept c.loop-i.store) c.across-across.result c.loop-i.i n done c.across-across.ensures.exact c.addresses-found.ensures at less
     ∙ c.loop-i.invariant.same
