@@ -1,7 +1,7 @@
 //! The values of cells.
-ghost use Rattle.std.specs.Prelude.{◌≡◌, ◌/◌, ◌++◌, length, replicate, false, OnOk};
+ghost use Rattle.std.specs.Prelude.{◌≡◌, ◌/◌, ◌++◌, length, replicate, false, true, OnOk};
 ghost use Rattle.std.specs.Option.{ForSome};
-ghost use Rattle.h5w_model.specs.Integers.{fill_value};
+ghost use Rattle.h5w_model.specs.Integers.{fill_value, is_in_span, span_of};
 ghost use Rattle.h5w_model.specs.Messages.{IsIntType};
 ghost use Rattle.h5w_types.specs.Fields.{int_type_of};
 ghost use Rattle.h5w_layout.specs.Layouts.{fill_of};
@@ -10,8 +10,28 @@ ghost use Rattle.h5w_reader.specs.Cells.{cell_values};
 use h5w_layout::Fill;
 use h5w_model::OutOfMemory;
 use h5w_types::{IntType, value_of};
+use std::mem;
 
-/// Puts the values of some whole cells behind those of `out`.
+/// The same value, by way of the machine's integers of the type's size: where the type is known at the call, its sign is
+/// extended by one instruction.
+#[inline(always)]
+fn extended(v: i128, t: &IntType) -> i128
+    requires typed { IsIntType (int_type_of t.now) }
+    requires inside { is_in_span t.now.signed (span_of (int_type_of t.now)) v ≡ true }
+    ensures { result ≡ v }
+{
+    if !t.signed {
+        return v;
+    }
+    match t.size {
+        1 => i128::from(v as i8),
+        2 => i128::from(v as i16),
+        4 => i128::from(v as i32),
+        _ => v,
+    }
+}
+
+/// Puts the values of some whole cells behind those of `out`, which stand in a vector of its own meanwhile.
 #[inline(always)]
 fn put_run(bytes: &[u8], t: &IntType, out: &mut Vec<i128>) -> Result<(), OutOfMemory>
     requires { IsIntType (int_type_of t.now) }
@@ -19,9 +39,12 @@ fn put_run(bytes: &[u8], t: &IntType, out: &mut Vec<i128>) -> Result<(), OutOfMe
 {
     let size = usize::from(t.size);
     out.reserve(bytes.len() / size)?;
+    let none = Vec::new(*out.allocator());
+    let mut values = mem::replace(out, none);
     for cell in bytes.chunks_exact(size) {
-        out.push_reserved(value_of(cell, t));
+        values.push_reserved(extended(value_of(cell, t), t));
     }
+    *out = values;
     Ok(())
 }
 
