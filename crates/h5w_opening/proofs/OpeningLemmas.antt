@@ -1,10 +1,10 @@
 -- What is found part after part is what the program of looks gives.
-use Rattle.std.proofs.Common.{◌≡◌, ℕ, Bool, true, List, Result, Ok, Err, refl, ◌∙◌, ap}
+use Rattle.std.proofs.Common.{◌≡◌, ℕ, true, List, Result, Ok, Err, refl, ◌∙◌, ap}
 use Rattle.std.specs.Prelude.{option_map}
 use Rattle.h5w_model.specs.Numbers.{range}
 use Rattle.h5w_model.specs.Programs.{Prog, ret, whole, eval, bind, and_then}
 use Rattle.h5w_model.specs.Superblock.{super_at}
-use Rattle.h5w_model.specs.Datasets.{Described, HeaderFields, super_refusal, linked, then_also, refused_as}
+use Rattle.h5w_model.specs.Datasets.{HeaderFields, super_refusal, linked, then_also, refused_as}
 use Rattle.h5w_model.specs.declared.root.Super.{Super}
 use Rattle.h5w_model.specs.declared.refusal.ReadError.{ReadError}
 use Rattle.h5w_laws.proofs.ProgramLemmas.{eval_bind, eval_and_then}
@@ -13,7 +13,7 @@ use Rattle.h5w_found.specs.Walks.{root_header_for, dataset_header_for}
 use Rattle.h5w_found.specs.declared.error.FindError.TheVariants as find_errors
 use Rattle.h5w_found.proofs.KindLemmas.{Become}
 use Rattle.h5w_opening.specs.Errors.{open_error, open_errors, refusal_of}
-use Rattle.h5w_opening.specs.Openings.{Opened, closed_super, known, reading, looked_for, super_found, place_found, dataset_found}
+use Rattle.h5w_opening.specs.Openings.{DatasetHeaderFields, Opened, chunk_0_len, closed_super, known, reading, looked_for, super_found, place_found, dataset_found}
 use Rattle.h5w_opening.specs.declared.error.OpenError.{OpenError}
 use Rattle.h5w_opening.specs.declared.error.OpenError.TheVariants.{Read, Failed}
 
@@ -26,8 +26,8 @@ all_read = record {
 -- ---- The parts
 
 -- what is opened, given its superblock, the header's place, and what the header says
-abbrev pub opened_by : Super → ℕ → Described × Bool → Result Opened OpenError
-opened_by s place d = Ok (record { root = s; place = place; dataset = d.0; in_chunk_0 = d.1 })
+abbrev pub opened_by : Super → ℕ → DatasetHeaderFields → Result Opened OpenError
+opened_by s place d = Ok (record { root = s; place = place; header = d })
 
 abbrev pub behind_place : Super → List ℕ → ℕ → Result Opened OpenError
 behind_place s img place = then_also (dataset_found place img) (opened_by s place)
@@ -43,7 +43,7 @@ read_first : {A B : Type 0} (img : List ℕ) (p : Prog (Result A ReadError)) (f 
 read_first img p f = eval_and_then img (reading p) f ∙ ap (λ r. then_also r (λ a. eval img (f a))) (eval_bind img p (λ r. ret (refused_as Read r)))
 
 on_header : Super → ℕ → HeaderFields → Prog (Result Opened OpenError)
-on_header s place h = ret (then_also (known h.messages) (opened_by s place))
+on_header s place h = ret (then_also (known (chunk_0_len h.ranges) h.messages) (opened_by s place))
 
 on_place : Super → ℕ → Prog (Result Opened OpenError)
 on_place s place = and_then (reading (dataset_header_for true place)) (on_header s place)
@@ -58,7 +58,7 @@ place_gives : (img : List ℕ) (s : Super) (place : ℕ) → eval img (on_place 
 unfolding on_place on_header
 place_gives img s place =
     read_first img (dataset_header_for true place) (on_header s place)
-    ∙ then_joined (refused_as Read (eval img (dataset_header_for true place))) (λ h. known h.messages) (opened_by s place)
+    ∙ then_joined (refused_as Read (eval img (dataset_header_for true place))) (λ h. known (chunk_0_len h.ranges) h.messages) (opened_by s place)
 
 root_gives : (img name : List ℕ) (s : Super) (h : HeaderFields) → eval img (on_root name s h) ≡ then_also (refused_as Read (linked name h.messages)) (behind_place s img)
 unfolding on_root

@@ -1,9 +1,9 @@
 -- What is looked at of a file that is opened for appending, up to the index of its chunks, and what it has.
-use Rattle.std.specs.Prelude.{ℕ, ◌/◌, ◌%◌, Bool, true, false, not, ◌||◌, ◌&&◌, ◌==◌, List, nat_lt, if◌then◌else◌, Option, Some, None, Result, Ok, Err}
+use Rattle.std.specs.Prelude.{ℕ, ◌/◌, ◌%◌, Bool, true, false, not, ◌||◌, ◌&&◌, ◌==◌, List, [], ◌∷◌, nat_lt, if◌then◌else◌, Option, Some, None, Result, Ok, Err}
 use Rattle.h5w_model.specs.Numbers.{range, undefined}
 use Rattle.h5w_model.specs.Programs.{Prog, ret, whole, eval, bind, and_then}
 use Rattle.h5w_model.specs.Superblock.{super_at}
-use Rattle.h5w_model.specs.Datasets.{Described, FoundMessage, HeaderFields, super_refusal, linked, described, first_of, layout_kind, then_also, refused_as}
+use Rattle.h5w_model.specs.Datasets.{Described, FoundMessage, HeaderFields, Range, super_refusal, linked, described, first_of, layout_kind, then_also, refused_as}
 use Rattle.h5w_model.specs.Tables.{format_limits, limit_of, needed}
 use Rattle.h5w_model.specs.Findings.{chunk_bytes}
 use Rattle.h5w_model.specs.declared.root.Super.{Super}
@@ -13,12 +13,17 @@ use Rattle.h5w_found.specs.Walks.{root_header_for, dataset_header_for}
 use Rattle.h5w_opening.specs.declared.error.OpenError.{OpenError}
 use Rattle.h5w_opening.specs.declared.error.OpenError.TheVariants.{Read, Flags, Cut, Layout, ChunkBytes, NoColumns}
 
--- The superblock; the dataset header's place, and what it says; whether the first layout message stands in its chunk 0.
+-- What a dataset header says: how many bytes its chunk 0 has; the dataset; whether the first layout message stands in chunk 0.
+pub record DatasetHeaderFields : Type 0 where
+  pub len : ℕ
+  pub dataset : Described
+  pub in_chunk_0 : Bool
+
+-- The superblock; the dataset header's place, and what it says.
 pub record Opened : Type 0 where
   pub root : Super
   pub place : ℕ
-  pub dataset : Described
-  pub in_chunk_0 : Bool
+  pub header : DatasetHeaderFields
 
 -- open for writing, or for SWMR writing
 abbrev pub is_open : ℕ → Bool
@@ -32,12 +37,17 @@ closed_super size s = if is_open s.flags then Err (Flags s.flags) else if nat_lt
 abbrev pub in_chunk_0 : List FoundMessage → Bool
 in_chunk_0 ms = elim (first_of layout_kind ms) [ Some m ↦ m.in_chunk_0 | None ↦ false ]
 
--- what a dataset's messages say, where its rows need no more chunks than are read
-abbrev pub known : List FoundMessage → Result (Described × Bool) OpenError
-known ms =
+-- how many bytes chunk 0 has: its range is visited first
+abbrev pub chunk_0_len : List Range → ℕ
+chunk_0_len [] = 0
+chunk_0_len (r ∷ rs) = r.len
+
+-- what a dataset's messages say, with so many bytes in chunk 0, where its rows need no more chunks than are read
+abbrev pub known : ℕ → List FoundMessage → Result DatasetHeaderFields OpenError
+known len ms =
     then_also (refused_as (λ e. Read (read_errors.Unsupported e)) (described ms)) (λ d.
     if nat_lt (limit_of format_limits d.layout.index) (needed d) then Err (Read (read_errors.TooManyChunks (needed d) (limit_of format_limits d.layout.index)))
-    else Ok (d, in_chunk_0 ms))
+    else Ok (record { len = len; dataset = d; in_chunk_0 = in_chunk_0 ms }))
 
 -- a reader's program, whose refusals are those of an open
 abbrev pub reading : {A : Type 0} → Prog (Result A ReadError) → Prog (Result A OpenError)
@@ -51,7 +61,7 @@ looked_for size name =
     and_then (reading (root_header_for true s.root)) (λ h.
     and_then (ret (refused_as Read (linked name h.messages))) (λ place.
     and_then (reading (dataset_header_for true place)) (λ h.
-    ret (then_also (known h.messages) (λ d. Ok (record { root = s; place = place; dataset = d.0; in_chunk_0 = d.1 }))))))))
+    ret (then_also (known (chunk_0_len h.ranges) h.messages) (λ d. Ok (record { root = s; place = place; header = d }))))))))
 
 -- ---- Its parts on an image
 
@@ -61,8 +71,8 @@ super_found size img = then_also (refused_as Read (refused_as super_refusal (sup
 abbrev pub place_found : List ℕ → ℕ → List ℕ → Result ℕ OpenError
 place_found name root img = then_also (refused_as Read (eval img (root_header_for true root))) (λ h. refused_as Read (linked name h.messages))
 
-abbrev pub dataset_found : ℕ → List ℕ → Result (Described × Bool) OpenError
-dataset_found place img = then_also (refused_as Read (eval img (dataset_header_for true place))) (λ h. known h.messages)
+abbrev pub dataset_found : ℕ → List ℕ → Result DatasetHeaderFields OpenError
+dataset_found place img = then_also (refused_as Read (eval img (dataset_header_for true place))) (λ h. known (chunk_0_len h.ranges) h.messages)
 
 -- ---- What is appended to
 
@@ -73,7 +83,7 @@ most_chunk_bytes = 16777216
 -- why no rows are appended to it: tried once all was read
 abbrev pub refused_dataset : Opened → Option OpenError
 refused_dataset o =
-    if (o.dataset.layout.address == undefined) && not o.in_chunk_0 then Some Layout
-    else if nat_lt most_chunk_bytes (chunk_bytes o.dataset) then Some (ChunkBytes (chunk_bytes o.dataset) most_chunk_bytes)
-    else if o.dataset.shape.cols == 0 then Some NoColumns
+    if (o.header.dataset.layout.address == undefined) && not o.header.in_chunk_0 then Some Layout
+    else if nat_lt most_chunk_bytes (chunk_bytes o.header.dataset) then Some (ChunkBytes (chunk_bytes o.header.dataset) most_chunk_bytes)
+    else if o.header.dataset.shape.cols == 0 then Some NoColumns
     else None

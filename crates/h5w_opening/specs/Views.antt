@@ -1,7 +1,11 @@
 -- What a file has that is opened, as it is held.
 use Rattle.h5w_found.specs.Described.{described_of}
-use Rattle.h5w_opening.specs.Openings.{Opened}
+use Rattle.h5w_opening.specs.Openings.{DatasetHeaderFields, Opened}
+use Rattle.h5w_opening.specs.declared.finding.DatasetHeader.{DatasetHeader}
 use Rattle.h5w_opening.specs.declared.finding.Opening.{Opening}
 
+abbrev pub header_fields_of : DatasetHeader → DatasetHeaderFields
+header_fields_of h = record { len = h.len; dataset = described_of h.dataset; in_chunk_0 = h.in_chunk_0 }
+
 abbrev pub opened_of : Opening → Opened
-opened_of o = record { root = o.root; place = o.place; dataset = described_of o.dataset; in_chunk_0 = o.in_chunk_0 }
+opened_of o = record { root = o.root; place = o.place; header = header_fields_of o.header }

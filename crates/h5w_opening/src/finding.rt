@@ -2,16 +2,16 @@
 ghost use Rattle.std.specs.Prelude.{◌≡◌, MatchOption, Ok, Err};
 ghost use Rattle.h5w_model.specs.Programs.{eval};
 ghost use Rattle.h5w_found.specs.Ran.{Ran, Told, seen};
-ghost use Rattle.h5w_found.specs.Headers.{founds};
-ghost use Rattle.h5w_found.specs.Described.{described_of};
+ghost use Rattle.h5w_found.specs.Headers.{founds, ranges_of};
 ghost use Rattle.h5w_opening.specs.Errors.{open_errors};
-ghost use Rattle.h5w_opening.specs.Openings.{closed_super, dataset_found, in_chunk_0, is_open, known, looked_for, place_found, refused_dataset, super_found};
-ghost use Rattle.h5w_opening.specs.Views.{opened_of};
+ghost use Rattle.h5w_opening.specs.Openings.{chunk_0_len, closed_super, dataset_found, in_chunk_0, is_open, known, looked_for, place_found, refused_dataset, super_found};
+ghost use Rattle.h5w_opening.specs.Views.{header_fields_of, opened_of};
 
 use crate::error::OpenError;
 use h5w_bytes::UNDEFINED;
 use h5w_found::{
-    Dataset, FoundMessage, dataset_header, describe, first, place_of, root_header, superblock,
+    Dataset, Extent, FoundMessage, dataset_header, describe, first, place_of, root_header,
+    superblock,
 };
 use h5w_image::PieceRead;
 use h5w_model::{ReadError, Super};
@@ -23,15 +23,23 @@ const LAYOUT: u8 = 0x08;
 /// The most bytes of a chunk that is written.
 const CHUNK_BYTES: u64 = 16_777_216;
 
+/// What the header of a dataset says.
+#[derive(Clone, Copy)]
+pub struct DatasetHeader {
+    /// How many bytes its chunk 0 has, at most 512: it is written in one piece.
+    pub len: u64,
+    pub dataset: Dataset,
+    /// Whether the layout message stands in chunk 0.
+    pub in_chunk_0: bool,
+}
+
 /// What a file has that is opened for appending, up to the index of its chunks.
 #[derive(Clone, Copy)]
 pub struct Opening {
     pub root: Super,
     /// The place of the dataset header.
     pub place: u64,
-    pub dataset: Dataset,
-    /// Whether the layout message stands in the dataset header's chunk 0, which is written in one piece.
-    pub in_chunk_0: bool,
+    pub header: DatasetHeader,
 }
 
 /// Whether the file is open for writing, or for SWMR writing.
@@ -87,9 +95,19 @@ fn in_chunk_0(found: &[FoundMessage]) -> bool
     }
 }
 
-/// What these messages say of a dataset, and whether its layout stands in chunk 0.
-fn known(found: &[FoundMessage]) -> Result<(Dataset, bool), OpenError>
-    ensures { Told open_errors (known (founds found.now)) (seen (λ x. (described_of x.0, x.1)) result) }
+/// How many bytes chunk 0 has of a header with these ranges: it was looked at first.
+fn chunk_0_len(extents: &[Extent]) -> u64
+    ensures { result ≡ chunk_0_len (ranges_of extents.now) }
+{
+    match extents.first() {
+        Some(chunk) => chunk.len,
+        None => 0,
+    }
+}
+
+/// What these messages say of a dataset whose header has `len` bytes in chunk 0.
+fn known(found: &[FoundMessage], len: u64) -> Result<DatasetHeader, OpenError>
+    ensures { Told open_errors (known len (founds found.now)) (seen header_fields_of result) }
 {
     let d = match describe(found) {
         Ok(d) => d,
@@ -99,7 +117,11 @@ fn known(found: &[FoundMessage]) -> Result<(Dataset, bool), OpenError>
     if needed > u128::from(limit) {
         return Err(OpenError::Read(ReadError::TooManyChunks { needed, limit }));
     }
-    Ok((d, in_chunk_0(found)))
+    Ok(DatasetHeader {
+        len,
+        dataset: d,
+        in_chunk_0: in_chunk_0(found),
+    })
 }
 
 /// The dataset whose header stands at `place`.
@@ -107,11 +129,12 @@ fn dataset_at<I: PieceRead>(
     alloc: Global,
     image: &mut I,
     place: u64,
-) -> Result<(Dataset, bool), OpenError>
-    ensures { Ran open_errors (I.view image.old) (I.view image.new) (dataset_found place) (seen (λ x. (described_of x.0, x.1)) result) }
+) -> Result<DatasetHeader, OpenError>
+    ensures { Ran open_errors (I.view image.old) (I.view image.new) (dataset_found place) (seen header_fields_of result) }
 {
     let header = dataset_header(alloc, image, true, place)?;
-    known(&header.messages)
+    let len = chunk_0_len(&header.extents);
+    known(&header.messages, len)
 }
 
 /// Finds the dataset of this name in a file of `size` bytes that is to be written.
@@ -127,12 +150,11 @@ pub fn find<I: PieceRead>(
 {
     let root = start(alloc, image, size)?;
     let place = header_place(alloc, image, root.root, name)?;
-    let found = dataset_at(alloc, image, place)?;
+    let header = dataset_at(alloc, image, place)?;
     Ok(Opening {
         root,
         place,
-        dataset: found.0,
-        in_chunk_0: found.1,
+        header,
     })
 }
 
@@ -140,17 +162,18 @@ pub fn find<I: PieceRead>(
 pub fn check(found: &Opening) -> Result<(), OpenError>
     ensures { MatchOption (refused_dataset (opened_of found.now)) (result ≡ Ok tt) (λ e. result ≡ Err e) }
 {
-    if found.dataset.layout.address == UNDEFINED && !found.in_chunk_0 {
+    let dataset = &found.header.dataset;
+    if dataset.layout.address == UNDEFINED && !found.header.in_chunk_0 {
         return Err(OpenError::Layout);
     }
-    let bytes = found.dataset.chunk_bytes();
+    let bytes = dataset.chunk_bytes();
     if bytes > CHUNK_BYTES {
         return Err(OpenError::ChunkBytes {
             bytes,
             limit: CHUNK_BYTES,
         });
     }
-    if found.dataset.shape.cols == 0 {
+    if dataset.shape.cols == 0 {
         return Err(OpenError::NoColumns);
     }
     Ok(())

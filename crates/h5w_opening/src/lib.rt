@@ -8,4 +8,4 @@ mod error;
 mod finding;
 
 pub use error::OpenError;
-pub use finding::{Opening, check, find};
+pub use finding::{DatasetHeader, Opening, check, find};

@@ -6,7 +6,7 @@ use Rattle.h5w_found.specs.Headers.{header_of}
 use Rattle.h5w_found.proofs.RanLemmas.{ran_stop, ran_end, step_ok, step_err}
 use Rattle.h5w_found.proofs.KindLemmas.{ran_as}
 use Rattle.h5w_opening.specs.Errors.{open_error}
-use Rattle.h5w_opening.specs.Openings.{known}
+use Rattle.h5w_opening.specs.Openings.{chunk_0_len, known}
 use Rattle.h5w_opening.specs.declared.error.OpenError.TheVariants.{Read}
 use Rattle.h5w_opening.proofs.OpeningLemmas.{all_read}
 use Rattle.h5w_opening.proofs.finding.dataset_at.Goals as goal
@@ -17,12 +17,12 @@ returns-in_err-header g c =
     let is : c.from_residual.result ≡ Err (open_error e) = search rules in
     rw is (ran_stop (λ img. refused_as Read (eval img (dataset_header_for true c.args.place))) (open_error e) _
     (ran_as Read open_error (λ img. eval img (dataset_header_for true c.args.place)) (Err e) all_read c.in_err-header.ensures)
-    (λ img f said. step_err _ f (λ (h : HeaderFields). known h.messages) said))
+    (λ img f said. step_err _ f (λ (h : HeaderFields). known (chunk_0_len h.ranges) h.messages) said))
 
 pub returns : goal.returns
 returns g c =
     let h = header_of c.in_ok-header.header in
-    ran_end (λ img. refused_as Read (eval img (dataset_header_for true c.args.place))) h (known h.messages) _ _
+    ran_end (λ img. refused_as Read (eval img (dataset_header_for true c.args.place))) h (known (chunk_0_len h.ranges) h.messages) _ _
     (ran_as Read open_error (λ img. eval img (dataset_header_for true c.args.place)) (Ok h) all_read c.in_ok-header.ensures)
-    (rw c.deref.ensures.value at c.known.ensures)
-    (λ img said. step_ok _ h (λ (h : HeaderFields). known h.messages) said)
+    (rw (c.chunk_0_len-len.ensures, c.deref.ensures.value, c.deref-2.ensures.value) at c.known.ensures)
+    (λ img said. step_ok _ h (λ (h : HeaderFields). known (chunk_0_len h.ranges) h.messages) said)
