@@ -52,7 +52,7 @@ put_chunk-requires-clause-ends g c =
     let is : IsSession v = c.self.invariant.0 in
     let placing : IsPlacing v.dataset (rows_of v) v.index v.places (c.args.place ∷ []) [] v.index v.places =
     subst (λ (s : Session). IsPlacing s.dataset (rows_of s) s.index s.places (c.args.place ∷ []) [] s.index s.places) (sym c.self.view_is) c.requires.placing in
-    omega (arith, placing.inside zero c.args.place refl, is.limited, is.limit)
+    omega (arith, placing.inside zero c.args.place refl, is.small)
 
 pub raise_rows-piece-requires-clause-rows : goal.raise_rows-piece-requires-clause-rows
 raise_rows-piece-requires-clause-rows g c = has_rows c.self.inside.header c.self.invariant.0.header
