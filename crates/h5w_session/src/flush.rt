@@ -33,6 +33,7 @@ use h5w_ea_index::ArrayIndex;
 use h5w_image::PieceWrite;
 use h5w_model::{OutOfMemory, PIECE, Piece, Super, Write};
 use h5w_ohdr::with_rows;
+use std::mem;
 
 /// A flush that only has to be carried out: the writes of the new rows, with room for all that follow, and the plan of the index's blocks.
 #[derive(Drop)]
@@ -127,8 +128,8 @@ fn prepare<W: PieceWrite>(
     Ok(Prepared { writes, begun })
 }
 
-/// Adds the writes of rows that all go into this chunk, and makes room for a superblock and a header behind them, for all of these and
-/// one more in the image.
+/// The writes of rows that all go into this chunk, in place of those of the list, with room for a superblock and a header behind them,
+/// and for all of these and one more in the image.
 fn put_chunk<W: PieceWrite>(
     grid: &Grid,
     cells: &[u8],
@@ -144,7 +145,6 @@ fn put_chunk<W: PieceWrite>(
     requires count { length cells.now ≡ (to - grid.now.shape.rows) * grid.now.shape.cols * grid.now.int_type.size }
     requires all { first_number (dataset_of grid.now) + 1 ≡ div_up to grid.now.layout.chunk.0 }
     requires ends { place.address + chunk_len (dataset_of grid.now) < 2 ^ 64 }
-    requires none { writes.items ≡ [] }
     ensures exact { IfOk result (λ ws. ws.items ≡ new_writes (dataset_of grid.now) cells.now grid.now.shape.rows to (place ∷ [])) }
     ensures does { IfOk result (λ ws. RowsWritten (dataset_of grid.now) cells.now grid.now.shape.rows to (place ∷ []) ws.items) }
     ensures room { IfOk result (λ ws. vec_len ws + 2 ≤ vec_capacity ws) }
@@ -154,6 +154,7 @@ fn put_chunk<W: PieceWrite>(
     ensures fault { result ≡ Err FlushError.Failed → Rose (W.view image.old).faults (W.view image.new).faults }
     ensures causes { IfErr result (λ e. (e ≡ FlushError.Failed) ⊎ (e ≡ FlushError.OutOfMemory)) }
 {
+    writes.clear();
     grid.new_bytes(cells, grid.shape.rows, to, &[place], &mut writes)?;
     let pieces = (writes.len() as u64).checked_add(3).ok_or(OutOfMemory)?;
     writes.reserve(2).map_err(OutOfMemory::from)?;
@@ -176,19 +177,6 @@ fn raise(root: &mut Super, end: u64) -> Option<Write>
         at: 0,
         piece: Piece::of(&h5w_super::encode(root)),
     })
-}
-
-/// A dataset's header with another number of rows.
-fn header_with_rows(header: &Piece, rows: u64) -> Piece
-    requires read { IsOk (messages_at header.now) }
-    requires rows { IsSome (rows_in_header header.now) }
-    ensures { result ≡ with_rows_bytes header.now rows None }
-{
-    let mut bytes = [0; PIECE];
-    let chunk = &mut bytes[..header.len()];
-    chunk.copy_from_slice(header.as_slice());
-    with_rows(chunk, rows, None);
-    Piece::of(chunk)
 }
 
 /// A dataset's header gets another number of rows, and the piece that writes it.
@@ -340,15 +328,17 @@ impl WriterCore {
         ensures room { OnOk result (HasRoomFor self.new (W.view image.new)) }
     {
         let to = self.rows();
-        let writes = Vec::with_capacity(*self.plan.allocator(), 2).map_err(OutOfMemory::from)?;
+        let alloc = *self.plan.allocator();
         let end = self.places.end();
-        let writes = put_chunk(&self.grid, &self.waiting, to, place, end, writes, image)?;
+        let shown = mem::replace(&mut self.spare, Vec::new(alloc));
+        let writes = put_chunk(&self.grid, &self.waiting, to, place, end, shown, image)?;
         let superblock = raise(&mut self.root, end);
         let piece = raise_rows(&mut self.header, to);
         let header = Write {
             at: self.place,
             piece,
         };
+        self.spare = mem::replace(&mut self.plan, Vec::new(alloc));
         self.plan = end_with(writes, superblock, header);
         self.shown = 0;
         self.grid.shape.rows = to;
@@ -384,10 +374,10 @@ impl WriterCore {
                 let Prepared { writes, begun } = prepared;
                 let plan = self.index.finish(&mut taking.places, begun);
                 let superblock = raise(&mut self.root, taking.places.end());
-                self.header = header_with_rows(&self.header, to);
+                let piece = raise_rows(&mut self.header, to);
                 let header = Write {
                     at: self.place,
-                    piece: Piece::of(self.header.as_slice()),
+                    piece,
                 };
                 self.plan = join(writes, plan, superblock, header);
                 self.shown = 0;

@@ -1,4 +1,4 @@
-//! The index of a dataset's chunks: all calls of the extensible array stand here.
+//! The pieces of an array without chunks: its header and its index block.
 ghost use Rattle.std.specs.Prelude.{◌≡◌};
 ghost use Rattle.h5w_array_laws.specs.ArrayStores.{IsCreated};
 ghost use Rattle.h5w_session.specs.Creations.{array_write, index_write};

@@ -53,6 +53,8 @@ pub struct WriterCore {
     /// The pieces of the last plan, and how many of them became visible.
     pub(crate) plan: Vec<Write>,
     pub(crate) shown: usize,
+    /// The list of a plan before it, whose room is used again.
+    pub(crate) spare: Vec<Write>,
     pub(crate) stopped: bool,
     /// What is retired stays retired.
     pub(crate) keeps: bool,
@@ -126,6 +128,7 @@ impl WriterCore {
             waits: 0,
             plan: file.writes,
             shown: 0,
+            spare: Vec::new(alloc),
             stopped: false,
             keeps: false,
             index: file.index,

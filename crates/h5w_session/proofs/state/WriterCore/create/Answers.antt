@@ -12,7 +12,7 @@ use Rattle.h5w_session.proofs.CreatingLemmas.{creation_begins}
 use Rattle.h5w_session.proofs.state.WriterCore.create.Goals as goal
 
 -- the session that is made
-abbrev made : goal.After-new-2 → Session
+abbrev made : goal.After-new-3 → Session
 made c = record {
   name = c.of.result;
   root = c.new_super.result;
@@ -29,7 +29,7 @@ made c = record {
   index = c.in_ok-file.file.index;
 }
 
-created_here : (c : goal.After-new-2) → made c ≡ created (new_file c.args.options.now)
+created_here : (c : goal.After-new-3) → made c ≡ created (new_file c.args.options.now)
 created_here c =
     let o = c.args.options.now in
     let f = new_file o in

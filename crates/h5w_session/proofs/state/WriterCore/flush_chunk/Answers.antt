@@ -58,7 +58,10 @@ pub raise_rows-piece-requires-clause-rows : goal.raise_rows-piece-requires-claus
 raise_rows-piece-requires-clause-rows g c = has_rows c.self.inside.header c.self.invariant.0.header
 
 pub invariant_of-self : goal.invariant_of-self
-invariant_of-self g c =
+invariant_of-self g c = c.self.invariant
+
+pub invariant_of-self-2 : goal.invariant_of-self-2
+invariant_of-self-2 g c =
     let i = c.self.inside in
     let v : Session = record {
       name = i.name;
@@ -105,9 +108,9 @@ invariant_of-self g c =
       all = subst (λ (n : ℕ). first_number v.dataset + 1 ≡ div_up n v.dataset.layout.chunk_rows) (sym to_is) all;
       cells = c.deref.result.now;
       cells_are = c.deref.ensures.value;
-      rows = c.in_ok-writes-2.writes.items;
-      exact = c.in_ok-writes-2.ensures.exact;
-      written = c.in_ok-writes-2.ensures.does;
+      rows = c.in_ok-writes.writes.items;
+      exact = c.in_ok-writes.ensures.exact;
+      written = c.in_ok-writes.ensures.does;
       moves = [];
       copies = [];
       fixed = [];
@@ -185,9 +188,9 @@ returns-clause-flushed g c =
       all = subst (λ (n : ℕ). first_number v.dataset + 1 ≡ div_up n v.dataset.layout.chunk_rows) (sym to_is) all;
       cells = c.deref.result.now;
       cells_are = c.deref.ensures.value;
-      rows = c.in_ok-writes-2.writes.items;
-      exact = c.in_ok-writes-2.ensures.exact;
-      written = c.in_ok-writes-2.ensures.does;
+      rows = c.in_ok-writes.writes.items;
+      exact = c.in_ok-writes.ensures.exact;
+      written = c.in_ok-writes.ensures.does;
       moves = [];
       copies = [];
       fixed = [];
@@ -254,9 +257,9 @@ returns-clause-ends g c =
       all = subst (λ (n : ℕ). first_number v.dataset + 1 ≡ div_up n v.dataset.layout.chunk_rows) (sym to_is) all;
       cells = c.deref.result.now;
       cells_are = c.deref.ensures.value;
-      rows = c.in_ok-writes-2.writes.items;
-      exact = c.in_ok-writes-2.ensures.exact;
-      written = c.in_ok-writes-2.ensures.does;
+      rows = c.in_ok-writes.writes.items;
+      exact = c.in_ok-writes.ensures.exact;
+      written = c.in_ok-writes.ensures.does;
       moves = [];
       copies = [];
       fixed = [];

@@ -7,11 +7,10 @@ use Rattle.h5w_session.specs.Placing.{HasSlot, IsPartly}
 use Rattle.h5w_session.specs.Refusals.{IsFullFor, IsFullPart}
 use Rattle.h5w_session.proofs.CarriedLemmas.{Carried, carried_flushed, carried_is, carried_pieces, has_rows, lengths_joined, one_at_most, refused_is, refused_same, same_error}
 use Rattle.h5w_session.proofs.TakingLemmas.{filled_cell}
-use Rattle.h5w_session.proofs.WritableLemmas.{written_length}
 use Rattle.h5w_session.proofs.state.WriterCore.flush_taking.Goals as goal
 
-pub header_with_rows-self-inside-requires-clause-rows : goal.header_with_rows-self-inside-requires-clause-rows
-header_with_rows-self-inside-requires-clause-rows g c = has_rows c.self.inside.header c.self.invariant.0.header
+pub raise_rows-piece-requires-clause-rows : goal.raise_rows-piece-requires-clause-rows
+raise_rows-piece-requires-clause-rows g c = has_rows c.self.inside.header c.self.invariant.0.header
 
 pub invariant_of-self : goal.invariant_of-self
 invariant_of-self g c =
@@ -37,7 +36,7 @@ invariant_of-self g c =
     let w = c.finish-plan.new.self in
     let ws = c.join.result.items in
     let r = c.raise-superblock.new.root in
-    let b = c.header_with_rows-self-inside.result in
+    let b = c.raise_rows-piece.new.header in
     let e = c.clear.new.self.items in
     let x : Carried v to t w ws r b e = record {
       some = subst (λ (u : Session). 0 < u.waits) (sym c.self.view_is) c.requires.waits;
@@ -67,11 +66,11 @@ invariant_of-self g c =
       end_is = c.end.ensures;
       ended = c.raise-superblock.ensures.ended;
       root = c.raise-superblock.ensures.root;
-      header = c.header_with_rows-self-inside.ensures;
-      piece = c.of.result;
-      piece_is = c.of.ensures ∙ c.as_slice.ensures.value;
+      header = c.raise_rows-piece.ensures.header;
+      piece = c.raise_rows-piece.result;
+      piece_is = c.raise_rows-piece.ensures.piece;
       items = c.join.ensures.items;
-      header_short = omega (arith, written_length i.header to is.header, ap length c.header_with_rows-self-inside.ensures, ap length c.as_slice.ensures.value, c.as_slice.ensures.bound);
+      header_short = c.raise_rows-piece.ensures.short;
       none_waits = c.clear.ensures.items;
     } in
     let grid = c.self.invariant.1 in (
@@ -140,7 +139,7 @@ returns-in-Ok-clause-flushed g c =
     let w = c.finish-plan.new.self in
     let ws = c.join.result.items in
     let r = c.raise-superblock.new.root in
-    let b = c.header_with_rows-self-inside.result in
+    let b = c.raise_rows-piece.new.header in
     let e = c.clear.new.self.items in
     let x : Carried v to t w ws r b e = record {
       some = subst (λ (u : Session). 0 < u.waits) (sym c.self.view_is) c.requires.waits;
@@ -170,11 +169,11 @@ returns-in-Ok-clause-flushed g c =
       end_is = c.end.ensures;
       ended = c.raise-superblock.ensures.ended;
       root = c.raise-superblock.ensures.root;
-      header = c.header_with_rows-self-inside.ensures;
-      piece = c.of.result;
-      piece_is = c.of.ensures ∙ c.as_slice.ensures.value;
+      header = c.raise_rows-piece.ensures.header;
+      piece = c.raise_rows-piece.result;
+      piece_is = c.raise_rows-piece.ensures.piece;
       items = c.join.ensures.items;
-      header_short = omega (arith, written_length i.header to is.header, ap length c.header_with_rows-self-inside.ensures, ap length c.as_slice.ensures.value, c.as_slice.ensures.bound);
+      header_short = c.raise_rows-piece.ensures.short;
       none_waits = c.clear.ensures.items;
     } in
     carried_flushed v to t w ws r b e x is c.args.self.now c.self.view_is
@@ -203,7 +202,7 @@ returns-in-Ok-clause-ends g c =
     let w = c.finish-plan.new.self in
     let ws = c.join.result.items in
     let r = c.raise-superblock.new.root in
-    let b = c.header_with_rows-self-inside.result in
+    let b = c.raise_rows-piece.new.header in
     let e = c.clear.new.self.items in
     let x : Carried v to t w ws r b e = record {
       some = subst (λ (u : Session). 0 < u.waits) (sym c.self.view_is) c.requires.waits;
@@ -233,11 +232,11 @@ returns-in-Ok-clause-ends g c =
       end_is = c.end.ensures;
       ended = c.raise-superblock.ensures.ended;
       root = c.raise-superblock.ensures.root;
-      header = c.header_with_rows-self-inside.ensures;
-      piece = c.of.result;
-      piece_is = c.of.ensures ∙ c.as_slice.ensures.value;
+      header = c.raise_rows-piece.ensures.header;
+      piece = c.raise_rows-piece.result;
+      piece_is = c.raise_rows-piece.ensures.piece;
       items = c.join.ensures.items;
-      header_short = omega (arith, written_length i.header to is.header, ap length c.header_with_rows-self-inside.ensures, ap length c.as_slice.ensures.value, c.as_slice.ensures.bound);
+      header_short = c.raise_rows-piece.ensures.short;
       none_waits = c.clear.ensures.items;
     } in
     (carried_pieces v to t w ws r b e x is).within
@@ -248,7 +247,7 @@ returns-in-Ok-clause-room g c =
     let copies = c.finish-plan.result.copies.items in
     let fixed = c.finish-plan.result.in_place.items in
     let supers = option_list c.raise-superblock.result in
-    let long = ap length c.join.ensures.items ∙ lengths_joined rows copies supers fixed (record { at = c.self.inside.place; piece = c.of.result }) in
+    let long = ap length c.join.ensures.items ∙ lengths_joined rows copies supers fixed (record { at = c.self.inside.place; piece = c.raise_rows-piece.result }) in
     record {
       pieces = omega (arith, long, one_at_most c.raise-superblock.result, c.finish-plan.ensures.copies, c.finish-plan.ensures.in_place, c.in-Ok.ensures.pieces, c.in-Ok.prepared.writes.ok);
       end = omega (arith, c.finish-plan.ensures.end, c.in-Ok.ensures.end);
