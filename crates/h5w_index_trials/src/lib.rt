@@ -3,3 +3,5 @@
 
 #[cfg(test)]
 mod arrays;
+#[cfg(test)]
+mod trees;
