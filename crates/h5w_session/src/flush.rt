@@ -180,6 +180,7 @@ fn raise(root: &mut Super, end: u64) -> Option<Write>
 }
 
 /// A dataset's header gets another number of rows, and the piece that writes it.
+#[inline(always)]
 fn raise_rows(header: &mut Piece, rows: u64) -> Piece
     requires read { IsOk (messages_at header.old) }
     requires rows { IsSome (rows_in_header header.old) }
