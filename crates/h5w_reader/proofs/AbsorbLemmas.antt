@@ -1,6 +1,7 @@
 -- A piece behind which a block, or a chunk's range, goes on.
 use Rattle.std.proofs.Common.{◌≡◌, ℕ, min, length, List, Option, Some, None, Result, refl, sym, ◌∙◌, ap}
-use Rattle.std.specs.Prelude.{◌≢◌, option_map, IsSome, ℤ}
+use Rattle.std.specs.Prelude.{◌≢◌, option_map, IsSome, ℤ, Box}
+use Rattle.std.specs.declared.alloc.Global.{Global}
 use Rattle.h5w_model.specs.Programs.{Prog, bind, fed}
 use Rattle.h5w_model.specs.Tables.{Reading}
 use Rattle.h5w_model.specs.Calls.{CallRules}
@@ -62,12 +63,13 @@ block_left most name k a w h =
     let g = rules_of a.rules (known_of k) in
     Some (rows_left (bind (waiting_by g w h) (confirm_rest g a.more a.view)))
 
-abbrev pub block_call : Attempt → Waiting → Option Call
+abbrev pub block_call : Attempt → Box Waiting Global → Option Call
 block_call a w = Some (calls.Rows (stages.Behind a (behind_by.Lookup (lookup_by.Block w))))
 
-pub block_goes : (most : ℕ) (name : List ℕ) (k : Option Known) (call : Option Call) (a : Attempt) (w : Waiting) (h : Gather) (b : List ℕ) → call ≡ block_call a w → TookUp w.gather h b
-    → block_left most name k a w h ≡ option_map (fed_left b) (left_of most name k call)
-block_goes most name k call a w h b e t =
+pub block_goes : (most : ℕ) (name : List ℕ) (k : Option Known) (call : Option Call) (a : Attempt) (x : Box Waiting Global) (h : Gather) (b : List ℕ) → call ≡ block_call a x → TookUp x.value.gather h b
+    → block_left most name k a x.value h ≡ option_map (fed_left b) (left_of most name k call)
+block_goes most name k call a x h b e t =
+    let w = x.value in
     let g = rules_of a.rules (known_of k) in
     let next : List ℕ → Prog (Result Reading ReadError) = wait_given (kept w.descent.store) w.wait (after_next g w.descent) in
     let rest : Result Reading ReadError → Prog (Result Reading ReadError) = confirm_rest g a.more a.view in
@@ -75,9 +77,9 @@ block_goes most name k call a w h b e t =
     ∙ ap (λ (p : Prog (Result Reading ReadError)). Some (rows_left p)) (sym (fed_bind (waiting g w) rest b (w.gather.place, min 512 w.gather.rest) (waiting_wants g w (min 512 w.gather.rest) refl)))
     ∙ ap (λ c. option_map (fed_left b) (left_of most name k c)) (sym e)
 
-pub block_same : (most : ℕ) (name : List ℕ) (k : Option Known) (call : Option Call) (a : Attempt) (w : Waiting) (h : Gather) → call ≡ block_call a w → h ≡ w.gather
-    → block_left most name k a w h ≡ left_of most name k call
-block_same most name k call a w h e same = ap (block_left most name k a w) same ∙ ap (left_of most name k) (sym e)
+pub block_same : (most : ℕ) (name : List ℕ) (k : Option Known) (call : Option Call) (a : Attempt) (w : Box Waiting Global) (h : Gather) → call ≡ block_call a w → h ≡ w.value.gather
+    → block_left most name k a w.value h ≡ left_of most name k call
+block_same most name k call a w h e same = ap (block_left most name k a w.value) same ∙ ap (left_of most name k) (sym e)
 
 -- ---- A chunk's range
 

@@ -45,7 +45,7 @@ behind_looks g (behind_by.Lookup (lookup_by.Array s k)) =
     record { look = (k.place, min 512 k.rest); next = wants_gather k.place k.rest (min 512 k.rest) k.got.items (array_rest g.place (known_table g.known (described_of s.dataset)) (described_of s.dataset) k.start) k.more refl }
 behind_looks g (behind_by.Lookup (lookup_by.Tree l k)) =
     record { look = (k.place, min 512 k.rest); next = wants_gather k.place k.rest (min 512 k.rest) k.got.items (tree_rest g.place (known_table g.known (described_of l.dataset)) (described_of l.dataset) k.start) k.more refl }
-behind_looks g (behind_by.Lookup (lookup_by.Block w)) = record { look = (w.gather.place, min 512 w.gather.rest); next = waiting_wants g w (min 512 w.gather.rest) refl }
+behind_looks g (behind_by.Lookup (lookup_by.Block w)) = record { look = (w.value.gather.place, min 512 w.value.gather.rest); next = waiting_wants g w.value (min 512 w.value.gather.rest) refl }
 behind_looks g (behind_by.Lookup (lookup_by.Index s k)) =
     record { look = (k.place, min 512 k.rest); next = wants_gather k.place k.rest (min 512 k.rest) k.got.items (index_rest g.place (known_table g.known (described_of s.dataset)) (described_of s.dataset) k.start) k.more refl }
 

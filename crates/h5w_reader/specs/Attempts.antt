@@ -76,7 +76,7 @@ abbrev pub looking_up : CallRules → Lookup → Prog (Result Reading ReadError)
 looking_up g (lookup_by.Array s k) = bind (gathering k) (array_rest g.place (known_table g.known (described_of s.dataset)) (described_of s.dataset) k.start)
 looking_up g (lookup_by.Index s k) = bind (gathering k) (index_rest g.place (known_table g.known (described_of s.dataset)) (described_of s.dataset) k.start)
 looking_up g (lookup_by.Tree l k) = bind (gathering k) (tree_rest g.place (known_table g.known (described_of l.dataset)) (described_of l.dataset) k.start)
-looking_up g (lookup_by.Block w) = waiting g w
+looking_up g (lookup_by.Block w) = waiting g w.value
 
 abbrev pub looked_up : CallRules → LookedUp → Prog (Result Reading ReadError)
 looked_up g (looked_up_by.Ready n) = ret (Ok (reading_news g.known n))

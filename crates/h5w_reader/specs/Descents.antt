@@ -42,4 +42,4 @@ waiting g w = bind (gathering w.gather) (wait_given (kept w.descent.store) w.wai
 abbrev pub descended : CallRules → Descended → Prog (Result Reading ReadError)
 descended g (descended_by.Ready n) = ret (Ok (reading_news g.known n))
 descended g (descended_by.Refused e) = ret (Err e)
-descended g (descended_by.Looks w) = waiting g w
+descended g (descended_by.Looks w) = waiting g w.value

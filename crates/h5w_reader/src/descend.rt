@@ -39,18 +39,19 @@ fn refused(at: u64, fault: BlockFault) -> Result<Descended, OutOfMemory>
 
 impl Descent {
     /// Waits for a block on the way to its next chunk. There is room for all of it.
-    fn wait(self, alloc: Global, wait: Wait) -> Result<Waiting, OutOfMemory>
+    fn wait(self, alloc: Global, wait: Wait) -> Result<Box<Waiting>, OutOfMemory>
         requires { self.kept + length self.tail.items < needed (described_of self.dataset) }
-        ensures { IfOk result (λ w. (g : CallRules) → waiting g w ≡ wait_rest (kept self.store) wait (after_next g self)) }
+        ensures { IfOk result (λ w. (g : CallRules) → waiting g w.value ≡ wait_rest (kept self.store) wait (after_next g self)) }
     {
         let (at, len) = (wait.at(), wait.len());
         let room = Vec::with_capacity(alloc, len as usize)?;
         let gather = Gather::new(at, room, at, len);
-        Ok(Waiting {
+        let waiting = Waiting {
             descent: self,
             wait,
             gather,
-        })
+        };
+        Ok(Box::new(alloc, waiting)?)
     }
 
     /// Goes on to the next chunk whose way leads over a block that is not kept, or to the end.
@@ -254,11 +255,14 @@ impl Waiting {
             gather,
         } = self;
         match gather.feed(piece)? {
-            Gathered::More(gather) => Ok(Descended::Looks(Waiting {
-                descent,
-                wait,
-                gather,
-            })),
+            Gathered::More(gather) => {
+                let waiting = Waiting {
+                    descent,
+                    wait,
+                    gather,
+                };
+                Ok(Descended::Looks(Box::new(alloc, waiting)?))
+            }
             Gathered::Whole(bytes) => descent.enter(alloc, rules, known, wait, bytes),
         }
     }

@@ -44,5 +44,5 @@ pub struct Waiting {
 pub enum Descended {
     Ready(News),
     Refused(ReadError),
-    Looks(Waiting),
+    Looks(Box<Waiting>),
 }

@@ -44,7 +44,7 @@ pub enum Lookup {
     /// The tree's header.
     Tree(Large, Gather),
     /// A block behind those.
-    Block(Waiting),
+    Block(Box<Waiting>),
 }
 
 /// What a lookup comes to.
@@ -269,6 +269,7 @@ impl Lookup {
                 }
             }
             Lookup::Block(waiting) => {
+                let waiting = Box::into_inner(waiting);
                 Ok(LookedUp::of(waiting.feed(alloc, rules, known, piece)?))
             }
         }

@@ -1,5 +1,4 @@
-use Rattle.std.proofs.Common.{◌≡◌, ◌∙◌, ◌-◌, ◌++◌, ap, sym, length, take, replicate}
-use Rattle.std.specs.Vec.{vec_len}
+use Rattle.std.proofs.Common.{◌-◌, ◌++◌, ap, sym, length}
 use Rattle.std.proofs.lemmas.List.{take_all}
 use Rattle.h5w_reader.proofs.ViewLemmas.{zeros_are}
 use Rattle.h5w_reader.proofs.view.filled.Goals as goal

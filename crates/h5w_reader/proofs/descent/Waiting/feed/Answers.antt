@@ -14,12 +14,12 @@ feed-requires c =
     let g = rules_of c.args.rules.now (known_of c.args.known.now) in
     fits_gather s.gather (wait_given (kept s.descent.store) s.wait (after_next g s.descent)) (length c.args.piece.now) c.requires
 
-pub returns-in-More : goal.returns-in-More
-returns-in-More c =
+pub returns-in_ok-new-in-More : goal.returns-in_ok-new-in-More
+returns-in_ok-new-in-More c =
     let s = c.args.self in
     let g = rules_of c.args.rules.now (known_of c.args.known.now) in
     let e = rw c.in-More.is at c.in_ok-gather.ensures in
-    fed_more s.gather c.in-More.gather c.args.piece.now (wait_given (kept s.descent.store) s.wait (after_next g s.descent)) e.left
+    rw c.in_ok-new-in-More.ensures.ok (fed_more s.gather c.in-More.gather c.args.piece.now (wait_given (kept s.descent.store) s.wait (after_next g s.descent)) e.left)
 
 pub returns-in-Whole : goal.returns-in-Whole
 returns-in-Whole c =
