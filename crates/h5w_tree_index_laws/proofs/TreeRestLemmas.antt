@@ -29,7 +29,7 @@ use Rattle.h5w_bt_index.specs.Index.{Index, IsClean, IsHalfFull, IsIndex}
 use Rattle.h5w_bt_index.specs.Plans.{header_of, header_writes, news, place_of, planned}
 use Rattle.h5w_bt_index.proofs.Placed.{placed_clean, planned_half}
 use Rattle.h5w_tree_index_laws.specs.TreeImages.{AllStand, StandsNode, StandsTree, behind_of, node_range}
-use Rattle.h5w_tree_index_laws.specs.TreeFlushes.{AreChunks, IsTreePart, TreeRestsThen, TreeStands, header_range, tree_parts}
+use Rattle.h5w_tree_index_laws.specs.TreeFlushes.{AreChunks, IsTreePart, TreeBegins, TreeRestsThen, TreeStands, header_range, tree_parts}
 use Rattle.h5w_tree_index_laws.proofs.TreeFlushLemmas.{all_stand, after, copies_stand, header_stays, root_low, same_tree}
 use Rattle.h5w_tree_index_laws.proofs.TreeHeaderLemmas.{header_long, header_written, part_range, tree_left}
 
@@ -53,6 +53,9 @@ tree_stands img v s p clean = inr (part_stands img p v.depth v.root s clean)
 header_misses : (place : ℕ) (piece : List ℕ) (u : Used) → length piece ≡ 38 → AreApart (header_range place) u → Misses (record { at = place; piece = piece }) u.place u.len
 header_misses place piece u long (inl h) = inl (omega (arith, h, long))
 header_misses place piece u long (inr h) = inr (omega (arith, h))
+
+pub tree_begins : TreeBegins
+tree_begins img place h = record { nodes = λ p clean. inl clean.1; header = λ e. h }
 
 module _ (img name : List ℕ) (m : Moment) (old : Key → ℕ) (s b t : Space) (place : ℕ) (v w : Index) (ms : List Move) (rows : ℕ) (more : List ℤ) (writes : List Write) (chunks : List Used) (copies : List (ℕ × List ℕ))
     (supers fixed : List Write) (last : ℕ) (k : Knows img name m old s) (are : AreChunks chunks) (i : IsFlush img m old s (tree_parts (chunk_bytes m.dataset) place w rows more writes chunks copies supers last fixed) t)

@@ -20,7 +20,7 @@ use Rattle.h5w_flush_laws.specs.Knowledge.{IsAsked, Knows}
 use Rattle.h5w_flush_laws.specs.Parts.{Parts, AllUnseen, AreEnded, IndexFlushed, IsFlush, block_ranges, block_writes, flushed_to, pieces_of}
 use Rattle.h5w_flush_laws.specs.Rows.{ArePlaced, new_chunks}
 use Rattle.h5w_bt_index.specs.Marks.{clean_of}
-use Rattle.h5w_bt_index.specs.Index.{Index, IsHalfFull, IsIndex, address_of}
+use Rattle.h5w_bt_index.specs.Index.{Index, IsHalfFull, IsIndex, address_of, no_tree}
 use Rattle.h5w_bt_index.specs.Plans.{IsTreePlan, header_of, news, written}
 use Rattle.h5w_tree_index_laws.specs.TreeImages.{AreAmong, StandsTree, behind_of, blocks_in_place, node_range}
 
@@ -76,6 +76,10 @@ pub record IsTreePart (img : List ℕ) (m : Moment) (place : ℕ) (v : Index) (s
   pub copied : copies ≡ written v.depth (news ms) v.root
 
 -- ---- Laws
+
+-- A tree without records stands where its header says that there is none, as in a file that was just made.
+abbrev pub TreeBegins : Type 0
+TreeBegins = (img : List ℕ) (place : ℕ) → bthd_at (range img place bthd_len) place ≡ Ok (record { depth = 0; root = undefined; records = 0; total = 0 }) → TreeStands place no_tree img
 
 -- The plan is what a flush asks of the index.
 abbrev pub TreeFlushed : Type 0

@@ -1,9 +1,9 @@
-//! A version 2 B-tree as a session holds it (HDF5 File Format Specification 3.0, "Version 2 B-trees"): its nodes, a record put into them,
-//! the plan of those that changed, and what a reader and a check find on the image of a file. Each law is the clause of a function
-//! without parameters; its statement is a definition in specs/. Nothing here runs.
+//! A version 2 B-tree of a session on the image of a file (HDF5 File Format Specification 3.0, "Version 2 B-trees"): what a reader and a
+//! check find there, and its plan as the index's part of a flush. Each law is the clause of a function without parameters; its statement
+//! is a definition in specs/. Nothing here runs.
 #![tactic(auto)]
 
-ghost use Rattle.h5w_tree_index_laws.specs.TreeFlushes.{TreeFlushed, TreeIsFlush, TreePlaces, TreeRestsThen};
+ghost use Rattle.h5w_tree_index_laws.specs.TreeFlushes.{TreeBegins, TreeFlushed, TreeIsFlush, TreePlaces, TreeRestsThen};
 ghost use Rattle.h5w_tree_index_laws.specs.TreeImages.{InsertedBehind, TreeIsRead};
 
 /// Where a tree stands, unchanged, a check behind its header finds its ranges, and a reader each key's address.
@@ -14,6 +14,11 @@ pub fn tree_is_read()
 /// With a record more, of ranges there is that of its chunk more, and none other.
 pub fn inserted_behind()
     ensures { InsertedBehind }
+{}
+
+/// A tree without records stands where its header says that there is none.
+pub fn tree_begins()
+    ensures { TreeBegins }
 {}
 
 /// The plan of a tree's changed nodes is what a flush asks of its index.
