@@ -11,15 +11,15 @@ use Rattle.h5w_model.specs.Findings.{Finding, node_visit}
 use Rattle.h5w_model.specs.Programs.{eval}
 use Rattle.h5w_image.specs.View.{ImageView, Looked}
 use Rattle.h5w_image.proofs.ViewLemmas.{looked_twice, looked_itself}
-use Rattle.h5w_check.specs.Still.{IsStill}
-use Rattle.h5w_check.specs.Ran.{Ran, Told}
+use Rattle.h5w_looks.specs.Still.{IsStill}
+use Rattle.h5w_check.specs.Ran.{Ran, Told, check_errors}
 use Rattle.h5w_check.specs.Known.{known, name_cmp, span_under, AreRight, Visits}
 use Rattle.h5w_check.specs.declared.span.Span.{Span}
 use Rattle.h5w_check.specs.declared.known.KnownNodes.{KnownNodes}
 use Rattle.h5w_check.specs.declared.error.CheckError.{CheckError}
 use Rattle.h5w_check.specs.declared.error.CheckError.TheVariants as errors
-use Rattle.h5w_check.proofs.ReadLemmas.{still_on}
-use Rattle.h5w_check.proofs.RanLemmas.{tells_along, stops_along, later, same_error}
+use Rattle.h5w_looks.proofs.ReadLemmas.{still_on}
+use Rattle.h5w_found.proofs.RanLemmas.{tells_along, stops_along, later, same_error}
 
 -- ---- One call after another
 
@@ -39,7 +39,7 @@ pub visits_next : {A B : Type 0} {end bytes : ℕ} {m n : KnownNodes} {v w x : I
 visits_next {A} {B} {end} {bytes} {m} {n} {v} {w} {x} p a q r answer one two joined = record {
   looked = looked_twice one.looked two.looked;
   cause = λ e. later v.faults w.faults x.faults one.looked.faults (two.cause e);
-  exact = λ img still right. tells_along (q img) (r img) answer (joined img (one.exact img still)) (two.exact img (still_on img one.looked still) right);
+  exact = λ img still right. tells_along check_errors (q img) (r img) answer (joined img (one.exact img still)) (two.exact img (still_on img one.looked still) right);
   kept = λ img still right. two.kept img (still_on img one.looked still) right;
 }
 
@@ -48,8 +48,8 @@ pub visits_next_stop : {A B C : Type 0} {end bytes : ℕ} {m n : KnownNodes} {v 
     → Ran v w p (Ok a) → Visits end bytes m n w x q (Err e) → ((img : List ℕ) (f : Finding) → p img ≡ Ok a → q img ≡ Err f → r img ≡ Err f) → Visits end bytes m n v x r (Err e)
 visits_next_stop {A} {B} {C} {end} {bytes} {m} {n} {v} {w} {x} p a q e r one two joined = record {
   looked = looked_twice one.looked two.looked;
-  cause = λ h. later v.faults w.faults x.faults one.looked.faults (two.cause (same_error {A = C} {B = B} e h));
-  exact = λ img still right. stops_along (q img) (r img) e (λ f h. joined img f (one.exact img still) h) (two.exact img (still_on img one.looked still) right);
+  cause = λ h. later v.faults w.faults x.faults one.looked.faults (two.cause (same_error {A = C} {B = B} e errors.Failed h));
+  exact = λ img still right. stops_along check_errors (q img) (r img) e (λ f h. joined img f (one.exact img still) h) (two.exact img (still_on img one.looked still) right);
   kept = λ img still right. two.kept img (still_on img one.looked still) right;
 }
 
@@ -59,7 +59,7 @@ pub visits_end : {A B : Type 0} {end bytes : ℕ} {m n : KnownNodes} {v w : Imag
 visits_end p a q r answer one two joined = record {
   looked = one.looked;
   cause = λ e. absurd (two.quiet e);
-  exact = λ img still right. tells_along q (r img) answer (joined img (one.exact img still right)) two.exact;
+  exact = λ img still right. tells_along check_errors q (r img) answer (joined img (one.exact img still right)) two.exact;
   kept = one.kept;
 }
 
@@ -68,8 +68,8 @@ pub visits_stop : {A B : Type 0} {end bytes : ℕ} {m n : KnownNodes} {v w : Ima
     → Visits end bytes m n v w p (Err e) → ((img : List ℕ) (f : Finding) → p img ≡ Err f → r img ≡ Err f) → Visits end bytes m n v w r (Err e)
 visits_stop {A} {B} p e r one joined = record {
   looked = one.looked;
-  cause = λ h. one.cause (same_error {A = A} {B = B} e h);
-  exact = λ img still right. stops_along (p img) (r img) e (joined img) (one.exact img still right);
+  cause = λ h. one.cause (same_error {A = A} {B = B} e errors.Failed h);
+  exact = λ img still right. stops_along check_errors (p img) (r img) e (joined img) (one.exact img still right);
   kept = one.kept;
 }
 
@@ -113,8 +113,8 @@ pub coming_stop : {A B : Type 0} {end bytes : ℕ} {m n o : KnownNodes} {v w x :
     → Coming end bytes m n v w given left → Visits end bytes n o w x p (Err e) → ((img : List ℕ) (f : Finding) → p img ≡ Err f → left img ≡ Err f) → Visits end bytes m o v x given (Err e)
 coming_stop {A} {B} {end} {bytes} {m} {n} {o} {v} {w} {x} given left p e so one joined = record {
   looked = looked_twice so.looked one.looked;
-  cause = λ h. later v.faults w.faults x.faults so.looked.faults (one.cause (same_error {A = A} {B = B} e h));
-  exact = λ img still right. stops_along (p img) (given img) e (λ f h. so.exact img still right ∙ joined img f h) (one.exact img (still_on img so.looked still) (so.kept img still right));
+  cause = λ h. later v.faults w.faults x.faults so.looked.faults (one.cause (same_error {A = A} {B = B} e errors.Failed h));
+  exact = λ img still right. stops_along check_errors (p img) (given img) e (λ f h. so.exact img still right ∙ joined img f h) (one.exact img (still_on img so.looked still) (so.kept img still right));
   kept = λ img still right. one.kept img (still_on img so.looked still) (so.kept img still right);
 }
 
@@ -122,8 +122,8 @@ pub coming_refused : {B C : Type 0} {end bytes : ℕ} {m n : KnownNodes} {v w : 
     → Coming end bytes m n v w given left → Told q (Err e) → ((img : List ℕ) (f : Finding) → q ≡ Err f → left img ≡ Err f) → Visits end bytes m n v w given (Err e)
 coming_refused {B} {C} given left q e so told joined = record {
   looked = so.looked;
-  cause = λ h. absurd (told.quiet (same_error {A = C} {B = B} e h));
-  exact = λ img still right. stops_along q (given img) e (λ f h. so.exact img still right ∙ joined img f h) told.exact;
+  cause = λ h. absurd (told.quiet (same_error {A = C} {B = B} e errors.Failed h));
+  exact = λ img still right. stops_along check_errors q (given img) e (λ f h. so.exact img still right ∙ joined img f h) told.exact;
   kept = so.kept;
 }
 
@@ -132,7 +132,7 @@ pub coming_end : {B : Type 0} {end bytes : ℕ} {m n : KnownNodes} {v w : ImageV
 coming_end given left q answer so told joined = record {
   looked = so.looked;
   cause = λ e. absurd (told.quiet e);
-  exact = λ img still right. tells_along q (given img) answer (so.exact img still right ∙ joined img) told.exact;
+  exact = λ img still right. tells_along check_errors q (given img) answer (so.exact img still right ∙ joined img) told.exact;
   kept = so.kept;
 }
 

@@ -1,10 +1,5 @@
-pub mod ReadLemmas
-pub mod RanLemmas
+pub mod FoundLemmas
 pub mod KnownLemmas
-pub mod DescribedLemmas
-pub mod ListedLemmas
-pub mod ChunkLemmas
-pub mod WalkLemmas
 pub mod VerdictLemmas
 pub mod CheckLemmas
 pub mod SpanLemmas

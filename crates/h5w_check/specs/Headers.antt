@@ -1,62 +1,20 @@
--- The messages of a header and its ranges, as they are held.
-use Rattle.std.specs.Prelude.{◌≡◌, ℕ, Bool, List, [], ◌∷◌, ◌++◌, map, reverse, nat_lt, if◌then◌else◌, Option, Some, None, Result, Ok, Err}
-use Rattle.h5w_model.specs.Numbers.{range}
-use Rattle.h5w_model.specs.Programs.{Prog, ret}
-use Rattle.h5w_model.specs.Datasets.{HeaderFields, Range, splice, block_messages, block_place, block_len, refused_as}
-use Rattle.h5w_model.specs.Datasets as model
+-- What is refused of a header, as a finding.
+use Rattle.std.specs.Prelude.{ℕ, Result}
+use Rattle.h5w_model.specs.Datasets.{refused_as}
 use Rattle.h5w_model.specs.Findings.{Finding, found}
-use Rattle.h5w_model.specs.declared.message.Msg.{Msg}
 use Rattle.h5w_model.specs.declared.refusal.ReadError.{ReadError}
-use Rattle.h5w_check.specs.declared.found.FoundMessage.{FoundMessage}
-use Rattle.h5w_check.specs.declared.walk.Extent.{Extent}
-use Rattle.h5w_check.specs.declared.walk.Header.{Header}
-
-abbrev pub found_of : FoundMessage → model.FoundMessage
-found_of f = record { kind = f.kind; flags = f.flags; place = f.place; body = f.body; in_chunk_0 = f.in_chunk_0 }
-
-abbrev pub founds : List FoundMessage → List model.FoundMessage
-founds fs = map found_of fs
-
--- those that come next, the last of the list first
-abbrev pub stack : List FoundMessage → List model.FoundMessage
-stack fs = reverse (map found_of fs)
-
-abbrev pub range_of : Extent → Range
-range_of e = record { place = e.place; len = e.len }
-
-abbrev pub ranges_of : List Extent → List Range
-ranges_of es = map range_of es
-
-abbrev pub header_of : Header → HeaderFields
-header_of h = record { messages = founds h.messages.items; ranges = ranges_of h.extents.items }
-
--- a message as links are read from it
-abbrev pub listed : model.FoundMessage → Msg
-listed m = record { kind = m.kind; flags = m.flags; at = m.place; body = m.body }
+use Rattle.h5w_found.specs.declared.error.FindError.{FindError}
+use Rattle.h5w_found.specs.declared.error.FindError.TheVariants as find_errors
+use Rattle.h5w_check.specs.Verdicts.{error_of}
+use Rattle.h5w_check.specs.declared.error.CheckError.{CheckError}
+use Rattle.h5w_check.specs.declared.error.CheckError.TheVariants as errors
 
 -- any refusal is one finding
 abbrev pub finding_for : {A E : Type 0} → ℕ → ℕ → Result A E → Result A Finding
 finding_for kind place r = refused_as (λ _. found kind place) r
 
--- what is done at a continuation
-abbrev pub Visit : Type 0
-Visit = List model.FoundMessage → model.FoundMessage → List model.FoundMessage → Prog (Result HeaderFields ReadError)
-
--- Messages were passed up to a continuation, or to the end: the splice goes on from here.
-abbrev pub Passed : Option FoundMessage → List model.FoundMessage → List model.FoundMessage → List model.FoundMessage → List model.FoundMessage → Type 0
-Passed None done ms done_now rest = (visit : Visit) (visited : List Range) → splice visit visited done ms ≡ ret (Ok (record { messages = done_now; ranges = visited }))
-Passed (Some m) done ms done_now rest = (visit : Visit) (visited : List Range) → splice visit visited done ms ≡ visit done_now (found_of m) rest
-
--- a block's messages before those that come next, or the finding
-abbrev pub block_before : ℕ → ℕ → Bool → ℕ → ℕ → List ℕ → List model.FoundMessage → Result (List model.FoundMessage) Finding
-block_before kind place tracked at len b next =
-    elim (block_messages tracked at len b) [ Ok inside ↦ Ok (inside ++ next) | Err e ↦ Err (found kind place) ]
-
--- what is left to do after a continuation block: the messages that come next, and the ranges that were visited
-abbrev pub entered : ℕ → ℕ → Bool → model.FoundMessage → List model.FoundMessage → List Range → List ℕ → Result (List model.FoundMessage × List Range) Finding
-entered kind place tracked m next visited img =
-    if nat_lt (block_len m) 8 then Err (found kind place)
-    else elim (block_before kind place tracked (block_place m) (block_len m) (range img (block_place m) (block_len m)) next) [
-      | Ok ms ↦ Ok (ms, visited ++ record { place = block_place m; len = block_len m } ∷ [])
-      | Err f ↦ Err f
-    ]
+-- what a refusal is as a finding; a failed image and want of memory stay what they are
+abbrev pub error_for : (ReadError → Finding) → FindError → CheckError
+error_for f (find_errors.Refused e) = error_of (f e)
+error_for f find_errors.Failed = errors.Failed
+error_for f find_errors.OutOfMemory = errors.OutOfMemory

@@ -8,7 +8,7 @@ use Rattle.h5w_model.specs.Programs.{eval}
 use Rattle.h5w_model.specs.Datasets.{then_also}
 use Rattle.h5w_model.specs.Findings.{Finding, Under, node_visit}
 use Rattle.h5w_image.specs.View.{ImageView, Looked}
-use Rattle.h5w_check.specs.Still.{IsStill}
+use Rattle.h5w_looks.specs.Still.{IsStill}
 use Rattle.h5w_check.specs.Ran.{Tells}
 use Rattle.h5w_check.specs.Spans.{span_of}
 use Rattle.h5w_check.specs.declared.span.Span.{Span}

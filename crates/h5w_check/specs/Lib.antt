@@ -4,10 +4,9 @@ pub use Rattle.h5w_model.specs.Programs
 pub use Rattle.h5w_model.specs.Datasets
 pub use Rattle.h5w_model.specs.Findings
 pub use Rattle.h5w_image.specs.View
+pub use Rattle.h5w_looks.specs.Still
 pub mod Outside
-pub mod Still
 pub mod Ran
-pub mod Listed
 pub mod Headers
 pub mod Ranges
 pub mod Described

@@ -1,12 +1,7 @@
--- Chunk 0 of the root header, and what a visit of a header gives behind other ranges.
-use Rattle.std.specs.Prelude.{ℕ, ◌+◌, ◌-◌, List, ◌++◌, take, nat_lt, if◌then◌else◌, Result, Ok}
-use Rattle.h5w_model.specs.Numbers.{range}
+-- What a visit of a header gives behind other ranges.
+use Rattle.std.specs.Prelude.{ℕ, List, ◌++◌, Result, Ok}
 use Rattle.h5w_model.specs.Datasets.{then_also, Described}
 use Rattle.h5w_model.specs.Findings.{Used, Finding}
-
--- all of chunk 0, given the first 512 bytes
-abbrev pub whole_chunk_0 : List ℕ → ℕ → ℕ → List ℕ → List ℕ
-whole_chunk_0 img place total first = if nat_lt 512 total then first ++ range img (place + 512) (total - 512) else take total first
 
 -- the place of the dataset header, and the ranges behind those before
 abbrev pub root_after : List Used → Result (ℕ × List Used) Finding → Result (ℕ × List Used) Finding

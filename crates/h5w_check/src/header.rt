@@ -1,25 +1,23 @@
 //! The dataset's header.
-ghost use Rattle.std.specs.Prelude.{◌≡◌, ◌+◌, ◌≤◌, ◌^◌, length, nat_lt, Ok, Err, if◌then◌else◌};
+ghost use Rattle.std.specs.Prelude.{◌≡◌, ℕ};
 ghost use Rattle.h5w_model.specs.Numbers.{range};
 ghost use Rattle.h5w_model.specs.Programs.{eval};
 ghost use Rattle.h5w_model.specs.Headers.{header_view};
-ghost use Rattle.h5w_model.specs.Datasets.{described, dataset_messages, refused_as, then_also};
-ghost use Rattle.h5w_model.specs.Tables.{format_limits, limit_of, needed};
+ghost use Rattle.h5w_model.specs.Datasets.{dataset_messages, refused_as};
+ghost use Rattle.h5w_model.specs.Tables.{format_limits};
 ghost use Rattle.h5w_model.specs.Findings.{checked_dataset, dataset_finding, found};
+ghost use Rattle.h5w_found.specs.Headers.{founds, header_of};
+ghost use Rattle.h5w_found.specs.Described.{described_of};
 ghost use Rattle.h5w_check.specs.Ran.{Ran, Told, seen};
-ghost use Rattle.h5w_check.specs.Headers.{finding_for, founds, header_of};
-ghost use Rattle.h5w_check.specs.Described.{described_of, known};
+ghost use Rattle.h5w_check.specs.Headers.{error_for};
+ghost use Rattle.h5w_check.specs.Described.{known};
 ghost use Rattle.h5w_check.specs.Roots.{dataset_after};
 
-use crate::dataset::Dataset;
-use crate::describe::describe;
 use crate::error::CheckError;
-use crate::found::FoundMessage;
 use crate::ranges::Ranges;
-use crate::read::read;
-use crate::walk::{Header, Refusal, from_chunk_0};
-use h5w_image::{PIECE, PieceRead};
-use h5w_ohdr::prefix;
+use h5w_found::{Dataset, FindError, FoundMessage, Header, describe};
+use h5w_image::PieceRead;
+use h5w_model::ReadError;
 use h5w_super::Super;
 use std::alloc::Global;
 
@@ -32,28 +30,41 @@ const UNSUPPORTED: u8 = 9;
 /// The rows need more chunks than are read.
 const TOO_MANY_CHUNKS: u8 = 20;
 
+/// The kind of the finding about a dataset header that is refused so.
+fn kind_of(refusal: &ReadError) -> u8
+    ensures { (at : ℕ) → dataset_finding at refusal.now ≡ found result at }
+{
+    match refusal {
+        ReadError::Unsupported(_) => UNSUPPORTED,
+        _ => DATASET_HEADER,
+    }
+}
+
+/// The finding about the dataset header at `at` that stands for this refusal.
+#[tactic(auto, using(crate::proofs::FoundLemmas::by_kind))]
+fn dataset_finding(error: &FindError, at: u64) -> CheckError
+    ensures { result ≡ error_for (dataset_finding at) error.now }
+{
+    match error {
+        FindError::Refused(refusal) => CheckError::Finding {
+            kind: kind_of(refusal),
+            at,
+        },
+        FindError::Failed => CheckError::Failed,
+        FindError::OutOfMemory => CheckError::OutOfMemory,
+    }
+}
+
 /// The dataset header at `at`.
 fn dataset_header<I: PieceRead>(alloc: Global, image: &mut I, at: u64) -> Result<Header, CheckError>
     ensures { Ran (I.view image.old) (I.view image.new)
         (λ img. refused_as (dataset_finding at) (eval img (dataset_messages at (header_view (range img at 512)))))
         (seen header_of result) }
 {
-    let refusal = Refusal {
-        kind: DATASET_HEADER,
-        at,
-    };
-    let mut bytes = read(alloc, image, at, PIECE as u64)?;
-    let Ok(p) = prefix(&bytes) else {
-        return Err(refusal.error());
-    };
-    if p.total > PIECE as u64 {
-        return Err(CheckError::Finding {
-            kind: UNSUPPORTED,
-            at,
-        });
+    match h5w_found::dataset_header(alloc, image, false, at) {
+        Ok(header) => Ok(header),
+        Err(error) => Err(dataset_finding(&error, at)),
     }
-    bytes.truncate(p.total as usize);
-    from_chunk_0(alloc, image, refusal, &p, &bytes)
 }
 
 /// What the messages of the dataset header at `at` say.

@@ -6,22 +6,18 @@
 
 mod array;
 mod block;
-mod dataset;
-mod describe;
 mod error;
-mod found;
 mod header;
 mod index;
 mod known;
 mod overlap;
 mod ranges;
 mod read;
+mod refusal;
 mod root;
 mod span;
-mod stack;
 mod superblock;
 mod tree;
-mod walk;
 
 ghost use Rattle.std.specs.Prelude.{◌≡◌, ℕ, List, length, Some, Err, IfSome, IsTrue};
 ghost use Rattle.h5w_model.specs.Causes.{Rose};
@@ -30,11 +26,11 @@ ghost use Rattle.h5w_model.specs.Tables.{format_limits};
 ghost use Rattle.h5w_model.specs.Findings.{check};
 ghost use Rattle.h5w_image.specs.View.{Looked};
 ghost use Rattle.h5w_check.specs.Ran.{Ran, Tells, seen};
-ghost use Rattle.h5w_check.specs.Described.{described_of};
+ghost use Rattle.h5w_found.specs.Described.{described_of};
 ghost use Rattle.h5w_check.specs.Verdicts.{headers_found, summary_of};
 
-use dataset::Dataset;
 pub use error::{CheckError, Summary};
+use h5w_found::Dataset;
 use h5w_image::PieceRead;
 use h5w_super::Super;
 use ranges::Ranges;

@@ -3,12 +3,12 @@ ghost use Rattle.std.specs.Prelude.{◌≡◌, ◌++◌, ◌∷◌, [], List, �
 ghost use Rattle.h5w_model.specs.Findings.{by_place, first_overlap, overlap_of, summary, verdict};
 ghost use Rattle.h5w_check.specs.Ran.{Told, seen};
 ghost use Rattle.h5w_check.specs.Ranges.{used_of};
-ghost use Rattle.h5w_check.specs.Described.{described_of};
+ghost use Rattle.h5w_found.specs.Described.{described_of};
 ghost use Rattle.h5w_check.specs.Verdicts.{AreRuns, HaveSameOrder, error_of, summary_of};
 
-use crate::dataset::Dataset;
 use crate::error::{CheckError, Summary};
 use crate::ranges::{Range, Ranges};
+use h5w_found::Dataset;
 use h5w_model::OutOfMemory;
 use h5w_super::Super;
 use std::alloc::Global;

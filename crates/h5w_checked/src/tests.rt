@@ -79,7 +79,7 @@ pub fn unpacked(alloc: Global, packed: &[u8]) -> Result<Vec<u8>, AllocError> {
 }
 
 /// Writes these bytes where the file has so many.
-fn change(bytes: &mut [u8], at: usize, new: &[u8]) {
+pub fn change(bytes: &mut [u8], at: usize, new: &[u8]) {
     for (byte, value) in bytes.iter_mut().skip(at).zip(new) {
         *byte = *value;
     }

@@ -6,8 +6,8 @@ use Rattle.h5w_model.specs.Programs.{Prog, ret, whole, counted, stored, eval, ne
 use Rattle.h5w_model.specs.Unfinished.{Unfinished, Reader, rows_left, values_left, fed_left, next_look_of, wanted, with_left}
 use Rattle.h5w_image.specs.View.{GivesRange, ImageView, Looked}
 use Rattle.h5w_image.proofs.ViewLemmas.{looked_itself, looked_twice}
-use Rattle.h5w_check.specs.Still.{IsStill}
-use Rattle.h5w_check.proofs.ReadLemmas.{still_on}
+use Rattle.h5w_looks.specs.Still.{IsStill}
+use Rattle.h5w_looks.proofs.ReadLemmas.{still_on}
 use Rattle.h5w_reader.specs.Looks.{IsWithinLook}
 use Rattle.h5w_reader.specs.Readers.{StepTells}
 use Rattle.h5w_reader.specs.declared.step.Step.{Step}

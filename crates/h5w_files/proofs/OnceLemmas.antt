@@ -9,8 +9,8 @@ use Rattle.h5w_model.specs.Tables.{Reading}
 use Rattle.h5w_model.specs.Unfinished.{Reader, values_program}
 use Rattle.h5w_model.specs.declared.refusal.ReadError.{ReadError}
 use Rattle.h5w_image.specs.View.{ImageView, Looked}
-use Rattle.h5w_check.specs.Still.{IsStill}
-use Rattle.h5w_check.proofs.ReadLemmas.{still_on}
+use Rattle.h5w_looks.specs.Still.{IsStill}
+use Rattle.h5w_looks.proofs.ReadLemmas.{still_on}
 use Rattle.h5w_text.specs.Streams.{SinkView, Gave, GaveSome}
 use Rattle.h5w_text.specs.declared.error.ErrorLine.{ErrorLine}
 use Rattle.h5w_text.specs.declared.error.ErrorLine.TheVariants as errors

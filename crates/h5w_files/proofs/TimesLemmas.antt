@@ -9,7 +9,7 @@ use Rattle.h5w_model.specs.Unfinished.{Reader, ReaderRules, rows_left, rows_prog
 use Rattle.h5w_model.specs.declared.refusal.ReadError.{ReadError}
 use Rattle.h5w_image.specs.View.{ImageView, Looked}
 use Rattle.h5w_image.proofs.ViewLemmas.{looked_itself, looked_twice}
-use Rattle.h5w_check.specs.Still.{IsStill}
+use Rattle.h5w_looks.specs.Still.{IsStill}
 use Rattle.h5w_reader.specs.Readers.{new_reader}
 use Rattle.h5w_text.specs.Streams.{SinkView, Gave}
 use Rattle.h5w_text.specs.declared.error.ErrorLine.{ErrorLine}

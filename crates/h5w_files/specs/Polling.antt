@@ -7,7 +7,7 @@ use Rattle.h5w_model.specs.Unfinished.{Reader, ReaderRules, rows_left, values_pr
 use Rattle.h5w_model.specs.declared.refusal.ReadError.{ReadError}
 use Rattle.h5w_model.specs.declared.refusal.ReadError.TheVariants as reads
 use Rattle.h5w_image.specs.View.{DiskView, ImageView, file}
-use Rattle.h5w_check.specs.Still.{IsStill}
+use Rattle.h5w_looks.specs.Still.{IsStill}
 use Rattle.h5w_reader.specs.Readers.{new_reader, reader_rules}
 use Rattle.h5w_text.specs.Streams.{SinkView, Gave, GaveSome}
 use Rattle.h5w_text.specs.declared.error.ErrorLine.{ErrorLine}

@@ -3,7 +3,7 @@ ghost use Rattle.std.specs.Prelude.{◌≡◌, ◌≢◌, ◌⊎◌, ℕ, List, 
 ghost use Rattle.h5w_model.specs.Causes.{Rose};
 ghost use Rattle.h5w_model.specs.Unfinished.{wanted};
 ghost use Rattle.h5w_image.specs.View.{Looked};
-ghost use Rattle.h5w_check.specs.Still.{IsStill};
+ghost use Rattle.h5w_looks.specs.Still.{IsStill};
 ghost use Rattle.h5w_reader.specs.Cores as cores;
 ghost use Rattle.h5w_reader.specs.Readers.{StepTells};
 ghost use Rattle.h5w_reader.specs.declared.step.Step.TheVariants as steps;

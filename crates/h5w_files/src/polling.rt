@@ -4,7 +4,7 @@ ghost use Rattle.h5w_model.specs.Calls.{rows_seen};
 ghost use Rattle.h5w_model.specs.Causes.{Rose};
 ghost use Rattle.h5w_model.specs.Unfinished.{rows_left, rows_program, wanted, with_left};
 ghost use Rattle.h5w_image.specs.View.{Looked};
-ghost use Rattle.h5w_check.specs.Still.{IsStill};
+ghost use Rattle.h5w_looks.specs.Still.{IsStill};
 ghost use Rattle.h5w_reader.specs.Cores as cores;
 ghost use Rattle.h5w_reader.specs.Readers.{reader_rules};
 ghost use Rattle.h5w_files.specs.Answering.{IsForRows};

@@ -3,7 +3,7 @@ use Rattle.h5w_model.specs.Programs.{eval}
 use Rattle.h5w_model.specs.Tables.{format_limits}
 use Rattle.h5w_model.specs.Findings.{Used, the_superblock, checked_dataset}
 use Rattle.h5w_check.specs.Roots.{dataset_after}
-use Rattle.h5w_check.proofs.RanLemmas.{ran_on, ran_then_stop, step_ok, same_value}
+use Rattle.h5w_found.proofs.RanLemmas.{ran_on, ran_then_stop, step_ok, same_value}
 use Rattle.h5w_check.proofs.headers.Goals as goal
 
 pub returns-in_err-d : goal.returns-in_err-d

@@ -4,9 +4,9 @@ use Rattle.h5w_model.specs.Programs.{eval}
 use Rattle.h5w_model.specs.Datasets.{Described}
 use Rattle.h5w_model.specs.Findings.{Used, checked_super, index_visit, verdict}
 use Rattle.h5w_check.specs.Ranges.{after}
-use Rattle.h5w_check.specs.Described.{described_of}
+use Rattle.h5w_found.specs.Described.{described_of}
 use Rattle.h5w_check.specs.Verdicts.{headers_found}
-use Rattle.h5w_check.proofs.RanLemmas.{ran_on, ran_end, ran_then_stop, step_ok, step_err}
+use Rattle.h5w_found.proofs.RanLemmas.{ran_on, ran_end, ran_then_stop, step_ok, step_err}
 use Rattle.h5w_check.proofs.CheckLemmas.{check_parts, super_rest, index_rest}
 use Rattle.h5w_check.proofs.verdict_on.Goals as goal
 

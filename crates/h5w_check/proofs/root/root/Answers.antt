@@ -1,9 +1,10 @@
 use Rattle.std.proofs.Common.{◌≡◌, ◌∙◌, ℕ, Ok, Err, rules}
 use Rattle.h5w_model.specs.Datasets.{then_also, linked}
 use Rattle.h5w_model.specs.Findings.{header_ranges}
-use Rattle.h5w_check.specs.Headers.{finding_for, header_of}
+use Rattle.h5w_found.specs.Headers.{header_of}
+use Rattle.h5w_check.specs.Headers.{finding_for}
 use Rattle.h5w_check.specs.Ranges.{after}
-use Rattle.h5w_check.proofs.RanLemmas.{ran_stop, ran_end, ran_refused, told_map, told_then, step_ok, step_err}
+use Rattle.h5w_found.proofs.RanLemmas.{ran_stop, ran_end, ran_refused, told_map, told_then, step_ok, step_err}
 use Rattle.h5w_check.proofs.RootLemmas.{root_parts, root_rest}
 use Rattle.h5w_check.proofs.root.root.Goals as goal
 

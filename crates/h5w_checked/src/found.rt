@@ -1,0 +1,60 @@
+//! What a dataset is found by.
+
+use crate::files::FILE;
+use crate::tests::{change, unpacked};
+use h5w_found::{FindError, dataset_header, describe, place_of, root_header, superblock};
+use h5w_image::MemImage;
+use h5w_model::{OutOfMemory, ReadError};
+use h5w_opening::{OpenError, check, find};
+use std::alloc::Global;
+use std::test::Fail;
+
+/// The places of the root header and of the dataset header, and the rows.
+pub fn found_in(alloc: Global, packed: &[u8], writing: bool) -> Result<(u64, u64, u64), FindError> {
+    let bytes = unpacked(alloc, packed)?;
+    let mut image = MemImage::of(alloc, &bytes)?;
+    let s = superblock(alloc, &mut image)?;
+    let root = root_header(alloc, &mut image, writing, s.root)?;
+    let place = place_of(alloc, root.messages, b"data")?;
+    let header = dataset_header(alloc, &mut image, writing, place)?;
+    match describe(&header.messages) {
+        Ok(d) => Ok((s.root, place, d.shape.rows)),
+        Err(error) => Err(FindError::Refused(ReadError::Unsupported(error))),
+    }
+}
+
+#[test]
+fn a_dataset_is_found_to_be_read_and_to_be_written(rt: HostRuntime) -> Result<(), Fail> {
+    assert_eq!(rt; found_in(rt.alloc(), &FILE, false), Ok((48, 106, 3)));
+    assert_eq!(rt; found_in(rt.alloc(), &FILE, true), Ok((48, 106, 3)));
+    Ok(())
+}
+
+/// Where the dataset header stands, and how many bytes its chunk 0 has, of the file that is opened for appending where its
+/// superblock has these flags, and this sum.
+pub fn opened_with(
+    alloc: Global,
+    flags: u8,
+    sum: &[u8],
+) -> Result<Result<(u64, u64), OpenError>, OutOfMemory> {
+    let mut bytes = unpacked(alloc, &FILE)?;
+    change(&mut bytes, 11, &[flags]);
+    change(&mut bytes, 44, sum);
+    let mut image = MemImage::of(alloc, &bytes)?;
+    let size = image.len();
+    let opened = match find(alloc, &mut image, size, b"data") {
+        Ok(opened) => opened,
+        Err(error) => return Ok(Err(error)),
+    };
+    match check(&opened) {
+        Ok(()) => Ok(Ok((opened.place, opened.header.len))),
+        Err(error) => Ok(Err(error)),
+    }
+}
+
+#[test]
+fn a_closed_file_is_opened_up_to_its_index(rt: HostRuntime) -> Result<(), Fail> {
+    let opened = opened_with(rt.alloc(), 0, &[0x52, 0xca, 0x95, 0x85])?;
+    assert_eq!(rt; opened, Ok((106, 82)));
+    Ok(())
+}
