@@ -3,7 +3,7 @@ use Rattle.std.specs.Prelude.{ℕ, ◌/◌, ◌%◌, Bool, true, false, not, ◌
 use Rattle.h5w_model.specs.Numbers.{range, undefined}
 use Rattle.h5w_model.specs.Programs.{Prog, ret, whole, eval, bind, and_then}
 use Rattle.h5w_model.specs.Superblock.{super_at}
-use Rattle.h5w_model.specs.Datasets.{Described, FoundMessage, HeaderFields, Range, super_refusal, linked, described, first_of, layout_kind, then_also, refused_as}
+use Rattle.h5w_model.specs.Datasets.{Described, FoundMessage, Range, super_refusal, linked, described, first_of, layout_kind, then_also, refused_as}
 use Rattle.h5w_model.specs.Tables.{format_limits, limit_of, needed}
 use Rattle.h5w_model.specs.Findings.{chunk_bytes}
 use Rattle.h5w_model.specs.declared.root.Super.{Super}

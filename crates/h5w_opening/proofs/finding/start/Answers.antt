@@ -1,4 +1,4 @@
-use Rattle.std.proofs.Common.{◌≡◌, List, ℕ, Result, Ok, Err, rules}
+use Rattle.std.proofs.Common.{◌≡◌, Ok, Err, rules}
 use Rattle.h5w_model.specs.Numbers.{range}
 use Rattle.h5w_model.specs.Superblock.{super_at}
 use Rattle.h5w_model.specs.Datasets.{super_refusal, refused_as}
