@@ -5,9 +5,7 @@ use Rattle.h5w_model.specs.Numbers.{range}
 use Rattle.h5w_model.specs.Programs.{Prog, ret, whole, eval}
 use Rattle.h5w_model.specs.Headers.{prefix_at, messages_at, header_view}
 use Rattle.h5w_model.specs.Datasets.{Range, HeaderFields, FoundMessage, found_at, block_place, block_len, block_messages, walk, from_chunk_0, root_header, root_view, dataset_messages, header_refusal}
-use Rattle.h5w_model.specs.declared.message.Msg.{Msg}
 use Rattle.h5w_model.specs.declared.message.Prefix.{Prefix}
-use Rattle.h5w_model.specs.declared.refusal.HeaderError.{HeaderError}
 use Rattle.h5w_model.specs.declared.refusal.HeaderError.TheVariants as header_errors
 use Rattle.h5w_model.specs.declared.refusal.ReadError.{ReadError}
 use Rattle.h5w_model.specs.declared.refusal.ReadError.TheVariants.{Header}

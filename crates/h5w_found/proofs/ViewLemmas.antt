@@ -2,7 +2,7 @@
 use Rattle.std.proofs.Common.{◌≡◌, ℕ, ◌-◌, ◌≤◌, Bool, true, false, cond, List, [], ◌∷◌, ◌++◌, length, take, Result, Ok, Err, refl, sym, ◌∙◌, ap, arith}
 use Rattle.std.specs.Prelude.{nat_le, nat_lt, nat_eq, ◌==◌}
 use Rattle.std.specs.List.{starts_with}
-use Rattle.std.proofs.lemmas.Bool.{leb-true, le-leb}
+use Rattle.std.proofs.lemmas.Bool.{leb-true}
 use Rattle.h5w_model.specs.Numbers.{field}
 use Rattle.h5w_model.specs.Checked.{checked}
 use Rattle.h5w_model.specs.Headers.{prefix_at, prefix_fields, header_flags, header_signature, messages_place, header_view, zeros}
