@@ -5,8 +5,9 @@ use Rattle.h5w_model.specs.Lawful.{Line, Rules}
 use Rattle.h5w_text.specs.Lines.{lines_of, whole_lines_of}
 use Rattle.h5w_text.specs.Streams.{SourceView, SinkView}
 use Rattle.h5w_words.specs.declared.job.Job.{Job}
-use Rattle.h5w_words.specs.declared.job.Job.TheVariants.{Play, Check, Poll, Clear}
+use Rattle.h5w_words.specs.declared.job.Job.TheVariants.{Play, New, Check, Poll, Clear}
 use Rattle.h5w_image.specs.View.{DiskView}
+use Rattle.h5w_files.proofs.CreateLemmas.{creates_whole}
 use Rattle.h5w_files.proofs.CheckLemmas.{checks_whole}
 use Rattle.h5w_files.proofs.ClearLemmas.{clears_whole}
 use Rattle.h5w_files.proofs.PollEndLemmas.{polls_whole}
@@ -15,7 +16,7 @@ use Rattle.h5w_cli.specs.Answers.{play_line_of}
 use Rattle.h5w_cli.specs.Plays.{Completes, HasFirst, HasScript, Plays, Refused, TooLong, input_limit}
 use Rattle.h5w_cli.specs.Runs.{Does, DoesWhole, Ran, RanWhole}
 use Rattle.h5w_text.specs.declared.status.Status.{Status}
-use Rattle.h5w_text.specs.declared.status.Status.TheVariants.{Done, Usage, Missing, Format, Damaged, Flags, Again, Input, Limit, Disk, Source, Sink, Memory}
+use Rattle.h5w_text.specs.declared.status.Status.TheVariants.{Done, Usage, Missing, Exists, Format, Damaged, Flags, Again, Input, Limit, Disk, Source, Sink, Memory}
 
 -- each line of a script spells one
 no_gap : (lines more : List (List ℕ)) (line : List ℕ) (script : List Line) → play_line_of line ≡ None → map play_line_of (lines ++ line ∷ more) ≡ map Some script → ⊥
@@ -42,6 +43,7 @@ plays_whole : (g : Rules) (status : Status) (s t : SourceView) (k l : SinkView) 
 plays_whole g Done s t k l p = λ h source sink. inl refl
 plays_whole g Usage s t k l p = absurd p.writes
 plays_whole g Missing s t k l p = absurd p.writes
+plays_whole g Exists s t k l p = absurd p.writes
 plays_whole g Format s t k l p = absurd p.writes
 plays_whole g Damaged s t k l p = absurd p.writes
 plays_whole g Flags s t k l p = absurd p.writes
@@ -56,6 +58,7 @@ plays_whole g Memory s t k l p = λ h source sink. inr refl
 -- a job
 pub does_whole : (job : Job) (status : Status) (s t : SourceView) (k l : SinkView) (v w : DiskView) → Does job status s t k l v w → DoesWhole job status s t k l v w
 does_whole (Play options attempts) status s t k l v w does = plays_whole (rules_for options attempts) status s t k l does.0
+does_whole (New file options) status s t k l v w does = creates_whole file options status does.1
 does_whole (Check file name) status s t k l v w does = checks_whole file name status does.1
 does_whole (Poll file name times attempts values) status s t k l v w does = polls_whole file name times attempts values status does.1
 does_whole (Clear file) status s t k l v w does = clears_whole file status does.1

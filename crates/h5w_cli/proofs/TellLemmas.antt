@@ -11,15 +11,16 @@ use Rattle.h5w_cli.specs.declared.ending.Ending.{Ending}
 use Rattle.h5w_core.specs.Worlds.{rules_for}
 use Rattle.h5w_words.specs.declared.job.WordsError.{WordsError}
 use Rattle.h5w_words.specs.declared.job.Job.{Job}
-use Rattle.h5w_words.specs.declared.job.Job.TheVariants.{Play, Check, Poll, Clear}
+use Rattle.h5w_words.specs.declared.job.Job.TheVariants.{Play, New, Check, Poll, Clear}
 use Rattle.h5w_image.specs.View.{DiskView}
+use Rattle.h5w_files.proofs.CreateLemmas.{creates_wanted}
 use Rattle.h5w_files.proofs.CheckLemmas.{checks_nothing}
 use Rattle.h5w_files.proofs.ClearLemmas.{clears_wanted}
 use Rattle.h5w_files.proofs.PollEndLemmas.{polls_nothing}
 use Rattle.h5w_cli.specs.Runs.{Does, Ran}
 use Rattle.h5w_cli.specs.Plays.{Begun, Finished, HasFirst, Plays}
 use Rattle.h5w_text.specs.declared.status.Status.{Status}
-use Rattle.h5w_text.specs.declared.status.Status.TheVariants.{Done, Usage, Missing, Format, Damaged, Flags, Again, Input, Limit, Disk, Source, Sink, Memory}
+use Rattle.h5w_text.specs.declared.status.Status.TheVariants.{Done, Usage, Missing, Exists, Format, Damaged, Flags, Again, Input, Limit, Disk, Source, Sink, Memory}
 use Rattle.h5w_cli.proofs.PlayLemmas.{gave_both, gave_nothing, gave_then_some, replied_nothing, rose_before}
 
 -- any other bytes behind the answers
@@ -47,6 +48,7 @@ pub plays_finished : (g : Rules) (status : Status) (s t : SourceView) (k l : Sin
 plays_finished g Done s t k l n h = h
 plays_finished g Usage s t k l n h = h
 plays_finished g Missing s t k l n h = h
+plays_finished g Exists s t k l n h = h
 plays_finished g Format s t k l n h = h
 plays_finished g Damaged s t k l n h = h
 plays_finished g Flags s t k l n h = h
@@ -86,6 +88,7 @@ pub ran_wanting : (o : Option Job) (status : Status) (s : SourceView) (k l : Sin
 ran_wanting None status s k l v said = record { unread = refl; disk = refl; told = inr said }
 ran_wanting (Some (Play options attempts)) status s k l v said =
     let g = rules_for options attempts in (ends_said g Memory status (error_text errors.Memory) s s k k l (λ e. cc) (leaves_first g s k) said, refl)
+ran_wanting (Some (New file options)) status s k l v said = (refl, creates_wanted file options status said)
 ran_wanting (Some (Check file name)) status s k l v said = (refl, checks_nothing file name status said)
 ran_wanting (Some (Poll file name times attempts values)) status s k l v said = (refl, polls_nothing file name times attempts values status said)
 ran_wanting (Some (Clear file)) status s k l v said = (refl, clears_wanted file status said)

@@ -6,6 +6,7 @@ pub use Rattle.h5w_text.specs.Scripts
 pub use Rattle.h5w_text.specs.Replies
 pub use Rattle.h5w_text.specs.Errors
 pub use Rattle.h5w_files.specs.Ends
+pub use Rattle.h5w_files.specs.Creates
 pub use Rattle.h5w_files.specs.Checks
 pub use Rattle.h5w_files.specs.Polls
 pub use Rattle.h5w_files.specs.Clears

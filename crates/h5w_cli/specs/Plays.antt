@@ -11,7 +11,7 @@ use Rattle.h5w_text.specs.Errors.{error_text}
 use Rattle.h5w_text.specs.declared.error.ErrorLine.TheVariants as errors
 use Rattle.h5w_cli.specs.Answers.{play_line_of}
 use Rattle.h5w_text.specs.declared.status.Status.{Status}
-use Rattle.h5w_text.specs.declared.status.Status.TheVariants.{Done, Usage, Missing, Format, Damaged, Flags, Again, Input, Limit, Disk, Source, Sink, Memory}
+use Rattle.h5w_text.specs.declared.status.Status.TheVariants.{Done, Usage, Missing, Exists, Format, Damaged, Flags, Again, Input, Limit, Disk, Source, Sink, Memory}
 
 -- the most bytes of an input
 abbrev pub input_limit : ℕ
@@ -89,6 +89,7 @@ abbrev pub Writes : Rules → Status → SourceView → SourceView → List ℕ 
 Writes g Done s t text = Whole g s t text
 Writes g Usage s t text = ⊥
 Writes g Missing s t text = ⊥
+Writes g Exists s t text = ⊥
 Writes g Format s t text = ⊥
 Writes g Damaged s t text = ⊥
 Writes g Flags s t text = ⊥

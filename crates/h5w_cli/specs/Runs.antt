@@ -9,17 +9,20 @@ use Rattle.h5w_text.specs.declared.error.ErrorLine.TheVariants as errors
 use Rattle.h5w_text.specs.declared.status.Status.{Status}
 use Rattle.h5w_text.specs.declared.status.Status.TheVariants as statuses
 use Rattle.h5w_files.specs.Ends.{EndsWell}
+use Rattle.h5w_files.specs.Creates.{CreateEnds, end_of}
 use Rattle.h5w_files.specs.Checks.{CheckEnds, check_of}
 use Rattle.h5w_files.specs.Polls.{PollEnds, poll_of}
 use Rattle.h5w_files.specs.Clears.{ClearEnds, flags_of}
+use Rattle.h5w_session.specs.Creations.{new_file}
 use Rattle.h5w_core.specs.Worlds.{rules_for}
 use Rattle.h5w_words.specs.declared.job.Job.{Job}
-use Rattle.h5w_words.specs.declared.job.Job.TheVariants.{Play, Check, Poll, Clear}
+use Rattle.h5w_words.specs.declared.job.Job.TheVariants.{Play, New, Check, Poll, Clear}
 use Rattle.h5w_cli.specs.Plays.{Completes, Plays}
 
 -- What a job leaves of source, sink and disk. A script leaves the disk as it is, and the commands on files read nothing.
 abbrev pub Does : Job → Status → SourceView → SourceView → SinkView → SinkView → DiskView → DiskView → Type 0
 Does (Play options attempts) status s t k l v w = Plays (rules_for options attempts) status s t k l × (w ≡ v)
+Does (New file options) status s t k l v w = (t ≡ s) × CreateEnds file options v w status k l
 Does (Check file name) status s t k l v w = (t ≡ s) × CheckEnds file name v w status k l
 Does (Poll file name times attempts values) status s t k l v w = (t ≡ s) × PollEnds file name times attempts values v w status k l
 Does (Clear file) status s t k l v w = (t ≡ s) × ClearEnds file v w status k l
@@ -38,6 +41,7 @@ Ran (Some job) status s t k l v w = Does job status s t k l v w
 -- a job is done, or memory is wanted, where nothing else stands in its way
 abbrev pub DoesWhole : Job → Status → SourceView → SourceView → SinkView → SinkView → DiskView → DiskView → Type 0
 DoesWhole (Play options attempts) status s t k l v w = Completes status s t k l
+DoesWhole (New file options) status s t k l v w = EndsWell (end_of (new_file options)) file v w status k l
 DoesWhole (Check file name) status s t k l v w = EndsWell (check_of name) file v w status k l
 DoesWhole (Poll file name times attempts values) status s t k l v w = EndsWell (poll_of (reader_rules name attempts) values) file v w status k l
 DoesWhole (Clear file) status s t k l v w = EndsWell flags_of file v w status k l

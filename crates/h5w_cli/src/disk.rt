@@ -138,11 +138,18 @@ impl<'a> FileDisk<'a> {
     fn create(&mut self, name: &str) -> io::Result<()>
         ensures { self.new.faults ≡ self.old.faults }
     {
-        OpenOptions::new()
+        let owned = String::from_str(self.rt.alloc(), name)?;
+        let file = OpenOptions::new()
+            .read(true)
             .write(true)
             .create_new(true)
             .open(self.rt, name)?;
-        self.open(name, true)
+        self.kept = Some(Kept {
+            name: owned,
+            file,
+            writable: true,
+        });
+        Ok(())
     }
 }
 
@@ -162,6 +169,7 @@ impl<'a> Disk for FileDisk<'a> {
         match self.create(name) {
             Ok(()) => Ok(true),
             Err(e) if e.kind() == ErrorKind::AlreadyExists => Ok(false),
+            Err(e) if e.kind() == ErrorKind::OutOfMemory => Err(MakeError::OutOfMemory),
             Err(_) => {
                 count_fault(&mut self.faults);
                 Err(MakeError::Failed)

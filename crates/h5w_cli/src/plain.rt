@@ -4,7 +4,7 @@ ghost use Rattle.h5w_cli.specs.Runs.{Does, DoesWhole};
 ghost use Rattle.h5w_words.specs.Limits.{IsWithinLimits};
 
 use crate::play::play;
-use h5w_files::{check, clear, poll};
+use h5w_files::{check, clear, create, poll};
 use h5w_image::Disk;
 use h5w_text::{Sink, Source, Status};
 use h5w_words::Job;
@@ -25,6 +25,7 @@ pub fn plain<S: Source, K: Sink, D: Disk>(
 {
     match job {
         Job::Play { options, attempts } => play(alloc, options, *attempts, source, sink),
+        Job::New { file, options } => create(alloc, file.as_str(), options, sink, disk),
         Job::Check { file, name } => check(alloc, file.as_str(), name.as_slice(), sink, disk),
         Job::Poll {
             file,

@@ -10,11 +10,13 @@ use std::thread::Threads;
 
 mod changing;
 mod files;
+mod new_files;
 mod rows;
 mod types;
 
 use changing::Changing;
 use files::FILE_ROWS;
+use new_files::NEW_ROWS;
 use rows::ROWS;
 use types::TYPE_ROWS;
 
@@ -273,6 +275,9 @@ fn rows_are_answered(rt: HostRuntime) -> Result<(), Fail> {
         check_row(&rt, row)?;
     }
     for row in FILE_ROWS.split('#').skip(1) {
+        check_row(&rt, row)?;
+    }
+    for row in NEW_ROWS.split('#').skip(1) {
         check_row(&rt, row)?;
     }
     Ok(())

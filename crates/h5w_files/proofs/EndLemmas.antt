@@ -18,6 +18,7 @@ pub answers_same : {A : Type 0} (given answer : Result A ErrorLine) → given �
 answers_same given (Ok a) e = e
 answers_same given (Err errors.Usage) e = e
 answers_same given (Err errors.Missing) e = e
+answers_same given (Err errors.Exists) e = e
 answers_same given (Err (errors.Read r)) e = e
 answers_same given (Err (errors.Finding kind at)) e = e
 answers_same given (Err (errors.Overlap at len other other_len)) e = e
@@ -45,6 +46,7 @@ good_status : {A : Type 0} (given answer : Result A ErrorLine) (a : A) → given
 good_status given (Ok b) a good is quiet = inl refl
 good_status given (Err errors.Usage) a good is quiet = absurd (cc)
 good_status given (Err errors.Missing) a good is quiet = absurd (cc)
+good_status given (Err errors.Exists) a good is quiet = absurd (cc)
 good_status given (Err (errors.Read r)) a good is quiet = absurd (cc)
 good_status given (Err (errors.Finding kind at)) a good is quiet = absurd (cc)
 good_status given (Err (errors.Overlap at len other other_len)) a good is quiet = absurd (cc)

@@ -8,3 +8,5 @@ pub mod PollLemmas
 pub mod OnceLemmas
 pub mod TimesLemmas
 pub mod PollEndLemmas
+pub mod PutLemmas
+pub mod CreateLemmas

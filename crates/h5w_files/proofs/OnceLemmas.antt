@@ -31,6 +31,7 @@ Still v P = (img : List ℕ) → IsStill v img → P img
 before_count : (img : List ℕ) (values : Bool) (printed : ℕ) (p : Prog (Result Reading ReadError)) (e : ErrorLine) → IsOfCall e → RefusedBy (eval img p) e → OnceRefused img values printed p e []
 before_count img values printed p errors.Usage k h = absurd k
 before_count img values printed p errors.Missing k h = absurd k
+before_count img values printed p errors.Exists k h = absurd k
 before_count img values printed p (errors.Read e) k h = calls.unopened e h
 before_count img values printed p (errors.Finding kind at) k h = absurd k
 before_count img values printed p (errors.Overlap at len other other_len) k h = absurd k
@@ -114,6 +115,7 @@ behind_count : (img : List ℕ) (values : Bool) (printed rows : ℕ) (p : Prog (
     → (values && nat_lt printed rows) ≡ true → IsOfCall e → RefusedBy (eval img (values_program (Some r) printed (rows - printed))) e → OnceRefused img values printed p e (count_text rows)
 behind_count img values printed rows p r errors.Usage gives is asked k h = absurd k
 behind_count img values printed rows p r errors.Missing gives is asked k h = absurd k
+behind_count img values printed rows p r errors.Exists gives is asked k h = absurd k
 behind_count img values printed rows p r (errors.Read e) gives is asked k h =
     subst (λ n. OnceRefused img values printed p (errors.Read e) (count_text n)) (sym is)
     (calls.unread r e gives (asked_lines img values printed rows r is asked ∙ ap (viewed (values_text (rows - printed))) h))

@@ -75,6 +75,7 @@ polls_wanting {v} name at times attempts values k p = record {
 call_kind : (e : ErrorLine) → IsOfCall e → IsOfPoll e
 call_kind errors.Usage h = absurd h
 call_kind errors.Missing h = absurd h
+call_kind errors.Exists h = absurd h
 call_kind (errors.Read e) h = tt
 call_kind (errors.Finding kind at) h = absurd h
 call_kind (errors.Overlap at len other other_len) h = absurd h

@@ -1,8 +1,8 @@
 -- What `clap` finds in words.
-use Rattle.std.proofs.Common.{◌≡◌, ◌≢◌, ◌||◌, ◌∙◌, Bool, true, false, List, [], ◌∷◌, Option, Some, None, refl, sym, ap, ap₂, inl, inr, option_map}
-use Rattle.std.specs.Prelude.{Box}
+use Rattle.std.proofs.Common.{◌≡◌, ◌≢◌, ◌⊎◌, ◌||◌, ◌∙◌, Bool, true, false, List, [], ◌∷◌, Option, Some, None, refl, sym, ap, ap₂, subst, inl, inr, option_map}
+use Rattle.std.specs.Prelude.{Box, IfErr, IsErrAnd, Result, Ok, Err}
 use Rattle.std.specs.Box.{box_value}
-use Rattle.clap.specs.Words.{AddsArg, AddsSubcommand, App, HasKind, Kinds, Row, Text, fault_of, first_of, first_value, app_of, is_simple_and_free, kind_of, rows_of, subcommand_name_of, subcommand_of, subcommand_rows, subcommand_rows_of, with_subcommand}
+use Rattle.clap.specs.Words.{AddsArg, AddsSubcommand, App, HasKind, HasMatchesOf, Kinds, Row, Text, fault_of, first_of, first_value, app_of, is_simple, is_simple_and_free, kind_of, rows_of, subcommand_name_of, subcommand_of, subcommand_rows, subcommand_rows_of, with_subcommand}
 use Rattle.clap.specs.declared.builder.arg.Arg.{Arg}
 use Rattle.clap.specs.declared.builder.command.Command.{Command}
 use Rattle.clap.specs.declared.error.Error.{Error}
@@ -16,6 +16,8 @@ use Rattle.clap.proofs.WalkLemmas.{first_value-rows}
 use Rattle.h5w_words.specs.Arguments.{has_globals}
 use Rattle.h5w_words.specs.Commands.{asked_of, job_of, program, without_fault}
 use Rattle.h5w_words.specs.declared.job.Job.{Job}
+use Rattle.h5w_words.specs.declared.job.WordsError.{WordsError}
+use Rattle.h5w_words.specs.declared.job.WordsError.TheVariants as words_errors
 
 or_false : (a b : Bool) → b ≡ false → (a || b) ≡ a
 or_false true b h = refl
@@ -37,6 +39,10 @@ first_text f id = first_value-rows f id
 pub free : is_simple_and_free program ≡ true
 unfolding clap_on_literals
 free = refl
+
+simple : is_simple program ≡ true
+unfolding clap_on_literals
+simple = refl
 
 -- an error that is no want of memory is a fault of the words
 pub some_fault : (kinds : Kinds) (e : Error) → HasKind kinds e → kind_of e ≢ OutOfMemory → kinds ≢ []
@@ -68,3 +74,20 @@ pub known_job : (words : List Text) (m : ArgMatches) → fault_of program words 
     → job_of words ≡ asked_of (subcommand_rows_of m)
 unfolding job_of
 known_job words m good same = ap₂ without_fault good (ap asked_of (sym same))
+
+-- words without a fault are matched as those of the program
+pub matched : (a : App) (words : List Text) (m : ArgMatches) → a ≡ program → (is_simple_and_free a ≡ true → fault_of a words ≡ []) → HasMatchesOf a words m
+    → (fault_of program words ≡ []) × (subcommand_rows_of m ≡ subcommand_of program words)
+matched a words m is kinds matches =
+    let good : fault_of program words ≡ [] = subst (λ b. is_simple_and_free b ≡ true → fault_of b words ≡ []) is kinds free in
+    let own : HasMatchesOf program words m = subst (λ b. HasMatchesOf b words m) is matches in
+    (good, (own simple).1)
+
+-- others have a fault, where memory is not wanting
+pub faulty : (a : App) (words : List Text) (e : Error) → a ≡ program → (is_simple_and_free a ≡ true → HasKind (fault_of a words) e) → kind_of e ≢ OutOfMemory → fault_of program words ≢ []
+faulty a words e is kinds other = some_fault (fault_of program words) e (subst (λ b. is_simple_and_free b ≡ true → HasKind (fault_of b words) e) is kinds free) other
+
+pub usage_alone : {T : Type 0} {P Q : Type 0} (r : Result T WordsError) → IsErrAnd r (λ e. e ≡ words_errors.Usage → P) → (P → Q) → IfErr r (λ e. (e ≡ words_errors.OutOfMemory) ⊎ Q)
+usage_alone (Ok x) h f = tt
+usage_alone (Err words_errors.Usage) h f = inr (f (h refl))
+usage_alone (Err words_errors.OutOfMemory) h f = inl refl

@@ -3,17 +3,19 @@ use Rattle.std.specs.Prelude.{List, [], ◌∷◌, if◌then◌else◌, Option, 
 use Rattle.clap.specs.Words.{App, Kinds, Row, Text, fault_of, new_app, subcommand_of, with_subcommand}
 use Rattle.h5w_text.specs.Scripts.{is_word}
 use Rattle.h5w_words.specs.Play.{play_app, play_of}
-use Rattle.h5w_words.specs.Files.{check_app, check_of, poll_app, poll_of, clear_app, clear_of}
+use Rattle.h5w_words.specs.Files.{creating_app, creating_of, check_app, check_of, poll_app, poll_of, clear_app, clear_of}
 use Rattle.h5w_words.specs.declared.job.Job.{Job}
 
 -- the program with its commands
 abbrev pub program : App
-program = with_subcommand (with_subcommand (with_subcommand (with_subcommand (new_app (codes "h5swmr")) play_app.top) check_app.top) poll_app.top) clear_app.top
+program =
+    with_subcommand (with_subcommand (with_subcommand (with_subcommand (with_subcommand (new_app (codes "h5swmr")) play_app.top) creating_app.top) check_app.top) poll_app.top) clear_app.top
 
 -- what a command of this name asks for, by its options
 abbrev pub named_of : Text → List Row → Option Job
 named_of name rows =
     if is_word (codes "play") name then play_of rows
+    else if is_word (codes "new") name then creating_of rows
     else if is_word (codes "check") name then check_of rows
     else if is_word (codes "poll") name then poll_of rows
     else if is_word (codes "clear") name then clear_of rows

@@ -1,10 +1,14 @@
--- The commands on files: check FILE [--name N], poll FILE [--name N] [--times T] [--attempts A] [--values], clear FILE
+-- The commands on files: new FILE OPTS, OPTS being what a file is created by, check FILE [--name N], poll FILE [--name N] [--times T] [--attempts A] [--values], clear FILE
 use Rattle.std.specs.Prelude.{ℕ, false, List, Option, option_map, option_and_then, codes}
 use Rattle.clap.specs.Words.{App, Row, Text, first_of, new_app, with_rule}
 use Rattle.h5w_words.specs.Arguments.{count_or, flag_rule, is_given, link_name_or, option_rule, word_rule}
+use Rattle.h5w_words.specs.Creation.{options_of, with_creation}
 use Rattle.h5w_words.specs.Play.{attempts_of}
 use Rattle.h5w_words.specs.declared.job.Job.{Job}
-use Rattle.h5w_words.specs.declared.job.Job.TheVariants.{Check, Poll, Clear}
+use Rattle.h5w_words.specs.declared.job.Job.TheVariants.{New, Check, Poll, Clear}
+
+abbrev pub creating_app : App
+creating_app = with_creation (with_rule (new_app (codes "new")) (word_rule (codes "FILE")))
 
 abbrev pub check_app : App
 check_app = with_rule (with_rule (new_app (codes "check")) (word_rule (codes "FILE"))) (option_rule (codes "name") false)
@@ -28,6 +32,9 @@ link_name_of rows = link_name_or (codes "data") (first_of (codes "name") rows)
 -- 1 to 1,000,000; where none are given, 1
 abbrev pub times_of : List Row → Option ℕ
 times_of rows = count_or 1 1 1000000 (first_of (codes "times") rows)
+
+abbrev pub creating_of : List Row → Option Job
+creating_of rows = option_and_then (λ file. option_map (λ options. New file options) (options_of rows)) (file_of rows)
 
 abbrev pub check_of : List Row → Option Job
 check_of rows = option_and_then (λ file. option_map (λ name. Check file name) (link_name_of rows)) (file_of rows)

@@ -5,6 +5,7 @@ pub mod Names
 pub mod Types
 pub mod Arguments
 pub mod Limits
+pub mod Creation
 pub mod Play
 pub mod Files
 pub mod Commands

@@ -2,16 +2,27 @@
 ghost use Rattle.std.specs.Prelude.{◌≡◌, ◌⊎◌, false, None, Some, IfErr, IfOk};
 ghost use Rattle.clap.specs.Words.{app_of, found_of, rows_of};
 ghost use Rattle.h5w_words.specs.Arguments.{has_globals};
-ghost use Rattle.h5w_words.specs.Files.{check_app, check_of, clear_app, clear_of, poll_app, poll_numbers_of, poll_of};
+ghost use Rattle.h5w_words.specs.Files.{check_app, check_of, clear_app, clear_of, creating_app, creating_of, poll_app, poll_numbers_of, poll_of};
 ghost use Rattle.h5w_words.specs.Limits.{IsWithinLimits};
 
 use crate::arguments::{flag, option_or, word};
+use crate::creation::{creation, options_given};
 use crate::file::FileName;
 use crate::job::{Job, WordsError};
 use crate::values::{count_or, is_given, link_name_or, text};
 use clap::{ArgMatches, Command};
 use h5w_model::Bytes;
 use std::alloc::{AllocError, Global};
+
+/// The command that makes a file, with its arguments.
+pub fn creating<'a>(alloc: Global) -> Result<Command<'a>, AllocError>
+    ensures shape { IfOk result (λ c. app_of c ≡ creating_app) }
+    ensures local { IfOk result (λ c. has_globals c ≡ false) }
+{
+    let command = Command::new(alloc, "new");
+    let command = word(alloc, command, "FILE")?;
+    creation(alloc, command)
+}
 
 /// The command that checks a file, with its arguments.
 pub fn check<'a>(alloc: Global) -> Result<Command<'a>, AllocError>
@@ -53,6 +64,21 @@ fn owned(alloc: Global, name: &str) -> Result<Bytes, AllocError>
     ensures { IfOk result (λ b. b ≡ name.now) }
 {
     Ok(Bytes::from_vec(Vec::from_slice(alloc, name.as_bytes())?))
+}
+
+/// The new file that the arguments ask for; `Usage` where they are outside the command set.
+pub fn creating_job(alloc: Global, options: &ArgMatches<'_>) -> Result<Job, WordsError>
+    ensures ok { IfOk result (λ job. creating_of (rows_of (found_of options.now)) ≡ Some job) }
+    ensures usage { IfErr result (λ e. (e ≡ WordsError.OutOfMemory) ⊎ (creating_of (rows_of (found_of options.now)) ≡ None)) }
+    ensures limits { IfOk result IsWithinLimits }
+{
+    let Some(file) = text(options, "FILE") else {
+        return Err(WordsError::Usage);
+    };
+    Ok(Job::New {
+        file: FileName::of(alloc, file)?,
+        options: options_given(alloc, options)?,
+    })
 }
 
 /// The check that the arguments ask for; `Usage` where they are outside the command set.

@@ -15,6 +15,12 @@ pub enum Job {
         /// How many attempts a reader's call makes at most, 1 to 1,000.
         attempts: u32,
     },
+    /// Makes a file with an empty dataset.
+    New {
+        file: FileName,
+        /// By what the file is created. The name has letters, digits and underscores alone.
+        options: Options,
+    },
     /// Checks a whole file.
     Check {
         file: FileName,

@@ -4,6 +4,7 @@
 #![tactic(auto)]
 
 mod arguments;
+mod creation;
 mod file;
 mod files;
 mod job;

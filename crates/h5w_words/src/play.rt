@@ -1,36 +1,16 @@
 //! The command that runs a script.
-ghost use Rattle.std.specs.Prelude.{◌≡◌, ◌≤◌, ◌⊎◌, false, None, Some, IfErr, IfOk, IfSome, length};
-ghost use Rattle.h5w_model.specs.Messages.{IsIntType};
-ghost use Rattle.h5w_types.specs.Fields.{int_type_of};
+ghost use Rattle.std.specs.Prelude.{◌≡◌, ◌⊎◌, false, None, Some, IfErr, IfOk};
 ghost use Rattle.clap.specs.Words.{app_of, found_of, rows_of};
 ghost use Rattle.h5w_words.specs.Arguments.{has_globals};
 ghost use Rattle.h5w_words.specs.Limits.{IsWithinLimits};
-ghost use Rattle.h5w_words.specs.Play.{numbers_of, play_app, play_of, type_of, with_creation};
+ghost use Rattle.h5w_words.specs.Play.{play_app, play_of};
 
-use crate::arguments::{option, option_or};
+use crate::arguments::option_or;
+use crate::creation::{creation, options_given};
 use crate::job::{Job, WordsError};
-use crate::types::{fill_given, type_named};
-use crate::values::{count, count_or, name_or, text};
+use crate::values::count_or;
 use clap::{ArgMatches, Command};
-use h5w_model::Bytes;
-use h5w_options::{IntType, Options};
 use std::alloc::{AllocError, Global};
-
-/// The most bytes that a file may have.
-const LIMIT: u64 = 1 << 40;
-
-/// The arguments that a file is created by.
-fn creation<'a>(alloc: Global, command: Command<'a>) -> Result<Command<'a>, AllocError>
-    ensures shape { IfOk result (λ c. app_of c ≡ with_creation (app_of command.entry)) }
-    ensures globals { IfOk result (λ c. has_globals c ≡ has_globals command.entry) }
-{
-    let command = option(alloc, command, "type")?;
-    let command = option(alloc, command, "chunk")?;
-    let command = option_or(alloc, command, "fill")?;
-    let command = option_or(alloc, command, "name")?;
-    let command = option_or(alloc, command, "limit")?;
-    Ok(command)
-}
 
 /// The command with its arguments.
 pub fn play<'a>(alloc: Global) -> Result<Command<'a>, AllocError>
@@ -43,52 +23,18 @@ pub fn play<'a>(alloc: Global) -> Result<Command<'a>, AllocError>
     Ok(command)
 }
 
-/// The type that the options give; None where it is none of the 14.
-fn type_given(options: &ArgMatches<'_>) -> Option<IntType>
-    ensures named { result ≡ type_of (rows_of (found_of options.now)) }
-    ensures typed { IfSome result (λ t. IsIntType (int_type_of t)) }
-{
-    type_named(text(options, "type")?.as_bytes())
-}
-
-/// The script that the options ask for, by its name and type; `Usage` where a number is not within its limits.
-fn play_named(options: &ArgMatches<'_>, name: Bytes, int_type: IntType) -> Result<Job, WordsError>
-    requires some { 1 ≤ length name }
-    requires most { length name ≤ 64 }
-    requires typed { IsIntType (int_type_of int_type) }
-    ensures ok { IfOk result (λ job. numbers_of (rows_of (found_of options.now)) name int_type ≡ Some job) }
-    ensures usage { IfErr result (λ e. numbers_of (rows_of (found_of options.now)) name int_type ≡ None) }
-    ensures limits { IfOk result IsWithinLimits }
-{
-    let chunk_rows = count(options, "chunk", 1, 65_536).ok_or(WordsError::Usage)?;
-    let fill = fill_given(text(options, "fill"), &int_type).ok_or(WordsError::Usage)?;
-    let limit = count_or(options, "limit", LIMIT, 1_024, LIMIT).ok_or(WordsError::Usage)?;
-    let attempts = count_or(options, "attempts", 8, 1, 1_000).ok_or(WordsError::Usage)?;
-    let options = Options {
-        name,
-        int_type,
-        chunk_rows,
-        fill,
-        limit,
-    };
-    Ok(Job::Play {
-        options,
-        attempts: attempts as u32,
-    })
-}
-
 /// The script that the options ask for; `Usage` where they are outside the command set.
 pub fn play_job(alloc: Global, options: &ArgMatches<'_>) -> Result<Job, WordsError>
     ensures ok { IfOk result (λ job. play_of (rows_of (found_of options.now)) ≡ Some job) }
     ensures usage { IfErr result (λ e. (e ≡ WordsError.OutOfMemory) ⊎ (play_of (rows_of (found_of options.now)) ≡ None)) }
     ensures limits { IfOk result IsWithinLimits }
 {
-    let Some(int_type) = type_given(options) else {
+    let Some(attempts) = count_or(options, "attempts", 8, 1, 1_000) else {
         return Err(WordsError::Usage);
     };
-    let Some(name) = name_or(options, "name", "data") else {
-        return Err(WordsError::Usage);
-    };
-    let name = Vec::from_slice(alloc, name.as_bytes())?;
-    play_named(options, Bytes::from_vec(name), int_type)
+    let options = options_given(alloc, options)?;
+    Ok(Job::Play {
+        options,
+        attempts: attempts as u32,
+    })
 }

@@ -3,7 +3,7 @@ ghost use Rattle.clap.specs.Words.{app_of, fault_of, found_of, rows_of, subcomma
 ghost use Rattle.h5w_words.specs.Commands.{asked_of, job_of, named_of, program};
 ghost use Rattle.h5w_words.specs.Limits.{IsWithinLimits};
 
-use crate::files::{check, check_job, clear, clear_job, poll, poll_job};
+use crate::files::{check, check_job, clear, clear_job, creating, creating_job, poll, poll_job};
 use crate::job::{Job, WordsError};
 use crate::play::{play, play_job};
 use clap::{ArgMatches, Command};
@@ -14,6 +14,7 @@ fn program<'a>(alloc: Global) -> Result<Command<'a>, AllocError>
     ensures { IfOk result (λ c. app_of c ≡ program) }
 {
     let command = Command::new(alloc, "h5swmr").subcommand(play(alloc)?)?;
+    let command = command.subcommand(creating(alloc)?)?;
     let command = command.subcommand(check(alloc)?)?;
     let command = command.subcommand(poll(alloc)?)?;
     let command = command.subcommand(clear(alloc)?)?;
@@ -39,6 +40,7 @@ fn named(alloc: Global, name: &str, options: &ArgMatches<'_>) -> Result<Job, Wor
 {
     match name {
         "play" => play_job(alloc, options),
+        "new" => creating_job(alloc, options),
         "check" => check_job(alloc, options),
         "poll" => poll_job(alloc, options),
         "clear" => clear_job(alloc, options),

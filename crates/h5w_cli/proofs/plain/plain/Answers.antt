@@ -5,6 +5,9 @@ use Rattle.h5w_cli.proofs.plain.plain.Goals as goal
 pub returns-in-Play-clause-does : goal.returns-in-Play-clause-does
 returns-in-Play-clause-does g c = search rules
 
+pub returns-in-New-clause-does : goal.returns-in-New-clause-does
+returns-in-New-clause-does g c = search rules
+
 pub returns-in-Check-clause-does : goal.returns-in-Check-clause-does
 returns-in-Check-clause-does g c = search rules
 
@@ -16,6 +19,9 @@ returns-in-Clear-clause-does g c = search rules
 
 pub returns-in-Play-clause-completes : goal.returns-in-Play-clause-completes
 returns-in-Play-clause-completes g c = does_whole _ _ _ _ _ _ _ _ (returns-in-Play-clause-does g c)
+
+pub returns-in-New-clause-completes : goal.returns-in-New-clause-completes
+returns-in-New-clause-completes g c = does_whole _ _ _ _ _ _ _ _ (returns-in-New-clause-does g c)
 
 pub returns-in-Check-clause-completes : goal.returns-in-Check-clause-completes
 returns-in-Check-clause-completes g c = does_whole _ _ _ _ _ _ _ _ (returns-in-Check-clause-does g c)

@@ -1,0 +1,10 @@
+use Rattle.std.proofs.Common.{◌≡◌, ◌+◌, length}
+use Rattle.h5w_files.specs.Puts.{PutsPieces}
+use Rattle.h5w_files.proofs.creating.put_pending.Given as goal
+
+abbrev pub invariant-loop : goal.invariant-loop
+invariant-loop g l = record {
+  before : PutsPieces l.fn.file l.fn.session l.session (g.D.Disk.view l.fn.disk) (g.D.Disk.view l.disk);
+  left : length l.session.pending + l.counter ≡ length l.fn.session.pending;
+  count : l.end ≡ length l.fn.session.pending;
+}

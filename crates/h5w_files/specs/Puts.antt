@@ -1,0 +1,54 @@
+-- The pieces of a session that are put into a file of a disk.
+use Rattle.std.specs.Prelude.{◌≡◌, ℕ, ◌+◌, ◌≤◌, List, [], ◌∷◌, ◌++◌, length, map, option_map}
+use Rattle.h5w_model.specs.Causes.{Rose}
+use Rattle.h5w_model.specs.Logs.{Log, and_now, shows}
+use Rattle.h5w_model.specs.declared.piece.Write.{Write}
+use Rattle.h5w_image.specs.View.{DiskState, DiskView, put}
+use Rattle.h5w_session.specs.Sessions.{Session}
+use Rattle.h5w_session.specs.Stands.{Stands}
+use Rattle.h5w_files.specs.Images.{LeavesFiles}
+
+-- The disk after puts into the file of a name, the oldest first: each is a write, with the count of faults that stood before it.
+abbrev pub after_puts : List ℕ → List (Write × ℕ) → DiskState → DiskState
+after_puts name [] d = d
+after_puts name (p ∷ ps) d = after_puts name ps (put name p.0 p.1 d)
+
+abbrev pub writes_of : List (Write × ℕ) → List Write
+writes_of ps = map (λ p. p.0) ps
+
+abbrev pub counts_of : List (Write × ℕ) → List ℕ
+counts_of ps = map (λ p. p.1) ps
+
+-- the log once these pieces became visible, the oldest first
+abbrev pub showing : List Write → Log → Log
+showing [] log = log
+showing (w ∷ ws) log = showing ws (and_now (shows w) log)
+
+-- each count of faults lies between two
+abbrev pub AllBetween : ℕ → ℕ → List ℕ → Type 0
+AllBetween a b [] = Unit {0}
+AllBetween a b (c ∷ cs) = (a ≤ c) × (c ≤ b) × AllBetween a b cs
+
+-- from each count of faults the count rose to this one
+abbrev pub AllRose : List ℕ → ℕ → Type 0
+AllRose [] b = Unit {0}
+AllRose (c ∷ cs) b = Rose c b × AllRose cs b
+
+-- The oldest pending pieces of a session were put into the file, one after another.
+pub record PutsPieces (name : List ℕ) (s t : Session) (v w : DiskView) : Type 0 where
+  pub puts : List (Write × ℕ)
+  pub pieces : s.pending ≡ writes_of puts ++ t.pending
+  pub session : t ≡ record s { places = t.places; committed = t.committed; pending = t.pending }
+  pub end : t.places.end ≡ s.places.end
+  pub stands : (log : Log) → Stands s log → Stands t (showing (writes_of puts) log)
+  pub disk : LeavesFiles (option_map (after_puts name puts) v.told) v w
+  pub since : AllBetween v.faults w.faults (counts_of puts)
+  pub room : v.pieces ≤ w.pieces + length puts
+  pub ends : v.end name ≤ w.end name
+
+-- And then the disk failed at one of them: no put came behind the fault.
+pub record PutsSome (name : List ℕ) (s t : Session) (v w : DiskView) : Type 0 where
+  pub before : PutsPieces name s t v w
+  pub left : 1 ≤ length t.pending
+  pub rose : Rose v.faults w.faults
+  pub since : AllRose (counts_of before.puts) w.faults

@@ -1,0 +1,152 @@
+//! The command that makes a file.
+ghost use Rattle.std.specs.Prelude.{◌≡◌, ◌<◌, ◌≤◌, ◌+◌, [], ◌∷◌, codes, false, length, Err, OnErr, OnOk};
+ghost use Rattle.h5w_image.specs.View.{IsThere};
+ghost use Rattle.h5w_options.specs.Options.{AreOptions};
+ghost use Rattle.h5w_model.specs.Logs.{Log};
+ghost use Rattle.h5w_session.specs.Creations.{first_end, new_file};
+ghost use Rattle.h5w_session.specs.Sessions.{closed_of};
+ghost use Rattle.h5w_session.specs.Stands.{Stands};
+ghost use Rattle.h5w_text.specs.Table.{numbers_text};
+ghost use Rattle.h5w_files.specs.Ends.{EndsWell};
+ghost use Rattle.h5w_files.specs.Puts.{PutsPieces, PutsSome};
+ghost use Rattle.h5w_files.specs.Creates.{CreateEnds, CreatesTo, Fills, answer_of, end_of};
+
+use h5w_image::{Disk, Failed, MakeError};
+use h5w_session::{Options, WriterCore};
+use h5w_text::{Sink, Status, say, write_numbers};
+use std::alloc::Global;
+
+/// Why a file was not made.
+#[derive(Clone, Copy)]
+enum CreateError {
+    /// Something has its name.
+    Exists,
+    /// The disk's count of faults rose.
+    Failed,
+    OutOfMemory,
+}
+
+/// Puts the session's oldest pending piece into the file.
+#[tactic(auto, using(h5w_image::proofs::DiskLemmas::kept))]
+fn put_next<D: Disk>(session: &mut WriterCore, file: &str, disk: &mut D) -> Result<(), Failed>
+    requires there { IsThere (D.view disk.old) file.now }
+    requires some { 1 ≤ length session.old.pending }
+    requires room { 1 ≤ (D.view disk.old).pieces }
+    requires end { session.old.places.end ≤ (D.view disk.old).end file.now }
+    ensures puts { OnOk result (PutsPieces file.now session.old session.new (D.view disk.old) (D.view disk.new)) }
+    ensures one { OnOk result (length session.new.pending + 1 ≡ length session.old.pending) }
+    ensures failed { OnErr result (PutsSome file.now session.old session.new (D.view disk.old) (D.view disk.new)) }
+{
+    let Some(w) = session.next() else {
+        return Ok(());
+    };
+    match disk.put(file, w) {
+        Ok(()) => {
+            session.written();
+            Ok(())
+        }
+        Err(failed) => Err(failed),
+    }
+}
+
+/// Puts the session's pending pieces into the file, one after another.
+fn put_pending<D: Disk>(session: &mut WriterCore, file: &str, disk: &mut D) -> Result<(), Failed>
+    requires there { IsThere (D.view disk.old) file.now }
+    requires room { length session.old.pending ≤ (D.view disk.old).pieces }
+    requires end { session.old.places.end ≤ (D.view disk.old).end file.now }
+    ensures puts { OnOk result (PutsPieces file.now session.old session.new (D.view disk.old) (D.view disk.new)) }
+    ensures all { OnOk result (session.new.pending ≡ []) }
+    ensures failed { OnErr result (PutsSome file.now session.old session.new (D.view disk.old) (D.view disk.new)) }
+{
+    for _ in 0..session.pending() {
+        match put_next(session, file, disk) {
+            Ok(()) => {}
+            Err(failed) => return Err(failed),
+        }
+    }
+    Ok(())
+}
+
+/// Closes the session, which has nothing pending.
+fn close(session: &mut WriterCore)
+    requires running { session.old.stopped ≡ false }
+    requires idle { session.old.pending ≡ [] }
+    ensures closed { session.new ≡ closed_of session.old }
+    ensures stands { (log : Log) → Stands session.old log → Stands session.new log }
+{
+    match session.close() {
+        Ok(()) => {}
+        Err(_) => unreachable!(),
+    }
+}
+
+/// Puts the session's pending pieces into the file, and then the one that closes the session.
+fn fill<D: Disk>(session: &mut WriterCore, file: &str, disk: &mut D) -> Result<(), CreateError>
+    requires there { IsThere (D.view disk.old) file.now }
+    requires running { session.old.stopped ≡ false }
+    requires few { length session.old.pending ≤ 5 }
+    ensures { Fills file.now session.old session.new (D.view disk.old) (D.view disk.new) result }
+{
+    let pieces = session.pending() + 1;
+    match disk.reserve(file, pieces, session.end()) {
+        Ok(()) => {}
+        Err(_) => return Err(CreateError::OutOfMemory),
+    }
+    match put_pending(session, file, disk) {
+        Ok(()) => close(session),
+        Err(_) => return Err(CreateError::Failed),
+    }
+    match put_pending(session, file, disk) {
+        Ok(()) => Ok(()),
+        Err(_) => Err(CreateError::Failed),
+    }
+}
+
+/// Makes the file. `text` gets the line of its end before it is there.
+fn make_file<D: Disk>(
+    alloc: Global,
+    file: &str,
+    options: &Options,
+    text: &mut Vec<u8>,
+    disk: &mut D,
+) -> Result<(), CreateError>
+    requires options { AreOptions options.now }
+    requires empty { text.old.items ≡ [] }
+    ensures creates { CreatesTo file.now (new_file options.now) (D.view disk.old) (D.view disk.new) (answer_of (first_end (new_file options.now)) result) }
+    ensures text { OnOk result (text.new.items ≡ numbers_text (codes "new end") (first_end (new_file options.now) ∷ [])) }
+{
+    let Ok(mut session) = WriterCore::create(alloc, options) else {
+        return Err(CreateError::OutOfMemory);
+    };
+    match write_numbers(text, b"new end", &[session.end()]) {
+        Ok(()) => {}
+        Err(_) => return Err(CreateError::OutOfMemory),
+    }
+    match disk.make(file) {
+        Ok(true) => fill(&mut session, file, disk),
+        Ok(false) => Err(CreateError::Exists),
+        Err(MakeError::Failed) => Err(CreateError::Failed),
+        Err(MakeError::OutOfMemory) => Err(CreateError::OutOfMemory),
+    }
+}
+
+/// Makes the file of the name `file` by these options, with an empty dataset, and writes where it ends.
+pub fn create<K: Sink, D: Disk>(
+    alloc: Global,
+    file: &str,
+    options: &Options,
+    sink: &mut K,
+    disk: &mut D,
+) -> Status
+    requires { AreOptions options.now }
+    ensures creates { CreateEnds file.now options.now (D.view disk.old) (D.view disk.new) result (K.view sink.old) (K.view sink.new) }
+    ensures completes { EndsWell (end_of (new_file options.now)) file.now (D.view disk.old) (D.view disk.new) result (K.view sink.old) (K.view sink.new) }
+{
+    let mut text = Vec::new(alloc);
+    match make_file(alloc, file, options, &mut text, disk) {
+        Ok(()) => say(&text, Status::Done, sink),
+        Err(CreateError::Exists) => say(b"error exists\n", Status::Exists, sink),
+        Err(CreateError::Failed) => say(b"error disk\n", Status::Disk, sink),
+        Err(CreateError::OutOfMemory) => say(b"error memory\n", Status::Memory, sink),
+    }
+}

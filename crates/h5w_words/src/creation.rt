@@ -1,0 +1,82 @@
+//! By what a file is created.
+ghost use Rattle.std.specs.Prelude.{◌≡◌, ◌≤◌, ◌⊎◌, None, Some, IfErr, IfOk, IfSome, length};
+ghost use Rattle.h5w_model.specs.Messages.{IsIntType};
+ghost use Rattle.h5w_options.specs.Options.{AreOptions};
+ghost use Rattle.h5w_types.specs.Fields.{int_type_of};
+ghost use Rattle.clap.specs.Words.{app_of, found_of, rows_of};
+ghost use Rattle.h5w_words.specs.Arguments.{has_globals};
+ghost use Rattle.h5w_words.specs.Creation.{named_options, options_of, type_of, with_creation};
+
+use crate::arguments::{option, option_or};
+use crate::job::WordsError;
+use crate::types::{fill_given, type_named};
+use crate::values::{count, count_or, name_or, text};
+use clap::{ArgMatches, Command};
+use h5w_model::Bytes;
+use h5w_options::{IntType, Options};
+use std::alloc::{AllocError, Global};
+
+/// The most bytes that a file may have.
+const LIMIT: u64 = 1 << 40;
+
+/// The arguments that a file is created by.
+pub fn creation<'a>(alloc: Global, command: Command<'a>) -> Result<Command<'a>, AllocError>
+    ensures shape { IfOk result (λ c. app_of c ≡ with_creation (app_of command.entry)) }
+    ensures globals { IfOk result (λ c. has_globals c ≡ has_globals command.entry) }
+{
+    let command = option(alloc, command, "type")?;
+    let command = option(alloc, command, "chunk")?;
+    let command = option_or(alloc, command, "fill")?;
+    let command = option_or(alloc, command, "name")?;
+    let command = option_or(alloc, command, "limit")?;
+    Ok(command)
+}
+
+/// The type that the options give; None where it is none of the 14.
+fn type_given(options: &ArgMatches<'_>) -> Option<IntType>
+    ensures named { result ≡ type_of (rows_of (found_of options.now)) }
+    ensures typed { IfSome result (λ t. IsIntType (int_type_of t)) }
+{
+    type_named(text(options, "type")?.as_bytes())
+}
+
+/// What the options say of a file with a dataset of this name and type; `Usage` where a number is not within its limits.
+fn numbers_given(
+    options: &ArgMatches<'_>,
+    name: Bytes,
+    int_type: IntType,
+) -> Result<Options, WordsError>
+    requires some { 1 ≤ length name }
+    requires most { length name ≤ 64 }
+    requires typed { IsIntType (int_type_of int_type) }
+    ensures ok { IfOk result (λ o. named_options (rows_of (found_of options.now)) name int_type ≡ Some o) }
+    ensures usage { IfErr result (λ e. named_options (rows_of (found_of options.now)) name int_type ≡ None) }
+    ensures limits { IfOk result AreOptions }
+{
+    let chunk_rows = count(options, "chunk", 1, 65_536).ok_or(WordsError::Usage)?;
+    let fill = fill_given(text(options, "fill"), &int_type).ok_or(WordsError::Usage)?;
+    let limit = count_or(options, "limit", LIMIT, 1_024, LIMIT).ok_or(WordsError::Usage)?;
+    Ok(Options {
+        name,
+        int_type,
+        chunk_rows,
+        fill,
+        limit,
+    })
+}
+
+/// What the options say of a file that is created; `Usage` where they are outside the command set.
+pub fn options_given(alloc: Global, options: &ArgMatches<'_>) -> Result<Options, WordsError>
+    ensures ok { IfOk result (λ o. options_of (rows_of (found_of options.now)) ≡ Some o) }
+    ensures usage { IfErr result (λ e. (e ≡ WordsError.OutOfMemory) ⊎ (options_of (rows_of (found_of options.now)) ≡ None)) }
+    ensures limits { IfOk result AreOptions }
+{
+    let Some(int_type) = type_given(options) else {
+        return Err(WordsError::Usage);
+    };
+    let Some(name) = name_or(options, "name", "data") else {
+        return Err(WordsError::Usage);
+    };
+    let name = Vec::from_slice(alloc, name.as_bytes())?;
+    numbers_given(options, Bytes::from_vec(name), int_type)
+}

@@ -1,0 +1,45 @@
+"""The bytes of a new file, by the format's description alone: what `new` should leave. It knows nothing of the code under test."""
+import struct
+
+from trees import UNDEFINED, header, message, sealed
+
+# The names of the types: size in bytes, most significant byte first, with a sign.
+TYPES = {f"{sign}{8 * size}{order}": (size, order == "be", sign == "i") for size in (1, 2, 4, 8) for sign in "iu" for order in ([""] if size == 1 else ["le", "be"])}
+
+
+def width_of(number):
+    """How many bytes a chunk size is written in: those of the greatest of the sizes."""
+    return (number.bit_length() - 1) // 8 + 1
+
+
+def superblock(flags, end):
+    return sealed(b"\x89HDF\r\n\x1a\n" + bytes([3, 8, 8, flags]) + bytes(8) + UNDEFINED + struct.pack("<QQ", end, 48))
+
+
+def root_header(name, dataset):
+    link_info = bytes(2) + UNDEFINED * 2
+    link = bytes([1, 0, len(name)]) + name + struct.pack("<Q", dataset)
+    return header(message(2, 0, link_info) + message(10, 0, bytes(2)) + message(6, 0, link))
+
+
+def dataset_header(kind, chunk, fill, array):
+    size, big, signed = TYPES[kind]
+    width = width_of(max(chunk, size))
+    shape = bytes([2, 1, 1, 1]) + bytes(8) + UNDEFINED
+    number = bytes([0x30, big | signed << 3, 0, 0]) + struct.pack("<IHH", size, 0, 8 * size)
+    value = b"" if fill is None else struct.pack("<I", size) + fill.to_bytes(size, "big" if big else "little")
+    fills = bytes([3, 0x0B if fill is None else 0x2B]) + value
+    sizes = chunk.to_bytes(width, "little") + size.to_bytes(width, "little")
+    layout = bytes([4, 2, 0, 2, width]) + sizes + bytes([4, 32, 4, 4, 16, 10]) + struct.pack("<Q", array)
+    return header(message(1, 0, shape) + message(3, 0, number) + message(5, 0, fills) + message(8, 0, layout))
+
+
+def new_file(kind, chunk, fill=None, name=b"data", flags=0):
+    """The bytes of a file with an empty dataset of this type, with so many rows in a chunk."""
+    dataset = 48 + 54 + len(name)
+    array = dataset + len(dataset_header(kind, chunk, fill, 0))
+    index = array + 72
+    end = index + 298
+    array_header = sealed(b"EAHD" + bytes([0, 0, 8, 32, 4, 16, 4, 10]) + struct.pack("<7Q", 0, 0, 0, 0, 0, 4, index))
+    index_block = sealed(b"EAIB" + bytes(2) + struct.pack("<Q", array) + UNDEFINED * 35)
+    return superblock(flags, end) + root_header(name, dataset) + dataset_header(kind, chunk, fill, array) + array_header + index_block
