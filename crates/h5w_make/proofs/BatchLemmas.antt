@@ -1,0 +1,363 @@
+-- A session that takes batches.
+use Rattle.std.proofs.Common.{◌≡◌, ◌⊎◌, ℕ, suc, ◌+◌, ◌*◌, ◌/◌, ◌%◌, ◌^◌, ◌<◌, ◌≤◌, List, [], ◌∷◌, ◌++◌, length, ℤ, Bool, true, false, nat_lt, cond, sym, refl, ap, ◌∙◌, subst, arith, append_assoc, length-append, Option, Some, None, inl, inr}
+use Rattle.std.proofs.lemmas.Bool.{cond-false, le-ltb}
+use Rattle.std.proofs.lemmas.List.{append-nil}
+use Rattle.std.specs.Option.{unwrap_or}
+use Rattle.std.specs.Prelude.{slice_get, drop}
+use Rattle.h5w_model.specs.Images.{image}
+use Rattle.h5w_model.specs.Datasets.{Described}
+use Rattle.h5w_model.specs.Lawful.{first_outside}
+use Rattle.h5w_model.specs.Logs.{Cutting, Happening, Log, and_now, appended, appends, flushed, hist, load, plans, rows_in, shows, spent, spent_in}
+use Rattle.h5w_model.specs.Superblock.{super_bytes}
+use Rattle.h5w_model.specs.Tables.{format_limits, limit_of, needed}
+use Rattle.h5w_model.specs.declared.piece.Write.{Write}
+use Rattle.h5w_model.proofs.ImageLemmas.{image-append}
+use Rattle.h5w_image.specs.Memory.{MemView, fresh}
+use Rattle.h5w_image.specs.View.{Same, Wrote}
+use Rattle.h5w_space.specs.Space.{Space}
+use Rattle.h5w_space.specs.declared.Full.{Full}
+use Rattle.h5w_session.specs.Creations.{created, creation_writes, log_of, new_dataset}
+use Rattle.h5w_session.specs.Room.{HasRoomFor}
+use Rattle.h5w_session.specs.Refusals.{IsSpace, append_refusal, chunks_refusal, close_refusal, flush_refusal}
+use Rattle.h5w_session.specs.Sessions.{AfterPiece, Freed, Session, TakesRows, chunk_limit, chunks_with, cleared, closed_of, closed_root, cutting_of, rows_of, with_rows, with_values}
+use Rattle.h5w_session.specs.Stands.{Stands}
+use Rattle.h5w_session.specs.declared.refusal.AppendError.{AppendError}
+use Rattle.h5w_session.specs.declared.refusal.AppendError.TheVariants as errors
+use Rattle.h5w_session.specs.declared.refusal.FlushError.{FlushError}
+use Rattle.h5w_session.specs.declared.refusal.FlushError.TheVariants as flushes
+use Rattle.h5w_session.proofs.LawLemmas.{standing_laws}
+use Rattle.h5w_steady.specs.Steady.{steady}
+use Rattle.h5w_make.specs.Commands.{new_file, showing, values_of}
+use Rattle.h5w_make.specs.States.{HasPlace, IsAfter, IsClosed, IsTaken, ShowsAll}
+use Rattle.h5w_make.proofs.EventLemmas.{appended_batches, cutting, hist_showing, load_bound, spent_in-events, spent_showing}
+
+pub some_is : {A : Type 0} (a b : A) → Some a ≡ Some b → a ≡ b
+some_is a b same = ap (λ o. unwrap_or o a) same
+
+none_some : {A : Type 0} (a : A) → ◌≡◌ {A = Option A} None (Some a) → ⊥
+none_some a e = cc
+
+-- ---- Once all pieces became visible
+
+freed_limit : (b : Bool) (s t : Space) → Freed b s t → t.limit ≡ s.limit
+freed_limit true s t is = ap (λ (x : Space). x.limit) is
+freed_limit false s t is = is.limit
+
+record AllShown (s t : Session) : Type 0 where
+  name : t.name ≡ s.name
+  dataset : t.dataset ≡ s.dataset
+  limit : t.places.limit ≡ s.places.limit
+  waits : t.waits ≡ s.waits
+  stopped : t.stopped ≡ s.stopped
+  pending : t.pending ≡ []
+
+all_shown : (s t : Session) → AfterPiece s [] t → AllShown s t
+all_shown s t after =
+    let is = after.1 in
+    record {
+      name = ap (λ (x : Session). x.name) is;
+      dataset = ap (λ (x : Session). x.dataset) is;
+      limit = freed_limit s.keeps s.places t.places after.0;
+      waits = ap (λ (x : Session). x.waits) is;
+      stopped = ap (λ (x : Session). x.stopped) is;
+      pending = ap (λ (x : Session). x.pending) is;
+    }
+
+-- ---- Between two batches
+
+-- a dataset of so many rows
+abbrev of_rows : ℕ → Described
+of_rows n = with_rows n (new_dataset new_file)
+
+pub cut_alike : (bs : List (List ℤ)) (s : Session) (m : MemView) → IsAfter bs s m → cutting_of s ≡ cutting
+cut_alike bs s m h =
+    ap (λ (d : Described). record { chunk_rows = d.layout.chunk_rows; chunk_columns = d.layout.chunk_cols; columns = d.shape.cols; value_size = d.int_type.size }) h.dataset
+
+pub all_appended : (bs : List (List ℤ)) (s : Session) (m : MemView) → (h : IsAfter bs s m) → appended h.log ≡ values_of bs
+all_appended bs s m h = ap (λ (l : Log). appended (record { start = l.start; columns = l.columns; values = l.values; first = l.first; events = h.log.events })) h.is ∙ appended_batches bs h.log.events h.batches
+
+pub all_flushed : (bs : List (List ℤ)) (s : Session) (m : MemView) → (h : IsAfter bs s m) → length (flushed h.log) ≡ length (values_of bs)
+all_flushed bs s m h =
+    let one : h.log.columns ≡ 1 = ap (λ (l : Log). l.columns) h.is in
+    let rows : rows_in h.log (flushed h.log) ≡ length (values_of bs) = standing_laws.planned_rows s h.log h.stands h.going h.pending ∙ ap (λ (d : Described). d.shape.rows) h.dataset in
+    let whole : length (flushed h.log) / 1 ≡ length (flushed h.log) = omega arith in
+    sym whole ∙ ap (λ (n : ℕ). length (flushed h.log) / n) (sym one) ∙ rows
+
+-- the load of another batch
+batch_load : (bs : List (List ℤ)) (s : Session) (m : MemView) (values : List ℤ) → (h : IsAfter bs s m) → IsTaken bs values → load cutting (and_now (appends values) h.log) ≤ 346000
+batch_load bs s m values h taken =
+    let log = and_now (appends values) h.log in
+    let more : appended log ≡ appended h.log ++ values = sym (append_assoc h.log.values _ values) in
+    load_bound log (omega (arith, ap length more, length-append (appended h.log) values, ap length (all_appended bs s m h), all_flushed bs s m h, taken.few))
+
+-- ---- The append
+
+few_chunks : (d : Described) (k r : ℕ) → d ≡ of_rows k → r ≤ 1000000 → nat_lt (limit_of format_limits d.layout.index) (needed (with_rows r d)) ≡ false
+few_chunks d k r is few =
+    subst (λ (x : Described). nat_lt (limit_of format_limits x.layout.index) (needed (with_rows r x)) ≡ false) (sym is)
+    (le-ltb 131060 (needed (with_rows r (of_rows k))) (omega arith))
+
+pub append_taken : (bs : List (List ℤ)) (s : Session) (m : MemView) (values : List ℤ) → IsAfter bs s m → IsTaken bs values → append_refusal s values ≡ None
+append_taken bs s m values h taken =
+    let more : ℕ = length values / s.dataset.shape.cols in
+    let past : Bool = nat_lt (chunk_limit s) (chunks_with s more) in
+    let full : Option AppendError = Some (errors.Chunks (chunks_with s more) (chunk_limit s)) in
+    let checked : Option (ℕ × ℤ) → Option AppendError = λ o. elim o as (λ _. Option AppendError) [ Some x ↦ Some (errors.OutOfRange x.0 x.1) | None ↦ chunks_refusal s more ] in
+    let busy : List Write → Option AppendError = λ ws. cond (nat_lt 0 (length ws)) (Some (errors.Busy (length ws))) (checked (first_outside s.dataset.int_type 0 values)) in
+    let columns : s.dataset.shape.cols ≡ 1 = ap (λ (d : Described). d.shape.cols) h.dataset in
+    let rows : s.dataset.shape.rows ≡ length (values_of bs) = ap (λ (d : Described). d.shape.rows) h.dataset in
+    let whole : more ≡ length values = ap (λ (c : ℕ). length values / c) columns ∙ (let e : length values / 1 ≡ length values = omega arith in e) in
+    ap (λ (b : Bool). cond b (Some errors.Stopped) (busy s.pending)) h.going
+    ∙ ap busy h.pending
+    ∙ ap checked (ap (λ (d : Described). first_outside d.int_type 0 values) h.dataset ∙ taken.typed)
+    ∙ cond-false past full None (few_chunks s.dataset (length (values_of bs)) (rows_of s + more) h.dataset (omega (arith, rows, whole, h.waits, taken.rows)))
+
+-- any values are rows
+pub are_rows : (bs : List (List ℤ)) (s : Session) (m : MemView) (values : List ℤ) → IsAfter bs s m → (n : ℕ) × (length values ≡ n * s.dataset.shape.cols)
+are_rows bs s m values h =
+    let columns : s.dataset.shape.cols ≡ 1 = ap (λ (d : Described). d.shape.cols) h.dataset in
+    (length values, (let whole : length values ≡ length values * 1 = omega arith in whole ∙ ap (λ (n : ℕ). length values * n) (sym columns)))
+
+-- ---- The flush
+
+pub waits_some : (bs : List (List ℤ)) (s t : Session) (m : MemView) (values : List ℤ) → IsAfter bs s m → IsTaken bs values → t ≡ with_values s values → 0 < t.waits
+waits_some bs s t m values h taken is =
+    let columns : s.dataset.shape.cols ≡ 1 = ap (λ (d : Described). d.shape.cols) h.dataset in
+    let whole : length values / s.dataset.shape.cols ≡ length values = ap (λ (c : ℕ). length values / c) columns ∙ (let e : length values / 1 ≡ length values = omega arith in e) in
+    omega (arith, ap (λ (x : Session). x.waits) is, whole, taken.some)
+
+pub flush_taken : (bs : List (List ℤ)) (s t : Session) (m : MemView) (values : List ℤ) → IsAfter bs s m → t ≡ with_values s values → flush_refusal t ≡ None
+flush_taken bs s t m values h is =
+    ap flush_refusal is
+    ∙ ap (λ (b : Bool). flush_refusal (record (with_values s values) { stopped = b })) h.going
+    ∙ ap (λ (ws : List Write). flush_refusal (record (with_values s values) { stopped = false; pending = ws })) h.pending
+
+pub place_there : (bs : List (List ℤ)) (s t : Session) (m : MemView) (values : List ℤ) → IsAfter bs s m → IsTaken bs values → t ≡ with_values s values
+    → ((log : Log) → Stands s log → Stands t (and_now (appends values) log)) → HasPlace t
+place_there bs s t m values h taken is stands =
+    let log = and_now (appends values) h.log in
+    let cut : cutting_of t ≡ cutting = ap cutting_of is ∙ cut_alike bs s m h in
+    let one : load cutting log ≤ 346000 = batch_load bs s m values h taken in
+    let before : spent_in cutting log h.log.events ≡ spent cutting h.log = spent_in-events cutting h.log (appends values ∷ h.log.events) h.log.events in
+    let loads : spent cutting h.log ≤ length bs * 700000 = subst (λ (c : Cutting). spent c h.log ≤ length bs * 700000) (cut_alike bs s m h) h.loads in
+    let limit : t.places.limit ≡ 2 ^ 40 = ap (λ (x : Session). x.places.limit) is ∙ h.limit in (
+      log,
+      stands h.log h.stands,
+      λ full none.
+          let size : full.size ≤ load cutting log = subst (λ (c : Cutting). full.size ≤ load c log) cut none.size_bound in
+          let place : full.at ≤ 1024 + spent cutting log + load cutting log = subst (λ (c : Cutting). full.at ≤ 1024 + spent c log + load c log) cut none.at_bound in
+          omega (arith, none.limit, none.past, size, place, one, before, loads, limit, taken.batches),
+    )
+
+-- ---- The batch
+
+module _ (bs : List (List ℤ)) (values : List ℤ) (s0 s1 s2 s3 : Session) (m0 m1 m2 m3 : MemView) (taken : IsTaken bs values) (h : IsAfter bs s0 m0) (added : s1 ≡ with_values s0 values)
+    (stands1 : (log : Log) → Stands s0 log → Stands s1 (and_now (appends values) log)) (same1 : Same (steady m0) (steady m1)) (takes : TakesRows s1 s2)
+    (stands2 : (log : Log) → Stands s1 log → Stands s2 (and_now (plans (length s2.pending)) log)) (same2 : Same (steady m1) (steady m2)) (after : AfterPiece s2 [] s3) (shown : ShowsAll s2.pending m2 m3)
+    (stands3 : (log : Log) → Stands s2 log → Stands s3 (record log { events = showing s2.pending log.events })) where
+  history_is : m3.history ≡ hist (showing s2.pending (plans (length s2.pending) ∷ appends values ∷ h.log.events))
+  history_is =
+      shown.history
+      ∙ ap (λ (ws : List Write). ws ++ s2.pending) (some_is m2.history m1.history same2.history ∙ some_is m1.history m0.history same1.history ∙ h.history)
+      ∙ sym (hist_showing s2.pending (plans (length s2.pending) ∷ appends values ∷ h.log.events))
+
+  bytes_are : m3.bytes ≡ image [] (hist (showing s2.pending (plans (length s2.pending) ∷ appends values ∷ h.log.events)))
+  bytes_are =
+      shown.bytes
+      ∙ ap (λ (b : List ℕ). image b s2.pending) (some_is m2.bytes m1.bytes same2.bytes ∙ some_is m1.bytes m0.bytes same1.bytes ∙ h.bytes)
+      ∙ sym (image-append [] (hist h.log.events) s2.pending)
+      ∙ ap (image []) (sym (hist_showing s2.pending (plans (length s2.pending) ∷ appends values ∷ h.log.events)))
+
+  dataset_is : s3.dataset ≡ of_rows (length (values_of bs ++ values))
+  dataset_is =
+      let columns : s0.dataset.shape.cols ≡ 1 = ap (λ (d : Described). d.shape.cols) h.dataset in
+      let rows : s0.dataset.shape.rows ≡ length (values_of bs) = ap (λ (d : Described). d.shape.rows) h.dataset in
+      let whole : length values / s0.dataset.shape.cols ≡ length values = ap (λ (c : ℕ). length values / c) columns ∙ (let e : length values / 1 ≡ length values = omega arith in e) in
+      let all : rows_of (with_values s0 values) ≡ length (values_of bs ++ values) = omega (arith, rows, whole, h.waits, length-append (values_of bs) values) in
+      (all_shown s2 s3 after).dataset ∙ takes.dataset ∙ ap (λ (x : Session). with_rows (rows_of x) x.dataset) added
+      ∙ ap (λ (d : Described). with_rows (rows_of (with_values s0 values)) d) h.dataset ∙ ap of_rows all
+
+  loads_are : spent (cutting_of s3) (record (h.log) { events = showing s2.pending (plans (length s2.pending) ∷ appends values ∷ h.log.events) }) ≤ suc (length bs) * 700000
+  loads_are =
+      let es = showing s2.pending (plans (length s2.pending) ∷ appends values ∷ h.log.events) in
+      let log = record (h.log) { events = es } in
+      let cut : cutting_of s3 ≡ cutting = ap (λ (d : Described). record { chunk_rows = d.layout.chunk_rows; chunk_columns = d.layout.chunk_cols; columns = d.shape.cols; value_size = d.int_type.size }) dataset_is in
+      let one : load cutting (and_now (appends values) h.log) ≤ 346000 = batch_load bs s0 m0 values h taken in
+      let before : spent_in cutting log h.log.events ≡ spent cutting h.log = spent_in-events cutting h.log es h.log.events in
+      let old : spent cutting h.log ≤ length bs * 700000 = subst (λ (c : Cutting). spent c h.log ≤ length bs * 700000) (cut_alike bs s0 m0 h) h.loads in
+      let is : spent cutting log ≡ spent_in cutting log h.log.events + load cutting (and_now (appends values) h.log) + load cutting (and_now (appends values) h.log) =
+      spent_showing cutting log s2.pending (plans (length s2.pending) ∷ appends values ∷ h.log.events) in
+      subst (λ (c : Cutting). spent c log ≤ suc (length bs) * 700000) (sym cut) (omega (arith, is, one, before, old))
+
+  pub batch_after : IsAfter (values ∷ bs) s3 m3
+  batch_after =
+      let es = showing s2.pending (plans (length s2.pending) ∷ appends values ∷ h.log.events) in
+      let facts = all_shown s2 s3 after in
+      record {
+        log = record (h.log) { events = es };
+        stands = stands3 (and_now (plans (length s2.pending)) (and_now (appends values) h.log)) (stands2 (and_now (appends values) h.log) (stands1 h.log h.stands));
+        is = ap (λ (l : Log). record l { events = es }) h.is;
+        batches = (h.log.events, h.batches, record { pieces = s2.pending; is = refl });
+        history = history_is;
+        bytes = bytes_are;
+        name = facts.name ∙ takes.name ∙ ap (λ (x : Session). x.name) added ∙ h.name;
+        dataset = dataset_is;
+        limit = facts.limit ∙ takes.limit ∙ ap (λ (x : Session). x.places.limit) added ∙ h.limit;
+        waits = facts.waits ∙ takes.waits;
+        pending = facts.pending;
+        going = facts.stopped ∙ takes.stopped ∙ ap (λ (x : Session). x.stopped) added ∙ h.going;
+        begun = omega (arith, h.begun, ap length (hist_showing s2.pending (plans (length s2.pending) ∷ appends values ∷ h.log.events)), length-append (hist h.log.events) s2.pending);
+        loads = loads_are;
+      }
+
+-- ---- The creation
+
+pub created_after : (s t : Session) (m n o : MemView) → s ≡ created new_file → Stands s (log_of []) → m ≡ fresh [] [] → Same (steady m) (steady n) → AfterPiece s [] t → ShowsAll s.pending n o
+    → ((log : Log) → Stands s log → Stands t (record log { events = showing s.pending log.events })) → IsAfter [] t o
+created_after s t m n o is stood empty same after shown stands =
+    let facts = all_shown s t after in
+    let pending : s.pending ≡ creation_writes new_file = ap (λ (x : Session). x.pending) is in
+    let es : List Happening = showing (creation_writes new_file) [] in
+    let history : o.history ≡ hist es =
+    shown.history ∙ ap (λ (ws : List Write). ws ++ s.pending) (some_is n.history m.history same.history ∙ ap (λ (v : MemView). v.history) empty) ∙ pending ∙ sym (hist_showing (creation_writes new_file) []) in
+    record {
+      log = log_of es;
+      stands = subst (λ (ws : List Write). Stands t (log_of (showing ws []))) pending (stands (log_of []) stood);
+      is = refl;
+      batches = refl;
+      history = history;
+      bytes =
+          shown.bytes ∙ ap (λ (b : List ℕ). image b s.pending) (some_is n.bytes m.bytes same.bytes ∙ ap (λ (v : MemView). v.bytes) empty)
+          ∙ ap (image []) (pending ∙ sym (hist_showing (creation_writes new_file) []));
+      name = facts.name ∙ ap (λ (x : Session). x.name) is;
+      dataset = facts.dataset ∙ ap (λ (x : Session). x.dataset) is;
+      limit = facts.limit ∙ ap (λ (x : Session). x.places.limit) is;
+      waits = facts.waits ∙ ap (λ (x : Session). x.waits) is;
+      pending = facts.pending;
+      going = facts.stopped ∙ ap (λ (x : Session). x.stopped) is;
+      begun = omega arith;
+      loads = omega arith;
+    }
+
+-- ---- The pieces of a plan
+
+-- so far these are left of the pieces, and the session, its image and its logs are on their way
+pub record Showing (s t : Session) (m n : MemView) : Type 0 where
+  pub session : AfterPiece s t.pending t
+  pub bytes : image n.bytes t.pending ≡ image m.bytes s.pending
+  pub history : n.history ++ t.pending ≡ m.history ++ s.pending
+  pub stands : (log : Log) → Stands s log → (es : List Happening) × Stands t (record log { events = es }) × (showing t.pending es ≡ showing s.pending log.events)
+  pub room : HasRoomFor t (steady n)
+
+itself : (s : Session) (ws : List Write) → s.pending ≡ ws → 0 < length ws → AfterPiece s ws s
+itself s [] is some = absurd (omega arith)
+itself s (w ∷ ws) is some = ap (λ (ps : List Write). record s { pending = ps }) is
+
+pub shows_first : (s : Session) (m : MemView) → 0 < length s.pending → HasRoomFor s (steady m) → Showing s s m m
+shows_first s m some room = record {
+  session = itself s s.pending refl some;
+  bytes = refl;
+  history = refl;
+  stands = λ log stood. (log.events, stood, refl);
+  room = room;
+}
+
+-- one piece after another
+onward : (s : Session) (w : Write) (ws vs : List Write) (t : Session) → AfterPiece (record s { pending = w ∷ ws }) vs t → AfterPiece s vs t
+onward s w ws [] t after = after
+onward s w ws (v ∷ vs) t after = after
+
+pub after_pending : (s t : Session) (ws : List Write) → AfterPiece s ws t → t.pending ≡ ws
+after_pending s t [] after = ap (λ (x : Session). x.pending) after.1
+after_pending s t (w ∷ ws) after = ap (λ (x : Session). x.pending) after
+
+pub shows_next : (s t u : Session) (m n o : MemView) (w : Write) (ws : List Write) → Showing s t m n → t.pending ≡ w ∷ ws → AfterPiece t ws u → Wrote (w ∷ []) (steady n) (steady o)
+    → ((log : Log) → Stands t log → Stands u (and_now (shows w) log)) → HasRoomFor u (steady o) → Showing s u m o
+shows_next s t u m n o w ws so is after wrote stands room =
+    let left : u.pending ≡ ws = after_pending t u ws after in
+    let there : t ≡ record s { pending = w ∷ ws } = subst (λ (ps : List Write). AfterPiece s ps t) is so.session in
+    record {
+      session = subst (λ (ps : List Write). AfterPiece s ps u) (sym left) (onward s w ws ws u (subst (λ (x : Session). AfterPiece x ws u) there after));
+      bytes =
+          ap (λ (b : List ℕ). image b u.pending) (some_is o.bytes (image n.bytes (w ∷ [])) wrote.bytes)
+          ∙ ap (λ (ps : List Write). image n.bytes (w ∷ ps)) left ∙ ap (image n.bytes) (sym is) ∙ so.bytes;
+      history =
+          ap (λ (hs : List Write). hs ++ u.pending) (some_is o.history (n.history ++ w ∷ []) wrote.history)
+          ∙ append_assoc n.history (w ∷ []) u.pending ∙ ap (λ (ps : List Write). n.history ++ w ∷ ps) left ∙ ap (λ (ps : List Write). n.history ++ ps) (sym is) ∙ so.history;
+      stands = λ log stood.
+          let now = so.stands log stood in (
+            shows w ∷ now.0,
+            stands (record log { events = now.0 }) now.1,
+            ap (λ (ps : List Write). showing ps (shows w ∷ now.0)) left ∙ ap (λ (ps : List Write). showing ps now.0) (sym is) ∙ now.2,
+          );
+      room = room;
+    }
+
+pub shows_done : (s t : Session) (m n : MemView) → Showing s t m n → t.pending ≡ [] → ShowsAll s.pending m n
+shows_done s t m n so none = record {
+  bytes = ap (λ (ps : List Write). image n.bytes ps) (sym none) ∙ so.bytes;
+  history = sym (append-nil n.history) ∙ ap (λ (ps : List Write). n.history ++ ps) (sym none) ∙ so.history;
+}
+
+pub stands_done : (s t : Session) (m n : MemView) → Showing s t m n → t.pending ≡ [] → (log : Log) → Stands s log → Stands t (record log { events = showing s.pending log.events })
+stands_done s t m n so none log stood =
+    let now = so.stands log stood in
+    let all : now.0 ≡ showing s.pending log.events = ap (λ (ps : List Write). showing ps now.0) (sym none) ∙ now.2 in
+    subst (λ (es : List Happening). Stands t (record log { events = es })) all now.1
+
+-- the oldest of some writes
+pub oldest : (w : Write) (ws : List Write) → Some w ≡ slice_get ws 0 → ws ≡ w ∷ drop 1 ws
+oldest w [] none = cc
+oldest w (x ∷ xs) same = ap (λ y. y ∷ xs) (sym (some_is w x same))
+
+pub no_piece : (ws : List Write) → None ≡ slice_get ws 0 → ws ≡ []
+no_piece [] none = refl
+no_piece (w ∷ ws) none = cc
+
+-- ---- The close
+
+low_bit : (flags : ℕ) → cleared flags % 2 ≡ 0
+low_bit flags = omega arith
+
+third_bit : (flags : ℕ) → cleared flags / 4 % 2 ≡ 0
+third_bit flags = omega arith
+
+pub closed_after : (bs : List (List ℤ)) (s t u : Session) (m n o : MemView) → (h : IsAfter bs s m) → Same (steady m) (steady n) → t ≡ closed_of s → ((log : Log) → Stands s log → Stands t log) → AfterPiece t [] u
+    → ShowsAll t.pending n o → ((log : Log) → Stands t log → Stands u (record log { events = showing t.pending log.events })) → IsClosed bs u o
+closed_after bs s t u m n o h same is stands1 after shown stands2 =
+    let facts = all_shown t u after in
+    let w : Write = record { at = 0; piece = super_bytes (closed_root s) } in
+    let pending : t.pending ≡ w ∷ [] = ap (λ (x : Session). x.pending) is in
+    let es : List Happening = shows w ∷ h.log.events in
+    let history : o.history ≡ hist h.log.events ++ w ∷ [] =
+    shown.history ∙ ap (λ (ws : List Write). ws ++ t.pending) (some_is n.history m.history same.history ∙ h.history) ∙ ap (λ (ws : List Write). hist h.log.events ++ ws) pending in
+    record {
+      log = record (h.log) { events = es };
+      stands = subst (λ (ws : List Write). Stands u (record (h.log) { events = showing ws h.log.events })) pending (stands2 h.log (stands1 h.log h.stands));
+      is = ap (λ (l : Log). record l { events = es }) h.is;
+      closed = record { before = h.log.events; batches = h.batches; root = closed_root s; no_write = low_bit s.root.flags; no_swmr = third_bit s.root.flags; is = refl };
+      history = history;
+      bytes =
+          shown.bytes ∙ ap (λ (b : List ℕ). image b t.pending) (some_is n.bytes m.bytes same.bytes ∙ h.bytes) ∙ sym (image-append [] (hist h.log.events) t.pending)
+          ∙ ap (λ (ws : List Write). image [] (hist h.log.events ++ ws)) pending;
+      name = facts.name ∙ ap (λ (x : Session). x.name) is ∙ h.name;
+      stopped = facts.stopped ∙ ap (λ (x : Session). x.stopped) is;
+      committed = ap (λ (x : Session). x.committed) after.1 ∙ ap (λ (x : Session). x.dataset.shape.rows) is ∙ ap (λ (d : Described). d.shape.rows) h.dataset;
+      begun = omega (arith, h.begun, length-append (hist h.log.events) (w ∷ []));
+      limit = facts.limit ∙ ap (λ (x : Session). x.places.limit) is ∙ h.limit;
+    }
+
+-- nothing refuses it
+pub close_taken : (bs : List (List ℤ)) (s : Session) (m : MemView) → IsAfter bs s m → close_refusal s ≡ None
+close_taken bs s m h =
+    ap (λ (b : Bool). close_refusal (record s { stopped = b })) h.going ∙ ap (λ (ws : List Write). close_refusal (record s { stopped = false; pending = ws })) h.pending
+
+-- ---- What is not refused
+
+-- a flush of rows for which there are places, over an image that does not fail, wants memory
+pub only_memory : (s : Session) (e : FlushError) → flush_refusal s ≡ None → (flush_refusal s ≡ Some e) ⊎ (IsSpace e ⊎ ((e ≡ flushes.Failed) ⊎ (e ≡ flushes.OutOfMemory)))
+    → ((full : Full) → e ≡ flushes.Space full → ⊥) → (e ≡ flushes.Failed → ⊥) → e ≡ flushes.OutOfMemory
+only_memory s e none (inl is) space failed = absurd (none_some e (sym none ∙ is))
+only_memory s e none (inr (inl full)) space failed = absurd (space full.0 full.1)
+only_memory s e none (inr (inr (inl is))) space failed = absurd (failed is)
+only_memory s e none (inr (inr (inr is))) space failed = is
