@@ -104,7 +104,7 @@ places_begin false end most t freed = (freed.end, none_of t.free freed.free, fre
 abbrev creating : NewFile → List Write → Bool → Bool → Session
 creating f ws stop keep = record (created f) { pending = ws; stopped = stop; keeps = keep }
 
-no_cells : (d : Described) → [] ≡ cells_of d []
+pub no_cells : (d : Described) → [] ≡ cells_of d []
 unfolding run_bytes
 no_cells d = refl
 

@@ -15,8 +15,8 @@ pub mod BehindLemmas
 pub mod IndexLemmas
 pub mod PlacingLemmas
 pub mod StandLemmas
-pub mod OpenedLemmas
 pub mod CreatingLemmas
+pub mod OpenedLemmas
 pub mod FlushLemmas
 pub mod NextLemmas
 pub mod FlushStands

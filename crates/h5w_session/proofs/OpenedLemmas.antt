@@ -11,19 +11,15 @@ use Rattle.h5w_steps.specs.Logs.{Goes}
 use Rattle.h5w_steps.specs.Moments.{Moment, Represents}
 use Rattle.h5w_steps.proofs.MomentLemmas.{super_parts}
 use Rattle.h5w_steps.proofs.SessionLaws.{goes_runs, opened_goes}
-use Rattle.h5w_chunks.specs.Grids.{cells_of}
 use Rattle.h5w_session.specs.Indexes.{address_in}
 use Rattle.h5w_session.specs.Loads.{end_in, first_end_of}
 use Rattle.h5w_session.specs.Openings.{IsOver, OverLaws, opened_log}
 use Rattle.h5w_session.specs.Past.{HasOpened, IsNew, Past, most_of}
 use Rattle.h5w_session.specs.Sessions.{Session, cutting_of, rows_of}
 use Rattle.h5w_session.specs.Stands.{Running, Stands}
+use Rattle.h5w_session.proofs.CreatingLemmas.{no_cells}
 use Rattle.h5w_session.proofs.IndexLemmas.{clean_marks}
 use Rattle.h5w_session.proofs.StandLemmas.{flagged_stands, goes_rows}
-
-no_cells : (d : Described) → [] ≡ cells_of d []
-unfolding cells_of
-no_cells d = refl
 
 -- the end-of-file address of what was opened
 first_end_is : (img name : List ℕ) (m : Moment) (columns : ℕ) (values : List ℤ) → Represents img name m → first_end_of (opened_log img columns values) ≡ m.super.end
