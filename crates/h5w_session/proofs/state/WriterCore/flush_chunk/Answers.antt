@@ -1,11 +1,14 @@
-use Rattle.std.proofs.Common.{◌≡◌, ℕ, zero, ◌+◌, ◌<◌, ◌∙◌, [], ◌∷◌, List, length, drop, refl, ap, sym, subst, arith}
+use Rattle.std.proofs.Common.{rules, Err, inl, inr, ◌≡◌, ℕ, zero, ◌+◌, ◌<◌, ◌∙◌, [], ◌∷◌, List, length, drop, refl, ap, sym, subst, arith}
 use Rattle.h5w_model.specs.Logs.{div_up}
 use Rattle.h5w_chunks.specs.Grids.{chunk_len, dataset_of}
 use Rattle.h5w_array_laws.specs.ArrayPlans.{IsArrayPlan}
 use Rattle.h5w_session.specs.Sessions.{IsSession, Session, option_list, rows_of}
 use Rattle.h5w_session.specs.Placing.{IsPlacing, first_number}
 use Rattle.h5w_session.proofs.CarriedLemmas.{Carried, carried_flushed, carried_is, carried_pieces, has_rows, lengths_joined, one_at_most, refused_same}
-use Rattle.h5w_session.proofs.TakingLemmas.{filled_cell}
+use Rattle.h5w_session.proofs.TakingLemmas.{filled_cell, on_err}
+use Rattle.h5w_session.proofs.PlacingLemmas.{placing_none}
+use Rattle.h5w_session.proofs.AloneLemmas.{same_space, space_not, space_not_memory}
+use Rattle.h5w_model.specs.declared.piece.Write.{Write}
 use Rattle.h5w_session.proofs.state.WriterCore.flush_chunk.Goals as goal
 
 pub put_chunk-requires-clause-all : goal.put_chunk-requires-clause-all
@@ -277,3 +280,44 @@ returns-clause-ends g c =
       none_waits = c.clear.ensures.items;
     } in
     (carried_pieces v to t w ws r b e x is).within
+
+pub returns-in_err-writes-clause-kept : goal.returns-in_err-writes-clause-kept
+returns-in_err-writes-clause-kept g c =
+    let i = c.self.inside in
+    let v : Session = record {
+      name = i.name;
+      root = i.root;
+      place = i.place;
+      header = i.header;
+      dataset = dataset_of i.grid;
+      places = i.places;
+      committed = i.committed;
+      waiting = i.waiting.items;
+      waits = i.waits;
+      pending = drop i.shown i.plan.items;
+      stopped = i.stopped;
+      keeps = i.keeps;
+      index = i.index;
+    } in
+    let is : IsSession v = c.self.invariant.0 in
+    let none = placing_none v.dataset (rows_of v) v.index v.places v.places is.blocks refl refl refl refl in
+    on_err c.from_residual.result (refused_same v (rows_of v) v.index refl none.partly c.args.self.now c.self.view_is)
+
+pub returns-in_err-writes-clause-full : goal.returns-in_err-writes-clause-full
+returns-in_err-writes-clause-full g c full is =
+    let told : c.from_residual.result ≡ Err c.in_err-writes.field-0.0 = search rules in
+    elim c.in_err-writes.ensures.causes [
+      | inl failed ↦ absurd (space_not (same_space full c.in_err-writes.field-0.0 c.from_residual.result is told ∙ failed))
+      | inr memory ↦ absurd (space_not_memory (same_space full c.in_err-writes.field-0.0 c.from_residual.result is told ∙ memory))
+    ]
+
+pub returns-clause-room : goal.returns-clause-room
+returns-clause-room g c =
+    let rows = c.in_ok-writes.writes.items in
+    let supers = option_list c.raise-superblock.result in
+    let header : Write = record { at = c.self.inside.place; piece = c.raise_rows-piece.result } in
+    let long = ap length c.end_with.ensures.items ∙ lengths_joined rows [] [] supers header in
+    record {
+      pieces = omega (arith, long, one_at_most c.raise-superblock.result, c.in_ok-writes.ensures.pieces, c.in_ok-writes.writes.ok);
+      end = omega (arith, c.in_ok-writes.ensures.end, c.end-end.ensures);
+    }
