@@ -5,13 +5,14 @@ use Rattle.h5w_array_laws.proofs.FixedLemmas.{fixed_after, fixed_writes, off_wri
 use Rattle.h5w_array_laws.proofs.FreshLemmas.{end_rises, plan_disjoint, plan_ends, plan_live, plan_off_live, plan_off_retired}
 use Rattle.h5w_array_laws.proofs.MapLemmas.{map_stays}
 use Rattle.h5w_array_laws.proofs.PlanLemmas.{all_clean}
-use Rattle.h5w_array_laws.proofs.PlannedLemmas.{array_after}
+use Rattle.h5w_array_laws.proofs.PlannedLemmas.{array_after, headed_after}
 
 pub plans_array : PlansArray
 plans_array v s ms cs fs w t a p keeps = record {
   plan = p;
   keeps = keeps;
   array = array_after v s ms cs fs w t p a;
+  headed = headed_after v s ms cs fs w t p a;
   clean = all_clean v s ms cs fs w t p;
   map = map_stays v s ms cs fs w t p a;
   stay = fixed_after v s ms cs fs w t p a;

@@ -20,7 +20,7 @@ use Rattle.h5w_steps.proofs.PartLemmas.{at_most_one, counted_one, counted_else}
 use Rattle.h5w_array_laws.specs.Parts.{Part, index_block, number_of, length_of, visit_order}
 use Rattle.h5w_array_laws.specs.Among.{AreAmong}
 use Rattle.h5w_array_laws.specs.ArrayPlans.{fresh}
-use Rattle.h5w_array_laws.specs.ArrayStores.{IsArray, IsBlock, block_at_part, place_at_part, header_place, chunks_in, slots_in, own_range, ranges_of, behind_of}
+use Rattle.h5w_array_laws.specs.ArrayStores.{IsArray, IsBlock, block_at_part, place_at_part, chunks_in, slots_in, own_range, ranges_of, behind_of}
 use Rattle.h5w_array_laws.proofs.AmongLemmas.{part_itself, part_onward, part_right, part_joined, part_more, each-among}
 use Rattle.h5w_array_laws.proofs.StoreLemmas.{no_move, move_at, new_at, changed_moved}
 use Rattle.h5w_array_laws.proofs.KeptLemmas.{is_some_of, of_some}
@@ -103,7 +103,7 @@ module _ (v : Store) (s : Space) (ms : List Move) (cs fs : List Write) (w : Stor
           let m : Move = get_or ms f.0 no_move in
           let at = move_at v s ms cs fs w t p f.0 f.1 in
           let c = is_some_of (block_of v (number_of k)) (a.kept (number_of k) e) in
-          let known : IsBlock (header_place v) k c.0 = of_some (IsBlock (header_place v) k) (block_at_part v k) c.0 c.1 (a.each k copied.part) in
+          let known : IsBlock k c.0 = of_some (IsBlock k) (block_at_part v k) c.0 c.1 (a.each k copied.part) in
           let here : block_of v m.number ≡ Some c.0 = ap (block_of v) f.2 ∙ c.1 in
           let moves : m.in_place ≡ false = someAnd_of (λ (x : BlockView). m.in_place ≡ x.in_place) (block_of v m.number) c.0 here at.step.in_place ∙ known.in_place ∙ copied.moves in
           let len : m.len ≡ length_of k = at.step.len ∙ ap (λ o. length (bytes_of o)) here ∙ known.len in

@@ -1,9 +1,9 @@
 -- An array without chunks: it is one, and stands where its two blocks were written.
-use Rattle.std.proofs.Common.{◌≡◌, ◌≢◌, ◌⊎◌, ℕ, zero, suc, ◌+◌, ◌*◌, ◌^◌, ◌<◌, true, false, cond, List, [], ◌∷◌, ◌++◌, length, length-append, append_assoc, take, drop, get_or, replicate, Ok, refl, sym, ap, ◌∙◌, subst, inl, inr, arith}
+use Rattle.std.proofs.Common.{◌≡◌, ◌≢◌, ◌⊎◌, ℕ, zero, suc, ◌+◌, ◌*◌, ◌^◌, ◌<◌, true, false, cond, List, [], ◌∷◌, ◌++◌, length, length-append, append_assoc, take, get_or, replicate, Ok, refl, sym, ap, ◌∙◌, subst, inl, inr, arith}
 use Rattle.std.specs.Prelude.{Some, None, IsSome, IfSome, is_some, nat_lt, flat_map, codes}
 use Rattle.std.specs.List.{All, AllByRecursion, sum_by}
 use Rattle.std.proofs.lemmas.Bool.{cases_eq, cases_Bool, ltb-true}
-use Rattle.std.proofs.lemmas.List.{get_or-replicate, take_at, drop_at}
+use Rattle.std.proofs.lemmas.List.{get_or-replicate, take_at}
 use Rattle.std.proofs.lemmas.List.Elements.{All-nil, All-cons}
 use Rattle.std.proofs.lemmas.List.Sums.{sum_by-cons}
 use Rattle.h5w_model.specs.Numbers.{le, range, field, undefined}
@@ -20,12 +20,12 @@ use Rattle.h5w_cache.specs.Blocks.{BlockView}
 use Rattle.h5w_cache.specs.Stores.{Store, block_of, place_of, is_changed}
 use Rattle.h5w_cache.specs.Plans.{bytes_in, bytes_of}
 use Rattle.h5w_cache.specs.StoreLaws.{AreThere}
-use Rattle.h5w_array_laws.specs.Parts.{Part, data_of, secondary_of, index_block, header, IsPart, number_of, children, parent, stays_in_place, holder, slot_offset, slot_count, slots_from, visit_order}
-use Rattle.h5w_array_laws.specs.ArrayStores.{IsArray, IsBlock, IsWhole, IsCreated, IsNumbered, Names, address_in, behind_of, block_at_part, place_at_part, bytes_at_part, header_place, chunks_in, created_header, created_index, map_of, one_data, one_secondary, data_bytes, secondary_bytes, ranges_of, slots_in, total}
+use Rattle.h5w_array_laws.specs.Parts.{Part, data_of, secondary_of, index_block, header, IsPart, number_of, children, parent, sign_of, stays_in_place, holder, slot_offset, slot_count, slots_from, visit_order}
+use Rattle.h5w_array_laws.specs.ArrayStores.{HasHead, IsArray, IsBlock, IsHeaded, IsWhole, IsCreated, IsNumbered, Names, address_in, behind_of, block_at_part, place_at_part, bytes_at_part, header_place, chunks_in, created_header, created_index, map_of, one_data, one_secondary, data_bytes, secondary_bytes, ranges_of, slots_in, total}
 use Rattle.h5w_array_laws.specs.ArrayImages.{CreatedStands, CreatedStarts}
 use Rattle.h5w_array_laws.proofs.BlockLemmas.{header_head}
 use Rattle.h5w_array_laws.proofs.NumberLemmas.{numbers_in-get}
-use Rattle.h5w_array_laws.proofs.KeptLemmas.{none_is, some_is, unchanged}
+use Rattle.h5w_array_laws.proofs.KeptLemmas.{begins_shorter, none_is, some_is, unchanged}
 use Rattle.h5w_array_laws.proofs.ReadLemmas.{numbers_in-parts, flat_map-none, ranges_none}
 use Rattle.h5w_array_laws.proofs.VisitedLemmas.{few_blocks}
 use Rattle.h5w_array_laws.proofs.SpelledLemmas.{IsChild, children_known}
@@ -115,7 +115,6 @@ index_front at =
 -- the addresses in the index block: 15 up to super block 12, and 16 beyond
 pub record NamesNone (b : List ℕ) : Type 0 where
   pub near : numbers_in b 15 46 ≡ replicate 15 undefined
-  pub beyond : numbers_in b 16 166 ≡ replicate 16 undefined
   pub slots : numbers_in b 4 14 ≡ replicate 4 undefined
 
 pub index_none : (at : ℕ) → at < 2 ^ 64 → NamesNone (eaib_bytes (new_index at))
@@ -127,7 +126,6 @@ index_none at h =
     let nine : numbers_in b 9 94 ≡ replicate 9 undefined = sym (take_at (numbers_in b 9 94) (numbers_in b 16 166) 9 (length-numbers_in b 9 94)) ∙ ap (take 9) second in
     record {
       near = numbers_in-parts b 6 9 46 ∙ ap (λ l. l ++ numbers_in b 9 94) first ∙ ap (λ l. replicate 6 undefined ++ l) nine;
-      beyond = sym (drop_at (numbers_in b 9 94) (numbers_in b 16 166) 9 (length-numbers_in b 9 94)) ∙ ap (drop 9) second;
       slots = ap (λ (e : EaibFields). e.slots) is;
     }
 
@@ -143,9 +141,6 @@ none_counted v weight (k ∷ ks) h =
 module _ (at place : ℕ) (v : Store) (c : IsCreated at place v) (low : at < undefined) (lower : place < undefined) where
   pub header_bytes_are : bytes_at_part v header ≡ eahd_bytes (new_header place)
   header_bytes_are = ap bytes_of c.has_header
-
-  pub index_bytes_are : bytes_at_part v index_block ≡ eaib_bytes (new_index at)
-  index_bytes_are = ap bytes_of c.has_index
 
   -- all other parts are nowhere
   pub data_none : (s n : ℕ) → IsPart (data_of s n) → (block_at_part v (data_of s n) ≡ None) × (place_at_part v (data_of s n) ≡ undefined)
@@ -182,18 +177,18 @@ module _ (at place : ℕ) (v : Store) (c : IsCreated at place v) (low : at < und
       one index_block x = absurd cc
       one header x = absurd cc
 
-  pub index_is_block : IsBlock (header_place v) index_block (created_index at)
-  index_is_block = subst (λ q. IsBlock q index_block (created_index at)) (sym c.header_at) (record {
+  pub index_is_block : IsBlock index_block (created_index at)
+  index_is_block = record {
     len = index_size at;
     links = refl;
     turn = refl;
     in_place = refl;
     sealed = refl;
-    head = index_front at;
-  })
+    signed = begins_shorter (sign_of index_block) (le 8 at) (eaib_bytes (new_index at)) (index_front at);
+  }
 
-  pub header_is_block : IsBlock (header_place v) header (created_header place)
-  header_is_block = record { len = header_size place; links = refl; turn = refl; in_place = refl; sealed = refl; head = refl }
+  pub header_is_block : IsBlock header (created_header place)
+  header_is_block = record { len = header_size place; links = refl; turn = refl; in_place = refl; sealed = refl; signed = refl }
 
   pub index_names_none : Names v index_block (created_index at)
   index_names_none =
@@ -256,7 +251,7 @@ module _ (at place : ℕ) (v : Store) (c : IsCreated at place v) (low : at < und
     each_place = c.each_place;
     below = places_below;
     known = kept_known;
-    each = of_parts (λ k. IsBlock (header_place v) k) index_is_block header_is_block;
+    each = of_parts (λ k. IsBlock k) index_is_block header_is_block;
     names = of_parts (Names v) index_names_none header_names;
     in_place = λ k is stay. both_kept k stay;
     held = parent_kept;
@@ -265,8 +260,10 @@ module _ (at place : ℕ) (v : Store) (c : IsCreated at place v) (low : at < und
     kept = λ n h. absurd (never_changed n h);
     together = λ h. absurd (never_changed 846 h);
     whole = λ k is h. of_parts (IsWhole v) index_whole header_whole k is;
-    none_beyond = ap (λ b. numbers_in b 16 166) index_bytes_are ∙ (index_none at (omega arith)).beyond;
   }
+
+  pub created_headed : IsHeaded v
+  created_headed = of_parts (λ k b. HasHead (header_place v) k b) (subst (λ q. HasHead q index_block (created_index at)) (sym c.header_at) (index_front at)) refl
 
   -- ---- What it starts with
 
@@ -322,6 +319,7 @@ module _ (at place : ℕ) (v : Store) (c : IsCreated at place v) (low : at < und
 pub created_starts : CreatedStarts
 created_starts at place v c low lower = record {
   array = created_array at place v c low lower;
+  headed = created_headed at place v c low lower;
   numbered = created_numbered at place v c low lower;
   map = map_none at place v c low lower;
   behind = behind_none at place v c low lower;

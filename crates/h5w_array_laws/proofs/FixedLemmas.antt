@@ -109,7 +109,7 @@ module _ (v : Store) (s : Space) (ms : List Move) (cs fs : List Write) (w : Stor
       let m : Move = get_or ms i no_move in
       let at = move_at v s ms cs fs w t p i lt in
       let b = is_some_of (block_at_part v k) (a.in_place k is stay).0 in
-      let known = of_some (IsBlock (header_place v) k) (block_at_part v k) b.0 b.1 (a.each k is) in
+      let known = of_some (IsBlock k) (block_at_part v k) b.0 b.1 (a.each k is) in
       someAnd_of (λ (x : BlockView). m.in_place ≡ x.in_place) (block_of v m.number) b.0 (ap (block_of v) e ∙ b.1) at.step.in_place ∙ known.in_place ∙ stay
 
   -- no block in place is moved before the split

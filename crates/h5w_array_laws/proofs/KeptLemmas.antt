@@ -2,15 +2,15 @@
 use Rattle.std.proofs.Common.{◌≡◌, ◌⊎◌, ℕ, true, false, List, [], ◌++◌, length, take, refl, sym, ap, ◌∙◌, subst, inl, inr, arith, length-append}
 use Rattle.std.specs.Prelude.{Option, Some, None, IsSome, IfSome, is_some}
 use Rattle.std.proofs.lemmas.List.{take-take, take_at}
-use Rattle.h5w_model.specs.Numbers.{le, undefined}
+use Rattle.h5w_model.specs.Numbers.{undefined}
 use Rattle.h5w_model.specs.Arrays.{super_block_of, slots_len, eahd_len, eaib_len}
 use Rattle.h5w_model.specs.Images.{At}
 use Rattle.h5w_cache.specs.Blocks.{BlockView}
 use Rattle.h5w_cache.specs.Stores.{Store, is_changed, is_listed}
 use Rattle.h5w_cache.specs.Plans.{bytes_of}
 use Rattle.h5w_cache.specs.StoreLaws.{IsPlaced}
-use Rattle.h5w_array_laws.specs.Parts.{Part, data_of, secondary_of, index_block, header, IsPart, number_of, length_of, head_of, offset_of, stays_in_place}
-use Rattle.h5w_array_laws.specs.ArrayStores.{IsArray, IsBlock, IsWhole, Names, block_at_part, place_at_part, bytes_at_part, header_place}
+use Rattle.h5w_array_laws.specs.Parts.{Part, data_of, secondary_of, index_block, header, IsPart, number_of, length_of, sign_of, stays_in_place}
+use Rattle.h5w_array_laws.specs.ArrayStores.{IsArray, IsBlock, IsWhole, Names, block_at_part, place_at_part, bytes_at_part}
 use Rattle.h5w_array_laws.proofs.BlockLemmas.{IsSealed, data_head, secondary_head, index_head, header_head}
 use Rattle.h5w_array_laws.proofs.VisitLemmas.{IsThere}
 
@@ -36,7 +36,7 @@ is_some_of (Some x) h = (x, refl)
 -- a block of an array that is kept, and did not change since it was written
 pub record IsKept (v : Store) (k : Part) (b : BlockView) : Type 0 where
   pub kept : block_at_part v k ≡ Some b
-  pub block : IsBlock (header_place v) k b
+  pub block : IsBlock k b
   pub names : Names v k b
   pub whole : IsWhole v k b
 
@@ -47,7 +47,7 @@ unchanged v e n = ap (λ l. is_listed n l) e
 pub kept_as : (v : Store) → IsArray v → (k : Part) → IsPart k → is_changed v (number_of k) ≡ false → (b : BlockView) → block_at_part v k ≡ Some b → IsKept v k b
 kept_as v a k is clean b e = record {
   kept = e;
-  block = of_some (IsBlock (header_place v) k) (block_at_part v k) b e (a.each k is);
+  block = of_some (IsBlock k) (block_at_part v k) b e (a.each k is);
   names = of_some (Names v k) (block_at_part v k) b e (a.names k is);
   whole = of_some (IsWhole v k) (block_at_part v k) b e (a.whole k is clean);
 }
@@ -83,24 +83,20 @@ begins_shorter front rest b h =
     ∙ ap (take (length front)) h
     ∙ take_at front rest (length front) refl
 
-pub sealed_as : (v : Store) (k : Part) (b : BlockView) (front rest : List ℕ) → IsKept v k b → head_of (header_place v) k ≡ front ++ rest → IsSealed front (length_of k) b.bytes
-sealed_as v k b front rest h e = record {
-  long = h.block.len;
-  begins = begins_shorter front rest b.bytes (subst (λ l. take (length l) b.bytes ≡ l) e h.block.head);
-  sealed = h.whole.sealed;
-}
+pub sealed_as : (v : Store) (k : Part) (b : BlockView) → IsKept v k b → IsSealed (sign_of k) (length_of k) b.bytes
+sealed_as v k b h = record { long = h.block.len; begins = h.block.signed; sealed = h.whole.sealed }
 
 pub data_sealed : (v : Store) (s n : ℕ) (b : BlockView) → IsKept v (data_of s n) b → IsSealed data_head (slots_len (super_block_of s).slots) b.bytes
-data_sealed v s n b h = sealed_as v (data_of s n) b data_head (le 8 (header_place v) ++ le 4 (offset_of (data_of s n))) h refl
+data_sealed v s n b h = sealed_as v (data_of s n) b h
 
 pub secondary_sealed : (v : Store) (s : ℕ) (b : BlockView) → IsKept v (secondary_of s) b → IsSealed secondary_head (slots_len (super_block_of s).blocks) b.bytes
-secondary_sealed v s b h = sealed_as v (secondary_of s) b secondary_head (le 8 (header_place v) ++ le 4 (offset_of (secondary_of s))) h refl
+secondary_sealed v s b h = sealed_as v (secondary_of s) b h
 
 pub index_sealed : (v : Store) (b : BlockView) → IsKept v index_block b → IsSealed index_head eaib_len b.bytes
-index_sealed v b h = sealed_as v index_block b index_head (le 8 (header_place v)) h refl
+index_sealed v b h = sealed_as v index_block b h
 
 pub header_sealed : (v : Store) (b : BlockView) → IsKept v header b → IsSealed header_head eahd_len b.bytes
-header_sealed v b h = record { long = h.block.len; begins = h.block.head; sealed = h.whole.sealed }
+header_sealed v b h = sealed_as v header b h
 
 -- it stands on the image
 pub kept_there : (v : Store) (img : List ℕ) (k : Part) (b : BlockView) (front : List ℕ) (len : ℕ) → IsKept v k b → IsSealed front len b.bytes → At img (place_at_part v k) (bytes_at_part v k)

@@ -15,7 +15,7 @@ use Rattle.h5w_cache.specs.Plans.{IsPlan}
 use Rattle.h5w_cache.specs.declared.block.Link.{Link}
 use Rattle.h5w_cache.specs.declared.moves.Move.{Move}
 use Rattle.h5w_array_laws.specs.Parts.{Part, data_of, secondary_of, index_block, header, IsPart, number_of, length_of, children, names_from, links_from, slot_count, slots_from, holder, slot_offset}
-use Rattle.h5w_array_laws.specs.ArrayStores.{IsArray, IsBlock, block_at_part, header_place, address_in, map_of, slots_in}
+use Rattle.h5w_array_laws.specs.ArrayStores.{IsArray, IsBlock, block_at_part, address_in, map_of, slots_in}
 use Rattle.h5w_array_laws.proofs.NumberLemmas.{numbers_in-same}
 use Rattle.h5w_array_laws.proofs.LinkLemmas.{AreBeside}
 use Rattle.h5w_array_laws.proofs.StoreLemmas.{kept_after}
@@ -68,11 +68,11 @@ module _ (v : Store) (s : Space) (ms : List Move) (cs fs : List Write) (w : Stor
   pub bytes_stay : (k : Part) → IsPart k → (b c : BlockView) → block_at_part v k ≡ Some b → block_at_part w k ≡ Some c → (from n : ℕ) → AreBeside (links_from (names_from k) (children k)) from n → from + n + 4 ≤ length_of k
       → range c.bytes from n ≡ range b.bytes from n
   bytes_stay k is b c e f from n beside low =
-      let was : IsBlock (header_place v) k b = of_some (IsBlock (header_place v) k) (block_at_part v k) b e (a.each k is) in
+      let was : IsBlock k b = of_some (IsBlock k) (block_at_part v k) b e (a.each k is) in
       elim (cases_lt 0 (times (number_of k) v.changed)) [
         | inl some ↦
             ap (λ (x : BlockView). range x.bytes from n) (sym (changed_spelled v s ms cs fs w t p a (number_of k) b c e f some))
-            ∙ spelled_range (place_in w.places) (header_place v) k b was from n beside low
+            ∙ spelled_range (place_in w.places) k b was from n beside low
         | inr none ↦ ap (λ (x : BlockView). range x.bytes from n) (sym (clean_same v s ms cs fs w t p a (number_of k) b c e f (omega arith)))
       ]
 

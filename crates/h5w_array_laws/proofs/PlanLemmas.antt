@@ -30,10 +30,10 @@ use Rattle.h5w_array_laws.proofs.StandLemmas.{header_fits, header_placed, index_
 
 -- ---- Turns
 
-pub block_known : (v : Store) → IsArray v → (n : ℕ) (b : BlockView) → block_of v n ≡ Some b → (k : Part) × IsPart k × (number_of k ≡ n) × IsBlock (header_place v) k b
+pub block_known : (v : Store) → IsArray v → (n : ℕ) (b : BlockView) → block_of v n ≡ Some b → (k : Part) × IsPart k × (number_of k ≡ n) × IsBlock k b
 block_known v a n b e =
     let k = a.known n (some_is (block_of v n) b e) in
-    (k.0, k.1, k.2, of_some (IsBlock (header_place v) k.0) (block_at_part v k.0) b (ap (block_of v) k.2 ∙ e) (a.each k.0 k.1))
+    (k.0, k.1, k.2, of_some (IsBlock k.0) (block_at_part v k.0) b (ap (block_of v) k.2 ∙ e) (a.each k.0 k.1))
 
 pub turn_is : (v : Store) → IsArray v → (n : ℕ) → IsSome (block_of v n) → turn_in v.blocks n ≡ n
 turn_is v a n h =
@@ -113,7 +113,7 @@ place_stays v s ms cs fs w t p a k is stay = go (cases_lt 0 (times (number_of k)
         let m : Move = get_or ms f.0 no_move in
         let at = move_at v s ms cs fs w t p f.0 f.1 in
         let b = is_some_of (block_at_part v k) (a.in_place k is stay).0 in
-        let known = of_some (IsBlock (header_place v) k) (block_at_part v k) b.0 b.1 (a.each k is) in
+        let known = of_some (IsBlock k) (block_at_part v k) b.0 b.1 (a.each k is) in
         let here : block_of v m.number ≡ Some b.0 = ap (block_of v) f.2 ∙ b.1 in
         let same : m.in_place ≡ b.0.in_place = someAnd_of (λ (x : BlockView). m.in_place ≡ x.in_place) (block_of v m.number) b.0 here at.step.in_place in
         let old : m.old ≡ place_at_part v k = at.step.old ∙ ap (place_of v) f.2 in

@@ -1,27 +1,26 @@
 -- A store of an array is one after a plan.
-use Rattle.std.proofs.Common.{◌≡◌, ◌⊎◌, ℕ, ◌^◌, ◌<◌, ◌≤◌, true, false, List, [], ◌∷◌, length, get_or, replicate, refl, sym, ap, ◌∙◌, subst, inl, inr, arith}
+use Rattle.std.proofs.Common.{◌≡◌, ◌⊎◌, ℕ, ◌^◌, ◌<◌, ◌≤◌, true, false, List, [], ◌∷◌, length, get_or, refl, sym, ap, ◌∙◌, subst, inl, inr, arith}
 use Rattle.std.specs.Prelude.{Option, Some, None, IfSome, map}
 use Rattle.std.specs.Option.{option_map}
 use Rattle.std.specs.List.{AllByRecursion}
 use Rattle.std.proofs.lemmas.Bool.{cases_lt, cases_Bool, ltb-false, le-ltb, ltb-true}
 use Rattle.h5w_model.specs.Numbers.{undefined}
 use Rattle.h5w_model.specs.Checksum.{is_sealed}
-use Rattle.h5w_model.specs.Arrays.{numbers_in}
 use Rattle.h5w_model.specs.declared.piece.Write.{Write}
 use Rattle.h5w_space.specs.Space.{Space}
 use Rattle.h5w_cache.specs.Blocks.{BlockView, spelled}
 use Rattle.h5w_cache.specs.Stores.{Store, block_of, place_of, place_in, times, is_changed}
-use Rattle.h5w_cache.specs.Plans.{IsPlan, bytes_of, moved, stays}
+use Rattle.h5w_cache.specs.Plans.{IsPlan, moved, stays}
 use Rattle.h5w_cache.specs.declared.moves.Move.{Move}
 use Rattle.h5w_cache.proofs.MoveLemmas.{stayed_of}
 use Rattle.h5w_cache.proofs.PlannedLemmas.{length-moved, length-respelled}
 use Rattle.h5w_cache.proofs.LawLemmas.{others_kept, each_spelled}
-use Rattle.h5w_array_laws.specs.Parts.{Part, index_block, header, IsPart, number_of, children, parent}
-use Rattle.h5w_array_laws.specs.ArrayStores.{IsArray, IsBlock, IsWhole, Names, block_at_part, place_at_part, bytes_at_part, header_place}
+use Rattle.h5w_array_laws.specs.Parts.{Part, header, IsPart, number_of, children, parent}
+use Rattle.h5w_array_laws.specs.ArrayStores.{HasHead, IsArray, IsBlock, IsHeaded, IsWhole, Names, block_at_part, place_at_part, header_place}
 use Rattle.h5w_array_laws.proofs.StoreLemmas.{no_move, move_at, new_at, kept_before, kept_after, changed_moved, changed_placed}
 use Rattle.h5w_array_laws.proofs.KeptLemmas.{some_or_none, of_some, some_is, is_some_of, none_is, unchanged}
 use Rattle.h5w_array_laws.proofs.PlanLemmas.{place_stays, all_clean}
-use Rattle.h5w_array_laws.proofs.SpelledLemmas.{MayName, IsChild, children_known, spelled_block, spelled_names, spelled_sealed, spelled_numbers_back}
+use Rattle.h5w_array_laws.proofs.SpelledLemmas.{MayName, IsChild, children_known, spelled_block, spelled_head, spelled_names, spelled_sealed}
 
 -- ---- Whether a block changed
 
@@ -93,16 +92,15 @@ module _ (v : Store) (s : Space) (ms : List Move) (cs fs : List Write) (w : Stor
 
   -- ---- Each block
 
-  pub block_after : (k : Part) → IsPart k → (c : BlockView) → block_at_part w k ≡ Some c → IsBlock (header_place w) k c
+  pub block_after : (k : Part) → IsPart k → (c : BlockView) → block_at_part w k ≡ Some c → IsBlock k c
   block_after k is c e =
       let n : ℕ = number_of k in
       let b = block_before n c e in
-      let was : IsBlock (header_place v) k b.0 = of_some (IsBlock (header_place v) k) (block_at_part v k) b.0 b.1 (a.each k is) in
-      subst (λ at. IsBlock at k c) (sym top_stays)
-      (elim (cases_lt 0 (times n v.changed)) [
-        | inl some ↦ subst (λ x. IsBlock (header_place v) k x) (changed_spelled n b.0 c b.1 e some) (spelled_block (place_in w.places) (header_place v) k b.0 was)
-        | inr none ↦ subst (λ x. IsBlock (header_place v) k x) (clean_same n b.0 c b.1 e (omega arith)) was
-      ])
+      let was : IsBlock k b.0 = of_some (IsBlock k) (block_at_part v k) b.0 b.1 (a.each k is) in
+      elim (cases_lt 0 (times n v.changed)) [
+        | inl some ↦ subst (λ x. IsBlock k x) (changed_spelled n b.0 c b.1 e some) (spelled_block (place_in w.places) k b.0 was)
+        | inr none ↦ subst (λ x. IsBlock k x) (clean_same n b.0 c b.1 e (omega arith)) was
+      ]
 
   -- what a block that did not change names did not change
   pub children_clean : (k : Part) → IsPart k → times (number_of k) v.changed ≡ 0 → AllByRecursion (λ c. place_at_part v c ≡ place_at_part w c) (children k)
@@ -125,12 +123,12 @@ module _ (v : Store) (s : Space) (ms : List Move) (cs fs : List Write) (w : Stor
   names_after k is c e =
       let n : ℕ = number_of k in
       let b = block_before n c e in
-      let was : IsBlock (header_place v) k b.0 = of_some (IsBlock (header_place v) k) (block_at_part v k) b.0 b.1 (a.each k is) in
+      let was : IsBlock k b.0 = of_some (IsBlock k) (block_at_part v k) b.0 b.1 (a.each k is) in
       let named : Names v k b.0 = of_some (Names v k) (block_at_part v k) b.0 b.1 (a.names k is) in
       elim (cases_lt 0 (times n v.changed)) [
         | inl some ↦
             subst (λ x. Names w k x) (changed_spelled n b.0 c b.1 e some)
-            (spelled_names (place_in w.places) (header_place v) k b.0 was (place_at_part v) (children_may k is) named)
+            (spelled_names (place_in w.places) k b.0 was (place_at_part v) (children_may k is) named)
         | inr none ↦
             subst (λ x. Names w k x) (clean_same n b.0 c b.1 e (omega arith))
             (named ∙ map_same (place_at_part v) (place_at_part w) (children k) (children_clean k is (omega arith)))
@@ -140,11 +138,11 @@ module _ (v : Store) (s : Space) (ms : List Move) (cs fs : List Write) (w : Stor
   whole_after k is c e =
       let n : ℕ = number_of k in
       let b = block_before n c e in
-      let was : IsBlock (header_place v) k b.0 = of_some (IsBlock (header_place v) k) (block_at_part v k) b.0 b.1 (a.each k is) in
+      let was : IsBlock k b.0 = of_some (IsBlock k) (block_at_part v k) b.0 b.1 (a.each k is) in
       elim (cases_lt 0 (times n v.changed)) [
         | inl some ↦ record {
           placed = (changed_placed v s ms cs fs w t p n some).placed;
-          sealed = subst (λ x. is_sealed x.bytes ≡ true) (changed_spelled n b.0 c b.1 e some) (spelled_sealed (place_in w.places) (header_place v) k b.0 was);
+          sealed = subst (λ x. is_sealed x.bytes ≡ true) (changed_spelled n b.0 c b.1 e some) (spelled_sealed (place_in w.places) k b.0 was);
         }
         | inr none ↦
             let clean : times n v.changed ≡ 0 = omega arith in
@@ -155,19 +153,19 @@ module _ (v : Store) (s : Space) (ms : List Move) (cs fs : List Write) (w : Stor
             }
       ]
 
-  pub beyond_after : numbers_in (bytes_at_part w index_block) 16 166 ≡ replicate 16 undefined
-  beyond_after =
-      let c = is_some_of (block_at_part w index_block) (kept_after v s ms cs fs w t p 845 (a.in_place index_block tt refl).0) in
-      let b = block_before 845 c.0 c.1 in
-      let was : IsBlock (header_place v) index_block b.0 = of_some (IsBlock (header_place v) index_block) (block_at_part v index_block) b.0 b.1 (a.each index_block tt) in
-      let none : numbers_in b.0.bytes 16 166 ≡ replicate 16 undefined = ap (λ o. numbers_in (bytes_of o) 16 166) (sym b.1) ∙ a.none_beyond in
-      ap (λ o. numbers_in (bytes_of o) 16 166) c.1
-      ∙ elim (cases_lt 0 (times 845 v.changed)) as (λ _. numbers_in c.0.bytes 16 166 ≡ replicate 16 undefined) [
-        | inl some ↦
-            ap (λ x. numbers_in x.bytes 16 166) (sym (changed_spelled 845 b.0 c.0 b.1 c.1 some))
-            ∙ spelled_numbers_back (place_in w.places) (header_place v) index_block b.0 was 16 166 (omega arith) (omega arith) ∙ none
-        | inr never ↦ ap (λ x. numbers_in x.bytes 16 166) (sym (clean_same 845 b.0 c.0 b.1 c.1 (omega arith))) ∙ none
-      ]
+  -- ---- Heads
+
+  pub head_after : IsHeaded v → (k : Part) → IsPart k → (c : BlockView) → block_at_part w k ≡ Some c → HasHead (header_place w) k c
+  head_after h k is c e =
+      let n : ℕ = number_of k in
+      let b = block_before n c e in
+      let known : IsBlock k b.0 = of_some (IsBlock k) (block_at_part v k) b.0 b.1 (a.each k is) in
+      let was : HasHead (header_place v) k b.0 = of_some (HasHead (header_place v) k) (block_at_part v k) b.0 b.1 (h k is) in
+      subst (λ q. HasHead q k c) (sym top_stays)
+      (elim (cases_lt 0 (times n v.changed)) [
+        | inl some ↦ subst (λ x. HasHead (header_place v) k x) (changed_spelled n b.0 c b.1 e some) (spelled_head (place_in w.places) k b.0 known (header_place v) was)
+        | inr none ↦ subst (λ x. HasHead (header_place v) k x) (clean_same n b.0 c b.1 e (omega arith)) was
+      ])
 
   -- ---- The store
 
@@ -191,7 +189,7 @@ module _ (v : Store) (s : Space) (ms : List Move) (cs fs : List Write) (w : Stor
     each_place = ap (λ (q : Store). length q.places) p.store ∙ length-moved ms v.places ∙ a.each_place;
     below = place_below;
     known = λ n h. a.known n (kept_before v s ms cs fs w t p n h);
-    each = λ k is. if_some (block_at_part w k) (IsBlock (header_place w) k) (block_after k is);
+    each = λ k is. if_some (block_at_part w k) (IsBlock k) (block_after k is);
     names = λ k is. if_some (block_at_part w k) (Names w k) (names_after k is);
     in_place = λ k is stay. (
       kept_after v s ms cs fs w t p (number_of k) (a.in_place k is stay).0,
@@ -209,5 +207,7 @@ module _ (v : Store) (s : Space) (ms : List Move) (cs fs : List Write) (w : Stor
     kept = λ n h. absurd (never n h);
     together = λ h. absurd (never 846 h);
     whole = λ k is h. if_some (block_at_part w k) (IsWhole w k) (whole_after k is);
-    none_beyond = beyond_after;
   }
+
+  pub headed_after : IsHeaded v → IsHeaded w
+  headed_after h k is = if_some (block_at_part w k) (HasHead (header_place w) k) (head_after h k is)

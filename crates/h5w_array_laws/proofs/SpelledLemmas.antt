@@ -11,8 +11,8 @@ use Rattle.h5w_model.specs.Arrays.{numbers_in}
 use Rattle.h5w_model.proofs.NumberLemmas.{length-le}
 use Rattle.h5w_cache.specs.Blocks.{BlockView, AreInside, linked, patched, sealed_front, spelled}
 use Rattle.h5w_cache.specs.declared.block.Link.{Link}
-use Rattle.h5w_array_laws.specs.Parts.{Part, data_of, secondary_of, index_block, header, IsPart, number_of, length_of, children, names_from, links_from, parent, head_of, offset_of, first_parts, second_parts}
-use Rattle.h5w_array_laws.specs.ArrayStores.{IsBlock}
+use Rattle.h5w_array_laws.specs.Parts.{Part, data_of, secondary_of, index_block, header, IsPart, number_of, length_of, children, names_from, links_from, parent, head_of, sign_of, offset_of, first_parts, second_parts}
+use Rattle.h5w_array_laws.specs.ArrayStores.{HasHead, IsBlock}
 use Rattle.h5w_array_laws.proofs.NumberLemmas.{numbers_in-same, field-with_number, length-sealed_front, is_sealed-sealed_front, range-sealed_front}
 use Rattle.h5w_array_laws.proofs.LinkLemmas.{AreBeside, inside, linked-none, linked-some, length-linked, range-linked, length-patched, range-patched}
 use Rattle.h5w_array_laws.proofs.ReadLemmas.{all_data}
@@ -80,9 +80,15 @@ head_before at (secondary_of s) = omega (arith, length-append (le 8 at) (le 4 (o
 head_before at index_block = omega (arith, length-le 8 at)
 head_before at header = omega arith
 
+pub sign_before : (k : Part) → length (sign_of k) ≤ names_from k
+sign_before (data_of s b) = omega arith
+sign_before (secondary_of s) = omega arith
+sign_before index_block = omega arith
+sign_before header = omega arith
+
 -- ---- A block that is spelled
 
-module _ (P : ℕ → ℕ) (at : ℕ) (k : Part) (b : BlockView) (is : IsBlock at k b) where
+module _ (P : ℕ → ℕ) (k : Part) (b : BlockView) (is : IsBlock k b) where
   pub patched_as : patched P b.links b.bytes ≡ patched P (links_from (names_from k) (children k)) b.bytes
   patched_as = ap (λ ls. patched P ls b.bytes) is.links
 
@@ -116,15 +122,18 @@ module _ (P : ℕ → ℕ) (at : ℕ) (k : Part) (b : BlockView) (is : IsBlock a
   pub spelled_back : (from n : ℕ) → names_from k + 8 * length (children k) ≤ from → from + n + 4 ≤ length_of k → range (spelled P b).bytes from n ≡ range b.bytes from n
   spelled_back from n h low = spelled_range from n (links_before (names_from k) (children k) from n h) low
 
-  pub spelled_block : IsBlock at k (spelled P b)
+  pub spelled_block : IsBlock k (spelled P b)
   spelled_block = record {
     len = spelled_length;
     links = is.links;
     turn = is.turn;
     in_place = is.in_place;
     sealed = is.sealed;
-    head = spelled_front 0 (length (head_of at k)) (omega (arith, head_before at k)) ∙ is.head;
+    signed = spelled_front 0 (length (sign_of k)) (omega (arith, sign_before k)) ∙ is.signed;
   }
+
+  pub spelled_head : (at : ℕ) → HasHead at k b → HasHead at k (spelled P b)
+  spelled_head at h = spelled_front 0 (length (head_of at k)) (omega (arith, head_before at k)) ∙ h
 
   pub spelled_numbers_back : (n place : ℕ) → names_from k + 8 * length (children k) ≤ place → place + 8 * n + 4 ≤ length_of k → numbers_in (spelled P b).bytes n place ≡ numbers_in b.bytes n place
   spelled_numbers_back n place h low = numbers_in-same b.bytes (spelled P b).bytes n place place (λ i lt. ap num (spelled_back (place + 8 * i) 8 (omega (arith, h)) (omega (arith, low, lt))))

@@ -44,12 +44,12 @@ index_placed v a = let p = a.in_place index_block tt refl in record { kept = p.0
 pub header_length : (v : Store) → IsArray v → length (bytes_at_part v header) ≡ eahd_len
 header_length v a =
     let t = is_some_of (block_at_part v header) (a.in_place header tt refl).0 in
-    ap (λ o. length (bytes_of o)) t.1 ∙ (of_some (IsBlock (header_place v) header) (block_at_part v header) t.0 t.1 (a.each header tt)).len
+    ap (λ o. length (bytes_of o)) t.1 ∙ (of_some (IsBlock header) (block_at_part v header) t.0 t.1 (a.each header tt)).len
 
 pub index_length : (v : Store) → IsArray v → length (bytes_at_part v index_block) ≡ eaib_len
 index_length v a =
     let t = is_some_of (block_at_part v index_block) (a.in_place index_block tt refl).0 in
-    ap (λ o. length (bytes_of o)) t.1 ∙ (of_some (IsBlock (header_place v) index_block) (block_at_part v index_block) t.0 t.1 (a.each index_block tt)).len
+    ap (λ o. length (bytes_of o)) t.1 ∙ (of_some (IsBlock index_block) (block_at_part v index_block) t.0 t.1 (a.each index_block tt)).len
 
 -- a header that is kept unchanged and stands is read, and names the index block
 pub header_stands : (v : Store) (img : List ℕ) → IsArray v → v.changed ≡ [] → At img (header_place v) (bytes_at_part v header) → HeaderStands v img

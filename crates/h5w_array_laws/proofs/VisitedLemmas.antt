@@ -1,5 +1,5 @@
 -- A check behind the index block finds the ranges of an array that stands on an image.
-use Rattle.std.proofs.Common.{◌≡◌, ◌⊎◌, ℕ, zero, suc, ◌+◌, ◌/◌, ◌<◌, ◌≤◌, cond, List, [], ◌∷◌, ◌++◌, length, take, drop, replicate, Ok, refl, sym, ap, ◌∙◌, subst, inl, inr, arith, append-nil}
+use Rattle.std.proofs.Common.{◌≡◌, ◌⊎◌, ℕ, zero, suc, ◌+◌, ◌/◌, ◌<◌, ◌≤◌, cond, List, [], ◌∷◌, ◌++◌, length, take, drop, Ok, refl, sym, ap, ◌∙◌, subst, inl, inr, arith, append-nil}
 use Rattle.std.specs.Prelude.{Some, None, IsSome, map, flat_map}
 use Rattle.std.specs.List.{AllByRecursion, range_with_len}
 use Rattle.std.proofs.Math.Pow.{pow_mono}
@@ -7,7 +7,6 @@ use Rattle.std.proofs.lemmas.Grind.{flat_map-append}
 use Rattle.std.proofs.lemmas.List.{take_at, drop_at, length-map}
 use Rattle.std.proofs.lemmas.List.FromFn.{length-range_with_len}
 use Rattle.std.proofs.lemmas.Bool.{le-ltb}
-use Rattle.h5w_model.specs.Numbers.{undefined}
 use Rattle.h5w_model.specs.Programs.{ret, eval}
 use Rattle.h5w_model.specs.Arrays.{super_block_of, slots_len, numbers_in, eaib_fields}
 use Rattle.h5w_model.specs.Tables.{in_array}
@@ -141,20 +140,18 @@ module _ (v : Store) (img : List ℕ) (a : IsArray v) (clean : v.changed ≡ [])
 -- the addresses in the index block
 pub record IndexNames (v : Store) (b : List ℕ) : Type 0 where
   pub first : numbers_in b 6 46 ≡ map (place_at_part v) first_parts
-  pub second : numbers_in b 25 94 ≡ map (place_at_part v) second_parts ++ replicate 16 undefined
+  pub second : numbers_in b 25 94 ≡ map (place_at_part v) second_parts ++ numbers_in b 16 166
 
 pub index_names : (v : Store) → IsArray v → (b : BlockView) → IsKept v index_block b → IndexNames v b.bytes
 index_names v a b h =
     let bytes : List ℕ = b.bytes in
     let both : numbers_in b.bytes 6 46 ++ numbers_in b.bytes 9 94 ≡ map (place_at_part v) first_parts ++ map (place_at_part v) second_parts = sym (numbers_in-parts b.bytes 6 9 46) ∙ h.names in
     let len : length (numbers_in b.bytes 6 46) ≡ 6 = length-numbers_in b.bytes 6 46 in
-    let beyond : numbers_in b.bytes 16 166 ≡ replicate 16 undefined = ap (λ l. numbers_in l 16 166) (sym (kept_bytes v index_block b h)) ∙ a.none_beyond in
     record {
       first = sym (take_at (numbers_in b.bytes 6 46) (numbers_in b.bytes 9 94) 6 len) ∙ ap (take 6) both;
       second =
           numbers_in-parts b.bytes 9 16 94
-          ∙ ap (λ l. l ++ numbers_in b.bytes 16 166) (sym (drop_at (numbers_in b.bytes 6 46) (numbers_in b.bytes 9 94) 6 len) ∙ ap (drop 6) both)
-          ∙ ap (λ l. map (place_at_part v) second_parts ++ l) beyond;
+          ∙ ap (λ l. l ++ numbers_in b.bytes 16 166) (sym (drop_at (numbers_in b.bytes 6 46) (numbers_in b.bytes 9 94) 6 len) ∙ ap (drop 6) both);
     }
 
 pub visited : (v : Store) (img : List ℕ) → IsArray v → v.changed ≡ [] → BehindStands v img → (end bytes : ℕ) → AllEndBy end (behind_of bytes v)
@@ -175,5 +172,5 @@ visited v img a clean stands end bytes ends =
     (ap (λ l. eval img (first_visits end bytes 0 l)) names.first
     ∙ firsts_found img end bytes (place_at_part v) (group_ranges bytes v) 0 first_parts (firsts_visited v img a clean stands end bytes (ends_left end first second behind)))
     (ap (λ l. eval img (second_visits end bytes 4 l)) names.second
-    ∙ seconds_found img end bytes (place_at_part v) (group_ranges bytes v) 4 second_parts (replicate 16 undefined) refl (seconds_from v img a clean stands end bytes 4 9 (omega arith) (omega arith) (ends_right end first second behind))))
+    ∙ seconds_found img end bytes (place_at_part v) (group_ranges bytes v) 4 second_parts (numbers_in t.0.bytes 16 166) refl (seconds_from v img a clean stands end bytes 4 9 (omega arith) (omega arith) (ends_right end first second behind))))
     ∙ ap Ok (sym are)

@@ -17,7 +17,7 @@ use Rattle.h5w_cache.specs.declared.moves.Move.{Move}
 use Rattle.h5w_visits.specs.Ranges.{AllEndBy, blocks_of, visits_of}
 use Rattle.h5w_visits.specs.Indexes.{behind_visit}
 use Rattle.h5w_array_laws.specs.Parts.{index_block, header}
-use Rattle.h5w_array_laws.specs.ArrayStores.{IsArray, place_at_part, bytes_at_part, header_place, map_of, fixed_of, blocks_in_place, behind_of, created_header, created_index, IsCreated, IsNumbered}
+use Rattle.h5w_array_laws.specs.ArrayStores.{IsArray, place_at_part, bytes_at_part, header_place, map_of, fixed_of, blocks_in_place, behind_of, created_header, created_index, IsCreated, IsHeaded, IsNumbered}
 
 -- at its place stands a header, perhaps an earlier one than that which is kept, and names the index block
 pub record HeaderStands (v : Store) (img : List ℕ) : Type 0 where
@@ -40,9 +40,10 @@ BehindStands v img = (n : ℕ) → IsPlaced v n → n < 845 → At img (place_of
 abbrev pub CreatedStands : Type 0
 CreatedStands = (at place : ℕ) (v : Store) (img : List ℕ) → IsCreated at place v → at < 2 ^ 64 → place < 2 ^ 64 → At img at (created_header place).bytes → At img place (created_index at).bytes → StandsArray v img
 
--- it is a store of an array, with its six numbers, without chunks or ranges behind the blocks in place
+-- it is a store of an array, with its heads and its six numbers, without chunks or ranges behind the blocks in place
 pub record StartsArray (v : Store) : Type 0 where
   pub array : IsArray v
+  pub headed : IsHeaded v
   pub numbered : IsNumbered v
   pub map : (i : ℕ) → map_of v i ≡ undefined
   pub behind : (bytes : ℕ) → behind_of bytes v ≡ []

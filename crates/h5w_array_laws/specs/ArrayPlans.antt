@@ -12,7 +12,7 @@ use Rattle.h5w_cache.specs.StoreLaws.{IsRetired, KeepsStore, Standing}
 use Rattle.h5w_cache.specs.declared.moves.Move.{Move}
 use Rattle.h5w_visits.specs.Ranges.{Among, AllEndBy, Disjoint, block_at}
 use Rattle.h5w_array_laws.specs.Among.{AreAmong}
-use Rattle.h5w_array_laws.specs.ArrayStores.{IsArray, IsNumbered, map_of, fixed_of, behind_of}
+use Rattle.h5w_array_laws.specs.ArrayStores.{IsArray, IsHeaded, IsNumbered, map_of, fixed_of, behind_of}
 use Rattle.h5w_array_laws.specs.ArrayImages.{AreInPlace}
 
 -- the ranges that the copies took
@@ -27,6 +27,7 @@ pub record IsArrayPlan (v : Store) (s : Space) (ms : List Move) (copies in_place
   pub plan : IsPlan v s ms copies in_place w t
   pub keeps : KeepsStore v s ms (copies ++ in_place) w t
   pub array : IsArray w
+  pub headed : IsHeaded v → IsHeaded w
   pub clean : w.changed ≡ []
   pub map : (i : ℕ) → map_of w i ≡ map_of v i
   -- the blocks in place stay where they are, and are written whole

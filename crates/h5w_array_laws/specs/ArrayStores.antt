@@ -10,7 +10,7 @@ use Rattle.h5w_visits.specs.Ranges.{block_at, chunk_at}
 use Rattle.h5w_cache.specs.Blocks.{BlockView}
 use Rattle.h5w_cache.specs.Stores.{Store, block_of, place_of, is_changed}
 use Rattle.h5w_cache.specs.Plans.{bytes_of}
-use Rattle.h5w_array_laws.specs.Parts.{Part, data_of, secondary_of, index_block, header, IsPart, number_of, number_count, length_of, stays_in_place, children, names_from, links_of, parent, head_of, slot_count, slots_from, holder, slot_offset, visit_order}
+use Rattle.h5w_array_laws.specs.Parts.{Part, data_of, secondary_of, index_block, header, IsPart, number_of, number_count, length_of, stays_in_place, children, names_from, links_of, parent, head_of, sign_of, slot_count, slots_from, holder, slot_offset, visit_order}
 
 -- the block that is kept for a part, if one is, and its place
 abbrev pub block_at_part : Store → Part → Option BlockView
@@ -26,14 +26,18 @@ bytes_at_part v k = bytes_of (block_at_part v k)
 abbrev pub header_place : Store → ℕ
 header_place v = place_at_part v header
 
--- the block is this part, in an array whose header stands at a place
-pub record IsBlock (at : ℕ) (k : Part) (b : BlockView) : Type 0 where
+-- the block is this part of an array
+pub record IsBlock (k : Part) (b : BlockView) : Type 0 where
   pub len : length b.bytes ≡ length_of k
   pub links : b.links ≡ links_of k
   pub turn : b.turn ≡ number_of k
   pub in_place : b.in_place ≡ stays_in_place k
   pub sealed : b.sealed ≡ length_of k
-  pub head : take (length (head_of at k)) b.bytes ≡ head_of at k
+  pub signed : take (length (sign_of k)) b.bytes ≡ sign_of k
+
+-- it names the header, which stands at a place, and its first slot: so do all blocks that are made here
+abbrev pub HasHead : ℕ → Part → BlockView → Type 0
+HasHead at k b = take (length (head_of at k)) b.bytes ≡ head_of at k
 
 -- the addresses in it are the places of the blocks that it names, undefined of those that have none
 abbrev pub Names : Store → Part → BlockView → Type 0
@@ -51,7 +55,7 @@ pub record IsArray (v : Store) : Type 0 where
   pub below : (n : ℕ) → place_of v n < 2 ^ 64
   -- what is kept is a part of the array
   pub known : (n : ℕ) → IsSome (block_of v n) → (k : Part) × IsPart k × (number_of k ≡ n)
-  pub each : (k : Part) → IsPart k → IfSome (block_at_part v k) (IsBlock (header_place v) k)
+  pub each : (k : Part) → IsPart k → IfSome (block_at_part v k) (IsBlock k)
   pub names : (k : Part) → IsPart k → IfSome (block_at_part v k) (Names v k)
   -- index block and header are kept, and have places; with a block that which names it is kept
   pub in_place : (k : Part) → IsPart k → stays_in_place k ≡ true → IsSome (block_at_part v k) × (place_at_part v k ≢ undefined)
@@ -64,8 +68,10 @@ pub record IsArray (v : Store) : Type 0 where
   -- header and index block change together
   pub together : is_changed v (number_of header) ≡ true → is_changed v (number_of index_block) ≡ true
   pub whole : (k : Part) → IsPart k → is_changed v (number_of k) ≡ false → IfSome (block_at_part v k) (IsWhole v k)
-  -- the index block names no secondary blocks of the super blocks from 13 on
-  pub none_beyond : numbers_in (bytes_at_part v index_block) 16 166 ≡ replicate 16 undefined
+
+-- each block names the header and its first slot, as in an array that was made here
+abbrev pub IsHeaded : Store → Type 0
+IsHeaded v = (k : Part) → IsPart k → IfSome (block_at_part v k) (HasHead (header_place v) k)
 
 -- ---- A new array
 

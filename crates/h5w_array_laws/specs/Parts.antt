@@ -100,6 +100,13 @@ head_of at (secondary_of s) = codes "EASB" ++ 0 ∷ 0 ∷ le 8 at ++ le 4 (offse
 head_of at index_block = codes "EAIB" ++ 0 ∷ 0 ∷ le 8 at
 head_of at header = codes "EAHD" ++ 0 ∷ 0 ∷ 8 ∷ 32 ∷ 4 ∷ 16 ∷ 4 ∷ 10 ∷ []
 
+-- those of them that a reader checks: signature, version and client, and the parameters of a header
+abbrev pub sign_of : Part → List ℕ
+sign_of (data_of s b) = codes "EADB" ++ 0 ∷ 0 ∷ []
+sign_of (secondary_of s) = codes "EASB" ++ 0 ∷ 0 ∷ []
+sign_of index_block = codes "EAIB" ++ 0 ∷ 0 ∷ []
+sign_of header = codes "EAHD" ++ 0 ∷ 0 ∷ 8 ∷ 32 ∷ 4 ∷ 16 ∷ 4 ∷ 10 ∷ []
+
 -- how many slots for chunk addresses a block has, and where they begin
 abbrev pub slot_count : Part → ℕ
 slot_count (data_of s b) = (super_block_of s).slots

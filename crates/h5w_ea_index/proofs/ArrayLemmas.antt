@@ -1,17 +1,15 @@
 -- A store of an array stays one where blocks are marked, a block is added, and a block's bytes change.
-use Rattle.std.proofs.Common.{◌≡◌, ◌≢◌, inl, inr, ℕ, ◌^◌, ◌<◌, List, [], ◌∷◌, length, map, get_or, replicate, true, false, refl, sym, ap, subst, ◌∙◌, arith}
+use Rattle.std.proofs.Common.{◌≡◌, ◌≢◌, inl, inr, ℕ, ◌^◌, ◌<◌, List, [], ◌∷◌, length, map, get_or, true, false, refl, sym, ap, subst, ◌∙◌, arith}
 use Rattle.std.proofs.Math.ListN.{set}
 use Rattle.std.proofs.lemmas.List.{length-set}
 use Rattle.std.proofs.lemmas.Option.{IfSome_then}
 use Rattle.std.proofs.lemmas.Bool.{cases_eq, cases_Bool}
 use Rattle.std.specs.Prelude.{Option, Some, None, IsSome, IfSome, is_some}
 use Rattle.h5w_model.specs.Numbers.{undefined}
-use Rattle.h5w_model.specs.Arrays.{numbers_in}
 use Rattle.h5w_cache.specs.Blocks.{BlockView}
-use Rattle.h5w_cache.specs.Plans.{bytes_of}
 use Rattle.h5w_cache.specs.Stores.{Store, block_of, place_of, is_changed, is_listed, marked, changed_to, kept_under}
 use Rattle.h5w_array_laws.specs.Parts.{Part, index_block, header, IsPart, number_of, children, parent}
-use Rattle.h5w_array_laws.specs.ArrayStores.{IsArray, IsBlock, IsWhole, Names, block_at_part, place_at_part, header_place}
+use Rattle.h5w_array_laws.specs.ArrayStores.{HasHead, IsArray, IsBlock, IsHeaded, IsWhole, Names, block_at_part, place_at_part, header_place}
 use Rattle.h5w_ea_index.proofs.PartLemmas.{number_decides, number_inside}
 use Rattle.h5w_ea_index.proofs.StoreLemmas.{marks, marked-is, marks-self, marks-more, marks-other, set-other, set-cases, place-same}
 
@@ -46,7 +44,6 @@ remarked v d a m clean = record {
   kept = m.kept;
   together = m.together;
   whole = λ k p h. IfSome_then (block_at_part v k) (a.whole k p (clean (number_of k) h)) (λ b w. record { placed = w.placed; sealed = w.sealed });
-  none_beyond = a.none_beyond;
 }
 
 listed_cases : (n m : ℕ) (c : List ℕ) (P : Type 0) → is_listed m (marks n c) ≡ true → (n ≡ m → P) → (n ≢ m → is_listed m c ≡ true → P) → P
@@ -97,9 +94,8 @@ marked_top v a =
 
 -- the block may stand for this part of the array
 pub record Suits (v : Store) (k : Part) (b : BlockView) : Type 0 where
-  pub block : IsBlock (header_place v) k b
+  pub block : IsBlock k b
   pub names : Names v k b
-  pub beyond : k ≡ index_block → numbers_in b.bytes 16 166 ≡ replicate 16 undefined
 
 pub part_inside : (v : Store) (k : Part) → IsPart k → IsArray v → number_of k < length v.blocks
 part_inside v k p a = let i = number_inside k p in let c = a.count in omega arith
@@ -121,8 +117,8 @@ changed_array v k b p a up s =
       each_place = a.each_place;
       below = a.below;
       known = λ m h. a.known m (was_kept v n m b inside kept h);
-      each = λ m q. set-cases (λ o. IfSome o (IsBlock (header_place v) m)) v.blocks n (number_of m) b inside
-          (λ e. subst (λ x. IsBlock (header_place v) x b) (number_decides k m p q e) s.block) (λ ne. a.each m q);
+      each = λ m q. set-cases (λ o. IfSome o (IsBlock m)) v.blocks n (number_of m) b inside
+          (λ e. subst (λ x. IsBlock x b) (number_decides k m p q e) s.block) (λ ne. a.each m q);
       names = λ m q. set-cases (λ o. IfSome o (Names v m)) v.blocks n (number_of m) b inside (λ e. subst (λ x. Names v x b) (number_decides k m p q e) s.names) (λ ne. a.names m q);
       in_place = λ m q h. (set-cases IsSome v.blocks n (number_of m) b inside (λ e. refl) (λ ne. (a.in_place m q h).0), (a.in_place m q h).1);
       held = λ m q h. set-cases IsSome v.blocks n (number_of (parent m)) b inside (λ e. refl) (λ ne. a.held m q (was_kept v n (number_of m) b inside kept h));
@@ -133,8 +129,13 @@ changed_array v k b p a up s =
       whole = λ m q h. set-cases (λ o. IfSome o (IsWhole (changed_to n b v) m)) v.blocks n (number_of m) b inside
           (λ e. absurd (let f : is_changed v n ≡ false = subst (λ x. is_changed v x ≡ false) (sym e) h in cc))
           (λ ne. IfSome_then (block_at_part v m) (a.whole m q h) (λ c x. record { placed = x.placed; sealed = x.sealed }));
-      none_beyond = set-cases (λ o. numbers_in (bytes_of o) 16 166 ≡ replicate 16 undefined) v.blocks n 845 b inside (λ e. s.beyond (number_decides k index_block p tt e)) (λ ne. a.none_beyond);
     }
+
+-- heads stay where the block keeps its own
+pub headed_changed : (v : Store) (k : Part) (b c : BlockView) → IsPart k → IsArray v → block_at_part v k ≡ Some b → (HasHead (header_place v) k b → HasHead (header_place v) k c) → IsHeaded v → IsHeaded (changed_to (number_of k) c v)
+headed_changed v k b c p a is f h m q =
+    set-cases (λ o. IfSome o (HasHead (header_place v) m)) v.blocks (number_of k) (number_of m) c (part_inside v k p a)
+    (λ e. subst (λ x. HasHead (header_place v) x c) (number_decides k m p q e) (f (subst (λ o. IfSome o (HasHead (header_place v) k)) is (h k p)))) (λ ne. h m q)
 
 -- ---- A block is added
 
@@ -176,15 +177,13 @@ added_array_as v k b may s =
     let w : Store = added_as n b v in
     let inside : n < length v.blocks = part_inside v k p a in
     let same : (m : ℕ) → place_of w m ≡ place_of v m = added_place v k b p a may.none in
-    let top : header_place v ≡ header_place w = sym (same 846) in
     let up : IsSome (block_at_part v (parent k)) = a.kept (number_of (parent k)) may.up in
     record {
       count = length-set v.blocks n (Some b) ∙ a.count;
       each_place = length-set v.places n undefined ∙ a.each_place;
       below = λ m. subst (λ x. x < 2 ^ 64) (sym (same m)) (a.below m);
       known = λ m. set-cases (λ o. IsSome o → (q : Part) × IsPart q × (number_of q ≡ m)) v.blocks n m b inside (λ e h. (k, p, e)) (λ ne h. a.known m h);
-      each = λ m q. subst (λ t. IfSome (block_at_part w m) (IsBlock t m)) top (set-cases (λ o. IfSome o (IsBlock (header_place v) m)) v.blocks n (number_of m) b inside
-          (λ e. subst (λ x. IsBlock (header_place v) x b) (number_decides k m p q e) s.block) (λ ne. a.each m q));
+      each = λ m q. set-cases (λ o. IfSome o (IsBlock m)) v.blocks n (number_of m) b inside (λ e. subst (λ x. IsBlock x b) (number_decides k m p q e) s.block) (λ ne. a.each m q);
       names = λ m q. set-cases (λ o. IfSome o (Names w m)) v.blocks n (number_of m) b inside (λ e. subst (λ x. Names w x b) (number_decides k m p q e) (names_as v w k b same s.names))
           (λ ne. IfSome_then (block_at_part v m) (a.names m q) (λ c x. names_as v w m c same x));
       in_place = λ m q h. (set-cases IsSome v.blocks n (number_of m) b inside (λ e. refl) (λ ne. (a.in_place m q h).0), λ u. (a.in_place m q h).1 (sym (same (number_of m)) ∙ u));
@@ -200,8 +199,15 @@ added_array_as v k b may s =
       whole = λ m q h. set-cases (λ o. IfSome o (IsWhole w m)) v.blocks n (number_of m) b inside
           (λ e. absurd (let f : is_listed n (marks n v.changed) ≡ false = subst (λ x. is_listed x (marks n v.changed) ≡ false) (sym e) h in let t = marks-self n v.changed in cc))
           (λ ne. IfSome_then (block_at_part v m) (a.whole m q (unlisted n (number_of m) v.changed h)) (λ c x. record { placed = λ u. x.placed (sym (same (number_of m)) ∙ u); sealed = x.sealed }));
-      none_beyond = set-cases (λ o. numbers_in (bytes_of o) 16 166 ≡ replicate 16 undefined) v.blocks n 845 b inside (λ e. absurd (not_kept v n 845 may.none (a.in_place index_block tt refl).0 e)) (λ ne. a.none_beyond);
     }
+
+pub headed_added : (v : Store) (k : Part) (b : BlockView) → MayAdd v k → HasHead (header_place v) k b → IsHeaded v → IsHeaded (added_as (number_of k) b v)
+headed_added v k b may head h m q =
+    let n : ℕ = number_of k in
+    let w : Store = added_as n b v in
+    subst (λ t. IfSome (block_at_part w m) (HasHead t m)) (sym (added_place v k b may.part may.array may.none 846))
+    (set-cases (λ o. IfSome o (HasHead (header_place v) m)) v.blocks n (number_of m) b (part_inside v k may.part may.array)
+    (λ e. subst (λ x. HasHead (header_place v) x b) (number_decides k m may.part q e) head) (λ ne. h m q))
 
 pub added_array : (v : Store) (k : Part) (b : BlockView) → MayAdd v k → Suits v k b → IsArray (added (number_of k) b v)
 added_array v k b may s = subst IsArray (sym (added-is (number_of k) b v)) (added_array_as v k b may s)

@@ -2,26 +2,24 @@
 use Rattle.std.proofs.Common.{◌≡◌, ◌≢◌, inl, inr, ℕ, zero, suc, ◌+◌, ◌-◌, ◌*◌, ◌^◌, ◌<◌, ◌≤◌, Bool, List, [], ◌∷◌, length, map, true, false, refl, sym, ap, subst, ◌∙◌, arith}
 use Rattle.std.proofs.Math.ListN.{set}
 use Rattle.std.proofs.Math.Nat.{add-mul}
-use Rattle.std.proofs.lemmas.Bool.{cases_eq, cases_lt, cases_Bool}
+use Rattle.std.proofs.lemmas.Bool.{cases_eq, cases_Bool}
 use Rattle.std.proofs.lemmas.Bool.Decides.{nat_tests}
-use Rattle.std.proofs.lemmas.List.Elements.{All-from_recursion}
 use Rattle.std.proofs.lemmas.List.Sums.{sum_by-le-sum_by, sum_by-cons}
 use Rattle.std.specs.Prelude.{Option, Some, None, IsSome, IfSome, is_some, cond, nat_lt, ◌==◌}
-use Rattle.std.specs.List.{All, sum_by, AllByRecursion}
-use Rattle.h5w_model.specs.Numbers.{undefined}
+use Rattle.std.specs.List.{sum_by, AllByRecursion}
 use Rattle.h5w_model.specs.Arrays.{numbers_in, super_block_of}
 use Rattle.h5w_cache.specs.Blocks.{BlockView, numbered}
 use Rattle.h5w_cache.specs.Plans.{bytes_of, bytes_in}
 use Rattle.h5w_cache.specs.Stores.{Store, block_of, is_changed, is_listed, times, changed_to}
 use Rattle.h5w_cache.proofs.PlannedLemmas.{times-same, times-other}
 use Rattle.h5w_array_laws.specs.Parts.{Part, data_of, secondary_of, header, IsPart, number_of, slot_count, slots_from, holder, slot_offset, visit_order}
-use Rattle.h5w_array_laws.specs.ArrayStores.{IsArray, IsBlock, IsNumbered, IsMaxSet, Names, block_at_part, header_place, address_in, map_of, slots_in, chunks_in, total, one_secondary, one_data, secondary_bytes, data_bytes}
+use Rattle.h5w_array_laws.specs.ArrayStores.{IsArray, IsBlock, Names, block_at_part, address_in, slots_in, chunks_in, total, one_secondary, one_data, secondary_bytes, data_bytes}
 use Rattle.h5w_ea_index.specs.Steps.{IsHeld}
-use Rattle.h5w_ea_index.specs.Counts.{six, AreSmall, IsCounted, with_at}
+use Rattle.h5w_ea_index.specs.Counts.{six, IsCounted, with_at}
 use Rattle.h5w_ea_index.proofs.ByteLemmas.{length-with_number, take-with_number, numbers_in-with_other, numbers_in-with_number}
 use Rattle.h5w_ea_index.proofs.PartLemmas.{number_decides, held_at}
 use Rattle.h5w_ea_index.proofs.StoreLemmas.{none-listed, set-same, set-other, set-cases}
-use Rattle.h5w_ea_index.proofs.ArrayLemmas.{Suits, changed_array, part_inside}
+use Rattle.h5w_ea_index.proofs.ArrayLemmas.{Suits, changed_array, headed_changed, part_inside}
 use Rattle.h5w_ea_index.proofs.TouchLemmas.{touch_changed, touch_onward}
 use Rattle.h5w_ea_index.proofs.OrderLemmas.{visited_parts, ByRecursion-same}
 use Rattle.h5w_ea_index.proofs.StepLemmas.{IsLater, held_from, held_onward, map-from, behind_same}
@@ -34,11 +32,11 @@ pub record IsHeader (v : Store) (b : BlockView) : Type 0 where
   pub is : block_at_part v header ≡ Some b
   pub changed : is_changed v 846 ≡ true
 
-header_block : (v : Store) (b : BlockView) → IsHeader v b → IsBlock (header_place v) header b
-header_block v b h = subst (λ o. IfSome o (IsBlock (header_place v) header)) h.is (h.array.each header tt)
+header_block : (v : Store) (b : BlockView) → IsHeader v b → IsBlock header b
+header_block v b h = subst (λ o. IfSome o (IsBlock header)) h.is (h.array.each header tt)
 
 pub header_long : (v : Store) (b : BlockView) → IsArray v → block_at_part v header ≡ Some b → length b.bytes ≡ 72
-header_long v b a e = (subst (λ o. IfSome o (IsBlock (header_place v) header)) e (a.each header tt)).len
+header_long v b a e = (subst (λ o. IfSome o (IsBlock header)) e (a.each header tt)).len
 
 header_suits : (v : Store) (b : BlockView) (i x : ℕ) → IsHeader v b → i < 6 → Suits v header (numbered (12 + 8 * i) x b)
 header_suits v b i x h lt =
@@ -52,10 +50,9 @@ header_suits v b i x h lt =
         turn = s.turn;
         in_place = s.in_place;
         sealed = s.sealed;
-        head = take-with_number (12 + 8 * i) x b.bytes 12 inside (omega arith) ∙ s.head;
+        signed = take-with_number (12 + 8 * i) x b.bytes 12 inside (omega arith) ∙ s.signed;
       };
       names = numbers_in-with_other (12 + 8 * i) x b.bytes 1 60 inside (inr (omega arith)) ∙ subst (λ o. IfSome o (Names v header)) h.is (h.array.names header tt);
-      beyond = λ e. absurd (cc);
     }
 
 abbrev pub with_six : Store → ℕ → ℕ → BlockView → Store
@@ -97,6 +94,7 @@ header_held : (v : Store) (b : BlockView) (i x : ℕ) → IsHeader v b → i < 6
 header_held v b i x h lt =
     let c : BlockView = numbered (12 + 8 * i) x b in
     let inside = header_inside v h.array in
+    let len = (header_block v b h).len in
     held_from v (with_six v i x b) (header_later v b i x h lt)
     (map-from v (with_six v i x b) (λ j l. ap (λ o. address_in o (slot_offset j)) (set-other v.blocks 846 (number_of (holder j)) c (holder_other j l))))
     (λ bytes. behind_same bytes v (with_six v i x b) (λ k p. refl)
@@ -104,6 +102,7 @@ header_held v b i x h lt =
     (λ e. let same : header ≡ k = number_decides header k tt p e in
     no_slots bytes (Some c) k (ap slot_count (sym same)) ∙ sym (no_slots bytes (block_at_part v k) k (ap slot_count (sym same))))
     (λ ne. refl)))
+    (headed_changed v header b c tt h.array h.is (λ e. take-with_number (12 + 8 * i) x b.bytes 12 (omega arith) (omega arith) ∙ e))
 
 -- one of the six is written
 pub six_written : (v : Store) (b : BlockView) (i x : ℕ) → IsHeader v b → i < 6 → x < 2 ^ 64 → IsCounted (with_at i x (six v)) v (with_six v i x b)
@@ -234,50 +233,28 @@ total_same weight v w h = sum_same (weight_in weight w) (weight_in weight v) vis
 total_most : (weight : Part → ℕ) (v : Store) → total weight v ≤ sum_by weight visit_order
 total_most weight v = sum_by-le-sum_by (weight_in weight v) weight visit_order (λ k. cond_le (is_some (block_at_part v k)) (weight k))
 
-secondaries_few : nat_lt (sum_by one_secondary visit_order) (2 ^ 40) ≡ true
+pub secondaries_few : nat_lt (sum_by one_secondary visit_order) (2 ^ 40) ≡ true
 unfolding visit_order
 secondaries_few = refl
 
-secondary_bytes_few : nat_lt (sum_by secondary_bytes visit_order) (2 ^ 40) ≡ true
+pub secondary_bytes_few : nat_lt (sum_by secondary_bytes visit_order) (2 ^ 40) ≡ true
 unfolding visit_order
 secondary_bytes_few = refl
 
-data_few : nat_lt (sum_by one_data visit_order) (2 ^ 40) ≡ true
+pub data_few : nat_lt (sum_by one_data visit_order) (2 ^ 40) ≡ true
 unfolding visit_order
 data_few = refl
 
-data_bytes_few : nat_lt (sum_by data_bytes visit_order) (2 ^ 40) ≡ true
+pub data_bytes_few : nat_lt (sum_by data_bytes visit_order) (2 ^ 40) ≡ true
 unfolding visit_order
 data_bytes_few = refl
 
-slots_few : nat_lt (sum_by slot_count visit_order) (2 ^ 40) ≡ true
+pub slots_few : nat_lt (sum_by slot_count visit_order) (2 ^ 40) ≡ true
 unfolding visit_order
 slots_few = refl
 
-below_that : (weight : Part → ℕ) (v : Store) → nat_lt (sum_by weight visit_order) (2 ^ 40) ≡ true → total weight v < 2 ^ 40
+pub below_that : (weight : Part → ℕ) (v : Store) → nat_lt (sum_by weight visit_order) (2 ^ 40) ≡ true → total weight v < 2 ^ 40
 below_that weight v h =
     let most = total_most weight v in
     let few : sum_by weight visit_order < 2 ^ 40 = grind (arith, nat_tests) in
     omega arith
-
-map_below : (v : Store) (i : ℕ) → map_of v i ≢ undefined → i < 131060
-map_below v i h =
-    elim (cases_lt i 131060) [
-      | inl lt ↦ lt
-      | inr ge ↦ absurd (h (let e : nat_lt i 131060 ≡ false = grind (arith, nat_tests) in ap (λ t. cond t (address_in (block_at_part v (holder i)) (slot_offset i)) undefined) e))
-    ]
-
-max_few : (v : Store) (m : ℕ) → IsMaxSet v m → m ≤ 131060
-max_few v m h = elim h.least [ inl e ↦ omega arith | inr d ↦ let b = map_below v (m - 1) d in omega arith ]
-
-pub numbers_small : (v : Store) → IsNumbered v → AreSmall v
-numbers_small v h =
-    let a = below_that one_secondary v secondaries_few in
-    let b = below_that secondary_bytes v secondary_bytes_few in
-    let c = below_that one_data v data_few in
-    let d = below_that data_bytes v data_bytes_few in
-    let e = below_that slot_count v slots_few in
-    let f = max_few v h.max h.greatest in
-    subst (λ (l : List ℕ). All (λ (n : ℕ). n < 2 ^ 62) l) (sym h.six)
-    (All-from_recursion (λ (n : ℕ). n < 2 ^ 62) (total one_secondary v ∷ total secondary_bytes v ∷ total one_data v ∷ total data_bytes v ∷ h.max ∷ (4 + total slot_count v) ∷ [])
-    (omega arith, (omega arith, (omega arith, (omega arith, (omega arith, (omega arith, tt)))))))

@@ -7,14 +7,16 @@ use Rattle.std.proofs.lemmas.List.Elements.{All-nil, All-cons}
 use Rattle.std.specs.Prelude.{codes}
 use Rattle.std.specs.List.{All, range_with_len}
 use Rattle.h5w_model.specs.Numbers.{le, undefined}
-use Rattle.h5w_model.specs.Checksum.{sum_of}
+use Rattle.h5w_model.specs.Checksum.{is_sealed, sum_of}
 use Rattle.h5w_model.specs.Arrays.{SlotsFields, eadb_bytes, easb_bytes, slots_bytes, slots_len, number_bytes, numbers_in, super_block_of}
 use Rattle.h5w_model.proofs.NumberLemmas.{length-le}
 use Rattle.h5w_model.proofs.ArrayLemmas.{length-number_bytes, numbers_in-number_bytes}
-use Rattle.h5w_model.proofs.ChecksumLemmas.{length-sealed_block}
+use Rattle.h5w_model.proofs.ChecksumLemmas.{length-sealed_block, is_sealed-sealed_block}
 use Rattle.h5w_cache.specs.Blocks.{BlockView, AreInside}
 use Rattle.h5w_cache.specs.declared.block.Link.{Link}
 use Rattle.h5w_array_laws.specs.Parts.{Part, data_of, secondary_of, IsPart, number_of, links_of, links_from, offset_of}
+use Rattle.h5w_array_laws.specs.ArrayStores.{HasHead}
+use Rattle.h5w_array_laws.proofs.KeptLemmas.{begins_shorter}
 use Rattle.h5w_ea_index.specs.Fresh.{IsFresh}
 use Rattle.h5w_ea_index.proofs.PartLemmas.{length-data_blocks}
 
@@ -72,6 +74,7 @@ pub fresh_data : (at s b : ℕ) (v : BlockView) → IsPart (data_of s b) → v.b
 fresh_data at s b v p bytes links turn in' sealed =
     let o : ℕ = offset_of (data_of s b) in
     let n : ℕ = (super_block_of s).slots in
+    let head : HasHead at (data_of s b) v = ap (λ k. take k v.bytes) (length-front (codes "EADB") at o refl) ∙ ap (take 18) bytes ∙ head-empty (codes "EADB") at o n refl in
     record {
       block = record {
         len = ap length bytes ∙ length-empty (codes "EADB") at o n refl;
@@ -79,8 +82,10 @@ fresh_data at s b v p bytes links turn in' sealed =
         turn = turn;
         in_place = in';
         sealed = sealed;
-        head = ap (λ k. take k v.bytes) (length-front (codes "EADB") at o refl) ∙ ap (take 18) bytes ∙ head-empty (codes "EADB") at o n refl;
+        signed = begins_shorter (codes "EADB" ++ 0 ∷ 0 ∷ []) (le 8 at ++ le 4 o) v.bytes head;
       };
+      head = head;
+      whole = ap is_sealed bytes ∙ is_sealed-sealed_block (front (codes "EADB") at o ++ number_bytes (replicate n undefined));
       empty = ap (λ l. numbers_in l n 18) bytes ∙ numbers-empty (codes "EADB") at o n refl;
       unnamed = no_numbers v.bytes 18;
     }
@@ -90,6 +95,7 @@ pub fresh_secondary : (at s : ℕ) (v : BlockView) → IsPart (secondary_of s) �
 fresh_secondary at s v p bytes links turn in' sealed =
     let o : ℕ = offset_of (secondary_of s) in
     let n : ℕ = (super_block_of s).blocks in
+    let head : HasHead at (secondary_of s) v = ap (λ k. take k v.bytes) (length-front (codes "EASB") at o refl) ∙ ap (take 18) bytes ∙ head-empty (codes "EASB") at o n refl in
     record {
       block = record {
         len = ap length bytes ∙ length-empty (codes "EASB") at o n refl;
@@ -97,8 +103,10 @@ fresh_secondary at s v p bytes links turn in' sealed =
         turn = turn;
         in_place = in';
         sealed = sealed;
-        head = ap (λ k. take k v.bytes) (length-front (codes "EASB") at o refl) ∙ ap (take 18) bytes ∙ head-empty (codes "EASB") at o n refl;
+        signed = begins_shorter (codes "EASB" ++ 0 ∷ 0 ∷ []) (le 8 at ++ le 4 o) v.bytes head;
       };
+      head = head;
+      whole = ap is_sealed bytes ∙ is_sealed-sealed_block (front (codes "EASB") at o ++ number_bytes (replicate n undefined));
       empty = no_numbers v.bytes 18;
       unnamed = ap (λ k. numbers_in v.bytes k 18) (length-data_blocks s) ∙ ap (λ l. numbers_in l n 18) bytes ∙ numbers-empty (codes "EASB") at o n refl ∙ ap (λ k. replicate k undefined) (sym (length-data_blocks s));
     }

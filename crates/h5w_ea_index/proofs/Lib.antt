@@ -12,3 +12,9 @@ pub mod CountLemmas
 pub mod WayLemmas
 pub mod CreateLemmas
 mod UnsetLemmas
+pub mod LoadingLemmas
+pub mod DecodedLemmas
+pub mod OpenedLemmas
+pub mod NamedLemmas
+pub mod StandingLemmas
+mod RangeLemmas

@@ -11,7 +11,7 @@ use Rattle.h5w_model.specs.Numbers.{le}
 use Rattle.h5w_model.specs.Arrays.{super_block_of, slot_place_of, IsSlotPlace}
 use Rattle.h5w_model.proofs.NumberLemmas.{length-le}
 use Rattle.h5w_model.proofs.ArrayGeometry.{slot_place-stands, slot_place-super}
-use Rattle.h5w_array_laws.specs.Parts.{Part, data_of, secondary_of, index_block, header, IsPart, number_of, length_of, stays_in_place, children, data_blocks_of, first_parts, second_parts, names_from, parent, head_of, offset_of, slot_count, slots_from, holder, holder_of, slot_offset}
+use Rattle.h5w_array_laws.specs.Parts.{Part, data_of, secondary_of, index_block, header, IsPart, number_of, length_of, stays_in_place, children, data_blocks_of, first_parts, second_parts, names_from, parent, head_of, sign_of, offset_of, slot_count, slots_from, holder, holder_of, slot_offset}
 
 -- ---- Numbers
 
@@ -101,6 +101,12 @@ head_fits at (data_of s b) = let f : length (head_of at (data_of s b)) ≡ 18 = 
 head_fits at (secondary_of s) = let f : length (head_of at (secondary_of s)) ≡ 18 = framed at (offset_of (secondary_of s)) 69 65 83 66 in (omega arith, omega arith)
 head_fits at index_block = let e = length-le 8 at in (omega arith, omega arith)
 head_fits at header = (omega arith, omega arith)
+
+pub sign_fits : (k : Part) → length (sign_of k) ≤ slots_from k
+sign_fits (data_of s b) = omega arith
+sign_fits (secondary_of s) = omega arith
+sign_fits index_block = omega arith
+sign_fits header = omega arith
 
 -- ---- Which block names which
 

@@ -1,5 +1,5 @@
 -- What an address that is set changes: the map at one chunk number.
-use Rattle.std.proofs.Common.{◌≡◌, ◌≢◌, inl, inr, ℕ, ◌+◌, ◌-◌, ◌*◌, ◌^◌, ◌<◌, ◌≤◌, List, [], ◌∷◌, ◌++◌, length, replicate, zero, suc, true, false, refl, sym, ap, subst, ◌∙◌, arith, eq-eqb, ne_eqb}
+use Rattle.std.proofs.Common.{◌≡◌, ◌≢◌, inl, inr, ℕ, ◌+◌, ◌-◌, ◌*◌, ◌^◌, ◌<◌, ◌≤◌, List, [], ◌∷◌, ◌++◌, length, zero, suc, true, false, refl, sym, ap, subst, ◌∙◌, arith, eq-eqb, ne_eqb}
 use Rattle.std.proofs.Math.ListN.{set}
 use Rattle.std.proofs.lemmas.List.{append-nil}
 use Rattle.std.proofs.lemmas.Bool.{cases_eq, cases_lt}
@@ -14,14 +14,14 @@ use Rattle.h5w_cache.specs.Plans.{bytes_of, bytes_in}
 use Rattle.h5w_cache.specs.Stores.{Store, block_of, is_changed, is_listed, changed_to}
 use Rattle.h5w_visits.specs.Ranges.{chunk_at}
 use Rattle.h5w_array_laws.specs.Among.{AreAmong}
-use Rattle.h5w_array_laws.specs.Parts.{Part, data_of, index_block, IsPart, number_of, head_of, children, names_from, slot_count, slots_from, holder, slot_offset, visit_order}
-use Rattle.h5w_array_laws.specs.ArrayStores.{IsArray, IsBlock, Names, block_at_part, header_place, address_in, map_of, slots_in, chunks_in, own_range, ranges_of, behind_of}
+use Rattle.h5w_array_laws.specs.Parts.{Part, data_of, index_block, IsPart, number_of, head_of, sign_of, children, names_from, slot_count, slots_from, holder, slot_offset, visit_order}
+use Rattle.h5w_array_laws.specs.ArrayStores.{IsArray, IsBlock, IsHeaded, Names, block_at_part, header_place, address_in, map_of, slots_in, chunks_in, own_range, ranges_of, behind_of}
 use Rattle.h5w_array_laws.proofs.AmongLemmas.{part_itself, part_as, part_onward, part_none, part_joined, part_more, part_right, each-among, chunks_set, chunks_split, chunks_undefined, one_chunk}
 use Rattle.h5w_ea_index.specs.Steps.{IsSet, IsUnset}
 use Rattle.h5w_ea_index.proofs.ByteLemmas.{Off, length-with_number, field-with_number, field-with_other, take-with_number, numbers_in-with_other, numbers_in-with_number}
-use Rattle.h5w_ea_index.proofs.PartLemmas.{number_decides, held_at, IsHeldAt, holder_low, holder_high, head_fits, slots_fit, slots_apart}
+use Rattle.h5w_ea_index.proofs.PartLemmas.{number_decides, held_at, IsHeldAt, holder_low, holder_high, head_fits, sign_fits, slots_fit, slots_apart}
 use Rattle.h5w_ea_index.proofs.StoreLemmas.{none-listed, set-same, set-other, set-cases}
-use Rattle.h5w_ea_index.proofs.ArrayLemmas.{Suits, part_inside}
+use Rattle.h5w_ea_index.proofs.ArrayLemmas.{Suits, headed_changed, part_inside}
 use Rattle.h5w_ea_index.proofs.OrderLemmas.{visited_parts, visited_once, ByRecursion-same, only, only-once, none_of}
 use Rattle.h5w_ea_index.proofs.StepLemmas.{IsLater, later_standing, later_stands}
 
@@ -58,33 +58,30 @@ slot_decides i j hi hj e o =
 -- ---- The block with the address
 
 -- where the slot of chunk number i lies in its block
-record IsInside (at i : ℕ) (b : BlockView) : Type 0 where
+record IsInside (i : ℕ) (b : BlockView) : Type 0 where
   pub inside : slot_offset i + 8 ≤ length b.bytes
-  pub head : length (head_of at (holder i)) ≤ slot_offset i
+  pub signed : length (sign_of (holder i)) ≤ slot_offset i
   pub names : Off (names_from (holder i)) (8 * length (children (holder i))) (slot_offset i) 8
-  pub beyond : holder i ≡ index_block → Off 166 (8 * 16) (slot_offset i) 8
 
-inside_block : (at i : ℕ) (b : BlockView) → i < 131060 → IsBlock at (holder i) b → IsInside at i b
-inside_block at i b lt s =
+inside_block : (i : ℕ) (b : BlockView) → i < 131060 → IsBlock (holder i) b → IsInside i b
+inside_block i b lt s =
     let h : IsHeldAt i = held_at i lt in
     let fit = slots_fit (holder i) h.part in
     let o = h.offset in
     let j = h.inside in
     let len = s.len in
-    let heads = head_fits at (holder i) in
+    let front = sign_fits (holder i) in
     record {
       inside = omega arith;
-      head = let hd = heads.1 in omega arith;
+      signed = omega arith;
       names = elim (slots_apart (holder i)) [ inl a ↦ inr (omega arith) | inr a ↦ inl (omega arith) ];
-      beyond = λ e. let c : slot_count (holder i) ≡ 4 = ap slot_count e in let f : slots_from (holder i) ≡ 14 = ap slots_from e in inr (omega arith);
     }
 
 pub suits_set : (v : Store) (i x : ℕ) (b : BlockView) → i < 131060 → Suits v (holder i) b → Suits v (holder i) (numbered (slot_offset i) x b)
 suits_set v i x b lt s =
     let h : IsHeldAt i = held_at i lt in
-    let at : ℕ = header_place v in
     let o : ℕ = slot_offset i in
-    let in' = inside_block at i b lt s.block in
+    let in' = inside_block i b lt s.block in
     record {
       block = record {
         len = length-with_number o x b.bytes in'.inside ∙ s.block.len;
@@ -92,16 +89,15 @@ suits_set v i x b lt s =
         turn = s.block.turn;
         in_place = s.block.in_place;
         sealed = s.block.sealed;
-        head = take-with_number o x b.bytes (length (head_of at (holder i))) in'.inside in'.head ∙ s.block.head;
+        signed = take-with_number o x b.bytes (length (sign_of (holder i))) in'.inside in'.signed ∙ s.block.signed;
       };
       names = numbers_in-with_other o x b.bytes (length (children (holder i))) (names_from (holder i)) in'.inside in'.names ∙ s.names;
-      beyond = λ e. numbers_in-with_other o x b.bytes 16 166 in'.inside (in'.beyond e) ∙ s.beyond e;
     }
 
 -- the slots with one set
-pub slots_set : (at i x bytes : ℕ) (b : BlockView) → i < 131060 → x < 2 ^ 64 → IsBlock at (holder i) b
+pub slots_set : (i x bytes : ℕ) (b : BlockView) → i < 131060 → x < 2 ^ 64 → IsBlock (holder i) b
     → AreAmong (chunks_in bytes (slots_in (Some (numbered (slot_offset i) x b)) (holder i))) (chunk_at x bytes ∷ chunks_in bytes (slots_in (Some b) (holder i)))
-slots_set at i x bytes b lt fits s =
+slots_set i x bytes b lt fits s =
     let h : IsHeldAt i = held_at i lt in
     let k : Part = holder i in
     let fit = slots_fit k h.part in
@@ -111,11 +107,11 @@ slots_set at i x bytes b lt fits s =
     subst (λ l. AreAmong (chunks_in bytes l) (chunk_at x bytes ∷ chunks_in bytes (slots_in (Some b) k))) (sym e) (chunks_set bytes (numbers_in b.bytes (slot_count k) (slots_from k)) h.index x)
 
 -- another slot keeps its address
-other_slot : (at i j x : ℕ) (b : BlockView) → i < 131060 → j < 131060 → x < 2 ^ 64 → IsBlock at (holder i) b → holder i ≡ holder j → i ≢ j → field (with_number (slot_offset i) x b.bytes) (slot_offset j) 8 ≡ field b.bytes (slot_offset j) 8
-other_slot at i j x b hi hj fits s e ne =
+other_slot : (i j x : ℕ) (b : BlockView) → i < 131060 → j < 131060 → x < 2 ^ 64 → IsBlock (holder i) b → holder i ≡ holder j → i ≢ j → field (with_number (slot_offset i) x b.bytes) (slot_offset j) 8 ≡ field b.bytes (slot_offset j) 8
+other_slot i j x b hi hj fits s e ne =
     let a : IsHeldAt i = held_at i hi in
     let c : IsHeldAt j = held_at j hj in
-    let in' = inside_block at i b hi s in
+    let in' = inside_block i b hi s in
     let same : slots_from (holder i) ≡ slots_from (holder j) = ap slots_from e in
     let oi = a.offset in
     let oj = c.offset in
@@ -146,9 +142,8 @@ pub set_suits : (v : Store) (i x : ℕ) (b : BlockView) → MaySet v i x b → S
 set_suits v i x b m =
     let p : IsPart (holder i) = (held_at i m.below).part in
     record {
-      block = subst (λ o. IfSome o (IsBlock (header_place v) (holder i))) m.is (m.array.each (holder i) p);
+      block = subst (λ o. IfSome o (IsBlock (holder i))) m.is (m.array.each (holder i) p);
       names = subst (λ o. IfSome o (Names v (holder i))) m.is (m.array.names (holder i) p);
-      beyond = λ e. subst (λ o. numbers_in (bytes_of o) 16 166 ≡ replicate 16 undefined) (subst (λ k. block_at_part v k ≡ Some b) e m.is) m.array.none_beyond;
     }
 
 later_set : (v : Store) (i x : ℕ) (b : BlockView) → MaySet v i x b → IsLater v (with_set v i x b)
@@ -159,7 +154,7 @@ later_set v i x b m =
     let w : Store = with_set v i x b in
     let inside : n < length v.blocks = part_inside v (holder i) p m.array in
     let kept : IsSome (block_of v n) = m.array.kept n m.changed in
-    let s = inside_block (header_place v) i b m.below (set_suits v i x b m).block in
+    let s = inside_block i b m.below (set_suits v i x b m).block in
     record {
       places = λ k. refl;
       marks = λ k h. h;
@@ -177,7 +172,7 @@ map_at v i x b m j =
     let c : BlockView = numbered (slot_offset i) x b in
     let inside : n < length v.blocks = part_inside v (holder i) p m.array in
     let s = (set_suits v i x b m).block in
-    let in' = inside_block (header_place v) i b m.below s in
+    let in' = inside_block i b m.below s in
     elim (cases_lt j 131060) [
       | inl lt ↦
           let q : IsPart (holder j) = (held_at j lt).part in
@@ -190,7 +185,7 @@ map_at v i x b m j =
             | inr ne ↦
                 let same : address_in (block_of (with_set v i x b) (number_of (holder j))) (slot_offset j) ≡ address_in (block_of v (number_of (holder j))) (slot_offset j) =
                 set-cases (λ o. address_in o (slot_offset j) ≡ address_in (block_of v (number_of (holder j))) (slot_offset j)) v.blocks n (number_of (holder j)) c inside
-                (λ e. other_slot (header_place v) i j x b m.below lt m.fits s (number_decides (holder i) (holder j) p q e) (λ f. ne (sym f)) ∙ sym (ap (λ o. address_in o (slot_offset j)) (subst (λ y. block_of v y ≡ Some b) e m.is)))
+                (λ e. other_slot i j x b m.below lt m.fits s (number_decides (holder i) (holder j) p q e) (λ f. ne (sym f)) ∙ sym (ap (λ o. address_in o (slot_offset j)) (subst (λ y. block_of v y ≡ Some b) e m.is)))
                 (λ f. refl) in
                 ap (λ a. cond (nat_lt j 131060) a undefined) same ∙ sym (ap (λ u. cond u x (map_of v j)) (ne_eqb j i ne))
           ]
@@ -258,10 +253,19 @@ behind_after v i x b m bytes us slots =
     part_onward (behind_of bytes (with_set v i x b)) ((only n us index_block ++ flat_map (only n us) visit_order) ++ (own ++ rest)) (us ++ (own ++ rest)) all
     (part_joined (only n us index_block ++ flat_map (only n us) visit_order) (own ++ rest) us (own ++ rest) once (part_itself (own ++ rest)))
 
+set_headed : (v : Store) (i x : ℕ) (b : BlockView) → MaySet v i x b → IsHeaded v → IsHeaded (with_set v i x b)
+set_headed v i x b m =
+    let h : IsHeldAt i = held_at i m.below in
+    let in' = inside_block i b m.below (set_suits v i x b m).block in
+    let fits = (head_fits (header_place v) (holder i)).1 in
+    let o = h.offset in
+    headed_changed v (holder i) b (numbered (slot_offset i) x b) h.part m.array m.is
+    (λ e. take-with_number (slot_offset i) x b.bytes (length (head_of (header_place v) (holder i))) in'.inside (omega arith) ∙ e)
+
 pub set_from : (v : Store) (i x : ℕ) (b : BlockView) → MaySet v i x b → IsSet i x v (with_set v i x b)
 set_from v i x b m =
     let l : IsLater v (with_set v i x b) = later_set v i x b m in
-    record { map = map_at v i x b m; behind = λ bytes. behind_after v i x b m bytes (chunk_at x bytes ∷ []) (slots_set (header_place v) i x bytes b m.below m.fits (set_suits v i x b m).block); places = λ n. refl; standing = later_standing v (with_set v i x b) l; stands = later_stands v (with_set v i x b) l; marks = λ n h. h }
+    record { map = map_at v i x b m; behind = λ bytes. behind_after v i x b m bytes (chunk_at x bytes ∷ []) (slots_set i x bytes b m.below m.fits (set_suits v i x b m).block); places = λ n. refl; standing = later_standing v (with_set v i x b) l; stands = later_stands v (with_set v i x b) l; marks = λ n h. h; headed = set_headed v i x b m }
 
 -- ---- No address
 
@@ -275,8 +279,8 @@ chunks_unset bytes (x ∷ rest) (suc k) =
     (subst (λ (us : List Used). AreAmong (one_chunk bytes x ++ chunks_in bytes (set rest k undefined)) us) (sym (chunks_split bytes x rest))
     (part_joined (one_chunk bytes x) (chunks_in bytes (set rest k undefined)) (one_chunk bytes x) (chunks_in bytes rest) (part_itself (one_chunk bytes x)) (chunks_unset bytes rest k)))
 
-slots_unset : (at i bytes : ℕ) (b : BlockView) → i < 131060 → IsBlock at (holder i) b → SlotsBring i undefined bytes b []
-slots_unset at i bytes b lt s =
+slots_unset : (i bytes : ℕ) (b : BlockView) → i < 131060 → IsBlock (holder i) b → SlotsBring i undefined bytes b []
+slots_unset i bytes b lt s =
     let h : IsHeldAt i = held_at i lt in
     let k : Part = holder i in
     let fit = slots_fit k h.part in
@@ -290,9 +294,10 @@ unset_from v i b m =
     let s : IsSet i undefined v (with_set v i undefined b) = set_from v i undefined b m in
     record {
       map = s.map;
-      behind = λ bytes. behind_after v i undefined b m bytes [] (slots_unset (header_place v) i bytes b m.below (set_suits v i undefined b m).block);
+      behind = λ bytes. behind_after v i undefined b m bytes [] (slots_unset i bytes b m.below (set_suits v i undefined b m).block);
       places = s.places;
       standing = s.standing;
       stands = s.stands;
       marks = s.marks;
+      headed = s.headed;
     }

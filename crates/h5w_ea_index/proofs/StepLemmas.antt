@@ -15,13 +15,13 @@ use Rattle.h5w_cache.specs.Stores.{Store, block_of, place_of, place_in, is_chang
 use Rattle.h5w_cache.specs.StoreLaws.{IsPlaced, Standing, range_of}
 use Rattle.h5w_visits.specs.Ranges.{block_at}
 use Rattle.h5w_array_laws.specs.Parts.{Part, index_block, IsPart, number_of, length_of, slot_count, slots_from, holder, slot_offset, visit_order}
-use Rattle.h5w_array_laws.specs.ArrayStores.{block_at_part, place_at_part, address_in, map_of, slots_in, chunks_in, own_range, ranges_of, behind_of}
+use Rattle.h5w_array_laws.specs.ArrayStores.{HasHead, IsHeaded, block_at_part, place_at_part, header_place, address_in, map_of, slots_in, chunks_in, own_range, ranges_of, behind_of}
 use Rattle.h5w_array_laws.specs.ArrayImages.{StandsArray}
 use Rattle.h5w_ea_index.specs.Steps.{IsHeld}
 use Rattle.h5w_ea_index.proofs.ByteLemmas.{get_or-numbers_in}
 use Rattle.h5w_ea_index.proofs.PartLemmas.{number_decides, held_at, IsHeldAt}
 use Rattle.h5w_ea_index.proofs.StoreLemmas.{marks, marked-is, marks-self, marks-more, listed-none, none-listed, set-cases}
-use Rattle.h5w_ea_index.proofs.ArrayLemmas.{MayAdd, added, added_as, added-is, added_place, part_inside}
+use Rattle.h5w_ea_index.proofs.ArrayLemmas.{MayAdd, added, added_as, added-is, added_place, headed_added, part_inside}
 use Rattle.h5w_ea_index.proofs.OrderLemmas.{visited_parts, ByRecursion-same, flat_map-same}
 
 -- ---- Places and what stands
@@ -63,11 +63,11 @@ later_stands v w l img st = record {
   };
 }
 
-pub held_from : (v w : Store) → IsLater v w → ((i : ℕ) → map_of w i ≡ map_of v i) → ((bytes : ℕ) → behind_of bytes w ≡ behind_of bytes v) → IsHeld v w
-held_from v w l m b = record { map = m; behind = b; places = l.places; standing = later_standing v w l; stands = later_stands v w l; marks = l.marks }
+pub held_from : (v w : Store) → IsLater v w → ((i : ℕ) → map_of w i ≡ map_of v i) → ((bytes : ℕ) → behind_of bytes w ≡ behind_of bytes v) → (IsHeaded v → IsHeaded w) → IsHeld v w
+held_from v w l m b h = record { map = m; behind = b; places = l.places; standing = later_standing v w l; stands = later_stands v w l; marks = l.marks; headed = h }
 
 pub held_same : (v : Store) → IsHeld v v
-held_same v = record { map = λ i. refl; behind = λ n. refl; places = λ n. refl; standing = λ s h. h; stands = λ img h. h; marks = λ n h. h }
+held_same v = record { map = λ i. refl; behind = λ n. refl; places = λ n. refl; standing = λ s h. h; stands = λ img h. h; marks = λ n h. h; headed = λ h. h }
 
 pub held_onward : (u v w : Store) → IsHeld u v → IsHeld v w → IsHeld u w
 held_onward u v w a b = record {
@@ -77,6 +77,7 @@ held_onward u v w a b = record {
   standing = λ s h. b.standing s (a.standing s h);
   stands = λ img h. b.stands img (a.stands img h);
   marks = λ n h. b.marks n (a.marks n h);
+  headed = λ h. b.headed (a.headed h);
 }
 
 -- ---- Marks
@@ -85,7 +86,7 @@ more_marks : (v : Store) (d : List ℕ) → ((n : ℕ) → is_listed n v.changed
 more_marks v d more =
     held_from v (record v { changed = d })
     (record { places = λ n. refl; marks = more; kept = λ n h. h.kept; lengths = λ n h. refl; clean = λ n h c. refl })
-    (λ i. refl) (λ n. refl)
+    (λ i. refl) (λ n. refl) (λ h. h)
 
 pub held_marked : (v : Store) (n : ℕ) → IsHeld v (marked n v)
 held_marked v n = subst (IsHeld v) (sym (marked-is n v)) (more_marks v (marks n v.changed) (λ m h. marks-more n m v.changed h))
@@ -149,8 +150,8 @@ later_added v k b may =
       clean = λ m h c. other m h;
     }
 
-pub held_added : (v : Store) (k : Part) (b : BlockView) → MayAdd v k → IsEmpty k b → IsHeld v (added (number_of k) b v)
-held_added v k b may empty =
+pub held_added : (v : Store) (k : Part) (b : BlockView) → MayAdd v k → IsEmpty k b → HasHead (header_place v) k b → IsHeld v (added (number_of k) b v)
+held_added v k b may empty head =
     let n : ℕ = number_of k in
     let w : Store = added_as n b v in
     let inside : n < length v.blocks = part_inside v k may.part may.array in
@@ -164,7 +165,8 @@ held_added v k b may empty =
     (λ m p. set-cases (λ o. chunks_in bytes (slots_in o m) ≡ chunks_in bytes (slots_in (block_at_part v m) m)) v.blocks n (number_of m) b inside
     (λ e. let same : k ≡ m = number_decides k m may.part p e in
     ap (chunks_in bytes) (subst (λ x. IsEmpty x b) same empty) ∙ no_chunks bytes (slot_count m) ∙ sym (ap (λ o. chunks_in bytes (slots_in o m)) (subst (λ x. block_at_part v x ≡ None) same may.none)))
-    (λ ne. refl))))
+    (λ ne. refl)))
+    (headed_added v k b may head))
 
 pub is_added : (v : Store) (n : ℕ) (b : BlockView) → is_changed (added n b v) n ≡ true
 is_added v n b = ap (λ (s : Store). is_changed s n) (added-is n b v) ∙ marks-self n v.changed

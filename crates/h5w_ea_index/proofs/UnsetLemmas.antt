@@ -23,6 +23,7 @@ unset_then i u v w a b = record {
   standing = λ s h. b.standing s (a.standing s h);
   stands = λ img h. b.stands img (a.stands img h);
   marks = λ n h. b.marks n (a.marks n h);
+  headed = λ h. b.headed (a.headed h);
 }
 
 pub setting_unset : (v u : Store) (i : ℕ) → Setting v u i undefined → IsUnset i v u
@@ -41,8 +42,8 @@ map_high v i d =
 pub max_below : (v : Store) (m : ℕ) → IsMaxSet v m → m ≤ 131060
 max_below v m h = elim h.least [ inl z ↦ omega arith | inr d ↦ let b = map_high v (m - 1) d in omega arith ]
 
-pub top_number : (v u : Store) (i x : ℕ) → (s : Setting v u i x) → number_at 4 u ≡ s.numbered.max
-top_number v u i x s = ap (λ l. get_or l 4 0) (setting_six v u i x s ∙ s.numbered.six)
+pub top_number : (v u : Store) (i x : ℕ) → Setting v u i x → (h : IsNumbered v) → number_at 4 u ≡ h.max
+top_number v u i x s h = ap (λ l. get_or l 4 0) (setting_six v u i x s ∙ h.six)
 
 -- the greatest chunk number that has an address is sought below the greatest that had one
 max_unset : (v u w : Store) (i m count : ℕ) → IsUnset i v u → IsHeld u w → IsMaxSet v m → ((j : ℕ) → count ≤ j → j < m → map_of u j ≡ undefined) → (count ≡ 0) ⊎ (map_of u (count - 1) ≢ undefined) → IsMaxSet w count
@@ -66,14 +67,13 @@ max_unset v u w i m count s h g above least = record {
   least = elim least [ inl z ↦ inl z | inr d ↦ inr (λ u. d (sym (h.map (count - 1)) ∙ u)) ];
 }
 
-pub unset_numbered : (v u w : Store) (i count : ℕ) → Setting v u i undefined → ((j : ℕ) → count ≤ j → j < number_at 4 u → map_of u j ≡ undefined) → (count ≡ 0) ⊎ (map_of u (count - 1) ≢ undefined)
+pub unset_numbered : (v u w : Store) (i count : ℕ) → Setting v u i undefined → IsNumbered v → ((j : ℕ) → count ≤ j → j < number_at 4 u → map_of u j ≡ undefined) → (count ≡ 0) ⊎ (map_of u (count - 1) ≢ undefined)
     → IsCounted (with_at 4 count (six u)) u w → IsNumbered w
-unset_numbered v u w i count s above least c =
-    let h : IsNumbered v = s.numbered in
+unset_numbered v u w i count s h above least c =
     let e : six u ≡ total one_secondary v ∷ total secondary_bytes v ∷ total one_data v ∷ total data_bytes v ∷ h.max ∷ (4 + total slot_count v) ∷ [] = setting_six v u i undefined s ∙ h.six in
     let kept : (n : ℕ) → is_some (block_of w n) ≡ is_some (block_of v n) = λ n. c.kept n ∙ setting_kept v u i undefined n s in
     let same : (weight : Part → ℕ) → total weight v ≡ total weight w = λ weight. sym (total_same weight v w kept) in
-    let bound : number_at 4 u ≡ h.max = top_number v u i undefined s in
+    let bound : number_at 4 u ≡ h.max = top_number v u i undefined s h in
     record {
       max = count;
       greatest = max_unset v u w i h.max count (setting_unset v u i s) c.held h.greatest (λ j from below. above j from (omega arith)) least;

@@ -1,7 +1,5 @@
 -- What the blocks on the way to a slot, an address that is set and the six numbers come to.
-use Rattle.std.proofs.Common.{◌≡◌, ◌≢◌, inl, inr, ℕ, ◌+◌, ◌-◌, ◌*◌, ◌^◌, ◌<◌, ◌≤◌, Bool, List, [], ◌∷◌, length, map, get_or, replicate, true, false, max, refl, sym, ap, subst, ◌∙◌, arith, eq-eqb, ne_eqb}
-use Rattle.std.proofs.Math.ListN.{set}
-use Rattle.std.proofs.lemmas.List.{get_or-set_other}
+use Rattle.std.proofs.Common.{◌≡◌, ◌≢◌, inl, inr, ℕ, ◌+◌, ◌-◌, ◌*◌, ◌^◌, ◌<◌, ◌≤◌, Bool, List, [], ◌∷◌, length, map, get_or, replicate, true, false, max, min, refl, sym, ap, subst, ◌∙◌, arith, eq-eqb, ne_eqb}
 use Rattle.std.proofs.lemmas.Bool.{cases_eq, cases_lt, cases_Bool}
 use Rattle.std.proofs.lemmas.Bool.Decides.{nat_tests}
 use Rattle.std.specs.Prelude.{Option, Some, None, IsSome, IfSome, is_some, cond, nat_lt, ◌==◌}
@@ -10,7 +8,6 @@ use Rattle.std.proofs.lemmas.Option.{IfSome_then}
 use Rattle.std.specs.List.{All}
 use Rattle.h5w_model.specs.Numbers.{undefined, field}
 use Rattle.h5w_model.specs.Arrays.{numbers_in}
-use Rattle.h5w_model.proofs.ArrayLemmas.{length-numbers_in}
 use Rattle.h5w_cache.specs.Blocks.{BlockView, numbered}
 use Rattle.h5w_cache.specs.Plans.{bytes_of}
 use Rattle.h5w_cache.specs.Stores.{Store, block_of, place_of, is_changed, changed_to, marked, kept_under, times}
@@ -18,10 +15,10 @@ use Rattle.h5w_model.specs.Findings.{Used}
 use Rattle.h5w_visits.specs.Ranges.{chunk_at}
 use Rattle.h5w_array_laws.specs.Among.{AreAmong}
 use Rattle.h5w_array_laws.specs.Parts.{Part, data_of, secondary_of, index_block, header, IsPart, number_of, length_of, children, slot_count, holder, slot_offset, visit_order, parent, stays_in_place}
-use Rattle.h5w_array_laws.specs.ArrayStores.{IsArray, IsNumbered, IsMaxSet, block_at_part, place_at_part, bytes_at_part, header_place, address_in, map_of, total, one_secondary, one_data, secondary_bytes, data_bytes, behind_of}
+use Rattle.h5w_array_laws.specs.ArrayStores.{IsArray, IsNumbered, IsMaxSet, block_at_part, place_at_part, header_place, address_in, map_of, total, one_secondary, one_data, secondary_bytes, data_bytes, behind_of}
 use Rattle.h5w_array_laws.proofs.KeptLemmas.{is_some_of, of_some}
 use Rattle.h5w_ea_index.specs.Steps.{IsHeld, IsSet, IsSlotOrHeader, OnWay, Touches}
-use Rattle.h5w_ea_index.specs.Counts.{six, number_at, AreSmall, IsCounted, with_at, more_at}
+use Rattle.h5w_ea_index.specs.Counts.{six, number_at, IsCounted, with_at, more_at}
 use Rattle.h5w_ea_index.specs.Fresh.{IsFresh}
 use Rattle.h5w_ea_index.proofs.ByteLemmas.{get_or-numbers_in}
 use Rattle.h5w_ea_index.proofs.PartLemmas.{held_at, IsHeldAt, part_parent, are_children, slots_fit}
@@ -30,7 +27,7 @@ use Rattle.h5w_ea_index.proofs.ArrayLemmas.{Suits, MayAdd, added, added_as, adde
 use Rattle.h5w_ea_index.proofs.StepLemmas.{held_onward, held_marked, held_added, is_marked, is_added}
 use Rattle.h5w_ea_index.proofs.TouchLemmas.{own_way, touch_added, touch_changed, touch_marked, touch_more, touch_onward}
 use Rattle.h5w_ea_index.proofs.SetLemmas.{MaySet, with_set, set_from, set_suits, suits_set}
-use Rattle.h5w_ea_index.proofs.CountLemmas.{IsHeader, six_written, IsMore, total_more, total_same, data_once, secondary_once, numbers_small, counted_onward, header_long, holder_other}
+use Rattle.h5w_ea_index.proofs.CountLemmas.{IsHeader, six_written, IsMore, total_more, total_same, data_once, secondary_once, below_that, secondaries_few, secondary_bytes_few, data_few, data_bytes_few, slots_few, counted_onward, header_long, holder_other}
 
 -- ---- The six numbers
 
@@ -48,12 +45,6 @@ written_from v w i x a h lt fits e =
 
 pub number_inside : (v : Store) (b : BlockView) (i : ℕ) → IsArray v → block_of v 846 ≡ Some b → i < 6 → 12 + 8 * i + 8 ≤ length b.bytes
 number_inside v b i a e lt = let l = header_long v b a e in omega arith
-
-pub small_at : (v : Store) (i : ℕ) → AreSmall v → i < 6 → number_at i v < 2 ^ 62
-small_at v i s lt = s i 0 (subst (λ n. i < n) (sym (length-numbers_in (bytes_at_part v header) 6 12)) lt)
-
-pub number_other : (v w : Store) (i j n : ℕ) → six w ≡ set (six v) i n → j ≢ i → number_at j w ≡ number_at j v
-number_other v w i j n e ne = ap (λ l. get_or l j 0) e ∙ get_or-set_other (six v) i j n 0 ne
 
 pub counted_two : (f g : List ℕ → List ℕ) (u v w : Store) → IsCounted (f (six u)) u v → IsCounted (g (six v)) v w → IsCounted (g (f (six u))) u w
 counted_two f g u v w a b = subst (λ l. IsCounted (g l) u w) a.six (counted_onward (f (six u)) (g (six v)) u v w a b)
@@ -111,14 +102,13 @@ making_suits : (v u : Store) (k : Part) (b : BlockView) → Making v u k b → S
 making_suits v u k b m = record {
   block = m.fresh.block;
   names = m.fresh.unnamed ∙ sym (all_unplaced v (children k) (λ i d lt. let c = are_children k m.part i d lt in child_unplaced v k (get_or (children k) i d) m.array m.none c.part c.parent));
-  beyond = λ e. absurd (let t : is_some (block_at_part v k) ≡ false = ap is_some m.none in let h : IsSome (block_at_part v k) = subst (λ x. IsSome (block_at_part v x)) (sym e) (m.array.in_place index_block tt refl).0 in cc);
 }
 
 pub making_array : (v u : Store) (k : Part) (b : BlockView) → Making v u k b → IsArray u
 making_array v u k b m = subst IsArray (sym m.is) (added_array v k b (making_may v u k b m) (making_suits v u k b m))
 
 pub making_held : (v u : Store) (k : Part) (b : BlockView) → Making v u k b → IsHeld v u
-making_held v u k b m = subst (IsHeld v) (sym m.is) (held_added v k b (making_may v u k b m) m.fresh.empty)
+making_held v u k b m = subst (IsHeld v) (sym m.is) (held_added v k b (making_may v u k b m) m.fresh.empty m.fresh.head)
 
 pub making_changed : (v u : Store) (k : Part) (b : BlockView) → Making v u k b → is_changed u (number_of k) ≡ true
 making_changed v u k b m = ap (λ (s : Store). is_changed s (number_of k)) m.is ∙ is_added v (number_of k) b
@@ -141,9 +131,6 @@ making_six v u k b m =
     let ne : number_of k ≢ 846 = λ e. absurd (let t : is_some (block_of v (number_of k)) ≡ false = ap is_some m.none in let h : IsSome (block_of v (number_of k)) = subst (λ n. IsSome (block_of v n)) (sym e) (m.array.in_place header tt refl).0 in cc) in
     ap (λ (s : Store). six s) (making_as v u k b m) ∙ ap (λ o. numbers_in (bytes_of o) 6 12) (set-other v.blocks (number_of k) 846 b ne)
 
-pub making_small : (v u : Store) (k : Part) (b : BlockView) → Making v u k b → IsNumbered v → AreSmall u
-making_small v u k b m n = subst (λ (l : List ℕ). All (λ (n : ℕ). n < 2 ^ 62) l) (sym (making_six v u k b m)) (numbers_small v n)
-
 pub max_same : (v w : Store) (m : ℕ) → ((i : ℕ) → map_of w i ≡ map_of v i) → IsMaxSet v m → IsMaxSet w m
 max_same v w m e h = record {
   above = λ i d. h.above i (λ u. d (e i ∙ u));
@@ -163,14 +150,18 @@ data_numbered v u w s n len slots b m h el es c =
     let t2 = total_made one_data v u w k b m once c.kept in
     let t3 = total_made data_bytes v u w k b m once c.kept in
     let t5 = total_made slot_count v u w k b m once c.kept in
+    let b2 = below_that one_data w data_few in
+    let b3 = below_that data_bytes w data_bytes_few in
+    let b5 = below_that slot_count w slots_few in
     let e0 : total one_secondary v ≡ total one_secondary w = omega arith in
     let e1 : total secondary_bytes v ≡ total secondary_bytes w = omega arith in
-    let e3 : total data_bytes v + len ≡ total data_bytes w = omega arith in
-    let e5 : 4 + total slot_count v + slots ≡ 4 + total slot_count w = omega arith in
+    let e2 : min (total one_data v + 1) (2 ^ 64 - 1) ≡ total one_data w = omega arith in
+    let e3 : min (total data_bytes v + len) (2 ^ 64 - 1) ≡ total data_bytes w = omega arith in
+    let e5 : min (4 + total slot_count v + slots) (2 ^ 64 - 1) ≡ 4 + total slot_count w = omega arith in
     record {
       max = h.max;
       greatest = max_same v w h.max (λ i. c.held.map i ∙ (making_held v u k b m).map i) h.greatest;
-      six = c.six ∙ ap (λ l. more_at 5 slots (more_at 3 len (more_at 2 1 l))) (making_six v u k b m ∙ h.six) ∙ (λ i. e0 i ∷ e1 i ∷ t2 i ∷ e3 i ∷ h.max ∷ e5 i ∷ []);
+      six = c.six ∙ ap (λ l. more_at 5 slots (more_at 3 len (more_at 2 1 l))) (making_six v u k b m ∙ h.six) ∙ (λ i. e0 i ∷ e1 i ∷ e2 i ∷ e3 i ∷ h.max ∷ e5 i ∷ []);
     }
 
 pub secondary_numbered : (v u w : Store) (s len : ℕ) (b : BlockView) → Making v u (secondary_of s) b → IsNumbered v → len ≡ length_of (secondary_of s) → IsCounted (more_at 1 len (more_at 0 1 (six u))) u w → IsNumbered w
@@ -182,14 +173,17 @@ secondary_numbered v u w s len b m h el c =
     let t2 = total_made one_data v u w k b m once c.kept in
     let t3 = total_made data_bytes v u w k b m once c.kept in
     let t5 = total_made slot_count v u w k b m once c.kept in
-    let e1 : total secondary_bytes v + len ≡ total secondary_bytes w = omega arith in
+    let b0 = below_that one_secondary w secondaries_few in
+    let b1 = below_that secondary_bytes w secondary_bytes_few in
+    let e0 : min (total one_secondary v + 1) (2 ^ 64 - 1) ≡ total one_secondary w = omega arith in
+    let e1 : min (total secondary_bytes v + len) (2 ^ 64 - 1) ≡ total secondary_bytes w = omega arith in
     let e2 : total one_data v ≡ total one_data w = omega arith in
     let e3 : total data_bytes v ≡ total data_bytes w = omega arith in
     let e5 : 4 + total slot_count v ≡ 4 + total slot_count w = omega arith in
     record {
       max = h.max;
       greatest = max_same v w h.max (λ i. c.held.map i ∙ (making_held v u k b m).map i) h.greatest;
-      six = c.six ∙ ap (λ l. more_at 1 len (more_at 0 1 l)) (making_six v u k b m ∙ h.six) ∙ (λ i. t0 i ∷ e1 i ∷ e2 i ∷ e3 i ∷ h.max ∷ e5 i ∷ []);
+      six = c.six ∙ ap (λ l. more_at 1 len (more_at 0 1 l)) (making_six v u k b m ∙ h.six) ∙ (λ i. e0 i ∷ e1 i ∷ e2 i ∷ e3 i ∷ h.max ∷ e5 i ∷ []);
     }
 
 -- ---- Marks
@@ -208,7 +202,6 @@ pub record Marking (v w : Store) (k : Part) : Type 0 where
   pub part : IsPart k
   pub copy : stays_in_place k ≡ false
   pub array : IsArray v
-  pub numbered : IsNumbered v
   pub kept : IsSome (block_at_part v k)
   pub up : is_changed v (number_of (parent k)) ≡ true
   pub is : w ≡ marked (number_of k) v
@@ -216,8 +209,8 @@ pub record Marking (v w : Store) (k : Part) : Type 0 where
 pub marking_array : (v w : Store) (k : Part) → Marking v w k → IsArray w
 marking_array v w k m = subst IsArray (sym m.is) (marked_array v k m.part (λ e. let t : stays_in_place k ≡ true = ap stays_in_place e in absurd (let f = m.copy in cc)) m.array m.kept m.up)
 
-pub marking_numbered : (v w : Store) (k : Part) → Marking v w k → IsNumbered w
-marking_numbered v w k m = subst IsNumbered (sym m.is) (numbered_marked v (number_of k) m.numbered)
+pub marking_numbered : (v w : Store) (k : Part) → Marking v w k → IsNumbered v → IsNumbered w
+marking_numbered v w k m h = subst IsNumbered (sym m.is) (numbered_marked v (number_of k) h)
 
 pub marking_held : (v w : Store) (k : Part) → Marking v w k → IsHeld v w
 marking_held v w k m = subst (IsHeld v) (sym m.is) (held_marked v (number_of k))
@@ -239,6 +232,7 @@ set_then i x u v w a b = record {
   standing = λ s h. b.standing s (a.standing s h);
   stands = λ img h. b.stands img (a.stands img h);
   marks = λ n h. b.marks n (a.marks n h);
+  headed = λ h. b.headed (a.headed h);
 }
 
 -- what the code knows where it sets an address
@@ -246,7 +240,6 @@ pub record Setting (v u : Store) (i x : ℕ) : Type 0 where
   pub below : i < 131060
   pub fits : x < 2 ^ 64
   pub array : IsArray v
-  pub numbered : IsNumbered v
   pub changed : is_changed v (number_of (holder i)) ≡ true
   pub is : IfSome (block_at_part v (holder i)) (λ b. u ≡ with_set v i x b)
 
@@ -309,9 +302,8 @@ max_set v u w i x m some s h g =
       ];
     }
 
-pub setting_numbered : (v u w : Store) (i x : ℕ) → Setting v u i x → x ≢ undefined → IsCounted (with_at 4 (max (number_at 4 u) (i + 1)) (six u)) u w → IsNumbered w
-setting_numbered v u w i x s some c =
-    let h : IsNumbered v = s.numbered in
+pub setting_numbered : (v u w : Store) (i x : ℕ) → Setting v u i x → IsNumbered v → x ≢ undefined → IsCounted (with_at 4 (max (number_at 4 u) (i + 1)) (six u)) u w → IsNumbered w
+setting_numbered v u w i x s h some c =
     let e : six u ≡ total one_secondary v ∷ total secondary_bytes v ∷ total one_data v ∷ total data_bytes v ∷ h.max ∷ (4 + total slot_count v) ∷ [] = setting_six v u i x s ∙ h.six in
     let kept : (n : ℕ) → is_some (block_of w n) ≡ is_some (block_of v n) = λ n. c.kept n ∙ setting_kept v u i x n s in
     let same : (weight : Part → ℕ) → total weight v ≡ total weight w = λ weight. sym (total_same weight v w kept) in
@@ -342,12 +334,11 @@ made_from v u k b n at part array none up fresh here number is = record {
   is = is ∙ ap (λ m. added m b v) number;
 }
 
-pub marking_from : (v w : Store) (k : Part) (n : ℕ) (kept : Bool) → IsPart k → stays_in_place k ≡ false → IsArray v → IsNumbered v → kept ≡ is_some (block_of v n) → kept ≡ true → is_changed v (number_of (parent k)) ≡ true → n ≡ number_of k → w ≡ marked n v → Marking v w k
-marking_from v w k n kept part copy array numbered tells is_kept up number is = record {
+pub marking_from : (v w : Store) (k : Part) (n : ℕ) (kept : Bool) → IsPart k → stays_in_place k ≡ false → IsArray v → kept ≡ is_some (block_of v n) → kept ≡ true → is_changed v (number_of (parent k)) ≡ true → n ≡ number_of k → w ≡ marked n v → Marking v w k
+marking_from v w k n kept part copy array tells is_kept up number is = record {
   part = part;
   copy = copy;
   array = array;
-  numbered = numbered;
   kept = ap (λ m. is_some (block_of v m)) (sym number) ∙ sym tells ∙ is_kept;
   up = up;
   is = is ∙ ap (λ m. marked m v) number;
@@ -369,13 +360,12 @@ read_fits v i n o k lt a e f g =
     subst (λ m. IfSome (block_of v m) (λ b. o + 8 ≤ length b.bytes)) (sym (f ∙ ap number_of e))
     (subst (λ p. IfSome (block_at_part v (holder i)) (λ b. p + 8 ≤ length b.bytes)) (sym g) (slot_inside v i lt a))
 
-pub setting_from : (v u : Store) (i x n o : ℕ) (k : Part) → i < 131060 → x < 2 ^ 64 → IsArray v → IsNumbered v → is_changed v (number_of (holder i)) ≡ true → k ≡ holder i → n ≡ number_of k → o ≡ slot_offset i
+pub setting_from : (v u : Store) (i x n o : ℕ) (k : Part) → i < 131060 → x < 2 ^ 64 → IsArray v → is_changed v (number_of (holder i)) ≡ true → k ≡ holder i → n ≡ number_of k → o ≡ slot_offset i
     → IfSome (block_of v n) (λ b. u ≡ changed_to n (numbered o x b) v) → Setting v u i x
-setting_from v u i x n o k lt fits a h changed e f g is = record {
+setting_from v u i x n o k lt fits a changed e f g is = record {
   below = lt;
   fits = fits;
   array = a;
-  numbered = h;
   changed = changed;
   is = subst (λ m. IfSome (block_of v m) (λ b. u ≡ changed_to m (numbered (slot_offset i) x b) v)) (f ∙ ap number_of e) (subst (λ p. IfSome (block_of v n) (λ b. u ≡ changed_to n (numbered p x b) v)) g is);
 }

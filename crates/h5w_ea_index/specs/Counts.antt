@@ -1,6 +1,5 @@
 -- The six numbers of an array's header while they change.
-use Rattle.std.specs.Prelude.{◌≡◌, ℕ, ◌+◌, ◌<◌, ◌^◌, List, slice_index_or, slice_set, is_some}
-use Rattle.std.specs.List.{All}
+use Rattle.std.specs.Prelude.{◌≡◌, ℕ, ◌+◌, ◌-◌, ◌^◌, min, List, slice_index_or, slice_set, is_some}
 use Rattle.h5w_model.specs.Arrays.{numbers_in}
 use Rattle.h5w_cache.specs.Stores.{Store, block_of}
 use Rattle.h5w_array_laws.specs.Parts.{header, number_of}
@@ -14,10 +13,6 @@ six v = numbers_in (bytes_at_part v header) 6 12
 abbrev pub number_at : ℕ → Store → ℕ
 number_at i v = slice_index_or (six v) i 0
 
--- there is room above each of them
-abbrev pub AreSmall : Store → Type 0
-AreSmall v = All (λ (n : ℕ). n < 2 ^ 62) (six v)
-
 -- one of them is another, and the rest as it was
 pub record IsCounted (numbers : List ℕ) (v w : Store) : Type 0 where
   pub array : IsArray w
@@ -29,6 +24,6 @@ pub record IsCounted (numbers : List ℕ) (v w : Store) : Type 0 where
 abbrev pub with_at : ℕ → ℕ → List ℕ → List ℕ
 with_at i n numbers = slice_set numbers i n
 
--- one of them is more by so many
+-- one of them is more by so many; it stands still at the end of its type
 abbrev pub more_at : ℕ → ℕ → List ℕ → List ℕ
-more_at i n numbers = slice_set numbers i (slice_index_or numbers i 0 + n)
+more_at i n numbers = slice_set numbers i (min (slice_index_or numbers i 0 + n) (2 ^ 64 - 1))

@@ -7,3 +7,9 @@ pub mod Steps
 pub mod Fresh
 pub mod Counts
 pub mod Created
+pub mod Opened
+pub mod OpenedLaws
+pub mod Loading
+pub mod Ranges
+pub use Rattle.h5w_looks.specs.Still
+pub use Rattle.h5w_image.specs.View

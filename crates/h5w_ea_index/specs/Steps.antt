@@ -7,10 +7,10 @@ use Rattle.h5w_array_laws.specs.Parts.{Part, index_block, header, holder, number
 use Rattle.h5w_cache.specs.StoreLaws.{Standing}
 use Rattle.h5w_visits.specs.Ranges.{chunk_at}
 use Rattle.h5w_array_laws.specs.Among.{AreAmong}
-use Rattle.h5w_array_laws.specs.ArrayStores.{map_of, behind_of}
+use Rattle.h5w_array_laws.specs.ArrayStores.{IsHeaded, map_of, behind_of}
 use Rattle.h5w_array_laws.specs.ArrayImages.{StandsArray}
 
--- The map and the ranges stay, and so do the places; what stands apart and in an image does; no mark is lost.
+-- The map and the ranges stay, and so do the places; what stands apart and in an image does; no mark is lost, and no head.
 pub record IsHeld (v w : Store) : Type 0 where
   pub map : (i : ℕ) → map_of w i ≡ map_of v i
   pub behind : (bytes : ℕ) → behind_of bytes w ≡ behind_of bytes v
@@ -18,6 +18,7 @@ pub record IsHeld (v w : Store) : Type 0 where
   pub standing : (s : Space) → Standing v s → Standing w s
   pub stands : (img : List ℕ) → StandsArray v img → StandsArray w img
   pub marks : (n : ℕ) → is_changed v n ≡ true → is_changed w n ≡ true
+  pub headed : IsHeaded v → IsHeaded w
 
 -- The map is another at one chunk number; of ranges there is that chunk's more, and none other; the rest stays as above.
 pub record IsSet (i address : ℕ) (v w : Store) : Type 0 where
@@ -27,6 +28,7 @@ pub record IsSet (i address : ℕ) (v w : Store) : Type 0 where
   pub standing : (s : Space) → Standing v s → Standing w s
   pub stands : (img : List ℕ) → StandsArray v img → StandsArray w img
   pub marks : (n : ℕ) → is_changed v n ≡ true → is_changed w n ≡ true
+  pub headed : IsHeaded v → IsHeaded w
 
 -- The map is undefined at one chunk number, and of ranges there is none other; the rest stays as above.
 pub record IsUnset (i : ℕ) (v w : Store) : Type 0 where
@@ -36,6 +38,7 @@ pub record IsUnset (i : ℕ) (v w : Store) : Type 0 where
   pub standing : (s : Space) → Standing v s → Standing w s
   pub stands : (img : List ℕ) → StandsArray v img → StandsArray w img
   pub marks : (n : ℕ) → is_changed v n ≡ true → is_changed w n ≡ true
+  pub headed : IsHeaded v → IsHeaded w
 
 -- an address, where it is defined
 abbrev pub found : ℕ → Option ℕ

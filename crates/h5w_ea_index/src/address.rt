@@ -17,6 +17,9 @@ use h5w_cache::Cache;
 use h5w_model::OutOfMemory;
 use std::alloc::Global;
 
+/// How many chunks an array has at most whose data blocks have no pages.
+const CHUNKS: u64 = 131_060;
+
 /// The number under which the block that has a slot is kept.
 fn holder_number(holder: Holder) -> u32
     requires { IsPart (part_of holder) }
@@ -29,7 +32,7 @@ fn holder_number(holder: Holder) -> u32
 }
 
 /// The address in eight bytes of a block, undefined where none is kept.
-fn read(cache: &Cache, number_of_block: u32, offset: usize) -> u64
+pub fn read(cache: &Cache, number_of_block: u32, offset: usize) -> u64
     requires { IfSome (block_of cache.now number_of_block) (λ b. offset + 8 ≤ length b.bytes) }
     ensures { result ≡ address_in (block_of cache.now number_of_block) offset }
 {
@@ -53,9 +56,8 @@ pub fn address(cache: &Cache, i: u64) -> u64
 fn hold_holder(alloc: Global, cache: &mut Cache, holder: Holder) -> Result<(), OutOfMemory>
     requires part { IsPart (part_of holder) }
     requires array { IsArray cache.old }
-    requires numbered { IsNumbered cache.old }
     ensures array { IsArray cache.new }
-    ensures numbered { IsNumbered cache.new }
+    ensures numbered { IsNumbered cache.old → IsNumbered cache.new }
     ensures held { IsHeld cache.old cache.new }
     ensures way { Touches (OnWay (part_of holder)) cache.old cache.new }
     ensures changed { OnOk result (is_changed cache.new (number_of (part_of holder)) ≡ true) }
@@ -73,9 +75,8 @@ fn hold_holder(alloc: Global, cache: &mut Cache, holder: Holder) -> Result<(), O
 pub fn hold(alloc: Global, cache: &mut Cache, i: u64) -> Result<(), OutOfMemory>
     requires below { i < 131060 }
     requires array { IsArray cache.old }
-    requires numbered { IsNumbered cache.old }
     ensures array { IsArray cache.new }
-    ensures numbered { IsNumbered cache.new }
+    ensures numbered { IsNumbered cache.old → IsNumbered cache.new }
     ensures held { IsHeld cache.old cache.new }
     ensures way { Touches (OnWay (holder i)) cache.old cache.new }
     ensures changed { OnOk result (is_changed cache.new (number_of (holder i)) ≡ true) }
@@ -87,11 +88,10 @@ pub fn hold(alloc: Global, cache: &mut Cache, i: u64) -> Result<(), OutOfMemory>
 pub fn set(cache: &mut Cache, i: u64, address: u64)
     requires below { i < 131060 }
     requires array { IsArray cache.old }
-    requires numbered { IsNumbered cache.old }
     requires changed { is_changed cache.old (number_of (holder i)) ≡ true }
     requires defined { address ≢ undefined }
     ensures array { IsArray cache.new }
-    ensures numbered { IsNumbered cache.new }
+    ensures numbered { IsNumbered cache.old → IsNumbered cache.new }
     ensures set { IsSet i address cache.old cache.new }
     ensures way { Touches (IsSlotOrHeader i) cache.old cache.new }
 {
@@ -121,15 +121,14 @@ fn last_set(cache: &Cache, count: u64) -> u64
 pub fn unset(cache: &mut Cache, i: u64)
     requires below { i < 131060 }
     requires array { IsArray cache.old }
-    requires numbered { IsNumbered cache.old }
     requires changed { is_changed cache.old (number_of (holder i)) ≡ true }
     ensures array { IsArray cache.new }
-    ensures numbered { IsNumbered cache.new }
+    ensures numbered { IsNumbered cache.old → IsNumbered cache.new }
     ensures unset { IsUnset i cache.old cache.new }
     ensures way { Touches (IsSlotOrHeader i) cache.old cache.new }
 {
     let slot = locate(i);
     cache.set_number(holder_number(slot.holder), slot.offset, UNDEFINED);
-    let count = last_set(cache, max_index_set(cache));
+    let count = last_set(cache, max_index_set(cache).min(CHUNKS));
     set_max_index(cache, count);
 }

@@ -15,15 +15,15 @@ use h5w_model::OutOfMemory;
 use std::alloc::Global;
 
 /// How many numbers blocks may have.
-const NUMBERS: usize = 847;
+pub const NUMBERS: usize = 847;
 
 /// The numbers of the blocks that the index block names: six data blocks, and the secondary blocks of the super blocks 4 to 12.
-const NAMED: [u32; 15] = [
+pub const NAMED: [u32; 15] = [
     0, 65, 130, 131, 195, 196, 324, 389, 454, 519, 584, 649, 714, 779, 844,
 ];
 
 /// Links to these, whose addresses stand one after another from `from` on.
-fn links(alloc: Global, from: usize, numbers: &[u32]) -> Result<Vec<Link>, OutOfMemory>
+pub fn links(alloc: Global, from: usize, numbers: &[u32]) -> Result<Vec<Link>, OutOfMemory>
     requires { from + 8 * length numbers.now < 1000 }
     ensures { IfOk result (λ v. v.items ≡ links_to from numbers.now) }
 {
@@ -87,7 +87,7 @@ fn index_block(alloc: Global, header: u64) -> Result<Block, OutOfMemory>
 }
 
 /// A store with room for so many numbers.
-fn bare(alloc: Global, numbers: usize) -> Result<Cache, OutOfMemory>
+pub fn bare(alloc: Global, numbers: usize) -> Result<Cache, OutOfMemory>
     ensures { IfOk result (λ v. IsBare numbers v) }
 {
     let mut cache = Cache::new(alloc);
@@ -96,7 +96,7 @@ fn bare(alloc: Global, numbers: usize) -> Result<Cache, OutOfMemory>
 }
 
 /// Keeps a clean block at its place.
-fn keep(cache: &mut Cache, number: u32, block: Block, place: u64)
+pub fn keep(cache: &mut Cache, number: u32, block: Block, place: u64)
     requires inside { number < length cache.old.blocks }
     requires each { length cache.old.places ≡ length cache.old.blocks }
     requires clean { cache.old.changed ≡ [] }

@@ -88,7 +88,7 @@ pub fn data_block(alloc: Global, header: u64, sblock: u32, block: u32) -> Result
 }
 
 /// Links to the data blocks of a super block, whose addresses stand one after another.
-fn links_to(alloc: Global, sblock: u32, count: u32) -> Result<Vec<Link>, OutOfMemory>
+pub fn links_to(alloc: Global, sblock: u32, count: u32) -> Result<Vec<Link>, OutOfMemory>
     requires sblock { sblock ≤ 12 }
     requires count { count ≤ 64 }
     ensures { IfOk result (λ v. v.items ≡ links_from 18 (map (data_of sblock) (range_with_len 0 count))) }

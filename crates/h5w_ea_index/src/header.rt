@@ -4,7 +4,7 @@
 ghost use Rattle.std.specs.Prelude.{◌≡◌, ℕ, ◌+◌, ◌*◌, ◌<◌, ◌≤◌, ◌^◌, true, length, max};
 ghost use Rattle.h5w_cache.specs.Stores.{is_changed};
 ghost use Rattle.h5w_array_laws.specs.ArrayStores.{IsArray};
-ghost use Rattle.h5w_ea_index.specs.Counts.{AreSmall, IsCounted, more_at, number_at, six, with_at};
+ghost use Rattle.h5w_ea_index.specs.Counts.{IsCounted, more_at, number_at, six, with_at};
 
 use crate::slot::HEADER;
 use h5w_bytes::number;
@@ -48,24 +48,21 @@ fn write(cache: &mut Cache, index: usize, value: u64)
     cache.set_number(HEADER, NUMBERS + 8 * index, value);
 }
 
-/// One of the six numbers is more by so many.
+/// One of the six numbers is more by so many; it stands still at its type's end, as others may have left it there.
 fn raise(cache: &mut Cache, index: usize, more: u64)
     requires array { IsArray cache.old }
     requires changed { is_changed cache.old 846 ≡ true }
     requires index { index < 6 }
-    requires fits { number_at index cache.old + more < 2 ^ 64 }
     ensures { IsCounted (more_at index more (six cache.old)) cache.old cache.new }
 {
     let now = read(cache, index);
-    write(cache, index, now + more);
+    write(cache, index, now.saturating_add(more));
 }
 
 /// A secondary block of `len` bytes is counted.
 pub fn count_secondary(cache: &mut Cache, len: u64)
     requires array { IsArray cache.old }
     requires changed { is_changed cache.old 846 ≡ true }
-    requires small { AreSmall cache.old }
-    requires len { len < 2 ^ 32 }
     ensures { IsCounted (more_at 1 len (more_at 0 1 (six cache.old))) cache.old cache.new }
 {
     raise(cache, SECONDARY_BLOCKS, 1);
@@ -76,9 +73,6 @@ pub fn count_secondary(cache: &mut Cache, len: u64)
 pub fn count_data(cache: &mut Cache, len: u64, slots: u64)
     requires array { IsArray cache.old }
     requires changed { is_changed cache.old 846 ≡ true }
-    requires small { AreSmall cache.old }
-    requires len { len < 2 ^ 32 }
-    requires slots { slots < 2 ^ 32 }
     ensures { IsCounted (more_at 5 slots (more_at 3 len (more_at 2 1 (six cache.old)))) cache.old cache.new }
 {
     raise(cache, DATA_BLOCKS, 1);

@@ -1,23 +1,30 @@
-ghost use Rattle.std.specs.Prelude.{◌≡◌, ◌≢◌, ℕ, ◌+◌, ◌<◌, ◌≤◌, ◌^◌, IsTrue, IfErr, IfOk, OnErr, OnOk, length, ◌==◌, []};
+ghost use Rattle.std.specs.Prelude.{◌≡◌, ◌≢◌, ℕ, ◌+◌, ◌<◌, ◌≤◌, ◌^◌, IsTrue, IfErr, IfOk, OnErr, OnOk, length, ◌==◌, List, []};
 ghost use Rattle.h5w_space.specs.Space.{Space};
 ghost use Rattle.h5w_model.specs.Numbers.{undefined};
 ghost use Rattle.h5w_cache.specs.Plans.{HasNoRoom, IfFull};
 ghost use Rattle.h5w_cache.specs.Starts.{IsBegun, copy_pieces, in_place_pieces};
 ghost use Rattle.h5w_cache.specs.Stores.{is_changed, times};
 ghost use Rattle.h5w_array_laws.specs.Parts.{header, holder, index_block, number_of};
-ghost use Rattle.h5w_array_laws.specs.ArrayStores.{IsArray, IsCreated, IsNumbered, bytes_at_part, map_of};
+ghost use Rattle.h5w_array_laws.specs.ArrayStores.{IsArray, IsCreated, IsNumbered, bytes_at_part, header_place, map_of};
 ghost use Rattle.h5w_array_laws.specs.ArrayImages.{StartsArray};
 ghost use Rattle.h5w_array_laws.specs.ArrayPlans.{IsArrayPlan};
+ghost use Rattle.h5w_looks.specs.Still.{IsStill};
+ghost use Rattle.h5w_ea_index.specs.Opened.{IfFound, IfNowhere, IsDamaged, IsOpened, Loads, NamesNone};
+ghost use Rattle.h5w_ea_index.specs.Ranges.{block_ranges};
 ghost use Rattle.h5w_ea_index.specs.Steps.{IsHeld, IsSet, IsSlotOrHeader, IsUnset, OnWay, Touches, found};
 
 use crate::address;
 use crate::create::create;
+use crate::error::OpenArrayError;
+use crate::open::open;
 use crate::plan::finish;
+use crate::ranges::ranges;
 use crate::slot::{HEADER, INDEX_BLOCK, bytes};
 use h5w_bytes::UNDEFINED;
 use h5w_cache::{Begun, Cache, Plan, PlanError};
+use h5w_image::PieceRead;
 use h5w_model::OutOfMemory;
-use h5w_space::Places;
+use h5w_space::{Extent, Places};
 use std::alloc::Global;
 use std::marker::Model;
 
@@ -31,13 +38,13 @@ pub struct ArrayIndex {
 
 impl Model for ArrayIndex {
     ghost use Rattle.h5w_cache.specs.Stores.{Store};
-    ghost use Rattle.h5w_array_laws.specs.ArrayStores.{IsArray, IsNumbered};
+    ghost use Rattle.h5w_array_laws.specs.ArrayStores.{IsArray};
 
     ghost Value = { Store };
 
     ghost view = { λ a. a.cache };
 
-    ghost invariant = { λ a. IsArray a.cache × IsNumbered a.cache };
+    ghost invariant = { λ a. IsArray a.cache };
 }
 
 impl ArrayIndex {
@@ -54,6 +61,36 @@ impl ArrayIndex {
         Ok(ArrayIndex { alloc, cache })
     }
 
+    /// The array whose header stands at place `header` of an image. None where the header names no index block: then it has no chunk.
+    ///
+    /// All blocks that stand are loaded, in the order in which a check visits them. The first that is refused is answered as Damaged, but
+    /// for one that leads to no chunk from number `first` on: an empty block is kept for it, which is answered as Damaged with Cut, got 0,
+    /// where it would end at 2^64 or later. The image is only looked at. Header and index block stay where they are, and their numbers and
+    /// addresses go on from what stands there.
+    ///
+    /// Failed: the image's count of faults rose.
+    pub fn open<I: PieceRead>(
+        alloc: Global,
+        image: &mut I,
+        header: u64,
+        first: u64,
+    ) -> Result<Option<ArrayIndex>, OpenArrayError>
+        requires { first < 131060 }
+        // it looked at the image alone; where the image failed its count of faults rose; what is damaged is refused as said
+        ensures loads { Loads (I.view image.old) (I.view image.new) (λ img a f. IsDamaged img header first a f) result }
+        ensures array { IfFound result (λ a. IsArray a) }
+        ensures clean { IfFound result (λ a. a.changed ≡ []) }
+        ensures at { IfFound result (λ a. header_place a ≡ header) }
+        // its blocks are those of the image, but for those that were passed over
+        ensures opened { IfFound result (λ a. (img : List ℕ) → IsStill (I.view image.old) img → IsOpened img first a) }
+        ensures nowhere { IfNowhere result ((img : List ℕ) → IsStill (I.view image.old) img → NamesNone img header) }
+    {
+        match open(alloc, image, header, first)? {
+            Some(cache) => Ok(Some(ArrayIndex { alloc, cache })),
+            None => Ok(None),
+        }
+    }
+
     /// The bytes of its header.
     pub fn header(&self) -> &[u8]
         ensures { result.now ≡ bytes_at_part self.now header }
@@ -68,12 +105,19 @@ impl ArrayIndex {
         bytes(&self.cache, INDEX_BLOCK)
     }
 
+    /// The ranges of its blocks that have places: the header's, the index block's, and then super block by super block that of the
+    /// secondary block before those of its data blocks. Of an array that was opened they are what was read of the image, in that order.
+    pub fn ranges(&self) -> Result<Vec<Extent>, OutOfMemory>
+        ensures exact { IfOk result (λ r. r.items ≡ block_ranges self.now) }
+    {
+        ranges(self.alloc, &self.cache)
+    }
+
     /// The address of chunk number `i`. None exactly where it has none.
     pub fn get(&self, i: u64) -> Option<u64>
         requires { i < 131060 }
         ensures exact { result ≡ found (map_of self.now i) }
         ensures array { IsArray self.now }
-        ensures numbered { IsNumbered self.now }
     {
         let address = address::address(&self.cache, i);
         if address == UNDEFINED {
@@ -91,7 +135,7 @@ impl ArrayIndex {
         ensures way { Touches (OnWay (holder i)) self.old self.new }
         ensures changed { OnOk result (IsTrue (is_changed self.new (number_of (holder i)))) }
         ensures array { IsArray self.new }
-        ensures numbered { IsNumbered self.new }
+        ensures numbered { IsNumbered self.old → IsNumbered self.new }
     {
         address::hold(self.alloc, &mut self.cache, i)
     }
@@ -104,7 +148,7 @@ impl ArrayIndex {
         ensures set { IsSet i address self.old self.new }
         ensures way { Touches (IsSlotOrHeader i) self.old self.new }
         ensures array { IsArray self.new }
-        ensures numbered { IsNumbered self.new }
+        ensures numbered { IsNumbered self.old → IsNumbered self.new }
     {
         address::set(&mut self.cache, i, address);
     }
@@ -116,7 +160,7 @@ impl ArrayIndex {
         ensures unset { IsUnset i self.old self.new }
         ensures way { Touches (IsSlotOrHeader i) self.old self.new }
         ensures array { IsArray self.new }
-        ensures numbered { IsNumbered self.new }
+        ensures numbered { IsNumbered self.old → IsNumbered self.new }
     {
         address::unset(&mut self.cache, i);
     }
@@ -139,7 +183,6 @@ impl ArrayIndex {
         // no block is listed twice
         ensures once { (n : ℕ) → times n self.now.changed ≤ 1 }
         ensures array { IsArray self.now }
-        ensures numbered { IsNumbered self.now }
     {
         self.cache.begin(places)
     }
@@ -152,7 +195,7 @@ impl ArrayIndex {
         requires { IsBegun self.old.blocks self.old.places self.old.changed places.old begun }
         ensures planned { IsArrayPlan self.old places.old result.moves.items result.copies.items result.in_place.items self.new places.new }
         ensures array { IsArray self.new }
-        ensures numbered { IsNumbered self.new }
+        ensures numbered { IsNumbered self.old → IsNumbered self.new }
         // as it was begun
         ensures moves { result.moves.items ≡ begun.moves }
         ensures copies { length result.copies.items ≡ copy_pieces begun }
@@ -169,7 +212,7 @@ impl ArrayIndex {
     pub fn plan(&mut self, places: &mut Places) -> Result<Plan, PlanError>
         ensures planned { IfOk result (λ p. IsArrayPlan self.old places.old p.moves.items p.copies.items p.in_place.items self.new places.new) }
         ensures array { IsArray self.new }
-        ensures numbered { IsNumbered self.new }
+        ensures numbered { IsNumbered self.old → IsNumbered self.new }
         // the first block in turn that has no room
         ensures full { IfErr result (λ e. IfFull e (HasNoRoom self.old.blocks self.old.places self.old.changed places.old)) }
         ensures kept { OnErr result (self.new ≡ self.old) }

@@ -6,12 +6,20 @@
 #![tactic(auto)]
 
 mod address;
+mod copied;
 mod create;
+mod error;
 mod fresh;
 mod header;
 mod index;
+mod laws;
+mod load;
+mod open;
 mod plan;
+mod ranges;
 mod slot;
 mod way;
 
+pub use error::OpenArrayError;
 pub use index::ArrayIndex;
+pub use laws::{opened_finds, opened_stands};

@@ -11,11 +11,10 @@ use h5w_space::Places;
 /// The writes of all changed blocks, those in place last, of a plan that was begun of this store and these places.
 pub fn finish(cache: &mut Cache, places: &mut Places, begun: Begun) -> Plan
     requires array { IsArray cache.old }
-    requires numbered { IsNumbered cache.old }
     requires begun { IsBegun cache.old.blocks cache.old.places cache.old.changed places.old begun }
     ensures planned { IsArrayPlan cache.old places.old result.moves.items result.copies.items result.in_place.items cache.new places.new }
     ensures array { IsArray cache.new }
-    ensures numbered { IsNumbered cache.new }
+    ensures numbered { IsNumbered cache.old → IsNumbered cache.new }
     ensures moves { result.moves.items ≡ begun.moves }
     ensures copies { length result.copies.items ≡ copy_pieces begun }
     ensures in_place { length result.in_place.items ≡ in_place_pieces begun }

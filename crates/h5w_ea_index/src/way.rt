@@ -26,9 +26,8 @@ fn is_kept(cache: &Cache, number: u32) -> bool
 /// Header and index block are changed from now on.
 pub fn hold_in_place(cache: &mut Cache)
     requires array { IsArray cache.old }
-    requires numbered { IsNumbered cache.old }
     ensures array { IsArray cache.new }
-    ensures numbered { IsNumbered cache.new }
+    ensures numbered { IsNumbered cache.old → IsNumbered cache.new }
     ensures held { IsHeld cache.old cache.new }
     ensures way { Touches (OnWay index_block) cache.old cache.new }
     ensures changed { is_changed cache.new 845 ≡ true }
@@ -51,11 +50,10 @@ fn add(cache: &mut Cache, number: u32, block: Block)
 fn make_secondary(alloc: Global, cache: &mut Cache, sblock: u32) -> Result<(), OutOfMemory>
     requires part { IsPart (secondary_of sblock) }
     requires array { IsArray cache.old }
-    requires numbered { IsNumbered cache.old }
     requires changed { is_changed cache.old 845 ≡ true }
     requires none { block_of cache.old (number_of (secondary_of sblock)) ≡ None }
     ensures array { IsArray cache.new }
-    ensures numbered { IsNumbered cache.new }
+    ensures numbered { IsNumbered cache.old → IsNumbered cache.new }
     ensures held { IsHeld cache.old cache.new }
     ensures way { Touches (OnWay (secondary_of sblock)) cache.old cache.new }
     ensures changed { OnOk result (is_changed cache.new (number_of (secondary_of sblock)) ≡ true) }
@@ -71,11 +69,10 @@ fn make_secondary(alloc: Global, cache: &mut Cache, sblock: u32) -> Result<(), O
 fn make_data(alloc: Global, cache: &mut Cache, sblock: u32, block: u32) -> Result<(), OutOfMemory>
     requires part { IsPart (data_of sblock block) }
     requires array { IsArray cache.old }
-    requires numbered { IsNumbered cache.old }
     requires changed { is_changed cache.old (number_of (parent (data_of sblock block))) ≡ true }
     requires none { block_of cache.old (number_of (data_of sblock block)) ≡ None }
     ensures array { IsArray cache.new }
-    ensures numbered { IsNumbered cache.new }
+    ensures numbered { IsNumbered cache.old → IsNumbered cache.new }
     ensures held { IsHeld cache.old cache.new }
     ensures way { Touches (OnWay (data_of sblock block)) cache.old cache.new }
     ensures changed { OnOk result (is_changed cache.new (number_of (data_of sblock block)) ≡ true) }
@@ -92,10 +89,9 @@ fn make_data(alloc: Global, cache: &mut Cache, sblock: u32, block: u32) -> Resul
 fn hold_secondary(alloc: Global, cache: &mut Cache, sblock: u32) -> Result<(), OutOfMemory>
     requires part { IsPart (secondary_of sblock) }
     requires array { IsArray cache.old }
-    requires numbered { IsNumbered cache.old }
     requires changed { is_changed cache.old 845 ≡ true }
     ensures array { IsArray cache.new }
-    ensures numbered { IsNumbered cache.new }
+    ensures numbered { IsNumbered cache.old → IsNumbered cache.new }
     ensures held { IsHeld cache.old cache.new }
     ensures way { Touches (OnWay (secondary_of sblock)) cache.old cache.new }
     ensures changed { OnOk result (is_changed cache.new (number_of (secondary_of sblock)) ≡ true) }
@@ -112,10 +108,9 @@ fn hold_secondary(alloc: Global, cache: &mut Cache, sblock: u32) -> Result<(), O
 fn hold_data(alloc: Global, cache: &mut Cache, sblock: u32, block: u32) -> Result<(), OutOfMemory>
     requires part { IsPart (data_of sblock block) }
     requires array { IsArray cache.old }
-    requires numbered { IsNumbered cache.old }
     requires changed { is_changed cache.old (number_of (parent (data_of sblock block))) ≡ true }
     ensures array { IsArray cache.new }
-    ensures numbered { IsNumbered cache.new }
+    ensures numbered { IsNumbered cache.old → IsNumbered cache.new }
     ensures held { IsHeld cache.old cache.new }
     ensures way { Touches (OnWay (data_of sblock block)) cache.old cache.new }
     ensures changed { OnOk result (is_changed cache.new (number_of (data_of sblock block)) ≡ true) }
@@ -132,9 +127,8 @@ fn hold_data(alloc: Global, cache: &mut Cache, sblock: u32, block: u32) -> Resul
 fn hold_above(alloc: Global, cache: &mut Cache, sblock: u32, block: u32) -> Result<(), OutOfMemory>
     requires part { IsPart (data_of sblock block) }
     requires array { IsArray cache.old }
-    requires numbered { IsNumbered cache.old }
     ensures array { IsArray cache.new }
-    ensures numbered { IsNumbered cache.new }
+    ensures numbered { IsNumbered cache.old → IsNumbered cache.new }
     ensures held { IsHeld cache.old cache.new }
     ensures way { Touches (OnWay (data_of sblock block)) cache.old cache.new }
     ensures changed { OnOk result (is_changed cache.new (number_of (parent (data_of sblock block))) ≡ true) }
@@ -155,9 +149,8 @@ pub fn hold_way(
 ) -> Result<(), OutOfMemory>
     requires part { IsPart (data_of sblock block) }
     requires array { IsArray cache.old }
-    requires numbered { IsNumbered cache.old }
     ensures array { IsArray cache.new }
-    ensures numbered { IsNumbered cache.new }
+    ensures numbered { IsNumbered cache.old → IsNumbered cache.new }
     ensures held { IsHeld cache.old cache.new }
     ensures way { Touches (OnWay (data_of sblock block)) cache.old cache.new }
     ensures changed { OnOk result (is_changed cache.new (number_of (data_of sblock block)) ≡ true) }

@@ -23,7 +23,7 @@ use Rattle.h5w_chunks.specs.Rows.{RowsWritten}
 use Rattle.h5w_chunks.specs.Shares.{new_writes, touched_key}
 use Rattle.h5w_chunks.specs.declared.grid.ChunkPlace.{ChunkPlace}
 use Rattle.h5w_array_laws.specs.Parts.{Part, IsPart, header, index_block, length_of, number_of, stays_in_place}
-use Rattle.h5w_array_laws.specs.ArrayStores.{IsArray, IsBlock, block_at_part, bytes_at_part, header_place, map_of, place_at_part}
+use Rattle.h5w_array_laws.specs.ArrayStores.{IsArray, IsBlock, block_at_part, bytes_at_part, map_of, place_at_part}
 use Rattle.h5w_array_laws.specs.ArrayPlans.{IsArrayPlan}
 use Rattle.h5w_array_laws.proofs.WriteLemmas.{plan_copies}
 use Rattle.h5w_flush_laws.specs.Parts.{AreEnded}
@@ -87,13 +87,13 @@ module _ (v : Store) (a : IsArray v) (s : Space) (ms : List Move) (copies fixed 
       let are = (plan_copies v s ms copies fixed w t a p.plan).are in
       subst (ArePieces t.end) (sym are.writes) (record { sized = blocks_sized are.placed; within = blocks_within t.end are.placed (λ u among. p.ends u (subst (λ (us : List Used). ranges.Among u us) (sym are.ranges) among)) })
 
-  block_long : (o : Option BlockView) (at : ℕ) (k : Part) → IsSome o → IfSome o (IsBlock at k) → length (bytes_of o) ≡ length_of k
-  block_long None at k some is = absurd (let clash : false ≡ true = some in cc)
-  block_long (Some b) at k some is = is.len
+  block_long : (o : Option BlockView) (k : Part) → IsSome o → IfSome o (IsBlock k) → length (bytes_of o) ≡ length_of k
+  block_long None k some is = absurd (let clash : false ≡ true = some in cc)
+  block_long (Some b) k some is = is.len
 
   -- index block or header
   top_long : (k : Part) → IsPart k → stays_in_place k ≡ true → length (bytes_at_part w k) ≡ length_of k
-  top_long k part stays = block_long (block_at_part w k) (header_place w) k (p.array.in_place k part stays).0 (p.array.each k part)
+  top_long k part stays = block_long (block_at_part w k) k (p.array.in_place k part stays).0 (p.array.each k part)
 
   pub fixed_are : EndInPlace s.end v → ArePieces t.end fixed
   fixed_are tops =

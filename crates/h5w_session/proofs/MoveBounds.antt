@@ -125,9 +125,9 @@ stays_so : (b : Bool) (old : ℕ) → b ≡ true → old ≢ undefined → stays
 stays_so false old e placed = absurd cc
 stays_so true old e placed = rw (ne_eqb old undefined placed) refl
 
-in_place_of : (at : ℕ) (o : Option BlockView) (k : Part) → IfSome o (IsBlock at k) → IfSome o (λ (b : BlockView). b.in_place ≡ stays_in_place k)
-in_place_of at None k each = tt
-in_place_of at (Some b) k each = each.in_place
+in_place_of : (o : Option BlockView) (k : Part) → IfSome o (IsBlock k) → IfSome o (λ (b : BlockView). b.in_place ≡ stays_in_place k)
+in_place_of None k each = tt
+in_place_of (Some b) k each = each.in_place
 
 module _ (v : Store) (a : IsArray v) where
   -- a block in place has a place already
@@ -213,7 +213,7 @@ module _ (v : Store) (a : IsArray v) (d : Described) (from to : ℕ) (marks : Ar
   not_out : (k : Part) → IsPart k → stays_in_place k ≡ true → (n : ℕ) → n ≡ number_of k → IsOut v n → ⊥
   not_out k is stay n e out =
       let here : block_of v (number_of k) ≡ Some out.block = ap (block_of v) (sym e) ∙ out.is in
-      let known = of_some (λ (b : BlockView). b.in_place ≡ stays_in_place k) (block_of v (number_of k)) out.block here (in_place_of _ (block_of v (number_of k)) k (a.each k is)) in
+      let known = of_some (λ (b : BlockView). b.in_place ≡ stays_in_place k) (block_of v (number_of k)) out.block here (in_place_of (block_of v (number_of k)) k (a.each k is)) in
       absurd (let clash : true ≡ false = sym stay ∙ sym known ∙ out.moves in cc)
 
   on_way_out : (n i : ℕ) → IsOut v n → IsTouched d from to i → OnWay (holder i) n → Listed n known_ways

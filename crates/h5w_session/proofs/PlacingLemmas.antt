@@ -100,6 +100,7 @@ partly_none d to v is = record {
   standing = λ s h. h;
   stands = λ img h. h;
   marks = λ n h. h;
+  headed = λ h. h;
   ways = λ n h. inl h;
 }
 
@@ -116,6 +117,7 @@ partly_held d to v w u added i touches h way is p = record {
   standing = λ s st. h.standing s (p.standing s st);
   stands = λ img st. h.stands img (p.stands img st);
   marks = λ n c. h.marks n (p.marks n c);
+  headed = λ hd. h.headed (p.headed hd);
   ways = λ n c.
       let k = holder i in
       let on = on_way i n in
@@ -139,6 +141,7 @@ partly_set d to v w u added i x touches below held none set way is p = record {
   standing = λ s st. set.standing s (p.standing s st);
   stands = λ img st. set.stands img (p.stands img st);
   marks = λ n c. set.marks n (p.marks n c);
+  headed = λ hd. set.headed (p.headed hd);
   ways = λ n c.
       elim (by_touch (IsSlotOrHeader i) w u n (slot_or_header i n) way c) [
         | inl here ↦ inr (i, touches, slot_way i n here)
@@ -165,6 +168,7 @@ partly_unset d to v w u added i unset way is p =
       standing = λ s st. unset.standing s (p.standing s st);
       stands = λ img st. unset.stands img (p.stands img st);
       marks = λ n c. unset.marks n (p.marks n c);
+      headed = λ hd. unset.headed (p.headed hd);
       ways = λ n c.
           elim (by_touch (IsSlotOrHeader i) w u n (slot_or_header i n) way c) [
             | inl (inl e) ↦ p.ways n (ap (is_changed w) e ∙ slot.held)
@@ -177,7 +181,7 @@ partly_unset d to v w u added i unset way is p =
 pub partly_kept : (d : Described) (to : ℕ) (v w : Store) → IsPartly d to v [] w → IsHeld v w
 partly_kept d to v w p =
     let map : (i : ℕ) → map_of w i ≡ map_of v i = λ i. p.rest i (All-nil (λ a. a ≢ i)) in
-    record { map = map; behind = λ bytes. same_behind bytes v w map p.places; places = p.places; standing = p.standing; stands = p.stands; marks = p.marks }
+    record { map = map; behind = λ bytes. same_behind bytes v w map p.places; places = p.places; standing = p.standing; stands = p.stands; marks = p.marks; headed = p.headed }
 
 -- so a refused flush leaves the session
 pub same_but : (old new : Session) → new ≡ record old { index = new.index } → IsPartly old.dataset (rows_of old) old.index [] new.index → SameBut old new

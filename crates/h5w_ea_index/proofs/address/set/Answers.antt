@@ -19,7 +19,7 @@ reach-requires-clause-array c =
     let v : Store = c.args.cache.now in
     let u : Store = c.set_number.new.self in
     let k : Part = part_of c.locate-slot.result.holder in
-    let s : Setting v u c.args.i c.args.address = setting_from v u c.args.i c.args.address c.holder_number.result c.locate-slot.result.offset k c.requires.below c.ranges.address.fits c.requires.array c.requires.numbered c.requires.changed
+    let s : Setting v u c.args.i c.args.address = setting_from v u c.args.i c.args.address c.holder_number.result c.locate-slot.result.offset k c.requires.below c.ranges.address.fits c.requires.array c.requires.changed
     c.locate-slot.ensures.holder c.holder_number.ensures c.locate-slot.ensures.offset c.set_number.ensures in
     setting_array v u c.args.i c.args.address s
 
@@ -28,25 +28,25 @@ reach-requires-clause-changed c =
     let v : Store = c.args.cache.now in
     let u : Store = c.set_number.new.self in
     let k : Part = part_of c.locate-slot.result.holder in
-    let s : Setting v u c.args.i c.args.address = setting_from v u c.args.i c.args.address c.holder_number.result c.locate-slot.result.offset k c.requires.below c.ranges.address.fits c.requires.array c.requires.numbered c.requires.changed
+    let s : Setting v u c.args.i c.args.address = setting_from v u c.args.i c.args.address c.holder_number.result c.locate-slot.result.offset k c.requires.below c.ranges.address.fits c.requires.array c.requires.changed
     c.locate-slot.ensures.holder c.holder_number.ensures c.locate-slot.ensures.offset c.set_number.ensures in
     setting_top v u c.args.i c.args.address s
 
 pub returns-clause-numbered : goal.returns-clause-numbered
-returns-clause-numbered c =
+returns-clause-numbered c = λ h.
     let v : Store = c.args.cache.now in
     let u : Store = c.set_number.new.self in
     let k : Part = part_of c.locate-slot.result.holder in
-    let s : Setting v u c.args.i c.args.address = setting_from v u c.args.i c.args.address c.holder_number.result c.locate-slot.result.offset k c.requires.below c.ranges.address.fits c.requires.array c.requires.numbered c.requires.changed
+    let s : Setting v u c.args.i c.args.address = setting_from v u c.args.i c.args.address c.holder_number.result c.locate-slot.result.offset k c.requires.below c.ranges.address.fits c.requires.array c.requires.changed
     c.locate-slot.ensures.holder c.holder_number.ensures c.locate-slot.ensures.offset c.set_number.ensures in
-    setting_numbered v u c.reach.new.cache c.args.i c.args.address s c.requires.defined c.reach.ensures
+    setting_numbered v u c.reach.new.cache c.args.i c.args.address s h c.requires.defined c.reach.ensures
 
 pub returns-clause-set : goal.returns-clause-set
 returns-clause-set c =
     let v : Store = c.args.cache.now in
     let u : Store = c.set_number.new.self in
     let k : Part = part_of c.locate-slot.result.holder in
-    let s : Setting v u c.args.i c.args.address = setting_from v u c.args.i c.args.address c.holder_number.result c.locate-slot.result.offset k c.requires.below c.ranges.address.fits c.requires.array c.requires.numbered c.requires.changed
+    let s : Setting v u c.args.i c.args.address = setting_from v u c.args.i c.args.address c.holder_number.result c.locate-slot.result.offset k c.requires.below c.ranges.address.fits c.requires.array c.requires.changed
     c.locate-slot.ensures.holder c.holder_number.ensures c.locate-slot.ensures.offset c.set_number.ensures in
     set_then c.args.i c.args.address v u c.reach.new.cache (setting_set v u c.args.i c.args.address s) c.reach.ensures.held
 
@@ -55,6 +55,6 @@ returns-clause-way c =
     let v : Store = c.args.cache.now in
     let u : Store = c.set_number.new.self in
     let k : Part = part_of c.locate-slot.result.holder in
-    let s : Setting v u c.args.i c.args.address = setting_from v u c.args.i c.args.address c.holder_number.result c.locate-slot.result.offset k c.requires.below c.ranges.address.fits c.requires.array c.requires.numbered c.requires.changed
+    let s : Setting v u c.args.i c.args.address = setting_from v u c.args.i c.args.address c.holder_number.result c.locate-slot.result.offset k c.requires.below c.ranges.address.fits c.requires.array c.requires.changed
     c.locate-slot.ensures.holder c.holder_number.ensures c.locate-slot.ensures.offset c.set_number.ensures in
     setting_way v u c.reach.new.cache c.args.i c.args.address s c.reach.ensures.others

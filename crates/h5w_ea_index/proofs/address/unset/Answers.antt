@@ -21,28 +21,16 @@ max_index_set-requires c =
     let v : Store = c.args.cache.now in
     let u : Store = c.set_number.new.self in
     let k : Part = part_of c.locate-slot.result.holder in
-    let s : Setting v u c.args.i undefined = setting_from v u c.args.i undefined c.holder_number.result c.locate-slot.result.offset k c.requires.below (omega arith) c.requires.array c.requires.numbered c.requires.changed
+    let s : Setting v u c.args.i undefined = setting_from v u c.args.i undefined c.holder_number.result c.locate-slot.result.offset k c.requires.below (omega arith) c.requires.array c.requires.changed
     c.locate-slot.ensures.holder c.holder_number.ensures c.locate-slot.ensures.offset c.set_number.ensures in
     record { array = setting_array v u c.args.i undefined s }
-
-pub last_set-count-requires-clause-below : goal.last_set-count-requires-clause-below
-last_set-count-requires-clause-below c =
-    let v : Store = c.args.cache.now in
-    let u : Store = c.set_number.new.self in
-    let k : Part = part_of c.locate-slot.result.holder in
-    let s : Setting v u c.args.i undefined = setting_from v u c.args.i undefined c.holder_number.result c.locate-slot.result.offset k c.requires.below (omega arith) c.requires.array c.requires.numbered c.requires.changed
-    c.locate-slot.ensures.holder c.holder_number.ensures c.locate-slot.ensures.offset c.set_number.ensures in
-    let most = max_below v s.numbered.max s.numbered.greatest in
-    let top = top_number v u c.args.i undefined s in
-    let is = c.max_index_set.ensures in
-    omega arith
 
 pub last_set-count-requires-clause-array : goal.last_set-count-requires-clause-array
 last_set-count-requires-clause-array c =
     let v : Store = c.args.cache.now in
     let u : Store = c.set_number.new.self in
     let k : Part = part_of c.locate-slot.result.holder in
-    let s : Setting v u c.args.i undefined = setting_from v u c.args.i undefined c.holder_number.result c.locate-slot.result.offset k c.requires.below (omega arith) c.requires.array c.requires.numbered c.requires.changed
+    let s : Setting v u c.args.i undefined = setting_from v u c.args.i undefined c.holder_number.result c.locate-slot.result.offset k c.requires.below (omega arith) c.requires.array c.requires.changed
     c.locate-slot.ensures.holder c.holder_number.ensures c.locate-slot.ensures.offset c.set_number.ensures in
     setting_array v u c.args.i undefined s
 
@@ -51,7 +39,7 @@ set_max_index-requires-clause-array c =
     let v : Store = c.args.cache.now in
     let u : Store = c.set_number.new.self in
     let k : Part = part_of c.locate-slot.result.holder in
-    let s : Setting v u c.args.i undefined = setting_from v u c.args.i undefined c.holder_number.result c.locate-slot.result.offset k c.requires.below (omega arith) c.requires.array c.requires.numbered c.requires.changed
+    let s : Setting v u c.args.i undefined = setting_from v u c.args.i undefined c.holder_number.result c.locate-slot.result.offset k c.requires.below (omega arith) c.requires.array c.requires.changed
     c.locate-slot.ensures.holder c.holder_number.ensures c.locate-slot.ensures.offset c.set_number.ensures in
     setting_array v u c.args.i undefined s
 
@@ -60,25 +48,27 @@ set_max_index-requires-clause-changed c =
     let v : Store = c.args.cache.now in
     let u : Store = c.set_number.new.self in
     let k : Part = part_of c.locate-slot.result.holder in
-    let s : Setting v u c.args.i undefined = setting_from v u c.args.i undefined c.holder_number.result c.locate-slot.result.offset k c.requires.below (omega arith) c.requires.array c.requires.numbered c.requires.changed
+    let s : Setting v u c.args.i undefined = setting_from v u c.args.i undefined c.holder_number.result c.locate-slot.result.offset k c.requires.below (omega arith) c.requires.array c.requires.changed
     c.locate-slot.ensures.holder c.holder_number.ensures c.locate-slot.ensures.offset c.set_number.ensures in
     setting_top v u c.args.i undefined s
 
 pub returns-clause-numbered : goal.returns-clause-numbered
-returns-clause-numbered c =
+returns-clause-numbered c = λ h.
     let v : Store = c.args.cache.now in
     let u : Store = c.set_number.new.self in
     let k : Part = part_of c.locate-slot.result.holder in
-    let s : Setting v u c.args.i undefined = setting_from v u c.args.i undefined c.holder_number.result c.locate-slot.result.offset k c.requires.below (omega arith) c.requires.array c.requires.numbered c.requires.changed
+    let s : Setting v u c.args.i undefined = setting_from v u c.args.i undefined c.holder_number.result c.locate-slot.result.offset k c.requires.below (omega arith) c.requires.array c.requires.changed
     c.locate-slot.ensures.holder c.holder_number.ensures c.locate-slot.ensures.offset c.set_number.ensures in
-    unset_numbered v u c.set_max_index.new.cache c.args.i c.last_set-count.result s (λ j from below. c.last_set-count.ensures.above j from (let is = c.max_index_set.ensures in omega arith)) c.last_set-count.ensures.least c.set_max_index.ensures
+    unset_numbered v u c.set_max_index.new.cache c.args.i c.last_set-count.result s h
+    (λ j from below. c.last_set-count.ensures.above j from (let most = max_below v h.max h.greatest in let top = top_number v u c.args.i undefined s h in let is = c.max_index_set.ensures in let m = c.min.ensures in omega arith))
+    c.last_set-count.ensures.least c.set_max_index.ensures
 
 pub returns-clause-unset : goal.returns-clause-unset
 returns-clause-unset c =
     let v : Store = c.args.cache.now in
     let u : Store = c.set_number.new.self in
     let k : Part = part_of c.locate-slot.result.holder in
-    let s : Setting v u c.args.i undefined = setting_from v u c.args.i undefined c.holder_number.result c.locate-slot.result.offset k c.requires.below (omega arith) c.requires.array c.requires.numbered c.requires.changed
+    let s : Setting v u c.args.i undefined = setting_from v u c.args.i undefined c.holder_number.result c.locate-slot.result.offset k c.requires.below (omega arith) c.requires.array c.requires.changed
     c.locate-slot.ensures.holder c.holder_number.ensures c.locate-slot.ensures.offset c.set_number.ensures in
     unset_then c.args.i v u c.set_max_index.new.cache (setting_unset v u c.args.i s) c.set_max_index.ensures.held
 
@@ -87,6 +77,6 @@ returns-clause-way c =
     let v : Store = c.args.cache.now in
     let u : Store = c.set_number.new.self in
     let k : Part = part_of c.locate-slot.result.holder in
-    let s : Setting v u c.args.i undefined = setting_from v u c.args.i undefined c.holder_number.result c.locate-slot.result.offset k c.requires.below (omega arith) c.requires.array c.requires.numbered c.requires.changed
+    let s : Setting v u c.args.i undefined = setting_from v u c.args.i undefined c.holder_number.result c.locate-slot.result.offset k c.requires.below (omega arith) c.requires.array c.requires.changed
     c.locate-slot.ensures.holder c.holder_number.ensures c.locate-slot.ensures.offset c.set_number.ensures in
     setting_way v u c.set_max_index.new.cache c.args.i undefined s c.set_max_index.ensures.others

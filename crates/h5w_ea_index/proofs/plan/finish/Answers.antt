@@ -19,11 +19,11 @@ returns-clause-array c =
     c.requires.array c.finish.ensures.planned c.finish.ensures.keeps).array
 
 pub returns-clause-numbered : goal.returns-clause-numbered
-returns-clause-numbered c =
+returns-clause-numbered c = λ h.
     let v : Store = c.args.cache.now in
     let s : Space = c.args.places.now in
     let ms : List Move = c.finish.result.moves.items in
     let cs : List Write = c.finish.result.copies.items in
     let fs : List Write = c.finish.result.in_place.items in
     let a : IsArrayPlan v s ms cs fs c.finish.new.self c.finish.new.places = plans_array v s ms cs fs c.finish.new.self c.finish.new.places c.requires.array c.finish.ensures.planned c.finish.ensures.keeps in
-    plans_numbers v s ms cs fs c.finish.new.self c.finish.new.places a c.requires.array c.requires.numbered
+    plans_numbers v s ms cs fs c.finish.new.self c.finish.new.places a c.requires.array h

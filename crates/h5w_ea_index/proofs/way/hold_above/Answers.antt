@@ -14,6 +14,9 @@ returns-then-sblock-lt4-clause-changed c = ap (λ k. is_changed c.hold_in_place.
 pub returns-clause-held : goal.returns-clause-held
 returns-clause-held c = held_onward c.args.cache.now c.hold_in_place.new.cache c.hold_secondary.new.cache c.hold_in_place.ensures.held c.hold_secondary.ensures.held
 
+pub returns-clause-numbered : goal.returns-clause-numbered
+returns-clause-numbered c = λ h. c.hold_secondary.ensures.numbered (c.hold_in_place.ensures.numbered h)
+
 pub returns-clause-changed : goal.returns-clause-changed
 returns-clause-changed c = subst (λ k. OnOk c.hold_secondary.result (is_changed c.hold_secondary.new.cache (number_of k) ≡ true)) (sym (second_parent c.args.sblock c.args.block c.if-sblock-lt4.false)) c.hold_secondary.ensures.changed
 

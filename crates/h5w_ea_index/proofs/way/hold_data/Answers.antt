@@ -8,7 +8,7 @@ pub returns-then-is_kept : goal.returns-then-is_kept
 returns-then-is_kept c =
     let v : Store = c.args.cache.now in
     let w : Store = c.mark.new.self in
-    let m : Marking v w (data_of c.args.sblock c.args.block) = marking_from v w (data_of c.args.sblock c.args.block) c.data_number-number.result c.is_kept.result c.requires.part refl c.requires.array c.requires.numbered c.is_kept.ensures c.if-is_kept.true c.requires.changed c.data_number-number.ensures.value c.mark.ensures in
+    let m : Marking v w (data_of c.args.sblock c.args.block) = marking_from v w (data_of c.args.sblock c.args.block) c.data_number-number.result c.is_kept.result c.requires.part refl c.requires.array c.is_kept.ensures c.if-is_kept.true c.requires.changed c.data_number-number.ensures.value c.mark.ensures in
     record {
       array = marking_array v w (data_of c.args.sblock c.args.block) m;
       numbered = marking_numbered v w (data_of c.args.sblock c.args.block) m;

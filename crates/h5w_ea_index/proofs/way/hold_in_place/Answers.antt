@@ -21,7 +21,7 @@ returns c =
     let e : c.mark-2.new.self ≡ marked 845 (marked 846 c.args.cache.now) = c.mark-2.ensures ∙ ap (marked 845) c.mark.ensures in
     record {
       array = subst IsArray (sym e) (marked_top c.args.cache.now c.requires.array);
-      numbered = subst IsNumbered (sym e) (numbered_marked (marked 846 c.args.cache.now) 845 (numbered_marked c.args.cache.now 846 c.requires.numbered));
+      numbered = λ h. subst IsNumbered (sym e) (numbered_marked (marked 846 c.args.cache.now) 845 (numbered_marked c.args.cache.now 846 h));
       held = subst (IsHeld c.args.cache.now) (sym e) (both_held c.args.cache.now);
       way = subst (Touches (OnWay index_block) c.args.cache.now) (sym e) (both_way c.args.cache.now);
       changed = ap (λ (s : Store). is_changed s 845) e ∙ is_marked (marked 846 c.args.cache.now) 845;

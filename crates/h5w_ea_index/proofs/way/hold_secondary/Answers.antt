@@ -8,7 +8,7 @@ pub returns-then-is_kept : goal.returns-then-is_kept
 returns-then-is_kept c =
     let v : Store = c.args.cache.now in
     let w : Store = c.mark.new.self in
-    let m : Marking v w (secondary_of c.args.sblock) = marking_from v w (secondary_of c.args.sblock) c.secondary_number-number.result c.is_kept.result c.requires.part refl c.requires.array c.requires.numbered c.is_kept.ensures c.if-is_kept.true c.requires.changed c.secondary_number-number.ensures.value c.mark.ensures in
+    let m : Marking v w (secondary_of c.args.sblock) = marking_from v w (secondary_of c.args.sblock) c.secondary_number-number.result c.is_kept.result c.requires.part refl c.requires.array c.is_kept.ensures c.if-is_kept.true c.requires.changed c.secondary_number-number.ensures.value c.mark.ensures in
     record {
       array = marking_array v w (secondary_of c.args.sblock) m;
       numbered = marking_numbered v w (secondary_of c.args.sblock) m;

@@ -4,7 +4,7 @@ use Rattle.h5w_array_laws.specs.Parts.{data_of}
 use Rattle.h5w_ea_index.proofs.StepLemmas.{held_onward}
 use Rattle.h5w_ea_index.specs.Steps.{OnWay}
 use Rattle.h5w_ea_index.proofs.TouchLemmas.{header_way, touch_onward}
-use Rattle.h5w_ea_index.proofs.WayLemmas.{Making, made_from, clean_at, making_array, making_held, making_changed, making_top, making_small, making_way, data_numbered}
+use Rattle.h5w_ea_index.proofs.WayLemmas.{Making, made_from, clean_at, making_array, making_held, making_changed, making_top, making_way, data_numbered}
 use Rattle.h5w_ea_index.proofs.way.make_data.Goals as goal
 
 pub add-requires-clause-clean : goal.add-requires-clause-clean
@@ -24,19 +24,12 @@ count_data-requires-clause-changed c =
     let m : Making v u (data_of c.args.sblock c.args.block) c.in_ok-made.made = made_from v u (data_of c.args.sblock c.args.block) c.in_ok-made.made c.data_number.result c.place.result c.requires.part c.requires.array c.requires.none c.requires.changed c.in_ok-made.ensures c.place.ensures c.data_number.ensures.value c.add.ensures in
     making_top v u (data_of c.args.sblock c.args.block) c.in_ok-made.made m
 
-pub count_data-requires-clause-small : goal.count_data-requires-clause-small
-count_data-requires-clause-small c =
-    let v : Store = c.args.cache.now in
-    let u : Store = c.add.new.cache in
-    let m : Making v u (data_of c.args.sblock c.args.block) c.in_ok-made.made = made_from v u (data_of c.args.sblock c.args.block) c.in_ok-made.made c.data_number.result c.place.result c.requires.part c.requires.array c.requires.none c.requires.changed c.in_ok-made.ensures c.place.ensures c.data_number.ensures.value c.add.ensures in
-    making_small v u (data_of c.args.sblock c.args.block) c.in_ok-made.made m c.requires.numbered
-
 pub returns-clause-numbered : goal.returns-clause-numbered
-returns-clause-numbered c =
+returns-clause-numbered c = λ h.
     let v : Store = c.args.cache.now in
     let u : Store = c.add.new.cache in
     let m : Making v u (data_of c.args.sblock c.args.block) c.in_ok-made.made = made_from v u (data_of c.args.sblock c.args.block) c.in_ok-made.made c.data_number.result c.place.result c.requires.part c.requires.array c.requires.none c.requires.changed c.in_ok-made.ensures c.place.ensures c.data_number.ensures.value c.add.ensures in
-    data_numbered v u c.count_data.new.cache c.args.sblock c.args.block (length c.bytes.result.now) c.super_block-slots.result.1 c.in_ok-made.made m c.requires.numbered (ap length c.bytes.ensures.value ∙ c.in_ok-made.ensures.block.len) c.super_block-slots.ensures.slots c.count_data.ensures
+    data_numbered v u c.count_data.new.cache c.args.sblock c.args.block (length c.bytes.result.now) c.super_block-slots.result.1 c.in_ok-made.made m h (ap length c.bytes.ensures.value ∙ c.in_ok-made.ensures.block.len) c.super_block-slots.ensures.slots c.count_data.ensures
 
 pub returns-clause-held : goal.returns-clause-held
 returns-clause-held c =

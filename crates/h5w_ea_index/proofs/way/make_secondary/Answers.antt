@@ -4,7 +4,7 @@ use Rattle.h5w_array_laws.specs.Parts.{secondary_of}
 use Rattle.h5w_ea_index.proofs.StepLemmas.{held_onward}
 use Rattle.h5w_ea_index.specs.Steps.{OnWay}
 use Rattle.h5w_ea_index.proofs.TouchLemmas.{header_way, touch_onward}
-use Rattle.h5w_ea_index.proofs.WayLemmas.{Making, made_from, clean_at, making_array, making_held, making_changed, making_top, making_small, making_way, secondary_numbered}
+use Rattle.h5w_ea_index.proofs.WayLemmas.{Making, made_from, clean_at, making_array, making_held, making_changed, making_top, making_way, secondary_numbered}
 use Rattle.h5w_ea_index.proofs.way.make_secondary.Goals as goal
 
 pub add-requires-clause-clean : goal.add-requires-clause-clean
@@ -24,19 +24,12 @@ count_secondary-requires-clause-changed c =
     let m : Making v u (secondary_of c.args.sblock) c.in_ok-block.block = made_from v u (secondary_of c.args.sblock) c.in_ok-block.block c.secondary_number.result c.place.result c.requires.part c.requires.array c.requires.none c.requires.changed c.in_ok-block.ensures c.place.ensures c.secondary_number.ensures.value c.add.ensures in
     making_top v u (secondary_of c.args.sblock) c.in_ok-block.block m
 
-pub count_secondary-requires-clause-small : goal.count_secondary-requires-clause-small
-count_secondary-requires-clause-small c =
-    let v : Store = c.args.cache.now in
-    let u : Store = c.add.new.cache in
-    let m : Making v u (secondary_of c.args.sblock) c.in_ok-block.block = made_from v u (secondary_of c.args.sblock) c.in_ok-block.block c.secondary_number.result c.place.result c.requires.part c.requires.array c.requires.none c.requires.changed c.in_ok-block.ensures c.place.ensures c.secondary_number.ensures.value c.add.ensures in
-    making_small v u (secondary_of c.args.sblock) c.in_ok-block.block m c.requires.numbered
-
 pub returns-clause-numbered : goal.returns-clause-numbered
-returns-clause-numbered c =
+returns-clause-numbered c = λ h.
     let v : Store = c.args.cache.now in
     let u : Store = c.add.new.cache in
     let m : Making v u (secondary_of c.args.sblock) c.in_ok-block.block = made_from v u (secondary_of c.args.sblock) c.in_ok-block.block c.secondary_number.result c.place.result c.requires.part c.requires.array c.requires.none c.requires.changed c.in_ok-block.ensures c.place.ensures c.secondary_number.ensures.value c.add.ensures in
-    secondary_numbered v u c.count_secondary.new.cache c.args.sblock (length c.bytes.result.now) c.in_ok-block.block m c.requires.numbered (ap length c.bytes.ensures.value ∙ c.in_ok-block.ensures.block.len) c.count_secondary.ensures
+    secondary_numbered v u c.count_secondary.new.cache c.args.sblock (length c.bytes.result.now) c.in_ok-block.block m h (ap length c.bytes.ensures.value ∙ c.in_ok-block.ensures.block.len) c.count_secondary.ensures
 
 pub returns-clause-held : goal.returns-clause-held
 returns-clause-held c =

@@ -1,4 +1,4 @@
-use Rattle.std.proofs.Common.{◌≤◌, ℕ, subst}
+use Rattle.std.proofs.Common.{◌≤◌, subst}
 use Rattle.h5w_cache.specs.Stores.{Store, times}
 use Rattle.h5w_ea_index.proofs.index.ArrayIndex.begin.Goals as goal
 

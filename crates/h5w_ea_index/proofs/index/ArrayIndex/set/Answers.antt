@@ -1,7 +1,11 @@
 use Rattle.std.proofs.Common.{subst}
 use Rattle.h5w_cache.specs.Stores.{Store}
+use Rattle.h5w_array_laws.specs.ArrayStores.{IsNumbered}
 use Rattle.h5w_ea_index.specs.Steps.{IsSlotOrHeader, Touches}
 use Rattle.h5w_ea_index.proofs.index.ArrayIndex.set.Goals as goal
 
 pub returns-clause-way : goal.returns-clause-way
 returns-clause-way c = subst (λ (v : Store). Touches (IsSlotOrHeader c.args.i) v c.set.new.cache) c.self.view_is c.set.ensures.way
+
+pub returns-clause-numbered : goal.returns-clause-numbered
+returns-clause-numbered c = subst (λ (v : Store). IsNumbered v → IsNumbered c.set.new.cache) c.self.view_is c.set.ensures.numbered

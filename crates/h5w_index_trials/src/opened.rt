@@ -1,0 +1,31 @@
+//! Arrays that stand in an image, opened.
+
+use h5w_ea_index::ArrayIndex;
+use h5w_image::MemImage;
+use h5w_space::Places;
+use std::test::Fail;
+
+/// An image of an array with one chunk, number 2 at 77: its header stands at 1000, its index block at 1072.
+fn image_of_one(rt: &HostRuntime) -> Result<MemImage, Fail> {
+    let mut array = ArrayIndex::new(rt.alloc(), 1000, 1072)?;
+    array.hold(2)?;
+    array.set(2, 77);
+    let mut places = Places::new(rt.alloc(), 2000, 1 << 30);
+    array.plan(&mut places)?;
+    let mut bytes = vec![in rt.alloc(); 0; 1000]?;
+    bytes.extend_from_slice(array.header())?;
+    bytes.extend_from_slice(array.index_block())?;
+    Ok(MemImage::of(rt.alloc(), &bytes)?)
+}
+
+#[test]
+fn an_array_is_opened_as_it_was_written(rt: HostRuntime) -> Result<(), Fail> {
+    let mut image = image_of_one(&rt)?;
+    let opened = ArrayIndex::open(rt.alloc(), &mut image, 1000, 0)?;
+    let found = match opened {
+        Some(array) => (array.get(1), array.get(2), array.get(5000)),
+        None => (Some(0), None, None),
+    };
+    assert_eq!(rt; found, (None, Some(77), None));
+    Ok(())
+}
