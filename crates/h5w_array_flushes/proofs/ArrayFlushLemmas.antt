@@ -131,7 +131,7 @@ placed_range bytes v n a placed =
     let some : IsSome (block_at_part v k) = subst (λ j. IsSome (block_of v j)) (sym known.2) placed.kept in
     let here : place_at_part v k ≢ undefined = λ e. placed.placed (ap (place_of v) (sym known.2) ∙ e) in
     let block = is_some_of (block_at_part v k) some in
-    let long : length (bytes_at_part v k) ≡ length_of k = ap (λ b. length (bytes_of b)) block.1 ∙ (of_some (IsBlock (header_place v) k) (block_at_part v k) block.0 block.1 (a.each k known.1)).len in
+    let long : length (bytes_at_part v k) ≡ length_of k = ap (λ b. length (bytes_of b)) block.1 ∙ (of_some (IsBlock k) (block_at_part v k) block.0 block.1 (a.each k known.1)).len in
     subst (λ j. Among (block_at (place_of v j) (length (bytes_in v.blocks j))) (fixed_of v ++ behind_of bytes v)) known.2
     (subst (λ c. Among (block_at (place_at_part v k) c) (fixed_of v ++ behind_of bytes v)) (sym long) (part_range bytes v k known.1 here))
 

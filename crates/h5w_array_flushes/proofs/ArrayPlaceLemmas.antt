@@ -17,7 +17,7 @@ use Rattle.h5w_cache.specs.Plans.{Took, Placed, IsMove, AreMoves, stays, block_i
 use Rattle.h5w_cache.specs.StoreLaws.{IsPlaced, IsLeft, IsRetired}
 use Rattle.h5w_cache.specs.declared.moves.Move.{Move}
 use Rattle.h5w_array_laws.specs.Parts.{Part, data_of, secondary_of, index_block, header, IsPart, number_of, length_of, stays_in_place, visit_order}
-use Rattle.h5w_array_laws.specs.ArrayStores.{IsArray, IsBlock, place_at_part, bytes_at_part, block_at_part, header_place, own_range, ranges_of, behind_of, chunks_in, slots_in}
+use Rattle.h5w_array_laws.specs.ArrayStores.{IsArray, IsBlock, place_at_part, bytes_at_part, block_at_part, own_range, ranges_of, behind_of, chunks_in, slots_in}
 use Rattle.h5w_array_laws.specs.ArrayPlans.{fresh}
 use Rattle.h5w_array_laws.proofs.BehindLemmas.{among_each, own_is}
 use Rattle.h5w_array_laws.proofs.FreshLemmas.{fresh_in_place, fresh_copy}
@@ -84,13 +84,13 @@ pub record PartOf (v : Store) (n : ℕ) : Type 0 where
   pub number : number_of part ≡ n
   pub block : BlockView
   pub kept : block_at_part v part ≡ Some block
-  pub is_block : IsBlock (header_place v) part block
+  pub is_block : IsBlock part block
 
 pub part_of : (v : Store) (n : ℕ) → IsArray v → IsSome (block_in v.blocks n) → PartOf v n
 part_of v n a some =
     let known = a.known n some in
     let b = is_some_of (block_at_part v known.0) (subst (λ j. IsSome (block_of v j)) (sym known.2) some) in
-    record { part = known.0; is_part = known.1; number = known.2; block = b.0; kept = b.1; is_block = of_some (IsBlock (header_place v) known.0) (block_at_part v known.0) b.0 b.1 (a.each known.0 known.1) }
+    record { part = known.0; is_part = known.1; number = known.2; block = b.0; kept = b.1; is_block = of_some (IsBlock known.0) (block_at_part v known.0) b.0 b.1 (a.each known.0 known.1) }
 
 -- it stays in place where its block does
 of_block : (o : Option BlockView) (b : BlockView) (x : Bool) → o ≡ Some b → IsSomeAnd o (λ c. x ≡ c.in_place) → x ≡ b.in_place
@@ -154,7 +154,7 @@ own_part v k u a is among = go (some_or_none (block_at_part v k))
     go : (block_at_part v k ≡ None) ⊎ ((b : BlockView) × (block_at_part v k ≡ Some b)) → IsOwn v u
     go (inl e) = absurd (placed (a.unplaced k is e))
     go (inr b) =
-        let long : length (bytes_at_part v k) ≡ length_of k = ap (λ o. length (bytes_of o)) b.1 ∙ (of_some (IsBlock (header_place v) k) (block_at_part v k) b.0 b.1 (a.each k is)).len in
+        let long : length (bytes_at_part v k) ≡ length_of k = ap (λ o. length (bytes_of o)) b.1 ∙ (of_some (IsBlock k) (block_at_part v k) b.0 b.1 (a.each k is)).len in
         record {
           number = number_of k;
           placed = record { kept = subst (λ (o : Option BlockView). IsSome o) (sym b.1) refl; placed = placed };

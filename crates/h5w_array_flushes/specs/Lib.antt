@@ -1,1 +1,2 @@
 pub mod ArrayFlushes
+pub mod ArrayBegins

@@ -2,6 +2,7 @@
 //! a definition in specs/. Nothing here runs.
 #![tactic(auto)]
 
+ghost use Rattle.h5w_array_flushes.specs.ArrayBegins.{ArrayBegins};
 ghost use Rattle.h5w_array_flushes.specs.ArrayFlushes.{ArrayFlushed, ArrayIsFlush, ArrayPlaces, ArrayRestsAgain, ArrayRestsThen};
 
 /// What an array's plan does is what a flush asks of the index.
@@ -27,4 +28,9 @@ pub fn array_rests_then()
 /// So it does where what was let go is free.
 pub fn array_rests_again()
     ensures { ArrayRestsAgain }
+{}
+
+/// A session that begins with an array that stands in its file knows the file by its map, and the array rests.
+pub fn array_begins()
+    ensures { ArrayBegins }
 {}
