@@ -8,4 +8,4 @@ pub returns-clause-planned : goal.returns-clause-planned
 returns-clause-planned c told s =
     let v : Store = c.self.inside.cache in
     let none = none_listed v.changed (sym c.is_clean.ensures ∙ told) in
-    subst (λ (u : Store). IsArrayPlan u s [] [] [] u s) c.self.view_is (plans_nothing v s c.self.invariant.0 none)
+    subst (λ (u : Store). IsArrayPlan u s [] [] [] u s) c.self.view_is (plans_nothing v s c.self.invariant none)
