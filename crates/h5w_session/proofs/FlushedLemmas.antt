@@ -23,7 +23,7 @@ use Rattle.h5w_chunks.specs.Rows.{RowsWritten}
 use Rattle.h5w_chunks.specs.Shares.{new_writes, touched_key}
 use Rattle.h5w_chunks.specs.declared.grid.ChunkPlace.{ChunkPlace}
 use Rattle.h5w_array_laws.specs.Parts.{Part, IsPart, header, index_block, length_of, number_of, stays_in_place}
-use Rattle.h5w_array_laws.specs.ArrayStores.{IsArray, IsBlock, block_at_part, bytes_at_part, map_of, place_at_part}
+use Rattle.h5w_array_laws.specs.ArrayStores.{IsArray, IsBlock, block_at_part, bytes_at_part, header_place, map_of, place_at_part}
 use Rattle.h5w_array_laws.specs.ArrayPlans.{IsArrayPlan}
 use Rattle.h5w_array_laws.proofs.WriteLemmas.{plan_copies}
 use Rattle.h5w_flush_laws.specs.Parts.{AreEnded}
