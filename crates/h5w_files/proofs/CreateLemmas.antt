@@ -85,7 +85,7 @@ new_superblock f is =
 pub empty_file : (f : NewFile) (s : Session) → IsNewFile f → s.name ≡ f.name → s.dataset ≡ new_dataset f → s.stopped ≡ true → Stands s (new_log f) → IsEmptyFile f (new_bytes f)
 empty_file f s is name dataset stopped stands =
     let now = standing_laws.stopped s (new_log f) stands stopped (omega arith) in
-    let shown = shown_laws.dataset s (new_log f) 6 now.reads.shown stands (record { begun = omega arith; reached = omega arith }) now.reads.shows in
+    let shown = shown_laws.dataset s (new_log f) 6 now.reads.shown stands refl (record { begun = omega arith; reached = omega arith }) now.reads.shows in
     record {
       summary = now.summary;
       valid = subst (λ (n : List ℕ). Valid (new_bytes f) n now.summary) name now.valid;

@@ -16,6 +16,7 @@ use Rattle.h5w_image.specs.Memory.{MemView, fresh}
 use Rattle.h5w_image.specs.View.{Same, Wrote}
 use Rattle.h5w_space.specs.Space.{Space}
 use Rattle.h5w_space.specs.declared.Full.{Full}
+use Rattle.h5w_session.specs.Loads.{first_end_of}
 use Rattle.h5w_session.specs.Creations.{created, creation_writes, log_of, new_dataset}
 use Rattle.h5w_session.specs.Room.{HasRoomFor}
 use Rattle.h5w_session.specs.Refusals.{IsSpace, append_refusal, chunks_refusal, close_refusal, flush_refusal}
@@ -25,6 +26,7 @@ use Rattle.h5w_session.specs.declared.refusal.AppendError.{AppendError}
 use Rattle.h5w_session.specs.declared.refusal.AppendError.TheVariants as errors
 use Rattle.h5w_session.specs.declared.refusal.FlushError.{FlushError}
 use Rattle.h5w_session.specs.declared.refusal.FlushError.TheVariants as flushes
+use Rattle.h5w_session.proofs.PastLemmas.{new_end}
 use Rattle.h5w_session.proofs.LawLemmas.{standing_laws}
 use Rattle.h5w_steady.specs.Steady.{steady}
 use Rattle.h5w_make.specs.Commands.{new_file, showing, values_of}
@@ -145,8 +147,9 @@ place_there bs s t m values h taken is stands =
       stands h.log h.stands,
       λ full none.
           let size : full.size ≤ load cutting log = subst (λ (c : Cutting). full.size ≤ load c log) cut none.size_bound in
-          let place : full.at ≤ 1024 + spent cutting log + load cutting log = subst (λ (c : Cutting). full.at ≤ 1024 + spent c log + load c log) cut none.at_bound in
-          omega (arith, none.limit, none.past, size, place, one, before, loads, limit, taken.batches),
+          let new : first_end_of log ≡ 1024 = new_end log (ap (and_now (appends values)) h.is) in
+          let place : full.at ≤ first_end_of log + spent cutting log + load cutting log = subst (λ (c : Cutting). full.at ≤ first_end_of log + spent c log + load c log) cut none.at_bound in
+          omega (arith, none.limit, none.past, size, place, new, one, before, loads, limit, taken.batches),
     )
 
 -- ---- The batch

@@ -66,7 +66,7 @@ module _ (bs : List (List ℤ)) (s : Session) (m : MemView) (h : IsClosed bs s m
       let p : ℕ = length (hist h.log.events) in
       let at : IsPosition h.log p = record { begun = subst (λ (n : ℕ). n ≤ p) (sym (ap (λ (l : Log). l.first) h.is)) h.begun; reached = omega arith } in
       let here : image_at h.log p ≡ m.bytes = ap (image h.log.start) (take-length (hist h.log.events)) ∙ folds in
-      omega (arith, shown_laws.fits s h.log p h.stands at, ap length here, h.limit)
+      omega (arith, shown_laws.fits s h.log p h.stands h.is at, ap length here, h.limit)
 
   pub readable : IsReadable m.bytes (values_of bs)
   readable = record { reads = reads; fits = fits }
