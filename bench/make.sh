@@ -38,24 +38,19 @@ END
 cd crates/make_rows || exit 1
 echo "1" | rt run >"$work/built" 2>&1 || { tail -n 20 "$work/built"; exit 1; }
 
-# the instructions of a file, in all and by part
+# the instructions of a file
 counts() {
     echo "$1" | valgrind --tool=callgrind --callgrind-out-file="$work/out" out/make_rows 2>"$work/log" || { tail -n 5 "$work/log" >&2; exit 1; }
     callgrind_annotate --inclusive=yes --threshold=100 "$work/out" | python3 -c '
 import re, sys
-lines = [(int(m.group(1).replace(",", "")), m.group(2)) for line in sys.stdin for m in [re.match(r" *([0-9,]+) (.*)", line)] if m]
-def most(name):
-    return max([cost for cost, text in lines if name in text], default=0)
-print(most("PROGRAM TOTALS"), most("WriterCore::append") + most("WriterCore::flush"), most("read_back"), most("blocks"))'
+print(max(int(m.group(1).replace(",", "")) for line in sys.stdin for m in [re.match(r" *([0-9,]+) .*PROGRAM TOTALS", line)] if m))'
 }
 
 half=$(counts 500000) || exit 1
 whole=$(counts 1000000) || exit 1
 python3 -c '
 import sys
-half, whole = ([int(word) for word in text.split()] for text in sys.argv[1:])
-print("a file of 1,000,000 values, instructions a value: %.1f (at most 150)" % (whole[0] / 1e6))
-print("  times those of half as many: %.2f (at most 2.2)" % (whole[0] / half[0]))
-for name, cost in zip(("the session", "the reader", "the check"), whole[1:]):
-    print("  of them %s: %.1f" % (name, cost / 1e6))
-sys.exit(whole[0] > 150e6 or whole[0] > 2.2 * half[0])' "$half" "$whole"
+half, whole = map(int, sys.argv[1:])
+print("a file of 1,000,000 values, instructions a value: %.1f (at most 150)" % (whole / 1e6))
+print("  times those of half as many: %.2f (at most 2.2)" % (whole / half))
+sys.exit(whole > 150e6 or whole > 2.2 * half)' "$half" "$whole"
