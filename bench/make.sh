@@ -1,6 +1,6 @@
 #!/bin/sh
 # Counts the instructions of files that are made in memory of a generator's values, with their check and the reading of all values, and
-# how they grow; and which of them are the session's, the reader's and the check's.
+# how they grow.
 # Wants git, valgrind and python3; the last commit is what is measured.
 top=$(cd "$(dirname "$0")/.." && pwd -P) || exit 1
 work=$(mktemp -d) || exit 1
