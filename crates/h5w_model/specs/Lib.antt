@@ -24,3 +24,4 @@ pub mod Unfinished
 pub mod Asked
 pub mod Relations
 pub mod Readers
+pub mod Agrees

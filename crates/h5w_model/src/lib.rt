@@ -10,6 +10,7 @@ mod message;
 mod piece;
 mod refusal;
 mod reply;
+mod report;
 mod root;
 
 pub use cell::{Cell, IndexKind, Key, Place};
@@ -20,4 +21,5 @@ pub use message::{Msg, Prefix};
 pub use piece::{PIECE, Piece, Write};
 pub use refusal::{BlockFault, HeaderError, LinkError, ReadError, Sums, SuperError, Unsupported};
 pub use reply::Reply;
+pub use report::{FlushLine, Poll, PollLine};
 pub use root::Super;
