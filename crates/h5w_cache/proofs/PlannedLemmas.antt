@@ -5,7 +5,7 @@ use Rattle.std.proofs.lemmas.List.Elements.{All-cons, All-nil, All-head, All-tai
 use Rattle.std.proofs.lemmas.List.Sums.{sum_by-cons, sum_by-set}
 use Rattle.std.proofs.lemmas.List.Sorted.{sum_by-IsPermutation, length_permutation}
 use Rattle.std.proofs.lemmas.Bool.{cases_eq, eq-eqb, ne_eqb, cases_lt}
-use Rattle.std.specs.Prelude.{Option, Some, None, IsSome, IfSome, is_some}
+use Rattle.std.specs.Prelude.{Option, Some, None, IsSome, IsSomeAnd, IfSome, is_some}
 use Rattle.std.specs.Option.{option_map}
 use Rattle.std.specs.List.{All, count_by}
 use Rattle.std.specs.List.Sorted.{IsPermutation}
@@ -142,19 +142,35 @@ is_some_mapped : {A B : Type 0} (f : A → B) (o : Option A) → is_some (option
 is_some_mapped f None = refl
 is_some_mapped f (Some x) = refl
 
-pub respelled-kept : (f : ℕ → ℕ) (ms : List Move) (blocks : List (Option BlockView)) (n : ℕ) → is_some (block_in (respelled f ms blocks) n) ≡ is_some (block_in blocks n)
-respelled-kept f [] blocks n = refl
-respelled-kept f (m ∷ ms) blocks n =
+-- what spelling leaves of a block, it leaves of all
+respelled-as : {A : Type 0} (P : Option BlockView → A) (f : ℕ → ℕ) → ((o : Option BlockView) → P (option_map (spelled f) o) ≡ P o) → (ms : List Move) (blocks : List (Option BlockView)) (n : ℕ) → P (block_in (respelled f ms blocks) n) ≡ P (block_in blocks n)
+respelled-as P f same [] blocks n = refl
+respelled-as P f same (m ∷ ms) blocks n =
     let o : Option BlockView = option_map (spelled f) (block_in blocks m.number) in
-    respelled-kept f ms (set blocks m.number o) n
+    respelled-as P f same ms (set blocks m.number o) n
     ∙ elim (cases_eq n m.number) [
       | inl e ↦
           elim (cases_lt n (length blocks)) [
-            | inl lt ↦ ap (λ k. is_some (block_in (set blocks m.number o) k)) e ∙ ap is_some (get_or-set_same blocks m.number o None (omega arith)) ∙ is_some_mapped (spelled f) (block_in blocks m.number) ∙ ap (λ k. is_some (block_in blocks k)) (sym e)
-            | inr ge ↦ ap is_some (get_or_past (set blocks m.number o) n None (omega (arith, length-set blocks m.number o)) ∙ sym (get_or_past blocks n None (omega arith)))
+            | inl lt ↦ ap (λ k. P (block_in (set blocks m.number o) k)) e ∙ ap P (get_or-set_same blocks m.number o None (omega arith)) ∙ same (block_in blocks m.number) ∙ ap (λ k. P (block_in blocks k)) (sym e)
+            | inr ge ↦ ap P (get_or_past (set blocks m.number o) n None (omega (arith, length-set blocks m.number o)) ∙ sym (get_or_past blocks n None (omega arith)))
           ]
-      | inr ne ↦ ap is_some (get_or-set_other blocks m.number n o None ne)
+      | inr ne ↦ ap P (get_or-set_other blocks m.number n o None ne)
     ]
+
+pub respelled-kept : (f : ℕ → ℕ) (ms : List Move) (blocks : List (Option BlockView)) (n : ℕ) → is_some (block_in (respelled f ms blocks) n) ≡ is_some (block_in blocks n)
+respelled-kept f ms blocks n = respelled-as is_some f (is_some_mapped (spelled f)) ms blocks n
+
+-- whether a block that is kept is written where it stands
+abbrev in_place_of : Option BlockView → Bool
+in_place_of None = false
+in_place_of (Some b) = b.in_place
+
+in_place_spelled : (f : ℕ → ℕ) (o : Option BlockView) → in_place_of (option_map (spelled f) o) ≡ in_place_of o
+in_place_spelled f None = refl
+in_place_spelled f (Some b) = refl
+
+respelled-in_place : (f : ℕ → ℕ) (ms : List Move) (blocks : List (Option BlockView)) (n : ℕ) → in_place_of (block_in (respelled f ms blocks) n) ≡ in_place_of (block_in blocks n)
+respelled-in_place f ms blocks n = respelled-as in_place_of f (in_place_spelled f) ms blocks n
 
 pub respelled-other : (f : ℕ → ℕ) (ms : List Move) (blocks : List (Option BlockView)) (n : ℕ) → times n (numbers ms) ≡ 0 → block_in (respelled f ms blocks) n ≡ block_in blocks n
 respelled-other f [] blocks n h = refl
@@ -207,13 +223,21 @@ changed_kept blocks places marks changed capacity s k d h =
     let e : times n changed ≡ cond (get_or marks n false) 1 0 = s.once n in
     s.kept n (is_marked (get_or marks n false) (times n changed) there e)
 
-pub fits_if : (o : Option BlockView) (p : ℕ) → IfSome o (FitsAddresses p) → IsSome o → (p ≡ undefined → ⊥) → p + length (bytes_of o) < 2 ^ 64
-fits_if None p h some = absurd (cc)
-fits_if (Some b) p h some = h
+fits_if : (o : Option BlockView) (p : ℕ) → IfSome o (FitsAddresses p) → in_place_of o ≡ true → (p ≡ undefined → ⊥) → p + length (bytes_of o) < 2 ^ 64
+fits_if None p h stays = absurd (cc)
+fits_if (Some b) p h stays = h stays
 
-if_fits : (o old : Option BlockView) (p : ℕ) → is_some o ≡ is_some old → length (bytes_of o) ≡ length (bytes_of old) → (IsSome old → (p ≡ undefined → ⊥) → p + length (bytes_of old) < 2 ^ 64) → IfSome o (FitsAddresses p)
-if_fits None old p some len h = tt
-if_fits (Some b) old p some len h = λ d. let k = h (sym some) d in omega arith
+if_fits : (o old : Option BlockView) (p : ℕ) → in_place_of o ≡ in_place_of old → length (bytes_of o) ≡ length (bytes_of old) → (in_place_of old ≡ true → (p ≡ undefined → ⊥) → p + length (bytes_of old) < 2 ^ 64) → IfSome o (FitsAddresses p)
+if_fits None old p stays len h = tt
+if_fits (Some b) old p stays len h = λ is d. let k = h (sym stays ∙ is) d in omega arith
+
+as_in_block : (o : Option BlockView) (b : Bool) → IsSomeAnd o (λ k. b ≡ k.in_place) → in_place_of o ≡ b
+as_in_block None b h = absurd h
+as_in_block (Some k) b h = sym h
+
+stays_in : (b : Bool) (old : ℕ) → stays b old ≡ true → b ≡ true
+stays_in true old h = refl
+stays_in false old h = cc
 
 pub stays_true : (b : Bool) (old : ℕ) → stays b old ≡ true → old ≡ undefined → ⊥
 stays_true true old h e = let t : (old == undefined) ≡ true = eq-eqb old undefined e in cc
@@ -224,7 +248,7 @@ ends_by blocks places s m t true fits step e p =
     let old : m.old ≡ place_in places m.number = step.old in
     let len : m.len ≡ length (bytes_in blocks m.number) = step.len in
     let new : m.new ≡ m.old = p.0 in
-    let end = fits_if (block_in blocks m.number) (place_in places m.number) fits step.kept (λ u. stays_true m.in_place m.old e (old ∙ u)) in
+    let end = fits_if (block_in blocks m.number) (place_in places m.number) fits (as_in_block (block_in blocks m.number) m.in_place step.in_place ∙ stays_in m.in_place m.old e) (λ u. stays_true m.in_place m.old e (old ∙ u)) in
     omega arith
 ends_by blocks places s m t false fits step e p = step.ends e
 
@@ -263,7 +287,7 @@ pub IsStore-planned : (blocks : List (Option BlockView)) (places : List ℕ) (ma
     → IsStore (respelled f ms blocks) (moved ms places) (cleaned ms marks) [] capacity
 IsStore-planned blocks places marks changed capacity s ms t f r lengths =
     let inside : All (λ (m : Move). m.number < length blocks) ms = moves_inside blocks places s ms t r.moves in
-    let Q : ℕ → ℕ → Type 0 = λ n p. IsSome (block_in blocks n) → (p ≡ undefined → ⊥) → p + length (bytes_in blocks n) < 2 ^ 64 in
+    let Q : ℕ → ℕ → Type 0 = λ n p. in_place_of (block_in blocks n) ≡ true → (p ≡ undefined → ⊥) → p + length (bytes_in blocks n) < 2 ^ 64 in
     let each : All (λ (m : Move). Q m.number m.new) ms =
     Chain-all (IsMove blocks places) (λ (m : Move). Q m.number m.new) (λ a m b step some d. let len : m.len ≡ length (bytes_in blocks m.number) = step.len in let end = move_ends blocks places a m b (r.store.fits m.number) step in omega arith) s ms t r.moves in
     let in_places : All (λ (m : Move). m.number < length places) ms = subst (λ k. All (λ (m : Move). m.number < k) ms) (sym r.store.each_place) inside in
@@ -277,7 +301,7 @@ IsStore-planned blocks places marks changed capacity s ms t f r lengths =
       each_mark = length-cleaned ms marks ∙ r.store.each_mark ∙ sym (length-respelled f ms blocks);
       once = λ n. ap (λ b. cond b 1 0) (sym (off n));
       kept = λ n h. absurd (let e : true ≡ false = sym h ∙ off n in cc);
-      fits = λ n. if_fits (block_in (respelled f ms blocks) n) (block_in blocks n) (place_in (moved ms places) n) (respelled-kept f ms blocks n) (lengths n)
+      fits = λ n. if_fits (block_in (respelled f ms blocks) n) (block_in blocks n) (place_in (moved ms places) n) (respelled-in_place f ms blocks n) (lengths n)
           (moved-keeps Q ms places (λ k. fits_if (block_in blocks k) (place_in places k) (r.store.fits k)) each in_places n);
       room = omega arith;
     }

@@ -51,9 +51,9 @@ is_listed n numbers = nat_lt 0 (times n numbers)
 abbrev pub is_changed : Store → ℕ → Bool
 is_changed s n = is_listed n s.changed
 
--- a block that has a place ends below 2^64
+-- a block in place that has a place ends below 2^64
 abbrev pub FitsAddresses : ℕ → BlockView → Type 0
-FitsAddresses place b = (place ≡ undefined → ⊥) → place + length b.bytes < 2 ^ 64
+FitsAddresses place b = b.in_place ≡ true → (place ≡ undefined → ⊥) → place + length b.bytes < 2 ^ 64
 
 -- the same with the block under this number changed
 abbrev pub marked : ℕ → Store → Store

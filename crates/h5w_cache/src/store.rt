@@ -205,10 +205,11 @@ impl Cache {
         set_number(&mut self.blocks[number as usize], offset, v);
     }
 
-    /// This block stands under the number of a changed one, of the same length.
+    /// This block stands under the number of a changed one, of the same length, which is written as it was: in place or as a copy.
     pub fn fill(&mut self, number: u32, block: Block)
         requires changed { IsTrue (is_changed self.old number) }
         requires same { IfSome (block_of self.old number) (λ b. length block.bytes ≡ length b.bytes) }
+        requires in_place { IfSome (block_of self.old number) (λ b. block.in_place ≡ b.in_place) }
         ensures { self.new ≡ changed_to number block self.old }
     {
         self.blocks[number as usize] = Some(block);

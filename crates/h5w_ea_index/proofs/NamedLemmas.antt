@@ -61,7 +61,7 @@ header_damaged img first top f low is = record {
   part = tt;
   named = refl;
   placed = λ ne. absurd (ne refl);
-  is = inl (low, is);
+  is = (low, is);
   before = λ j p lt needed. absurd (omega arith);
 }
 
@@ -71,7 +71,7 @@ index_damaged img first top place bytes f low h defined is = record {
   part = tt;
   named = header_named img top h.fields h.read ∙ h.names;
   placed = λ ne. defined;
-  is = inl (low, is);
+  is = (low, is);
   before = λ j p lt needed. only_header j lt;
 }
   where

@@ -21,7 +21,7 @@ use Rattle.h5w_cache.specs.Stores.{Store}
 use Rattle.h5w_array_laws.specs.Parts.{Part, data_of, secondary_of, IsPart, index_block, header, number_of, length_of, stays_in_place}
 use Rattle.h5w_array_laws.specs.ArrayStores.{block_at_part, place_at_part, header_place}
 use Rattle.h5w_ea_index.specs.Created.{Keeps}
-use Rattle.h5w_ea_index.specs.Opened.{IfDamaged, IsHeaderAt, IsJudged, IsMade, IsOpened, IsSound, IsThere, NamesBlock, refusal, Loads, OnDamaged, Refuses, StandsAt, refusal_of, refused_on}
+use Rattle.h5w_ea_index.specs.Opened.{IfDamaged, IsHeaderAt, IsJudged, IsMade, IsOpened, IsSound, IsThere, NamesBlock, refusal, Loads, OnDamaged, StandsAt, refusal_of, refused_on}
 use Rattle.h5w_ea_index.specs.declared.error.OpenArrayError.{OpenArrayError}
 use Rattle.h5w_ea_index.specs.declared.error.OpenArrayError.TheVariants.{Damaged, Failed, OutOfMemory}
 use Rattle.h5w_ea_index.proofs.DecodedLemmas.{decoded}
@@ -109,10 +109,6 @@ module _ (img : List ℕ) (place n : ℕ) (k : Part) (bytes : List ℕ) (len : n
       let some = some_length k in
       let l : length bytes ≡ min n (length img - place) = ap length read ∙ length_range img place n in
       omega arith
-
-  pub read_far : (first : ℕ) (whole : Bool) (f : BlockFault) → IsJudged k bytes place first whole → length img < 2 ^ 64 → 2 ^ 64 ≤ place + n → f ≡ Cut n 0 → Refuses img first k place f
-  read_far first true f j short far e = let t = read_inside short (j.sound refl) in absurd (omega arith)
-  read_far first false f j short far e = inr (j.early refl, omega arith, e ∙ ap (λ q. Cut q 0) len)
 
   pub read_there : (b : BlockView) → b.bytes ≡ bytes → refusal_of k bytes place ≡ None → length bytes ≤ n → IsThere img k place b
   read_there b e sound few =

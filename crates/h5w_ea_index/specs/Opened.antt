@@ -150,18 +150,10 @@ pub record IsMade (top : ℕ) (k : Part) (bytes : List ℕ) (whole : Bool) (b : 
 -- ---- Refusals
 
 -- it leads to a chunk from number `first` on, and is refused there
-abbrev pub IsRefused : List ℕ → ℕ → Part → ℕ → BlockFault → Type 0
-IsRefused img first k at f = (first < past k) × (refused_on img k at ≡ Some f)
-
--- it leads to none of these, and no block can stand there: it would end at 2^64 or later
-abbrev pub IsTooFar : ℕ → Part → ℕ → BlockFault → Type 0
-IsTooFar first k at f = (past k ≤ first) × (2 ^ 64 ≤ at + length_of k) × (f ≡ Cut (length_of k) 0)
-
 abbrev pub Refuses : List ℕ → ℕ → Part → ℕ → BlockFault → Type 0
-Refuses img first k at f = IsRefused img first k at f ⊎ IsTooFar first k at f
+Refuses img first k at f = (first < past k) × (refused_on img k at ≡ Some f)
 
--- the first block that is refused of those that lead to a chunk from number `first` on, of the array whose header is at a place; or one of the
--- others that is too far, where none of those before it is refused
+-- the first block that is refused of those that lead to a chunk from number `first` on, of the array whose header is at a place
 pub record IsDamaged (img : List ℕ) (top first at : ℕ) (f : BlockFault) : Type 0 where
   pub k : Part
   pub part : IsPart k

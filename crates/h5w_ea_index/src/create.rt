@@ -5,6 +5,7 @@ ghost use Rattle.h5w_model.specs.Arrays.{eahd_bytes, eaib_bytes};
 ghost use Rattle.h5w_ea.specs.Fields.{eahd_of, eaib_of};
 ghost use Rattle.h5w_array_laws.specs.ArrayStores.{IsArray, IsCreated, IsNumbered, created_header, created_index};
 ghost use Rattle.h5w_array_laws.specs.ArrayImages.{StartsArray};
+ghost use Rattle.h5w_cache.specs.Stores.{FitsAddresses};
 ghost use Rattle.h5w_ea_index.specs.Created.{IsBare, Keeps, links_to};
 
 use crate::slot::{HEADER, INDEX_BLOCK};
@@ -100,7 +101,7 @@ pub fn keep(cache: &mut Cache, number: u32, block: Block, place: u64)
     requires inside { number < length cache.old.blocks }
     requires each { length cache.old.places ≡ length cache.old.blocks }
     requires clean { cache.old.changed ≡ [] }
-    requires fits { place + length block.bytes < 2 ^ 64 }
+    requires fits { FitsAddresses place block }
     ensures { Keeps number block place cache.old cache.new }
 {
     cache.put(number, block, place);

@@ -64,9 +64,8 @@ impl ArrayIndex {
     /// The array whose header stands at place `header` of an image. None where the header names no index block: then it has no chunk.
     ///
     /// All blocks that stand are loaded, in the order in which a check visits them. The first that is refused is answered as Damaged, but
-    /// for one that leads to no chunk from number `first` on: an empty block is kept for it, which is answered as Damaged with Cut, got 0,
-    /// where it would end at 2^64 or later. The image is only looked at. Header and index block stay where they are, and their numbers and
-    /// addresses go on from what stands there.
+    /// for one that leads to no chunk from number `first` on: an empty block is kept for it. The image is only looked at. Header and index
+    /// block stay where they are, and their numbers and addresses go on from what stands there.
     ///
     /// Failed: the image's count of faults rose.
     pub fn open<I: PieceRead>(

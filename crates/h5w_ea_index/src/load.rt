@@ -48,7 +48,7 @@ pub fn bytes_at<I: PieceRead>(
     Ok(bytes)
 }
 
-/// No block ends at 2^64 or later.
+/// No block in place ends at 2^64 or later.
 pub fn check_end(at: u64, len: usize) -> Result<(), OpenArrayError>
     requires { len ≤ 10000 }
     ensures fits { OnOk result (at + len < 2 ^ 64) }
@@ -137,12 +137,10 @@ fn loaded<I: PieceRead>(
     requires { IsPart (copied_part part) }
     ensures loads { Loads (I.view image.old) (I.view image.new) (λ img a f. (a ≡ at) × Refuses img first (copied_part part) at f) result }
     ensures sound { IfOk result (λ b. IsSound (copied_part part) b) }
-    ensures fits { IfOk result (λ b. at + length b.bytes < 2 ^ 64) }
     ensures stands { IfOk result (λ b. (img : List ℕ) → IsStill (I.view image.old) img → StandsAt img first (copied_part part) at b) }
 {
     let bytes = bytes_at(alloc, image, at, len(part))?;
     let whole = is_whole(alloc, part, &bytes, at, first)?;
-    check_end(at, len(part))?;
     let block = block_or_empty(alloc, header, part, bytes, whole)?;
     Ok(block)
 }

@@ -1,4 +1,4 @@
-use Rattle.std.proofs.Common.{◌≡◌, ℕ, ◌^◌, ◌<◌, ◌∙◌, Err, refl, sym, subst, arith, rules}
+use Rattle.std.proofs.Common.{◌≡◌, ℕ, ◌^◌, ◌<◌, ◌∙◌, true, false, Err, refl, sym, subst, arith, rules}
 use Rattle.h5w_image.proofs.ViewLemmas.{looked_itself}
 use Rattle.h5w_model.specs.Numbers.{undefined}
 use Rattle.h5w_cache.specs.Stores.{Store}
@@ -15,6 +15,9 @@ pub read-at-requires : goal.read-at-requires
 read-at-requires g c =
     name_read c.args.header (rank (copied_part c.args.part)) c.args.cache.now (copied_part c.args.part) c.parent_number.result c.name_offset.result c.requires.loading c.requires.part (copied_moves c.args.part) c.parent_number.ensures c.name_offset.ensures
 
+pub keep-requires-clause-fits : goal.keep-requires-clause-fits
+keep-requires-clause-fits g c = λ is. let e : true ≡ false = sym is ∙ c.in_ok-block.ensures.sound.block.in_place ∙ copied_moves c.args.part in absurd (cc)
+
 pub returns-then-at-clause-loading : goal.returns-then-at-clause-loading
 returns-then-at-clause-loading g c =
     let k : Part = copied_part c.args.part in
@@ -29,7 +32,7 @@ returns-clause-loading g c =
     let v : Store = c.args.cache.now in
     let named : c.read-at.result ≡ named_place v k = read_named v k c.parent_number.result c.name_offset.result c.read-at.result c.parent_number.ensures c.name_offset.ensures c.read-at.ensures in
     let keeps : Keeps (number_of k) c.in_ok-block.block c.read-at.result v c.keep.new.cache = subst (λ n. Keeps n c.in_ok-block.block c.read-at.result v c.keep.new.cache) c.number.ensures.value c.keep.ensures in
-    let low : c.read-at.result < 2 ^ 64 = (let f = c.in_ok-block.ensures.fits in omega arith) in
+    let low : c.read-at.result < 2 ^ 64 = c.read-at.type_inv in
     let h : Keeping c.args.header (rank k) v c.keep.new.cache k c.in_ok-block.block c.read-at.result = record {
       loading = c.requires.loading;
       part = c.requires.part;

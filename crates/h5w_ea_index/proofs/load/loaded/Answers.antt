@@ -1,7 +1,7 @@
-use Rattle.std.proofs.Common.{subst, arith}
+use Rattle.std.proofs.Common.{subst}
 use Rattle.h5w_array_laws.specs.Parts.{Part}
 use Rattle.h5w_ea_index.specs.Loading.{copied_part}
-use Rattle.h5w_ea_index.specs.Opened.{IsJudged, IsSound}
+use Rattle.h5w_ea_index.specs.Opened.{IsJudged}
 use Rattle.h5w_ea_index.proofs.OpenedLemmas.{made_sound, read_stands}
 use Rattle.h5w_ea_index.proofs.load.loaded.Goals as goal
 
@@ -10,16 +10,6 @@ returns-clause-sound g c =
     let k : Part = copied_part c.args.part in
     let j : IsJudged k c.in_ok-bytes.bytes.items c.args.at c.args.first c.in_ok-whole.whole = subst (λ b. IsJudged k b c.args.at c.args.first c.in_ok-whole.whole) c.deref.ensures.value c.in_ok-whole.ensures.judged in
     made_sound k c.in_ok-bytes.bytes.items c.args.at c.args.first c.args.header c.in_ok-whole.whole c.in_ok-block.block j c.in_ok-block.ensures
-
-pub returns-clause-fits : goal.returns-clause-fits
-returns-clause-fits g c =
-    let k : Part = copied_part c.args.part in
-    let j : IsJudged k c.in_ok-bytes.bytes.items c.args.at c.args.first c.in_ok-whole.whole = subst (λ b. IsJudged k b c.args.at c.args.first c.in_ok-whole.whole) c.deref.ensures.value c.in_ok-whole.ensures.judged in
-    let is : IsSound k c.in_ok-block.block = made_sound k c.in_ok-bytes.bytes.items c.args.at c.args.first c.args.header c.in_ok-whole.whole c.in_ok-block.block j c.in_ok-block.ensures in
-    let long = is.block.len in
-    let end = c.in_ok-check_end.ensures.fits in
-    let len = c.len-2.ensures.value in
-    omega arith
 
 pub returns-clause-stands : goal.returns-clause-stands
 returns-clause-stands g c = λ img still.

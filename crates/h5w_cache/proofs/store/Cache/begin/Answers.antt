@@ -1,4 +1,4 @@
-use Rattle.std.proofs.Common.{◌≤◌, ℕ, subst}
+use Rattle.std.proofs.Common.{◌≤◌, subst}
 use Rattle.h5w_cache.specs.Stores.{Store, times}
 use Rattle.h5w_cache.proofs.PlannedLemmas.{listed_once}
 use Rattle.h5w_cache.proofs.store.Cache.begin.Goals as goal
