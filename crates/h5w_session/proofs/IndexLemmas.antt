@@ -52,10 +52,15 @@ never n changed = let clash : false ≡ true = changed in cc
 pub clean_marks : (d : Described) (from to : ℕ) (v : Store) → v.changed ≡ [] → AreMarks d from to v
 clean_marks d from to v clean n changed = absurd (never n (subst (λ (c : List ℕ). is_listed n c ≡ true) clean changed))
 
--- ---- What was retired becomes free, and the superblock is written again
+-- ---- What was retired becomes free or is forgotten, and the superblock is written again
+
+-- what was live stays so where what was retired is forgotten
+pub forgotten_live : (s : Space) (r : Extent) → IsLive s r → IsLive (record s { retired = [] }) r
+forgotten_live s r l = record { within = l.within; off_free = l.off_free; off_retired = All-nil (Apart r) }
 
 freed_standing : (keeps : Bool) (v : Store) (s t : Space) → Freed keeps s t → Standing v s → Standing v t
-freed_standing true v s t freed standing = subst (λ (x : Space). Standing v x) (sym freed) standing
+freed_standing true v s t freed standing =
+    subst (λ (x : Space). Standing v x) (sym freed) (record { live = λ n placed. forgotten_live s (range_of v n) (standing.live n placed); some = standing.some; apart = standing.apart })
 freed_standing false v s t freed standing = standing_freed v s t freed standing
 
 pub freed_index : (keeps : Bool) (img : List ℕ) (m : Moment) (address : Key → ℕ) (s t : Space) (v : Store) → Freed keeps s t → IsIndexed img m address s v → IsIndexed img m address t v

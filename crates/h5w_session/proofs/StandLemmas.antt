@@ -31,6 +31,7 @@ use Rattle.h5w_steps.proofs.SessionLaws.{piece_runs}
 use Rattle.h5w_steps.proofs.StepRepresents.{ends_missed}
 use Rattle.h5w_flush_laws.specs.Flushes.{Rests}
 use Rattle.h5w_flush_laws.specs.Knowledge.{Knows}
+use Rattle.h5w_flush_laws.specs.Spaces.{extent_of}
 use Rattle.h5w_flush_laws.proofs.EarlyLemmas.{header_kept}
 use Rattle.h5w_flush_laws.proofs.KnownLaws.{end_known}
 use Rattle.h5w_flush_laws.proofs.FlushLaws.{freed_known}
@@ -40,7 +41,7 @@ use Rattle.h5w_session.specs.Indexes.{IsIndexed}
 use Rattle.h5w_session.specs.Openings.{flagged, flagged_root}
 use Rattle.h5w_session.specs.Stands.{Running, Stands}
 use Rattle.h5w_types.proofs.RunLemmas.{by_cell, first_has_cell, first_outside-cons}
-use Rattle.h5w_session.proofs.IndexLemmas.{freed_index, marks_more, missed_index}
+use Rattle.h5w_session.proofs.IndexLemmas.{forgotten_live, freed_index, marks_more, missed_index}
 use Rattle.h5w_session.proofs.PastLemmas.{past_more, past_same, past_shown, past_values}
 use Rattle.h5w_session.proofs.StateLemmas.{Accepted, rows_are}
 
@@ -179,9 +180,11 @@ goes_rows name log m held g =
     let len : length (flushed log) ≡ rows * log.columns = ap length (sym g.values) ∙ g.now.count ∙ ap (λ (n : ℕ). rows * n) g.columns in
     ap (λ (n : ℕ). n / log.columns) (len ∙ omega arith) ∙ div-mul-add rows log.columns 0 g.some_columns
 
--- what is known stays known where what was retired becomes free, or stays
+-- what is known stays known where what was retired becomes free, or is forgotten
 pub freed_or_kept : (keeps : Bool) (img name : List ℕ) (m : Moment) (address : Key → ℕ) (s t : Space) → Freed keeps s t → Knows img name m address s → Knows img name m address t
-freed_or_kept true img name m address s t freed k = subst (λ (x : Space). Knows img name m address x) (sym freed) k
+freed_or_kept true img name m address s t freed k =
+    subst (λ (x : Space). Knows img name m address x) (sym freed)
+    (record { file = k.file; index = k.index; live = λ u among. forgotten_live s (extent_of u) (k.live u among); ended = k.ended; covered = k.covered; layout = k.layout })
 freed_or_kept false img name m address s t freed k = freed_known img name m address s t freed k
 
 -- the end and the limit stay there

@@ -123,12 +123,12 @@ pub record ArePieces (end : ℕ) (ws : List Write) : Type 0 where
 abbrev pub with_values : Session → List ℤ → Session
 with_values s values = record s { waiting = s.waiting ++ cells_of s.dataset values; waits = s.waits + length values / s.dataset.shape.cols }
 
--- what was retired is free, but where it stays retired
+-- what was retired is free, or where it stays out of use forgotten: neither free nor retired
 abbrev pub Freed : Bool → Space → Space → Type 0
-Freed true s t = t ≡ s
+Freed true s t = t ≡ record s { retired = [] }
 Freed false s t = Commits s t
 
--- the session once its oldest piece became visible, with these left: the last brings the rows, and frees what was retired
+-- the session once its oldest piece became visible, with these left: the last brings the rows, and frees or forgets what was retired
 abbrev pub AfterPiece : Session → List Write → Session → Type 0
 AfterPiece s [] t = Freed s.keeps s.places t.places × (t ≡ record s { places = t.places; committed = s.dataset.shape.rows; pending = [] })
 AfterPiece s (w ∷ ws) t = t ≡ record s { pending = w ∷ ws }

@@ -9,7 +9,7 @@ ghost use Rattle.h5w_model.specs.Superblock.{super_at, super_bytes};
 ghost use Rattle.h5w_session.specs.Creations.{created, log_of, new_file};
 ghost use Rattle.h5w_image.specs.View.{Same};
 ghost use Rattle.h5w_session.specs.Room.{HasRoomFor};
-ghost use Rattle.h5w_session.specs.Sessions.{AfterPiece, AreRows, chunk_limit, chunks_with, cleared, closed_of, closed_root, rows_of, stopped_of, with_values};
+ghost use Rattle.h5w_session.specs.Sessions.{AfterPiece, AreRows, Freed, chunk_limit, chunks_with, cleared, closed_of, closed_root, rows_of, stopped_of, with_values};
 ghost use Rattle.h5w_session.specs.Refusals.{append_refusal, close_refusal};
 ghost use Rattle.h5w_session.specs.Stands.{Stands};
 ghost use Rattle.h5w_session.specs.declared.refusal.AppendError.{AppendError};
@@ -56,7 +56,7 @@ pub struct WriterCore {
     /// The list of a plan before it, whose room is used again.
     pub(crate) spare: Vec<Write>,
     pub(crate) stopped: bool,
-    /// What is retired stays retired.
+    /// What is retired stays out of use.
     pub(crate) keeps: bool,
     /// The index of the chunks.
     pub(crate) index: ArrayIndex,
@@ -220,8 +220,8 @@ impl WriterCore {
         self.plan.get(self.shown)
     }
 
-    /// The oldest pending piece became visible. With the last one the file has the planned rows, and what was retired is free. Takes
-    /// no memory.
+    /// The oldest pending piece became visible. With the last one the file has the planned rows, and what was retired is free, or stays
+    /// out of use. Takes no memory.
     pub fn written(&mut self)
         requires { 0 < length self.old.pending }
         ensures piece { (w : Write) (ws : List Write) → self.old.pending ≡ w ∷ ws → AfterPiece self.old ws self.new }
@@ -247,9 +247,7 @@ impl WriterCore {
         ensures { AfterPiece self.old [] self.new }
     {
         self.committed = self.grid.shape.rows;
-        if !self.keeps {
-            self.places.commit();
-        }
+        let_go(&mut self.places, self.keeps);
     }
 
     /// Drops the pending pieces. The session is stopped from then on: nothing is pending, and what was flushed stays.
@@ -303,7 +301,7 @@ impl WriterCore {
         self.stopped = true;
     }
 
-    /// What is retired stays retired from now on, so that no place of this session is used twice.
+    /// What is retired stays out of use from now on, so that no place of this session is used twice.
     pub fn keep_retired(&mut self)
         ensures session { self.new ≡ record self.old { keeps = true } }
         ensures stands { (log : Log) → Stands self.old log → Stands self.new log }
@@ -349,6 +347,17 @@ impl WriterCore {
         ensures { result.now ≡ self.now.name }
     {
         self.name.as_slice()
+    }
+}
+
+/// What was retired is free, or where it stays out of use forgotten.
+fn let_go(places: &mut Places, keeps: bool)
+    ensures { Freed keeps places.old places.new }
+{
+    if keeps {
+        places.forget();
+    } else {
+        places.commit();
     }
 }
 

@@ -2,13 +2,13 @@
 use Rattle.std.proofs.Common.{◌≡◌, ℕ, ◌+◌, ◌<◌, ◌≤◌, min, max, List, [], ◌∷◌, ◌++◌, get_or, ◌⊎◌, inl, inr, sym, ap, subst, ◌∙◌, arith, append_assoc, append-nil, eq-eqb, true, ◌==◌, ◌||◌}
 use Rattle.std.proofs.lemmas.Bool.{cases_lt}
 use Rattle.std.proofs.lemmas.Bool.Decides.{nat_tests}
-use Rattle.std.proofs.lemmas.List.Elements.{All-append, All-head, All-tail, All-cons, All-weaker}
-use Rattle.std.proofs.lemmas.List.Sorted.{All-permutation, sum_by-IsPermutation, IsPermutation-append_left, IsPermutation-sym, IsPermutation-to_front, list_any-IsPermutation}
-use Rattle.std.proofs.lemmas.List.Sums.{sum_by-cons, sum_by-le, get_or-le-sum_by}
+use Rattle.std.proofs.lemmas.List.Elements.{All-append, All-head, All-tail, All-cons, All-nil, All-weaker}
+use Rattle.std.proofs.lemmas.List.Sorted.{All-permutation, sum_by-IsPermutation, IsPermutation-append_left, IsPermutation-sym, IsPermutation-to_front, IsPermutation-middle, list_any-IsPermutation}
+use Rattle.std.proofs.lemmas.List.Sums.{sum_by-append, sum_by-cons, sum_by-le, get_or-le-sum_by}
 use Rattle.std.specs.List.{All, sum_by}
 use Rattle.std.specs.List.Sorted.{IsPermutation}
 use Rattle.h5w_space.specs.declared.Extent.{Extent}
-use Rattle.h5w_space.specs.Space.{Apart, extent, has_size}
+use Rattle.h5w_space.specs.Space.{Apart, IsLive, Space, extent, has_size}
 use Rattle.h5w_space.specs.Groups.{holds, IsSound}
 
 holds_in : (b : ℕ) (r : Extent) → r.at ≤ b → b < r.at + r.size → holds b r ≡ 1
@@ -149,3 +149,24 @@ end_off end size free retired s =
 -- what shares no byte with the free and the retired places shares none with the new free ones
 pub committed_off : (r : Extent) (free retired new : List Extent) → All (Apart r) free → All (Apart r) retired → IsPermutation (free ++ retired) new → All (Apart r) new
 committed_off r free retired new f t p = All-permutation (Apart r) (free ++ retired) new p (All-append (Apart r) free retired f t)
+
+-- some first places are sound by themselves
+pub front_sound : (end : ℕ) (xs ys : List Extent) → IsSound end (xs ++ ys) → IsSound end xs
+front_sound end xs ys s = record {
+  within = All-front (λ (r : Extent). r.at + r.size ≤ end) xs ys s.within;
+  once = λ b. omega (arith, s.once b, sum_by-append (holds b) xs ys);
+}
+
+-- a place behind others shares no byte with them
+pub forgotten_off : (end : ℕ) (free retired : List Extent) → IsSound end (free ++ retired) → All (λ r. All (Apart r) free) retired
+forgotten_off end free [] s = All-nil (λ (r : Extent). All (Apart r) free)
+forgotten_off end free (r ∷ rs) s =
+    let all : IsSound end (r ∷ (free ++ rs)) = IsSound-permutation end (free ++ r ∷ rs) (r ∷ (free ++ rs)) (IsPermutation-middle free r rs) s in
+    All-cons (λ (q : Extent). All (Apart q) free) r rs (All-front (Apart r) free rs (apart_of r (free ++ rs) all.once)) (forgotten_off end free rs (IsSound-tail end r (free ++ rs) all))
+
+-- what was retired is live where nothing is retired any more
+pub forgotten_live : (s : Space) → IsSound s.end (s.free ++ s.retired) → All (IsLive (record s { retired = [] })) s.retired
+forgotten_live s sound =
+    let ends = All-back (λ (r : Extent). r.at + r.size ≤ s.end) s.free s.retired sound.within in
+    let off = forgotten_off s.end s.free s.retired sound in
+    λ k d lt. record { within = ends k d lt; off_free = off k d lt; off_retired = All-nil (Apart (get_or s.retired k d)) }

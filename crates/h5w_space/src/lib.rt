@@ -2,8 +2,8 @@
 //!
 //! A block that is written anew goes to a place that [`Places::take`] gives: a free place of just its size, or
 //! the end of the file. The place of the block before it is retired, since readers may still follow addresses to
-//! it; only [`Places::commit`] makes retired places free. Free places are known to the session alone, and are
-//! lost at its end.
+//! it; only [`Places::commit`] makes retired places free, and [`Places::forget`] keeps them out of use for good. Free
+//! places are known to the session alone, and are lost at its end.
 #![tactic(auto)]
 
 ghost use Rattle.std.specs.Prelude.{◌≡◌, ℕ, ◌+◌, ◌-◌, ◌<◌, ◌≤◌, ◌↔◌, ◌∷◌, ◌++◌, [], ◌&&◌, not, nat_lt, max, IsTrue, IfOk, IfErr, OnErr, is_err, vec_capacity};
@@ -63,7 +63,7 @@ pub struct Places {
     /// The free places, by their sizes as `groups` says.
     free: Vec<Extent>,
     groups: Vec<Group>,
-    /// What becomes free with the next commit.
+    /// What becomes free with the next commit, or is forgotten.
     retired: Vec<Extent>,
     /// How many more retirements have room in the three lists.
     spare: u64,
@@ -196,6 +196,16 @@ impl Places {
         ensures stays_live { (r : Extent) → IsLive self.old r → IsLive self.new r }
     {
         groups::put_all(&mut self.groups, &mut self.free, &self.retired);
+        self.retired.clear();
+    }
+
+    /// What was retired is forgotten: it is neither free nor retired, so that no place is taken over it any more. Takes no memory.
+    pub fn forget(&mut self)
+        ensures forgotten { self.new ≡ record self.old { retired = [] } }
+        // what was retired counts as live from now on, as does what was live
+        ensures kept_out { All (IsLive self.new) self.old.retired }
+        ensures stays_live { (r : Extent) → IsLive self.old r → IsLive self.new r }
+    {
         self.retired.clear();
     }
 
