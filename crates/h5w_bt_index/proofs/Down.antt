@@ -1,19 +1,19 @@
 -- A record put into the child on its way.
-use Rattle.std.proofs.Common.{◌≡◌, ℕ, suc, ◌+◌, ◌/◌, ◌<◌, ◌≤◌, ◌^◌, true, false, List, [], ◌∷◌, ◌++◌, length, map, get_or, set, take, drop, sym, ap, ap₂, ◌∙◌, subst, arith, Option, Some, None, is_some, slice_get, add-one}
+use Rattle.std.proofs.Common.{◌≡◌, refl, Bool, ℕ, suc, ◌+◌, ◌/◌, ◌<◌, ◌≤◌, ◌^◌, true, false, List, [], ◌∷◌, ◌++◌, length, map, get_or, set, take, drop, sym, ap, ap₂, ◌∙◌, subst, arith, Option, Some, None, is_some, slice_get, add-one}
 use Rattle.std.proofs.lemmas.Bool.{ltb-true}
 use Rattle.std.proofs.lemmas.List.{take-map, drop-map}
 use Rattle.h5w_model.specs.Numbers.{undefined}
 use Rattle.h5w_model.specs.Trees.{capacity_of}
 use Rattle.h5w_bt.specs.declared.records.Record.{Record}
-use Rattle.h5w_bt_index.specs.Nodes.{Tree, records_of, total_of, rank, address_in}
+use Rattle.h5w_bt_index.specs.Nodes.{Tree, records_of, total_of, rank, address_in, found}
 use Rattle.h5w_bt_index.specs.Puts.{changed_at, changed_node, counted, half, is_over, left_of, no_record, put, raised, right_of, settled}
 use Rattle.h5w_bt_index.specs.Sound.{IsSound}
 use Rattle.h5w_bt_index.proofs.Places.{some_same}
 use Rattle.h5w_bt_index.proofs.Children.{changed-here}
-use Rattle.h5w_bt_index.proofs.Steps.{went_down, put_below}
+use Rattle.h5w_bt_index.proofs.Steps.{found_below, settled_not, went_down, put_below}
 use Rattle.h5w_bt_index.proofs.Parts.{put_sound, raised_sound}
 use Rattle.h5w_bt_index.proofs.Grown.{after_put}
-use Rattle.h5w_bt_index.proofs.Over.{on_the_way, put-one_more}
+use Rattle.h5w_bt_index.proofs.Over.{OnTheWay, on_the_way, over-blocked, put-one_more}
 use Rattle.h5w_bt_index.proofs.Bounds.{room_small, total_fits}
 use Rattle.h5w_bt_index.proofs.Edits.{front_of}
 
@@ -108,3 +108,19 @@ no_spare (Some a) e h = no e
   where
     no : Some a ≡ None → ⊥
     no e = cc
+
+-- a record that is there is put in its place: nothing is divided
+pub down-same : (d : ℕ) (item : Record) (t : Tree (suc d)) (ms : List (Tree d)) → IsSound (suc d) (capacity_of (suc d)) t → ms ≡ (went_down d item t).children → address_in item.key t.records ≡ None
+    → is_some (found (suc d) item.key t) ≡ true → changed_node d t.records ms t.place ≡ put (suc d) item t
+down-same d item t ms s m e h = ap (λ (l : List (Tree d)). changed_node d t.records l t.place) m ∙ sym (settled_not d (rank item.key t.records) (went_down d item t) (put d item w.child) w.after (go (is_over d (put d item w.child)) refl)) ∙ sym (put_below d item t e)
+  where
+    w : OnTheWay d item t
+    w = on_the_way d item t s
+
+    go : (o : Bool) → is_over d (put d item w.child) ≡ o → o ≡ false
+    go false f = refl
+    go true f = absurd (no_spare (found (suc d) item.key t) (found_below d item.key t w.child e w.before ∙ (over-blocked d item w.child w.sound f).absent) h)
+
+pub down-there : (d : ℕ) (item : Record) (t : Tree (suc d)) (k : ℕ) (c : Tree d) → slice_get t.children k ≡ Some c → k ≡ rank item.key t.records → address_in item.key t.records ≡ None
+    → is_some (found (suc d) item.key t) ≡ true → is_some (found d item.key c) ≡ true
+down-there d item t k c there p e h = ap is_some (sym (found_below d item.key t c e (ap (λ (n : ℕ). slice_get t.children n) (sym p) ∙ there))) ∙ h

@@ -19,3 +19,4 @@ pub mod Turns
 pub mod NodeBytes
 pub mod Written
 pub mod Started
+pub mod Replaced

@@ -1,15 +1,15 @@
 -- A tree of any depth as a finite map from keys to addresses.
-use Rattle.std.specs.Prelude.{◌≡◌, ℕ, suc, ◌≤◌, ◌==◌, true, List, [], map, if◌then◌else◌, Option, Some, None}
+use Rattle.std.specs.Prelude.{◌≡◌, ℕ, suc, ◌≤◌, ◌==◌, true, false, List, [], map, if◌then◌else◌, Option, Some, None}
 use Rattle.h5w_model.specs.declared.cell.Key.{Key}
 use Rattle.h5w_model.specs.Numbers.{undefined}
-use Rattle.h5w_model.specs.Tables.{in_leaf}
+use Rattle.h5w_model.specs.Tables.{in_leaf, key_equal}
 use Rattle.h5w_model.specs.Trees.{capacity_of}
 use Rattle.h5w_bt.specs.declared.records.Record.{Record}
 use Rattle.h5w_bt.specs.Parts.{record_of}
 use Rattle.h5w_bt_index.specs.Nodes.{Tree, LeafNode, all_records, address_in}
-use Rattle.h5w_bt_index.specs.Puts.{put, is_over, is_full_path, raised}
+use Rattle.h5w_bt_index.specs.Puts.{put, put_record, is_over, is_full_path, raised}
 use Rattle.h5w_bt_index.specs.Sound.{IsRising, IsSound, AtLeast}
-use Rattle.h5w_bt_index.specs.Marks.{IsMarked, Part, IsCleanPart}
+use Rattle.h5w_bt_index.specs.Marks.{IsMarked, Part, IsCleanPart, clean_of}
 use Rattle.h5w_bt_index.specs.Typed.{leaf_of, inner_of}
 use Rattle.h5w_bt_index.specs.declared.root.Root.{Root}
 use Rattle.h5w_bt_index.specs.declared.root.Root.TheVariants.{Zero, One, Two, Three}
@@ -67,6 +67,23 @@ IsClean p v = IsCleanPart p v.depth v.root
 -- each node but the root has at least half of its capacity
 abbrev pub IsHalfFull : Index → Type 0
 IsHalfFull v = AtLeast v.depth 0 v.root
+
+-- the keys of some records
+abbrev pub keys_of : List Record → List Key
+keys_of rs = map (λ (r : Record). r.key) rs
+
+-- The record of a key is another one: the map changes at that key alone, the records keep their number, their order and their keys, the
+-- tree its depth, and what is clean was so before; the root is changed.
+pub record IsReplaced (x : Record) (v w : Index) : Type 0 where
+  pub map : (key : Key) → address_of w key ≡ (if key_equal x.key key then x.address else address_of v key)
+  pub sorted : records w ≡ put_record x (records v)
+  pub keys : keys_of (records w) ≡ keys_of (records v)
+  pub depth : w.depth ≡ v.depth
+  pub there : (key : Key) → IsThere v key → IsThere w key
+  pub index : IsIndex w
+  pub half : IsHalfFull v → IsHalfFull w
+  pub clean : (p : Part) → IsClean p w → IsClean p v
+  pub changed : clean_of w.depth w.root ≡ false
 
 -- the root of the code
 abbrev pub index_of : Root → Index

@@ -1,14 +1,15 @@
-ghost use Rattle.std.specs.Prelude.{◌≡◌, ◌≤◌, length, IsTrue, ◌↔◌, IfErr, IfOk, OnOk, OnErr, if◌then◌else◌};
+ghost use Rattle.std.specs.Prelude.{◌≡◌, ◌≤◌, [], length, IsTrue, ◌↔◌, IfErr, IfOk, OnOk, OnErr, if◌then◌else◌};
 ghost use Rattle.std.specs.Option.{unwrap_or};
 ghost use Rattle.h5w_model.specs.Numbers.{undefined};
 ghost use Rattle.h5w_model.specs.Tables.{key_equal};
-ghost use Rattle.h5w_bt_index.specs.Index.{IsClean, IsDeep, IsHalfFull, IsIndex, IsThere, address_of, defined, inserted, no_tree, records};
+ghost use Rattle.h5w_bt_index.specs.Index.{IsClean, IsDeep, IsHalfFull, IsIndex, IsReplaced, IsThere, address_of, defined, inserted, no_tree, records};
 ghost use Rattle.h5w_cache.specs.Plans.{IfFull};
 ghost use Rattle.h5w_bt.specs.Fields.{bthd_of};
 ghost use Rattle.h5w_bt.specs.Parts.{IsHeader};
 ghost use Rattle.h5w_bt_index.specs.Held.{header_place, view_of};
 ghost use Rattle.h5w_bt_index.specs.Plans.{HasNoPlace, IsBegun, IsTreePlan, changes, header_of};
-ghost use Rattle.h5w_bt_index.specs.Marks.{Part};
+ghost use Rattle.h5w_bt_index.specs.Marks.{Part, clean_of};
+ghost use Rattle.h5w_space.specs.Space.{Space};
 ghost use Rattle.h5w_bt_index.specs.Nodes.{address_in, records_of};
 ghost use Rattle.h5w_bt_index.specs.Puts.{put_record};
 
@@ -109,11 +110,9 @@ impl TreeIndex {
     }
 
     /// The address of a chunk; None where it has none.
-    pub fn get(&mut self, key: Key) -> Option<u64>
-        requires { IsIndex (view_of self.old) }
-        ensures exact { result ≡ defined (address_of (view_of self.old) key) }
-        ensures kept { (view_of self.new) ≡ (view_of self.old) }
-        ensures place { header_place self.new ≡ header_place self.old }
+    pub fn get(&self, key: Key) -> Option<u64>
+        requires { IsIndex (view_of self.now) }
+        ensures { result ≡ defined (address_of (view_of self.now) key) }
     {
         given(self.find(key))
     }
@@ -188,6 +187,56 @@ impl TreeIndex {
             address: UNDEFINED,
             key,
         })
+    }
+
+    /// Puts a record in the place of the one with its key, which is there. Takes no memory.
+    fn replace(&mut self, item: Record)
+        requires index { IsIndex (view_of self.old) }
+        requires there { IsThere (view_of self.old) item.key }
+        ensures exact { view_of self.new ≡ inserted item (view_of self.old) }
+        ensures replaced { IsReplaced item (view_of self.old) (view_of self.new) }
+        ensures place { header_place self.new ≡ header_place self.old }
+    {
+        self.root.replace(item);
+    }
+
+    /// A chunk, of whose key there is a record, has this address from now on, and each other one that which it had.
+    ///
+    /// It takes no memory, and cannot fail.
+    pub fn set(&mut self, key: Key, address: u64)
+        requires index { IsIndex (view_of self.old) }
+        requires there { IsThere (view_of self.old) key }
+        requires defined { address ≡ undefined → ⊥ }
+        ensures exact { view_of self.new ≡ inserted (record { address = address; key = key }) (view_of self.old) }
+        ensures set { IsReplaced (record { address = address; key = key }) (view_of self.old) (view_of self.new) }
+        ensures place { header_place self.new ≡ header_place self.old }
+    {
+        self.replace(Record { address, key });
+    }
+
+    /// A chunk, of whose key there is a record, has no address from now on, and each other one that which it had. The record stays.
+    ///
+    /// It takes no memory, and cannot fail.
+    pub fn unset(&mut self, key: Key)
+        requires index { IsIndex (view_of self.old) }
+        requires there { IsThere (view_of self.old) key }
+        ensures exact { view_of self.new ≡ inserted (record { address = undefined; key = key }) (view_of self.old) }
+        ensures unset { IsReplaced (record { address = undefined; key = key }) (view_of self.old) (view_of self.new) }
+        ensures place { header_place self.new ≡ header_place self.old }
+    {
+        self.replace(Record {
+            address: UNDEFINED,
+            key,
+        });
+    }
+
+    /// Whether no node changed since it was written. Then the plan of the changed nodes writes nothing, and leaves the tree and all
+    /// places as they are.
+    pub fn is_clean(&self) -> bool
+        ensures clean { result ≡ clean_of (view_of self.now).depth (view_of self.now).root }
+        ensures planned { IsTrue result → (s : Space) → IsTreePlan (header_place self.now) (view_of self.now) s [] [] [] (view_of self.now) s }
+    {
+        self.root.is_clean()
     }
 
     /// Begins the plan of all changed nodes: takes all memory and places that [`TreeIndex::finish`] needs, and changes nothing.

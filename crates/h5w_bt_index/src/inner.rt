@@ -1,7 +1,7 @@
 ghost use Rattle.std.specs.Prelude.{◌≡◌, ℕ, ◌+◌, ◌<◌, ◌≤◌, ◌^◌, ◌++◌, suc, true, None, flat_map, length, map, slice_get, slice_set, IfOk, IfSome, OnOk, OnErr, IsSome, is_some, nat_le, vec_len, vec_capacity};
 ghost use Rattle.std.specs.List.{All, insert, sum_by};
 ghost use Rattle.h5w_model.specs.Trees.{capacity_of};
-ghost use Rattle.h5w_bt_index.specs.Nodes.{Tree, address_in, rank, records_of, total_of};
+ghost use Rattle.h5w_bt_index.specs.Nodes.{Tree, address_in, found, rank, records_of, total_of};
 ghost use Rattle.h5w_bt_index.specs.Puts.{changed_node, is_over, left_of, middle_of, put, right_of, settled};
 ghost use Rattle.h5w_bt_index.specs.Sound.{IsSound};
 ghost use Rattle.h5w_bt_index.specs.Plans.{AllRead, EachBy, changes, each_by, joined_blocks, placed, pointer_of, stood, writes_of, written};
@@ -9,7 +9,7 @@ ghost use Rattle.h5w_bt.specs.Parts.{child_of};
 
 use crate::bytes::{inner_bytes, put_node};
 use crate::lists::{insert_reserved, move_tail};
-use crate::search::{put_record, search};
+use crate::search::{put_record, replace_record, search};
 use crate::subtree::Subtree;
 use h5w_bt::{Child, Key, Record, capacity};
 use h5w_bytes::UNDEFINED;
@@ -222,6 +222,23 @@ impl<C: Subtree> Inner<C> {
     }
 }
 
+impl<C: Subtree> Inner<C> {
+    ghost use Rattle.h5w_bt_index.specs.Typed.{inner_of};
+
+    /// Puts a record that the node itself does not have in the place of the one with its key, in the child at a place.
+    fn replace_below(&mut self, at: usize, item: Record)
+        requires shallow { suc C.depth ≤ 3 }
+        requires sound { IsSound (suc C.depth) (capacity_of (suc C.depth)) (inner_of C.depth C.tree self.old) }
+        requires place { at ≡ rank item.key self.old.records.items }
+        requires new { address_in item.key self.old.records.items ≡ None }
+        requires there { is_some (found (suc C.depth) item.key (inner_of C.depth C.tree self.old)) ≡ true }
+        ensures { inner_of C.depth C.tree self.new ≡ put (suc C.depth) item (inner_of C.depth C.tree self.old) }
+    {
+        self.children[at].replace(item);
+        self.recount();
+    }
+}
+
 impl<C: Subtree> Subtree for Inner<C> {
     ghost use Rattle.std.specs.Prelude.{suc};
     ghost use Rattle.h5w_bt_index.specs.Typed.{inner_of, IsRoomyInner};
@@ -292,6 +309,16 @@ impl<C: Subtree> Subtree for Inner<C> {
         put_record(&mut self.records, item)?;
         self.clean = false;
         Ok(())
+    }
+
+    fn replace(&mut self, item: Record) {
+        let (at, there) = search(&self.records, item.key);
+        if there.is_none() {
+            self.replace_below(at, item);
+            return;
+        }
+        replace_record(&mut self.records, item);
+        self.clean = false;
     }
 
     fn divide(&mut self, right: Inner<C>) -> (Record, Inner<C>) {

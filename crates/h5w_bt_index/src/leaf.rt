@@ -3,7 +3,7 @@ ghost use Rattle.h5w_bt.specs.Parts.{child_of};
 
 use crate::bytes::{leaf_bytes, put_node};
 use crate::lists::move_tail;
-use crate::search::{put_record, search};
+use crate::search::{put_record, replace_record, search};
 use crate::subtree::Subtree;
 use h5w_bt::{Child, Key, Record, capacity};
 use h5w_bytes::UNDEFINED;
@@ -84,6 +84,11 @@ impl Subtree for Leaf {
         put_record(&mut self.records, item)?;
         self.clean = false;
         Ok(())
+    }
+
+    fn replace(&mut self, item: Record) {
+        replace_record(&mut self.records, item);
+        self.clean = false;
     }
 
     fn divide(&mut self, right: Leaf) -> (Record, Leaf) {

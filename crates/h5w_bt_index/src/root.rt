@@ -197,6 +197,20 @@ impl Root {
         }
     }
 
+    /// Puts a record in the place of the one with its key, which is there. Takes no memory.
+    pub fn replace(&mut self, item: Record)
+        requires index { IsIndex (index_of self.old) }
+        requires there { is_some (found (index_of self.old).depth item.key (index_of self.old).root) ≡ true }
+        ensures { index_of self.new ≡ inserted item (index_of self.old) }
+    {
+        match self {
+            Root::Zero(root) => root.replace(item),
+            Root::One(root) => root.replace(item),
+            Root::Two(root) => root.replace(item),
+            Root::Three(root) => root.replace(item),
+        }
+    }
+
     /// Where the root stands, UNDEFINED while it was never written.
     pub fn place(&self) -> u64
         ensures { result ≡ place_of (index_of self.now).depth (index_of self.now).root }

@@ -1,6 +1,6 @@
 //! The place of a key among the records of a node.
 
-ghost use Rattle.std.specs.Prelude.{◌≡◌, ◌+◌, ◌≤◌, length, if◌then◌else◌, OnOk, OnErr};
+ghost use Rattle.std.specs.Prelude.{◌≡◌, ◌+◌, ◌≤◌, length, if◌then◌else◌, is_some, true, OnOk, OnErr};
 ghost use Rattle.h5w_model.specs.Tables.{key_below, key_equal};
 ghost use Rattle.h5w_bt_index.specs.Nodes.{rank, address_in};
 ghost use Rattle.h5w_bt_index.specs.Puts.{put_record};
@@ -45,6 +45,15 @@ pub fn search(records: &[Record], key: Key) -> (usize, Option<u64>)
         }
     }
     (records.len(), None)
+}
+
+/// Puts a record in the place of the one with its key. Takes no memory.
+pub fn replace_record(records: &mut Vec<Record>, item: Record)
+    requires there { is_some (address_in item.key records.old.items) ≡ true }
+    ensures { records.new.items ≡ put_record item records.old.items }
+{
+    let (at, _) = search(records, item.key);
+    records[at] = item;
 }
 
 /// Puts a record to its place among others: in the place of the one with its key, or between those below it and those above.

@@ -1,6 +1,6 @@
 //! What leaves and inner nodes have in common.
 
-ghost use Rattle.std.specs.Prelude.{◌≡◌, ℕ, suc, ◌+◌, ◌<◌, ◌≤◌, ◌^◌, ◌++◌, true, length, IfOk, OnOk, OnErr};
+ghost use Rattle.std.specs.Prelude.{◌≡◌, ℕ, suc, ◌+◌, ◌<◌, ◌≤◌, ◌^◌, ◌++◌, true, is_some, length, IfOk, OnOk, OnErr};
 ghost use Rattle.std.specs.List.{All};
 ghost use Rattle.h5w_model.specs.Trees.{capacity_of};
 ghost use Rattle.h5w_bt_index.specs.Nodes.{found, records_of, total_of};
@@ -62,6 +62,13 @@ pub trait Subtree: Drop {
         requires sound { IsSound depth (capacity_of depth) (tree self.old) }
         ensures ok { OnOk result (tree self.new ≡ put depth item (tree self.old)) }
         ensures err { OnErr result (tree self.new ≡ tree self.old) };
+
+    /// Puts a record in the place of the one with its key, which is there. Takes no memory.
+    fn replace(&mut self, item: Record)
+        requires shallow { depth ≤ 3 }
+        requires sound { IsSound depth (capacity_of depth) (tree self.old) }
+        requires there { is_some (found depth item.key (tree self.old)) ≡ true }
+        ensures { tree self.new ≡ put depth item (tree self.old) };
 
     /// Divides a node that has a record too many: answers the record in the middle, and those right of it in the other node.
     fn divide(&mut self, right: Self) -> (Record, Self)

@@ -73,7 +73,7 @@ fn the_2708th_chunk_divides_the_root(rt: HostRuntime) -> Result<(), Fail> {
 
 #[test]
 fn falling_keys_divide_the_leaf_too(rt: HostRuntime) -> Result<(), Fail> {
-    let mut tree = falling(rt.alloc())?;
+    let tree = falling(rt.alloc())?;
     assert_eq!(rt;
         (tree.depth(), tree.root_records(), tree.total()),
         (1, 1, 85)

@@ -6,6 +6,7 @@ pub mod TreeRangeLemmas
 pub mod TreeHeaderLemmas
 pub mod TreeFlushLemmas
 pub mod TreeInsertLemmas
+pub mod TreeMapLemmas
 pub mod TreePlaceLemmas
 pub mod TreeLaws
 pub mod TreeRestLemmas

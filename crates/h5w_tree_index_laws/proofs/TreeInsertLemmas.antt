@@ -12,8 +12,8 @@ use Rattle.h5w_bt.specs.declared.records.Record.{Record}
 use Rattle.h5w_bt_index.specs.Nodes.{Tree, all_records, joined, rank}
 use Rattle.h5w_bt_index.specs.Puts.{changed_at, half, is_over, left_of, put, put_record, raised, right_of, settled}
 use Rattle.h5w_bt_index.specs.Sound.{IsSound}
-use Rattle.h5w_bt_index.specs.Index.{Index, inserted, records, regrown}
-use Rattle.h5w_tree_index_laws.specs.TreeImages.{InsertedBehind, around, behind_of, chunk_of, chunks_of, own_range, ranges_under}
+use Rattle.h5w_bt_index.specs.Index.{Index, IsIndex, inserted, records, regrown}
+use Rattle.h5w_tree_index_laws.specs.TreeImages.{InsertedBehind, around, behind_of, chunk_of, chunks_of, nodes_weigh, own_range, ranges_under}
 use Rattle.h5w_bt_index.proofs.Laws.{inserted-records}
 use Rattle.h5w_bt_index.proofs.Over.{OnTheWay, on_the_way}
 use Rattle.h5w_bt_index.proofs.Places.{none_is_not, some_same}
@@ -23,18 +23,16 @@ use Rattle.h5w_tree_index_laws.proofs.TreeRangeLemmas.{around_weight, by_weight}
 
 -- ---- Weights of nodes, and of chunks
 
--- what the ranges of the nodes alone weigh
 abbrev nodes : (Used → ℕ) → (d : ℕ) → Tree d → ℕ
-nodes f zero t = sum_by f (own_range t.place)
-nodes f (suc d) t = sum_by f (own_range t.place) + sum_by (nodes f d) t.children
+nodes f d t = nodes_weigh f d t
 
-abbrev chunks : (Used → ℕ) → ℕ → List Record → ℕ
+abbrev pub chunks : (Used → ℕ) → ℕ → List Record → ℕ
 chunks f bytes rs = sum_by f (chunks_of bytes rs)
 
 chunks_append : (f : Used → ℕ) (bytes : ℕ) (rs ss : List Record) → chunks f bytes (rs ++ ss) ≡ chunks f bytes rs + chunks f bytes ss
 chunks_append f bytes rs ss = ap (sum_by f) (flat_map-append (chunk_of bytes) rs ss) ∙ sum_by-append f (chunks_of bytes rs) (chunks_of bytes ss)
 
-chunks_cons : (f : Used → ℕ) (bytes : ℕ) (r : Record) (rs : List Record) → chunks f bytes (r ∷ rs) ≡ sum_by f (chunk_of bytes r) + chunks f bytes rs
+pub chunks_cons : (f : Used → ℕ) (bytes : ℕ) (r : Record) (rs : List Record) → chunks f bytes (r ∷ rs) ≡ sum_by f (chunk_of bytes r) + chunks f bytes rs
 chunks_cons f bytes r rs = sum_by-append f (chunk_of bytes r) (chunks_of bytes rs)
 
 joined_chunks : (f : Used → ℕ) (bytes : ℕ) (rs : List Record) (cs : List (List Record)) → length cs ≡ length rs + 1 → chunks f bytes (joined rs cs) ≡ chunks f bytes rs + sum_by (chunks f bytes) cs
@@ -130,7 +128,7 @@ put_nodes f (suc d) x t s = elim (is_there x.key t.records) [
 raised_nodes : (f : Used → ℕ) (d : ℕ) (t : Tree d) → nodes f (suc d) (raised d t) ≡ nodes f d t
 raised_nodes f d t = omega (arith, parts_nodes f d t, sum_by-cons (nodes f d) (left_of d t) (right_of d t ∷ []), sum_by-cons (nodes f d) (right_of d t) [])
 
-abbrev all_nodes : (Used → ℕ) → Index → ℕ
+abbrev pub all_nodes : (Used → ℕ) → Index → ℕ
 all_nodes f v = nodes f v.depth v.root
 
 regrown_nodes : (f : Used → ℕ) (d : ℕ) (t : Tree d) → all_nodes f (regrown d t) ≡ nodes f d t
@@ -140,12 +138,15 @@ regrown_nodes f d t = go (cases_Bool (is_over d t))
     go (inl o) = ap (all_nodes f) (cond-true (is_over d t) _ _ o) ∙ raised_nodes f d t
     go (inr o) = ap (all_nodes f) (cond-false (is_over d t) _ _ o)
 
+pub inserted_nodes : (f : Used → ℕ) (x : Record) (v : Index) → IsIndex v → all_nodes f (inserted x v) ≡ all_nodes f v
+inserted_nodes f x v i = regrown_nodes f v.depth (put v.depth x v.root) ∙ put_nodes f v.depth x v.root i.sound
+
 pub inserted_behind : InsertedBehind
 inserted_behind x v bytes i j =
     by_weight (behind_of bytes (inserted x v)) (chunk_of bytes x ++ behind_of bytes v) (λ f.
     let w : Index = inserted x v in
     let now = apart f bytes w.depth (capacity_of w.depth) w.root j.sound in
     let was = apart f bytes v.depth (capacity_of v.depth) v.root i.sound in
-    let same : all_nodes f w ≡ all_nodes f v = regrown_nodes f v.depth (put v.depth x v.root) ∙ put_nodes f v.depth x v.root i.sound in
+    let same : all_nodes f w ≡ all_nodes f v = inserted_nodes f x v i in
     let recs : chunks f bytes (records w) ≡ chunks f bytes (put_record x (records v)) = ap (chunks f bytes) (inserted-records x v i) in
     omega (arith, now, was, same, recs, put_chunks f bytes x (records v), sum_by-append f (chunk_of bytes x) (behind_of bytes v)))

@@ -1,6 +1,6 @@
 -- A tree of a session on the image of a file: where its nodes stand, and the ranges that it uses.
 use Rattle.std.specs.Prelude.{◌≡◌, ◌⊎◌, ℕ, zero, suc, ◌+◌, ◌<◌, ◌≤◌, ◌^◌, ◌==◌, true, List, [], ◌∷◌, ◌++◌, map, flat_map, if◌then◌else◌, Ok}
-use Rattle.std.specs.List.{All}
+use Rattle.std.specs.List.{All, sum_by}
 use Rattle.h5w_model.specs.Numbers.{undefined}
 use Rattle.h5w_model.specs.Images.{At}
 use Rattle.h5w_model.specs.Programs.{eval}
@@ -91,3 +91,33 @@ pub record AreAmong (us vs : List Used) : Type 0 where
 -- With a record more, of ranges there is that of its chunk more, where it has an address, and none other.
 abbrev pub InsertedBehind : Type 0
 InsertedBehind = (x : Record) (v : Index) (bytes : ℕ) → IsIndex v → IsIndex (inserted x v) → AreAmong (behind_of bytes (inserted x v)) (chunk_of bytes x ++ behind_of bytes v)
+
+-- the same ranges, perhaps in another order
+abbrev pub AreSame : List Used → List Used → Type 0
+AreSame us vs = (f : Used → ℕ) → sum_by f us ≡ sum_by f vs
+
+-- the range of a chunk at an address, where that is defined
+abbrev pub chunk_named : ℕ → ℕ → List Used
+chunk_named bytes address = if address == undefined then [] else chunk_at address bytes ∷ []
+
+-- what the ranges of a tree's nodes weigh together
+abbrev pub nodes_weigh : (Used → ℕ) → (d : ℕ) → Tree d → ℕ
+nodes_weigh f zero t = sum_by f (own_range t.place)
+nodes_weigh f (suc d) t = sum_by f (own_range t.place) + sum_by (nodes_weigh f d) t.children
+
+-- the nodes of two trees have the same ranges
+abbrev pub SameNodes : Index → Index → Type 0
+SameNodes v w = (f : Used → ℕ) → nodes_weigh f w.depth w.root ≡ nodes_weigh f v.depth v.root
+
+-- With a record more, or another in the place of that of its key, the nodes keep their ranges; the range of its chunk comes, and that of
+-- the chunk that the key had goes: an address more, one that is another, or one taken back.
+pub record Renewed (x : Record) (v w : Index) : Type 0 where
+  pub nodes : SameNodes v w
+  pub behind : (bytes : ℕ) → AreSame (chunk_named bytes (address_of v x.key) ++ behind_of bytes w) (chunk_of bytes x ++ behind_of bytes v)
+
+abbrev pub InsertedRenews : Type 0
+InsertedRenews = (x : Record) (v : Index) → IsIndex v → IsIndex (inserted x v) → Renewed x v (inserted x v)
+
+-- Trees of one map whose nodes have the same ranges have the same ranges.
+abbrev pub SameBehind : Type 0
+SameBehind = (v w : Index) (bytes : ℕ) → IsIndex v → IsIndex w → SameNodes v w → ((key : Key) → address_of w key ≡ address_of v key) → AreSame (behind_of bytes w) (behind_of bytes v)

@@ -4,7 +4,7 @@
 #![tactic(auto)]
 
 ghost use Rattle.h5w_tree_index_laws.specs.TreeFlushes.{TreeBegins, TreeFlushed, TreeIsFlush, TreePlaces, TreeRestsThen};
-ghost use Rattle.h5w_tree_index_laws.specs.TreeImages.{InsertedBehind, TreeIsRead};
+ghost use Rattle.h5w_tree_index_laws.specs.TreeImages.{InsertedBehind, InsertedRenews, SameBehind, TreeIsRead};
 
 /// Where a tree stands, unchanged, a check behind its header finds its ranges, and a reader each key's address.
 pub fn tree_is_read()
@@ -14,6 +14,17 @@ pub fn tree_is_read()
 /// With a record more, of ranges there is that of its chunk more, and none other.
 pub fn inserted_behind()
     ensures { InsertedBehind }
+{}
+
+/// With a record more, or another in the place of that of its key, the range of its chunk comes, and that of the chunk that the key had
+/// goes.
+pub fn inserted_renews()
+    ensures { InsertedRenews }
+{}
+
+/// Trees of one map whose nodes have the same ranges have the same ranges.
+pub fn same_behind()
+    ensures { SameBehind }
 {}
 
 /// A tree without records stands where its header says that there is none.

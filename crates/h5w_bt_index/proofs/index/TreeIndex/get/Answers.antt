@@ -4,5 +4,5 @@ use Rattle.h5w_bt_index.specs.Index.{defined}
 use Rattle.h5w_bt_index.proofs.Laws.{found-address}
 use Rattle.h5w_bt_index.proofs.index.TreeIndex.get.Goals as goal
 
-pub returns-clause-exact : goal.returns-clause-exact
-returns-clause-exact c = c.given.ensures ∙ ap defined (sym (found-address (view_of c.args.self.now) c.args.key c.find.result c.find.ensures))
+pub returns : goal.returns
+returns c = c.given.ensures ∙ ap defined (sym (found-address (view_of c.args.self.now) c.args.key c.find.result c.find.ensures))
