@@ -1,0 +1,4 @@
+pub mod ArrayBehindLemmas
+pub mod ToldLemmas
+pub mod FlushLemmas
+pub mod BeginLemmas

@@ -1,0 +1,127 @@
+-- What the calls make of an index, kind by kind.
+use Rattle.std.specs.Prelude.{◌≡◌, ◌⊎◌, ℕ, ◌==◌, List, length, None, Option, Some, if◌then◌else◌}
+use Rattle.h5w_model.specs.Numbers.{undefined}
+use Rattle.h5w_model.specs.declared.cell.Key.{Key}
+use Rattle.h5w_model.specs.declared.piece.Write.{Write}
+use Rattle.h5w_space.specs.Space.{Space}
+use Rattle.h5w_space.specs.declared.Full.{Full}
+use Rattle.h5w_cache.specs.Plans.{HasNoRoom}
+use Rattle.h5w_cache.specs.Stores.{Store}
+use Rattle.h5w_cache.specs.Starts as stores
+use Rattle.h5w_cache.specs.declared.moves.Move.{Move}
+use Rattle.h5w_array_laws.specs.Parts.{holder}
+use Rattle.h5w_array_laws.specs.ArrayStores.{IsArray, IsNumbered}
+use Rattle.h5w_array_laws.specs.ArrayPlans.{IsArrayPlan}
+use Rattle.h5w_ea_index.specs.Steps as slots
+use Rattle.h5w_bt.specs.declared.records.Record.{Record}
+use Rattle.h5w_bt_index.specs.Nodes.{address_in}
+use Rattle.h5w_bt_index.specs.Index as trees
+use Rattle.h5w_bt_index.specs.Index.{Index, IsReplaced, inserted, records}
+use Rattle.h5w_bt_index.specs.Plans as nodes
+use Rattle.h5w_index.specs.Views.{IndexView, an_array, a_tree}
+use Rattle.h5w_index.specs.declared.begun.Begun.{Begun}
+use Rattle.h5w_index.specs.declared.begun.Begun.TheVariants.{Array, Tree}
+
+-- what is found at an address, none where it is undefined
+abbrev pub found : ℕ → Option ℕ
+found a = if a == undefined then None else Some a
+
+-- ---- A place is held for a key
+
+-- The blocks on the way to a slot are there; map and ranges stay.
+pub record ArrayHeld (i : ℕ) (v w : Store) : Type 0 where
+  pub held : slots.IsHeld v w
+  pub way : slots.Touches (slots.OnWay (holder i)) v w
+  pub array : IsArray w
+  pub numbered : IsNumbered v → IsNumbered w
+
+-- a record without an address
+abbrev pub blank : Key → Record
+blank key = record { address = undefined; key = key }
+
+-- The tree is as it was, or has a record of the key more, without an address.
+pub record TreeHeld (key : Key) (v w : Index) : Type 0 where
+  pub is : (w ≡ v) ⊎ ((address_in key (records v) ≡ None) × (w ≡ inserted (blank key) v))
+  pub index : trees.IsIndex w
+  pub half : trees.IsHalfFull v → trees.IsHalfFull w
+
+abbrev pub IsHeld : Key → IndexView → IndexView → Type 0
+IsHeld key (an_array v) (an_array w) = ArrayHeld key.i v w
+IsHeld key (a_tree p v) (a_tree q w) = (q ≡ p) × TreeHeld key v w
+IsHeld key (an_array v) (a_tree q w) = ⊥
+IsHeld key (a_tree p v) (an_array w) = ⊥
+
+-- a record of the key would make a tree of depth 4
+abbrev pub IsDeep : IndexView → Key → Type 0
+IsDeep (an_array v) key = ⊥
+IsDeep (a_tree p v) key = trees.IsDeep v key
+
+-- ---- A chunk that has its place gets an address, or has none again
+
+pub record ArraySet (i address : ℕ) (v w : Store) : Type 0 where
+  pub set : slots.IsSet i address v w
+  pub way : slots.Touches (slots.IsSlotOrHeader i) v w
+  pub array : IsArray w
+  pub numbered : IsNumbered v → IsNumbered w
+
+pub record ArrayUnset (i : ℕ) (v w : Store) : Type 0 where
+  pub unset : slots.IsUnset i v w
+  pub way : slots.Touches (slots.IsSlotOrHeader i) v w
+  pub array : IsArray w
+  pub numbered : IsNumbered v → IsNumbered w
+
+-- the record of the key is another
+pub record TreeSet (x : Record) (v w : Index) : Type 0 where
+  pub is : w ≡ inserted x v
+  pub replaced : IsReplaced x v w
+
+abbrev pub IsSet : Key → ℕ → IndexView → IndexView → Type 0
+IsSet key address (an_array v) (an_array w) = ArraySet key.i address v w
+IsSet key address (a_tree p v) (a_tree q w) = (q ≡ p) × TreeSet (record { address = address; key = key }) v w
+IsSet key address (an_array v) (a_tree q w) = ⊥
+IsSet key address (a_tree p v) (an_array w) = ⊥
+
+abbrev pub IsUnset : Key → IndexView → IndexView → Type 0
+IsUnset key (an_array v) (an_array w) = ArrayUnset key.i v w
+IsUnset key (a_tree p v) (a_tree q w) = (q ≡ p) × TreeSet (blank key) v w
+IsUnset key (an_array v) (a_tree q w) = ⊥
+IsUnset key (a_tree p v) (an_array w) = ⊥
+
+-- ---- The plan of what changed
+
+-- how many pieces the copies of a plan that is begun will be, and those of the blocks in place
+abbrev pub copy_pieces : Begun → ℕ
+copy_pieces (Array b) = stores.copy_pieces b
+copy_pieces (Tree b) = length b.copies
+
+abbrev pub in_place_pieces : Begun → ℕ
+in_place_pieces (Array b) = stores.in_place_pieces b
+in_place_pieces (Tree b) = length b.in_place
+
+-- the places after it, before any is retired
+abbrev pub next_of : Begun → Space
+next_of (Array b) = b.next
+next_of (Tree b) = b.next
+
+abbrev pub moves_of : Begun → List Move
+moves_of (Array b) = b.moves
+moves_of (Tree b) = b.moves
+
+-- it was begun of this index and these places
+abbrev pub IsBegun : IndexView → Space → Begun → Type 0
+IsBegun (an_array v) s (Array b) = stores.IsBegun v.blocks v.places v.changed s b
+IsBegun (a_tree p v) s (Tree b) = nodes.IsBegun p v s b
+IsBegun (an_array v) s (Tree b) = ⊥
+IsBegun (a_tree p v) s (Array b) = ⊥
+
+-- the first block in turn that has no place
+abbrev pub HasNoPlace : IndexView → Space → Full → Type 0
+HasNoPlace (an_array v) s e = HasNoRoom v.blocks v.places v.changed s e
+HasNoPlace (a_tree p v) s e = nodes.HasNoPlace (nodes.changes v.depth v.root) s e
+
+-- what changed is written: copies at new places, then the blocks in place
+abbrev pub IsPlan : IndexView → Space → List Move → List Write → List Write → IndexView → Space → Type 0
+IsPlan (an_array v) s ms copies fixed (an_array w) t = IsArrayPlan v s ms copies fixed w t
+IsPlan (a_tree p v) s ms copies fixed (a_tree q w) t = (q ≡ p) × nodes.IsTreePlan p v s ms copies fixed w t
+IsPlan (an_array v) s ms copies fixed (a_tree q w) t = ⊥
+IsPlan (a_tree p v) s ms copies fixed (an_array w) t = ⊥

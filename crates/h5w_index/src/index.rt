@@ -1,0 +1,173 @@
+ghost use Rattle.std.specs.Prelude.{◌≡◌, ◌≢◌, ℕ, ◌+◌, ◌<◌, ◌^◌, [], length, IsTrue, ◌↔◌, IfErr, IfOk, OnOk, OnErr};
+ghost use Rattle.h5w_model.specs.Numbers.{undefined};
+ghost use Rattle.h5w_space.specs.Space.{Space};
+ghost use Rattle.h5w_cache.specs.Plans.{IfFull};
+ghost use Rattle.h5w_array_laws.specs.ArrayStores.{IsArray, IsCreated};
+ghost use Rattle.h5w_array_laws.specs.ArrayImages.{StartsArray};
+ghost use Rattle.h5w_bt_index.specs.Held as trees;
+ghost use Rattle.h5w_bt_index.specs.Index.{IsHalfFull, IsIndex, no_tree};
+ghost use Rattle.h5w_index.specs.Held.{view_of};
+ghost use Rattle.h5w_index.specs.Views.{HasSlot, IsClean, IsSound, TakesKey, a_tree, address_in, an_array};
+ghost use Rattle.h5w_index.specs.Steps.{HasNoPlace, IsBegun, IsDeep, IsHeld, IsPlan, IsSet, IsUnset, copy_pieces, found, in_place_pieces, moves_of, next_of};
+
+use crate::begun::Begun;
+use h5w_bt_index::{InsertError, Key, TreeIndex};
+use h5w_cache::{Plan, PlanError};
+use h5w_ea_index::ArrayIndex;
+use h5w_model::OutOfMemory;
+use h5w_space::Places;
+use std::alloc::Global;
+
+/// The addresses of a dataset's chunks by their keys, in the blocks that a session holds.
+#[derive(Drop)]
+pub enum Index {
+    /// An extensible array: it goes by the key's number in dimension 0.
+    Array(ArrayIndex),
+    /// A version 2 B-tree.
+    Tree(TreeIndex),
+}
+
+impl Index {
+    /// An array without chunks, whose header stands at place `header` and whose index block at place `block`.
+    pub fn new_array(alloc: Global, header: u64, block: u64) -> Result<Index, OutOfMemory>
+        requires header_ends { header + 72 < 2 ^ 64 }
+        requires block_ends { block + 298 < 2 ^ 64 }
+        ensures sound { IfOk result (λ i. IsSound (view_of i)) }
+        ensures created { IfOk result (λ i. (v : _) × (view_of i ≡ an_array v) × IsCreated header block v) }
+    {
+        Ok(Index::Array(ArrayIndex::new(alloc, header, block)?))
+    }
+
+    /// A tree without chunks, whose header stands at place `header`. It is clean: who makes the file writes the header there.
+    pub fn new_tree(alloc: Global, header: u64) -> Index
+        requires defined { header ≢ undefined }
+        ensures sound { IsSound (view_of result) }
+        ensures tree { view_of result ≡ a_tree header no_tree }
+    {
+        Index::Tree(TreeIndex::new(alloc, header))
+    }
+
+    /// The address of a chunk. None exactly where it has none.
+    pub fn get(&self, key: Key) -> Option<u64>
+        requires sound { IsSound (view_of self.now) }
+        requires key { TakesKey (view_of self.now) key }
+        ensures { result ≡ found (address_in (view_of self.now) key) }
+    {
+        match self {
+            Index::Array(index) => index.get(key.i),
+            Index::Tree(index) => index.get(key),
+        }
+    }
+
+    /// Holds a place for a chunk: what is written for it is there and changed from now on. What each key gives stays, and so do all
+    /// ranges, also where memory ran out. Deep comes exactly where a tree of depth 3 has no record of the key, and no room on the way to it.
+    pub fn hold(&mut self, key: Key) -> Result<(), InsertError>
+        requires sound { IsSound (view_of self.old) }
+        requires key { TakesKey (view_of self.old) key }
+        ensures sound { IsSound (view_of self.new) }
+        ensures held { IsHeld key (view_of self.old) (view_of self.new) }
+        ensures slot { OnOk result (HasSlot (view_of self.new) key) }
+        ensures deep { IfErr result (λ e. e ≡ InsertError.Deep → IsDeep (view_of self.old) key) }
+        ensures refused { IsDeep (view_of self.old) key → result ≡ Err InsertError.Deep }
+    {
+        match self {
+            Index::Array(index) => {
+                index.hold(key.i)?;
+                Ok(())
+            }
+            Index::Tree(index) => index.hold(key),
+        }
+    }
+
+    /// A chunk, for which a place is held, has this address from now on, and each other one that which it had.
+    ///
+    /// It takes no memory, and cannot fail.
+    pub fn set(&mut self, key: Key, address: u64)
+        requires sound { IsSound (view_of self.old) }
+        requires slot { HasSlot (view_of self.old) key }
+        requires defined { address ≢ undefined }
+        ensures sound { IsSound (view_of self.new) }
+        ensures set { IsSet key address (view_of self.old) (view_of self.new) }
+    {
+        match self {
+            Index::Array(index) => index.set(key.i, address),
+            Index::Tree(index) => index.set(key, address),
+        }
+    }
+
+    /// A chunk, for which a place is held, has no address from now on, and each other one that which it had.
+    ///
+    /// It takes no memory, and cannot fail.
+    pub fn unset(&mut self, key: Key)
+        requires sound { IsSound (view_of self.old) }
+        requires slot { HasSlot (view_of self.old) key }
+        ensures sound { IsSound (view_of self.new) }
+        ensures unset { IsUnset key (view_of self.old) (view_of self.new) }
+    {
+        match self {
+            Index::Array(index) => index.unset(key.i),
+            Index::Tree(index) => index.unset(key),
+        }
+    }
+
+    /// Whether nothing changed since it was written. Then the plan writes nothing, and leaves the index and all places as they are.
+    pub fn is_clean(&self) -> bool
+        ensures clean { IsTrue result ↔ IsClean (view_of self.now) }
+        ensures planned { IsTrue result → (s : Space) → IsPlan (view_of self.now) s [] [] [] (view_of self.now) s }
+    {
+        match self {
+            Index::Array(index) => index.is_clean(),
+            Index::Tree(index) => index.is_clean(),
+        }
+    }
+
+    /// Begins the plan of all that changed: takes all memory and places that [`Index::finish`] needs, and changes nothing.
+    pub fn begin(&self, places: &Places) -> Result<Begun, PlanError>
+        requires { IsSound (view_of self.now) }
+        ensures begun { IfOk result (λ b. IsBegun (view_of self.now) places.now b) }
+        // the first block in turn that has no place
+        ensures full { IfErr result (λ e. IfFull e (HasNoPlace (view_of self.now) places.now)) }
+    {
+        match self {
+            Index::Array(index) => Ok(Begun::Array(index.begin(places)?)),
+            Index::Tree(index) => Ok(Begun::Tree(index.begin(places)?)),
+        }
+    }
+
+    /// The writes of all that changed, of a plan that was begun of this index and these places: copies at new places, then the blocks in
+    /// place where they stand. All is clean from then on.
+    ///
+    /// It cannot fail.
+    pub fn finish(&mut self, places: &mut Places, begun: Begun) -> Plan
+        requires sound { IsSound (view_of self.old) }
+        requires begun { IsBegun (view_of self.old) places.old begun }
+        ensures sound { IsSound (view_of self.new) }
+        ensures planned { IsPlan (view_of self.old) places.old result.moves.items result.copies.items result.in_place.items (view_of self.new) places.new }
+        // as it was begun
+        ensures moves { result.moves.items ≡ moves_of begun }
+        ensures copies { length result.copies.items ≡ copy_pieces begun }
+        ensures in_place { length result.in_place.items ≡ in_place_pieces begun }
+        ensures end { places.new.end ≡ (next_of begun).end }
+    {
+        match self {
+            Index::Array(index) => match begun {
+                Begun::Array(begun) => index.finish(places, begun),
+                Begun::Tree(_) => unreachable!(),
+            },
+            Index::Tree(index) => match begun {
+                Begun::Tree(begun) => index.finish(places, begun),
+                Begun::Array(_) => unreachable!(),
+            },
+        }
+    }
+
+    /// A copy.
+    pub fn copy(&self) -> Result<Index, OutOfMemory>
+        ensures { IfOk result (λ i. view_of i ≡ view_of self.now) }
+    {
+        match self {
+            Index::Array(index) => Ok(Index::Array(index.copy()?)),
+            Index::Tree(index) => Ok(Index::Tree(index.copy()?)),
+        }
+    }
+}

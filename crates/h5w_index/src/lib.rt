@@ -1,0 +1,16 @@
+//! The index of a session's chunks, whichever its kind: an extensible array or a version 2 B-tree, under one contract.
+//!
+//! HDF5 File Format Specification 3.0, "The Extensible Array Index" and "Version 2 B-trees".
+#![tactic(auto)]
+
+mod begun;
+mod index;
+mod laws;
+
+pub use begun::Begun;
+pub use h5w_bt_index::{InsertError, Key};
+pub use index::Index;
+pub use laws::{
+    held_tells, index_begins, index_is_flush, index_rests_then, like_laws, plan_copies, rests_freed, same_ranges,
+    set_tells, unset_tells,
+};
