@@ -1,0 +1,5 @@
+pub mod TakenLemmas
+pub mod StartLemmas
+pub mod StartPieceLemmas
+pub mod StartFlushLemmas
+pub mod StartLeadLemmas

@@ -1,0 +1,149 @@
+-- What a session knows of a file whose array is not there yet.
+use Rattle.std.proofs.Common.{◌≡◌, ◌⊎◌, ℕ, ◌<◌, List, [], ◌∷◌, length, Result, Ok, refl, sym, ◌∙◌, ap, subst, inl, inr, arith}
+use Rattle.std.specs.Prelude.{cond}
+use Rattle.std.proofs.lemmas.Bool.{eq-eqb}
+use Rattle.h5w_model.specs.Numbers.{undefined}
+use Rattle.h5w_model.specs.Arrays.{eahd_len, eaib_len}
+use Rattle.h5w_model.specs.Programs.{Prog, ret, eval, visits}
+use Rattle.h5w_model.specs.Datasets.{Described}
+use Rattle.h5w_model.specs.Tables.{InPlace, nowhere, in_place, array_in_place, tree_in_place}
+use Rattle.h5w_model.specs.Findings.{Used, Finding, chunk_bytes}
+use Rattle.h5w_model.specs.declared.cell.IndexKind.TheVariants.{Array, Tree}
+use Rattle.h5w_model.specs.declared.refusal.ReadError.{ReadError}
+use Rattle.h5w_visits.specs.Ranges.{block_at, blocks_of}
+use Rattle.h5w_visits.specs.Indexes.{behind_visit}
+use Rattle.h5w_space.specs.Space.{Space, IsLive, Apart, extent}
+use Rattle.h5w_cache.specs.Stores.{Store, place_of}
+use Rattle.h5w_cache.specs.Plans.{bytes_in}
+use Rattle.h5w_cache.specs.StoreLaws.{IsPlaced, Standing, range_of}
+use Rattle.h5w_steps.specs.Moments.{Moment}
+use Rattle.h5w_array_laws.specs.Parts.{index_block}
+use Rattle.h5w_array_laws.specs.ArrayStores.{IsArray, place_at_part, header_place, fixed_of}
+use Rattle.h5w_array_laws.proofs.StandLemmas.{header_length, index_length}
+use Rattle.h5w_array_laws.proofs.WriteLemmas.{which_part}
+use Rattle.h5w_array_laws.proofs.CreatedLemmas.{created_starts}
+use Rattle.h5w_flush_laws.specs.Spaces.{Taken}
+use Rattle.h5w_flush_laws.proofs.SpaceLemmas.{have_no_byte, apart_back}
+use Rattle.h5w_flush_laws.proofs.KnownLaws.{begin_knows, end_known}
+use Rattle.h5w_starting_laws.specs.Starting.{no_chunk, IsUnnamed, IsBare, UnnamedNowhere, CreatedBare, StartBegins, StartEnds, StartHolds}
+
+-- ---- An index that is not there
+
+pub of_unnamed : {A : Type 0} (d : Described) (f : Prog (Result InPlace ReadError) → A) → d.layout.address ≡ undefined → f (in_place d) ≡ f (ret (Ok nowhere))
+of_unnamed d f e =
+    ap (λ c. f (cond c (ret (Ok nowhere)) (elim d.layout.index as (λ _. Prog (Result InPlace ReadError)) [ Array ↦ array_in_place d.layout.address | Tree ↦ tree_in_place d.layout.address ]))) (eq-eqb d.layout.address undefined e)
+
+one_answer : (p q : InPlace) → ◌≡◌ {A = Result InPlace ReadError} (Ok p) (Ok q) → p ≡ q
+one_answer p q h = cc
+
+one_list : (us vs : List Used) → ◌≡◌ {A = Result (List Used) Finding} (Ok us) (Ok vs) → us ≡ vs
+one_list us vs h = cc
+
+pub unnamed_nowhere : UnnamedNowhere
+unnamed_nowhere img name m r e =
+    let i = r.index in
+    let none : i.blocks ≡ nowhere = one_answer i.blocks nowhere (sym i.read ∙ of_unnamed m.dataset (eval img) e) in
+    record {
+      map = record { blocks = nowhere; read = of_unnamed m.dataset (eval img) e; answers = λ key n. refl };
+      fixed = i.fixed_are ∙ of_unnamed m.dataset (λ p. blocks_of (visits img p)) e;
+      behind = one_list m.behind [] (sym i.stands ∙ ap (λ (p : InPlace). eval img (behind_visit m.super.end (chunk_bytes m.dataset) p)) none);
+    }
+
+-- ---- An array that was just made
+
+pub created_bare : CreatedBare
+created_bare at place v c low lower =
+    let starts = created_starts at place v c low lower in
+    record {
+      map = starts.map;
+      unplaced = λ n h. (c.none n (λ e. absurd (omega (arith, e, h))) (λ e. absurd (omega (arith, e, h)))).1;
+      behind = starts.behind;
+    }
+
+-- a block is live, and some bytes long
+record IsHere (v : Store) (s : Space) (n : ℕ) : Type 0 where
+  pub live : IsLive s (range_of v n)
+  pub some : 0 < length (bytes_in v.blocks n)
+
+-- its two blocks stand apart, where their places are
+pub bare_standing : (base s : Space) (v : Store) → IsArray v → IsBare v → Taken base (fixed_of v) s → Standing v s
+bare_standing base s v a bare k = record {
+  live = λ n placed. (both n placed).live;
+  some = λ n placed. (both n placed).some;
+  apart = λ n j ne x y. apart n j ne x y (which_part v a n x) (which_part v a j y);
+}
+  where
+    top : range_of v 846 ≡ extent (header_place v) eahd_len
+    top = ap (extent (header_place v)) (header_length v a)
+
+    index : range_of v 845 ≡ extent (place_at_part v index_block) eaib_len
+    index = ap (extent (place_at_part v index_block)) (index_length v a)
+
+    both : (n : ℕ) → IsPlaced v n → IsHere v s n
+    both n placed = elim (which_part v a n placed) as (λ _. IsHere v s n) [
+      | inl h ↦ absurd (placed.placed (bare.unplaced n h))
+      | inr h ↦ elim h as (λ _. IsHere v s n) [
+        | inl e ↦ subst (IsHere v s) (sym e) (record { live = subst (IsLive s) (sym index) (k.live (block_at (place_at_part v index_block) eaib_len) (inr (inl refl))); some = omega (arith, index_length v a) })
+        | inr e ↦ subst (IsHere v s) (sym e) (record { live = subst (IsLive s) (sym top) (k.live (block_at (header_place v) eahd_len) (inl refl)); some = omega (arith, header_length v a) })
+      ]
+    ]
+
+    two : Apart (range_of v 846) (range_of v 845)
+    two =
+        subst (λ r. Apart r (range_of v 845)) (sym top)
+        (subst (Apart (extent (header_place v) eahd_len)) (sym index)
+        (have_no_byte (block_at (header_place v) eahd_len) (block_at (place_at_part v index_block) eaib_len) (k.apart.1 (block_at (place_at_part v index_block) eaib_len) (inl refl))))
+
+    apart : (n j : ℕ) → (n ≡ j → ⊥) → IsPlaced v n → IsPlaced v j → (n < 845) ⊎ (n ≡ 845) ⊎ (n ≡ 846) → (j < 845) ⊎ (j ≡ 845) ⊎ (j ≡ 846) → Apart (range_of v n) (range_of v j)
+    apart n j ne x y (inl h) q = absurd (x.placed (bare.unplaced n h))
+    apart n j ne x y (inr p) (inl h) = absurd (y.placed (bare.unplaced j h))
+    apart n j ne x y (inr (inl e)) (inr (inl f)) = absurd (ne (e ∙ sym f))
+    apart n j ne x y (inr (inr e)) (inr (inr f)) = absurd (ne (e ∙ sym f))
+    apart n j ne x y (inr (inr e)) (inr (inl f)) = subst (λ i. Apart (range_of v i) (range_of v j)) (sym e) (subst (λ i. Apart (range_of v 846) (range_of v i)) (sym f) two)
+    apart n j ne x y (inr (inl e)) (inr (inr f)) =
+        subst (λ i. Apart (range_of v i) (range_of v j)) (sym e) (subst (λ i. Apart (range_of v 845) (range_of v i)) (sym f) (apart_back (range_of v 846) (range_of v 845) two))
+
+-- ---- What is known
+
+pub start_begins : StartBegins
+start_begins img name m base s at place v r unnamed layout begun taken created fits fits_too =
+    let low : at < undefined = omega (arith, fits) in
+    let lower : place < undefined = omega (arith, fits_too) in
+    let array = (created_starts at place v created low lower).array in
+    let bare = created_bare at place v created low lower in
+    let here : Taken base (fixed_of v) s =
+    subst (λ p. Taken base (block_at p eahd_len ∷ block_at (place_at_part v index_block) eaib_len ∷ []) s) (sym created.header_at)
+    (subst (λ p. Taken base (block_at at eahd_len ∷ block_at p eaib_len ∷ []) s) (sym created.index_at) taken) in
+    record {
+      knows = begin_knows img name m no_chunk base r (unnamed_nowhere img name m r unnamed.address).map begun (λ e. layout);
+      unnamed = unnamed;
+      taken = here;
+      array = array;
+      bare = bare;
+      standing = bare_standing base s v array bare here;
+    }
+
+pub start_ends : StartEnds
+start_ends img name m n base s v w r e fits = record {
+  knows = end_known img name m n no_chunk base w r.knows e fits;
+  unnamed = subst (λ (x : Moment). IsUnnamed x.dataset) (sym e.is) r.unnamed;
+  taken = r.taken;
+  array = r.array;
+  bare = r.bare;
+  standing = r.standing;
+}
+
+pub same_fixed : (v u : Store) → ((n : ℕ) → place_of u n ≡ place_of v n) → fixed_of u ≡ fixed_of v
+same_fixed v u places =
+    ap (λ p. block_at p eahd_len ∷ block_at (place_at_part u index_block) eaib_len ∷ []) (places 846)
+    ∙ ap (λ p. block_at (header_place v) eahd_len ∷ block_at p eaib_len ∷ []) (places 845)
+
+pub start_holds : StartHolds
+start_holds img name m base s v u r array map places behind standing = record {
+  knows = r.knows;
+  unnamed = r.unnamed;
+  taken = subst (λ (us : List Used). Taken base us s) (sym (same_fixed v u places)) r.taken;
+  array = array;
+  bare = record { map = λ i. map i ∙ r.bare.map i; unplaced = λ n h. places n ∙ r.bare.unplaced n h; behind = λ bytes. behind bytes ∙ r.bare.behind bytes };
+  standing = standing r.standing;
+}

@@ -1,0 +1,84 @@
+-- The pieces of a first flush.
+use Rattle.std.proofs.Common.{◌≡◌, ◌⊎◌, ℕ, true, false, List, [], ◌∷◌, ◌++◌, refl, sym, ◌∙◌, ap, subst, inl, inr, arith, append-nil, append_assoc}
+use Rattle.std.specs.Prelude.{Some, drop, nat_lt, cond}
+use Rattle.std.proofs.lemmas.Bool.{cases_Bool, ltb-false}
+use Rattle.std.proofs.lemmas.Grind.{flat_map-append}
+use Rattle.h5w_model.specs.Images.{pieces}
+use Rattle.h5w_model.specs.Findings.{Used}
+use Rattle.h5w_model.specs.declared.piece.Write.{Write}
+use Rattle.h5w_space.specs.Space.{Space}
+use Rattle.h5w_cache.specs.Stores.{Store, is_changed, times}
+use Rattle.h5w_cache.specs.Plans.{numbers}
+use Rattle.h5w_cache.specs.declared.moves.Move.{Move}
+use Rattle.h5w_header_laws.specs.Files.{commit_at}
+use Rattle.h5w_steps.specs.Moments.{Moment}
+use Rattle.h5w_array_laws.specs.Parts.{Part, data_of, secondary_of, index_block, header, IsPart, number_of, holder}
+use Rattle.h5w_array_laws.specs.ArrayStores.{IsArray, place_at_part, bytes_at_part, header_place}
+use Rattle.h5w_array_laws.proofs.MapLemmas.{slot_known}
+use Rattle.h5w_array_laws.proofs.FixedLemmas.{one_piece, times_behind, top_numbers, writes_two}
+use Rattle.h5w_array_laws.proofs.PlannedLemmas.{is_marked}
+use Rattle.h5w_array_laws.proofs.StandLemmas.{header_length, index_length}
+use Rattle.h5w_flush_laws.specs.Parts.{block_writes}
+use Rattle.h5w_starting_laws.specs.StartFlushes.{first_blocks, IsStartingPart, HolderChanged, StartPieces}
+
+-- ---- What is changed
+
+part_changed : (v : Store) → IsArray v → (k : Part) → IsPart k → is_changed v (number_of k) ≡ true → is_changed v (number_of index_block) ≡ true
+part_changed v a header is e = a.together e
+part_changed v a index_block is e = e
+part_changed v a (secondary_of s) is e = a.marked (secondary_of s) is e
+part_changed v a (data_of s b) is e = go (cases_Bool (nat_lt s 4)) (a.marked (data_of s b) is e)
+  where
+    go : (nat_lt s 4 ≡ true) ⊎ (nat_lt s 4 ≡ false) → is_changed v (number_of (cond (nat_lt s 4) index_block (secondary_of s))) ≡ true → is_changed v (number_of index_block) ≡ true
+    go (inl t) h = subst (λ c. is_changed v (number_of (cond c index_block (secondary_of s))) ≡ true) t h
+    go (inr t) h = a.marked (secondary_of s) (ltb-false s 4 t, is.0) (subst (λ c. is_changed v (number_of (cond c index_block (secondary_of s))) ≡ true) t h)
+
+pub holder_changed : HolderChanged
+holder_changed v i a low e = part_changed v a (holder i) (slot_known i low).part e
+
+-- ---- What is written
+
+pub first_writes : (m : Moment) (u v w : Store) (s t : Space) (ms : List Move) (chunks : List Used) (copies : List (ℕ × List ℕ)) (fixed : List Write) → IsStartingPart m u v s ms w t chunks copies fixed → block_writes (first_blocks w) ≡ fixed
+first_writes m u v w s t ms chunks copies fixed x = both ∙ sym (go (top_numbers v s ms (block_writes copies) fixed w t x.plan.plan x.plan.before))
+  where
+    two : List Write
+    two = record { at = place_at_part w index_block; piece = bytes_at_part w index_block } ∷ record { at = header_place w; piece = bytes_at_part w header } ∷ []
+
+    one_index : pieces (place_at_part w index_block) (bytes_at_part w index_block) ≡ record { at = place_at_part w index_block; piece = bytes_at_part w index_block } ∷ []
+    one_index = let long = index_length w x.plan.after in one_piece (place_at_part w index_block) (bytes_at_part w index_block) (omega (arith, long)) (omega (arith, long))
+
+    one_header : pieces (header_place w) (bytes_at_part w header) ≡ record { at = header_place w; piece = bytes_at_part w header } ∷ []
+    one_header = let long = header_length w x.plan.after in one_piece (header_place w) (bytes_at_part w header) (omega (arith, long)) (omega (arith, long))
+
+    both : block_writes (first_blocks w) ≡ two
+    both =
+        ap (λ (ws : List Write). ws ++ (pieces (header_place w) (bytes_at_part w header) ++ [])) one_index
+        ∙ ap (λ (ws : List Write). record { at = place_at_part w index_block; piece = bytes_at_part w index_block } ∷ (ws ++ [])) one_header
+
+    go : (numbers (drop x.plan.plan.writes.split ms) ≡ []) ⊎ (numbers (drop x.plan.plan.writes.split ms) ≡ 845 ∷ 846 ∷ []) → fixed ≡ two
+    go (inl e) =
+        let none : times 845 v.changed ≡ 0 = sym (times_behind v s ms (block_writes copies) fixed w t x.plan.plan x.plan.before index_block tt refl) ∙ ap (times 845) e in
+        absurd (omega (arith, none, is_marked v 845 x.changed))
+    go (inr e) = writes_two v s ms (block_writes copies) fixed w t x.plan.plan x.plan.before e
+
+-- the copies and those two
+pub copy_writes : (m : Moment) (u v w : Store) (s t : Space) (ms : List Move) (chunks : List Used) (copies : List (ℕ × List ℕ)) (fixed : List Write) → IsStartingPart m u v s ms w t chunks copies fixed
+    → block_writes (copies ++ first_blocks w) ≡ block_writes copies ++ fixed
+copy_writes m u v w s t ms chunks copies fixed x =
+    flat_map-append (λ (b : ℕ × List ℕ). pieces b.0 b.1) copies (first_blocks w)
+    ∙ ap (λ (ws : List Write). block_writes copies ++ ws) (first_writes m u v w s t ms chunks copies fixed x)
+
+regrouped : (a b c d : List Write) → (a ++ ((b ++ c) ++ (d ++ []))) ≡ a ++ (b ++ (c ++ d))
+regrouped a b c d = ap (λ (x : List Write). a ++ ((b ++ c) ++ x)) (append-nil d) ∙ ap (λ (x : List Write). a ++ x) (append_assoc b c d)
+
+last_in : (a b c d e : List Write) → (a ++ (b ++ (c ++ d))) ++ e ≡ a ++ (b ++ (c ++ (d ++ e)))
+last_in a b c d e =
+    append_assoc a (b ++ (c ++ d)) e
+    ∙ ap (λ (x : List Write). a ++ x) (append_assoc b (c ++ d) e ∙ ap (λ (x : List Write). b ++ x) (append_assoc c d e))
+
+pub start_pieces : StartPieces
+start_pieces img m s t u v w ms rows more writes chunks copies fixed supers last x =
+    let header_piece : List Write = commit_at img m.place rows (Some (header_place w)) ∷ [] in
+    ap (λ (ws : List Write). (writes ++ (ws ++ (supers ++ []))) ++ header_piece) (copy_writes m u v w s t ms chunks copies fixed x)
+    ∙ ap (λ (ws : List Write). ws ++ header_piece) (regrouped writes (block_writes copies) fixed supers)
+    ∙ last_in writes (block_writes copies) fixed supers header_piece

@@ -1,0 +1,82 @@
+-- What a session knows of a file whose array is not there yet: the layout names none, so all its chunks are absent.
+use Rattle.std.specs.Prelude.{◌≡◌, ℕ, ◌+◌, ◌^◌, ◌<◌, ◌≤◌, List, [], ◌∷◌}
+use Rattle.h5w_model.specs.Numbers.{undefined}
+use Rattle.h5w_model.specs.Arrays.{eahd_len, eaib_len}
+use Rattle.h5w_model.specs.Datasets.{Described}
+use Rattle.h5w_model.specs.Images.{apply}
+use Rattle.h5w_model.specs.Findings.{Used}
+use Rattle.h5w_model.specs.declared.cell.Key.{Key}
+use Rattle.h5w_model.specs.declared.cell.IndexKind.TheVariants.{Array}
+use Rattle.h5w_model.specs.declared.piece.Write.{Write}
+use Rattle.h5w_visits.specs.Ranges.{block_at}
+use Rattle.h5w_space.specs.Space.{Space}
+use Rattle.h5w_cache.specs.Stores.{Store, place_of}
+use Rattle.h5w_cache.specs.StoreLaws.{Standing}
+use Rattle.h5w_header_laws.specs.Files.{LayoutInChunk0}
+use Rattle.h5w_steps.specs.Moments.{Moment, Represents}
+use Rattle.h5w_steps.specs.Steps.{Ends}
+use Rattle.h5w_array_laws.specs.Among.{AreAmong}
+use Rattle.h5w_array_laws.specs.ArrayStores.{IsArray, IsCreated, map_of, fixed_of, behind_of}
+use Rattle.h5w_flush_laws.specs.Spaces.{Taken}
+use Rattle.h5w_flush_laws.specs.Flushes.{IsBegun}
+use Rattle.h5w_flush_laws.specs.Knowledge.{IsMap, Knows}
+
+-- no chunk has an address
+abbrev pub no_chunk : Key → ℕ
+no_chunk key = undefined
+
+-- the dataset's index is an array that its layout does not name yet
+pub record IsUnnamed (d : Described) : Type 0 where
+  pub kind : d.layout.index ≡ Array
+  pub address : d.layout.address ≡ undefined
+
+-- an array without chunks, of whose blocks the header and the index block alone have places
+pub record IsBare (v : Store) : Type 0 where
+  pub map : (i : ℕ) → map_of v i ≡ undefined
+  pub unplaced : (n : ℕ) → n < 845 → place_of v n ≡ undefined
+  pub behind : (bytes : ℕ) → behind_of bytes v ≡ []
+
+-- What a session knows of such a file when nothing is pending, and of the array that it will have. `base` are the places as they were
+-- before those of the array's two blocks were taken, `s` those of now: the two places are live, meet nothing of the file, and nothing was
+-- written to them.
+pub record StartRests (img name : List ℕ) (m : Moment) (base s : Space) (v : Store) : Type 0 where
+  pub knows : Knows img name m no_chunk base
+  pub unnamed : IsUnnamed m.dataset
+  pub taken : Taken base (fixed_of v) s
+  pub array : IsArray v
+  pub bare : IsBare v
+  pub standing : Standing v s
+
+-- ---- Laws
+
+-- The index that is not there is the map by which no chunk has an address; it has no ranges.
+pub record IsNowhere (img : List ℕ) (m : Moment) : Type 0 where
+  pub map : IsMap img m.dataset no_chunk
+  pub fixed : m.fixed ≡ []
+  pub behind : m.behind ≡ []
+
+abbrev pub UnnamedNowhere : Type 0
+UnnamedNowhere = (img name : List ℕ) (m : Moment) → Represents img name m → m.dataset.layout.address ≡ undefined → IsNowhere img m
+
+-- An array that was just made is bare.
+abbrev pub CreatedBare : Type 0
+CreatedBare = (at place : ℕ) (v : Store) → IsCreated at place v → at < undefined → place < undefined → IsBare v
+
+-- A session begins with such a file: the places begin at its end, the two places of the array's header and index block are taken, and the
+-- array is made there.
+abbrev pub StartBegins : Type 0
+StartBegins = (img name : List ℕ) (m : Moment) (base s : Space) (at place : ℕ) (v : Store) → Represents img name m → IsUnnamed m.dataset → LayoutInChunk0 img m.place → IsBegun m base
+    → Taken base (block_at at eahd_len ∷ block_at place eaib_len ∷ []) s → IsCreated at place v → at + eahd_len < 2 ^ 64 → place + eaib_len < 2 ^ 64 → StartRests img name m base s v
+
+-- The superblock with other flags leaves that known.
+abbrev pub StartEnds : Type 0
+StartEnds = (img name : List ℕ) (m n : Moment) (base s : Space) (v : Store) (w : Write) → StartRests img name m base s v → Ends img m w n → n.super.end ≤ base.end → StartRests (apply w img) name n base s v
+
+-- So does a change of the array that leaves its map, its places and its ranges, as where blocks are held and then memory runs out.
+abbrev pub StartHolds : Type 0
+StartHolds = (img name : List ℕ) (m : Moment) (base s : Space) (v u : Store) → StartRests img name m base s v → IsArray u → ((i : ℕ) → map_of u i ≡ map_of v i)
+    → ((n : ℕ) → place_of u n ≡ place_of v n) → ((bytes : ℕ) → behind_of bytes u ≡ behind_of bytes v) → (Standing v s → Standing u s) → StartRests img name m base s u
+
+-- Places that were taken together are taken in any order.
+abbrev pub TakenAgain : Type 0
+TakenAgain = (s t : Space) (us vs : List Used) → Taken s us t → AreAmong us vs → AreAmong vs us → Taken s vs t

@@ -1,0 +1,28 @@
+//! The first flush of such a file.
+
+ghost use Rattle.h5w_starting_laws.specs.StartFlushes.{HolderChanged, StartIsFlush, StartLeads, StartPieces, StartRuns};
+
+/// Where a block that has a chunk's slot is changed, so is the index block.
+pub fn holder_changed()
+    ensures { HolderChanged }
+{}
+
+/// The pieces of the flush, in the writer's order.
+pub fn start_pieces()
+    ensures { StartPieces }
+{}
+
+/// It is a flush.
+pub fn start_is_flush()
+    ensures { StartIsFlush }
+{}
+
+/// Its pieces are safe steps to the file with the new rows, the array and its address; after them the array rests.
+pub fn start_leads()
+    ensures { StartLeads }
+{}
+
+/// The same over a session's log.
+pub fn start_runs()
+    ensures { StartRuns }
+{}

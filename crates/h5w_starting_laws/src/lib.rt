@@ -1,0 +1,13 @@
+//! The first flush into a file whose array is not there yet: its layout names none, and all its chunks are absent (HDF5 File Format
+//! Specification 3.0, "Data Layout Message", "The Extensible Array Index"). Other makers leave such files. The array is made at new places,
+//! which no reader reaches until the header's piece names it, with the rows. Each law is the clause of a function without parameters; its
+//! statement is a definition in specs/. Nothing here runs.
+#![tactic(auto)]
+
+mod flushes;
+mod starting;
+
+pub use flushes::{holder_changed, start_is_flush, start_leads, start_pieces, start_runs};
+pub use starting::{
+    created_bare, start_begins, start_ends, start_holds, taken_again, unnamed_nowhere,
+};
