@@ -37,7 +37,7 @@ use Rattle.h5w_flush_laws.proofs.RowsLaws.{rows_flush}
 use Rattle.h5w_array_flushes.specs.ArrayFlushes.{AreChunks, ArePlaces, IsArrayPart, chunks_for}
 use Rattle.h5w_array_flushes.proofs.ArrayLaws.{new_are}
 use Rattle.h5w_array_flushes.proofs.ArrayPlaceLemmas.{array_places}
-use Rattle.h5w_starting_laws.specs.Starting.{no_chunk, IsNowhere, StartRests}
+use Rattle.h5w_starting_laws.specs.Starting.{no_chunk, IsNowhere, StartKnows}
 use Rattle.h5w_starting_laws.specs.StartFlushes.{first_blocks, parts_for, IsStart, StartIsFlush}
 use Rattle.h5w_starting_laws.proofs.TakenLemmas.{taken_again, taken_right}
 use Rattle.h5w_starting_laws.proofs.StartLemmas.{unnamed_nowhere, same_fixed}
@@ -51,8 +51,8 @@ abbrev second_of : List Used → ℕ
 second_of [] = 0
 second_of (u ∷ us) = header_of us
 
-module _ (img name : List ℕ) (m : Moment) (base s b t : Space) (u v w : Store) (ms : List Move) (rows : ℕ) (more : List ℤ) (writes : List Write) (places : List ChunkPlace) (copies : List (ℕ × List ℕ)) (fixed supers : List Write)
-    (r : StartRests img name m base s u) (x : IsStart m s b u v ms w t rows more writes places copies fixed supers) where
+module _ (img name : List ℕ) (m : Moment) (base b t : Space) (u v w : Store) (ms : List Move) (rows : ℕ) (more : List ℤ) (writes : List Write) (places : List ChunkPlace) (copies : List (ℕ × List ℕ)) (fixed supers : List Write)
+    (r : StartKnows img name m base u) (x : IsStart m base b u v ms w t rows more writes places copies fixed supers) where
   abbrev f : Parts
   f = parts_for m w rows more writes places copies supers t.end
 
@@ -124,7 +124,7 @@ module _ (img name : List ℕ) (m : Moment) (base s b t : Space) (u v w : Store)
       go : Among l (fresh ms) ⊎ Among l (behind_of bytes v) → l.place + l.len ≤ t.end
       go (inl c) = planned.ends l c
       go (inr c) =
-          let live = x.taken.live l (chunks_alone.among l c) in
+          let live = x.taken.live l (among_right l (fixed_of u) chunks (chunks_alone.among l c)) in
           let within = live.within in
           omega (arith, within, planned.end)
 
@@ -212,7 +212,7 @@ module _ (img name : List ℕ) (m : Moment) (base s b t : Space) (u v w : Store)
   places_of = array_places (copied img f) named b t v w ms chunks copies fixed are part
 
   taken_first : Taken base (fixed_of w ++ chunks) b
-  taken_first = taken_laws.joined base s b (fixed_of w) chunks (subst (λ (us : List Used). Taken base us s) (sym same_after) r.taken) x.taken
+  taken_first = subst (λ (us : List Used). Taken base (us ++ chunks) b) (sym same_after) x.taken
 
   taken_all : Taken base (fresh_of f) places_of.between
   taken_all =
@@ -291,4 +291,4 @@ module _ (img name : List ℕ) (m : Moment) (base s b t : Space) (u v w : Store)
           all_in whole total new old fw bw c fr bv h1 h2 h3 h4 h5 = omega (arith, h1, h2, h3, h4, h5)
 
 pub start_is_flush : StartIsFlush
-start_is_flush img name m base s b t u v w ms rows more writes places copies fixed supers r x = is_flush img name m base s b t u v w ms rows more writes places copies fixed supers r x
+start_is_flush img name m base b t u v w ms rows more writes places copies fixed supers r x = is_flush img name m base b t u v w ms rows more writes places copies fixed supers r x

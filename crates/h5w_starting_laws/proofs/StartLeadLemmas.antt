@@ -4,6 +4,7 @@ use Rattle.std.specs.Prelude.{Some, ℤ}
 use Rattle.h5w_model.specs.Images.{image}
 use Rattle.h5w_model.specs.Findings.{chunk_bytes}
 use Rattle.h5w_model.specs.declared.piece.Write.{Write}
+use Rattle.h5w_model.specs.Logs.{Log}
 use Rattle.h5w_visits.specs.Ranges.{block_at}
 use Rattle.h5w_space.specs.Space.{Space}
 use Rattle.h5w_cache.specs.Stores.{Store, place_of}
@@ -19,18 +20,19 @@ use Rattle.h5w_array_laws.specs.ArrayPlans.{IsArrayPlan}
 use Rattle.h5w_array_laws.specs.ArrayWrites.{MissArray}
 use Rattle.h5w_array_laws.proofs.WriteLemmas.{writes_leave}
 use Rattle.h5w_flush_laws.specs.Parts.{Parts, IsFlush, flushed_to, pieces_of, copied, block_writes}
+use Rattle.h5w_flush_laws.specs.Flushes.{Rests, flush_planned}
 use Rattle.h5w_flush_laws.proofs.FlushLemmas.{supers_miss}
 use Rattle.h5w_flush_laws.proofs.FlushLaws.{final_image, index_missed_by_header, flush_safe, knows_then, freed_known}
-use Rattle.h5w_flush_laws.proofs.SessionLaws.{session_laws}
+use Rattle.h5w_flush_laws.proofs.SessionLaws.{session_laws, shown_image}
 use Rattle.h5w_array_flushes.specs.ArrayFlushes.{ArrayRests}
 use Rattle.h5w_array_flushes.proofs.ArrayFlushLemmas.{placed_range}
 use Rattle.h5w_array_flushes.proofs.ArrayRestLemmas.{standing_freed}
-use Rattle.h5w_starting_laws.specs.Starting.{no_chunk, StartRests}
+use Rattle.h5w_starting_laws.specs.Starting.{no_chunk, StartKnows}
 use Rattle.h5w_starting_laws.specs.StartFlushes.{parts_for, IsStart, IsStarted, StartLeads, StartRuns}
 use Rattle.h5w_starting_laws.proofs.StartFlushLemmas.{planned, stands, start_is_flush}
 
-module _ (img name : List ℕ) (m : Moment) (base s b t : Space) (u v w : Store) (ms : List Move) (rows : ℕ) (more : List ℤ) (writes : List Write) (places : List ChunkPlace) (copies : List (ℕ × List ℕ)) (fixed supers : List Write)
-    (r : StartRests img name m base s u) (x : IsStart m s b u v ms w t rows more writes places copies fixed supers) where
+module _ (img name : List ℕ) (m : Moment) (base b t : Space) (u v w : Store) (ms : List Move) (rows : ℕ) (more : List ℤ) (writes : List Write) (places : List ChunkPlace) (copies : List (ℕ × List ℕ)) (fixed supers : List Write)
+    (r : StartKnows img name m base u) (x : IsStart m base b u v ms w t rows more writes places copies fixed supers) where
   abbrev f : Parts
   f = parts_for m w rows more writes places copies supers t.end
 
@@ -38,10 +40,10 @@ module _ (img name : List ℕ) (m : Moment) (base s b t : Space) (u v w : Store)
   last = image (copied img f) supers
 
   i : IsFlush img m no_chunk base f t
-  i = start_is_flush img name m base s b t u v w ms rows more writes places copies fixed supers r x
+  i = start_is_flush img name m base b t u v w ms rows more writes places copies fixed supers r x
 
   array : IsArrayPlan v b ms (block_writes copies) fixed w t
-  array = planned img name m base s b t u v w ms rows more writes places copies fixed supers r x
+  array = planned img name m base b t u v w ms rows more writes places copies fixed supers r x
 
   supers_off : MissArray w supers
   supers_off n placed = supers_miss img name m no_chunk base t f r.knows i (block_at (place_of w n) (length (bytes_in w.blocks n))) (placed_range (chunk_bytes m.dataset) w n array.array placed)
@@ -56,7 +58,7 @@ module _ (img name : List ℕ) (m : Moment) (base s b t : Space) (u v w : Store)
   all_stands =
       subst (λ (y : List ℕ). StandsArray w y) (sym (final_image img name m no_chunk base t f r.knows i))
       (writes_leave.array w last (commit_at last m.place rows (Some (header_place w)) ∷ []) array.array header_off
-      (writes_leave.array w (copied img f) supers array.array supers_off (stands img name m base s b t u v w ms rows more writes places copies fixed supers r x)))
+      (writes_leave.array w (copied img f) supers array.array supers_off (stands img name m base b t u v w ms rows more writes places copies fixed supers r x)))
 
   rests : ArrayRests (image img (pieces_of img m f)) (flushed_to m f) (λ key. map_of w key.i) t w
   rests = record {
@@ -95,9 +97,19 @@ module _ (img name : List ℕ) (m : Moment) (base s b t : Space) (u v w : Store)
       }
 
 pub start_leads : StartLeads
-start_leads img name m base s b t u v w ms rows more writes places copies fixed supers r x = started img name m base s b t u v w ms rows more writes places copies fixed supers r x
+start_leads img name m base b t u v w ms rows more writes places copies fixed supers r x = started img name m base b t u v w ms rows more writes places copies fixed supers r x
 
 pub start_runs : StartRuns
-start_runs name log m base s b t u v w ms rows more writes places copies fixed supers runs r x values =
-    session_laws.plans_flush name log m no_chunk base t (parts_for m w rows more writes places copies supers t.end) (record { runs = runs; knows = r.knows })
-    (start_is_flush (image_now log) name m base s b t u v w ms rows more writes places copies fixed supers r x) values
+start_runs name log m base b t u v w ms rows more writes places copies fixed supers runs r x values =
+    let f : Parts = parts_for m w rows more writes places copies supers t.end in
+    let i = start_is_flush (image_now log) name m base b t u v w ms rows more writes places copies fixed supers r x in
+    let begun : Rests name log m no_chunk base = record { runs = runs; knows = r.knows } in
+    let pieces : List Write = pieces_of (image_now log) m f in
+    let planned_log : Log = flush_planned m f log in
+    record {
+      runs = session_laws.plans_flush name log m no_chunk base t f begun i values;
+      rests = λ later c. session_laws.rests_again name log m no_chunk base t later f begun i values c;
+      array = λ later c.
+          subst (λ (y : List ℕ). ArrayRests y (flushed_to m f) (λ key. map_of w key.i) later w) (sym (shown_image pieces planned_log))
+          ((start_leads (image_now log) name m base b t u v w ms rows more writes places copies fixed supers r x).freed later c).rests;
+    }

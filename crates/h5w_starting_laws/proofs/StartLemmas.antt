@@ -1,5 +1,5 @@
 -- What a session knows of a file whose array is not there yet.
-use Rattle.std.proofs.Common.{◌≡◌, ◌⊎◌, ℕ, ◌<◌, List, [], ◌∷◌, length, Result, Ok, refl, sym, ◌∙◌, ap, subst, inl, inr, arith}
+use Rattle.std.proofs.Common.{◌≡◌, ◌⊎◌, ℕ, ◌+◌, ◌<◌, List, [], ◌∷◌, length, Result, Ok, refl, sym, ◌∙◌, ap, subst, inl, inr, arith}
 use Rattle.std.specs.Prelude.{cond}
 use Rattle.std.proofs.lemmas.Bool.{eq-eqb}
 use Rattle.h5w_model.specs.Numbers.{undefined}
@@ -10,7 +10,7 @@ use Rattle.h5w_model.specs.Tables.{InPlace, nowhere, in_place, array_in_place, t
 use Rattle.h5w_model.specs.Findings.{Used, Finding, chunk_bytes}
 use Rattle.h5w_model.specs.declared.cell.IndexKind.TheVariants.{Array, Tree}
 use Rattle.h5w_model.specs.declared.refusal.ReadError.{ReadError}
-use Rattle.h5w_visits.specs.Ranges.{block_at, blocks_of}
+use Rattle.h5w_visits.specs.Ranges.{Among, block_at, blocks_of}
 use Rattle.h5w_visits.specs.Indexes.{behind_visit}
 use Rattle.h5w_space.specs.Space.{Space, IsLive, Apart, extent}
 use Rattle.h5w_cache.specs.Stores.{Store, place_of}
@@ -22,10 +22,11 @@ use Rattle.h5w_array_laws.specs.ArrayStores.{IsArray, place_at_part, header_plac
 use Rattle.h5w_array_laws.proofs.StandLemmas.{header_length, index_length}
 use Rattle.h5w_array_laws.proofs.WriteLemmas.{which_part}
 use Rattle.h5w_array_laws.proofs.CreatedLemmas.{created_starts}
-use Rattle.h5w_flush_laws.specs.Spaces.{Taken}
-use Rattle.h5w_flush_laws.proofs.SpaceLemmas.{have_no_byte, apart_back}
+use Rattle.h5w_flush_laws.specs.Spaces.{extent_of, Taken}
+use Rattle.h5w_flush_laws.proofs.SpaceLemmas.{have_no_byte, apart_back, committed_live}
 use Rattle.h5w_flush_laws.proofs.KnownLaws.{begin_knows, end_known}
-use Rattle.h5w_starting_laws.specs.Starting.{no_chunk, IsUnnamed, IsBare, UnnamedNowhere, CreatedBare, StartBegins, StartEnds, StartHolds}
+use Rattle.h5w_array_flushes.proofs.ArrayRestLemmas.{standing_freed}
+use Rattle.h5w_starting_laws.specs.Starting.{no_chunk, IsUnnamed, IsBare, UnnamedNowhere, CreatedBare, BareMap, StartBegins, StartEnds, StartHolds, StartFreed}
 
 -- ---- An index that is not there
 
@@ -115,21 +116,21 @@ start_begins img name m base s at place v r unnamed layout begun taken created f
     subst (λ p. Taken base (block_at p eahd_len ∷ block_at (place_at_part v index_block) eaib_len ∷ []) s) (sym created.header_at)
     (subst (λ p. Taken base (block_at at eahd_len ∷ block_at p eaib_len ∷ []) s) (sym created.index_at) taken) in
     record {
-      knows = begin_knows img name m no_chunk base r (unnamed_nowhere img name m r unnamed.address).map begun (λ e. layout);
-      unnamed = unnamed;
+      start = record { knows = begin_knows img name m no_chunk base r (unnamed_nowhere img name m r unnamed.address).map begun (λ e. layout); unnamed = unnamed; bare = bare };
       taken = here;
       array = array;
-      bare = bare;
       standing = bare_standing base s v array bare here;
     }
 
 pub start_ends : StartEnds
 start_ends img name m n base s v w r e fits = record {
-  knows = end_known img name m n no_chunk base w r.knows e fits;
-  unnamed = subst (λ (x : Moment). IsUnnamed x.dataset) (sym e.is) r.unnamed;
+  start = record {
+    knows = end_known img name m n no_chunk base w r.start.knows e fits;
+    unnamed = subst (λ (x : Moment). IsUnnamed x.dataset) (sym e.is) r.start.unnamed;
+    bare = r.start.bare;
+  };
   taken = r.taken;
   array = r.array;
-  bare = r.bare;
   standing = r.standing;
 }
 
@@ -140,10 +141,34 @@ same_fixed v u places =
 
 pub start_holds : StartHolds
 start_holds img name m base s v u r array map places behind standing = record {
-  knows = r.knows;
-  unnamed = r.unnamed;
+  start = record {
+    knows = r.start.knows;
+    unnamed = r.start.unnamed;
+    bare = record { map = λ i. map i ∙ r.start.bare.map i; unplaced = λ n h. places n ∙ r.start.bare.unplaced n h; behind = λ bytes. behind bytes ∙ r.start.bare.behind bytes };
+  };
   taken = subst (λ (us : List Used). Taken base us s) (sym (same_fixed v u places)) r.taken;
   array = array;
-  bare = record { map = λ i. map i ∙ r.bare.map i; unplaced = λ n h. places n ∙ r.bare.unplaced n h; behind = λ bytes. behind bytes ∙ r.bare.behind bytes };
   standing = standing r.standing;
 }
+
+pub start_freed : StartFreed
+start_freed img name m base s t v r c = record {
+  start = r.start;
+  taken = record {
+    apart = r.taken.apart;
+    off_live = r.taken.off_live;
+    live = λ u a. committed_live s t c (extent_of u) (r.taken.live u a);
+    stays_live = λ x live. committed_live s t c x (r.taken.stays_live x live);
+    rises = omega (arith, r.taken.rises, c.end);
+    end = ends r.taken.end;
+  };
+  array = r.array;
+  standing = standing_freed v s t c r.standing;
+}
+  where
+    ends : (s.end ≡ base.end) ⊎ ((u : Used) × Among u (fixed_of v) × (u.place + u.len ≡ s.end)) → (t.end ≡ base.end) ⊎ ((u : Used) × Among u (fixed_of v) × (u.place + u.len ≡ t.end))
+    ends (inl e) = inl (c.end ∙ e)
+    ends (inr e) = inr (e.0, e.1, e.2 ∙ sym c.end)
+
+pub bare_map : BareMap
+bare_map v bare = λ j key. bare.map key.i j

@@ -23,10 +23,10 @@ use Rattle.h5w_array_laws.specs.ArrayPlans.{fresh}
 use Rattle.h5w_flush_laws.specs.Spaces.{Taken}
 use Rattle.h5w_flush_laws.specs.Parts.{Parts, AreEnded, IsFlush, flushed_to, pieces_of, block_ranges, block_writes}
 use Rattle.h5w_flush_laws.specs.Rows.{ArePlaced}
-use Rattle.h5w_flush_laws.specs.Flushes.{flush_planned}
-use Rattle.h5w_array_flushes.specs.ArrayFlushes.{chunks_for}
+use Rattle.h5w_flush_laws.specs.Flushes.{Rests, shown_also, flush_planned}
+use Rattle.h5w_array_flushes.specs.ArrayFlushes.{ArrayRests, chunks_for}
 use Rattle.h5w_array_flushes.specs.ArrayBegins.{Begins}
-use Rattle.h5w_starting_laws.specs.Starting.{no_chunk, StartRests}
+use Rattle.h5w_starting_laws.specs.Starting.{no_chunk, StartKnows}
 
 -- the array's index block and its header, as blocks at new places
 abbrev pub first_blocks : Store → List (ℕ × List ℕ)
@@ -65,14 +65,16 @@ pub record IsStartingPart (m : Moment) (u v : Store) (s : Space) (ms : List Move
 abbrev pub parts_for : Moment → Store → ℕ → List ℤ → List Write → List ChunkPlace → List (ℕ × List ℕ) → List Write → ℕ → Parts
 parts_for m w rows more writes places copies supers last = starting_parts (chunk_bytes m.dataset) w rows more writes (chunks_for m no_chunk places) copies supers last
 
--- What a session shows of such a flush. Rows that were there before and had no chunk have the fill, which a new chunk has in them.
-pub record IsStart (m : Moment) (s b : Space) (u v : Store) (ms : List Move) (w : Store) (t : Space) (rows : ℕ) (more : List ℤ) (writes : List Write) (places : List ChunkPlace) (copies : List (ℕ × List ℕ))
+-- What a session shows of such a flush, over the places as they were before any were taken for it. Rows that were there before and had no
+-- chunk have the fill, which a new chunk has in them.
+pub record IsStart (m : Moment) (base b : Space) (u v : Store) (ms : List Move) (w : Store) (t : Space) (rows : ℕ) (more : List ℤ) (writes : List Write) (places : List ChunkPlace) (copies : List (ℕ × List ℕ))
     (fixed supers : List Write) : Type 0 where
   pub rises : m.dataset.shape.rows < rows
   pub small : rows < 2 ^ 64
   pub few : AreFew (with_rows rows m.dataset)
   pub count : length (m.values ++ more) ≡ rows * m.dataset.shape.cols
-  pub taken : Taken s (chunks_for m no_chunk places) b
+  -- the places of the array's two blocks and of the new chunks, in whatever order they were taken
+  pub taken : Taken base (fixed_of u ++ chunks_for m no_chunk places) b
   pub placed : ArePlaced m no_chunk (parts_for m w rows more writes places copies supers t.end) places
   pub part : IsStartingPart m u v b ms w t (chunks_for m no_chunk places) copies fixed
   pub ended : AreEnded m.super t.end supers
@@ -90,10 +92,10 @@ StartPieces = (img : List ℕ) (m : Moment) (s t : Space) (u v w : Store) (ms : 
     → pieces_of img m (starting_parts (chunk_bytes m.dataset) w rows more writes chunks copies supers last)
     ≡ writes ++ (block_writes copies ++ (fixed ++ (supers ++ commit_at img m.place rows (Some (header_place w)) ∷ [])))
 
--- It is a flush, over the places as they were before those of the array's two blocks were taken.
+-- It is a flush.
 abbrev pub StartIsFlush : Type 0
-StartIsFlush = (img name : List ℕ) (m : Moment) (base s b t : Space) (u v w : Store) (ms : List Move) (rows : ℕ) (more : List ℤ) (writes : List Write) (places : List ChunkPlace) (copies : List (ℕ × List ℕ))
-    (fixed supers : List Write) → StartRests img name m base s u → IsStart m s b u v ms w t rows more writes places copies fixed supers
+StartIsFlush = (img name : List ℕ) (m : Moment) (base b t : Space) (u v w : Store) (ms : List Move) (rows : ℕ) (more : List ℤ) (writes : List Write) (places : List ChunkPlace) (copies : List (ℕ × List ℕ))
+    (fixed supers : List Write) → StartKnows img name m base u → IsStart m base b u v ms w t rows more writes places copies fixed supers
     → IsFlush img m no_chunk base (parts_for m w rows more writes places copies supers t.end) t
 
 -- Its pieces are safe steps. Once all are shown, the session knows the file by its array, which rests, with the places as the flush left
@@ -106,14 +108,18 @@ pub record IsStarted (img name : List ℕ) (m : Moment) (t : Space) (w : Store) 
   pub header : chunk_0 (image img (pieces_of img m f)) m.place ≡ with_rows_bytes (chunk_0 img m.place) f.rows (Some (header_place w))
 
 abbrev pub StartLeads : Type 0
-StartLeads = (img name : List ℕ) (m : Moment) (base s b t : Space) (u v w : Store) (ms : List Move) (rows : ℕ) (more : List ℤ) (writes : List Write) (places : List ChunkPlace) (copies : List (ℕ × List ℕ))
-    (fixed supers : List Write) → StartRests img name m base s u → IsStart m s b u v ms w t rows more writes places copies fixed supers
+StartLeads = (img name : List ℕ) (m : Moment) (base b t : Space) (u v w : Store) (ms : List Move) (rows : ℕ) (more : List ℤ) (writes : List Write) (places : List ChunkPlace) (copies : List (ℕ × List ℕ))
+    (fixed supers : List Write) → StartKnows img name m base u → IsStart m base b u v ms w t rows more writes places copies fixed supers
     → IsStarted img name m t w (parts_for m w rows more writes places copies supers t.end)
 
--- A session over its log: such a flush is planned of all values that were appended.
+-- The same over a session's log: a flush is planned of all values that were appended. After any of its pieces the log is that of a run with
+-- the others pending (the laws of a session say so); after all of them the session rests, and so does its array.
+pub record IsStartedOver (name : List ℕ) (log : Log) (m : Moment) (t : Space) (w : Store) (f : Parts) : Type 0 where
+  pub runs : Runs name (flush_planned m f log) (pieces_of (image_now log) m f) (flushed_to m f) f.behind
+  pub rests : (v : Space) → Commits t v → Rests name (shown_also (pieces_of (image_now log) m f) (flush_planned m f log)) (flushed_to m f) (λ key. map_of w key.i) v
+  pub array : (v : Space) → Commits t v → ArrayRests (image_now (shown_also (pieces_of (image_now log) m f) (flush_planned m f log))) (flushed_to m f) (λ key. map_of w key.i) v w
+
 abbrev pub StartRuns : Type 0
-StartRuns = (name : List ℕ) (log : Log) (m : Moment) (base s b t : Space) (u v w : Store) (ms : List Move) (rows : ℕ) (more : List ℤ) (writes : List Write) (places : List ChunkPlace) (copies : List (ℕ × List ℕ))
-    (fixed supers : List Write) → Runs name log [] m m.behind → StartRests (image_now log) name m base s u → IsStart m s b u v ms w t rows more writes places copies fixed supers
-    → m.values ++ more ≡ appended log
-    → Runs name (flush_planned m (parts_for m w rows more writes places copies supers t.end) log) (pieces_of (image_now log) m (parts_for m w rows more writes places copies supers t.end))
-    (flushed_to m (parts_for m w rows more writes places copies supers t.end)) (behind_of (chunk_bytes m.dataset) w)
+StartRuns = (name : List ℕ) (log : Log) (m : Moment) (base b t : Space) (u v w : Store) (ms : List Move) (rows : ℕ) (more : List ℤ) (writes : List Write) (places : List ChunkPlace) (copies : List (ℕ × List ℕ))
+    (fixed supers : List Write) → Runs name log [] m m.behind → StartKnows (image_now log) name m base u → IsStart m base b u v ms w t rows more writes places copies fixed supers
+    → m.values ++ more ≡ appended log → IsStartedOver name log m t w (parts_for m w rows more writes places copies supers t.end)

@@ -9,7 +9,7 @@ use Rattle.h5w_model.specs.declared.cell.Key.{Key}
 use Rattle.h5w_model.specs.declared.cell.IndexKind.TheVariants.{Array}
 use Rattle.h5w_model.specs.declared.piece.Write.{Write}
 use Rattle.h5w_visits.specs.Ranges.{block_at}
-use Rattle.h5w_space.specs.Space.{Space}
+use Rattle.h5w_space.specs.Space.{Space, Commits}
 use Rattle.h5w_cache.specs.Stores.{Store, place_of}
 use Rattle.h5w_cache.specs.StoreLaws.{Standing}
 use Rattle.h5w_header_laws.specs.Files.{LayoutInChunk0}
@@ -36,15 +36,19 @@ pub record IsBare (v : Store) : Type 0 where
   pub unplaced : (n : ℕ) → n < 845 → place_of v n ≡ undefined
   pub behind : (bytes : ℕ) → behind_of bytes v ≡ []
 
--- What a session knows of such a file when nothing is pending, and of the array that it will have. `base` are the places as they were
--- before those of the array's two blocks were taken, `s` those of now: the two places are live, meet nothing of the file, and nothing was
--- written to them.
-pub record StartRests (img name : List ℕ) (m : Moment) (base s : Space) (v : Store) : Type 0 where
+-- What is known of such a file when nothing is pending: it is known as any other, with places `base`, and an array was made for it that
+-- has no chunk and of which nothing is written.
+pub record StartKnows (img name : List ℕ) (m : Moment) (base : Space) (v : Store) : Type 0 where
   pub knows : Knows img name m no_chunk base
   pub unnamed : IsUnnamed m.dataset
+  pub bare : IsBare v
+
+-- The same of a session that took the places of the array's two blocks when it began, over the places `base`; `s` are those of now: the
+-- two are live, and meet nothing of the file.
+pub record StartRests (img name : List ℕ) (m : Moment) (base s : Space) (v : Store) : Type 0 where
+  pub start : StartKnows img name m base v
   pub taken : Taken base (fixed_of v) s
   pub array : IsArray v
-  pub bare : IsBare v
   pub standing : Standing v s
 
 -- ---- Laws
@@ -62,6 +66,10 @@ UnnamedNowhere = (img name : List ℕ) (m : Moment) → Represents img name m �
 abbrev pub CreatedBare : Type 0
 CreatedBare = (at place : ℕ) (v : Store) → IsCreated at place v → at < undefined → place < undefined → IsBare v
 
+-- It is the map of the index that is not there.
+abbrev pub BareMap : Type 0
+BareMap = (v : Store) → IsBare v → ◌≡◌ {A = Key → ℕ} (λ key. map_of v key.i) no_chunk
+
 -- A session begins with such a file: the places begin at its end, the two places of the array's header and index block are taken, and the
 -- array is made there.
 abbrev pub StartBegins : Type 0
@@ -76,6 +84,10 @@ StartEnds = (img name : List ℕ) (m n : Moment) (base s : Space) (v : Store) (w
 abbrev pub StartHolds : Type 0
 StartHolds = (img name : List ℕ) (m : Moment) (base s : Space) (v u : Store) → StartRests img name m base s v → IsArray u → ((i : ℕ) → map_of u i ≡ map_of v i)
     → ((n : ℕ) → place_of u n ≡ place_of v n) → ((bytes : ℕ) → behind_of bytes u ≡ behind_of bytes v) → (Standing v s → Standing u s) → StartRests img name m base s u
+
+-- So do places where what was let go is free.
+abbrev pub StartFreed : Type 0
+StartFreed = (img name : List ℕ) (m : Moment) (base s t : Space) (v : Store) → StartRests img name m base s v → Commits s t → StartRests img name m base t v
 
 -- Places that were taken together are taken in any order.
 abbrev pub TakenAgain : Type 0

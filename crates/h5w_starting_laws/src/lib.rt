@@ -9,5 +9,6 @@ mod starting;
 
 pub use flushes::{holder_changed, start_is_flush, start_leads, start_pieces, start_runs};
 pub use starting::{
-    created_bare, start_begins, start_ends, start_holds, taken_again, unnamed_nowhere,
+    bare_map, created_bare, start_begins, start_ends, start_freed, start_holds, taken_again,
+    unnamed_nowhere,
 };

@@ -1,6 +1,6 @@
 //! What a session knows of a file whose array is not there yet.
 
-ghost use Rattle.h5w_starting_laws.specs.Starting.{CreatedBare, StartBegins, StartEnds, StartHolds, TakenAgain, UnnamedNowhere};
+ghost use Rattle.h5w_starting_laws.specs.Starting.{BareMap, CreatedBare, StartBegins, StartEnds, StartFreed, StartHolds, TakenAgain, UnnamedNowhere};
 
 /// An index that the layout does not name has no ranges, and by it no chunk has an address.
 pub fn unnamed_nowhere()
@@ -25,6 +25,16 @@ pub fn start_ends()
 /// Blocks of the array that are held, with no chunk named, leave it known.
 pub fn start_holds()
     ensures { StartHolds }
+{}
+
+/// Its map is that of an index that is not there.
+pub fn bare_map()
+    ensures { BareMap }
+{}
+
+/// Places where what was let go is free leave it known.
+pub fn start_freed()
+    ensures { StartFreed }
 {}
 
 /// Places that were taken together are taken in any order.
