@@ -1,0 +1,11 @@
+//! The first flush into a file of another maker whose array is not there yet, so that the premises of its laws are known to hold of
+//! something.
+#![tactic(auto)]
+
+ghost use Rattle.h5w_starting_examples.specs.UnnamedFlush.{IsUnnamedFlush};
+
+/// The file of three rows without chunks is known, and a row more makes a chunk, the array and its address; its pieces are those of an
+/// independent program.
+pub fn unnamed_flush()
+    ensures { IsUnnamedFlush }
+{}
