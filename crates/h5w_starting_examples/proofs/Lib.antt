@@ -1,1 +1,2 @@
 pub mod UnnamedLemmas
+pub mod CallLemmas

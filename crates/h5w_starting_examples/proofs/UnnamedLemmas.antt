@@ -87,7 +87,7 @@ layout_in h y read first = it y.in_chunk_0 (sym (ap (option_map (λ (z : FoundMe
     it : (b : Bool) → ◌≡◌ {A = Option Bool} (Some b) (Some true) → b ≡ true
     it b e = cc
 
-known : Knows opened_file data_name open_to_write no_chunk (places_to 240)
+pub known : Knows opened_file data_name open_to_write no_chunk (places_to 240)
 known =
     end_known unnamed_file data_name found open_to_write no_chunk (places_to 240) opening_piece
     (begin_knows unnamed_file data_name found no_chunk (places_to 240) is_file (unnamed_nowhere unnamed_file data_name found is_file refl).map (record { end = refl; none_free = refl; none_retired = refl }) (λ e. layout_in))
@@ -107,7 +107,7 @@ cells_length : length (cells_of (described_by 2 3 undefined) fourth_row.more) �
 unfolding run_bytes cell_bytes_of le
 cells_length = refl
 
-written : RowsWritten (described_by 2 3 undefined) (cells_of (described_by 2 3 undefined) fourth_row.more) 3 4 new_place fourth_row.writes
+pub written : RowsWritten (described_by 2 3 undefined) (cells_of (described_by 2 3 undefined) fourth_row.more) 3 4 new_place fourth_row.writes
 written =
     subst (λ (ws : List Write). RowsWritten (described_by 2 3 undefined) (cells_of (described_by 2 3 undefined) fourth_row.more) 3 4 new_place ws) are_writes
     (rows_written (described_by 2 3 undefined) (cells_of (described_by 2 3 undefined) fourth_row.more) 3 4 new_place cut (lit≤ tt) cells_length refl)
@@ -125,7 +125,7 @@ each_placed zero p found = subst (λ (q : ChunkPlace). IsPlaced (described_by 2 
     some_place p q e = cc
 each_placed (suc k) p found = absurd cc
 
-each_fits : (k : ℕ) (v : ℤ) → slice_get fourth_row.more k ≡ Some v → FitsType (described_by 2 3 undefined) v
+pub each_fits : (k : ℕ) (v : ℤ) → slice_get fourth_row.more k ≡ Some v → FitsType (described_by 2 3 undefined) v
 unfolding cell_bytes_of le
 each_fits zero v found = subst (λ (x : ℤ). FitsType (described_by 2 3 undefined) x) (some_value _ v found) (7 ∷ 0 ∷ 0 ∷ 0 ∷ [], refl)
   where
@@ -157,7 +157,7 @@ placed = record {
 }
 
 -- places one behind another at the end
-taken_from : (from to : ℕ) (us : List Used) → Disjoint us → ((u : Used) → Among u us → (from ≤ u.place) × (u.place + u.len ≤ to)) → from ≤ to → (u : Used) → Among u us → u.place + u.len ≡ to → Taken (places_to from) us (places_to to)
+pub taken_from : (from to : ℕ) (us : List Used) → Disjoint us → ((u : Used) → Among u us → (from ≤ u.place) × (u.place + u.len ≤ to)) → from ≤ to → (u : Used) → Among u us → u.place + u.len ≡ to → Taken (places_to from) us (places_to to)
 taken_from from to us apart inside rises last among is = record {
   apart = apart;
   off_live = λ u x a l. let within = l.within in let i = inside u a in omega (arith, within, i.0);

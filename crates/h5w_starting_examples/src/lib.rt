@@ -2,10 +2,16 @@
 //! something.
 #![tactic(auto)]
 
+ghost use Rattle.h5w_starting_examples.specs.ArrayCalls.{ArrayStarts};
 ghost use Rattle.h5w_starting_examples.specs.UnnamedFlush.{IsUnnamedFlush};
 
 /// The file of three rows without chunks is known, and a row more makes a chunk, the array and its address; its pieces are those of an
 /// independent program.
 pub fn unnamed_flush()
     ensures { IsUnnamedFlush }
+{}
+
+/// The calls of an array give what its first flush asks, of this file.
+pub fn array_starts()
+    ensures { ArrayStarts }
 {}

@@ -8,11 +8,12 @@ use Rattle.h5w_model.specs.Programs.{Prog, ret, eval, visits}
 use Rattle.h5w_model.specs.Datasets.{Described}
 use Rattle.h5w_model.specs.Tables.{InPlace, nowhere, in_place, array_in_place, tree_in_place}
 use Rattle.h5w_model.specs.Findings.{Used, Finding, chunk_bytes}
+use Rattle.h5w_model.specs.declared.cell.Key.{Key}
 use Rattle.h5w_model.specs.declared.cell.IndexKind.TheVariants.{Array, Tree}
 use Rattle.h5w_model.specs.declared.refusal.ReadError.{ReadError}
 use Rattle.h5w_visits.specs.Ranges.{Among, block_at, blocks_of}
 use Rattle.h5w_visits.specs.Indexes.{behind_visit}
-use Rattle.h5w_space.specs.Space.{Space, IsLive, Apart, extent}
+use Rattle.h5w_space.specs.Space.{Commits, Space, IsLive, Apart, extent}
 use Rattle.h5w_cache.specs.Stores.{Store, place_of}
 use Rattle.h5w_cache.specs.Plans.{bytes_in}
 use Rattle.h5w_cache.specs.StoreLaws.{IsPlaced, Standing, range_of}
@@ -23,10 +24,12 @@ use Rattle.h5w_array_laws.proofs.StandLemmas.{header_length, index_length}
 use Rattle.h5w_array_laws.proofs.WriteLemmas.{which_part}
 use Rattle.h5w_array_laws.proofs.CreatedLemmas.{created_starts}
 use Rattle.h5w_flush_laws.specs.Spaces.{extent_of, Taken}
+use Rattle.h5w_flush_laws.specs.Knowledge.{Knows}
 use Rattle.h5w_flush_laws.proofs.SpaceLemmas.{have_no_byte, apart_back, committed_live}
 use Rattle.h5w_flush_laws.proofs.KnownLaws.{begin_knows, end_known}
+use Rattle.h5w_flush_laws.proofs.FlushLaws.{freed_known}
 use Rattle.h5w_array_flushes.proofs.ArrayRestLemmas.{standing_freed}
-use Rattle.h5w_starting_laws.specs.Starting.{no_chunk, IsUnnamed, IsBare, UnnamedNowhere, CreatedBare, BareMap, StartBegins, StartEnds, StartHolds, StartFreed}
+use Rattle.h5w_starting_laws.specs.Starting.{no_chunk, IsUnnamed, IsBare, StartRests, UnnamedNowhere, CreatedBare, BareMap, BareHeld, StartBegins, StartOf, StartEnds, StartFreed, StartTakes, RestsStay}
 
 -- ---- An index that is not there
 
@@ -107,52 +110,60 @@ bare_standing base s v a bare k = record {
 -- ---- What is known
 
 pub start_begins : StartBegins
-start_begins img name m base s at place v r unnamed layout begun taken created fits fits_too =
-    let low : at < undefined = omega (arith, fits) in
-    let lower : place < undefined = omega (arith, fits_too) in
-    let array = (created_starts at place v created low lower).array in
-    let bare = created_bare at place v created low lower in
-    let here : Taken base (fixed_of v) s =
-    subst (λ p. Taken base (block_at p eahd_len ∷ block_at (place_at_part v index_block) eaib_len ∷ []) s) (sym created.header_at)
-    (subst (λ p. Taken base (block_at at eahd_len ∷ block_at p eaib_len ∷ []) s) (sym created.index_at) taken) in
-    record {
-      start = record { knows = begin_knows img name m no_chunk base r (unnamed_nowhere img name m r unnamed.address).map begun (λ e. layout); unnamed = unnamed; bare = bare };
-      taken = here;
-      array = array;
-      standing = bare_standing base s v array bare here;
-    }
+start_begins img name m s v r unnamed layout begun bare = record {
+  knows = begin_knows img name m no_chunk s r (unnamed_nowhere img name m r unnamed.address).map begun (λ e. layout);
+  unnamed = unnamed;
+  bare = bare;
+}
+
+pub bare_map : BareMap
+bare_map v bare = λ j key. bare.map key.i j
+
+pub start_of : StartOf
+start_of img name m address s v k unnamed bare same = record {
+  knows = subst (λ (f : Key → ℕ). Knows img name m f s) (λ j key. (same key ∙ bare.map key.i) j) k;
+  unnamed = unnamed;
+  bare = bare;
+}
 
 pub start_ends : StartEnds
-start_ends img name m n base s v w r e fits = record {
-  start = record {
-    knows = end_known img name m n no_chunk base w r.start.knows e fits;
-    unnamed = subst (λ (x : Moment). IsUnnamed x.dataset) (sym e.is) r.start.unnamed;
-    bare = r.start.bare;
-  };
-  taken = r.taken;
-  array = r.array;
-  standing = r.standing;
+start_ends img name m n s v w r e fits = record {
+  knows = end_known img name m n no_chunk s w r.knows e fits;
+  unnamed = subst (λ (x : Moment). IsUnnamed x.dataset) (sym e.is) r.unnamed;
+  bare = r.bare;
 }
+
+pub start_freed : StartFreed
+start_freed img name m s t v r c = record { knows = freed_known img name m no_chunk s t c r.knows; unnamed = r.unnamed; bare = r.bare }
 
 pub same_fixed : (v u : Store) → ((n : ℕ) → place_of u n ≡ place_of v n) → fixed_of u ≡ fixed_of v
 same_fixed v u places =
     ap (λ p. block_at p eahd_len ∷ block_at (place_at_part u index_block) eaib_len ∷ []) (places 846)
     ∙ ap (λ p. block_at (header_place v) eahd_len ∷ block_at p eaib_len ∷ []) (places 845)
 
-pub start_holds : StartHolds
-start_holds img name m base s v u r array map places behind standing = record {
-  start = record {
-    knows = r.start.knows;
-    unnamed = r.start.unnamed;
-    bare = record { map = λ i. map i ∙ r.start.bare.map i; unplaced = λ n h. places n ∙ r.start.bare.unplaced n h; behind = λ bytes. behind bytes ∙ r.start.bare.behind bytes };
-  };
-  taken = subst (λ (us : List Used). Taken base us s) (sym (same_fixed v u places)) r.taken;
-  array = array;
-  standing = standing r.standing;
-}
+pub bare_held : BareHeld
+bare_held v u bare map places behind = record { map = λ i. map i ∙ bare.map i; unplaced = λ n h. places n ∙ bare.unplaced n h; behind = λ bytes. behind bytes ∙ bare.behind bytes }
 
-pub start_freed : StartFreed
-start_freed img name m base s t v r c = record {
+-- ---- Where the two places are taken
+
+pub start_takes : StartTakes
+start_takes img name m base s at place v u r taken created fits fits_too =
+    let low : at < undefined = omega (arith, fits) in
+    let lower : place < undefined = omega (arith, fits_too) in
+    let array = (created_starts at place u created low lower).array in
+    let bare = created_bare at place u created low lower in
+    let here : Taken base (fixed_of u) s =
+    subst (λ p. Taken base (block_at p eahd_len ∷ block_at (place_at_part u index_block) eaib_len ∷ []) s) (sym created.header_at)
+    (subst (λ p. Taken base (block_at at eahd_len ∷ block_at p eaib_len ∷ []) s) (sym created.index_at) taken) in
+    record {
+      start = record { knows = r.knows; unnamed = r.unnamed; bare = bare };
+      taken = here;
+      array = array;
+      standing = bare_standing base s u array bare here;
+    }
+
+rests_freed : (img name : List ℕ) (m : Moment) (base s t : Space) (v : Store) → StartRests img name m base s v → Commits s t → StartRests img name m base t v
+rests_freed img name m base s t v r c = record {
   start = r.start;
   taken = record {
     apart = r.taken.apart;
@@ -170,5 +181,14 @@ start_freed img name m base s t v r c = record {
     ends (inl e) = inl (c.end ∙ e)
     ends (inr e) = inr (e.0, e.1, e.2 ∙ sym c.end)
 
-pub bare_map : BareMap
-bare_map v bare = λ j key. bare.map key.i j
+pub rests_stay : RestsStay
+rests_stay = record {
+  ends = λ img name m n base s v w r e fits. record { start = start_ends img name m n base v w r.start e fits; taken = r.taken; array = r.array; standing = r.standing };
+  held = λ img name m base s v u r array map places behind standing. record {
+    start = record { knows = r.start.knows; unnamed = r.start.unnamed; bare = bare_held v u r.start.bare map places behind };
+    taken = subst (λ (us : List Used). Taken base us s) (sym (same_fixed v u places)) r.taken;
+    array = array;
+    standing = standing r.standing;
+  };
+  freed = rests_freed;
+}

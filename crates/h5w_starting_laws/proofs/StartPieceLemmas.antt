@@ -1,7 +1,9 @@
 -- The pieces of a first flush.
-use Rattle.std.proofs.Common.{◌≡◌, ◌⊎◌, ℕ, true, false, List, [], ◌∷◌, ◌++◌, refl, sym, ◌∙◌, ap, subst, inl, inr, arith, append-nil, append_assoc}
+use Rattle.std.proofs.Common.{◌≡◌, ◌≢◌, ◌⊎◌, ℕ, ◌<◌, true, false, List, [], ◌∷◌, ◌++◌, refl, sym, ◌∙◌, ap, subst, inl, inr, arith, append-nil, append_assoc}
 use Rattle.std.specs.Prelude.{Some, drop, nat_lt, cond}
-use Rattle.std.proofs.lemmas.Bool.{cases_Bool, ltb-false}
+use Rattle.std.specs.List.{All}
+use Rattle.std.proofs.lemmas.List.Elements.{All-head, All-tail, All-nil, All-cons}
+use Rattle.std.proofs.lemmas.Bool.{cases_eq, cases_Bool, ltb-false}
 use Rattle.std.proofs.lemmas.Grind.{flat_map-append}
 use Rattle.h5w_model.specs.Images.{pieces}
 use Rattle.h5w_model.specs.Findings.{Used}
@@ -14,12 +16,14 @@ use Rattle.h5w_header_laws.specs.Files.{commit_at}
 use Rattle.h5w_steps.specs.Moments.{Moment}
 use Rattle.h5w_array_laws.specs.Parts.{Part, data_of, secondary_of, index_block, header, IsPart, number_of, holder}
 use Rattle.h5w_array_laws.specs.ArrayStores.{IsArray, place_at_part, bytes_at_part, header_place}
+use Rattle.h5w_array_laws.specs.ArrayImages.{IsPlanned}
+use Rattle.h5w_array_laws.proofs.WriteLemmas.{plan_copies}
 use Rattle.h5w_array_laws.proofs.MapLemmas.{slot_known}
 use Rattle.h5w_array_laws.proofs.FixedLemmas.{one_piece, times_behind, top_numbers, writes_two}
 use Rattle.h5w_array_laws.proofs.PlannedLemmas.{is_marked}
 use Rattle.h5w_array_laws.proofs.StandLemmas.{header_length, index_length}
 use Rattle.h5w_flush_laws.specs.Parts.{block_writes}
-use Rattle.h5w_starting_laws.specs.StartFlushes.{first_blocks, IsStartingPart, HolderChanged, StartPieces}
+use Rattle.h5w_starting_laws.specs.StartFlushes.{first_blocks, IsStartingPart, HolderChanged, NamedChanged, StartPart, StartPieces}
 
 -- ---- What is changed
 
@@ -35,6 +39,37 @@ part_changed v a (data_of s b) is e = go (cases_Bool (nat_lt s 4)) (a.marked (da
 
 pub holder_changed : HolderChanged
 holder_changed v i a low e = part_changed v a (holder i) (slot_known i low).part e
+
+-- a number is one of these, or each of these is another
+one_of : (i : ℕ) (P : ℕ → Type 0) (js : List ℕ) → All P js → P i ⊎ All (λ j. j ≢ i) js
+one_of i P [] all = inr (All-nil (λ j. j ≢ i))
+one_of i P (j ∷ js) all = go (cases_eq j i) (one_of i P js (All-tail P j js all))
+  where
+    go : (j ≡ i) ⊎ (j ≡ i → ⊥) → P i ⊎ All (λ j. j ≢ i) js → P i ⊎ All (λ j. j ≢ i) (j ∷ js)
+    go (inl e) rest = inl (subst P e (All-head P j js all))
+    go (inr ne) (inl h) = inl h
+    go (inr ne) (inr h) = inr (All-cons (λ j. j ≢ i) j js ne h)
+
+pub named_changed : NamedChanged
+named_changed u v added i a slots rest none some = elim (one_of i (λ j. (j < 131060) × (is_changed v (number_of (holder j)) ≡ true)) added slots) [
+  | inl h ↦ holder_changed v i a h.0 h.1
+  | inr off ↦ absurd (some (rest i off ∙ none))
+]
+
+pub start_part : StartPart
+start_part m u v w s t ms chunks cs fixed a standing places changed behind plan =
+    let are = (plan_copies v s ms cs fixed w t a plan.plan).are in
+    record {
+      copies = are.placed;
+      writes = are.writes;
+      part = record {
+        places = places;
+        changed = changed;
+        behind = behind;
+        plan = subst (λ (ws : List Write). IsPlanned v s ms ws fixed w t) are.writes (record { before = a; after = plan.array; standing = standing; plan = plan.plan; fixed = plan.fixed; keeps = plan.keeps });
+        copied = are.ranges;
+      };
+    }
 
 -- ---- What is written
 

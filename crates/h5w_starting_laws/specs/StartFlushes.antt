@@ -1,5 +1,7 @@
 -- The first flush of a file whose array is not there yet: the array's blocks are all new, and the header names it.
-use Rattle.std.specs.Prelude.{◌≡◌, ℕ, ◌*◌, ◌^◌, ◌<◌, true, List, [], ◌∷◌, ◌++◌, length, Some, ℤ}
+use Rattle.std.specs.Prelude.{◌≡◌, ◌≢◌, ℕ, ◌*◌, ◌^◌, ◌<◌, true, List, [], ◌∷◌, ◌++◌, length, Some, ℤ}
+use Rattle.std.specs.List.{All}
+use Rattle.h5w_model.specs.Numbers.{undefined}
 use Rattle.h5w_model.specs.Images.{image}
 use Rattle.h5w_model.specs.Headers.{with_rows_bytes}
 use Rattle.h5w_model.specs.Findings.{Used, chunk_bytes}
@@ -10,6 +12,7 @@ use Rattle.h5w_chunks.specs.declared.grid.ChunkPlace.{ChunkPlace}
 use Rattle.h5w_header_laws.specs.Files.{chunk_0, commit_at, with_rows}
 use Rattle.h5w_space.specs.Space.{Space, Commits}
 use Rattle.h5w_cache.specs.Stores.{Store, place_of, is_changed}
+use Rattle.h5w_cache.specs.StoreLaws.{Standing}
 use Rattle.h5w_cache.specs.declared.moves.Move.{Move}
 use Rattle.h5w_steps.specs.Moments.{Moment}
 use Rattle.h5w_steps.specs.Plans.{Flush}
@@ -19,7 +22,7 @@ use Rattle.h5w_array_laws.specs.Among.{AreAmong}
 use Rattle.h5w_array_laws.specs.Parts.{index_block, header, holder, number_of}
 use Rattle.h5w_array_laws.specs.ArrayStores.{IsArray, place_at_part, bytes_at_part, header_place, map_of, fixed_of, blocks_in_place, behind_of}
 use Rattle.h5w_array_laws.specs.ArrayImages.{IsPlanned}
-use Rattle.h5w_array_laws.specs.ArrayPlans.{fresh}
+use Rattle.h5w_array_laws.specs.ArrayPlans.{fresh, IsArrayPlan}
 use Rattle.h5w_flush_laws.specs.Spaces.{Taken}
 use Rattle.h5w_flush_laws.specs.Parts.{Parts, AreEnded, IsFlush, flushed_to, pieces_of, block_ranges, block_writes}
 use Rattle.h5w_flush_laws.specs.Rows.{ArePlaced}
@@ -84,6 +87,23 @@ pub record IsStart (m : Moment) (base b : Space) (u v : Store) (ms : List Move) 
 -- where a block that has a chunk's slot is changed, so is the index block
 abbrev pub HolderChanged : Type 0
 HolderChanged = (v : Store) (i : ℕ) → IsArray v → i < 131060 → is_changed v (number_of (holder i)) ≡ true → is_changed v (number_of index_block) ≡ true
+
+-- where a chunk has an address that it had not, and each chunk that got one has its slot in a changed block, so is the index block
+abbrev pub NamedChanged : Type 0
+NamedChanged = (u v : Store) (added : List ℕ) (i : ℕ) → IsArray v → All (λ j. (j < 131060) × (is_changed v (number_of (holder j)) ≡ true)) added
+    → ((k : ℕ) → All (λ j. j ≢ k) added → map_of v k ≡ map_of u k) → map_of u i ≡ undefined → map_of v i ≢ undefined → is_changed v (number_of index_block) ≡ true
+
+-- What a session shows of its array is what the array's calls give: of a bare store `u`, that when the chunks have their addresses, and its
+-- plan, whose copies are blocks.
+pub record HasStartingPart (m : Moment) (u v : Store) (s : Space) (ms : List Move) (w : Store) (t : Space) (chunks : List Used) (cs fixed : List Write) : Type 0 where
+  pub copies : List (ℕ × List ℕ)
+  pub writes : cs ≡ block_writes copies
+  pub part : IsStartingPart m u v s ms w t chunks copies fixed
+
+abbrev pub StartPart : Type 0
+StartPart = (m : Moment) (u v w : Store) (s t : Space) (ms : List Move) (chunks : List Used) (cs fixed : List Write) → IsArray v → Standing v s → ((n : ℕ) → place_of v n ≡ place_of u n)
+    → is_changed v (number_of index_block) ≡ true → AreAmong (behind_of (chunk_bytes m.dataset) v) (chunks ++ behind_of (chunk_bytes m.dataset) u) → IsArrayPlan v s ms cs fixed w t
+    → HasStartingPart m u v s ms w t chunks cs fixed
 
 -- The plan of such an array writes its index block and then its header, each one piece, as the parts have them behind the copies.
 abbrev pub StartPieces : Type 0

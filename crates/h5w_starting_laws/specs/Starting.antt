@@ -36,15 +36,15 @@ pub record IsBare (v : Store) : Type 0 where
   pub unplaced : (n : ℕ) → n < 845 → place_of v n ≡ undefined
   pub behind : (bytes : ℕ) → behind_of bytes v ≡ []
 
--- What is known of such a file when nothing is pending: it is known as any other, with places `base`, and an array was made for it that
--- has no chunk and of which nothing is written.
-pub record StartKnows (img name : List ℕ) (m : Moment) (base : Space) (v : Store) : Type 0 where
-  pub knows : Knows img name m no_chunk base
+-- What is known of such a file when nothing is pending: it is known as any other, and a bare array is kept for it, of which nothing is
+-- written. Its places need not be taken yet.
+pub record StartKnows (img name : List ℕ) (m : Moment) (s : Space) (v : Store) : Type 0 where
+  pub knows : Knows img name m no_chunk s
   pub unnamed : IsUnnamed m.dataset
   pub bare : IsBare v
 
--- The same of a session that took the places of the array's two blocks when it began, over the places `base`; `s` are those of now: the
--- two are live, and meet nothing of the file.
+-- The same where the places of the array's two blocks were taken, over the places `base`; `s` are those of now: the two are live, and meet
+-- nothing of the file.
 pub record StartRests (img name : List ℕ) (m : Moment) (base s : Space) (v : Store) : Type 0 where
   pub start : StartKnows img name m base v
   pub taken : Taken base (fixed_of v) s
@@ -70,24 +70,37 @@ CreatedBare = (at place : ℕ) (v : Store) → IsCreated at place v → at < und
 abbrev pub BareMap : Type 0
 BareMap = (v : Store) → IsBare v → ◌≡◌ {A = Key → ℕ} (λ key. map_of v key.i) no_chunk
 
--- A session begins with such a file: the places begin at its end, the two places of the array's header and index block are taken, and the
--- array is made there.
+-- A session begins with such a file: the places begin at its end.
 abbrev pub StartBegins : Type 0
-StartBegins = (img name : List ℕ) (m : Moment) (base s : Space) (at place : ℕ) (v : Store) → Represents img name m → IsUnnamed m.dataset → LayoutInChunk0 img m.place → IsBegun m base
-    → Taken base (block_at at eahd_len ∷ block_at place eaib_len ∷ []) s → IsCreated at place v → at + eahd_len < 2 ^ 64 → place + eaib_len < 2 ^ 64 → StartRests img name m base s v
+StartBegins = (img name : List ℕ) (m : Moment) (s : Space) (v : Store) → Represents img name m → IsUnnamed m.dataset → LayoutInChunk0 img m.place → IsBegun m s → IsBare v → StartKnows img name m s v
+
+-- A file that is known by the map of a bare array is known so.
+abbrev pub StartOf : Type 0
+StartOf = (img name : List ℕ) (m : Moment) (address : Key → ℕ) (s : Space) (v : Store) → Knows img name m address s → IsUnnamed m.dataset → IsBare v → ((key : Key) → address key ≡ map_of v key.i) → StartKnows img name m s v
 
 -- The superblock with other flags leaves that known.
 abbrev pub StartEnds : Type 0
-StartEnds = (img name : List ℕ) (m n : Moment) (base s : Space) (v : Store) (w : Write) → StartRests img name m base s v → Ends img m w n → n.super.end ≤ base.end → StartRests (apply w img) name n base s v
-
--- So does a change of the array that leaves its map, its places and its ranges, as where blocks are held and then memory runs out.
-abbrev pub StartHolds : Type 0
-StartHolds = (img name : List ℕ) (m : Moment) (base s : Space) (v u : Store) → StartRests img name m base s v → IsArray u → ((i : ℕ) → map_of u i ≡ map_of v i)
-    → ((n : ℕ) → place_of u n ≡ place_of v n) → ((bytes : ℕ) → behind_of bytes u ≡ behind_of bytes v) → (Standing v s → Standing u s) → StartRests img name m base s u
+StartEnds = (img name : List ℕ) (m n : Moment) (s : Space) (v : Store) (w : Write) → StartKnows img name m s v → Ends img m w n → n.super.end ≤ s.end → StartKnows (apply w img) name n s v
 
 -- So do places where what was let go is free.
 abbrev pub StartFreed : Type 0
-StartFreed = (img name : List ℕ) (m : Moment) (base s t : Space) (v : Store) → StartRests img name m base s v → Commits s t → StartRests img name m base t v
+StartFreed = (img name : List ℕ) (m : Moment) (s t : Space) (v : Store) → StartKnows img name m s v → Commits s t → StartKnows img name m t v
+
+-- A change of a bare array that leaves its map, its places and its ranges leaves it bare, as where blocks are held and then memory runs out.
+abbrev pub BareHeld : Type 0
+BareHeld = (v u : Store) → IsBare v → ((i : ℕ) → map_of u i ≡ map_of v i) → ((n : ℕ) → place_of u n ≡ place_of v n) → ((bytes : ℕ) → behind_of bytes u ≡ behind_of bytes v) → IsBare u
+
+-- Two places are taken, and an array is made there.
+abbrev pub StartTakes : Type 0
+StartTakes = (img name : List ℕ) (m : Moment) (base s : Space) (at place : ℕ) (v u : Store) → StartKnows img name m base v → Taken base (block_at at eahd_len ∷ block_at place eaib_len ∷ []) s
+    → IsCreated at place u → at + eahd_len < 2 ^ 64 → place + eaib_len < 2 ^ 64 → StartRests img name m base s u
+
+-- Where they were taken before the flush, the superblock with other flags, an array that is held and places that are free leave that known.
+pub record RestsStay : Type 0 where
+  pub ends : (img name : List ℕ) (m n : Moment) (base s : Space) (v : Store) (w : Write) → StartRests img name m base s v → Ends img m w n → n.super.end ≤ base.end → StartRests (apply w img) name n base s v
+  pub held : (img name : List ℕ) (m : Moment) (base s : Space) (v u : Store) → StartRests img name m base s v → IsArray u → ((i : ℕ) → map_of u i ≡ map_of v i)
+      → ((n : ℕ) → place_of u n ≡ place_of v n) → ((bytes : ℕ) → behind_of bytes u ≡ behind_of bytes v) → (Standing v s → Standing u s) → StartRests img name m base s u
+  pub freed : (img name : List ℕ) (m : Moment) (base s t : Space) (v : Store) → StartRests img name m base s v → Commits s t → StartRests img name m base t v
 
 -- Places that were taken together are taken in any order.
 abbrev pub TakenAgain : Type 0

@@ -1,10 +1,20 @@
 //! The first flush of such a file.
 
-ghost use Rattle.h5w_starting_laws.specs.StartFlushes.{HolderChanged, StartIsFlush, StartLeads, StartPieces, StartRuns};
+ghost use Rattle.h5w_starting_laws.specs.StartFlushes.{HolderChanged, NamedChanged, StartIsFlush, StartLeads, StartPart, StartPieces, StartRuns};
 
 /// Where a block that has a chunk's slot is changed, so is the index block.
 pub fn holder_changed()
     ensures { HolderChanged }
+{}
+
+/// So it is where a chunk got an address.
+pub fn named_changed()
+    ensures { NamedChanged }
+{}
+
+/// What the calls of an array give of such a flush.
+pub fn start_part()
+    ensures { StartPart }
 {}
 
 /// The pieces of the flush, in the writer's order.

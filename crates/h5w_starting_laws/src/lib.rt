@@ -7,8 +7,11 @@
 mod flushes;
 mod starting;
 
-pub use flushes::{holder_changed, start_is_flush, start_leads, start_pieces, start_runs};
+pub use flushes::{
+    holder_changed, named_changed, start_is_flush, start_leads, start_part, start_pieces,
+    start_runs,
+};
 pub use starting::{
-    bare_map, created_bare, start_begins, start_ends, start_freed, start_holds, taken_again,
-    unnamed_nowhere,
+    bare_held, bare_map, created_bare, rests_stay, start_begins, start_ends, start_freed, start_of,
+    start_takes, taken_again, unnamed_nowhere,
 };

@@ -1,6 +1,6 @@
 //! What a session knows of a file whose array is not there yet.
 
-ghost use Rattle.h5w_starting_laws.specs.Starting.{BareMap, CreatedBare, StartBegins, StartEnds, StartFreed, StartHolds, TakenAgain, UnnamedNowhere};
+ghost use Rattle.h5w_starting_laws.specs.Starting.{BareHeld, BareMap, CreatedBare, RestsStay, StartBegins, StartEnds, StartFreed, StartOf, StartTakes, TakenAgain, UnnamedNowhere};
 
 /// An index that the layout does not name has no ranges, and by it no chunk has an address.
 pub fn unnamed_nowhere()
@@ -12,9 +12,24 @@ pub fn created_bare()
     ensures { CreatedBare }
 {}
 
-/// What a session knows of such a file that begins with it, and takes the places of the array's two blocks.
+/// The map of such an array is that of an index that is not there.
+pub fn bare_map()
+    ensures { BareMap }
+{}
+
+/// It stays such a one where blocks are held and no chunk is named.
+pub fn bare_held()
+    ensures { BareHeld }
+{}
+
+/// What a session knows of such a file that begins with it.
 pub fn start_begins()
     ensures { StartBegins }
+{}
+
+/// A file that is known by the map of such an array is known so.
+pub fn start_of()
+    ensures { StartOf }
 {}
 
 /// The superblock with other flags leaves that known.
@@ -22,19 +37,19 @@ pub fn start_ends()
     ensures { StartEnds }
 {}
 
-/// Blocks of the array that are held, with no chunk named, leave it known.
-pub fn start_holds()
-    ensures { StartHolds }
-{}
-
-/// Its map is that of an index that is not there.
-pub fn bare_map()
-    ensures { BareMap }
-{}
-
 /// Places where what was let go is free leave it known.
 pub fn start_freed()
     ensures { StartFreed }
+{}
+
+/// The places of the array's two blocks are taken.
+pub fn start_takes()
+    ensures { StartTakes }
+{}
+
+/// Where they were taken before the flush, the same leaves that known.
+pub fn rests_stay()
+    ensures { RestsStay }
 {}
 
 /// Places that were taken together are taken in any order.

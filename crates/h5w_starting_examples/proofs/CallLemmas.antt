@@ -1,0 +1,132 @@
+-- What an array's calls give of the flush.
+use Rattle.std.proofs.Common.{◌≡◌, ◌≢◌, ℕ, zero, suc, ◌+◌, ◌≤◌, false, List, [], ◌∷◌, ◌++◌, refl, sym, ◌∙◌, ap, subst, inl, inr, arith, lit≤}
+use Rattle.std.specs.Prelude.{slice_get, ◌==◌, Option, Some}
+use Rattle.std.proofs.lemmas.Bool.{cond-false, ne_eqb}
+use Rattle.h5w_model.specs.Numbers.{undefined}
+use Rattle.h5w_model.specs.Arrays.{eahd_len, eaib_len}
+use Rattle.h5w_model.specs.Findings.{Used}
+use Rattle.h5w_model.specs.declared.piece.Write.{Write}
+use Rattle.h5w_visits.specs.Ranges.{Among, block_at, chunk_at}
+use Rattle.h5w_space.specs.Space.{Space}
+use Rattle.h5w_cache.specs.Stores.{Store}
+use Rattle.h5w_cache.specs.StoreLaws.{Standing}
+use Rattle.h5w_cache.specs.declared.moves.Move.{Move}
+use Rattle.h5w_chunks.specs.declared.grid.ChunkPlace.{ChunkPlace}
+use Rattle.h5w_examples.specs.Readings.{data_name, described_by}
+use Rattle.h5w_array_laws.specs.Among.{AreAmong}
+use Rattle.h5w_array_laws.specs.Parts.{index_block}
+use Rattle.h5w_array_laws.specs.ArrayStores.{place_at_part, map_of, fixed_of, behind_of}
+use Rattle.h5w_step_examples.proofs.Decisions.{disjoint_by}
+use Rattle.h5w_flush_laws.specs.Spaces.{Taken}
+use Rattle.h5w_flush_laws.specs.Parts.{AreEnded}
+use Rattle.h5w_flush_laws.specs.Rows.{IsPlaced, ArePlaced}
+use Rattle.h5w_flush_examples.specs.FirstFlush.{places_to}
+use Rattle.h5w_starting_laws.specs.Starting.{no_chunk, StartKnows, StartRests}
+use Rattle.h5w_starting_laws.specs.StartFlushes.{IsStart, HasStartingPart, parts_for}
+use Rattle.h5w_starting_laws.proofs.StartLemmas.{created_bare, start_takes}
+use Rattle.h5w_starting_laws.proofs.StartPieceLemmas.{start_part}
+use Rattle.h5w_starting_laws.proofs.StartLeadLemmas.{start_leads}
+use Rattle.h5w_starting_examples.specs.UnnamedFlush.{open_to_write, opened_file, fourth_row, new_place}
+use Rattle.h5w_starting_examples.specs.ArrayCalls.{AreCalls, CallsStart, ArrayStarts}
+use Rattle.h5w_starting_examples.proofs.UnnamedLemmas.{known, written, each_fits, taken_from}
+
+abbrev two_blocks : List Used
+two_blocks = block_at 546 72 ∷ block_at 248 298 ∷ []
+
+blocks_taken : Taken (places_to 240) two_blocks (places_to 618)
+blocks_taken = taken_from 240 618 two_blocks (disjoint_by two_blocks refl refl) inside (lit≤ tt) (block_at 546 72) (inl refl) refl
+  where
+    inside : (u : Used) → Among u two_blocks → (240 ≤ u.place) × (u.place + u.len ≤ 618)
+    inside u (inl e) = subst (λ (y : Used). (240 ≤ y.place) × (y.place + y.len ≤ 618)) e (lit≤ tt, lit≤ tt)
+    inside u (inr (inl e)) = subst (λ (y : Used). (240 ≤ y.place) × (y.place + y.len ≤ 618)) e (lit≤ tt, lit≤ tt)
+    inside u (inr (inr a)) = absurd a
+
+abbrev with_chunk : List Used
+with_chunk = block_at 546 72 ∷ block_at 248 298 ∷ chunk_at 240 8 ∷ []
+
+chunk_taken_too : Taken (places_to 240) with_chunk (places_to 618)
+chunk_taken_too = taken_from 240 618 with_chunk (disjoint_by with_chunk refl refl) inside (lit≤ tt) (block_at 546 72) (inl refl) refl
+  where
+    inside : (u : Used) → Among u with_chunk → (240 ≤ u.place) × (u.place + u.len ≤ 618)
+    inside u (inl e) = subst (λ (y : Used). (240 ≤ y.place) × (y.place + y.len ≤ 618)) e (lit≤ tt, lit≤ tt)
+    inside u (inr (inl e)) = subst (λ (y : Used). (240 ≤ y.place) × (y.place + y.len ≤ 618)) e (lit≤ tt, lit≤ tt)
+    inside u (inr (inr (inl e))) = subst (λ (y : Used). (240 ≤ y.place) × (y.place + y.len ≤ 618)) e (lit≤ tt, lit≤ tt)
+    inside u (inr (inr (inr a))) = absurd a
+
+module _ (u h v w : Store) (ms : List Move) (cs fixed supers : List Write) (t : Space) (c : AreCalls u h v ms cs fixed w t) (ended : AreEnded open_to_write.super t.end supers) where
+  knows : StartKnows opened_file data_name open_to_write (places_to 240) u
+  knows = record { knows = known; unnamed = record { kind = refl; address = refl }; bare = created_bare 546 248 u c.made (lit≤ tt) (lit≤ tt) }
+
+  rests : StartRests opened_file data_name open_to_write (places_to 240) (places_to 618) u
+  rests = start_takes opened_file data_name open_to_write (places_to 240) (places_to 618) 546 248 u u knows blocks_taken c.made (lit≤ tt) (lit≤ tt)
+
+  standing : Standing v (places_to 618)
+  standing = c.named.standing (places_to 618) (c.held.standing (places_to 618) rests.standing)
+
+  behind : AreAmong (behind_of 8 v) (chunk_at 240 8 ∷ behind_of 8 u)
+  behind = subst (λ (us : List Used). AreAmong (behind_of 8 v) (chunk_at 240 8 ∷ us)) (c.held.behind 8) (c.named.behind 8)
+
+  part : HasStartingPart open_to_write u v (places_to 618) ms w t (chunk_at 240 8 ∷ []) cs fixed
+  part =
+      start_part open_to_write u v w (places_to 618) t ms (chunk_at 240 8 ∷ []) cs fixed c.array standing (λ n. c.named.places n ∙ c.held.places n)
+      (c.named.marks 845 c.changed) behind c.plan
+
+  named_there : map_of w 1 ≡ 240
+  named_there = c.plan.map 1 ∙ c.named.map 1
+
+  none_else : (i : ℕ) → i ≢ 1 → map_of w i ≡ undefined
+  none_else i ne = c.plan.map i ∙ c.named.map i ∙ cond-false (i == 1) 240 (map_of h i) (ne_eqb i 1 ne) ∙ c.held.map i ∙ knows.bare.map i
+
+  each_placed : (k : ℕ) (p : ChunkPlace) → slice_get new_place k ≡ Some p → IsPlaced (described_by 2 3 undefined) no_chunk (λ key. map_of w key.i) 3 k p
+  each_placed zero p found = subst (λ (q : ChunkPlace). IsPlaced (described_by 2 3 undefined) no_chunk (λ key. map_of w key.i) 3 zero q) (some_place (record { address = 240; stored = false }) p found) (record {
+    named = named_there;
+    defined = λ e. absurd (omega (arith, e));
+    kept = λ d. absurd (d refl);
+    stored = λ e. absurd cc;
+    whole = λ e d. absurd (d refl);
+  })
+    where
+      some_place : (p q : ChunkPlace) → ◌≡◌ {A = Option ChunkPlace} (Some p) (Some q) → p ≡ q
+      some_place p q e = cc
+  each_placed (suc k) p found = absurd cc
+
+  all_placed : (copies : List (ℕ × List ℕ)) → ArePlaced open_to_write no_chunk (parts_for open_to_write w 4 fourth_row.more fourth_row.writes new_place copies supers t.end) new_place
+  all_placed copies = record {
+    written = written;
+    all = refl;
+    placed = each_placed;
+    others = λ key asked outside. none_else key.i (λ e. elim outside [ inl low ↦ absurd (omega (arith, low, e)) | inr high ↦ absurd (omega (arith, high, e)) ]);
+    chunks = refl;
+    typed = refl;
+    filled = refl;
+    fit = each_fits;
+  }
+
+  fixed_is : fixed_of u ≡ two_blocks
+  fixed_is =
+      ap (λ p. block_at p eahd_len ∷ block_at (place_at_part u index_block) eaib_len ∷ []) c.made.header_at
+      ∙ ap (λ p. block_at 546 eahd_len ∷ block_at p eaib_len ∷ []) c.made.index_at
+
+  start : IsStart open_to_write (places_to 240) (places_to 618) u v ms w t 4 fourth_row.more fourth_row.writes new_place part.copies fixed supers
+  start = record {
+    rises = lit≤ tt;
+    small = lit≤ tt;
+    few = refl;
+    count = refl;
+    taken = subst (λ (us : List Used). Taken (places_to 240) (us ++ chunk_at 240 8 ∷ []) (places_to 618)) (sym fixed_is) chunk_taken_too;
+    placed = all_placed part.copies;
+    part = part.part;
+    ended = ended;
+  }
+
+  calls_start : CallsStart u v ms cs fixed supers w t
+  calls_start = record {
+    copies = part.copies;
+    writes = part.writes;
+    knows = knows;
+    start = start;
+    started = start_leads opened_file data_name open_to_write (places_to 240) (places_to 618) t u v w ms 4 fourth_row.more fourth_row.writes new_place part.copies fixed supers knows start;
+  }
+
+pub array_starts : ArrayStarts
+array_starts u h v w ms cs fixed supers t c ended = calls_start u h v w ms cs fixed supers t c ended
