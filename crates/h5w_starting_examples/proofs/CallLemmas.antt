@@ -23,7 +23,7 @@ use Rattle.h5w_flush_laws.specs.Rows.{IsPlaced, ArePlaced}
 use Rattle.h5w_flush_examples.specs.FirstFlush.{places_to}
 use Rattle.h5w_starting_laws.specs.Starting.{no_chunk, StartKnows, StartRests}
 use Rattle.h5w_starting_laws.specs.StartFlushes.{IsStart, HasStartingPart, parts_for}
-use Rattle.h5w_starting_laws.proofs.StartLemmas.{created_bare, start_takes}
+use Rattle.h5w_starting_laws.proofs.StartLemmas.{created_blank, start_takes}
 use Rattle.h5w_starting_laws.proofs.StartPieceLemmas.{start_part}
 use Rattle.h5w_starting_laws.proofs.StartLeadLemmas.{start_leads}
 use Rattle.h5w_starting_examples.specs.UnnamedFlush.{open_to_write, opened_file, fourth_row, new_place}
@@ -55,7 +55,7 @@ chunk_taken_too = taken_from 240 618 with_chunk (disjoint_by with_chunk refl ref
 
 module _ (u h v w : Store) (ms : List Move) (cs fixed supers : List Write) (t : Space) (c : AreCalls u h v ms cs fixed w t) (ended : AreEnded open_to_write.super t.end supers) where
   knows : StartKnows opened_file data_name open_to_write (places_to 240) u
-  knows = record { knows = known; unnamed = record { kind = refl; address = refl }; bare = created_bare 546 248 u c.made (lit≤ tt) (lit≤ tt) }
+  knows = record { knows = known; unnamed = record { kind = refl; address = refl }; blank = created_blank 546 248 u c.made (lit≤ tt) (lit≤ tt) }
 
   rests : StartRests opened_file data_name open_to_write (places_to 240) (places_to 618) u
   rests = start_takes opened_file data_name open_to_write (places_to 240) (places_to 618) 546 248 u u knows blocks_taken c.made (lit≤ tt) (lit≤ tt)
@@ -75,7 +75,7 @@ module _ (u h v w : Store) (ms : List Move) (cs fixed supers : List Write) (t : 
   named_there = c.plan.map 1 ∙ c.named.map 1
 
   none_else : (i : ℕ) → i ≢ 1 → map_of w i ≡ undefined
-  none_else i ne = c.plan.map i ∙ c.named.map i ∙ cond-false (i == 1) 240 (map_of h i) (ne_eqb i 1 ne) ∙ c.held.map i ∙ knows.bare.map i
+  none_else i ne = c.plan.map i ∙ c.named.map i ∙ cond-false (i == 1) 240 (map_of h i) (ne_eqb i 1 ne) ∙ c.held.map i ∙ knows.blank.map i
 
   each_placed : (k : ℕ) (p : ChunkPlace) → slice_get new_place k ≡ Some p → IsPlaced (described_by 2 3 undefined) no_chunk (λ key. map_of w key.i) 3 k p
   each_placed zero p found = subst (λ (q : ChunkPlace). IsPlaced (described_by 2 3 undefined) no_chunk (λ key. map_of w key.i) 3 zero q) (some_place (record { address = 240; stored = false }) p found) (record {

@@ -81,7 +81,7 @@ module _ (img name : List ℕ) (m : Moment) (base b t : Space) (u v w : Store) (
       header_changed = is_marked v 846 (x.part.plan.before.marked index_block tt x.part.changed)
 
       go : (n < 845) ⊎ (n ≡ 845) ⊎ (n ≡ 846) → ⊥
-      go (inl h) = placed.placed (x.part.places n ∙ r.bare.unplaced n h)
+      go (inl h) = placed.placed (x.part.places n ∙ r.blank.unplaced n h)
       go (inr (inl e)) = let c = ap (λ j. times j v.changed) e in omega (arith, clean, c, index_changed)
       go (inr (inr e)) = let c = ap (λ j. times j v.changed) e in omega (arith, clean, c, header_changed)
 
@@ -116,7 +116,7 @@ module _ (img name : List ℕ) (m : Moment) (base b t : Space) (u v w : Store) (
 
   -- before it is planned its ranges are those of the new chunks
   chunks_alone : AreAmong (behind_of bytes v) chunks
-  chunks_alone = subst (λ (us : List Used). AreAmong (behind_of bytes v) us) (ap (λ (us : List Used). chunks ++ us) (r.bare.behind bytes) ∙ append-nil chunks) x.part.behind
+  chunks_alone = subst (λ (us : List Used). AreAmong (behind_of bytes v) us) (ap (λ (us : List Used). chunks ++ us) (r.blank.behind bytes) ∙ append-nil chunks) x.part.behind
 
   ends_by : AllEndBy t.end (behind_of bytes w)
   ends_by l a = go (among_split l (fresh ms) (behind_of bytes v) ((planned.behind bytes).among l a))

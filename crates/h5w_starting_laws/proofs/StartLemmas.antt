@@ -29,7 +29,7 @@ use Rattle.h5w_flush_laws.proofs.SpaceLemmas.{have_no_byte, apart_back, committe
 use Rattle.h5w_flush_laws.proofs.KnownLaws.{begin_knows, end_known}
 use Rattle.h5w_flush_laws.proofs.FlushLaws.{freed_known}
 use Rattle.h5w_array_flushes.proofs.ArrayRestLemmas.{standing_freed}
-use Rattle.h5w_starting_laws.specs.Starting.{no_chunk, IsUnnamed, IsBare, StartRests, UnnamedNowhere, CreatedBare, BareMap, BareHeld, StartBegins, StartOf, StartEnds, StartFreed, StartTakes, RestsStay}
+use Rattle.h5w_starting_laws.specs.Starting.{no_chunk, IsUnnamed, IsBlank, StartRests, UnnamedNowhere, CreatedBlank, BlankMap, BlankHeld, StartBegins, StartOf, StartEnds, StartFreed, StartTakes, RestsStay}
 
 -- ---- An index that is not there
 
@@ -55,8 +55,8 @@ unnamed_nowhere img name m r e =
 
 -- ---- An array that was just made
 
-pub created_bare : CreatedBare
-created_bare at place v c low lower =
+pub created_blank : CreatedBlank
+created_blank at place v c low lower =
     let starts = created_starts at place v c low lower in
     record {
       map = starts.map;
@@ -70,8 +70,8 @@ record IsHere (v : Store) (s : Space) (n : ℕ) : Type 0 where
   pub some : 0 < length (bytes_in v.blocks n)
 
 -- its two blocks stand apart, where their places are
-pub bare_standing : (base s : Space) (v : Store) → IsArray v → IsBare v → Taken base (fixed_of v) s → Standing v s
-bare_standing base s v a bare k = record {
+pub blank_standing : (base s : Space) (v : Store) → IsArray v → IsBlank v → Taken base (fixed_of v) s → Standing v s
+blank_standing base s v a blank k = record {
   live = λ n placed. (both n placed).live;
   some = λ n placed. (both n placed).some;
   apart = λ n j ne x y. apart n j ne x y (which_part v a n x) (which_part v a j y);
@@ -85,7 +85,7 @@ bare_standing base s v a bare k = record {
 
     both : (n : ℕ) → IsPlaced v n → IsHere v s n
     both n placed = elim (which_part v a n placed) as (λ _. IsHere v s n) [
-      | inl h ↦ absurd (placed.placed (bare.unplaced n h))
+      | inl h ↦ absurd (placed.placed (blank.unplaced n h))
       | inr h ↦ elim h as (λ _. IsHere v s n) [
         | inl e ↦ subst (IsHere v s) (sym e) (record { live = subst (IsLive s) (sym index) (k.live (block_at (place_at_part v index_block) eaib_len) (inr (inl refl))); some = omega (arith, index_length v a) })
         | inr e ↦ subst (IsHere v s) (sym e) (record { live = subst (IsLive s) (sym top) (k.live (block_at (header_place v) eahd_len) (inl refl)); some = omega (arith, header_length v a) })
@@ -99,8 +99,8 @@ bare_standing base s v a bare k = record {
         (have_no_byte (block_at (header_place v) eahd_len) (block_at (place_at_part v index_block) eaib_len) (k.apart.1 (block_at (place_at_part v index_block) eaib_len) (inl refl))))
 
     apart : (n j : ℕ) → (n ≡ j → ⊥) → IsPlaced v n → IsPlaced v j → (n < 845) ⊎ (n ≡ 845) ⊎ (n ≡ 846) → (j < 845) ⊎ (j ≡ 845) ⊎ (j ≡ 846) → Apart (range_of v n) (range_of v j)
-    apart n j ne x y (inl h) q = absurd (x.placed (bare.unplaced n h))
-    apart n j ne x y (inr p) (inl h) = absurd (y.placed (bare.unplaced j h))
+    apart n j ne x y (inl h) q = absurd (x.placed (blank.unplaced n h))
+    apart n j ne x y (inr p) (inl h) = absurd (y.placed (blank.unplaced j h))
     apart n j ne x y (inr (inl e)) (inr (inl f)) = absurd (ne (e ∙ sym f))
     apart n j ne x y (inr (inr e)) (inr (inr f)) = absurd (ne (e ∙ sym f))
     apart n j ne x y (inr (inr e)) (inr (inl f)) = subst (λ i. Apart (range_of v i) (range_of v j)) (sym e) (subst (λ i. Apart (range_of v 846) (range_of v i)) (sym f) two)
@@ -110,39 +110,39 @@ bare_standing base s v a bare k = record {
 -- ---- What is known
 
 pub start_begins : StartBegins
-start_begins img name m s v r unnamed layout begun bare = record {
+start_begins img name m s v r unnamed layout begun blank = record {
   knows = begin_knows img name m no_chunk s r (unnamed_nowhere img name m r unnamed.address).map begun (λ e. layout);
   unnamed = unnamed;
-  bare = bare;
+  blank = blank;
 }
 
-pub bare_map : BareMap
-bare_map v bare = λ j key. bare.map key.i j
+pub blank_map : BlankMap
+blank_map v blank = λ j key. blank.map key.i j
 
 pub start_of : StartOf
-start_of img name m address s v k unnamed bare same = record {
-  knows = subst (λ (f : Key → ℕ). Knows img name m f s) (λ j key. (same key ∙ bare.map key.i) j) k;
+start_of img name m address s v k unnamed blank same = record {
+  knows = subst (λ (f : Key → ℕ). Knows img name m f s) (λ j key. (same key ∙ blank.map key.i) j) k;
   unnamed = unnamed;
-  bare = bare;
+  blank = blank;
 }
 
 pub start_ends : StartEnds
 start_ends img name m n s v w r e fits = record {
   knows = end_known img name m n no_chunk s w r.knows e fits;
   unnamed = subst (λ (x : Moment). IsUnnamed x.dataset) (sym e.is) r.unnamed;
-  bare = r.bare;
+  blank = r.blank;
 }
 
 pub start_freed : StartFreed
-start_freed img name m s t v r c = record { knows = freed_known img name m no_chunk s t c r.knows; unnamed = r.unnamed; bare = r.bare }
+start_freed img name m s t v r c = record { knows = freed_known img name m no_chunk s t c r.knows; unnamed = r.unnamed; blank = r.blank }
 
 pub same_fixed : (v u : Store) → ((n : ℕ) → place_of u n ≡ place_of v n) → fixed_of u ≡ fixed_of v
 same_fixed v u places =
     ap (λ p. block_at p eahd_len ∷ block_at (place_at_part u index_block) eaib_len ∷ []) (places 846)
     ∙ ap (λ p. block_at (header_place v) eahd_len ∷ block_at p eaib_len ∷ []) (places 845)
 
-pub bare_held : BareHeld
-bare_held v u bare map places behind = record { map = λ i. map i ∙ bare.map i; unplaced = λ n h. places n ∙ bare.unplaced n h; behind = λ bytes. behind bytes ∙ bare.behind bytes }
+pub blank_held : BlankHeld
+blank_held v u blank map places behind = record { map = λ i. map i ∙ blank.map i; unplaced = λ n h. places n ∙ blank.unplaced n h; behind = λ bytes. behind bytes ∙ blank.behind bytes }
 
 -- ---- Where the two places are taken
 
@@ -151,15 +151,15 @@ start_takes img name m base s at place v u r taken created fits fits_too =
     let low : at < undefined = omega (arith, fits) in
     let lower : place < undefined = omega (arith, fits_too) in
     let array = (created_starts at place u created low lower).array in
-    let bare = created_bare at place u created low lower in
+    let blank = created_blank at place u created low lower in
     let here : Taken base (fixed_of u) s =
     subst (λ p. Taken base (block_at p eahd_len ∷ block_at (place_at_part u index_block) eaib_len ∷ []) s) (sym created.header_at)
     (subst (λ p. Taken base (block_at at eahd_len ∷ block_at p eaib_len ∷ []) s) (sym created.index_at) taken) in
     record {
-      start = record { knows = r.knows; unnamed = r.unnamed; bare = bare };
+      start = record { knows = r.knows; unnamed = r.unnamed; blank = blank };
       taken = here;
       array = array;
-      standing = bare_standing base s u array bare here;
+      standing = blank_standing base s u array blank here;
     }
 
 rests_freed : (img name : List ℕ) (m : Moment) (base s t : Space) (v : Store) → StartRests img name m base s v → Commits s t → StartRests img name m base t v
@@ -185,7 +185,7 @@ pub rests_stay : RestsStay
 rests_stay = record {
   ends = λ img name m n base s v w r e fits. record { start = start_ends img name m n base v w r.start e fits; taken = r.taken; array = r.array; standing = r.standing };
   held = λ img name m base s v u r array map places behind standing. record {
-    start = record { knows = r.start.knows; unnamed = r.start.unnamed; bare = bare_held v u r.start.bare map places behind };
+    start = record { knows = r.start.knows; unnamed = r.start.unnamed; blank = blank_held v u r.start.blank map places behind };
     taken = subst (λ (us : List Used). Taken base us s) (sym (same_fixed v u places)) r.taken;
     array = array;
     standing = standing r.standing;

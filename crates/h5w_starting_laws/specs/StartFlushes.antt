@@ -93,7 +93,7 @@ abbrev pub NamedChanged : Type 0
 NamedChanged = (u v : Store) (added : List ℕ) (i : ℕ) → IsArray v → All (λ j. (j < 131060) × (is_changed v (number_of (holder j)) ≡ true)) added
     → ((k : ℕ) → All (λ j. j ≢ k) added → map_of v k ≡ map_of u k) → map_of u i ≡ undefined → map_of v i ≢ undefined → is_changed v (number_of index_block) ≡ true
 
--- What a session shows of its array is what the array's calls give: of a bare store `u`, that when the chunks have their addresses, and its
+-- What a session shows of its array is what the array's calls give: of a blank store `u`, that when the chunks have their addresses, and its
 -- plan, whose copies are blocks.
 pub record HasStartingPart (m : Moment) (u v : Store) (s : Space) (ms : List Move) (w : Store) (t : Space) (chunks : List Used) (cs fixed : List Write) : Type 0 where
   pub copies : List (ℕ × List ℕ)

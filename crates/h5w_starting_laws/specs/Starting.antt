@@ -31,17 +31,17 @@ pub record IsUnnamed (d : Described) : Type 0 where
   pub address : d.layout.address ≡ undefined
 
 -- an array without chunks, of whose blocks the header and the index block alone have places
-pub record IsBare (v : Store) : Type 0 where
+pub record IsBlank (v : Store) : Type 0 where
   pub map : (i : ℕ) → map_of v i ≡ undefined
   pub unplaced : (n : ℕ) → n < 845 → place_of v n ≡ undefined
   pub behind : (bytes : ℕ) → behind_of bytes v ≡ []
 
--- What is known of such a file when nothing is pending: it is known as any other, and a bare array is kept for it, of which nothing is
+-- What is known of such a file when nothing is pending: it is known as any other, and a blank array is kept for it, of which nothing is
 -- written. Its places need not be taken yet.
 pub record StartKnows (img name : List ℕ) (m : Moment) (s : Space) (v : Store) : Type 0 where
   pub knows : Knows img name m no_chunk s
   pub unnamed : IsUnnamed m.dataset
-  pub bare : IsBare v
+  pub blank : IsBlank v
 
 -- The same where the places of the array's two blocks were taken, over the places `base`; `s` are those of now: the two are live, and meet
 -- nothing of the file.
@@ -62,21 +62,21 @@ pub record IsNowhere (img : List ℕ) (m : Moment) : Type 0 where
 abbrev pub UnnamedNowhere : Type 0
 UnnamedNowhere = (img name : List ℕ) (m : Moment) → Represents img name m → m.dataset.layout.address ≡ undefined → IsNowhere img m
 
--- An array that was just made is bare.
-abbrev pub CreatedBare : Type 0
-CreatedBare = (at place : ℕ) (v : Store) → IsCreated at place v → at < undefined → place < undefined → IsBare v
+-- An array that was just made is blank.
+abbrev pub CreatedBlank : Type 0
+CreatedBlank = (at place : ℕ) (v : Store) → IsCreated at place v → at < undefined → place < undefined → IsBlank v
 
 -- It is the map of the index that is not there.
-abbrev pub BareMap : Type 0
-BareMap = (v : Store) → IsBare v → ◌≡◌ {A = Key → ℕ} (λ key. map_of v key.i) no_chunk
+abbrev pub BlankMap : Type 0
+BlankMap = (v : Store) → IsBlank v → ◌≡◌ {A = Key → ℕ} (λ key. map_of v key.i) no_chunk
 
 -- A session begins with such a file: the places begin at its end.
 abbrev pub StartBegins : Type 0
-StartBegins = (img name : List ℕ) (m : Moment) (s : Space) (v : Store) → Represents img name m → IsUnnamed m.dataset → LayoutInChunk0 img m.place → IsBegun m s → IsBare v → StartKnows img name m s v
+StartBegins = (img name : List ℕ) (m : Moment) (s : Space) (v : Store) → Represents img name m → IsUnnamed m.dataset → LayoutInChunk0 img m.place → IsBegun m s → IsBlank v → StartKnows img name m s v
 
--- A file that is known by the map of a bare array is known so.
+-- A file that is known by the map of a blank array is known so.
 abbrev pub StartOf : Type 0
-StartOf = (img name : List ℕ) (m : Moment) (address : Key → ℕ) (s : Space) (v : Store) → Knows img name m address s → IsUnnamed m.dataset → IsBare v → ((key : Key) → address key ≡ map_of v key.i) → StartKnows img name m s v
+StartOf = (img name : List ℕ) (m : Moment) (address : Key → ℕ) (s : Space) (v : Store) → Knows img name m address s → IsUnnamed m.dataset → IsBlank v → ((key : Key) → address key ≡ map_of v key.i) → StartKnows img name m s v
 
 -- The superblock with other flags leaves that known.
 abbrev pub StartEnds : Type 0
@@ -86,9 +86,9 @@ StartEnds = (img name : List ℕ) (m n : Moment) (s : Space) (v : Store) (w : Wr
 abbrev pub StartFreed : Type 0
 StartFreed = (img name : List ℕ) (m : Moment) (s t : Space) (v : Store) → StartKnows img name m s v → Commits s t → StartKnows img name m t v
 
--- A change of a bare array that leaves its map, its places and its ranges leaves it bare, as where blocks are held and then memory runs out.
-abbrev pub BareHeld : Type 0
-BareHeld = (v u : Store) → IsBare v → ((i : ℕ) → map_of u i ≡ map_of v i) → ((n : ℕ) → place_of u n ≡ place_of v n) → ((bytes : ℕ) → behind_of bytes u ≡ behind_of bytes v) → IsBare u
+-- A change of a blank array that leaves its map, its places and its ranges leaves it blank, as where blocks are held and then memory runs out.
+abbrev pub BlankHeld : Type 0
+BlankHeld = (v u : Store) → IsBlank v → ((i : ℕ) → map_of u i ≡ map_of v i) → ((n : ℕ) → place_of u n ≡ place_of v n) → ((bytes : ℕ) → behind_of bytes u ≡ behind_of bytes v) → IsBlank u
 
 -- Two places are taken, and an array is made there.
 abbrev pub StartTakes : Type 0

@@ -12,6 +12,6 @@ pub use flushes::{
     start_runs,
 };
 pub use starting::{
-    bare_held, bare_map, created_bare, rests_stay, start_begins, start_ends, start_freed, start_of,
-    start_takes, taken_again, unnamed_nowhere,
+    blank_held, blank_map, created_blank, rests_stay, start_begins, start_ends, start_freed,
+    start_of, start_takes, taken_again, unnamed_nowhere,
 };

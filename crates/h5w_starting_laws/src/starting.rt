@@ -1,6 +1,6 @@
 //! What a session knows of a file whose array is not there yet.
 
-ghost use Rattle.h5w_starting_laws.specs.Starting.{BareHeld, BareMap, CreatedBare, RestsStay, StartBegins, StartEnds, StartFreed, StartOf, StartTakes, TakenAgain, UnnamedNowhere};
+ghost use Rattle.h5w_starting_laws.specs.Starting.{BlankHeld, BlankMap, CreatedBlank, RestsStay, StartBegins, StartEnds, StartFreed, StartOf, StartTakes, TakenAgain, UnnamedNowhere};
 
 /// An index that the layout does not name has no ranges, and by it no chunk has an address.
 pub fn unnamed_nowhere()
@@ -8,18 +8,18 @@ pub fn unnamed_nowhere()
 {}
 
 /// An array that was just made has no chunks, and places for its header and its index block alone.
-pub fn created_bare()
-    ensures { CreatedBare }
+pub fn created_blank()
+    ensures { CreatedBlank }
 {}
 
 /// The map of such an array is that of an index that is not there.
-pub fn bare_map()
-    ensures { BareMap }
+pub fn blank_map()
+    ensures { BlankMap }
 {}
 
 /// It stays such a one where blocks are held and no chunk is named.
-pub fn bare_held()
-    ensures { BareHeld }
+pub fn blank_held()
+    ensures { BlankHeld }
 {}
 
 /// What a session knows of such a file that begins with it.
