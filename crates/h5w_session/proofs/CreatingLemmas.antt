@@ -23,7 +23,7 @@ use Rattle.h5w_array_laws.proofs.CreatedLemmas.{created_starts}
 use Rattle.h5w_flush_laws.proofs.KnownLaws.{begin_knows}
 use Rattle.h5w_session.specs.Sessions.{Session, AfterPiece, Freed, rows_of}
 use Rattle.h5w_session.specs.Creations.{IsNewFile, NewFile, array_place, created, creation_writes, first_end, index_place, log_of, new_array, new_dataset, places_to}
-use Rattle.h5w_session.specs.Indexes.{IsIndexed}
+use Rattle.h5w_session.specs.Indexes.{IsIndexed, IsOwn}
 use Rattle.h5w_session.specs.Stands.{Creating, Running, Stands}
 use Rattle.h5w_session.proofs.ArrayStarts.{new_array_is}
 use Rattle.h5w_session.proofs.CreatedLemmas.{IsCreatedFile, created_file, first_end_small, fixed_are, new_image, new_moment, no_chunks}
@@ -128,6 +128,15 @@ new_indexed f img t is made ends none_free none_retired =
       map = λ key. sym (starts.map key.i);
     }
 
+-- it is one as it is made here
+pub new_own : (f : NewFile) → IsNewFile f → IsOwn (new_array (array_place f) (index_place f))
+new_own f is =
+    let at = array_place f in
+    let place = index_place f in
+    let small = first_end_small f is in
+    let starts = created_starts at place (new_array at place) (new_array_is at place) (omega arith) (omega arith) in
+    record { headed = starts.headed; numbered = starts.numbered }
+
 -- the last of them makes the file
 file_made : (f : NewFile) (ws : List Write) (stop keep : Bool) (w : Write) (es : List Happening) (t : Space) → IsNewFile f → Freed keep (places_to (first_end f) f.limit) t → hist es ++ w ∷ [] ≡ creation_writes f
     → appended_in es ≡ [] → ((k : ℕ) → flushed_in k [] es ≡ []) → Running (settled (creating f ws stop keep) t) [] (log_of (shows w ∷ es))
@@ -158,7 +167,7 @@ file_made f ws stop keep w es t is freed pieces none_appended none_flushed =
       appended = sym none_appended;
       committed = goes_rows f.name next m [] goes;
       columns = refl;
-      past = past_begins f (settled (creating f ws stop keep) t) next m is refl pieces refl refl refl kept.1 kept.0 (first_end_small f is) (created_pieces f is).within made.represents (no_chunks f is);
+      past = past_begins f (settled (creating f ws stop keep) t) next m is refl pieces refl refl refl kept.1 kept.0 (first_end_small f is) (created_pieces f is).within made.represents (no_chunks f is) (new_own f is);
     }
 
 creating_last : (f : NewFile) (s : Session) (w : Write) (log : Log) (t : Space) → Freed s.keeps s.places t → Creating f s (w ∷ []) log → Running (settled s t) [] (and_now (shows w) log)
@@ -240,7 +249,7 @@ keep_stands s log st = record {
       appended = r.appended;
       committed = r.committed;
       columns = r.columns;
-      past = past_same s (record s { keeps = true }) st.left log r.after (record { name = refl; place = refl; dataset = refl; limit = refl }) refl r.past;
+      past = past_same s (record s { keeps = true }) st.left log r.after (record { name = refl; place = refl; dataset = refl; limit = refl; own = λ o. o }) refl r.past;
     })
   ];
   prefixed = st.prefixed;

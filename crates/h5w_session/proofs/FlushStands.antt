@@ -117,7 +117,7 @@ refused_running old new log b r = record {
   appended = r.appended;
   committed = r.committed;
   columns = r.columns;
-  past = past_same old (record old { index = new.index }) [] log r.after (record { name = refl; place = refl; dataset = refl; limit = refl }) refl r.past;
+  past = past_same old (record old { index = new.index }) [] log r.after (record { name = refl; place = refl; dataset = refl; limit = refl; own = b.own }) refl r.past;
 }
 
 pub refused_stands : (old new : Session) (log : Log) → SameBut old new → old.stopped ≡ false → old.pending ≡ [] → Stands old log → Stands new log

@@ -1,6 +1,10 @@
 -- What a session's relation to its log gives.
-use Rattle.std.proofs.Common.{◌≡◌, ◌⊎◌, ℕ, suc, ◌^◌, ◌≤◌, false, nat_lt, List, [], ◌∷◌, length, take, Ok, Err, refl, ap, sym, ◌∙◌, subst, inl, inr, arith}
-use Rattle.std.proofs.lemmas.Bool.{cond-false, le-ltb, ltb-false}
+use Rattle.std.proofs.Common.{◌≡◌, ◌⊎◌, ℕ, suc, ◌^◌, ◌≤◌, false, nat_lt, List, [], ◌∷◌, length, take, Option, Ok, Err, refl, ap, sym, ◌∙◌, subst, inl, inr, arith}
+use Rattle.std.proofs.lemmas.Bool.{cases_lt, cond-false, le-ltb, lt-ltb, ltb-false}
+use Rattle.std.specs.Prelude.{IsSome}
+use Rattle.h5w_model.specs.Arrays.{numbers_in}
+use Rattle.h5w_model.specs.Images.{At}
+use Rattle.h5w_model.specs.Numbers.{range}
 use Rattle.h5w_model.specs.Programs.{Visit, eval, ret, and_then, visits}
 use Rattle.h5w_model.specs.Logs.{Log, Happening, flushed, hist, rows_in, shown}
 use Rattle.h5w_model.specs.Datasets.{Described, dataset, dataset_place, root_header, root_view}
@@ -18,14 +22,24 @@ use Rattle.h5w_steps.specs.Moments.{Moment, Represents, reading_of}
 use Rattle.h5w_steps.proofs.FoundLemmas.{moment_shows, opens, shown_is}
 use Rattle.h5w_steps.proofs.GoesLemmas.{reads_now}
 use Rattle.h5w_steps.proofs.MomentLemmas.{few}
+use Rattle.h5w_steps.specs.Logs.{image_now}
+use Rattle.h5w_cache.specs.Blocks.{BlockView}
+use Rattle.h5w_cache.specs.Plans.{bytes_of}
+use Rattle.h5w_cache.specs.StoreLaws.{AreThere}
+use Rattle.h5w_cache.specs.Stores.{Store, times}
+use Rattle.h5w_array_laws.specs.Parts.{IsPart, Part, header, number_of}
+use Rattle.h5w_array_laws.specs.ArrayStores.{IsArray, IsBlock, IsWhole, block_at_part, bytes_at_part, header_place, place_at_part}
+use Rattle.h5w_array_laws.proofs.KeptLemmas.{is_some_of, of_some}
+use Rattle.h5w_flush_laws.specs.Knowledge.{IsMap}
 use Rattle.h5w_session.specs.Creations.{NewFile, array_place, new_dataset, root_place}
-use Rattle.h5w_session.specs.Laws.{IsDatasetOf, RoomStays, ShownLaws, StandingLaws}
+use Rattle.h5w_session.specs.Indexes.{AreMarks, IsOwn, address_in}
+use Rattle.h5w_session.specs.Laws.{IsDatasetOf, RoomStays, SaysNumbers, ShownLaws, StandingLaws}
 use Rattle.h5w_session.specs.Past.{HasCreated, HasOpened, IsNew, Past, most_of}
-use Rattle.h5w_session.specs.Sessions.{Session, chunk_limit, with_rows}
+use Rattle.h5w_session.specs.Sessions.{Session, chunk_limit, rows_of, with_rows}
 use Rattle.h5w_session.specs.Stands.{Creating, Running, Stands}
 use Rattle.h5w_session.proofs.BeginLemmas.{beginning, since_first}
 use Rattle.h5w_session.proofs.CreatedLemmas.{first_end_small, new_image, new_moment}
-use Rattle.h5w_session.proofs.CreatingLemmas.{committed_told, rows_told, shown_so_far, some_length}
+use Rattle.h5w_session.proofs.CreatingLemmas.{committed_told, new_own, rows_told, shown_so_far, some_length}
 use Rattle.h5w_session.proofs.PastLemmas.{ends_front, ends_take, image_ends, new_end}
 use Rattle.h5w_session.proofs.StandLemmas.{freed_keeps, goes_rows, left_running, resting}
 
@@ -238,6 +252,51 @@ image_fits s log p st new at =
     let ends = image_ends most log.start (take p (hist log.events)) (omega (arith, ap length start)) (ends_take most p (hist log.events) (ends_front most (hist log.events) st.left past.ends)) in
     omega (arith, ends, new_end log new, past.limit_low)
 
+-- ---- The array
+
+-- it is one as it is made here
+own_index : (s : Session) (log : Log) → Stands s log → IsNew log → IsOwn s.index
+own_index s log st new =
+    elim st.phase [
+      | inl c ↦ subst IsOwn (sym (ap (λ (x : Session). x.index) c.1.session)) (new_own c.0 c.1.is)
+      | inr r ↦ r.past.own new
+    ]
+
+-- where no rows wait no block of it changed
+none_changed : (s : Session) (n : ℕ) → s.waits ≡ 0 → AreMarks s.dataset s.dataset.shape.rows (rows_of s) s.index → times n s.index.changed ≡ 0
+none_changed s n none marks =
+    elim (cases_lt 0 (times n s.index.changed)) [
+      | inl some ↦ let way = marks n (lt-ltb 0 (times n s.index.changed) some) in absurd (omega (arith, way.1.some, none))
+      | inr few ↦ omega arith
+    ]
+
+kept_there : (v : Store) (img : List ℕ) (k : Part) → IsArray v → AreThere v img → times (number_of k) v.changed ≡ 0 → IsPart k → IsSome (block_at_part v k) → At img (place_at_part v k) (bytes_at_part v k)
+kept_there v img k is there clean part some =
+    let b = is_some_of (block_at_part v k) some in
+    let whole : IsWhole v k b.0 = of_some (IsWhole v k) (block_at_part v k) b.0 b.1 (is.whole k part (ap (nat_lt 0) clean)) in
+    there (number_of k) (record { kept = some; placed = whole.placed }) clean
+
+says_numbers : (s : Session) (log : Log) → Stands s log → IsNew log → s.stopped ≡ false → s.pending ≡ [] → s.waits ≡ 0 → SaysNumbers s (image_now log)
+says_numbers s log st new running idle none =
+    let r = at_rest s log st running idle in
+    let v = s.index in
+    let img = image_now log in
+    let own = r.past.own new in
+    let is = r.index.array in
+    let top = is_some_of (block_at_part v header) (is.in_place header tt refl).0 in
+    let there : (k : Part) → IsPart k → IsSome (block_at_part v k) → At img (place_at_part v k) (bytes_at_part v k) =
+    λ k part some. kept_there v img k is r.index.stands.there (none_changed s (number_of k) none r.marks) part some in
+    let len : length (bytes_at_part v header) ≡ 72 = ap (λ (o : Option BlockView). length (bytes_of o)) top.1 ∙ (of_some (IsBlock header) (block_at_part v header) top.0 top.1 (is.each header tt)).len in
+    record {
+      address = ap (λ (d : Described). d.layout.address) (sym r.keeps.dataset) ∙ r.index.at;
+      map = subst (λ (d : Described). IsMap img d (address_in v)) r.keeps.dataset
+          (record { blocks = r.knows.index.blocks; read = r.knows.index.read; answers = λ key named. r.knows.index.answers key named ∙ ap (λ (a : ℕ). Ok a) (r.index.map key) });
+      there = there;
+      most = own.numbered.max;
+      greatest = own.numbered.greatest;
+      six = ap (λ (b : List ℕ). numbers_in b 6 12) (ap (range img (header_place v)) (sym len) ∙ there header tt (is.in_place header tt refl).0) ∙ own.numbered.six;
+    }
+
 pub shown_laws : ShownLaws
 shown_laws = record {
   dataset = dataset_is;
@@ -248,6 +307,8 @@ shown_laws = record {
   root_header = root_one;
   dataset_header = header_alone;
   fits = image_fits;
+  own = own_index;
+  numbers = says_numbers;
 }
 
 -- ---- Room

@@ -22,10 +22,11 @@ use Rattle.h5w_chunks.specs.Shares.{touched}
 use Rattle.h5w_chunks.proofs.Geometry.{IsCut, lt_up}
 use Rattle.h5w_array_laws.specs.Parts.{IsPart, Part, data_of, header, index_block, length_of, secondary_of}
 use Rattle.h5w_array_laws.specs.ArrayStores.{IsArray}
+use Rattle.h5w_array_laws.proofs.NumberedLemmas.{plans_numbers}
 use Rattle.h5w_array_laws.proofs.PlanLemmas.{block_known}
 use Rattle.h5w_flush_laws.specs.Parts.{AreEnded}
 use Rattle.h5w_session.specs.Flushes.{AreWays, IsFlushed, flushed_of, header_piece}
-use Rattle.h5w_session.specs.Indexes.{AreMarks}
+use Rattle.h5w_session.specs.Indexes.{AreMarks, IsOwn}
 use Rattle.h5w_session.specs.Loads.{IsRaised, NoPlace, first_end_of}
 use Rattle.h5w_session.specs.Past.{IsCounted, Past}
 use Rattle.h5w_session.specs.Refusals.{IsFullFor}
@@ -140,14 +141,24 @@ supers_few : (s : Super) (e : ℕ) (ws : List Write) → AreEnded s e ws → len
 supers_few s e [] ended = omega arith
 supers_few s e (w ∷ ws) ended = omega (arith, ap length ended.1)
 
-like_flushed : (old new : Session) → new ≡ flushed_of old new.places new.pending new.index → new.places.limit ≡ old.places.limit → IsLike old new
-like_flushed old new e limit =
+like_flushed : (old new : Session) → new ≡ flushed_of old new.places new.pending new.index → new.places.limit ≡ old.places.limit → (IsOwn old.index → IsOwn new.index) → IsLike old new
+like_flushed old new e limit own =
     let same : new.dataset ≡ with_rows (rows_of old) old.dataset = ap (λ (t : Session). t.dataset) e in
     record {
       name = ap (λ (t : Session). t.name) e;
       place = ap (λ (t : Session). t.place) e;
       dataset = same ∙ ap (λ (d : Described). with_rows d.shape.rows old.dataset) (sym same);
       limit = limit;
+      own = own;
+    }
+
+-- a flush leaves an array as it is made here
+own_flushed : (old new : Session) → IsFlushed old new → IsOwn old.index → IsOwn new.index
+own_flushed old new x o =
+    let named = x.named.own o in
+    record {
+      headed = x.plan.headed named.headed;
+      numbered = plans_numbers x.held x.between x.moves x.copies x.fixed new.index new.places x.plan x.named.array named.numbered;
     }
 
 module _ (old new : Session) (log : Log) (x : IsFlushed old new) (running : old.stopped ≡ false) (idle : old.pending ≡ []) (st : Stands old log) (r : Running old [] log) where
@@ -201,7 +212,7 @@ module _ (old new : Session) (log : Log) (x : IsFlushed old new) (running : old.
   -- what it keeps of the past
   pub past_flushed : AllEndBy new.places.end new.pending → Past new new.pending (and_now (plans (length new.pending)) log) (after_flush old new log x r)
   past_flushed within =
-      past_planned old new (length new.pending) new.pending log r.after (after_flush old new log x r) (like_flushed old new x.session flush_raised.limit) flush_raised within (λ new_log. next_addressed old new log x r new_log) r.past
+      past_planned old new (length new.pending) new.pending log r.after (after_flush old new log x r) (like_flushed old new x.session flush_raised.limit (own_flushed old new x)) flush_raised within (λ new_log. next_addressed old new log x r new_log) r.past
 
 -- the pieces of a flush, and what is left of the relation to the log
 pub flush_bound : (old new : Session) (log : Log) → IsFlushed old new → old.stopped ≡ false → old.pending ≡ [] → Stands old log → length new.pending ≤ load (cutting_of old) log

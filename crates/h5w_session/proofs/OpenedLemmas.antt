@@ -43,6 +43,7 @@ module _ (s : Session) (img : List ℕ) (rows columns : ℕ) (values : List ℤ)
         limit_high = b.limit_high;
         addressed = λ new. not_new new;
         next = λ new. not_new new;
+        own = λ new. not_new new;
         grew = omega (arith, b.end, end);
         fits = omega (arith, b.end, end);
         ends = tt;

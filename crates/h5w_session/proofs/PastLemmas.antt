@@ -22,6 +22,7 @@ use Rattle.h5w_steps.proofs.FoundLemmas.{moment_shows}
 use Rattle.h5w_steps.proofs.GoesLemmas.{image_last, image_pushed}
 use Rattle.h5w_steps.proofs.StepRepresents.{step_represents}
 use Rattle.h5w_session.specs.Creations.{IsNewFile, NewFile, creation_writes, first_end, header_place, log_of, new_dataset}
+use Rattle.h5w_session.specs.Indexes.{IsOwn}
 use Rattle.h5w_session.specs.Loads.{IsRaised, first_end_of}
 use Rattle.h5w_session.specs.Past.{AllAddressed, HasCreated, HasOpened, IsCounted, IsNew, Past, most_of}
 use Rattle.h5w_session.specs.Sessions.{Session, AllEndBy, cutting_of, with_rows}
@@ -57,15 +58,16 @@ spent_in-events c log other (shows w ∷ es) = spent_in-events c log other es
 
 -- ---- How the log began
 
--- another session with the same name, place, limit and dataset, but for its rows
+-- another session with the same name, place, limit and dataset, but for its rows, whose array is one as it is made here where it was before
 pub record IsLike (s t : Session) : Type 0 where
   pub name : t.name ≡ s.name
   pub place : t.place ≡ s.place
   pub dataset : t.dataset ≡ with_rows t.dataset.shape.rows s.dataset
   pub limit : t.places.limit ≡ s.places.limit
+  pub own : IsOwn s.index → IsOwn t.index
 
 pub like_itself : (s : Session) → IsLike s s
-like_itself s = record { name = refl; place = refl; dataset = refl; limit = refl }
+like_itself s = record { name = refl; place = refl; dataset = refl; limit = refl; own = λ o. o }
 
 first_kept : (f : NewFile) (e : Happening) (es : List Happening) → take 5 (hist es) ≡ creation_writes f → take 5 (hist (e ∷ es)) ≡ creation_writes f
 first_kept f (appends vs) es pieces = pieces
@@ -166,6 +168,7 @@ past_values s t vs log m like end past =
       limit_high = omega (arith, past.limit_high, like.limit);
       addressed = λ new. subst (λ (name : List ℕ). EachAddressed name (and_now e log)) (sym like.name) (same_positions e log s.name refl (past.addressed (new_before e log new)));
       next = λ new. past.next (new_before e log new);
+      own = λ new. like.own (past.own (new_before e log new));
       grew =
           let more = spent_in-events (cutting_of s) log (e ∷ log.events) log.events in
           grew_alike s t log like (and_now e log) s.places.end (omega (arith, past.grew, more)) end;
@@ -186,6 +189,7 @@ past_planned s t k ws log m n like raised within next past =
       limit_high = omega (arith, past.limit_high, like.limit);
       addressed = λ new. subst (λ (name : List ℕ). EachAddressed name (and_now e log)) (sym like.name) (same_positions e log s.name refl (past.addressed (new_before e log new)));
       next = λ new. next (new_before e log new);
+      own = λ new. like.own (past.own (new_before e log new));
       grew =
           let more = spent_in-events (cutting_of s) log (e ∷ log.events) log.events in
           grew_alike s t log like (and_now e log) t.places.end (omega (arith, past.grew, raised.bound, more)) refl;
@@ -202,6 +206,7 @@ past_more s t ws log m n like end fits same past = record {
   limit_high = omega (arith, past.limit_high, like.limit);
   addressed = λ new. subst (λ (name : List ℕ). EachAddressed name log) (sym like.name) (past.addressed new);
   next = λ new. subst AllAddressed (sym same) (past.next new);
+  own = λ new. like.own (past.own new);
   grew = grew_alike s t log like log s.places.end past.grew end;
   fits = fits_alike s t log like s.places.end past.fits end;
   ends = ends_joined (most_of t log) (hist log.events) ws (ends_alike s t log like (hist log.events) (ends_front (most_of s log) (hist log.events) [] past.ends)) (ends_later t.places.limit (most_of t log) ws (omega arith) fits);
@@ -216,6 +221,7 @@ past_same s t ws log m like end past = record {
   limit_high = omega (arith, past.limit_high, like.limit);
   addressed = λ new. subst (λ (name : List ℕ). EachAddressed name log) (sym like.name) (past.addressed new);
   next = past.next;
+  own = λ new. like.own (past.own new);
   grew = grew_alike s t log like log s.places.end past.grew end;
   fits = fits_alike s t log like s.places.end past.fits end;
   ends = ends_alike s t log like (hist log.events ++ ws) past.ends;
@@ -260,6 +266,7 @@ past_shown s t w ws log n like end r past =
       limit_high = omega (arith, past.limit_high, like.limit);
       addressed = λ new. subst (λ (name : List ℕ). EachAddressed name next) (sym like.name) (addressed (new_before e log new));
       next = λ new. past.next (new_before e log new);
+      own = λ new. like.own (past.own (new_before e log new));
       grew =
           let more = spent_in-events (cutting_of s) log (e ∷ log.events) log.events in
           grew_alike s t log like next s.places.end (omega (arith, past.grew, more)) end;
@@ -285,8 +292,8 @@ pub new_end : (log : Log) → IsNew log → first_end_of log ≡ 1024
 new_end log is = ap first_end_of is
 
 pub past_begins : (f : NewFile) (s : Session) (log : Log) (m : Moment) → IsNewFile f → log ≡ log_of log.events → hist log.events ≡ creation_writes f → s.name ≡ f.name → s.place ≡ header_place f → s.dataset ≡ new_dataset f
-    → s.places.limit ≡ f.limit → s.places.end ≡ first_end f → first_end f ≤ 700 → AllEndBy (first_end f) (creation_writes f) → Represents (image_now log) s.name m → needed m.dataset ≡ 0 → Past s [] log m
-past_begins f s log m is log_is pieces name place dataset limit end small fits here none =
+    → s.places.limit ≡ f.limit → s.places.end ≡ first_end f → first_end f ≤ 700 → AllEndBy (first_end f) (creation_writes f) → Represents (image_now log) s.name m → needed m.dataset ≡ 0 → IsOwn s.index → Past s [] log m
+past_begins f s log m is log_is pieces name place dataset limit end small fits here none own =
     let first : log.first ≡ 5 = ap (λ (l : Log). l.first) log_is in
     let count : length (hist log.events) ≡ 5 = ap length pieces in
     let nothing : AllAddressed (reading_of m) = λ k below. absurd (omega (arith, below, none)) in
@@ -309,6 +316,7 @@ past_begins f s log m is log_is pieces name place dataset limit end small fits h
           let now : shown log.events ≤ p = omega (arith, length_hist log.events, count, first, at.begun) in
           shown_addressed (image_now log) s.name m r here nothing (subst (λ (i : List ℕ). Shows format_limits i s.name r) (image_last log p now) seen);
       next = λ new. nothing;
+      own = λ new. own;
       grew = omega (arith, end, small, new_end log log_is);
       fits = omega (arith, small, end, most);
       ends =

@@ -20,7 +20,7 @@ use Rattle.h5w_chunks.specs.Shares.{touched}
 use Rattle.h5w_chunks.specs.declared.grid.ChunkPlace.{ChunkPlace}
 use Rattle.h5w_array_laws.specs.Among.{AreAmong}
 use Rattle.h5w_array_laws.specs.Parts.{header, holder, index_block, number_of, parent}
-use Rattle.h5w_array_laws.specs.ArrayStores.{IsArray, behind_of, map_of}
+use Rattle.h5w_array_laws.specs.ArrayStores.{IsArray, IsNumbered, behind_of, map_of}
 use Rattle.h5w_array_laws.proofs.AmongLemmas.{part_itself, part_joined, part_onward}
 use Rattle.h5w_ea_index.specs.Steps.{IsHeld, IsSet, IsSlotOrHeader, IsUnset, OnWay, Touches}
 use Rattle.h5w_ea_index.proofs.PartLemmas.{held_at}
@@ -101,14 +101,15 @@ partly_none d to v is = record {
   stands = λ img h. h;
   marks = λ n h. h;
   headed = λ h. h;
+  numbered = λ h. h;
   ways = λ n h. inl h;
 }
 
 slots_stay : (v w : Store) (added : List ℕ) → ((n : ℕ) → is_changed v n ≡ true → is_changed w n ≡ true) → All (HasSlot v) added → All (HasSlot w) added
 slots_stay v w added marks slots = All-weaker (HasSlot v) (HasSlot w) (λ i h. record { below = h.below; held = marks (number_of (holder i)) h.held }) added slots
 
-pub partly_held : (d : Described) (to : ℕ) (v w u : Store) (added : List ℕ) (i : ℕ) → IsTouched d d.shape.rows to i → IsHeld w u → Touches (OnWay (holder i)) w u → IsArray u → IsPartly d to v added w → IsPartly d to v added u
-partly_held d to v w u added i touches h way is p = record {
+pub partly_held : (d : Described) (to : ℕ) (v w u : Store) (added : List ℕ) (i : ℕ) → IsTouched d d.shape.rows to i → IsHeld w u → Touches (OnWay (holder i)) w u → IsArray u → (IsNumbered w → IsNumbered u) → IsPartly d to v added w → IsPartly d to v added u
+partly_held d to v w u added i touches h way is six p = record {
   array = is;
   slots = slots_stay w u added h.marks p.slots;
   absent = p.absent;
@@ -118,6 +119,7 @@ partly_held d to v w u added i touches h way is p = record {
   stands = λ img st. h.stands img (p.stands img st);
   marks = λ n c. h.marks n (p.marks n c);
   headed = λ hd. h.headed (p.headed hd);
+  numbered = λ nm. six (p.numbered nm);
   ways = λ n c.
       let k = holder i in
       let on = on_way i n in
@@ -129,8 +131,8 @@ partly_held d to v w u added i touches h way is p = record {
 
 -- a chunk gets an address in a block that is held
 pub partly_set : (d : Described) (to : ℕ) (v w u : Store) (added : List ℕ) (i x : ℕ) → IsTouched d d.shape.rows to i → i < 131060 → is_changed w (number_of (holder i)) ≡ true → map_of v i ≡ undefined
-    → IsSet i x w u → Touches (IsSlotOrHeader i) w u → IsArray u → IsPartly d to v added w → IsPartly d to v (added ++ i ∷ []) u
-partly_set d to v w u added i x touches below held none set way is p = record {
+    → IsSet i x w u → Touches (IsSlotOrHeader i) w u → IsArray u → (IsNumbered w → IsNumbered u) → IsPartly d to v added w → IsPartly d to v (added ++ i ∷ []) u
+partly_set d to v w u added i x touches below held none set way is six p = record {
   array = is;
   slots = All-push (HasSlot u) added i (slots_stay w u added set.marks p.slots) (record { below = below; held = set.marks (number_of (holder i)) held });
   absent = All-push (λ a. map_of v a ≡ undefined) added i p.absent none;
@@ -142,6 +144,7 @@ partly_set d to v w u added i x touches below held none set way is p = record {
   stands = λ img st. set.stands img (p.stands img st);
   marks = λ n c. set.marks n (p.marks n c);
   headed = λ hd. set.headed (p.headed hd);
+  numbered = λ nm. six (p.numbered nm);
   ways = λ n c.
       elim (by_touch (IsSlotOrHeader i) w u n (slot_or_header i n) way c) [
         | inl here ↦ inr (i, touches, slot_way i n here)
@@ -150,8 +153,8 @@ partly_set d to v w u added i x touches below held none set way is p = record {
 }
 
 -- it has none again
-pub partly_unset : (d : Described) (to : ℕ) (v w u : Store) (added : List ℕ) (i : ℕ) → IsUnset i w u → Touches (IsSlotOrHeader i) w u → IsArray u → IsPartly d to v (i ∷ added) w → IsPartly d to v added u
-partly_unset d to v w u added i unset way is p =
+pub partly_unset : (d : Described) (to : ℕ) (v w u : Store) (added : List ℕ) (i : ℕ) → IsUnset i w u → Touches (IsSlotOrHeader i) w u → IsArray u → (IsNumbered w → IsNumbered u) → IsPartly d to v (i ∷ added) w → IsPartly d to v added u
+partly_unset d to v w u added i unset way is six p =
     let slot : HasSlot w i = All-head (HasSlot w) i added p.slots in
     let part = (held_at i slot.below).part in
     let top : is_changed w (number_of header) ≡ true = top_changed w (holder i) part p.array slot.held in
@@ -169,6 +172,7 @@ partly_unset d to v w u added i unset way is p =
       stands = λ img st. unset.stands img (p.stands img st);
       marks = λ n c. unset.marks n (p.marks n c);
       headed = λ hd. unset.headed (p.headed hd);
+      numbered = λ nm. six (p.numbered nm);
       ways = λ n c.
           elim (by_touch (IsSlotOrHeader i) w u n (slot_or_header i n) way c) [
             | inl (inl e) ↦ p.ways n (ap (is_changed w) e ∙ slot.held)
@@ -185,7 +189,7 @@ partly_kept d to v w p =
 
 -- so a refused flush leaves the session
 pub same_but : (old new : Session) → new ≡ record old { index = new.index } → IsPartly old.dataset (rows_of old) old.index [] new.index → SameBut old new
-same_but old new is p = record { session = is; array = p.array; held = partly_kept old.dataset (rows_of old) old.index new.index p; ways = p.ways }
+same_but old new is p = record { session = is; array = p.array; held = partly_kept old.dataset (rows_of old) old.index new.index p; own = λ o. record { headed = p.headed o.headed; numbered = p.numbered o.numbered }; ways = p.ways }
 
 -- ---- Chunks get their places
 
@@ -276,8 +280,8 @@ turn c us vs = record { among = there; counts = λ q. omega (arith, count_append
 -- The next chunk has none: the blocks on the way to its slot are held, a place is taken, and the array names it.
 module _ (d : Described) (to : ℕ) (v w h u : Store) (s t next : Space) (chunks : List ChunkPlace) (added : List ℕ) (i : ℕ) (p : ChunkPlace) (one : chunks_across d ≡ 1) (some : 0 < chunk_len d)
     (number : i ≡ first_number d + length chunks) (below : i < 131060) (touches : IsTouched d d.shape.rows to i) (none : map_of w i ≡ undefined) (fresh : p.stored ≡ false) (defined : p.address ≢ undefined)
-    (held : IsHeld w h) (way : Touches (OnWay (holder i)) w h) (held_array : IsArray h) (changed : is_changed h (number_of (holder i)) ≡ true) (took : Took t next (extent p.address (chunk_len d)))
-    (set : IsSet i p.address h u) (set_way : Touches (IsSlotOrHeader i) h u) (array : IsArray u) (x : IsPlacing d to v s chunks added w t) where
+    (held : IsHeld w h) (way : Touches (OnWay (holder i)) w h) (held_array : IsArray h) (held_six : IsNumbered w → IsNumbered h) (changed : is_changed h (number_of (holder i)) ≡ true) (took : Took t next (extent p.address (chunk_len d)))
+    (set : IsSet i p.address h u) (set_way : Touches (IsSlotOrHeader i) h u) (array : IsArray u) (set_six : IsNumbered h → IsNumbered u) (x : IsPlacing d to v s chunks added w t) where
   was_none : map_of v i ≡ undefined
   was_none = sym (x.others i (inr (omega (arith, number)))) ∙ none
 
@@ -338,10 +342,10 @@ module _ (d : Described) (to : ℕ) (v w h u : Store) (s t next : Space) (chunks
 
   pub placing_new : IsPlacing d to v s (chunks ++ p ∷ []) (added ++ i ∷ []) u next
   placing_new =
-      let on = partly_held d to v w h added i touches held way held_array x.partly in
+      let on = partly_held d to v w h added i touches held way held_array held_six x.partly in
       let end = (raised_one t next p.address (chunk_bytes d) took_bytes.takes).rises in
       record {
-        partly = partly_set d to v h u added i p.address touches below changed was_none set set_way array on;
+        partly = partly_set d to v h u added i p.address touches below changed was_none set set_way array set_six on;
         placed = λ k q at.
             elim (get_pushed chunks p k q at) [
               | inl before ↦ old_there k q before
@@ -383,4 +387,5 @@ placing_named s chunks added w t one rises all x = record {
   places_stay = x.partly.places;
   standing = x.partly.standing;
   stands = x.partly.stands;
+  own = λ o. record { headed = x.partly.headed o.headed; numbered = x.partly.numbered o.numbered };
 }

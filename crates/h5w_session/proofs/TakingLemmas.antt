@@ -1,6 +1,6 @@
 -- Steps of the functions that take chunks.
-use Rattle.std.proofs.Common.{◌≡◌, ◌≢◌, ℕ, ◌+◌, ◌*◌, ◌/◌, ◌^◌, ◌<◌, ◌≤◌, true, false, nat_lt, if◌then◌else◌, length, replicate, Option, Some, None, Result, Ok, Err, sym, ap, subst, ◌∙◌, inl, inr, arith}
-use Rattle.std.specs.Result.{OnErr}
+use Rattle.std.proofs.Common.{◌≡◌, ◌≢◌, ◌⊎◌, refl, ℕ, ◌+◌, ◌*◌, ◌/◌, ◌^◌, ◌<◌, ◌≤◌, true, false, nat_lt, if◌then◌else◌, length, replicate, Option, Some, None, Result, Ok, Err, sym, ap, subst, ◌∙◌, inl, inr, arith}
+use Rattle.std.specs.Result.{IfErr, OnErr}
 use Rattle.std.specs.Option.{IfSome, option_map, unwrap_or}
 use Rattle.std.proofs.lemmas.List.{length-replicate}
 use Rattle.h5w_model.specs.Integers.{cell_bytes}
@@ -22,7 +22,7 @@ use Rattle.h5w_cache.specs.Plans.{IfFull}
 use Rattle.h5w_cache.specs.declared.plan.PlanError.{PlanError}
 use Rattle.h5w_cache.specs.declared.plan.PlanError.TheVariants as plan
 use Rattle.h5w_session.specs.Indexes.{IsTouched}
-use Rattle.h5w_session.specs.Refusals.{plan_fault}
+use Rattle.h5w_session.specs.Refusals.{IsSpace, plan_fault}
 use Rattle.h5w_session.specs.declared.refusal.FlushError.{FlushError}
 use Rattle.h5w_session.specs.declared.refusal.FlushError.TheVariants as flushes
 use Rattle.h5w_session.specs.Placing.{first_number}
@@ -107,6 +107,11 @@ first_below from to per order some =
 pub full_of : {T : Type 0} (e : PlanError) (full : Full) (P : Full → Type 0) → ◌≡◌ {A = Result T FlushError} (Err (plan_fault e)) (Err (flushes.Space full)) → IfFull e P → P full
 full_of (plan.Full f) full P is told = let same : f ≡ full = cc in subst P same told
 full_of plan.OutOfMemory full P is told = absurd cc
+
+-- a plan is refused for want of a place or of memory
+pub plan_causes : {T : Type 0} (e : PlanError) (r : Result T FlushError) → r ≡ Err (plan_fault e) → IfErr r (λ f. IsSpace f ⊎ ((f ≡ flushes.Failed) ⊎ (f ≡ flushes.OutOfMemory)))
+plan_causes (plan.Full full) r is = rw is (inl (full, refl))
+plan_causes plan.OutOfMemory r is = rw is (inr (inr refl))
 
 -- the fill of a grid has the size of a value
 pub filled_cell : (g : Grid) → IsGrid g → length (fill_cell (dataset_of g)) ≡ g.int_type.size

@@ -25,7 +25,7 @@ use Rattle.h5w_flush_laws.specs.Spaces.{Taken}
 use Rattle.h5w_flush_laws.specs.Parts.{AreEnded}
 use Rattle.h5w_flush_laws.specs.Rows.{IsOutside, IsPlaced, new_chunks}
 use Rattle.h5w_session.specs.Sessions.{Session, chunk_limit, rows_of, with_rows}
-use Rattle.h5w_session.specs.Indexes.{IsTouched, address_in}
+use Rattle.h5w_session.specs.Indexes.{IsOwn, IsTouched, address_in}
 use Rattle.h5w_session.specs.Loads.{IsRaised}
 
 -- the ranges of the chunks that the rows that wait go into and that have no address yet, by the places of all chunks that they touch
@@ -43,6 +43,7 @@ pub record AreNamed (s : Session) (places : List ChunkPlace) (v : Store) : Type 
   pub places_stay : (n : ℕ) → place_of v n ≡ place_of s.index n
   pub standing : (t : Space) → Standing s.index t → Standing v t
   pub stands : (img : List ℕ) → StandsArray s.index img → StandsArray v img
+  pub own : IsOwn s.index → IsOwn v
 
 -- the piece by which the dataset header says all rows
 abbrev pub header_piece : Session → Write
@@ -102,4 +103,5 @@ pub record SameBut (old new : Session) : Type 0 where
   pub session : new ≡ record old { index = new.index }
   pub array : IsArray new.index
   pub held : IsHeld old.index new.index
+  pub own : IsOwn old.index → IsOwn new.index
   pub ways : AreWays old new.index

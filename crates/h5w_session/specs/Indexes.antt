@@ -10,7 +10,7 @@ use Rattle.h5w_cache.specs.Stores.{Store, is_changed}
 use Rattle.h5w_cache.specs.StoreLaws.{Standing}
 use Rattle.h5w_steps.specs.Moments.{Moment}
 use Rattle.h5w_array_laws.specs.Parts.{holder}
-use Rattle.h5w_array_laws.specs.ArrayStores.{IsArray, header_place, map_of, fixed_of, behind_of}
+use Rattle.h5w_array_laws.specs.ArrayStores.{IsArray, IsHeaded, IsNumbered, bytes_at_part, header_place, map_of, fixed_of, behind_of}
 use Rattle.h5w_array_laws.specs.ArrayImages.{StandsArray}
 use Rattle.h5w_ea_index.specs.Steps.{OnWay}
 
@@ -29,6 +29,11 @@ pub record IsIndexed (img : List ℕ) (m : Moment) (address : Key → ℕ) (s : 
   pub fixed : m.fixed ≡ fixed_of v
   pub behind : m.behind ≡ behind_of (chunk_bytes m.dataset) v
   pub map : (key : Key) → address key ≡ address_in v key
+
+-- it is an array as it is made here: its blocks name its header and their first slots, and the header's six numbers are true
+pub record IsOwn (v : Store) : Type 0 where
+  pub headed : IsHeaded v
+  pub numbered : IsNumbered v
 
 -- some of the rows `from` up to but not including `to` go into the chunk of this number
 pub record IsTouched (d : Described) (from to i : ℕ) : Type 0 where

@@ -1,7 +1,8 @@
 -- What is true of a log of which a session is the session.
-use Rattle.std.specs.Prelude.{◌≡◌, ◌^◌, ◌≢◌, ℕ, ◌<◌, ◌≤◌, true, false, List, [], ◌∷◌, length, get_or, ◌⊎◌}
-use Rattle.h5w_model.specs.Numbers.{undefined}
-use Rattle.h5w_model.specs.Images.{image}
+use Rattle.std.specs.Prelude.{◌≡◌, ◌^◌, ◌≢◌, ℕ, ◌+◌, ◌<◌, ◌≤◌, true, false, List, [], ◌∷◌, length, get_or, ◌⊎◌, IsSome}
+use Rattle.h5w_model.specs.Numbers.{range, undefined}
+use Rattle.h5w_model.specs.Arrays.{eahd_len, numbers_in}
+use Rattle.h5w_model.specs.Images.{At, image}
 use Rattle.h5w_model.specs.Programs.{Visit, visits}
 use Rattle.h5w_model.specs.Logs.{Log, hist, appended, flushed, rows_in, needed_chunks}
 use Rattle.h5w_model.specs.Datasets.{root_header}
@@ -9,6 +10,10 @@ use Rattle.h5w_model.specs.Tables.{Limits, Reading, Shows, Reads, format_limits,
 use Rattle.h5w_model.specs.Prefixed.{image_at, IsPosition, Prefixed, ReadsNow, Still, Held, root_address, continuation_blocks}
 use Rattle.h5w_model.specs.declared.piece.Write.{Write}
 use Rattle.h5w_image.specs.View.{ImageView, Wrote}
+use Rattle.h5w_array_laws.specs.Parts.{IsPart, Part, slot_count}
+use Rattle.h5w_array_laws.specs.ArrayStores.{IsMaxSet, block_at_part, bytes_at_part, data_bytes, header_place, one_data, one_secondary, place_at_part, secondary_bytes, total}
+use Rattle.h5w_flush_laws.specs.Knowledge.{IsMap}
+use Rattle.h5w_session.specs.Indexes.{IsOwn, address_in}
 use Rattle.h5w_session.specs.Past.{HasOpened, IsNew}
 use Rattle.h5w_session.specs.Room.{HasRoomFor}
 use Rattle.h5w_session.specs.Sessions.{Session, AfterPiece, chunk_limit, cutting_of, rows_of}
@@ -50,9 +55,22 @@ pub record IsDatasetOf (s : Session) (r : Reading) : Type 0 where
   pub chunk_columns : r.dataset.layout.chunk_cols ≡ s.dataset.layout.chunk_cols
   pub needed : needed r.dataset ≡ needed_chunks (cutting_of s) r.dataset.shape.rows
 
+-- What the array's header says on the image: it stands where the dataset has it, the array's map is the file's, each block that is kept stands
+-- at its place, and the six numbers count these blocks and chunks: the secondary blocks and their bytes, the data blocks and their bytes, one
+-- more than the greatest chunk number that has an address, and the slots.
+pub record SaysNumbers (s : Session) (img : List ℕ) : Type 0 where
+  pub address : s.dataset.layout.address ≡ header_place s.index
+  pub map : IsMap img s.dataset (address_in s.index)
+  pub there : (k : Part) → IsPart k → IsSome (block_at_part s.index k) → At img (place_at_part s.index k) (bytes_at_part s.index k)
+  pub most : ℕ
+  pub greatest : IsMaxSet s.index most
+  pub six : numbers_in (range img (header_place s.index) eahd_len) 6 12
+      ≡ total one_secondary s.index ∷ total secondary_bytes s.index ∷ total one_data s.index ∷ total data_bytes s.index ∷ most ∷ (4 + total slot_count s.index) ∷ []
+
 -- At each position of the log of a session that created its file: whatever the image shows is a dataset of the session's shape, and is
 -- shown within all limits that allow the chunks of a session, of which few are needed, each with an address; the root header is one look, the dataset
--- header names no further block; and the image ends within the limit.
+-- header names no further block; and the image ends within the limit. Its array is one as it is made here; and where nothing is pending and
+-- no rows wait, as after a flush whose pieces all became visible, the array's header says so on the image.
 pub record ShownLaws : Type 0 where
   pub dataset : (s : Session) (log : Log) (p : ℕ) (r : Reading) → Stands s log → IsNew log → IsPosition log p → Shows format_limits (image_at log p) s.name r → IsDatasetOf s r
   pub shown : (s : Session) (log : Log) (limits : Limits) (p : ℕ) (r : Reading) → Stands s log → IsNew log → chunk_limit s ≤ limit_of limits s.dataset.layout.index → IsPosition log p
@@ -65,6 +83,8 @@ pub record ShownLaws : Type 0 where
   pub root_header : (s : Session) (log : Log) (p : ℕ) → Stands s log → IsNew log → IsPosition log p → (v : Visit) × (visits (image_at log p) (root_header (root_address (image_at log p))) ≡ v ∷ [])
   pub dataset_header : (s : Session) (log : Log) (p : ℕ) (r : Reading) → Stands s log → IsNew log → IsPosition log p → Shows format_limits (image_at log p) s.name r → continuation_blocks (image_at log p) r ≡ []
   pub fits : (s : Session) (log : Log) (p : ℕ) → Stands s log → IsNew log → IsPosition log p → length (image_at log p) ≤ s.places.limit
+  pub own : (s : Session) (log : Log) → Stands s log → IsNew log → IsOwn s.index
+  pub numbers : (s : Session) (log : Log) → Stands s log → IsNew log → s.stopped ≡ false → s.pending ≡ [] → s.waits ≡ 0 → SaysNumbers s (image log.start (hist log.events))
 
 -- an image with room for a session has room for it after the oldest piece was written
 abbrev pub RoomStays : Type 0

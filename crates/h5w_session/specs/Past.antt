@@ -10,6 +10,7 @@ use Rattle.h5w_chunks.specs.Grids.{fill_cell}
 use Rattle.h5w_model.specs.declared.piece.Write.{Write}
 use Rattle.h5w_steps.specs.Moments.{Moment, reading_of}
 use Rattle.h5w_session.specs.Creations.{IsNewFile, NewFile, creation_writes, header_place, log_of, new_dataset}
+use Rattle.h5w_session.specs.Indexes.{IsOwn}
 use Rattle.h5w_session.specs.Loads.{first_end_of}
 use Rattle.h5w_session.specs.Sessions.{Session, AllEndBy, cutting_of, with_rows}
 
@@ -57,7 +58,7 @@ pub record IsCounted (d : Described) : Type 0 where
   pub across : chunks_across d ≡ 1
 
 -- How the log began; in a file that the session created, at each position each needed chunk has an address, and so it has at the moment
--- to which the pieces left lead; and the file's end and all pieces are bounded.
+-- to which the pieces left lead, and its array is one as it is made here; and the file's end and all pieces are bounded.
 pub record Past (s : Session) (left : List Write) (log : Log) (after : Moment) : Type 0 where
   pub begun : HasCreated s log ⊎ HasOpened s log
   pub counted : IsCounted s.dataset
@@ -65,6 +66,7 @@ pub record Past (s : Session) (left : List Write) (log : Log) (after : Moment) :
   pub limit_high : s.places.limit ≤ 2 ^ 40
   pub addressed : IsNew log → (p : ℕ) (r : Reading) → IsPosition log p → Shows format_limits (image_at log p) s.name r → AllAddressed r
   pub next : IsNew log → AllAddressed (reading_of after)
+  pub own : IsNew log → IsOwn s.index
   -- the file grew by no more than what its plans were bound to
   pub grew : s.places.end ≤ first_end_of log + spent (cutting_of s) log
   -- the end and all pieces are within the limit, or within the file that it began with

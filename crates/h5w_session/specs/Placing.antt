@@ -12,7 +12,7 @@ use Rattle.h5w_chunks.specs.Grids.{chunk_len}
 use Rattle.h5w_chunks.specs.declared.grid.ChunkPlace.{ChunkPlace}
 use Rattle.h5w_array_laws.specs.Among.{AreAmong}
 use Rattle.h5w_array_laws.specs.Parts.{holder, number_of}
-use Rattle.h5w_array_laws.specs.ArrayStores.{IsArray, IsHeaded, behind_of, map_of}
+use Rattle.h5w_array_laws.specs.ArrayStores.{IsArray, IsHeaded, IsNumbered, behind_of, map_of}
 use Rattle.h5w_array_laws.specs.ArrayImages.{StandsArray}
 use Rattle.h5w_ea_index.specs.Steps.{OnWay}
 use Rattle.h5w_flush_laws.specs.Spaces.{Taken}
@@ -41,6 +41,7 @@ pub record IsPartly (d : Described) (to : ℕ) (v : Store) (added : List ℕ) (w
   pub stands : (img : List ℕ) → StandsArray v img → StandsArray w img
   pub marks : (n : ℕ) → is_changed v n ≡ true → is_changed w n ≡ true
   pub headed : IsHeaded v → IsHeaded w
+  pub numbered : IsNumbered v → IsNumbered w
   pub ways : (n : ℕ) → is_changed w n ≡ true → (is_changed v n ≡ true) ⊎ ((i : ℕ) × IsTouched d d.shape.rows to i × OnWay (holder i) n)
 
 -- Some first chunks have their places, and the array names them there: v and s are array and places before.

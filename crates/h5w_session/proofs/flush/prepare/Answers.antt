@@ -4,7 +4,7 @@ use Rattle.h5w_chunks.specs.Grids.{dataset_of}
 use Rattle.h5w_space.specs.declared.Full.{Full}
 use Rattle.h5w_session.specs.Refusals.{plan_fault}
 use Rattle.h5w_session.proofs.PlacingLemmas.{all_touched}
-use Rattle.h5w_session.proofs.TakingLemmas.{full_of}
+use Rattle.h5w_session.proofs.TakingLemmas.{full_of, plan_causes}
 use Rattle.h5w_session.proofs.flush.prepare.Goals as goal
 
 pub put_rows-requires-clause-ends : goal.put_rows-requires-clause-ends
@@ -14,6 +14,11 @@ put_rows-requires-clause-ends g c k p at =
 
 pub put_rows-requires-clause-all : goal.put_rows-requires-clause-all
 put_rows-requires-clause-all g c = all_touched (dataset_of c.args.grid.now) c.args.to (length c.place_chunks.new.taking.chunks.items) c.requires.one c.requires.order c.in_ok-place_chunks.ensures.all
+
+pub returns-in_err-begun-clause-causes : goal.returns-in_err-begun-clause-causes
+returns-in_err-begun-clause-causes g c =
+    let told : c.from_residual-in_err-begun.result ≡ Err (plan_fault c.in_err-begun.field-0.0) = search rules in
+    plan_causes c.in_err-begun.field-0.0 c.from_residual-in_err-begun.result told
 
 pub returns-in_err-begun-clause-full : goal.returns-in_err-begun-clause-full
 returns-in_err-begun-clause-full g c full is =

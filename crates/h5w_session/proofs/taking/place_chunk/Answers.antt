@@ -38,23 +38,23 @@ set-requires-clause-defined c e =
 pub returns-in_err-hold-clause-partly : goal.returns-in_err-hold-clause-partly
 returns-in_err-hold-clause-partly c =
     on_err c.from_residual-in_err-hold.result (λ to v x touches.
-    partly_held (dataset_of c.args.grid.now) to v c.args.index.now c.hold.new.self c.args.taking.now.added.items c.args.i touches c.hold.ensures.held c.hold.ensures.way c.hold.ensures.array x)
+    partly_held (dataset_of c.args.grid.now) to v c.args.index.now c.hold.new.self c.args.taking.now.added.items c.args.i touches c.hold.ensures.held c.hold.ensures.way c.hold.ensures.array c.hold.ensures.numbered x)
 
 pub returns-in_err-address-clause-partly : goal.returns-in_err-address-clause-partly
 returns-in_err-address-clause-partly c =
     on_err c.from_residual-in_err-address.result (λ to v x touches.
-    partly_held (dataset_of c.args.grid.now) to v c.args.index.now c.hold.new.self c.args.taking.now.added.items c.args.i touches c.hold.ensures.held c.hold.ensures.way c.hold.ensures.array x)
+    partly_held (dataset_of c.args.grid.now) to v c.args.index.now c.hold.new.self c.args.taking.now.added.items c.args.i touches c.hold.ensures.held c.hold.ensures.way c.hold.ensures.array c.hold.ensures.numbered x)
 
 pub returns-in_err-keep-2-clause-partly : goal.returns-in_err-keep-2-clause-partly
 returns-in_err-keep-2-clause-partly c =
     on_err c.from_residual-in_err-keep-2.result (λ to v x touches.
-    partly_held (dataset_of c.args.grid.now) to v c.args.index.now c.hold.new.self c.args.taking.now.added.items c.args.i touches c.hold.ensures.held c.hold.ensures.way c.hold.ensures.array x)
+    partly_held (dataset_of c.args.grid.now) to v c.args.index.now c.hold.new.self c.args.taking.now.added.items c.args.i touches c.hold.ensures.held c.hold.ensures.way c.hold.ensures.array c.hold.ensures.numbered x)
 
 pub returns-in_err-keep-3-clause-partly : goal.returns-in_err-keep-3-clause-partly
 returns-in_err-keep-3-clause-partly c =
     on_err c.from_residual-in_err-keep-3.result (λ to v x touches.
     subst (λ (is : List ℕ). IsPartly (dataset_of c.args.grid.now) to v is c.hold.new.self) (sym c.in_err-keep-3.ensures.kept)
-    (partly_held (dataset_of c.args.grid.now) to v c.args.index.now c.hold.new.self c.args.taking.now.added.items c.args.i touches c.hold.ensures.held c.hold.ensures.way c.hold.ensures.array x))
+    (partly_held (dataset_of c.args.grid.now) to v c.args.index.now c.hold.new.self c.args.taking.now.added.items c.args.i touches c.hold.ensures.held c.hold.ensures.way c.hold.ensures.array c.hold.ensures.numbered x))
 
 pub returns-clause-placed : goal.returns-clause-placed
 returns-clause-placed c to v s x number touches within =
@@ -82,6 +82,6 @@ returns-clause-placed c to v s x number touches within =
     let defined : at ≢ undefined = λ e. absurd (omega (arith, took.live.within, small, (sizes_of c.args.grid.now c.requires.grid).some, e)) in
     let none : map_of w i ≡ undefined = found_none (map_of w i) (sym c.get.ensures.exact ∙ c.in_default.is) in
     let made = placing_new d to v w h u s t next chunks added i p c.requires.one (sizes_of c.args.grid.now c.requires.grid).some number c.requires.below touches none refl defined
-    c.hold.ensures.held c.hold.ensures.way c.hold.ensures.array c.in_ok-hold.ensures.changed took c.set.ensures.set c.set.ensures.way c.set.ensures.array x in
+    c.hold.ensures.held c.hold.ensures.way c.hold.ensures.array c.hold.ensures.numbered c.in_ok-hold.ensures.changed took c.set.ensures.set c.set.ensures.way c.set.ensures.array c.set.ensures.numbered x in
     subst (λ (ps : List ChunkPlace). IsPlacing d to v s ps c.keep-3.new.items.items u next) (sym c.in_ok-keep-2.ensures.added)
     (subst (λ (is : List ℕ). IsPlacing d to v s (chunks ++ p ∷ []) is u next) (sym c.in_ok-keep-3.ensures.added) made)

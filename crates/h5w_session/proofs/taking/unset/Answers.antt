@@ -37,7 +37,7 @@ loop-i-preserved c =
     record {
       slots = λ k d below. let slot = slots k d below in record { below = slot.below; held = c.unset.ensures.unset.marks _ slot.held };
       goes = λ d to v p.
-          partly_unset d to v l.index c.unset.new.self rest x c.unset.ensures.unset c.unset.ensures.way c.unset.ensures.array (subst (λ (xs : List ℕ). IsPartly d to v xs l.index) split (l.invariant.goes d to v p));
+          partly_unset d to v l.index c.unset.new.self rest x c.unset.ensures.unset c.unset.ensures.way c.unset.ensures.array c.unset.ensures.numbered (subst (λ (xs : List ℕ). IsPartly d to v xs l.index) split (l.invariant.goes d to v p));
     }
 
 pub returns : goal.returns
