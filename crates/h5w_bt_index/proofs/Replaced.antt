@@ -65,7 +65,7 @@ settled_changed d i t e = go (slice_get t.children i)
     go None = e
     go (Some c) = divided c (is_over d c)
 
-put_changed : (d : ℕ) (x : Record) (t : Tree d) → clean_of d (put d x t) ≡ false
+pub put_changed : (d : ℕ) (x : Record) (t : Tree d) → clean_of d (put d x t) ≡ false
 put_changed zero x t = refl
 put_changed (suc d) x t = elim (is_there x.key t.records) [
   | there a e ↦ ap (λ (u : Tree (suc d)). u.clean) (put_here d x a t e)

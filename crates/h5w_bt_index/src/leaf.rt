@@ -88,7 +88,7 @@ impl Subtree for Leaf {
 
     fn replace(&mut self, item: Record) {
         replace_record(&mut self.records, item);
-        self.clean = false;
+        self.clean = false; // the file has the record that was there
     }
 
     fn divide(&mut self, right: Leaf) -> (Record, Leaf) {

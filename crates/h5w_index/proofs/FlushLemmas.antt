@@ -1,18 +1,30 @@
 -- A flush whose index is of either kind.
-use Rattle.std.proofs.Common.{◌≡◌, ℕ, List, [], ◌∷◌, ◌++◌, refl, sym, ap, subst, inr, sum_by}
-use Rattle.std.specs.Prelude.{ℤ}
+use Rattle.std.proofs.Common.{◌≡◌, ℕ, Bool, true, false, List, [], ◌∷◌, ◌++◌, length, map, refl, sym, ap, ◌∙◌, subst, inl, inr, sum_by, arith, Option, Some, None, IsSome, if◌then◌else◌}
+use Rattle.std.specs.Option.{IfSome}
+use Rattle.std.specs.List.{All}
+use Rattle.std.proofs.lemmas.List.Elements.{All-cons, All-nil}
 use Rattle.h5w_model.specs.Images.{image}
 use Rattle.h5w_model.specs.Findings.{Used, chunk_bytes}
 use Rattle.h5w_model.specs.declared.cell.Key.{Key}
 use Rattle.h5w_model.specs.declared.piece.Write.{Write}
-use Rattle.h5w_visits.specs.Ranges.{Among}
+use Rattle.h5w_visits.specs.Ranges.{AllEndBy, Among, block_at}
 use Rattle.h5w_visits.proofs.RangeLemmas.{among_right}
 use Rattle.h5w_space.specs.Space.{Space}
 use Rattle.h5w_cache.specs.Stores.{Store}
+use Rattle.h5w_cache.specs.Blocks.{BlockView}
+use Rattle.h5w_cache.specs.Plans.{bytes_of}
+use Rattle.h5w_cache.proofs.FinishLemmas.{retired_end}
 use Rattle.h5w_cache.specs.declared.moves.Move.{Move}
 use Rattle.h5w_steps.specs.Moments.{Moment, all_used}
 use Rattle.h5w_array_laws.proofs.WriteLemmas.{plan_copies as array_copies}
 use Rattle.h5w_array_laws.specs.ArrayPlans.{IsArrayPlan}
+use Rattle.h5w_array_laws.specs.ArrayStores as arrays
+use Rattle.h5w_array_laws.specs.ArrayStores.{IsArray, IsBlock, block_at_part, bytes_at_part, header_place, place_at_part}
+use Rattle.h5w_array_laws.specs.ArrayImages.{AreInPlace}
+use Rattle.h5w_array_laws.specs.Parts.{Part, IsPart, header, index_block, length_of, stays_in_place}
+use Rattle.h5w_model.specs.Arrays.{eahd_len, eaib_len}
+use Rattle.h5w_model.specs.Tables.{in_leaf}
+use Rattle.h5w_model.specs.Trees.{bthd_bytes}
 use Rattle.h5w_array_flushes.specs.ArrayFlushes.{ArrayRests, IsArrayPart, chunks_for}
 use Rattle.h5w_array_flushes.proofs.ArrayLaws.{array_is_flush}
 use Rattle.h5w_array_flushes.proofs.ArrayRestLemmas.{array_rests_then, standing_freed}
@@ -20,25 +32,91 @@ use Rattle.h5w_flush_laws.specs.Spaces.{Taken, extent_of}
 use Rattle.h5w_flush_laws.specs.Knowledge.{Knows}
 use Rattle.h5w_flush_laws.specs.Parts.{IsFlush, block_writes, flushed_to, pieces_of}
 use Rattle.h5w_flush_laws.specs.Rows.{ArePlaced}
-use Rattle.h5w_bt_index.specs.Index.{Index}
-use Rattle.h5w_bt_index.specs.Plans.{IsTreePlan, news, written}
-use Rattle.h5w_tree_index_laws.specs.TreeFlushes.{IsTreePart, TreeRests}
-use Rattle.h5w_tree_index_laws.proofs.TreeLaws.{tree_is_flush}
+use Rattle.h5w_bt.specs.declared.records.Record.{Record}
+use Rattle.h5w_bt.specs.Parts.{record_of}
+use Rattle.h5w_bt_index.specs.Marks.{clean_of}
+use Rattle.h5w_bt_index.specs.Index.{Index, IsHalfFull, IsIndex}
+use Rattle.h5w_bt_index.proofs.Placed.{placed_clean, planned_half, planned_index}
+use Rattle.h5w_bt_index.specs.Plans.{IsTreePlan, header_of, header_writes, news, written}
+use Rattle.h5w_tree_index_laws.specs.TreeFlushes.{IsTreePart, TreeRests, header_range}
+use Rattle.h5w_tree_index_laws.proofs.TreeHeaderLemmas.{header_long}
+use Rattle.h5w_tree_index_laws.proofs.TreePlanLemmas.{moves_taken}
+use Rattle.h5w_tree_index_laws.proofs.TreeLaws.{copies_are, tree_is_flush}
 use Rattle.h5w_tree_index_laws.proofs.TreeRestLemmas.{tree_rests_then}
 use Rattle.h5w_index.specs.Views.{IndexView, an_array, a_tree, IsSoundTree, address_in}
 use Rattle.h5w_index.specs.Steps.{IsPlan}
-use Rattle.h5w_index.specs.Flushes.{IndexIsFlush, IndexRestsThen, IsIndexPart, PlanCopies, Rests, RestsClean, RestsFreed, index_parts}
+use Rattle.h5w_index.specs.Flushes.{IndexIsFlush, IndexRestsThen, IsIndexPart, IsWhole, PlanTells, PlanTold, Rests, RestsClean, RestsFreed, index_parts}
 
-pub plan_copies : PlanCopies
-plan_copies (an_array v) s ms cs fs (an_array w) t is x =
-    let p : IsArrayPlan v s ms cs fs w t = x in
+-- ---- A plan
+
+block_long : (o : Option BlockView) (k : Part) → IsSome o → IfSome o (IsBlock k) → length (bytes_of o) ≡ length_of k
+block_long None k some is = absurd (let clash : false ≡ true = some in cc)
+block_long (Some b) k some is = is.len
+
+-- index block or header
+top_long : (v : Store) (k : Part) → IsArray v → IsPart k → stays_in_place k ≡ true → length (bytes_at_part v k) ≡ length_of k
+top_long v k a part stays = block_long (block_at_part v k) k (a.in_place k part stays).0 (a.each k part)
+
+abbrev first_place : List Used → ℕ
+first_place [] = 0
+first_place (u ∷ us) = u.place
+
+array_whole : (v : Store) (ws : List Write) → IsArray v → AreInPlace v ws → All (IsWhole (arrays.fixed_of v)) ws
+array_whole v ws a (inl none) = subst (All (IsWhole (arrays.fixed_of v))) (sym none) (All-nil (IsWhole (arrays.fixed_of v)))
+array_whole v ws a (inr two) =
+    let P : Write → Type 0 = IsWhole (arrays.fixed_of v) in
+    let i : Write = record { at = place_at_part v index_block; piece = bytes_at_part v index_block } in
+    let h : Write = record { at = header_place v; piece = bytes_at_part v header } in
+    subst (All P) (sym two)
+    (All-cons P i (h ∷ []) (record { used = block_at (place_at_part v index_block) eaib_len; among = inr (inl refl); at_place = refl; long = top_long v index_block a tt refl })
+    (All-cons P h [] (record { used = block_at (header_place v) eahd_len; among = inl refl; at_place = refl; long = top_long v header a tt refl }) (All-nil P)))
+
+array_told : (v : Store) (s : Space) (ms : List Move) (cs fs : List Write) (w : Store) (t : Space) → IsArray v → IsArrayPlan v s ms cs fs w t → PlanTold (an_array v) s ms cs fs (an_array w) t
+array_told v s ms cs fs w t is p =
     let c = array_copies v s ms cs fs w t is p.plan in
-    record { placed = c.are.placed; writes = c.are.writes; are = c.are.ranges }
-plan_copies (a_tree p v) s ms cs fs (a_tree q w) t is x =
-    let plan : IsTreePlan p v s ms cs fs w t = x.1 in
-    record { placed = written v.depth (news ms) v.root; writes = plan.copies; are = refl }
-plan_copies (an_array v) s ms cs fs (a_tree q w) t is x = absurd x
-plan_copies (a_tree p v) s ms cs fs (an_array w) t is x = absurd x
+    record {
+      sound = p.array;
+      clean = p.clean;
+      kind = refl;
+      place = ap first_place p.stay;
+      stay = p.stay;
+      map = λ key. p.map key.i;
+      rises = p.end;
+      copied = record { placed = c.are.placed; writes = c.are.writes; are = c.are.ranges };
+      ends = subst (λ (us : List Used). AllEndBy t.end us) c.are.ranges p.ends;
+      whole = array_whole w fs p.array p.fixed;
+    }
+
+header_whole : (p : ℕ) (v w : Index) → All (IsWhole (header_range p ∷ [])) (header_writes p v w)
+header_whole p v w = go (clean_of v.depth v.root)
+  where
+    go : (b : Bool) → All (IsWhole (header_range p ∷ [])) (let ws : List Write = if b then [] else record { at = p; piece = bthd_bytes (header_of w) } ∷ [] in ws)
+    go true = All-nil (IsWhole (header_range p ∷ []))
+    go false = All-cons (IsWhole (header_range p ∷ [])) _ [] (record { used = header_range p; among = inl refl; at_place = refl; long = header_long (header_of w) }) (All-nil (IsWhole (header_range p ∷ [])))
+
+tree_told : (p : ℕ) (v : Index) (s : Space) (ms : List Move) (cs fs : List Write) (w : Index) (t : Space) → IsSoundTree p v → IsTreePlan p v s ms cs fs w t → PlanTold (a_tree p v) s ms cs fs (a_tree p w) t
+tree_told p v s ms cs fs w t is plan =
+    let taken = moves_taken s ms plan.taken.taken plan.taken.moves in
+    let ranges = copies_are v ms (written v.depth (news ms) v.root) is.index plan.taken.old refl in
+    let end : t.end ≡ plan.taken.taken.end = retired_end plan.roomy ms t plan.retired ∙ ap (λ (x : Space). x.end) plan.taken.roomy in
+    record {
+      sound = record { index = subst IsIndex (sym plan.index) (planned_index (news ms) v is.index); half = subst IsHalfFull (sym plan.index) (planned_half (news ms) v is.half); defined = is.defined };
+      clean = subst (λ (u : Index). clean_of u.depth u.root ≡ true) (sym plan.index) (placed_clean v.depth (news ms) v.root);
+      kind = refl;
+      place = refl;
+      stay = refl;
+      map = λ key. ap (λ (rs : List Record). in_leaf key (map record_of rs)) plan.records;
+      rises = omega (arith, taken.rises, end);
+      copied = record { placed = written v.depth (news ms) v.root; writes = plan.copies; are = refl };
+      ends = subst (λ (us : List Used). AllEndBy t.end us) (sym ranges) (λ u among. let live = taken.live u among in omega (arith, live.within, end));
+      whole = subst (All (IsWhole (header_range p ∷ []))) (sym plan.in_place) (header_whole p v w);
+    }
+
+pub plan_tells : PlanTells
+plan_tells (an_array v) s ms cs fs (an_array w) t is x = array_told v s ms cs fs w t is x
+plan_tells (a_tree p v) s ms cs fs (a_tree q w) t is x = subst (λ r. PlanTold (a_tree p v) s ms cs fs (a_tree r w) t) (sym x.0) (tree_told p v s ms cs fs w t is x.1)
+plan_tells (an_array v) s ms cs fs (a_tree q w) t is x = absurd x
+plan_tells (a_tree p v) s ms cs fs (an_array w) t is x = absurd x
 
 -- ---- The part of each kind
 

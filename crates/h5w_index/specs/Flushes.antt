@@ -1,9 +1,11 @@
 -- The plan of an index as its part of a flush, whichever its kind.
-use Rattle.std.specs.Prelude.{◌≡◌, ℕ, ◌*◌, ◌^◌, ◌<◌, List, [], ◌++◌, length, None, ℤ}
-use Rattle.h5w_model.specs.Images.{image}
+use Rattle.std.specs.Prelude.{◌≡◌, ℕ, ◌*◌, ◌^◌, ◌<◌, ◌≤◌, List, [], ◌++◌, length, None, ℤ}
+use Rattle.std.specs.List.{All}
+use Rattle.h5w_model.specs.Images.{Misses, apply, image}
 use Rattle.h5w_model.specs.Findings.{Used, chunk_bytes}
 use Rattle.h5w_model.specs.declared.cell.Key.{Key}
 use Rattle.h5w_model.specs.declared.piece.Write.{Write}
+use Rattle.h5w_visits.specs.Ranges.{AllEndBy, Among}
 use Rattle.h5w_visits.specs.Needed.{AreFew}
 use Rattle.h5w_chunks.specs.declared.grid.ChunkPlace.{ChunkPlace}
 use Rattle.h5w_header_laws.specs.Files.{with_rows}
@@ -22,6 +24,7 @@ use Rattle.h5w_bt_index.specs.Plans.{news, written}
 use Rattle.h5w_tree_index_laws.specs.TreeImages.{AreSame}
 use Rattle.h5w_index.specs.Views.{IndexView, an_array, a_tree, IsClean, IsSound, StandsOn, Stays, address_in, behind_of, blocks_in_place, fixed_of, header_place, kind_of}
 use Rattle.h5w_index.specs.Steps.{IsPlan}
+use Rattle.h5w_index.specs.Told.{SameMap}
 
 -- the parts of a flush whose index is named already: this is the index once all is planned
 abbrev pub index_parts : ℕ → IndexView → ℕ → List ℤ → List Write → List Used → List (ℕ × List ℕ) → List Write → ℕ → List Write → Parts
@@ -65,6 +68,27 @@ pub record HasCopies (v : IndexView) (ms : List Move) (copies : List Write) : Ty
   pub writes : copies ≡ block_writes placed
   pub are : AreCopies v ms placed
 
+-- a block in place is written whole
+pub record IsWhole (us : List Used) (w : Write) : Type 0 where
+  pub used : Used
+  pub among : Among used us
+  pub at_place : w.at ≡ used.place
+  pub long : length w.piece ≡ used.len
+
+-- What a plan leaves: the index is sound and clean, where it was, with the map that it had; its copies are blocks that end by the new end
+-- of the file, and each write in place is the whole of a block in place.
+pub record PlanTold (v : IndexView) (s : Space) (ms : List Move) (copies fixed : List Write) (w : IndexView) (t : Space) : Type 0 where
+  pub sound : IsSound w
+  pub clean : IsClean w
+  pub kind : kind_of w ≡ kind_of v
+  pub place : header_place w ≡ header_place v
+  pub stay : fixed_of w ≡ fixed_of v
+  pub map : SameMap v w
+  pub rises : s.end ≤ t.end
+  pub copied : HasCopies v ms copies
+  pub ends : AllEndBy t.end (block_ranges copied.placed)
+  pub whole : All (IsWhole (fixed_of w)) fixed
+
 -- What a session knows of its index when nothing is pending: it stands in the image, its map is that of the file's index, and its ranges
 -- are the file's.
 pub record Rests (img : List ℕ) (m : Moment) (old : Key → ℕ) (s : Space) (v : IndexView) : Type 0 where
@@ -79,9 +103,8 @@ pub record Rests (img : List ℕ) (m : Moment) (old : Key → ℕ) (s : Space) (
 
 -- ---- Laws
 
--- each plan has its copies
-abbrev pub PlanCopies : Type 0
-PlanCopies = (v : IndexView) (s : Space) (ms : List Move) (copies fixed : List Write) (w : IndexView) (t : Space) → IsSound v → IsPlan v s ms copies fixed w t → HasCopies v ms copies
+abbrev pub PlanTells : Type 0
+PlanTells = (v : IndexView) (s : Space) (ms : List Move) (copies fixed : List Write) (w : IndexView) (t : Space) → IsSound v → IsPlan v s ms copies fixed w t → PlanTold v s ms copies fixed w t
 
 -- All of a flush whose index is named already: from what a session knows, the places of its new chunks, what the writes of the rows do,
 -- and the plan of the index.
@@ -119,3 +142,8 @@ pub record Begins (img name : List ℕ) (m : Moment) (s : Space) (v : IndexView)
 abbrev pub IndexBegins : Type 0
 IndexBegins = (img name : List ℕ) (m : Moment) (s : Space) (v : IndexView) → IsSound v → IsClean v → StandsOn v img → Represents img name m → m.dataset.layout.index ≡ kind_of v → m.dataset.layout.address ≡ header_place v
     → IsBegun m s → Begins img name m s v
+
+-- A write that misses the index's ranges leaves it, as the superblock's.
+abbrev pub RestsMissed : Type 0
+RestsMissed = (img name : List ℕ) (m : Moment) (old : Key → ℕ) (s : Space) (v : IndexView) (w : Write) → Knows img name m old s → ((u : Used) → Among u (m.fixed ++ m.behind) → Misses w u.place u.len)
+    → Rests img m old s v → Rests (apply w img) m old s v

@@ -1,7 +1,7 @@
 //! What is known of an index, whichever its kind. Each law is the clause of a function without parameters; its statement is a definition in
 //! specs/. Nothing here runs.
 
-ghost use Rattle.h5w_index.specs.Flushes.{IndexBegins, IndexIsFlush, IndexRestsThen, PlanCopies, RestsFreed};
+ghost use Rattle.h5w_index.specs.Flushes.{IndexBegins, IndexIsFlush, IndexRestsThen, PlanTells, RestsFreed, RestsMissed};
 ghost use Rattle.h5w_index.specs.Told.{HeldTells, LikeLaws, SameRanges, SetTells, UnsetTells};
 
 /// Where a place is held, the map and all that stands stay.
@@ -29,9 +29,9 @@ pub fn same_ranges()
     ensures { SameRanges }
 {}
 
-/// The copies of each plan are blocks at their places.
-pub fn plan_copies()
-    ensures { PlanCopies }
+/// What each plan leaves.
+pub fn plan_tells()
+    ensures { PlanTells }
 {}
 
 /// A session that begins with an index that stands in its file knows the file by its map, and the index rests.
@@ -52,4 +52,9 @@ pub fn index_rests_then()
 /// It rests still where what was let go becomes free.
 pub fn rests_freed()
     ensures { RestsFreed }
+{}
+
+/// It rests still once a write missed its ranges.
+pub fn rests_missed()
+    ensures { RestsMissed }
 {}

@@ -7,6 +7,7 @@ pub mod TreeHeaderLemmas
 pub mod TreeFlushLemmas
 pub mod TreeInsertLemmas
 pub mod TreeMapLemmas
+pub mod TreeChangeLemmas
 pub mod TreePlaceLemmas
 pub mod TreeLaws
 pub mod TreeRestLemmas

@@ -34,7 +34,7 @@ new_are d old from base (p ∷ places) u a = go (old (touched_key d from base) =
     go false later b = later b
 
 -- the copies of the plan take the places of its moves
-copies_are : (v : Index) (ms : List Move) (copies : List (ℕ × List ℕ)) → IsIndex v → olds ms ≡ stood v.depth v.root → copies ≡ written v.depth (news ms) v.root → block_ranges copies ≡ fresh ms
+pub copies_are : (v : Index) (ms : List Move) (copies : List (ℕ × List ℕ)) → IsIndex v → olds ms ≡ stood v.depth v.root → copies ≡ written v.depth (news ms) v.root → block_ranges copies ≡ fresh ms
 copies_are v ms copies i old is =
     let ps : List ℕ = news ms in
     let count : changes v.depth v.root ≡ length ps = ap length (sym old) ∙ length-map ms (λ (m : Move). m.old) ∙ sym (length-map ms (λ (m : Move). m.new)) in

@@ -15,7 +15,7 @@ use Rattle.h5w_bt.specs.declared.records.Record.{Record}
 use Rattle.h5w_bt_index.specs.Nodes.{Tree}
 use Rattle.h5w_bt_index.specs.Marks.{Part, clean_of}
 use Rattle.h5w_bt_index.specs.Index.{Index, IsClean, IsHalfFull, IsIndex, address_of, blank_leaf, inserted}
-use Rattle.h5w_bt_index.specs.Plans.{ReadsBack, header_of, node_bytes, place_of}
+use Rattle.h5w_bt_index.specs.Plans.{ReadsBack, changes, header_of, node_bytes, place_of}
 
 -- the node stands at its place, ends below 2^64, and reads back
 pub record StandsNode (img : List ℕ) (d : ℕ) (t : Tree d) : Type 0 where
@@ -121,3 +121,8 @@ InsertedRenews = (x : Record) (v : Index) → IsIndex v → IsIndex (inserted x 
 -- Trees of one map whose nodes have the same ranges have the same ranges.
 abbrev pub SameBehind : Type 0
 SameBehind = (v w : Index) (bytes : ℕ) → IsIndex v → IsIndex w → SameNodes v w → ((key : Key) → address_of w key ≡ address_of v key) → AreSame (behind_of bytes w) (behind_of bytes v)
+
+-- With a record more, or another in the place of that of its key, at most seven nodes more are changed: those on the way to it, those into
+-- which these are divided, and a new root.
+abbrev pub InsertedChanges : Type 0
+InsertedChanges = (x : Record) (v : Index) → IsIndex v → IsIndex (inserted x v) → changes (inserted x v).depth (inserted x v).root ≤ changes v.depth v.root + 7

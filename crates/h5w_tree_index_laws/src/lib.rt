@@ -4,7 +4,7 @@
 #![tactic(auto)]
 
 ghost use Rattle.h5w_tree_index_laws.specs.TreeFlushes.{TreeBegins, TreeFlushed, TreeIsFlush, TreePlaces, TreeRestsThen};
-ghost use Rattle.h5w_tree_index_laws.specs.TreeImages.{InsertedBehind, InsertedRenews, SameBehind, TreeIsRead};
+ghost use Rattle.h5w_tree_index_laws.specs.TreeImages.{InsertedBehind, InsertedChanges, InsertedRenews, SameBehind, TreeIsRead};
 
 /// Where a tree stands, unchanged, a check behind its header finds its ranges, and a reader each key's address.
 pub fn tree_is_read()
@@ -20,6 +20,11 @@ pub fn inserted_behind()
 /// goes.
 pub fn inserted_renews()
     ensures { InsertedRenews }
+{}
+
+/// With a record more, or another, at most seven nodes more are changed.
+pub fn inserted_changes()
+    ensures { InsertedChanges }
 {}
 
 /// Trees of one map whose nodes have the same ranges have the same ranges.
