@@ -1,45 +1,32 @@
 -- What an array's calls give of the flush.
-use Rattle.std.proofs.Common.{◌≡◌, ◌≢◌, ℕ, zero, suc, ◌+◌, ◌≤◌, false, List, [], ◌∷◌, ◌++◌, refl, sym, ◌∙◌, ap, subst, inl, inr, arith, lit≤}
+use Rattle.std.proofs.Common.{◌≡◌, ◌≢◌, ℕ, zero, suc, ◌+◌, ◌≤◌, false, List, [], ◌∷◌, refl, ◌∙◌, subst, inl, inr, arith, lit≤}
 use Rattle.std.specs.Prelude.{slice_get, ◌==◌, Option, Some}
 use Rattle.std.proofs.lemmas.Bool.{cond-false, ne_eqb}
 use Rattle.h5w_model.specs.Numbers.{undefined}
-use Rattle.h5w_model.specs.Arrays.{eahd_len, eaib_len}
 use Rattle.h5w_model.specs.Findings.{Used}
 use Rattle.h5w_model.specs.declared.piece.Write.{Write}
 use Rattle.h5w_visits.specs.Ranges.{Among, block_at, chunk_at}
 use Rattle.h5w_space.specs.Space.{Space}
 use Rattle.h5w_cache.specs.Stores.{Store}
-use Rattle.h5w_cache.specs.StoreLaws.{Standing}
 use Rattle.h5w_cache.specs.declared.moves.Move.{Move}
 use Rattle.h5w_chunks.specs.declared.grid.ChunkPlace.{ChunkPlace}
 use Rattle.h5w_examples.specs.Readings.{data_name, described_by}
 use Rattle.h5w_array_laws.specs.Among.{AreAmong}
-use Rattle.h5w_array_laws.specs.Parts.{index_block}
-use Rattle.h5w_array_laws.specs.ArrayStores.{place_at_part, map_of, fixed_of, behind_of}
+use Rattle.h5w_array_laws.specs.ArrayStores.{map_of, behind_of}
 use Rattle.h5w_step_examples.proofs.Decisions.{disjoint_by}
 use Rattle.h5w_flush_laws.specs.Spaces.{Taken}
 use Rattle.h5w_flush_laws.specs.Parts.{AreEnded}
 use Rattle.h5w_flush_laws.specs.Rows.{IsPlaced, ArePlaced}
 use Rattle.h5w_flush_examples.specs.FirstFlush.{places_to}
-use Rattle.h5w_starting_laws.specs.Starting.{no_chunk, StartKnows, StartRests}
-use Rattle.h5w_starting_laws.specs.StartFlushes.{IsStart, HasStartingPart, parts_for}
-use Rattle.h5w_starting_laws.proofs.StartLemmas.{created_blank, start_takes}
-use Rattle.h5w_starting_laws.proofs.StartPieceLemmas.{start_part}
+use Rattle.h5w_starting_laws.specs.Starting.{no_chunk, StartKnows}
+use Rattle.h5w_starting_laws.specs.StartFlushes.{parts_for}
+use Rattle.h5w_starting_laws.specs.StartCalls.{AreStartCalls}
+use Rattle.h5w_starting_laws.proofs.StartLemmas.{created_blank}
+use Rattle.h5w_starting_laws.proofs.StartCallLemmas.{start_calls}
 use Rattle.h5w_starting_laws.proofs.StartLeadLemmas.{start_leads}
 use Rattle.h5w_starting_examples.specs.UnnamedFlush.{open_to_write, opened_file, fourth_row, new_place}
-use Rattle.h5w_starting_examples.specs.ArrayCalls.{AreCalls, CallsStart, ArrayStarts}
+use Rattle.h5w_starting_examples.specs.ArrayCalls.{AreCalls, StartIt, ArrayStarts}
 use Rattle.h5w_starting_examples.proofs.UnnamedLemmas.{known, written, each_fits, taken_from}
-
-abbrev two_blocks : List Used
-two_blocks = block_at 546 72 ∷ block_at 248 298 ∷ []
-
-blocks_taken : Taken (places_to 240) two_blocks (places_to 618)
-blocks_taken = taken_from 240 618 two_blocks (disjoint_by two_blocks refl refl) inside (lit≤ tt) (block_at 546 72) (inl refl) refl
-  where
-    inside : (u : Used) → Among u two_blocks → (240 ≤ u.place) × (u.place + u.len ≤ 618)
-    inside u (inl e) = subst (λ (y : Used). (240 ≤ y.place) × (y.place + y.len ≤ 618)) e (lit≤ tt, lit≤ tt)
-    inside u (inr (inl e)) = subst (λ (y : Used). (240 ≤ y.place) × (y.place + y.len ≤ 618)) e (lit≤ tt, lit≤ tt)
-    inside u (inr (inr a)) = absurd a
 
 abbrev with_chunk : List Used
 with_chunk = block_at 546 72 ∷ block_at 248 298 ∷ chunk_at 240 8 ∷ []
@@ -56,20 +43,6 @@ chunk_taken_too = taken_from 240 618 with_chunk (disjoint_by with_chunk refl ref
 module _ (u h v w : Store) (ms : List Move) (cs fixed supers : List Write) (t : Space) (c : AreCalls u h v ms cs fixed w t) (ended : AreEnded open_to_write.super t.end supers) where
   knows : StartKnows opened_file data_name open_to_write (places_to 240) u
   knows = record { knows = known; unnamed = record { kind = refl; address = refl }; blank = created_blank 546 248 u c.made (lit≤ tt) (lit≤ tt) }
-
-  rests : StartRests opened_file data_name open_to_write (places_to 240) (places_to 618) u
-  rests = start_takes opened_file data_name open_to_write (places_to 240) (places_to 618) 546 248 u u knows blocks_taken c.made (lit≤ tt) (lit≤ tt)
-
-  standing : Standing v (places_to 618)
-  standing = c.named.standing (places_to 618) (c.held.standing (places_to 618) rests.standing)
-
-  behind : AreAmong (behind_of 8 v) (chunk_at 240 8 ∷ behind_of 8 u)
-  behind = subst (λ (us : List Used). AreAmong (behind_of 8 v) (chunk_at 240 8 ∷ us)) (c.held.behind 8) (c.named.behind 8)
-
-  part : HasStartingPart open_to_write u v (places_to 618) ms w t (chunk_at 240 8 ∷ []) cs fixed
-  part =
-      start_part open_to_write u v w (places_to 618) t ms (chunk_at 240 8 ∷ []) cs fixed c.array standing (λ n. c.named.places n ∙ c.held.places n)
-      (c.named.marks 845 c.changed) behind c.plan
 
   named_there : map_of w 1 ≡ 240
   named_there = c.plan.map 1 ∙ c.named.map 1
@@ -102,31 +75,33 @@ module _ (u h v w : Store) (ms : List Move) (cs fixed supers : List Write) (t : 
     fit = each_fits;
   }
 
-  fixed_is : fixed_of u ≡ two_blocks
-  fixed_is =
-      ap (λ p. block_at p eahd_len ∷ block_at (place_at_part u index_block) eaib_len ∷ []) c.made.header_at
-      ∙ ap (λ p. block_at 546 eahd_len ∷ block_at p eaib_len ∷ []) c.made.index_at
-
-  start : IsStart open_to_write (places_to 240) (places_to 618) u v ms w t 4 fourth_row.more fourth_row.writes new_place part.copies fixed supers
-  start = record {
+  are : AreStartCalls open_to_write (places_to 240) (places_to 618) 546 248 u v ms w t 4 fourth_row.more fourth_row.writes new_place cs fixed supers
+  are = record {
     rises = lit≤ tt;
     small = lit≤ tt;
     few = refl;
     count = refl;
-    taken = subst (λ (us : List Used). Taken (places_to 240) (us ++ chunk_at 240 8 ∷ []) (places_to 618)) (sym fixed_is) chunk_taken_too;
-    placed = all_placed part.copies;
-    part = part.part;
+    taken = chunk_taken_too;
+    made = record { created = c.made; header_ends = lit≤ tt; block_ends = lit≤ tt };
+    names = record {
+      array = c.array;
+      standing = λ s h. c.named.standing s (c.held.standing s h);
+      places = λ n. c.named.places n ∙ c.held.places n;
+      changed = c.named.marks 845 c.changed;
+      behind = subst (λ (us : List Used). AreAmong (behind_of 8 v) (chunk_at 240 8 ∷ us)) (c.held.behind 8) (c.named.behind 8);
+    };
+    placed = all_placed;
+    plan = c.plan;
     ended = ended;
   }
 
-  calls_start : CallsStart u v ms cs fixed supers w t
-  calls_start = record {
-    copies = part.copies;
-    writes = part.writes;
-    knows = knows;
-    start = start;
-    started = start_leads opened_file data_name open_to_write (places_to 240) (places_to 618) t u v w ms 4 fourth_row.more fourth_row.writes new_place part.copies fixed supers knows start;
-  }
+  start_it : StartIt u v ms cs fixed supers w t
+  start_it =
+      let calls = start_calls opened_file data_name open_to_write (places_to 240) (places_to 618) t 546 248 u u v w ms 4 fourth_row.more fourth_row.writes new_place cs fixed supers knows are in
+      record {
+        calls = calls;
+        started = start_leads opened_file data_name open_to_write (places_to 240) (places_to 618) t u v w ms 4 fourth_row.more fourth_row.writes new_place calls.copies fixed supers calls.knows calls.start;
+      }
 
 pub array_starts : ArrayStarts
-array_starts u h v w ms cs fixed supers t c ended = calls_start u h v w ms cs fixed supers t c ended
+array_starts u h v w ms cs fixed supers t c ended = start_it u h v w ms cs fixed supers t c ended

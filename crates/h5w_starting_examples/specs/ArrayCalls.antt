@@ -1,5 +1,5 @@
 -- The same flush by the calls of an array: what they give is what the laws of a first flush ask.
-use Rattle.std.specs.Prelude.{◌≡◌, ℕ, true, List}
+use Rattle.std.specs.Prelude.{◌≡◌, true, List}
 use Rattle.h5w_model.specs.declared.piece.Write.{Write}
 use Rattle.h5w_space.specs.Space.{Space}
 use Rattle.h5w_cache.specs.Stores.{Store, is_changed}
@@ -9,10 +9,10 @@ use Rattle.h5w_array_laws.specs.Parts.{holder, number_of}
 use Rattle.h5w_array_laws.specs.ArrayStores.{IsArray, IsCreated}
 use Rattle.h5w_array_laws.specs.ArrayPlans.{IsArrayPlan}
 use Rattle.h5w_ea_index.specs.Steps.{IsHeld, IsSet}
-use Rattle.h5w_flush_laws.specs.Parts.{AreEnded, block_writes}
+use Rattle.h5w_flush_laws.specs.Parts.{AreEnded}
 use Rattle.h5w_flush_examples.specs.FirstFlush.{places_to}
-use Rattle.h5w_starting_laws.specs.Starting.{StartKnows}
-use Rattle.h5w_starting_laws.specs.StartFlushes.{IsStart, IsStarted, parts_for}
+use Rattle.h5w_starting_laws.specs.StartFlushes.{IsStarted, parts_for}
+use Rattle.h5w_starting_laws.specs.StartCalls.{CallsStart}
 use Rattle.h5w_starting_examples.specs.UnnamedFlush.{open_to_write, opened_file, fourth_row, new_place}
 
 -- The array is made, its index block at 248 and its header at 546; the second chunk's slot is held, and gets the address 240; and the changed
@@ -25,13 +25,10 @@ pub record AreCalls (u h v : Store) (ms : List Move) (cs fixed : List Write) (w 
   pub array : IsArray v
   pub plan : IsArrayPlan v (places_to 618) ms cs fixed w t
 
--- they start the array
-pub record CallsStart (u v : Store) (ms : List Move) (cs fixed supers : List Write) (w : Store) (t : Space) : Type 0 where
-  pub copies : List (ℕ × List ℕ)
-  pub writes : cs ≡ block_writes copies
-  pub knows : StartKnows opened_file data_name open_to_write (places_to 240) u
-  pub start : IsStart open_to_write (places_to 240) (places_to 618) u v ms w t 4 fourth_row.more fourth_row.writes new_place copies fixed supers
-  pub started : IsStarted opened_file data_name open_to_write t w (parts_for open_to_write w 4 fourth_row.more fourth_row.writes new_place copies supers t.end)
+-- they start the array of this file, and lead to the file with the fourth row
+pub record StartIt (u v : Store) (ms : List Move) (cs fixed supers : List Write) (w : Store) (t : Space) : Type 0 where
+  pub calls : CallsStart opened_file data_name open_to_write (places_to 240) (places_to 618) u v ms w t 4 fourth_row.more fourth_row.writes new_place cs fixed supers
+  pub started : IsStarted opened_file data_name open_to_write t w (parts_for open_to_write w 4 fourth_row.more fourth_row.writes new_place calls.copies supers t.end)
 
 abbrev pub ArrayStarts : Type 0
-ArrayStarts = (u h v w : Store) (ms : List Move) (cs fixed supers : List Write) (t : Space) → AreCalls u h v ms cs fixed w t → AreEnded open_to_write.super t.end supers → CallsStart u v ms cs fixed supers w t
+ArrayStarts = (u h v w : Store) (ms : List Move) (cs fixed supers : List Write) (t : Space) → AreCalls u h v ms cs fixed w t → AreEnded open_to_write.super t.end supers → StartIt u v ms cs fixed supers w t

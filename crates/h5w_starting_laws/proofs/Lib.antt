@@ -3,3 +3,4 @@ pub mod StartLemmas
 pub mod StartPieceLemmas
 pub mod StartFlushLemmas
 pub mod StartLeadLemmas
+pub mod StartCallLemmas

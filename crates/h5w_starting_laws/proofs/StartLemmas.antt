@@ -11,7 +11,7 @@ use Rattle.h5w_model.specs.Findings.{Used, Finding, chunk_bytes}
 use Rattle.h5w_model.specs.declared.cell.Key.{Key}
 use Rattle.h5w_model.specs.declared.cell.IndexKind.TheVariants.{Array, Tree}
 use Rattle.h5w_model.specs.declared.refusal.ReadError.{ReadError}
-use Rattle.h5w_visits.specs.Ranges.{Among, block_at, blocks_of}
+use Rattle.h5w_visits.specs.Ranges.{Among, Disjoint, block_at, blocks_of}
 use Rattle.h5w_visits.specs.Indexes.{behind_visit}
 use Rattle.h5w_space.specs.Space.{Commits, Space, IsLive, Apart, extent}
 use Rattle.h5w_cache.specs.Stores.{Store, place_of}
@@ -23,7 +23,7 @@ use Rattle.h5w_array_laws.specs.ArrayStores.{IsArray, place_at_part, header_plac
 use Rattle.h5w_array_laws.proofs.StandLemmas.{header_length, index_length}
 use Rattle.h5w_array_laws.proofs.WriteLemmas.{which_part}
 use Rattle.h5w_array_laws.proofs.CreatedLemmas.{created_starts}
-use Rattle.h5w_flush_laws.specs.Spaces.{extent_of, Taken}
+use Rattle.h5w_flush_laws.specs.Spaces.{extent_of, AllLive, Taken}
 use Rattle.h5w_flush_laws.specs.Knowledge.{Knows}
 use Rattle.h5w_flush_laws.proofs.SpaceLemmas.{have_no_byte, apart_back, committed_live}
 use Rattle.h5w_flush_laws.proofs.KnownLaws.{begin_knows, end_known}
@@ -70,8 +70,8 @@ record IsHere (v : Store) (s : Space) (n : ℕ) : Type 0 where
   pub some : 0 < length (bytes_in v.blocks n)
 
 -- its two blocks stand apart, where their places are
-pub blank_standing : (base s : Space) (v : Store) → IsArray v → IsBlank v → Taken base (fixed_of v) s → Standing v s
-blank_standing base s v a blank k = record {
+pub blank_standing : (s : Space) (v : Store) → IsArray v → IsBlank v → Disjoint (fixed_of v) → AllLive s (fixed_of v) → Standing v s
+blank_standing s v a blank off live = record {
   live = λ n placed. (both n placed).live;
   some = λ n placed. (both n placed).some;
   apart = λ n j ne x y. apart n j ne x y (which_part v a n x) (which_part v a j y);
@@ -87,8 +87,8 @@ blank_standing base s v a blank k = record {
     both n placed = elim (which_part v a n placed) as (λ _. IsHere v s n) [
       | inl h ↦ absurd (placed.placed (blank.unplaced n h))
       | inr h ↦ elim h as (λ _. IsHere v s n) [
-        | inl e ↦ subst (IsHere v s) (sym e) (record { live = subst (IsLive s) (sym index) (k.live (block_at (place_at_part v index_block) eaib_len) (inr (inl refl))); some = omega (arith, index_length v a) })
-        | inr e ↦ subst (IsHere v s) (sym e) (record { live = subst (IsLive s) (sym top) (k.live (block_at (header_place v) eahd_len) (inl refl)); some = omega (arith, header_length v a) })
+        | inl e ↦ subst (IsHere v s) (sym e) (record { live = subst (IsLive s) (sym index) (live (block_at (place_at_part v index_block) eaib_len) (inr (inl refl))); some = omega (arith, index_length v a) })
+        | inr e ↦ subst (IsHere v s) (sym e) (record { live = subst (IsLive s) (sym top) (live (block_at (header_place v) eahd_len) (inl refl)); some = omega (arith, header_length v a) })
       ]
     ]
 
@@ -96,7 +96,7 @@ blank_standing base s v a blank k = record {
     two =
         subst (λ r. Apart r (range_of v 845)) (sym top)
         (subst (Apart (extent (header_place v) eahd_len)) (sym index)
-        (have_no_byte (block_at (header_place v) eahd_len) (block_at (place_at_part v index_block) eaib_len) (k.apart.1 (block_at (place_at_part v index_block) eaib_len) (inl refl))))
+        (have_no_byte (block_at (header_place v) eahd_len) (block_at (place_at_part v index_block) eaib_len) (off.1 (block_at (place_at_part v index_block) eaib_len) (inl refl))))
 
     apart : (n j : ℕ) → (n ≡ j → ⊥) → IsPlaced v n → IsPlaced v j → (n < 845) ⊎ (n ≡ 845) ⊎ (n ≡ 846) → (j < 845) ⊎ (j ≡ 845) ⊎ (j ≡ 846) → Apart (range_of v n) (range_of v j)
     apart n j ne x y (inl h) q = absurd (x.placed (blank.unplaced n h))
@@ -159,7 +159,7 @@ start_takes img name m base s at place v u r taken created fits fits_too =
       start = record { knows = r.knows; unnamed = r.unnamed; blank = blank };
       taken = here;
       array = array;
-      standing = blank_standing base s u array blank here;
+      standing = blank_standing s u array blank here.apart here.live;
     }
 
 rests_freed : (img name : List ℕ) (m : Moment) (base s t : Space) (v : Store) → StartRests img name m base s v → Commits s t → StartRests img name m base t v

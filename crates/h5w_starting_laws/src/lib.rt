@@ -4,9 +4,11 @@
 //! statement is a definition in specs/. Nothing here runs.
 #![tactic(auto)]
 
+mod calls;
 mod flushes;
 mod starting;
 
+pub use calls::{start_calls, two_taken};
 pub use flushes::{
     holder_changed, named_changed, start_is_flush, start_leads, start_part, start_pieces,
     start_runs,

@@ -1,0 +1,13 @@
+//! Such a flush by its calls.
+
+ghost use Rattle.h5w_starting_laws.specs.StartCalls.{StartCalls, TwoTaken};
+
+/// The places of the array's two blocks, taken one after the other.
+pub fn two_taken()
+    ensures { TwoTaken }
+{}
+
+/// What the calls of a first flush give is such a flush, and these are its pieces.
+pub fn start_calls()
+    ensures { StartCalls }
+{}
