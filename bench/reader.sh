@@ -1,7 +1,8 @@
 #!/bin/sh
 # Counts the instructions of a reader's calls over images in memory: of a refresh that finds nothing new, at 10 and at 100,000
-# chunks; of a refresh that finds one chunk behind 100,000; and of a read of 1,000,000 values of i32le in chunks of 65,536
-# rows, by the value. The looks at the image are among them, and are told beside them.
+# chunks; of one that looks up the first chunk again, which is absent, at 10 and behind which 100,000 stand; of a refresh that
+# finds one chunk behind 100,000; and of a read of 1,000,000 values of i32le in chunks of 65,536 rows, by the value. The looks at
+# the image are among them, and are told beside them.
 # Wants git, valgrind and python3; the last commit is what is measured.
 top=$(cd "$(dirname "$0")/.." && pwd -P) || exit 1
 work=$(mktemp -d) || exit 1
@@ -181,8 +182,8 @@ def header(messages):
 NOWHERE = 2 ** 64 - 1
 CHUNKS = 131060
 
-# an image of so many rows of i32le, of which so many chunks of `length` rows are there
-def image(length, rows, chunks):
+# an image of so many rows of i32le, of which so many chunks of `length` rows are there, but for the first where it is absent
+def image(length, rows, chunks, absent=False):
     width = (length.bit_length() - 1) // 8 + 1
     root = header([message(2, b'\0\0' + 2 * le(NOWHERE, 8)), message(10, b'\0\0'), message(6, b'\1\0\4data' + le(106, 8))])
     array = 106 + 78 + 2 * width + 2
@@ -192,7 +193,7 @@ def image(length, rows, chunks):
     assert len(root) == 58 and 106 + len(dataset) == array
     at = array + 72 + 298
     size = 4 * length
-    places = [at + size * i if i < chunks else NOWHERE for i in range(CHUNKS)]
+    places = [at + size * i if i < chunks and not (absent and i == 0) else NOWHERE for i in range(CHUNKS)]
     at += size * chunks
     behind = []
     first, offset = 4, 0
@@ -226,6 +227,8 @@ def image(length, rows, chunks):
 for name, older, newer in [
         ('few', (2, 20, 10), (2, 20, 10)),
         ('many', (2, 200000, 100001), (2, 200002, 100001)),
+        ('few_absent', (2, 20, 10, True), (2, 20, 10, True)),
+        ('many_absent', (2, 200002, 100001, True), (2, 200002, 100001, True)),
         ('rows', (65536, 1000000, 16), (65536, 1000000, 16))]:
     open(sys.argv[1] + '/' + name, 'wb').write(image(*older) + image(*newer))
 END_OF_PROGRAM
@@ -248,6 +251,8 @@ print(costs[sys.argv[1]], costs["shows"])' "$name"
 
 few=$(count refresh_idly few) || exit 1
 many=$(count refresh_idly many) || exit 1
+few_absent=$(count refresh_idly few_absent) || exit 1
+many_absent=$(count refresh_idly many_absent) || exit 1
 more=$(count refresh_once many) || exit 1
 rows=$(count read_rows rows read) || exit 1
 python3 -c '
@@ -255,6 +260,8 @@ import sys
 rows = [
     ("an idle refresh at 10 chunks, instructions", 1000, 1500),
     ("an idle refresh at 100,001 chunks, instructions", 1000, 1500),
+    ("a refresh that looks up an absent chunk before 9 others, instructions", 1000, 40000),
+    ("a refresh that looks up an absent chunk before 100,000 others, instructions", 1000, 40000),
     ("a refresh with one new chunk behind 100,000, instructions", 1, 60000),
     ("a read of 1,000,000 values, instructions a value", 1000000, 12),
 ]
@@ -263,4 +270,4 @@ for (text, times, most), counts in zip(rows, sys.argv[1:]):
     cost, looks = [int(count) / times for count in counts.split()]
     print("%s: %.1f, %.1f of them looks at the image (at most %s)" % (text, cost, looks, most))
     failed = failed or cost > most
-sys.exit(failed)' "$few" "$many" "$more" "$rows"
+sys.exit(failed)' "$few" "$many" "$few_absent" "$many_absent" "$more" "$rows"

@@ -21,7 +21,6 @@ use Rattle.h5w_reader.specs.Values.{band_rest, reading_values}
 use Rattle.h5w_reader.specs.declared.behind.Behind.TheVariants as behind_by
 use Rattle.h5w_reader.specs.declared.call.Call.{Call}
 use Rattle.h5w_reader.specs.declared.call.Call.TheVariants as calls
-use Rattle.h5w_reader.specs.declared.descent.Descent.{Descent}
 use Rattle.h5w_reader.specs.declared.descent.Waiting.{Waiting}
 use Rattle.h5w_reader.specs.declared.gather.Gather.{Gather}
 use Rattle.h5w_reader.specs.declared.grid.Beside.{Beside}
@@ -34,7 +33,6 @@ use Rattle.h5w_reader.specs.declared.values.Ranged.{Ranged}
 use Rattle.h5w_reader.specs.declared.values.Span.{Span}
 use Rattle.h5w_reader.specs.declared.values.Reads.{Reads}
 use Rattle.h5w_reader.specs.declared.values.Reads.TheVariants as reads_by
-use Rattle.h5w_reader.specs.declared.wait.Wait.{Wait}
 use Rattle.h5w_reader.proofs.CallLemmas.{fed_bind}
 use Rattle.h5w_reader.proofs.DescentLemmas.{waiting_wants}
 use Rattle.h5w_reader.proofs.PieceLemmas.{fed_gather}

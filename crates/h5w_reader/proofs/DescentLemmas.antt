@@ -1,10 +1,9 @@
 -- The steps of a descent.
-use Rattle.std.proofs.Common.{◌≡◌, ◌≢◌, ℕ, zero, suc, ◌+◌, ◌-◌, ◌<◌, ◌≤◌, min, List, [], ◌∷◌, ◌++◌, append_assoc, length, take, get_or, Some, Result, Ok, Err, ◌⊎◌, inl, inr, refl, sym, ◌∙◌, ap, arith}
+use Rattle.std.proofs.Common.{◌≡◌, ◌≢◌, ℕ, zero, suc, ◌+◌, ◌-◌, ◌<◌, ◌≤◌, min, List, [], ◌∷◌, ◌++◌, length, take, get_or, Some, Result, Ok, Err, ◌⊎◌, inl, inr, refl, sym, ◌∙◌, ap, arith}
 use Rattle.std.specs.Result.{IfOk}
 use Rattle.std.proofs.Math.Seq.{take-suc}
-use Rattle.std.proofs.lemmas.List.{length-append}
-use Rattle.std.proofs.Math.ListN.{get_or-eq_default}
-use Rattle.std.proofs.lemmas.Bool.{cases_lt, eq-eqb, ne_eqb}
+use Rattle.std.proofs.lemmas.List.{length-append, length-take, take_all, take_min}
+use Rattle.std.proofs.lemmas.Bool.{eq-eqb, ne_eqb}
 use Rattle.h5w_model.specs.Programs.{Prog, ret, and_then, lowered, Kept, used, next_look}
 use Rattle.h5w_model.specs.Numbers.{undefined}
 use Rattle.h5w_model.specs.Arrays.{SlotsFields, super_block_of, eadb_at, easb_at}
@@ -16,7 +15,8 @@ use Rattle.h5w_model.specs.declared.refusal.BlockFault.TheVariants as faults
 use Rattle.h5w_model.specs.declared.refusal.ReadError.{ReadError}
 use Rattle.h5w_model.specs.declared.refusal.ReadError.TheVariants.{Damaged}
 use Rattle.h5w_reader.specs.Seeking.{store_rest, next_rest, data_given, second_given, wait_given}
-use Rattle.h5w_reader.specs.Slots.{key_of, known_or, slots_from, answered, slots_rest, after_slot}
+use Rattle.h5w_reader.specs.Unknown.{unknown_at, with_found, needed_with}
+use Rattle.h5w_reader.specs.Slots.{key_of, known_or, slots_from, answered, slots_rest, slots_left, found_left, after_found}
 use Rattle.h5w_reader.specs.Stores.{IsBlockOf, kept}
 use Rattle.h5w_reader.specs.Descents.{after_next, waiting, descended}
 use Rattle.h5w_reader.specs.declared.block.Block.{Block}
@@ -25,63 +25,132 @@ use Rattle.h5w_reader.specs.declared.descent.Descended.{Descended}
 use Rattle.h5w_reader.specs.declared.descent.Descended.TheVariants as descended_by
 use Rattle.h5w_reader.proofs.PieceLemmas.{wants_gather}
 use Rattle.h5w_reader.proofs.CallLemmas.{then_assoc}
+use Rattle.h5w_reader.proofs.UnknownLemmas.{unknown_is, unknown_rises, known_first, known_between, length_found, found_keeps, found_next}
 
 -- ---- Chunk by chunk
 
 -- behind the last needed chunk
-pub slots_end : (at : ℕ) (known : List ℕ) (d : Described) (p : InPlace) (ks : List Kept) (i : ℕ) (done : List ℕ) → needed d ≤ i → slots_rest at known d p ks i done ≡ answered at d done
+slots_end : (at : ℕ) (known : List ℕ) (d : Described) (p : InPlace) (ks : List Kept) (i : ℕ) (done : List ℕ) → needed d ≤ i → slots_rest at known d p ks i done ≡ answered at d done
 unfolding slots_rest
 slots_end at known d p ks i done h =
     let none : needed d - i ≡ 0 = omega arith in
     ap (λ n. lowered 16 ks (and_then (slots_from p (chunks_across d) known n i done) (answered at d))) none
 
 -- at a needed chunk
-pub slots_step : (at : ℕ) (known : List ℕ) (d : Described) (p : InPlace) (ks : List Kept) (i : ℕ) (done : List ℕ) → i < needed d
-    → slots_rest at known d p ks i done ≡ store_rest ks (known_or p (chunks_across d) known i) (after_slot at known d p i done)
-unfolding slots_rest store_rest
-slots_step at known d p ks i done h =
+slots_step : (at : ℕ) (known : List ℕ) (d : Described) (p : InPlace) (i : ℕ) (done : List ℕ) → i < needed d
+    → slots_left at known d p i done ≡ and_then (known_or p (chunks_across d) known i) (λ a. slots_left at known d p (i + 1) (done ++ a ∷ []))
+slots_step at known d p i done h =
     let more : needed d - i ≡ suc (needed d - (i + 1)) = omega arith in
-    ap (λ n. lowered 16 ks (and_then (slots_from p (chunks_across d) known n i done) (answered at d))) more
-    ∙ ap (lowered 16 ks) (then_assoc (known_or p (chunks_across d) known i) (λ a. slots_from p (chunks_across d) known (needed d - (i + 1)) (i + 1) (done ++ a ∷ [])) (answered at d))
+    ap (λ n. and_then (slots_from p (chunks_across d) known n i done) (answered at d)) more
+    ∙ then_assoc (known_or p (chunks_across d) known i) (λ a. slots_from p (chunks_across d) known (needed d - (i + 1)) (i + 1) (done ++ a ∷ [])) (answered at d)
 
--- behind its address
-pub slots_next : (at : ℕ) (known : List ℕ) (d : Described) (p : InPlace) (ks : List Kept) (i a : ℕ) (done : List ℕ)
-    → slots_rest at known d p ks (i + 1) (done ++ a ∷ []) ≡ next_rest ks (after_slot at known d p i done) a
-unfolding slots_rest next_rest
-slots_next at known d p ks i a done = refl
-
--- a chunk whose address is known
-pub known_is : (p : InPlace) (across : ℕ) (known : List ℕ) (i : ℕ) → get_or known i undefined ≢ undefined → known_or p across known i ≡ ret (Ok (get_or known i undefined))
+-- a chunk whose address is known, and one whose address is not
+known_is : (p : InPlace) (across : ℕ) (known : List ℕ) (i : ℕ) → get_or known i undefined ≢ undefined → known_or p across known i ≡ ret (Ok (get_or known i undefined))
 known_is p across known i h = rw (ne_eqb (get_or known i undefined) undefined h) refl
 
-pub unknown_is : (p : InPlace) (across : ℕ) (known : List ℕ) (i : ℕ) → get_or known i undefined ≡ undefined → known_or p across known i ≡ address_behind p (key_of across i)
-unknown_is p across known i h = rw (eq-eqb (get_or known i undefined) undefined h) refl
+sought_is : (p : InPlace) (across : ℕ) (known : List ℕ) (i : ℕ) → get_or known i undefined ≡ undefined → known_or p across known i ≡ address_behind p (key_of across i)
+sought_is p across known i h = rw (eq-eqb (get_or known i undefined) undefined h) refl
 
-pub known_found : (ks : List Kept) (p : InPlace) (across : ℕ) (known : List ℕ) (i a : ℕ) (next : ℕ → Prog (Result Reading ReadError)) → a ≡ get_or known i undefined → a ≢ undefined → next_rest ks next a ≡ store_rest ks (known_or p across known i) next
-unfolding store_rest next_rest
-known_found ks p across known i a next is there =
-    let some : get_or known i undefined ≢ undefined = λ z. there (is ∙ z) in
-    ap (next_rest ks next) is ∙ sym (ap (λ (q : Prog (Result ℕ ReadError)). store_rest ks q next) (known_is p across known i some))
+known_step : (at : ℕ) (known : List ℕ) (d : Described) (p : InPlace) (i : ℕ) (done : List ℕ) → i < needed d → get_or known i undefined ≢ undefined
+    → slots_left at known d p i done ≡ slots_left at known d p (i + 1) (done ++ get_or known i undefined ∷ [])
+known_step at known d p i done h there =
+    slots_step at known d p i done h
+    ∙ ap (λ (q : Prog (Result ℕ ReadError)). and_then q (λ a. slots_left at known d p (i + 1) (done ++ a ∷ []))) (known_is p (chunks_across d) known i there)
 
-pub unknown_sought : (ks : List Kept) (p : InPlace) (across : ℕ) (known : List ℕ) (i a : ℕ) (next : ℕ → Prog (Result Reading ReadError)) → a ≡ get_or known i undefined → a ≡ undefined
-    → store_rest ks (address_behind p (key_of across i)) next ≡ store_rest ks (known_or p across known i) next
-unknown_sought ks p across known i a next is none = sym (ap (λ (q : Prog (Result ℕ ReadError)). store_rest ks q next) (unknown_is p across known i (sym is ∙ none)))
+-- known chunks, one behind the other, which stand in a table
+slots_go : (at : ℕ) (known : List ℕ) (d : Described) (p : InPlace) (table : List ℕ) (i m : ℕ) → i + m ≤ needed d → i + m ≤ length table
+    → ((j : ℕ) → i ≤ j → j < i + m → get_or known j undefined ≢ undefined) → ((j : ℕ) → i ≤ j → j < i + m → get_or table j undefined ≡ get_or known j undefined)
+    → slots_left at known d p i (take i table) ≡ slots_left at known d p (i + m) (take (i + m) table)
+slots_go at known d p table i zero h k defined same = ap (λ n. slots_left at known d p n (take n table)) (let z : i ≡ i + 0 = omega arith in z)
+slots_go at known d p table i (suc m) h k defined same =
+    let n : ℕ = i + m in
+    let less : n < needed d = omega arith in
+    let inside : n < length table = omega arith in
+    let last : n < i + suc m = omega arith in
+    let behind : i ≤ n = omega arith in
+    let one : n + 1 ≡ suc n = omega arith in
+    let end : suc n ≡ i + suc m = omega arith in
+    slots_go at known d p table i m (omega arith) (omega arith) (λ j x y. defined j x (omega arith)) (λ j x y. same j x (omega arith))
+    ∙ known_step at known d p n (take n table) less (defined n behind last)
+    ∙ ap (λ a. slots_left at known d p (n + 1) (take n table ++ a ∷ [])) (sym (same n behind last))
+    ∙ ap (slots_left at known d p (n + 1)) (sym (take-suc table n undefined inside))
+    ∙ ap (λ k. slots_left at known d p k (take (suc n) table)) one
+    ∙ ap (λ k. slots_left at known d p k (take k table)) end
 
--- the first addresses are known
-pub slots_skip : (at : ℕ) (known : List ℕ) (d : Described) (p : InPlace) (ks : List Kept) (m : ℕ) → m ≤ needed d → ((i : ℕ) → i < m → get_or known i undefined ≢ undefined)
-    → slots_rest at known d p ks 0 [] ≡ slots_rest at known d p ks m (take m known)
-slots_skip at known d p ks zero h defined = refl
-slots_skip at known d p ks (suc m) h defined =
-    let less : m < needed d = omega arith in
-    let there = defined m (omega arith) in
-    let inside : m < length known = elim (cases_lt m (length known)) [ inl k ↦ k | inr k ↦ absurd (there (get_or-eq_default known undefined k)) ] in
-    let one : m + 1 ≡ suc m = omega arith in
-    slots_skip at known d p ks m (omega arith) (λ i k. defined i (omega arith))
-    ∙ slots_step at known d p ks m (take m known) less
-    ∙ sym (known_found ks p (chunks_across d) known m (get_or known m undefined) (after_slot at known d p m (take m known)) refl there)
-    ∙ sym (slots_next at known d p ks m (get_or known m undefined) (take m known))
-    ∙ ap (λ n. slots_rest at known d p ks n (take m known ++ get_or known m undefined ∷ [])) one
-    ∙ ap (slots_rest at known d p ks (suc m)) (sym (take-suc known m undefined inside))
+-- up to the next chunk without a known address, or the last that is needed
+slots_settle : (at : ℕ) (known : List ℕ) (d : Described) (p : InPlace) (xs : List ℕ) (i : ℕ) → i ≤ needed d → i ≤ length (with_found known xs)
+    → ((j : ℕ) → i ≤ j → j < length (with_found known xs) → get_or known j undefined ≢ undefined)
+    → slots_left at known d p i (take i (with_found known xs)) ≡ found_left at known d p xs
+slots_settle at known d p xs i h k defined =
+    let table = with_found known xs in
+    let n : ℕ = min (needed d) (length table) in
+    let end : i + (n - i) ≡ n = omega arith in
+    let there : (j : ℕ) → i ≤ j → j < i + (n - i) → get_or known j undefined ≢ undefined = λ j x y. defined j x (omega arith) in
+    let same : (j : ℕ) → i ≤ j → j < i + (n - i) → get_or table j undefined ≡ get_or known j undefined = λ j x y. found_keeps known xs j (there j x y) (omega arith) in
+    slots_go at known d p table i (n - i) (omega arith) (omega arith) there same
+    ∙ ap (λ m. slots_left at known d p m (take m table)) end
+    ∙ ap (λ ys. slots_left at known d p n ys) (take_min (needed d) table)
+    ∙ ap (λ m. slots_left at known d p m (take (needed d) table)) (sym (length-take (needed d) table))
+
+-- the first chunks are known
+pub slots_begin : (at : ℕ) (known : List ℕ) (d : Described) (p : InPlace) (ks : List Kept)
+    → slots_rest at known d p ks 0 [] ≡ slots_rest at known d p ks (length (needed_with known d [])) (needed_with known d [])
+unfolding slots_rest
+slots_begin at known d p ks =
+    let count : length (with_found known []) ≡ unknown_at known 0 = length_found known [] in
+    ap (lowered 16 ks) (slots_settle at known d p [] 0 (omega arith) (omega arith) (λ j x y. known_first known j (omega (arith, count))))
+
+-- behind the address of the next without a known one
+slots_more : (at : ℕ) (known : List ℕ) (d : Described) (p : InPlace) (xs : List ℕ) (a : ℕ) → unknown_at known (length xs) < needed d
+    → slots_left at known d p (unknown_at known (length xs) + 1) (with_found known xs ++ a ∷ []) ≡ after_found at known d p xs a
+slots_more at known d p xs a h =
+    let u : ℕ = unknown_at known (length xs) in
+    let table = with_found known (xs ++ a ∷ []) in
+    let more : length (xs ++ a ∷ []) ≡ suc (length xs) = length-append xs (a ∷ []) ∙ omega arith in
+    let count : length table ≡ unknown_at known (suc (length xs)) = length_found known (xs ++ a ∷ []) ∙ ap (unknown_at known) more in
+    let rises : u < unknown_at known (suc (length xs)) = unknown_rises known (length xs) in
+    let one : u + 1 ≡ suc u = omega arith in
+    ap (slots_left at known d p (u + 1)) (sym (found_next known xs a))
+    ∙ ap (λ k. slots_left at known d p k (take (suc u) table)) one
+    ∙ slots_settle at known d p (xs ++ a ∷ []) (suc u) (omega arith) (omega (arith, count, rises)) (λ j x y. known_between known (length xs) j (omega arith) (omega (arith, count)))
+
+-- at that chunk
+slots_here : (at : ℕ) (known : List ℕ) (d : Described) (p : InPlace) (xs : List ℕ) → unknown_at known (length xs) < needed d
+    → found_left at known d p xs ≡ slots_left at known d p (unknown_at known (length xs)) (with_found known xs)
+slots_here at known d p xs h =
+    let table = with_found known xs in
+    let count : length table ≡ unknown_at known (length xs) = length_found known xs in
+    let all : take (needed d) table ≡ table = take_all (needed d) table (omega (arith, count)) in
+    ap (λ ys. slots_left at known d p (length ys) ys) all
+    ∙ ap (λ n. slots_left at known d p n table) count
+
+-- that chunk is looked up
+pub slots_at : (at : ℕ) (known : List ℕ) (d : Described) (p : InPlace) (ks : List Kept) (across i : ℕ) (xs : List ℕ) → across ≡ chunks_across d → i ≡ unknown_at known (length xs) → i < needed d
+    → store_rest ks (address_behind p (key_of across i)) (after_found at known d p xs) ≡ slots_rest at known d p ks (length (needed_with known d xs)) (needed_with known d xs)
+unfolding slots_rest store_rest
+slots_at at known d p ks across i xs wide is less =
+    let u : ℕ = unknown_at known (length xs) in
+    let near : u < needed d = omega arith in
+    ap (λ m. lowered 16 ks (and_then (address_behind p (key_of m i)) (after_found at known d p xs))) wide
+    ∙ ap (λ m. lowered 16 ks (and_then (address_behind p (key_of (chunks_across d) m)) (after_found at known d p xs))) is
+    ∙ ap (λ (q : Prog (Result ℕ ReadError)). lowered 16 ks (and_then q (after_found at known d p xs))) (sym (sought_is p (chunks_across d) known u (unknown_is known (length xs))))
+    ∙ ap (λ (f : ℕ → Prog (Result Reading ReadError)). lowered 16 ks (and_then (known_or p (chunks_across d) known u) f)) (λ i a. sym (slots_more at known d p xs a near) i)
+    ∙ ap (lowered 16 ks) (sym (slots_step at known d p u (with_found known xs) near))
+    ∙ ap (lowered 16 ks) (sym (slots_here at known d p xs near))
+
+-- behind its address
+pub slots_push : (at : ℕ) (known : List ℕ) (d : Described) (p : InPlace) (ks : List Kept) (a : ℕ) (xs items : List ℕ) → items ≡ xs ++ a ∷ []
+    → slots_rest at known d p ks (length (needed_with known d items)) (needed_with known d items) ≡ next_rest ks (after_found at known d p xs) a
+unfolding slots_rest next_rest
+slots_push at known d p ks a xs items h = ap (λ ys. lowered 16 ks (found_left at known d p ys)) h
+
+-- all needed chunks are known or were found
+pub slots_done : (at : ℕ) (known : List ℕ) (d : Described) (p : InPlace) (ks : List Kept) (xs : List ℕ) → needed d ≤ unknown_at known (length xs)
+    → slots_rest at known d p ks (length (needed_with known d xs)) (needed_with known d xs) ≡ answered at d (needed_with known d xs)
+slots_done at known d p ks xs h =
+    let count = length_found known xs in
+    let long = length-take (needed d) (with_found known xs) in
+    slots_end at known d p ks (length (needed_with known d xs)) (needed_with known d xs) (omega (arith, count, long))
 
 -- ---- Blocks
 
@@ -123,23 +192,3 @@ pub refused_block : {A E : Type 0} (g : CallRules) (at : ℕ) (r : Result Descen
 refused_block g at (Ok d) f given p h other (inl e) k = absurd (other e)
 refused_block g at (Ok d) f given p h other (inr e) k = ap (descended g) h ∙ sym (k e)
 refused_block g at (Err x) f given p h other c k = h
-
--- behind the address of the next chunk
-pub slots_push : (at : ℕ) (known : List ℕ) (d : Described) (p : InPlace) (ks : List Kept) (m a : ℕ) (front tail items : List ℕ) → items ≡ tail ++ a ∷ []
-    → slots_rest at known d p ks (m + length items) (front ++ items) ≡ next_rest ks (after_slot at known d p (m + length tail) (front ++ tail)) a
-slots_push at known d p ks m a front tail items h =
-    let count : m + length (tail ++ a ∷ []) ≡ m + length tail + 1 = ap (λ n. m + n) (length-append tail (a ∷ [])) ∙ omega arith in
-    ap (λ xs. slots_rest at known d p ks (m + length xs) (front ++ xs)) h
-    ∙ ap (λ n. slots_rest at known d p ks n (front ++ (tail ++ a ∷ []))) count
-    ∙ ap (slots_rest at known d p ks (m + length tail + 1)) (sym (append_assoc front tail (a ∷ [])))
-    ∙ slots_next at known d p ks (m + length tail) a (front ++ tail)
-
--- the next chunk, by the known addresses as the code has them
-pub slots_at : (at : ℕ) (known code : List ℕ) (d : Described) (p : InPlace) (ks : List Kept) (across i n : ℕ) (done : List ℕ) → across ≡ chunks_across d → code ≡ known → i ≡ n → n < needed d
-    → store_rest ks (known_or p across code i) (after_slot at known d p n done) ≡ slots_rest at known d p ks i done
-slots_at at known code d p ks across i n done wide same is less =
-    ap (λ m. store_rest ks (known_or p m code i) (after_slot at known d p n done)) wide
-    ∙ ap (λ xs. store_rest ks (known_or p (chunks_across d) xs i) (after_slot at known d p n done)) same
-    ∙ ap (λ m. store_rest ks (known_or p (chunks_across d) known m) (after_slot at known d p n done)) is
-    ∙ sym (slots_step at known d p ks n done less)
-    ∙ ap (λ m. slots_rest at known d p ks m done) (sym is)

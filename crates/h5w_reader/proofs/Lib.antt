@@ -14,7 +14,7 @@ pub mod SeekLemmas
 pub mod NodeLemmas
 pub mod IndexLemmas
 pub mod UnstoredLemmas
-pub mod LearnLemmas
+pub mod UnknownLemmas
 pub mod IdleLemmas
 pub mod DescentLemmas
 pub mod PlaceLemmas

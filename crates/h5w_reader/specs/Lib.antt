@@ -13,6 +13,7 @@ pub mod Keyed
 pub mod Stores
 pub mod Seeking
 pub mod Sought
+pub mod Unknown
 pub mod Slots
 pub mod Descents
 pub mod Attempts

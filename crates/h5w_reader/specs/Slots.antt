@@ -1,9 +1,10 @@
 -- What is left of the addresses of chunks, behind the blocks in place.
-use Rattle.std.specs.Prelude.{ℕ, zero, suc, ◌+◌, ◌-◌, ◌/◌, ◌%◌, List, [], ◌∷◌, ◌++◌, get_or, ◌==◌, if◌then◌else◌, Result, Ok}
+use Rattle.std.specs.Prelude.{ℕ, zero, suc, ◌+◌, ◌-◌, ◌/◌, ◌%◌, List, [], ◌∷◌, ◌++◌, length, get_or, ◌==◌, if◌then◌else◌, Result, Ok}
 use Rattle.h5w_model.specs.Programs.{Prog, ret, and_then, lowered, Kept}
 use Rattle.h5w_model.specs.Numbers.{undefined}
 use Rattle.h5w_model.specs.Datasets.{Described}
 use Rattle.h5w_model.specs.Tables.{Reading, InPlace, address_behind, chunks_across, needed}
+use Rattle.h5w_reader.specs.Unknown.{needed_with}
 use Rattle.h5w_model.specs.declared.cell.Key.{Key}
 use Rattle.h5w_model.specs.declared.refusal.ReadError.{ReadError}
 
@@ -28,6 +29,14 @@ answered at d table = ret (Ok (record { place = at; dataset = d; table = table }
 unfoldable pub slots_rest : ℕ → List ℕ → Described → InPlace → List Kept → ℕ → List ℕ → Prog (Result Reading ReadError)
 slots_rest at known d p ks i done = lowered 16 ks (and_then (slots_from p (chunks_across d) known (needed d - i) i done) (answered at d))
 
--- what comes behind the address of chunk i
-abbrev pub after_slot : ℕ → List ℕ → Described → InPlace → ℕ → List ℕ → ℕ → Prog (Result Reading ReadError)
-after_slot at known d p i done a = and_then (slots_from p (chunks_across d) known (needed d - (i + 1)) (i + 1) (done ++ a ∷ [])) (answered at d)
+-- from chunk i on
+abbrev pub slots_left : ℕ → List ℕ → Described → InPlace → ℕ → List ℕ → Prog (Result Reading ReadError)
+slots_left at known d p i done = and_then (slots_from p (chunks_across d) known (needed d - i) i done) (answered at d)
+
+-- from the chunk on that is the first without a known address, but for those of which one was found
+abbrev pub found_left : ℕ → List ℕ → Described → InPlace → List ℕ → Prog (Result Reading ReadError)
+found_left at known d p found = slots_left at known d p (length (needed_with known d found)) (needed_with known d found)
+
+-- what comes behind the address of that chunk
+abbrev pub after_found : ℕ → List ℕ → Described → InPlace → List ℕ → ℕ → Prog (Result Reading ReadError)
+after_found at known d p found a = found_left at known d p (found ++ a ∷ [])

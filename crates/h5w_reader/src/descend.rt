@@ -18,11 +18,10 @@ use crate::gather::{Gather, Gathered};
 use crate::known::{Known, Rules};
 use crate::look::Look;
 use crate::news::News;
-use crate::recall::addresses;
+use crate::recall::unknown;
 use crate::seek::Sought;
 use crate::sizes::sizes;
 use crate::wait::{DataWait, NodeWait, SecondWait, Wait};
-use h5w_bytes::UNDEFINED;
 use h5w_model::{BlockFault, OutOfMemory, Piece, ReadError};
 use std::alloc::Global;
 
@@ -40,7 +39,6 @@ fn refused(at: u64, fault: BlockFault) -> Result<Descended, OutOfMemory>
 impl Descent {
     /// Waits for a block on the way to its next chunk. There is room for all of it.
     fn wait(self, alloc: Global, wait: Wait) -> Result<Box<Waiting>, OutOfMemory>
-        requires { self.kept + length self.tail.items < needed (described_of self.dataset) }
         ensures { IfOk result (λ w. (g : CallRules) → waiting g w.value ≡ wait_rest (kept self.store) wait (after_next g self)) }
     {
         let (at, len) = (wait.at(), wait.len());
@@ -66,34 +64,32 @@ impl Descent {
         let Descent {
             dataset,
             index,
-            kept,
-            mut tail,
+            mut found,
             mut store,
         } = self;
         let needed = dataset.needed() as usize;
         let across = dataset.across() as u64;
-        for i in kept + tail.len()..needed {
-            let found = addresses(known, &dataset);
-            let address = match Sought::chunk(found, &mut store, &index, across, i) {
+        let mut i = unknown(known, &dataset, found.len());
+        while i < needed {
+            let address = match Sought::chunk(&mut store, &index, across, i) {
                 Sought::Found(address) => address,
                 Sought::Wait(wait) => {
                     let descent = Descent {
                         dataset,
                         index,
-                        kept,
-                        tail,
+                        found,
                         store,
                     };
                     return Ok(Descended::Looks(descent.wait(alloc, wait)?));
                 }
             };
-            tail.push(address)?;
+            found.push(address)?;
+            i = unknown(known, &dataset, found.len());
         }
         Ok(Descended::Ready(News {
             place: rules.place,
             dataset,
-            kept,
-            tail,
+            found,
             view: None,
         }))
     }
@@ -106,10 +102,9 @@ impl Descent {
         known: &Option<Known>,
         address: u64,
     ) -> Result<Descended, OutOfMemory>
-        requires { self.kept + length self.tail.items < needed (described_of self.dataset) }
         ensures { IfOk result (λ d. descended (rules_of rules.now (known_of known.now)) d ≡ next_rest (kept self.store) (after_next (rules_of rules.now (known_of known.now)) self) address) }
     {
-        self.tail.push(address)?;
+        self.found.push(address)?;
         self.go_on(alloc, rules, known)
     }
 
@@ -121,7 +116,6 @@ impl Descent {
         known: &Option<Known>,
         way: Sought,
     ) -> Result<Descended, OutOfMemory>
-        requires { self.kept + length self.tail.items < needed (described_of self.dataset) }
         ensures { IfOk result (λ d. descended (rules_of rules.now (known_of known.now)) d ≡ sought (kept self.store) (after_next (rules_of rules.now (known_of known.now)) self) way) }
     {
         match way {
@@ -139,8 +133,7 @@ impl Descent {
         w: DataWait,
         bytes: Vec<u8>,
     ) -> Result<Descended, OutOfMemory>
-        requires more { self.kept + length self.tail.items < needed (described_of self.dataset) }
-        requires inside { w.at + length bytes.items ≤ 2 ^ 64 }
+        requires { w.at + length bytes.items ≤ 2 ^ 64 }
         ensures { IfOk result (λ d. descended (rules_of rules.now (known_of known.now)) d ≡ wait_given (kept self.store) (Wait.Data w) (after_next (rules_of rules.now (known_of known.now)) self) bytes.items) }
     {
         let block = match Block::data(alloc, w.at, w.n, bytes) {
@@ -161,8 +154,7 @@ impl Descent {
         w: SecondWait,
         bytes: Vec<u8>,
     ) -> Result<Descended, OutOfMemory>
-        requires more { self.kept + length self.tail.items < needed (described_of self.dataset) }
-        requires inside { w.at + length bytes.items ≤ 2 ^ 64 }
+        requires { w.at + length bytes.items ≤ 2 ^ 64 }
         ensures { IfOk result (λ d. descended (rules_of rules.now (known_of known.now)) d ≡ wait_given (kept self.store) (Wait.Second w) (after_next (rules_of rules.now (known_of known.now)) self) bytes.items) }
     {
         let (blocks, slots) = sizes(w.sblock);
@@ -185,8 +177,7 @@ impl Descent {
         w: NodeWait,
         bytes: Vec<u8>,
     ) -> Result<Descended, OutOfMemory>
-        requires more { self.kept + length self.tail.items < needed (described_of self.dataset) }
-        requires inside { w.at + length bytes.items ≤ 2 ^ 64 }
+        requires { w.at + length bytes.items ≤ 2 ^ 64 }
         ensures { IfOk result (λ d. descended (rules_of rules.now (known_of known.now)) d ≡ wait_given (kept self.store) (Wait.Node w) (after_next (rules_of rules.now (known_of known.now)) self) bytes.items) }
     {
         let block = match Block::node(alloc, w.at, w.depth, w.n, bytes) {
@@ -214,8 +205,7 @@ impl Descent {
         wait: Wait,
         bytes: Vec<u8>,
     ) -> Result<Descended, OutOfMemory>
-        requires more { self.kept + length self.tail.items < needed (described_of self.dataset) }
-        requires inside { wait_at wait + length bytes.items ≤ 2 ^ 64 }
+        requires { wait_at wait + length bytes.items ≤ 2 ^ 64 }
         ensures { IfOk result (λ d. descended (rules_of rules.now (known_of known.now)) d ≡ wait_given (kept self.store) wait (after_next (rules_of rules.now (known_of known.now)) self) bytes.items) }
     {
         match wait {

@@ -45,5 +45,5 @@ pub fn is_idle(rules: &Rules, known: &Option<Known>, look: &Piece) -> bool
     if needed != known.table.len() as u128 {
         return false;
     }
-    known.full == known.table.len()
+    known.absent.len() == 0
 }

@@ -8,16 +8,14 @@ ghost use Rattle.h5w_reader.specs.Seen.{IsHeaderOf};
 use crate::dataset::Dataset;
 use h5w_model::Bytes;
 
-/// A dataset, and the addresses of its chunks that were not known.
+/// A dataset, and the addresses of its chunks that were not known: of those that were absent, and of those behind the known.
 #[derive(Drop)]
 pub struct News {
     /// The place of its header.
     pub place: u64,
     pub dataset: Dataset,
-    /// How many of the known addresses stay.
-    pub kept: usize,
-    /// The addresses of the chunks behind them.
-    pub tail: Vec<u64>,
+    /// These addresses, in the order of the chunks' keys; undefined where a chunk is not there.
+    pub found: Vec<u64>,
     /// What counts of the look at the header, where nothing else was looked at.
     pub view: Option<Bytes>,
     ghost few: { needed (described_of dataset) ≤ 1000000 },

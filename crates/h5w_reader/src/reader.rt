@@ -184,7 +184,7 @@ impl ReaderCore {
             ) {
                 Ok(Came::Answer(Ok(news))) => {
                     let rows = news.dataset.shape.rows;
-                    match learn(&mut self.known, news) {
+                    match learn(self.alloc, &mut self.known, news) {
                         Ok(()) => Step::Rows(rows),
                         Err(OutOfMemory) => Step::Refused(ReadError::OutOfMemory),
                     }

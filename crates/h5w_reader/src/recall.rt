@@ -1,9 +1,9 @@
 //! What of a known dataset serves a call.
-ghost use Rattle.std.specs.Prelude.{◌≡◌, ◌≢◌, ◌<◌, ℕ, get_or};
-ghost use Rattle.h5w_model.specs.Numbers.{undefined};
+ghost use Rattle.std.specs.Prelude.{◌≡◌, ◌<◌, ◌^◌};
 ghost use Rattle.h5w_model.specs.Calls.{known_table, rows_seen, same_cut};
 ghost use Rattle.h5w_reader.specs.Attempts.{known_of};
 ghost use Rattle.h5w_reader.specs.Described.{described_of};
+ghost use Rattle.h5w_reader.specs.Unknown.{unknown_at};
 
 use crate::dataset::Dataset;
 use crate::known::Known;
@@ -27,23 +27,13 @@ pub fn rows_seen(known: &Option<Known>) -> u64
     }
 }
 
-/// The addresses that are known of a dataset's first chunks.
-pub fn addresses<'a>(known: &'a Option<Known>, d: &Dataset) -> &'a [u64]
-    ensures { result.now ≡ known_table (known_of known.now) (described_of d.now) }
+/// The number of a dataset's chunk without a known address before which `n` such stand.
+pub fn unknown(known: &Option<Known>, d: &Dataset, n: usize) -> usize
+    requires { n < 2 ^ 63 }
+    ensures { result ≡ unknown_at (known_table (known_of known.now) (described_of d.now)) n }
 {
     match known {
-        Some(known) if is_cut_alike(&known.dataset, d) => known.table.as_slice(),
-        _ => &[],
-    }
-}
-
-/// The number of a dataset's first chunk whose address is not known.
-pub fn covered(known: &Option<Known>, d: &Dataset) -> usize
-    ensures defined { (i : ℕ) → i < result → get_or (known_table (known_of known.now) (described_of d.now)) i undefined ≢ undefined }
-    ensures first { get_or (known_table (known_of known.now) (described_of d.now)) result undefined ≡ undefined }
-{
-    match known {
-        Some(known) if is_cut_alike(&known.dataset, d) => known.full,
-        _ => 0,
+        Some(known) if is_cut_alike(&known.dataset, d) => known.unknown(n),
+        _ => n,
     }
 }

@@ -8,7 +8,7 @@ ghost use Rattle.h5w_model.specs.declared.refusal.ReadError.{ReadError};
 ghost use Rattle.h5w_ea.specs.Fields.{eaib_of};
 ghost use Rattle.h5w_reader.specs.Seeking.{store_rest};
 ghost use Rattle.h5w_model.specs.Trees.{capacity_of};
-ghost use Rattle.h5w_reader.specs.Slots.{known_or};
+ghost use Rattle.h5w_reader.specs.Slots.{key_of};
 
 use crate::block::{DATA, SECOND, node_kind, node_len, slots_len};
 use crate::content::Turn;
@@ -137,16 +137,12 @@ impl Sought {
         }
     }
 
-    /// The address of chunk number `i`, of which the first may be known; so many stand side by side.
-    pub fn chunk(known: &[u64], store: &mut Store, index: &Index, across: u64, i: usize) -> Sought
+    /// The address of chunk number `i`; so many stand side by side.
+    pub fn chunk(store: &mut Store, index: &Index, across: u64, i: usize) -> Sought
         requires indexed { IsIndexOf (i + 1) index.now }
         requires some { 0 < across }
-        ensures { (next : ℕ → Prog (Result Reading ReadError)) → sought (kept store.new) next result ≡ store_rest (kept store.old) (known_or (in_place_of index.now) across known.now i) next }
+        ensures { (next : ℕ → Prog (Result Reading ReadError)) → sought (kept store.new) next result ≡ store_rest (kept store.old) (address_behind (in_place_of index.now) (key_of across i)) next }
     {
-        let address = address_at(known, i);
-        if address != UNDEFINED {
-            return Sought::Found(address);
-        }
         let i = i as u64;
         let key = Key {
             i: i / across,

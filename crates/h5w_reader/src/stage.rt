@@ -71,15 +71,13 @@ fn with_view(news: News, view: Bytes) -> News
     let News {
         place,
         dataset,
-        kept,
-        tail,
+        found,
         ..
     } = news;
     News {
         place,
         dataset,
-        kept,
-        tail,
+        found,
         view: Some(view),
     }
 }

@@ -12,7 +12,7 @@ use crate::index::Index;
 use crate::known::{Known, Rules};
 use crate::look::Look;
 use crate::news::News;
-use crate::recall::covered;
+use crate::recall::unknown;
 use crate::store::Store;
 use h5w_bt::Bthd;
 use h5w_bytes::UNDEFINED;
@@ -95,13 +95,10 @@ impl LookedUp {
         requires indexed { IsIndexOf (needed (described_of d.now)) index }
         ensures { IfOk result (λ l. looked_up (rules_of rules.now (known_of known.now)) l ≡ slots_rest rules.now.place (known_table (known_of known.now) (described_of d.now)) (described_of d.now) (in_place_of index) [] 0 []) }
     {
-        let needed = d.needed() as usize;
-        let kept = covered(known, d).min(needed);
         let descent = Descent {
             dataset: *d,
             index,
-            kept,
-            tail: Vec::new(alloc),
+            found: Vec::new(alloc),
             store: Store::new(alloc)?,
         };
         Ok(LookedUp::of(descent.go_on(alloc, rules, known)?))
@@ -119,13 +116,11 @@ impl LookedUp {
         ensures { IfOk result (λ l. looked_up (rules_of rules.now (known_of known.now)) l ≡ table_rest rules.now.place (known_table (known_of known.now) (described_of d.now)) (described_of d.now)) }
     {
         let needed = d.needed() as usize;
-        let full = covered(known, d);
-        if needed <= full {
+        if needed <= unknown(known, d, 0) {
             return Ok(LookedUp::Ready(News {
                 place: rules.place,
                 dataset: *d,
-                kept: needed,
-                tail: Vec::new(alloc),
+                found: Vec::new(alloc),
                 view: None,
             }));
         }

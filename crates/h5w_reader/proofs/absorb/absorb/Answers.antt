@@ -8,7 +8,7 @@ use Rattle.h5w_reader.proofs.absorb.absorb.Goals as goal
 pub invariant_of-deref_mut : goal.invariant_of-deref_mut
 invariant_of-deref_mut c =
     let w = c.deref_mut.result.now in
-    record { more = w.more; begins = c.absorb.ensures.start ∙ w.begins }
+    record { begins = c.absorb.ensures.start ∙ w.begins }
 
 pub returns-in-Some-Rows-Behind-default-Lookup-Block-clause-more : goal.returns-in-Some-Rows-Behind-default-Lookup-Block-clause-more
 returns-in-Some-Rows-Behind-default-Lookup-Block-clause-more c = λ ok most name known.

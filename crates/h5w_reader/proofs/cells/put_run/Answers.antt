@@ -1,4 +1,4 @@
-use Rattle.std.proofs.Common.{◌≡◌, ◌∙◌, ◌<◌, ◌+◌, ◌/◌, ◌++◌, ◌∷◌, List, [], length, ap, arith, rules, to_z, of_z}
+use Rattle.std.proofs.Common.{◌≡◌, ◌∙◌, ◌<◌, ◌/◌, ◌++◌, ◌∷◌, List, [], length, ap, arith, rules, to_z, of_z}
 use Rattle.std.specs.Int.{w128}
 use Rattle.std.specs.Prelude.{ℤ}
 use Rattle.h5w_types.specs.Fields.{int_type_of}

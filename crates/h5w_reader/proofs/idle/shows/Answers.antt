@@ -1,8 +1,8 @@
-use Rattle.std.proofs.Common.{◌≡◌, ◌≤◌, ◌∙◌, ℕ, List, Ok, min, length, take, sym, ap, arith}
+use Rattle.std.proofs.Common.{◌≡◌, ◌≤◌, ◌∙◌, ℕ, List, Ok, min, length, take, sym, ap}
 use Rattle.std.specs.Prelude.{nat_eq}
 use Rattle.std.specs.Cmp.Lexicographic.{pointwise}
 use Rattle.std.proofs.lemmas.List.{take_min}
-use Rattle.h5w_model.specs.Headers.{prefix_at, header_view}
+use Rattle.h5w_model.specs.Headers.{prefix_at}
 use Rattle.h5w_reader.proofs.HeaderLemmas.{view_short}
 use Rattle.h5w_reader.proofs.IdleLemmas.{pointwise_same}
 use Rattle.h5w_reader.proofs.idle.shows.Goals as goal

@@ -1,4 +1,3 @@
-use Rattle.std.proofs.Common.{take}
 use Rattle.h5w_model.specs.Calls.{known_table}
 use Rattle.h5w_reader.specs.Attempts.{known_of, rules_of}
 use Rattle.h5w_reader.specs.Indexes.{in_place_of}
@@ -17,4 +16,4 @@ returns c =
     let d = described_of s.dataset in
     let known = known_table (known_of c.args.known.now) d in
     along (descended g) c.go_on.result _ (next_rest (kept s.store) (after_next g s) c.args.address) c.go_on.ensures
-    (slots_push g.place known d (in_place_of s.index) (kept s.store) s.kept c.args.address (take s.kept known) s.tail.items c.push.new.self.items c.in_ok-push.ensures.items)
+    (slots_push g.place known d (in_place_of s.index) (kept s.store) c.args.address s.found.items c.push.new.self.items c.in_ok-push.ensures.items)

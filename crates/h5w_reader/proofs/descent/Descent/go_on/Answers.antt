@@ -1,14 +1,16 @@
-use Rattle.std.proofs.Common.{◌≡◌, ◌+◌, ◌<◌, ◌≤◌, ◌∙◌, ◌++◌, ◌∷◌, [], length, take, ap, sym, arith}
-use Rattle.std.proofs.lemmas.List.{length-append}
+use Rattle.std.proofs.Common.{◌≡◌, suc, ◌<◌, ◌≤◌, ◌∙◌, ◌∷◌, [], length, ap, sym, arith}
 use Rattle.h5w_model.specs.Calls.{known_table}
 use Rattle.h5w_model.specs.Tables.{needed}
 use Rattle.h5w_reader.specs.Attempts.{known_of, rules_of}
 use Rattle.h5w_reader.specs.Indexes.{in_place_of}
 use Rattle.h5w_reader.specs.Described.{described_of}
-use Rattle.h5w_reader.specs.Slots.{slots_rest, after_slot}
+use Rattle.h5w_reader.specs.Slots.{after_found}
+use Rattle.h5w_reader.specs.Unknown.{unknown_at}
+use Rattle.h5w_reader.proofs.UnknownLemmas.{unknown_rises}
+use Rattle.std.proofs.lemmas.List.{length-append}
 use Rattle.h5w_reader.specs.Stores.{kept}
 use Rattle.h5w_reader.proofs.IndexLemmas.{index_below, some_across}
-use Rattle.h5w_reader.proofs.DescentLemmas.{slots_end, slots_at, slots_push}
+use Rattle.h5w_reader.proofs.DescentLemmas.{slots_done, slots_at, slots_push}
 use Rattle.h5w_reader.proofs.descent.Descent.go_on.Goals as goal
 
 pub returns-in-Wait : goal.returns-in-Wait
@@ -18,13 +20,11 @@ returns-in-Wait c =
     let d = described_of s.dataset in
     let e = in_place_of s.index in
     let known = known_table (known_of c.args.known.now) d in
-    let n = s.kept + length c.loop-i.tail.items in
-    let done = take s.kept known ++ c.loop-i.tail.items in
-    let at = c.loop-i.invariant.at in
-    let less : n < needed d = omega (arith, at, c.loop-i-test.true, c.needed-needed.ensures) in
+    let xs = c.loop-i.found.items in
+    let less : c.loop-i.i < needed d = omega (arith, c.loop-i-test.true, c.needed-needed.ensures) in
     c.in_ok-wait-in-Wait.ensures g
-    ∙ c.in-Wait.ensures (after_slot g.place known d e n done)
-    ∙ slots_at g.place known c.addresses-found.result.now d e (kept c.loop-i.store) c.across-across.result c.loop-i.i n done c.across-across.ensures.exact c.addresses-found.ensures at less
+    ∙ c.in-Wait.ensures (after_found g.place known d e xs)
+    ∙ slots_at g.place known d e (kept c.loop-i.store) c.across-across.result c.loop-i.i xs c.across-across.ensures.exact c.loop-i.invariant.at less
     ∙ c.loop-i.invariant.same
 
 pub loop-i-preserved : goal.loop-i-preserved
@@ -35,23 +35,25 @@ loop-i-preserved c =
     let e = in_place_of s.index in
     let known = known_table (known_of c.args.known.now) d in
     let a = c.in-Found.address in
-    let tail = c.loop-i.tail.items in
-    let n = s.kept + length tail in
-    let front = take s.kept known in
-    let at = c.loop-i.invariant.at in
-    let items = c.in_ok-push.ensures.items in
-    let count : length c.push.new.self.items ≡ length tail + 1 = ap length items ∙ length-append tail (a ∷ []) in
-    let less : n < needed d = omega (arith, at, c.loop-i-test.true, c.needed-needed.ensures) in
-    let next : c.loop-i.i + 1 ≡ s.kept + length c.push.new.self.items = omega (arith, at, count) in
+    let xs = c.loop-i.found.items in
+    let less : c.loop-i.i < needed d = omega (arith, c.loop-i-test.true, c.needed-needed.ensures) in
+    let count : c.len-in-loop-i.result ≡ length c.push.new.self.items = omega (arith, c.len-in-loop-i.ensures, c.push.new.self.ok.0) in
     record {
-      at = next;
-      within = omega (arith, c.loop-i-test.true);
-      same = ap (λ m. slots_rest place known d e (kept c.chunk.new.store) m (front ++ c.push.new.self.items)) next
-          ∙ slots_push place known d e (kept c.chunk.new.store) s.kept a front tail c.push.new.self.items items
-          ∙ c.in-Found.ensures (after_slot place known d e n (front ++ tail))
-          ∙ slots_at place known c.addresses-found.result.now d e (kept c.loop-i.store) c.across-across.result c.loop-i.i n (front ++ tail) c.across-across.ensures.exact c.addresses-found.ensures at less
+      at = c.unknown-i-in-loop-i.ensures ∙ ap (unknown_at known) count;
+      same = slots_push place known d e (kept c.chunk.new.store) a xs c.push.new.self.items c.in_ok-push.ensures.items
+          ∙ c.in-Found.ensures (after_found place known d e xs)
+          ∙ slots_at place known d e (kept c.loop-i.store) c.across-across.result c.loop-i.i xs c.across-across.ensures.exact c.loop-i.invariant.at less
           ∙ c.loop-i.invariant.same;
     }
+
+pub loop-i-smaller : goal.loop-i-smaller
+loop-i-smaller c =
+    let s = c.args.self in
+    let known = known_table (known_of c.args.known.now) (described_of s.dataset) in
+    let xs = c.loop-i.found.items in
+    let more : c.len-in-loop-i.result ≡ suc (length xs) = omega (arith, c.len-in-loop-i.ensures, c.push.new.self.ok.0, ap length c.in_ok-push.ensures.items, length-append xs (c.in-Found.address ∷ [])) in
+    let next : c.unknown-i-in-loop-i.result ≡ unknown_at known (suc (length xs)) = c.unknown-i-in-loop-i.ensures ∙ ap (unknown_at known) more in
+    omega (arith, c.loop-i-test.true, c.loop-i.invariant.at, next, unknown_rises known (length xs))
 
 pub returns : goal.returns
 returns c =
@@ -60,7 +62,7 @@ returns c =
     let d = described_of s.dataset in
     let known = known_table (known_of c.args.known.now) d in
     let behind : needed d ≤ c.loop-i.i = omega (arith, c.loop-i-test.false, c.needed-needed.ensures) in
-    sym (slots_end place known d (in_place_of s.index) (kept c.loop-i.store) c.loop-i.i (take s.kept known ++ c.loop-i.tail.items) behind) ∙ c.loop-i.invariant.same
+    sym (slots_done place known d (in_place_of s.index) (kept c.loop-i.store) c.loop-i.found.items (omega (arith, behind, c.loop-i.invariant.at))) ∙ c.loop-i.invariant.same
 
 pub chunk-requires : goal.chunk-requires
 chunk-requires c =
