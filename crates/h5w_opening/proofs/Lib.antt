@@ -1,1 +1,3 @@
 pub mod OpeningLemmas
+pub mod WritingLemmas
+pub mod FoundParts

@@ -1,21 +1,24 @@
 -- What is found part after part is what the program of looks gives.
-use Rattle.std.proofs.Common.{◌≡◌, ℕ, true, List, Result, Ok, Err, refl, ◌∙◌, ap}
-use Rattle.std.specs.Prelude.{option_map}
+use Rattle.std.proofs.Common.{◌≡◌, ℕ, true, List, Result, Ok, Err, refl, ◌∙◌, ap, sym, subst}
+use Rattle.std.specs.Prelude.{option_map, IfOk}
 use Rattle.h5w_model.specs.Numbers.{range}
 use Rattle.h5w_model.specs.Programs.{Prog, ret, whole, eval, and_then}
 use Rattle.h5w_model.specs.Superblock.{super_at}
-use Rattle.h5w_model.specs.Datasets.{HeaderFields, super_refusal, linked, then_also, refused_as}
+use Rattle.h5w_model.specs.Datasets.{FoundMessage, HeaderFields, super_refusal, linked, then_also, refused_as}
 use Rattle.h5w_model.specs.declared.root.Super.{Super}
 use Rattle.h5w_model.specs.declared.refusal.ReadError.{ReadError}
 use Rattle.h5w_laws.proofs.ProgramLemmas.{eval_bind, eval_and_then}
 use Rattle.h5w_found.specs.Errors as found
+use Rattle.h5w_found.specs.Ran.{Told, seen}
 use Rattle.h5w_found.specs.Walks.{root_header_for, dataset_header_for}
 use Rattle.h5w_found.specs.declared.error.FindError.TheVariants as find_errors
 use Rattle.h5w_found.proofs.KindLemmas.{Become}
 use Rattle.h5w_opening.specs.Errors.{open_error, open_errors, refusal_of}
-use Rattle.h5w_opening.specs.Openings.{DatasetHeaderFields, Opened, chunk_0_len, closed_super, known, reading, looked_for, super_found, place_found, dataset_found}
+use Rattle.h5w_opening.specs.Openings.{DatasetHeaderFields, IsSaid, Opened, chunk_0_len, closed_super, known, reading, looked_for, super_found, place_found, dataset_found}
+use Rattle.h5w_opening.specs.Views.{header_fields_of}
 use Rattle.h5w_opening.specs.declared.error.OpenError.{OpenError}
 use Rattle.h5w_opening.specs.declared.error.OpenError.TheVariants.{Read, Failed}
+use Rattle.h5w_opening.specs.declared.finding.DatasetHeader.{DatasetHeader}
 
 pub all_read : Become found.find_errors open_errors Read open_error
 all_read = record {
@@ -82,3 +85,9 @@ opening_gives img name size =
     ∙ ap (then_also (refused_as Read given)) (λ i s. eval_and_then img (ret (closed_super size s)) (on_closed name) i)
     ∙ ap (then_also (refused_as Read given)) (λ i s. then_also (closed_super size s) (λ t. closed_gives img name t i))
     ∙ then_joined (refused_as Read given) (closed_super size) (behind_super name img)
+
+-- what messages say of a dataset header with so many bytes in chunk 0
+pub said_by : (len : ℕ) (ms : List FoundMessage) (r : Result DatasetHeader OpenError) → Told open_errors (known len ms) (seen header_fields_of r) → IfOk r (λ (h : DatasetHeader). h.len ≡ len)
+    → IfOk r (λ (h : DatasetHeader). IsSaid (header_fields_of h))
+said_by len ms (Ok h) told e = (ms, subst (λ (n : ℕ). known n ms ≡ Ok (header_fields_of h)) (sym e) told.exact)
+said_by len ms (Err x) told e = tt

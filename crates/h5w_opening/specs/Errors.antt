@@ -1,16 +1,23 @@
 -- Why a file is not opened, beside why it is not found.
 use Rattle.std.specs.Prelude.{Option, Some, None}
+use Rattle.h5w_image.specs.declared.fault.ImageError.{ImageError}
+use Rattle.h5w_image.specs.declared.fault.ImageError.TheVariants as image_errors
 use Rattle.h5w_found.specs.Ran.{Errors}
 use Rattle.h5w_found.specs.declared.error.FindError.{FindError}
 use Rattle.h5w_found.specs.declared.error.FindError.TheVariants as find_errors
 use Rattle.h5w_opening.specs.declared.error.OpenError.{OpenError}
-use Rattle.h5w_opening.specs.declared.error.OpenError.TheVariants.{Read, Flags, Cut, Layout, ChunkBytes, NoColumns, Failed, OutOfMemory}
+use Rattle.h5w_opening.specs.declared.error.OpenError.TheVariants.{Read, Flags, Cut, Layout, ChunkBytes, NoColumns, Index, Failed, OutOfMemory}
 
 -- a refusal of reading is one of opening; a failed image and want of memory stay what they are
 abbrev pub open_error : FindError → OpenError
 open_error (find_errors.Refused e) = Read e
 open_error find_errors.Failed = Failed
 open_error find_errors.OutOfMemory = OutOfMemory
+
+-- what an image's failure is to who opens a file
+abbrev pub outside : ImageError → OpenError
+outside image_errors.Failed = Failed
+outside image_errors.OutOfMemory = OutOfMemory
 
 -- all but a failed image and want of memory are refusals
 abbrev pub refusal_of : OpenError → Option OpenError
@@ -22,6 +29,7 @@ refusal_of (Cut end size) = Some (Cut end size)
 refusal_of Layout = Some Layout
 refusal_of (ChunkBytes bytes limit) = Some (ChunkBytes bytes limit)
 refusal_of NoColumns = Some NoColumns
+refusal_of Index = Some Index
 
 abbrev pub open_errors : Errors OpenError OpenError
 open_errors = record { refusal = refusal_of; failed = Failed }

@@ -1,5 +1,5 @@
 -- What is looked at of a file that is opened for appending, up to the index of its chunks, and what it has.
-use Rattle.std.specs.Prelude.{ℕ, ◌/◌, ◌%◌, Bool, true, false, not, ◌||◌, ◌&&◌, ◌==◌, List, [], ◌∷◌, nat_lt, if◌then◌else◌, Option, Some, None, Result, Ok, Err}
+use Rattle.std.specs.Prelude.{◌≡◌, ℕ, ◌/◌, ◌%◌, Bool, true, false, not, ◌||◌, ◌&&◌, ◌==◌, List, [], ◌∷◌, nat_lt, if◌then◌else◌, Option, Some, None, Result, Ok, Err}
 use Rattle.h5w_model.specs.Numbers.{range, undefined}
 use Rattle.h5w_model.specs.Programs.{Prog, ret, whole, eval, bind, and_then}
 use Rattle.h5w_model.specs.Superblock.{super_at}
@@ -73,6 +73,17 @@ place_found name root img = then_also (refused_as Read (eval img (root_header_fo
 
 abbrev pub dataset_found : ℕ → List ℕ → Result DatasetHeaderFields OpenError
 dataset_found place img = then_also (refused_as Read (eval img (dataset_header_for true place))) (λ h. known (chunk_0_len h.ranges) h.messages)
+
+-- ---- What was found, whatever the image is
+
+-- some messages say this
+abbrev pub IsSaid : DatasetHeaderFields → Type 0
+IsSaid h = (ms : List FoundMessage) × (known h.len ms ≡ Ok h)
+
+-- nobody writes the file, and some messages say what its dataset is
+pub record IsFound (o : Opened) : Type 0 where
+  pub closed : is_open o.root.flags ≡ false
+  pub said : IsSaid o.header
 
 -- ---- What is appended to
 

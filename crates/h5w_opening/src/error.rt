@@ -1,9 +1,10 @@
 use h5w_found::FindError;
-use h5w_model::ReadError;
+use h5w_image::ImageError;
+use h5w_model::{OutOfMemory, ReadError};
 use thiserror::Error;
 
-/// Why a file is not opened for appending. Flags and Cut are tried right after the superblock; Layout, ChunkBytes and NoColumns in this
-/// order after all of Read.
+/// Why a file is not opened for appending. Flags and Cut are tried right after the superblock; Layout, ChunkBytes, NoColumns and Index in
+/// this order after all of Read.
 #[derive(Clone, Copy, Debug, PartialEq, Eq, Error)]
 pub enum OpenError {
     /// It is not read. Two looks are never compared here, and no rows were seen before.
@@ -23,6 +24,9 @@ pub enum OpenError {
     ChunkBytes { bytes: u64, limit: u64 },
     #[error("no columns")]
     NoColumns,
+    /// The index is a tree, or an array that is not there yet: no rows are appended to such a file yet.
+    #[error("index")]
+    Index,
     /// The image's count of faults rose in this call.
     #[error("image failed")]
     Failed,
@@ -42,5 +46,30 @@ impl From<FindError> for OpenError {
             FindError::Failed => OpenError::Failed,
             FindError::OutOfMemory => OpenError::OutOfMemory,
         }
+    }
+}
+
+impl From<ImageError> for OpenError {
+    ghost use Rattle.std.specs.Prelude.{◌≡◌};
+    ghost use Rattle.h5w_opening.specs.Errors.{outside};
+
+    ghost from_gives = { λ cause e. e ≡ outside cause };
+
+    fn from(e: ImageError) -> OpenError {
+        match e {
+            ImageError::Failed => OpenError::Failed,
+            ImageError::OutOfMemory => OpenError::OutOfMemory,
+        }
+    }
+}
+
+impl From<OutOfMemory> for OpenError {
+    ghost use Rattle.std.specs.Prelude.{◌≡◌};
+    ghost use Rattle.h5w_opening.specs.declared.error.OpenError.TheVariants.{OutOfMemory as no_memory};
+
+    ghost from_gives = { λ _ e. e ≡ no_memory };
+
+    fn from(_e: OutOfMemory) -> OpenError {
+        OpenError::OutOfMemory
     }
 }

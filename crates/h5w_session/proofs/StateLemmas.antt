@@ -37,7 +37,7 @@ part_of a b limit some within =
     let times : a * 1 ≤ a * b = mul-le a 1 a b (omega arith) some in
     omega arith
 
-up_at_most : (n per limit : ℕ) → 0 < per → div_up n per ≤ limit → n ≤ limit * per
+pub up_at_most : (n per limit : ℕ) → 0 < per → div_up n per ≤ limit → n ≤ limit * per
 up_at_most n per limit some within =
     elim (cases_lt (limit * per) n) [
       | inl more ↦ absurd (omega (arith, lt_up limit n per some more))

@@ -20,6 +20,9 @@ pub mod Placing
 pub mod Past
 pub mod Stands
 pub mod Openings
+pub mod OpenRanges
+pub mod OpenAnswers
+pub mod OpenLaws
 pub mod Flushes
 pub mod Room
 pub mod Laws
