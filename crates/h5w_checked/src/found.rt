@@ -6,6 +6,7 @@ use h5w_found::{FindError, dataset_header, describe, place_of, root_header, supe
 use h5w_image::MemImage;
 use h5w_model::{OutOfMemory, ReadError};
 use h5w_opening::{OpenError, check, find};
+use h5w_session::WriterCore;
 use std::alloc::Global;
 use std::test::Fail;
 
@@ -56,5 +57,30 @@ pub fn opened_with(
 fn a_closed_file_is_opened_up_to_its_index(rt: HostRuntime) -> Result<(), Fail> {
     let opened = opened_with(rt.alloc(), 0, &[0x52, 0xca, 0x95, 0x85])?;
     assert_eq!(rt; opened, Ok((106, 82)));
+    Ok(())
+}
+
+/// The rows of the session that opens the closed file, the place where new chunks begin, and the flags of its pending superblock.
+pub fn session_of(alloc: Global) -> Result<Result<(u64, u64, Option<u8>), OpenError>, OutOfMemory> {
+    let mut bytes = unpacked(alloc, &FILE)?;
+    change(&mut bytes, 11, &[0]);
+    change(&mut bytes, 44, &[0x52, 0xca, 0x95, 0x85]);
+    let mut image = MemImage::of(alloc, &bytes)?;
+    let size = image.len();
+    let session = match WriterCore::open(alloc, &mut image, size, b"data", 1 << 20) {
+        Ok(session) => session,
+        Err(error) => return Ok(Err(error)),
+    };
+    let flags = match session.next() {
+        Some(w) => w.piece.as_slice().get(11).copied(),
+        None => None,
+    };
+    Ok(Ok((session.rows(), session.end(), flags)))
+}
+
+#[test]
+fn a_session_opens_a_closed_file(rt: HostRuntime) -> Result<(), Fail> {
+    let session = session_of(rt.alloc())?;
+    assert_eq!(rt; session, Ok((3, 574, Some(5))));
     Ok(())
 }

@@ -31,3 +31,11 @@ pub mod PieceBounds
 pub mod LoadLemmas
 pub mod CarriedLemmas
 pub mod FlushCalls
+mod OpenRangeLemmas
+mod SaidLemmas
+mod SessionOver
+mod UndamagedLemmas
+mod OverFile
+pub mod LeftLemmas
+mod OpenStepLemmas
+mod OpenAnswerLemmas

@@ -22,6 +22,7 @@ pub mod Stands
 pub mod Openings
 pub mod OpenRanges
 pub mod OpenAnswers
+pub mod OpenSteps
 pub mod OpenLaws
 pub mod Flushes
 pub mod Room

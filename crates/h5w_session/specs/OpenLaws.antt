@@ -1,5 +1,5 @@
 -- What is true of each file that is opened, and why a valid file is not.
-use Rattle.std.specs.Prelude.{◌≡◌, ℕ, true, false, List, length, Some, Ok, Err, ℤ}
+use Rattle.std.specs.Prelude.{◌≡◌, ℕ, ◌^◌, ◌<◌, true, false, List, length, Some, Ok, Err, ℤ}
 use Rattle.h5w_model.specs.Programs.{eval}
 use Rattle.h5w_model.specs.Findings.{Summary, Valid}
 use Rattle.h5w_model.specs.Tables.{Reads}
@@ -21,6 +21,7 @@ pub data IsLeft (img : List ℕ) (size : ℕ) (name : List ℕ) : OpenError → 
 
 pub record OpenLaws : Type 0 where
   -- a valid file is refused by nothing else
-  pub valid : (img name : List ℕ) (sm : Summary) (e : OpenError) → Valid img name sm → IsNotOpened img (length img) name e → IsLeft img (length img) name e
+  pub valid : (img name : List ℕ) (rows columns : ℕ) (values : List ℤ) (sm : Summary) (e : OpenError) → length img < 2 ^ 64 → Valid img name sm → Reads img name rows columns values → IsNotOpened img (length img) name e
+      → IsLeft img (length img) name e
   -- a close gives back the flags of a file that nobody wrote
   pub closes : (flags : ℕ) → is_open flags ≡ false → cleared (writing_flags flags) ≡ flags

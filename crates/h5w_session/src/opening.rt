@@ -1,18 +1,302 @@
 //! A session over a file that is there.
-ghost use Rattle.std.specs.Prelude.{◌≡◌, ℕ, ◌^◌, ◌≤◌, List, Err, IfOk, length, ℤ};
+ghost use Rattle.std.specs.Prelude.{◌≡◌, ◌≢◌, ◌⊎◌, ℕ, ◌+◌, ◌*◌, ◌^◌, ◌<◌, ◌≤◌, false, List, ◌∷◌, [], Err, IfErr, IfOk, IfSome, IsFalse, IsTrue, OnOk, Ok, Some, find, ◌==◌, length, vec_capacity, ℤ};
 ghost use Rattle.h5w_model.specs.Causes.{Rose};
 ghost use Rattle.h5w_model.specs.Findings.{Summary, Valid};
 ghost use Rattle.h5w_model.specs.Tables.{Reads};
+ghost use Rattle.h5w_model.specs.Superblock.{super_at, super_bytes};
+ghost use Rattle.std.specs.Option.{option_copied};
+ghost use Rattle.h5w_model.specs.Integers.{cell_bytes};
+ghost use Rattle.h5w_model.specs.Datasets.{dataspace_kind};
+ghost use Rattle.h5w_model.specs.Headers.{messages_at};
+ghost use Rattle.h5w_model.specs.Numbers.{undefined};
+ghost use Rattle.h5w_model.specs.declared.cell.IndexKind.TheVariants.{Array};
+ghost use Rattle.h5w_layout.specs.Layouts.{fill_of};
 ghost use Rattle.h5w_image.specs.View.{Looked};
 ghost use Rattle.h5w_looks.specs.Still.{IsStill};
-ghost use Rattle.h5w_session.specs.OpenAnswers.{HasBegun, IsOpenAnswer};
+ghost use Rattle.h5w_chunks.specs.Grids.{IsGrid, dataset_of};
+ghost use Rattle.h5w_found.specs.Described.{described_of};
+ghost use Rattle.h5w_opening.specs.Openings.{IsFound, IsSaid, is_open};
+ghost use Rattle.h5w_opening.specs.Views.{header_fields_of, opened_of};
+ghost use Rattle.h5w_session.specs.OpenAnswers.{HasBegun, IsIndexOf, IsNotOpened, IsOpenAnswer, opened_session, writing_flags};
+ghost use Rattle.h5w_session.specs.OpenRanges.{first_open, refused_open};
+ghost use Rattle.h5w_session.specs.OpenSteps.{IfNamedArray, IsBadIndex, IsCut, IsFoundIn, IsOpenedFile, HasRows, IsReady, OpenStep, array_error, front_of, versioned};
+ghost use Rattle.h5w_session.specs.OpenLaws.{OpenLaws};
 ghost use Rattle.h5w_session.specs.Openings.{opened_log};
+ghost use Rattle.h5w_session.specs.Sessions.{IsWritable};
 ghost use Rattle.h5w_session.specs.Stands.{Stands};
 
+use crate::ranges::{first_open, unrefused};
 use crate::state::WriterCore;
+use h5w_bytes::UNDEFINED;
+use h5w_chunks::{Fill, Grid};
+use h5w_ea_index::{ArrayIndex, OpenArrayError};
+use h5w_found::Dataset;
 use h5w_image::PieceRead;
-use h5w_opening::OpenError;
+use h5w_looks::read;
+use h5w_model::{Cell, HeaderError, IndexKind, OutOfMemory, PIECE, Piece, ReadError, Super, Unsupported, Write};
+use h5w_ohdr::{Msg, Msgs, messages};
+use h5w_opening::{OpenError, Opening, find};
+use h5w_space::Places;
 use std::alloc::Global;
+
+/// The type of a dataspace message, and the fewest bytes of one with rows.
+const DATASPACE: u8 = 0x01;
+
+const SHORTEST: usize = 12;
+
+/// Why an array is not opened, as why a file is not.
+fn array_error(e: OpenArrayError) -> OpenError
+    ensures { result ≡ array_error e }
+{
+    match e {
+        OpenArrayError::Damaged { at, fault } => OpenError::Read(ReadError::Damaged { at, fault }),
+        OpenArrayError::Failed => OpenError::Failed,
+        OpenArrayError::OutOfMemory => OpenError::OutOfMemory,
+    }
+}
+
+/// The array that the dataset names.
+fn open_array<I: PieceRead>(
+    alloc: Global,
+    image: &mut I,
+    d: &Dataset,
+) -> Result<Option<ArrayIndex>, OpenError>
+    requires array { (described_of d.now).layout.index ≡ Array }
+    requires named { (described_of d.now).layout.address ≢ undefined }
+    requires few { first_open (described_of d.now) < 131060 }
+    ensures step { OpenStep (I.view image.old) (I.view image.new) (λ img a. IsIndexOf img (described_of d.now) a) (λ img e. IsBadIndex img (described_of d.now) e) result }
+    ensures named { IfOk result (λ a. IfNamedArray (described_of d.now) a) }
+{
+    match ArrayIndex::open(alloc, image, d.layout.address, first_open(d)) {
+        Ok(index) => Ok(index),
+        Err(e) => Err(array_error(e)),
+    }
+}
+
+/// The index of the dataset: None where it is no array, or is not there.
+fn index_of<I: PieceRead>(
+    alloc: Global,
+    image: &mut I,
+    d: &Dataset,
+) -> Result<Option<ArrayIndex>, OpenError>
+    requires few { (described_of d.now).layout.index ≡ Array → first_open (described_of d.now) < 131060 }
+    ensures step { OpenStep (I.view image.old) (I.view image.new) (λ img a. IsIndexOf img (described_of d.now) a) (λ img e. IsBadIndex img (described_of d.now) e) result }
+    ensures named { IfOk result (λ a. IfNamedArray (described_of d.now) a) }
+{
+    match d.layout.index {
+        IndexKind::Array if d.layout.address != UNDEFINED => open_array(alloc, image, d),
+        _ => Ok(None),
+    }
+}
+
+/// What the file has that is opened, and its index.
+fn found_in<I: PieceRead>(
+    alloc: Global,
+    image: &mut I,
+    size: u64,
+    name: &[u8],
+) -> Result<(Opening, Option<ArrayIndex>), OpenError>
+    ensures step { OpenStep (I.view image.old) (I.view image.new) (λ img x. IsFoundIn img size name.now (opened_of x.0) x.1) (λ img e. IsNotOpened img size name.now e) result }
+    ensures found { IfOk result (λ x. IsFound (opened_of x.0)) }
+    ensures named { IfOk result (λ x. IfNamedArray (opened_of x.0).header.dataset x.1) }
+{
+    let found = find(alloc, image, size, name)?;
+    let index = index_of(alloc, image, &found.header.dataset)?;
+    Ok((found, index))
+}
+
+/// There is no dataspace message in chunk 0.
+fn no_dataspace() -> OpenError
+    ensures { result ≡ OpenError.Read (ReadError.Unsupported (record { 0 = 4 })) }
+{
+    OpenError::Read(ReadError::Unsupported(Unsupported(4)))
+}
+
+/// The messages of chunk 0 of a dataset header.
+fn header_list(alloc: Global, bytes: &[u8]) -> Result<Msgs, OpenError>
+    ensures read { IfOk result (λ ms. messages_at bytes.now ≡ Ok ms) }
+    ensures refused { IfErr result (λ e. (e ≡ OpenError.OutOfMemory) ⊎ ((ms : List Msg) → messages_at bytes.now ≡ Ok ms → ⊥)) }
+    ensures quiet { IfErr result (λ e. e ≢ OpenError.Failed) }
+{
+    match messages(alloc, bytes) {
+        Ok(list) => Ok(list),
+        Err(HeaderError::OutOfMemory) => Err(OpenError::OutOfMemory),
+        Err(_) => Err(no_dataspace()),
+    }
+}
+
+/// The first dataspace message.
+fn dataspace(list: &[Msg]) -> Option<&Msg>
+    ensures { option_copied result ≡ find (λ m. m.kind == dataspace_kind) list.now }
+{
+    list.iter().find(|m| m.kind == DATASPACE)
+}
+
+/// Whether the first dataspace message has rows.
+fn has_rows(list: &[Msg]) -> bool
+    ensures yes { IsTrue result → HasRows list.now }
+    ensures no { IsFalse result → HasRows list.now → ⊥ }
+{
+    match dataspace(list) {
+        Some(m) => m.body.as_slice().len() >= SHORTEST,
+        None => false,
+    }
+}
+
+/// Refuses chunk 0 of a dataset header in which the rows cannot be written.
+fn check_header(alloc: Global, bytes: &[u8]) -> Result<(), OpenError>
+    ensures writable { OnOk result (IsWritable bytes.now) }
+    ensures refused { IfErr result (λ e. (e ≡ OpenError.OutOfMemory) ⊎ (IsWritable bytes.now → ⊥)) }
+    ensures quiet { IfErr result (λ e. e ≢ OpenError.Failed) }
+{
+    if bytes.is_empty() {
+        return Err(no_dataspace());
+    }
+    let list = header_list(alloc, bytes)?;
+    if !has_rows(list.as_slice()) {
+        return Err(no_dataspace());
+    }
+    Ok(())
+}
+
+/// The bytes of chunk 0 of the dataset header at `place`, `len` of them, at most a piece. They are looked at again: where somebody else
+/// writes the file they may be others than those that were found, and then a header without a dataspace is refused.
+fn header_piece<I: PieceRead>(
+    alloc: Global,
+    image: &mut I,
+    place: u64,
+    len: u64,
+) -> Result<Piece, OpenError>
+    ensures step { OpenStep (I.view image.old) (I.view image.new) (λ img p. p ≡ front_of img place len) (λ img e. IsWritable (front_of img place len) → ⊥) result }
+    ensures writable { IfOk result (λ p. IsWritable p) }
+    ensures few { IfOk result (λ p. length p ≤ len) }
+{
+    let bytes = read(alloc, image, place, len.min(PIECE as u64))?;
+    check_header(alloc, &bytes)?;
+    Ok(Piece::of(&bytes))
+}
+
+/// The same fill, as one of a type of this size.
+fn sized_fill(fill: &Fill, size: u8) -> Fill
+    requires { IfSome (fill_of fill.now).value (λ b. length b ≡ size) }
+    ensures same { fill_of result ≡ fill_of fill.now }
+    ensures sized { IfSome result.value (λ c. (c.size ≡ size) × (length (cell_bytes c) ≡ size)) }
+{
+    match fill.value {
+        Some(c) => {
+            let bytes = c.bytes;
+            Fill {
+                value: Some(Cell { bytes, size }),
+            }
+        }
+        None => Fill { value: None },
+    }
+}
+
+/// A dataset's grid of chunks.
+fn grid_of(d: &Dataset) -> Grid
+    requires { IsCut (described_of d.now) }
+    ensures grid { IsGrid result }
+    ensures same { dataset_of result ≡ described_of d.now }
+{
+    Grid {
+        shape: d.shape,
+        int_type: d.int_type,
+        fill: sized_fill(&d.fill, d.int_type.size),
+        layout: d.layout,
+    }
+}
+
+/// Flags with those of a file that is open for writing, and for SWMR writing.
+fn writing_flags(flags: u8) -> u8
+    ensures { result ≡ writing_flags flags }
+{
+    flags + (1 - flags % 2) + (1 - flags / 4 % 2) * 4
+}
+
+/// The superblock as it is written.
+fn super_piece(root: &Super) -> Piece
+    requires { root.now.version ≡ 3 }
+    ensures piece { result ≡ super_bytes root.now }
+    ensures reads { super_at (super_bytes root.now) ≡ Ok root.now }
+{
+    Piece::of(&h5w_super::encode(root))
+}
+
+/// The plan of a superblock alone.
+fn super_plan(alloc: Global, piece: Piece) -> Result<Vec<Write>, OutOfMemory>
+    ensures plan { IfOk result (λ ws. ws.items ≡ record { at = 0; piece = piece } ∷ []) }
+    ensures room { IfOk result (λ ws. 1 ≤ vec_capacity ws) }
+{
+    let mut plan = Vec::new(alloc);
+    plan.push(Write { at: 0, piece })?;
+    Ok(plan)
+}
+
+/// The superblock of the file once it is written.
+fn writing_super(s: Super) -> Super
+    ensures root { result ≡ record s { version = 3; flags = writing_flags s.flags } }
+    ensures small { result.end < 2 ^ 64 }
+{
+    Super {
+        version: 3,
+        flags: writing_flags(s.flags),
+        end: s.end,
+        root: s.root,
+    }
+}
+
+/// A session over what was found, with chunk 0 of the dataset header and the index.
+fn session_over(
+    alloc: Global,
+    found: &Opening,
+    header: Piece,
+    index: ArrayIndex,
+    name: &[u8],
+    limit: u64,
+) -> Result<WriterCore, OutOfMemory>
+    requires name { length name.now ≤ 512 }
+    requires high { limit ≤ 2 ^ 40 }
+    requires ready { IsReady (opened_of found.now) header index }
+    ensures session { IfOk result (λ s. s ≡ opened_session (versioned (opened_of found.now)) header index name.now limit) }
+    ensures reads { IfOk result (λ s. super_at (super_bytes s.root) ≡ Ok s.root) }
+{
+    let root = writing_super(found.root);
+    let plan = super_plan(alloc, super_piece(&root))?;
+    Ok(WriterCore {
+        name: Piece::of(name),
+        root,
+        place: found.place,
+        header,
+        grid: grid_of(&found.header.dataset),
+        places: Places::new(alloc, found.root.end, limit),
+        committed: found.header.dataset.shape.rows,
+        waiting: Vec::new(alloc),
+        waits: 0,
+        plan,
+        shown: 0,
+        spare: Vec::new(alloc),
+        stopped: false,
+        keeps: false,
+        index,
+    })
+}
+
+/// The file that is opened: what was found, chunk 0 of the dataset header, and the index, where nothing refuses it.
+fn unrefused_file<I: PieceRead>(
+    alloc: Global,
+    image: &mut I,
+    size: u64,
+    name: &[u8],
+) -> Result<(Opening, Piece, ArrayIndex), OpenError>
+    ensures step { OpenStep (I.view image.old) (I.view image.new) (λ img x. IsOpenedFile img size name.now (opened_of x.0) x.1 x.2) (λ img e. IsNotOpened img size name.now e) result }
+    ensures ready { IfOk result (λ x. IsReady (opened_of x.0) x.1 x.2) }
+{
+    let (found, index) = found_in(alloc, image, size, name)?;
+    let index = unrefused(alloc, &found, index)?;
+    let header = header_piece(alloc, image, found.place, found.header.len)?;
+    Ok((found, header, index))
+}
 
 impl WriterCore {
     /// Opens the dataset of this name in a file of `size` bytes that is there, to append rows to it up to `limit` bytes of the file. The
@@ -44,6 +328,15 @@ impl WriterCore {
         ensures stands { IfOk result (λ s. (img : List ℕ) (rows columns : ℕ) (values : List ℤ) (sm : Summary) → IsStill (I.view image.old) img → Valid img name.now sm → Reads img name.now rows columns values
             → Stands s (opened_log img columns values)) }
     {
-        Err(OpenError::OutOfMemory)
+        let (found, header, index) = unrefused_file(alloc, image, size, name)?;
+        let session = session_over(alloc, &found, header, index, name, limit)?;
+        Ok(session)
     }
 }
+
+/// A valid file is refused only where it is open already, asks its writer to know a message that is not known here, has its layout outside
+/// of chunk 0, too large chunks or no column, or has no array. A close gives back the flags that the file had.
+#[tactic(auto, using(crate::proofs::LeftLemmas::open_laws))]
+pub fn open_laws()
+    ensures { OpenLaws }
+{}

@@ -1,0 +1,250 @@
+-- How the steps of an opening compose, and what each of them means for the whole.
+use Rattle.std.proofs.Common.{◌≡◌, ◌≢◌, ◌⊎◌, ℕ, ◌+◌, ◌-◌, ◌*◌, ◌/◌, ◌^◌, ◌<◌, ◌≤◌, min, Bool, true, false, cond, not, ◌&&◌, List, [], ◌∷◌, ◌++◌, length, take, Option, Some, None, Result, Ok, Err, refl, sym, ap, ◌∙◌, subst, inl, inr, arith}
+use Rattle.std.specs.Prelude.{IfErr, IfOk, nat_lt, option_map, ◌==◌}
+use Rattle.std.specs.Option.{option_or}
+use Rattle.h5w_model.specs.Causes.{Rose}
+use Rattle.h5w_model.specs.Numbers.{range, undefined}
+use Rattle.h5w_model.specs.Programs.{eval}
+use Rattle.h5w_model.specs.Headers.{header_view}
+use Rattle.h5w_model.specs.Datasets.{Described, dataset_messages}
+use Rattle.h5w_model.specs.Findings.{chunk_bytes}
+use Rattle.h5w_image.specs.View.{ImageView, Looked}
+use Rattle.h5w_image.proofs.ViewLemmas.{looked_itself, looked_twice}
+use Rattle.h5w_looks.specs.Still.{IsStill}
+use Rattle.h5w_looks.proofs.ReadLemmas.{still_on}
+use Rattle.h5w_found.specs.Ran.{Ran, Refuses, seen}
+use Rattle.h5w_found.specs.Walks.{dataset_header_for}
+use Rattle.h5w_found.proofs.RanLemmas.{later}
+use Rattle.h5w_cache.specs.Stores.{Store}
+use Rattle.h5w_model.specs.declared.cell.IndexKind.TheVariants.{Array}
+use Rattle.h5w_ea_index.specs.Opened.{IfDamaged, IsDamaged, Loads}
+use Rattle.h5w_ea_index.specs.declared.error.OpenArrayError.{OpenArrayError}
+use Rattle.h5w_ea_index.specs.declared.error.OpenArrayError.TheVariants as array_errors
+use Rattle.h5w_header_laws.specs.Files.{chunk_0}
+use Rattle.h5w_header_laws.proofs.FileLaws.{has_space}
+use Rattle.h5w_header_laws.proofs.ImageLemmas.{header_read}
+use Rattle.h5w_space.specs.declared.Extent.{Extent}
+use Rattle.h5w_opening.specs.Errors.{open_errors, refusal_of}
+use Rattle.h5w_opening.specs.Openings.{Opened, chunk_0_len, looked_for, most_chunk_bytes, refused_dataset}
+use Rattle.h5w_opening.specs.Views.{opened_of}
+use Rattle.h5w_opening.specs.declared.error.OpenError.{OpenError}
+use Rattle.h5w_opening.specs.declared.error.OpenError.TheVariants.{Read, Flags, Cut, Failed, OutOfMemory, Layout, ChunkBytes, NoColumns, Index}
+use Rattle.h5w_opening.specs.declared.finding.Opening.{Opening}
+use Rattle.h5w_opening.proofs.FoundParts.{parts}
+use Rattle.h5w_opening.proofs.WritingLemmas.{alike_ok, dataset_alike}
+use Rattle.h5w_session.specs.OpenAnswers.{IfRefusal, IsIndexOf, IsNotOpened, damaged, refused, unfound}
+use Rattle.h5w_session.specs.OpenRanges.{chunk_0_range, cut_at, first_open, first_past, open_blocks, open_chunks, ranges_refused, refused_index, refused_open}
+use Rattle.h5w_session.specs.OpenSteps.{IsBadIndex, IsFoundIn, IsOpenedFile, OpenStep, Says, array_error, front_of}
+use Rattle.h5w_session.specs.Sessions.{IsWritable}
+
+-- ---- Refusals
+
+pub refusal_map : (o : Option OpenError) (P Q : OpenError → Type 0) → ((e : OpenError) → P e → Q e) → IfRefusal o P → IfRefusal o Q
+refusal_map (Some e) P Q f h = f e h
+refusal_map None P Q f h = tt
+
+says_map : {A : Type 0} (r : Result A OpenError) (P R : A → Type 0) (Q S : OpenError → Type 0) → ((a : A) → P a → R a) → ((e : OpenError) → Q e → S e) → Says P Q r → Says R S r
+says_map (Ok a) P R Q S f g h = f a h
+says_map (Err e) P R Q S f g h = refusal_map (refusal_of e) Q S g h
+
+abbrev as_error : {A : Type 0} → OpenError → Result A OpenError
+as_error e = Err e
+
+same_error : {A B : Type 0} (e : OpenError) → as_error {A = A} e ≡ Err Failed → as_error {A = B} e ≡ Err Failed
+same_error e h = let g : e ≡ Failed = cc in ap (λ x. Err x) g
+
+-- ---- Steps
+
+-- one step answered, and another goes on
+pub step_on : {A B : Type 0} {v w x : ImageView} {P : List ℕ → A → Type 0} {Q : List ℕ → OpenError → Type 0} {R : List ℕ → B → Type 0} {S : List ℕ → OpenError → Type 0} (T : List ℕ → B → Type 0) (U : List ℕ → OpenError → Type 0) (a : A)
+    (answer : Result B OpenError) → OpenStep v w P Q (Ok a) → OpenStep w x R S answer → ((img : List ℕ) → P img a → (b : B) → R img b → T img b) → ((img : List ℕ) → P img a → (e : OpenError) → S img e → U img e) → OpenStep v x T U answer
+step_on {v = v} {w = w} {x = x} {P = P} {R = R} {S = S} T U a answer one two good bad = record {
+  looked = looked_twice one.looked two.looked;
+  cause = λ e. later v.faults w.faults x.faults one.looked.faults (two.cause e);
+  exact = λ img still. says_map answer (R img) (T img) (S img) (U img) (good img (one.exact img still)) (bad img (one.exact img still)) (two.exact img (still_on img one.looked still));
+}
+
+-- one step answered, and another was refused, whose answer would have been another's
+pub step_then_stop : {A B C : Type 0} {v w x : ImageView} {P : List ℕ → A → Type 0} {Q : List ℕ → OpenError → Type 0} {R : List ℕ → B → Type 0} {S : List ℕ → OpenError → Type 0} (T : List ℕ → C → Type 0) (U : List ℕ → OpenError → Type 0) (a : A)
+    (e : OpenError) → OpenStep v w P Q (Ok a) → OpenStep w x R S (Err e) → ((img : List ℕ) → P img a → (f : OpenError) → S img f → U img f) → OpenStep {A = C} v x T U (Err e)
+step_then_stop {B = B} {C = C} {v = v} {w = w} {x = x} {P = P} {S = S} T U a e one two bad = record {
+  looked = looked_twice one.looked two.looked;
+  cause = λ h. later v.faults w.faults x.faults one.looked.faults (two.cause (same_error {A = C} {B = B} e h));
+  exact = λ img still. refusal_map (refusal_of e) (S img) (U img) (bad img (one.exact img still)) (two.exact img (still_on img one.looked still));
+}
+
+-- a step was refused
+pub step_stop : {A B : Type 0} {v w : ImageView} {P : List ℕ → A → Type 0} {Q : List ℕ → OpenError → Type 0} (T : List ℕ → B → Type 0) (U : List ℕ → OpenError → Type 0) (e : OpenError)
+    → OpenStep {A = A} v w P Q (Err e) → ((img : List ℕ) (f : OpenError) → Q img f → U img f) → OpenStep {A = B} v w T U (Err e)
+step_stop {A = A} {B = B} {Q = Q} T U e one bad = record {
+  looked = one.looked;
+  cause = λ h. one.cause (same_error {A = B} {B = A} e h);
+  exact = λ img still. refusal_map (refusal_of e) (Q img) (U img) (bad img) (one.exact img still);
+}
+
+-- a step answered, and then what looks at no image was refused
+pub step_refused : {A B : Type 0} {v w : ImageView} {P : List ℕ → A → Type 0} {Q : List ℕ → OpenError → Type 0} (T : List ℕ → B → Type 0) (U : List ℕ → OpenError → Type 0) (a : A) (e : OpenError)
+    → OpenStep v w P Q (Ok a) → (e ≢ Failed) → ((img : List ℕ) → P img a → IfRefusal (refusal_of e) (U img)) → OpenStep {A = B} v w T U (Err e)
+step_refused {B = B} T U a e one quiet bad = record {
+  looked = one.looked;
+  cause = λ h. absurd (quiet (is_failed h));
+  exact = λ img still. bad img (one.exact img still);
+}
+  where
+    is_failed : as_error {A = B} e ≡ Err Failed → e ≡ Failed
+    is_failed h = cc
+
+-- two steps answered
+pub step_both : {A B C : Type 0} {v w x : ImageView} {P : List ℕ → A → Type 0} {Q : List ℕ → OpenError → Type 0} {R : List ℕ → B → Type 0} {S : List ℕ → OpenError → Type 0} (T : List ℕ → C → Type 0) (U : List ℕ → OpenError → Type 0) (a : A) (b : B)
+    (c : C) → OpenStep v w P Q (Ok a) → OpenStep w x R S (Ok b) → ((img : List ℕ) → P img a → R img b → T img c) → OpenStep v x T U (Ok c)
+step_both T U a b c one two good = record {
+  looked = looked_twice one.looked two.looked;
+  cause = λ e. absurd cc;
+  exact = λ img still. good img (one.exact img still) (two.exact img (still_on img one.looked still));
+}
+
+-- nothing was looked at
+pub step_alone : {A : Type 0} (v : ImageView) (P : List ℕ → A → Type 0) (Q : List ℕ → OpenError → Type 0) (a : A) → ((img : List ℕ) → IsStill v img → P img a) → OpenStep v v P Q (Ok a)
+step_alone v P Q a h = record { looked = looked_itself v; cause = λ e. absurd cc; exact = h }
+
+-- ---- What was found
+
+as_refusal : {A : Type 0} (given : Result A OpenError) (o : Option OpenError) → Refuses given o → IfRefusal o (λ e. given ≡ Err e)
+as_refusal given (Some e) h = h
+as_refusal given None h = tt
+
+pub ran_step : {v w : ImageView} (size : ℕ) (name : List ℕ) (r : Result Opening OpenError) → Ran open_errors v w (λ img. eval img (looked_for size name)) (seen opened_of r)
+    → OpenStep v w (λ img o. eval img (looked_for size name) ≡ Ok (opened_of o)) (λ img e. eval img (looked_for size name) ≡ Err e) r
+ran_step size name (Ok o) ran = record { looked = ran.looked; cause = λ e. absurd cc; exact = ran.exact }
+ran_step size name (Err e) ran = record {
+  looked = ran.looked;
+  cause = λ h. ran.cause (same_error {A = Opening} {B = Opened} e h);
+  exact = λ img still. as_refusal (eval img (looked_for size name)) (refusal_of e) (ran.exact img still);
+}
+
+-- chunk 0 of what was found can be written
+pub record IsKeptFront (img : List ℕ) (o : Opened) : Type 0 where
+  pub same : front_of img o.place o.header.len ≡ chunk_0 img o.place
+  pub writable : IsWritable (chunk_0 img o.place)
+
+pub kept_front : (img : List ℕ) (size : ℕ) (name : List ℕ) (o : Opened) → eval img (looked_for size name) ≡ Ok o → IsKeptFront img o
+kept_front img size name o is =
+    let p = parts img size name o is in
+    let read = alike_ok (eval img (dataset_messages o.place (header_view (range img o.place 512)))) (eval img (dataset_header_for true o.place)) p.header (dataset_alike img o.place) p.header_read in
+    let r = header_read img o.place p.header read in
+    let x = has_space img o.place p.header o.header.dataset r p.says in
+    let len : o.header.len ≡ r.prefix.total = p.len ∙ ap chunk_0_len r.ranges in
+    let short : min o.header.len 512 ≡ r.prefix.total = omega (arith, len, r.short) in
+    record {
+      same = ap (range img o.place) short ∙ sym r.view;
+      writable = record { some = omega (arith, r.long, r.some); list = r.listed; space = x.space; read = r.read; first = x.found; long = x.long };
+    }
+
+-- ---- What refuses an opening is no failed image
+
+or_some : {A : Type 0} (a b : Option A) (x : A) → option_or a b ≡ Some x → (a ≡ Some x) ⊎ (b ≡ Some x)
+or_some (Some a) b x h = inl h
+or_some None b x h = inr h
+
+cut_quiet : (end : ℕ) (o : Option Extent) (e : OpenError) → option_map (cut_at end) o ≡ Some e → e ≢ Failed
+cut_quiet end (Some r) e h f = let g : Some (cut_at end r) ≡ Some Failed = h ∙ ap Some f in absurd cc
+cut_quiet end None e h f = absurd cc
+
+dataset_quiet : (a b c : Bool) (n : ℕ) (e : OpenError) → cond a (Some Layout) (cond b (Some (ChunkBytes n most_chunk_bytes)) (cond c (Some NoColumns) None)) ≡ Some e → e ≢ Failed
+dataset_quiet true b c n e h f = let g : Some Layout ≡ Some Failed = h ∙ ap Some f in absurd cc
+dataset_quiet false true c n e h f = let g : Some (ChunkBytes n most_chunk_bytes) ≡ Some Failed = h ∙ ap Some f in absurd cc
+dataset_quiet false false true n e h f = let g : Some NoColumns ≡ Some Failed = h ∙ ap Some f in absurd cc
+dataset_quiet false false false n e h f = absurd cc
+
+index_quiet : (a : Option Store) (e : OpenError) → refused_index a ≡ Some e → e ≢ Failed
+index_quiet None e h f = let g : Some Index ≡ Some Failed = h ∙ ap Some f in absurd cc
+index_quiet (Some v) e h f = absurd cc
+
+ranges_quiet : (end : ℕ) (far past : Option Extent) (e : OpenError) → option_or (option_map (cut_at 0) far) (option_map (cut_at end) past) ≡ Some e → e ≢ Failed
+ranges_quiet end far past e h = elim (or_some (option_map (cut_at 0) far) (option_map (cut_at end) past) e h) [
+  | inl f ↦ cut_quiet 0 far e f
+  | inr p ↦ cut_quiet end past e p
+]
+
+pub refused_quiet : (o : Opened) (a : Option Store) (e : OpenError) → refused_open o a ≡ Some e → e ≢ Failed
+refused_quiet o a e h = elim (or_some (ranges_refused o a) (option_or (refused_dataset o) (refused_index a)) e h) [
+  | inl r ↦ ranges_quiet o.root.end (first_past (2 ^ 64 - 1) (take 3 (chunk_0_range o ∷ open_blocks o.header.dataset a) ++ open_chunks o.header.dataset a))
+      (first_past o.root.end ((chunk_0_range o ∷ open_blocks o.header.dataset a) ++ open_chunks o.header.dataset a)) e r
+  | inr r ↦ elim (or_some (refused_dataset o) (refused_index a) e r) [
+    | inl d ↦ dataset_quiet ((o.header.dataset.layout.address == undefined) && not o.header.in_chunk_0) (nat_lt most_chunk_bytes (chunk_bytes o.header.dataset)) (o.header.dataset.shape.cols == 0) (chunk_bytes o.header.dataset) e d
+    | inr i ↦ index_quiet a e i
+  ]
+]
+
+-- a refusal of what was found refuses the file
+pub refused_file : (img : List ℕ) (size : ℕ) (name : List ℕ) (o : Opened) (a : Option Store) (e : OpenError) → IsFoundIn img size name o a → (refused_open o a ≡ Some e) ⊎ (e ≡ OutOfMemory) → IfRefusal (refusal_of e) (IsNotOpened img size name)
+refused_file img size name o a e f (inl h) = by_error e h
+  where
+    by_error : (g : OpenError) → refused_open o a ≡ Some g → IfRefusal (refusal_of g) (IsNotOpened img size name)
+    by_error (Read x) h = refused o a (Read x) f.is f.index h
+    by_error (Flags flags) h = refused o a (Flags flags) f.is f.index h
+    by_error (Cut end size) h = refused o a (Cut end size) f.is f.index h
+    by_error Layout h = refused o a Layout f.is f.index h
+    by_error (ChunkBytes bytes limit) h = refused o a (ChunkBytes bytes limit) f.is f.index h
+    by_error NoColumns h = refused o a NoColumns f.is f.index h
+    by_error Index h = refused o a Index f.is f.index h
+    by_error Failed h = tt
+    by_error OutOfMemory h = tt
+refused_file img size name o a e f (inr h) = subst (λ g. IfRefusal (refusal_of g) (IsNotOpened img size name)) (sym h) tt
+
+-- ---- The index
+
+abbrev as_array_error : OpenArrayError → Result (Option Store) OpenArrayError
+as_array_error e = Err e
+
+-- an array that is not opened
+pub bad_array : {v w : ImageView} (d : Described) (first : ℕ) (e : OpenArrayError) (out : OpenError) → d.layout.index ≡ Array → d.layout.address ≢ undefined → first ≡ first_open d → out ≡ array_error e
+    → Loads {A = Option Store} v w (λ img a f. IsDamaged img d.layout.address first a f) (Err e) → OpenStep {A = Option Store} v w (λ img a. IsIndexOf img d a) (λ img e. IsBadIndex img d e) (Err out)
+bad_array {v = v} {w = w} d first e out kind named from is loads =
+    subst (λ x. OpenStep {A = Option Store} v w (λ img a. IsIndexOf img d a) (λ img e. IsBadIndex img d e) (Err x)) (sym is)
+    (record {
+      looked = loads.looked;
+      cause = λ h. failed e h loads.cause;
+      exact = λ img still. told img e (loads.damaged img still);
+    })
+  where
+    failed : (f : OpenArrayError) → as_error {A = Option Store} (array_error f) ≡ Err Failed → (as_array_error f ≡ Err array_errors.Failed → Rose v.faults w.faults) → Rose v.faults w.faults
+    failed (array_errors.Damaged a f) h rose = absurd cc
+    failed array_errors.Failed h rose = rose refl
+    failed array_errors.OutOfMemory h rose = absurd cc
+
+    told : (img : List ℕ) (f : OpenArrayError) → IfDamaged f (λ a x. IsDamaged img d.layout.address first a x) → IfRefusal (refusal_of (array_error f)) (λ e. IsBadIndex img d e)
+    told img (array_errors.Damaged a f) h = record { kind = kind; named = named; at = a; fault = f; damaged = subst (λ n. IsDamaged img d.layout.address n a f) from h; is = refl }
+    told img array_errors.Failed h = tt
+    told img array_errors.OutOfMemory h = tt
+
+-- a bad index refuses the file
+pub bad_index : (img : List ℕ) (size : ℕ) (name : List ℕ) (o : Opened) (e : OpenError) → eval img (looked_for size name) ≡ Ok o → IsBadIndex img o.header.dataset e → IsNotOpened img size name e
+bad_index img size name o e is bad = subst (IsNotOpened img size name) (sym bad.is) (damaged o bad.at bad.fault is bad.kind bad.named bad.damaged)
+
+-- ---- All of it
+
+abbrev pub found_good : ℕ → List ℕ → List ℕ → Opening × Option Store → Type 0
+found_good size name img x = IsFoundIn img size name (opened_of x.0) x.1
+
+abbrev pub file_good : ℕ → List ℕ → List ℕ → Opening × List ℕ × Store → Type 0
+file_good size name img x = IsOpenedFile img size name (opened_of x.0) x.1 x.2
+
+abbrev pub not_opened : ℕ → List ℕ → List ℕ → OpenError → Type 0
+not_opened size name img e = IsNotOpened img size name e
+
+pub first_quiet : (o : Opened) (a : Option Store) (e : OpenError) → (refused_open o a ≡ Some e) ⊎ (e ≡ OutOfMemory) → e ≢ Failed
+first_quiet o a e (inl h) f = refused_quiet o a e h f
+first_quiet o a e (inr h) f = let g : OutOfMemory ≡ Failed = sym h ∙ f in absurd cc
+
+pub writable_front : (img : List ℕ) (size : ℕ) (name : List ℕ) (o : Opened) → eval img (looked_for size name) ≡ Ok o → IsWritable (front_of img o.place o.header.len)
+writable_front img size name o is = let k = kept_front img size name o is in subst IsWritable (sym k.same) k.writable
+
+pub file_is : (img : List ℕ) (size : ℕ) (name : List ℕ) (o : Opened) (a : Option Store) (v : Store) (header : List ℕ) → IsFoundIn img size name o a → a ≡ Some v → refused_open o (Some v) ≡ None → header ≡ front_of img o.place o.header.len
+    → IsOpenedFile img size name o header v
+file_is img size name o a v header f same none kept = record {
+  is = f.is;
+  index = subst (IsIndexOf img o.header.dataset) same f.index;
+  unrefused = none;
+  kept = kept ∙ (kept_front img size name o f.is).same;
+}

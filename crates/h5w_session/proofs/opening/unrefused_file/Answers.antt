@@ -1,0 +1,30 @@
+use Rattle.std.proofs.Common.{◌≡◌, Ok, Err, rules}
+use Rattle.h5w_opening.specs.Views.{opened_of}
+use Rattle.h5w_session.proofs.OpenStepLemmas.{file_good, file_is, first_quiet, not_opened, refused_file, step_both, step_refused, step_then_stop, writable_front}
+use Rattle.h5w_session.proofs.opening.unrefused_file.Goals as goal
+
+pub returns-in_err-index-clause-step : goal.returns-in_err-index-clause-step
+returns-in_err-index-clause-step g c =
+    let a = c.args in
+    let o = opened_of c.in_ok-found.found in
+    let e = c.in_err-index.field-0.0 in
+    let is : c.from_residual-in_err-index.result ≡ Err e = search rules in
+    rw is (step_refused (file_good a.size a.name.now) (not_opened a.size a.name.now) (c.in_ok-found.found, c.in_ok-found.index) e c.in_ok-found.ensures.step
+    (first_quiet o c.in_ok-found.index e c.in_err-index.ensures.first) (λ img f. refused_file img a.size a.name.now o c.in_ok-found.index e f c.in_err-index.ensures.first))
+
+pub returns-in_err-header-clause-step : goal.returns-in_err-header-clause-step
+returns-in_err-header-clause-step g c =
+    let a = c.args in
+    let o = opened_of c.in_ok-found.found in
+    let e = c.in_err-header.field-0.0 in
+    let is : c.from_residual-in_err-header.result ≡ Err e = search rules in
+    rw is (step_then_stop (file_good a.size a.name.now) (not_opened a.size a.name.now) (c.in_ok-found.found, c.in_ok-found.index) e c.in_ok-found.ensures.step c.in_err-header.ensures.step
+    (λ img f x no. absurd (no (writable_front img a.size a.name.now o f.is))))
+
+pub returns-clause-step : goal.returns-clause-step
+returns-clause-step g c =
+    let a = c.args in
+    let o = opened_of c.in_ok-found.found in
+    step_both (file_good a.size a.name.now) (not_opened a.size a.name.now) (c.in_ok-found.found, c.in_ok-found.index) c.in_ok-header.header (c.in_ok-found.found, c.in_ok-header.header, c.in_ok-index.index) c.in_ok-found.ensures.step
+    c.in_ok-header.ensures.step
+    (λ img f kept. file_is img a.size a.name.now o c.in_ok-found.index c.in_ok-index.index c.in_ok-header.header f c.in_ok-index.ensures.array c.in_ok-index.ensures.none kept)

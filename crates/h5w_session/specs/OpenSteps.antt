@@ -1,0 +1,104 @@
+-- What the steps of an opening answer.
+use Rattle.std.specs.Prelude.{◌≡◌, ◌≢◌, ℕ, ◌≤◌, min, List, [], length, find, ◌==◌, IfSome, Option, Some, None, Result, Ok, Err}
+use Rattle.h5w_model.specs.Causes.{Rose}
+use Rattle.h5w_model.specs.Numbers.{range, undefined}
+use Rattle.h5w_model.specs.Programs.{eval}
+use Rattle.h5w_model.specs.Datasets.{Described, dataspace_kind}
+use Rattle.h5w_model.specs.declared.message.Msg.{Msg}
+use Rattle.h5w_model.specs.Messages.{IsIntType, IsLayout, IsShape}
+use Rattle.h5w_model.specs.declared.cell.IndexKind.TheVariants.{Array}
+use Rattle.h5w_model.specs.declared.refusal.BlockFault.{BlockFault}
+use Rattle.h5w_model.specs.declared.refusal.ReadError.TheVariants.{Damaged}
+use Rattle.h5w_image.specs.View.{ImageView, Looked}
+use Rattle.h5w_looks.specs.Still.{IsStill}
+use Rattle.h5w_header_laws.specs.Files.{chunk_0}
+use Rattle.h5w_cache.specs.Stores.{Store}
+use Rattle.h5w_array_laws.specs.ArrayStores.{IsArray, header_place}
+use Rattle.h5w_ea_index.specs.Opened.{IsDamaged}
+use Rattle.h5w_ea_index.specs.declared.error.OpenArrayError.{OpenArrayError}
+use Rattle.h5w_ea_index.specs.declared.error.OpenArrayError.TheVariants as array_errors
+use Rattle.h5w_opening.specs.Errors.{refusal_of}
+use Rattle.h5w_opening.specs.Openings.{IsFound, Opened, looked_for}
+use Rattle.h5w_opening.specs.declared.error.OpenError.{OpenError}
+use Rattle.h5w_opening.specs.declared.error.OpenError.TheVariants.{Read, Failed, OutOfMemory}
+use Rattle.h5w_session.specs.OpenRanges.{first_open, refused_open}
+use Rattle.h5w_session.specs.OpenAnswers.{IfRefusal, IsArrayOf, IsIndexOf}
+use Rattle.h5w_session.specs.Sessions.{IsWritable}
+
+-- why an array is not opened, as why a file is not
+abbrev pub array_error : OpenArrayError → OpenError
+array_error (array_errors.Damaged at f) = Read (Damaged at f)
+array_error array_errors.Failed = Failed
+array_error array_errors.OutOfMemory = OutOfMemory
+
+abbrev pub Says : {A : Type 0} → (A → Type 0) → (OpenError → Type 0) → Result A OpenError → Type 0
+Says P Q (Ok a) = P a
+Says P Q (Err e) = IfRefusal (refusal_of e) Q
+
+-- a step that looked at an image: on a still one its answer is told, and so is its refusal
+pub record OpenStep {A : Type 0} (v w : ImageView) (P : List ℕ → A → Type 0) (Q : List ℕ → OpenError → Type 0) (answer : Result A OpenError) : Type 0 where
+  pub looked : Looked v w
+  pub cause : answer ≡ Err Failed → Rose v.faults w.faults
+  pub exact : (img : List ℕ) → IsStill v img → Says (P img) (Q img) answer
+
+-- the array that the dataset names is refused at its first block that is
+pub record IsBadIndex (img : List ℕ) (d : Described) (e : OpenError) : Type 0 where
+  pub kind : d.layout.index ≡ Array
+  pub named : d.layout.address ≢ undefined
+  pub at : ℕ
+  pub fault : BlockFault
+  pub damaged : IsDamaged img d.layout.address (first_open d) at fault
+  pub is : e ≡ Read (Damaged at fault)
+
+-- an array that was read is the one that the dataset names, and no block of it changed
+pub record IsNamedArray (d : Described) (v : Store) : Type 0 where
+  pub kind : d.layout.index ≡ Array
+  pub named : d.layout.address ≢ undefined
+  pub at : header_place v ≡ d.layout.address
+  pub array : IsArray v
+  pub clean : v.changed ≡ []
+
+abbrev pub IfNamedArray : Described → Option Store → Type 0
+IfNamedArray d (Some v) = IsNamedArray d v
+IfNamedArray d None = Unit {0}
+
+-- what a file has, and its index
+pub record IsFoundIn (img : List ℕ) (size : ℕ) (name : List ℕ) (o : Opened) (a : Option Store) : Type 0 where
+  pub is : eval img (looked_for size name) ≡ Ok o
+  pub index : IsIndexOf img o.header.dataset a
+
+-- the first dataspace message of these has rows
+pub record HasRows (list : List Msg) : Type 0 where
+  pub space : Msg
+  pub first : find (λ (m : Msg). m.kind == dataspace_kind) list ≡ Some space
+  pub long : 12 ≤ length space.body
+
+-- the bytes of chunk 0 that are looked at, at most a piece
+abbrev pub front_of : List ℕ → ℕ → ℕ → List ℕ
+front_of img place len = range img place (min len 512)
+
+-- the parts of a dataset belong together: so what messages say
+pub record IsCut (d : Described) : Type 0 where
+  pub shaped : IsShape d.shape
+  pub typed : IsIntType d.int_type
+  pub chunked : IsLayout d.layout d.shape d.int_type
+  pub filled : IfSome d.fill.value (λ (b : List ℕ). length b ≡ d.int_type.size)
+
+-- what a session over a file that is there begins with, whatever the image is
+pub record IsReady (o : Opened) (header : List ℕ) (v : Store) : Type 0 where
+  pub found : IsFound o
+  pub array : IsNamedArray o.header.dataset v
+  pub unrefused : refused_open o (Some v) ≡ None
+  pub writable : IsWritable header
+  pub few : length header ≤ o.header.len
+
+-- a superblock of version 3
+abbrev pub versioned : Opened → Opened
+versioned o = record o { root = record (o.root) { version = 3 } }
+
+-- all of a file that is opened, where nothing refuses it
+pub record IsOpenedFile (img : List ℕ) (size : ℕ) (name : List ℕ) (o : Opened) (header : List ℕ) (v : Store) : Type 0 where
+  pub is : eval img (looked_for size name) ≡ Ok o
+  pub index : IsArrayOf img o.header.dataset v
+  pub unrefused : refused_open o (Some v) ≡ None
+  pub kept : header ≡ chunk_0 img o.place
