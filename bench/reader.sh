@@ -260,8 +260,8 @@ import sys
 rows = [
     ("an idle refresh at 10 chunks, instructions", 1000, 1500),
     ("an idle refresh at 100,001 chunks, instructions", 1000, 1500),
-    ("a refresh that looks up an absent chunk before 9 others, instructions", 1000, 40000),
-    ("a refresh that looks up an absent chunk before 100,000 others, instructions", 1000, 40000),
+    ("a refresh that looks up an absent chunk before 9 others, instructions", 1000, 15000),
+    ("a refresh that looks up an absent chunk before 100,000 others, instructions", 1000, 15000),
     ("a refresh with one new chunk behind 100,000, instructions", 1, 60000),
     ("a read of 1,000,000 values, instructions a value", 1000000, 12),
 ]
