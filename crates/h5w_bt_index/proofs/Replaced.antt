@@ -1,6 +1,6 @@
 -- A record put in the place of the one with its key, and a tree that did not change.
-use Rattle.std.proofs.Common.{◌≡◌, ℕ, zero, suc, Bool, true, false, max, List, [], ◌∷◌, map, refl, sym, ap, ◌∙◌, subst, arith, Option, Some, None, is_some, slice_get, if◌then◌else◌, inl, inr}
-use Rattle.std.proofs.lemmas.Bool.{cond-true, cond-false, cases_Bool}
+use Rattle.std.proofs.Common.{◌≡◌, ℕ, zero, suc, Bool, true, false, max, List, [], ◌∷◌, refl, sym, ap, ◌∙◌, subst, arith, Option, Some, None, is_some, slice_get, if◌then◌else◌, inl, inr}
+use Rattle.std.proofs.lemmas.Bool.{cond-true, cases_Bool}
 use Rattle.h5w_model.specs.declared.cell.Key.{Key}
 use Rattle.h5w_model.specs.Trees.{capacity_of}
 use Rattle.h5w_model.specs.Tables.{key_equal}
@@ -11,7 +11,7 @@ use Rattle.h5w_bt_index.specs.Puts.{is_over, put, put_record, raised, settled, w
 use Rattle.h5w_bt_index.specs.Sound.{IsSound}
 use Rattle.h5w_bt_index.specs.Marks.{clean_of}
 use Rattle.h5w_bt_index.specs.Index.{Index, IsIndex, IsReplaced, IsThere, inserted, keys_of, records}
-use Rattle.h5w_bt_index.specs.Plans.{AllRead, IsTreePlan, header_writes, placed, planned, stood, writes_of, written}
+use Rattle.h5w_bt_index.specs.Plans.{AllRead, IsTreePlan, placed, stood, writes_of, written}
 use Rattle.h5w_bt_index.proofs.Keys.{equal-is}
 use Rattle.h5w_bt_index.proofs.Records.{under, here, past, side, put-under, put-here, in-under, in-past, none_is_not_some, put-finds_other}
 use Rattle.h5w_bt_index.proofs.Steps.{is_there, there, not_there, put_here, put_below, went_down}

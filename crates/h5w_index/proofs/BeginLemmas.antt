@@ -9,7 +9,7 @@ use Rattle.h5w_model.specs.declared.piece.Write.{Write}
 use Rattle.h5w_model.proofs.ImageLemmas.{range-apply_missed}
 use Rattle.h5w_model.specs.Findings.{Used, chunk_bytes}
 use Rattle.h5w_model.specs.declared.cell.IndexKind.TheVariants as kinds
-use Rattle.h5w_visits.specs.Ranges.{AllEndBy, Among, block_at}
+use Rattle.h5w_visits.specs.Ranges.{Among, block_at}
 use Rattle.h5w_visits.specs.Indexes.{behind_visit}
 use Rattle.h5w_visits.proofs.RangeLemmas.{among_left, among_right, among_split, ends_later}
 use Rattle.h5w_visits.proofs.IndexLaws.{index_by_end}
@@ -113,8 +113,8 @@ tree_missed img name m old s p v w k off r =
     let fits : p + 38 ≤ length img = omega (arith, k.file.index.ends (header_range p) head, k.ended, k.covered) in
     record {
       nodes = tree_left v img (w ∷ []) is.index stands.nodes (λ part clean n.
-      let u : Used = node_range (node_place part.depth part.tree) in
-      (off u (in_file img m old s (a_tree p v) u r (among_right u (header_range p ∷ []) behind (part_range bytes part v.depth v.root is.index.sound n.ends clean))), tt));
+          let u : Used = node_range (node_place part.depth part.tree) in
+          (off u (in_file img m old s (a_tree p v) u r (among_right u (header_range p ∷ []) behind (part_range bytes part v.depth v.root is.index.sound n.ends clean))), tt));
       header = λ e. ap (λ (l : List ℕ). bthd_at l p) (range-apply_missed w img p bthd_len (off (header_range p) head) fits) ∙ stands.header e;
     }
 

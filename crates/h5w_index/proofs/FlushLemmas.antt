@@ -7,7 +7,7 @@ use Rattle.h5w_model.specs.Images.{image}
 use Rattle.h5w_model.specs.Findings.{Used, chunk_bytes}
 use Rattle.h5w_model.specs.declared.cell.Key.{Key}
 use Rattle.h5w_model.specs.declared.piece.Write.{Write}
-use Rattle.h5w_visits.specs.Ranges.{AllEndBy, Among, block_at}
+use Rattle.h5w_visits.specs.Ranges.{AllEndBy, block_at}
 use Rattle.h5w_visits.proofs.RangeLemmas.{among_right}
 use Rattle.h5w_space.specs.Space.{Space}
 use Rattle.h5w_cache.specs.Stores.{Store}
@@ -15,7 +15,7 @@ use Rattle.h5w_cache.specs.Blocks.{BlockView}
 use Rattle.h5w_cache.specs.Plans.{bytes_of}
 use Rattle.h5w_cache.proofs.FinishLemmas.{retired_end}
 use Rattle.h5w_cache.specs.declared.moves.Move.{Move}
-use Rattle.h5w_steps.specs.Moments.{Moment, all_used}
+use Rattle.h5w_steps.specs.Moments.{Moment}
 use Rattle.h5w_array_laws.proofs.WriteLemmas.{plan_copies as array_copies}
 use Rattle.h5w_array_laws.specs.ArrayPlans.{IsArrayPlan}
 use Rattle.h5w_array_laws.specs.ArrayStores as arrays
@@ -43,9 +43,8 @@ use Rattle.h5w_tree_index_laws.proofs.TreeHeaderLemmas.{header_long}
 use Rattle.h5w_tree_index_laws.proofs.TreePlanLemmas.{moves_taken}
 use Rattle.h5w_tree_index_laws.proofs.TreeLaws.{copies_are, tree_is_flush}
 use Rattle.h5w_tree_index_laws.proofs.TreeRestLemmas.{tree_rests_then}
-use Rattle.h5w_index.specs.Views.{IndexView, an_array, a_tree, IsSoundTree, address_in}
-use Rattle.h5w_index.specs.Steps.{IsPlan}
-use Rattle.h5w_index.specs.Flushes.{IndexIsFlush, IndexRestsThen, IsIndexPart, IsWhole, PlanTells, PlanTold, Rests, RestsClean, RestsFreed, index_parts}
+use Rattle.h5w_index.specs.Views.{an_array, a_tree, IsSoundTree, address_in}
+use Rattle.h5w_index.specs.Flushes.{IndexIsFlush, IndexRestsThen, IsIndexPart, IsWhole, PlanTells, PlanTold, RestsClean, RestsFreed, index_parts}
 
 -- ---- A plan
 

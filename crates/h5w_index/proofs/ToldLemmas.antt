@@ -1,6 +1,6 @@
 -- What the calls of an index tell, kind by kind.
-use Rattle.std.proofs.Common.{◌≡◌, ◌≢◌, ◌⊎◌, ℕ, Bool, true, false, List, [], ◌∷◌, ◌++◌, refl, sym, ap, ◌∙◌, subst, inl, inr, sum_by}
-use Rattle.std.specs.Prelude.{◌==◌, if◌then◌else◌}
+use Rattle.std.proofs.Common.{◌≡◌, ◌≢◌, ℕ, Bool, true, false, List, [], ◌∷◌, ◌++◌, refl, sym, ap, ◌∙◌, subst, inl, inr, sum_by}
+use Rattle.std.specs.Prelude.{if◌then◌else◌}
 use Rattle.std.proofs.lemmas.Bool.{eq-eqb, ne_eqb}
 use Rattle.h5w_model.specs.Numbers.{undefined}
 use Rattle.h5w_model.specs.Findings.{Used}
@@ -15,15 +15,14 @@ use Rattle.h5w_array_laws.specs.ArrayStores as arrays
 use Rattle.h5w_array_laws.specs.ArrayImages.{StandsArray}
 use Rattle.h5w_bt.specs.declared.records.Record.{Record}
 use Rattle.h5w_bt_index.specs.Marks.{clean_of}
-use Rattle.h5w_bt_index.specs.Index.{Index, IsHalfFull, IsIndex, address_of, inserted}
+use Rattle.h5w_bt_index.specs.Index.{Index, IsIndex, address_of, inserted}
 use Rattle.h5w_bt_index.proofs.Laws.{held-map, inserted-clean, inserted-half}
 use Rattle.h5w_bt_index.proofs.Replaced.{inserted_changed, inserted_there}
 use Rattle.h5w_tree_index_laws.specs.TreeImages as trees
-use Rattle.h5w_tree_index_laws.specs.TreeFlushes.{TreeStands, header_range}
 use Rattle.h5w_tree_index_laws.proofs.TreeInsertLemmas.{inserted_behind}
 use Rattle.h5w_tree_index_laws.proofs.TreeMapLemmas as maps
-use Rattle.h5w_index.specs.Views.{IndexView, an_array, a_tree, IsSound, IsSoundTree}
-use Rattle.h5w_index.specs.Steps.{ArrayHeld, ArraySet, ArrayUnset, IsHeld, IsSet, IsUnset, TreeHeld, TreeSet, blank}
+use Rattle.h5w_index.specs.Views.{IndexView, an_array, a_tree, IsSoundTree}
+use Rattle.h5w_index.specs.Steps.{ArrayHeld, ArraySet, ArrayUnset, TreeHeld, TreeSet, blank}
 use Rattle.h5w_index.specs.Told.{HeldTells, HeldTold, IsLike, LikeLaws, SameBlocks, SameRanges, SetTells, SetTold, UnsetTells, UnsetTold}
 use Rattle.h5w_index.proofs.ArrayBehindLemmas as by_map
 

@@ -1,5 +1,5 @@
 -- The plan of an index as its part of a flush, whichever its kind.
-use Rattle.std.specs.Prelude.{◌≡◌, ℕ, ◌*◌, ◌^◌, ◌<◌, ◌≤◌, List, [], ◌++◌, length, None, ℤ}
+use Rattle.std.specs.Prelude.{◌≡◌, ℕ, ◌*◌, ◌^◌, ◌<◌, ◌≤◌, List, ◌++◌, length, None, ℤ}
 use Rattle.std.specs.List.{All}
 use Rattle.h5w_model.specs.Images.{Misses, apply, image}
 use Rattle.h5w_model.specs.Findings.{Used, chunk_bytes}

@@ -1,7 +1,6 @@
 -- What the calls of an index tell a session, whichever its kind.
 use Rattle.std.specs.Prelude.{◌≡◌, ◌≢◌, ℕ, List, ◌∷◌, if◌then◌else◌}
 use Rattle.h5w_model.specs.Numbers.{undefined}
-use Rattle.h5w_model.specs.Findings.{Used}
 use Rattle.h5w_model.specs.declared.cell.Key.{Key}
 use Rattle.h5w_space.specs.Space.{Space}
 use Rattle.h5w_cache.specs.Stores.{place_of}

@@ -11,6 +11,6 @@ pub use begun::Begun;
 pub use h5w_bt_index::{InsertError, Key};
 pub use index::Index;
 pub use laws::{
-    held_tells, index_begins, index_is_flush, index_rests_then, like_laws, plan_tells, rests_freed, rests_missed, same_ranges,
-    set_tells, unset_tells,
+    held_tells, index_begins, index_is_flush, index_rests_then, like_laws, plan_tells, rests_freed,
+    rests_missed, same_ranges, set_tells, unset_tells,
 };

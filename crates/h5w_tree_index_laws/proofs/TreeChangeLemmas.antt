@@ -1,5 +1,5 @@
 -- How many nodes of a tree are changed by a record more.
-use Rattle.std.proofs.Common.{◌≡◌, ◌⊎◌, ℕ, zero, suc, ◌+◌, ◌*◌, ◌≤◌, Bool, true, false, List, [], ◌∷◌, ◌++◌, length, flat_map, take, drop, set, insert, refl, sym, ap, ◌∙◌, subst, inl, inr, arith, sum_by, Some, slice_get, length-append, take-append-drop}
+use Rattle.std.proofs.Common.{◌≡◌, ◌⊎◌, ℕ, zero, suc, ◌+◌, ◌*◌, ◌≤◌, Bool, true, false, List, [], ◌∷◌, ◌++◌, length, flat_map, take, drop, set, insert, refl, ap, inl, inr, arith, sum_by, Some, slice_get, length-append, take-append-drop}
 use Rattle.std.specs.List.{All}
 use Rattle.std.proofs.lemmas.Bool.{cases_Bool, cond-true, cond-false}
 use Rattle.std.proofs.lemmas.List.Elements.{All-head, All-tail}
@@ -10,7 +10,7 @@ use Rattle.h5w_bt_index.specs.Nodes.{Tree, rank}
 use Rattle.h5w_bt_index.specs.Puts.{changed_at, half, is_over, left_of, put, raised, right_of, settled, with_divided}
 use Rattle.h5w_bt_index.specs.Sound.{IsSound}
 use Rattle.h5w_bt_index.specs.Marks.{IsMarked, clean_of}
-use Rattle.h5w_bt_index.specs.Index.{Index, IsIndex, inserted, regrown}
+use Rattle.h5w_bt_index.specs.Index.{Index, inserted, regrown}
 use Rattle.h5w_bt_index.specs.Plans.{changes, stood}
 use Rattle.h5w_bt_index.proofs.Over.{OnTheWay, on_the_way}
 use Rattle.h5w_bt_index.proofs.Places.{at_place, none_is_not, some_same}

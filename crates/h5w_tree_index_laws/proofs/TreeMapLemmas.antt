@@ -1,12 +1,12 @@
 -- The ranges of a tree by its map and by the ranges of its nodes.
-use Rattle.std.proofs.Common.{◌≡◌, ◌≢◌, ◌⊎◌, ℕ, zero, suc, ◌+◌, ◌≤◌, true, false, List, [], ◌∷◌, ◌++◌, length, refl, sym, ap, ◌∙◌, subst, inl, inr, arith, sum_by, Option, Some, None}
-use Rattle.std.specs.Prelude.{if◌then◌else◌, ◌==◌}
+use Rattle.std.proofs.Common.{◌≡◌, ℕ, zero, suc, ◌+◌, ◌≤◌, true, false, List, [], ◌∷◌, length, refl, sym, ap, ◌∙◌, subst, arith, sum_by, Option, Some, None}
+use Rattle.std.specs.Prelude.{if◌then◌else◌}
 use Rattle.std.specs.Option.{unwrap_or}
 use Rattle.std.proofs.lemmas.Bool.{eq-eqb}
 use Rattle.std.proofs.lemmas.List.Elements.{All-head}
 use Rattle.std.proofs.lemmas.List.Sums.{sum_by-append}
 use Rattle.h5w_model.specs.Numbers.{undefined}
-use Rattle.h5w_model.specs.Tables.{key_below, key_equal}
+use Rattle.h5w_model.specs.Tables.{key_below}
 use Rattle.h5w_model.specs.Trees.{capacity_of}
 use Rattle.h5w_model.specs.Findings.{Used}
 use Rattle.h5w_model.specs.declared.cell.Key.{Key}
@@ -15,11 +15,11 @@ use Rattle.h5w_bt.specs.declared.records.Record.{Record}
 use Rattle.h5w_bt_index.specs.Nodes.{address_in}
 use Rattle.h5w_bt_index.specs.Puts.{put_record}
 use Rattle.h5w_bt_index.specs.Sound.{IsRising}
-use Rattle.h5w_bt_index.specs.Index.{Index, IsIndex, address_of, inserted, records}
-use Rattle.h5w_bt_index.proofs.Keys.{above-from, above-not_equal, below-not_back, below-not_equal, below-not_self, equal-is, equal-self}
+use Rattle.h5w_bt_index.specs.Index.{Index, address_of, inserted, records}
+use Rattle.h5w_bt_index.proofs.Keys.{above-from, above-not_equal, below-not_back, below-not_self, equal-is, equal-self}
 use Rattle.h5w_bt_index.proofs.Laws.{in_leaf-is, inserted-records}
 use Rattle.h5w_bt_index.proofs.Records.{AreAbove, above_all, here, in-here, in-past, in-under, past, put-here, put-past, put-under, side, under}
-use Rattle.h5w_tree_index_laws.specs.TreeImages.{AreSame, InsertedRenews, SameBehind, behind_of, chunk_named, chunk_of}
+use Rattle.h5w_tree_index_laws.specs.TreeImages.{InsertedRenews, SameBehind, behind_of, chunk_named, chunk_of}
 use Rattle.h5w_tree_index_laws.proofs.TreeInsertLemmas.{all_nodes, apart, chunks, chunks_cons, inserted_nodes}
 
 -- what is found, undefined where nothing is

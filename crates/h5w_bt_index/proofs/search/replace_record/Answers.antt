@@ -1,4 +1,4 @@
-use Rattle.std.proofs.Common.{◌≡◌, ap, arith, ◌∙◌, sym, is_some, true}
+use Rattle.std.proofs.Common.{◌≡◌, ap, arith, ◌∙◌, is_some, true}
 use Rattle.h5w_bt_index.specs.Nodes.{address_in}
 use Rattle.h5w_bt_index.proofs.Edits.{search-inside, set-searched}
 use Rattle.h5w_bt_index.proofs.search.replace_record.Goals as goal

@@ -1,4 +1,4 @@
-use Rattle.std.proofs.Common.{◌<◌, refl, sym, ap, ◌∙◌, map, length, set, arith}
+use Rattle.std.proofs.Common.{◌<◌, refl, ◌∙◌, map, length, set, arith}
 use Rattle.std.proofs.lemmas.List.{length-map}
 use Rattle.h5w_model.specs.Trees.{capacity_of}
 use Rattle.h5w_bt_index.specs.Sound.{IsSound}
