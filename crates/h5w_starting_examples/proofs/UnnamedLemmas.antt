@@ -7,7 +7,7 @@ use Rattle.h5w_model.specs.Arrays.{numbers_in, eaib_fields}
 use Rattle.h5w_model.specs.Checksum.{mix_line, mixed, finish_line, finished, added, rounds, sum_of}
 use Rattle.h5w_model.specs.Headers.{prefix_at, msgs_in, header_at, messages_at, prefix_bytes, data_in_header, rows_in_header, index_in_header, rows_changed, header_view}
 use Rattle.h5w_model.specs.Headers as headers
-use Rattle.h5w_model.specs.Images.{apply, first_pieces, pieces}
+use Rattle.h5w_model.specs.Images.{apply, first_pieces, image, pieces}
 use Rattle.h5w_model.specs.Integers.{value_at, cell_bytes_of}
 use Rattle.h5w_model.specs.Links.{links_at, find_link}
 use Rattle.h5w_model.specs.Messages.{shape_tests, shape_fields, shape_at, int_type_tests, int_type_fields, int_type_at, fill_tests, fill_fields, fill_at, fill_value_bytes, layout_fields, layout_at}
@@ -15,7 +15,7 @@ use Rattle.h5w_model.specs.Numbers.{num, le, halvings, width_of, range, undefine
 use Rattle.h5w_model.specs.Programs.{eval}
 use Rattle.h5w_model.specs.Tables.{in_array, cell}
 use Rattle.h5w_model.specs.Datasets.{FoundMessage, HeaderFields, dataset_messages, first_of, layout_kind}
-use Rattle.h5w_model.specs.Findings.{Used}
+use Rattle.h5w_model.specs.Findings.{Used, Valid}
 use Rattle.h5w_model.specs.declared.refusal.ReadError.{ReadError}
 use Rattle.h5w_model.specs.declared.piece.Write.{Write}
 use Rattle.h5w_space.specs.Space.{Apart}
@@ -27,7 +27,7 @@ use Rattle.h5w_chunks.specs.declared.grid.ChunkPlace.{ChunkPlace}
 use Rattle.h5w_chunks.proofs.Geometry.{IsCut}
 use Rattle.h5w_chunks.proofs.WriteLaws.{rows_written}
 use Rattle.h5w_examples.proofs.CellLemmas.{each_cell}
-use Rattle.h5w_examples.specs.Readings.{data_name, piece_of, described_by}
+use Rattle.h5w_examples.specs.Readings.{data_name, piece_of, described_by, summary_as}
 use Rattle.h5w_visits.specs.Ranges.{Among, Disjoint, block_at, chunk_at}
 use Rattle.h5w_visits.specs.Indexes.{IsIndex, behind_visit}
 use Rattle.h5w_visits.proofs.IndexLaws.{index_of_parts}
@@ -257,5 +257,27 @@ are_pieces : pieces_of opened_file open_to_write fourth_row
 unfolding headers.with_rows_bytes headers.first_of numbers_in mix_line mixed finish_line finished added rounds sum_of prefix_at msgs_in header_at messages_at prefix_bytes data_in_header rows_in_header index_in_header rows_changed header_view apply first_pieces pieces value_at links_at find_link shape_tests shape_fields shape_at int_type_tests int_type_fields int_type_at fill_tests fill_fields fill_at fill_value_bytes layout_fields layout_at num le halvings width_of
 are_pieces = refl
 
+are_bytes : image opened_file (pieces_of opened_file open_to_write fourth_row) ≡ named_file
+unfolding headers.with_rows_bytes headers.first_of numbers_in mix_line mixed finish_line finished added rounds sum_of prefix_at msgs_in header_at messages_at prefix_bytes data_in_header rows_in_header index_in_header rows_changed header_view apply first_pieces pieces value_at links_at find_link shape_tests shape_fields shape_at int_type_tests int_type_fields int_type_at fill_tests fill_fields fill_at fill_value_bytes layout_fields layout_at num le halvings width_of
+are_bytes = refl
+
+is_valid : Valid unnamed_file data_name (summary_as 3 0 3 240)
+unfolding headers.first_of numbers_in mix_line mixed finish_line finished added rounds sum_of prefix_at msgs_in header_at messages_at prefix_bytes data_in_header rows_in_header index_in_header rows_changed header_view apply first_pieces pieces value_at links_at find_link shape_tests shape_fields shape_at int_type_tests int_type_fields int_type_at fill_tests fill_fields fill_at fill_value_bytes layout_fields layout_at num le halvings width_of
+is_valid = refl
+
+is_valid_then : Valid named_file data_name (summary_as 4 1 5 618)
+unfolding headers.first_of numbers_in mix_line mixed finish_line finished added rounds sum_of prefix_at msgs_in header_at messages_at prefix_bytes data_in_header rows_in_header index_in_header rows_changed header_view apply first_pieces pieces value_at links_at find_link shape_tests shape_fields shape_at int_type_tests int_type_fields int_type_at fill_tests fill_fields fill_at fill_value_bytes layout_fields layout_at num le halvings width_of
+is_valid_then = refl
+
 pub unnamed_flush : IsUnnamedFlush
-unnamed_flush = record { file = is_file; opens = opens; known = known; flush = is_flush; leads = refl; pieces = are_pieces }
+unnamed_flush = record {
+  valid = is_valid;
+  file = is_file;
+  opens = opens;
+  known = known;
+  flush = is_flush;
+  leads = refl;
+  pieces = are_pieces;
+  bytes = are_bytes;
+  valid_then = is_valid_then;
+}

@@ -1,13 +1,14 @@
 -- A fourth row in a file whose array is not there yet, as the parts of a flush. Its pieces are those of a program from outside.
 use Rattle.std.specs.Prelude.{◌≡◌, ℕ, false, List, [], ◌∷◌, get_or, Some, pos}
 use Rattle.h5w_model.specs.Numbers.{range, undefined}
-use Rattle.h5w_model.specs.Images.{apply}
+use Rattle.h5w_model.specs.Images.{apply, image}
 use Rattle.h5w_model.specs.Arrays.{eaib_fields}
 use Rattle.h5w_model.specs.Tables.{in_array}
+use Rattle.h5w_model.specs.Findings.{Valid}
 use Rattle.h5w_model.specs.declared.cell.Key.{Key}
 use Rattle.h5w_model.specs.declared.piece.Write.{Write}
 use Rattle.h5w_chunks.specs.declared.grid.ChunkPlace.{ChunkPlace}
-use Rattle.h5w_examples.specs.Readings.{data_name, described_by, piece_of}
+use Rattle.h5w_examples.specs.Readings.{data_name, described_by, piece_of, summary_as}
 use Rattle.h5w_visits.specs.Ranges.{block_at, chunk_at}
 use Rattle.h5w_steps.specs.Moments.{Moment, Represents}
 use Rattle.h5w_steps.specs.Steps.{Ends}
@@ -81,9 +82,11 @@ fourth_row = record {
   behind = chunk_at 240 8 ∷ [];
 }
 
--- The file is one, and a writer's superblock leaves it; it is known then, and these are parts of a flush, which leads to the file of four
--- rows by these pieces: the chunk, whose first row has the fill, the two blocks of the array, the superblock, and last the header.
+-- The file is valid, and a writer's superblock leaves it; it is known then, and these are parts of a flush, which leads to the file of four
+-- rows by these pieces: the chunk, whose first row has the fill, the two blocks of the array, the superblock, and last the header. They
+-- make the bytes of the valid file of four rows, one chunk and five blocks.
 pub record IsUnnamedFlush : Type 0 where
+  pub valid : Valid unnamed_file data_name (summary_as 3 0 3 240)
   pub file : Represents unnamed_file data_name found
   pub opens : Ends unnamed_file found opening_piece open_to_write
   pub known : Knows opened_file data_name open_to_write no_chunk (places_to 240)
@@ -91,3 +94,5 @@ pub record IsUnnamedFlush : Type 0 where
   pub leads : flushed_to open_to_write fourth_row ≡ with_seven
   pub pieces : pieces_of opened_file open_to_write fourth_row
       ≡ piece_of named_file 240 8 ∷ piece_of named_file 248 298 ∷ piece_of named_file 546 72 ∷ piece_of named_file 0 48 ∷ piece_of named_file 106 134 ∷ []
+  pub bytes : image opened_file (pieces_of opened_file open_to_write fourth_row) ≡ named_file
+  pub valid_then : Valid named_file data_name (summary_as 4 1 5 618)

@@ -1,8 +1,8 @@
 -- A first flush by what its calls give.
-use Rattle.std.proofs.Common.{ℕ, List, [], ◌∷◌, ◌++◌, sym, ◌∙◌, ap, subst, inl, inr, arith}
+use Rattle.std.proofs.Common.{◌≡◌, ℕ, List, [], ◌∷◌, ◌++◌, length, sym, ◌∙◌, ap, subst, inl, inr, arith}
 use Rattle.std.specs.Prelude.{Some, ℤ}
 use Rattle.h5w_model.specs.Arrays.{eahd_len, eaib_len}
-use Rattle.h5w_model.specs.Findings.{Used}
+use Rattle.h5w_model.specs.Findings.{Used, chunk_bytes}
 use Rattle.h5w_model.specs.declared.piece.Write.{Write}
 use Rattle.h5w_visits.specs.Ranges.{AllAmong, block_at}
 use Rattle.h5w_space.specs.Space.{Space}
@@ -10,19 +10,27 @@ use Rattle.h5w_cache.specs.Stores.{Store}
 use Rattle.h5w_cache.specs.StoreLaws.{Standing}
 use Rattle.h5w_cache.specs.declared.moves.Move.{Move}
 use Rattle.h5w_chunks.specs.declared.grid.ChunkPlace.{ChunkPlace}
-use Rattle.h5w_header_laws.specs.Files.{commit_at}
+use Rattle.h5w_header_laws.specs.Files.{chunk_0, commit_at}
 use Rattle.h5w_steps.specs.Moments.{Moment}
 use Rattle.h5w_visits.proofs.RangeLemmas.{among_left}
 use Rattle.h5w_array_laws.specs.Parts.{index_block}
-use Rattle.h5w_array_laws.specs.ArrayStores.{place_at_part, header_place, fixed_of}
+use Rattle.h5w_array_laws.specs.ArrayStores.{place_at_part, header_place, fixed_of, behind_of}
 use Rattle.h5w_array_laws.specs.ArrayImages.{StartsArray}
 use Rattle.h5w_array_laws.proofs.CreatedLemmas.{created_starts}
 use Rattle.h5w_flush_laws.specs.Spaces.{Taken}
+use Rattle.h5w_flush_laws.specs.Parts.{Parts, pieces_of}
+use Rattle.h5w_steps.specs.Logs.{image_now}
+use Rattle.h5w_steps.specs.Sessions.{Runs}
+use Rattle.h5w_model.specs.Images.{image}
+use Rattle.h5w_model.specs.Headers.{with_rows_bytes}
+use Rattle.h5w_model.specs.Logs.{plans, and_now}
+use Rattle.h5w_array_flushes.specs.ArrayBegins.{Begins}
 use Rattle.h5w_flush_laws.proofs.SpaceLemmas.{taken_laws}
 use Rattle.h5w_array_flushes.specs.ArrayFlushes.{chunks_for}
 use Rattle.h5w_starting_laws.specs.Starting.{no_chunk, IsBlank, StartKnows}
-use Rattle.h5w_starting_laws.specs.StartFlushes.{HasStartingPart}
-use Rattle.h5w_starting_laws.specs.StartCalls.{AreStartCalls, CallsStart, StartCalls, TwoTaken}
+use Rattle.h5w_starting_laws.specs.StartFlushes.{HasStartingPart, parts_for}
+use Rattle.h5w_starting_laws.specs.StartCalls.{AreStartCalls, CallsStart, StartCalls, TwoTaken, StartPending, first_named}
+use Rattle.h5w_starting_laws.proofs.StartLeadLemmas.{start_leads, start_runs}
 use Rattle.h5w_starting_laws.proofs.TakenLemmas.{taken_again}
 use Rattle.h5w_starting_laws.proofs.StartLemmas.{blank_standing, created_blank}
 use Rattle.h5w_starting_laws.proofs.StartPieceLemmas.{start_part, start_pieces}
@@ -90,3 +98,18 @@ module _ (img name : List ℕ) (m : Moment) (base b t : Space) (at place : ℕ) 
 
 pub start_calls : StartCalls
 start_calls img name m base b t at place blank u v w ms rows more writes places cs fixed supers k c = calls_start img name m base b t at place blank u v w ms rows more writes places cs fixed supers k c
+
+pub start_pending : StartPending
+start_pending name log m base b t at place blank u v w ms rows more writes places cs fixed supers ws runs k c values are =
+    let now : List ℕ = image_now log in
+    let calls = start_calls now name m base b t at place blank u v w ms rows more writes places cs fixed supers k c in
+    let f : Parts = parts_for m w rows more writes places calls.copies supers t.end in
+    let same : pieces_of now m f ≡ ws = calls.pieces ∙ sym are in
+    let over = start_runs name log m base b t u v w ms rows more writes places calls.copies fixed supers runs calls.knows calls.start values in
+    let leads = start_leads now name m base b t u v w ms rows more writes places calls.copies fixed supers calls.knows calls.start in
+    let after : Moment = first_named m w rows more t.end in
+    record {
+      runs = subst (λ (xs : List Write). Runs name (and_now (plans (length xs)) log) xs after (behind_of (chunk_bytes m.dataset) w)) same over.runs;
+      begins = subst (λ (xs : List Write). Begins (image now xs) name after t w) same leads.begins;
+      header = subst (λ (xs : List Write). chunk_0 (image now xs) m.place ≡ with_rows_bytes (chunk_0 now m.place) rows (Some (header_place w))) same leads.header;
+    }

@@ -1,27 +1,34 @@
 -- A first flush by what its calls give: two places are taken, an array is made there, the chunks get their places and the array names them,
 -- and its changed blocks are planned.
-use Rattle.std.specs.Prelude.{◌≡◌, ℕ, ◌+◌, ◌*◌, ◌^◌, ◌<◌, true, List, [], ◌∷◌, ◌++◌, length, Some, ℤ}
+use Rattle.std.specs.Prelude.{◌≡◌, ℕ, ◌+◌, ◌*◌, ◌^◌, ◌<◌, true, List, [], ◌∷◌, ◌++◌, length, map, Some, ℤ}
+use Rattle.h5w_model.specs.Images.{image}
+use Rattle.h5w_model.specs.Headers.{with_rows_bytes}
+use Rattle.h5w_model.specs.Tables.{needed_keys}
+use Rattle.h5w_model.specs.Logs.{Log, plans, appended, and_now}
 use Rattle.h5w_model.specs.Arrays.{eahd_len, eaib_len}
 use Rattle.h5w_model.specs.Findings.{Used, chunk_bytes}
 use Rattle.h5w_model.specs.declared.piece.Write.{Write}
 use Rattle.h5w_visits.specs.Ranges.{block_at}
 use Rattle.h5w_visits.specs.Needed.{AreFew}
 use Rattle.h5w_chunks.specs.declared.grid.ChunkPlace.{ChunkPlace}
-use Rattle.h5w_header_laws.specs.Files.{commit_at, with_rows}
+use Rattle.h5w_header_laws.specs.Files.{chunk_0, commit_at, with_rows}
 use Rattle.h5w_space.specs.Space.{Space, extent}
 use Rattle.h5w_cache.specs.Plans.{Took}
 use Rattle.h5w_cache.specs.Stores.{Store, place_of, is_changed}
 use Rattle.h5w_cache.specs.StoreLaws.{Standing}
 use Rattle.h5w_cache.specs.declared.moves.Move.{Move}
 use Rattle.h5w_steps.specs.Moments.{Moment}
+use Rattle.h5w_steps.specs.Logs.{image_now}
+use Rattle.h5w_steps.specs.Sessions.{Runs}
 use Rattle.h5w_array_laws.specs.Among.{AreAmong}
 use Rattle.h5w_array_laws.specs.Parts.{index_block, number_of}
-use Rattle.h5w_array_laws.specs.ArrayStores.{IsArray, IsCreated, header_place, behind_of}
+use Rattle.h5w_array_laws.specs.ArrayStores.{IsArray, IsCreated, header_place, map_of, fixed_of, behind_of}
 use Rattle.h5w_array_laws.specs.ArrayPlans.{IsArrayPlan}
 use Rattle.h5w_flush_laws.specs.Spaces.{Taken}
-use Rattle.h5w_flush_laws.specs.Parts.{AreEnded, block_writes, pieces_of}
+use Rattle.h5w_flush_laws.specs.Parts.{AreEnded, block_writes, committed, pieces_of}
 use Rattle.h5w_flush_laws.specs.Rows.{ArePlaced}
 use Rattle.h5w_array_flushes.specs.ArrayFlushes.{chunks_for}
+use Rattle.h5w_array_flushes.specs.ArrayBegins.{Begins}
 use Rattle.h5w_starting_laws.specs.Starting.{no_chunk, StartKnows}
 use Rattle.h5w_starting_laws.specs.StartFlushes.{IsStart, parts_for}
 
@@ -74,3 +81,28 @@ abbrev pub StartCalls : Type 0
 StartCalls = (img name : List ℕ) (m : Moment) (base b t : Space) (at place : ℕ) (blank u v w : Store) (ms : List Move) (rows : ℕ) (more : List ℤ) (writes : List Write) (places : List ChunkPlace) (cs fixed supers : List Write)
     → StartKnows img name m base blank → AreStartCalls m base b at place u v ms w t rows more writes places cs fixed supers
     → CallsStart img name m base b u v ms w t rows more writes places cs fixed supers
+
+-- The file once all pieces of such a flush are shown: it has the new rows, its header names the array, and its ranges are the array's.
+abbrev pub first_named : Moment → Store → ℕ → List ℤ → ℕ → Moment
+first_named m w rows more last = record m {
+  super = record (m.super) { end = last };
+  dataset = committed m.dataset rows (Some (header_place w));
+  fixed = fixed_of w;
+  behind = behind_of (chunk_bytes m.dataset) w;
+  table = map (λ key. map_of w key.i) (needed_keys (committed m.dataset rows (Some (header_place w))));
+  values = m.values ++ more;
+}
+
+-- These pieces are pending, of a flush that was planned just now: they are safe steps to that file, whose array will rest, and chunk 0 of
+-- whose header is what the last of them writes.
+pub record ArePending (name : List ℕ) (log : Log) (m : Moment) (w : Store) (t : Space) (rows : ℕ) (more : List ℤ) (ws : List Write) : Type 0 where
+  pub runs : Runs name (and_now (plans (length ws)) log) ws (first_named m w rows more t.end) (behind_of (chunk_bytes m.dataset) w)
+  pub begins : Begins (image (image_now log) ws) name (first_named m w rows more t.end) t w
+  pub header : chunk_0 (image (image_now log) ws) m.place ≡ with_rows_bytes (chunk_0 (image_now log) m.place) rows (Some (header_place w))
+
+-- A session whose log has come to such a file plans that flush, of all values that were appended.
+abbrev pub StartPending : Type 0
+StartPending = (name : List ℕ) (log : Log) (m : Moment) (base b t : Space) (at place : ℕ) (blank u v w : Store) (ms : List Move) (rows : ℕ) (more : List ℤ) (writes : List Write) (places : List ChunkPlace)
+    (cs fixed supers ws : List Write) → Runs name log [] m m.behind → StartKnows (image_now log) name m base blank → AreStartCalls m base b at place u v ms w t rows more writes places cs fixed supers
+    → m.values ++ more ≡ appended log
+    → ws ≡ writes ++ (cs ++ (fixed ++ (supers ++ commit_at (image_now log) m.place rows (Some (header_place w)) ∷ []))) → ArePending name log m w t rows more ws

@@ -1,6 +1,6 @@
 //! Such a flush by its calls.
 
-ghost use Rattle.h5w_starting_laws.specs.StartCalls.{StartCalls, TwoTaken};
+ghost use Rattle.h5w_starting_laws.specs.StartCalls.{StartCalls, StartPending, TwoTaken};
 
 /// The places of the array's two blocks, taken one after the other.
 pub fn two_taken()
@@ -10,4 +10,9 @@ pub fn two_taken()
 /// What the calls of a first flush give is such a flush, and these are its pieces.
 pub fn start_calls()
     ensures { StartCalls }
+{}
+
+/// A session over its log that plans such a flush: what its pending pieces are, and what they lead to.
+pub fn start_pending()
+    ensures { StartPending }
 {}

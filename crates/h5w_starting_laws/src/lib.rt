@@ -8,7 +8,7 @@ mod calls;
 mod flushes;
 mod starting;
 
-pub use calls::{start_calls, two_taken};
+pub use calls::{start_calls, start_pending, two_taken};
 pub use flushes::{
     holder_changed, named_changed, start_is_flush, start_leads, start_part, start_pieces,
     start_runs,
