@@ -278,7 +278,7 @@ left img name rows columns values sm e short valid reads why =
     go : (m : Moment) → Represents img name m → (r : OpenError) → IsNotOpened img (length img) name r → IsLeft img (length img) name r
     go m file r (unfound g is) = unfound_by m file g is (finding img name m file)
     go m file r (damaged o at f is kind named bad) =
-        absurd (undamaged img o.root.end (first_open o.header.dataset) at o.header.dataset f (end_small img name o m is file short) (visited img name o m is file short) kind named bad)
+        absurd (undamaged img o.root.end (first_open o.header.dataset) at o.header.dataset f (visited img name o m is file short) kind named bad)
     go m file r (refused o a g is x h) =
         left_by img name o g a (refused_dataset o) is x refl (ap (λ r. option_or r (option_or (refused_dataset o) (refused_index a))) (sym (no_range img name o m is file short a x)) ∙ h)
 

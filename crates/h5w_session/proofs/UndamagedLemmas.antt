@@ -197,15 +197,14 @@ array_of img end d h kind ne =
     let there = placed img d.layout.address (by_kind d.layout.index) ne h in
     subst (λ k. HasAnswer (eval img (by_kind k))) kind there
 
-not_refused : (img : List ℕ) (end first : ℕ) (k : Part) (place : ℕ) (f : BlockFault) → end < 2 ^ 64 → IsSoundAt img end k place → Refuses img first k place f → ⊥
-not_refused img end first k place f small s (inl refused) = let e : Some f ≡ None = sym refused.1 ∙ s.sound in absurd cc
-not_refused img end first k place f small s (inr far) = let e = s.ends in let g = far.1 in absurd (omega arith)
+not_refused : (img : List ℕ) (end first : ℕ) (k : Part) (place : ℕ) (f : BlockFault) → IsSoundAt img end k place → Refuses img first k place f → ⊥
+not_refused img end first k place f s refused = let e : Some f ≡ None = sym refused.1 ∙ s.sound in absurd cc
 
-pub undamaged : (img : List ℕ) (end first at : ℕ) (d : Described) (f : BlockFault) → end < 2 ^ 64 → HasAnswer (eval img (index_visit end d)) → d.layout.index ≡ Array → d.layout.address ≢ undefined
+pub undamaged : (img : List ℕ) (end first at : ℕ) (d : Described) (f : BlockFault) → HasAnswer (eval img (index_visit end d)) → d.layout.index ≡ Array → d.layout.address ≢ undefined
     → IsDamaged img d.layout.address first at f → ⊥
-undamaged img end first at d f small h kind ne bad =
+undamaged img end first at d f h kind ne bad =
     let named : bad.k ≢ header → named_on img d.layout.address bad.k ≢ undefined = λ other e. bad.placed other (sym bad.named ∙ e) in
-    not_refused img end first bad.k at f small
+    not_refused img end first bad.k at f
     (subst (IsSoundAt img end bad.k) bad.named (part_read img end (chunk_bytes d) d.layout.address (array_of img end d h kind ne) bad.k bad.part named)) bad.is
 
 -- the header of an array ends by the end
