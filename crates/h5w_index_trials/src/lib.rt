@@ -4,8 +4,6 @@
 #[cfg(test)]
 mod arrays;
 #[cfg(test)]
-mod both;
-#[cfg(test)]
 mod opened;
 #[cfg(test)]
 mod trees;
