@@ -1,5 +1,5 @@
 -- What the session is that was opened, on every image and on a still one.
-use Rattle.std.proofs.Common.{◌≡◌, ℕ, ◌%◌, ◌/◌, ◌^◌, ◌<◌, ◌≤◌, false, List, [], ◌∷◌, ℤ, Some, None, Ok, Err, refl, sym, ap, ◌∙◌, subst}
+use Rattle.std.proofs.Common.{◌≡◌, ℕ, ◌^◌, ◌≤◌, List, ℤ, Ok, refl, sym, ap, ◌∙◌, subst}
 use Rattle.std.proofs.lemmas.Bool.{eqb-true}
 use Rattle.h5w_model.specs.Numbers.{field, range}
 use Rattle.h5w_model.specs.Superblock.{super_at, super_bytes, super_fields, super_tests}
@@ -12,7 +12,6 @@ use Rattle.h5w_header_laws.specs.Files.{chunk_0}
 use Rattle.h5w_opening.specs.Openings.{Opened}
 use Rattle.h5w_opening.proofs.FoundParts.{parts}
 use Rattle.h5w_session.specs.OpenAnswers.{HasBegun, IsOpenedOver, opened_session, session_over, writing_flags}
-use Rattle.h5w_session.specs.OpenRanges.{first_open}
 use Rattle.h5w_session.specs.OpenSteps.{IsOpenedFile, IsReady, versioned}
 use Rattle.h5w_session.specs.Openings.{flagged_root, opened_log}
 use Rattle.h5w_session.specs.Sessions.{Session}

@@ -1,9 +1,9 @@
 -- The ranges of a file that is opened: which of them is the first that ends behind a place.
-use Rattle.std.proofs.Common.{◌≡◌, ◌≢◌, ◌⊎◌, ℕ, zero, suc, ◌+◌, ◌-◌, ◌<◌, ◌≤◌, Bool, true, false, cond, ltb, List, [], ◌∷◌, ◌++◌, take, Option, Some, None, refl, sym, ap, ◌∙◌, subst, inl, inr, arith}
-use Rattle.std.specs.Prelude.{find, nat_lt, option_map, ◌==◌}
+use Rattle.std.proofs.Common.{◌≡◌, ◌≢◌, ℕ, zero, suc, ◌+◌, ◌-◌, ◌<◌, ◌≤◌, Bool, true, false, cond, List, [], ◌∷◌, ◌++◌, take, Option, Some, None, refl, sym, ap, ◌∙◌, subst, inl, inr, arith}
+use Rattle.std.specs.Prelude.{nat_lt, option_map}
 use Rattle.std.specs.Option.{option_or}
 use Rattle.std.proofs.Common.{ne_eqb}
-use Rattle.std.proofs.lemmas.Bool.{cases_Bool, cases_eq, ltb-false, le-ltb}
+use Rattle.std.proofs.lemmas.Bool.{cases_eq, ltb-false, le-ltb}
 use Rattle.h5w_model.specs.Numbers.{undefined}
 use Rattle.h5w_space.specs.Space.{extent}
 use Rattle.h5w_space.specs.declared.Extent.{Extent}

@@ -1,6 +1,6 @@
 -- How the steps of an opening compose, and what each of them means for the whole.
-use Rattle.std.proofs.Common.{◌≡◌, ◌≢◌, ◌⊎◌, ℕ, ◌+◌, ◌-◌, ◌*◌, ◌/◌, ◌^◌, ◌<◌, ◌≤◌, min, Bool, true, false, cond, not, ◌&&◌, List, [], ◌∷◌, ◌++◌, length, take, Option, Some, None, Result, Ok, Err, refl, sym, ap, ◌∙◌, subst, inl, inr, arith}
-use Rattle.std.specs.Prelude.{IfErr, IfOk, nat_lt, option_map, ◌==◌}
+use Rattle.std.proofs.Common.{◌≡◌, ◌≢◌, ◌⊎◌, ℕ, ◌-◌, ◌^◌, min, Bool, true, false, cond, not, ◌&&◌, List, ◌∷◌, ◌++◌, take, Option, Some, None, Result, Ok, Err, refl, sym, ap, ◌∙◌, subst, inl, inr, arith}
+use Rattle.std.specs.Prelude.{nat_lt, option_map, ◌==◌}
 use Rattle.std.specs.Option.{option_or}
 use Rattle.h5w_model.specs.Causes.{Rose}
 use Rattle.h5w_model.specs.Numbers.{range, undefined}
@@ -8,7 +8,7 @@ use Rattle.h5w_model.specs.Programs.{eval}
 use Rattle.h5w_model.specs.Headers.{header_view}
 use Rattle.h5w_model.specs.Datasets.{Described, dataset_messages}
 use Rattle.h5w_model.specs.Findings.{chunk_bytes}
-use Rattle.h5w_image.specs.View.{ImageView, Looked}
+use Rattle.h5w_image.specs.View.{ImageView}
 use Rattle.h5w_image.proofs.ViewLemmas.{looked_itself, looked_twice}
 use Rattle.h5w_looks.specs.Still.{IsStill}
 use Rattle.h5w_looks.proofs.ReadLemmas.{still_on}
@@ -32,7 +32,7 @@ use Rattle.h5w_opening.specs.declared.error.OpenError.TheVariants.{Read, Flags, 
 use Rattle.h5w_opening.specs.declared.finding.Opening.{Opening}
 use Rattle.h5w_opening.proofs.FoundParts.{parts}
 use Rattle.h5w_opening.proofs.WritingLemmas.{alike_ok, dataset_alike}
-use Rattle.h5w_session.specs.OpenAnswers.{IfRefusal, IsIndexOf, IsNotOpened, damaged, refused, unfound}
+use Rattle.h5w_session.specs.OpenAnswers.{IfRefusal, IsIndexOf, IsNotOpened, damaged, refused}
 use Rattle.h5w_session.specs.OpenRanges.{chunk_0_range, cut_at, first_open, first_past, open_blocks, open_chunks, ranges_refused, refused_index, refused_open}
 use Rattle.h5w_session.specs.OpenSteps.{IsBadIndex, IsFoundIn, IsOpenedFile, OpenStep, Says, array_error, front_of}
 use Rattle.h5w_session.specs.Sessions.{IsWritable}

@@ -1,9 +1,9 @@
 -- A session over a valid file has what the file has.
-use Rattle.std.proofs.Common.{◌≡◌, ◌≢◌, ◌⊎◌, ℕ, ◌+◌, ◌-◌, ◌*◌, ◌/◌, ◌%◌, ◌^◌, ◌<◌, ◌≤◌, true, false, List, [], ◌∷◌, length, replicate, ℤ, Option, Some, None, Result, Ok, Err, refl, sym, ap, ◌∙◌, subst, inl, inr, arith}
-use Rattle.std.specs.Prelude.{IfSome, IsTrue}
+use Rattle.std.proofs.Common.{◌≡◌, ◌⊎◌, ℕ, ◌/◌, ◌%◌, ◌^◌, ◌<◌, ◌≤◌, true, false, List, length, replicate, ℤ, Option, Some, None, Result, Ok, refl, sym, ap, ◌∙◌, subst, inl, inr, arith}
+use Rattle.std.specs.Prelude.{IfSome}
 use Rattle.std.specs.Option.{unwrap_or}
 use Rattle.std.proofs.lemmas.List.{length-replicate}
-use Rattle.h5w_model.specs.Numbers.{range, undefined}
+use Rattle.h5w_model.specs.Numbers.{range}
 use Rattle.h5w_model.specs.Programs.{eval}
 use Rattle.h5w_model.specs.Superblock.{super_at, super_bytes}
 use Rattle.h5w_model.specs.Headers.{header_view}
@@ -18,12 +18,11 @@ use Rattle.h5w_steps.specs.Moments.{Moment, Represents}
 use Rattle.h5w_steps.proofs.MomentLemmas.{super_parts}
 use Rattle.h5w_steps.proofs.FoundLemmas.{opens}
 use Rattle.h5w_cache.specs.Stores.{Store}
-use Rattle.h5w_array_laws.specs.ArrayStores.{header_place, map_of}
+use Rattle.h5w_array_laws.specs.ArrayStores.{header_place}
 use Rattle.h5w_array_laws.specs.ArrayImages.{StandsArray}
 use Rattle.h5w_model.specs.declared.cell.IndexKind.TheVariants.{Array}
 use Rattle.h5w_array_flushes.specs.ArrayBegins.{Begins}
 use Rattle.h5w_array_flushes.proofs.ArrayBeginLemmas.{array_begins}
-use Rattle.h5w_chunks.specs.Grids.{fill_cell}
 use Rattle.h5w_ea_index.proofs.StandingLemmas.{opened_stands}
 use Rattle.h5w_found.specs.Walks.{root_header_for, dataset_header_for}
 use Rattle.h5w_header_laws.specs.Files.{chunk_0}
@@ -33,7 +32,7 @@ use Rattle.h5w_opening.proofs.WritingLemmas.{alike_ok, dataset_alike, root_alike
 use Rattle.h5w_session.specs.OpenAnswers.{IsArrayOf, opened_session, session_over, writing_flags}
 use Rattle.h5w_session.specs.OpenRanges.{first_open}
 use Rattle.h5w_session.specs.OpenSteps.{IsCut}
-use Rattle.h5w_session.specs.Openings.{IsOver, flagged, flagged_root, opened_log}
+use Rattle.h5w_session.specs.Openings.{IsOver, flagged_root, opened_log}
 use Rattle.h5w_session.specs.Past.{IsCounted}
 use Rattle.h5w_session.specs.Sessions.{Session}
 use Rattle.h5w_session.specs.Stands.{Stands}

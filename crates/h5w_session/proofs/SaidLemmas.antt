@@ -1,13 +1,12 @@
 -- What the messages of a dataset header say of the dataset.
-use Rattle.std.proofs.Common.{◌≡◌, ◌⊎◌, ℕ, zero, suc, ◌+◌, ◌-◌, ◌*◌, ◌/◌, ◌^◌, ◌<◌, ◌≤◌, Bool, true, false, cond, ◌&&◌, ◌||◌, not, ltb, List, [], ◌∷◌, length, take, min, Option, Some, None, Result, Ok, Err, refl, sym, ap, ◌∙◌, subst, inl, inr, arith}
-use Rattle.std.specs.Prelude.{IfSome, IsTrue, ◌==◌, nat_le, nat_lt, if◌then◌else◌}
-use Rattle.std.proofs.lemmas.Bool.{cases_Bool, ltb-true, ltb-false, leb-true, eqb-true}
+use Rattle.std.proofs.Common.{◌≡◌, ◌⊎◌, ℕ, ◌+◌, ◌*◌, ◌^◌, ◌≤◌, Bool, true, false, cond, ◌&&◌, ◌||◌, not, List, length, Option, Some, None, Result, Ok, refl, sym, ap, ◌∙◌, subst, inl, inr, arith}
+use Rattle.std.specs.Prelude.{IfSome, IsTrue, ◌==◌, nat_le, if◌then◌else◌}
+use Rattle.std.proofs.lemmas.Bool.{cases_Bool, ltb-true, leb-true, eqb-true}
 use Rattle.h5w_model.specs.Numbers.{range, field}
 use Rattle.h5w_model.specs.Logs.{div_up}
-use Rattle.h5w_model.specs.Messages.{FillFields, IntTypeFields, LayoutFields, ShapeFields, IsIntType, IsLayout, IsShape, byte, chunk_cols_at, chunk_size, fill_at, fill_fields, fill_size, fill_tests, index_of, int_type_at, int_type_fields, int_type_tests, is_int_size, is_shape, layout_at, layout_fields, layout_tests, shape_at, shape_fields, shape_tests}
-use Rattle.h5w_model.specs.Datasets.{Described, FoundMessage, body_of, described, fill_of, fill_value_kind}
-use Rattle.h5w_model.specs.Tables.{chunks_across, format_limits, limit_of, needed}
-use Rattle.h5w_model.specs.declared.cell.IndexKind.{IndexKind}
+use Rattle.h5w_model.specs.Messages.{FillFields, IntTypeFields, LayoutFields, ShapeFields, IsIntType, IsLayout, IsShape, byte, chunk_cols_at, chunk_size, fill_at, fill_fields, fill_size, fill_tests, int_type_at, int_type_fields, int_type_tests, is_int_size, is_shape, layout_at, layout_fields, layout_tests, shape_at, shape_fields, shape_tests}
+use Rattle.h5w_model.specs.Datasets.{Described, FoundMessage, body_of, described, fill_value_kind}
+use Rattle.h5w_model.specs.Tables.{chunks_across}
 use Rattle.h5w_model.specs.declared.cell.IndexKind.TheVariants.{Array, Tree}
 use Rattle.h5w_model.specs.declared.refusal.Unsupported.{Unsupported}
 use Rattle.h5w_model.proofs.CheckedLemmas.{checked-passed}

@@ -1,31 +1,31 @@
 -- What holds of every session holds of one over a file that is there, whatever its image is.
-use Rattle.std.proofs.Common.{◌≡◌, ◌≢◌, ℕ, zero, suc, ◌+◌, ◌-◌, ◌*◌, ◌/◌, ◌^◌, ◌<◌, ◌≤◌, Bool, true, false, cond, List, [], ◌∷◌, ◌++◌, length, take, Option, Some, None, Result, Ok, Err, refl, sym, ap, ◌∙◌, subst, inl, inr, arith}
+use Rattle.std.proofs.Common.{◌≡◌, ◌≢◌, ℕ, ◌+◌, ◌-◌, ◌*◌, ◌/◌, ◌^◌, ◌<◌, ◌≤◌, Bool, cond, List, ◌∷◌, ◌++◌, take, Option, Some, None, Result, Ok, Err, refl, sym, ap, ◌∙◌, subst, inl, inr, arith}
 use Rattle.std.specs.Prelude.{nat_lt, option_map}
 use Rattle.std.specs.Option.{option_or}
-use Rattle.std.proofs.lemmas.Bool.{cases_lt, cond-false, ltb-false, le-ltb}
+use Rattle.std.proofs.lemmas.Bool.{cases_lt, ltb-false, le-ltb}
 use Rattle.std.proofs.lemmas.Nat.{div-add-mod', div_below, le-div}
 use Rattle.h5w_model.specs.Numbers.{undefined}
 use Rattle.h5w_model.specs.Logs.{div_up}
-use Rattle.h5w_model.specs.Datasets.{Described, FoundMessage, described, refused_as, then_also}
+use Rattle.h5w_model.specs.Datasets.{Described, FoundMessage, described, refused_as}
 use Rattle.h5w_model.specs.Tables.{bands, chunks_across, format_limits, limit_of, needed}
 use Rattle.h5w_model.specs.Findings.{chunk_bytes}
 use Rattle.h5w_model.specs.declared.cell.IndexKind.TheVariants.{Array}
 use Rattle.h5w_laws.proofs.ResultLemmas.{fails, refused_ok, then_ok}
 use Rattle.h5w_cache.specs.Stores.{Store}
 use Rattle.h5w_array_laws.specs.Parts.{header, holder, index_block, slot_offset}
-use Rattle.h5w_array_laws.specs.ArrayStores.{IsArray, address_in, block_at_part, header_place, map_of, place_at_part}
+use Rattle.h5w_array_laws.specs.ArrayStores.{IsArray, address_in, block_at_part, map_of, place_at_part}
 use Rattle.h5w_chunks.specs.Grids.{chunk_len}
 use Rattle.h5w_ea_index.specs.Ranges.{block_ranges, each_below, range_of_part, ranges_of_super_block}
-use Rattle.h5w_opening.specs.Openings.{DatasetHeaderFields, IsFound, IsSaid, Opened, in_chunk_0, known}
+use Rattle.h5w_opening.specs.Openings.{DatasetHeaderFields, IsSaid, Opened, in_chunk_0}
 use Rattle.h5w_opening.specs.declared.error.OpenError.{OpenError}
 use Rattle.h5w_opening.specs.declared.error.OpenError.TheVariants.{Read}
 use Rattle.h5w_model.specs.declared.refusal.ReadError.TheVariants as read_errors
 use Rattle.h5w_session.specs.OpenAnswers.{opened_session}
-use Rattle.h5w_session.specs.OpenRanges.{chunk_0_range, chunks_from, cut_at, first_open, first_past, open_blocks, open_chunks, ranges_refused, refused_index, refused_open}
+use Rattle.h5w_session.specs.OpenRanges.{chunk_0_range, cut_at, first_open, first_past, open_blocks, open_chunks, ranges_refused, refused_index, refused_open}
 use Rattle.h5w_opening.specs.Openings.{refused_dataset}
-use Rattle.h5w_session.specs.OpenSteps.{IsCut, IsNamedArray, IsReady, versioned}
+use Rattle.h5w_session.specs.OpenSteps.{IsCut, IsReady, versioned}
 use Rattle.h5w_session.specs.Sessions.{AreInside, EndInPlace, IsSession, with_rows}
-use Rattle.h5w_session.proofs.OpenRangeLemmas.{AllBy, both_none, by_left, by_range, by_right, chunk_by, map_none, none_past, or_none}
+use Rattle.h5w_session.proofs.OpenRangeLemmas.{AllBy, by_left, by_range, by_right, chunk_by, map_none, none_past, or_none}
 use Rattle.h5w_session.proofs.SaidLemmas.{one_column, said}
 use Rattle.h5w_session.proofs.StateLemmas.{up_at_most}
 

@@ -1,6 +1,6 @@
 -- No block of an array is refused where a check of the index finds nothing.
-use Rattle.std.proofs.Common.{◌≡◌, ◌≢◌, ◌⊎◌, ℕ, ◌+◌, ◌-◌, ◌*◌, ◌^◌, ◌<◌, ◌≤◌, true, false, cond, List, [], ◌∷◌, ◌++◌, length, get_or, Result, Ok, Err, refl, sym, ap, ◌∙◌, subst, inl, inr, arith, ne_eqb}
-use Rattle.std.specs.Prelude.{Some, None, Option, ◌==◌, codes, nat_lt, if◌then◌else◌}
+use Rattle.std.proofs.Common.{◌≡◌, ◌≢◌, ℕ, ◌+◌, ◌-◌, ◌*◌, ◌^◌, ◌<◌, ◌≤◌, false, cond, List, [], ◌∷◌, ◌++◌, length, get_or, Ok, Err, refl, sym, ap, ◌∙◌, subst, inl, inr, arith, ne_eqb}
+use Rattle.std.specs.Prelude.{Some, None, ◌==◌, codes, nat_lt, if◌then◌else◌}
 use Rattle.std.proofs.lemmas.Bool.{cases_eq, cases_lt, cond-false, cond_both, ltb-false, lt-ltb, le-ltb}
 use Rattle.h5w_model.specs.Numbers.{field, range, undefined}
 use Rattle.h5w_model.specs.Blocks.{block_tests}
@@ -8,7 +8,7 @@ use Rattle.h5w_model.specs.Programs.{ret, whole, eval, and_then}
 use Rattle.h5w_model.specs.Arrays.{EahdFields, EaibFields, SlotsFields, array_tests, blocks_before, eadb_at, eahd_at, eahd_fields, eahd_len, eaib_at, eaib_fields, eaib_len, easb_at, numbers_in, parameter_tests, slots_fields, slots_len, super_block_of}
 use Rattle.h5w_model.specs.Datasets.{Described}
 use Rattle.h5w_model.specs.Tables.{super_block_of_first}
-use Rattle.h5w_model.specs.Findings.{Used, Visited, array_visit, block_in, both, chunk_bytes, chunk_ranges, data_block_visit, first_visits, found, index_block_visit, index_visit, second_visits, secondary_block_visit, tree_visit, visit_each}
+use Rattle.h5w_model.specs.Findings.{Visited, array_visit, block_in, both, chunk_bytes, chunk_ranges, data_block_visit, first_visits, found, index_block_visit, index_visit, second_visits, secondary_block_visit, tree_visit, visit_each}
 use Rattle.h5w_model.specs.declared.cell.IndexKind.{IndexKind}
 use Rattle.h5w_model.specs.declared.cell.IndexKind.TheVariants.{Array, Tree}
 use Rattle.h5w_model.specs.declared.refusal.BlockFault.{BlockFault}

@@ -14,10 +14,10 @@ mod taking;
 
 pub use h5w_chunks::{Fill, Grid, IndexKind, IntType, Layout, Shape};
 pub use h5w_model::{Bytes, Cell, OutOfMemory, Piece, Super, Write};
+pub use h5w_opening::OpenError;
 pub use h5w_options::Options;
 pub use h5w_space::Full;
-pub use h5w_opening::OpenError;
-pub use opening::open_laws;
 pub use laws::{over_laws, room_stays, shown_laws, standing_laws};
+pub use opening::open_laws;
 pub use refusal::{AppendError, CloseError, FlushError};
 pub use state::WriterCore;

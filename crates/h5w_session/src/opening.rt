@@ -33,7 +33,9 @@ use h5w_ea_index::{ArrayIndex, OpenArrayError};
 use h5w_found::Dataset;
 use h5w_image::PieceRead;
 use h5w_looks::read;
-use h5w_model::{Cell, HeaderError, IndexKind, OutOfMemory, PIECE, Piece, ReadError, Super, Unsupported, Write};
+use h5w_model::{
+    Cell, HeaderError, IndexKind, OutOfMemory, PIECE, Piece, ReadError, Super, Unsupported, Write,
+};
 use h5w_ohdr::{Msg, Msgs, messages};
 use h5w_opening::{OpenError, Opening, find};
 use h5w_space::Places;

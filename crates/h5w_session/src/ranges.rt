@@ -92,7 +92,10 @@ fn header_alone(d: &Dataset) -> Option<Extent>
     ensures { option_list result ≡ header_alone (described_of d.now).layout.index (described_of d.now).layout.address }
 {
     match d.layout.index {
-        IndexKind::Array if d.layout.address != UNDEFINED => Some(Extent { at: d.layout.address, size: HEADER_LEN }),
+        IndexKind::Array if d.layout.address != UNDEFINED => Some(Extent {
+            at: d.layout.address,
+            size: HEADER_LEN,
+        }),
         _ => None,
     }
 }
@@ -125,12 +128,7 @@ fn blocks(
 }
 
 /// The first of these ranges, and then of the chunks of the last committed band and later, that ends behind a place.
-fn any_past(
-    ranges: &[Extent],
-    index: &Option<ArrayIndex>,
-    d: &Dataset,
-    end: u64,
-) -> Option<Extent>
+fn any_past(ranges: &[Extent], index: &Option<ArrayIndex>, d: &Dataset, end: u64) -> Option<Extent>
     ensures { result ≡ first_past end (ranges.now ++ open_chunks (described_of d.now) index.now) }
 {
     match first_past(ranges, end) {
@@ -159,11 +157,7 @@ fn check_each(
 }
 
 /// Refuses the first range that cannot stand in the file.
-fn check_ranges(
-    alloc: Global,
-    found: &Opening,
-    index: &Option<ArrayIndex>,
-) -> Result<(), OpenError>
+fn check_ranges(alloc: Global, found: &Opening, index: &Option<ArrayIndex>) -> Result<(), OpenError>
     ensures none { OnOk result (ranges_refused (opened_of found.now) index.now ≡ None) }
     ensures first { IfErr result (λ e. (ranges_refused (opened_of found.now) index.now ≡ Some e) ⊎ (e ≡ OpenError.OutOfMemory)) }
 {

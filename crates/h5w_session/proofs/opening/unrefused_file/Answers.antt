@@ -1,4 +1,4 @@
-use Rattle.std.proofs.Common.{◌≡◌, Ok, Err, rules}
+use Rattle.std.proofs.Common.{◌≡◌, Err, rules}
 use Rattle.h5w_opening.specs.Views.{opened_of}
 use Rattle.h5w_session.proofs.OpenStepLemmas.{file_good, file_is, first_quiet, not_opened, refused_file, step_both, step_refused, step_then_stop, writable_front}
 use Rattle.h5w_session.proofs.opening.unrefused_file.Goals as goal

@@ -1,4 +1,4 @@
-use Rattle.std.proofs.Common.{◌≡◌, Option, Some, None, sym, ap, ◌∙◌}
+use Rattle.std.proofs.Common.{Option, sym, ap, ◌∙◌}
 use Rattle.std.specs.Option.{option_or}
 use Rattle.h5w_space.specs.declared.Extent.{Extent}
 use Rattle.h5w_found.specs.Described.{described_of}
