@@ -5,8 +5,8 @@ use Rattle.std.specs.Prelude.{IfOk, OnErr, OnOk}
 use Rattle.std.proofs.lemmas.Bool.{lt-ltb}
 use Rattle.h5w_model.specs.Logs.{Log, and_now, load, plans}
 use Rattle.h5w_model.specs.declared.piece.Write.{Write}
+use Rattle.h5w_model.specs.declared.root.Super.{Super}
 use Rattle.h5w_space.specs.declared.Full.{Full}
-use Rattle.h5w_cache.specs.StoreLaws.{Standing, range_of}
 use Rattle.h5w_session.specs.Sessions.{AllEndBy, IsSession, Session, TakesRows, cutting_of}
 use Rattle.h5w_session.specs.Loads.{NoPlace}
 use Rattle.h5w_session.specs.Flushes.{IsFlushed, SameBut, header_piece}
@@ -55,8 +55,10 @@ some_pieces old new x =
 takes_rows : (old new : Session) → IsSession old → IsFlushed old new → TakesRows old new
 takes_rows old new is x =
     let ends = plan_ends x.held x.named.array x.between x.moves x.copies x.fixed new.index new.places x.plan in
+    let root : new.root ≡ record (old.root) { end = new.places.end } = ap (λ (s : Session). s.root) x.session in
     record {
       name = ap (λ (s : Session). s.name) x.session;
+      root = root ∙ ap (λ n. record (old.root) { end = n }) (sym (ap (λ (r : Super). r.end) root));
       place = ap (λ (s : Session). s.place) x.session;
       dataset = ap (λ (s : Session). s.dataset) x.session;
       waiting = ap (λ (s : Session). s.waiting) x.session;

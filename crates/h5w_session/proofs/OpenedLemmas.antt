@@ -1,11 +1,9 @@
 -- A session over a file that was opened stands for the log without events.
-use Rattle.std.proofs.Common.{◌≡◌, ℕ, ◌+◌, ◌*◌, ◌<◌, ◌≤◌, max, List, [], ◌++◌, length, ℤ, Ok, refl, sym, ap, ◌∙◌, subst, inl, inr, arith}
-use Rattle.std.proofs.lemmas.List.{append-nil}
+use Rattle.std.proofs.Common.{◌≡◌, ℕ, ◌*◌, ◌<◌, List, [], ◌++◌, length, ℤ, refl, sym, ap, ◌∙◌, subst, inl, inr, arith}
 use Rattle.h5w_model.specs.Datasets.{Described}
 use Rattle.h5w_model.specs.Findings.{Summary, Valid}
-use Rattle.h5w_model.specs.Logs.{Log, spent}
+use Rattle.h5w_model.specs.Logs.{Log}
 use Rattle.h5w_model.specs.Numbers.{range}
-use Rattle.h5w_model.specs.Superblock.{super_at}
 use Rattle.h5w_model.specs.Tables.{Reads}
 use Rattle.h5w_steps.specs.Logs.{Goes}
 use Rattle.h5w_steps.specs.Moments.{Moment, Represents}
@@ -14,8 +12,8 @@ use Rattle.h5w_steps.proofs.SessionLaws.{goes_runs, opened_goes}
 use Rattle.h5w_session.specs.Indexes.{address_in}
 use Rattle.h5w_session.specs.Loads.{end_in, first_end_of}
 use Rattle.h5w_session.specs.Openings.{IsOver, OverLaws, opened_log}
-use Rattle.h5w_session.specs.Past.{HasOpened, IsNew, Past, most_of}
-use Rattle.h5w_session.specs.Sessions.{Session, cutting_of, rows_of}
+use Rattle.h5w_session.specs.Past.{IsNew, Past}
+use Rattle.h5w_session.specs.Sessions.{Session, rows_of}
 use Rattle.h5w_session.specs.Stands.{Running, Stands}
 use Rattle.h5w_session.proofs.CreatingLemmas.{no_cells}
 use Rattle.h5w_session.proofs.IndexLemmas.{clean_marks}

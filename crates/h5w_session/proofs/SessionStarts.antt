@@ -6,7 +6,7 @@ use Rattle.h5w_model.proofs.MessageLemmas.{length-shape_bytes}
 use Rattle.h5w_array_laws.proofs.CreatedLemmas.{created_starts}
 use Rattle.h5w_header_laws.proofs.SpelledLemmas.{spelled_read}
 use Rattle.h5w_session.specs.Sessions.{IsSession, IsWritable}
-use Rattle.h5w_session.specs.Creations.{IsNewFile, NewFile, array_place, created, first_end, header_write, index_place, new_array, new_dataset, places_to}
+use Rattle.h5w_session.specs.Creations.{IsNewFile, NewFile, array_place, created, header_write, index_place, new_array, new_dataset}
 use Rattle.h5w_session.proofs.ArrayStarts.{new_array_is}
 use Rattle.h5w_session.proofs.CreatedLemmas.{sizes, spellable}
 use Rattle.h5w_session.proofs.StateLemmas.{up_few}

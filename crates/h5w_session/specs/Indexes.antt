@@ -10,7 +10,7 @@ use Rattle.h5w_cache.specs.Stores.{Store, is_changed}
 use Rattle.h5w_cache.specs.StoreLaws.{Standing}
 use Rattle.h5w_steps.specs.Moments.{Moment}
 use Rattle.h5w_array_laws.specs.Parts.{holder}
-use Rattle.h5w_array_laws.specs.ArrayStores.{IsArray, IsHeaded, IsNumbered, bytes_at_part, header_place, map_of, fixed_of, behind_of}
+use Rattle.h5w_array_laws.specs.ArrayStores.{IsArray, IsHeaded, IsNumbered, header_place, map_of, fixed_of, behind_of}
 use Rattle.h5w_array_laws.specs.ArrayImages.{StandsArray}
 use Rattle.h5w_ea_index.specs.Steps.{OnWay}
 

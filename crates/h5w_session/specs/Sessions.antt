@@ -162,6 +162,7 @@ option_list (Some x) = x ∷ []
 -- pieces is another.
 pub record TakesRows (old new : Session) : Type 0 where
   pub name : new.name ≡ old.name
+  pub root : new.root ≡ record (old.root) { end = new.root.end }
   pub place : new.place ≡ old.place
   pub dataset : new.dataset ≡ with_rows (rows_of old) old.dataset
   pub waiting : new.waiting ≡ []

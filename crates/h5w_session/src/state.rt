@@ -273,6 +273,7 @@ impl WriterCore {
     /// session is stopped from then on. Takes no memory.
     pub fn close(&mut self) -> Result<(), CloseError>
         ensures closed { OnOk result (self.new ≡ closed_of self.old) }
+        ensures reads { OnOk result (super_at (super_bytes (closed_root self.old)) ≡ Ok (closed_root self.old)) }
         ensures stands { OnOk result ((log : Log) → Stands self.old log → Stands self.new log) }
         ensures refused { MatchOption (close_refusal self.old) (result ≡ Ok tt) (λ e. result ≡ Err e) }
         ensures kept { OnErr result (self.new ≡ self.old) }

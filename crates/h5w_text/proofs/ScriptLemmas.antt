@@ -6,7 +6,7 @@ use Rattle.std.specs.Prelude.{◌≢◌, option_map, option_and_then, unwrap_or}
 use Rattle.std.proofs.lemmas.List.{append_assoc}
 use Rattle.h5w_model.specs.Lawful.{Line, adds, shows_up_to}
 use Rattle.h5w_text.specs.Lines.{line_limit, value_of, values_of, words_of}
-use Rattle.h5w_text.specs.Scripts.{alone, append_of, by_word, of_words, on_reader_of, positive_of, reader_of, script_line_of, write_of}
+use Rattle.h5w_text.specs.Scripts.{alone, append_of, by_word, number_line_of, of_words, on_reader_of, positive_of, reader_of, rows_of, script_line_of, write_of}
 
 write_cases : (k : List ℕ) (o : Option ℕ) → positive_of k ≡ o → (ws : List (List ℕ)) → write_of (k ∷ ws) ≡ option_and_then (λ n. alone (shows_up_to n) ws) o
 write_cases k None e [] = ap (option_map shows_up_to) e
@@ -43,19 +43,42 @@ pub length_values : (ws : List (List ℕ)) (vs : List ℤ) → values_of ws ≡ 
 length_values [] vs e = ap length (sym (some_same [] [] vs e))
 length_values (w ∷ ws) vs e = length_values_cases ws (value_of w) (values_of ws) vs (λ us. length_values ws us) e
 
-pub append_empty : (columns : ℕ) (ws : List (List ℕ)) (vs : List ℤ) → values_of ws ≡ Some vs → length vs ≡ 0 → append_of columns ws ≡ None
-append_empty columns [] vs e none = refl
-append_empty columns (w ∷ ws) vs e none = absurd (omega (arith, length_values (w ∷ ws) vs e))
+pub rows_empty : (columns : ℕ) (ws : List (List ℕ)) (vs : List ℤ) → values_of ws ≡ Some vs → length vs ≡ 0 → rows_of columns ws ≡ None
+rows_empty columns [] vs e none = refl
+rows_empty columns (w ∷ ws) vs e none = absurd (omega (arith, length_values (w ∷ ws) vs e))
 
-pub append_uneven : (columns : ℕ) (ws : List (List ℕ)) (vs : List ℤ) → values_of ws ≡ Some vs → length vs % columns ≢ 0 → append_of columns ws ≡ None
-append_uneven columns [] vs e uneven = refl
-append_uneven columns (w ∷ ws) vs e uneven =
+pub rows_uneven : (columns : ℕ) (ws : List (List ℕ)) (vs : List ℤ) → values_of ws ≡ Some vs → length vs % columns ≢ 0 → rows_of columns ws ≡ None
+rows_uneven columns [] vs e uneven = refl
+rows_uneven columns (w ∷ ws) vs e uneven =
     let test : eqb (length (w ∷ ws) % columns) 0 ≡ false = ne_eqb _ _ (λ z. uneven (ap (λ n. n % columns) (length_values (w ∷ ws) vs e) ∙ z)) in rw test refl
 
-pub append_even : (columns : ℕ) (ws : List (List ℕ)) (vs : List ℤ) → values_of ws ≡ Some vs → 1 ≤ length vs → length vs % columns ≡ 0 → append_of columns ws ≡ Some (adds vs)
-append_even columns [] vs e some even = absurd (omega (arith, length_values [] vs e))
-append_even columns (w ∷ ws) vs e some even =
-    let test : eqb (length (w ∷ ws) % columns) 0 ≡ true = eq-eqb _ _ (sym (ap (λ n. n % columns) (length_values (w ∷ ws) vs e)) ∙ even) in rw test (ap (option_map adds) e)
+pub rows_even : (columns : ℕ) (ws : List (List ℕ)) (vs : List ℤ) → values_of ws ≡ Some vs → 1 ≤ length vs → length vs % columns ≡ 0 → rows_of columns ws ≡ Some vs
+rows_even columns [] vs e some even = absurd (omega (arith, length_values [] vs e))
+rows_even columns (w ∷ ws) vs e some even =
+    let test : eqb (length (w ∷ ws) % columns) 0 ≡ true = eq-eqb _ _ (sym (ap (λ n. n % columns) (length_values (w ∷ ws) vs e)) ∙ even) in rw test e
+
+pub append_some : (columns : ℕ) (ws : List (List ℕ)) (vs : List ℤ) → rows_of columns ws ≡ Some vs → append_of columns ws ≡ Some (adds vs)
+append_some columns ws vs e = ap (option_map adds) e
+
+pub append_none : (columns : ℕ) (ws : List (List ℕ)) → rows_of columns ws ≡ None → append_of columns ws ≡ None
+append_none columns ws e = ap (option_map adds) e
+
+-- ---- A line of numbers
+
+pub numbers_none : (columns : ℕ) (line : List ℕ) → length line ≡ 0 → number_line_of columns line ≡ Some []
+unfolding number_line_of
+numbers_none columns [] e = refl
+numbers_none columns (b ∷ bs) e = absurd (cc)
+
+pub numbers_long : (columns : ℕ) (line : List ℕ) → line_limit < length line → number_line_of columns line ≡ None
+unfolding number_line_of
+numbers_long columns [] h = absurd (omega (arith, h))
+numbers_long columns (b ∷ bs) h = let test : leb (length (b ∷ bs)) line_limit ≡ false = grind (arith, nat_tests) in rw test refl
+
+pub numbers_are : (columns : ℕ) (line : List ℕ) → 1 ≤ length line → length line ≤ line_limit → number_line_of columns line ≡ rows_of columns (words_of line)
+unfolding number_line_of
+numbers_are columns [] some h = absurd (omega (arith, some))
+numbers_are columns (b ∷ bs) some h = let test : leb (length (b ∷ bs)) line_limit ≡ true = grind (arith, nat_tests) in rw test refl
 
 -- a line that is too long
 pub script_long : (columns : ℕ) (line : List ℕ) → line_limit < length line → script_line_of columns line ≡ None

@@ -3,7 +3,7 @@ use Rattle.std.specs.Prelude.{ℕ, List, [], ◌∷◌, ◌++◌, codes}
 use Rattle.h5w_text.specs.Replies.{spaced, spaced_value}
 use Rattle.h5w_text.specs.Refusals.{refusal_words}
 use Rattle.h5w_text.specs.declared.error.ErrorLine.{ErrorLine}
-use Rattle.h5w_text.specs.declared.error.ErrorLine.TheVariants.{Usage, Missing, Exists, Read, Finding, Overlap, Line, Range, Input, Disk, Source, Memory}
+use Rattle.h5w_text.specs.declared.error.ErrorLine.TheVariants.{Usage, Missing, Exists, Read, Finding, Overlap, Cut, Layout, ChunkBytes, NoColumns, NoIndex, FullChunks, FullSpace, Line, Range, Input, Disk, Source, Memory}
 
 -- the text of an error, without the byte 0a that ends it
 abbrev pub error_words : ErrorLine → List ℕ
@@ -13,6 +13,13 @@ error_words Exists = codes "error exists"
 error_words (Read e) = refusal_words e
 error_words (Finding kind at) = codes "finding" ++ spaced kind ++ spaced at
 error_words (Overlap at len other other_len) = codes "finding 19" ++ spaced at ++ spaced len ++ spaced other ++ spaced other_len
+error_words (Cut end size) = codes "error cut" ++ spaced end ++ spaced size
+error_words Layout = codes "error writer layout"
+error_words (ChunkBytes bytes) = codes "error writer chunk" ++ spaced bytes
+error_words NoColumns = codes "error writer columns"
+error_words NoIndex = codes "error writer index"
+error_words (FullChunks chunks limit) = codes "error full chunks" ++ spaced chunks ++ spaced limit
+error_words (FullSpace at size limit) = codes "error full space" ++ spaced at ++ spaced size ++ spaced limit
 error_words (Line line) = codes "error line" ++ spaced line
 error_words (Range line index value) = codes "error range" ++ spaced line ++ spaced index ++ spaced_value value
 error_words (Input limit) = codes "error input" ++ spaced limit

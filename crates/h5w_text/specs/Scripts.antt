@@ -1,4 +1,4 @@
--- The lines of a script.
+-- The lines of a script, and the lines of numbers.
 use Rattle.std.specs.Prelude.{ℕ, ◌%◌, Bool, ◌&&◌, List, [], ◌∷◌, length, nat_le, nat_eq, ◌==◌, if◌then◌else◌, Option, Some, None, option_map, option_and_then, codes, ℤ}
 use Rattle.std.specs.Cmp.Lexicographic.{pointwise}
 use Rattle.h5w_model.specs.Lawful.{Line, adds, flushes, shows_up_to, ends, opens, refreshes, reads, looks}
@@ -68,3 +68,8 @@ of_words columns (name ∷ ws) = by_word columns name ws
 -- the line of a script that some bytes spell; a longer one than the limit spells none
 unfoldable pub script_line_of : ℕ → List ℕ → Option Line
 script_line_of columns line = if nat_le (length line) line_limit then of_words columns (words_of line) else None
+
+-- the values of a line of numbers: rows of so many columns, and none in an empty line; a longer one than the limit has none
+unfoldable pub number_line_of : ℕ → List ℕ → Option (List ℤ)
+number_line_of columns [] = Some []
+number_line_of columns (b ∷ bs) = if nat_le (length (b ∷ bs)) line_limit then rows_of columns (words_of (b ∷ bs)) else None

@@ -30,6 +30,30 @@ pub enum ErrorLine {
         other: u64,
         other_len: u64,
     },
+    /// The file's end-of-file address is past its size.
+    Cut {
+        end: u64,
+        size: u64,
+    },
+    /// The layout message of the dataset to write, which is to have the index's address, stands outside of the header's chunk 0.
+    Layout,
+    /// A chunk of the dataset to write has so many bytes.
+    ChunkBytes(u64),
+    /// The dataset to write has no columns.
+    NoColumns,
+    /// The dataset to write has no index to which rows are appended.
+    NoIndex,
+    /// Rows need more chunks than an index has.
+    FullChunks {
+        chunks: u64,
+        limit: u64,
+    },
+    /// The file has no place for so many bytes; the first that is free stands at `at`.
+    FullSpace {
+        at: u64,
+        size: u64,
+        limit: u64,
+    },
     /// This line is outside the grammar.
     Line(u64),
     /// A value outside the type, by its line and its index there.
@@ -75,7 +99,14 @@ impl ErrorLine {
             ErrorLine::Missing => Status::Missing,
             ErrorLine::Exists => Status::Exists,
             ErrorLine::Read(error) => refusal_status(*error),
-            ErrorLine::Finding { .. } | ErrorLine::Overlap { .. } => Status::Damaged,
+            ErrorLine::Finding { .. } | ErrorLine::Overlap { .. } | ErrorLine::Cut { .. } => {
+                Status::Damaged
+            }
+            ErrorLine::Layout
+            | ErrorLine::ChunkBytes(_)
+            | ErrorLine::NoColumns
+            | ErrorLine::NoIndex => Status::Format,
+            ErrorLine::FullChunks { .. } | ErrorLine::FullSpace { .. } => Status::Limit,
             ErrorLine::Line(_) | ErrorLine::Range { .. } | ErrorLine::Input { .. } => Status::Input,
             ErrorLine::Disk => Status::Disk,
             ErrorLine::Source => Status::Source,
@@ -101,6 +132,17 @@ fn words(out: &mut Vec<u8>, error: &ErrorLine) -> Result<(), OutOfMemory>
             other,
             other_len,
         } => with_numbers(out, b"finding 19", &[*at, *len, *other, *other_len]),
+        ErrorLine::Cut { end, size } => with_numbers(out, b"error cut", &[*end, *size]),
+        ErrorLine::Layout => text(out, b"error writer layout"),
+        ErrorLine::ChunkBytes(bytes) => with_numbers(out, b"error writer chunk", &[*bytes]),
+        ErrorLine::NoColumns => text(out, b"error writer columns"),
+        ErrorLine::NoIndex => text(out, b"error writer index"),
+        ErrorLine::FullChunks { chunks, limit } => {
+            with_numbers(out, b"error full chunks", &[*chunks, *limit])
+        }
+        ErrorLine::FullSpace { at, size, limit } => {
+            with_numbers(out, b"error full space", &[*at, *size, *limit])
+        }
         ErrorLine::Line(line) => with_numbers(out, b"error line", &[*line]),
         ErrorLine::Range {
             line,

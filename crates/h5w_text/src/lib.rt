@@ -27,7 +27,7 @@ pub use lines::Lines;
 pub use memory::{MemSink, MemSource};
 pub use number::count;
 pub use reply::write_reply;
-pub use script::{LINE_LIMIT, ScriptLine, TextError, script_line};
+pub use script::{LINE_LIMIT, ScriptLine, TextError, number_line, script_line};
 pub use status::Status;
 pub use streams::{Sink, Source};
 pub use table::{write_numbers, write_rows, write_words};

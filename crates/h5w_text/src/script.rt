@@ -2,7 +2,7 @@ ghost use Rattle.std.specs.Prelude.{◌≡◌, ◌≤◌, ◌++◌, ℕ, length,
 ghost use Rattle.std.specs.Result.{MatchResult};
 ghost use Rattle.h5w_model.specs.Lawful.{opens, refreshes};
 ghost use Rattle.h5w_text.specs.Lines.{values_of};
-ghost use Rattle.h5w_text.specs.Scripts.{alone, append_of, by_word, look_of, on_reader_of, positive_of, read_of, reader_of, script_line_of, write_of};
+ghost use Rattle.h5w_text.specs.Scripts.{alone, append_of, by_word, look_of, number_line_of, on_reader_of, positive_of, read_of, reader_of, rows_of, script_line_of, write_of};
 ghost use Rattle.h5w_text.specs.Words.{Spells, line_of_script};
 
 use crate::number::{count, value};
@@ -129,9 +129,10 @@ fn values(alloc: Global, mut words: Words) -> Result<Vec<i128>, TextError>
     }
 }
 
-fn append(alloc: Global, words: Words, columns: u64) -> Result<ScriptLine, TextError>
+/// The values of rows of so many columns, at least one row.
+fn rows(alloc: Global, words: Words, columns: u64) -> Result<Vec<i128>, TextError>
     requires { 1 ≤ columns }
-    ensures { Spells (append_of columns words.entry) result }
+    ensures { MatchResult result (λ values. rows_of columns words.entry ≡ Some values.items) (λ e. e ≡ TextError.Grammar → rows_of columns words.entry ≡ None) }
 {
     let values = values(alloc, words)?;
     if values.is_empty() {
@@ -140,6 +141,15 @@ fn append(alloc: Global, words: Words, columns: u64) -> Result<ScriptLine, TextE
     if values.len() as u64 % columns != 0 {
         return Err(TextError::Grammar);
     }
+    Ok(values)
+}
+
+#[tactic(auto, using(crate::proofs::ScriptLemmas::append_some, crate::proofs::ScriptLemmas::append_none))]
+fn append(alloc: Global, words: Words, columns: u64) -> Result<ScriptLine, TextError>
+    requires { 1 ≤ columns }
+    ensures { Spells (append_of columns words.entry) result }
+{
+    let values = rows(alloc, words, columns)?;
     Ok(ScriptLine::Append(Values::from_vec(values)))
 }
 
@@ -232,4 +242,19 @@ pub fn script_line(alloc: Global, line: &[u8], columns: u64) -> Result<ScriptLin
         Some(name) => command(alloc, columns, name, words),
         None => Err(TextError::Grammar),
     }
+}
+
+/// The values of a line of numbers, without the byte 0a: rows of so many columns, and none in an empty line. Grammar: the bytes spell no
+/// such line.
+pub fn number_line(alloc: Global, line: &[u8], columns: u64) -> Result<Vec<i128>, TextError>
+    requires { 1 ≤ columns }
+    ensures { MatchResult result (λ values. number_line_of columns line.now ≡ Some values.items) (λ e. e ≡ TextError.Grammar → number_line_of columns line.now ≡ None) }
+{
+    if line.is_empty() {
+        return Ok(Vec::new(alloc));
+    }
+    if line.len() > LINE_LIMIT {
+        return Err(TextError::Grammar);
+    }
+    rows(alloc, Words::of(line), columns)
 }

@@ -1,4 +1,4 @@
-use Rattle.std.proofs.Common.{◌≡◌, ◌≢◌, ◌+◌, ◌*◌, ◌≤◌, [], ◌∷◌, nat_lt, false, refl, sym, ◌∙◌, arith, length}
+use Rattle.std.proofs.Common.{◌≢◌, ◌*◌, [], nat_lt, refl, sym, ◌∙◌, arith}
 use Rattle.std.proofs.Math.Nat.{div-mul-le_self}
 use Rattle.h5w_model.specs.Numbers.{undefined}
 use Rattle.h5w_chunks.specs.Grids.{dataset_of}

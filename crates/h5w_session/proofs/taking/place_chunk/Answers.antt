@@ -1,4 +1,4 @@
-use Rattle.std.proofs.Common.{◌≡◌, ◌≢◌, ℕ, ◌*◌, ◌^◌, ◌<◌, ◌≤◌, ◌∷◌, [], ◌++◌, false, nat_lt, List, sym, ◌∙◌, subst, arith, refl}
+use Rattle.std.proofs.Common.{◌≡◌, ◌≢◌, ℕ, ◌*◌, ◌^◌, ◌<◌, ◌∷◌, [], ◌++◌, false, nat_lt, List, sym, ◌∙◌, subst, arith, refl}
 use Rattle.h5w_model.specs.Numbers.{undefined}
 use Rattle.h5w_space.specs.Space.{extent}
 use Rattle.h5w_cache.specs.Plans.{Took}

@@ -1,13 +1,5 @@
-use Rattle.std.proofs.Common.{rules, arith}
-use Rattle.std.proofs.lemmas.Grind.{common_steps}
-use Rattle.h5w_text.proofs.ScriptLemmas.{append_empty, append_even, append_uneven}
+use Rattle.h5w_text.proofs.ScriptLemmas.{append_some}
 use Rattle.h5w_text.proofs.script.append.Goals as goal
 
-pub returns-then-is_empty : goal.returns-then-is_empty
-returns-then-is_empty c = λ _. append_empty c.args.columns c.args.words c.in_ok-values.values.items c.in_ok-values.ensures (first_of (search rules, grind (arith, common_steps)))
-
-pub returns-then-len-columns-ne0 : goal.returns-then-len-columns-ne0
-returns-then-len-columns-ne0 c = λ _. append_uneven c.args.columns c.args.words c.in_ok-values.values.items c.in_ok-values.ensures (first_of (search rules, grind (arith, common_steps)))
-
 pub returns : goal.returns
-returns c = rw c.from_vec.ensures (append_even c.args.columns c.args.words c.in_ok-values.values.items c.in_ok-values.ensures (first_of (search rules, grind (arith, common_steps))) (first_of (search rules, grind (arith, common_steps))))
+returns c = rw c.from_vec.ensures (append_some c.args.columns c.args.words c.in_ok-values.values.items c.in_ok-values.ensures)

@@ -1,4 +1,4 @@
-use Rattle.std.proofs.Common.{◌≡◌, [], ◌∷◌, drop, subst}
+use Rattle.std.proofs.Common.{[], drop, subst}
 use Rattle.h5w_chunks.specs.Grids.{dataset_of}
 use Rattle.h5w_array_laws.specs.ArrayPlans.{IsArrayPlan}
 use Rattle.h5w_session.specs.Sessions.{IsSession, Session}

@@ -1,6 +1,6 @@
-use Rattle.std.proofs.Common.{rules, Err, inl, inr, ◌≡◌, ℕ, zero, ◌+◌, ◌<◌, ◌∙◌, [], ◌∷◌, List, length, drop, refl, ap, sym, subst, arith}
+use Rattle.std.proofs.Common.{rules, Err, inl, inr, ◌≡◌, ℕ, zero, ◌+◌, ◌<◌, ◌∙◌, [], ◌∷◌, length, drop, refl, ap, sym, subst, arith}
 use Rattle.h5w_model.specs.Logs.{div_up}
-use Rattle.h5w_chunks.specs.Grids.{chunk_len, dataset_of}
+use Rattle.h5w_chunks.specs.Grids.{dataset_of}
 use Rattle.h5w_array_laws.specs.ArrayPlans.{IsArrayPlan}
 use Rattle.h5w_session.specs.Sessions.{IsSession, Session, option_list, rows_of}
 use Rattle.h5w_session.specs.Placing.{IsPlacing, first_number}
