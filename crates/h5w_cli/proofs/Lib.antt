@@ -5,3 +5,4 @@ pub mod TellLemmas
 pub mod LookLemmas
 pub mod RangeLemmas
 pub mod CompleteLemmas
+pub mod MakeLemmas

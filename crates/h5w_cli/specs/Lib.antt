@@ -16,4 +16,5 @@ pub use Rattle.h5w_core.specs.Worlds
 pub mod Answers
 pub mod Plays
 pub mod Endings
+pub mod Makes
 pub mod Runs

@@ -16,16 +16,19 @@ use Rattle.h5w_files.specs.Clears.{ClearEnds, flags_of}
 use Rattle.h5w_session.specs.Creations.{new_file}
 use Rattle.h5w_core.specs.Worlds.{rules_for}
 use Rattle.h5w_words.specs.declared.job.Job.{Job}
-use Rattle.h5w_words.specs.declared.job.Job.TheVariants.{Play, New, Check, Poll, Clear}
+use Rattle.h5w_words.specs.declared.job.Job.TheVariants.{Play, New, Check, Poll, Clear, Make}
 use Rattle.h5w_cli.specs.Plays.{Completes, Plays}
+use Rattle.h5w_cli.specs.Makes.{MakeEnds, MakeEndsWell}
 
--- What a job leaves of source, sink and disk. A script leaves the disk as it is, and the commands on files read nothing.
+-- What a job leaves of source, sink and disk. A script leaves the disk as it is, the commands on files read nothing, and the making of a
+-- file in memory leaves both.
 abbrev pub Does : Job → Status → SourceView → SourceView → SinkView → SinkView → DiskView → DiskView → Type 0
 Does (Play options attempts) status s t k l v w = Plays (rules_for options attempts) status s t k l × (w ≡ v)
 Does (New file options) status s t k l v w = (t ≡ s) × CreateEnds file options v w status k l
 Does (Check file name) status s t k l v w = (t ≡ s) × CheckEnds file name v w status k l
 Does (Poll file name times attempts values) status s t k l v w = (t ≡ s) × PollEnds file name times attempts values v w status k l
 Does (Clear file) status s t k l v w = (t ≡ s) × ClearEnds file v w status k l
+Does (Make count seed) status s t k l v w = (t ≡ s) × (w ≡ v) × MakeEnds count seed status k l
 
 -- the words are outside the command set: nothing is read, no file is looked at, and that is said
 pub record Refuses (status : Status) (s t : SourceView) (k l : SinkView) (v w : DiskView) : Type 0 where
@@ -45,6 +48,7 @@ DoesWhole (New file options) status s t k l v w = EndsWell (end_of (new_file opt
 DoesWhole (Check file name) status s t k l v w = EndsWell (check_of name) file v w status k l
 DoesWhole (Poll file name times attempts values) status s t k l v w = EndsWell (poll_of (reader_rules name attempts) values) file v w status k l
 DoesWhole (Clear file) status s t k l v w = EndsWell flags_of file v w status k l
+DoesWhole (Make count seed) status s t k l v w = MakeEndsWell status k l
 
 -- the same of the job that words of the command set have
 abbrev pub RanWhole : Option Job → Status → SourceView → SourceView → SinkView → SinkView → DiskView → DiskView → Type 0

@@ -4,6 +4,7 @@
 mod answer;
 mod disk;
 mod ending;
+mod make;
 mod plain;
 mod play;
 mod run;

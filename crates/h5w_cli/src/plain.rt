@@ -3,6 +3,7 @@ ghost use Rattle.h5w_cli.specs.Plays.{SameSource};
 ghost use Rattle.h5w_cli.specs.Runs.{Does, DoesWhole};
 ghost use Rattle.h5w_words.specs.Limits.{IsWithinLimits};
 
+use crate::make::make;
 use crate::play::play;
 use h5w_files::{check, clear, create, poll};
 use h5w_image::Disk;
@@ -44,5 +45,6 @@ pub fn plain<S: Source, K: Sink, D: Disk>(
             disk,
         ),
         Job::Clear { file } => clear(alloc, file.as_str(), sink, disk),
+        Job::Make { count, seed } => make(alloc, *count, *seed, sink),
     }
 }

@@ -21,7 +21,7 @@ use Rattle.h5w_session.specs.Stands.{Stands}
 use Rattle.h5w_session.proofs.LawLemmas.{standing_laws}
 use Rattle.h5w_core.specs.Creation.{Creates}
 use Rattle.h5w_core.specs.Readers.{placed, reader_at}
-use Rattle.h5w_core.specs.Steady.{steady}
+use Rattle.h5w_steady.specs.Steady.{steady}
 use Rattle.h5w_core.specs.Worlds.{HaveOneLog, HoldsTogether, nobody, polling_of, rules_for, rules_of}
 use Rattle.h5w_core.proofs.ShowLemmas.{after_facts, same_cutting}
 use Rattle.h5w_core.proofs.StateLemmas.{in_rows, rules_by, spent_in-events}

@@ -29,7 +29,7 @@ use Rattle.h5w_session.specs.Past.{IsNew}
 use Rattle.h5w_session.proofs.LawLemmas.{standing_laws}
 use Rattle.h5w_session.proofs.PastLemmas.{new_end}
 use Rattle.h5w_core.specs.Readers.{reader_at}
-use Rattle.h5w_core.specs.Steady.{steady}
+use Rattle.h5w_steady.specs.Steady.{steady}
 use Rattle.h5w_core.specs.Worlds.{WorldView, HaveOneLog, IsStateOf, Steps, polling_by, polling_of, rules_of}
 use Rattle.h5w_core.proofs.StateLemmas.{columns_of, in_rows, load_of-log, rules_by, spent_in-events}
 use Rattle.h5w_core.proofs.WorldLemmas.{world_of, replaced}

@@ -19,7 +19,7 @@ use Rattle.h5w_session.specs.Sessions.{Session, AfterPiece, TakesRows, cutting_o
 use Rattle.h5w_session.specs.Stands.{Stands}
 use Rattle.h5w_session.specs.declared.refusal.AppendError.{AppendError}
 use Rattle.h5w_session.specs.declared.refusal.FlushError.{FlushError}
-use Rattle.h5w_core.specs.Steady.{steady}
+use Rattle.h5w_steady.specs.Steady.{steady}
 use Rattle.h5w_core.specs.Worlds.{AreRowsBy, HaveOneLog, HoldsMore, HoldsTogether, IsStateOf, StandsFor, Steps, WorldView, logged, rules_of}
 use Rattle.h5w_core.proofs.AppendLemmas.{append_done}
 use Rattle.h5w_core.proofs.FlushLemmas.{IsAnswered, LeavesSession, flush_done, held_log}

@@ -25,7 +25,7 @@ use Rattle.h5w_reader.specs.Readers.{reader_rules}
 use Rattle.h5w_reader.specs.declared.reader.ReaderCore.{ReaderCore}
 use Rattle.h5w_session.specs.Sessions.{Session}
 use Rattle.h5w_core.specs.Readers.{LookGives, LookReplies, OpenGives, ReadGives, ReadLooks, RefreshGives, ended, placed, reader_at}
-use Rattle.h5w_core.specs.Steady.{steady}
+use Rattle.h5w_steady.specs.Steady.{steady}
 use Rattle.h5w_core.specs.Worlds.{HaveOneLog, HoldsTogether, IsKept, Steps, WorldView, polling_of}
 use Rattle.h5w_core.proofs.HoldLemmas.{same_room, steps_hold}
 use Rattle.h5w_core.proofs.HoldsLemmas.{log_holds}

@@ -9,7 +9,7 @@ use Rattle.h5w_session.specs.Room.{HasRoomFor}
 use Rattle.h5w_session.specs.Sessions.{Session, cutting_of}
 use Rattle.h5w_session.specs.Stands.{Stands}
 use Rattle.h5w_options.specs.declared.options.Options.{Options}
-use Rattle.h5w_core.specs.Steady.{steady}
+use Rattle.h5w_steady.specs.Steady.{steady}
 
 -- So many of the creation's pieces are visible in its image, and nothing was appended.
 pub record Creates (options : Options) (count : ℕ) (s : Session) (m : MemView) : Type 0 where

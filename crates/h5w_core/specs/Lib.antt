@@ -3,7 +3,6 @@ pub use Rattle.h5w_model.specs.Lawful
 pub use Rattle.h5w_image.specs.View
 pub use Rattle.h5w_session.specs.Sessions
 pub use Rattle.h5w_session.specs.Stands
-pub mod Steady
 pub mod Readers
 pub mod Creation
 pub mod Worlds

@@ -19,7 +19,7 @@ use Rattle.h5w_model.specs.Unfinished.{Reader}
 use Rattle.h5w_reader.specs.Readers.{reader_rules}
 use Rattle.h5w_reader.specs.declared.reader.ReaderCore.{ReaderCore}
 use Rattle.h5w_core.specs.Readers.{IsCalling, MayRead, ended, reader_at}
-use Rattle.h5w_core.specs.Steady.{steady}
+use Rattle.h5w_steady.specs.Steady.{steady}
 use Rattle.h5w_types.specs.Fields.{int_type_of}
 use Rattle.h5w_session.specs.Refusals.{append_refusal, flush_refusal}
 use Rattle.h5w_session.specs.Room.{HasRoomFor}

@@ -4,7 +4,6 @@
 
 mod laws;
 mod readers;
-mod steady;
 mod world;
 
 pub use h5w_image::Journal;

@@ -2,12 +2,12 @@
 ghost use Rattle.std.specs.Prelude.{◌≡◌, None, IfOk, OnErr, option_map};
 ghost use Rattle.h5w_image.specs.View.{Same};
 ghost use Rattle.h5w_core.specs.Readers.{IsCalling, LookGives, LookReplies, MayRead, OpenGives, ReadGives, ReadLooks, RefreshGives, ended, placed};
-ghost use Rattle.h5w_core.specs.Steady.{steady};
+ghost use Rattle.h5w_steady.specs.Steady.{steady};
 ghost use Rattle.h5w_reader.specs.Readers.{reader_rules};
 
-use crate::steady::SteadyImage;
 use h5w_model::{OutOfMemory, ReadError, Reply};
 use h5w_reader::{ReadBegin, ReaderCore, Step};
+use h5w_steady::SteadyImage;
 use std::alloc::Global;
 
 /// Begins to open a reader of the dataset of this name, where none is there.

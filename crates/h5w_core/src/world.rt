@@ -11,17 +11,17 @@ ghost use Rattle.h5w_session.specs.Room.{HasRoomFor};
 ghost use Rattle.h5w_session.specs.Sessions.{AfterPiece, rows_of as session_rows};
 ghost use Rattle.h5w_session.specs.Stands.{Stands};
 ghost use Rattle.h5w_core.specs.Readers.{IsCalling, MayRead, ended, reader_at};
-ghost use Rattle.h5w_core.specs.Steady.{steady};
+ghost use Rattle.h5w_steady.specs.Steady.{steady};
 ghost use Rattle.h5w_core.specs.Creation.{Creates};
 ghost use Rattle.h5w_core.specs.Worlds.{HaveOneLog, HoldsMore, IsHeard, IsKept, IsLeft, MayWantMemory, StandsFor, Steps, logged, nobody, rules_for, rules_of};
 
 use crate::readers;
-use crate::steady::SteadyImage;
 use h5w_image::Journal;
 use h5w_model::{Event, OutOfMemory, Reply};
 use h5w_options::Options;
 use h5w_reader::ReaderCore;
 use h5w_session::{AppendError, FlushError, Full, WriterCore};
+use h5w_steady::SteadyImage;
 use std::alloc::Global;
 use std::marker::Model;
 

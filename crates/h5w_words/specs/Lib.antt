@@ -8,4 +8,5 @@ pub mod Limits
 pub mod Creation
 pub mod Play
 pub mod Files
+pub mod Makes
 pub mod Commands

@@ -2,7 +2,7 @@
 use Rattle.h5w_options.specs.Options.{AreOptions, AreAttempts}
 use Rattle.h5w_words.specs.declared.job.Job.{Job}
 use Rattle.std.specs.Prelude.{◌≤◌}
-use Rattle.h5w_words.specs.declared.job.Job.TheVariants.{Play, New, Check, Poll, Clear}
+use Rattle.h5w_words.specs.declared.job.Job.TheVariants.{Play, New, Check, Poll, Clear, Make}
 
 abbrev pub IsWithinLimits : Job → Type 0
 IsWithinLimits (Play options attempts) = AreOptions options × AreAttempts attempts
@@ -10,3 +10,4 @@ IsWithinLimits (New file options) = AreOptions options
 IsWithinLimits (Check file name) = Unit {0}
 IsWithinLimits (Poll file name times attempts values) = (1 ≤ times) × AreAttempts attempts
 IsWithinLimits (Clear file) = Unit {0}
+IsWithinLimits (Make count seed) = count ≤ 1000000

@@ -43,6 +43,13 @@ pub enum Job {
     Clear {
         file: FileName,
     },
+    /// Makes a file in memory of a generator's values.
+    Make {
+        /// How many values, at most 1,000,000.
+        count: u64,
+        /// What the generator begins with.
+        seed: u64,
+    },
 }
 
 /// Why words ask for nothing.

@@ -8,6 +8,7 @@ mod creation;
 mod file;
 mod files;
 mod job;
+mod make;
 mod name;
 mod number;
 mod play;

@@ -5,6 +5,7 @@ ghost use Rattle.h5w_words.specs.Limits.{IsWithinLimits};
 
 use crate::files::{check, check_job, clear, clear_job, creating, creating_job, poll, poll_job};
 use crate::job::{Job, WordsError};
+use crate::make::{make, make_job};
 use crate::play::{play, play_job};
 use clap::{ArgMatches, Command};
 use std::alloc::{AllocError, Global};
@@ -18,6 +19,7 @@ fn program<'a>(alloc: Global) -> Result<Command<'a>, AllocError>
     let command = command.subcommand(check(alloc)?)?;
     let command = command.subcommand(poll(alloc)?)?;
     let command = command.subcommand(clear(alloc)?)?;
+    let command = command.subcommand(make(alloc)?)?;
     Ok(command)
 }
 
@@ -44,6 +46,7 @@ fn named(alloc: Global, name: &str, options: &ArgMatches<'_>) -> Result<Job, Wor
         "check" => check_job(alloc, options),
         "poll" => poll_job(alloc, options),
         "clear" => clear_job(alloc, options),
+        "make" => make_job(options),
         _ => Err(WordsError::Usage),
     }
 }

@@ -411,4 +411,50 @@ $
 sink 1
 flush
 = 12
+
+# files in memory of some counts and seeds
+$ make 1 0
+=> rows 1 sum 167951807 pieces 11 blocks 5
+$ make 0 5
+=> rows 0 sum 0 pieces 6 blocks 5
+$ make 257 0
+=> rows 257 sum 270151382687 pieces 16 blocks 6
+$ make 1000 0
+=> rows 1000 sum 1060360335704 pieces 27 blocks 6
+$ make 1001 0
+=> rows 1001 sum 1061040695884 pieces 29 blocks 6
+$ make 1 18446744073709551615
+=> rows 1 sum 1574552488 pieces 11 blocks 5
+
+# a file in memory, which needs neither source nor disk
+$ make 1 0
+disk 1
+source 1
+flush
+=> rows 1 sum 167951807 pieces 11 blocks 5
+
+# a file in memory, and a sink that fails
+$ make 1 0
+sink 1
+= 12
+
+# words outside the command set, of a file in memory
+$ make
+=> error usage
+= 2
+$ make 1
+=> error usage
+= 2
+$ make 1000001 0
+=> error usage
+= 2
+$ make 1 18446744073709551616
+=> error usage
+= 2
+$ make 01 0
+=> error usage
+= 2
+$ make -1 0
+=> error usage
+= 2
 ";

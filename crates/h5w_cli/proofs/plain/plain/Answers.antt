@@ -17,6 +17,9 @@ returns-in-Poll-clause-does g c = search rules
 pub returns-in-Clear-clause-does : goal.returns-in-Clear-clause-does
 returns-in-Clear-clause-does g c = search rules
 
+pub returns-in-Make-clause-does : goal.returns-in-Make-clause-does
+returns-in-Make-clause-does g c = search rules
+
 pub returns-in-Play-clause-completes : goal.returns-in-Play-clause-completes
 returns-in-Play-clause-completes g c = does_whole _ _ _ _ _ _ _ _ (returns-in-Play-clause-does g c)
 
@@ -31,3 +34,6 @@ returns-in-Poll-clause-completes g c = does_whole _ _ _ _ _ _ _ _ (returns-in-Po
 
 pub returns-in-Clear-clause-completes : goal.returns-in-Clear-clause-completes
 returns-in-Clear-clause-completes g c = does_whole _ _ _ _ _ _ _ _ (returns-in-Clear-clause-does g c)
+
+pub returns-in-Make-clause-completes : goal.returns-in-Make-clause-completes
+returns-in-Make-clause-completes g c = does_whole _ _ _ _ _ _ _ _ (returns-in-Make-clause-does g c)

@@ -7,4 +7,5 @@ returns c =
     let new = command_added c.in_ok-command.command c.in_ok-creating.field-0 c.in_ok-command-2.command c.in_ok-command-2.ensures c.in_ok-creating.ensures.local play c.in_ok-creating.ensures.shape in
     let check = command_added c.in_ok-command-2.command c.in_ok-check.field-0 c.in_ok-command-3.command c.in_ok-command-3.ensures c.in_ok-check.ensures.local new c.in_ok-check.ensures.shape in
     let poll = command_added c.in_ok-command-3.command c.in_ok-poll.field-0 c.in_ok-command-4.command c.in_ok-command-4.ensures c.in_ok-poll.ensures.local check c.in_ok-poll.ensures.shape in
-    command_added c.in_ok-command-4.command c.in_ok-clear.field-0 c.in_ok-command-5.command c.in_ok-command-5.ensures c.in_ok-clear.ensures.local poll c.in_ok-clear.ensures.shape
+    let clear = command_added c.in_ok-command-4.command c.in_ok-clear.field-0 c.in_ok-command-5.command c.in_ok-command-5.ensures c.in_ok-clear.ensures.local poll c.in_ok-clear.ensures.shape in
+    command_added c.in_ok-command-5.command c.in_ok-make.field-0 c.in_ok-command-6.command c.in_ok-command-6.ensures c.in_ok-make.ensures.local clear c.in_ok-make.ensures.shape
