@@ -27,8 +27,8 @@ use Rattle.h5w_headline.proofs.ValueLemmas.{reads_values}
 use Rattle.h5w_shared.specs.Threads.{Sight, placed}
 use Rattle.h5w_shared.specs.Turns.{StartsWith}
 use Rattle.h5w_shared.proofs.Beginnings.{starts_both, starts_itself, starts_length}
-use Rattle.h5w_live_laws.specs.Polls.{AnswersPoll, FindsRows, LooksThrough, TellPolls, looks_in}
-use Rattle.h5w_live_laws.specs.Laws.{IsRefused, IsRunOf, KnowsShown, PollLaws, Restful, WasShown}
+use Rattle.h5w_live_laws.specs.Polls.{AnswersPoll, FindsRows, LooksThrough, TellPolls, TellsPoll, looks_in}
+use Rattle.h5w_live_laws.specs.Laws.{IsStray, IsRunOf, KnowsShown, PollLaws, Restful, WasShown}
 use Rattle.h5w_live_laws.proofs.LineLemmas.{rises_lines, within_more}
 use Rattle.h5w_live_laws.proofs.SightLemmas.{any_within, looks_placed, through_call, through_starts}
 
@@ -239,31 +239,48 @@ agree_from g log run reader call known before after (line ∷ lines) next h firs
           (subst (λ (s : ℕ). ReaderAgrees run reader (call + 1) (length t.1) s lines) agrees.1 rest),
     )
 
-refused_again : (g : ReaderRules) (log : Log) (known : Option Reading) (before after : List Write) (e : ReadError) → Restful g log → log.first ≤ length before
-    → KnowsShown g.name log (length before) known → StartsWith (hist log.events) after → IsRefused g log.start known before after e
-    → (attempts place first last : ℕ) × (e ≡ refusals.Again attempts place first last)
-refused_again g log known before after e h first knows starts (inl c) = go (seat_answered g log known before after c.looks (Err e) h first knows c.looked starts c.answer) where
-  go : IsAnswer g.name log (length before) (rows_seen known) g.attempts (placed c.looks) (Err e) → (attempts place first last : ℕ) × (e ≡ refusals.Again attempts place first last)
-  go (inl (r, is, gets)) = absurd (ok_err r e (sym is))
+stray_starts : (g : ReaderRules) (log : Log) (known : Option Reading) (before after : List Write) → IsStray g log.start known before after → StartsWith after before
+stray_starts g log known before after (e, inl (c, other)) = through_starts log.start before after c.looks c.looked
+stray_starts g log known before after (e, inr c) = starts_both after c.between before (through_starts log.start c.between after c.reads c.read) (through_starts log.start before c.between c.looks c.looked)
+
+not_stray : (g : ReaderRules) (log : Log) (known : Option Reading) (before after : List Write) → Restful g log → log.first ≤ length before
+    → KnowsShown g.name log (length before) known → StartsWith (hist log.events) after → IsStray g log.start known before after → ⊥
+not_stray g log known before after h first knows starts (e, inl (c, other)) = go (seat_answered g log known before after c.looks (Err e) h first knows c.looked starts c.answer) where
+  go : IsAnswer g.name log (length before) (rows_seen known) g.attempts (placed c.looks) (Err e) → ⊥
+  go (inl (r, is, gets)) = ok_err r e (sym is)
   go (inr gives) =
       let same = err_is e (again_between log g.attempts gives.place gives.before gives.last) gives.answer in
       let d = difference_from gives.place (header_at log gives.place gives.before) (header_at log gives.place gives.last) in
-      (g.attempts, d.place, d.first, d.last, same)
-refused_again g log known before after e h first knows starts (inr c) =
+      other g.attempts d.place d.first d.last same
+not_stray g log known before after h first knows starts (e, inr c) =
     let between = starts_both (hist log.events) after c.between starts (through_starts log.start c.between after c.reads c.read) in
     let there = found g log (rows_seen known) before c.between c.looks c.reading c.looked (seat_answered g log known before c.between c.looks (Ok c.reading) h first knows c.looked between c.answer) in
-    absurd (ok_err (take (c.reading.dataset.shape.rows * log.columns) (appended log)) e
-    (sym (values_are g log c.between after c.reads c.reading (Err e) h there.shown c.read starts c.gives)))
+    ok_err (take (c.reading.dataset.shape.rows * log.columns) (appended log)) e (sym (values_are g log c.between after c.reads c.reading (Err e) h there.shown c.read starts c.gives))
+
+-- ---- One line more
+
+pub tell_more : (g : ReaderRules) (start : List ℕ) (reader call : ℕ) (known : Option Reading) (before : List Write) (lines : List PollLine) (next : Option Reading) (between : List Write)
+    (line : PollLine) (last : Option Reading) (after : List Write) → TellPolls g start reader call known before lines next between → TellsPoll g start reader (call + length lines) next between line last after
+    → TellPolls g start reader call known before (lines ++ line ∷ []) last after
+tell_more g start reader call known before [] next between line last after t one =
+    let here : TellsPoll g start reader call known before line last after =
+    subst (λ (k : Option Reading). TellsPoll g start reader call k before line last after) t.0
+    (subst (λ (l : List Write). TellsPoll g start reader call next l line last after) t.1
+    (subst (λ (n : ℕ). TellsPoll g start reader n next between line last after) (let e : call + 0 ≡ call = omega arith in e) one)) in
+    (last, after, here, (refl, refl))
+tell_more g start reader call known before (l ∷ lines) next between line last after t one = (
+  t.0,
+  t.1,
+  t.2,
+  tell_more g start reader (call + 1) t.0 t.1 lines next between line last after t.3
+      (subst (λ (n : ℕ). TellsPoll g start reader n next between line last after) (let e : call + length (l ∷ lines) ≡ call + 1 + length lines = omega arith in e) one),
+)
 
 pub poll_laws : PollLaws
 poll_laws = record {
   agree = λ g log run reader before after lines next h first starts t. agree_from g log run reader 1 None before after lines next h first tt starts t;
-  only_again = λ g log reader before between after lines next e h first starts t r.
-      let middle = starts_both (hist log.events) after between starts (refused_starts g log next between after e r) in
-      refused_again g log next between after e h (omega (arith, first, starts_length between before (tell_starts g log reader 1 None before lines next between t)))
-      (known_after g log reader 1 None before lines next between h first tt middle t) starts r;
+  none_stray = λ g log reader before between after lines next h first starts t stray.
+      let middle = starts_both (hist log.events) after between starts (stray_starts g log next between after stray) in
+      not_stray g log next between after h (omega (arith, first, starts_length between before (tell_starts g log reader 1 None before lines next between t)))
+      (known_after g log reader 1 None before lines next between h first tt middle t) starts stray;
 }
-  where
-    refused_starts : (g : ReaderRules) (log : Log) (known : Option Reading) (before after : List Write) (e : ReadError) → IsRefused g log.start known before after e → StartsWith after before
-    refused_starts g log known before after e (inl c) = through_starts log.start before after c.looks c.looked
-    refused_starts g log known before after e (inr c) = starts_both after c.between before (through_starts log.start c.between after c.reads c.read) (through_starts log.start before c.between c.looks c.looked)

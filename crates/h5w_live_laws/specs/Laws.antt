@@ -60,16 +60,18 @@ pub record IsRefusedRead (g : ReaderRules) (start : List ℕ) (known : Option Re
   pub read : LooksThrough start between after reads
   pub gives : Takes (values_program (Some reading) 0 reading.dataset.shape.rows) (looks_in reads) (Err e)
 
-abbrev pub IsRefused : ReaderRules → List ℕ → Option Reading → (before after : List Write) → ReadError → Type 0
-IsRefused g start known before after e = IsRefusedCall g start known before after e ⊎ IsRefusedRead g start known before after e
+-- A call for rows was refused by another refusal than the one for a header that changed, or a read was refused.
+abbrev pub IsStray : ReaderRules → List ℕ → Option Reading → (before after : List Write) → Type 0
+IsStray g start known before after =
+    (e : ReadError) × ((IsRefusedCall g start known before after e × ((attempts place first last : ℕ) → e ≡ refusals.Again attempts place first last → ⊥))
+    ⊎ IsRefusedRead g start known before after e)
 
 -- The first calls of a reader, from its open on, agree with a run of the log whose pieces go on from what its seat had seen in the
--- end. And a call behind them is refused by no other refusal than the one for a header that changed.
+-- end. And no call behind them is refused otherwise than for a header that changed.
 pub record PollLaws : Type 0 where
   pub agree : (g : ReaderRules) (log : Log) (run : Run) (reader : ℕ) (before after : List Write) (lines : List PollLine) (next : Option Reading)
       → IsRunOf g log run → log.first ≤ length before → StartsWith (hist log.events) after
       → TellPolls g log.start reader 1 None before lines next after → ReaderAgrees run reader 1 (length before) 0 lines
-  pub only_again : (g : ReaderRules) (log : Log) (reader : ℕ) (before between after : List Write) (lines : List PollLine) (next : Option Reading) (e : ReadError)
+  pub none_stray : (g : ReaderRules) (log : Log) (reader : ℕ) (before between after : List Write) (lines : List PollLine) (next : Option Reading)
       → Restful g log → log.first ≤ length before → StartsWith (hist log.events) after
-      → TellPolls g log.start reader 1 None before lines next between → IsRefused g log.start next between after e
-      → (attempts place first last : ℕ) × (e ≡ refusals.Again attempts place first last)
+      → TellPolls g log.start reader 1 None before lines next between → IsStray g log.start next between after → ⊥

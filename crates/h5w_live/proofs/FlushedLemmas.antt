@@ -1,0 +1,122 @@
+-- What is flushed at the positions of a plan's pieces.
+use Rattle.std.proofs.Common.{◌≡◌, ◌⊎◌, ℕ, zero, suc, ◌+◌, ◌-◌, ◌/◌, ◌<◌, ◌≤◌, List, [], ◌∷◌, ◌++◌, length, take, ℤ, sym, refl, ap, ◌∙◌, arith, inl, inr}
+use Rattle.std.specs.Prelude.{nat_le}
+use Rattle.std.proofs.lemmas.Bool.{cases_lt, cond-false, lt-leb, cond-true, le-leb}
+use Rattle.std.proofs.lemmas.List.{length-take}
+use Rattle.h5w_model.specs.Agrees.{FlushesAgree, rows_after}
+use Rattle.h5w_model.specs.Logs.{Happening, Log, appended, appended_in, appends, events_at, flushed, flushed_at, flushed_in, hist, plans, rows_in, shown, shows}
+use Rattle.h5w_model.specs.declared.piece.Write.{Write}
+use Rattle.h5w_model.specs.declared.report.FlushLine.{FlushLine}
+use Rattle.h5w_laws.proofs.LogLemmas.{events_at_earlier, events_at_now, flushed_begins, length_hist, rises_behind}
+use Rattle.h5w_live_laws.specs.Lines.{pieces_in, rows_told}
+use Rattle.h5w_live.specs.Writing.{showing}
+
+-- ---- Events at positions
+
+shown_showing : (ws : List Write) (es : List Happening) → shown (showing ws es) ≡ shown es + length ws
+shown_showing [] es = omega arith
+shown_showing (w ∷ ws) es = omega (arith, shown_showing ws (shows w ∷ es))
+
+-- behind all pieces that were shown before
+pub events_before : (p : ℕ) (ws : List Write) (es : List Happening) → p ≤ shown es → events_at p (showing ws es) ≡ events_at p es
+events_before p [] es low = refl
+events_before p (w ∷ ws) es low = events_before p ws (shows w ∷ es) (omega (arith, low)) ∙ events_at_earlier p (shows w) es (omega (arith, low))
+
+-- behind so many of the pieces
+events_among : (i : ℕ) (ws : List Write) (es : List Happening) → i ≤ length ws → events_at (shown es + i) (showing ws es) ≡ showing (take i ws) es
+events_among zero ws es low = events_before (shown es + 0) ws es (omega arith) ∙ events_at_now (shown es + 0) es (omega arith)
+events_among (suc i) [] es low = absurd (omega (arith, low))
+events_among (suc i) (w ∷ ws) es low =
+    let e : shown es + suc i ≡ shown es + 1 + i = omega arith in
+    ap (λ p. events_at p (showing ws (shows w ∷ es))) e ∙ events_among i ws (shows w ∷ es) (omega (arith, low))
+
+flushed_showing : (j : ℕ) (base : List ℤ) (ws : List Write) (es : List Happening) → flushed_in j base (showing ws es) ≡ flushed_in (j + length ws) base es
+flushed_showing j base [] es = ap (λ n. flushed_in n base es) (let e : j ≡ j + 0 = omega arith in e)
+flushed_showing j base (w ∷ ws) es =
+    flushed_showing j base ws (shows w ∷ es) ∙ ap (λ n. flushed_in n base es) (let e : j + length ws + 1 ≡ j + length (w ∷ ws) = omega arith in e)
+
+-- ---- Rows
+
+-- where all values are flushed they are so behind more pieces
+flushed_level : (j : ℕ) (base : List ℤ) (es : List Happening) (n : ℕ) → length (flushed_in 0 base es) ≡ n → length (base ++ appended_in es) ≡ n → length (flushed_in j base es) ≡ n
+flushed_level j base es n low high =
+    let under : length (flushed_in j base es) ≤ length (base ++ appended_in es) =
+    (let l = length-take (length (flushed_in j base es)) (base ++ appended_in es) in omega (arith, l, ap length (flushed_begins j base es))) in
+    omega (arith, rises_behind 0 j base es (omega arith), low, high, under)
+
+module _ (log : Log) (ws : List Write) (vs : List ℤ) (n : ℕ) (one : log.columns ≡ 1) (low : length (flushed log) ≡ n) (high : length (appended log) ≡ n) where
+  begun : List Happening
+  begun = plans (length ws) ∷ appends vs ∷ log.events
+
+  pub after_all : Log
+  after_all = record log { events = showing ws (plans (length ws) ∷ appends vs ∷ log.events) }
+
+  rows_are : (xs : List ℤ) → length xs ≡ n → rows_in log xs ≡ n
+  rows_are xs e = ap (λ c. length xs / c) one ∙ (let w : length xs / 1 ≡ n = omega (arith, e) in w)
+
+  -- among the pieces, but for the last
+  among : (i : ℕ) → i < length ws → flushed_at (record log { events = showing ws (plans (length ws) ∷ appends vs ∷ log.events) }) (shown log.events + i) ≡ n
+  among i less =
+      let there : events_at (shown log.events + i) (showing ws (plans (length ws) ∷ appends vs ∷ log.events)) ≡ showing (take i ws) (plans (length ws) ∷ appends vs ∷ log.events) =
+      events_among i ws (plans (length ws) ∷ appends vs ∷ log.events) (omega (arith, less)) in
+      let k : 0 + length (take i ws) ≡ i = (let l = length-take i ws in omega (arith, l, less)) in
+      let skip : flushed_in i log.values (plans (length ws) ∷ appends vs ∷ log.events) ≡ flushed_in i log.values log.events =
+      cond-false (nat_le (length ws) i) (log.values ++ (appended_in log.events ++ vs)) (flushed_in i log.values log.events) (lt-leb (length ws) i less) in
+      let all : flushed_in 0 log.values (events_at (shown log.events + i) (showing ws (plans (length ws) ∷ appends vs ∷ log.events))) ≡ flushed_in i log.values log.events =
+      ap (flushed_in 0 log.values) there ∙ flushed_showing 0 log.values (take i ws) (plans (length ws) ∷ appends vs ∷ log.events)
+      ∙ ap (λ m. flushed_in m log.values (plans (length ws) ∷ appends vs ∷ log.events)) k ∙ skip in
+      rows_are (flushed_in 0 log.values (events_at (shown log.events + i) (showing ws (plans (length ws) ∷ appends vs ∷ log.events))))
+      (ap length all ∙ flushed_level i log.values log.events n low high)
+
+  -- before them
+  earlier : (p : ℕ) → p < shown log.events → flushed_at (record log { events = showing ws (plans (length ws) ∷ appends vs ∷ log.events) }) p ≡ flushed_at log p
+  earlier p less =
+      ap (λ es. rows_in log (flushed_in 0 log.values es))
+      (events_before p ws (plans (length ws) ∷ appends vs ∷ log.events) (omega (arith, less))
+      ∙ events_at_earlier p (plans (length ws)) (appends vs ∷ log.events) (omega (arith, less))
+      ∙ events_at_earlier p (appends vs) log.events (omega (arith, less)))
+
+-- ---- Lines
+
+-- pieces rise from line to line
+pub pieces_rise : (columns pieces rows : ℕ) (bs : List (List ℤ)) (fs : List FlushLine) → FlushesAgree columns pieces rows bs fs → pieces ≤ pieces_in pieces fs
+pieces_rise columns pieces rows [] [] h = omega arith
+pieces_rise columns pieces rows [] (f ∷ fs) h = absurd h
+pieces_rise columns pieces rows ([] ∷ bs) fs h = pieces_rise columns pieces rows bs fs h
+pieces_rise columns pieces rows ((v ∷ vs) ∷ bs) [] h = omega arith
+pieces_rise columns pieces rows ((v ∷ vs) ∷ bs) (f ∷ fs) h = omega (arith, h.0, pieces_rise columns f.pieces f.rows bs fs h.2)
+
+-- behind the last line all rows are told
+pub rows_all : (columns pieces rows before p : ℕ) (bs : List (List ℤ)) (fs : List FlushLine) → FlushesAgree columns pieces rows bs fs → pieces_in pieces fs ≤ p → rows_after before p fs ≡ rows_told before fs
+rows_all columns pieces rows before p [] [] h low = refl
+rows_all columns pieces rows before p [] (f ∷ fs) h low = absurd h
+rows_all columns pieces rows before p ([] ∷ bs) fs h low = rows_all columns pieces rows before p bs fs h low
+rows_all columns pieces rows before p ((v ∷ vs) ∷ bs) [] h low = refl
+rows_all columns pieces rows before p ((v ∷ vs) ∷ bs) (f ∷ fs) h low =
+    let here : f.pieces ≤ p = omega (arith, pieces_rise columns f.pieces f.rows bs fs h.2, low) in
+    ap (λ b. rows_after b p fs) (cond-true (nat_le f.pieces p) f.rows before (le-leb f.pieces p here)) ∙ rows_all columns f.pieces f.rows f.rows p bs fs h.2 low
+
+pub pieces_last : (before : ℕ) (fs : List FlushLine) (f : FlushLine) → pieces_in before (fs ++ f ∷ []) ≡ f.pieces
+pieces_last before [] f = refl
+pieces_last before (g ∷ gs) f = pieces_last g.pieces gs f
+
+pub rows_last : (before : ℕ) (fs : List FlushLine) (f : FlushLine) → rows_told before (fs ++ f ∷ []) ≡ f.rows
+rows_last before [] f = refl
+rows_last before (g ∷ gs) f = rows_last g.rows gs f
+
+-- ---- All positions before the last piece
+
+pub before_last : (log : Log) (ws : List Write) (vs : List ℤ) (n : ℕ) (fs : List FlushLine) → log.columns ≡ 1 → length (flushed log) ≡ n → length (appended log) ≡ n
+    → ((p : ℕ) → p ≤ length (hist log.events) → flushed_at log p ≡ rows_after 0 p fs) → ((p : ℕ) → length (hist log.events) ≤ p → rows_after 0 p fs ≡ n)
+    → (p : ℕ) → p < length (hist log.events) + length ws → flushed_at (record log { events = showing ws (plans (length ws) ∷ appends vs ∷ log.events) }) p ≡ rows_after 0 p fs
+before_last log ws vs n fs one low high tells told p less = go (cases_lt p (shown log.events)) where
+  count : length (hist log.events) ≡ shown log.events
+  count = length_hist log.events
+
+  go : (p < shown log.events) ⊎ (shown log.events ≤ p) → flushed_at (record log { events = showing ws (plans (length ws) ∷ appends vs ∷ log.events) }) p ≡ rows_after 0 p fs
+  go (inl x) = earlier log ws vs n one low high p x ∙ tells p (omega (arith, count, x))
+  go (inr x) =
+      let i : ℕ = p - shown log.events in
+      let e : p ≡ shown log.events + i = omega (arith, x) in
+      ap (flushed_at (record log { events = showing ws (plans (length ws) ∷ appends vs ∷ log.events) })) e
+      ∙ among log ws vs n one low high i (omega (arith, less, count, x)) ∙ sym (told p (omega (arith, count, x)))

@@ -1,0 +1,5 @@
+pub mod CallLemmas
+pub mod ReadingLemmas
+pub mod WritingLemmas
+pub mod FlushedLemmas
+pub mod BatchLemmas

@@ -1,0 +1,197 @@
+-- The pieces of a session become visible through its seat.
+use Rattle.std.proofs.Common.{◌≡◌, ℕ, ◌+◌, ◌-◌, ◌<◌, ◌≤◌, Bool, true, false, List, [], ◌∷◌, ◌++◌, length, Some, None, sym, refl, ap, ◌∙◌, subst, arith, append_assoc, length-append}
+use Rattle.std.proofs.lemmas.List.{append-nil}
+use Rattle.std.specs.Option.{unwrap_or}
+use Rattle.std.specs.Prelude.{slice_get, drop}
+use Rattle.h5w_model.specs.Datasets.{Described}
+use Rattle.h5w_model.specs.Logs.{Happening, Log, and_now, appended_in, hist, shows}
+use Rattle.h5w_model.specs.declared.piece.Write.{Write}
+use Rattle.h5w_space.specs.Space.{Space}
+use Rattle.h5w_session.specs.Creations.{NewFile, new_dataset}
+use Rattle.h5w_session.specs.Sessions.{AfterPiece, Freed, Session, stopped_of, with_rows}
+use Rattle.h5w_session.specs.Stands.{Stands}
+use Rattle.h5w_image.specs.View.{Same}
+use Rattle.h5w_shared.specs.Seats.{FailedSeat, ImageId, SeatView, seen_through}
+use Rattle.h5w_shared.proofs.ThreadLemmas.{through_seats}
+use Rattle.h5w_live.specs.Writing.{HasPlaces, HasWritten, StaysSeated, Writes, showing}
+
+pub some_is : {A : Type 0} (a b : A) → Some a ≡ Some b → a ≡ b
+some_is a b same = ap (λ o. unwrap_or o a) same
+
+-- ---- Events
+
+pub hist_showing : (ws : List Write) (es : List Happening) → hist (showing ws es) ≡ hist es ++ ws
+hist_showing [] es = sym (append-nil (hist es))
+hist_showing (w ∷ ws) es = hist_showing ws (shows w ∷ es) ∙ append_assoc (hist es) (w ∷ []) ws
+
+pub appended_showing : (ws : List Write) (es : List Happening) → appended_in (showing ws es) ≡ appended_in es
+appended_showing [] es = refl
+appended_showing (w ∷ ws) es = appended_showing ws (shows w ∷ es)
+
+-- ---- After a piece
+
+freed_end : (b : Bool) (s t : Space) → Freed b s t → t.end ≡ s.end
+freed_end true s t is = ap (λ (x : Space). x.end) is
+freed_end false s t is = is.end
+
+-- what stays of a session while its pieces become visible
+pub record Shown (s t : Session) : Type 0 where
+  pub name : t.name ≡ s.name
+  pub dataset : t.dataset ≡ s.dataset
+  pub waits : t.waits ≡ s.waits
+  pub stopped : t.stopped ≡ s.stopped
+  pub end : t.places.end ≡ s.places.end
+
+pub shown_stays : (s t : Session) (ws : List Write) → AfterPiece s ws t → Shown s t
+shown_stays s t [] after =
+    let is = after.1 in
+    record {
+      name = ap (λ (x : Session). x.name) is;
+      dataset = ap (λ (x : Session). x.dataset) is;
+      waits = ap (λ (x : Session). x.waits) is;
+      stopped = ap (λ (x : Session). x.stopped) is;
+      end = freed_end s.keeps s.places t.places after.0;
+    }
+shown_stays s t (w ∷ ws) is = record {
+  name = ap (λ (x : Session). x.name) is;
+  dataset = ap (λ (x : Session). x.dataset) is;
+  waits = ap (λ (x : Session). x.waits) is;
+  stopped = ap (λ (x : Session). x.stopped) is;
+  end = ap (λ (x : Session). x.places.end) is;
+}
+
+itself : (s : Session) (ws : List Write) → s.pending ≡ ws → 0 < length ws → AfterPiece s ws s
+itself s [] is some = absurd (omega arith)
+itself s (w ∷ ws) is some = ap (λ (ps : List Write). record s { pending = ps }) is
+
+-- one piece after another
+onward : (s : Session) (w : Write) (ws vs : List Write) (t : Session) → AfterPiece (record s { pending = w ∷ ws }) vs t → AfterPiece s vs t
+onward s w ws [] t after = after
+onward s w ws (v ∷ vs) t after = after
+
+pub after_pending : (s t : Session) (ws : List Write) → AfterPiece s ws t → t.pending ≡ ws
+after_pending s t [] after = ap (λ (x : Session). x.pending) after.1
+after_pending s t (w ∷ ws) after = ap (λ (x : Session). x.pending) after
+
+-- the oldest of some writes
+pub oldest : (w : Write) (ws : List Write) → Some w ≡ slice_get ws 0 → ws ≡ w ∷ drop 1 ws
+oldest w [] none = cc
+oldest w (x ∷ xs) same = ap (λ y. y ∷ xs) (sym (some_is w x same))
+
+pub no_piece : (ws : List Write) → None ≡ slice_get ws 0 → ws ≡ []
+no_piece [] none = refl
+no_piece (w ∷ ws) none = cc
+
+-- ---- The pieces of a plan
+
+-- a log of the session goes on to one whose pieces the seat has seen
+pub record GoesOn (t : Session) (u : SeatView) (log : Log) (seen left all : List Write) : Type 0 where
+  pub events : List Happening
+  pub stands : Stands t (record log { events = events })
+  pub showing : showing left events ≡ showing all log.events
+  pub pieces : hist log.events ≡ seen → hist events ≡ u.seen
+
+-- so far these are left of the pieces, and the session, its seat and its logs are on their way
+pub record Showing (s t : Session) (v u : SeatView) : Type 0 where
+  pub session : AfterPiece s t.pending t
+  pub image : u.image ≡ v.image
+  pub seen : u.seen ++ t.pending ≡ v.seen ++ s.pending
+  pub stands : (log : Log) → Stands s log → GoesOn t u log v.seen t.pending s.pending
+  pub room : HasPlaces t u
+  pub used : v.pieces + length t.pending ≤ u.pieces + length s.pending
+  pub end : v.end ≤ u.end
+  pub grown : length v.seen ≤ length u.seen
+
+pub shows_first : (s : Session) (v : SeatView) → 0 < length s.pending → HasPlaces s v → Showing s s v v
+shows_first s v some room = record {
+  session = itself s s.pending refl some;
+  image = refl;
+  seen = refl;
+  stands = λ log stood. record { events = log.events; stands = stood; showing = refl; pieces = λ e. e };
+  room = room;
+  used = omega arith;
+  end = omega arith;
+  grown = omega arith;
+}
+
+-- the seat with a piece more
+abbrev pub and_piece : Write → SeatView → SeatView
+and_piece w u = record u { seen = u.seen ++ w ∷ []; pieces = u.pieces - 1 }
+
+pub shows_next : (s t n : Session) (v u x : SeatView) (w : Write) (ws : List Write) → Showing s t v u → t.pending ≡ w ∷ ws → AfterPiece t ws n → x ≡ and_piece w u
+    → ((log : Log) → Stands t log → Stands n (and_now (shows w) log)) → Showing s n v x
+shows_next s t n v u x w ws so is after wrote stands =
+    let left : n.pending ≡ ws = after_pending t n ws after in
+    let there : t ≡ record s { pending = w ∷ ws } = subst (λ (ps : List Write). AfterPiece s ps t) is so.session in
+    let seen : x.seen ≡ u.seen ++ w ∷ [] = ap (λ (y : SeatView). y.seen) wrote in
+    let pieces : x.pieces ≡ u.pieces - 1 = ap (λ (y : SeatView). y.pieces) wrote in
+    let ends : x.end ≡ u.end = ap (λ (y : SeatView). y.end) wrote in
+    let same = shown_stays t n ws after in
+    let one : length (w ∷ ws) ≡ length ws + 1 = omega arith in
+    let count : length t.pending ≡ length n.pending + 1 = ap length is ∙ one ∙ ap (λ (l : List Write). length l + 1) (sym left) in
+    record {
+      session = subst (λ (ps : List Write). AfterPiece s ps n) (sym left) (onward s w ws ws n (subst (λ (y : Session). AfterPiece y ws n) there after));
+      image = ap (λ (y : SeatView). y.image) wrote ∙ so.image;
+      seen =
+          ap (λ (hs : List Write). hs ++ n.pending) seen
+          ∙ append_assoc u.seen (w ∷ []) n.pending ∙ ap (λ (ps : List Write). u.seen ++ w ∷ ps) left ∙ ap (λ (ps : List Write). u.seen ++ ps) (sym is) ∙ so.seen;
+      stands = λ log stood.
+          let now = so.stands log stood in
+          record {
+            events = shows w ∷ now.events;
+            stands = stands (record log { events = now.events }) now.stands;
+            showing = ap (λ (ps : List Write). showing ps (shows w ∷ now.events)) left ∙ ap (λ (ps : List Write). showing ps now.events) (sym is) ∙ now.showing;
+            pieces = λ e. ap (λ (hs : List Write). hs ++ w ∷ []) (now.pieces e) ∙ sym seen;
+          };
+      room = record { pieces = omega (arith, so.room.pieces, count, pieces); end = omega (arith, so.room.end, same.end, ends) };
+      used = omega (arith, so.used, so.room.pieces, count, pieces);
+      end = omega (arith, so.end, ends);
+      grown = omega (arith, so.grown, ap length seen, length-append u.seen (w ∷ []));
+    }
+
+pub shows_done : (s t : Session) (v u : SeatView) → Showing s t v u → t.pending ≡ [] → HasWritten s.pending v u
+shows_done s t v u so none = record {
+  image = so.image;
+  seen = sym (append-nil u.seen) ∙ ap (λ (ps : List Write). u.seen ++ ps) (sym none) ∙ so.seen;
+  pieces = omega (arith, so.used, ap length none);
+  end = so.end;
+}
+
+pub stands_done : (s t : Session) (v u : SeatView) → Showing s t v u → t.pending ≡ [] → (log : Log) → Stands s log → Stands t (record log { events = showing s.pending log.events })
+stands_done s t v u so none log stood =
+    let now = so.stands log stood in
+    let all : now.events ≡ showing s.pending log.events = ap (λ (ps : List Write). showing ps now.events) (sym none) ∙ now.showing in
+    subst (λ (es : List Happening). Stands t (record log { events = es })) all now.stands
+
+pub session_done : (s t : Session) (v u : SeatView) → Showing s t v u → t.pending ≡ [] → AfterPiece s [] t
+session_done s t v u so none = subst (λ (ps : List Write). AfterPiece s ps t) none so.session
+
+-- the session is the writer's still, with what is visible so far
+pub writes_on : (f : NewFile) (s t n : Session) (v u x : SeatView) → Showing s t v u → x.image ≡ u.image → x.seen ≡ u.seen → n.name ≡ t.name → n.dataset ≡ t.dataset
+    → ((log : Log) → Stands t log → Stands n log) → Writes f s v → Writes f n x
+writes_on f s t n v u x so image seen name dataset stands w =
+    let now = so.stands w.log w.stands in
+    let same = shown_stays s t t.pending so.session in
+    let d : n.dataset ≡ s.dataset = dataset ∙ same.dataset in
+    record {
+      log = record (w.log) { events = now.events };
+      stands = stands (record (w.log) { events = now.events }) now.stands;
+      new = ap (λ (l : Log). record l { events = now.events }) w.new;
+      seat = record { start = w.seat.start ∙ ap (λ (i : ImageId). i.start) (sym (image ∙ so.image)); pieces = now.pieces w.seat.pieces ∙ sym seen };
+      begun = omega (arith, w.begun, ap length seen, so.grown);
+      name = name ∙ same.name ∙ w.name;
+      dataset = d ∙ w.dataset ∙ ap (λ (e : Described). with_rows e.shape.rows (new_dataset f)) (sym d);
+    }
+
+-- the session is stopped where its seat failed
+pub writes_failed : (f : NewFile) (s t n : Session) (v u x : SeatView) → Showing s t v u → FailedSeat u x → n ≡ stopped_of t → ((log : Log) → Stands t log → Stands n log) → Writes f s v → Writes f n x
+writes_failed f s t n v u x so failed stopped stands w =
+    writes_on f s t n v u x so (ap (λ (y : SeatView). y.image) failed.same) (ap (λ (y : SeatView). y.seen) failed.same)
+    (ap (λ (y : Session). y.name) stopped) (ap (λ (y : Session). y.dataset) stopped) stands w
+
+-- ---- A call through the seat
+
+pub stays_seated : (m n : ℕ) (s t : SeatView) → Same (seen_through true m s) (seen_through true n t) → StaysSeated s t
+stays_seated m n s t same =
+    let seat = through_seats.same true m n s t same in
+    record { image = seat.1; seen = seat.2; pieces = same.pieces; end = same.end }

@@ -1,0 +1,9 @@
+use Rattle.std.proofs.Common.{rules, ◌≡◌, subst}
+use Rattle.h5w_space.specs.declared.Full.{Full}
+use Rattle.h5w_session.specs.Loads.{NoPlace}
+use Rattle.h5w_live.proofs.batch.plan.Goals as goal
+
+pub returns-in-Err-Space-clause-space : goal.returns-in-Err-Space-clause-space
+returns-in-Err-Space-clause-space g c = λ full same log stands.
+    let is : c.in-Err-Space.full ≡ full = cc in
+    subst (λ (x : Full). NoPlace c.args.session.now log x) is (c.flush.ensures.bounds c.in-Err-Space.full (search rules) log stands)

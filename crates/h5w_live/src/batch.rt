@@ -1,0 +1,126 @@
+//! A batch of the writer of a run: it is appended and flushed, and its pieces become visible.
+ghost use Rattle.std.specs.Prelude.{◌≡◌, ◌≢◌, ◌⊎◌, ℕ, ℤ, List, ◌<◌, ◌≤◌, ◌+◌, ◌++◌, ◌∷◌, [], length, IfErr, IfOk, OnErr, OnOk, Ok, Err, Some, None};
+ghost use Rattle.h5w_model.specs.Agrees.{values_in};
+ghost use Rattle.h5w_model.specs.Lawful.{first_outside};
+ghost use Rattle.h5w_model.specs.Logs.{Log, and_now, appends, plans};
+ghost use Rattle.h5w_model.specs.declared.report.FlushLine.{FlushLine};
+ghost use Rattle.h5w_space.specs.declared.Full.{Full};
+ghost use Rattle.h5w_session.specs.Creations.{NewFile};
+ghost use Rattle.h5w_session.specs.Flushes.{SameBut};
+ghost use Rattle.h5w_session.specs.Loads.{NoPlace};
+ghost use Rattle.h5w_session.specs.Refusals.{append_refusal, flush_refusal};
+ghost use Rattle.h5w_session.specs.Sessions.{TakesRows, with_values};
+ghost use Rattle.h5w_session.specs.Stands.{Stands};
+ghost use Rattle.h5w_session.specs.declared.refusal.AppendError.TheVariants as appending;
+ghost use Rattle.h5w_live.specs.Writing.{HasFlushed, HasRoom, StaysSeated, Writes, batch_refusal};
+
+use crate::seated::{append, flush};
+use crate::writing::{Halt, show};
+use h5w_image::Gate;
+use h5w_model::FlushLine;
+use h5w_session::{AppendError, FlushError, WriterCore};
+use h5w_shared::{SharedImage, WriterSeat};
+use std::sync::Wait;
+
+/// Appends a batch behind others that were flushed.
+fn take<R: Wait>(
+    rt: &R,
+    image: &SharedImage,
+    seat: &mut WriterSeat,
+    session: &mut WriterCore,
+    values: &[i128],
+) -> Result<(), Halt>
+    requires image { seat.old.image ≡ image.now }
+    requires some { 1 ≤ length values.now }
+    requires flushed { (f : NewFile) × (done : List (List ℤ)) × (lines : List FlushLine) × HasFlushed f done session.old seat.old lines }
+    ensures added { OnOk result (session.new ≡ with_values session.old values.now) }
+    ensures stands { OnOk result ((log : Log) → Stands session.old log → Stands session.new (and_now (appends values.now) log)) }
+    ensures accepted { OnOk result (append_refusal session.old values.now ≡ None) }
+    ensures range { (index : ℕ) (value : ℤ) → result ≡ Err (Halt.OutOfRange index value) → append_refusal session.old values.now ≡ Some (appending.OutOfRange index value) }
+    ensures chunks { (chunks limit : ℕ) → result ≡ Err (Halt.Chunks chunks limit) → append_refusal session.old values.now ≡ Some (appending.Chunks chunks limit) }
+    ensures space { (full : Full) → result ≢ Err (Halt.Space full) }
+    ensures kept { OnErr result (session.new ≡ session.old) }
+    ensures seat { StaysSeated seat.old seat.new }
+    ensures failed { result ≡ Err Halt.Failed → 0 < seat.new.faults }
+{
+    match append(rt, image, seat, session, values) {
+        Ok(_) => Ok(()),
+        Err(AppendError::OutOfRange { index, value }) => Err(Halt::OutOfRange { index, value }),
+        Err(AppendError::Chunks { chunks, limit }) => Err(Halt::Chunks { chunks, limit }),
+        Err(AppendError::Failed) => Err(Halt::Failed),
+        Err(AppendError::OutOfMemory) => Err(Halt::OutOfMemory),
+        Err(AppendError::Stopped) => unreachable!(),
+        Err(AppendError::Busy { .. }) => unreachable!(),
+    }
+}
+
+/// Plans the pieces of the rows that wait.
+fn plan<R: Wait>(
+    rt: &R,
+    image: &SharedImage,
+    seat: &mut WriterSeat,
+    session: &mut WriterCore,
+) -> Result<(), Halt>
+    requires image { seat.old.image ≡ image.now }
+    requires waits { 0 < session.old.waits }
+    requires taken { flush_refusal session.old ≡ None }
+    ensures flushed { OnOk result (TakesRows session.old session.new) }
+    ensures some { OnOk result (1 ≤ length session.new.pending) }
+    ensures stands { OnOk result ((log : Log) → Stands session.old log → Stands session.new (and_now (plans (length session.new.pending)) log)) }
+    ensures range { (index : ℕ) (value : ℤ) → result ≢ Err (Halt.OutOfRange index value) }
+    ensures chunks { (chunks limit : ℕ) → result ≢ Err (Halt.Chunks chunks limit) }
+    ensures space { (full : Full) → result ≡ Err (Halt.Space full) → (log : Log) → Stands session.old log → NoPlace session.old log full }
+    ensures kept { OnErr result (SameBut session.old session.new) }
+    ensures left { OnErr result ((log : Log) → Stands session.old log → Stands session.new log) }
+    ensures seat { StaysSeated seat.old seat.new }
+    ensures room { OnOk result (HasRoom session.new seat.new) }
+    ensures failed { result ≡ Err Halt.Failed → 0 < seat.new.faults }
+{
+    match flush(rt, image, seat, session) {
+        Ok(_) => Ok(()),
+        Err(FlushError::Space(full)) => Err(Halt::Space(full)),
+        Err(FlushError::Failed) => Err(Halt::Failed),
+        Err(FlushError::OutOfMemory) => Err(Halt::OutOfMemory),
+        Err(_) => unreachable!(),
+    }
+}
+
+/// Appends a batch, flushes it, and makes its pieces visible.
+pub fn put<R: Wait, G: Gate>(
+    rt: &R,
+    image: &SharedImage,
+    seat: &mut WriterSeat,
+    session: &mut WriterCore,
+    values: &[i128],
+    gate: &G,
+    number: u64,
+) -> Result<FlushLine, Halt>
+    requires image { seat.old.image ≡ image.now }
+    requires some { 1 ≤ length values.now }
+    requires flushed { (f : NewFile) × (done : List (List ℤ)) × (lines : List FlushLine) × HasFlushed f done session.old seat.old lines }
+    ensures image { seat.new.image ≡ image.now }
+    ensures flushed { (f : NewFile) (done : List (List ℤ)) (lines : List FlushLine) → HasFlushed f done session.old seat.old lines → IfOk result (λ line. HasFlushed f (done ++ values.now ∷ []) session.new seat.new (lines ++ line ∷ [])) }
+    ensures accepted { (f : NewFile) (done : List (List ℤ)) (lines : List FlushLine) → HasFlushed f done session.old seat.old lines → OnOk result (batch_refusal f (length (values_in done)) values.now ≡ None) }
+    ensures range { (f : NewFile) (done : List (List ℤ)) (lines : List FlushLine) → HasFlushed f done session.old seat.old lines
+        → (index : ℕ) (value : ℤ) → result ≡ Err (Halt.OutOfRange index value) → batch_refusal f (length (values_in done)) values.now ≡ Some (appending.OutOfRange index value) }
+    ensures chunks { (f : NewFile) (done : List (List ℤ)) (lines : List FlushLine) → HasFlushed f done session.old seat.old lines
+        → (chunks limit : ℕ) → result ≡ Err (Halt.Chunks chunks limit) → batch_refusal f (length (values_in done)) values.now ≡ Some (appending.Chunks chunks limit) }
+    ensures left { (f : NewFile) (done : List (List ℤ)) (lines : List FlushLine) → HasFlushed f done session.old seat.old lines → OnErr result (Writes f session.new seat.new) }
+    ensures failed { result ≡ Err Halt.Failed → 0 < seat.new.faults }
+{
+    match take(rt, image, seat, session, values) {
+        Ok(()) => {}
+        Err(halt) => return Err(halt),
+    }
+    match plan(rt, image, seat, session) {
+        Ok(()) => {}
+        Err(halt) => return Err(halt),
+    }
+    match show(rt, image, seat, session, gate, number) {
+        Ok(()) => Ok(FlushLine {
+            pieces: seat.seen(),
+            rows: session.committed(),
+        }),
+        Err(_) => Err(Halt::Failed),
+    }
+}

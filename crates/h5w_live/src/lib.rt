@@ -1,0 +1,7 @@
+//! One writer and its readers over a shared image: a reader's call through its seat, and the writer's batches through its own.
+#![tactic(auto)]
+
+mod batch;
+mod call;
+mod seated;
+mod writing;

@@ -1,0 +1,65 @@
+//! The writer of a run: each batch is appended and flushed, and its pieces become visible one by one.
+ghost use Rattle.std.specs.Prelude.{◌≡◌, ◌≢◌, ◌⊎◌, ℕ, ℤ, List, ◌<◌, ◌≤◌, ◌+◌, ◌++◌, ◌∷◌, [], length, IfErr, IfOk, OnErr, OnOk, Ok, Err, Some, None};
+ghost use Rattle.h5w_model.specs.Agrees.{values_in};
+ghost use Rattle.h5w_model.specs.Logs.{Log, and_now, appends};
+ghost use Rattle.h5w_model.specs.declared.report.FlushLine.{FlushLine};
+ghost use Rattle.h5w_session.specs.Creations.{NewFile};
+ghost use Rattle.h5w_session.specs.Sessions.{AfterPiece};
+ghost use Rattle.h5w_session.specs.Stands.{Stands};
+ghost use Rattle.h5w_session.specs.declared.refusal.AppendError.TheVariants as appending;
+ghost use Rattle.h5w_live.specs.Writing.{HasFlushed, HasPlaces, HasRoom, HasWritten, Writes, batch_refusal, showing};
+
+use crate::seated::{append, flush, write};
+use h5w_image::{Failed, Gate};
+use h5w_model::FlushLine;
+use h5w_session::{AppendError, FlushError, Full, WriterCore};
+use h5w_shared::{SharedImage, WriterSeat};
+use std::sync::Wait;
+
+/// Why a batch was not flushed.
+#[derive(Clone, Copy)]
+pub enum Halt {
+    /// The first value outside the type, by its index in the batch.
+    OutOfRange { index: u64, value: i128 },
+    /// More chunks than the dataset's index has.
+    Chunks { chunks: u64, limit: u64 },
+    /// The file has no place.
+    Space(Full),
+    /// The seat was shown the ticket word at 2^63, and counts it.
+    Failed,
+    OutOfMemory,
+}
+
+/// All pending pieces become visible, one after another. Before the last of them the writer comes to its turn of this number.
+pub fn show<R: Wait, G: Gate>(
+    rt: &R,
+    image: &SharedImage,
+    seat: &mut WriterSeat,
+    session: &mut WriterCore,
+    gate: &G,
+    number: u64,
+) -> Result<(), Failed>
+    requires image { seat.old.image ≡ image.now }
+    requires some { 0 < length session.old.pending }
+    requires room { HasPlaces session.old seat.old }
+    ensures session { OnOk result (AfterPiece session.old [] session.new) }
+    ensures stands { OnOk result ((log : Log) → Stands session.old log → Stands session.new (record log { events = showing session.old.pending log.events })) }
+    ensures seat { OnOk result (HasWritten session.old.pending seat.old seat.new) }
+    ensures left { OnErr result ((f : NewFile) → Writes f session.old seat.old → Writes f session.new seat.new) }
+    ensures failed { OnErr result (0 < seat.new.faults) }
+    ensures image { seat.new.image ≡ image.now }
+{
+    while let Some(w) = session.next() {
+        if session.pending() == 1 {
+            gate.turn(0, number);
+        }
+        match write(rt, image, seat, w) {
+            Ok(()) => session.written(),
+            Err(failed) => {
+                session.failed();
+                return Err(failed);
+            }
+        }
+    }
+    Ok(())
+}
