@@ -27,6 +27,7 @@ use Rattle.h5w_files.specs.Ends.{IsGivenBy, EndsWell}
 use Rattle.h5w_files.specs.Checks.{CheckEnds, ChecksTo, IsOfCheck, check_line, check_of, finding_line, valid_text}
 use Rattle.h5w_files.proofs.EndLemmas.{completes, ends_done, ends_error}
 use Rattle.h5w_files.proofs.ClearLemmas.{any_told, leaves_files, none_of}
+use Rattle.h5w_files.proofs.ImageLemmas.{leaves_on, looked_files}
 
 pub checks_missing : {v w : DiskView} (name at : List ℕ) → Leaves 0 v.told v w → IfSome v.told (λ d. None ≡ option_map length (file d name)) → ChecksTo name at v w (Err errors.Missing)
 checks_missing {v} name at p none = record { disk = leaves_files 0 v.told p; exact = told v.told none; kinds = tt; cause = λ e. cc }
@@ -37,16 +38,6 @@ checks_missing {v} name at p none = record { disk = leaves_files 0 v.told p; exa
 
 pub checks_failed : {v w : DiskView} (name at : List ℕ) → Leaves 0 v.told v w → Rose v.faults w.faults → ChecksTo name at v w (Err errors.Disk)
 checks_failed {v} name at p rose = record { disk = leaves_files 0 v.told p; exact = any_told v.told (λ d. tt); kinds = tt; cause = λ e. rose }
-
--- looks at a file leave its disk
-pub looked_files : {u w : DiskView} (r q : ℕ) (name other : List ℕ) → Looked (file_image r name u) (file_image q other w) → LeavesFiles u.told u w
-looked_files {u} {w} r q name other looked =
-    let same = looked.still refl in
-    let through : q ∷ w.through ≡ r ∷ u.through = same.through in
-    record { told = same.disk; faults = same.faults; through = cc }
-
-pub leaves_on : {u v w : DiskView} → LeavesFiles u.told u v → LeavesFiles v.told v w → LeavesFiles u.told u w
-leaves_on p q = record { told = q.told ∙ p.told; faults = omega (arith, p.faults, q.faults); through = q.through ∙ p.through }
 
 -- what is said of the bytes of an image is said of those of the file that it is
 pub of_file : (u v : DiskView) (name : List ℕ) (P : List ℕ → Type 0) → v.told ≡ u.told → IfSome v.told (λ d. IsSome (file d name))

@@ -1,6 +1,6 @@
 -- The making of a file.
-use Rattle.std.proofs.Common.{◌≡◌, ◌⊎◌, ℕ, ◌+◌, ◌-◌, ◌<◌, ◌≤◌, ◌^◌, max, Bool, true, false, cond, List, [], ◌∷◌, ◌++◌, length, take, Option, Some, None, Result, Ok, Err, refl, sym, ap, ap₂, ◌∙◌, subst, inl, inr, arith, append_assoc, append-nil, length-append}
-use Rattle.std.specs.Prelude.{IfSome, IsSome, is_none, option_map, codes}
+use Rattle.std.proofs.Common.{◌≡◌, ℕ, ◌+◌, ◌≤◌, Bool, true, false, cond, List, [], ◌∷◌, ◌++◌, length, take, Option, Some, None, Result, Ok, Err, refl, sym, ap, ap₂, ◌∙◌, subst, inl, inr, arith, append_assoc, append-nil, length-append}
+use Rattle.std.specs.Prelude.{IfSome, is_none, option_map}
 use Rattle.std.specs.Option.{unwrap_or}
 use Rattle.std.specs.Ordering.{nat_cmp, eq_by_cmp}
 use Rattle.std.specs.Cmp.Lexicographic.{slice_cmp, nat_list_cmp_total}
@@ -8,9 +8,9 @@ use Rattle.std.specs.FinMap as finite
 use Rattle.std.proofs.Math.Seq.{take-append_seam}
 use Rattle.h5w_model.specs.Causes.{Rose}
 use Rattle.h5w_model.specs.Images.{apply, image}
-use Rattle.h5w_model.specs.Logs.{Log, and_now, shows}
+use Rattle.h5w_model.specs.Logs.{Log}
 use Rattle.h5w_model.specs.Numbers.{range}
-use Rattle.h5w_model.specs.Superblock.{super_at, super_bytes}
+use Rattle.h5w_model.specs.Superblock.{super_at}
 use Rattle.h5w_model.specs.Tables.{Shows, format_limits}
 use Rattle.h5w_model.specs.Findings.{Valid}
 use Rattle.h5w_model.specs.Datasets.{Described}
@@ -18,12 +18,12 @@ use Rattle.h5w_model.specs.declared.piece.Write.{Write}
 use Rattle.h5w_model.specs.declared.root.Super.{Super}
 use Rattle.h5w_model.proofs.ImageLemmas.{At-apply, length-apply}
 use Rattle.h5w_model.proofs.SuperLemmas.{length-super_bytes, super_at-super_bytes}
-use Rattle.h5w_image.specs.View.{DiskState, DiskView, Files, IsThere, Leaves, file, made, put}
+use Rattle.h5w_image.specs.View.{DiskState, DiskView, Files, Leaves, file, made, put}
 use Rattle.h5w_image.proofs.Names.{get-insert_same}
 use Rattle.h5w_options.specs.Options.{AreOptions}
 use Rattle.h5w_options.specs.declared.options.Options.{Options}
 use Rattle.h5w_session.specs.Creations.{IsNewFile, NewFile, array_place, array_write, created, creation_writes, first_end, header_write, index_place, index_write, log_of, new_dataset, new_file, new_super, root_write, super_write}
-use Rattle.h5w_session.specs.Sessions.{Session, closed_of, closed_root}
+use Rattle.h5w_session.specs.Sessions.{Session, closed_of}
 use Rattle.h5w_session.specs.Stands.{Stands}
 use Rattle.h5w_session.proofs.CreationLemmas.{created_pieces, is_new, length_index}
 use Rattle.h5w_session.proofs.CreatedLemmas.{first_end_small}
@@ -39,12 +39,12 @@ use Rattle.h5w_text.specs.declared.status.Status.TheVariants as statuses
 use Rattle.h5w_files.specs.Images.{LeavesFiles}
 use Rattle.h5w_files.specs.Ends.{IsGivenBy, EndsWell, status_by}
 use Rattle.h5w_files.specs.Puts.{AllBetween, AllRose, PutsPieces, PutsSome, after_puts, counts_of, showing, writes_of}
-use Rattle.h5w_files.specs.Creates.{CreateEnds, CreateLeaves, CreatesTo, Fills, FillsAll, FillsSome, FillsUpTo, HasFailed, HasPut, IsEmptyFile, answer_of, closed_super, closing_of, create_line, create_text, end_of, new_bytes, new_pieces, with_new}
+use Rattle.h5w_files.specs.Creates.{CreateEnds, CreatesTo, Fills, FillsAll, FillsSome, FillsUpTo, HasPut, IsEmptyFile, answer_of, closed_super, closing_of, create_line, create_text, end_of, new_bytes, new_pieces, with_new}
 use Rattle.h5w_files.specs.declared.creating.CreateError.{CreateError}
 use Rattle.h5w_files.specs.declared.creating.CreateError.TheVariants as refusals
 use Rattle.h5w_files.proofs.ClearLemmas.{any_told}
-use Rattle.h5w_files.proofs.EndLemmas.{completes, ends_done}
-use Rattle.h5w_files.proofs.PutLemmas.{between-append, between_more, counts-append, length-counts, length-writes, none_left, no_puts, puts_twice, rose-append, rose_more, rose_since, showing-append, writes-append}
+use Rattle.h5w_files.proofs.EndLemmas.{completes}
+use Rattle.h5w_files.proofs.PutLemmas.{between-append, between_more, counts-append, length-counts, length-writes, no_puts, puts_twice, rose-append, rose_more, rose_since, showing-append, writes-append}
 
 -- ---- The bytes of a new file
 

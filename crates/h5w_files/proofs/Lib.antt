@@ -10,3 +10,11 @@ pub mod TimesLemmas
 pub mod PollEndLemmas
 pub mod PutLemmas
 pub mod CreateLemmas
+pub mod BatchLemmas
+pub mod StoreLemmas
+pub mod StepLemmas
+pub mod ReadLemmas
+pub mod InputLemmas
+pub mod ShutLemmas
+pub mod AppendLemmas
+pub mod OpenLemmas

@@ -9,7 +9,7 @@ use Rattle.h5w_reader.specs.Readers.{new_reader, reader_rules}
 use Rattle.h5w_text.specs.Errors.{error_text}
 use Rattle.h5w_text.specs.Says.{Said, SaidUnlessMemory, whole, failed}
 use Rattle.h5w_text.specs.Statuses.{status_of}
-use Rattle.h5w_text.specs.Streams.{SinkView, Gave}
+use Rattle.h5w_text.specs.Streams.{SinkView}
 use Rattle.h5w_text.specs.declared.error.ErrorLine.{ErrorLine}
 use Rattle.h5w_text.specs.declared.error.ErrorLine.TheVariants as errors
 use Rattle.h5w_text.specs.declared.status.Status.{Status}
@@ -23,9 +23,9 @@ use Rattle.h5w_files.specs.Polling as calls
 use Rattle.h5w_files.specs.declared.polling.Ending.{Ending}
 use Rattle.h5w_files.specs.declared.polling.Ending.TheVariants as endings
 use Rattle.h5w_files.proofs.ClearLemmas.{any_told, leaves_files, none_of}
-use Rattle.h5w_files.proofs.CheckLemmas.{leaves_on, looked_files}
+use Rattle.h5w_files.proofs.ImageLemmas.{leaves_on, looked_files}
 use Rattle.h5w_files.proofs.EndLemmas.{completes}
-use Rattle.h5w_files.proofs.SinkLemmas.{gave_both, gave_nothing, gave_some_more, gave_then_some, rose_before}
+use Rattle.h5w_files.proofs.SinkLemmas.{gave_nothing, gave_some_more, rose_before, said_behind}
 
 -- ---- Before the first call
 
@@ -79,6 +79,13 @@ call_kind errors.Exists h = absurd h
 call_kind (errors.Read e) h = tt
 call_kind (errors.Finding kind at) h = absurd h
 call_kind (errors.Overlap at len other other_len) h = absurd h
+call_kind (errors.Cut end size) h = absurd h
+call_kind errors.Layout h = absurd h
+call_kind (errors.ChunkBytes bytes) h = absurd h
+call_kind errors.NoColumns h = absurd h
+call_kind errors.NoIndex h = absurd h
+call_kind (errors.FullChunks chunks limit) h = absurd h
+call_kind (errors.FullSpace at size limit) h = absurd h
 call_kind (errors.Line n) h = absurd h
 call_kind (errors.Range n i v) h = absurd h
 call_kind (errors.Input n) h = absurd h
@@ -157,10 +164,6 @@ polls_done {v} name at times attempts values p = record {
   comes = record { disk = p.disk; exact = each_told v.told (λ d h. of_whole (reader_rules at attempts) values times p.text (file d name) h) p.exact; kinds = tt; cause = λ h. cc };
   said = whole refl p.wrote;
 }
-
-said_behind : {k l m : SinkView} (text last : List ℕ) (status result : Status) → Gave text k l → Said last status result l m → Said (text ++ last) status result k m
-said_behind text last status result g (whole e gave) = whole e (gave_both text last g gave)
-said_behind {k} {l} {m} text last status result g (failed e rose some) = failed e (rose_before k.faults l.faults m.faults g.faults rose) (gave_then_some text last g some)
 
 pub polls_told : {v w : DiskView} {k l m : SinkView} (name at : List ℕ) (times attempts : ℕ) (values : Bool) (e : ErrorLine) (status : Status) → PollGives name at times attempts values v w (Err (endings.Error e)) k l
     → SaidUnlessMemory (error_text e) (status_of e) status l m → PollEnds name at times attempts values v w status k m

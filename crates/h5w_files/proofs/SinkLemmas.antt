@@ -4,7 +4,9 @@ use Rattle.std.specs.Prelude.{option_map}
 use Rattle.std.proofs.Math.Seq.{take-append-add}
 use Rattle.std.proofs.lemmas.List.{take-append-le, take_min}
 use Rattle.h5w_model.specs.Causes.{Rose}
+use Rattle.h5w_text.specs.Says.{Said, failed, whole}
 use Rattle.h5w_text.specs.Streams.{SinkView, Gave, GaveSome, Grows}
+use Rattle.h5w_text.specs.declared.status.Status.{Status}
 
 grows_nothing : (o : Option (List ℕ)) → Grows [] o o
 grows_nothing None = inl refl
@@ -45,3 +47,8 @@ gave_some_more {k} {l} xs ys g =
 -- the text of a list that was empty
 pub from_nothing : (bytes out old more : List ℕ) → bytes ≡ out → out ≡ old ++ more → old ≡ [] → bytes ≡ more
 from_nothing bytes out old more same added none = same ∙ added ∙ ap (λ l. l ++ more) none
+
+-- a last text behind another
+pub said_behind : {k l m : SinkView} (text last : List ℕ) (status result : Status) → Gave text k l → Said last status result l m → Said (text ++ last) status result k m
+said_behind text last status result g (whole e gave) = whole e (gave_both text last g gave)
+said_behind {k} {l} {m} text last status result g (failed e rose some) = failed e (rose_before k.faults l.faults m.faults g.faults rose) (gave_then_some text last g some)

@@ -1,12 +1,12 @@
 -- One file of a disk as an image, and what commands leave of a disk.
-use Rattle.std.specs.Prelude.{◌≡◌, ℕ, ◌≤◌, true, List, ◌∷◌, Option, None, option_and_then}
+use Rattle.std.specs.Prelude.{◌≡◌, ℕ, ◌≤◌, true, List, ◌∷◌, ◌++◌, length, Option, None, option_and_then}
 use Rattle.h5w_image.specs.View.{DiskState, DiskView, ImageView, file}
 
 -- the bytes of the file of this name, where the disk tells its files, and it is there
 abbrev pub told_bytes : Option DiskState → List ℕ → Option (List ℕ)
 told_bytes told name = option_and_then (λ d. file d name) told
 
--- the file of this name as an image, through a reference to its disk
+-- the file of this name as an image, through a reference to its disk and by its name
 abbrev pub file_image : ℕ → List ℕ → DiskView → ImageView
 file_image reference name v = record {
   bytes = told_bytes v.told name;
@@ -14,7 +14,7 @@ file_image reference name v = record {
   disk = v.told;
   alone = true;
   faults = v.faults;
-  through = reference ∷ v.through;
+  through = reference ∷ length name ∷ name ++ v.through;
   pieces = v.pieces;
   end = v.end name;
 }

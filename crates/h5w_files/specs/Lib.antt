@@ -14,6 +14,9 @@ pub mod Checks
 pub mod Clears
 pub mod Puts
 pub mod Creates
+pub mod Batches
+pub mod Appends
+pub mod Appending
 pub mod Answering
 pub mod Polls
 pub mod Polling

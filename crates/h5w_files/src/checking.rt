@@ -33,7 +33,7 @@ fn check_line(error: CheckError) -> ErrorLine
 }
 
 /// Checks the file of the name `file`, by the dataset that the root group's link of `name` leads to.
-#[tactic(auto, using(h5w_image::proofs::DiskLemmas::kept, crate::proofs::CheckLemmas::checks_missing, crate::proofs::CheckLemmas::checks_failed, crate::proofs::CheckLemmas::checks_valid, crate::proofs::CheckLemmas::checks_refused))]
+#[tactic(auto, using(h5w_image::proofs::DiskLemmas::kept, crate::proofs::CheckLemmas::checks_missing, crate::proofs::CheckLemmas::checks_failed))]
 fn checked<D: Disk>(
     alloc: Global,
     file: &str,

@@ -1,4 +1,8 @@
-use Rattle.h5w_files.proofs.PollEndLemmas.{polls_failed, polls_missing, polls_wanting}
+use Rattle.std.proofs.Common.{◌≡◌, ◌<◌, ◌^◌, refl, rules}
+use Rattle.h5w_reader.specs.Cores.{reader}
+use Rattle.h5w_reader.specs.Readers.{new_reader, reader_rules}
+use Rattle.h5w_files.proofs.PollEndLemmas.{polls_calls, polls_failed, polls_missing, polls_wanting}
+use Rattle.h5w_files.proofs.StoreLemmas.{reference_looked}
 use Rattle.h5w_files.proofs.polling.polled.Goals as goal
 
 pub returns-in-Ok-None : goal.returns-in-Ok-None
@@ -11,3 +15,14 @@ returns-in-Err g c = polls_failed c.args.file.now c.args.name.now c.args.times c
 
 pub returns-in_default : goal.returns-in_default
 returns-in_default g c = polls_wanting c.args.file.now c.args.name.now c.args.times c.args.attempts c.args.values (g.K.Sink.view c.args.sink.now) c.size.ensures.same
+
+pub returns : goal.returns
+returns g c =
+    let same = reference_looked c.write_times.ensures.looked _ _ _ _ refl refl in
+    let sized = rw c.in-Ok-Some.field-0-is at c.in-Ok-Some.ensures.exact in
+    let small : c.in-Ok-Some.field-0-0 < 2 ^ 64 = search rules in
+    let first : reader c.in-Ok.reader ≡ new_reader (reader_rules c.args.name.now c.args.attempts) = search rules in
+    let fact =
+    polls_calls {u = g.D.Disk.view c.args.disk.now} {v = g.D.Disk.view c.size.new.self} {w = g.D.Disk.view c.write_times.new.image.disk.now} _ _ c.args.file.now c.write_times.new.image.name.now c.args.name.now c.in-Ok-Some.field-0-0 c.args.times c.args.attempts c.args.values
+    (reader c.in-Ok.reader) c.write_times.result c.size.ensures.same small sized c.write_times.ensures.looked first c.write_times.ensures.gives in
+    search (rules, same, fact)

@@ -1,6 +1,6 @@
-use Rattle.std.proofs.Common.{◌≡◌, ◌+◌, ◌≤◌, length, refl, subst, arith}
+use Rattle.std.proofs.Common.{refl, arith}
 use Rattle.h5w_files.proofs.PutLemmas.{end_left, none_left, puts_none, puts_then, puts_there, room_left, some_then}
-use Rattle.h5w_files.proofs.creating.put_pending.Goals as goal
+use Rattle.h5w_files.proofs.putting.put_pending.Goals as goal
 
 pub loop-init : goal.loop-init
 loop-init g c = record { before = puts_none c.args.file.now c.args.session.now (record { told = refl; faults = omega arith; through = refl }) (omega arith) (omega arith); left = omega arith; count = c.pending-end.ensures }

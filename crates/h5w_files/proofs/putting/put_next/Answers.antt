@@ -1,6 +1,6 @@
 use Rattle.std.proofs.Common.{drop}
 use Rattle.h5w_files.proofs.PutLemmas.{oldest, one_less, puts_failed, puts_one}
-use Rattle.h5w_files.proofs.creating.put_next.Goals as goal
+use Rattle.h5w_files.proofs.putting.put_next.Goals as goal
 
 pub returns-in-Ok-clause-puts : goal.returns-in-Ok-clause-puts
 returns-in-Ok-clause-puts g c =

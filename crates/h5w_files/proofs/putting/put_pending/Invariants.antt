@@ -1,6 +1,6 @@
 use Rattle.std.proofs.Common.{◌≡◌, ◌+◌, length}
 use Rattle.h5w_files.specs.Puts.{PutsPieces}
-use Rattle.h5w_files.proofs.creating.put_pending.Given as goal
+use Rattle.h5w_files.proofs.putting.put_pending.Given as goal
 
 abbrev pub invariant-loop : goal.invariant-loop
 invariant-loop g l = record {

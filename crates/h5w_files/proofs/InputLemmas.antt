@@ -1,0 +1,264 @@
+-- The input of an append, to its end or to a refusal.
+use Rattle.std.proofs.Common.{◌≡◌, ℕ, ◌+◌, ◌≤◌, List, [], ◌∷◌, ◌++◌, length, ℤ, Option, Some, None, Result, Ok, Err, refl, sym, ap, ◌∙◌, subst, inl, inr, arith, append-nil}
+use Rattle.std.specs.Prelude.{IfSome}
+use Rattle.h5w_model.specs.Causes.{Rose}
+use Rattle.h5w_model.specs.Datasets.{Described}
+use Rattle.h5w_model.specs.Lawful.{first_outside}
+use Rattle.h5w_model.specs.declared.piece.Write.{Write}
+use Rattle.h5w_image.specs.View.{DiskView}
+use Rattle.h5w_session.specs.Sessions.{Session}
+use Rattle.h5w_text.specs.LinesAhead.{Given, GivenUp, IntakeView, IsOver, IsWhole, LinesAhead, Stays, lines_ahead}
+use Rattle.h5w_text.specs.Scripts.{number_line_of}
+use Rattle.h5w_text.specs.Streams.{SourceView, SinkView}
+use Rattle.h5w_text.specs.declared.error.ErrorLine.{ErrorLine}
+use Rattle.h5w_text.specs.declared.error.ErrorLine.TheVariants as errors
+use Rattle.h5w_text.specs.declared.line.LineError.{LineError}
+use Rattle.h5w_text.specs.declared.line.LineError.TheVariants as line_errors
+use Rattle.h5w_files.specs.Batches.{AreTaken, Batches, HasFirst, ReadsAll, ReadsFirst, ReadsLine, ReadsTooMuch, ReadsWhole, SameSource, after_line, after_lines, close_batch, input_limit, no_batches, of_all, of_first}
+use Rattle.h5w_files.specs.Appends.{HasTaken, InputRefuses, Stored, columns_of}
+use Rattle.h5w_files.specs.Appending.{Closes, FlushRefused, HalfTold, IsBegun, IsReady, PutsAll, PutsBy, ReadyUnlessDisk, LineRefused, Steps, StepsOn, Takes, TakesInput, TakesInputOn, Told, ending_of, outside}
+use Rattle.h5w_files.specs.Puts.{writes_of}
+use Rattle.h5w_files.specs.declared.batching.Ending.{Ending}
+use Rattle.h5w_files.specs.declared.batching.Ending.TheVariants as endings
+use Rattle.h5w_files.proofs.BatchLemmas.{lines-append}
+use Rattle.h5w_files.proofs.ReadLemmas.{Going, GoingWhole, reads_first, reads_line, reads_too_much, reads_whole, starts, whole_first, whole_more}
+use Rattle.h5w_files.proofs.PutLemmas.{length-writes, puts_there}
+use Rattle.h5w_files.proofs.SinkLemmas.{gave_nothing, rose_before}
+use Rattle.h5w_files.proofs.StoreLemmas.{broke_puts, stored_none, stored_puts}
+
+-- ---- A loop over the lines
+
+-- what the session has done behind so many first lines, whatever it had done before
+abbrev pub DoneOn : List ℕ → Session → Session → List (List ℤ) → DiskView → DiskView → SinkView → SinkView → Type 0
+DoneOn name s t numbers v w k l = (first : Session) (u : DiskView) (m : SinkView) → Told name first s no_batches u v m k → Told name first t (after_lines no_batches numbers) u w m l
+
+-- so many lines were read and taken
+pub record Taking (name : List ℕ) (s t : Session) (x y : LinesAhead) (number : ℕ) (v w : DiskView) (k l : SinkView) : Type 0 where
+  pub numbers : List (List ℤ)
+  pub going : GoingWhole (columns_of s) x y number numbers
+  pub done : DoneOn name s t numbers v w k l
+  pub ready : IsReady name t w
+  pub columns : columns_of t ≡ columns_of s
+
+pub taking_first : {v : DiskView} {k : SinkView} (name : List ℕ) (s : Session) (x : LinesAhead) → IsReady name s v → Taking name s s x x 0 v v k k
+taking_first name s x ready = record { numbers = []; going = whole_first (columns_of s) x; done = λ first u m told. told; ready = ready; columns = refl }
+
+some_same : (a b : List ℤ) (o : Option (List ℤ)) → o ≡ Some a → o ≡ Some b → a ≡ b
+some_same a b o e f = let same : Some a ≡ Some b = sym e ∙ f in cc
+
+same_columns : (first s : Session) (b : Batches) → HasTaken first s b → columns_of s ≡ columns_of first
+same_columns first s b h = ap (λ (d : Described). d.shape.cols) h.dataset
+
+-- one more line
+next_batches : (name : List ℕ) (first t r : Session) (line : List ℕ) (values : List ℤ) (numbers : List (List ℤ)) (next : Batches) (u w : DiskView) (m l : SinkView) → number_line_of (columns_of first) line ≡ Some values
+    → Takes line first (after_lines no_batches numbers) next → Told name first r next u w m l → Told name first r (after_lines no_batches (numbers ++ values ∷ [])) u w m l
+next_batches name first t r line values numbers next u w m l spelled takes told =
+    let same : takes.values ≡ values = some_same takes.values values (number_line_of (columns_of first) line) takes.spelled spelled in
+    subst (λ (b : Batches). Told name first r b u w m l) (takes.next_is ∙ ap (after_line (after_lines no_batches numbers)) same ∙ sym (lines-append no_batches numbers values)) told
+
+pub done_more : {v w z : DiskView} {k l o : SinkView} (name : List ℕ) (s t r : Session) (line : List ℕ) (number : ℕ) (values : List ℤ) (numbers : List (List ℤ)) → columns_of t ≡ columns_of s → DoneOn name s t numbers v w k l
+    → number_line_of (columns_of t) line ≡ Some values → StepsOn name t r (Takes line) (LineRefused line number t) w z l o (Ok tt) → DoneOn name s r (numbers ++ values ∷ []) v z k o
+done_more {v} {w} {z} {k} {l} {o} name s t r line number values numbers columns done spelled step = λ first u m told.
+    let before = done first u m told in
+    let h = step first (after_lines no_batches numbers) u m before in
+    let is = subst (λ c. number_line_of c line ≡ Some values) (same_columns first t (after_lines no_batches numbers) before.stored.taken) spelled in
+    next_batches name first t r line values numbers h.0 u z m o is h.1 h.2
+
+pub taking_more : {v w z : DiskView} {k l o : SinkView} {x y e : LinesAhead} {number : ℕ} (name : List ℕ) (s t r : Session) (line : List ℕ) (values : List ℤ) → (h : Taking name s t x y number v w k l) → Given line y e
+    → IsWhole line y e → number_line_of (columns_of t) line ≡ Some values → StepsOn name t r (Takes line) (LineRefused line (number + 1) t) w z l o (Ok tt) → IsReady name r z → columns_of r ≡ columns_of t
+    → Taking name s r x e (number + 1) v z k o
+taking_more {number = number} name s t r line values h given whole spelled step ready columns = record {
+  numbers = h.numbers ++ values ∷ [];
+  going = whole_more line values h.going given whole (subst (λ c. number_line_of c line ≡ Some values) h.columns spelled);
+  done = done_more name s t r line (number + 1) values h.numbers h.columns h.done spelled step;
+  ready = ready;
+  columns = columns ∙ h.columns;
+}
+
+-- ---- Its end
+
+close_cause : {x y : SourceView} {v : DiskView} (name : List ℕ) (first t : Session) (numbers : List (List ℤ)) (u : DiskView) (e : ErrorLine) → ReadsAll (columns_of first) x y numbers → Stored name first t (after_lines no_batches numbers) u v → FlushRefused t e
+    → InputRefuses name first x y (after_lines no_batches numbers) u e
+close_cause name first t numbers u errors.Usage all stored c = absurd c
+close_cause name first t numbers u errors.Missing all stored c = absurd c
+close_cause name first t numbers u errors.Exists all stored c = absurd c
+close_cause name first t numbers u (errors.Read e) all stored c = absurd c
+close_cause name first t numbers u (errors.Finding kind at) all stored c = absurd c
+close_cause name first t numbers u (errors.Overlap at len other other_len) all stored c = absurd c
+close_cause name first t numbers u (errors.Cut end size) all stored c = absurd c
+close_cause name first t numbers u errors.Layout all stored c = absurd c
+close_cause name first t numbers u (errors.ChunkBytes bytes) all stored c = absurd c
+close_cause name first t numbers u errors.NoColumns all stored c = absurd c
+close_cause name first t numbers u errors.NoIndex all stored c = absurd c
+close_cause name first t numbers u (errors.FullChunks chunks limit) all stored c = absurd c
+close_cause name first t numbers u (errors.FullSpace at size limit) all stored c = record { numbers = numbers; batches = refl; read = inr all; session = t; before = _; stored = stored; full_for = c.0; bounds = c.1 }
+close_cause name first t numbers u (errors.Line n) all stored c = absurd c
+close_cause name first t numbers u (errors.Range n i x) all stored c = absurd c
+close_cause name first t numbers u (errors.Input limit) all stored c = absurd c
+close_cause name first t numbers u errors.Disk all stored c = absurd c
+close_cause name first t numbers u errors.Source all stored c = absurd c
+close_cause name first t numbers u errors.Memory all stored c = tt
+
+abbrev ToEnd : Session → List (List ℤ) → SourceView → SourceView → Type 0
+ToEnd s numbers x y = ReadsFirst (columns_of s) x numbers × ReadsAll (columns_of s) x y numbers
+
+-- the end of the input closes the last batch
+pub taken_end : {v w : DiskView} {k l : SinkView} {x y : SourceView} (z : DiskView) (o : SinkView) (name : List ℕ) (s t q : Session) (numbers : List (List ℤ)) (r : Result (Unit {0}) Ending) → ToEnd s numbers x y → DoneOn name s t numbers v w k l
+    → StepsOn name t q Closes (FlushRefused t) w z l o r → TakesInputOn name s q x y v z k o r
+taken_end {v} {w} {k} {l} {x} {y} z o name s t q numbers r read done step = λ first u m told.
+    let before = done first u m told in
+    let read_of = subst (λ c. ReadsFirst c x numbers × ReadsAll c x y numbers) (same_columns first s no_batches told.stored.taken) read in
+    cases first u m before read_of r (step first (after_lines no_batches numbers) u m before)
+  where
+    cases : (first : Session) (u : DiskView) (m : SinkView) → Told name first t (after_lines no_batches numbers) u w m l → ReadsFirst (columns_of first) x numbers × ReadsAll (columns_of first) x y numbers → (r : Result (Unit {0}) Ending)
+        → Steps name first q (after_lines no_batches numbers) (Closes first (after_lines no_batches numbers)) (FlushRefused t) u z m o r → TakesInput name first q x y u z m o r
+    cases first u m before read (Ok a) h = (numbers, read.1, subst (λ (b : Batches). Told name first q b u z m o) h.1 h.2)
+    cases first u m before read (Err (endings.Refused e)) h =
+        (after_lines no_batches numbers, of_first numbers read.0, close_cause name first t numbers u e read.1 before.stored h.1, h.0)
+    cases first u m before read (Err endings.Disk) h = (after_lines no_batches numbers, of_first numbers read.0, h)
+    cases first u m before read (Err endings.Sink) h = (close_batch (after_lines no_batches numbers), of_all numbers read.1, subst (λ (b : Batches). HalfTold name first q b u z m o) h.1 h.2)
+
+-- ---- A line at which it ends
+
+line_cause : {x : SourceView} {v : DiskView} (y : SourceView) (name : List ℕ) (first t : Session) (numbers : List (List ℤ)) (u : DiskView) (line : List ℕ) (number : ℕ) (z : ErrorLine) → ReadsLine (columns_of first) x numbers line → number ≡ length numbers + 1
+    → Stored name first t (after_lines no_batches numbers) u v → LineRefused line number t z → InputRefuses name first x y (after_lines no_batches numbers) u z
+line_cause y name first t numbers u line number errors.Usage reads count stored c = absurd c
+line_cause y name first t numbers u line number errors.Missing reads count stored c = absurd c
+line_cause y name first t numbers u line number errors.Exists reads count stored c = absurd c
+line_cause y name first t numbers u line number (errors.Read e) reads count stored c = absurd c
+line_cause y name first t numbers u line number (errors.Finding kind at) reads count stored c = absurd c
+line_cause y name first t numbers u line number (errors.Overlap at len other other_len) reads count stored c = absurd c
+line_cause y name first t numbers u line number (errors.Cut end size) reads count stored c = absurd c
+line_cause y name first t numbers u line number errors.Layout reads count stored c = absurd c
+line_cause y name first t numbers u line number (errors.ChunkBytes bytes) reads count stored c = absurd c
+line_cause y name first t numbers u line number errors.NoColumns reads count stored c = absurd c
+line_cause y name first t numbers u line number errors.NoIndex reads count stored c = absurd c
+line_cause y name first t numbers u line number (errors.FullChunks chunks limit) reads count stored c = record { number = number; values = c.0; at = record { line = line; at = record { numbers = numbers; reads = reads; number = count; batches = refl }; spelled = subst (λ k. number_line_of k line ≡ Some c.0) (same_columns first t (after_lines no_batches numbers) stored.taken) c.1 }; session = t; taken = stored.taken; refused = c.2 }
+line_cause y name first t numbers u line number (errors.FullSpace at size limit) reads count stored c = record { numbers = numbers; batches = refl; read = inl (line, reads, subst (λ k. number_line_of k line ≡ Some []) (same_columns first t (after_lines no_batches numbers) stored.taken) c.0); session = t; before = _; stored = stored; full_for = c.1.0; bounds = c.1.1 }
+line_cause y name first t numbers u line number (errors.Line n) reads count stored c = (line, record { numbers = numbers; reads = reads; number = c.0 ∙ count; batches = refl }, subst (λ k. number_line_of k line ≡ None) (same_columns first t (after_lines no_batches numbers) stored.taken) c.1)
+line_cause y name first t numbers u line number (errors.Range n i x) reads count stored c = (c.0, record { line = line; at = record { numbers = numbers; reads = reads; number = c.2.0 ∙ count; batches = refl }; spelled = subst (λ k. number_line_of k line ≡ Some c.0) (same_columns first t (after_lines no_batches numbers) stored.taken) c.1 }, subst (λ (d : Described). first_outside d.int_type 0 c.0 ≡ Some (i, x)) stored.taken.dataset c.2.1)
+line_cause y name first t numbers u line number (errors.Input limit) reads count stored c = absurd c
+line_cause y name first t numbers u line number errors.Disk reads count stored c = absurd c
+line_cause y name first t numbers u line number errors.Source reads count stored c = absurd c
+line_cause y name first t numbers u line number errors.Memory reads count stored c = tt
+
+-- the line is refused, or a disk or a sink failed at it
+pub taken_line : {v w : DiskView} {k l : SinkView} {x y e : LinesAhead} {number : ℕ} (z : DiskView) (o : SinkView) (t : SourceView) (name : List ℕ) (s q r : Session) (line : List ℕ) (ending : Ending) → x.room ≡ input_limit → (h : Taking name s q x y number v w k l) → Given line y e
+    → ((values : List ℤ) → number_line_of (columns_of s) line ≡ Some values → Going (columns_of s) x e (number + 1) (h.numbers ++ values ∷ []))
+    → StepsOn name q r (Takes line) (LineRefused line (number + 1) q) w z l o (Err ending) → TakesInputOn name s r (outside x) t v z k o (Err ending)
+taken_line {v} {w} {k} {l} {x} {y} {e} {number} z o t name s q r line ending room h given more step = λ first u m told.
+    let before = h.done first u m told in
+    cases first u m before (same_columns first s no_batches told.stored.taken) ending (step first (after_lines no_batches h.numbers) u m before)
+  where
+    cases : (first : Session) (u : DiskView) (m : SinkView) → Told name first q (after_lines no_batches h.numbers) u w m l → columns_of s ≡ columns_of first → (ending : Ending)
+        → Steps name first r (after_lines no_batches h.numbers) (Takes line first (after_lines no_batches h.numbers)) (LineRefused line (number + 1) q) u z m o (Err ending) → TakesInput name first r (outside x) t u z m o (Err ending)
+    cases first u m before same (endings.Refused a) g =
+        let count : number + 1 ≡ length h.numbers + 1 = omega (arith, h.going.going.count, h.going.going.same) in (
+          after_lines no_batches h.numbers,
+          of_first h.numbers (subst (λ c. ReadsFirst c (outside x) h.numbers) same (reads_first room h.going.going)),
+          line_cause t name first q h.numbers u line (number + 1) a (subst (λ c. ReadsLine c (outside x) h.numbers line) same (reads_line line room h.going.going given)) count before.stored g.1,
+          g.0,
+        )
+    cases first u m before same endings.Disk g =
+        (after_lines no_batches h.numbers, of_first h.numbers (subst (λ c. ReadsFirst c (outside x) h.numbers) same (reads_first room h.going.going)), g)
+    cases first u m before same endings.Sink g =
+        let takes = g.1 in
+        let values = takes.values in
+        let is = subst (λ c. number_line_of c line ≡ Some values) (sym same) takes.spelled in
+        let next : g.0 ≡ after_lines no_batches (h.numbers ++ values ∷ []) = takes.next_is ∙ sym (lines-append no_batches h.numbers values) in (
+          after_lines no_batches (h.numbers ++ values ∷ []),
+          of_first (h.numbers ++ values ∷ []) (subst (λ c. ReadsFirst c (outside x) (h.numbers ++ values ∷ [])) same (reads_first room (more values is))),
+          subst (λ (b : Batches). HalfTold name first r b u z m o) next g.2,
+        )
+
+-- ---- The next line is not there
+
+pub taken_source : {v w : DiskView} {k l : SinkView} {x y : LinesAhead} {number : ℕ} (t : SourceView) (j : IntakeView) (name : List ℕ) (s q : Session) (e : LineError) → x.room ≡ input_limit → x.limit ≡ input_limit → (h : Taking name s q x y number v w k l)
+    → Stays y (lines_ahead t j) → (e ≡ line_errors.Failed → Rose y.faults t.faults) → (e ≡ line_errors.Failed → GivenUp y (lines_ahead t j) j.held) → ((limit : ℕ) → e ≡ line_errors.Input limit → (limit ≡ y.limit) × IsOver y)
+    → TakesInputOn name s q (outside x) t v w k l (Err (ending_of e))
+taken_source {v} {w} {k} {l} {x} {y} t j name s q line_errors.Failed room limited h stays rose up over = λ first u m told.
+    let same = same_columns first s no_batches told.stored.taken in (
+      after_lines no_batches h.numbers,
+      of_first h.numbers (subst (λ c. ReadsFirst c (outside x) h.numbers) same (reads_first room h.going.going)),
+      (rose_before x.faults y.faults t.faults h.going.going.passed.stays.faults (rose refl), h.numbers, subst (λ c. ReadsWhole c (outside x) t h.numbers) same (reads_whole t j room h.going (up refl)), refl),
+      h.done first u m told,
+    )
+taken_source {v} {w} {k} {l} {x} {y} t j name s q (line_errors.Input limit) room limited h stays rose up over = λ first u m told.
+    let same = same_columns first s no_batches told.stored.taken in
+    let o = over limit refl in (
+      after_lines no_batches h.numbers,
+      of_first h.numbers (subst (λ c. ReadsFirst c (outside x) h.numbers) same (reads_first room h.going.going)),
+      (o.0 ∙ h.going.going.passed.stays.limit ∙ limited, h.numbers, subst (λ c. ReadsTooMuch c (outside x) h.numbers) same (reads_too_much room h.going o.1), refl),
+      h.done first u m told,
+    )
+taken_source {v} {w} {k} {l} {x} {y} t j name s q line_errors.OutOfMemory room limited h stays rose up over = λ first u m told.
+    let same = same_columns first s no_batches told.stored.taken in (
+      after_lines no_batches h.numbers,
+      of_first h.numbers (subst (λ c. ReadsFirst c (outside x) h.numbers) same (reads_first room h.going.going)),
+      tt,
+      h.done first u m told,
+    )
+
+-- ---- From the lines to the source, which is given back
+
+pub input_of : (name : List ℕ) (q r : Session) (a s b t : SourceView) (i : IntakeView) (v w : DiskView) (k l : SinkView) (z : Result (Unit {0}) Ending) → TakesInputOn name q r (outside (lines_ahead a i)) b v w k l z → i.held ≡ [] → a ≡ s → b ≡ t
+    → TakesInputOn name q r s t v w k l z
+input_of name q r a s b t i v w k l z h none same given =
+    subst (λ (x : SourceView). TakesInputOn name q r x t v w k l z) same
+    (subst (λ (y : SourceView). TakesInputOn name q r a y v w k l z) given
+    (subst (λ (x : SourceView). TakesInputOn name q r x b v w k l z) (starts a i none) h))
+
+pub same_source_of : {a s b t : SourceView} → SameSource a b → a ≡ s → b ≡ t → SameSource s t
+same_source_of {a} {s} {b} {t} h same given = subst (λ (x : SourceView). SameSource x t) same (subst (λ (y : SourceView). SameSource a y) given h)
+
+pub ready_source : {w : DiskView} (name : List ℕ) (t : Session) (e : LineError) → IsReady name t w → ReadyUnlessDisk name t w (Err (ending_of e))
+ready_source name t line_errors.Failed ready = ready
+ready_source name t (line_errors.Input limit) ready = ready
+ready_source name t line_errors.OutOfMemory ready = ready
+
+-- ---- The beginning
+
+nothing_first : (o : Option (List ℕ)) → IfSome o (HasFirst [])
+nothing_first None = tt
+nothing_first (Some input) = record { taken = []; rest = input; is = refl; bound = omega arith; lines_are = refl }
+
+nothing_read : (columns : ℕ) (x y : SourceView) → AreTaken columns x y no_batches
+nothing_read columns x y = of_first [] (record { lines = []; spell = refl; first = nothing_first x.left })
+
+begun_end : {v w : DiskView} (name : List ℕ) (s t : Session) → PutsAll name s t v w → IsBegun name s v → (1 ≤ w.pieces) × (t.places.end ≤ w.end name)
+begun_end {v} {w} name s t q begun =
+    let ps = q.puts in
+    let count : length s.pending ≡ length (writes_of ps.puts) = ap length ps.pieces ∙ ap (λ (ws : List Write). length (writes_of ps.puts ++ ws)) q.all ∙ ap length (append-nil (writes_of ps.puts)) in
+    let puts = length-writes ps.puts in
+    let one = begun.one in
+    let room = begun.room in
+    let left = ps.room in
+    let end = ps.end in
+    let low = begun.end in
+    let ends = ps.ends in
+    (omega (arith, count, puts, one, room, left), omega (arith, end, low, ends))
+
+pub ready_begun : {v w : DiskView} (name : List ℕ) (s t : Session) → 1 ≤ s.dataset.shape.cols → PutsAll name s t v w → IsBegun name s v → IsReady name t w
+ready_begun name s t columns q begun =
+    let both = begun_end name s t q begun in
+    record {
+      there = puts_there name q.puts.puts q.puts.disk begun.there;
+      running = ap (λ (y : Session). y.stopped) q.puts.session ∙ begun.running;
+      columns = subst (λ n. 1 ≤ n) (sym (ap (λ (y : Session). y.dataset.shape.cols) q.puts.session)) columns;
+      idle = q.all;
+      room = both.0;
+      end = both.1;
+    }
+
+pub told_begun : {v w : DiskView} (k : SinkView) (name : List ℕ) (s t : Session) → PutsAll name s t v w → IsBegun name s v → Told name s t no_batches v w k k
+told_begun {v} k name s t q begun = record { stored = stored_puts name s s t no_batches q.puts (stored_none name s v begun.waits); gave = gave_nothing k }
+
+pub begun_ended : {v : DiskView} (w : DiskView) (k : SinkView) (x : SourceView) (name : List ℕ) (s t : Session) (e : Ending) → PutsBy name s t v w (Err e) → IsBegun name s v → TakesInput name s t x x v w k k (Err e)
+begun_ended w k x name s t (endings.Refused e) h begun = absurd h
+begun_ended {v} w k x name s t endings.Disk h begun =
+    (no_batches, nothing_read (columns_of s) x x, record { broke = broke_puts name s s t no_batches h (stored_none name s v begun.waits); gave = gave_nothing k })
+begun_ended w k x name s t endings.Sink h begun = absurd h
+
+-- memory for the last line was wanting
+pub last_wanting : {u w : DiskView} {k l : SinkView} {x y : SourceView} (name : List ℕ) (first t : Session) → TakesInput name first t x y u w k l (Ok tt) → TakesInput name first t x y u w k l (Err (endings.Refused errors.Memory))
+last_wanting name first t h = (close_batch (after_lines no_batches h.0), of_all h.0 h.1, tt, h.2)

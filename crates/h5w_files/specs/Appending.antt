@@ -1,0 +1,244 @@
+-- What the calls of an append do, one by one.
+use Rattle.std.specs.Prelude.{◌≡◌, ◌⊎◌, ℕ, ◌+◌, ◌≤◌, false, Bool, List, [], length, Option, Some, None, IfSome, Result, Ok, Err, ℤ, option_map}
+use Rattle.h5w_model.specs.Causes.{Rose}
+use Rattle.h5w_model.specs.Lawful.{first_outside}
+use Rattle.h5w_model.specs.Logs.{Log, and_now, appends, plans}
+use Rattle.h5w_image.specs.View.{DiskView, IsThere, file}
+use Rattle.h5w_session.specs.Flushes.{SameBut}
+use Rattle.h5w_session.specs.Loads.{NoPlace}
+use Rattle.h5w_session.specs.Refusals.{IsFullFor, append_refusal}
+use Rattle.h5w_session.specs.Sessions.{Session, TakesRows, rows_of, stopped_of, with_values}
+use Rattle.h5w_session.specs.Stands.{Stands}
+use Rattle.h5w_session.specs.declared.refusal.AppendError.TheVariants as append_errors
+use Rattle.h5w_text.specs.LinesAhead.{LinesAhead}
+use Rattle.h5w_text.specs.Scripts.{number_line_of}
+use Rattle.h5w_text.specs.Streams.{SourceView, SinkView, Gave, GaveSome}
+use Rattle.h5w_text.specs.declared.line.LineError.{LineError}
+use Rattle.h5w_text.specs.declared.line.LineError.TheVariants as line_errors
+use Rattle.h5w_text.specs.declared.error.ErrorLine.{ErrorLine}
+use Rattle.h5w_text.specs.declared.error.ErrorLine.TheVariants as errors
+use Rattle.h5w_files.specs.Images.{LeavesFiles}
+use Rattle.h5w_files.specs.Batches.{AreTaken, Batches, ReadsAll, after_line, after_lines, close_batch, no_batches, rows_after}
+use Rattle.h5w_files.specs.Appends.{Broke, ClosedUp, InputRefuses, IsOpenOver, Stored, Unopened, columns_of, lines_of}
+use Rattle.h5w_files.specs.Puts.{PutsPieces, PutsSome}
+use Rattle.h5w_files.specs.declared.batching.Ending.{Ending}
+use Rattle.h5w_files.specs.declared.batching.Ending.TheVariants as endings
+
+-- The session runs and has nothing pending, and the file has room for the piece that closes it.
+pub record IsReady (name : List ℕ) (s : Session) (v : DiskView) : Type 0 where
+  pub there : IsThere v name
+  pub running : s.stopped ≡ false
+  pub columns : 1 ≤ s.dataset.shape.cols
+  pub idle : s.pending ≡ []
+  pub room : 1 ≤ v.pieces
+  pub end : s.places.end ≤ v.end name
+
+-- nothing was put, and what room there was is there
+pub record Unput (name : List ℕ) (v w : DiskView) : Type 0 where
+  pub disk : LeavesFiles v.told v w
+  pub room : v.pieces ≤ w.pieces
+  pub end : v.end name ≤ w.end name
+
+-- ---- The session's calls
+
+-- why values are not appended
+abbrev pub ValuesRefused : ℕ → Session → List ℤ → ErrorLine → Type 0
+ValuesRefused line s values (errors.Range n i x) = (n ≡ line) × (first_outside s.dataset.int_type 0 values ≡ Some (i, x))
+ValuesRefused line s values (errors.FullChunks chunks limit) = append_refusal s values ≡ Some (append_errors.Chunks chunks limit)
+ValuesRefused line s values errors.Memory = Unit {0}
+ValuesRefused line s values e = ⊥
+
+-- the session was stopped
+pub record Halted (s t : Session) : Type 0 where
+  pub session : t ≡ stopped_of s
+  pub stands : (log : Log) → Stands s log → Stands t log
+
+pub record AppendsAll (s t : Session) (values : List ℤ) : Type 0 where
+  pub session : t ≡ with_values s values
+  pub stands : (log : Log) → Stands s log → Stands t (and_now (appends values) log)
+
+abbrev pub AppendsBy : ℕ → List ℤ → Session → Session → DiskView → DiskView → Result (Unit {0}) Ending → Type 0
+AppendsBy line values s t v w (Ok a) = AppendsAll s t values
+AppendsBy line values s t v w (Err (endings.Refused e)) = (t ≡ s) × ValuesRefused line s values e
+AppendsBy line values s t v w (Err endings.Disk) = Halted s t × Rose v.faults w.faults
+AppendsBy line values s t v w (Err endings.Sink) = ⊥
+
+-- why a batch is not flushed
+abbrev pub FlushRefused : Session → ErrorLine → Type 0
+FlushRefused s (errors.FullSpace at size limit) =
+    IsFullFor s (record { at = at; size = size; limit = limit }) × ((log : Log) → Stands s log → NoPlace s log (record { at = at; size = size; limit = limit }))
+FlushRefused s errors.Memory = Unit {0}
+FlushRefused s e = ⊥
+
+-- no row waited, and nothing is another
+abbrev pub HasNone : Session → Session → Type 0
+HasNone s t = (s.waits ≡ 0) × (t ≡ s)
+
+-- the pieces of the rows that waited are pending, and there is room for them and one more
+pub record Planned (name : List ℕ) (s t : Session) (w : DiskView) : Type 0 where
+  pub waits : 1 ≤ s.waits
+  pub rows : TakesRows s t
+  pub some : 1 ≤ length t.pending
+  pub stands : (log : Log) → Stands s log → Stands t (and_now (plans (length t.pending)) log)
+  pub room : length t.pending + 1 ≤ w.pieces
+  pub end : t.places.end ≤ w.end name
+
+-- the session as it was, but for blocks of the index that are held
+pub record Unflushed (s t : Session) : Type 0 where
+  pub same : SameBut s t
+  pub stands : (log : Log) → Stands s log → Stands t log
+
+abbrev pub FlushesBy : List ℕ → Session → Session → DiskView → DiskView → Result (Unit {0}) Ending → Type 0
+FlushesBy name s t v w (Ok a) = HasNone s t ⊎ Planned name s t w
+FlushesBy name s t v w (Err (endings.Refused e)) = Unflushed s t × FlushRefused s e
+FlushesBy name s t v w (Err endings.Disk) = (middle : Session) × Unflushed s middle × Halted middle t × Rose v.faults w.faults
+FlushesBy name s t v w (Err endings.Sink) = ⊥
+
+-- All pending pieces were put.
+pub record PutsAll (name : List ℕ) (s t : Session) (v w : DiskView) : Type 0 where
+  pub puts : PutsPieces name s t v w
+  pub all : t.pending ≡ []
+
+-- The disk failed at one of them, and the session was stopped.
+pub record PutsHalted (name : List ℕ) (s t : Session) (v w : DiskView) : Type 0 where
+  pub middle : Session
+  pub puts : PutsSome name s middle v w
+  pub halted : Halted middle t
+
+abbrev pub PutsBy : List ℕ → Session → Session → DiskView → DiskView → Result (Unit {0}) Ending → Type 0
+PutsBy name s t v w (Ok a) = PutsAll name s t v w
+PutsBy name s t v w (Err (endings.Refused e)) = ⊥
+PutsBy name s t v w (Err endings.Disk) = PutsHalted name s t v w
+PutsBy name s t v w (Err endings.Sink) = ⊥
+
+-- ---- Batches
+
+-- the session can go on, but where the disk failed
+abbrev pub ReadyUnlessDisk : List ℕ → Session → DiskView → Result (Unit {0}) Ending → Type 0
+ReadyUnlessDisk name t w (Ok a) = IsReady name t w
+ReadyUnlessDisk name t w (Err (endings.Refused e)) = IsReady name t w
+ReadyUnlessDisk name t w (Err endings.Disk) = Unit {0}
+ReadyUnlessDisk name t w (Err endings.Sink) = IsReady name t w
+
+-- these batches were stored, and their lines were written
+pub record Told (name : List ℕ) (first t : Session) (b : Batches) (u w : DiskView) (k l : SinkView) : Type 0 where
+  pub stored : Stored name first t b u w
+  pub gave : Gave (lines_of first b.closed) k l
+
+-- they were stored, and the sink failed behind some first part of their lines
+pub record HalfTold (name : List ℕ) (first t : Session) (b : Batches) (u w : DiskView) (k l : SinkView) : Type 0 where
+  pub stored : Stored name first t b u w
+  pub rose : Rose k.faults l.faults
+  pub gave : GaveSome (lines_of first b.closed) k l
+
+-- the disk failed behind them, and their lines were written
+pub record BrokeTold (name : List ℕ) (first : Session) (b : Batches) (u w : DiskView) (k l : SinkView) : Type 0 where
+  pub broke : Broke name first b u w
+  pub gave : Gave (lines_of first b.closed) k l
+
+-- A step that leads from some batches to others, by its result; a refusal has its cause.
+abbrev pub Steps : List ℕ → Session → Session → Batches → (Batches → Type 0) → (ErrorLine → Type 0) → DiskView → DiskView → SinkView → SinkView → Result (Unit {0}) Ending → Type 0
+Steps name first t b Next Cause u w k l (Ok a) = (next : Batches) × Next next × Told name first t next u w k l
+Steps name first t b Next Cause u w k l (Err (endings.Refused e)) = Told name first t b u w k l × Cause e
+Steps name first t b Next Cause u w k l (Err endings.Disk) = BrokeTold name first b u w k l
+Steps name first t b Next Cause u w k l (Err endings.Sink) = (next : Batches) × Next next × HalfTold name first t next u w k l
+
+-- for each session that began with the first, whatever was stored before
+abbrev pub StepsOn : List ℕ → Session → Session → (Session → Batches → Batches → Type 0) → (ErrorLine → Type 0) → DiskView → DiskView → SinkView → SinkView → Result (Unit {0}) Ending → Type 0
+StepsOn name s t Next Cause v w k l r =
+    (first : Session) (b : Batches) (u : DiskView) (m : SinkView) → Told name first s b u v m k → Steps name first t b (Next first b) Cause u w m l r
+
+abbrev pub Closes : Session → Batches → Batches → Type 0
+Closes first b next = next ≡ close_batch b
+
+-- the batches behind a line
+pub record Takes (line : List ℕ) (first : Session) (b next : Batches) : Type 0 where
+  pub values : List ℤ
+  pub spelled : number_line_of (columns_of first) line ≡ Some values
+  pub next_is : next ≡ after_line b values
+
+-- why a line has no values
+abbrev pub HasNoValues : ℕ → ℕ → List ℕ → Ending → Type 0
+HasNoValues columns number line (endings.Refused (errors.Line n)) = (n ≡ number) × (number_line_of columns line ≡ None)
+HasNoValues columns number line (endings.Refused errors.Memory) = Unit {0}
+HasNoValues columns number line e = ⊥
+
+-- there are values
+abbrev pub HasSome : Option (List ℤ) → Type 0
+HasSome o = (values : List ℤ) × (o ≡ Some values)
+
+-- why a line is refused
+abbrev pub LineRefused : List ℕ → ℕ → Session → ErrorLine → Type 0
+LineRefused line number s (errors.Line n) = (n ≡ number) × (number_line_of (columns_of s) line ≡ None)
+LineRefused line number s (errors.Range n i x) = (values : List ℤ) × (number_line_of (columns_of s) line ≡ Some values) × ValuesRefused number s values (errors.Range n i x)
+LineRefused line number s (errors.FullChunks chunks limit) = (values : List ℤ) × (number_line_of (columns_of s) line ≡ Some values) × ValuesRefused number s values (errors.FullChunks chunks limit)
+LineRefused line number s (errors.FullSpace at size limit) = (number_line_of (columns_of s) line ≡ Some []) × FlushRefused s (errors.FullSpace at size limit)
+LineRefused line number s errors.Memory = Unit {0}
+LineRefused line number s e = ⊥
+
+-- ---- An input
+
+-- The lines of an input are appended by a session that has stored nothing yet, by their result.
+abbrev pub TakesInput : List ℕ → Session → Session → SourceView → SourceView → DiskView → DiskView → SinkView → SinkView → Result (Unit {0}) Ending → Type 0
+TakesInput name first t x y u w k l (Ok a) = (numbers : List (List ℤ)) × ReadsAll (columns_of first) x y numbers × Told name first t (close_batch (after_lines no_batches numbers)) u w k l
+TakesInput name first t x y u w k l (Err (endings.Refused e)) = (b : Batches) × AreTaken (columns_of first) x y b × InputRefuses name first x y b u e × Told name first t b u w k l
+TakesInput name first t x y u w k l (Err endings.Disk) = (b : Batches) × AreTaken (columns_of first) x y b × BrokeTold name first b u w k l
+TakesInput name first t x y u w k l (Err endings.Sink) = (b : Batches) × AreTaken (columns_of first) x y b × HalfTold name first t b u w k l
+
+abbrev pub TakesInputOn : List ℕ → Session → Session → SourceView → SourceView → DiskView → DiskView → SinkView → SinkView → Result (Unit {0}) Ending → Type 0
+TakesInputOn name s t x y v w k l r = (first : Session) (u : DiskView) (m : SinkView) → Told name first s no_batches u v m k → TakesInput name first t x y u w m l r
+
+abbrev pub ending_of : LineError → Ending
+ending_of line_errors.Failed = endings.Refused errors.Source
+ending_of (line_errors.Input limit) = endings.Refused (errors.Input limit)
+ending_of line_errors.OutOfMemory = endings.Refused errors.Memory
+
+-- what a reader of lines has before it, as a source
+abbrev pub outside : LinesAhead → SourceView
+outside v = record { left = v.left; faults = v.faults; through = v.through }
+
+-- ---- A file
+
+-- The session has just opened the file, which has room for the pending piece and the one that closes it.
+pub record IsBegun (name : List ℕ) (s : Session) (v : DiskView) : Type 0 where
+  pub there : IsThere v name
+  pub running : s.stopped ≡ false
+  pub one : length s.pending ≡ 1
+  pub waits : s.waits ≡ 0
+  pub room : 2 ≤ v.pieces
+  pub end : s.places.end ≤ v.end name
+
+-- the session was closed, or the disk failed
+abbrev pub ClosesBy : List ℕ → Session → DiskView → DiskView → Result (Unit {0}) Ending → Type 0
+ClosesBy name s v w (Ok a) = (first : Session) (b : Batches) (u : DiskView) → Stored name first s b u v → ClosedUp name first b u w
+ClosesBy name s v w (Err endings.Disk) = (first : Session) (b : Batches) (u : DiskView) → Stored name first s b u v → Broke name first b u w
+ClosesBy name s v w (Err e) = ⊥
+
+-- What is left of an append once the session of so many rows was closed, by the result of it all.
+abbrev pub Settles : List ℕ → ℕ → Session → SourceView → SourceView → DiskView → DiskView → SinkView → SinkView → Result (Unit {0}) Ending → Type 0
+Settles name rows first x y u w k l (Ok a) = (numbers : List (List ℤ)) × ReadsAll (columns_of first) x y numbers × ClosedUp name first (close_batch (after_lines no_batches numbers)) u w
+    × Gave (lines_of first (close_batch (after_lines no_batches numbers)).closed) k l × (rows ≡ rows_after (columns_of first) first.dataset.shape.rows (close_batch (after_lines no_batches numbers)).closed)
+Settles name rows first x y u w k l (Err (endings.Refused e)) = (b : Batches) × AreTaken (columns_of first) x y b × InputRefuses name first x y b u e × ClosedUp name first b u w × Gave (lines_of first b.closed) k l
+Settles name rows first x y u w k l (Err endings.Disk) = (b : Batches) × AreTaken (columns_of first) x y b × BrokeTold name first b u w k l
+Settles name rows first x y u w k l (Err endings.Sink) =
+    (b : Batches) × AreTaken (columns_of first) x y b × (ClosedUp name first b u w ⊎ Broke name first b u w) × Rose k.faults l.faults × GaveSome (lines_of first b.closed) k l
+
+-- whatever was taken
+abbrev pub SettlesOn : List ℕ → Session → DiskView → DiskView → Result (Unit {0}) Ending → Result (Unit {0}) Ending → Type 0
+SettlesOn name s v w taken r = (first : Session) (x y : SourceView) (u : DiskView) (k l : SinkView) → TakesInput name first s x y u v k l taken → Settles name (rows_of s) first x y u w k l r
+
+-- ---- The open
+
+-- a file of this size is looked at
+abbrev pub HasSize : DiskView → List ℕ → ℕ → Type 0
+HasSize v name size = IfSome v.told (λ d. Some size ≡ option_map length (file d name))
+
+-- what the look of an open gives
+abbrev pub LooksOpen : List ℕ → List ℕ → ℕ → DiskView → DiskView → Result Session ErrorLine → Type 0
+LooksOpen name at limit v w (Ok s) = IsOpenOver name at limit false v s
+LooksOpen name at limit v w (Err e) = Unopened name at v w e
+
+-- what an open gives
+abbrev pub OpensBy : List ℕ → List ℕ → ℕ → Bool → DiskView → DiskView → Result Session ErrorLine → Type 0
+OpensBy name at limit keeps v w (Ok s) = IsOpenOver name at limit keeps v s × IsBegun name s w × LeavesFiles v.told v w
+OpensBy name at limit keeps v w (Err e) = Unopened name at v w e
