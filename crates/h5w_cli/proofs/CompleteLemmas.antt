@@ -5,7 +5,7 @@ use Rattle.h5w_model.specs.Lawful.{Line, Rules}
 use Rattle.h5w_text.specs.Lines.{lines_of, whole_lines_of}
 use Rattle.h5w_text.specs.Streams.{SourceView, SinkView}
 use Rattle.h5w_words.specs.declared.job.Job.{Job}
-use Rattle.h5w_words.specs.declared.job.Job.TheVariants.{Play, New, Check, Poll, Clear, Make}
+use Rattle.h5w_words.specs.declared.job.Job.TheVariants.{Play, New, Check, Poll, Clear, Make, Append}
 use Rattle.h5w_image.specs.View.{DiskView}
 use Rattle.h5w_files.proofs.CreateLemmas.{creates_whole}
 use Rattle.h5w_files.proofs.CheckLemmas.{checks_whole}
@@ -16,6 +16,7 @@ use Rattle.h5w_cli.specs.Answers.{play_line_of}
 use Rattle.h5w_cli.specs.Plays.{Completes, HasFirst, HasScript, Plays, Refused, TooLong, input_limit}
 use Rattle.h5w_cli.specs.Runs.{Does, DoesWhole, Ran, RanWhole}
 use Rattle.h5w_cli.proofs.MakeLemmas.{makes_whole}
+use Rattle.h5w_cli.proofs.AppendEndLemmas.{appends_whole}
 use Rattle.h5w_text.specs.declared.status.Status.{Status}
 use Rattle.h5w_text.specs.declared.status.Status.TheVariants.{Done, Usage, Missing, Exists, Format, Damaged, Flags, Again, Input, Limit, Disk, Source, Sink, Memory}
 
@@ -64,6 +65,7 @@ does_whole (Check file name) status s t k l v w does = checks_whole file name st
 does_whole (Poll file name times attempts values) status s t k l v w does = polls_whole file name times attempts values status does.1
 does_whole (Clear file) status s t k l v w does = clears_whole file status does.1
 does_whole (Make count seed) status s t k l v w does = makes_whole count seed status does.2
+does_whole (Append file name limit keeps) status s t k l v w does = appends_whole file name limit keeps status does
 
 -- a run, by its words
 pub ran_whole : (o : Option Job) (status : Status) (s t : SourceView) (k l : SinkView) (v w : DiskView) → Ran o status s t k l v w → RanWhole o status s t k l v w

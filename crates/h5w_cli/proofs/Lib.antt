@@ -6,3 +6,4 @@ pub mod LookLemmas
 pub mod RangeLemmas
 pub mod CompleteLemmas
 pub mod MakeLemmas
+pub mod AppendEndLemmas

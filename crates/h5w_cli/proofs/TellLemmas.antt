@@ -11,7 +11,7 @@ use Rattle.h5w_cli.specs.declared.ending.Ending.{Ending}
 use Rattle.h5w_core.specs.Worlds.{rules_for}
 use Rattle.h5w_words.specs.declared.job.WordsError.{WordsError}
 use Rattle.h5w_words.specs.declared.job.Job.{Job}
-use Rattle.h5w_words.specs.declared.job.Job.TheVariants.{Play, New, Check, Poll, Clear, Make}
+use Rattle.h5w_words.specs.declared.job.Job.TheVariants.{Play, New, Check, Poll, Clear, Make, Append}
 use Rattle.h5w_image.specs.View.{DiskView}
 use Rattle.h5w_files.proofs.CreateLemmas.{creates_wanted}
 use Rattle.h5w_files.proofs.CheckLemmas.{checks_nothing}
@@ -22,6 +22,7 @@ use Rattle.h5w_cli.specs.Plays.{Begun, Finished, HasFirst, Plays}
 use Rattle.h5w_text.specs.declared.status.Status.{Status}
 use Rattle.h5w_text.specs.declared.status.Status.TheVariants.{Done, Usage, Missing, Exists, Format, Damaged, Flags, Again, Input, Limit, Disk, Source, Sink, Memory}
 use Rattle.h5w_cli.proofs.MakeLemmas.{makes_nothing}
+use Rattle.h5w_cli.proofs.AppendEndLemmas.{appends_nothing}
 use Rattle.h5w_cli.proofs.PlayLemmas.{gave_both, gave_nothing, gave_then_some, replied_nothing, rose_before}
 
 -- any other bytes behind the answers
@@ -94,6 +95,7 @@ ran_wanting (Some (Check file name)) status s k l v said = (refl, checks_nothing
 ran_wanting (Some (Poll file name times attempts values)) status s k l v said = (refl, polls_nothing file name times attempts values status said)
 ran_wanting (Some (Clear file)) status s k l v said = (refl, clears_wanted file status said)
 ran_wanting (Some (Make count seed)) status s k l v said = (refl, refl, makes_nothing count seed status said)
+ran_wanting (Some (Append file name limit keeps)) status s k l v said = appends_nothing file name limit keeps status said
 
 -- the words are outside the command set
 pub ran_outside : (o : Option Job) (status : Status) (s : SourceView) (k l : SinkView) (v : DiskView) → o ≡ None → Said (error_text errors.Usage) Usage status k l → Ran o status s s k l v v

@@ -10,6 +10,7 @@ pub use Rattle.h5w_files.specs.Creates
 pub use Rattle.h5w_files.specs.Checks
 pub use Rattle.h5w_files.specs.Polls
 pub use Rattle.h5w_files.specs.Clears
+pub use Rattle.h5w_files.specs.Appends
 pub use Rattle.h5w_words.specs.Commands
 pub use Rattle.h5w_words.specs.Limits
 pub use Rattle.h5w_core.specs.Worlds
@@ -17,4 +18,5 @@ pub mod Answers
 pub mod Plays
 pub mod Endings
 pub mod Makes
+pub mod Appending
 pub mod Runs

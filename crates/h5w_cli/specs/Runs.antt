@@ -9,6 +9,7 @@ use Rattle.h5w_text.specs.declared.error.ErrorLine.TheVariants as errors
 use Rattle.h5w_text.specs.declared.status.Status.{Status}
 use Rattle.h5w_text.specs.declared.status.Status.TheVariants as statuses
 use Rattle.h5w_files.specs.Ends.{EndsWell}
+use Rattle.h5w_files.specs.Appends.{AppendEnds}
 use Rattle.h5w_files.specs.Creates.{CreateEnds, end_of}
 use Rattle.h5w_files.specs.Checks.{CheckEnds, check_of}
 use Rattle.h5w_files.specs.Polls.{PollEnds, poll_of}
@@ -16,12 +17,13 @@ use Rattle.h5w_files.specs.Clears.{ClearEnds, flags_of}
 use Rattle.h5w_session.specs.Creations.{new_file}
 use Rattle.h5w_core.specs.Worlds.{rules_for}
 use Rattle.h5w_words.specs.declared.job.Job.{Job}
-use Rattle.h5w_words.specs.declared.job.Job.TheVariants.{Play, New, Check, Poll, Clear, Make}
+use Rattle.h5w_words.specs.declared.job.Job.TheVariants.{Play, New, Check, Poll, Clear, Make, Append}
 use Rattle.h5w_cli.specs.Plays.{Completes, Plays}
 use Rattle.h5w_cli.specs.Makes.{MakeEnds, MakeEndsWell}
+use Rattle.h5w_cli.specs.Appending.{AppendEndsWell}
 
--- What a job leaves of source, sink and disk. A script leaves the disk as it is, the commands on files read nothing, and the making of a
--- file in memory leaves both.
+-- What a job leaves of source, sink and disk. A script leaves the disk as it is, of the commands on files an append alone reads, and the
+-- making of a file in memory leaves both.
 abbrev pub Does : Job → Status → SourceView → SourceView → SinkView → SinkView → DiskView → DiskView → Type 0
 Does (Play options attempts) status s t k l v w = Plays (rules_for options attempts) status s t k l × (w ≡ v)
 Does (New file options) status s t k l v w = (t ≡ s) × CreateEnds file options v w status k l
@@ -29,6 +31,7 @@ Does (Check file name) status s t k l v w = (t ≡ s) × CheckEnds file name v w
 Does (Poll file name times attempts values) status s t k l v w = (t ≡ s) × PollEnds file name times attempts values v w status k l
 Does (Clear file) status s t k l v w = (t ≡ s) × ClearEnds file v w status k l
 Does (Make count seed) status s t k l v w = (t ≡ s) × (w ≡ v) × MakeEnds count seed status k l
+Does (Append file name limit keeps) status s t k l v w = AppendEnds file name limit keeps s t v w status k l
 
 -- the words are outside the command set: nothing is read, no file is looked at, and that is said
 pub record Refuses (status : Status) (s t : SourceView) (k l : SinkView) (v w : DiskView) : Type 0 where
@@ -41,7 +44,7 @@ abbrev pub Ran : Option Job → Status → SourceView → SourceView → SinkVie
 Ran None status s t k l v w = Refuses status s t k l v w
 Ran (Some job) status s t k l v w = Does job status s t k l v w
 
--- a job is done, or memory is wanted, where nothing else stands in its way
+-- a job is done, or memory is wanted, where nothing else stands in its way; the file of an append may have no place
 abbrev pub DoesWhole : Job → Status → SourceView → SourceView → SinkView → SinkView → DiskView → DiskView → Type 0
 DoesWhole (Play options attempts) status s t k l v w = Completes status s t k l
 DoesWhole (New file options) status s t k l v w = EndsWell (end_of (new_file options)) file v w status k l
@@ -49,6 +52,7 @@ DoesWhole (Check file name) status s t k l v w = EndsWell (check_of name) file v
 DoesWhole (Poll file name times attempts values) status s t k l v w = EndsWell (poll_of (reader_rules name attempts) values) file v w status k l
 DoesWhole (Clear file) status s t k l v w = EndsWell flags_of file v w status k l
 DoesWhole (Make count seed) status s t k l v w = MakeEndsWell status k l
+DoesWhole (Append file name limit keeps) status s t k l v w = AppendEndsWell file name status s t k l v w
 
 -- the same of the job that words of the command set have
 abbrev pub RanWhole : Option Job → Status → SourceView → SourceView → SinkView → SinkView → DiskView → DiskView → Type 0

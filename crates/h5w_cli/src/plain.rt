@@ -5,7 +5,7 @@ ghost use Rattle.h5w_words.specs.Limits.{IsWithinLimits};
 
 use crate::make::make;
 use crate::play::play;
-use h5w_files::{check, clear, create, poll};
+use h5w_files::{append, check, clear, create, poll};
 use h5w_image::Disk;
 use h5w_text::{Sink, Source, Status};
 use h5w_words::Job;
@@ -46,5 +46,20 @@ pub fn plain<S: Source, K: Sink, D: Disk>(
         ),
         Job::Clear { file } => clear(alloc, file.as_str(), sink, disk),
         Job::Make { count, seed } => make(alloc, *count, *seed, sink),
+        Job::Append {
+            file,
+            name,
+            limit,
+            keeps,
+        } => append(
+            alloc,
+            file.as_str(),
+            name.as_slice(),
+            *limit,
+            *keeps,
+            source,
+            sink,
+            disk,
+        ),
     }
 }

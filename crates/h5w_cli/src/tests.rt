@@ -8,12 +8,14 @@ use std::sync::Wait;
 use std::test::Fail;
 use std::thread::Threads;
 
+mod appends;
 mod changing;
 mod files;
 mod new_files;
 mod rows;
 mod types;
 
+use appends::APPEND_ROWS;
 use changing::Changing;
 use files::FILE_ROWS;
 use new_files::NEW_ROWS;
@@ -37,8 +39,11 @@ fn add_line(text: &mut Vec<u8>, line: &str) -> Result<(), Fail> {
     Ok(())
 }
 
-/// Adds a line of the input, in which `WORD*COUNT` stands for a word so often.
+/// Adds a line of the input, in which `WORD*COUNT` stands for a word so often; `-` is an empty one.
 fn add_input(text: &mut Vec<u8>, line: &str) -> Result<(), Fail> {
+    if line == "-" {
+        return add_line(text, "");
+    }
     for word in line.split(' ') {
         let (word, count) = word.split_once('*').unwrap_or((word, "1"));
         let count: u32 = count.parse()?;
@@ -278,6 +283,9 @@ fn rows_are_answered(rt: HostRuntime) -> Result<(), Fail> {
         check_row(&rt, row)?;
     }
     for row in NEW_ROWS.split('#').skip(1) {
+        check_row(&rt, row)?;
+    }
+    for row in APPEND_ROWS.split('#').skip(1) {
         check_row(&rt, row)?;
     }
     Ok(())

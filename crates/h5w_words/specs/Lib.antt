@@ -9,4 +9,5 @@ pub mod Creation
 pub mod Play
 pub mod Files
 pub mod Makes
+pub mod Appends
 pub mod Commands

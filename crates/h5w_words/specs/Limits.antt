@@ -1,8 +1,8 @@
 -- The bounds of what a job goes by.
 use Rattle.h5w_options.specs.Options.{AreOptions, AreAttempts}
 use Rattle.h5w_words.specs.declared.job.Job.{Job}
-use Rattle.std.specs.Prelude.{◌≤◌}
-use Rattle.h5w_words.specs.declared.job.Job.TheVariants.{Play, New, Check, Poll, Clear, Make}
+use Rattle.std.specs.Prelude.{◌≤◌, ◌^◌, length}
+use Rattle.h5w_words.specs.declared.job.Job.TheVariants.{Play, New, Check, Poll, Clear, Make, Append}
 
 abbrev pub IsWithinLimits : Job → Type 0
 IsWithinLimits (Play options attempts) = AreOptions options × AreAttempts attempts
@@ -11,3 +11,4 @@ IsWithinLimits (Check file name) = Unit {0}
 IsWithinLimits (Poll file name times attempts values) = (1 ≤ times) × AreAttempts attempts
 IsWithinLimits (Clear file) = Unit {0}
 IsWithinLimits (Make count seed) = count ≤ 1000000
+IsWithinLimits (Append file name limit keeps) = (length name ≤ 255) × (1024 ≤ limit) × (limit ≤ 2 ^ 40)

@@ -60,7 +60,7 @@ pub fn clear<'a>(alloc: Global) -> Result<Command<'a>, AllocError>
 }
 
 /// The name of a link, owned.
-fn owned(alloc: Global, name: &str) -> Result<Bytes, AllocError>
+pub fn owned(alloc: Global, name: &str) -> Result<Bytes, AllocError>
     ensures { IfOk result (λ b. b ≡ name.now) }
 {
     Ok(Bytes::from_vec(Vec::from_slice(alloc, name.as_bytes())?))

@@ -50,6 +50,16 @@ pub enum Job {
         /// What the generator begins with.
         seed: u64,
     },
+    /// Appends the numbers of the input to a dataset.
+    Append {
+        file: FileName,
+        /// The name of the root group's link to the dataset, of 1 to 255 bytes.
+        name: Bytes,
+        /// How many bytes the file may have, 1,024 to 2^40.
+        limit: u64,
+        /// Whether no place of the file is used twice.
+        keeps: bool,
+    },
 }
 
 /// Why words ask for nothing.

@@ -3,6 +3,7 @@
 //! A command has a file with its arguments and what their values ask for.
 #![tactic(auto)]
 
+mod append;
 mod arguments;
 mod creation;
 mod file;

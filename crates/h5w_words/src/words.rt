@@ -3,6 +3,7 @@ ghost use Rattle.clap.specs.Words.{app_of, fault_of, found_of, rows_of, subcomma
 ghost use Rattle.h5w_words.specs.Commands.{asked_of, job_of, named_of, program};
 ghost use Rattle.h5w_words.specs.Limits.{IsWithinLimits};
 
+use crate::append::{append, append_job};
 use crate::files::{check, check_job, clear, clear_job, creating, creating_job, poll, poll_job};
 use crate::job::{Job, WordsError};
 use crate::make::{make, make_job};
@@ -20,6 +21,7 @@ fn program<'a>(alloc: Global) -> Result<Command<'a>, AllocError>
     let command = command.subcommand(poll(alloc)?)?;
     let command = command.subcommand(clear(alloc)?)?;
     let command = command.subcommand(make(alloc)?)?;
+    let command = command.subcommand(append(alloc)?)?;
     Ok(command)
 }
 
@@ -47,6 +49,7 @@ fn named(alloc: Global, name: &str, options: &ArgMatches<'_>) -> Result<Job, Wor
         "poll" => poll_job(alloc, options),
         "clear" => clear_job(alloc, options),
         "make" => make_job(options),
+        "append" => append_job(alloc, options),
         _ => Err(WordsError::Usage),
     }
 }

@@ -1,4 +1,5 @@
 use Rattle.std.proofs.Common.{rules}
+use Rattle.h5w_cli.proofs.AppendEndLemmas.{same_source}
 use Rattle.h5w_cli.proofs.CompleteLemmas.{does_whole}
 use Rattle.h5w_cli.proofs.plain.plain.Goals as goal
 
@@ -20,6 +21,12 @@ returns-in-Clear-clause-does g c = search rules
 pub returns-in-Make-clause-does : goal.returns-in-Make-clause-does
 returns-in-Make-clause-does g c = search rules
 
+pub returns-in-Append-clause-does : goal.returns-in-Append-clause-does
+returns-in-Append-clause-does g c = search rules
+
+pub returns-in-Append-clause-source : goal.returns-in-Append-clause-source
+returns-in-Append-clause-source g c = same_source _ _ c.append.ensures.source
+
 pub returns-in-Play-clause-completes : goal.returns-in-Play-clause-completes
 returns-in-Play-clause-completes g c = does_whole _ _ _ _ _ _ _ _ (returns-in-Play-clause-does g c)
 
@@ -37,3 +44,6 @@ returns-in-Clear-clause-completes g c = does_whole _ _ _ _ _ _ _ _ (returns-in-C
 
 pub returns-in-Make-clause-completes : goal.returns-in-Make-clause-completes
 returns-in-Make-clause-completes g c = does_whole _ _ _ _ _ _ _ _ (returns-in-Make-clause-does g c)
+
+pub returns-in-Append-clause-completes : goal.returns-in-Append-clause-completes
+returns-in-Append-clause-completes g c = does_whole _ _ _ _ _ _ _ _ (returns-in-Append-clause-does g c)

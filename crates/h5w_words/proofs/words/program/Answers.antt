@@ -8,4 +8,5 @@ returns c =
     let check = command_added c.in_ok-command-2.command c.in_ok-check.field-0 c.in_ok-command-3.command c.in_ok-command-3.ensures c.in_ok-check.ensures.local new c.in_ok-check.ensures.shape in
     let poll = command_added c.in_ok-command-3.command c.in_ok-poll.field-0 c.in_ok-command-4.command c.in_ok-command-4.ensures c.in_ok-poll.ensures.local check c.in_ok-poll.ensures.shape in
     let clear = command_added c.in_ok-command-4.command c.in_ok-clear.field-0 c.in_ok-command-5.command c.in_ok-command-5.ensures c.in_ok-clear.ensures.local poll c.in_ok-clear.ensures.shape in
-    command_added c.in_ok-command-5.command c.in_ok-make.field-0 c.in_ok-command-6.command c.in_ok-command-6.ensures c.in_ok-make.ensures.local clear c.in_ok-make.ensures.shape
+    let make = command_added c.in_ok-command-5.command c.in_ok-make.field-0 c.in_ok-command-6.command c.in_ok-command-6.ensures c.in_ok-make.ensures.local clear c.in_ok-make.ensures.shape in
+    command_added c.in_ok-command-6.command c.in_ok-append.field-0 c.in_ok-command-7.command c.in_ok-command-7.ensures c.in_ok-append.ensures.local make c.in_ok-append.ensures.shape
