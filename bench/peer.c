@@ -5,11 +5,15 @@
  *   peer refresh FILE TIMES       opens them once, then refreshes the dataset and asks for its rows so many times
  *   peer read FILE                opens them and reads all values into memory
  *   peer print FILE               the same, and prints each value on a line
+ *   peer append FILE ROWS BATCH   opens the file for SWMR writing, appends so many rows in batches, each flushed, and closes it
+ *   peer replay FILE LIST         writes the pieces that a list names, "length offset" a line, one by one, and nothing else
  */
+#include <fcntl.h>
 #include <hdf5.h>
 #include <stdio.h>
 #include <stdlib.h>
 #include <string.h>
+#include <unistd.h>
 
 static void stop(const char *what)
 {
@@ -77,6 +81,35 @@ static void write_file(const char *path, hsize_t rows, hsize_t chunk)
     checked(H5Fclose(file), "H5Fclose");
 }
 
+static void append_batches(const char *path, hsize_t rows, hsize_t batch)
+{
+    hid_t file, dataset = open_dataset(path, H5F_ACC_RDWR, &file);
+    hsize_t at, first = rows_of(dataset);
+    checked(H5Fstart_swmr_write(file), "H5Fstart_swmr_write");
+    for (at = 0; at < rows; at += batch) {
+        append(dataset, first + at, rows - at < batch ? rows - at : batch);
+        checked(H5Dflush(dataset), "H5Dflush");
+    }
+    checked(H5Dclose(dataset), "H5Dclose");
+    checked(H5Fclose(file), "H5Fclose");
+}
+
+static void replay(const char *path, const char *list)
+{
+    static char piece[512];
+    long length;
+    long long offset;
+    int file = open(path, O_RDWR);
+    FILE *pieces = fopen(list, "r");
+    if (file < 0 || !pieces)
+        stop("the list");
+    while (fscanf(pieces, "%ld %lld", &length, &offset) == 2)
+        if (length > 512 || pwrite(file, piece, length, offset) != length)
+            stop("pwrite");
+    fclose(pieces);
+    close(file);
+}
+
 static void open_often(const char *path, long times)
 {
     hid_t file;
@@ -124,6 +157,10 @@ int main(int count, char **words)
         refresh_often(words[2], first);
     else if (strcmp(what, "read") == 0 || strcmp(what, "print") == 0)
         read_all(words[2], what[0] == 'p');
+    else if (strcmp(what, "append") == 0)
+        append_batches(words[2], first, second);
+    else if (strcmp(what, "replay") == 0 && count > 3)
+        replay(words[2], words[3]);
     else
         stop("the command line");
     return 0;

@@ -1,0 +1,171 @@
+"""Trials of the built program that appends to files: what memory cannot show. Each finds what is not as it should be, a line each."""
+import os
+import resource
+import select
+import signal
+import subprocess
+import tempfile
+
+from new_files import new_file
+
+TOP = os.path.dirname(os.path.dirname(os.path.realpath(__file__)))
+PROGRAM = f"{TOP}/crates/h5w_cli/out/h5w_cli"
+SECONDS = 20
+
+
+def of(what, seen, wanted):
+    return [] if seen == wanted else [f"{what}: {seen!r}, wanted {wanted!r}"]
+
+
+def read(path):
+    with open(path, "rb") as file:
+        return file.read()
+
+
+def run(folder, words, text=b"", **how):
+    ran = subprocess.run([PROGRAM, *words], input=text, capture_output=True, timeout=SECONDS, cwd=folder, **how)
+    return ran.returncode, ran.stdout, ran.stderr
+
+
+def steps(folder, *table):
+    """Commands on the same files, one after another: the words, the input, and the status and the text that are wanted."""
+    found = []
+    for words, text, status, wanted in table:
+        found += of(words, run(folder, words.split(" "), text), (status, wanted, b""))
+    return found
+
+
+def in_folder(find):
+    with tempfile.TemporaryDirectory(prefix="h5swmr-append-") as folder:
+        return find(folder)
+
+
+NEW = "new f --type i32le --chunk 2"
+
+
+def begins(folder):
+    """A new file, three rows, and what reads it; input without a last line end, and none at all."""
+    return steps(
+        folder,
+        (NEW, b"", 0, b"new end 558\n"),
+        ("append f", b"1 2 3\n", 0, b"rows 3\nclosed 3\n"),
+        ("check f", b"", 0, b"valid rows 3 chunks 2 blocks 5 end 574 lost 0\n"),
+        ("poll f --times 2 --values", b"", 0, b"rows 3\n1\n2\n3\nrows 3\n"),
+        ("append f", b"", 0, b"closed 3\n"),
+        ("append f", b"\n", 0, b"closed 3\n"),
+        ("append f", b"\n\n4\n\n\n5 6", 0, b"rows 4\nrows 6\nclosed 6\n"),
+        ("poll f --values", b"", 0, b"rows 6\n1\n2\n3\n4\n5\n6\n"),
+        ("append f", b"7\nx\n", 8, b"error line 2\n"),
+        ("append f", b"7\n\nx\n", 8, b"rows 7\nerror line 3\n"),
+        ("append f", b"8 2147483648\n", 8, b"error range 1 1 2147483648\n"),
+        ("check f", b"", 0, b"valid rows 7 chunks 4 blocks 5 end 590 lost 0\n"),
+        ("append g", b"1\n", 3, b"error missing\n"),
+        ("append .", b"1\n", 10, b"error disk\n"),
+        ("append f/g", b"1\n", 10, b"error disk\n"),
+    ) + of("the flags", read(f"{folder}/f")[11], 0)
+
+
+def used_again(folder):
+    """Blocks that were written anew: their places are used again, or not."""
+    return steps(
+        folder,
+        ("new f --type i32le --chunk 1", b"", 0, b"new end 558\n"),
+        ("append f", b"1 2 3 4 5\n\n6\n\n7\n", 0, b"rows 5\nrows 6\nrows 7\nclosed 7\n"),
+        ("check f", b"", 0, b"valid rows 7 chunks 7 blocks 6 end 886 lost 150\n"),
+        ("new g --type i32le --chunk 1", b"", 0, b"new end 558\n"),
+        ("append g --no-reuse", b"1 2 3 4 5\n\n6\n\n7\n", 0, b"rows 5\nrows 6\nrows 7\nclosed 7\n"),
+        ("check g", b"", 0, b"valid rows 7 chunks 7 blocks 6 end 1036 lost 300\n"),
+    )
+
+
+def damaged(folder):
+    """A file that is cut, one whose header is changed, one that another writer has open: nothing is written."""
+    steps(folder, (NEW, b"", 0, b"new end 558\n"), ("append f", b"1 2 3\n", 0, b"rows 3\nclosed 3\n"))
+    whole, found = read(f"{folder}/f"), []
+    changed = whole[:300] + bytes([whole[300] ^ 1]) + whole[301:]
+    table = [(whole[:300], 5, b"error cut 574 300\n"), (whole[:30], 5, b"error damaged 0 cut 48 30\n"), (whole[:7], 4, b"error nothdf5\n"), (b"", 4, b"error nothdf5\n")]
+    table += [(new_file("i32le", 2, flags=it), 6, b"error flags %d\n" % it) for it in (1, 4, 5)]
+    for content, status, wanted in table:
+        with open(f"{folder}/g", "wb") as file:
+            file.write(content)
+        found += steps(folder, ("append g", b"1\n", status, wanted)) + of("the file", read(f"{folder}/g"), content)
+    with open(f"{folder}/g", "wb") as file:
+        file.write(changed)
+    status, text, _ = run(folder, ["append", "g"], b"1\n")
+    return found + of("a changed block", (status, text[:22], read(f"{folder}/g")), (5, b"error damaged 260 sum ", changed))
+
+
+def limited():
+    """Files may have 560 bytes, as on a device that is full; a write past them fails."""
+    resource.setrlimit(resource.RLIMIT_FSIZE, (560, 560))
+    signal.signal(signal.SIGXFSZ, signal.SIG_IGN)
+
+
+def full_device(folder):
+    """A device without room for the second byte of a chunk: the flags piece is all that stands, and `clear` and `append` go on."""
+    steps(folder, (NEW, b"", 0, b"new end 558\n"))
+    empty = read(f"{folder}/f")
+    found = of("append", run(folder, ["append", "f"], b"1 2 3\n", preexec_fn=limited), (10, b"error disk\n", b""))
+    found += of("the file", read(f"{folder}/f")[:558], new_file("i32le", 2, flags=5))
+    return found + of("its first bytes", empty, new_file("i32le", 2)) + steps(
+        folder,
+        ("poll f", b"", 0, b"rows 0\n"),
+        ("append f", b"1\n", 6, b"error flags 5\n"),
+        ("clear f", b"", 0, b"clear 5 0\n"),
+        ("append f", b"1 2 3\n", 0, b"rows 3\nclosed 3\n"),
+        ("poll f --values", b"", 0, b"rows 3\n1\n2\n3\n"),
+    )
+
+
+def told_at_once(folder):
+    """Each line of `append` is out once its batch is there, while it waits for more; then the writer is killed."""
+    steps(folder, (NEW, b"", 0, b"new end 558\n"))
+    process = subprocess.Popen([PROGRAM, "append", f"{folder}/f"], stdin=subprocess.PIPE, stdout=subprocess.PIPE)
+    found = []
+    for rows in (1, 2, 3):
+        process.stdin.write(b"%d\n\n" % rows)
+        process.stdin.flush()
+        is_there = select.select([process.stdout], [], [], SECONDS)[0]
+        found += of("a line", process.stdout.readline() if is_there else None, b"rows %d\n" % rows)
+        found += steps(folder, ("poll f", b"", 0, b"rows %d\n" % rows))
+    process.stdin.write(b"4 5 6\n")
+    process.stdin.flush()
+    process.kill()
+    process.wait(SECONDS)
+    return found + steps(
+        folder,
+        ("poll f --values", b"", 0, b"rows 3\n1\n2\n3\n"),
+        ("check f", b"", 0, b"valid rows 3 chunks 2 blocks 5 end 574 lost 0\n"),
+        ("append f", b"4\n", 6, b"error flags 5\n"),
+        ("clear f", b"", 0, b"clear 5 0\n"),
+        ("append f", b"4\n", 0, b"rows 4\nclosed 4\n"),
+        ("poll f --values", b"", 0, b"rows 4\n1\n2\n3\n4\n"),
+    )
+
+
+def unwritten(folder):
+    """An output that nobody takes: the batch is there, and the file is closed. An input that is a folder: the file is closed."""
+    steps(folder, (NEW, b"", 0, b"new end 558\n"))
+    with open("/dev/full", "wb") as full:
+        ran = subprocess.run([PROGRAM, "append", f"{folder}/f"], input=b"1\n\n2\n", stdout=full, stderr=subprocess.PIPE, timeout=SECONDS)
+    found = of("append into a full device", (ran.returncode, ran.stderr), (12, b"")) + of("the flags", read(f"{folder}/f")[11], 0)
+    found += steps(folder, ("poll f --values", b"", 0, b"rows 1\n1\n"))
+    source = os.open(folder, os.O_RDONLY)
+    ran = subprocess.run([PROGRAM, "append", f"{folder}/f"], stdin=source, capture_output=True, timeout=SECONDS)
+    os.close(source)
+    found += of("append of a folder", (ran.returncode, ran.stdout, ran.stderr), (11, b"error source\n", b""))
+    return found + of("the flags then", read(f"{folder}/f")[11], 0)
+
+
+WORDS = ["append", "append f g", "append f --budget 65536", "append f --limit 1023", "append f --name a/b", "append f --no-reuse --no-reuse", "append f --values", "append --no-reuse"]
+
+
+def other_words(folder):
+    steps(folder, (NEW, b"", 0, b"new end 558\n"))
+    found = steps(folder, *((it, b"1\n", 2, b"error usage\n") for it in WORDS))
+    return found + of("the file", read(f"{folder}/f"), new_file("i32le", 2))
+
+
+def trials():
+    for find in (begins, used_again, damaged, full_device, told_at_once, unwritten, other_words):
+        yield f"append: {find.__doc__.split(':')[0].split('.')[0].lower() if find.__doc__ else 'other words'}", lambda it=find: in_folder(it)

@@ -1,0 +1,277 @@
+"""Files that the program appends to, as other tools read and write them, also while they are written."""
+import os
+import re
+import select
+import signal
+import subprocess
+
+import h5py
+import numpy
+
+TOP = os.path.dirname(os.path.dirname(os.path.realpath(__file__)))
+PROGRAM = f"{TOP}/h5swmr"
+SECONDS = 60
+
+
+def numpy_type(kind):
+    """A type of the program as numpy writes it: u16be is >u2."""
+    sign, bits, order = re.fullmatch(r"([iu])(\d+)(le|be|)", kind).groups()
+    return numpy.dtype(("<" if order != "be" else ">") + sign + str(int(bits) // 8))
+
+
+def values_of(kind, count):
+    """So many values of a type, its least and its greatest among them."""
+    info = numpy.iinfo(numpy_type(kind))
+    low, high = int(info.min), int(info.max)
+    return [(low, high, 0)[it] if it < 3 else low + (it * 2654435761 + it * it) % (high - low + 1) for it in range(count)]
+
+
+def text_of(batches):
+    """Lines of at most 1,000 values, an empty one behind each batch but the last."""
+    return "\n\n".join("\n".join(" ".join(map(str, it[at : at + 1000])) for at in range(0, len(it), 1000)) for it in batches) + "\n"
+
+
+def run(words, text=""):
+    """What a command writes, with its status where that is not 0."""
+    ran = subprocess.run(words, input=text.encode(), capture_output=True, timeout=SECONDS)
+    said = (ran.stdout + ran.stderr).decode(errors="replace")
+    return said if not ran.returncode else f"status {ran.returncode}: {said}"
+
+
+def of(what, seen, wanted):
+    """What is not as it should be, shortened where it is long."""
+    short = lambda it: repr(it) if len(repr(it)) <= 200 else f"{repr(it)[:100]} .. {repr(it)[-80:]}"
+    return [] if seen == wanted else [f"{what}: {short(seen)}, wanted {short(wanted)}"]
+
+
+def made(file, kind, chunk, fill=None):
+    words = [PROGRAM, "new", file, "--type", kind, "--chunk", str(chunk)] + (["--fill", str(fill)] if fill is not None else [])
+    return of("new", run(words).split(" ")[:2], ["new", "end"])
+
+
+def appended(file, batches, before=0, *options):
+    """What the program says otherwise when these batches are appended to so many rows."""
+    wanted, rows = "", before
+    for batch in batches:
+        rows += len(batch)
+        wanted += f"rows {rows}\n" if batch else ""
+    return of("append", run([PROGRAM, "append", file, *options], text_of(batches)), f"{wanted}closed {rows}\n")
+
+
+# ---- What other tools read of a file that stands still
+
+
+def dumped(file):
+    """The values that h5dump prints."""
+    text = run(["h5dump", "-y", "-w", "1", "-d", "/data", file])
+    body = text.split("DATA {")[1].split("}")[0] if "DATA {" in text else ""
+    return [int(it) for it in body.replace(",", " ").split()]
+
+
+def still(file, kind, wanted, folder):
+    """What other tools read otherwise than these values."""
+    found = of("h5dump", dumped(file), wanted)
+    found += of("h5ls", run(["h5ls", file]).split(), ["data", "Dataset", f"{{{len(wanted)}/Inf}}"])
+    for how in ({}, {"libver": "latest", "swmr": True}):
+        with h5py.File(file, "r", **how) as opened:
+            found += of(f"h5py {how}", [opened["data"].dtype.str, opened["data"][:].tolist()], [numpy_type(kind).str, wanted])
+    packed = f"{folder}/packed.h5"
+    found += of("h5repack", run(["h5repack", file, packed]), "") + of("h5diff", run(["h5diff", file, packed]), "")
+    return found + of("h5dump of h5repack's file", dumped(packed), wanted)
+
+
+def read_by_us(file, wanted):
+    """What the program finds otherwise than these values."""
+    found = of("poll", run([PROGRAM, "poll", file, "--values"]), f"rows {len(wanted)}\n" + "".join(f"{it}\n" for it in wanted))
+    return found + of("check", run([PROGRAM, "check", file]).split(" ")[:3], ["valid", "rows", str(len(wanted))])
+
+
+def stands_still(folder, kind, chunk, counts, fill=None):
+    """Batches of so many rows in a file of this type and chunk, read by other tools and by the program."""
+    file, values = f"{folder}/f.h5", values_of(kind, sum(counts))
+    found, batches = made(file, kind, chunk, fill), []
+    for count in counts:
+        batches.append(values[sum(map(len, batches)) :][:count])
+    found += appended(file, batches) if counts else []
+    return found + still(file, kind, values, folder) + read_by_us(file, values)
+
+
+# ---- Files that both append to
+
+
+def resized(file, values, libver="latest"):
+    """h5py appends these values."""
+    with h5py.File(file, "r+", libver=libver) as opened:
+        data = opened["data"]
+        data.resize((len(data) + len(values),))
+        data[len(data) - len(values) :] = values
+
+
+def of_h5py(file, kind, chunk, values, fill=None, attributes=0):
+    """h5py makes a file with one growing dimension."""
+    with h5py.File(file, "w", libver="latest") as opened:
+        data = opened.create_dataset("data", shape=(0,), maxshape=(None,), chunks=(chunk,), dtype=numpy_type(kind), fillvalue=fill, track_times=True)
+        for it in range(attributes):
+            data.attrs[f"attribute {it}"] = "of the other program"
+        data.resize((len(values),))
+        data[:] = values
+
+
+def in_turn(folder, kind, chunk, ours_first, attributes=0):
+    """A file that one program made and both append to, in turn; each reads it right after each append."""
+    file, values = f"{folder}/f.h5", values_of(kind, 4 * chunk + 7)
+    cuts = [0, chunk + 1, chunk + 3, 3 * chunk, len(values)]
+    parts = [values[one:other] for one, other in zip(cuts, cuts[1:])]
+    if ours_first:
+        found = made(file, kind, chunk)
+        found += appended(file, [parts[0]])
+    else:
+        of_h5py(file, kind, chunk, parts[0], attributes=attributes)
+        found = []
+    rows = len(parts[0])
+    for turn, part in enumerate(parts[1:]):
+        if (turn % 2 == 1) == ours_first:
+            found += appended(file, [part], rows)
+        else:
+            resized(file, part)
+        rows += len(part)
+        found += read_by_us(file, values[:rows]) + still(file, kind, values[:rows], folder)
+    if attributes:
+        with h5py.File(file, "r") as opened:
+            found += of("attributes", [opened["data"].attrs[it] for it in opened["data"].attrs], ["of the other program"] * attributes)
+    return found
+
+
+# ---- Files that are read while they are written
+
+
+class Appending:
+    """The program that appends to a file, fed a batch at a time."""
+
+    def __init__(self, file, *options):
+        self.process = subprocess.Popen([PROGRAM, "append", file, *options], stdin=subprocess.PIPE, stdout=subprocess.PIPE)
+
+    def feed(self, values):
+        """Appends a batch, and waits until it is told to be there; the line that tells it."""
+        self.process.stdin.write(text_of([values, []]).encode())
+        self.process.stdin.flush()
+        return self.line()
+
+    def line(self):
+        if not select.select([self.process.stdout], [], [], SECONDS)[0]:
+            raise ValueError("no line of append")
+        return self.process.stdout.readline().decode().rstrip("\n")
+
+    def end(self):
+        self.process.stdin.close()
+        said = self.process.stdout.read().decode()
+        return self.process.wait(SECONDS), said
+
+
+def watched_by_h5py(folder, kind, chunk, batches):
+    """h5py reads, as SWMR reader, what the program told to be there, after each batch: the beginning of the values, and all that was told."""
+    file, values, found = f"{folder}/f.h5", values_of(kind, sum(batches)), made(f"{folder}/f.h5", kind, chunk)
+    writer, rows = Appending(file, "--no-reuse"), 0
+    try:
+        opened = None
+        for count in batches:
+            rows += count
+            found += of("append", writer.feed(values[rows - count : rows]), f"rows {rows}")
+            opened = opened or h5py.File(file, "r", libver="latest", swmr=True)
+            opened["data"].id.refresh()
+            found += of(f"h5py at {rows} rows", opened["data"][:].tolist(), values[:rows])
+        found += of("the end", writer.end(), (0, f"closed {rows}\n"))
+        opened.close()
+        return found
+    except (OSError, ValueError) as error:
+        writer.process.kill()
+        return found + [f"{type(error).__name__}: {error}"]
+
+
+def watched_by_us(folder, kind, chunk, batches):
+    """The program polls what h5py writes, as SWMR writer: each poll that finds rows has a beginning of the values. HDF5's library writes blocks
+    of its index where they stand, so that a poll may find one half written, or a superblock of before: such a poll is made again."""
+    file, values = f"{folder}/f.h5", values_of(kind, sum(batches))
+    of_h5py(file, kind, chunk, [])
+    found, rows, again = [], 0, 0
+    with h5py.File(file, "r+", libver="latest") as opened:
+        opened.swmr_mode = True
+        data = opened["data"]
+        for count in batches:
+            rows += count
+            data.resize((rows,))
+            data[rows - count :] = values[rows - count : rows]
+            data.flush()
+            said = run([PROGRAM, "poll", file, "--values"])
+            if said.startswith("status 5: error damaged"):
+                again += 1
+                continue
+            seen = said.split("\n")
+            count_seen = int(seen[0].split(" ")[1]) if seen[0].startswith("rows ") else -1
+            found += of("poll", seen, [f"rows {count_seen}", *map(str, values[: max(count_seen, 0)]), ""])
+    return found + read_by_us(file, values) + ([f"{again} of {len(batches)} polls were refused"] if again == len(batches) else [])
+
+
+# ---- Writers that were stopped
+
+
+def stopped(folder, kind, chunk):
+    """A writer of ours is killed: the rows that it told are there, h5clear clears its flags, and appending goes on. A writer of h5py is gone:
+    `clear` clears its flags."""
+    file, values, found = f"{folder}/f.h5", values_of(kind, 3 * chunk), made(f"{folder}/f.h5", kind, chunk)
+    for clear in (["h5clear", "-s", file], [PROGRAM, "clear", file]):
+        begun = int(run([PROGRAM, "poll", file]).split(" ")[1])
+        writer = Appending(file)
+        found += of("append", writer.feed(values[begun : begun + chunk]), f"rows {begun + chunk}")
+        writer.process.send_signal(signal.SIGKILL)
+        writer.process.wait(SECONDS)
+        found += read_by_us(file, values[: begun + chunk])
+        found += of("append to an open file", run([PROGRAM, "append", file], "1\n"), "status 6: error flags 5\n")
+        said = run(clear)
+        found += of(f"{clear[0]}", said, "" if clear[0] == "h5clear" else "clear 5 0\n")
+        found += still(file, kind, values[: begun + chunk], folder)
+    found += appended(file, [values[2 * chunk :]], 2 * chunk) + still(file, kind, values, folder)
+    theirs = f"{folder}/theirs.h5"
+    of_h5py(theirs, kind, chunk, values)
+    with open(theirs, "r+b") as it:
+        head = bytearray(it.read(48))
+    gone = subprocess.run(["/usr/bin/python3", "-c", f"import h5py, os\nf = h5py.File({theirs!r}, 'r+', libver='latest')\nf.swmr_mode = True\nf.flush()\nos._exit(1)"], timeout=SECONDS)
+    with open(theirs, "rb") as it:
+        flags = it.read(12)[11]
+    found += of("the other writer", (gone.returncode, flags, head[11]), (1, 5, 0))
+    found += of("clear", run([PROGRAM, "clear", theirs]), "clear 5 0\n")
+    return found + still(theirs, kind, values, folder) + appended(theirs, [values[:3]], len(values))
+
+
+def watch(folder, kind, chunk):
+    """examples/watch.py prints the rows that are appended while it runs."""
+    file, values, found = f"{folder}/f.h5", values_of(kind, 5 * chunk + 1), made(f"{folder}/f.h5", kind, chunk)
+    writer = Appending(file, "--no-reuse")
+    try:
+        found += of("append", writer.feed(values[:1]), "rows 1")
+        watcher = subprocess.Popen(["/usr/bin/python3", f"{TOP}/examples/watch.py", file, "data", str(len(values))], stdout=subprocess.PIPE)
+        for at in range(1, len(values), chunk):
+            found += of("append", writer.feed(values[at : at + chunk]), f"rows {at + chunk}")
+        said, _ = watcher.communicate(timeout=SECONDS)
+        found += of("watch.py", said.decode(), "".join(f"{it}\n" for it in values))
+        return found + of("the end", writer.end(), (0, f"closed {len(values)}\n"))
+    except (OSError, ValueError, subprocess.TimeoutExpired) as error:
+        writer.process.kill()
+        return found + [f"{type(error).__name__}: {error}"]
+
+
+def trials(kinds):
+    """Each trial by its name: what it finds is not as it should be, in a folder of its own."""
+    for at, kind in enumerate(kinds):
+        chunk = (2, 5, 64, 300)[at % 4]
+        for counts in ([], [1], [3, 2], [chunk, 4 * chunk - 1, 1], [299, 1]):
+            yield f"{kind} in chunks of {chunk}: {counts} rows appended", lambda it, k=kind, c=chunk, n=counts: stands_still(it, k, c, n, 7 if c == 5 else None)
+        yield f"{kind}: our file, and both append", lambda it, k=kind, c=chunk: in_turn(it, k, c, True)
+        yield f"{kind}: h5py's file, and both append", lambda it, k=kind, c=chunk, n=at % 3: in_turn(it, k, c, False, n)
+    yield "300 chunks of one row", lambda it: stands_still(it, "i32le", 1, [300])
+    yield "5,000 chunks of one row, in flushes of 1,000", lambda it: stands_still(it, "i16be", 1, [1000] * 5)
+    for kind, chunk, batches in (("i32le", 1, [1] * 60), ("u16be", 3, [5, 1, 1, 40, 200] * 4), ("i64le", 1, [300, 1, 1, 1, 700, 1, 1])):
+        yield f"{kind} in chunks of {chunk}: h5py watches our writer, {len(batches)} batches", lambda it, k=kind, c=chunk, b=batches: watched_by_h5py(it, k, c, b)
+        yield f"{kind} in chunks of {chunk}: we watch h5py's writer, {len(batches)} batches", lambda it, k=kind, c=chunk, b=batches: watched_by_us(it, k, c, b)
+    yield "writers that were stopped", lambda it: stopped(it, "i32le", 4)
+    yield "examples/watch.py", lambda it: watch(it, "i32le", 3)
