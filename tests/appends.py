@@ -76,7 +76,9 @@ def still(file, kind, wanted, folder):
         with h5py.File(file, "r", **how) as opened:
             found += of(f"h5py {how}", [opened["data"].dtype.str, opened["data"][:].tolist()], [numpy_type(kind).str, wanted])
     packed = f"{folder}/packed.h5"
-    found += of("h5repack", run(["h5repack", file, packed]), "") + of("h5diff", run(["h5diff", file, packed]), "")
+    found += of("h5repack", run(["h5repack", file, packed]), "")
+    # (h5diff compares no datasets without rows)
+    found += of("h5diff", run(["h5diff", file, packed]), "") if wanted else []
     return found + of("h5dump of h5repack's file", dumped(packed), wanted)
 
 
