@@ -1,5 +1,6 @@
 -- A batch of the writer of a run.
-use Rattle.std.proofs.Common.{◌≡◌, ℕ, ◌+◌, ◌*◌, ◌/◌, ◌<◌, ◌≤◌, Bool, false, cond, nat_lt, List, [], ◌∷◌, ◌++◌, length, ℤ, Option, Some, None, Result, Ok, Err, sym, refl, ap, ◌∙◌, subst, arith, append_assoc, length-append}
+use Rattle.std.proofs.Common.{◌≡◌, ℕ, ◌+◌, ◌*◌, ◌/◌, ◌<◌, ◌≤◌, Bool, true, false, cond, nat_lt, List, [], ◌∷◌, ◌++◌, length, ℤ, Option, Some, None, Result, Ok, Err, sym, refl, ap, ◌∙◌, subst, arith, append_assoc, length-append, ◌⊎◌, inl, inr}
+use Rattle.std.specs.Prelude.{IfErr}
 use Rattle.std.proofs.lemmas.Bool.{cond_both}
 use Rattle.h5w_model.specs.Agrees.{rows_after, values_in}
 use Rattle.h5w_model.specs.Tables.{format_limits, limit_of}
@@ -26,6 +27,37 @@ use Rattle.h5w_live.proofs.FlushedLemmas.{before_last, pieces_last, rows_all, ro
 
 none_some : {A : Type 0} (a : A) → ◌≡◌ {A = Option A} None (Some a) → ⊥
 none_some a e = cc
+
+-- ---- What refuses a batch
+
+some_is : {A : Type 0} (a b : A) → ◌≡◌ {A = Option A} (Some a) (Some b) → a ≡ b
+some_is a b e = cc
+
+-- a batch is refused by no other errors than two
+pub refused_by_two : (f : NewFile) (rows : ℕ) (values : List ℤ) (e : AppendError) → ((index : ℕ) (value : ℤ) → errors.OutOfRange index value ≡ e → ⊥) → ((chunks limit : ℕ) → errors.Chunks chunks limit ≡ e → ⊥)
+    → batch_refusal f rows values ≡ Some e → ⊥
+refused_by_two f rows [] e range chunks h = none_some e h
+refused_by_two f rows (v ∷ vs) e range chunks h = go (first_outside f.int_type 0 (v ∷ vs)) h where
+  by_count : (b : Bool) (n : ℕ) → ◌≡◌ {A = Option AppendError} (cond b (Some (errors.Chunks n 131060)) None) (Some e) → ⊥
+  by_count false n h = none_some e h
+  by_count true n h = chunks n 131060 (some_is (errors.Chunks n 131060) e h)
+
+  go : (o : Option (ℕ × ℤ)) → ◌≡◌ {A = Option AppendError} (elim o as (λ _. Option AppendError) [ Some y ↦ Some (errors.OutOfRange y.0 y.1) | None ↦ too_many (div_up (rows + length (v ∷ vs)) f.chunk_rows) ]) (Some e) → ⊥
+  go None h = by_count (nat_lt 131060 (div_up (rows + length (v ∷ vs)) f.chunk_rows)) (div_up (rows + length (v ∷ vs)) f.chunk_rows) h
+  go (Some y) h = range y.0 y.1 (some_is (errors.OutOfRange y.0 y.1) e h)
+
+-- an append over the shared image answers its refusal, but for the image and memory
+pub refused_as : (o : Option AppendError) (r : Result ℕ AppendError) (e : AppendError) → (errors.Failed ≡ e → ⊥) → (errors.OutOfMemory ≡ e → ⊥) → r ≡ Err e
+    → IfErr r (λ x. (o ≡ Some x) ⊎ ((x ≡ errors.Failed) ⊎ (x ≡ errors.OutOfMemory))) → o ≡ Some e
+refused_as o (Ok n) e failed memory is causes = absurd cc
+refused_as o (Err x) e failed memory is causes = go causes where
+  same : x ≡ e
+  same = cc
+
+  go : (o ≡ Some x) ⊎ ((x ≡ errors.Failed) ⊎ (x ≡ errors.OutOfMemory)) → o ≡ Some e
+  go (inl h) = h ∙ ap Some same
+  go (inr (inl h)) = absurd (failed (sym h ∙ same))
+  go (inr (inr h)) = absurd (memory (sym h ∙ same))
 
 length_values : (bs : List (List ℤ)) (b : List ℤ) → length (values_in (bs ++ b ∷ [])) ≡ length (values_in bs) + length b
 length_values bs b = ap length (values_more bs b) ∙ length-append (values_in bs) b
@@ -79,6 +111,12 @@ module _ (f : NewFile) (done : List (List ℤ)) (s : Session) (v : SeatView) (li
   pub refusal_for : (values : List ℤ) → 1 ≤ length values → append_refusal s values ≡ batch_refusal f (length (values_in done)) values
   refusal_for [] some = absurd (omega arith)
   refusal_for (x ∷ xs) some = refusal_is x xs
+
+  -- and no other error than these two
+  pub refused_never : (values : List ℤ) (r : Result ℕ AppendError) (e : AppendError) → 1 ≤ length values → ((index : ℕ) (value : ℤ) → errors.OutOfRange index value ≡ e → ⊥) → ((chunks limit : ℕ) → errors.Chunks chunks limit ≡ e → ⊥)
+      → (errors.Failed ≡ e → ⊥) → (errors.OutOfMemory ≡ e → ⊥) → r ≡ Err e → IfErr r (λ x. (append_refusal s values ≡ Some x) ⊎ ((x ≡ errors.Failed) ⊎ (x ≡ errors.OutOfMemory))) → ⊥
+  refused_never values r e some range chunks failed memory is causes =
+      refused_by_two f (length (values_in done)) values e range chunks (sym (refusal_for values some) ∙ refused_as (append_refusal s values) r e failed memory is causes)
 
   pub flush_taken : (t : Session) (values : List ℤ) → t ≡ with_values s values → flush_refusal t ≡ None
   flush_taken t values is =

@@ -1,21 +1,24 @@
 -- The calls of one reader of a run.
-use Rattle.std.proofs.Common.{◌≡◌, ℕ, List, [], Option, Some, None, Result, Ok, Err, refl, sym, ap, ◌∙◌, subst, inl, inr}
-use Rattle.std.specs.Prelude.{option_map, ℤ}
+use Rattle.std.proofs.Common.{◌≡◌, ◌<◌, ◌+◌, ℕ, zero, suc, List, [], ◌∷◌, ◌++◌, length, take, Option, Some, None, Result, Ok, Err, refl, sym, ap, ◌∙◌, subst, inl, inr, arith, length-append}
+use Rattle.std.proofs.lemmas.Int.{ints}
+use Rattle.std.specs.Prelude.{IsSome, option_map, ℤ, pos, ◌+ℤ◌, get_or}
 use Rattle.std.specs.Int.{int_wrap, w128}
 use Rattle.h5w_model.specs.Agrees.{total}
 use Rattle.h5w_model.specs.Asked.{left_after}
 use Rattle.h5w_model.specs.Calls.{rows_seen}
 use Rattle.h5w_model.specs.Programs.{Prog, Takes, ret, rest_after}
 use Rattle.h5w_model.specs.Tables.{Reading}
-use Rattle.h5w_model.specs.Unfinished.{Reader, rows_left, values_left, rows_program, values_program, with_left}
+use Rattle.h5w_model.specs.Unfinished.{Reader, ReaderRules, rows_left, values_left, rows_program, values_program, wanted, with_left}
 use Rattle.h5w_model.specs.declared.piece.Write.{Write}
 use Rattle.h5w_model.specs.declared.refusal.ReadError.{ReadError}
 use Rattle.h5w_model.specs.declared.refusal.ReadError.TheVariants as refusals
-use Rattle.h5w_reader.specs.Readers.{BegunRead, IsRefused}
+use Rattle.h5w_model.specs.declared.report.PollLine.{PollLine}
+use Rattle.h5w_reader.specs.Readers.{BegunRead, IsRefused, new_reader}
 use Rattle.h5w_reader.specs.declared.step.Step.TheVariants as steps
-use Rattle.h5w_live_laws.specs.Polls.{FindsRows, GivesUpAfter, looks_in}
+use Rattle.h5w_live_laws.specs.Polls.{AnswersPoll, FindsRows, GivesUpAfter, TellPolls, looks_in}
 use Rattle.h5w_live_laws.specs.Laws.{IsStray}
-use Rattle.h5w_live.specs.Reading.{AnswersThrough, IsBegun, ReadsThrough}
+use Rattle.h5w_live_laws.proofs.PollLemmas.{tell_more}
+use Rattle.h5w_live.specs.Reading.{AnswersThrough, IsBegun, IsReady, ReadsThrough, Strays}
 
 -- ---- What is left of a call of a kind
 
@@ -156,3 +159,57 @@ module _ (start : List ℕ) (before between : List Write) (old mid : Reader) (be
   call_no_values vs a =
       let told = a.tells (rows_left (rows_program old.rules old.known)) begun.left in
       no_rows (rest_after (rows_program old.rules old.known) (looks_in a.looks)) (ret (Ok vs)) told.0
+
+-- ---- Sums
+
+pub total_more : (vs : List ℤ) (i : ℕ) → i < length vs → total (take (suc i) vs) ≡ total (take i vs) +ℤ get_or vs i (pos 0)
+total_more [] i within = absurd (omega arith)
+total_more (x ∷ xs) zero within = omega (arith, ints)
+total_more (x ∷ xs) (suc i) within = let more = total_more xs i (omega arith) in omega (arith, ints, more)
+
+pub total_next : (vs : List ℤ) (i : ℕ) → i < length vs → total (take (i + 1) vs) ≡ total (take i vs) +ℤ get_or vs i (pos 0)
+total_next vs i within = ap (λ n. total (take n vs)) (let e : i + 1 ≡ suc i = omega arith in e) ∙ total_more vs i within
+
+-- ---- The calls of a reader
+
+-- so many calls were answered, and the next may begin
+pub record PollsTo (g : ReaderRules) (start : List ℕ) (reader : ℕ) (before : List Write) (call : ℕ) (r : Reader) (now : List Write) (lines : List PollLine) : Type 0 where
+  pub ready : IsReady call r
+  pub rules : r.rules ≡ g
+  pub count : length lines ≡ call
+  pub tell : TellPolls g start reader 1 None before lines r.known now
+
+pub polls_first : (g : ReaderRules) (start : List ℕ) (reader : ℕ) (before : List Write) (r : Reader) (lines : List PollLine) → r ≡ new_reader g → IsSome (wanted r.left) → lines ≡ [] → PollsTo g start reader before 0 r before lines
+polls_first g start reader before r lines is wants none = subst (λ (ls : List PollLine). PollsTo g start reader before 0 r before ls) (sym none) (record {
+  ready = record { left = ap (λ (x : Reader). x.left) is ∙ sym (ap (λ (x : Reader). Some (rows_left (rows_program x.rules x.known))) is); wants = wants };
+  rules = ap (λ (x : Reader). x.rules) is;
+  count = refl;
+  tell = (ap (λ (x : Reader). x.known) is, refl);
+})
+
+module _ (g : ReaderRules) (start : List ℕ) (reader : ℕ) (before : List Write) (call : ℕ) (r mid : Reader) (now after : List Write) (lines : List PollLine) (p : PollsTo g start reader before call r now lines)
+    (rules : mid.rules ≡ r.rules) (known : mid.known ≡ r.known) where
+  pub polls_stray : IsStray mid.rules start mid.known now after → Strays g start reader before after
+  polls_stray stray = record {
+    lines = lines;
+    between = now;
+    next = r.known;
+    tell = p.tell;
+    stray = subst (λ (k : Option Reading). IsStray g start k now after) known (subst (λ (x : ReaderRules). IsStray x start mid.known now after) (rules ∙ p.rules) stray);
+  }
+
+  pub polls_more : (new : Reader) (line : PollLine) (items : List PollLine) → AnswersPoll mid.rules start mid.known now after new.known line.answer → new.left ≡ None → new.rules ≡ mid.rules
+      → line.reader ≡ reader → line.poll ≡ call + 1 → line.before ≡ length now → line.after ≡ length after → items ≡ lines ++ line ∷ [] → PollsTo g start reader before (call + 1) new after items
+  polls_more new line items answers idle same reader_is poll_is before_is after_is is = subst (λ (ls : List PollLine). PollsTo g start reader before (call + 1) new after ls) (sym is) (record {
+    ready = (let e : suc call ≡ call + 1 = omega arith in subst (λ n. IsReady n new) e idle);
+    rules = same ∙ rules ∙ p.rules;
+    count = length-append lines (line ∷ []) ∙ ap (λ n. n + 1) p.count;
+    tell = tell_more g start reader 1 None before lines r.known now line new.known after p.tell (record {
+      reader_is = reader_is;
+      call_is = omega (arith, poll_is, p.count);
+      before_is = before_is;
+      after_is = after_is;
+      answers = subst (λ (k : Option Reading). AnswersPoll g start k now after new.known line.answer) known
+          (subst (λ (x : ReaderRules). AnswersPoll x start mid.known now after new.known line.answer) (rules ∙ p.rules) answers);
+    });
+  })
