@@ -1,7 +1,6 @@
 #!/bin/sh
 # Counts the instructions of appends and flushes of 32-bit integers in a world in memory, with every piece made visible, and how they
-# grow: chunks of one row in one flush and in many, a row into a stored chunk, and 65,536 rows in one chunk. Text is not among them. And the
-# most memory at once of a flush whose rows were appended in small parts, before its first piece becomes visible.
+# grow: chunks of one row in one flush and in many, a row into a stored chunk, and 65,536 rows in one chunk. Text is not among them.
 # Wants git, valgrind and python3; the last commit is what is measured.
 top=$(cd "$(dirname "$0")/.." && pwd -P) || exit 1
 work=$(mktemp -d) || exit 1
@@ -14,8 +13,7 @@ rm -rf "$work/copy"/crates/*/must-fail
 cd "$work/copy" || exit 1
 echo "flush_rows: h5w_model h5w_options h5w_core" >> crates.txt
 cat > crates/flush_rows/src/main.rt <<'END'
-//! Reads the rows of a chunk, the rows of a flush, and how many flushes there are, and does these in a world. A fourth number says in how many
-//! parts the rows of one flush are appended, of which no piece becomes visible.
+//! Reads the rows of a chunk, the rows of a flush, and how many flushes there are, and does these in a world.
 #![tactic(auto)]
 
 ghost use Rattle.std.specs.Prelude.{◌≤◌};
@@ -27,30 +25,13 @@ use std::alloc::Global;
 use std::io::Read;
 use std::process::ExitCode;
 
-/// Appends so many rows.
-fn append(alloc: Global, world: &mut World, rows: u64) -> Result<(), OutOfMemory> {
+/// Appends and flushes so many rows; all pieces become visible.
+fn flush(alloc: Global, world: &mut World, rows: u64) -> Result<(), OutOfMemory> {
     let mut values = Vec::new(alloc);
     for value in 0..rows {
         values.push(i128::from(value % 1_000_000))?;
     }
     world.step(Event::Append(Values::from_vec(values)))?;
-    Ok(())
-}
-
-/// Appends so many rows in parts, and flushes them.
-fn plan(alloc: Global, world: &mut World, rows: u64, parts: u64) -> Result<(), OutOfMemory>
-    requires { 1 ≤ parts }
-{
-    for _ in 0..parts {
-        append(alloc, world, rows / parts)?;
-    }
-    world.step(Event::Flush)?;
-    Ok(())
-}
-
-/// Appends and flushes so many rows; all pieces become visible.
-fn flush(alloc: Global, world: &mut World, rows: u64) -> Result<(), OutOfMemory> {
-    append(alloc, world, rows)?;
     world.step(Event::Flush)?;
     for _ in 0..world.pending() {
         world.step(Event::Visible)?;
@@ -59,7 +40,7 @@ fn flush(alloc: Global, world: &mut World, rows: u64) -> Result<(), OutOfMemory>
 }
 
 /// A world by chunks of so many rows, with so many flushes.
-fn run(alloc: Global, chunk_rows: u64, rows: u64, flushes: u64, parts: u64) -> Result<u64, OutOfMemory>
+fn run(alloc: Global, chunk_rows: u64, rows: u64, flushes: u64) -> Result<u64, OutOfMemory>
     requires some { 1 ≤ chunk_rows }
     requires bound { chunk_rows ≤ 65536 }
 {
@@ -77,10 +58,6 @@ fn run(alloc: Global, chunk_rows: u64, rows: u64, flushes: u64, parts: u64) -> R
         limit: 1 << 40,
     };
     let mut world = World::new(alloc, &options, 1)?;
-    if parts > 0 {
-        plan(alloc, &mut world, rows, parts)?;
-        return Ok(world.rows());
-    }
     for _ in 0..flushes {
         flush(alloc, &mut world, rows)?;
     }
@@ -96,11 +73,10 @@ fn main(rt: HostRuntime) -> ExitCode {
     let chunk_rows = numbers.next().unwrap_or(0);
     let rows = numbers.next().unwrap_or(0);
     let flushes = numbers.next().unwrap_or(0);
-    let parts = numbers.next().unwrap_or(0);
     if chunk_rows < 1 || 65_536 < chunk_rows {
         return ExitCode::from(2);
     }
-    match run(rt.alloc(), chunk_rows, rows, flushes, parts) {
+    match run(rt.alloc(), chunk_rows, rows, flushes) {
         Ok(all) if all == rows.wrapping_mul(flushes) => ExitCode::from(0),
         _ => ExitCode::from(3),
     }
@@ -118,14 +94,6 @@ costs = [int(m.group(1).replace(",", "")) for line in sys.stdin for m in [re.mat
 print(max(costs))'
 }
 
-# the most bytes at once of a flush of so many rows, appended in so many parts
-bytes() {
-    echo "$1 $2 1 $3" | valgrind --tool=massif --massif-out-file="$work/heap" out/flush_rows 2>"$work/log" || { tail -n 5 "$work/log" >&2; exit 1; }
-    sed -n 's/^mem_heap_B=//p' "$work/heap" | sort -n | tail -n 1
-}
-
-wide_bytes=$(bytes 65536 65536 64) || exit 1
-many_bytes=$(bytes 1 65536 64) || exit 1
 half=$(steps 1 65530 1) || exit 1
 whole=$(steps 1 131060 1) || exit 1
 few=$(steps 1 131 500) || exit 1
@@ -135,7 +103,7 @@ one=$(steps 65536 1 1) || exit 1
 more=$(steps 65536 1 101) || exit 1
 python3 -c '
 import sys
-half, whole, few, many, wide, one, more, wide_bytes, many_bytes = map(int, sys.argv[1:])
+half, whole, few, many, wide, one, more = map(int, sys.argv[1:])
 rows = [
     ("131,060 chunks of a row in one flush, instructions a chunk", whole / 131060, None),
     ("  times those of half as many", whole / half, 2.2),
@@ -143,11 +111,9 @@ rows = [
     ("  times those of half as many", many / few, 2.2),
     ("65,536 rows in one chunk, instructions a value", wide / 65536, 60),
     ("a row into a stored chunk, from its append to its last piece, instructions", (more - one) / 100, 2500),
-    ("65,536 rows in one chunk, bytes of memory a value of 4 bytes at the most", wide_bytes / 65536, 16),
-    ("65,536 chunks of a row, bytes of memory a chunk at the most", many_bytes / 65536, 1600),
 ]
 failed = False
 for text, value, most in rows:
     print("%s: %.1f%s" % (text, value, "" if most is None else " (at most %s)" % most))
     failed = failed or most is not None and value > most
-sys.exit(failed)' "$half" "$whole" "$few" "$many" "$wide" "$one" "$more" "$wide_bytes" "$many_bytes"
+sys.exit(failed)' "$half" "$whole" "$few" "$many" "$wide" "$one" "$more"
