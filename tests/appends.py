@@ -144,6 +144,25 @@ def in_turn(folder, kind, chunk, ours_first, attributes=0):
     return found
 
 
+def without_chunks(folder, kind, chunk, rows, fill):
+    """A file of h5py's with so many rows, none of which it wrote: no chunk is there, and no index. We make the index, then both append."""
+    file, values = f"{folder}/f.h5", values_of(kind, 3 * chunk + 2)
+    of_h5py(file, kind, chunk, [], fill)
+    with h5py.File(file, "r+", libver="latest") as opened:
+        opened["data"].resize((rows,))
+    wanted = [fill or 0] * rows
+    found = read_by_us(file, wanted) + appended(file, [], rows) + still(file, kind, wanted, folder)
+    for at in range(0, len(values), chunk):
+        part = values[at : at + chunk]
+        if at % (2 * chunk) == 0:
+            found += appended(file, [part], len(wanted))
+        else:
+            resized(file, part)
+        wanted = wanted + part
+        found += read_by_us(file, wanted) + still(file, kind, wanted, folder)
+    return found
+
+
 # ---- Files that are read while they are written
 
 
@@ -270,6 +289,8 @@ def trials(kinds):
             yield f"{kind} in chunks of {chunk}: {counts} rows appended", lambda it, k=kind, c=chunk, n=counts: stands_still(it, k, c, n, 7 if c == 5 else None)
         yield f"{kind}: our file, and both append", lambda it, k=kind, c=chunk: in_turn(it, k, c, True)
         yield f"{kind}: h5py's file, and both append", lambda it, k=kind, c=chunk, n=at % 3: in_turn(it, k, c, False, n)
+        for rows in (0, 1, 2 * chunk + 1):
+            yield f"{kind} in chunks of {chunk}: h5py's file of {rows} rows without chunks, and both append", lambda it, k=kind, c=chunk, n=rows: without_chunks(it, k, c, n, 7 if c == 5 else None)
     yield "300 chunks of one row", lambda it: stands_still(it, "i32le", 1, [300])
     yield "5,000 chunks of one row, in flushes of 1,000", lambda it: stands_still(it, "i16be", 1, [1000] * 5)
     for kind, chunk, batches in (("i32le", 1, [1] * 60), ("u16be", 3, [5, 1, 1, 40, 200] * 4), ("i64le", 1, [300, 1, 1, 1, 700, 1, 1])):

@@ -9,12 +9,12 @@ use Rattle.h5w_model.specs.Datasets.{Described}
 use Rattle.h5w_image.specs.View.{DiskView, ImageView, Looked, Same}
 use Rattle.h5w_session.specs.Openings.{opened_log}
 use Rattle.h5w_session.specs.Room.{HasRoomFor}
-use Rattle.h5w_session.specs.Sessions.{Session, TakesRows, rows_of, with_rows, with_values}
+use Rattle.h5w_session.specs.Sessions.{IsNamed, Session, TakesRows, rows_of, with_values}
 use Rattle.h5w_session.specs.Stands.{Stands}
 use Rattle.h5w_files.specs.Images.{LeavesFiles, file_image}
 use Rattle.h5w_files.specs.Batches.{Batches, close_batch, no_batches, values_of}
 use Rattle.h5w_files.specs.Puts.{AllBetween, AllRose, PutsPieces, after_puts, counts_of, showing, writes_of}
-use Rattle.h5w_files.specs.Appends.{Broke, HasTaken, IsLogOf, Settled, Stored, columns_of}
+use Rattle.h5w_files.specs.Appends.{Broke, HasTaken, IsLogOf, Settled, Stored, columns_of, grown}
 use Rattle.h5w_files.specs.Appending.{AppendsAll, Halted, HasNone, Planned, PutsAll, PutsHalted, Unflushed, Unput}
 use Rattle.h5w_files.proofs.BatchLemmas.{batch_rows, none_rows, plan_done, plan_open, showing_appended, showing_flushed, showing_hist, showing_same, values_closed}
 use Rattle.h5w_files.proofs.ImageLemmas.{same_name}
@@ -84,6 +84,7 @@ added_taken first s b values n some rows h =
       name = h.name;
       root = h.root;
       dataset = h.dataset;
+      named = h.named;
       rows = h.rows;
       waits = length-append b.waiting values ∙ ap (λ k. k + length values) h.waits ∙ ap (λ k. s.waits * columns_of first + k) count ∙ distributes s.waits n (columns_of first)
           ∙ ap (λ k. (s.waits + k) * columns_of first) (sym quotient);
@@ -133,7 +134,8 @@ but_taken first s t b same h =
     record {
       name = name ∙ h.name;
       root = root ∙ h.root ∙ ap (λ n. record (first.root) { end = n }) (sym (ap (λ (r : Super). r.end) root));
-      dataset = dataset ∙ h.dataset ∙ ap (λ n. with_rows n first.dataset) (sym (ap (λ (d : Described). d.shape.rows) dataset));
+      dataset = dataset ∙ h.dataset ∙ ap (λ (d : Described). grown d.shape.rows d.layout.address first.dataset) (sym dataset);
+      named = λ n. ap (λ (d : Described). d.layout.address) dataset ∙ h.named n;
       rows = ap (λ (d : Described). d.shape.rows) dataset ∙ h.rows;
       waits = h.waits ∙ ap (λ n. n * columns_of first) (sym waits);
     }
@@ -218,7 +220,8 @@ puts_taken name first s t b p h =
     record {
       name = name_is ∙ h.name;
       root = root ∙ h.root ∙ ap (λ n. record (first.root) { end = n }) (sym (ap (λ (r : Super). r.end) root));
-      dataset = dataset ∙ h.dataset ∙ ap (λ n. with_rows n first.dataset) (sym (ap (λ (d : Described). d.shape.rows) dataset));
+      dataset = dataset ∙ h.dataset ∙ ap (λ (d : Described). grown d.shape.rows d.layout.address first.dataset) (sym dataset);
+      named = λ n. ap (λ (d : Described). d.layout.address) dataset ∙ h.named n;
       rows = ap (λ (d : Described). d.shape.rows) dataset ∙ h.rows;
       waits = h.waits ∙ ap (λ n. n * columns_of first) (sym waits);
     }
@@ -269,12 +272,14 @@ broke_puts {u} {v} {w} name first s t b p h =
 planned_taken : (name : List ℕ) (first s t : Session) (b : Batches) (w : DiskView) → 1 ≤ columns_of first → Planned name s t w → HasTaken first s b → HasTaken first t (close_batch b)
 planned_taken name first s t b w some p h =
     let r = p.rows in
-    let dataset : t.dataset ≡ with_rows (rows_of s) first.dataset = r.dataset ∙ ap (with_rows (rows_of s)) h.dataset in
+    let dataset : t.dataset ≡ grown (rows_of s) t.dataset.layout.address first.dataset = r.dataset ∙ ap (grown (rows_of s) t.dataset.layout.address) h.dataset in
+    let here : IsNamed first.dataset → IsNamed s.dataset = λ n e. n (sym (h.named n) ∙ e) in
     let rows : t.dataset.shape.rows ≡ rows_of s = ap (λ (d : Described). d.shape.rows) dataset in
     record {
       name = r.name ∙ h.name;
       root = r.root ∙ ap (λ (x : Super). record x { end = t.root.end }) h.root;
-      dataset = dataset ∙ ap (λ n. with_rows n first.dataset) (sym rows);
+      dataset = dataset ∙ ap (λ n. grown n t.dataset.layout.address first.dataset) (sym rows);
+      named = λ n. r.address (here n) ∙ h.named n;
       rows = rows ∙ ap (λ n. n + s.waits) h.rows ∙ sym (batch_rows (columns_of first) first.dataset.shape.rows s.waits b some p.waits h.waits);
       waits = none_rows (columns_of first) ∙ ap (λ n. n * columns_of first) (sym r.waits);
     }
@@ -361,7 +366,7 @@ broke_batch {u} {v} {x} {w} name first s t r b some p plan q h =
 -- a session that has just begun has stored nothing
 pub stored_none : (name : List ℕ) (first : Session) (v : DiskView) → first.waits ≡ 0 → Stored name first first no_batches v v
 stored_none name first v none = record {
-  taken = record { name = refl; root = refl; dataset = refl; rows = refl; waits = none_rows (columns_of first) ∙ ap (λ n. n * columns_of first) (sym none) };
+  taken = record { name = refl; root = refl; dataset = refl; named = λ n. refl; rows = refl; waits = none_rows (columns_of first) ∙ ap (λ n. n * columns_of first) (sym none) };
   puts = [];
   disk = record { told = no_puts name v.told; faults = omega arith; through = refl };
   since = tt;

@@ -1,6 +1,7 @@
 -- What an append to a file tells, and what it leaves.
 use Rattle.std.specs.Prelude.{◌≡◌, ◌⊎◌, ℕ, ◌+◌, ◌*◌, ◌/◌, ◌%◌, Bool, true, List, [], ◌∷◌, ◌++◌, length, Option, Some, None, IfSome, Result, Ok, Err, ℤ, option_map}
 use Rattle.h5w_model.specs.Causes.{Rose}
+use Rattle.h5w_model.specs.Datasets.{Described}
 use Rattle.h5w_model.specs.Findings.{Summary, Valid}
 use Rattle.h5w_model.specs.Lawful.{first_outside}
 use Rattle.h5w_model.specs.Logs.{Log, hist, appended_in, flushed, flushed_in}
@@ -18,7 +19,7 @@ use Rattle.h5w_session.specs.Loads.{NoPlace}
 use Rattle.h5w_session.specs.OpenAnswers.{HasBegun, IsNotOpened, IsOpenedOver}
 use Rattle.h5w_session.specs.Openings.{opened_log}
 use Rattle.h5w_session.specs.Refusals.{IsFullFor, append_refusal}
-use Rattle.h5w_session.specs.Sessions.{Session, cleared, with_rows}
+use Rattle.h5w_session.specs.Sessions.{IsNamed, Session, cleared}
 use Rattle.h5w_session.specs.Stands.{Stands}
 use Rattle.h5w_session.specs.declared.refusal.AppendError.TheVariants as appends
 use Rattle.h5w_text.specs.Errors.{error_text}
@@ -51,11 +52,17 @@ pub record IsLogOf (img : List ℕ) (columns : ℕ) (values : List ℤ) (s : Ses
   pub flushed_are : flushed log ≡ values ++ values_of b.closed
   pub appended_are : appended_in log.events ≡ values_of b.closed ++ b.waiting
 
--- The session is the one that began, once these batches were closed, and these values wait.
+-- the dataset with so many rows, and with this address of its index
+abbrev pub grown : ℕ → ℕ → Described → Described
+grown rows index d = record d { shape = record (d.shape) { rows = rows }; layout = record (d.layout) { address = index } }
+
+-- The session is the one that began, once these batches were closed, and these values wait. An index that the dataset named is where it
+-- was.
 pub record HasTaken (first s : Session) (b : Batches) : Type 0 where
   pub name : s.name ≡ first.name
   pub root : s.root ≡ record (first.root) { end = s.root.end }
-  pub dataset : s.dataset ≡ with_rows s.dataset.shape.rows first.dataset
+  pub dataset : s.dataset ≡ grown s.dataset.shape.rows s.dataset.layout.address first.dataset
+  pub named : IsNamed first.dataset → s.dataset.layout.address ≡ first.dataset.layout.address
   pub rows : s.dataset.shape.rows ≡ rows_after (columns_of first) first.dataset.shape.rows b.closed
   pub waits : length b.waiting ≡ s.waits * columns_of first
 

@@ -12,11 +12,11 @@ use Rattle.h5w_model.specs.declared.report.FlushLine.{FlushLine}
 use Rattle.h5w_laws.proofs.LogLemmas.{position_laws, length_hist}
 use Rattle.h5w_session.specs.Creations.{NewFile, new_dataset}
 use Rattle.h5w_session.specs.Refusals.{append_refusal, chunks_refusal, flush_refusal}
-use Rattle.h5w_session.specs.Sessions.{AfterPiece, Session, TakesRows, chunks_with, rows_of, with_rows, with_values}
+use Rattle.h5w_session.specs.Sessions.{AfterPiece, Session, TakesRows, chunks_with, rows_of, with_rows, with_values, IsNamed}
 use Rattle.h5w_session.specs.Stands.{Stands}
 use Rattle.h5w_session.specs.declared.refusal.AppendError.{AppendError}
 use Rattle.h5w_session.specs.declared.refusal.AppendError.TheVariants as errors
-use Rattle.h5w_session.proofs.LawLemmas.{standing_laws}
+use Rattle.h5w_session.proofs.LawLemmas.{standing_laws, shown_laws}
 use Rattle.h5w_session.proofs.StandLemmas.{none_outside}
 use Rattle.h5w_shared.specs.Seats.{ImageId, SeatView}
 use Rattle.h5w_live_laws.specs.Lines.{rows_told}
@@ -24,6 +24,7 @@ use Rattle.h5w_live_laws.proofs.LineLemmas.{agree_more, tells_more, values_more}
 use Rattle.h5w_live.specs.Writing.{HasFlushed, HasRoom, HasWritten, StaysSeated, Writes, batch_refusal, showing, too_many}
 use Rattle.h5w_live.proofs.WritingLemmas.{Shown, appended_showing, hist_showing, shown_stays, after_pending}
 use Rattle.h5w_live.proofs.FlushedLemmas.{before_last, pieces_last, rows_all, rows_last}
+use Rattle.h5w_session.proofs.FlushCalls.{takes_named}
 
 none_some : {A : Type 0} (a : A) → ◌≡◌ {A = Option A} None (Some a) → ⊥
 none_some a e = cc
@@ -166,8 +167,9 @@ module _ (f : NewFile) (done : List (List ℤ)) (s : Session) (v : SeatView) (li
 
     pub dataset_is : s3.dataset ≡ with_rows s3.dataset.shape.rows (new_dataset f)
     dataset_is =
+        let named : IsNamed s1.dataset = subst (λ (t : Session). IsNamed t.dataset) (sym added) (shown_laws.named s h.writes.log h.writes.stands h.writes.new) in
         let base : s3.dataset ≡ with_rows (rows_of s1) (new_dataset f) =
-        facts.dataset ∙ takes.dataset ∙ ap (λ (t : Session). with_rows (rows_of s1) t.dataset) added ∙ ap (λ (d : Described). with_rows (rows_of s1) d) h.writes.dataset in
+        facts.dataset ∙ takes_named s1 s2 takes named ∙ ap (λ (t : Session). with_rows (rows_of s1) t.dataset) added ∙ ap (λ (d : Described). with_rows (rows_of s1) d) h.writes.dataset in
         base ∙ ap (λ (n : ℕ). with_rows n (new_dataset f)) (sym (ap (λ (d : Described). d.shape.rows) base))
 
     pub seen_is : v3.seen ≡ v.seen ++ s2.pending
@@ -295,7 +297,7 @@ writes_still f s t v x w seat name dataset stands = record {
 
 pub planned_writes : (f : NewFile) (s t : Session) (v x : SeatView) → Writes f s v → StaysSeated v x → TakesRows s t → (k : ℕ) → ((log : Log) → Stands s log → Stands t (and_now (plans k) log)) → Writes f t x
 planned_writes f s t v x w seat takes k stands =
-    let d : t.dataset ≡ with_rows (rows_of s) (new_dataset f) = takes.dataset ∙ ap (with_rows (rows_of s)) w.dataset in
+    let d : t.dataset ≡ with_rows (rows_of s) (new_dataset f) = takes_named s t takes (shown_laws.named s w.log w.stands w.new) ∙ ap (with_rows (rows_of s)) w.dataset in
     record {
       log = and_now (plans k) w.log;
       stands = stands w.log w.stands;

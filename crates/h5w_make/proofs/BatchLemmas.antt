@@ -20,18 +20,19 @@ use Rattle.h5w_session.specs.Loads.{first_end_of}
 use Rattle.h5w_session.specs.Creations.{created, creation_writes, log_of, new_dataset}
 use Rattle.h5w_session.specs.Room.{HasRoomFor}
 use Rattle.h5w_session.specs.Refusals.{IsSpace, append_refusal, chunks_refusal, close_refusal, flush_refusal}
-use Rattle.h5w_session.specs.Sessions.{AfterPiece, Freed, Session, TakesRows, chunk_limit, chunks_with, cleared, closed_of, closed_root, cutting_of, rows_of, with_rows, with_values}
+use Rattle.h5w_session.specs.Sessions.{AfterPiece, Freed, Session, TakesRows, chunk_limit, chunks_with, cleared, closed_of, closed_root, cutting_of, rows_of, with_rows, with_values, IsNamed}
 use Rattle.h5w_session.specs.Stands.{Stands}
 use Rattle.h5w_session.specs.declared.refusal.AppendError.{AppendError}
 use Rattle.h5w_session.specs.declared.refusal.AppendError.TheVariants as errors
 use Rattle.h5w_session.specs.declared.refusal.FlushError.{FlushError}
 use Rattle.h5w_session.specs.declared.refusal.FlushError.TheVariants as flushes
 use Rattle.h5w_session.proofs.PastLemmas.{new_end}
-use Rattle.h5w_session.proofs.LawLemmas.{standing_laws}
+use Rattle.h5w_session.proofs.LawLemmas.{standing_laws, shown_laws}
 use Rattle.h5w_steady.specs.Steady.{steady}
 use Rattle.h5w_make.specs.Commands.{new_file, showing, values_of}
 use Rattle.h5w_make.specs.States.{HasPlace, IsAfter, IsClosed, IsTaken, ShowsAll}
 use Rattle.h5w_make.proofs.EventLemmas.{appended_batches, cutting, hist_showing, load_bound, spent_in-events, spent_showing}
+use Rattle.h5w_session.proofs.FlushCalls.{takes_named}
 
 pub some_is : {A : Type 0} (a b : A) → Some a ≡ Some b → a ≡ b
 some_is a b same = ap (λ o. unwrap_or o a) same
@@ -177,7 +178,8 @@ module _ (bs : List (List ℤ)) (values : List ℤ) (s0 s1 s2 s3 : Session) (m0 
       let rows : s0.dataset.shape.rows ≡ length (values_of bs) = ap (λ (d : Described). d.shape.rows) h.dataset in
       let whole : length values / s0.dataset.shape.cols ≡ length values = ap (λ (c : ℕ). length values / c) columns ∙ (let e : length values / 1 ≡ length values = omega arith in e) in
       let all : rows_of (with_values s0 values) ≡ length (values_of bs ++ values) = omega (arith, rows, whole, h.waits, length-append (values_of bs) values) in
-      (all_shown s2 s3 after).dataset ∙ takes.dataset ∙ ap (λ (x : Session). with_rows (rows_of x) x.dataset) added
+      let named : IsNamed s1.dataset = subst (λ (x : Session). IsNamed x.dataset) (sym added) (shown_laws.named s0 h.log h.stands h.is) in
+      (all_shown s2 s3 after).dataset ∙ takes_named s1 s2 takes named ∙ ap (λ (x : Session). with_rows (rows_of x) x.dataset) added
       ∙ ap (λ (d : Described). with_rows (rows_of (with_values s0 values)) d) h.dataset ∙ ap of_rows all
 
   loads_are : spent (cutting_of s3) (record (h.log) { events = showing s2.pending (plans (length s2.pending) ∷ appends values ∷ h.log.events) }) ≤ suc (length bs) * 700000

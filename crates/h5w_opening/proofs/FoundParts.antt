@@ -27,6 +27,7 @@ pub record Parts (img : List ℕ) (size : ℕ) (name : List ℕ) (o : Opened) : 
   pub header_read : eval img (dataset_header_for true o.place) ≡ Ok header
   pub says : described header.messages ≡ Ok o.header.dataset
   pub len : o.header.len ≡ chunk_0_len header.ranges
+  pub in_chunk : o.header.in_chunk_0 ≡ in_chunk_0 header.messages
 
 abbrev as_super : Super → Result Super OpenError
 as_super s = Ok s
@@ -64,6 +65,7 @@ pub record HeaderFound (img : List ℕ) (place : ℕ) (d : DatasetHeaderFields) 
   pub read : eval img (dataset_header_for true place) ≡ Ok header
   pub says : described header.messages ≡ Ok d.dataset
   pub len : d.len ≡ chunk_0_len header.ranges
+  pub in_chunk : d.in_chunk_0 ≡ in_chunk_0 header.messages
 
 pub header_found_by : (img : List ℕ) (place : ℕ) (d : DatasetHeaderFields) → dataset_found place img ≡ Ok d → HeaderFound img place d
 header_found_by img place d h =
@@ -81,6 +83,7 @@ header_found_by img place d h =
       read = refused_ok Read (eval img (dataset_header_for true place)) x t.1;
       says = refused_ok (λ e. Read (read_errors.Unsupported e)) (described x.messages) y u.1;
       len = refl;
+      in_chunk = refl;
     })
 
 pub parts : (img : List ℕ) (size : ℕ) (name : List ℕ) (o : Opened) → eval img (looked_for size name) ≡ Ok o → Parts img size name o
@@ -105,4 +108,5 @@ parts img size name o h =
       header_read = hf.read;
       says = hf.says;
       len = hf.len;
+      in_chunk = hf.in_chunk;
     })

@@ -17,8 +17,8 @@ use Rattle.h5w_array_laws.specs.ArrayPlans.{IsArrayPlan}
 use Rattle.h5w_flush_laws.specs.Parts.{AreEnded}
 use Rattle.h5w_model.proofs.HeaderLemmas.{messages_at-ok}
 use Rattle.h5w_header_laws.proofs.CommitLaws.{rows_place_is, rows_there}
-use Rattle.h5w_session.specs.Sessions.{ArePieces, IsSession, IsWritable, Session, option_list, rows_of, with_rows}
-use Rattle.h5w_session.specs.Flushes.{IsFlushed, SameBut, flushed_of}
+use Rattle.h5w_session.specs.Sessions.{ArePieces, IsSession, IsWritable, Session, option_list, rows_of, with_rows, IsNamed}
+use Rattle.h5w_session.specs.Flushes.{IsFlushed, SameBut, flushed_of, header_piece}
 use Rattle.h5w_session.specs.Placing.{IsPartly, IsPlacing, first_number}
 use Rattle.h5w_session.proofs.FlushedLemmas.{Shown, flushed_is, flushed_pieces, shown_flushed, tops_kept}
 use Rattle.h5w_session.proofs.PlacingLemmas.{partly_kept, same_but}
@@ -31,6 +31,7 @@ has_rows b w =
 
 -- the calls, of a session v, up to row `to`; r, b and e are the superblock, the header and the cells that wait then
 pub record Carried (v : Session) (to : ℕ) (t : Space) (w : Store) (ws : List Write) (r : Super) (b e : List ℕ) : Type 0 where
+  pub there : IsNamed v.dataset
   pub some : 0 < v.waits
   pub to_is : to ≡ rows_of v
   pub small : to < 2 ^ 52
@@ -66,11 +67,9 @@ pub record Carried (v : Session) (to : ℕ) (t : Space) (w : Store) (ws : List W
   pub none_waits : e ≡ []
 
 module _ (v : Session) (to : ℕ) (t : Space) (w : Store) (ws : List Write) (r : Super) (b e : List ℕ) (x : Carried v to t w ws r b e) where
-  carried_shown : Shown v t w ws
+  carried_shown : Shown v t w
   carried_shown =
       let rows = rows_of v in
-      let last : ◌≡◌ {A = Write} (record { at = v.place; piece = x.piece }) (record { at = v.place; piece = with_rows_bytes v.header rows None }) =
-      ap (λ (p : List ℕ). let h : Write = record { at = v.place; piece = p } in h) (x.piece_is ∙ x.header ∙ ap (λ (n : ℕ). with_rows_bytes v.header n None) x.to_is) in
       record {
         some = x.some;
         small = omega (arith, x.small, x.to_is);
@@ -95,9 +94,14 @@ module _ (v : Session) (to : ℕ) (t : Space) (w : Store) (ws : List Write) (r :
         plan = x.plan;
         supers = x.supers;
         ended = subst (λ (n : ℕ). AreEnded v.root n x.supers) x.end_is x.ended;
-        pending = x.items ∙ ap (λ (h : Write). x.rows ++ (x.copies ++ (x.supers ++ (x.fixed ++ h ∷ [])))) last;
-        header_short = x.header_short;
       }
+
+  carried_joined : ws ≡ x.rows ++ (x.copies ++ (x.supers ++ (x.fixed ++ header_piece v ∷ [])))
+  carried_joined =
+      let rows = rows_of v in
+      let last : ◌≡◌ {A = Write} (record { at = v.place; piece = x.piece }) (record { at = v.place; piece = with_rows_bytes v.header rows None }) =
+      ap (λ (p : List ℕ). let h : Write = record { at = v.place; piece = p } in h) (x.piece_is ∙ x.header ∙ ap (λ (n : ℕ). with_rows_bytes v.header n None) x.to_is) in
+      x.items ∙ ap (λ (h : Write). x.rows ++ (x.copies ++ (x.supers ++ (x.fixed ++ h ∷ [])))) last
 
   abbrev carried : Session
   carried = record v { root = r; header = b; dataset = with_rows to v.dataset; places = t; waiting = e; waits = 0; pending = ws; index = w }
@@ -111,14 +115,17 @@ module _ (v : Session) (to : ℕ) (t : Space) (w : Store) (ws : List Write) (r :
       λ k. put (root k) (header k) (x.to_is k) (x.none_waits k)
 
   pub carried_is : IsSession v → IsSession carried
-  carried_is is = subst IsSession (sym carried_after) (flushed_is v is t w ws carried_shown)
+  unfolding carried_shown
+  carried_is is = subst IsSession (sym carried_after) (flushed_is v is x.there t w ws carried_shown carried_joined x.header_short)
 
   pub carried_pieces : IsSession v → ArePieces t.end ws
-  carried_pieces is = flushed_pieces v is t w ws carried_shown
+  unfolding carried_shown
+  carried_pieces is = flushed_pieces v is x.there t w ws carried_shown carried_joined x.header_short
 
   pub carried_flushed : IsSession v → (s : Session) → v ≡ s → IsFlushed s carried
+  unfolding carried_shown
   carried_flushed is s e' =
-      subst (λ (u : Session). IsFlushed u carried) e' (subst (λ (u : Session). IsFlushed v u) (sym carried_after) (shown_flushed v is t w ws carried_shown))
+      subst (λ (u : Session). IsFlushed u carried) e' (subst (λ (u : Session). IsFlushed v u) (sym carried_after) (shown_flushed v is x.there t w ws carried_shown carried_joined x.header_short))
 
 -- ---- A refused flush
 
@@ -138,11 +145,12 @@ module _ (v : Session) (to : ℕ) (u : Store) (to_is : to ≡ rows_of v) (p : Is
         array = is.array;
         across = is.across;
         header = is.header;
+        addressed = is.addressed;
         header_ends = is.header_ends;
         small = is.small;
         limit = is.limit;
         inside = λ i from named. let same : map_of u i ≡ map_of v.index i = kept.map i in omega (arith, same, is.inside i from (λ e. named (same ∙ e)));
-        tops = tops_kept v.places.end v.places.end v.index u p.places (omega arith) is.tops;
+        tops = λ named. tops_kept v.places.end v.places.end v.index u p.places (omega arith) (is.tops named);
         blocks = p.array;
       }
 

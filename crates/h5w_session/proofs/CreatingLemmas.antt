@@ -158,7 +158,7 @@ file_made f ws stop keep w es t is freed pieces none_appended none_flushed =
       knows = begin_knows (image_now next) f.name m (λ key. undefined) t made.represents made.index
           (record { end = begun.0; none_free = begun.1; none_retired = begun.2 }) (λ h. made.layout);
       keeps = record { root = refl; place = refl; dataset = refl; header = made.chunk };
-      index = new_indexed f (image_now next) t is made begun.0 begun.1 begun.2;
+      index = inl (new_indexed f (image_now next) t is made begun.0 begun.1 begun.2);
       marks = clean_marks (new_dataset f) 0 0 (new_array (array_place f) (index_place f)) (new_array_is (array_place f) (index_place f)).changed;
       more = [];
       waiting = no_cells (new_dataset f);
@@ -249,7 +249,7 @@ keep_stands s log st = record {
       appended = r.appended;
       committed = r.committed;
       columns = r.columns;
-      past = past_same s (record s { keeps = true }) st.left log r.after (record { name = refl; place = refl; dataset = refl; limit = refl; own = λ o. o }) refl r.past;
+      past = past_same s (record s { keeps = true }) st.left log r.after (record { name = refl; place = refl; dataset = refl; address = λ named. refl; limit = refl; own = λ o. o }) refl r.past;
     })
   ];
   prefixed = st.prefixed;

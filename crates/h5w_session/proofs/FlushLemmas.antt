@@ -1,5 +1,5 @@
 -- A flush that was planned: the session after it stands over the log with that plan.
-use Rattle.std.proofs.Common.{◌≡◌, ℕ, zero, suc, ◌+◌, ◌*◌, ◌<◌, Bool, List, [], ◌∷◌, ◌++◌, ◌/◌, length, ℤ, Some, None, refl, sym, ap, ◌∙◌, subst, arith, length-append, append_assoc, append-nil}
+use Rattle.std.proofs.Common.{◌≡◌, ℕ, zero, suc, ◌+◌, ◌*◌, ◌<◌, Bool, List, [], ◌∷◌, ◌++◌, ◌/◌, length, ℤ, Some, None, refl, sym, ap, ◌∙◌, subst, arith, length-append, append_assoc, append-nil, inl}
 use Rattle.std.specs.Prelude.{if◌then◌else◌}
 use Rattle.std.specs.List.{slice_get}
 use Rattle.std.proofs.lemmas.Bool.{le-ltb}
@@ -44,17 +44,17 @@ use Rattle.h5w_flush_laws.proofs.SessionLaws.{session_laws}
 use Rattle.h5w_array_flushes.specs.ArrayFlushes.{ArrayRests, IsArrayPart, array_parts, chunks_for}
 use Rattle.h5w_array_flushes.proofs.ArrayLaws.{array_is_flush, new_are}
 use Rattle.h5w_array_flushes.proofs.ArrayRestLemmas.{array_rests_then}
-use Rattle.h5w_session.specs.Sessions.{Session, rows_of, with_rows}
+use Rattle.h5w_session.specs.Sessions.{Session, rows_of, with_rows, IsNamed}
 use Rattle.h5w_session.specs.Indexes.{IsIndexed, address_in}
 use Rattle.h5w_session.specs.Flushes.{IsFlushed, flushed_of, header_piece}
 use Rattle.h5w_session.specs.Past.{Past}
 use Rattle.h5w_session.specs.Stands.{Running}
 use Rattle.h5w_types.proofs.RunLemmas.{first_has_cell}
-use Rattle.h5w_session.proofs.IndexLemmas.{clean_marks}
+use Rattle.h5w_session.proofs.IndexLemmas.{clean_marks, kept_named}
 
 -- ---- Values
 
-each_fits : (d : Described) (i : ℕ) (vs : List ℤ) → first_outside d.int_type i vs ≡ None → (k : ℕ) (v : ℤ) → slice_get vs k ≡ Some v → FitsType d v
+pub each_fits : (d : Described) (i : ℕ) (vs : List ℤ) → first_outside d.int_type i vs ≡ None → (k : ℕ) (v : ℤ) → slice_get vs k ≡ Some v → FitsType d v
 each_fits d i [] none k v at = cc
 each_fits d i (w ∷ vs) none zero v at =
     let first = first_has_cell d.int_type i w vs none in
@@ -78,13 +78,17 @@ parts m old new more chunks rows copies supers fixed = array_parts (chunk_bytes 
 pub same_ranges : (v w : Store) → ((n : ℕ) → place_of w n ≡ place_of v n) → fixed_of w ≡ fixed_of v
 same_ranges v w stay = λ i. block_at (stay 846 i) 72 ∷ block_at (stay 845 i) 298 ∷ []
 
-no_cells : (d : Described) → [] ≡ cells_of d []
+pub no_cells : (d : Described) → [] ≡ cells_of d []
 unfolding run_bytes
 no_cells d = refl
 
 module _ (old new : Session) (log : Log) (x : IsFlushed old new) (r : Running old [] log) where
+  -- the file's index is the array
+  pub array_now : IsIndexed (image_now log) r.after r.address old.places old.index
+  array_now = kept_named (image_now log) r.after r.address old.places old.index (subst IsNamed (sym r.keeps.dataset) x.there) r.index
+
   same_map : r.address ≡ address_in old.index
-  same_map = λ i key. r.index.map key i
+  same_map = λ i key. array_now.map key i
 
   known : Knows (image_now log) old.name r.after (address_in old.index) old.places
   known = subst (λ (f : Key → ℕ). Knows (image_now log) old.name r.after f old.places) same_map r.knows
@@ -125,17 +129,17 @@ module _ (old new : Session) (log : Log) (x : IsFlushed old new) (r : Running ol
 
   standing_held : Standing x.held x.between
   standing_held =
-      let before = x.named.standing old.places r.index.standing in
+      let before = x.named.standing old.places array_now.standing in
       record { live = λ n there. x.taken.stays_live (range_of x.held n) (before.live n there); some = before.some; apart = before.apart }
 
   part : (are : AreCopies x.moves x.copies) → IsArrayPart (image_now log) r.after x.held x.between x.moves new.index new.places (chunks_of r.after old x.chunks) are.placed x.fixed
   part are = record {
-    kind = r.index.kind;
-    at = r.index.at ∙ sym (x.named.places_stay (number_of header));
-    stay = r.index.fixed ∙ sym (same_ranges old.index x.held x.named.places_stay);
-    stands = x.named.stands (image_now log) r.index.stands;
+    kind = array_now.kind;
+    at = array_now.at ∙ sym (x.named.places_stay (number_of header));
+    stay = array_now.fixed ∙ sym (same_ranges old.index x.held x.named.places_stay);
+    stands = x.named.stands (image_now log) array_now.stands;
     behind =
-        subst (λ (us : List Used). AreAmong (behind_of (chunk_bytes r.after.dataset) x.held) (chunks_of r.after old x.chunks ++ us)) (sym r.index.behind)
+        subst (λ (us : List Used). AreAmong (behind_of (chunk_bytes r.after.dataset) x.held) (chunks_of r.after old x.chunks ++ us)) (sym array_now.behind)
         (subst (λ (d : Described). AreAmong (behind_of (chunk_bytes d) x.held) (new_chunks d (address_in old.index) d.shape.rows 0 x.chunks ++ behind_of (chunk_bytes d) old.index)) data_set x.named.behind);
     plan = subst (λ (ws : List Write). IsPlanned x.held x.between x.moves ws x.fixed new.index new.places) are.writes (record {
       before = x.named.array;
@@ -246,7 +250,7 @@ module _ (old new : Session) (log : Log) (x : IsFlushed old new) (r : Running ol
       dataset = ap (with_rows (rows_of old)) r.keeps.dataset;
       header = subst (λ (ws : List Write). chunk_0 (image (image_now log) ws) old.place ≡ (header_piece old).piece) all_pieces header_then;
     };
-    index = index_then;
+    index = inl index_then;
     marks = clean_marks (with_rows (rows_of old) old.dataset) (rows_of old) (rows_of old + 0) new.index x.plan.clean;
     more = [];
     waiting = no_cells (with_rows (rows_of old) old.dataset);

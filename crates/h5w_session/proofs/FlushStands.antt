@@ -11,7 +11,7 @@ use Rattle.h5w_steps.specs.Logs.{Goes, image_now}
 use Rattle.h5w_steps.proofs.GoesLemmas.{event_goes}
 use Rattle.h5w_steps.proofs.SessionLaws.{goes_runs}
 use Rattle.h5w_session.specs.Sessions.{Session, rows_of}
-use Rattle.h5w_session.specs.Indexes.{AreMarks}
+use Rattle.h5w_session.specs.Indexes.{AreMarks, IsKeptIndex}
 use Rattle.h5w_session.specs.Flushes.{AreWays, IsFlushed, SameBut, flushed_of}
 use Rattle.h5w_session.specs.Past.{Past}
 use Rattle.h5w_session.specs.Stands.{Running, Stands}
@@ -19,6 +19,12 @@ use Rattle.h5w_session.proofs.PastLemmas.{like_itself, past_planned, past_same}
 use Rattle.h5w_session.proofs.RaisedLemmas.{raised_more, raised_none}
 use Rattle.h5w_session.proofs.StandLemmas.{goes_rows, left_running, resting}
 use Rattle.h5w_session.proofs.FlushLemmas.{after_flush, flush_running, same_ranges}
+use Rattle.h5w_starting_laws.proofs.StartLemmas.{blank_held}
+use Rattle.h5w_array_laws.specs.ArrayStores.{IsArray}
+use Rattle.h5w_ea_index.specs.Steps.{IsHeld}
+use Rattle.h5w_model.specs.declared.cell.Key.{Key}
+use Rattle.h5w_steps.specs.Moments.{Moment}
+use Rattle.h5w_space.specs.Space.{Space}
 
 -- ---- Rows are flushed
 
@@ -92,6 +98,25 @@ nothing_stands s log running idle none st =
 pub ways_marks : (s : Session) (v : Store) → AreWays s v → AreMarks s.dataset s.dataset.shape.rows (rows_of s) s.index → AreMarks s.dataset s.dataset.shape.rows (rows_of s) v
 ways_marks s v ways marks n changed = elim (ways n changed) [ inl before ↦ marks n before | inr way ↦ way ]
 
+-- blocks that are held leave what the array is for the file
+held_kept : (img : List ℕ) (m : Moment) (address : Key → ℕ) (s : Space) (v w : Store) → IsArray w → IsHeld v w → IsKeptIndex img m address s v → IsKeptIndex img m address s w
+held_kept img m address s v w array held (inl i) = inl (record {
+  kind = i.kind;
+  at = i.at ∙ sym (held.places (number_of header));
+  array = array;
+  stands = held.stands img i.stands;
+  standing = held.standing s i.standing;
+  fixed = i.fixed ∙ sym (same_ranges v w held.places);
+  behind = i.behind ∙ sym (held.behind (chunk_bytes m.dataset));
+  map = λ key. i.map key ∙ sym (held.map key.i);
+})
+held_kept img m address s v w array held (inr none) = inr (record {
+  unnamed = none.unnamed;
+  array = array;
+  blank = blank_held v w none.blank held.map held.places held.behind;
+  map = λ key. none.map key ∙ sym (held.map key.i);
+})
+
 refused_running : (old new : Session) (log : Log) → SameBut old new → Running old [] log → Running (record old { index = new.index }) [] log
 refused_running old new log b r = record {
   after = r.after;
@@ -99,16 +124,7 @@ refused_running old new log b r = record {
   runs = r.runs;
   knows = r.knows;
   keeps = record { root = r.keeps.root; place = r.keeps.place; dataset = r.keeps.dataset; header = r.keeps.header };
-  index = record {
-    kind = r.index.kind;
-    at = r.index.at ∙ sym (b.held.places (number_of header));
-    array = b.array;
-    stands = b.held.stands (image_now log) r.index.stands;
-    standing = b.held.standing old.places r.index.standing;
-    fixed = r.index.fixed ∙ sym (same_ranges old.index new.index b.held.places);
-    behind = r.index.behind ∙ sym (b.held.behind (chunk_bytes r.after.dataset));
-    map = λ key. r.index.map key ∙ sym (b.held.map key.i);
-  };
+  index = held_kept (image_now log) r.after r.address old.places old.index new.index b.array b.held r.index;
   marks = ways_marks old new.index b.ways r.marks;
   more = r.more;
   waiting = r.waiting;
@@ -117,7 +133,7 @@ refused_running old new log b r = record {
   appended = r.appended;
   committed = r.committed;
   columns = r.columns;
-  past = past_same old (record old { index = new.index }) [] log r.after (record { name = refl; place = refl; dataset = refl; limit = refl; own = b.own }) refl r.past;
+  past = past_same old (record old { index = new.index }) [] log r.after (record { name = refl; place = refl; dataset = refl; address = λ named. refl; limit = refl; own = b.own }) refl r.past;
 }
 
 pub refused_stands : (old new : Session) (log : Log) → SameBut old new → old.stopped ≡ false → old.pending ≡ [] → Stands old log → Stands new log

@@ -28,7 +28,7 @@ use Rattle.h5w_array_laws.specs.ArrayPlans.{IsArrayPlan}
 use Rattle.h5w_array_laws.proofs.WriteLemmas.{plan_copies}
 use Rattle.h5w_flush_laws.specs.Parts.{AreEnded}
 use Rattle.h5w_laws.proofs.LogLemmas.{div_rises}
-use Rattle.h5w_session.specs.Sessions.{AreInside, ArePieces, EndInPlace, IsSession, Session, chunk_limit, rows_of, with_rows}
+use Rattle.h5w_session.specs.Sessions.{AreInside, ArePieces, EndInPlace, IsSession, Session, chunk_limit, rows_of, with_rows, IsNamed}
 use Rattle.h5w_session.specs.Flushes.{IsFlushed, flushed_of, header_piece}
 use Rattle.h5w_session.specs.Placing.{IsPlacing, first_number}
 use Rattle.h5w_session.proofs.MoveBounds.{moves_raised}
@@ -120,7 +120,7 @@ at_index (x ∷ xs) (suc k) below = at_index xs k (omega arith)
 pub key_number : (d : Described) (from k : ℕ) → chunks_across d ≡ 1 → (touched_key d from k).i ≡ from / d.layout.chunk_rows + k
 key_number d from k one = ap (λ (n : ℕ). from / d.layout.chunk_rows + k / n) one ∙ ap (λ (n : ℕ). from / d.layout.chunk_rows + n) (let e : k / 1 ≡ k = omega arith in e)
 
-pieces_joined : (end : ℕ) (ws vs : List Write) → ArePieces end ws → ArePieces end vs → ArePieces end (ws ++ vs)
+pub pieces_joined : (end : ℕ) (ws vs : List Write) → ArePieces end ws → ArePieces end vs → ArePieces end (ws ++ vs)
 pieces_joined end ws vs a b = record { sized = AllSized-append ws vs a.sized b.sized; within = ends_joined end ws vs a.within b.within }
 
 pub one_piece : (end : ℕ) (w : Write) → 1 ≤ length w.piece → length w.piece ≤ 512 → w.at + length w.piece ≤ end → ArePieces end (w ∷ [])
@@ -132,8 +132,8 @@ supers_are end s e (w ∷ ws) long ended =
     let own = one_piece end w (omega (arith, ended.0.len)) (omega (arith, ended.0.len)) (omega (arith, ended.0.len, ended.0.place)) in
     subst (λ (xs : List Write). ArePieces end (w ∷ xs)) (sym ended.1) own
 
--- what the code of a flush shows of the session before and the places, blocks and pieces after
-pub record Shown (s : Session) (t : Space) (v : Store) (ws : List Write) : Type 0 where
+-- what the code of a flush shows of the session before and the places and blocks after, whichever pieces it joins
+pub record Shown (s : Session) (t : Space) (v : Store) : Type 0 where
   pub some : 0 < s.waits
   pub small : rows_of s < 2 ^ 64
   pub typed : IsIntType s.dataset.int_type
@@ -153,25 +153,20 @@ pub record Shown (s : Session) (t : Space) (v : Store) (ws : List Write) : Type 
   pub plan : IsArrayPlan held between moves copies fixed v t
   pub supers : List Write
   pub ended : AreEnded s.root t.end supers
-  pub pending : ws ≡ rows ++ (copies ++ (supers ++ (fixed ++ header_piece s ∷ [])))
-  pub header_short : length s.header ≤ 512
 
-module _ (s : Session) (is : IsSession s) (t : Space) (v : Store) (ws : List Write) (x : Shown s t v ws) where
-  abbrev after : Session
-  after = flushed_of s t ws v
-
+module _ (s : Session) (is : IsSession s) (tops : EndInPlace s.places.end s.index) (t : Space) (v : Store) (x : Shown s t v) where
   -- the blocks in place of the array that names the new chunks
-  tops_held : EndInPlace x.between.end x.held
-  tops_held = tops_kept s.places.end x.between.end s.index x.held x.placing.partly.places x.placing.raised.rises is.tops
+  pub tops_held : EndInPlace x.between.end x.held
+  tops_held = tops_kept s.places.end x.between.end s.index x.held x.placing.partly.places x.placing.raised.rises tops
 
-  ends : (t.limit ≡ x.between.limit) × (t.end ≤ max x.between.end t.limit)
+  pub ends : (t.limit ≡ x.between.limit) × (t.end ≤ max x.between.end t.limit)
   ends = plan_ends x.held x.placing.partly.array x.between x.moves x.copies x.fixed v t x.plan
 
-  rises : s.places.end ≤ t.end
+  pub rises : s.places.end ≤ t.end
   rises = omega (arith, x.placing.raised.rises, x.plan.end)
 
   -- each chunk that rows may still go into ends in the file then, where it has an address
-  inside_then : AreInside s.dataset t.end v
+  pub inside_then : AreInside s.dataset t.end v
   inside_then i from named =
       let same : map_of v i ≡ map_of x.held i = x.plan.map i in
       let held : map_of x.held i ≢ undefined = λ e. named (same ∙ e) in
@@ -196,42 +191,77 @@ module _ (s : Session) (is : IsSession s) (t : Space) (v : Store) (ws : List Wri
             ]
       ]
 
+  pub small_then : t.end < 2 ^ 64
+  small_then = omega (arith, ends.0, ends.1, x.placing.raised.fits, x.placing.raised.limit, is.small, is.limit)
+
+  pub limit_then : t.limit ≤ 2 ^ 40
+  limit_then = subst (λ (n : ℕ). n ≤ 2 ^ 40) (sym (ends.0 ∙ x.placing.raised.limit)) is.limit
+
+  pub stays_inside : (i : ℕ) → rows_of s / s.dataset.layout.chunk_rows ≤ i → map_of v i ≢ undefined → map_of v i + chunk_len s.dataset ≤ t.end
+  stays_inside i from named = inside_then i (omega (arith, from, div_rises s.dataset.layout.chunk_rows s.dataset.shape.rows (rows_of s) (omega arith))) named
+
+  pub tops_last : EndInPlace t.end v
+  tops_last = tops_then x.held x.placing.partly.array x.between x.moves x.copies x.fixed v t x.plan tops_held
+
+  -- its pieces but for the header's
+  pub rows_pieces : ArePieces t.end x.rows
+  rows_pieces =
+      let inside : (k : ℕ) (p : ChunkPlace) → slice_get x.chunks k ≡ Some p → p.address + chunk_len s.dataset ≤ t.end = λ k p at. omega (arith, x.placing.inside k p at, x.plan.end) in
+      record { sized = x.written.sized; within = rows_within s.dataset t.end x.chunks x.rows inside x.written.within }
+
+  pub copies_pieces : ArePieces t.end x.copies
+  copies_pieces = copies_are x.held x.placing.partly.array x.between x.moves x.copies x.fixed v t x.plan
+
+  pub fixed_pieces : ArePieces t.end x.fixed
+  fixed_pieces = fixed_are x.held x.placing.partly.array x.between x.moves x.copies x.fixed v t x.plan tops_held
+
+  pub supers_pieces : ArePieces t.end x.supers
+  supers_pieces = supers_are t.end s.root t.end x.supers (omega (arith, is.begun, rises)) x.ended
+
+-- a flush into a file whose layout names the array
+module _ (s : Session) (is : IsSession s) (there : IsNamed s.dataset) (t : Space) (v : Store) (ws : List Write) (x : Shown s t v)
+    (pending : ws ≡ x.rows ++ (x.copies ++ (x.supers ++ (x.fixed ++ header_piece s ∷ [])))) (header_short : length s.header ≤ 512) where
+  abbrev after : Session
+  after = flushed_of s t ws v
+
+  abbrev tops_now : EndInPlace s.places.end s.index
+  tops_now = is.tops there
+
   pub flushed_is : IsSession after
   flushed_is =
       let rows = rows_of s in
+      let far = rises s is tops_now t v x in
       record {
         some_columns = is.some_columns;
         cells = omega arith;
         few = subst (λ (n : ℕ). needed (with_rows n s.dataset) ≤ chunk_limit s) (let e : rows ≡ rows + 0 = omega arith in e) is.few;
         version = is.version;
-        begun = omega (arith, is.begun, rises);
+        begun = omega (arith, is.begun, far);
         array = is.array;
         across = is.across;
         header = writable_again s.header rows is.header;
-        header_ends = omega (arith, written_length s.header rows is.header, is.header_ends, rises);
-        small = omega (arith, ends.0, ends.1, x.placing.raised.fits, x.placing.raised.limit, is.small, is.limit);
-        limit = subst (λ (n : ℕ). n ≤ 2 ^ 40) (sym (ends.0 ∙ x.placing.raised.limit)) is.limit;
-        inside = λ i from named. inside_then i (omega (arith, from, div_rises s.dataset.layout.chunk_rows s.dataset.shape.rows rows (omega arith))) named;
-        tops = tops_then x.held x.placing.partly.array x.between x.moves x.copies x.fixed v t x.plan tops_held;
+        addressed = λ none. absurd (there none);
+        header_ends = omega (arith, written_length s.header rows is.header, is.header_ends, far);
+        small = small_then s is tops_now t v x;
+        limit = limit_then s is tops_now t v x;
+        inside = stays_inside s is tops_now t v x;
+        tops = λ named. tops_last s is tops_now t v x;
         blocks = x.plan.array;
       }
 
   pub flushed_pieces : ArePieces t.end ws
   flushed_pieces =
-      let array = x.placing.partly.array in
-      let inside : (k : ℕ) (p : ChunkPlace) → slice_get x.chunks k ≡ Some p → p.address + chunk_len s.dataset ≤ t.end = λ k p at. omega (arith, x.placing.inside k p at, x.plan.end) in
-      let rows : ArePieces t.end x.rows = record { sized = x.written.sized; within = rows_within s.dataset t.end x.chunks x.rows inside x.written.within } in
-      let copies = copies_are x.held array x.between x.moves x.copies x.fixed v t x.plan in
-      let fixed = fixed_are x.held array x.between x.moves x.copies x.fixed v t x.plan tops_held in
-      let supers = supers_are t.end s.root t.end x.supers (omega (arith, is.begun, rises)) x.ended in
+      let far = rises s is tops_now t v x in
       let long = written_length s.header (rows_of s) is.header in
-      let header = one_piece t.end (header_piece s) (omega (arith, long, is.header.some)) (omega (arith, long, x.header_short)) (omega (arith, long, is.header_ends, rises)) in
-      subst (ArePieces t.end) (sym x.pending)
-      (pieces_joined t.end x.rows _ rows (pieces_joined t.end x.copies _ copies (pieces_joined t.end x.supers _ supers (pieces_joined t.end x.fixed (header_piece s ∷ []) fixed header))))
+      let header = one_piece t.end (header_piece s) (omega (arith, long, is.header.some)) (omega (arith, long, header_short)) (omega (arith, long, is.header_ends, far)) in
+      subst (ArePieces t.end) (sym pending)
+      (pieces_joined t.end x.rows _ (rows_pieces s is tops_now t v x) (pieces_joined t.end x.copies _ (copies_pieces s is tops_now t v x)
+      (pieces_joined t.end x.supers _ (supers_pieces s is tops_now t v x) (pieces_joined t.end x.fixed (header_piece s ∷ []) (fixed_pieces s is tops_now t v x) header))))
 
   -- what the code shows is a flush
   pub shown_flushed : IsFlushed s after
   shown_flushed = record {
+    there = there;
     some = x.some;
     small = x.small;
     few = is.few;
@@ -253,6 +283,6 @@ module _ (s : Session) (is : IsSession s) (t : Space) (v : Store) (ws : List Wri
     plan = x.plan;
     supers = x.supers;
     ended = x.ended;
-    pending = x.pending;
+    pending = pending;
     session = refl;
   }

@@ -1,5 +1,5 @@
 -- What the array of a session is for its file, as calls leave it.
-use Rattle.std.proofs.Common.{◌≡◌, ◌⊎◌, ℕ, zero, suc, ◌+◌, ◌-◌, ◌<◌, ◌≤◌, Bool, true, false, List, [], ◌++◌, length, sym, ap, ◌∙◌, subst, inl, inr, arith}
+use Rattle.std.proofs.Common.{◌≡◌, ◌⊎◌, ℕ, zero, suc, ◌+◌, ◌-◌, ◌<◌, ◌≤◌, Bool, true, false, List, [], ◌++◌, length, sym, ap, ◌∙◌, subst, inl, inr, arith, refl}
 use Rattle.std.proofs.lemmas.Bool.{cases_eq}
 use Rattle.std.proofs.lemmas.Nat.{le-div}
 use Rattle.std.proofs.lemmas.List.Elements.{All-nil}
@@ -24,9 +24,12 @@ use Rattle.h5w_array_laws.proofs.KeptLemmas.{none_is}
 use Rattle.h5w_array_laws.proofs.StandLemmas.{array_stays}
 use Rattle.h5w_array_flushes.proofs.ArrayFlushLemmas.{placed_range}
 use Rattle.h5w_array_flushes.proofs.ArrayRestLemmas.{standing_freed}
-use Rattle.h5w_session.specs.Sessions.{Freed}
-use Rattle.h5w_session.specs.Indexes.{AreMarks, IsIndexed, IsTouched}
+use Rattle.h5w_session.specs.Sessions.{Freed, IsNamed}
+use Rattle.h5w_session.specs.Indexes.{AreMarks, IsIndexed, IsTouched, IsKeptIndex, IsStarting}
 use Rattle.h5w_session.proofs.CreationLemmas.{length_array, length_index}
+use Rattle.h5w_model.specs.declared.root.Super.{Super}
+use Rattle.h5w_model.specs.Numbers.{undefined}
+use Rattle.h5w_array_laws.specs.Parts.{header}
 
 -- ---- Marks
 
@@ -94,6 +97,30 @@ missed_index img m address s v w off i = record {
   behind = i.behind;
   map = i.map;
 }
+
+-- so it is where the file has none yet, of which nothing is written
+pub freed_kept : (keeps : Bool) (img : List ℕ) (m : Moment) (address : Key → ℕ) (s t : Space) (v : Store) → Freed keeps s t → IsKeptIndex img m address s v → IsKeptIndex img m address t v
+freed_kept keeps img m address s t v freed (inl i) = inl (freed_index keeps img m address s t v freed i)
+freed_kept keeps img m address s t v freed (inr none) = inr none
+
+pub missed_kept : (img : List ℕ) (m : Moment) (address : Key → ℕ) (s : Space) (v : Store) (w : Write) → MissesEach w (m.fixed ++ m.behind) → IsKeptIndex img m address s v → IsKeptIndex (apply w img) m address s v
+missed_kept img m address s v w off (inl i) = inl (missed_index img m address s v w off i)
+missed_kept img m address s v w off (inr none) = inr none
+
+-- with another superblock
+pub super_kept : (img : List ℕ) (m : Moment) (root : Super) (address : Key → ℕ) (s : Space) (v : Store) → IsKeptIndex img m address s v → IsKeptIndex img (record m { super = root }) address s v
+super_kept img m root address s v (inl i) = inl (record { kind = i.kind; at = i.at; array = i.array; stands = i.stands; standing = i.standing; fixed = i.fixed; behind = i.behind; map = i.map })
+super_kept img m root address s v (inr none) = inr (record { unnamed = record { kind = none.unnamed.kind; address = none.unnamed.address }; array = none.array; blank = none.blank; map = none.map })
+
+-- a file whose layout names its index has the array
+pub kept_named : (img : List ℕ) (m : Moment) (address : Key → ℕ) (s : Space) (v : Store) → IsNamed m.dataset → IsKeptIndex img m address s v → IsIndexed img m address s v
+kept_named img m address s v named (inl i) = i
+kept_named img m address s v named (inr none) = absurd (named none.unnamed.address)
+
+-- one whose layout names none has none
+pub kept_starting : (img : List ℕ) (m : Moment) (address : Key → ℕ) (s : Space) (v : Store) → m.dataset.layout.address ≡ undefined → IsKeptIndex img m address s v → IsStarting m address v
+kept_starting img m address s v none (inl i) = absurd ((i.array.in_place header tt refl).1 (sym i.at ∙ none))
+kept_starting img m address s v none (inr starts) = starts
 
 -- ---- A new array
 

@@ -35,13 +35,14 @@ use Rattle.h5w_session.specs.Creations.{NewFile, array_place, new_dataset, root_
 use Rattle.h5w_session.specs.Indexes.{AreMarks, IsOwn, address_in}
 use Rattle.h5w_session.specs.Laws.{IsDatasetOf, RoomStays, SaysNumbers, ShownLaws, StandingLaws}
 use Rattle.h5w_session.specs.Past.{HasCreated, HasOpened, IsNew, Past, most_of}
-use Rattle.h5w_session.specs.Sessions.{Session, chunk_limit, rows_of, with_rows}
+use Rattle.h5w_session.specs.Sessions.{Session, chunk_limit, rows_of, with_rows, IsNamed}
 use Rattle.h5w_session.specs.Stands.{Creating, Running, Stands}
 use Rattle.h5w_session.proofs.BeginLemmas.{beginning, since_first}
 use Rattle.h5w_session.proofs.CreatedLemmas.{first_end_small, new_image, new_moment}
 use Rattle.h5w_session.proofs.CreatingLemmas.{committed_told, new_own, rows_told, shown_so_far, some_length}
-use Rattle.h5w_session.proofs.PastLemmas.{ends_front, ends_take, image_ends, new_end}
+use Rattle.h5w_session.proofs.PastLemmas.{ends_front, ends_take, image_ends, new_end, new_named}
 use Rattle.h5w_session.proofs.StandLemmas.{freed_keeps, goes_rows, left_running, resting}
+use Rattle.h5w_session.proofs.IndexLemmas.{kept_named}
 
 -- ---- How a log began
 
@@ -276,21 +277,32 @@ kept_there v img k is there clean part some =
     let whole : IsWhole v k b.0 = of_some (IsWhole v k) (block_at_part v k) b.0 b.1 (is.whole k part (ap (nat_lt 0) clean)) in
     there (number_of k) (record { kept = some; placed = whole.placed }) clean
 
+named_index : (s : Session) (log : Log) → Stands s log → IsNew log → IsNamed s.dataset
+named_index s log st new none = elim st.phase [
+  | inl c ↦
+      let at : s.dataset.layout.address ≡ array_place c.0 = ap (λ (t : Session). t.dataset.layout.address) c.1.session in
+      let small = first_end_small c.0 c.1.is in
+      omega (arith, at, none, small)
+  | inr r ↦ new_named s st.left log r.after new r.past none
+]
+
 says_numbers : (s : Session) (log : Log) → Stands s log → IsNew log → s.stopped ≡ false → s.pending ≡ [] → s.waits ≡ 0 → SaysNumbers s (image_now log)
 says_numbers s log st new running idle none =
     let r = at_rest s log st running idle in
     let v = s.index in
     let img = image_now log in
     let own = r.past.own new in
-    let is = r.index.array in
+    let named : IsNamed s.dataset = new_named s [] log r.after new r.past in
+    let now = kept_named img r.after r.address s.places v (subst IsNamed (sym r.keeps.dataset) named) r.index in
+    let is = now.array in
     let top = is_some_of (block_at_part v header) (is.in_place header tt refl).0 in
     let there : (k : Part) → IsPart k → IsSome (block_at_part v k) → At img (place_at_part v k) (bytes_at_part v k) =
-    λ k part some. kept_there v img k is r.index.stands.there (none_changed s (number_of k) none r.marks) part some in
+    λ k part some. kept_there v img k is now.stands.there (none_changed s (number_of k) none r.marks) part some in
     let len : length (bytes_at_part v header) ≡ 72 = ap (λ (o : Option BlockView). length (bytes_of o)) top.1 ∙ (of_some (IsBlock header) (block_at_part v header) top.0 top.1 (is.each header tt)).len in
     record {
-      address = ap (λ (d : Described). d.layout.address) (sym r.keeps.dataset) ∙ r.index.at;
+      address = ap (λ (d : Described). d.layout.address) (sym r.keeps.dataset) ∙ now.at;
       map = subst (λ (d : Described). IsMap img d (address_in v)) r.keeps.dataset
-          (record { blocks = r.knows.index.blocks; read = r.knows.index.read; answers = λ key named. r.knows.index.answers key named ∙ ap (λ (a : ℕ). Ok a) (r.index.map key) });
+          (record { blocks = r.knows.index.blocks; read = r.knows.index.read; answers = λ key named. r.knows.index.answers key named ∙ ap (λ (a : ℕ). Ok a) (now.map key) });
       there = there;
       most = own.numbered.max;
       greatest = own.numbered.greatest;
@@ -308,6 +320,7 @@ shown_laws = record {
   dataset_header = header_alone;
   fits = image_fits;
   own = own_index;
+  named = named_index;
   numbers = says_numbers;
 }
 

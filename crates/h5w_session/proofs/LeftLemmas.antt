@@ -2,7 +2,7 @@
 use Rattle.std.proofs.Common.{◌≡◌, ◌≢◌, ◌⊎◌, ℕ, zero, suc, ◌+◌, ◌-◌, ◌/◌, ◌%◌, ◌^◌, ◌<◌, ◌≤◌, Bool, true, false, cond, not, ◌||◌, List, [], ◌∷◌, ◌++◌, length, take, ℤ, Option, Some, None, Result, Ok, Err, refl, sym, ap, ◌∙◌, subst, inl, inr, arith}
 use Rattle.std.specs.Prelude.{IsSome, if◌then◌else◌, nat_lt, option_map, ◌==◌}
 use Rattle.std.specs.Option.{option_or}
-use Rattle.std.proofs.lemmas.Bool.{cases_Bool, eqb-true, le-ltb, ltb-false}
+use Rattle.std.proofs.lemmas.Bool.{cases_Bool, eqb-true, le-ltb, ltb-false, eq-eqb}
 use Rattle.h5w_model.specs.Numbers.{range, undefined}
 use Rattle.h5w_model.specs.Programs.{eval}
 use Rattle.h5w_model.specs.Headers.{header_view}
@@ -45,7 +45,7 @@ use Rattle.h5w_opening.specs.declared.error.OpenError.{OpenError}
 use Rattle.h5w_opening.specs.declared.error.OpenError.TheVariants.{Read, Flags, Cut, Index}
 use Rattle.h5w_session.specs.OpenAnswers.{IsArrayOf, IsIndexOf, IsNotOpened, damaged, refused, unfound, writing_flags}
 use Rattle.h5w_session.specs.OpenLaws.{IsLeft, OpenLaws, dataset, index, open_already, unknown}
-use Rattle.h5w_session.specs.OpenRanges.{chunk_0_range, chunks_from, cut_at, first_open, first_past, header_alone, open_blocks, open_chunks, ranges_refused, refused_index}
+use Rattle.h5w_session.specs.OpenRanges.{chunk_0_range, chunks_from, cut_at, first_open, first_past, header_alone, open_blocks, open_chunks, ranges_refused, refused_index, refused_start, starts_with, is_starting}
 use Rattle.h5w_session.specs.Sessions.{cleared}
 use Rattle.h5w_session.proofs.OpenRangeLemmas.{AllBy, both_none, by_both, by_later, by_take, chunks_by, past_none, range_by}
 use Rattle.h5w_session.proofs.OverFile.{begins, checked, cut_here, dataset_same, found, header_same, place_same, same_answer, super_same}
@@ -54,6 +54,8 @@ use Rattle.h5w_session.proofs.UndamagedLemmas.{head_ends, undamaged}
 use Rattle.h5w_opening.proofs.OpeningLemmas.{behind_place, behind_super, opened_by, opening_gives}
 use Rattle.h5w_opening.proofs.WritingLemmas.{Alike, dataset_alike, root_alike}
 use Rattle.h5w_opening.proofs.WritingLemmas as alike
+use Rattle.h5w_steps.proofs.PlanLaws.{end_long}
+use Rattle.h5w_space.specs.Space.{extent}
 
 -- ---- What is found of a file at a moment
 
@@ -147,6 +149,9 @@ unfolding each_below
 by_each end f zero h = tt
 by_each end f (suc n) h = by_both end (each_below f n) (f n) (by_each end f n (λ i lt. h i (omega arith))) (h n (omega arith))
 
+not_both : (c : Bool) → c ≡ true → c ≡ false → ⊥
+not_both c is is_not = let clash : true ≡ false = sym is ∙ is_not in cc
+
 some_or_none : {A : Type 0} (x : Option A) → IsSome x ⊎ (x ≡ None)
 some_or_none (Some a) = inl refl
 some_or_none None = inr refl
@@ -179,10 +184,15 @@ module _ (img name : List ℕ) (o : Opened) (m : Moment) (is : eval img (looked_
       ∙ ap chunk_0_len r.ranges in
       omega (arith, long, len, end_same, place_same img name (length img) o m is file)
 
-  -- the header of an array that names no index block
+  -- the header of an array that names no index block, or the superblock
   alone : (k : IndexKind) → o.header.dataset.layout.index ≡ k → AllBy end (header_alone k o.header.dataset.layout.address)
   alone Tree kind = tt
-  alone Array kind = range_by end o.header.dataset.layout.address 72 (λ ne. (head_ends img end o.header.dataset visited kind ne))
+  alone Array kind =
+      let at = o.header.dataset.layout.address in
+      elim (cases_Bool (at == undefined)) [
+        | inl none ↦ subst (λ (c : Bool). AllBy end (cond c (extent 0 48 ∷ []) (extent at 72 ∷ []))) (sym none) (subst (λ n. 48 ≤ n) end_same (end_long img name m file), tt)
+        | inr named ↦ subst (λ (c : Bool). AllBy end (cond c (extent 0 48 ∷ []) (extent at 72 ∷ []))) (sym named) (head_ends img end o.header.dataset visited kind (λ e. not_both (at == undefined) (eq-eqb at undefined e) named), tt)
+      ]
 
   -- the array
   module _ (v : Store) (x : IsArrayOf img o.header.dataset v) where
@@ -254,10 +264,22 @@ module _ (img name : List ℕ) (o : Opened) (m : Moment) (is : eval img (looked_
 
 -- ---- Why it is not opened
 
+-- where no array will be made, the index is refused
+made_here : (k : IndexKind) (at : ℕ) → k ≡ Array → at ≡ undefined → refused_start (starts_with k at) ≡ None
+made_here Tree at kind none = cc
+made_here Array at kind none = ap refused_start (eq-eqb at undefined none)
+
+only_index : (starts : Bool) (e : OpenError) → refused_start starts ≡ Some e → Index ≡ e
+only_index true e h = cc
+only_index false e h = cc
+
 left_by : (img name : List ℕ) (o : Opened) (e : OpenError) (a : Option Store) (r : Option OpenError) → eval img (looked_for (length img) name) ≡ Ok o → IsIndexOf img o.header.dataset a → refused_dataset o ≡ r
-    → option_or r (refused_index a) ≡ Some e → IsLeft img (length img) name e
+    → option_or r (refused_index o.header.dataset a) ≡ Some e → IsLeft img (length img) name e
 left_by img name o e a (Some f) is x given h = dataset o e is (given ∙ h)
-left_by img name o e None None is x given h = let same : Index ≡ e = cc in subst (IsLeft img (length img) name) same (index o is x)
+left_by img name o e None None is (inl u) given h =
+    let none = made_here o.header.dataset.layout.index o.header.dataset.layout.address u.kind u.address in
+    let clash : None ≡ Some e = sym none ∙ h in absurd cc
+left_by img name o e None None is (inr absent) given h = subst (IsLeft img (length img) name) (only_index (is_starting o.header.dataset) e h) (index o is absent)
 left_by img name o e (Some v) None is x given h = absurd cc
 
 same_refusal : (e f : OpenError) → refusal e ≡ refusal f → e ≡ f
@@ -279,7 +301,7 @@ left img name rows columns values sm e short valid reads why =
     go m file r (damaged o at f is kind named bad) =
         absurd (undamaged img o.root.end (first_open o.header.dataset) at o.header.dataset f (visited img name o m is file short) kind named bad)
     go m file r (refused o a g is x h) =
-        left_by img name o g a (refused_dataset o) is x refl (ap (λ r. option_or r (option_or (refused_dataset o) (refused_index a))) (sym (no_range img name o m is file short a x)) ∙ h)
+        left_by img name o g a (refused_dataset o) is x refl (ap (λ r. option_or r (option_or (refused_dataset o) (refused_index o.header.dataset a))) (sym (no_range img name o m is file short a x)) ∙ h)
 
 closed_flags : (flags : ℕ) → is_open flags ≡ false → cleared (writing_flags flags) ≡ flags
 closed_flags flags h =

@@ -39,3 +39,8 @@ mod OverFile
 pub mod LeftLemmas
 mod OpenStepLemmas
 mod OpenAnswerLemmas
+pub mod StartedLemmas
+pub mod StartingLemmas
+pub mod StartLoads
+pub mod StartCarriedLemmas
+mod RowPieces

@@ -1,5 +1,5 @@
 -- What a flush takes, by the load of its log: its pieces, the rise of the file's end, and the place that a full file does not have.
-use Rattle.std.proofs.Common.{◌≡◌, ℕ, ◌+◌, ◌-◌, ◌*◌, ◌/◌, ◌<◌, ◌≤◌, true, false, cond, nat_lt, List, [], ◌∷◌, ◌++◌, length, Option, Some, None, refl, sym, ap, ◌∙◌, subst, inl, inr, arith, length-append}
+use Rattle.std.proofs.Common.{◌≡◌, ℕ, ◌+◌, ◌-◌, ◌*◌, ◌/◌, ◌<◌, ◌≤◌, true, false, cond, nat_lt, List, [], ◌∷◌, ◌++◌, length, Option, Some, None, refl, sym, ap, ◌∙◌, subst, inl, inr, arith, length-append, ◌⊎◌}
 use Rattle.std.proofs.lemmas.Bool.{cond-true, lt-ltb}
 use Rattle.std.proofs.lemmas.Nat.{mul-le}
 use Rattle.std.specs.Prelude.{◌==◌, IsSomeAnd}
@@ -20,16 +20,16 @@ use Rattle.h5w_cache.proofs.PlannedLemmas.{same_times}
 use Rattle.h5w_chunks.specs.Grids.{chunk_len}
 use Rattle.h5w_chunks.specs.Shares.{touched}
 use Rattle.h5w_chunks.proofs.Geometry.{IsCut, lt_up}
-use Rattle.h5w_array_laws.specs.Parts.{IsPart, Part, data_of, header, index_block, length_of, secondary_of}
+use Rattle.h5w_array_laws.specs.Parts.{IsPart, Part, data_of, header, index_block, length_of, secondary_of, holder}
 use Rattle.h5w_array_laws.specs.ArrayStores.{IsArray}
 use Rattle.h5w_array_laws.proofs.NumberedLemmas.{plans_numbers}
 use Rattle.h5w_array_laws.proofs.PlanLemmas.{block_known}
 use Rattle.h5w_flush_laws.specs.Parts.{AreEnded}
-use Rattle.h5w_session.specs.Flushes.{AreWays, IsFlushed, flushed_of, header_piece}
-use Rattle.h5w_session.specs.Indexes.{AreMarks, IsOwn}
+use Rattle.h5w_session.specs.Flushes.{IsFlushed, flushed_of, header_piece}
+use Rattle.h5w_session.specs.Indexes.{AreMarks, IsOwn, IsTouched}
 use Rattle.h5w_session.specs.Loads.{IsRaised, NoPlace, first_end_of}
 use Rattle.h5w_session.specs.Past.{IsCounted, Past}
-use Rattle.h5w_session.specs.Refusals.{IsFullFor}
+use Rattle.h5w_session.specs.Refusals.{IsFullPart}
 use Rattle.h5w_session.specs.Sessions.{Session, AllEndBy, cutting_of, rows_of, with_rows}
 use Rattle.h5w_session.specs.Stands.{Running, Stands}
 use Rattle.h5w_types.proofs.RunLemmas.{length-run_bytes}
@@ -42,11 +42,13 @@ use Rattle.h5w_session.proofs.NextLemmas.{next_addressed}
 use Rattle.h5w_session.proofs.PastLemmas.{IsLike, past_planned}
 use Rattle.h5w_session.proofs.PieceBounds.{new_writes_few, split_few}
 use Rattle.h5w_session.proofs.RaisedLemmas.{raised_more, raised_none, raised_on}
+use Rattle.h5w_header_laws.specs.Files.{with_index}
+use Rattle.h5w_ea_index.specs.Steps.{OnWay}
 
 -- ---- The load of a log
 
 -- how many chunks the rows that wait go into
-abbrev chunks_of : Session → ℕ
+abbrev pub chunks_of : Session → ℕ
 chunks_of s = touched s.dataset s.dataset.shape.rows (rows_of s)
 
 pub load_is : (s : Session) (log : Log) → s.stopped ≡ false → s.pending ≡ [] → Stands s log → load (cutting_of s) log ≡ 1000 + chunks_of s * (chunk_bytes s.dataset + 20000)
@@ -61,14 +63,14 @@ load_is s log running idle st =
 
 -- ---- The dataset of a session
 
-record Counts (s : Session) : Type 0 where
-  cut : IsCut s.dataset
-  column : s.dataset.shape.cols ≡ 1
-  across : chunks_across s.dataset ≡ 1
-  bytes : 1 ≤ chunk_bytes s.dataset
-  same : chunk_len s.dataset ≡ chunk_bytes s.dataset
+pub record Counts (s : Session) : Type 0 where
+  pub cut : IsCut s.dataset
+  pub column : s.dataset.shape.cols ≡ 1
+  pub across : chunks_across s.dataset ≡ 1
+  pub bytes : 1 ≤ chunk_bytes s.dataset
+  pub same : chunk_len s.dataset ≡ chunk_bytes s.dataset
 
-counted : (s : Session) → IsCounted s.dataset → Counts s
+pub counted : (s : Session) → IsCounted s.dataset → Counts s
 counted s c =
     let d = s.dataset in
     let cells : 1 * 1 ≤ d.layout.chunk_rows * d.layout.chunk_cols = mul-le 1 1 d.layout.chunk_rows d.layout.chunk_cols (omega (arith, c.rows)) (omega (arith, c.cols)) in
@@ -82,11 +84,11 @@ counted s c =
     }
 
 -- some rows wait, so that some chunks are touched, one in each band
-record IsSome (s : Session) : Type 0 where
-  chunks : chunks_of s ≡ bands_of s.dataset s.dataset.shape.rows (rows_of s)
-  some : 1 ≤ chunks_of s
+pub record IsSome (s : Session) : Type 0 where
+  pub chunks : chunks_of s ≡ bands_of s.dataset s.dataset.shape.rows (rows_of s)
+  pub some : 1 ≤ chunks_of s
 
-some_touched : (s : Session) → Counts s → 0 < s.waits → IsSome s
+pub some_touched : (s : Session) → Counts s → 0 < s.waits → IsSome s
 some_touched s c waits =
     let from = s.dataset.shape.rows in
     let to = rows_of s in
@@ -120,14 +122,14 @@ module _ (v : Store) (a : IsArray v) (d : Described) (from to : ℕ) (marks : Ar
     plan_changed : AreChanged v ms
     plan_changed = record { once = p.once; changed = λ n l. changed_by v n (omega (arith, listed_times n (numbers ms) l, same_times v.changed ms n p.order.all)) }
 
-    index_raised : IsRaised s t (bands_of d from to * 16428)
+    pub index_raised : IsRaised s t (bands_of d from to * 16428)
     index_raised =
         let moved = plan_raised v a d from to marks ms plan_changed s p.taken.taken p.taken.moves in
         let roomy = raised_none p.taken.taken p.roomy (ap (λ (x : Space). x.end) p.taken.roomy) (ap (λ (x : Space). x.limit) p.taken.roomy) in
         raised_more s t (bands_of d from to * 16428 + 0 + 0) (bands_of d from to * 16428) (omega arith)
         (raised_on s p.roomy t (bands_of d from to * 16428 + 0) 0 (raised_on s p.taken.taken p.roomy (bands_of d from to * 16428) 0 moved roomy) (retired_raised p.roomy ms t p.retired))
 
-    index_few : length copies + length fixed ≤ (2 * bands_of d from to + 2) * 17
+    pub index_few : length copies + length fixed ≤ (2 * bands_of d from to + 2) * 17
     index_few =
         let short : (n : ℕ) → length (bytes_in w.blocks n) ≤ 8214 = λ n. omega (arith, p.lengths n, bytes_short v a n) in
         let all = split_few w.blocks ms p.writes.split p.writes.splits.inside short in
@@ -137,7 +139,7 @@ module _ (v : Store) (a : IsArray v) (d : Described) (from to : ℕ) (marks : Ar
 
 -- ---- A flush
 
-supers_few : (s : Super) (e : ℕ) (ws : List Write) → AreEnded s e ws → length ws ≤ 1
+pub supers_few : (s : Super) (e : ℕ) (ws : List Write) → AreEnded s e ws → length ws ≤ 1
 supers_few s e [] ended = omega arith
 supers_few s e (w ∷ ws) ended = omega (arith, ap length ended.1)
 
@@ -147,7 +149,8 @@ like_flushed old new e limit own =
     record {
       name = ap (λ (t : Session). t.name) e;
       place = ap (λ (t : Session). t.place) e;
-      dataset = same ∙ ap (λ (d : Described). with_rows d.shape.rows old.dataset) (sym same);
+      dataset = same ∙ ap (λ (d : Described). with_index d.layout.address (with_rows d.shape.rows old.dataset)) (sym same);
+      address = λ named. ap (λ (d : Described). d.layout.address) same;
       limit = limit;
       own = own;
     }
@@ -223,7 +226,7 @@ flush_carries old new log x running idle within st = flush_stands old new log x 
 
 -- ---- A full file
 
-refused_bound : (s : Session) (log : Log) (t : Space) (n size : ℕ) (full : Full) → 0 < s.waits → s.places.end ≤ first_end_of log + spent (cutting_of s) log → IsRaised s.places t n → n ≤ load (cutting_of s) log → IsRefused t size full
+pub refused_bound : (s : Session) (log : Log) (t : Space) (n size : ℕ) (full : Full) → 0 < s.waits → s.places.end ≤ first_end_of log + spent (cutting_of s) log → IsRaised s.places t n → n ≤ load (cutting_of s) log → IsRefused t size full
     → 1 ≤ size → size ≤ load (cutting_of s) log → NoPlace s log full
 refused_bound s log t n size full waits grew raised few refused some small =
     let at : full.at ≡ t.end = ap (λ (f : Full). f.at) refused.is in
@@ -254,9 +257,10 @@ block_some v n b a e =
     let short : length b.bytes ≤ 8214 = subst (λ (o : Option BlockView). length (bytes_of o) ≤ 8214) e (bytes_short v a n) in
     (omega (arith, k.3.len, length_some k.0 k.1), short)
 
-module _ (s : Session) (log : Log) (running : s.stopped ≡ false) (idle : s.pending ≡ []) (st : Stands s log) (waits : 0 < s.waits) (full : Full) where
+module _ (s : Session) (log : Log) (running : s.stopped ≡ false) (idle : s.pending ≡ []) (st : Stands s log) (waits : 0 < s.waits) (full : Full) (v : Store) (marks : AreMarks s.dataset s.dataset.shape.rows (rows_of s) v)
+    (base : Space) (taken : ℕ) (little : taken ≤ 1000) (risen : IsRaised s.places base taken) where
   -- behind k chunks that got their places there is none for the next
-  pub chunk_no_place : (t : Space) (k : ℕ) → IsRaised s.places t (k * chunk_bytes s.dataset) → k ≤ chunks_of s → IsRefused t (chunk_len s.dataset) full → NoPlace s log full
+  chunk_no_place : (t : Space) (k : ℕ) → IsRaised base t (k * chunk_bytes s.dataset) → k ≤ chunks_of s → IsRefused t (chunk_len s.dataset) full → NoPlace s log full
   chunk_no_place t k raised few refused =
       let r = idle_running s log running idle st in
       let c = counted s r.past.counted in
@@ -266,11 +270,12 @@ module _ (s : Session) (log : Log) (running : s.stopped ≡ false) (idle : s.pen
       let load = load_is s log running idle st in
       let all : n * (b + 20000) ≡ n * b + n * 20000 = grind arith in
       let most : k * b ≤ n * b = mul-le k b n b few (omega arith) in
+      let n_some = some.some in
       let one : 1 * b ≤ n * b = mul-le 1 b n b some.some (omega arith) in
-      refused_bound s log t (k * b) (chunk_len s.dataset) full waits r.past.grew raised (omega (arith, load, all, most)) refused (omega (arith, c.same, c.bytes)) (omega (arith, load, all, one, c.same))
+      refused_bound s log t (taken + k * b) (chunk_len s.dataset) full waits r.past.grew (raised_on s.places base t taken (k * b) risen raised) (omega (arith, load, all, most, little, n_some)) refused (omega (arith, c.same, c.bytes)) (omega (arith, load, all, one, c.same))
 
   -- all chunks have their places, and there is none for a block of the index
-  pub block_no_place : (held : Store) (between : Space) → IsArray held → AreWays s held → ((n : ℕ) → times n held.changed ≤ 1) → IsRaised s.places between (chunks_of s * chunk_bytes s.dataset)
+  block_no_place : (held : Store) (between : Space) → IsArray held → ((n : ℕ) → is_changed held n ≡ true → (is_changed v n ≡ true) ⊎ ((i : ℕ) × IsTouched s.dataset s.dataset.shape.rows (rows_of s) i × OnWay (holder i) n)) → ((n : ℕ) → times n held.changed ≤ 1) → IsRaised base between (chunks_of s * chunk_bytes s.dataset)
       → HasNoRoom held.blocks held.places held.changed between full → NoPlace s log full
   block_no_place held between array ways once raised none =
       let r = idle_running s log running idle st in
@@ -287,22 +292,22 @@ module _ (s : Session) (log : Log) (running : s.stopped ≡ false) (idle : s.pen
         once = λ i. omega (arith, once i, times_kept i, taken_times i k none.order, ap (times i) f.first);
         changed = λ i l. changed_by held i (omega (arith, times_kept i, listed_times i none.order (taken_listed i k none.order (subst (Listed i) f.first l))));
       } in
-      let marks = ways_marks s held ways r.marks in
-      let index = plan_raised held array d d.shape.rows (rows_of s) marks f.taken changed between f.t f.moves in
-      let both = raised_on s.places between f.t (n * b) (bands * 16428) raised index in
+      let held_marks : AreMarks d d.shape.rows (rows_of s) held = λ i changed. elim (ways i changed) [ inl before ↦ marks i before | inr way ↦ way ] in
+      let index = plan_raised held array d d.shape.rows (rows_of s) held_marks f.taken changed between f.t f.moves in
+      let both = raised_on s.places between f.t (taken + n * b) (bands * 16428) (raised_on s.places base between taken (n * b) risen raised) index in
       let block = some_and _ _ f.refused in
       let size = block_some held _ block.0 array block.1 in
       let load = load_is s log running idle st in
       let all : n * (b + 20000) ≡ n * b + n * 20000 = grind arith in
-      refused_bound s log f.t (n * b + bands * 16428) (length block.0.bytes) full waits r.past.grew both (omega (arith, load, all, some.chunks)) block.2.1 size.0 (omega (arith, load, all, size.1, some.some))
+      refused_bound s log f.t (taken + n * b + bands * 16428) (length block.0.bytes) full waits r.past.grew both (omega (arith, load, all, some.chunks, little)) block.2.1 size.0 (omega (arith, load, all, size.1, some.some))
 
   -- Where rows that wait have no place for their first new chunk that has none, or else for the first block in turn: then the place that
   -- is not there is bounded.
-  pub full_no_place : IsFullFor s full → NoPlace s log full
-  full_no_place (inl chunk) =
+  pub part_no_place : IsFullPart s.dataset (rows_of s) v base full → NoPlace s log full
+  part_no_place (inl chunk) =
       let some = some_touched s (counted s (idle_running s log running idle st).past.counted) waits in
       let high = chunk.touched.high in
       chunk_no_place chunk.t (length chunk.chunks) chunk.placing.raised (omega (arith, high, some.chunks)) chunk.refused
-  full_no_place (inr block) =
-      let raised = subst (λ (n : ℕ). IsRaised s.places block.between (n * chunk_bytes s.dataset)) block.all block.placing.raised in
+  part_no_place (inr block) =
+      let raised = subst (λ (n : ℕ). IsRaised base block.between (n * chunk_bytes s.dataset)) block.all block.placing.raised in
       block_no_place block.held block.between block.placing.partly.array block.placing.partly.ways block.once raised block.refused

@@ -23,7 +23,7 @@ use Rattle.h5w_session.specs.Flushes.{IsFlushed}
 use Rattle.h5w_session.specs.Past.{AllAddressed, IsNew}
 use Rattle.h5w_session.specs.Stands.{Running}
 use Rattle.h5w_session.proofs.AddressedLemmas.{key_at}
-use Rattle.h5w_session.proofs.FlushLemmas.{after_flush}
+use Rattle.h5w_session.proofs.FlushLemmas.{after_flush, array_now}
 
 band_low : (n per : ℕ) → n / per ≤ div_up n per
 band_low n zero = omega (arith, div-zero n, div-zero (n + 0 - 1))
@@ -66,7 +66,7 @@ module _ (old new : Session) (log : Log) (x : IsFlushed old new) (r : Running ol
             let d_is = r.keeps.dataset in
             let band : i < bands r.after.dataset = subst (λ (d : Described). i < bands d) (sym d_is) (omega (arith, band_low old.dataset.shape.rows old.dataset.layout.chunk_rows)) in
             let column : j < chunks_across r.after.dataset = subst (λ (d : Described). j < chunks_across d) (sym d_is) side in
-            before_defined i j band column (r.index.map (key_at i j) ∙ sym (x.named.others (key_at i j) (inl less)) ∙ sym (x.plan.map i) ∙ e)
+            before_defined i j band column ((array_now old new log x r).map (key_at i j) ∙ sym (x.named.others (key_at i j) (inl less)) ∙ sym (x.plan.map i) ∙ e)
         | inr more ↦ touched_defined (key_at i j) side more row
       ]
 

@@ -1,5 +1,5 @@
 -- What the session is that was opened, on every image and on a still one.
-use Rattle.std.proofs.Common.{◌≡◌, ℕ, ◌^◌, ◌≤◌, List, ℤ, Ok, refl, sym, ap, ◌∙◌, subst}
+use Rattle.std.proofs.Common.{◌≡◌, ℕ, ◌^◌, ◌≤◌, List, ℤ, Ok, refl, sym, ap, ◌∙◌, subst, Option, Some, None}
 use Rattle.std.proofs.lemmas.Bool.{eqb-true}
 use Rattle.h5w_model.specs.Numbers.{field, range}
 use Rattle.h5w_model.specs.Superblock.{super_at, super_bytes, super_fields, super_tests}
@@ -9,15 +9,16 @@ use Rattle.h5w_model.specs.declared.root.Super.{Super}
 use Rattle.h5w_model.proofs.CheckedLemmas.{checked-passed}
 use Rattle.h5w_cache.specs.Stores.{Store}
 use Rattle.h5w_header_laws.specs.Files.{chunk_0}
-use Rattle.h5w_opening.specs.Openings.{Opened}
+use Rattle.h5w_opening.specs.Openings.{Opened, IsFound}
 use Rattle.h5w_opening.proofs.FoundParts.{parts}
-use Rattle.h5w_session.specs.OpenAnswers.{HasBegun, IsOpenedOver, opened_session, session_over, writing_flags}
+use Rattle.h5w_session.specs.OpenAnswers.{HasBegun, IsOpenedOver, opened_session, session_over, writing_flags, IsArrayOf, IsIndexOf, IsKeptArray}
 use Rattle.h5w_session.specs.OpenSteps.{IsOpenedFile, IsReady, versioned}
 use Rattle.h5w_session.specs.Openings.{flagged_root, opened_log}
 use Rattle.h5w_session.specs.Sessions.{Session}
 use Rattle.h5w_session.specs.Stands.{Stands}
-use Rattle.h5w_session.proofs.OverFile.{both_set, opened_over}
-use Rattle.h5w_session.proofs.SessionOver.{open_below}
+use Rattle.h5w_session.proofs.OverFile.{both_set, opened_over, started_over}
+use Rattle.h5w_session.proofs.SessionOver.{open_below, in_chunk, will_start, starts_so, unrefused_parts}
+use Rattle.h5w_session.specs.OpenRanges.{is_starting, refused_open}
 
 version_three : (b : List ℕ) (s : Super) → super_at b ≡ Ok s → s.version ≡ 3
 version_three b s h =
@@ -35,14 +36,27 @@ module _ (img : List ℕ) (size : ℕ) (name : List ℕ) (limit : ℕ) (o : Open
   same = e ∙ ap (λ (x : Opened). opened_session x header v name limit) version ∙ ap (λ (h : List ℕ). opened_session o h v name limit) f.kept
 
   pub opened_here : IsOpenedOver img size name limit s
-  opened_here = record { found = o; is = f.is; array = v; index = f.index; unrefused = f.unrefused; session = same }
+  opened_here = record { found = o; is = f.is; index = f.index; is_index = f.is_index; unrefused = f.unrefused; array = v; kept = f.array; session = same }
+
+  by_index : (a : Option Store) → IsIndexOf img o.header.dataset a → IsKeptArray a v → refused_open o a ≡ None → IsFound o → 1024 ≤ limit → limit ≤ 2 ^ 40
+      → super_at (super_bytes (flagged_root (writing_flags o.root.flags) (session_over o (chunk_0 img o.place) v name limit))) ≡ Ok (flagged_root (writing_flags o.root.flags) (session_over o (chunk_0 img o.place) v name limit))
+      → (rows columns : ℕ) (values : List ℤ) (sm : Summary) → Valid img name sm → Reads img name rows columns values → Stands (opened_session o (chunk_0 img o.place) v name limit) (opened_log img columns values)
+  by_index (Some u) x kept none found low high back rows columns values sm valid reads =
+      let own : IsArrayOf img o.header.dataset v = subst (IsArrayOf img o.header.dataset) (sym kept) x in
+      opened_over img name size o v limit rows columns values sm f.is own (open_below o.header found.said own.kind) low high back valid reads
+  by_index None x kept none found low high back rows columns values sm valid reads =
+      let parts = unrefused_parts o None none in
+      let starts = will_start (is_starting o.header.dataset) parts.index in
+      started_over img name size o v limit rows columns values sm f.is (starts_so o.header.dataset starts) kept (in_chunk o (starts_so o.header.dataset starts).address parts.dataset) low high back valid reads
 
   pub stands_here : (rows columns : ℕ) (values : List ℤ) (sm : Summary) → IsReady o header v → 1024 ≤ limit → limit ≤ 2 ^ 40 → super_at (super_bytes s.root) ≡ Ok s.root → Valid img name sm → Reads img name rows columns values
       → Stands s (opened_log img columns values)
   stands_here rows columns values sm ready low high reads_back valid reads =
       let root : s.root ≡ flagged_root (writing_flags o.root.flags) (session_over o (chunk_0 img o.place) v name limit) = ap (λ (x : Session). x.root) same in
-      subst (λ (x : Session). Stands x (opened_log img columns values)) (sym same)
-      (opened_over img name size o v limit rows columns values sm f.is f.index (open_below o.header ready.found.said ready.array.kind) low high (subst (λ (r : Super). super_at (super_bytes r) ≡ Ok r) root reads_back) valid reads)
+      let back = subst (λ (r : Super). super_at (super_bytes r) ≡ Ok r) root reads_back in
+      let by : (a : Option Store) → IsIndexOf img o.header.dataset a → IsKeptArray a v → refused_open o a ≡ None → Stands (opened_session o (chunk_0 img o.place) v name limit) (opened_log img columns values) = λ a x kept none.
+      by_index a x kept none ready.found low high back rows columns values sm valid reads in
+      subst (λ (x : Session). Stands x (opened_log img columns values)) (sym same) (by f.index f.is_index f.array f.unrefused)
 
 pub begun_so : (o : Opened) (header : List ℕ) (v : Store) (name : List ℕ) (limit : ℕ) (s : Session) → s ≡ opened_session (versioned o) header v name limit → HasBegun name limit s
 begun_so o header v name limit s e =

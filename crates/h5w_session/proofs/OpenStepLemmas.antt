@@ -6,7 +6,7 @@ use Rattle.h5w_model.specs.Causes.{Rose}
 use Rattle.h5w_model.specs.Numbers.{range, undefined}
 use Rattle.h5w_model.specs.Programs.{eval}
 use Rattle.h5w_model.specs.Headers.{header_view}
-use Rattle.h5w_model.specs.Datasets.{Described, dataset_messages}
+use Rattle.h5w_model.specs.Datasets.{Described, dataset_messages, FoundMessage}
 use Rattle.h5w_model.specs.Findings.{chunk_bytes}
 use Rattle.h5w_image.specs.View.{ImageView}
 use Rattle.h5w_image.proofs.ViewLemmas.{looked_itself, looked_twice}
@@ -21,21 +21,22 @@ use Rattle.h5w_ea_index.specs.Opened.{IfDamaged, IsDamaged, Loads}
 use Rattle.h5w_ea_index.specs.declared.error.OpenArrayError.{OpenArrayError}
 use Rattle.h5w_ea_index.specs.declared.error.OpenArrayError.TheVariants as array_errors
 use Rattle.h5w_header_laws.specs.Files.{chunk_0}
-use Rattle.h5w_header_laws.proofs.FileLaws.{has_space}
+use Rattle.h5w_header_laws.proofs.FileLaws.{has_space, has_layout}
 use Rattle.h5w_header_laws.proofs.ImageLemmas.{header_read}
 use Rattle.h5w_space.specs.declared.Extent.{Extent}
 use Rattle.h5w_opening.specs.Errors.{open_errors, refusal_of}
-use Rattle.h5w_opening.specs.Openings.{Opened, chunk_0_len, looked_for, most_chunk_bytes, refused_dataset}
+use Rattle.h5w_opening.specs.Openings.{Opened, chunk_0_len, looked_for, most_chunk_bytes, refused_dataset, in_chunk_0}
 use Rattle.h5w_opening.specs.Views.{opened_of}
 use Rattle.h5w_opening.specs.declared.error.OpenError.{OpenError}
 use Rattle.h5w_opening.specs.declared.error.OpenError.TheVariants.{Read, Flags, Cut, Failed, OutOfMemory, Layout, ChunkBytes, NoColumns, Index}
 use Rattle.h5w_opening.specs.declared.finding.Opening.{Opening}
 use Rattle.h5w_opening.proofs.FoundParts.{parts}
 use Rattle.h5w_opening.proofs.WritingLemmas.{alike_ok, dataset_alike}
-use Rattle.h5w_session.specs.OpenAnswers.{IfRefusal, IsIndexOf, IsNotOpened, damaged, refused}
-use Rattle.h5w_session.specs.OpenRanges.{chunk_0_range, cut_at, first_open, first_past, open_blocks, open_chunks, ranges_refused, refused_index, refused_open}
-use Rattle.h5w_session.specs.OpenSteps.{IsBadIndex, IsFoundIn, IsOpenedFile, OpenStep, Says, array_error, front_of}
-use Rattle.h5w_session.specs.Sessions.{IsWritable}
+use Rattle.h5w_session.specs.OpenAnswers.{IfRefusal, IsIndexOf, IsNotOpened, damaged, refused, IsKeptArray}
+use Rattle.h5w_session.specs.OpenRanges.{chunk_0_range, cut_at, first_open, first_past, open_blocks, open_chunks, ranges_refused, refused_index, refused_open, is_starting, refused_start}
+use Rattle.h5w_session.specs.OpenSteps.{IsBadIndex, IsFoundIn, IsOpenedFile, OpenStep, Says, array_error, front_of, IsKeptHeader}
+use Rattle.h5w_session.specs.Sessions.{IsWritable, HasAddress}
+use Rattle.h5w_session.proofs.SessionOver.{in_chunk, starts_so, unrefused_parts}
 
 -- ---- Refusals
 
@@ -126,6 +127,7 @@ ran_step size name (Err e) ran = record {
 pub record IsKeptFront (img : List ℕ) (o : Opened) : Type 0 where
   pub same : front_of img o.place o.header.len ≡ chunk_0 img o.place
   pub writable : IsWritable (chunk_0 img o.place)
+  pub addressed : o.header.in_chunk_0 ≡ true → HasAddress (chunk_0 img o.place)
 
 pub kept_front : (img : List ℕ) (size : ℕ) (name : List ℕ) (o : Opened) → eval img (looked_for size name) ≡ Ok o → IsKeptFront img o
 kept_front img size name o is =
@@ -137,6 +139,11 @@ kept_front img size name o is =
     let short : min o.header.len 512 ≡ r.prefix.total = omega (arith, len, r.short) in
     record {
       same = ap (range img o.place) short ∙ sym r.view;
+      addressed = λ inside.
+          let chosen : Option FoundMessage → Bool = λ f. elim f [ Some y ↦ y.in_chunk_0 | None ↦ false ] in
+          let here : in_chunk_0 p.header.messages ≡ true = sym p.in_chunk ∙ inside in
+          let y = has_layout img o.place p.header o.header.dataset r p.says (λ y first. sym (ap chosen first) ∙ here) in
+          record { list = r.listed; layout = y.layout; read = r.read; first = y.found; room = y.room };
       writable = record { some = omega (arith, r.long, r.some); list = r.listed; space = x.space; read = r.read; first = x.found; long = x.long };
     }
 
@@ -156,9 +163,13 @@ dataset_quiet false true c n e h f = let g : Some (ChunkBytes n most_chunk_bytes
 dataset_quiet false false true n e h f = let g : Some NoColumns ≡ Some Failed = h ∙ ap Some f in absurd cc
 dataset_quiet false false false n e h f = absurd cc
 
-index_quiet : (a : Option Store) (e : OpenError) → refused_index a ≡ Some e → e ≢ Failed
-index_quiet None e h f = let g : Some Index ≡ Some Failed = h ∙ ap Some f in absurd cc
-index_quiet (Some v) e h f = absurd cc
+start_quiet : (starts : Bool) (e : OpenError) → refused_start starts ≡ Some e → e ≢ Failed
+start_quiet false e h f = let g : Some Index ≡ Some Failed = h ∙ ap Some f in absurd cc
+start_quiet true e h f = absurd cc
+
+index_quiet : (d : Described) (a : Option Store) (e : OpenError) → refused_index d a ≡ Some e → e ≢ Failed
+index_quiet d None e h f = start_quiet (is_starting d) e h f
+index_quiet d (Some v) e h f = absurd cc
 
 ranges_quiet : (end : ℕ) (far past : Option Extent) (e : OpenError) → option_or (option_map (cut_at 0) far) (option_map (cut_at end) past) ≡ Some e → e ≢ Failed
 ranges_quiet end far past e h = elim (or_some (option_map (cut_at 0) far) (option_map (cut_at end) past) e h) [
@@ -167,12 +178,12 @@ ranges_quiet end far past e h = elim (or_some (option_map (cut_at 0) far) (optio
 ]
 
 pub refused_quiet : (o : Opened) (a : Option Store) (e : OpenError) → refused_open o a ≡ Some e → e ≢ Failed
-refused_quiet o a e h = elim (or_some (ranges_refused o a) (option_or (refused_dataset o) (refused_index a)) e h) [
+refused_quiet o a e h = elim (or_some (ranges_refused o a) (option_or (refused_dataset o) (refused_index o.header.dataset a)) e h) [
   | inl r ↦ ranges_quiet o.root.end (first_past (2 ^ 64 - 1) (take 3 (chunk_0_range o ∷ open_blocks o.header.dataset a) ++ open_chunks o.header.dataset a))
       (first_past o.root.end ((chunk_0_range o ∷ open_blocks o.header.dataset a) ++ open_chunks o.header.dataset a)) e r
-  | inr r ↦ elim (or_some (refused_dataset o) (refused_index a) e r) [
+  | inr r ↦ elim (or_some (refused_dataset o) (refused_index o.header.dataset a) e r) [
     | inl d ↦ dataset_quiet ((o.header.dataset.layout.address == undefined) && not o.header.in_chunk_0) (nat_lt most_chunk_bytes (chunk_bytes o.header.dataset)) (o.header.dataset.shape.cols == 0) (chunk_bytes o.header.dataset) e d
-    | inr i ↦ index_quiet a e i
+    | inr i ↦ index_quiet o.header.dataset a e i
   ]
 ]
 
@@ -237,14 +248,19 @@ pub first_quiet : (o : Opened) (a : Option Store) (e : OpenError) → (refused_o
 first_quiet o a e (inl h) f = refused_quiet o a e h f
 first_quiet o a e (inr h) f = let g : OutOfMemory ≡ Failed = sym h ∙ f in absurd cc
 
-pub writable_front : (img : List ℕ) (size : ℕ) (name : List ℕ) (o : Opened) → eval img (looked_for size name) ≡ Ok o → IsWritable (front_of img o.place o.header.len)
-writable_front img size name o is = let k = kept_front img size name o is in subst IsWritable (sym k.same) k.writable
+pub writable_front : (img : List ℕ) (size : ℕ) (name : List ℕ) (o : Opened) (a : Option Store) → eval img (looked_for size name) ≡ Ok o → refused_open o a ≡ None → IsKeptHeader (is_starting o.header.dataset) (front_of img o.place o.header.len)
+writable_front img size name o a is none =
+    let k = kept_front img size name o is in
+    let parts = unrefused_parts o a none in
+    subst (IsKeptHeader (is_starting o.header.dataset)) (sym k.same) (k.writable, λ starts. k.addressed (in_chunk o (starts_so o.header.dataset starts).address parts.dataset))
 
-pub file_is : (img : List ℕ) (size : ℕ) (name : List ℕ) (o : Opened) (a : Option Store) (v : Store) (header : List ℕ) → IsFoundIn img size name o a → a ≡ Some v → refused_open o (Some v) ≡ None → header ≡ front_of img o.place o.header.len
+pub file_is : (img : List ℕ) (size : ℕ) (name : List ℕ) (o : Opened) (a : Option Store) (v : Store) (header : List ℕ) → IsFoundIn img size name o a → IsKeptArray a v → refused_open o a ≡ None → header ≡ front_of img o.place o.header.len
     → IsOpenedFile img size name o header v
 file_is img size name o a v header f same none kept = record {
   is = f.is;
-  index = subst (IsIndexOf img o.header.dataset) same f.index;
+  index = a;
+  is_index = f.index;
   unrefused = none;
+  array = same;
   kept = kept ∙ (kept_front img size name o f.is).same;
 }

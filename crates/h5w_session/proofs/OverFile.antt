@@ -1,5 +1,5 @@
 -- A session over a valid file has what the file has.
-use Rattle.std.proofs.Common.{◌≡◌, ◌⊎◌, ℕ, ◌/◌, ◌%◌, ◌^◌, ◌<◌, ◌≤◌, true, false, List, length, replicate, ℤ, Option, Some, None, Result, Ok, refl, sym, ap, ◌∙◌, subst, inl, inr, arith}
+use Rattle.std.proofs.Common.{◌≡◌, ◌⊎◌, ℕ, ◌/◌, ◌%◌, ◌^◌, ◌<◌, ◌≤◌, true, false, List, length, replicate, ℤ, Option, Some, None, Result, Ok, refl, sym, ap, ◌∙◌, subst, inl, inr, arith, Bool}
 use Rattle.std.specs.Prelude.{IfSome}
 use Rattle.std.specs.Option.{unwrap_or}
 use Rattle.std.proofs.lemmas.List.{length-replicate}
@@ -7,7 +7,7 @@ use Rattle.h5w_model.specs.Numbers.{range}
 use Rattle.h5w_model.specs.Programs.{eval}
 use Rattle.h5w_model.specs.Superblock.{super_at, super_bytes}
 use Rattle.h5w_model.specs.Headers.{header_view}
-use Rattle.h5w_model.specs.Datasets.{Described, HeaderFields, dataset_messages, described, is_swmr, linked, root_header}
+use Rattle.h5w_model.specs.Datasets.{Described, HeaderFields, dataset_messages, described, is_swmr, linked, root_header, FoundMessage, first_of, layout_kind}
 use Rattle.h5w_model.specs.Messages.{is_int_size}
 use Rattle.h5w_model.specs.Findings.{Summary, Valid}
 use Rattle.h5w_model.specs.Tables.{Reads, format_limits}
@@ -18,15 +18,15 @@ use Rattle.h5w_steps.specs.Moments.{Moment, Represents}
 use Rattle.h5w_steps.proofs.MomentLemmas.{super_parts}
 use Rattle.h5w_steps.proofs.FoundLemmas.{opens}
 use Rattle.h5w_cache.specs.Stores.{Store}
-use Rattle.h5w_array_laws.specs.ArrayStores.{header_place}
+use Rattle.h5w_array_laws.specs.ArrayStores.{header_place, IsCreated}
 use Rattle.h5w_array_laws.specs.ArrayImages.{StandsArray}
 use Rattle.h5w_model.specs.declared.cell.IndexKind.TheVariants.{Array}
 use Rattle.h5w_array_flushes.specs.ArrayBegins.{Begins}
 use Rattle.h5w_array_flushes.proofs.ArrayBeginLemmas.{array_begins}
 use Rattle.h5w_ea_index.proofs.StandingLemmas.{opened_stands}
 use Rattle.h5w_found.specs.Walks.{root_header_for, dataset_header_for}
-use Rattle.h5w_header_laws.specs.Files.{chunk_0}
-use Rattle.h5w_opening.specs.Openings.{Opened, looked_for}
+use Rattle.h5w_header_laws.specs.Files.{chunk_0, LayoutInChunk0}
+use Rattle.h5w_opening.specs.Openings.{Opened, looked_for, in_chunk_0}
 use Rattle.h5w_opening.proofs.FoundParts.{Parts, parts}
 use Rattle.h5w_opening.proofs.WritingLemmas.{alike_ok, dataset_alike, root_alike}
 use Rattle.h5w_session.specs.OpenAnswers.{IsArrayOf, opened_session, session_over, writing_flags}
@@ -38,6 +38,11 @@ use Rattle.h5w_session.specs.Sessions.{Session}
 use Rattle.h5w_session.specs.Stands.{Stands}
 use Rattle.h5w_session.proofs.OpenedLemmas.{over_laws}
 use Rattle.h5w_session.proofs.SaidLemmas.{is_true, one_column, said}
+use Rattle.h5w_starting_laws.specs.Starting.{IsBlank, IsUnnamed, StartKnows}
+use Rattle.h5w_starting_laws.proofs.StartLemmas.{blank_map, created_blank, start_begins}
+use Rattle.h5w_array_laws.proofs.CreatedLemmas.{created_starts}
+use Rattle.h5w_model.specs.declared.cell.Key.{Key}
+use Rattle.h5w_flush_laws.specs.Knowledge.{Knows}
 
 pub same_answer : {A E : Type 0} (r : Result A E) (a b : A) → r ≡ Ok a → r ≡ Ok b → a ≡ b
 same_answer {A = A} {E = E} r a b h g = let e : ◌≡◌ {A = Result A E} (Ok a) (Ok b) = sym h ∙ g in cc
@@ -131,7 +136,7 @@ module _ (img name : List ℕ) (size : ℕ) (o : Opened) (m : Moment) (is : eval
         record {
           knows = begins.knows;
           keeps = record { root = super_same; place = place_same; dataset = dataset_same; header = refl };
-          index = record {
+          index = inl (record {
             kind = r.kind;
             at = r.at;
             array = r.array;
@@ -140,7 +145,7 @@ module _ (img name : List ℕ) (size : ℕ) (o : Opened) (m : Moment) (is : eval
             fixed = r.fixed;
             behind = r.behind;
             map = r.map;
-          };
+          });
           clean = x.clean;
           end = sym (ap (λ (t : Super). t.end) super_same);
           limit_low = enough;
@@ -152,6 +157,46 @@ module _ (img name : List ℕ) (size : ℕ) (o : Opened) (m : Moment) (is : eval
           idle = refl;
           running = refl;
         }
+
+  -- ---- The session over a file whose array is not there yet
+
+  layout_here : o.header.in_chunk_0 ≡ true → LayoutInChunk0 img m.place
+  layout_here inside h y read first =
+      let chosen : Option FoundMessage → Bool = λ x. elim x [ Some f ↦ f.in_chunk_0 | None ↦ false ] in
+      let same : h ≡ checked.header = same_answer (eval img (dataset_messages m.place (chunk_0 img m.place))) h checked.header read checked.read in
+      let here : in_chunk_0 checked.header.messages ≡ true = ap (λ (g : HeaderFields). in_chunk_0 g.messages) header_same ∙ sym found.in_chunk ∙ inside in
+      let at : first_of layout_kind checked.header.messages ≡ Some y = ap (λ (g : HeaderFields). first_of layout_kind g.messages) (sym same) ∙ first in
+      sym (ap chosen at) ∙ here
+
+  module _ (v : Store) (u : IsUnnamed o.header.dataset) (made : IsCreated 0 0 v) (inside : o.header.in_chunk_0 ≡ true) (limit : ℕ) (enough : 1024 ≤ limit) (most : limit ≤ 2 ^ 40) where
+    abbrev begun : Session
+    begun = session_over o (chunk_0 img o.place) v name limit
+
+    blank : IsBlank v
+    blank = created_blank 0 0 v made (omega arith) (omega arith)
+
+    unnamed : IsUnnamed m.dataset
+    unnamed = subst IsUnnamed (sym dataset_same) u
+
+    known : StartKnows img name m begun.places v
+    known = start_begins img name m begun.places v file unnamed (layout_here inside) (record { end = sym (ap (λ (t : Super). t.end) super_same); none_free = refl; none_retired = refl }) blank
+
+    pub is_begun : IsOver begun img m
+    is_begun = record {
+      knows = subst (λ (f : Key → ℕ). Knows img name m f begun.places) (sym (blank_map v blank)) known.knows;
+      keeps = record { root = super_same; place = place_same; dataset = dataset_same; header = refl };
+      index = inr (record { unnamed = unnamed; array = (created_starts 0 0 v made (omega arith) (omega arith)).array; blank = blank; map = λ key. refl });
+      clean = made.changed;
+      end = sym (ap (λ (t : Super). t.end) super_same);
+      limit_low = enough;
+      limit_high = most;
+      counted = counted o.header.dataset cut_here u.kind;
+      committed = refl;
+      waiting = refl;
+      waits = refl;
+      idle = refl;
+      running = refl;
+    }
 
 -- ---- The flags
 
@@ -174,4 +219,17 @@ opened_over img name size o v limit rows columns values sm is x low enough most 
     let t = over_laws.over img name rows columns values sm valid reads (let c = one.0 in omega arith) in
     let s : Session = session_over o (chunk_0 img o.place) v name limit in
     let stands = t.2 s refl (is_over img name size o t.0 is t.1 v x limit low enough most) in
+    over_laws.rewritten s (opened_log img columns values) (writing_flags o.root.flags) false reads_back (swmr o.root.flags) refl refl stands
+
+pub started_over : (img name : List ℕ) (size : ℕ) (o : Opened) (v : Store) (limit rows columns : ℕ) (values : List ℤ) (sm : Summary) → eval img (looked_for size name) ≡ Ok o → IsUnnamed o.header.dataset → IsCreated 0 0 v
+    → o.header.in_chunk_0 ≡ true → 1024 ≤ limit → limit ≤ 2 ^ 40
+    → super_at (super_bytes (flagged_root (writing_flags o.root.flags) (session_over o (chunk_0 img o.place) v name limit))) ≡ Ok (flagged_root (writing_flags o.root.flags) (session_over o (chunk_0 img o.place) v name limit))
+    → Valid img name sm → Reads img name rows columns values → Stands (opened_session o (chunk_0 img o.place) v name limit) (opened_log img columns values)
+started_over img name size o v limit rows columns values sm is u made inside enough most reads_back valid reads =
+    let first = opens img name rows columns values sm valid reads in
+    let columns_are : o.header.dataset.shape.cols ≡ columns = ap (λ (d : Described). d.shape.cols) (sym (dataset_same img name size o first.0 is first.1)) ∙ first.4 in
+    let one = one_column o.header.dataset (cut_here img name size o first.0 is first.1) u.kind in
+    let t = over_laws.over img name rows columns values sm valid reads (let c = one.0 in omega arith) in
+    let s : Session = session_over o (chunk_0 img o.place) v name limit in
+    let stands = t.2 s refl (is_begun img name size o t.0 is t.1 v u made inside limit enough most) in
     over_laws.rewritten s (opened_log img columns values) (writing_flags o.root.flags) false reads_back (swmr o.root.flags) refl refl stands

@@ -21,12 +21,14 @@ use Rattle.h5w_steps.specs.Sessions.{Runs}
 use Rattle.h5w_steps.proofs.FoundLemmas.{moment_shows}
 use Rattle.h5w_steps.proofs.GoesLemmas.{image_last, image_pushed}
 use Rattle.h5w_steps.proofs.StepRepresents.{step_represents}
-use Rattle.h5w_session.specs.Creations.{IsNewFile, NewFile, creation_writes, first_end, header_place, log_of, new_dataset}
+use Rattle.h5w_session.specs.Creations.{IsNewFile, NewFile, creation_writes, first_end, header_place, log_of, new_dataset, array_place}
 use Rattle.h5w_session.specs.Indexes.{IsOwn}
 use Rattle.h5w_session.specs.Loads.{IsRaised, first_end_of}
 use Rattle.h5w_session.specs.Past.{AllAddressed, HasCreated, HasOpened, IsCounted, IsNew, Past, most_of}
-use Rattle.h5w_session.specs.Sessions.{Session, AllEndBy, cutting_of, with_rows}
+use Rattle.h5w_session.specs.Sessions.{Session, AllEndBy, cutting_of, with_rows, IsNamed}
 use Rattle.h5w_session.proofs.AddressedLemmas.{shown_addressed, step_addressed}
+use Rattle.h5w_header_laws.specs.Files.{with_index}
+use Rattle.h5w_session.proofs.CreatedLemmas.{first_end_small}
 
 -- ---- Lists of writes
 
@@ -58,16 +60,29 @@ spent_in-events c log other (shows w ∷ es) = spent_in-events c log other es
 
 -- ---- How the log began
 
--- another session with the same name, place, limit and dataset, but for its rows, whose array is one as it is made here where it was before
+-- Another session with the same name, place, limit and dataset, but for its rows and an index address that was not there, whose array is one
+-- as it is made here where it was before.
 pub record IsLike (s t : Session) : Type 0 where
   pub name : t.name ≡ s.name
   pub place : t.place ≡ s.place
-  pub dataset : t.dataset ≡ with_rows t.dataset.shape.rows s.dataset
+  pub dataset : t.dataset ≡ with_index t.dataset.layout.address (with_rows t.dataset.shape.rows s.dataset)
+  pub address : IsNamed s.dataset → t.dataset.layout.address ≡ s.dataset.layout.address
   pub limit : t.places.limit ≡ s.places.limit
   pub own : IsOwn s.index → IsOwn t.index
 
 pub like_itself : (s : Session) → IsLike s s
-like_itself s = record { name = refl; place = refl; dataset = refl; limit = refl; own = λ o. o }
+like_itself s = record { name = refl; place = refl; dataset = refl; address = λ named. refl; limit = refl; own = λ o. o }
+
+-- where the layout names the index the rows alone are others
+like_named : (s t : Session) → IsLike s t → IsNamed s.dataset → t.dataset ≡ with_rows t.dataset.shape.rows s.dataset
+like_named s t like named = like.dataset ∙ ap (λ (n : ℕ). with_index n (with_rows t.dataset.shape.rows s.dataset)) (like.address named)
+
+-- a new file's layout names its index
+pub created_named : (s : Session) (log : Log) → HasCreated s log → IsNamed s.dataset
+created_named s log b none =
+    let at : s.dataset.layout.address ≡ array_place b.file = ap (λ (d : Described). d.layout.address) b.dataset in
+    let small = first_end_small b.file b.is in
+    absurd (omega (arith, at, none, small))
 
 first_kept : (f : NewFile) (e : Happening) (es : List Happening) → take 5 (hist es) ≡ creation_writes f → take 5 (hist (e ∷ es)) ≡ creation_writes f
 first_kept f (appends vs) es pieces = pieces
@@ -84,7 +99,7 @@ created_later s t e log like b = record {
   pieces = first_kept b.file e log.events b.pieces;
   name = like.name ∙ b.name;
   place = like.place ∙ b.place;
-  dataset = like.dataset ∙ ap (with_rows t.dataset.shape.rows) b.dataset;
+  dataset = like_named s t like (created_named s log b) ∙ ap (with_rows t.dataset.shape.rows) b.dataset;
   limit = like.limit ∙ b.limit;
 }
 
@@ -96,7 +111,7 @@ created_still s t log like b = record {
   pieces = b.pieces;
   name = like.name ∙ b.name;
   place = like.place ∙ b.place;
-  dataset = like.dataset ∙ ap (with_rows t.dataset.shape.rows) b.dataset;
+  dataset = like_named s t like (created_named s log b) ∙ ap (with_rows t.dataset.shape.rows) b.dataset;
   limit = like.limit ∙ b.limit;
 }
 
@@ -116,12 +131,21 @@ begun_still : (s t : Session) (log : Log) → IsLike s t → HasCreated s log �
 begun_still s t log like (inl b) = inl (created_still s t log like b)
 begun_still s t log like (inr b) = inr (opened_still s t (plans 0) log like b).0
 
+pub new_named : (s : Session) (ws : List Write) (log : Log) (m : Moment) → IsNew log → Past s ws log m → IsNamed s.dataset
+new_named s ws log m new past =
+    elim past.begun [
+      | inl b ↦ created_named s log b
+      | inr b ↦ let first : 0 ≡ 5 = sym b.first ∙ ap (λ (l : Log). l.first) new in absurd (omega (arith, first))
+    ]
+
 -- a dataset is counted with whatever its rows are
 counted_rows : (n : ℕ) (d : Described) → IsCounted d → IsCounted (with_rows n d)
 counted_rows n d c = record { rows = c.rows; cols = c.cols; some = c.some; few = c.few; small = c.small; fill = c.fill; column = c.column; across = c.across }
 
 counted_alike : (s t : Session) → IsLike s t → IsCounted s.dataset → IsCounted t.dataset
-counted_alike s t like c = subst IsCounted (sym like.dataset) (counted_rows t.dataset.shape.rows s.dataset c)
+counted_alike s t like c =
+    let k = counted_rows t.dataset.shape.rows s.dataset c in
+    subst IsCounted (sym like.dataset) (record { rows = k.rows; cols = k.cols; some = k.some; few = k.few; small = k.small; fill = k.fill; column = k.column; across = k.across })
 
 -- the log is new where it was before
 new_before : (e : Happening) (log : Log) → IsNew (and_now e log) → IsNew log

@@ -34,10 +34,11 @@ created_is f is =
       array = refl;
       across = refl;
       header = writable f is;
+      addressed = λ none. absurd (omega (arith, none, z.end));
       header_ends = omega (arith, z.lens.header);
       small = omega (arith, z.end);
       limit = is.limit_high;
       inside = λ i from named. absurd (named (starts.map i));
-      tops = record { head = omega (arith, array.header_at); block = omega (arith, array.index_at) };
+      tops = λ named. record { head = omega (arith, array.header_at); block = omega (arith, array.index_at) };
       blocks = starts.array;
     }

@@ -37,11 +37,11 @@ use Rattle.h5w_flush_laws.proofs.KnownLaws.{end_known}
 use Rattle.h5w_flush_laws.proofs.FlushLaws.{freed_known}
 use Rattle.h5w_flush_laws.proofs.SessionLaws.{session_laws}
 use Rattle.h5w_session.specs.Sessions.{Session, AreRows, Freed, cleared, closed_of, closed_root, stopped_of, with_values}
-use Rattle.h5w_session.specs.Indexes.{IsIndexed}
+use Rattle.h5w_session.specs.Indexes.{IsKeptIndex}
 use Rattle.h5w_session.specs.Openings.{flagged, flagged_root}
 use Rattle.h5w_session.specs.Stands.{Running, Stands}
 use Rattle.h5w_types.proofs.RunLemmas.{by_cell, first_has_cell, first_outside-cons}
-use Rattle.h5w_session.proofs.IndexLemmas.{forgotten_live, freed_index, marks_more, missed_index}
+use Rattle.h5w_session.proofs.IndexLemmas.{forgotten_live, freed_kept, marks_more, missed_kept, super_kept}
 use Rattle.h5w_session.proofs.PastLemmas.{past_more, past_same, past_shown, past_values}
 use Rattle.h5w_session.proofs.StateLemmas.{Accepted, rows_are}
 
@@ -108,7 +108,7 @@ values_running s values log some rows fit r =
       appended = sym (append_assoc r.after.values r.more values) ∙ ap (λ (vs : List ℤ). vs ++ values) r.appended ∙ append_assoc log.values (appended_in log.events) values;
       committed = r.committed;
       columns = r.columns;
-      past = past_values s (with_values s values) values log r.after (record { name = refl; place = refl; dataset = refl; limit = refl; own = λ o. o }) refl r.past;
+      past = past_values s (with_values s values) values log r.after (record { name = refl; place = refl; dataset = refl; address = λ named. refl; limit = refl; own = λ o. o }) refl r.past;
     }
 
 pub values_stand : (s : Session) (values : List ℤ) (log : Log) → 1 ≤ s.dataset.shape.cols → AreRows s values → s.pending ≡ [] → Accepted s values → Stands s log → Stands (with_values s values) (and_now (appends values) log)
@@ -157,7 +157,7 @@ stop_stands s log st =
           appended = r.appended;
           committed = r.committed;
           columns = r.columns;
-          past = past_same s (stopped_of s) st.left log r.after (record { name = refl; place = refl; dataset = refl; limit = refl; own = λ o. o }) refl r.past;
+          past = past_same s (stopped_of s) st.left log r.after (record { name = refl; place = refl; dataset = refl; address = λ named. refl; limit = refl; own = λ o. o }) refl r.past;
         })
       ];
       prefixed = st.prefixed;
@@ -210,7 +210,7 @@ last_running s w log t freed r =
       runs = runs;
       knows = freed_or_kept s.keeps (image_now next) s.name r.after r.address s.places t freed (subst (λ (x : List ℕ). Knows x s.name r.after r.address s.places) img r.knows);
       keeps = record { root = r.keeps.root; place = r.keeps.place; dataset = r.keeps.dataset; header = subst (λ (x : List ℕ). chunk_0 x s.place ≡ s.header) img r.keeps.header };
-      index = freed_index s.keeps (image_now next) r.after r.address s.places t s.index freed (subst (λ (x : List ℕ). IsIndexed x r.after r.address s.places s.index) img r.index);
+      index = freed_kept s.keeps (image_now next) r.after r.address s.places t s.index freed (subst (λ (x : List ℕ). IsKeptIndex x r.after r.address s.places s.index) img r.index);
       marks = r.marks;
       more = r.more;
       waiting = r.waiting;
@@ -219,7 +219,7 @@ last_running s w log t freed r =
       appended = r.appended;
       committed = goes_rows s.name next r.after r.after.behind (resting s.name next r.after r.after.behind runs) ∙ ap (λ (d : Described). d.shape.rows) r.keeps.dataset;
       columns = r.columns;
-      past = past_shown s (settled s t) w [] log r.after (record { name = refl; place = refl; dataset = refl; limit = (freed_keeps s.keeps s.places t freed).1; own = λ o. o }) (freed_keeps s.keeps s.places t freed).0 r.runs r.past;
+      past = past_shown s (settled s t) w [] log r.after (record { name = refl; place = refl; dataset = refl; address = λ named. refl; limit = (freed_keeps s.keeps s.places t freed).1; own = λ o. o }) (freed_keeps s.keeps s.places t freed).0 r.runs r.past;
     }
 
 picks : (b : Bool) (x y : List ℤ) → b ≡ true → (if b then x else y) ≡ x
@@ -238,7 +238,7 @@ more_running s w x xs log r =
       runs = piece_runs s.name log w (x ∷ xs) r.after r.after.behind r.runs;
       knows = subst (λ (y : List ℕ). Knows y s.name r.after r.address s.places) img r.knows;
       keeps = record { root = r.keeps.root; place = r.keeps.place; dataset = r.keeps.dataset; header = subst (λ (y : List ℕ). chunk_0 y s.place ≡ s.header) img r.keeps.header };
-      index = subst (λ (y : List ℕ). IsIndexed y r.after r.address s.places s.index) img r.index;
+      index = subst (λ (y : List ℕ). IsKeptIndex y r.after r.address s.places s.index) img r.index;
       marks = r.marks;
       more = r.more;
       waiting = r.waiting;
@@ -247,7 +247,7 @@ more_running s w x xs log r =
       appended = r.appended;
       committed = ap (λ (vs : List ℤ). length vs / log.columns) (later ∙ sym now) ∙ r.committed;
       columns = r.columns;
-      past = past_shown s (with_pending s (x ∷ xs)) w (x ∷ xs) log r.after (record { name = refl; place = refl; dataset = refl; limit = refl; own = λ o. o }) refl r.runs r.past;
+      past = past_shown s (with_pending s (x ∷ xs)) w (x ∷ xs) log r.after (record { name = refl; place = refl; dataset = refl; address = λ named. refl; limit = refl; own = λ o. o }) refl r.runs r.past;
     }
 
 -- ---- A close
@@ -289,7 +289,7 @@ flagged_running s log flags stop reads swmr r =
     let off = ends_missed img m n w r.knows.file.apart raised in
     let header_off = λ (u : Used) (a : Among u m.header) (b : u.chunk ≡ false). off u (among_right u m.root (m.header ++ (m.fixed ++ m.behind)) (among_left u m.header (m.fixed ++ m.behind) a)) in
     let index_off = λ (u : Used) (a : Among u (m.fixed ++ m.behind)). off u (among_right u m.root (m.header ++ (m.fixed ++ m.behind)) (among_right u m.header (m.fixed ++ m.behind) a)) in
-    let index = missed_index img m r.address s.places s.index w index_off r.index in
+    let index = missed_kept img m r.address s.places s.index w index_off r.index in
     let kept = header_kept img s.name m w r.knows.file header_off in
     let place : m.place ≡ s.place = r.keeps.place in
     record {
@@ -309,7 +309,7 @@ flagged_running s log flags stop reads swmr r =
         dataset = r.keeps.dataset;
         header = ap (λ (p : ℕ). chunk_0 (apply w img) p) (sym place) ∙ kept.chunk ∙ ap (λ (p : ℕ). chunk_0 img p) place ∙ r.keeps.header;
       };
-      index = record { kind = index.kind; at = index.at; array = index.array; stands = index.stands; standing = index.standing; fixed = index.fixed; behind = index.behind; map = index.map };
+      index = super_kept (apply w img) m root r.address s.places s.index index;
       marks = r.marks;
       more = r.more;
       waiting = r.waiting;
@@ -318,7 +318,7 @@ flagged_running s log flags stop reads swmr r =
       appended = r.appended;
       committed = r.committed;
       columns = r.columns;
-      past = past_more s (flagged flags stop s) (flagged flags stop s).pending log m n (record { name = refl; place = refl; dataset = refl; limit = refl; own = λ o. o }) refl (omega (arith, length-super_bytes root, r.past.limit_low), tt) refl r.past;
+      past = past_more s (flagged flags stop s) (flagged flags stop s).pending log m n (record { name = refl; place = refl; dataset = refl; address = λ named. refl; limit = refl; own = λ o. o }) refl (omega (arith, length-super_bytes root, r.past.limit_low), tt) refl r.past;
     }
 
 -- the superblock is written with other flags

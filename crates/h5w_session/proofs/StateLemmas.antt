@@ -218,6 +218,7 @@ values_is s values is rows by =
       array = is.array;
       across = is.across;
       header = is.header;
+      addressed = is.addressed;
       header_ends = is.header_ends;
       small = is.small;
       limit = is.limit;

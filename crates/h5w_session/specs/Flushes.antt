@@ -24,7 +24,7 @@ use Rattle.h5w_ea_index.specs.Steps.{IsHeld, OnWay}
 use Rattle.h5w_flush_laws.specs.Spaces.{Taken}
 use Rattle.h5w_flush_laws.specs.Parts.{AreEnded}
 use Rattle.h5w_flush_laws.specs.Rows.{IsOutside, IsPlaced, new_chunks}
-use Rattle.h5w_session.specs.Sessions.{Session, chunk_limit, rows_of, with_rows}
+use Rattle.h5w_session.specs.Sessions.{IsNamed, Session, chunk_limit, rows_of, with_rows}
 use Rattle.h5w_session.specs.Indexes.{IsOwn, IsTouched, address_in}
 use Rattle.h5w_session.specs.Loads.{IsRaised}
 
@@ -68,6 +68,8 @@ AreWays s v = (n : ℕ) → is_changed v n ≡ true → (is_changed s.index n �
 
 -- A flush of rows that wait: what each of its calls does, in their order.
 pub record IsFlushed (old new : Session) : Type 0 where
+  -- the layout names the array
+  pub there : IsNamed old.dataset
   pub some : 0 < old.waits
   pub small : rows_of old < 2 ^ 64
   pub few : needed (with_rows (rows_of old) old.dataset) ≤ chunk_limit old

@@ -1,5 +1,5 @@
 -- What the array of a session is for its file.
-use Rattle.std.specs.Prelude.{◌≡◌, ℕ, ◌/◌, ◌<◌, ◌≤◌, true, List}
+use Rattle.std.specs.Prelude.{◌≡◌, ◌⊎◌, ℕ, ◌/◌, ◌<◌, ◌≤◌, true, List}
 use Rattle.h5w_model.specs.Logs.{div_up}
 use Rattle.h5w_model.specs.Datasets.{Described}
 use Rattle.h5w_model.specs.Findings.{chunk_bytes}
@@ -13,6 +13,7 @@ use Rattle.h5w_array_laws.specs.Parts.{holder}
 use Rattle.h5w_array_laws.specs.ArrayStores.{IsArray, IsHeaded, IsNumbered, header_place, map_of, fixed_of, behind_of}
 use Rattle.h5w_array_laws.specs.ArrayImages.{StandsArray}
 use Rattle.h5w_ea_index.specs.Steps.{OnWay}
+use Rattle.h5w_starting_laws.specs.Starting.{IsBlank, IsUnnamed}
 
 -- the address of a chunk by its key, in an array
 abbrev pub address_in : Store → Key → ℕ
@@ -29,6 +30,17 @@ pub record IsIndexed (img : List ℕ) (m : Moment) (address : Key → ℕ) (s : 
   pub fixed : m.fixed ≡ fixed_of v
   pub behind : m.behind ≡ behind_of (chunk_bytes m.dataset) v
   pub map : (key : Key) → address key ≡ address_in v key
+
+-- The file has no array yet: its layout names none, so no chunk has an address; and a blank array is kept, of which nothing is written.
+pub record IsStarting (m : Moment) (address : Key → ℕ) (v : Store) : Type 0 where
+  pub unnamed : IsUnnamed m.dataset
+  pub array : IsArray v
+  pub blank : IsBlank v
+  pub map : (key : Key) → address key ≡ address_in v key
+
+-- the file's index is this array, or the file has none yet
+abbrev pub IsKeptIndex : List ℕ → Moment → (Key → ℕ) → Space → Store → Type 0
+IsKeptIndex img m address s v = IsIndexed img m address s v ⊎ IsStarting m address v
 
 -- it is an array as it is made here: its blocks name its header and their first slots, and the header's six numbers are true
 pub record IsOwn (v : Store) : Type 0 where

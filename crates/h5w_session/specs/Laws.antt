@@ -16,7 +16,7 @@ use Rattle.h5w_flush_laws.specs.Knowledge.{IsMap}
 use Rattle.h5w_session.specs.Indexes.{IsOwn, address_in}
 use Rattle.h5w_session.specs.Past.{HasOpened, IsNew}
 use Rattle.h5w_session.specs.Room.{HasRoomFor}
-use Rattle.h5w_session.specs.Sessions.{Session, AfterPiece, chunk_limit, cutting_of, rows_of}
+use Rattle.h5w_session.specs.Sessions.{Session, AfterPiece, chunk_limit, cutting_of, rows_of, IsNamed}
 use Rattle.h5w_session.specs.Stands.{Stands}
 
 -- The log of a session is new, over no bytes and no values, and a reader finds a file after its fifth piece; or it began over a file
@@ -69,7 +69,7 @@ pub record SaysNumbers (s : Session) (img : List ℕ) : Type 0 where
 
 -- At each position of the log of a session that created its file: whatever the image shows is a dataset of the session's shape, and is
 -- shown within all limits that allow the chunks of a session, of which few are needed, each with an address; the root header is one look, the dataset
--- header names no further block; and the image ends within the limit. Its array is one as it is made here; and where nothing is pending and
+-- header names no further block; and the image ends within the limit. Its array is one as it is made here, which the layout names; and where nothing is pending and
 -- no rows wait, as after a flush whose pieces all became visible, the array's header says so on the image.
 pub record ShownLaws : Type 0 where
   pub dataset : (s : Session) (log : Log) (p : ℕ) (r : Reading) → Stands s log → IsNew log → IsPosition log p → Shows format_limits (image_at log p) s.name r → IsDatasetOf s r
@@ -84,6 +84,7 @@ pub record ShownLaws : Type 0 where
   pub dataset_header : (s : Session) (log : Log) (p : ℕ) (r : Reading) → Stands s log → IsNew log → IsPosition log p → Shows format_limits (image_at log p) s.name r → continuation_blocks (image_at log p) r ≡ []
   pub fits : (s : Session) (log : Log) (p : ℕ) → Stands s log → IsNew log → IsPosition log p → length (image_at log p) ≤ s.places.limit
   pub own : (s : Session) (log : Log) → Stands s log → IsNew log → IsOwn s.index
+  pub named : (s : Session) (log : Log) → Stands s log → IsNew log → IsNamed s.dataset
   pub numbers : (s : Session) (log : Log) → Stands s log → IsNew log → s.stopped ≡ false → s.pending ≡ [] → s.waits ≡ 0 → SaysNumbers s (image log.start (hist log.events))
 
 -- an image with room for a session has room for it after the oldest piece was written

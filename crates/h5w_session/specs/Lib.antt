@@ -25,5 +25,6 @@ pub mod OpenAnswers
 pub mod OpenSteps
 pub mod OpenLaws
 pub mod Flushes
+pub mod Starts
 pub mod Room
 pub mod Laws

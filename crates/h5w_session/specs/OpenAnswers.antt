@@ -1,5 +1,5 @@
 -- What is answered where a file is opened.
-use Rattle.std.specs.Prelude.{◌≡◌, ◌≢◌, ℕ, ◌+◌, ◌-◌, ◌*◌, ◌/◌, ◌%◌, false, List, [], ◌∷◌, Option, Some, None, Result, Ok, Err}
+use Rattle.std.specs.Prelude.{◌≡◌, ◌≢◌, ℕ, ◌+◌, ◌-◌, ◌*◌, ◌/◌, ◌%◌, false, List, [], ◌∷◌, Option, Some, None, Result, Ok, Err, ◌⊎◌}
 use Rattle.h5w_model.specs.Numbers.{undefined}
 use Rattle.h5w_model.specs.Programs.{eval}
 use Rattle.h5w_model.specs.Datasets.{Described}
@@ -9,7 +9,7 @@ use Rattle.h5w_model.specs.declared.refusal.BlockFault.{BlockFault}
 use Rattle.h5w_model.specs.declared.refusal.ReadError.TheVariants.{Damaged}
 use Rattle.h5w_header_laws.specs.Files.{chunk_0}
 use Rattle.h5w_cache.specs.Stores.{Store}
-use Rattle.h5w_array_laws.specs.ArrayStores.{IsArray, header_place}
+use Rattle.h5w_array_laws.specs.ArrayStores.{IsArray, header_place, IsCreated}
 use Rattle.h5w_ea_index.specs.Opened.{IsDamaged, IsOpened, NamesNone}
 use Rattle.h5w_opening.specs.Errors.{refusal_of}
 use Rattle.h5w_opening.specs.Openings.{Opened, looked_for}
@@ -18,6 +18,7 @@ use Rattle.h5w_opening.specs.declared.error.OpenError.TheVariants.{Read}
 use Rattle.h5w_session.specs.OpenRanges.{first_open, refused_open}
 use Rattle.h5w_session.specs.Openings.{flagged}
 use Rattle.h5w_session.specs.Sessions.{Session}
+use Rattle.h5w_starting_laws.specs.Starting.{IsUnnamed}
 
 -- ---- The index
 
@@ -30,15 +31,19 @@ pub record IsArrayOf (img : List ℕ) (d : Described) (v : Store) : Type 0 where
   pub clean : v.changed ≡ []
   pub opened : IsOpened img (first_open d) v
 
--- the index is a tree, or not there, or a header that names no index block
+-- the index is a tree, or a header that names no index block
 pub data HasNoArray (img : List ℕ) (d : Described) : Type 0 where
   tree : d.layout.index ≡ Tree → HasNoArray img d
-  unnamed : d.layout.index ≡ Array → d.layout.address ≡ undefined → HasNoArray img d
   empty : d.layout.index ≡ Array → d.layout.address ≢ undefined → NamesNone img d.layout.address → HasNoArray img d
 
 abbrev pub IsIndexOf : List ℕ → Described → Option Store → Type 0
 IsIndexOf img d (Some v) = IsArrayOf img d v
-IsIndexOf img d None = HasNoArray img d
+IsIndexOf img d None = IsUnnamed d ⊎ HasNoArray img d
+
+-- the array that a session begins with: the file's, or a blank one where the layout names none
+abbrev pub IsKeptArray : Option Store → Store → Type 0
+IsKeptArray (Some v) w = w ≡ v
+IsKeptArray None w = IsCreated 0 0 w
 
 -- ---- Refusals
 
@@ -82,9 +87,11 @@ opened_session o header v name limit = flagged (writing_flags o.root.flags) fals
 pub record IsOpenedOver (img : List ℕ) (size : ℕ) (name : List ℕ) (limit : ℕ) (s : Session) : Type 0 where
   pub found : Opened
   pub is : eval img (looked_for size name) ≡ Ok found
+  pub index : Option Store
+  pub is_index : IsIndexOf img found.header.dataset index
+  pub unrefused : refused_open found index ≡ None
   pub array : Store
-  pub index : IsArrayOf img found.header.dataset array
-  pub unrefused : refused_open found (Some array) ≡ None
+  pub kept : IsKeptArray index array
   pub session : s ≡ opened_session found (chunk_0 img found.place) array name limit
 
 -- ---- The answer

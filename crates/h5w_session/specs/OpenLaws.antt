@@ -12,7 +12,7 @@ use Rattle.h5w_session.specs.OpenAnswers.{HasNoArray, IsNotOpened, writing_flags
 use Rattle.h5w_session.specs.Sessions.{cleared}
 
 -- Why a valid file is not opened: it is open, or was not closed; a header has a message that asks to be known where the file is written; or,
--- of what was found, the layout stands outside of chunk 0, a chunk is too large, there is no column, or no array.
+-- of what was found, the layout stands outside of chunk 0, a chunk is too large, there is no column, or the index is a tree or an array's header without an index block.
 pub data IsLeft (img : List ℕ) (size : ℕ) (name : List ℕ) : OpenError → Type 0 where
   open_already : (flags : ℕ) → is_open flags ≡ true → IsLeft img size name (Flags flags)
   unknown : (at kind : ℕ) → eval img (looked_for size name) ≡ Err (Read (Header at (Unknown kind))) → IsLeft img size name (Read (Header at (Unknown kind)))

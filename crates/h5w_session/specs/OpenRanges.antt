@@ -1,5 +1,5 @@
 -- The ranges of a file that is opened, and the first of them that is refused.
-use Rattle.std.specs.Prelude.{ℕ, zero, suc, ◌+◌, ◌-◌, ◌/◌, ◌^◌, List, [], ◌∷◌, ◌++◌, take, find, nat_lt, Option, Some, None, option_map}
+use Rattle.std.specs.Prelude.{ℕ, zero, suc, ◌+◌, ◌-◌, ◌/◌, ◌^◌, List, [], ◌∷◌, ◌++◌, take, find, nat_lt, Option, Some, None, option_map, Bool, true, false, ◌==◌, if◌then◌else◌}
 use Rattle.std.specs.Option.{option_or}
 use Rattle.h5w_model.specs.Arrays.{eahd_len}
 use Rattle.h5w_model.specs.Datasets.{Described}
@@ -16,6 +16,7 @@ use Rattle.h5w_ea_index.specs.Ranges.{block_ranges, range_at}
 use Rattle.h5w_opening.specs.Openings.{Opened, refused_dataset}
 use Rattle.h5w_opening.specs.declared.error.OpenError.{OpenError}
 use Rattle.h5w_opening.specs.declared.error.OpenError.TheVariants.{Read, Index}
+use Rattle.h5w_model.specs.Numbers.{undefined}
 
 -- the chunk of the last committed row, 0 where there is none
 abbrev pub first_open : Described → ℕ
@@ -33,9 +34,9 @@ abbrev pub open_chunks : Described → Option Store → List Extent
 open_chunks d None = []
 open_chunks d (Some v) = chunks_from v (chunk_bytes d) (first_open d) (131060 - first_open d)
 
--- the header of an array that names no index block, where it has a place
+-- the header of an array that names no index block; of a file whose layout names no array, the superblock
 abbrev pub header_alone : IndexKind → ℕ → List Extent
-header_alone Array address = range_at address eahd_len
+header_alone Array address = if address == undefined then extent 0 48 ∷ [] else extent address eahd_len ∷ []
 header_alone Tree address = []
 
 -- the index's blocks, in the order of the looks
@@ -67,11 +68,23 @@ refused_ranges end blocks chunks =
 abbrev pub ranges_refused : Opened → Option Store → Option OpenError
 ranges_refused o a = refused_ranges o.root.end (chunk_0_range o ∷ open_blocks o.header.dataset a) (open_chunks o.header.dataset a)
 
--- there is no array to which rows are appended yet
-abbrev pub refused_index : Option Store → Option OpenError
-refused_index None = Some Index
-refused_index (Some v) = None
+-- the index is an array that the layout does not name yet: the first flush makes it
+abbrev pub starts_with : IndexKind → ℕ → Bool
+starts_with Array address = address == undefined
+starts_with Tree address = false
+
+abbrev pub is_starting : Described → Bool
+is_starting d = starts_with d.layout.index d.layout.address
+
+-- there is no array to which rows are appended, and none will be made
+abbrev pub refused_start : Bool → Option OpenError
+refused_start true = None
+refused_start false = Some Index
+
+abbrev pub refused_index : Described → Option Store → Option OpenError
+refused_index d None = refused_start (is_starting d)
+refused_index d (Some v) = None
 
 -- why rows are not appended to a file with this array: tried once the index was read
 abbrev pub refused_open : Opened → Option Store → Option OpenError
-refused_open o a = option_or (ranges_refused o a) (option_or (refused_dataset o) (refused_index a))
+refused_open o a = option_or (ranges_refused o a) (option_or (refused_dataset o) (refused_index o.header.dataset a))

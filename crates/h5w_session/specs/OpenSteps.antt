@@ -1,9 +1,9 @@
 -- What the steps of an opening answer.
-use Rattle.std.specs.Prelude.{◌≡◌, ◌≢◌, ℕ, ◌≤◌, min, List, [], length, find, ◌==◌, IfSome, Option, Some, None, Result, Ok, Err}
+use Rattle.std.specs.Prelude.{◌≡◌, ◌≢◌, ℕ, ◌≤◌, min, List, [], length, find, ◌==◌, IfSome, Option, Some, None, Result, Ok, Err, Bool, true, ◌+◌}
 use Rattle.h5w_model.specs.Causes.{Rose}
 use Rattle.h5w_model.specs.Numbers.{range, undefined}
 use Rattle.h5w_model.specs.Programs.{eval}
-use Rattle.h5w_model.specs.Datasets.{Described, dataspace_kind}
+use Rattle.h5w_model.specs.Datasets.{Described, dataspace_kind, layout_kind}
 use Rattle.h5w_model.specs.declared.message.Msg.{Msg}
 use Rattle.h5w_model.specs.Messages.{IsIntType, IsLayout, IsShape}
 use Rattle.h5w_model.specs.declared.cell.IndexKind.TheVariants.{Array}
@@ -13,7 +13,7 @@ use Rattle.h5w_image.specs.View.{ImageView, Looked}
 use Rattle.h5w_looks.specs.Still.{IsStill}
 use Rattle.h5w_header_laws.specs.Files.{chunk_0}
 use Rattle.h5w_cache.specs.Stores.{Store}
-use Rattle.h5w_array_laws.specs.ArrayStores.{IsArray, header_place}
+use Rattle.h5w_array_laws.specs.ArrayStores.{IsArray, header_place, IsCreated}
 use Rattle.h5w_ea_index.specs.Opened.{IsDamaged}
 use Rattle.h5w_ea_index.specs.declared.error.OpenArrayError.{OpenArrayError}
 use Rattle.h5w_ea_index.specs.declared.error.OpenArrayError.TheVariants as array_errors
@@ -21,9 +21,11 @@ use Rattle.h5w_opening.specs.Errors.{refusal_of}
 use Rattle.h5w_opening.specs.Openings.{IsFound, Opened, looked_for}
 use Rattle.h5w_opening.specs.declared.error.OpenError.{OpenError}
 use Rattle.h5w_opening.specs.declared.error.OpenError.TheVariants.{Read, Failed, OutOfMemory}
-use Rattle.h5w_session.specs.OpenRanges.{first_open, refused_open}
-use Rattle.h5w_session.specs.OpenAnswers.{IfRefusal, IsArrayOf, IsIndexOf}
-use Rattle.h5w_session.specs.Sessions.{IsWritable}
+use Rattle.h5w_session.specs.OpenRanges.{first_open, refused_open, is_starting}
+use Rattle.h5w_session.specs.OpenAnswers.{IfRefusal, IsIndexOf, IsKeptArray}
+use Rattle.h5w_session.specs.Sessions.{IsWritable, HasAddress}
+use Rattle.h5w_starting_laws.specs.Starting.{IsUnnamed}
+use Rattle.h5w_model.specs.Headers.{index_address_place}
 
 -- why an array is not opened, as why a file is not
 abbrev pub array_error : OpenArrayError → OpenError
@@ -73,6 +75,12 @@ pub record HasRows (list : List Msg) : Type 0 where
   pub first : find (λ (m : Msg). m.kind == dataspace_kind) list ≡ Some space
   pub long : 12 ≤ length space.body
 
+-- an index address can be written in the first layout message of these
+pub record HasLayout (list : List Msg) : Type 0 where
+  pub layout : Msg
+  pub first : find (λ (m : Msg). m.kind == layout_kind) list ≡ Some layout
+  pub room : index_address_place layout.body + 8 ≤ length layout.body
+
 -- the bytes of chunk 0 that are looked at, at most a piece
 abbrev pub front_of : List ℕ → ℕ → ℕ → List ℕ
 front_of img place len = range img place (min len 512)
@@ -84,12 +92,22 @@ pub record IsCut (d : Described) : Type 0 where
   pub chunked : IsLayout d.layout d.shape d.int_type
   pub filled : IfSome d.fill.value (λ (b : List ℕ). length b ≡ d.int_type.size)
 
+-- the array that is kept: that which the layout names, or a blank one where it names none
+abbrev pub IsReadyArray : Described → Option Store → Store → Type 0
+IsReadyArray d (Some u) v = IsNamedArray d u × (v ≡ u)
+IsReadyArray d None v = IsUnnamed d × IsCreated 0 0 v
+
+-- chunk 0 can be written with rows, and where it is asked for with an index address
+abbrev pub IsKeptHeader : Bool → List ℕ → Type 0
+IsKeptHeader starts b = IsWritable b × (starts ≡ true → HasAddress b)
+
 -- what a session over a file that is there begins with, whatever the image is
 pub record IsReady (o : Opened) (header : List ℕ) (v : Store) : Type 0 where
   pub found : IsFound o
-  pub array : IsNamedArray o.header.dataset v
-  pub unrefused : refused_open o (Some v) ≡ None
-  pub writable : IsWritable header
+  pub index : Option Store
+  pub array : IsReadyArray o.header.dataset index v
+  pub unrefused : refused_open o index ≡ None
+  pub header_kept : IsKeptHeader (is_starting o.header.dataset) header
   pub few : length header ≤ o.header.len
 
 -- a superblock of version 3
@@ -99,6 +117,8 @@ versioned o = record o { root = record (o.root) { version = 3 } }
 -- all of a file that is opened, where nothing refuses it
 pub record IsOpenedFile (img : List ℕ) (size : ℕ) (name : List ℕ) (o : Opened) (header : List ℕ) (v : Store) : Type 0 where
   pub is : eval img (looked_for size name) ≡ Ok o
-  pub index : IsArrayOf img o.header.dataset v
-  pub unrefused : refused_open o (Some v) ≡ None
+  pub index : Option Store
+  pub is_index : IsIndexOf img o.header.dataset index
+  pub unrefused : refused_open o index ≡ None
+  pub array : IsKeptArray index v
   pub kept : header ≡ chunk_0 img o.place

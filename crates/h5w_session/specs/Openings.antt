@@ -8,7 +8,7 @@ use Rattle.h5w_model.specs.Tables.{Reads}
 use Rattle.h5w_model.specs.declared.root.Super.{Super}
 use Rattle.h5w_flush_laws.specs.Knowledge.{Knows}
 use Rattle.h5w_steps.specs.Moments.{Moment, Represents}
-use Rattle.h5w_session.specs.Indexes.{IsIndexed, address_in}
+use Rattle.h5w_session.specs.Indexes.{IsKeptIndex, address_in}
 use Rattle.h5w_session.specs.Past.{IsCounted}
 use Rattle.h5w_session.specs.Sessions.{Session}
 use Rattle.h5w_session.specs.Stands.{Keeps, Stands}
@@ -21,7 +21,7 @@ opened_log img columns values = record { start = img; columns = columns; values 
 pub record IsOver (s : Session) (img : List ℕ) (m : Moment) : Type 0 where
   pub knows : Knows img s.name m (address_in s.index) s.places
   pub keeps : Keeps s img m
-  pub index : IsIndexed img m (address_in s.index) s.places s.index
+  pub index : IsKeptIndex img m (address_in s.index) s.places s.index
   pub clean : s.index.changed ≡ []
   pub end : s.places.end ≡ m.super.end
   pub limit_low : 1024 ≤ s.places.limit

@@ -1,10 +1,13 @@
 -- Why a session's calls are refused.
-use Rattle.std.specs.Prelude.{◌≡◌, ◌⊎◌, ℕ, ◌/◌, ◌≤◌, List, length, ℤ, nat_lt, if◌then◌else◌, Option, Some, None}
+use Rattle.std.specs.Prelude.{◌≡◌, ◌⊎◌, ℕ, ◌+◌, ◌/◌, ◌≤◌, List, [], ◌∷◌, length, ℤ, nat_lt, if◌then◌else◌, Option, Some, None}
 use Rattle.h5w_model.specs.Lawful.{first_outside}
 use Rattle.h5w_model.specs.Datasets.{Described}
-use Rattle.h5w_space.specs.Space.{Space}
+use Rattle.h5w_model.specs.Arrays.{eahd_len, eaib_len}
+use Rattle.h5w_model.specs.Numbers.{undefined}
+use Rattle.h5w_visits.specs.Ranges.{block_at}
+use Rattle.h5w_space.specs.Space.{Space, extent}
 use Rattle.h5w_space.specs.declared.Full.{Full}
-use Rattle.h5w_cache.specs.Plans.{HasNoRoom}
+use Rattle.h5w_cache.specs.Plans.{HasNoRoom, IsRefused, Took}
 use Rattle.h5w_cache.specs.Stores.{Store, times}
 use Rattle.h5w_cache.specs.declared.plan.PlanError.{PlanError}
 use Rattle.h5w_cache.specs.declared.plan.PlanError.TheVariants as plan
@@ -12,7 +15,10 @@ use Rattle.h5w_chunks.specs.Shares.{touched}
 use Rattle.h5w_chunks.specs.declared.grid.ChunkPlace.{ChunkPlace}
 use Rattle.h5w_image.specs.declared.fault.ImageError.{ImageError}
 use Rattle.h5w_image.specs.declared.fault.ImageError.TheVariants as image
-use Rattle.h5w_session.specs.Sessions.{Session, chunk_limit, chunks_with, rows_of}
+use Rattle.h5w_session.specs.Sessions.{IsNamed, Session, chunk_limit, chunks_with, rows_of}
+use Rattle.h5w_flush_laws.specs.Spaces.{Taken}
+use Rattle.h5w_starting_laws.specs.StartCalls.{IsMade}
+use Rattle.h5w_session.specs.Loads.{IsRaised}
 use Rattle.h5w_session.specs.Placing.{IsChunkFull, IsPlacing}
 use Rattle.h5w_session.specs.declared.refusal.AppendError.{AppendError}
 use Rattle.h5w_session.specs.declared.refusal.AppendError.TheVariants as appends
@@ -75,9 +81,29 @@ pub record IsBlockFull (d : Described) (to : ℕ) (v : Store) (s : Space) (full 
 abbrev pub IsFullPart : Described → ℕ → Store → Space → Full → Type 0
 IsFullPart d to v s full = IsChunkFull d to v s full ⊎ IsBlockFull d to v s full
 
+-- there is no place for an array's index block, or else none for its header
+pub data IsUnplaced (s : Space) (full : Full) : Type 0 where
+  no_block : IsRefused s eaib_len full → IsUnplaced s full
+  no_header : (block : ℕ) (a : Space) → Took s a (extent block eaib_len) → IsRaised s a eaib_len → IsRefused a eahd_len full → IsUnplaced s full
+
+-- over the array that is made at these two places there is none for the first new chunk, or else for the first block in turn
+pub record IsUnfilled (s : Session) (full : Full) : Type 0 where
+  pub at : ℕ
+  pub block : ℕ
+  pub first : Space
+  pub made : Store
+  pub two : Taken s.places (block_at at eahd_len ∷ block_at block eaib_len ∷ []) first
+  pub raised : IsRaised s.places first (eahd_len + eaib_len)
+  pub is_made : IsMade at block made
+  pub none : IsFullPart s.dataset (rows_of s) made first full
+
+-- the file has no array yet
+abbrev pub IsStartFull : Session → Full → Type 0
+IsStartFull s full = IsUnplaced s.places full ⊎ IsUnfilled s full
+
 -- so it is for the rows that wait
 abbrev pub IsFullFor : Session → Full → Type 0
-IsFullFor s full = IsFullPart s.dataset (rows_of s) s.index s.places full
+IsFullFor s full = (IsNamed s.dataset × IsFullPart s.dataset (rows_of s) s.index s.places full) ⊎ ((s.dataset.layout.address ≡ undefined) × IsStartFull s full)
 
 -- what is answered where the image made no room, and where the index has no plan
 abbrev pub flush_fault : ImageError → FlushError

@@ -3,14 +3,15 @@ use Rattle.std.specs.Prelude.{◌≡◌, ◌≢◌, ◌==◌, ◌^◌, ℕ, ◌+
 use Rattle.h5w_model.specs.Images.{AllSized}
 use Rattle.h5w_model.specs.Superblock.{super_bytes}
 use Rattle.h5w_model.specs.Logs.{Cutting}
-use Rattle.h5w_model.specs.Datasets.{Described, dataspace_kind}
+use Rattle.h5w_model.specs.Datasets.{Described, dataspace_kind, layout_kind}
 use Rattle.h5w_model.specs.Tables.{chunks_across, format_limits, limit_of, needed}
 use Rattle.h5w_model.specs.Numbers.{undefined}
-use Rattle.h5w_model.specs.Headers.{messages_at}
+use Rattle.h5w_model.specs.Headers.{index_address_place, messages_at}
 use Rattle.h5w_model.specs.declared.cell.IndexKind.TheVariants.{Array}
 use Rattle.h5w_model.specs.declared.message.Msg.{Msg}
 use Rattle.h5w_model.specs.declared.root.Super.{Super}
 use Rattle.h5w_model.specs.declared.piece.Write.{Write}
+use Rattle.h5w_header_laws.specs.Files.{with_index}
 use Rattle.h5w_space.specs.Space.{Space, Commits}
 use Rattle.h5w_cache.specs.Stores.{Store}
 use Rattle.h5w_model.specs.Arrays.{eahd_len, eaib_len}
@@ -79,6 +80,18 @@ pub record IsWritable (b : List ℕ) : Type 0 where
   pub first : find (λ (m : Msg). m.kind == dataspace_kind) list ≡ Some space
   pub long : 12 ≤ length space.body
 
+-- an index address can be written in chunk 0 of a dataset header
+pub record HasAddress (b : List ℕ) : Type 0 where
+  pub list : List Msg
+  pub layout : Msg
+  pub read : messages_at b ≡ Ok list
+  pub first : find (λ (m : Msg). m.kind == layout_kind) list ≡ Some layout
+  pub room : index_address_place layout.body + 8 ≤ length layout.body
+
+-- the dataset's layout names its index
+abbrev pub IsNamed : Described → Type 0
+IsNamed d = d.layout.address ≢ undefined
+
 -- each chunk that has an address, of those from the band of the next row on, ends by a place
 abbrev pub AreInside : Described → ℕ → Store → Type 0
 AreInside d end v = (i : ℕ) → d.shape.rows / d.layout.chunk_rows ≤ i → map_of v i ≢ undefined → map_of v i + chunk_len d ≤ end
@@ -99,12 +112,14 @@ pub record IsSession (s : Session) : Type 0 where
   pub array : s.dataset.layout.index ≡ Array
   pub across : chunks_across s.dataset ≡ 1
   pub header : IsWritable s.header
+  -- where the layout names no index yet its address can be written with the rows
+  pub addressed : s.dataset.layout.address ≡ undefined → HasAddress s.header
   pub header_ends : s.place + length s.header ≤ s.places.end
   pub small : s.places.end < 2 ^ 64
   pub limit : s.places.limit ≤ 2 ^ 40
-  -- the chunks that rows may still go into and the blocks in place stand in the file
+  -- the chunks that rows may still go into stand in the file, and so do the blocks in place, where there are any
   pub inside : AreInside s.dataset s.places.end s.index
-  pub tops : EndInPlace s.places.end s.index
+  pub tops : IsNamed s.dataset → EndInPlace s.places.end s.index
   pub blocks : IsArray s.index
 
 -- each write ends by a place
@@ -158,13 +173,14 @@ abbrev pub option_list : {A : Type 0} → Option A → List A
 option_list None = []
 option_list (Some x) = x ∷ []
 
--- The session after a flush has all rows: none waits, and nothing but the places, the superblock's end, the header, the index and the
--- pieces is another.
+-- The session after a flush has all rows: none waits, and nothing but the places, the superblock's end, the header, the index, the
+-- pieces and an index address that the layout did not name is another.
 pub record TakesRows (old new : Session) : Type 0 where
   pub name : new.name ≡ old.name
   pub root : new.root ≡ record (old.root) { end = new.root.end }
   pub place : new.place ≡ old.place
-  pub dataset : new.dataset ≡ with_rows (rows_of old) old.dataset
+  pub dataset : new.dataset ≡ with_index new.dataset.layout.address (with_rows (rows_of old) old.dataset)
+  pub address : IsNamed old.dataset → new.dataset.layout.address ≡ old.dataset.layout.address
   pub waiting : new.waiting ≡ []
   pub waits : new.waits ≡ 0
   pub committed : new.committed ≡ old.committed

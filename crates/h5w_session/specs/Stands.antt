@@ -13,7 +13,7 @@ use Rattle.h5w_steps.specs.Logs.{image_now}
 use Rattle.h5w_steps.specs.Sessions.{Runs}
 use Rattle.h5w_flush_laws.specs.Knowledge.{Knows}
 use Rattle.h5w_session.specs.Sessions.{Session, rows_of}
-use Rattle.h5w_session.specs.Indexes.{AreMarks, IsIndexed}
+use Rattle.h5w_session.specs.Indexes.{AreMarks, IsKeptIndex}
 use Rattle.h5w_session.specs.Creations.{IsNewFile, NewFile, created, creation_writes, log_of}
 use Rattle.h5w_session.specs.Past.{Past}
 
@@ -41,7 +41,7 @@ pub record Running (s : Session) (left : List Write) (log : Log) : Type 0 where
   pub runs : Runs s.name log left after after.behind
   pub knows : Knows (image (image_now log) left) s.name after address s.places
   pub keeps : Keeps s (image (image_now log) left) after
-  pub index : IsIndexed (image (image_now log) left) after address s.places s.index
+  pub index : IsKeptIndex (image (image_now log) left) after address s.places s.index
   pub marks : AreMarks s.dataset s.dataset.shape.rows (rows_of s) s.index
   pub more : List ℤ
   pub waiting : s.waiting ≡ cells_of s.dataset more

@@ -1,7 +1,7 @@
 //! The flush of a session: all memory and all places are taken before anything changes.
-ghost use Rattle.std.specs.Prelude.{◌≡◌, ◌⊎◌, ℕ, ◌+◌, ◌*◌, ◌-◌, ◌^◌, ◌<◌, ◌≤◌, [], ◌∷◌, ◌++◌, List, length, IfOk, IfErr, IfSome, IsOk, IsSome, MatchOption, OnOk, OnErr, None, Some, Ok, Err, vec_len, vec_capacity};
+ghost use Rattle.std.specs.Prelude.{◌≡◌, ◌⊎◌, ℕ, ◌+◌, ◌*◌, ◌-◌, ◌^◌, ◌<◌, ◌≤◌, [], ◌∷◌, ◌++◌, List, length, IfOk, IfErr, IfSome, IsOk, IsSome, MatchOption, OnOk, OnErr, if◌then◌else◌, None, Some, Ok, Err, vec_len, vec_capacity};
 ghost use Rattle.h5w_model.specs.Causes.{Rose};
-ghost use Rattle.h5w_model.specs.Headers.{messages_at, rows_in_header, with_rows_bytes};
+ghost use Rattle.h5w_model.specs.Headers.{index_in_header, messages_at, rows_in_header, with_rows_bytes};
 ghost use Rattle.h5w_model.specs.Logs.{Log, and_now, div_up, load, plans};
 ghost use Rattle.h5w_model.specs.Tables.{chunks_across};
 ghost use Rattle.h5w_array_laws.specs.ArrayStores.{IsArray};
@@ -16,24 +16,37 @@ ghost use Rattle.h5w_flush_laws.specs.Parts.{AreEnded};
 ghost use Rattle.h5w_image.specs.View.{Same};
 ghost use Rattle.h5w_space.specs.declared.Full.{Full};
 ghost use Rattle.h5w_session.specs.Flushes.{IsFlushed, SameBut};
-ghost use Rattle.h5w_session.specs.Loads.{NoPlace};
+ghost use Rattle.h5w_session.specs.Loads.{IsRaised, NoPlace};
+ghost use Rattle.h5w_session.specs.Starts.{HasFlushed, IsStartFlushed, IsStartedAt};
+ghost use Rattle.h5w_model.specs.Arrays.{eahd_len, eaib_len};
+ghost use Rattle.h5w_model.specs.Numbers.{undefined};
+ghost use Rattle.h5w_visits.specs.Ranges.{block_at};
+ghost use Rattle.h5w_flush_laws.specs.Spaces.{Taken};
 ghost use Rattle.h5w_session.specs.Placing.{IsPartly, IsPlacing, first_number};
-ghost use Rattle.h5w_session.specs.Refusals.{IsFullFor, IsFullPart, IsSpace, flush_refusal};
-ghost use Rattle.h5w_session.specs.Room.{HasRoomFor};
-ghost use Rattle.h5w_session.specs.Sessions.{AllEndBy, AreInside, TakesRows, cutting_of, option_list, rows_of};
+ghost use Rattle.h5w_session.specs.Refusals.{IsFullFor, IsFullPart, IsSpace, IsStartFull, IsUnplaced, flush_refusal};
+ghost use Rattle.h5w_session.specs.Room.{HasRoomFor, most_pieces, own_pieces};
+ghost use Rattle.h5w_session.specs.Sessions.{AllEndBy, AreInside, IsNamed, TakesRows, cutting_of, option_list, rows_of};
 ghost use Rattle.h5w_session.specs.Stands.{Stands};
 ghost use Rattle.h5w_session.specs.declared.refusal.FlushError.{FlushError};
 
 use crate::refusal::FlushError;
 use crate::state::WriterCore;
 use crate::taking::{Taking, named_chunk, place_chunks, unset};
+use h5w_bytes::UNDEFINED;
 use h5w_cache::{Begun, Plan};
 use h5w_chunks::{ChunkPlace, Grid};
 use h5w_ea_index::ArrayIndex;
 use h5w_image::PieceWrite;
 use h5w_model::{OutOfMemory, PIECE, Piece, Super, Write};
 use h5w_ohdr::with_rows;
+use h5w_space::{Full, Places};
+use std::alloc::Global;
 use std::mem;
+
+/// The bytes of an extensible array's index block, and of its header.
+const INDEX_BLOCK: u64 = 298;
+
+const ARRAY_HEADER: u64 = 72;
 
 /// A flush that only has to be carried out: the writes of the new rows, with room for all that follow, and the plan of the index's blocks.
 #[derive(Drop)]
@@ -71,9 +84,57 @@ fn make_room<W: PieceWrite>(
     Ok(())
 }
 
-/// The writes of the new rows, whose chunks have these places.
-fn put_rows(grid: &Grid, cells: &[u8], to: u64, taking: &Taking) -> Result<Vec<Write>, OutOfMemory>
+/// How many pieces the new rows have at most in a stored chunk.
+fn own_pieces(grid: &Grid, to: u64) -> u64
     requires grid { IsGrid grid.now }
+    requires one { chunks_across (dataset_of grid.now) ≡ 1 }
+    requires order { grid.now.shape.rows ≤ to }
+    ensures { result ≡ own_pieces (dataset_of grid.now) grid.now.shape.rows to }
+{
+    let rows = (to - grid.shape.rows).min(grid.layout.chunk.0);
+    let line = grid.shape.cols * u64::from(grid.int_type.size);
+    if grid.shape.cols == grid.layout.chunk.1 {
+        (rows * line).div_ceil(PIECE as u64)
+    } else {
+        rows * line.div_ceil(PIECE as u64)
+    }
+}
+
+/// Which of both is that of a chunk with this place: `own` where it is stored, else `whole`.
+fn pieces_of(place: &ChunkPlace, own: usize, whole: usize) -> usize
+    ensures { result ≡ (if place.now.stored then own else whole) }
+{
+    if place.stored { own } else { whole }
+}
+
+/// How many pieces the writes of the new rows have at most, whose chunks have these places.
+fn most_pieces(grid: &Grid, to: u64, places: &[ChunkPlace]) -> Option<usize>
+    requires grid { IsGrid grid.now }
+    requires one { chunks_across (dataset_of grid.now) ≡ 1 }
+    requires order { grid.now.shape.rows ≤ to }
+    ensures sum { IfSome result (λ n. n ≡ most_pieces (dataset_of grid.now) grid.now.shape.rows to places.now) }
+    ensures enough { IfSome result (λ n. (cells : List ℕ) → length cells ≡ (to - grid.now.shape.rows) * grid.now.shape.cols * grid.now.int_type.size → length places.now ≡ touched (dataset_of grid.now) grid.now.shape.rows to
+        → length (new_writes (dataset_of grid.now) cells grid.now.shape.rows to places.now) ≤ n) }
+{
+    let own = own_pieces(grid, to) as usize;
+    let whole = grid.chunk_len().div_ceil(PIECE as u64) as usize;
+    let mut count = 0_usize;
+    for place in places {
+        count = count.checked_add(pieces_of(place, own, whole))?;
+    }
+    Some(count)
+}
+
+/// The writes of the new rows, whose chunks have these places, with room for so many behind them.
+fn put_rows(
+    grid: &Grid,
+    cells: &[u8],
+    to: u64,
+    taking: &Taking,
+    after: usize,
+) -> Result<Vec<Write>, OutOfMemory>
+    requires grid { IsGrid grid.now }
+    requires one { chunks_across (dataset_of grid.now) ≡ 1 }
     requires order { grid.now.shape.rows ≤ to }
     requires count { length cells.now ≡ (to - grid.now.shape.rows) * grid.now.shape.cols * grid.now.int_type.size }
     requires all { length taking.now.chunks.items ≡ touched (dataset_of grid.now) grid.now.shape.rows to }
@@ -81,7 +142,9 @@ fn put_rows(grid: &Grid, cells: &[u8], to: u64, taking: &Taking) -> Result<Vec<W
     ensures exact { IfOk result (λ ws. ws.items ≡ new_writes (dataset_of grid.now) cells.now grid.now.shape.rows to taking.now.chunks.items) }
     ensures does { IfOk result (λ ws. RowsWritten (dataset_of grid.now) cells.now grid.now.shape.rows to taking.now.chunks.items ws.items) }
 {
-    let mut writes = Vec::new(*taking.chunks.allocator());
+    let most = most_pieces(grid, to, &taking.chunks).ok_or(OutOfMemory)?;
+    let room = most.checked_add(after).ok_or(OutOfMemory)?;
+    let mut writes = Vec::with_capacity(*taking.chunks.allocator(), room)?;
     grid.new_bytes(cells, grid.shape.rows, to, &taking.chunks, &mut writes)?;
     Ok(writes)
 }
@@ -122,8 +185,9 @@ fn prepare<W: PieceWrite>(
     ensures causes { IfErr result (λ e. IsSpace e ⊎ ((e ≡ FlushError.Failed) ⊎ (e ≡ FlushError.OutOfMemory))) }
 {
     place_chunks(grid, to, taking, index)?;
-    let mut writes = put_rows(grid, cells, to, taking)?;
     let begun = index.begin(&taking.places)?;
+    let after = pieces_after(&begun).ok_or(OutOfMemory)?;
+    let mut writes = put_rows(grid, cells, to, taking, after)?;
     make_room(&mut writes, &begun, image)?;
     Ok(Prepared { writes, begun })
 }
@@ -155,6 +219,9 @@ fn put_chunk<W: PieceWrite>(
     ensures causes { IfErr result (λ e. (e ≡ FlushError.Failed) ⊎ (e ≡ FlushError.OutOfMemory)) }
 {
     writes.clear();
+    let most = most_pieces(grid, to, &[place]).ok_or(OutOfMemory)?;
+    let room = most.checked_add(2).ok_or(OutOfMemory)?;
+    writes.reserve_exact(room).map_err(OutOfMemory::from)?;
     grid.new_bytes(cells, grid.shape.rows, to, &[place], &mut writes)?;
     let pieces = (writes.len() as u64).checked_add(3).ok_or(OutOfMemory)?;
     writes.reserve(2).map_err(OutOfMemory::from)?;
@@ -179,19 +246,20 @@ fn raise(root: &mut Super, end: u64) -> Option<Write>
     })
 }
 
-/// A dataset's header gets another number of rows, and the piece that writes it.
+/// A dataset's header gets another number of rows, and the address of its index where one is given; and the piece that writes it.
 #[inline(always)]
-fn raise_rows(header: &mut Piece, rows: u64) -> Piece
+fn raise_rows(header: &mut Piece, rows: u64, index: Option<u64>) -> Piece
     requires read { IsOk (messages_at header.old) }
     requires rows { IsSome (rows_in_header header.old) }
-    ensures header { header.new ≡ with_rows_bytes header.old rows None }
+    requires index { IsSome index → IsSome (index_in_header header.old) }
+    ensures header { header.new ≡ with_rows_bytes header.old rows index }
     ensures piece { result ≡ header.new }
     ensures short { length header.old ≤ 512 }
 {
     let mut bytes = [0; PIECE];
     let chunk = &mut bytes[..header.len()];
     chunk.copy_from_slice(header.as_slice());
-    with_rows(chunk, rows, None);
+    with_rows(chunk, rows, index);
     header.set(chunk);
     Piece::of(chunk)
 }
@@ -229,11 +297,67 @@ fn join(mut writes: Vec<Write>, plan: Plan, superblock: Option<Write>, header: W
     writes
 }
 
+/// All pieces of a flush that makes the array: the rows, copies, the array's blocks, the superblock, and last the header, which names the array.
+fn join_start(
+    mut pieces: Vec<Write>,
+    plan: Plan,
+    superblock: Option<Write>,
+    header: Write,
+) -> Vec<Write>
+    requires { vec_len pieces + (vec_len plan.copies + vec_len plan.in_place + 2) ≤ vec_capacity pieces }
+    ensures items { result.items ≡ pieces.items ++ (plan.copies.items ++ (plan.in_place.items ++ (option_list superblock ++ header ∷ []))) }
+    ensures room { 1 ≤ vec_capacity result }
+{
+    let Plan {
+        mut copies,
+        mut in_place,
+        ..
+    } = plan;
+    pieces.append(&mut copies).unwrap();
+    pieces.append(&mut in_place).unwrap();
+    if let Some(block) = superblock {
+        pieces.push_reserved(block);
+    }
+    pieces.push_reserved(header);
+    pieces
+}
+
+/// Takes a place for an array's index block, and then one for its header: the header's, and the index block's.
+fn take_two(places: &mut Places) -> Result<(u64, u64), Full>
+    requires small { places.old.end < 2 ^ 64 }
+    requires limit { places.old.limit ≤ 2 ^ 40 }
+    ensures taken { IfOk result (λ x. Taken places.old (block_at x.0 eahd_len ∷ block_at x.1 eaib_len ∷ []) places.new) }
+    ensures raised { OnOk result (IsRaised places.old places.new (eahd_len + eaib_len)) }
+    ensures header { IfOk result (λ x. x.0 + eahd_len ≤ places.new.end) }
+    ensures block { IfOk result (λ x. x.1 + eaib_len ≤ places.new.end) }
+    ensures full { IfErr result (λ full. IsUnplaced places.old full) }
+{
+    let block = places.take(INDEX_BLOCK)?;
+    let header = places.take(ARRAY_HEADER)?;
+    Ok((header, block))
+}
+
+/// An array without chunks, for whose blocks places are taken, and the place of its header.
+fn start_array(alloc: Global, places: &mut Places) -> Result<(ArrayIndex, u64), FlushError>
+    requires small { places.old.end < 2 ^ 64 }
+    requires limit { places.old.limit ≤ 2 ^ 40 }
+    ensures started { IfOk result (λ x. IsStartedAt places.old x.1 x.0 places.new) }
+    ensures full { (full : Full) → result ≡ Err (FlushError.Space full) → IsUnplaced places.old full }
+    ensures causes { IfErr result (λ e. IsSpace e ⊎ (e ≡ FlushError.OutOfMemory)) }
+{
+    let (header, block) = take_two(places)?;
+    let index = ArrayIndex::new(alloc, header, block)?;
+    Ok((index, header))
+}
+
 impl WriterCore {
     /// Plans the pieces that make the rows that wait visible, which are pending then, and answers how many they are: none exactly where
     /// no row waits. Where the file has no place for a new chunk the first such chunk by its key is told, or else the first block of the
     /// index in turn; or want of memory. All memory and all places are taken here, so that nothing after it fails. Room is reserved in
     /// the image for these pieces and one more, up to the file's new end.
+    ///
+    /// Where the layout names no array yet one is made: the places of its index block and then of its header are the first that are taken and
+    /// that a full file tells, and the dataset header names it with the rows.
     ///
     /// A refused flush leaves no more than blocks of the index held, which the next flush writes in any case.
     pub fn flush<W: PieceWrite>(&mut self, image: &mut W) -> Result<u64, FlushError>
@@ -278,7 +402,7 @@ impl WriterCore {
     /// Plans the pieces that make the rows that wait visible.
     fn flush_rows<W: PieceWrite>(&mut self, image: &mut W) -> Result<u64, FlushError>
         requires waits { 0 < self.old.waits }
-        ensures flushed { OnOk result (IsFlushed self.old self.new) }
+        ensures flushed { OnOk result (HasFlushed self.old self.new) }
         ensures pieces { IfOk result (λ pieces. pieces ≡ length self.new.pending) }
         ensures ends { OnOk result (AllEndBy self.new.places.end self.new.pending) }
         ensures kept { OnErr result (SameBut self.old self.new) }
@@ -288,6 +412,9 @@ impl WriterCore {
         ensures image { Same (W.view image.old) (W.view image.new) }
         ensures room { OnOk result (HasRoomFor self.new (W.view image.new)) }
     {
+        if self.grid.layout.address == UNDEFINED {
+            return self.flush_starting(image);
+        }
         match self.chunk_alone() {
             Some(place) => self.flush_chunk(place, image),
             None => self.flush_taking(image),
@@ -314,6 +441,7 @@ impl WriterCore {
         place: ChunkPlace,
         image: &mut W,
     ) -> Result<u64, FlushError>
+        requires there { IsNamed self.old.dataset }
         requires waits { 0 < self.old.waits }
         requires placing { IsPlacing self.old.dataset (rows_of self.old) self.old.index self.old.places (place ∷ []) [] self.old.index self.old.places }
         requires all { first_number self.old.dataset + 1 ≡ div_up (rows_of self.old) self.old.dataset.layout.chunk_rows }
@@ -322,7 +450,7 @@ impl WriterCore {
         ensures pieces { IfOk result (λ pieces. pieces ≡ length self.new.pending) }
         ensures ends { OnOk result (AllEndBy self.new.places.end self.new.pending) }
         ensures kept { OnErr result (SameBut self.old self.new) }
-        ensures full { (full : Full) → result ≡ Err (FlushError.Space full) → IsFullFor self.old full }
+        ensures full { (full : Full) → result ≡ Err (FlushError.Space full) → IsFullPart self.old.dataset (rows_of self.old) self.old.index self.old.places full }
         ensures causes { IfErr result (λ e. IsSpace e ⊎ ((e ≡ FlushError.Failed) ⊎ (e ≡ FlushError.OutOfMemory))) }
         ensures fault { result ≡ Err FlushError.Failed → Rose (W.view image.old).faults (W.view image.new).faults }
         ensures image { Same (W.view image.old) (W.view image.new) }
@@ -334,7 +462,7 @@ impl WriterCore {
         let shown = mem::replace(&mut self.spare, Vec::new(alloc));
         let writes = put_chunk(&self.grid, &self.waiting, to, place, end, shown, image)?;
         let superblock = raise(&mut self.root, end);
-        let piece = raise_rows(&mut self.header, to);
+        let piece = raise_rows(&mut self.header, to, None);
         let header = Write {
             at: self.place,
             piece,
@@ -348,14 +476,62 @@ impl WriterCore {
         Ok(self.plan.len() as u64)
     }
 
+    /// Plans the pieces that make the rows that wait visible, into a file whose array is not there yet: it is made at two new places, and the
+    /// dataset header names it. A refused flush drops it.
+    fn flush_starting<W: PieceWrite>(&mut self, image: &mut W) -> Result<u64, FlushError>
+        requires absent { self.old.dataset.layout.address ≡ undefined }
+        requires waits { 0 < self.old.waits }
+        ensures flushed { OnOk result (IsStartFlushed self.old self.new) }
+        ensures pieces { IfOk result (λ pieces. pieces ≡ length self.new.pending) }
+        ensures ends { OnOk result (AllEndBy self.new.places.end self.new.pending) }
+        ensures kept { OnErr result (self.new ≡ self.old) }
+        ensures full { (full : Full) → result ≡ Err (FlushError.Space full) → IsStartFull self.old full }
+        ensures causes { IfErr result (λ e. IsSpace e ⊎ ((e ≡ FlushError.Failed) ⊎ (e ≡ FlushError.OutOfMemory))) }
+        ensures fault { result ≡ Err FlushError.Failed → Rose (W.view image.old).faults (W.view image.new).faults }
+        ensures image { Same (W.view image.old) (W.view image.new) }
+        ensures room { OnOk result (HasRoomFor self.new (W.view image.new)) }
+    {
+        let to = self.rows();
+        let alloc = *self.plan.allocator();
+        let mut taking = Taking::new(alloc, self.places.copy()?);
+        let (mut index, at) = start_array(alloc, &mut taking.places)?;
+        let prepared = prepare(
+            &self.grid,
+            &self.waiting,
+            to,
+            &mut taking,
+            &mut index,
+            image,
+        )?;
+        let Prepared { writes, begun } = prepared;
+        let plan = index.finish(&mut taking.places, begun);
+        let superblock = raise(&mut self.root, taking.places.end());
+        let piece = raise_rows(&mut self.header, to, Some(at));
+        let header = Write {
+            at: self.place,
+            piece,
+        };
+        self.plan = join_start(writes, plan, superblock, header);
+        self.shown = 0;
+        self.grid.shape.rows = to;
+        self.grid.layout.address = at;
+        let places = taking.places;
+        self.places = places;
+        self.index = index;
+        self.waiting.clear();
+        self.waits = 0;
+        Ok(self.plan.len() as u64)
+    }
+
     /// Plans the pieces that make the rows that wait visible, and takes all places that they need.
     fn flush_taking<W: PieceWrite>(&mut self, image: &mut W) -> Result<u64, FlushError>
+        requires there { IsNamed self.old.dataset }
         requires waits { 0 < self.old.waits }
         ensures flushed { OnOk result (IsFlushed self.old self.new) }
         ensures pieces { IfOk result (λ pieces. pieces ≡ length self.new.pending) }
         ensures ends { OnOk result (AllEndBy self.new.places.end self.new.pending) }
         ensures kept { OnErr result (SameBut self.old self.new) }
-        ensures full { (full : Full) → result ≡ Err (FlushError.Space full) → IsFullFor self.old full }
+        ensures full { (full : Full) → result ≡ Err (FlushError.Space full) → IsFullPart self.old.dataset (rows_of self.old) self.old.index self.old.places full }
         ensures causes { IfErr result (λ e. IsSpace e ⊎ ((e ≡ FlushError.Failed) ⊎ (e ≡ FlushError.OutOfMemory))) }
         ensures fault { result ≡ Err FlushError.Failed → Rose (W.view image.old).faults (W.view image.new).faults }
         ensures image { Same (W.view image.old) (W.view image.new) }
@@ -375,7 +551,7 @@ impl WriterCore {
                 let Prepared { writes, begun } = prepared;
                 let plan = self.index.finish(&mut taking.places, begun);
                 let superblock = raise(&mut self.root, taking.places.end());
-                let piece = raise_rows(&mut self.header, to);
+                let piece = raise_rows(&mut self.header, to, None);
                 let header = Write {
                     at: self.place,
                     piece,

@@ -1,13 +1,13 @@
 //! A session over a file that is there.
-ghost use Rattle.std.specs.Prelude.{◌≡◌, ◌≢◌, ◌⊎◌, ℕ, ◌+◌, ◌*◌, ◌^◌, ◌<◌, ◌≤◌, false, List, ◌∷◌, [], Err, IfErr, IfOk, IfSome, IsFalse, IsTrue, OnOk, Ok, Some, find, ◌==◌, length, vec_capacity, ℤ};
+ghost use Rattle.std.specs.Prelude.{◌≡◌, ◌≢◌, ◌⊎◌, ℕ, ◌+◌, ◌*◌, ◌^◌, ◌<◌, ◌≤◌, false, List, ◌∷◌, [], Err, IfErr, IfOk, IfSome, IsFalse, IsTrue, OnOk, Ok, Some, find, ◌==◌, length, nat_le, vec_capacity, ℤ};
 ghost use Rattle.h5w_model.specs.Causes.{Rose};
 ghost use Rattle.h5w_model.specs.Findings.{Summary, Valid};
 ghost use Rattle.h5w_model.specs.Tables.{Reads};
 ghost use Rattle.h5w_model.specs.Superblock.{super_at, super_bytes};
 ghost use Rattle.std.specs.Option.{option_copied};
 ghost use Rattle.h5w_model.specs.Integers.{cell_bytes};
-ghost use Rattle.h5w_model.specs.Datasets.{dataspace_kind};
-ghost use Rattle.h5w_model.specs.Headers.{messages_at};
+ghost use Rattle.h5w_model.specs.Datasets.{dataspace_kind, layout_kind};
+ghost use Rattle.h5w_model.specs.Headers.{index_address_place, messages_at};
 ghost use Rattle.h5w_model.specs.Numbers.{undefined};
 ghost use Rattle.h5w_model.specs.declared.cell.IndexKind.TheVariants.{Array};
 ghost use Rattle.h5w_layout.specs.Layouts.{fill_of};
@@ -19,15 +19,15 @@ ghost use Rattle.h5w_opening.specs.Openings.{IsFound, IsSaid, is_open};
 ghost use Rattle.h5w_opening.specs.Views.{header_fields_of, opened_of};
 ghost use Rattle.h5w_session.specs.OpenAnswers.{HasBegun, IsIndexOf, IsNotOpened, IsOpenAnswer, opened_session, writing_flags};
 ghost use Rattle.h5w_session.specs.OpenRanges.{first_open, refused_open};
-ghost use Rattle.h5w_session.specs.OpenSteps.{IfNamedArray, IsBadIndex, IsCut, IsFoundIn, IsOpenedFile, HasRows, IsReady, OpenStep, array_error, front_of, versioned};
+ghost use Rattle.h5w_session.specs.OpenSteps.{HasLayout, IsKeptHeader, IfNamedArray, IsBadIndex, IsCut, IsFoundIn, IsOpenedFile, HasRows, IsReady, OpenStep, array_error, front_of, versioned};
 ghost use Rattle.h5w_session.specs.OpenLaws.{OpenLaws};
 ghost use Rattle.h5w_session.specs.Openings.{opened_log};
 ghost use Rattle.h5w_session.specs.Sessions.{IsWritable};
 ghost use Rattle.h5w_session.specs.Stands.{Stands};
 
-use crate::ranges::{first_open, unrefused};
+use crate::ranges::{first_open, is_starting, unrefused};
 use crate::state::WriterCore;
-use h5w_bytes::UNDEFINED;
+use h5w_bytes::{UNDEFINED, byte};
 use h5w_chunks::{Fill, Grid};
 use h5w_ea_index::{ArrayIndex, OpenArrayError};
 use h5w_found::Dataset;
@@ -45,6 +45,9 @@ use std::alloc::Global;
 const DATASPACE: u8 = 0x01;
 
 const SHORTEST: usize = 12;
+
+/// The type of a layout message.
+const LAYOUT: u8 = 0x08;
 
 /// Why an array is not opened, as why a file is not.
 fn array_error(e: OpenArrayError) -> OpenError
@@ -86,8 +89,9 @@ fn index_of<I: PieceRead>(
     ensures named { IfOk result (λ a. IfNamedArray (described_of d.now) a) }
 {
     match d.layout.index {
-        IndexKind::Array if d.layout.address != UNDEFINED => open_array(alloc, image, d),
-        _ => Ok(None),
+        IndexKind::Array if d.layout.address == UNDEFINED => Ok(None),
+        IndexKind::Array => open_array(alloc, image, d),
+        IndexKind::Tree => Ok(None),
     }
 }
 
@@ -145,10 +149,43 @@ fn has_rows(list: &[Msg]) -> bool
     }
 }
 
-/// Refuses chunk 0 of a dataset header in which the rows cannot be written.
-fn check_header(alloc: Global, bytes: &[u8]) -> Result<(), OpenError>
-    ensures writable { OnOk result (IsWritable bytes.now) }
-    ensures refused { IfErr result (λ e. (e ≡ OpenError.OutOfMemory) ⊎ (IsWritable bytes.now → ⊥)) }
+/// The first layout message.
+fn layout(list: &[Msg]) -> Option<&Msg>
+    ensures { option_copied result ≡ find (λ m. m.kind == layout_kind) list.now }
+{
+    list.iter().find(|m| m.kind == LAYOUT)
+}
+
+/// Whether a layout's data have room for an index address.
+fn has_room(body: &[u8]) -> bool
+    ensures { result ≡ nat_le (index_address_place body.now + 8) (length body.now) }
+{
+    if body.len() < 6 {
+        return false;
+    }
+    let index_type = 5 + usize::from(byte(body, 3)) * usize::from(byte(body, 4));
+    if body.len() <= index_type {
+        return false;
+    }
+    let place = index_type + if byte(body, index_type) == 4 { 6 } else { 7 };
+    body.len() >= place + 8
+}
+
+/// Whether an index address can be written in the first layout message.
+fn has_layout(list: &[Msg]) -> bool
+    ensures yes { IsTrue result → HasLayout list.now }
+    ensures no { IsFalse result → HasLayout list.now → ⊥ }
+{
+    match layout(list) {
+        Some(m) => has_room(m.body.as_slice()),
+        None => false,
+    }
+}
+
+/// Refuses chunk 0 of a dataset header in which the rows cannot be written, and where one will be also an index address.
+fn check_header(alloc: Global, bytes: &[u8], starts: bool) -> Result<(), OpenError>
+    ensures writable { OnOk result (IsKeptHeader starts bytes.now) }
+    ensures refused { IfErr result (λ e. (e ≡ OpenError.OutOfMemory) ⊎ (IsKeptHeader starts bytes.now → ⊥)) }
     ensures quiet { IfErr result (λ e. e ≢ OpenError.Failed) }
 {
     if bytes.is_empty() {
@@ -158,23 +195,31 @@ fn check_header(alloc: Global, bytes: &[u8]) -> Result<(), OpenError>
     if !has_rows(list.as_slice()) {
         return Err(no_dataspace());
     }
+    if !starts {
+        return Ok(());
+    }
+    if !has_layout(list.as_slice()) {
+        return Err(OpenError::Layout);
+    }
     Ok(())
 }
 
 /// The bytes of chunk 0 of the dataset header at `place`, `len` of them, at most a piece. They are looked at again: where somebody else
-/// writes the file they may be others than those that were found, and then a header without a dataspace is refused.
+/// writes the file they may be others than those that were found, and then a header without a dataspace is refused, and so is one without
+/// room for an index address where one will be written.
 fn header_piece<I: PieceRead>(
     alloc: Global,
     image: &mut I,
     place: u64,
     len: u64,
+    starts: bool,
 ) -> Result<Piece, OpenError>
-    ensures step { OpenStep (I.view image.old) (I.view image.new) (λ img p. p ≡ front_of img place len) (λ img e. IsWritable (front_of img place len) → ⊥) result }
-    ensures writable { IfOk result (λ p. IsWritable p) }
+    ensures step { OpenStep (I.view image.old) (I.view image.new) (λ img p. p ≡ front_of img place len) (λ img e. IsKeptHeader starts (front_of img place len) → ⊥) result }
+    ensures writable { IfOk result (λ p. IsKeptHeader starts p) }
     ensures few { IfOk result (λ p. length p ≤ len) }
 {
     let bytes = read(alloc, image, place, len.min(PIECE as u64))?;
-    check_header(alloc, &bytes)?;
+    check_header(alloc, &bytes, starts)?;
     Ok(Piece::of(&bytes))
 }
 
@@ -296,19 +341,22 @@ fn unrefused_file<I: PieceRead>(
 {
     let (found, index) = found_in(alloc, image, size, name)?;
     let index = unrefused(alloc, &found, index)?;
-    let header = header_piece(alloc, image, found.place, found.header.len)?;
+    let starts = is_starting(&found.header.dataset);
+    let header = header_piece(alloc, image, found.place, found.header.len, starts)?;
     Ok((found, header, index))
 }
 
 impl WriterCore {
     /// Opens the dataset of this name in a file of `size` bytes that is there, to append rows to it up to `limit` bytes of the file. The
-    /// image is only looked at. One piece is pending, the superblock by which the file says that it is written; all its flags but these two
+    /// image is only looked at. Where the layout names no array yet, the first flush makes one. One piece is pending, the superblock by which
+    /// the file says that it is written; all its flags but these two
     /// stay. What the file has stays where it is, and new places begin at its end-of-file address.
     ///
     /// Tried in this order: the superblock, its flags and end-of-file address, the root header, the link, the dataset header, and what its
     /// messages say; the index's blocks; the first of the dataset header's chunk 0 and the index's blocks in place, and then of the chunks
     /// of the last committed band and later, that ends at 2^64 or later; the first range that ends behind the end-of-file address, of chunk 0,
-    /// the index's blocks in the order of the looks and those chunks; and then what [`OpenError`] says from Layout on.
+    /// the index's blocks in the order of the looks, or the superblock where the layout names no array, and those chunks; and then what
+    /// [`OpenError`] says from Layout on.
     ///
     /// Failed: the image's count of faults rose.
     pub fn open<I: PieceRead>(
@@ -337,7 +385,8 @@ impl WriterCore {
 }
 
 /// A valid file is refused only where it is open already, asks its writer to know a message that is not known here, has its layout outside
-/// of chunk 0, too large chunks or no column, or has no array. A close gives back the flags that the file had.
+/// of chunk 0, too large chunks or no column, or has a tree or an array's header
+/// without an index block. A close gives back the flags that the file had.
 #[tactic(auto, using(crate::proofs::LeftLemmas::open_laws))]
 pub fn open_laws()
     ensures { OpenLaws }

@@ -1,9 +1,11 @@
 //! The ranges of a file that is opened, and the first of them that is refused.
 ghost use Rattle.std.specs.Prelude.{◌≡◌, ◌⊎◌, ◌+◌, ◌-◌, ◌≤◌, ◌++◌, ◌∷◌, take, nat_lt, IfErr, IfOk, MatchOption, Some, None, Ok, Err, OnOk};
 ghost use Rattle.std.specs.Option.{option_copied};
+ghost use Rattle.h5w_array_laws.specs.ArrayStores.{IsCreated};
 ghost use Rattle.h5w_found.specs.Described.{described_of};
 ghost use Rattle.h5w_opening.specs.Views.{opened_of};
-ghost use Rattle.h5w_session.specs.OpenRanges.{chunk_0_range, chunks_from, cut_at, first_open, first_past, header_alone, open_blocks, open_chunks, ranges_refused, refused_open, refused_ranges};
+ghost use Rattle.h5w_session.specs.OpenRanges.{chunk_0_range, chunks_from, cut_at, first_open, first_past, header_alone, open_blocks, open_chunks, is_starting, ranges_refused, refused_index, refused_open, refused_ranges, refused_start};
+ghost use Rattle.h5w_session.specs.OpenAnswers.{IsKeptArray};
 ghost use Rattle.h5w_session.specs.Sessions.{option_list};
 
 use h5w_bytes::UNDEFINED;
@@ -19,6 +21,9 @@ const CHUNKS: u64 = 131_060;
 
 /// How many ranges come first: chunk 0 of the dataset header, the array's header and its index block.
 const IN_PLACE: usize = 3;
+
+/// How many bytes a superblock has.
+const SUPERBLOCK_LEN: u64 = 48;
 
 /// How many bytes the array's header has.
 const HEADER_LEN: u64 = 72;
@@ -92,11 +97,15 @@ fn header_alone(d: &Dataset) -> Option<Extent>
     ensures { option_list result ≡ header_alone (described_of d.now).layout.index (described_of d.now).layout.address }
 {
     match d.layout.index {
-        IndexKind::Array if d.layout.address != UNDEFINED => Some(Extent {
+        IndexKind::Array if d.layout.address == UNDEFINED => Some(Extent {
+            at: 0,
+            size: SUPERBLOCK_LEN,
+        }),
+        IndexKind::Array => Some(Extent {
             at: d.layout.address,
             size: HEADER_LEN,
         }),
-        _ => None,
+        IndexKind::Tree => None,
     }
 }
 
@@ -165,20 +174,55 @@ fn check_ranges(alloc: Global, found: &Opening, index: &Option<ArrayIndex>) -> R
     check_each(&ranges, index, &found.header.dataset, found.root.end)
 }
 
-/// The array to which rows are appended, where nothing of what was found refuses it.
+/// Whether the index is an array that the layout does not name yet.
+pub fn is_starting(d: &Dataset) -> bool
+    ensures { result ≡ is_starting (described_of d.now) }
+{
+    match d.layout.index {
+        IndexKind::Array => d.layout.address == UNDEFINED,
+        IndexKind::Tree => false,
+    }
+}
+
+/// A blank array, where the layout names none.
+fn blank_array(alloc: Global, starts: bool) -> Result<ArrayIndex, OpenError>
+    ensures array { IfOk result (λ v. IsCreated 0 0 v) }
+    ensures none { OnOk result (refused_start starts ≡ None) }
+    ensures first { IfErr result (λ e. (refused_start starts ≡ Some e) ⊎ (e ≡ OpenError.OutOfMemory)) }
+{
+    if !starts {
+        return Err(OpenError::Index);
+    }
+    Ok(ArrayIndex::new(alloc, 0, 0)?)
+}
+
+/// The array that was read, or a blank one where the layout names none.
+fn kept_array(
+    alloc: Global,
+    d: &Dataset,
+    index: Option<ArrayIndex>,
+) -> Result<ArrayIndex, OpenError>
+    ensures array { IfOk result (λ v. IsKeptArray index v) }
+    ensures none { OnOk result (refused_index (described_of d.now) index ≡ None) }
+    ensures first { IfErr result (λ e. (refused_index (described_of d.now) index ≡ Some e) ⊎ (e ≡ OpenError.OutOfMemory)) }
+{
+    match index {
+        Some(index) => Ok(index),
+        None => blank_array(alloc, is_starting(d)),
+    }
+}
+
+/// The array that a session begins with, where nothing of what was found refuses it: a blank one where the layout names none.
 pub fn unrefused(
     alloc: Global,
     found: &Opening,
     index: Option<ArrayIndex>,
 ) -> Result<ArrayIndex, OpenError>
-    ensures array { IfOk result (λ v. index ≡ Some v) }
-    ensures none { IfOk result (λ v. refused_open (opened_of found.now) (Some v) ≡ None) }
+    ensures array { IfOk result (λ v. IsKeptArray index v) }
+    ensures none { OnOk result (refused_open (opened_of found.now) index ≡ None) }
     ensures first { IfErr result (λ e. (refused_open (opened_of found.now) index ≡ Some e) ⊎ (e ≡ OpenError.OutOfMemory)) }
 {
     check_ranges(alloc, found, &index)?;
     check(found)?;
-    match index {
-        Some(index) => Ok(index),
-        None => Err(OpenError::Index),
-    }
+    kept_array(alloc, &found.header.dataset, index)
 }

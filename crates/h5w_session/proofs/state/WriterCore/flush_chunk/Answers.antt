@@ -2,7 +2,7 @@ use Rattle.std.proofs.Common.{rules, Err, inl, inr, ◌≡◌, ℕ, zero, ◌+�
 use Rattle.h5w_model.specs.Logs.{div_up}
 use Rattle.h5w_chunks.specs.Grids.{dataset_of}
 use Rattle.h5w_array_laws.specs.ArrayPlans.{IsArrayPlan}
-use Rattle.h5w_session.specs.Sessions.{IsSession, Session, option_list, rows_of}
+use Rattle.h5w_session.specs.Sessions.{IsSession, Session, option_list, rows_of, IsNamed}
 use Rattle.h5w_session.specs.Placing.{IsPlacing, first_number}
 use Rattle.h5w_session.proofs.CarriedLemmas.{Carried, carried_flushed, carried_is, carried_pieces, has_rows, lengths_joined, one_at_most, refused_same}
 use Rattle.h5w_session.proofs.TakingLemmas.{filled_cell, on_err}
@@ -96,6 +96,7 @@ invariant_of-self-2 g c =
     let all : first_number v.dataset + 1 ≡ div_up (rows_of v) v.dataset.layout.chunk_rows =
     subst (λ (s : Session). first_number s.dataset + 1 ≡ div_up (rows_of s) s.dataset.layout.chunk_rows) back c.requires.all in
     let x : Carried v to t w ws r b e = record {
+      there = subst (λ (u : Session). IsNamed u.dataset) (sym c.self.view_is) c.requires.there;
       some = subst (λ (u : Session). 0 < u.waits) back c.requires.waits;
       to_is = to_is;
       small = c.rows-to.ensures.bound;
@@ -176,6 +177,7 @@ returns-clause-flushed g c =
     let all : first_number v.dataset + 1 ≡ div_up (rows_of v) v.dataset.layout.chunk_rows =
     subst (λ (s : Session). first_number s.dataset + 1 ≡ div_up (rows_of s) s.dataset.layout.chunk_rows) back c.requires.all in
     let x : Carried v to t w ws r b e = record {
+      there = subst (λ (u : Session). IsNamed u.dataset) (sym c.self.view_is) c.requires.there;
       some = subst (λ (u : Session). 0 < u.waits) back c.requires.waits;
       to_is = to_is;
       small = c.rows-to.ensures.bound;
@@ -245,6 +247,7 @@ returns-clause-ends g c =
     let all : first_number v.dataset + 1 ≡ div_up (rows_of v) v.dataset.layout.chunk_rows =
     subst (λ (s : Session). first_number s.dataset + 1 ≡ div_up (rows_of s) s.dataset.layout.chunk_rows) back c.requires.all in
     let x : Carried v to t w ws r b e = record {
+      there = subst (λ (u : Session). IsNamed u.dataset) (sym c.self.view_is) c.requires.there;
       some = subst (λ (u : Session). 0 < u.waits) back c.requires.waits;
       to_is = to_is;
       small = c.rows-to.ensures.bound;

@@ -2,9 +2,9 @@ use Rattle.std.proofs.Common.{◌≡◌, ◌<◌, ◌∙◌, [], List, ℕ, leng
 use Rattle.std.specs.List.{All}
 use Rattle.h5w_chunks.specs.Grids.{dataset_of}
 use Rattle.h5w_space.specs.Space.{Space}
-use Rattle.h5w_session.specs.Sessions.{IsSession, Session, option_list, rows_of}
+use Rattle.h5w_session.specs.Sessions.{IsSession, Session, option_list, rows_of, IsNamed}
 use Rattle.h5w_session.specs.Placing.{HasSlot, IsPartly}
-use Rattle.h5w_session.specs.Refusals.{IsFullFor, IsFullPart}
+use Rattle.h5w_session.specs.Refusals.{IsFullPart}
 use Rattle.h5w_session.proofs.CarriedLemmas.{Carried, carried_flushed, carried_is, carried_pieces, has_rows, lengths_joined, one_at_most, refused_is, refused_same, same_error}
 use Rattle.h5w_session.proofs.TakingLemmas.{filled_cell}
 use Rattle.h5w_session.proofs.state.WriterCore.flush_taking.Goals as goal
@@ -39,6 +39,7 @@ invariant_of-self g c =
     let b = c.raise_rows-piece.new.header in
     let e = c.clear.new.self.items in
     let x : Carried v to t w ws r b e = record {
+      there = subst (λ (u : Session). IsNamed u.dataset) (sym c.self.view_is) c.requires.there;
       some = subst (λ (u : Session). 0 < u.waits) (sym c.self.view_is) c.requires.waits;
       to_is = c.rows-to.ensures.value ∙ ap rows_of (sym c.self.view_is);
       small = c.rows-to.ensures.bound;
@@ -142,6 +143,7 @@ returns-in-Ok-clause-flushed g c =
     let b = c.raise_rows-piece.new.header in
     let e = c.clear.new.self.items in
     let x : Carried v to t w ws r b e = record {
+      there = subst (λ (u : Session). IsNamed u.dataset) (sym c.self.view_is) c.requires.there;
       some = subst (λ (u : Session). 0 < u.waits) (sym c.self.view_is) c.requires.waits;
       to_is = c.rows-to.ensures.value ∙ ap rows_of (sym c.self.view_is);
       small = c.rows-to.ensures.bound;
@@ -205,6 +207,7 @@ returns-in-Ok-clause-ends g c =
     let b = c.raise_rows-piece.new.header in
     let e = c.clear.new.self.items in
     let x : Carried v to t w ws r b e = record {
+      there = subst (λ (u : Session). IsNamed u.dataset) (sym c.self.view_is) c.requires.there;
       some = subst (λ (u : Session). 0 < u.waits) (sym c.self.view_is) c.requires.waits;
       to_is = c.rows-to.ensures.value ∙ ap rows_of (sym c.self.view_is);
       small = c.rows-to.ensures.bound;
@@ -301,4 +304,4 @@ returns-in-Err-clause-full g c full told =
     let places_are = c.new-taking.ensures.places ∙ c.in_ok-copy.ensures in
     let part = c.in-Err.ensures.full full (same_error c.in-Err.e _ told) in
     let now : IsFullPart v.dataset to v.index v.places full = subst (λ (s : Space). IsFullPart v.dataset to v.index s full) places_are part in
-    subst (λ (s : Session). IsFullFor s full) c.self.view_is (subst (λ (n : ℕ). IsFullPart v.dataset n v.index v.places full) to_is now)
+    subst (λ (s : Session). IsFullPart s.dataset (rows_of s) s.index s.places full) c.self.view_is (subst (λ (n : ℕ). IsFullPart v.dataset n v.index v.places full) to_is now)

@@ -19,11 +19,12 @@ invariant_of-self c =
         array = is.array;
         across = is.across;
         header = is.header;
+        addressed = is.addressed;
         header_ends = omega (arith, is.header_ends, end);
         small = omega (arith, is.small, end);
         limit = omega (arith, is.limit, limit);
         inside = λ k from named. omega (arith, is.inside k from named, end);
-        tops = record { head = omega (arith, is.tops.head, end); block = omega (arith, is.tops.block, end) };
+        tops = λ named. let tops = is.tops named in record { head = omega (arith, tops.head, end); block = omega (arith, tops.block, end) };
         blocks = is.blocks;
       },
       c.self.invariant.1,
