@@ -1,0 +1,39 @@
+-- How long the messages of a new file are.
+use Rattle.std.proofs.Common.{◌≡◌, ℕ, ◌+◌, ◌≤◌, List, length, length-append, refl, ap, ◌∙◌, arith}
+use Rattle.h5w_model.specs.Numbers.{le}
+use Rattle.h5w_model.specs.Headers.{header_bytes, msgs_bytes, prefix_bytes}
+use Rattle.h5w_model.specs.Links.{link_bytes, link_info_bytes, group_info_bytes}
+use Rattle.h5w_model.specs.declared.message.Msg.{Msg}
+use Rattle.h5w_model.proofs.NumberLemmas.{length-le}
+use Rattle.h5w_model.proofs.HeaderLemmas.{length-header_bytes, length-msgs_bytes}
+use Rattle.h5w_model.proofs.HeaderRoundTrip.{prefix_bytes-small}
+use Rattle.std.proofs.lemmas.Bool.{le-leb}
+use Rattle.h5w_creation.specs.Headers.{links_to}
+
+pub length_link : (name : List ℕ) (place : ℕ) → length (link_bytes name place) ≡ 11 + length name
+unfolding le
+length_link name place = omega (arith, length-append name (le 8 place), length-le 8 place)
+
+-- messages are no longer than the header
+pub messages_short : (ms : List Msg) → length (header_bytes ms) ≤ 512 → length (msgs_bytes ms) ≤ 512
+messages_short ms h = omega (arith, length-header_bytes ms)
+
+-- ---- The root header
+
+length_infos : (length link_info_bytes ≡ 18) × (length group_info_bytes ≡ 2)
+unfolding le
+length_infos = (refl, refl)
+
+root_messages_long : (name : List ℕ) (address : ℕ) → length (msgs_bytes (links_to name address)) ≡ 43 + length name
+root_messages_long name address =
+    length-msgs_bytes (links_to name address) ∙ omega (arith, length_infos.0, length_infos.1, length_link name address)
+
+prefix_long : (n : ℕ) → n ≤ 255 → length (prefix_bytes n) ≡ 7
+unfolding le
+prefix_long n h = ap length (prefix_bytes-small n (le-leb n 255 h))
+
+pub root_fits : (name : List ℕ) (address : ℕ) → length name ≤ 64 → length (header_bytes (links_to name address)) ≤ 512
+root_fits name address short =
+    let n = length (msgs_bytes (links_to name address)) in
+    let long = root_messages_long name address in
+    omega (arith, length-header_bytes (links_to name address), prefix_long n (omega arith))

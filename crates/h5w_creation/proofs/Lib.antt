@@ -1,0 +1,3 @@
+pub mod FormLemmas
+pub mod HeaderLemmas
+pub mod MadeLemmas

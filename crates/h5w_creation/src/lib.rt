@@ -1,0 +1,15 @@
+//! A new file: its blocks one behind the other, as bytes, and the pieces in the order in which they become visible (HDF5 File Format
+//! Specification 3.0, "Format Signature and Superblock", "Data Object Header Prefix (Version 2)", "The Extensible Array Index" and
+//! "Version 2 B-trees"; docs/FORMAT.md, "A new file"). One dimension that grows is indexed by an extensible array, two by a version 2 B-tree.
+#![tactic(auto)]
+
+mod file;
+mod form;
+mod headers;
+mod index;
+mod laws;
+
+pub use file::{Creation, create_file};
+pub use form::Form;
+pub use h5w_chunks::{Fill, IndexKind, IntType};
+pub use laws::created_rests;
