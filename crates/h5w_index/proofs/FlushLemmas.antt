@@ -9,7 +9,9 @@ use Rattle.h5w_model.specs.declared.cell.Key.{Key}
 use Rattle.h5w_model.specs.declared.piece.Write.{Write}
 use Rattle.h5w_visits.specs.Ranges.{AllEndBy, block_at}
 use Rattle.h5w_visits.proofs.RangeLemmas.{among_right}
-use Rattle.h5w_space.specs.Space.{Space}
+use Rattle.h5w_space.specs.Space.{Apart, IsLive, Space}
+use Rattle.h5w_space.specs.declared.Extent.{Extent}
+use Rattle.h5w_cache.specs.StoreLaws.{Standing, range_of}
 use Rattle.h5w_cache.specs.Stores.{Store}
 use Rattle.h5w_cache.specs.Blocks.{BlockView}
 use Rattle.h5w_cache.specs.Plans.{bytes_of}
@@ -44,7 +46,7 @@ use Rattle.h5w_tree_index_laws.proofs.TreePlanLemmas.{moves_taken}
 use Rattle.h5w_tree_index_laws.proofs.TreeLaws.{copies_are, tree_is_flush}
 use Rattle.h5w_tree_index_laws.proofs.TreeRestLemmas.{tree_rests_then}
 use Rattle.h5w_index.specs.Views.{an_array, a_tree, IsSoundTree, address_in}
-use Rattle.h5w_index.specs.Flushes.{IndexIsFlush, IndexRestsThen, IsIndexPart, IsWhole, PlanTells, PlanTold, RestsClean, RestsFreed, index_parts}
+use Rattle.h5w_index.specs.Flushes.{IndexIsFlush, IndexRestsThen, IsIndexPart, IsWhole, PlanTells, PlanTold, RestsClean, RestsForgotten, RestsFreed, index_parts}
 
 -- ---- A plan
 
@@ -203,3 +205,22 @@ index_rests_then img name m old s b t (a_tree p v) (an_array w) ms rows more wri
 pub rests_freed : RestsFreed
 rests_freed img m old s t (an_array v) c r = record { kind = r.kind; at_place = r.at_place; sound = r.sound; stands = r.stands; stays = standing_freed v s t c r.stays; fixed = r.fixed; behind = r.behind; map = r.map }
 rests_freed img m old s t (a_tree p v) c r = record { kind = r.kind; at_place = r.at_place; sound = r.sound; stands = r.stands; stays = tt; fixed = r.fixed; behind = r.behind; map = r.map }
+
+-- what was live stays so where what was retired is forgotten
+forgotten_live : (s : Space) (r : Extent) → IsLive s r → IsLive (record s { retired = [] }) r
+forgotten_live s r l = record { within = l.within; off_free = l.off_free; off_retired = All-nil (Apart r) }
+
+pub rests_forgotten : RestsForgotten
+rests_forgotten img m old s (an_array v) r =
+    let stays : Standing v s = r.stays in
+    record {
+      kind = r.kind;
+      at_place = r.at_place;
+      sound = r.sound;
+      stands = r.stands;
+      stays = record { live = λ n placed. forgotten_live s (range_of v n) (stays.live n placed); some = stays.some; apart = stays.apart };
+      fixed = r.fixed;
+      behind = r.behind;
+      map = r.map;
+    }
+rests_forgotten img m old s (a_tree p v) r = record { kind = r.kind; at_place = r.at_place; sound = r.sound; stands = r.stands; stays = tt; fixed = r.fixed; behind = r.behind; map = r.map }

@@ -23,7 +23,7 @@ use Rattle.h5w_tree_index_laws.proofs.TreeInsertLemmas.{inserted_behind}
 use Rattle.h5w_tree_index_laws.proofs.TreeMapLemmas as maps
 use Rattle.h5w_index.specs.Views.{IndexView, an_array, a_tree, IsSoundTree}
 use Rattle.h5w_index.specs.Steps.{ArrayHeld, ArraySet, ArrayUnset, TreeHeld, TreeSet, blank}
-use Rattle.h5w_index.specs.Told.{HeldTells, HeldTold, IsLike, LikeLaws, SameBlocks, SameRanges, SetTells, SetTold, UnsetTells, UnsetTold}
+use Rattle.h5w_index.specs.Told.{HeldTells, HeldTold, IsLike, KeepsMarks, LikeLaws, SameBlocks, SameRanges, SetTells, SetTold, UnsetTells, UnsetTold}
 use Rattle.h5w_index.proofs.ArrayBehindLemmas as by_map
 
 -- ---- Likeness
@@ -35,6 +35,7 @@ array_like v w is places standing stands marks = record {
   place = places 846;
   fixed = λ i. block_at (places 846 i) 72 ∷ block_at (places 845 i) 298 ∷ [];
   blocks = places;
+  marks = marks;
   sound = is;
   takes = λ key h. h;
   one = λ key other. refl;
@@ -49,6 +50,7 @@ tree_itself p v is = record {
   place = refl;
   fixed = refl;
   blocks = λ f. refl;
+  marks = λ part c. c;
   sound = is;
   takes = λ key h. h;
   one = λ key other. refl;
@@ -69,6 +71,7 @@ tree_like p v x is j =
       place = refl;
       fixed = refl;
       blocks = (maps.inserted_renews x v is.index j).nodes;
+      marks = λ part c. inserted-clean part x v is.index c;
       sound = record { index = j; half = inserted-half x v is.index is.half; defined = is.defined };
       takes = λ key h. h;
       one = λ key other. refl;
@@ -93,6 +96,18 @@ blocks_onward (an_array u) (a_tree q v) w a b = absurd a
 blocks_onward (a_tree p u) (an_array v) w a b = absurd a
 blocks_onward (a_tree p u) (a_tree q v) (an_array w) a b = absurd b
 
+marks_itself : (v : IndexView) → KeepsMarks v v
+marks_itself (an_array v) = λ n c. c
+marks_itself (a_tree p v) = λ part c. c
+
+marks_onward : (u v w : IndexView) → KeepsMarks u v → KeepsMarks v w → KeepsMarks u w
+marks_onward (an_array u) (an_array v) (an_array w) a b = λ n c. b n (a n c)
+marks_onward (a_tree p u) (a_tree q v) (a_tree r w) a b = λ part c. a part (b part c)
+marks_onward (an_array u) (an_array v) (a_tree r w) a b = absurd b
+marks_onward (an_array u) (a_tree q v) w a b = absurd a
+marks_onward (a_tree p u) (an_array v) w a b = absurd a
+marks_onward (a_tree p u) (a_tree q v) (an_array w) a b = absurd b
+
 pub like_laws : LikeLaws
 like_laws = record {
   itself = λ v is. record {
@@ -100,6 +115,7 @@ like_laws = record {
     place = refl;
     fixed = refl;
     blocks = blocks_itself v;
+    marks = marks_itself v;
     sound = is;
     takes = λ key h. h;
     one = λ key other. refl;
@@ -112,6 +128,7 @@ like_laws = record {
     place = b.place ∙ a.place;
     fixed = b.fixed ∙ a.fixed;
     blocks = blocks_onward u v w a.blocks b.blocks;
+    marks = marks_onward u v w a.marks b.marks;
     sound = b.sound;
     takes = λ key h. b.takes key (a.takes key h);
     one = λ key other. b.one key other ∙ a.one key other;

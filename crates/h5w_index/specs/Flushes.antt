@@ -1,5 +1,5 @@
 -- The plan of an index as its part of a flush, whichever its kind.
-use Rattle.std.specs.Prelude.{◌≡◌, ℕ, ◌*◌, ◌^◌, ◌<◌, ◌≤◌, List, ◌++◌, length, None, ℤ}
+use Rattle.std.specs.Prelude.{◌≡◌, ℕ, ◌*◌, ◌^◌, ◌<◌, ◌≤◌, List, [], ◌++◌, length, None, ℤ}
 use Rattle.std.specs.List.{All}
 use Rattle.h5w_model.specs.Images.{Misses, apply, image}
 use Rattle.h5w_model.specs.Findings.{Used, chunk_bytes}
@@ -131,6 +131,10 @@ IndexRestsThen = (img name : List ℕ) (m : Moment) (old : Key → ℕ) (s b t :
 -- and where what was let go becomes free
 abbrev pub RestsFreed : Type 0
 RestsFreed = (img : List ℕ) (m : Moment) (old : Key → ℕ) (s t : Space) (v : IndexView) → Commits s t → Rests img m old s v → Rests img m old t v
+
+-- or where it is forgotten: neither free nor retired
+abbrev pub RestsForgotten : Type 0
+RestsForgotten = (img : List ℕ) (m : Moment) (old : Key → ℕ) (s : Space) (v : IndexView) → Rests img m old s v → Rests img m old (record s { retired = [] }) v
 
 -- A session knows its file by the index's map, and the index rests.
 pub record Begins (img name : List ℕ) (m : Moment) (s : Space) (v : IndexView) : Type 0 where

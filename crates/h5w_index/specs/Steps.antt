@@ -1,12 +1,12 @@
 -- What the calls make of an index, kind by kind.
-use Rattle.std.specs.Prelude.{◌≡◌, ◌⊎◌, ℕ, ◌==◌, List, length, None, Option, Some, if◌then◌else◌}
+use Rattle.std.specs.Prelude.{◌≡◌, ◌⊎◌, ℕ, ◌≤◌, ◌==◌, List, length, None, Option, Some, if◌then◌else◌}
 use Rattle.h5w_model.specs.Numbers.{undefined}
 use Rattle.h5w_model.specs.declared.cell.Key.{Key}
 use Rattle.h5w_model.specs.declared.piece.Write.{Write}
 use Rattle.h5w_space.specs.Space.{Space}
 use Rattle.h5w_space.specs.declared.Full.{Full}
 use Rattle.h5w_cache.specs.Plans.{HasNoRoom}
-use Rattle.h5w_cache.specs.Stores.{Store}
+use Rattle.h5w_cache.specs.Stores.{Store, times}
 use Rattle.h5w_cache.specs.Starts as stores
 use Rattle.h5w_cache.specs.declared.moves.Move.{Move}
 use Rattle.h5w_array_laws.specs.Parts.{holder}
@@ -114,9 +114,14 @@ IsBegun (a_tree p v) s (Tree b) = nodes.IsBegun p v s b
 IsBegun (an_array v) s (Tree b) = ⊥
 IsBegun (a_tree p v) s (Array b) = ⊥
 
+-- the first block of an array in turn that has no place; none is listed twice
+pub record ArrayNoPlace (v : Store) (s : Space) (e : Full) : Type 0 where
+  pub once : (n : ℕ) → times n v.changed ≤ 1
+  pub refused : HasNoRoom v.blocks v.places v.changed s e
+
 -- the first block in turn that has no place
 abbrev pub HasNoPlace : IndexView → Space → Full → Type 0
-HasNoPlace (an_array v) s e = HasNoRoom v.blocks v.places v.changed s e
+HasNoPlace (an_array v) s e = ArrayNoPlace v s e
 HasNoPlace (a_tree p v) s e = nodes.HasNoPlace (nodes.changes v.depth v.root) s e
 
 -- what changed is written: copies at new places, then the blocks in place

@@ -1,11 +1,13 @@
 -- What the calls of an index tell a session, whichever its kind.
-use Rattle.std.specs.Prelude.{◌≡◌, ◌≢◌, ℕ, List, ◌∷◌, if◌then◌else◌}
+use Rattle.std.specs.Prelude.{◌≡◌, ◌≢◌, ℕ, true, List, ◌∷◌, if◌then◌else◌}
 use Rattle.h5w_model.specs.Numbers.{undefined}
 use Rattle.h5w_model.specs.declared.cell.Key.{Key}
 use Rattle.h5w_space.specs.Space.{Space}
-use Rattle.h5w_cache.specs.Stores.{place_of}
+use Rattle.h5w_cache.specs.Stores.{is_changed, place_of}
 use Rattle.h5w_visits.specs.Ranges.{chunk_at}
 use Rattle.h5w_array_laws.specs.Among.{AreAmong}
+use Rattle.h5w_bt_index.specs.Index.{IsClean}
+use Rattle.h5w_bt_index.specs.Marks.{Part}
 use Rattle.h5w_tree_index_laws.specs.TreeImages.{AreSame, SameNodes}
 use Rattle.h5w_index.specs.Views.{IndexView, an_array, a_tree, HasSlot, IsSound, StandsOn, Stays, TakesKey, address_in, behind_of, fixed_of, header_place, is_key, kind_of}
 use Rattle.h5w_index.specs.Steps.{IsHeld, IsSet, IsUnset}
@@ -17,12 +19,21 @@ SameBlocks (a_tree p v) (a_tree q w) = SameNodes v w
 SameBlocks (an_array v) (a_tree q w) = ⊥
 SameBlocks (a_tree p v) (an_array w) = ⊥
 
--- It is as it was, but for the map: its kind, where its blocks are, the keys for which places are held, and what stands.
+-- no mark of a change is lost: what is clean was so before
+abbrev pub KeepsMarks : IndexView → IndexView → Type 0
+KeepsMarks (an_array v) (an_array w) = (n : ℕ) → is_changed v n ≡ true → is_changed w n ≡ true
+KeepsMarks (a_tree p v) (a_tree q w) = (part : Part) → IsClean part w → IsClean part v
+KeepsMarks (an_array v) (a_tree q w) = ⊥
+KeepsMarks (a_tree p v) (an_array w) = ⊥
+
+-- It is as it was, but for the map: its kind, where its blocks are, which of them changed, the keys for which places are held, and what
+-- stands.
 pub record IsLike (v w : IndexView) : Type 0 where
   pub kind : kind_of w ≡ kind_of v
   pub place : header_place w ≡ header_place v
   pub fixed : fixed_of w ≡ fixed_of v
   pub blocks : SameBlocks v w
+  pub marks : KeepsMarks v w
   pub sound : IsSound w
   pub takes : (key : Key) → TakesKey v key → TakesKey w key
   pub one : (key other : Key) → is_key w key other ≡ is_key v key other

@@ -1,7 +1,10 @@
 //! What is known of an index, whichever its kind. Each law is the clause of a function without parameters; its statement is a definition in
 //! specs/. Nothing here runs.
 
-ghost use Rattle.h5w_index.specs.Flushes.{IndexBegins, IndexIsFlush, IndexRestsThen, PlanTells, RestsFreed, RestsMissed};
+ghost use Rattle.h5w_index.specs.Flushes.{IndexBegins, IndexIsFlush, IndexRestsThen, PlanTells, RestsForgotten, RestsFreed, RestsMissed};
+ghost use Rattle.h5w_index.specs.Depths.{DepthLaws};
+ghost use Rattle.h5w_index.specs.Marks.{FullBounds, MarkLaws, PlanBounds};
+ghost use Rattle.h5w_index.specs.Placing.{IndexPart, OwnLaws, PlacingLaws, RestsHeld};
 ghost use Rattle.h5w_index.specs.Told.{HeldTells, LikeLaws, SameRanges, SetTells, UnsetTells};
 
 /// Where a place is held, the map and all that stands stay.
@@ -29,6 +32,47 @@ pub fn same_ranges()
     ensures { SameRanges }
 {}
 
+/// The blocks that changed did so for chunks that the rows that wait go into: of a clean index, and after each call for such a chunk.
+pub fn mark_laws()
+    ensures { MarkLaws }
+{}
+
+/// By how much a plan of such blocks raises the end of the file at most, and how many pieces it has.
+pub fn plan_bounds()
+    ensures { PlanBounds }
+{}
+
+/// How large the first of such blocks that has no place is at most, and where it would stand.
+pub fn full_bounds()
+    ensures { FullBounds }
+{}
+
+/// The chunks that rows go into get their places one after another, whether they had one or get a new one, and after a refusal the index is
+/// as before; all of it raises the file by the load of these rows at most, and what has no place is bounded by that too.
+pub fn placing_laws()
+    ensures { PlacingLaws }
+{}
+
+/// Where places are held for the keys of a dataset's chunks alone, and these are few, no place is refused for want of depth.
+pub fn depth_laws()
+    ensures { DepthLaws }
+{}
+
+/// What a session shows of its index as the part of a flush.
+pub fn index_part()
+    ensures { IndexPart }
+{}
+
+/// After a flush that was refused the index rests as before.
+pub fn rests_held()
+    ensures { RestsHeld }
+{}
+
+/// An index that was made here stays such a one.
+pub fn own_laws()
+    ensures { OwnLaws }
+{}
+
 /// What each plan leaves.
 pub fn plan_tells()
     ensures { PlanTells }
@@ -52,6 +96,11 @@ pub fn index_rests_then()
 /// It rests still where what was let go becomes free.
 pub fn rests_freed()
     ensures { RestsFreed }
+{}
+
+/// So it does where that is forgotten.
+pub fn rests_forgotten()
+    ensures { RestsForgotten }
 {}
 
 /// It rests still once a write missed its ranges.

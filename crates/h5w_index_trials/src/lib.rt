@@ -4,6 +4,8 @@
 #[cfg(test)]
 mod arrays;
 #[cfg(test)]
+mod either;
+#[cfg(test)]
 mod opened;
 #[cfg(test)]
 mod trees;

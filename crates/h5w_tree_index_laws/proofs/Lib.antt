@@ -8,6 +8,8 @@ pub mod TreeFlushLemmas
 pub mod TreeInsertLemmas
 pub mod TreeMapLemmas
 pub mod TreeChangeLemmas
+pub mod TreeMarkLemmas
+pub mod TreeDepthLemmas
 pub mod TreePlaceLemmas
 pub mod TreeLaws
 pub mod TreeRestLemmas

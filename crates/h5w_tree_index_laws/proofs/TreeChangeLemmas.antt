@@ -27,10 +27,10 @@ flat_length d (c ∷ cs) = omega (arith, length-append (stood d c) (flat_map (st
 clean_none : (d : ℕ) (t : Tree d) → clean_of d t ≡ true → changes d t ≡ 0
 clean_none d t e = ap length (clean_stood d t e)
 
-leaf_one : (t : Tree zero) → t.clean ≡ false → changes zero t ≡ 1
+pub leaf_one : (t : Tree zero) → t.clean ≡ false → changes zero t ≡ 1
 leaf_one t e = ap length (cond-false t.clean _ _ e)
 
-inner_more : (d : ℕ) (t : Tree (suc d)) → t.clean ≡ false → changes (suc d) t ≡ sum_by (changes d) t.children + 1
+pub inner_more : (d : ℕ) (t : Tree (suc d)) → t.clean ≡ false → changes (suc d) t ≡ sum_by (changes d) t.children + 1
 inner_more d t e =
     let all : stood (suc d) t ≡ flat_map (stood d) t.children ++ t.place ∷ [] = cond-false t.clean _ _ e in
     omega (arith, ap length all, length-append (flat_map (stood d) t.children) (t.place ∷ []), flat_length d t.children)

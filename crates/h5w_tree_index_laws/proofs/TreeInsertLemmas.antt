@@ -87,7 +87,7 @@ put_chunks f bytes x (r ∷ rs) =
           omega (arith, e, chunks_cons f bytes x (r ∷ rs))
     ]
 
-sum_changed : {A : Type 0} (g : A → ℕ) (F : A → A) (i : ℕ) (xs : List A) (c : A) → slice_get xs i ≡ Some c → g (F c) ≡ g c → sum_by g (changed_at i F xs) ≡ sum_by g xs
+pub sum_changed : {A : Type 0} (g : A → ℕ) (F : A → A) (i : ℕ) (xs : List A) (c : A) → slice_get xs i ≡ Some c → g (F c) ≡ g c → sum_by g (changed_at i F xs) ≡ sum_by g xs
 sum_changed g F i [] c e h = absurd (none_is_not c e)
 sum_changed g F zero (x ∷ xs) c e h =
     let s = some_same x c e in

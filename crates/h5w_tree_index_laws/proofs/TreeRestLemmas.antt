@@ -46,7 +46,7 @@ part_stands img p zero t s h = subst (λ (q : Part). StandsNode img q.depth q.tr
 part_stands img p (suc d) t s (inl h) = subst (λ (q : Part). StandsNode img q.depth q.tree) (sym h.1) s.0
 part_stands img p (suc d) t s (inr h) = some_stand img d p t.children (λ c. part_stands img p d c) s.1 h
 
-tree_stands : (img : List ℕ) (v : Index) → AllStand img v.depth v.root → StandsTree v img
+pub tree_stands : (img : List ℕ) (v : Index) → AllStand img v.depth v.root → StandsTree v img
 tree_stands img v s p clean = inr (part_stands img p v.depth v.root s clean)
 
 -- a header's write misses what is apart from the header

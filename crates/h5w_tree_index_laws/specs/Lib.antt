@@ -5,4 +5,6 @@ pub use Rattle.h5w_bt_index.specs.Marks
 pub use Rattle.h5w_bt_index.specs.Index
 pub use Rattle.h5w_bt_index.specs.Plans
 pub mod TreeImages
+pub mod TreeMarks
+pub mod TreeDepths
 pub mod TreeFlushes

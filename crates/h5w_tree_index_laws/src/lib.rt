@@ -5,6 +5,8 @@
 
 ghost use Rattle.h5w_tree_index_laws.specs.TreeFlushes.{TreeBegins, TreeFlushed, TreeIsFlush, TreePlaces, TreeRestsThen};
 ghost use Rattle.h5w_tree_index_laws.specs.TreeImages.{InsertedBehind, InsertedChanges, InsertedRenews, SameBehind, TreeIsRead};
+ghost use Rattle.h5w_tree_index_laws.specs.TreeDepths.{DeepIsMany, WithinIsFew};
+ghost use Rattle.h5w_tree_index_laws.specs.TreeMarks.{InsertedMarks};
 
 /// Where a tree stands, unchanged, a check behind its header finds its ranges, and a reader each key's address.
 pub fn tree_is_read()
@@ -25,6 +27,21 @@ pub fn inserted_renews()
 /// With a record more, or another, at most seven nodes more are changed.
 pub fn inserted_changes()
     ensures { InsertedChanges }
+{}
+
+/// With a record more, or another, the nodes on the way to it are changed, and no node more where they were all changed.
+pub fn inserted_marks()
+    ensures { InsertedMarks }
+{}
+
+/// A tree that a record more would make of depth 4 has 2,203,448 records at least.
+pub fn deep_is_many()
+    ensures { DeepIsMany }
+{}
+
+/// A tree has no more records than keys that they can have.
+pub fn within_is_few()
+    ensures { WithinIsFew }
 {}
 
 /// Trees of one map whose nodes have the same ranges have the same ranges.

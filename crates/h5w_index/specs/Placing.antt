@@ -1,0 +1,164 @@
+-- The chunks that rows go into get their places, one after another; the index names each new one at once. Whichever its kind.
+use Rattle.std.specs.Prelude.{◌≡◌, ◌≢◌, ◌⊎◌, ℕ, ◌+◌, ◌*◌, ◌/◌, ◌<◌, ◌≤◌, false, List, [], ◌∷◌, ◌++◌, length, Some}
+use Rattle.std.specs.List.{All, slice_get}
+use Rattle.h5w_model.specs.Numbers.{undefined}
+use Rattle.h5w_model.specs.Datasets.{Described}
+use Rattle.h5w_model.specs.Tables.{chunks_across}
+use Rattle.h5w_model.specs.Findings.{chunk_bytes}
+use Rattle.h5w_model.specs.declared.cell.Key.{Key}
+use Rattle.h5w_model.specs.declared.piece.Write.{Write}
+use Rattle.h5w_space.specs.Space.{Space, extent}
+use Rattle.h5w_space.specs.declared.Full.{Full}
+use Rattle.h5w_cache.specs.Plans.{IsRefused, Took}
+use Rattle.h5w_cache.specs.Stores.{Store}
+use Rattle.h5w_cache.specs.declared.moves.Move.{Move}
+use Rattle.h5w_chunks.specs.Grids.{chunk_len}
+use Rattle.h5w_chunks.specs.Shares.{touched, touched_key}
+use Rattle.h5w_chunks.specs.declared.grid.ChunkPlace.{ChunkPlace}
+use Rattle.h5w_array_laws.specs.Among.{AreAmong}
+use Rattle.h5w_array_laws.specs.ArrayStores.{IsHeaded, IsNumbered}
+use Rattle.h5w_header_laws.specs.Files.{with_rows}
+use Rattle.h5w_steps.specs.Moments.{Moment}
+use Rattle.h5w_array_flushes.specs.ArrayFlushes.{chunks_for}
+use Rattle.h5w_flush_laws.specs.Parts.{block_writes}
+use Rattle.h5w_flush_laws.specs.Spaces.{Taken}
+use Rattle.h5w_flush_laws.specs.Rows.{IsOutside, IsPlaced, new_chunks}
+use Rattle.h5w_index.specs.Views.{IndexView, an_array, a_tree, HasSlot, IsSound, address_in, behind_of, is_key}
+use Rattle.h5w_index.specs.Steps.{HasNoPlace, IsHeld, IsPlan, IsSet, IsUnset}
+use Rattle.h5w_index.specs.Told.{HeldTold, IsLike, SameMap}
+use Rattle.h5w_index.specs.Flushes.{AreCopies, IsIndexPart, Rests}
+use Rattle.h5w_index.specs.Marks.{IsMarked, IsRaised, IsTouched}
+
+-- an array is of chunks that do not stand side by side
+abbrev pub Fits : Described → IndexView → Type 0
+Fits d (an_array v) = chunks_across d ≡ 1
+Fits d (a_tree place v) = 0 < chunks_across d
+
+-- each chunk that has an address, of those from the band of the next row on, ends by a place
+abbrev pub AreInside : Described → ℕ → IndexView → Type 0
+AreInside d end v = (key : Key) → d.shape.rows / d.layout.chunk_rows ≤ key.i → address_in v key ≢ undefined → address_in v key + chunk_len d ≤ end
+
+-- an array's blocks name its header and their first slots, and the header's six numbers are true
+pub record IsOwnArray (v : Store) : Type 0 where
+  pub headed : IsHeaded v
+  pub numbered : IsNumbered v
+
+-- it is an index as it is made here
+abbrev pub IsOwn : IndexView → Type 0
+IsOwn (an_array v) = IsOwnArray v
+IsOwn (a_tree place v) = Unit {0}
+
+-- Chunks of these keys may have got an address, and nothing else did: places are held for chunks that rows go into.
+pub record IsPartly (d : Described) (to : ℕ) (v : IndexView) (added : List Key) (w : IndexView) : Type 0 where
+  pub like : IsLike v w
+  pub slots : All (HasSlot w) added
+  pub touches : All (IsTouched d d.shape.rows to) added
+  pub absent : All (λ key. address_in v key ≡ undefined) added
+  pub rest : (key : Key) → All (λ other. is_key v other key ≡ false) added → address_in w key ≡ address_in v key
+  pub own : IsOwn v → IsOwn w
+  pub marks : IsMarked d d.shape.rows to v → IsMarked d d.shape.rows to w
+
+-- the key of the next chunk, behind so many
+abbrev pub next_key : Described → List ChunkPlace → Key
+next_key d chunks = touched_key d d.shape.rows (length chunks)
+
+-- Some first chunks have their places, and the index names them there: v and s are index and places before.
+pub record IsPlacing (d : Described) (to : ℕ) (v : IndexView) (s : Space) (chunks : List ChunkPlace) (added : List Key) (w : IndexView) (t : Space) : Type 0 where
+  pub partly : IsPartly d to v added w
+  pub placed : (k : ℕ) (p : ChunkPlace) → slice_get chunks k ≡ Some p → IsPlaced d (address_in v) (address_in w) d.shape.rows k p
+  pub others : (key : Key) → ((k : ℕ) → k < length chunks → is_key v (touched_key d d.shape.rows k) key ≡ false) → address_in w key ≡ address_in v key
+  pub behind : AreAmong (behind_of (chunk_bytes d) w) (new_chunks d (address_in v) d.shape.rows 0 chunks ++ behind_of (chunk_bytes d) v)
+  pub taken : Taken s (new_chunks d (address_in v) d.shape.rows 0 chunks) t
+  pub raised : IsRaised s t (length chunks * chunk_bytes d)
+  pub inside : (k : ℕ) (p : ChunkPlace) → slice_get chunks k ≡ Some p → p.address + chunk_len d ≤ t.end
+
+-- ---- A file that has no place
+
+-- behind chunks that have their places, the next has none yet, and there is none for it
+pub record IsChunkFull (d : Described) (to : ℕ) (v : IndexView) (s : Space) (full : Full) : Type 0 where
+  pub chunks : List ChunkPlace
+  pub added : List Key
+  pub w : IndexView
+  pub t : Space
+  pub placing : IsPlacing d to v s chunks added w t
+  pub inside : length chunks < touched d d.shape.rows to
+  pub absent : address_in v (next_key d chunks) ≡ undefined
+  pub refused : IsRefused t (chunk_len d) full
+
+-- all chunks that rows go into have their places, and the first block in turn that has none is refused
+pub record IsBlockFull (d : Described) (to : ℕ) (v : IndexView) (s : Space) (full : Full) : Type 0 where
+  pub chunks : List ChunkPlace
+  pub added : List Key
+  pub held : IndexView
+  pub between : Space
+  pub placing : IsPlacing d to v s chunks added held between
+  pub all : length chunks ≡ touched d d.shape.rows to
+  pub refused : HasNoPlace held between full
+
+-- the first new chunk by its key has no place, or else the first block of the index in turn
+abbrev pub IsFullPart : Described → ℕ → IndexView → Space → Full → Type 0
+IsFullPart d to v s full = IsChunkFull d to v s full ⊎ IsBlockFull d to v s full
+
+-- the most bytes by which such rows raise the file, all but what each flush has
+abbrev pub most_of : Described → ℕ → ℕ
+most_of d to = touched d d.shape.rows to * (chunk_bytes d + 20000)
+
+-- What has no place is not larger than that, and stands where the file was raised by no more.
+pub record FullPartBound (d : Described) (to : ℕ) (s : Space) (full : Full) : Type 0 where
+  pub before : Space
+  pub raised : IsRaised s before (most_of d to)
+  pub size : ℕ
+  pub some : 1 ≤ size
+  pub few : size ≤ most_of d to
+  pub refused : IsRefused before size full
+
+-- ---- Laws
+
+-- all chunks have their places: each other key gives what it gave
+pub record AllPlaced (d : Described) (to : ℕ) (v : IndexView) (w : IndexView) : Type 0 where
+  pub like : IsLike v w
+  pub others : (key : Key) → IsOutside d d.shape.rows to key → address_in w key ≡ address_in v key
+
+pub record PlacingLaws : Type 0 where
+  -- no chunk yet
+  pub none : (d : Described) (to : ℕ) (v : IndexView) (s t : Space) → IsSound v → t.end ≡ s.end → t.free ≡ s.free → t.retired ≡ s.retired → t.limit ≡ s.limit → IsPlacing d to v s [] [] v t
+  -- the next has its place already
+  pub stored : (d : Described) (to : ℕ) (v w : IndexView) (s t : Space) (chunks : List ChunkPlace) (added : List Key) (p : ChunkPlace) → Fits d v → address_in w (next_key d chunks) ≡ p.address → p.address ≢ undefined
+      → (p.stored ≡ false → d.shape.rows ≤ (next_key d chunks).i * d.layout.chunk_rows) → AreInside d s.end v → IsPlacing d to v s chunks added w t → IsPlacing d to v s (chunks ++ p ∷ []) added w t
+  -- the next has none: a place is held for it in the index and one is taken in the file, and the index names it
+  pub new : (d : Described) (to : ℕ) (v w h u : IndexView) (s t next : Space) (chunks : List ChunkPlace) (added : List Key) (p : ChunkPlace) → Fits d v → 0 < chunk_len d → length chunks < touched d d.shape.rows to
+      → address_in w (next_key d chunks) ≡ undefined → p.stored ≡ false → p.address ≢ undefined → IsHeld (next_key d chunks) w h → HasSlot h (next_key d chunks) → Took t next (extent p.address (chunk_len d))
+      → IsSet (next_key d chunks) p.address h u → IsPlacing d to v s chunks added w t → IsPlacing d to v s (chunks ++ p ∷ []) (added ++ next_key d chunks ∷ []) u next
+  -- a place is held, and then the call is refused
+  pub held : (d : Described) (to : ℕ) (key : Key) (v w u : IndexView) (added : List Key) → IsTouched d d.shape.rows to key → IsHeld key w u → IsPartly d to v added w → IsPartly d to v added u
+  -- after a refusal what was set is taken back, and then the index is as before, but that places are held
+  pub unset : (d : Described) (to : ℕ) (key : Key) (v w u : IndexView) (added : List Key) → IsUnset key w u → IsPartly d to v (key ∷ added) w → IsPartly d to v added u
+  pub kept : (d : Described) (to : ℕ) (v w : IndexView) → IsPartly d to v [] w → HeldTold v w
+  -- all have their places
+  pub all : (d : Described) (to : ℕ) (v w : IndexView) (s t : Space) (chunks : List ChunkPlace) (added : List Key) → Fits d v → length chunks ≡ touched d d.shape.rows to → d.shape.rows < to
+      → IsPlacing d to v s chunks added w t → AllPlaced d to v w
+  -- so each chunk that later rows may go into stands in the file as it did, also once the blocks are planned
+  pub inside : (d : Described) (to : ℕ) (v w : IndexView) (s t : Space) (chunks : List ChunkPlace) (added : List Key) → d.shape.rows ≤ to → AreInside d s.end v → IsPlacing d to v s chunks added w t
+      → AreInside (with_rows to d) t.end w
+  pub carried : (d : Described) (end later : ℕ) (v w : IndexView) → SameMap v w → end ≤ later → AreInside d end v → AreInside d later w
+  -- by how much all that raises the file, with the plan of the index's blocks; and what has no place
+  pub raised : (d : Described) (to : ℕ) (v held w : IndexView) (s between t : Space) (chunks : List ChunkPlace) (added : List Key) (ms : List Move) (copies fixed : List Write) → length chunks ≡ touched d d.shape.rows to
+      → IsMarked d d.shape.rows to v → IsPlacing d to v s chunks added held between → IsPlan held between ms copies fixed w t → IsRaised s t (most_of d to)
+  pub full : (d : Described) (to : ℕ) (v : IndexView) (s : Space) (full : Full) → 0 < chunk_len d → 0 < touched d d.shape.rows to → IsMarked d d.shape.rows to v → IsFullPart d to v s full → FullPartBound d to s full
+
+-- an index stays one that was made here
+pub record OwnLaws : Type 0 where
+  pub held : (key : Key) (v w : IndexView) → IsHeld key v w → IsOwn v → IsOwn w
+  pub set : (key : Key) (address : ℕ) (v w : IndexView) → IsSet key address v w → IsOwn v → IsOwn w
+  pub unset : (key : Key) (v w : IndexView) → IsUnset key v w → IsOwn v → IsOwn w
+  pub planned : (v : IndexView) (s : Space) (ms : List Move) (copies fixed : List Write) (w : IndexView) (t : Space) → IsSound v → IsPlan v s ms copies fixed w t → IsOwn v → IsOwn w
+
+-- What such a session shows of its index as the part of a flush, from what it knows of it, the places of the chunks and the plan.
+abbrev pub IndexPart : Type 0
+IndexPart = (img : List ℕ) (m : Moment) (old : Key → ℕ) (s between t : Space) (to : ℕ) (v held w : IndexView) (places : List ChunkPlace) (added : List Key) (ms : List Move) (copies : List (ℕ × List ℕ)) (fixed : List Write)
+    → Rests img m old s v → IsPlacing m.dataset to v s places added held between → IsPlan held between ms (block_writes copies) fixed w t → AreCopies held ms copies
+    → IsIndexPart img m held between ms w t (chunks_for m old places) copies fixed
+
+-- After a flush that was refused the index rests as before.
+abbrev pub RestsHeld : Type 0
+RestsHeld = (img : List ℕ) (m : Moment) (old : Key → ℕ) (s : Space) (v w : IndexView) → HeldTold v w → Rests img m old s v → Rests img m old s w

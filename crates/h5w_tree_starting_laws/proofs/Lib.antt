@@ -1,0 +1,4 @@
+pub mod UnwrittenLemmas
+pub mod TreeStartLemmas
+pub mod TreeLeadLemmas
+pub mod TreeStartCallLemmas

@@ -1,0 +1,2 @@
+pub mod TreeStarting
+pub mod TreeStartCalls
