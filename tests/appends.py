@@ -68,8 +68,8 @@ def dumped(file):
     return [int(it) for it in body.replace(",", " ").split()]
 
 
-def still(file, kind, wanted, folder):
-    """What other tools read otherwise than these values."""
+def still(file, kind, wanted, folder, stored=True):
+    """What other tools read otherwise than these values, some of which are stored in a chunk."""
     found = of("h5dump", dumped(file), wanted)
     found += of("h5ls", run(["h5ls", file]).split(), ["data", "Dataset", f"{{{len(wanted)}/Inf}}"])
     for how in ({}, {"libver": "latest", "swmr": True}):
@@ -77,8 +77,8 @@ def still(file, kind, wanted, folder):
             found += of(f"h5py {how}", [opened["data"].dtype.str, opened["data"][:].tolist()], [numpy_type(kind).str, wanted])
     packed = f"{folder}/packed.h5"
     found += of("h5repack", run(["h5repack", file, packed]), "")
-    # (h5diff compares no datasets without rows)
-    found += of("h5diff", run(["h5diff", file, packed]), "") if wanted else []
+    # (h5diff compares no datasets without rows, nor without chunks)
+    found += of("h5diff", run(["h5diff", file, packed]), "") if wanted and stored else []
     return found + of("h5dump of h5repack's file", dumped(packed), wanted)
 
 
@@ -151,7 +151,7 @@ def without_chunks(folder, kind, chunk, rows, fill):
     with h5py.File(file, "r+", libver="latest") as opened:
         opened["data"].resize((rows,))
     wanted = [fill or 0] * rows
-    found = read_by_us(file, wanted) + appended(file, [], rows) + still(file, kind, wanted, folder)
+    found = read_by_us(file, wanted) + appended(file, [], rows) + still(file, kind, wanted, folder, False)
     for at in range(0, len(values), chunk):
         part = values[at : at + chunk]
         if at % (2 * chunk) == 0:
