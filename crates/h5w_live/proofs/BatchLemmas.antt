@@ -1,5 +1,5 @@
 -- A batch of the writer of a run.
-use Rattle.std.proofs.Common.{◌≡◌, ℕ, ◌+◌, ◌*◌, ◌/◌, ◌<◌, ◌≤◌, Bool, true, false, cond, nat_lt, List, [], ◌∷◌, ◌++◌, length, ℤ, Option, Some, None, Result, Ok, Err, sym, refl, ap, ◌∙◌, subst, arith, append_assoc, length-append, ◌⊎◌, inl, inr}
+use Rattle.std.proofs.Common.{◌≡◌, ℕ, ◌+◌, ◌*◌, ◌/◌, ◌<◌, ◌≤◌, Bool, false, cond, nat_lt, List, [], ◌∷◌, ◌++◌, length, ℤ, Option, Some, None, Result, Ok, Err, sym, refl, ap, ◌∙◌, subst, arith, append_assoc, length-append, ◌⊎◌, inl, inr}
 use Rattle.std.specs.Prelude.{IfErr}
 use Rattle.std.proofs.lemmas.Bool.{cond_both}
 use Rattle.h5w_model.specs.Agrees.{rows_after, values_in}
@@ -9,8 +9,10 @@ use Rattle.h5w_model.specs.Lawful.{first_outside}
 use Rattle.h5w_model.specs.Logs.{Happening, Log, and_now, appended, appended_in, appends, div_up, flushed, flushed_at, flushed_rows, hist, plans}
 use Rattle.h5w_model.specs.declared.piece.Write.{Write}
 use Rattle.h5w_model.specs.declared.report.FlushLine.{FlushLine}
+use Rattle.h5w_model.specs.declared.root.Super.{Super}
 use Rattle.h5w_laws.proofs.LogLemmas.{position_laws, length_hist}
 use Rattle.h5w_session.specs.Creations.{NewFile, new_dataset}
+use Rattle.h5w_session.specs.Loads.{NoPlace}
 use Rattle.h5w_session.specs.Refusals.{append_refusal, chunks_refusal, flush_refusal}
 use Rattle.h5w_session.specs.Sessions.{AfterPiece, Session, TakesRows, chunks_with, rows_of, with_rows, with_values, IsNamed}
 use Rattle.h5w_session.specs.Stands.{Stands}
@@ -18,10 +20,11 @@ use Rattle.h5w_session.specs.declared.refusal.AppendError.{AppendError}
 use Rattle.h5w_session.specs.declared.refusal.AppendError.TheVariants as errors
 use Rattle.h5w_session.proofs.LawLemmas.{standing_laws, shown_laws}
 use Rattle.h5w_session.proofs.StandLemmas.{none_outside}
+use Rattle.h5w_space.specs.declared.Full.{Full}
 use Rattle.h5w_shared.specs.Seats.{ImageId, SeatView}
 use Rattle.h5w_live_laws.specs.Lines.{rows_told}
 use Rattle.h5w_live_laws.proofs.LineLemmas.{agree_more, tells_more, values_more}
-use Rattle.h5w_live.specs.Writing.{HasFlushed, HasRoom, HasWritten, StaysSeated, Writes, batch_refusal, showing, too_many}
+use Rattle.h5w_live.specs.Writing.{HasFlushed, HasRoom, HasWritten, LacksPlace, StaysSeated, Writes, batch_refusal, showing, too_many}
 use Rattle.h5w_live.proofs.WritingLemmas.{Shown, appended_showing, hist_showing, shown_stays, after_pending}
 use Rattle.h5w_live.proofs.FlushedLemmas.{before_last, pieces_last, rows_all, rows_last}
 use Rattle.h5w_session.proofs.FlushCalls.{takes_named}
@@ -30,22 +33,6 @@ none_some : {A : Type 0} (a : A) → ◌≡◌ {A = Option A} None (Some a) → 
 none_some a e = cc
 
 -- ---- What refuses a batch
-
-some_is : {A : Type 0} (a b : A) → ◌≡◌ {A = Option A} (Some a) (Some b) → a ≡ b
-some_is a b e = cc
-
--- a batch is refused by no other errors than two
-pub refused_by_two : (f : NewFile) (rows : ℕ) (values : List ℤ) (e : AppendError) → ((index : ℕ) (value : ℤ) → errors.OutOfRange index value ≡ e → ⊥) → ((chunks limit : ℕ) → errors.Chunks chunks limit ≡ e → ⊥)
-    → batch_refusal f rows values ≡ Some e → ⊥
-refused_by_two f rows [] e range chunks h = none_some e h
-refused_by_two f rows (v ∷ vs) e range chunks h = go (first_outside f.int_type 0 (v ∷ vs)) h where
-  by_count : (b : Bool) (n : ℕ) → ◌≡◌ {A = Option AppendError} (cond b (Some (errors.Chunks n 131060)) None) (Some e) → ⊥
-  by_count false n h = none_some e h
-  by_count true n h = chunks n 131060 (some_is (errors.Chunks n 131060) e h)
-
-  go : (o : Option (ℕ × ℤ)) → ◌≡◌ {A = Option AppendError} (elim o as (λ _. Option AppendError) [ Some y ↦ Some (errors.OutOfRange y.0 y.1) | None ↦ too_many (div_up (rows + length (v ∷ vs)) f.chunk_rows) ]) (Some e) → ⊥
-  go None h = by_count (nat_lt 131060 (div_up (rows + length (v ∷ vs)) f.chunk_rows)) (div_up (rows + length (v ∷ vs)) f.chunk_rows) h
-  go (Some y) h = range y.0 y.1 (some_is (errors.OutOfRange y.0 y.1) e h)
 
 -- an append over the shared image answers its refusal, but for the image and memory
 pub refused_as : (o : Option AppendError) (r : Result ℕ AppendError) (e : AppendError) → (errors.Failed ≡ e → ⊥) → (errors.OutOfMemory ≡ e → ⊥) → r ≡ Err e
@@ -67,7 +54,7 @@ module _ (f : NewFile) (done : List (List ℤ)) (s : Session) (v : SeatView) (li
   one_column : s.dataset.shape.cols ≡ 1
   one_column = ap (λ (d : Described). d.shape.cols) h.writes.dataset
 
-  log_column : h.writes.log.columns ≡ 1
+  pub log_column : h.writes.log.columns ≡ 1
   log_column = ap (λ (l : Log). l.columns) h.writes.new
 
   whole : (n : ℕ) → n / 1 ≡ n
@@ -113,12 +100,6 @@ module _ (f : NewFile) (done : List (List ℤ)) (s : Session) (v : SeatView) (li
   refusal_for [] some = absurd (omega arith)
   refusal_for (x ∷ xs) some = refusal_is x xs
 
-  -- and no other error than these two
-  pub refused_never : (values : List ℤ) (r : Result ℕ AppendError) (e : AppendError) → 1 ≤ length values → ((index : ℕ) (value : ℤ) → errors.OutOfRange index value ≡ e → ⊥) → ((chunks limit : ℕ) → errors.Chunks chunks limit ≡ e → ⊥)
-      → (errors.Failed ≡ e → ⊥) → (errors.OutOfMemory ≡ e → ⊥) → r ≡ Err e → IfErr r (λ x. (append_refusal s values ≡ Some x) ⊎ ((x ≡ errors.Failed) ⊎ (x ≡ errors.OutOfMemory))) → ⊥
-  refused_never values r e some range chunks failed memory is causes =
-      refused_by_two f (length (values_in done)) values e range chunks (sym (refusal_for values some) ∙ refused_as (append_refusal s values) r e failed memory is causes)
-
   pub flush_taken : (t : Session) (values : List ℤ) → t ≡ with_values s values → flush_refusal t ≡ None
   flush_taken t values is =
       ap flush_refusal is
@@ -128,7 +109,7 @@ module _ (f : NewFile) (done : List (List ℤ)) (s : Session) (v : SeatView) (li
   pub waits_some : (t : Session) (values : List ℤ) → t ≡ with_values s values → 1 ≤ length values → 0 < t.waits
   waits_some t values is some = omega (arith, ap (λ (x : Session). x.waits) is, counted values, some)
 
-  rows_flushed : length (flushed h.writes.log) ≡ length (values_in done)
+  pub rows_flushed : length (flushed h.writes.log) ≡ length (values_in done)
   rows_flushed =
       sym (whole (length (flushed h.writes.log))) ∙ ap (λ (n : ℕ). length (flushed h.writes.log) / n) (sym log_column)
       ∙ standing_laws.planned_rows s h.writes.log h.writes.stands h.going h.pending ∙ h.rows
@@ -216,6 +197,8 @@ module _ (f : NewFile) (done : List (List ℤ)) (s : Session) (v : SeatView) (li
       waits = facts.waits ∙ takes.waits;
       pending = after_pending s2 s3 [] after;
       going = facts.stopped ∙ takes.stopped ∙ ap (λ (t : Session). t.stopped) added ∙ h.going;
+      flags = ap (λ (t : Session). t.root.flags) after.1 ∙ ap (λ (r : Super). r.flags) takes.root ∙ ap (λ (t : Session). t.root.flags) added ∙ h.flags;
+      limit = facts.limit ∙ takes.limit ∙ ap (λ (t : Session). t.places.limit) added ∙ h.limit;
       room = record {
         pieces = omega (arith, room.pieces, wrote.pieces, ap length (after_pending s2 s3 [] after));
         end = omega (arith, room.end, wrote.end, facts.end);
@@ -306,4 +289,23 @@ planned_writes f s t v x w seat takes k stands =
       begun = omega (arith, w.begun, ap length seat.seen);
       name = takes.name ∙ w.name;
       dataset = d ∙ ap (λ (n : ℕ). with_rows n (new_dataset f)) (sym (ap (λ (e : Described). e.shape.rows) d));
+    }
+
+-- the file has no place for what was appended behind others
+pub lacks_place : (f : NewFile) (done : List (List ℤ)) (s : Session) (v : SeatView) (lines : List FlushLine) (values : List ℤ) (t : Session) (full : Full) → (h : HasFlushed f done s v lines) → t ≡ with_values s values
+    → ((log : Log) → Stands s log → Stands t (and_now (appends values) log)) → ((log : Log) → Stands t log → NoPlace t log full) → LacksPlace f done values full
+lacks_place f done s v lines values t full h is stands none =
+    let stood = stands h.writes.log h.writes.stands in
+    let lacks = none (and_now (appends values) h.writes.log) stood in
+    let dataset : t.dataset ≡ s.dataset = ap (λ (y : Session). y.dataset) is in
+    record {
+      session = t;
+      log = and_now (appends values) h.writes.log;
+      stands = stood;
+      new = ap (λ (l : Log). record l { events = appends values ∷ h.writes.log.events }) h.writes.new;
+      dataset = dataset ∙ h.writes.dataset ∙ ap (λ (d : Described). with_rows d.shape.rows (new_dataset f)) (sym dataset);
+      limit = lacks.limit ∙ ap (λ (y : Session). y.places.limit) is ∙ h.limit;
+      appended = sym (append_assoc h.writes.log.values (appended_in h.writes.log.events) values) ∙ ap (λ (xs : List ℤ). xs ++ values) h.appended;
+      flushed = ap (λ (c : ℕ). length (flushed h.writes.log) / c) (log_column f done s v lines h) ∙ (let e : length (flushed h.writes.log) / 1 ≡ length (flushed h.writes.log) = omega arith in e) ∙ rows_flushed f done s v lines h;
+      lacks = lacks;
     }

@@ -23,14 +23,14 @@ events_before p [] es low = refl
 events_before p (w ∷ ws) es low = events_before p ws (shows w ∷ es) (omega (arith, low)) ∙ events_at_earlier p (shows w) es (omega (arith, low))
 
 -- behind so many of the pieces
-events_among : (i : ℕ) (ws : List Write) (es : List Happening) → i ≤ length ws → events_at (shown es + i) (showing ws es) ≡ showing (take i ws) es
+pub events_among : (i : ℕ) (ws : List Write) (es : List Happening) → i ≤ length ws → events_at (shown es + i) (showing ws es) ≡ showing (take i ws) es
 events_among zero ws es low = events_before (shown es + 0) ws es (omega arith) ∙ events_at_now (shown es + 0) es (omega arith)
 events_among (suc i) [] es low = absurd (omega (arith, low))
 events_among (suc i) (w ∷ ws) es low =
     let e : shown es + suc i ≡ shown es + 1 + i = omega arith in
     ap (λ p. events_at p (showing ws (shows w ∷ es))) e ∙ events_among i ws (shows w ∷ es) (omega (arith, low))
 
-flushed_showing : (j : ℕ) (base : List ℤ) (ws : List Write) (es : List Happening) → flushed_in j base (showing ws es) ≡ flushed_in (j + length ws) base es
+pub flushed_showing : (j : ℕ) (base : List ℤ) (ws : List Write) (es : List Happening) → flushed_in j base (showing ws es) ≡ flushed_in (j + length ws) base es
 flushed_showing j base [] es = ap (λ n. flushed_in n base es) (let e : j ≡ j + 0 = omega arith in e)
 flushed_showing j base (w ∷ ws) es =
     flushed_showing j base ws (shows w ∷ es) ∙ ap (λ n. flushed_in n base es) (let e : j + length ws + 1 ≡ j + length (w ∷ ws) = omega arith in e)
@@ -38,7 +38,7 @@ flushed_showing j base (w ∷ ws) es =
 -- ---- Rows
 
 -- where all values are flushed they are so behind more pieces
-flushed_level : (j : ℕ) (base : List ℤ) (es : List Happening) (n : ℕ) → length (flushed_in 0 base es) ≡ n → length (base ++ appended_in es) ≡ n → length (flushed_in j base es) ≡ n
+pub flushed_level : (j : ℕ) (base : List ℤ) (es : List Happening) (n : ℕ) → length (flushed_in 0 base es) ≡ n → length (base ++ appended_in es) ≡ n → length (flushed_in j base es) ≡ n
 flushed_level j base es n low high =
     let under : length (flushed_in j base es) ≤ length (base ++ appended_in es) =
     (let l = length-take (length (flushed_in j base es)) (base ++ appended_in es) in omega (arith, l, ap length (flushed_begins j base es))) in

@@ -3,3 +3,11 @@ pub mod ReadingLemmas
 pub mod WritingLemmas
 pub mod FlushedLemmas
 pub mod BatchLemmas
+pub mod EndLemmas
+pub mod WriterLemmas
+pub mod RunLemmas
+pub mod PartLemmas
+pub mod ActorLemmas
+pub mod ReportLemmas
+pub mod JoinLemmas
+pub mod Sent

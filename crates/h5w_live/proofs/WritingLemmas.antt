@@ -34,6 +34,10 @@ freed_end : (b : Bool) (s t : Space) → Freed b s t → t.end ≡ s.end
 freed_end true s t is = ap (λ (x : Space). x.end) is
 freed_end false s t is = is.end
 
+freed_limit : (b : Bool) (s t : Space) → Freed b s t → t.limit ≡ s.limit
+freed_limit true s t is = ap (λ (x : Space). x.limit) is
+freed_limit false s t is = is.limit
+
 -- what stays of a session while its pieces become visible
 pub record Shown (s t : Session) : Type 0 where
   pub name : t.name ≡ s.name
@@ -41,6 +45,7 @@ pub record Shown (s t : Session) : Type 0 where
   pub waits : t.waits ≡ s.waits
   pub stopped : t.stopped ≡ s.stopped
   pub end : t.places.end ≡ s.places.end
+  pub limit : t.places.limit ≡ s.places.limit
 
 pub shown_stays : (s t : Session) (ws : List Write) → AfterPiece s ws t → Shown s t
 shown_stays s t [] after =
@@ -51,6 +56,7 @@ shown_stays s t [] after =
       waits = ap (λ (x : Session). x.waits) is;
       stopped = ap (λ (x : Session). x.stopped) is;
       end = freed_end s.keeps s.places t.places after.0;
+      limit = freed_limit s.keeps s.places t.places after.0;
     }
 shown_stays s t (w ∷ ws) is = record {
   name = ap (λ (x : Session). x.name) is;
@@ -58,6 +64,7 @@ shown_stays s t (w ∷ ws) is = record {
   waits = ap (λ (x : Session). x.waits) is;
   stopped = ap (λ (x : Session). x.stopped) is;
   end = ap (λ (x : Session). x.places.end) is;
+  limit = ap (λ (x : Session). x.places.limit) is;
 }
 
 itself : (s : Session) (ws : List Write) → s.pending ≡ ws → 0 < length ws → AfterPiece s ws s

@@ -3,3 +3,5 @@ pub use Rattle.h5w_live_laws.specs.Polls
 pub use Rattle.h5w_live_laws.specs.Laws
 pub mod Reading
 pub mod Writing
+pub mod Ends
+pub mod Reports

@@ -1,18 +1,24 @@
 -- A writer's session over its seat: what it has written, and the lines that tell of it.
-use Rattle.std.specs.Prelude.{◌≡◌, ℕ, ◌+◌, ◌≤◌, false, List, [], ◌∷◌, ◌++◌, length, ℤ, nat_lt, if◌then◌else◌, Option, Some, None}
+use Rattle.std.specs.Prelude.{◌≡◌, ℕ, ◌+◌, ◌<◌, ◌≤◌, false, true, List, [], ◌∷◌, ◌++◌, length, take, get_or, ℤ, nat_lt, if◌then◌else◌, Option, Some, None, Ok}
 use Rattle.h5w_model.specs.Agrees.{FlushesAgree, values_in}
 use Rattle.h5w_model.specs.Lawful.{first_outside}
-use Rattle.h5w_model.specs.Logs.{Happening, Log, appended, div_up, shows}
+use Rattle.h5w_model.specs.Logs.{Happening, Log, appended, div_up, flushed_rows, shows}
 use Rattle.h5w_model.specs.declared.piece.Write.{Write}
 use Rattle.h5w_model.specs.declared.report.FlushLine.{FlushLine}
+use Rattle.h5w_model.specs.declared.root.Super.{Super}
 use Rattle.h5w_session.specs.Creations.{NewFile, new_dataset}
+use Rattle.h5w_session.specs.Loads.{NoPlace}
 use Rattle.h5w_session.specs.Past.{IsNew}
 use Rattle.h5w_session.specs.Sessions.{Session, with_rows}
 use Rattle.h5w_session.specs.Stands.{Stands}
 use Rattle.h5w_session.specs.declared.refusal.AppendError.{AppendError}
 use Rattle.h5w_session.specs.declared.refusal.AppendError.TheVariants as appends
+use Rattle.h5w_space.specs.declared.Full.{Full}
 use Rattle.h5w_shared.specs.Seats.{SeatView}
 use Rattle.h5w_shared.specs.Threads.{IsLogOf}
+use Rattle.h5w_model.specs.Superblock.{super_at, super_bytes}
+use Rattle.h5w_live.specs.declared.writing.Halt.{Halt}
+use Rattle.h5w_live.specs.declared.writing.Halt.TheVariants as halts
 use Rattle.h5w_live_laws.specs.Lines.{TellsFlushes, pieces_in, rows_told}
 
 -- ---- The seat
@@ -65,6 +71,8 @@ pub record HasFlushed (f : NewFile) (done : List (List ℤ)) (s : Session) (v : 
   pub waits : s.waits ≡ 0
   pub pending : s.pending ≡ []
   pub going : s.stopped ≡ false
+  pub flags : s.root.flags ≡ 5
+  pub limit : s.places.limit ≡ f.limit
   pub room : HasRoom s v
   pub appended : appended writes.log ≡ values_in done
   pub fit : first_outside f.int_type 0 (values_in done) ≡ None
@@ -72,6 +80,24 @@ pub record HasFlushed (f : NewFile) (done : List (List ℤ)) (s : Session) (v : 
   pub tells : TellsFlushes writes.log lines
   pub last : pieces_in 5 lines ≤ length v.seen
   pub told : rows_told 0 lines ≡ length (values_in done)
+
+-- The session was closed after all pieces of these batches were visible: the last piece is the superblock with flags 0, by which nobody
+-- writes the file.
+pub record HasClosed (f : NewFile) (done : List (List ℤ)) (s : Session) (v : SeatView) (lines : List FlushLine) : Type 0 where
+  pub writes : Writes f s v
+  pub stopped : s.stopped ≡ true
+  pub pending : s.pending ≡ []
+  pub rows : s.committed ≡ length (values_in done)
+  pub appended : appended writes.log ≡ values_in done
+  pub fit : first_outside f.int_type 0 (values_in done) ≡ None
+  pub agree : FlushesAgree 1 5 0 done lines
+  pub tells : TellsFlushes writes.log lines
+  pub last : pieces_in 5 lines ≤ length v.seen
+  pub before : List Write
+  pub root : Super
+  pub pieces : v.seen ≡ before ++ record { at = 0; piece = super_bytes root } ∷ []
+  pub reads : super_at (super_bytes root) ≡ Ok root
+  pub flags : root.flags ≡ 0
 
 -- ---- Refusals
 
@@ -93,3 +119,39 @@ abbrev pub first_refused : NewFile → (rows batch : ℕ) → List (List ℤ) �
 first_refused f rows batch [] = None
 first_refused f rows batch (vs ∷ rest) =
     elim (batch_refusal f rows vs) [ Some e ↦ Some (batch, e) | None ↦ first_refused f (rows + length vs) (batch + 1) rest ]
+
+-- The batch was appended behind these, which were flushed, and the file has no place for it, within the bounds by the loads of the session's log.
+pub record LacksPlace (f : NewFile) (done : List (List ℤ)) (batch : List ℤ) (full : Full) : Type 0 where
+  pub session : Session
+  pub log : Log
+  pub stands : Stands session log
+  pub new : IsNew log
+  pub dataset : session.dataset ≡ with_rows session.dataset.shape.rows (new_dataset f)
+  pub limit : full.limit ≡ f.limit
+  pub appended : appended log ≡ values_in done ++ batch
+  pub flushed : flushed_rows log ≡ length (values_in done)
+  pub lacks : NoPlace session log full
+
+-- why a batch was not flushed behind these
+abbrev pub Refuses : NewFile → List (List ℤ) → List ℤ → Halt → Type 0
+Refuses f done batch (halts.OutOfRange index value) = batch_refusal f (length (values_in done)) batch ≡ Some (appends.OutOfRange index value)
+Refuses f done batch (halts.Chunks chunks limit) = batch_refusal f (length (values_in done)) batch ≡ Some (appends.Chunks chunks limit)
+Refuses f done batch (halts.Space full) = (batch_refusal f (length (values_in done)) batch ≡ None) × LacksPlace f done batch full
+Refuses f done batch halts.Failed = Unit {0}
+Refuses f done batch halts.OutOfMemory = Unit {0}
+
+-- a batch for which the file has no place, behind others that were flushed: neither it nor they are refused
+pub record IsFullAt (f : NewFile) (bs : List (List ℤ)) (batch : ℕ) (full : Full) : Type 0 where
+  pub before : ℕ
+  pub number : batch ≡ before + 1
+  pub within : before < length bs
+  pub accepted : first_refused f 0 1 (take batch bs) ≡ None
+  pub lacks : LacksPlace f (take before bs) (get_or bs before []) full
+
+-- why the batch of this number was not flushed: it is the first that is refused, or the file has no place for it, or it was no fault of its values
+abbrev pub Explains : NewFile → List (List ℤ) → ℕ → Halt → Type 0
+Explains f bs batch (halts.OutOfRange index value) = first_refused f 0 1 bs ≡ Some (batch, appends.OutOfRange index value)
+Explains f bs batch (halts.Chunks chunks limit) = first_refused f 0 1 bs ≡ Some (batch, appends.Chunks chunks limit)
+Explains f bs batch (halts.Space full) = IsFullAt f bs batch full
+Explains f bs batch halts.Failed = Unit {0}
+Explains f bs batch halts.OutOfMemory = Unit {0}

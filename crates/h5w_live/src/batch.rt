@@ -12,7 +12,7 @@ ghost use Rattle.h5w_session.specs.Refusals.{append_refusal, flush_refusal};
 ghost use Rattle.h5w_session.specs.Sessions.{TakesRows, with_values};
 ghost use Rattle.h5w_session.specs.Stands.{Stands};
 ghost use Rattle.h5w_session.specs.declared.refusal.AppendError.TheVariants as appending;
-ghost use Rattle.h5w_live.specs.Writing.{HasFlushed, HasRoom, StaysSeated, Writes, batch_refusal};
+ghost use Rattle.h5w_live.specs.Writing.{HasFlushed, HasRoom, LacksPlace, StaysSeated, Writes, batch_refusal};
 
 use crate::seated::{append, flush};
 use crate::writing::{Halt, show};
@@ -105,6 +105,8 @@ pub fn put<R: Wait, G: Gate>(
         → (index : ℕ) (value : ℤ) → result ≡ Err (Halt.OutOfRange index value) → batch_refusal f (length (values_in done)) values.now ≡ Some (appending.OutOfRange index value) }
     ensures chunks { (f : NewFile) (done : List (List ℤ)) (lines : List FlushLine) → HasFlushed f done session.old seat.old lines
         → (chunks limit : ℕ) → result ≡ Err (Halt.Chunks chunks limit) → batch_refusal f (length (values_in done)) values.now ≡ Some (appending.Chunks chunks limit) }
+    ensures space { (f : NewFile) (done : List (List ℤ)) (lines : List FlushLine) → HasFlushed f done session.old seat.old lines
+        → (full : Full) → result ≡ Err (Halt.Space full) → (batch_refusal f (length (values_in done)) values.now ≡ None) × LacksPlace f done values.now full }
     ensures left { (f : NewFile) (done : List (List ℤ)) (lines : List FlushLine) → HasFlushed f done session.old seat.old lines → OnErr result (Writes f session.new seat.new) }
     ensures failed { result ≡ Err Halt.Failed → 0 < seat.new.faults }
 {

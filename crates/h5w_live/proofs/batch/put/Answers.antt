@@ -2,7 +2,7 @@ use Rattle.std.proofs.Common.{◌≡◌, Err, sym, ap, ◌∙◌}
 use Rattle.std.specs.Prelude.{length}
 use Rattle.h5w_session.specs.Sessions.{Session}
 use Rattle.h5w_live.specs.declared.writing.Halt.TheVariants as halts
-use Rattle.h5w_live.proofs.BatchLemmas.{flush_taken, planned_writes, put_flushed, refusal_for, taken_writes, waits_some, writes_still}
+use Rattle.h5w_live.proofs.BatchLemmas.{flush_taken, lacks_place, planned_writes, put_flushed, refusal_for, taken_writes, waits_some, writes_still}
 use Rattle.h5w_live.proofs.batch.put.Goals as goal
 
 pub plan-requires-clause-waits : goal.plan-requires-clause-waits
@@ -47,3 +47,11 @@ returns-in-Err-show-clause-left g c = λ f done lines h.
     (planned_writes f c.take.new.session c.plan.new.session c.take.new.seat c.plan.new.seat
     (taken_writes f done c.args.session.now c.args.seat.now lines c.args.values.now c.take.new.session c.take.new.seat h c.in-Ok.ensures.added c.in-Ok.ensures.stands c.take.ensures.seat)
     c.plan.ensures.seat c.in-Ok-plan.ensures.flushed (length c.plan.new.session.pending) c.in-Ok-plan.ensures.stands)
+
+pub returns-in-Err-plan-clause-space : goal.returns-in-Err-plan-clause-space
+returns-in-Err-plan-clause-space g c = λ f done lines h full same.
+    let halt : c.in-Err-plan.halt ≡ halts.Space full = cc in (
+      sym (refusal_for f done c.args.session.now c.args.seat.now lines h c.args.values.now c.requires.some) ∙ c.in-Ok.ensures.accepted,
+      lacks_place f done c.args.session.now c.args.seat.now lines c.args.values.now c.take.new.session full h c.in-Ok.ensures.added c.in-Ok.ensures.stands
+          (c.plan.ensures.space full (c.in-Err-plan.is ∙ ap Err halt)),
+    )

@@ -1,0 +1,144 @@
+-- What a run comes to once its threads have ended and its session was closed.
+use Rattle.std.proofs.Common.{◌≡◌, ℕ, ◌+◌, ◌*◌, ◌^◌, ◌<◌, ◌≤◌, List, [], length, take, ℤ, None, Result, Ok, Err, sym, refl, ap, ◌∙◌, subst, arith}
+use Rattle.std.specs.Prelude.{All, IfOk, drop, get_or}
+use Rattle.h5w_model.specs.Agrees.{Agrees, values_in}
+use Rattle.h5w_model.specs.Logs.{Log, hist}
+use Rattle.h5w_model.specs.declared.piece.Write.{Write}
+use Rattle.h5w_model.specs.Messages.{IsIntType}
+use Rattle.h5w_model.specs.declared.report.FlushLine.{FlushLine}
+use Rattle.h5w_model.specs.declared.report.PollLine.{PollLine}
+use Rattle.h5w_image.specs.Memory.{JournalView}
+use Rattle.h5w_reader.specs.Readers.{reader_rules}
+use Rattle.h5w_session.specs.Creations.{NewFile}
+use Rattle.h5w_session.specs.Sessions.{Session, rows_of}
+use Rattle.h5w_shared.specs.Seats.{ImageId, NoteView, SeatView}
+use Rattle.h5w_shared.specs.Turns.{StartsWith}
+use Rattle.h5w_live_laws.specs.Laws.{IsStray}
+use Rattle.h5w_live_laws.specs.Polls.{TellPolls}
+use Rattle.h5w_live_laws.proofs.PollLemmas.{poll_laws}
+use Rattle.h5w_live.specs.Ends.{EndWith, ReadersEnd}
+use Rattle.h5w_live.specs.Reading.{Polled}
+use Rattle.h5w_live.specs.Reports.{AreWhole, HasPutAll, IsCause, IsShut, Joined, Ran, Reports, TellsNone, run_of}
+use Rattle.h5w_live.specs.Writing.{HasClosed, HasFlushed}
+use Rattle.h5w_live.specs.declared.actors.AllEnded.{AllEnded}
+use Rattle.h5w_live.specs.declared.actors.Cut.{Cut}
+use Rattle.h5w_live.specs.declared.actors.Cut.TheVariants as cuts
+use Rattle.h5w_live.specs.declared.report.LiveError.{LiveError}
+use Rattle.h5w_live.specs.declared.report.LiveError.TheVariants as lives
+use Rattle.h5w_live.specs.declared.threads.Written.{Written}
+use Rattle.h5w_live.proofs.PartLemmas.{reader_agrees}
+use Rattle.h5w_live.proofs.ReportLemmas.{all_whole, is_shut}
+use Rattle.h5w_live.proofs.RunLemmas.{is_run, restful}
+
+-- ---- The readers
+
+module _ (i : ImageId) (v : SeatView) (r : Result AllEnded Cut) (j : Joined i v r) where
+  start : j.closed.writes.log.start ≡ i.start
+  start = j.closed.writes.seat.start ∙ ap (λ (x : ImageId). x.start) j.there
+
+  first : j.closed.writes.log.first ≡ 5
+  first = ap (λ (l : Log). l.first) j.closed.writes.new
+
+  begins_log : (seen : List Write) → StartsWith v.seen seen → StartsWith (hist j.closed.writes.log.events) seen
+  begins_log seen h = subst (λ (ws : List Write). StartsWith ws seen) (sym j.closed.writes.seat.pieces) h
+
+  ended : (e : AllEnded) → r ≡ Ok e → EndWith (reader_rules j.file.name j.attempts) i j.calls j.readers j.before e.notes.items e.lines.items
+  ended e is = subst (λ (x : Result AllEnded Cut). IfOk x (λ (e : AllEnded). EndWith (reader_rules j.file.name j.attempts) i j.calls j.readers j.before e.notes.items e.lines.items)) is j.ends.end
+
+  pub images : (e : AllEnded) → r ≡ Ok e → All (λ (n : NoteView). n.image ≡ i) e.notes.items
+  images e is = λ k d less. ((ended e is).each k d (omega (arith, less, (ended e is).notes_count))).image
+
+  -- where what each seat had seen begins what the writer wrote
+  pub agree : (e : AllEnded) → r ≡ Ok e → All (λ (n : NoteView). StartsWith v.seen n.seen) e.notes.items
+      → Agrees (run_of j.attempts j.readers j.calls j.batches j.flushes) j.batches e.lines.items
+  agree e is begins =
+      let d : NoteView = record { image = i; seen = [] } in
+      let h = ended e is in
+      record {
+        values = refl;
+        flushes = j.closed.agree;
+        count = h.lines_count;
+        each = λ k less.
+            let one = h.each k d less in
+            reader_agrees (reader_rules j.file.name j.attempts) j.closed.writes.log (run_of j.attempts j.readers j.calls j.batches j.flushes) (k + 1) j.before (get_or e.notes.items k d).seen
+            (take j.calls (drop (k * j.calls) e.lines.items))
+            (is_run j.file j.batches j.session v j.flushes j.attempts j.readers j.calls j.closed j.some j.typed j.few) first refl j.begun
+            (begins_log (get_or e.notes.items k d).seen (begins k d (omega (arith, less, h.notes_count))))
+            (subst (λ (b : List ℕ). Polled (reader_rules j.file.name j.attempts) b (k + 1) j.before (get_or e.notes.items k d).seen (take j.calls (drop (k * j.calls) e.lines.items))) (sym start) one.polled);
+      }
+
+  pub stray_image : (note : NoteView) → r ≡ Err (cuts.Stray note) → note.image ≡ i
+  stray_image note is = (j.ends.stray note is).image
+
+  -- no call strays
+  pub none_strays : (note : NoteView) → r ≡ Err (cuts.Stray note) → StartsWith v.seen note.seen → ⊥
+  none_strays note is begins =
+      let s = j.ends.stray note is in
+      let g = reader_rules j.file.name j.attempts in
+      poll_laws.none_stray g j.closed.writes.log s.reader j.before s.strays.between note.seen s.strays.lines s.strays.next
+      (restful j.file j.session v j.attempts j.closed.writes j.some) (omega (arith, first, j.begun)) (begins_log note.seen begins)
+      (subst (λ (b : List ℕ). TellPolls g b s.reader 1 None j.before s.strays.lines s.strays.next s.strays.between) (sym start) s.strays.tell)
+      (subst (λ (b : List ℕ). IsStray g b s.strays.next s.strays.between note.seen) (sym start) s.strays.stray)
+
+-- ---- The whole
+
+pub few_rows : (f : NewFile) (done : List (List ℤ)) (s : Session) (v : SeatView) (lines : List FlushLine) → HasFlushed f done s v lines → rows_of s < 2 ^ 52 → length (values_in done) < 2 ^ 52
+few_rows f done s v lines h bound = omega (arith, h.rows, bound)
+
+abbrev pub joined : (i : ImageId) (w : Written) (r : Result AllEnded Cut) (ran : Ran i w r) (s : Session) (v : SeatView) (flushes : List FlushLine) → length (values_in ran.batches) < 2 ^ 52 → v.image ≡ i
+    → HasClosed ran.file ran.batches s v flushes → Joined i v r
+joined i w r ran s v flushes few there closed = record {
+  file = ran.file;
+  batches = ran.batches;
+  session = s;
+  flushes = flushes;
+  attempts = ran.attempts;
+  readers = ran.readers;
+  calls = ran.calls;
+  before = ran.before;
+  typed = ran.typed;
+  some = ran.some;
+  begun = ran.begun;
+  few = few;
+  there = there;
+  closed = closed;
+  ends = ran.ends;
+}
+
+-- an error that tells of no batch needs no cause
+pub none_cause : (f : NewFile) (bs : List (List ℤ)) (e : LiveError) → TellsNone e → IsCause f bs e
+none_cause f bs (lives.OutOfRange batch index value) h = absurd h
+none_cause f bs (lives.Chunks chunks limit) h = absurd h
+none_cause f bs (lives.Space full) h = absurd h
+none_cause f bs (lives.Failed worn) h = tt
+none_cause f bs lives.OutOfMemory h = tt
+
+-- what was copied, and the lines, are the report's
+pub reported : (f : NewFile) (bs : List (List ℤ)) (attempts readers calls : ℕ) (s : Session) (v : SeatView) (flushes : List FlushLine) → HasClosed f bs s v flushes → (journal : JournalView) (fs : List FlushLine) (ps polls : List PollLine)
+    → journal.writes ≡ v.seen → fs ≡ flushes → ps ≡ polls → Agrees (run_of attempts readers calls bs flushes) bs polls → Reports f bs attempts readers calls (record { journal = journal; flushes = fs; polls = ps })
+reported f bs attempts readers calls s v flushes h journal fs ps polls writes lines calls_are agrees = record {
+  agrees = subst (λ (ls : List FlushLine). Agrees (run_of attempts readers calls bs ls) bs ps) (sym lines) (subst (λ (ls : List PollLine). Agrees (run_of attempts readers calls bs flushes) bs ls) (sym calls_are) agrees);
+  whole = subst (λ (ws : List Write). AreWhole f.name ws (values_in bs) 0 fs) (sym writes) (subst (λ (ls : List FlushLine). AreWhole f.name v.seen (values_in bs) 0 ls) (sym lines) (all_whole f bs s v flushes h));
+  shut = subst (λ (ws : List Write). IsShut f.name ws (values_in bs)) (sym writes) (is_shut f bs s v flushes h);
+}
+
+-- what the threads left
+abbrev pub ran_of : (i : ImageId) (w : Written) (r : Result AllEnded Cut) (f : NewFile) (bs given : List (List ℤ)) (name : List ℕ) (attempts readers calls seats : ℕ) (before : List Write) → IsIntType f.int_type → 1 ≤ attempts → 5 ≤ length before
+    → given ≡ bs → name ≡ f.name → seats ≡ readers → HasPutAll f given i w → ReadersEnd (reader_rules name attempts) i calls seats before r → Ran i w r
+ran_of i w r f bs given name attempts readers calls seats before typed some begun batches named count put ends = record {
+  file = f;
+  batches = bs;
+  attempts = attempts;
+  readers = readers;
+  calls = calls;
+  before = before;
+  typed = typed;
+  some = some;
+  begun = begun;
+  put = subst (λ (x : List (List ℤ)). HasPutAll f x i w) batches put;
+  ends = subst (λ (n : List ℕ). ReadersEnd (reader_rules n attempts) i calls readers before r) named (subst (λ k. ReadersEnd (reader_rules name attempts) i calls k before r) count ends);
+}
+
+pub if_ok : {A E : Type 0} (P Q : A → Type 0) (r : Result A E) → ((a : A) → P a → Q a) → IfOk r P → IfOk r Q
+if_ok P Q (Ok a) h p = h a p
+if_ok P Q (Err e) h p = tt

@@ -1,0 +1,50 @@
+-- The lines of all readers of a run, one reader behind another.
+use Rattle.std.proofs.Common.{◌≡◌, ◌⊎◌, ℕ, ◌+◌, ◌*◌, ◌<◌, ◌≤◌, List, [], ◌∷◌, ◌++◌, length, take, sym, ap, ◌∙◌, subst, arith, inl, inr}
+use Rattle.std.specs.Prelude.{drop}
+use Rattle.std.proofs.lemmas.Bool.{cases_lt}
+use Rattle.std.proofs.lemmas.List.{drop-append-le, drop_at, length-drop, take-append-le, take_all}
+use Rattle.h5w_model.specs.Agrees.{ReaderAgrees, Run}
+use Rattle.h5w_model.specs.Logs.{Log, hist}
+use Rattle.h5w_model.specs.Unfinished.{ReaderRules}
+use Rattle.h5w_model.specs.declared.piece.Write.{Write}
+use Rattle.h5w_model.specs.declared.report.PollLine.{PollLine}
+use Rattle.h5w_shared.specs.Turns.{StartsWith}
+use Rattle.h5w_live_laws.specs.Laws.{IsRunOf}
+use Rattle.h5w_live_laws.proofs.PollLemmas.{poll_laws}
+use Rattle.h5w_live.specs.Reading.{Polled}
+
+-- ---- One reader
+
+-- behind fewer pieces
+agrees_behind : (run : Run) (reader call a b seen : ℕ) (lines : List PollLine) → a ≤ b → ReaderAgrees run reader call b seen lines → ReaderAgrees run reader call a seen lines
+agrees_behind run reader call a b seen [] low h = tt
+agrees_behind run reader call a b seen (line ∷ lines) low h =
+    (record { reader_is = h.0.reader_is; call_is = h.0.call_is; later = omega (arith, low, h.0.later); ends = h.0.ends; answer = h.0.answer }, h.1)
+
+-- all calls of a reader that began once the creation was visible
+pub reader_agrees : (g : ReaderRules) (log : Log) (run : Run) (reader : ℕ) (before after : List Write) (lines : List PollLine) → IsRunOf g log run → log.first ≡ 5 → run.first ≡ 5 → 5 ≤ length before
+    → StartsWith (hist log.events) after → Polled g log.start reader before after lines → ReaderAgrees run reader 1 run.first 0 lines
+reader_agrees g log run reader before after lines is first begun some starts p =
+    agrees_behind run reader 1 run.first (length before) 0 lines (omega (arith, begun, some)) (poll_laws.agree g log run reader before after lines p.next is (omega (arith, first, some)) starts p.tell)
+
+-- ---- All readers
+
+product_more : (j k c : ℕ) → j < k → j * c + c ≤ k * c
+product_more j k c less = grind arith
+
+-- what is true of the lines of each reader is so with those of one more
+module _ (P : ℕ → List PollLine → Type 0) (c : ℕ) where
+  pub parts_more : (k : ℕ) (polls lines : List PollLine) → length polls ≡ k * c → length lines ≡ c → ((j : ℕ) → j < k → P j (take c (drop (j * c) polls))) → P k lines
+      → (j : ℕ) → j < k + 1 → P j (take c (drop (j * c) (polls ++ lines)))
+  parts_more k polls lines all one before here j less = go (cases_lt j k) where
+    go : (j < k) ⊎ (k ≤ j) → P j (take c (drop (j * c) (polls ++ lines)))
+    go (inl x) =
+        let within : j * c + c ≤ k * c = product_more j k c x in
+        let dropped : drop (j * c) (polls ++ lines) ≡ drop (j * c) polls ++ lines = drop-append-le (j * c) polls lines (omega (arith, within, all)) in
+        let l = length-drop (j * c) polls in
+        let taken : take c (drop (j * c) polls ++ lines) ≡ take c (drop (j * c) polls) = take-append-le c (drop (j * c) polls) lines (omega (arith, l, within, all)) in
+        subst (λ (ls : List PollLine). P j ls) (sym (ap (take c) dropped ∙ taken)) (before j x)
+    go (inr x) =
+        let same : j ≡ k = omega (arith, x, less) in
+        subst (λ i. P i (take c (drop (i * c) (polls ++ lines)))) (sym same)
+        (subst (λ (ls : List PollLine). P k ls) (sym (ap (take c) (drop_at polls lines (k * c) all) ∙ take_all c lines (omega (arith, one)))) here)

@@ -1,0 +1,12 @@
+use Rattle.std.proofs.Common.{ap, ◌∙◌}
+use Rattle.h5w_session.specs.Creations.{new_file}
+use Rattle.h5w_shared.specs.Seats.{ImageId}
+use Rattle.h5w_live.proofs.EndLemmas.{created_flushed}
+use Rattle.h5w_live.proofs.creating.create.Goals as goal
+
+pub returns-in-Ok-clause-created : goal.returns-in-Ok-clause-created
+returns-in-Ok-clause-created g c =
+    let s = c.in_ok-session in
+    let i = c.in_ok-image in
+    created_flushed (new_file c.args.options.now) s.session c.show.new.session i.seat c.show.new.seat s.ensures.session s.ensures.stands (ap (λ (x : ImageId). x.start) i.ensures.image ∙ i.ensures.start) i.ensures.seen i.ensures.room
+    c.in-Ok.ensures.session c.in-Ok.ensures.seat c.in-Ok.ensures.stands

@@ -1,0 +1,23 @@
+use Rattle.std.proofs.Common.{rules, Err, ap, sym, ◌∙◌, subst}
+use Rattle.std.specs.Prelude.{List, ◌++◌, ◌∷◌, []}
+use Rattle.h5w_model.specs.declared.report.FlushLine.{FlushLine}
+use Rattle.h5w_live.specs.Writing.{HasFlushed}
+use Rattle.h5w_live.proofs.WriterLemmas.{empty_flushed, refuses}
+use Rattle.h5w_live.proofs.writer.put_next.Goals as goal
+
+pub returns-then-is_empty-clause-flushed : goal.returns-then-is_empty-clause-flushed
+returns-then-is_empty-clause-flushed g c = λ f done h. empty_flushed f done c.args.values.now c.args.session.now c.args.seat.now c.args.lines.now.items (search rules) h
+
+pub returns-in-Ok-push-clause-flushed : goal.returns-in-Ok-push-clause-flushed
+returns-in-Ok-push-clause-flushed g c = λ f done h.
+    subst (λ (ls : List FlushLine). HasFlushed f (done ++ c.args.values.now ∷ []) c.put.new.session c.put.new.seat ls) (sym c.in-Ok-push.ensures.items)
+    (c.in-Ok.ensures.flushed f done c.args.lines.now.items h)
+
+pub returns-in-Ok-push-clause-accepted : goal.returns-in-Ok-push-clause-accepted
+returns-in-Ok-push-clause-accepted g c = λ f done h. c.in-Ok.ensures.accepted f done c.args.lines.now.items h
+
+pub returns-in-Err-clause-refused : goal.returns-in-Err-clause-refused
+returns-in-Err-clause-refused g c = λ f done h.
+    refuses f done c.args.values.now c.in-Err.halt (λ index value same. c.put.ensures.range f done c.args.lines.now.items h index value (c.in-Err.is ∙ ap Err same))
+    (λ chunks limit same. c.put.ensures.chunks f done c.args.lines.now.items h chunks limit (c.in-Err.is ∙ ap Err same))
+    (λ full same. c.put.ensures.space f done c.args.lines.now.items h full (c.in-Err.is ∙ ap Err same))
