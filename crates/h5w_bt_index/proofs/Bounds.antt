@@ -54,6 +54,13 @@ most_fits (suc (suc zero)) h = omega arith
 most_fits (suc (suc (suc zero))) h = omega arith
 most_fits (suc (suc (suc (suc d)))) h = absurd (omega arith)
 
+-- the bytes that a parent has for it
+pub most_is : (d : ℕ) → suc d ≤ 3 → most_under d ≤ 256 ^ suc d
+most_is zero h = omega arith
+most_is (suc zero) h = omega arith
+most_is (suc (suc zero)) h = omega arith
+most_is (suc (suc (suc d))) h = absurd (omega (arith, h))
+
 -- the total of a tree fits eight bytes
 pub total_fits : (d m : ℕ) (t : Tree d) → d ≤ 3 → m ≤ 85 → IsSound d m t → total_of d t < 2 ^ 64
 total_fits d m t h k s = lt_of_lt_of_le (total_small d m t h k s) (most_fits d h)

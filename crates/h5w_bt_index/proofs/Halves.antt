@@ -8,7 +8,7 @@ use Rattle.h5w_model.specs.Trees.{capacity_of}
 use Rattle.h5w_bt.specs.declared.records.Record.{Record}
 use Rattle.h5w_bt_index.specs.Nodes.{Tree, rank}
 use Rattle.h5w_bt_index.specs.Puts.{put_record, put, settled, is_over, half, left_of, middle_of, right_of, raised}
-use Rattle.h5w_bt_index.specs.Sound.{IsSound, AtLeast}
+use Rattle.h5w_bt_index.specs.Sound.{IsShape, AtLeast}
 use Rattle.h5w_bt_index.proofs.Records.{put-longer, put-as_long}
 use Rattle.h5w_bt_index.proofs.Places.{at_place, inside_from, All-changed_at, All-in_two, All-taken, All-dropped}
 use Rattle.h5w_bt_index.proofs.Steps.{settled_over, settled_not, went_down, put_here, put_below, rank-inside, there, not_there, is_there}
@@ -36,12 +36,12 @@ right-half zero least t o h = half_dropped (capacity_of zero) t.records (ltb-tru
 right-half (suc d) least t o h =
     (half_dropped (capacity_of (suc d)) t.records (ltb-true (capacity_of (suc d)) (length t.records) o), All-dropped (AtLeast d (half d)) (suc (half (suc d))) t.children (h.1))
 
-pub put-half : (d least : ℕ) (x : Record) (t : Tree d) → IsSound d (capacity_of d) t → AtLeast d least t → AtLeast d least (put d x t)
+pub put-half : (d least : ℕ) (x : Record) (t : Tree d) → IsShape d (capacity_of d) t → AtLeast d least t → AtLeast d least (put d x t)
 put-half zero least x t s h = omega (arith, put-no_less x t.records, h)
 put-half (suc d) least x t s h = elim (is_there x.key t.records) [
   | there a e ↦ subst (AtLeast (suc d) least) (sym (put_here d x a t e)) (omega (arith, put-no_less x t.records, h.0), h.1)
   | not_there e ↦ subst (AtLeast (suc d) least) (sym (put_below d x t e))
-      (let w = on_the_way d x t s in go w (put-half d (half d) x w.child w.sound (at_place (AtLeast d (half d)) t.children (rank x.key t.records) w.child (h.1) w.before)) (is_over d (put d x w.child)) refl)
+      (let w = on_the_way d x t s in go w (put-half d (half d) x w.child w.shape (at_place (AtLeast d (half d)) t.children (rank x.key t.records) w.child (h.1) w.before)) (is_over d (put d x w.child)) refl)
 ]
   where
     go : (w : OnTheWay d x t) → AtLeast d (half d) (put d x w.child) → (o : Bool) → is_over d (put d x w.child) ≡ o → AtLeast (suc d) least (settled d (rank x.key t.records) (went_down d x t))

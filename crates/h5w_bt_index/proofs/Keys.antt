@@ -5,15 +5,15 @@ use Rattle.h5w_model.specs.declared.cell.Key.{Key}
 use Rattle.h5w_model.specs.Tables.{key_below, key_equal}
 
 -- by dimension 0, then 1
-abbrev Less : Key → Key → Type 0
+abbrev pub Less : Key → Key → Type 0
 Less a b = (a.i < b.i) ⊎ ((a.i ≡ b.i) × (a.j < b.j))
 
-below_from : (a b : Key) → Less a b → key_below a b ≡ true
+pub below_from : (a b : Key) → Less a b → key_below a b ≡ true
 below_from a b (inl h) = or_left (ltb a.i b.i) (eqb a.i b.i && ltb a.j b.j) (lt-ltb a.i b.i h)
 below_from a b (inr h) =
     or_right (ltb a.i b.i) (eqb a.i b.i && ltb a.j b.j) (and_from (eqb a.i b.i) (ltb a.j b.j) (eq-eqb a.i b.i (h.0)) (lt-ltb a.j b.j (h.1)))
 
-below_is : (a b : Key) → key_below a b ≡ true → Less a b
+pub below_is : (a b : Key) → key_below a b ≡ true → Less a b
 below_is a b h = elim (or_cases (ltb a.i b.i) (eqb a.i b.i && ltb a.j b.j) h) [
   | inl l ↦ inl (ltb-true a.i b.i l)
   | inr r ↦ (let p = and_parts (eqb a.i b.i) (ltb a.j b.j) r in inr (eqb-true a.i b.i (p.0), ltb-true a.j b.j (p.1)))

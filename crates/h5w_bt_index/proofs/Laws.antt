@@ -10,13 +10,14 @@ use Rattle.h5w_bt.specs.declared.records.Record.{Record}
 use Rattle.h5w_bt.specs.Parts.{record_of}
 use Rattle.h5w_bt_index.specs.Nodes.{Tree, all_records, records_of, address_in, found, total_of}
 use Rattle.h5w_bt_index.specs.Puts.{put_record, put, is_over, raised}
-use Rattle.h5w_bt_index.specs.Sound.{IsRising, IsSound, AtLeast}
+use Rattle.h5w_bt_index.specs.Sound.{IsRising, IsShape, IsSound, AtLeast}
 use Rattle.h5w_bt_index.specs.Marks.{Part, IsMarked}
-use Rattle.h5w_bt_index.specs.Index.{Index, records, address_of, regrown, inserted, IsIndex, IsHalfFull, IsClean, IsDeep, IsThere}
+use Rattle.h5w_bt_index.specs.Index.{Index, records, address_of, regrown, inserted, IsBlocked, IsIndex, IsShaped, IsHalfFull, IsClean, IsDeep, IsThere, found_address}
 use Rattle.h5w_bt_index.proofs.Keys.{equal-is}
 use Rattle.h5w_bt_index.proofs.Records.{under, here, past, side, in-under, in-here, in-past, put-finds_same, put-finds_other, put-rises}
 use Rattle.h5w_bt_index.proofs.Parts.{rebound, over-half, put_sound, raised_sound}
 use Rattle.h5w_bt_index.proofs.Grown.{IsGood, parts_records, put_records, found_is, total_is}
+use Rattle.h5w_bt_index.proofs.Shapes.{put_shape, raised_shape, shape_rebound, sound_shape}
 use Rattle.h5w_bt_index.proofs.Over.{over-blocked}
 use Rattle.h5w_bt_index.proofs.Places.{some_same, none_is_not}
 use Rattle.h5w_bt_index.proofs.Halves.{put-half, raised-half}
@@ -61,6 +62,10 @@ regrown-records d t s = go (is_over d t) refl
 good_of : (v : Index) → IsIndex v → IsGood v.depth v.root
 good_of v i = record { sound = i.sound; rises = i.rises }
 
+-- an index has the shape of a tree
+pub index_shaped : (v : Index) → IsIndex v → IsShaped v
+index_shaped v i = record { shallow = i.shallow; shape = sound_shape v.depth (capacity_of v.depth) v.root i.shallow i.sound; marked = i.marked }
+
 pub inserted-records : (x : Record) (v : Index) → IsIndex v → records (inserted x v) ≡ put_record x (records v)
 inserted-records x v i = regrown-records v.depth (put v.depth x v.root) (put_sound v.depth x v.root i.sound) ∙ put_records v.depth x v.root (good_of v i)
 
@@ -100,26 +105,44 @@ regrown-index d t h k s r m = go (is_over d t) refl
 
 pub inserted-index : (x : Record) (v : Index) → (is_over v.depth (put v.depth x v.root) ≡ true → v.depth ≤ 2) → IsIndex v → IsIndex (inserted x v)
 inserted-index x v k i = regrown-index v.depth (put v.depth x v.root) i.shallow k (put_sound v.depth x v.root i.sound)
-    (subst IsRising (sym (put_records v.depth x v.root (good_of v i))) (put-rises x (records v) i.rises)) (put-marked v.depth x v.root i.sound i.marked)
+    (subst IsRising (sym (put_records v.depth x v.root (good_of v i))) (put-rises x (records v) i.rises)) (put-marked v.depth x v.root (index_shaped v i).shape i.marked)
+
+regrown-shaped : (d : ℕ) (t : Tree d) → d ≤ 3 → (is_over d t ≡ true → d ≤ 2) → IsShape d (suc (capacity_of d)) t → IsMarked d t → IsShaped (regrown d t)
+regrown-shaped d t h k s m = go (is_over d t) refl
+  where
+    go : (o : Bool) → is_over d t ≡ o → IsShaped (regrown d t)
+    go true o = subst IsShaped (sym (regrown-over d t o)) (record {
+      shallow = omega (arith, k o);
+      shape = shape_rebound (suc d) 1 (capacity_of (suc d)) (raised d t) (room_some d (k o)) (raised_shape d t (k o) o s);
+      marked = raised-marked d t m;
+    })
+    go false o = subst IsShaped (sym (regrown-not d t o)) (record {
+      shallow = h;
+      shape = shape_rebound d (suc (capacity_of d)) (capacity_of d) t (ltb-false (capacity_of d) (length (records_of d t)) o) s;
+      marked = m;
+    })
+
+pub inserted-shaped : (x : Record) (v : Index) → (is_over v.depth (put v.depth x v.root) ≡ true → v.depth ≤ 2) → IsShaped v → IsShaped (inserted x v)
+inserted-shaped x v k i = regrown-shaped v.depth (put v.depth x v.root) i.shallow k (put_shape v.depth x v.root i.shallow i.shape) (put-marked v.depth x v.root i.shape i.marked)
 
 least_less : (d m n : ℕ) (t : Tree d) → n ≤ m → AtLeast d m t → AtLeast d n t
 least_less zero m n t h a = omega (arith, h, a)
 least_less (suc d) m n t h a = (omega (arith, h, a.0), a.1)
 
-pub inserted-half : (x : Record) (v : Index) → IsIndex v → IsHalfFull v → IsHalfFull (inserted x v)
+pub inserted-half : (x : Record) (v : Index) → IsShaped v → IsHalfFull v → IsHalfFull (inserted x v)
 inserted-half x v i h = go (is_over v.depth (put v.depth x v.root)) refl
   where
     go : (o : Bool) → is_over v.depth (put v.depth x v.root) ≡ o → IsHalfFull (regrown v.depth (put v.depth x v.root))
     go true o = subst IsHalfFull (sym (regrown-over v.depth (put v.depth x v.root) o))
-        (least_less (suc v.depth) 1 0 (raised v.depth (put v.depth x v.root)) (omega arith) (raised-half v.depth 0 (put v.depth x v.root) o (put-half v.depth 0 x v.root i.sound h)))
-    go false o = subst IsHalfFull (sym (regrown-not v.depth (put v.depth x v.root) o)) (put-half v.depth 0 x v.root i.sound h)
+        (least_less (suc v.depth) 1 0 (raised v.depth (put v.depth x v.root)) (omega arith) (raised-half v.depth 0 (put v.depth x v.root) o (put-half v.depth 0 x v.root i.shape h)))
+    go false o = subst IsHalfFull (sym (regrown-not v.depth (put v.depth x v.root) o)) (put-half v.depth 0 x v.root i.shape h)
 
-pub inserted-clean : (p : Part) (x : Record) (v : Index) → IsIndex v → IsClean p (inserted x v) → IsClean p v
+pub inserted-clean : (p : Part) (x : Record) (v : Index) → IsShaped v → IsClean p (inserted x v) → IsClean p v
 inserted-clean p x v i h = go (is_over v.depth (put v.depth x v.root)) refl h
   where
     go : (o : Bool) → is_over v.depth (put v.depth x v.root) ≡ o → IsClean p (regrown v.depth (put v.depth x v.root)) → IsClean p v
-    go true o h = put-clean p v.depth x v.root i.sound (raised-clean p v.depth (put v.depth x v.root) (subst (IsClean p) (regrown-over v.depth (put v.depth x v.root) o) h))
-    go false o h = put-clean p v.depth x v.root i.sound (subst (IsClean p) (regrown-not v.depth (put v.depth x v.root) o) h)
+    go true o h = put-clean p v.depth x v.root i.shape (raised-clean p v.depth (put v.depth x v.root) (subst (IsClean p) (regrown-over v.depth (put v.depth x v.root) o) h))
+    go false o h = put-clean p v.depth x v.root i.shape (subst (IsClean p) (regrown-not v.depth (put v.depth x v.root) o) h)
 
 -- ---- What the root of an index tells
 
@@ -129,14 +152,25 @@ finds v key i = found_is v.depth key v.root (good_of v i)
 pub counts : (v : Index) → IsIndex v → total_of v.depth v.root ≡ length (records v)
 counts v i = total_is v.depth (capacity_of v.depth) v.root i.sound
 
--- where the tree is not deep for a key, a record of it makes no tree of depth 4
-pub not_deep : (x : Record) (v : Index) → IsIndex v → (IsDeep v x.key → ⊥) → is_over v.depth (put v.depth x v.root) ≡ true → v.depth ≤ 2
-not_deep x v i n o =
-    let b = over-blocked v.depth x v.root i.sound o in
+-- where a key is not blocked, a record of it makes no tree of depth 4
+pub not_blocked : (x : Record) (v : Index) → IsShaped v → (IsBlocked v x.key → ⊥) → is_over v.depth (put v.depth x v.root) ≡ true → v.depth ≤ 2
+not_blocked x v i n o =
+    let b = over-blocked v.depth x v.root i.shape o in
     elim (cases_eq v.depth 3) [
-      | inl e ↦ absurd (n (record { absent = sym (finds v x.key i) ∙ b.absent; deepest = e; full = b.full }))
+      | inl e ↦ absurd (n (record { absent = b.absent; deepest = e; full = b.full }))
       | inr e ↦ omega (arith, i.shallow, e)
     ]
+
+-- of an index it is the same to say that no record is found and that there is none
+pub blocked_deep : (v : Index) (key : Key) → IsIndex v → IsBlocked v key → IsDeep v key
+blocked_deep v key i b = record { absent = sym (finds v key i) ∙ b.absent; deepest = b.deepest; full = b.full }
+
+pub deep_blocked : (v : Index) (key : Key) → IsIndex v → IsDeep v key → IsBlocked v key
+deep_blocked v key i d = record { absent = finds v key i ∙ d.absent; deepest = d.deepest; full = d.full }
+
+-- what the way finds is the address of the key
+pub address-found : (v : Index) (key : Key) → IsIndex v → found_address v key ≡ address_of v key
+address-found v key i = sym (in_leaf-is key (records v) ∙ ap (λ (o : Option ℕ). unwrap_or o undefined) (sym (finds v key i)))
 
 -- what is found, as an address that may be undefined
 pub found-address : (v : Index) (key : Key) (o : Option ℕ) → o ≡ address_in key (records v) → address_of v key ≡ unwrap_or o undefined

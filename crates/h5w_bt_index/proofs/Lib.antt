@@ -8,6 +8,7 @@ pub mod Parts
 pub mod Grown
 pub mod Children
 pub mod Bounds
+pub mod Shapes
 pub mod Over
 pub mod Halves
 pub mod Marks

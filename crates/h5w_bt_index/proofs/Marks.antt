@@ -6,7 +6,7 @@ use Rattle.h5w_model.specs.Trees.{capacity_of}
 use Rattle.h5w_bt.specs.declared.records.Record.{Record}
 use Rattle.h5w_bt_index.specs.Nodes.{Tree, rank}
 use Rattle.h5w_bt_index.specs.Puts.{put_record, changed_at, put, settled, is_over, half, left_of, right_of, raised}
-use Rattle.h5w_bt_index.specs.Sound.{IsSound}
+use Rattle.h5w_bt_index.specs.Sound.{IsShape}
 use Rattle.h5w_bt_index.specs.Marks.{Part, Some_of, IsCleanPart, IsMarked}
 use Rattle.h5w_bt_index.proofs.Places.{some_same, none_is_not, at_place, inside_from, All-changed_at, All-in_two, All-taken, All-dropped}
 use Rattle.h5w_bt_index.proofs.Steps.{settled_over, settled_not, went_down, put_here, put_below, there, not_there, is_there}
@@ -49,12 +49,12 @@ right-clean p zero t h = absurd (false≢true (h.0))
 right-clean p (suc d) t (inl h) = absurd (false≢true (h.0))
 right-clean p (suc d) t (inr h) = inr (some-dropped (IsCleanPart p d) (suc (half (suc d))) t.children h)
 
-pub put-clean : (p : Part) (d : ℕ) (x : Record) (t : Tree d) → IsSound d (capacity_of d) t → IsCleanPart p d (put d x t) → IsCleanPart p d t
+pub put-clean : (p : Part) (d : ℕ) (x : Record) (t : Tree d) → IsShape d (capacity_of d) t → IsCleanPart p d (put d x t) → IsCleanPart p d t
 put-clean p zero x t s h = absurd (false≢true (h.0))
 put-clean p (suc d) x t s h = elim (is_there x.key t.records) [
   | there a e ↦ same (subst (IsCleanPart p (suc d)) (put_here d x a t e) h)
   | not_there e ↦ (let w = on_the_way d x t s in
-      go w (put-clean p d x w.child w.sound) (is_over d (put d x w.child)) refl (subst (IsCleanPart p (suc d)) (put_below d x t e) h))
+      go w (put-clean p d x w.child w.shape) (is_over d (put d x w.child)) refl (subst (IsCleanPart p (suc d)) (put_below d x t e) h))
 ]
   where
     same : IsCleanPart p (suc d) (record t { records = put_record x t.records; clean = false }) → IsCleanPart p (suc d) t
@@ -90,12 +90,12 @@ pub right-marked : (d : ℕ) (t : Tree d) → IsMarked d t → IsMarked d (right
 right-marked zero t h = tt
 right-marked (suc d) t h = (λ e. absurd (false≢true e), All-dropped (IsMarked d) (suc (half (suc d))) t.children (h.1))
 
-pub put-marked : (d : ℕ) (x : Record) (t : Tree d) → IsSound d (capacity_of d) t → IsMarked d t → IsMarked d (put d x t)
+pub put-marked : (d : ℕ) (x : Record) (t : Tree d) → IsShape d (capacity_of d) t → IsMarked d t → IsMarked d (put d x t)
 put-marked zero x t s h = tt
 put-marked (suc d) x t s h = elim (is_there x.key t.records) [
   | there a e ↦ subst (IsMarked (suc d)) (sym (put_here d x a t e)) (λ e. absurd (false≢true e), h.1)
   | not_there e ↦ subst (IsMarked (suc d)) (sym (put_below d x t e))
-      (let w = on_the_way d x t s in go w (put-marked d x w.child w.sound (at_place (IsMarked d) t.children (rank x.key t.records) w.child (h.1) w.before)) (is_over d (put d x w.child)) refl)
+      (let w = on_the_way d x t s in go w (put-marked d x w.child w.shape (at_place (IsMarked d) t.children (rank x.key t.records) w.child (h.1) w.before)) (is_over d (put d x w.child)) refl)
 ]
   where
     go : (w : OnTheWay d x t) → IsMarked d (put d x w.child) → (o : Bool) → is_over d (put d x w.child) ≡ o → IsMarked (suc d) (settled d (rank x.key t.records) (went_down d x t))

@@ -29,19 +29,19 @@ pub few_of : (d m : ℕ) (t : Tree d) → IsSound d m t → length (records_of d
 few_of zero m t s = s
 few_of (suc d) m t s = s.few
 
-half_fits : (c : ℕ) → c / 2 ≤ c
+pub half_fits : (c : ℕ) → c / 2 ≤ c
 half_fits c = omega arith
 
-taken_both : {A B : Type 0} (h : ℕ) (rs : List A) (cs : List B) → length cs ≡ length rs + 1 → h < length rs → length (take (suc h) cs) ≡ length (take h rs) + 1
+pub taken_both : {A B : Type 0} (h : ℕ) (rs : List A) (cs : List B) → length cs ≡ length rs + 1 → h < length rs → length (take (suc h) cs) ≡ length (take h rs) + 1
 taken_both h rs cs n lt = omega (arith, length-take h rs, length-take (suc h) cs)
 
-dropped_both : {A B : Type 0} (h : ℕ) (rs : List A) (cs : List B) → length cs ≡ length rs + 1 → h < length rs → length (drop (suc h) cs) ≡ length (drop (suc h) rs) + 1
+pub dropped_both : {A B : Type 0} (h : ℕ) (rs : List A) (cs : List B) → length cs ≡ length rs + 1 → h < length rs → length (drop (suc h) cs) ≡ length (drop (suc h) rs) + 1
 dropped_both h rs cs n lt = omega (arith, length-drop (suc h) rs, length-drop (suc h) cs)
 
-taken_few : {A : Type 0} (h c : ℕ) (rs : List A) → h ≤ c → length (take h rs) ≤ c
+pub taken_few : {A : Type 0} (h c : ℕ) (rs : List A) → h ≤ c → length (take h rs) ≤ c
 taken_few h c rs n = omega (arith, length-take h rs)
 
-dropped_few : {A : Type 0} (h c : ℕ) (rs : List A) → length rs ≤ suc c → length (drop (suc h) rs) ≤ c
+pub dropped_few : {A : Type 0} (h c : ℕ) (rs : List A) → length rs ≤ suc c → length (drop (suc h) rs) ≤ c
 dropped_few h c rs n = omega (arith, length-drop (suc h) rs)
 
 pub left_sound : (d m : ℕ) (t : Tree d) → half d < length (records_of d t) → IsSound d m t → IsSound d (capacity_of d) (left_of d t)
@@ -68,7 +68,7 @@ over-half d t o = omega (arith, ltb-true (capacity_of d) (length (records_of d t
 
 -- ---- A child on the way changed, and divided where it has a record too many
 
-divided_long : {A : Type 0} (f : A → A) (i : ℕ) (xs : List A) (l r : A) → i < length xs → length (insert (set (changed_at i f xs) i l) (suc i) r) ≡ length xs + 1
+pub divided_long : {A : Type 0} (f : A → A) (i : ℕ) (xs : List A) (l r : A) → i < length xs → length (insert (set (changed_at i f xs) i l) (suc i) r) ≡ length xs + 1
 divided_long f i xs l r n =
     let e : length (set (changed_at i f xs) i l) ≡ length xs = length-set (changed_at i f xs) i l ∙ length-changed i f xs in
     length-insert (set (changed_at i f xs) i l) (suc i) r (omega (arith, n, e)) ∙ ap (λ (n : ℕ). n + 1) e

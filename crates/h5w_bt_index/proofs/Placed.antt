@@ -1,14 +1,14 @@
 -- A tree whose changed nodes got new places.
-use Rattle.std.proofs.Common.{◌≡◌, ℕ, zero, suc, ◌+◌, ◌≤◌, Bool, true, false, List, [], ◌∷◌, length, map, drop, refl, sym, ap, ap₂, subst, ◌∙◌, sum_by, if◌then◌else◌}
+use Rattle.std.proofs.Common.{◌≡◌, ℕ, zero, suc, ◌+◌, ◌<◌, ◌≤◌, ◌^◌, Bool, true, false, List, [], ◌∷◌, length, map, drop, refl, sym, ap, ap₂, subst, ◌∙◌, sum_by, if◌then◌else◌}
 use Rattle.std.proofs.lemmas.Bool.{cond-true}
 use Rattle.std.proofs.lemmas.List.Elements.{All-cons, All-head, All-tail, All-nil}
 use Rattle.std.proofs.lemmas.List.Sums.{sum_by-cons}
 use Rattle.std.specs.List.{All}
 use Rattle.h5w_bt.specs.declared.records.Record.{Record}
 use Rattle.h5w_bt_index.specs.Nodes.{Tree, all_records, joined, records_of, total_of}
-use Rattle.h5w_bt_index.specs.Sound.{AtLeast, IsRising, IsSound}
+use Rattle.h5w_bt_index.specs.Sound.{AtLeast, IsRising, IsShape, IsShapedChild, IsSound}
 use Rattle.h5w_bt_index.specs.Marks.{IsMarked, clean_of}
-use Rattle.h5w_bt_index.specs.Index.{Index, IsHalfFull, IsIndex, records}
+use Rattle.h5w_bt_index.specs.Index.{Index, IsHalfFull, IsIndex, IsShaped, records}
 use Rattle.h5w_bt_index.specs.Plans.{changes, each_by, placed, planned, stood}
 
 -- what holds of both holds of either
@@ -64,6 +64,16 @@ placed_sound (suc d) m ps t s =
       each = each_all (IsSound d _) (IsSound d _) (placed d) (changes d) ps t.children (λ qs c p. placed_sound d _ qs c p) s.each;
     })
 
+pub placed_shape : (d m : ℕ) (ps : List ℕ) (t : Tree d) → IsShape d m t → IsShape d m (placed d ps t)
+placed_shape zero m ps t s = subst (λ (l : List Record). length l ≤ m) (sym (placed_own zero ps t)) s
+placed_shape (suc d) m ps t s =
+    either (IsShape (suc d) m) t.clean _ _ (λ e. s) (λ e. record {
+      few = s.few;
+      children = each_length (placed d) (changes d) ps t.children ∙ s.children;
+      each = each_all (IsShapedChild d) (IsShapedChild d) (placed d) (changes d) ps t.children
+          (λ qs c p. (placed_shape d _ qs c p.0, subst (λ (n : ℕ). n < 256 ^ suc d) (sym (placed_total d qs c)) p.1)) s.each;
+    })
+
 pub placed_least : (d least : ℕ) (ps : List ℕ) (t : Tree d) → AtLeast d least t → AtLeast d least (placed d ps t)
 placed_least zero least ps t s = subst (λ (l : List Record). least ≤ length l) (sym (placed_own zero ps t)) s
 placed_least (suc d) least ps t s =
@@ -101,6 +111,13 @@ planned_index ps v i = record {
   shallow = i.shallow;
   sound = placed_sound v.depth _ ps v.root i.sound;
   rises = subst IsRising (sym (planned_records ps v)) i.rises;
+  marked = placed_marked v.depth ps v.root i.marked;
+}
+
+pub planned_shaped : (ps : List ℕ) (v : Index) → IsShaped v → IsShaped (planned ps v)
+planned_shaped ps v i = record {
+  shallow = i.shallow;
+  shape = placed_shape v.depth _ ps v.root i.shape;
   marked = placed_marked v.depth ps v.root i.marked;
 }
 

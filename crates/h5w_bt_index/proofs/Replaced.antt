@@ -8,15 +8,15 @@ use Rattle.h5w_space.specs.Space.{Space}
 use Rattle.h5w_bt.specs.declared.records.Record.{Record}
 use Rattle.h5w_bt_index.specs.Nodes.{Tree, address_in, found}
 use Rattle.h5w_bt_index.specs.Puts.{is_over, put, put_record, raised, settled, with_divided}
-use Rattle.h5w_bt_index.specs.Sound.{IsSound}
+use Rattle.h5w_bt_index.specs.Sound.{IsShape}
 use Rattle.h5w_bt_index.specs.Marks.{clean_of}
-use Rattle.h5w_bt_index.specs.Index.{Index, IsIndex, IsReplaced, IsThere, inserted, keys_of, records}
+use Rattle.h5w_bt_index.specs.Index.{Index, IsIndex, IsShaped, IsReplaced, IsThere, found_by, inserted, keys_of, records}
 use Rattle.h5w_bt_index.specs.Plans.{AllRead, IsTreePlan, placed, stood, writes_of, written}
 use Rattle.h5w_bt_index.proofs.Keys.{equal-is}
 use Rattle.h5w_bt_index.proofs.Records.{under, here, past, side, put-under, put-here, in-under, in-past, none_is_not_some, put-finds_other}
 use Rattle.h5w_bt_index.proofs.Steps.{is_there, there, not_there, put_here, put_below, went_down}
 use Rattle.h5w_bt_index.proofs.Over.{over-blocked}
-use Rattle.h5w_bt_index.proofs.Laws.{finds, inserted-clean, inserted-half, inserted-index, inserted-map, inserted-records, put-there, same-index}
+use Rattle.h5w_bt_index.proofs.Laws.{finds, index_shaped, inserted-clean, inserted-half, inserted-index, inserted-map, inserted-records, inserted-shaped, put-there, same-index}
 
 -- ---- Its key has a record
 
@@ -35,14 +35,14 @@ none_is_some None h e = let clash : false ≡ true = h in cc
 none_is_some (Some a) h e = absurd (none_is_not_some a e)
 
 -- so no node gets a record too many
-pub there_not_over : (d : ℕ) (x : Record) (t : Tree d) → IsSound d (capacity_of d) t → is_some (found d x.key t) ≡ true → is_over d (put d x t) ≡ false
+pub there_not_over : (d : ℕ) (x : Record) (t : Tree d) → IsShape d (capacity_of d) t → is_some (found d x.key t) ≡ true → is_over d (put d x t) ≡ false
 there_not_over d x t s h = elim (cases_Bool (is_over d (put d x t))) [
   | inl o ↦ absurd (none_is_some (found d x.key t) h (over-blocked d x t s o).absent)
   | inr o ↦ o
 ]
 
-pub replaced_index : (x : Record) (v : Index) (u : Tree v.depth) → IsIndex v → is_some (found v.depth x.key v.root) ≡ true → u ≡ put v.depth x v.root → record { depth = v.depth; root = u } ≡ inserted x v
-replaced_index x v u i h e = same-index x v u (there_not_over v.depth x v.root i.sound h) e
+pub replaced_index : (x : Record) (v : Index) (u : Tree v.depth) → IsShaped v → is_some (found v.depth x.key v.root) ≡ true → u ≡ put v.depth x v.root → record { depth = v.depth; root = u } ≡ inserted x v
+replaced_index x v u i h e = same-index x v u (there_not_over v.depth x v.root i.shape h) e
 
 -- ---- What changes, and what stays
 
@@ -91,7 +91,7 @@ inserted_there x v key i h none =
 pub is_replaced : (x : Record) (v : Index) → IsIndex v → IsThere v x.key → IsReplaced x v (inserted x v)
 is_replaced x v i h =
     let (a, e) = some_found (address_in x.key (records v)) h in
-    let n = there_not_over v.depth x v.root i.sound (there_found v x.key i h) in
+    let n = there_not_over v.depth x v.root (index_shaped v i).shape (there_found v x.key i h) in
     let same = same-index x v (put v.depth x v.root) n refl in
     record {
       map = λ key. inserted-map x v key i;
@@ -100,13 +100,29 @@ is_replaced x v i h =
       depth = ap (λ (u : Index). u.depth) (sym same);
       there = λ key h. inserted_there x v key i h;
       index = inserted-index x v (λ o. let clash : true ≡ false = sym o ∙ n in absurd cc) i;
-      half = inserted-half x v i;
-      clean = λ p. inserted-clean p x v i;
+      half = inserted-half x v (index_shaped v i);
+      clean = λ p. inserted-clean p x v (index_shaped v i);
       changed = subst (λ (u : Index). clean_of u.depth u.root ≡ false) same (put_changed v.depth x v.root);
     }
 
 pub replaced_so : (x : Record) (v w : Index) → IsIndex v → IsThere v x.key → w ≡ inserted x v → IsReplaced x v w
 replaced_so x v w i h e = subst (IsReplaced x v) (sym e) (is_replaced x v i h)
+
+-- ---- Whether a record is found or not
+
+-- of an index, what is found has a record
+pub found_has : (v : Index) (key : Key) (o : Option ℕ) → o ≡ found_by v key → is_some o ≡ true → IsIndex v → address_in key (records v) ≡ None → ⊥
+found_has v key o e h i n = none_is_some o h (e ∙ finds v key i ∙ n)
+
+-- a record that is found is put in its place, and the shape stays
+pub replaced_shaped : (x : Record) (v w : Index) → IsShaped v → is_some (found_by v x.key) ≡ true → w ≡ inserted x v → IsShaped w
+replaced_shaped x v w i h e =
+    let n = there_not_over v.depth x v.root i.shape h in
+    subst IsShaped (sym e) (inserted-shaped x v (λ o. let clash : true ≡ false = sym o ∙ n in absurd cc) i)
+
+-- of an index, what has a record is found
+pub not_missed : (v : Index) (key : Key) → IsIndex v → IsThere v key → found_by v key ≡ None → ⊥
+not_missed v key i h e = h (sym (finds v key i) ∙ e)
 
 -- ---- No node changed
 

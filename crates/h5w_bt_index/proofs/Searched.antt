@@ -8,7 +8,7 @@ use Rattle.h5w_bt_index.specs.Nodes.{Tree, rank, address_in, found}
 use Rattle.h5w_bt_index.specs.Puts.{is_full_path}
 use Rattle.h5w_bt_index.proofs.Steps.{found_here, found_below, full_below}
 
-none_of : (o : Option ℕ) → is_some o ≡ false → o ≡ None
+pub none_of : (o : Option ℕ) → is_some o ≡ false → o ≡ None
 none_of None h = refl
 none_of (Some a) h = absurd (no h)
   where

@@ -12,10 +12,10 @@ use Rattle.h5w_model.specs.Trees.{BthdFields, ChildFields, btin_at, btin_bytes, 
 use Rattle.h5w_model.specs.declared.piece.Write.{Write}
 use Rattle.h5w_bt.specs.Parts.{IsHeader, IsNode, IsPointer, record_of}
 use Rattle.h5w_bt_index.specs.Nodes.{Tree, records_of, total_of}
-use Rattle.h5w_bt_index.specs.Sound.{IsSound}
-use Rattle.h5w_bt_index.specs.Index.{Index, IsIndex}
+use Rattle.h5w_bt_index.specs.Sound.{IsShape, IsShapedChild}
+use Rattle.h5w_bt_index.specs.Index.{Index, IsShaped}
 use Rattle.h5w_bt_index.specs.Plans.{AllRead, EachBy, ReadsBack, block_of, changes, each_by, joined_blocks, node_bytes, padded, placed, pointer_of, stood, writes_of, written}
-use Rattle.h5w_bt_index.proofs.Bounds.{most_under, room_small, total_small}
+use Rattle.h5w_bt_index.proofs.Shapes.{shape_few}
 use Rattle.h5w_bt_index.proofs.Placed.{each_all, each_length, placed_own, placed_total}
 
 -- ---- Pointers
@@ -23,39 +23,25 @@ use Rattle.h5w_bt_index.proofs.Placed.{each_all, each_length, placed_own, placed
 abbrev each_placed : (d : ℕ) → List ℕ → List (Tree d) → List (Tree d)
 each_placed d ps cs = each_by (placed d) (changes d) ps cs
 
-most_is : (d : ℕ) → suc d ≤ 3 → most_under d ≤ 256 ^ suc d
-most_is zero h = omega arith
-most_is (suc zero) h = omega arith
-most_is (suc (suc zero)) h = omega arith
-most_is (suc (suc (suc d))) h = absurd (omega (arith, h))
-
 leaf_total : (d : ℕ) (t : Tree d) → suc d ≤ 1 → total_of d t ≡ length (records_of d t)
 leaf_total zero t h = refl
 leaf_total (suc d) t h = absurd (omega (arith, h))
 
-pointer_fits : (d : ℕ) (qs : List ℕ) (c : Tree d) → suc d ≤ 3 → IsSound d (capacity_of d) c → length (records_of d c) ≤ capacity_of d → IsPointer (suc d) (pointer_of d (placed d qs c))
-pointer_fits d qs c low s few =
+pointer_fits : (d : ℕ) (qs : List ℕ) (c : Tree d) → IsShapedChild d c → IsPointer (suc d) (pointer_of d (placed d qs c))
+pointer_fits d qs c s =
     let same : total_of d (placed d qs c) ≡ total_of d c = placed_total d qs c in
     let long : length (records_of d (placed d qs c)) ≡ length (records_of d c) = ap length (placed_own d qs c) in
-    let small : total_of d c < most_under d = total_small d (capacity_of d) c (omega (arith, low)) (omega (arith, room_small d (omega (arith, low)))) s in
     record {
-      few = subst (λ (k : ℕ). length (records_of d (placed d qs c)) ≤ capacity_of k) (let e : d ≡ suc d - 1 = omega arith in e) (subst (λ (n : ℕ). n ≤ capacity_of d) (sym long) few);
+      few = subst (λ (k : ℕ). length (records_of d (placed d qs c)) ≤ capacity_of k) (let e : d ≡ suc d - 1 = omega arith in e) (subst (λ (n : ℕ). n ≤ capacity_of d) (sym long) (shape_few d (capacity_of d) c s.0));
       leaf = λ h. same ∙ leaf_total d c h ∙ sym long;
-      inner = λ h. subst (λ (n : ℕ). n < 256 ^ suc d) (sym same) (below (total_of d c) (most_under d) (256 ^ suc d) small (most_is d low));
+      inner = λ h. subst (λ (n : ℕ). n < 256 ^ suc d) (sym same) s.1;
     }
-  where
-    below : (a b c : ℕ) → a < b → b ≤ c → a < c
-    below a b c h k = omega (arith, h, k)
-
-sound_few : (d m : ℕ) (t : Tree d) → IsSound d m t → length (records_of d t) ≤ m
-sound_few zero m t s = s
-sound_few (suc d) m t s = s.few
 
 all_pointers : (d : ℕ) (cs : List (Tree d)) (P : ChildFields → Type 0) → All (λ (c : Tree d). P (pointer_of d c)) cs → All P (map (pointer_of d) cs)
 all_pointers d cs P h = All-map P (pointer_of d) cs h
 
 -- an inner node with its children at their places can be written
-pub node_fits : (d n : ℕ) (ps : List ℕ) (t : Tree (suc d)) (cs : List ChildFields) → n ≡ suc d → suc d ≤ 3 → IsSound (suc d) (capacity_of (suc d)) t → cs ≡ map (pointer_of d) (each_placed d ps t.children)
+pub node_fits : (d n : ℕ) (ps : List ℕ) (t : Tree (suc d)) (cs : List ChildFields) → n ≡ suc d → suc d ≤ 3 → IsShape (suc d) (capacity_of (suc d)) t → cs ≡ map (pointer_of d) (each_placed d ps t.children)
     → IsNode n (record { records = map record_of t.records; children = cs })
 node_fits d n ps t cs e low s is =
     subst (λ (k : ℕ). IsNode k (record { records = map record_of t.records; children = cs })) (sym e)
@@ -65,7 +51,7 @@ node_fits d n ps t cs e low s is =
       few = subst (λ (k : ℕ). k ≤ capacity_of (suc d)) (sym (length-map t.records record_of)) s.few;
       count = length-map (each_placed d ps t.children) (pointer_of d) ∙ each_length (placed d) (changes d) ps t.children ∙ s.children ∙ ap (λ (k : ℕ). k + 1) (sym (length-map t.records record_of));
       pointers = all_pointers d (each_placed d ps t.children) (IsPointer (suc d))
-          (each_all (IsSound d (capacity_of d)) (λ (c : Tree d). IsPointer (suc d) (pointer_of d c)) (placed d) (changes d) ps t.children (λ qs c p. pointer_fits d qs c low p (sound_few d (capacity_of d) c p)) s.each);
+          (each_all (IsShapedChild d) (λ (c : Tree d). IsPointer (suc d) (pointer_of d c)) (placed d) (changes d) ps t.children (λ qs c p. pointer_fits d qs c p) s.each);
     }))
 
 -- ---- Writes
@@ -131,12 +117,12 @@ leaf_changes t n e h =
 -- ---- The header
 
 -- what it says can be written
-pub header_fits : (v : Index) (depth root records total : ℕ) → IsIndex v → depth ≡ v.depth → records ≡ length (records_of v.depth v.root) → IsHeader (record { depth = depth; root = root; records = records; total = total })
+pub header_fits : (v : Index) (depth root records total : ℕ) → IsShaped v → depth ≡ v.depth → records ≡ length (records_of v.depth v.root) → IsHeader (record { depth = depth; root = root; records = records; total = total })
 header_fits v depth root records total i e n = record {
   shallow = subst (λ (d : ℕ). d ≤ 3) (sym e) i.shallow;
-  few = subst (λ (d : ℕ). records ≤ capacity_of d) (sym e) (subst (λ (k : ℕ). k ≤ capacity_of v.depth) (sym n) (sound_few v.depth (capacity_of v.depth) v.root i.sound));
+  few = subst (λ (d : ℕ). records ≤ capacity_of d) (sym e) (subst (λ (k : ℕ). k ≤ capacity_of v.depth) (sym n) (shape_few v.depth (capacity_of v.depth) v.root i.shape));
 }
 
-pub planned_fits : (v : Index) (ps : List ℕ) (depth records : ℕ) (c : BthdFields) (root total : ℕ) → IsIndex v → depth ≡ v.depth → records ≡ length (records_of v.depth (placed v.depth ps v.root))
+pub planned_fits : (v : Index) (ps : List ℕ) (depth records : ℕ) (c : BthdFields) (root total : ℕ) → IsShaped v → depth ≡ v.depth → records ≡ length (records_of v.depth (placed v.depth ps v.root))
     → c ≡ record { depth = depth; root = root; records = records; total = total } → IsHeader c
 planned_fits v ps depth records c root total i e n is = subst IsHeader (sym is) (header_fits v depth root records total i e (n ∙ ap length (placed_own v.depth ps v.root)))

@@ -1,4 +1,5 @@
 -- A tree of any depth as a finite map from keys to addresses.
+use Rattle.std.specs.Option.{unwrap_or}
 use Rattle.std.specs.Prelude.{◌≡◌, ℕ, suc, ◌≤◌, ◌==◌, true, false, List, [], map, if◌then◌else◌, Option, Some, None}
 use Rattle.h5w_model.specs.declared.cell.Key.{Key}
 use Rattle.h5w_model.specs.Numbers.{undefined}
@@ -6,9 +7,9 @@ use Rattle.h5w_model.specs.Tables.{in_leaf, key_equal}
 use Rattle.h5w_model.specs.Trees.{capacity_of}
 use Rattle.h5w_bt.specs.declared.records.Record.{Record}
 use Rattle.h5w_bt.specs.Parts.{record_of}
-use Rattle.h5w_bt_index.specs.Nodes.{Tree, LeafNode, all_records, address_in}
+use Rattle.h5w_bt_index.specs.Nodes.{Tree, LeafNode, all_records, address_in, found}
 use Rattle.h5w_bt_index.specs.Puts.{put, put_record, is_over, is_full_path, raised}
-use Rattle.h5w_bt_index.specs.Sound.{IsRising, IsSound, AtLeast}
+use Rattle.h5w_bt_index.specs.Sound.{IsRising, IsShape, IsSound, AtLeast}
 use Rattle.h5w_bt_index.specs.Marks.{IsMarked, Part, IsCleanPart, clean_of}
 use Rattle.h5w_bt_index.specs.Typed.{leaf_of, inner_of}
 use Rattle.h5w_bt_index.specs.declared.root.Root.{Root}
@@ -48,12 +49,33 @@ regrown d t = if is_over d t then record { depth = suc d; root = raised d t } el
 abbrev pub inserted : Record → Index → Index
 inserted x v = regrown v.depth (put v.depth x v.root)
 
+-- what the way from the root finds for a key, in a tree of any file
+abbrev pub found_by : Index → Key → Option ℕ
+found_by v key = found v.depth key v.root
+
+abbrev pub found_address : Index → Key → ℕ
+found_address v key = unwrap_or (found_by v key) undefined
+
+-- no record of the key is found, and one more would make a tree of depth 4
+pub record IsBlocked (v : Index) (key : Key) : Type 0 where
+  pub absent : found_by v key ≡ None
+  pub deepest : v.depth ≡ 3
+  pub full : is_full_path v.depth key v.root ≡ true
+
 -- a record more would make a tree of depth 4
 pub record IsDeep (v : Index) (key : Key) : Type 0 where
   pub absent : address_in key (records v) ≡ None
   pub deepest : v.depth ≡ 3
   pub full : is_full_path v.depth key v.root ≡ true
 
+-- What holds of a tree of any file, and after each call: its depth, how many records and children each node has, and that a node that did
+-- not change has no child that changed.
+pub record IsShaped (v : Index) : Type 0 where
+  pub shallow : v.depth ≤ 3
+  pub shape : IsShape v.depth (capacity_of v.depth) v.root
+  pub marked : IsMarked v.depth v.root
+
+-- Keys rise besides, and each node says how many records are under it: the tree is the map of its records.
 pub record IsIndex (v : Index) : Type 0 where
   pub shallow : v.depth ≤ 3
   pub sound : IsSound v.depth (capacity_of v.depth) v.root

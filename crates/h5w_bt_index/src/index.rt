@@ -1,8 +1,8 @@
-ghost use Rattle.std.specs.Prelude.{◌≡◌, ◌≤◌, [], length, IsTrue, ◌↔◌, IfErr, IfOk, OnOk, OnErr, if◌then◌else◌};
-ghost use Rattle.std.specs.Option.{unwrap_or};
+ghost use Rattle.std.specs.Prelude.{◌≡◌, ◌≤◌, [], length, true, None, IsTrue, ◌↔◌, IfErr, IfOk, OnOk, OnErr, if◌then◌else◌};
+ghost use Rattle.std.specs.Option.{is_some, unwrap_or};
 ghost use Rattle.h5w_model.specs.Numbers.{undefined};
 ghost use Rattle.h5w_model.specs.Tables.{key_equal};
-ghost use Rattle.h5w_bt_index.specs.Index.{IsClean, IsDeep, IsHalfFull, IsIndex, IsReplaced, IsThere, address_of, defined, inserted, no_tree, records};
+ghost use Rattle.h5w_bt_index.specs.Index.{IsBlocked, IsClean, IsDeep, IsHalfFull, IsIndex, IsReplaced, IsShaped, IsThere, address_of, defined, found_address, found_by, index_of, inserted, no_tree, records};
 ghost use Rattle.h5w_cache.specs.Plans.{IfFull};
 ghost use Rattle.h5w_bt.specs.Fields.{bthd_of};
 ghost use Rattle.h5w_bt.specs.Parts.{IsHeader};
@@ -10,7 +10,7 @@ ghost use Rattle.h5w_bt_index.specs.Held.{header_place, view_of};
 ghost use Rattle.h5w_bt_index.specs.Plans.{HasNoPlace, IsBegun, IsTreePlan, changes, header_of};
 ghost use Rattle.h5w_bt_index.specs.Marks.{Part, clean_of};
 ghost use Rattle.h5w_space.specs.Space.{Space};
-ghost use Rattle.h5w_bt_index.specs.Nodes.{address_in, records_of};
+ghost use Rattle.h5w_bt_index.specs.Nodes.{address_in, records_of, total_of};
 ghost use Rattle.h5w_bt_index.specs.Puts.{put_record};
 
 use crate::error::InsertError;
@@ -35,6 +35,9 @@ fn given(found: Option<u64>) -> Option<u64>
 }
 
 /// The addresses of a dataset's chunks by their keys: a version 2 B-tree of depth 0 to 3.
+///
+/// Each call is safe on the tree of any file, and keeps its shape. Where keys rise and each node says how many records are under it, so they
+/// do afterwards, and the tree is the map of its records.
 #[derive(Drop)]
 pub struct TreeIndex {
     root: Root,
@@ -48,6 +51,7 @@ impl TreeIndex {
     pub fn new(alloc: Global, header: u64) -> TreeIndex
         ensures tree { view_of result ≡ no_tree }
         ensures place { header_place result ≡ header }
+        ensures shape { IsShaped (view_of result) }
         ensures index { IsIndex (view_of result) }
         ensures half { IsHalfFull (view_of result) }
     {
@@ -63,9 +67,22 @@ impl TreeIndex {
         }
     }
 
+    /// The index of a tree that stands already: its root, with all that is under it, and where its header stands.
+    pub fn standing(alloc: Global, header: u64, root: Root) -> TreeIndex
+        requires { IsShaped (index_of root) }
+        ensures tree { view_of result ≡ index_of root }
+        ensures place { header_place result ≡ header }
+    {
+        TreeIndex {
+            root,
+            header,
+            alloc,
+        }
+    }
+
     /// How deep the tree is, as its header says.
     pub fn depth(&self) -> u64
-        requires { IsIndex (view_of self.now) }
+        requires { IsShaped (view_of self.now) }
         ensures exact { result ≡ (view_of self.now).depth }
         ensures shallow { result ≤ 3 }
     {
@@ -81,15 +98,15 @@ impl TreeIndex {
 
     /// How many records the tree has, as the header says.
     pub fn total(&self) -> u64
-        requires { IsIndex (view_of self.now) }
-        ensures { result ≡ length (records (view_of self.now)) }
+        ensures said { result ≡ total_of (view_of self.now).depth (view_of self.now).root }
+        ensures counted { IsIndex (view_of self.now) → result ≡ length (records (view_of self.now)) }
     {
         self.root.total()
     }
 
     /// What its header says.
     pub fn header(&self) -> Bthd
-        requires { IsIndex (view_of self.now) }
+        requires { IsShaped (view_of self.now) }
         ensures exact { bthd_of result ≡ header_of (view_of self.now) }
         ensures form { IsHeader (bthd_of result) }
     {
@@ -103,24 +120,25 @@ impl TreeIndex {
 
     /// The address of the record of a key.
     fn find(&self, key: Key) -> Option<u64>
-        requires { IsIndex (view_of self.now) }
-        ensures { result ≡ address_in key (records (view_of self.now)) }
+        requires { IsShaped (view_of self.now) }
+        ensures { result ≡ found_by (view_of self.now) key }
     {
         self.root.find(key)
     }
 
     /// The address of a chunk; None where it has none.
     pub fn get(&self, key: Key) -> Option<u64>
-        requires { IsIndex (view_of self.now) }
-        ensures { result ≡ defined (address_of (view_of self.now) key) }
+        requires { IsShaped (view_of self.now) }
+        ensures found { result ≡ defined (found_address (view_of self.now) key) }
+        ensures exact { IsIndex (view_of self.now) → result ≡ defined (address_of (view_of self.now) key) }
     {
         given(self.find(key))
     }
 
     /// Whether a record of a key that has none would make a tree of depth 4.
     fn is_deep(&self, key: Key) -> bool
-        requires { IsIndex (view_of self.now) }
-        ensures { IsTrue result ↔ IsDeep (view_of self.now) key }
+        requires { IsShaped (view_of self.now) }
+        ensures { IsTrue result ↔ IsBlocked (view_of self.now) key }
     {
         match self.find(key) {
             Some(_) => false,
@@ -130,11 +148,12 @@ impl TreeIndex {
 
     /// Puts a record to its place.
     fn put(&mut self, item: Record) -> Result<(), InsertError>
-        requires { IsIndex (view_of self.old) }
-        ensures index { IsIndex (view_of self.new) }
+        requires { IsShaped (view_of self.old) }
+        ensures shape { IsShaped (view_of self.new) }
+        ensures index { IsIndex (view_of self.old) → IsIndex (view_of self.new) }
         ensures ok { OnOk result ((view_of self.new) ≡ inserted item (view_of self.old)) }
-        ensures deep { IfErr result (λ e. e ≡ InsertError.Deep → IsDeep (view_of self.old) item.key) }
-        ensures refused { IsDeep (view_of self.old) item.key → result ≡ Err InsertError.Deep }
+        ensures blocked { IfErr result (λ e. e ≡ InsertError.Deep → IsBlocked (view_of self.old) item.key) }
+        ensures refused { IsBlocked (view_of self.old) item.key → result ≡ Err InsertError.Deep }
         ensures kept { OnErr result ((view_of self.new) ≡ (view_of self.old)) }
         ensures place { header_place self.new ≡ header_place self.old }
     {
@@ -145,19 +164,21 @@ impl TreeIndex {
         Ok(())
     }
 
-    /// Gives a chunk an address. Deep comes exactly where the tree has no record of the key, depth 3, and no room on the way to the key:
-    /// then, and where memory ends, nothing changed.
+    /// Gives a chunk an address. Deep comes exactly where no record of the key is found, and the tree has depth 3 and no room on the way to
+    /// the key: then, and where memory ends, nothing changed.
     pub fn insert(&mut self, key: Key, address: u64) -> Result<(), InsertError>
-        requires index { IsIndex (view_of self.old) }
+        requires shape { IsShaped (view_of self.old) }
         requires defined { address ≡ undefined → ⊥ }
-        ensures index { IsIndex (view_of self.new) }
+        ensures shape { IsShaped (view_of self.new) }
+        ensures index { IsIndex (view_of self.old) → IsIndex (view_of self.new) }
         ensures ok { OnOk result ((view_of self.new) ≡ inserted (record { address = address; key = key }) (view_of self.old)) }
-        ensures map { OnOk result ((k : Key) → address_of (view_of self.new) k ≡ (if key_equal key k then address else address_of (view_of self.old) k)) }
-        ensures sorted { OnOk result (records (view_of self.new) ≡ put_record (record { address = address; key = key }) (records (view_of self.old))) }
+        ensures map { IsIndex (view_of self.old) → OnOk result ((k : Key) → address_of (view_of self.new) k ≡ (if key_equal key k then address else address_of (view_of self.old) k)) }
+        ensures sorted { IsIndex (view_of self.old) → OnOk result (records (view_of self.new) ≡ put_record (record { address = address; key = key }) (records (view_of self.old))) }
         ensures half { OnOk result (IsHalfFull (view_of self.old) → IsHalfFull (view_of self.new)) }
         ensures clean { OnOk result ((p : Part) → IsClean p (view_of self.new) → IsClean p (view_of self.old)) }
-        ensures deep { IfErr result (λ e. e ≡ InsertError.Deep → IsDeep (view_of self.old) key) }
-        ensures refused { IsDeep (view_of self.old) key → result ≡ Err InsertError.Deep }
+        ensures blocked { IfErr result (λ e. e ≡ InsertError.Deep → IsBlocked (view_of self.old) key) }
+        ensures refused { IsBlocked (view_of self.old) key → result ≡ Err InsertError.Deep }
+        ensures deep { IsIndex (view_of self.old) → (IsBlocked (view_of self.old) key ↔ IsDeep (view_of self.old) key) }
         ensures kept { OnErr result ((view_of self.new) ≡ (view_of self.old)) }
         ensures place { header_place self.new ≡ header_place self.old }
     {
@@ -167,16 +188,20 @@ impl TreeIndex {
     /// Holds a place for a chunk: a record of its key is there then, with an undefined address where it was not there before. What each
     /// key gives stays.
     pub fn hold(&mut self, key: Key) -> Result<(), InsertError>
-        requires { IsIndex (view_of self.old) }
-        ensures index { IsIndex (view_of self.new) }
-        ensures there { OnOk result (IsThere (view_of self.new) key) }
-        ensures map { OnOk result ((k : Key) → address_of (view_of self.new) k ≡ address_of (view_of self.old) k) }
-        ensures same { OnOk result (IsThere (view_of self.old) key → (view_of self.new) ≡ (view_of self.old)) }
-        ensures new { OnOk result (address_in key (records (view_of self.old)) ≡ None → (view_of self.new) ≡ inserted (record { address = undefined; key = key }) (view_of self.old)) }
+        requires { IsShaped (view_of self.old) }
+        ensures shape { IsShaped (view_of self.new) }
+        ensures index { IsIndex (view_of self.old) → IsIndex (view_of self.new) }
+        ensures there { IsIndex (view_of self.old) → OnOk result (IsThere (view_of self.new) key) }
+        ensures map { IsIndex (view_of self.old) → OnOk result ((k : Key) → address_of (view_of self.new) k ≡ address_of (view_of self.old) k) }
+        ensures kept_found { OnOk result (is_some (found_by (view_of self.old) key) ≡ true → (view_of self.new) ≡ (view_of self.old)) }
+        ensures new_found { OnOk result (found_by (view_of self.old) key ≡ None → (view_of self.new) ≡ inserted (record { address = undefined; key = key }) (view_of self.old)) }
+        ensures same { IsIndex (view_of self.old) → OnOk result (IsThere (view_of self.old) key → (view_of self.new) ≡ (view_of self.old)) }
+        ensures new { IsIndex (view_of self.old) → OnOk result (address_in key (records (view_of self.old)) ≡ None → (view_of self.new) ≡ inserted (record { address = undefined; key = key }) (view_of self.old)) }
         ensures half { OnOk result (IsHalfFull (view_of self.old) → IsHalfFull (view_of self.new)) }
         ensures clean { OnOk result ((p : Part) → IsClean p (view_of self.new) → IsClean p (view_of self.old)) }
-        ensures deep { IfErr result (λ e. e ≡ InsertError.Deep → IsDeep (view_of self.old) key) }
-        ensures refused { IsDeep (view_of self.old) key → result ≡ Err InsertError.Deep }
+        ensures blocked { IfErr result (λ e. e ≡ InsertError.Deep → IsBlocked (view_of self.old) key) }
+        ensures refused { IsBlocked (view_of self.old) key → result ≡ Err InsertError.Deep }
+        ensures deep { IsIndex (view_of self.old) → (IsBlocked (view_of self.old) key ↔ IsDeep (view_of self.old) key) }
         ensures kept { OnErr result ((view_of self.new) ≡ (view_of self.old)) }
         ensures place { header_place self.new ≡ header_place self.old }
     {
@@ -189,39 +214,53 @@ impl TreeIndex {
         })
     }
 
-    /// Puts a record in the place of the one with its key, which is there. Takes no memory.
+    /// Puts a record in the place of the one with its key; where none is found, nothing changes. Takes no memory.
     fn replace(&mut self, item: Record)
-        requires index { IsIndex (view_of self.old) }
-        requires there { IsThere (view_of self.old) item.key }
-        ensures exact { view_of self.new ≡ inserted item (view_of self.old) }
-        ensures replaced { IsReplaced item (view_of self.old) (view_of self.new) }
+        requires shape { IsShaped (view_of self.old) }
+        requires there { IsIndex (view_of self.old) → IsThere (view_of self.old) item.key }
+        ensures shape { IsShaped (view_of self.new) }
+        ensures found { is_some (found_by (view_of self.old) item.key) ≡ true → view_of self.new ≡ inserted item (view_of self.old) }
+        ensures absent { found_by (view_of self.old) item.key ≡ None → view_of self.new ≡ view_of self.old }
+        ensures exact { IsIndex (view_of self.old) → view_of self.new ≡ inserted item (view_of self.old) }
+        ensures replaced { IsIndex (view_of self.old) → IsReplaced item (view_of self.old) (view_of self.new) }
         ensures place { header_place self.new ≡ header_place self.old }
     {
+        if self.find(item.key).is_none() {
+            return; // keys that do not rise: no way leads to the record
+        }
         self.root.replace(item);
     }
 
-    /// A chunk, of whose key there is a record, has this address from now on, and each other one that which it had.
+    /// A chunk, of whose key there is a record, has this address from now on, and each other one that which it had. Where keys do not rise,
+    /// and no record of the key is found, nothing changes.
     ///
     /// It takes no memory, and cannot fail.
     pub fn set(&mut self, key: Key, address: u64)
-        requires index { IsIndex (view_of self.old) }
-        requires there { IsThere (view_of self.old) key }
+        requires shape { IsShaped (view_of self.old) }
+        requires there { IsIndex (view_of self.old) → IsThere (view_of self.old) key }
         requires defined { address ≡ undefined → ⊥ }
-        ensures exact { view_of self.new ≡ inserted (record { address = address; key = key }) (view_of self.old) }
-        ensures set { IsReplaced (record { address = address; key = key }) (view_of self.old) (view_of self.new) }
+        ensures shape { IsShaped (view_of self.new) }
+        ensures found { is_some (found_by (view_of self.old) key) ≡ true → view_of self.new ≡ inserted (record { address = address; key = key }) (view_of self.old) }
+        ensures absent { found_by (view_of self.old) key ≡ None → view_of self.new ≡ view_of self.old }
+        ensures exact { IsIndex (view_of self.old) → view_of self.new ≡ inserted (record { address = address; key = key }) (view_of self.old) }
+        ensures set { IsIndex (view_of self.old) → IsReplaced (record { address = address; key = key }) (view_of self.old) (view_of self.new) }
         ensures place { header_place self.new ≡ header_place self.old }
     {
         self.replace(Record { address, key });
     }
 
-    /// A chunk, of whose key there is a record, has no address from now on, and each other one that which it had. The record stays.
+    /// A chunk, of whose key there is a record, has no address from now on, and each other one that which it had. The record stays. Where
+    /// keys do not rise, and no record of the key is found, nothing changes.
     ///
     /// It takes no memory, and cannot fail.
     pub fn unset(&mut self, key: Key)
-        requires index { IsIndex (view_of self.old) }
-        requires there { IsThere (view_of self.old) key }
-        ensures exact { view_of self.new ≡ inserted (record { address = undefined; key = key }) (view_of self.old) }
-        ensures unset { IsReplaced (record { address = undefined; key = key }) (view_of self.old) (view_of self.new) }
+        requires shape { IsShaped (view_of self.old) }
+        requires there { IsIndex (view_of self.old) → IsThere (view_of self.old) key }
+        ensures shape { IsShaped (view_of self.new) }
+        ensures found { is_some (found_by (view_of self.old) key) ≡ true → view_of self.new ≡ inserted (record { address = undefined; key = key }) (view_of self.old) }
+        ensures absent { found_by (view_of self.old) key ≡ None → view_of self.new ≡ view_of self.old }
+        ensures exact { IsIndex (view_of self.old) → view_of self.new ≡ inserted (record { address = undefined; key = key }) (view_of self.old) }
+        ensures unset { IsIndex (view_of self.old) → IsReplaced (record { address = undefined; key = key }) (view_of self.old) (view_of self.new) }
         ensures place { header_place self.new ≡ header_place self.old }
     {
         self.replace(Record {
@@ -241,7 +280,7 @@ impl TreeIndex {
 
     /// Begins the plan of all changed nodes: takes all memory and places that [`TreeIndex::finish`] needs, and changes nothing.
     pub fn begin(&self, places: &Places) -> Result<Begun, PlanError>
-        requires { IsIndex (view_of self.now) }
+        requires { IsShaped (view_of self.now) }
         ensures begun { IfOk result (λ b. IsBegun (header_place self.now) (view_of self.now) places.now b) }
         // the first node in turn that has no place
         ensures full { IfErr result (λ e. IfFull e (HasNoPlace (changes (view_of self.now).depth (view_of self.now).root) places.now)) }
@@ -254,10 +293,11 @@ impl TreeIndex {
     ///
     /// It cannot fail.
     pub fn finish(&mut self, places: &mut Places, begun: Begun) -> Plan
-        requires index { IsIndex (view_of self.old) }
+        requires shape { IsShaped (view_of self.old) }
         requires begun { IsBegun (header_place self.old) (view_of self.old) places.old begun }
         ensures planned { IsTreePlan (header_place self.old) (view_of self.old) places.old result.moves.items result.copies.items result.in_place.items (view_of self.new) places.new }
-        ensures index { IsIndex (view_of self.new) }
+        ensures shape { IsShaped (view_of self.new) }
+        ensures index { IsIndex (view_of self.old) → IsIndex (view_of self.new) }
         ensures half { IsHalfFull (view_of self.old) → IsHalfFull (view_of self.new) }
         ensures place { header_place self.new ≡ header_place self.old }
         // as it was begun
@@ -274,9 +314,10 @@ impl TreeIndex {
     ///
     /// A refused plan changes nothing.
     pub fn plan(&mut self, places: &mut Places) -> Result<Plan, PlanError>
-        requires { IsIndex (view_of self.old) }
+        requires { IsShaped (view_of self.old) }
         ensures planned { IfOk result (λ p. IsTreePlan (header_place self.old) (view_of self.old) places.old p.moves.items p.copies.items p.in_place.items (view_of self.new) places.new) }
-        ensures index { IsIndex (view_of self.new) }
+        ensures shape { IsShaped (view_of self.new) }
+        ensures index { IsIndex (view_of self.old) → IsIndex (view_of self.new) }
         ensures half { IsHalfFull (view_of self.old) → IsHalfFull (view_of self.new) }
         ensures place { header_place self.new ≡ header_place self.old }
         // the first node in turn that has no place

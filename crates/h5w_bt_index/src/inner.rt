@@ -3,7 +3,7 @@ ghost use Rattle.std.specs.List.{All, insert, sum_by};
 ghost use Rattle.h5w_model.specs.Trees.{capacity_of};
 ghost use Rattle.h5w_bt_index.specs.Nodes.{Tree, address_in, found, rank, records_of, total_of};
 ghost use Rattle.h5w_bt_index.specs.Puts.{changed_node, is_over, left_of, middle_of, put, right_of, settled};
-ghost use Rattle.h5w_bt_index.specs.Sound.{IsSound};
+ghost use Rattle.h5w_bt_index.specs.Sound.{IsShape, IsShapedChild};
 ghost use Rattle.h5w_bt_index.specs.Plans.{AllRead, EachBy, changes, each_by, joined_blocks, placed, pointer_of, stood, writes_of, written};
 ghost use Rattle.h5w_bt.specs.Parts.{child_of};
 
@@ -76,7 +76,7 @@ fn write_below<C: Subtree>(
     out: &mut Vec<Write>,
 ) -> Result<(usize, Vec<Child>), OutOfMemory>
     requires shallow { C.depth ≤ 3 }
-    requires sound { All (IsSound C.depth (capacity_of C.depth)) (map C.tree children.now.items) }
+    requires shape { All (IsShapedChild C.depth) (map C.tree children.now.items) }
     requires enough { length (flat_map (stood C.depth) (map C.tree children.now.items)) ≤ length places.now }
     requires ends { All (λ (p : ℕ). p + 2048 < 2 ^ 64) places.now }
     ensures count { IfOk result (λ r. r.0 ≡ length (flat_map (stood C.depth) (map C.tree children.now.items))) }
@@ -162,7 +162,7 @@ impl<C: Subtree> Inner<C> {
         requires shallow { C.depth ≤ 3 }
         requires inside { at < length self.old.children.items }
         requires place { at ≤ length self.old.records.items }
-        requires sound { (c : Tree C.depth) → slice_get (map C.tree self.old.children.items) at ≡ Some c → IsSound C.depth (suc (capacity_of C.depth)) c }
+        requires shape { (c : Tree C.depth) → slice_get (map C.tree self.old.children.items) at ≡ Some c → IsShape C.depth (suc (capacity_of C.depth)) c }
         requires over { (c : Tree C.depth) → slice_get (map C.tree self.old.children.items) at ≡ Some c → is_over C.depth c ≡ true }
         requires roomy { C.roomy right }
         requires room { vec_len self.old.records < vec_capacity self.old.records }
@@ -183,7 +183,7 @@ impl<C: Subtree> Inner<C> {
         requires shallow { C.depth ≤ 3 }
         requires inside { at < length self.old.children.items }
         requires place { at ≤ length self.old.records.items }
-        requires sound { (c : Tree C.depth) → slice_get (map C.tree self.old.children.items) at ≡ Some c → IsSound C.depth (suc (capacity_of C.depth)) c }
+        requires shape { (c : Tree C.depth) → slice_get (map C.tree self.old.children.items) at ≡ Some c → IsShape C.depth (suc (capacity_of C.depth)) c }
         requires spare { (c : Tree C.depth) → slice_get (map C.tree self.old.children.items) at ≡ Some c → is_over C.depth c ≡ true → is_some spare ≡ true }
         requires roomy { IfSome spare C.roomy }
         requires room { vec_len self.old.records < vec_capacity self.old.records }
@@ -203,7 +203,7 @@ impl<C: Subtree> Inner<C> {
     /// Puts a record that the node itself does not have into the child at its place.
     fn put_below(&mut self, at: usize, item: Record) -> Result<(), OutOfMemory>
         requires shallow { suc C.depth ≤ 3 }
-        requires sound { IsSound (suc C.depth) (capacity_of (suc C.depth)) (inner_of C.depth C.tree self.old) }
+        requires shape { IsShape (suc C.depth) (capacity_of (suc C.depth)) (inner_of C.depth C.tree self.old) }
         requires place { at ≡ rank item.key self.old.records.items }
         requires new { address_in item.key self.old.records.items ≡ None }
         ensures ok { OnOk result (inner_of C.depth C.tree self.new ≡ put (suc C.depth) item (inner_of C.depth C.tree self.old)) }
@@ -228,7 +228,7 @@ impl<C: Subtree> Inner<C> {
     /// Puts a record that the node itself does not have in the place of the one with its key, in the child at a place.
     fn replace_below(&mut self, at: usize, item: Record)
         requires shallow { suc C.depth ≤ 3 }
-        requires sound { IsSound (suc C.depth) (capacity_of (suc C.depth)) (inner_of C.depth C.tree self.old) }
+        requires shape { IsShape (suc C.depth) (capacity_of (suc C.depth)) (inner_of C.depth C.tree self.old) }
         requires place { at ≡ rank item.key self.old.records.items }
         requires new { address_in item.key self.old.records.items ≡ None }
         requires there { is_some (found (suc C.depth) item.key (inner_of C.depth C.tree self.old)) ≡ true }

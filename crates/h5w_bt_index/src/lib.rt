@@ -18,4 +18,8 @@ mod subtree;
 pub use error::InsertError;
 pub use h5w_bt::Key;
 pub use index::TreeIndex;
+pub use inner::Inner;
+pub use leaf::Leaf;
 pub use plan::Begun;
+pub use root::Root;
+pub use subtree::Subtree;

@@ -4,7 +4,7 @@ ghost use Rattle.std.specs.Prelude.{◌≡◌, ℕ, ◌+◌, ◌<◌, ◌≤◌,
 ghost use Rattle.std.specs.List.{All};
 ghost use Rattle.h5w_cache.specs.Plans.{AreRetired, IfFull, IsRefused};
 ghost use Rattle.h5w_bt.specs.Fields.{bthd_of};
-ghost use Rattle.h5w_bt_index.specs.Index.{IsIndex, index_of};
+ghost use Rattle.h5w_bt_index.specs.Index.{IsShaped, index_of};
 ghost use Rattle.h5w_bt_index.specs.Plans.{AllRead, AreNodeMoves, AreTaken, HasNoPlace, IsBegun, IsNodeMove, changes, header_writes, news, olds, planned, stood, writes_of, written};
 
 use crate::bytes::put_header;
@@ -139,7 +139,7 @@ fn writes_at(
     place: u64,
     places: &Vec<u64>,
 ) -> Result<(Vec<Write>, Vec<Write>), OutOfMemory>
-    requires index { IsIndex (index_of root.now) }
+    requires shape { IsShaped (index_of root.now) }
     requires enough { changes (index_of root.now).depth (index_of root.now).root ≤ length places.now.items }
     requires ends { All (λ (p : ℕ). p + 2048 < 2 ^ 64) places.now.items }
     ensures copies { IfOk result (λ r. r.0.items ≡ writes_of (written (index_of root.now).depth places.now.items (index_of root.now).root)) }
@@ -157,7 +157,7 @@ fn writes_at(
 
 /// All that a plan of the changed nodes needs.
 pub fn begin(root: &Root, place: u64, alloc: Global, places: &Places) -> Result<Begun, PlanError>
-    requires { IsIndex (index_of root.now) }
+    requires { IsShaped (index_of root.now) }
     ensures begun { IfOk result (λ b. IsBegun place (index_of root.now) places.now b) }
     ensures full { IfErr result (λ e. IfFull e (HasNoPlace (changes (index_of root.now).depth (index_of root.now).root) places.now)) }
 {

@@ -3,10 +3,10 @@
 ghost use Rattle.std.specs.Prelude.{◌≡◌, ℕ, suc, ◌+◌, ◌<◌, ◌≤◌, ◌^◌, ◌++◌, true, false, length, IfOk, IfSome, is_some, IsTrue, ◌↔◌, OnOk, OnErr, MatchOption};
 ghost use Rattle.std.specs.List.{All};
 ghost use Rattle.h5w_model.specs.Trees.{capacity_of};
-ghost use Rattle.h5w_bt_index.specs.Index.{IsIndex, index_of, inserted};
+ghost use Rattle.h5w_bt_index.specs.Index.{IsShaped, index_of, inserted};
 ghost use Rattle.h5w_bt_index.specs.Nodes.{found, records_of, total_of};
 ghost use Rattle.h5w_bt_index.specs.Puts.{is_full_path, is_over, put, raised};
-ghost use Rattle.h5w_bt_index.specs.Sound.{IsSound};
+ghost use Rattle.h5w_bt_index.specs.Sound.{IsShape};
 ghost use Rattle.h5w_bt_index.specs.Typed.{IsRoomyInner, inner_of};
 ghost use Rattle.h5w_bt_index.specs.Plans.{AllRead, changes, place_of, placed, planned, pointer_of, stood, writes_of, written};
 ghost use Rattle.h5w_bt_index.specs.Marks.{clean_of};
@@ -55,7 +55,7 @@ fn spare_for<C: Subtree>(root: &C, alloc: Global) -> Result<Option<Spare<C>>, Ou
 /// A new root above the two parts of one that has a record too many.
 fn raise<C: Subtree>(root: &mut C, spare: Spare<C>, alloc: Global) -> Inner<C>
     requires shallow { C.depth ≤ 2 }
-    requires sound { IsSound C.depth (suc (capacity_of C.depth)) (C.tree root.old) }
+    requires shape { IsShape C.depth (suc (capacity_of C.depth)) (C.tree root.old) }
     requires over { is_over C.depth (C.tree root.old) ≡ true }
     requires right { C.roomy spare.right }
     requires above { IsRoomyInner spare.above }
@@ -89,7 +89,7 @@ fn put_at_root<C: Subtree>(
     alloc: Global,
 ) -> Result<Option<Inner<C>>, OutOfMemory>
     requires shallow { C.depth ≤ 2 }
-    requires sound { IsSound C.depth (capacity_of C.depth) (C.tree root.old) }
+    requires shape { IsShape C.depth (capacity_of C.depth) (C.tree root.old) }
     ensures ok { IfOk result (λ o. MatchOption o
         ((is_over C.depth (put C.depth item (C.tree root.old)) ≡ false) × (C.tree root.new ≡ put C.depth item (C.tree root.old)))
         (λ r. (is_over C.depth (put C.depth item (C.tree root.old)) ≡ true) × (inner_of C.depth C.tree r ≡ raised C.depth (put C.depth item (C.tree root.old))))) }
@@ -145,7 +145,7 @@ impl Root {
 
     /// The address of the record with this key.
     pub fn find(&self, key: Key) -> Option<u64>
-        requires { IsIndex (index_of self.now) }
+        requires { IsShaped (index_of self.now) }
         ensures { result ≡ found (index_of self.now).depth key (index_of self.now).root }
     {
         match self {
@@ -158,7 +158,7 @@ impl Root {
 
     /// Whether the tree has depth 3 and each node on the way to this key is full.
     pub fn is_deepest(&self, key: Key) -> bool
-        requires { IsIndex (index_of self.now) }
+        requires { IsShaped (index_of self.now) }
         ensures { IsTrue result ↔ (((index_of self.now).depth ≡ 3) × (is_full_path (index_of self.now).depth key (index_of self.now).root ≡ true)) }
     {
         match self {
@@ -169,7 +169,7 @@ impl Root {
 
     /// Puts a record to its place, or in the place of the one with its key.
     pub fn put(&mut self, item: Record, alloc: Global) -> Result<(), OutOfMemory>
-        requires index { IsIndex (index_of self.old) }
+        requires shape { IsShaped (index_of self.old) }
         requires shallow { is_over (index_of self.old).depth (put (index_of self.old).depth item (index_of self.old).root) ≡ true → (index_of self.old).depth ≤ 2 }
         ensures ok { OnOk result (index_of self.new ≡ inserted item (index_of self.old)) }
         ensures err { OnErr result (index_of self.new ≡ index_of self.old) }
@@ -199,7 +199,7 @@ impl Root {
 
     /// Puts a record in the place of the one with its key, which is there. Takes no memory.
     pub fn replace(&mut self, item: Record)
-        requires index { IsIndex (index_of self.old) }
+        requires shape { IsShaped (index_of self.old) }
         requires there { is_some (found (index_of self.old).depth item.key (index_of self.old).root) ≡ true }
         ensures { index_of self.new ≡ inserted item (index_of self.old) }
     {
@@ -250,7 +250,7 @@ impl Root {
     /// Adds the writes of changed nodes at these places, children first. Answers how many nodes that are, and the pointer to the root
     /// then.
     pub fn write(&self, places: &[u64], out: &mut Vec<Write>) -> Result<(usize, Child), OutOfMemory>
-        requires index { IsIndex (index_of self.now) }
+        requires shape { IsShaped (index_of self.now) }
         requires enough { changes (index_of self.now).depth (index_of self.now).root ≤ length places.now }
         requires ends { All (λ (p : ℕ). p + 2048 < 2 ^ 64) places.now }
         ensures pointer { IfOk result (λ r. child_of r.1 ≡ pointer_of (index_of self.now).depth (placed (index_of self.now).depth places.now (index_of self.now).root)) }

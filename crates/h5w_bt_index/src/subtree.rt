@@ -5,7 +5,7 @@ ghost use Rattle.std.specs.List.{All};
 ghost use Rattle.h5w_model.specs.Trees.{capacity_of};
 ghost use Rattle.h5w_bt_index.specs.Nodes.{found, records_of, total_of};
 ghost use Rattle.h5w_bt_index.specs.Puts.{is_full_path, is_over, left_of, middle_of, put, right_of};
-ghost use Rattle.h5w_bt_index.specs.Sound.{IsSound};
+ghost use Rattle.h5w_bt_index.specs.Sound.{IsShape};
 ghost use Rattle.h5w_bt_index.specs.Plans.{AllRead, changes, placed, pointer_of, stood, writes_of, written};
 ghost use Rattle.h5w_bt.specs.Parts.{child_of};
 
@@ -47,33 +47,33 @@ pub trait Subtree: Drop {
 
     /// The address of the record with this key.
     fn find(&self, key: Key) -> Option<u64>
-        requires { IsSound depth (capacity_of depth) (tree self.now) }
+        requires { IsShape depth (capacity_of depth) (tree self.now) }
         ensures { result ≡ found depth key (tree self.now) };
 
     /// Whether each node on the way to this key is full.
     fn is_full_path(&self, key: Key) -> bool
         requires shallow { depth ≤ 3 }
-        requires sound { IsSound depth (capacity_of depth) (tree self.now) }
+        requires shape { IsShape depth (capacity_of depth) (tree self.now) }
         ensures { result ≡ is_full_path depth key (tree self.now) };
 
     /// Puts a record to its place, or in the place of the one with its key. Afterwards the node itself may have a record too many.
     fn put(&mut self, item: Record) -> Result<(), OutOfMemory>
         requires shallow { depth ≤ 3 }
-        requires sound { IsSound depth (capacity_of depth) (tree self.old) }
+        requires shape { IsShape depth (capacity_of depth) (tree self.old) }
         ensures ok { OnOk result (tree self.new ≡ put depth item (tree self.old)) }
         ensures err { OnErr result (tree self.new ≡ tree self.old) };
 
     /// Puts a record in the place of the one with its key, which is there. Takes no memory.
     fn replace(&mut self, item: Record)
         requires shallow { depth ≤ 3 }
-        requires sound { IsSound depth (capacity_of depth) (tree self.old) }
+        requires shape { IsShape depth (capacity_of depth) (tree self.old) }
         requires there { is_some (found depth item.key (tree self.old)) ≡ true }
         ensures { tree self.new ≡ put depth item (tree self.old) };
 
     /// Divides a node that has a record too many: answers the record in the middle, and those right of it in the other node.
     fn divide(&mut self, right: Self) -> (Record, Self)
         requires shallow { depth ≤ 3 }
-        requires sound { IsSound depth (suc (capacity_of depth)) (tree self.old) }
+        requires shape { IsShape depth (suc (capacity_of depth)) (tree self.old) }
         requires over { is_over depth (tree self.old) ≡ true }
         requires room { roomy right }
         ensures left { tree self.new ≡ left_of depth (tree self.old) }
@@ -88,7 +88,7 @@ pub trait Subtree: Drop {
     /// then.
     fn write(&self, places: &[u64], out: &mut Vec<Write>) -> Result<(usize, Child), OutOfMemory>
         requires shallow { depth ≤ 3 }
-        requires sound { IsSound depth (capacity_of depth) (tree self.now) }
+        requires shape { IsShape depth (capacity_of depth) (tree self.now) }
         requires enough { changes depth (tree self.now) ≤ length places.now }
         requires ends { All (λ (p : ℕ). p + 2048 < 2 ^ 64) places.now }
         ensures count { IfOk result (λ r. r.0 ≡ changes depth (tree self.now)) }

@@ -48,6 +48,7 @@ impl Index {
     }
 
     /// The address of a chunk. None exactly where it has none.
+    #[tactic(auto, using(h5w_bt_index::proofs::Laws::index_shaped))]
     pub fn get(&self, key: Key) -> Option<u64>
         requires sound { IsSound (view_of self.now) }
         requires key { TakesKey (view_of self.now) key }
@@ -61,6 +62,7 @@ impl Index {
 
     /// Holds a place for a chunk: what is written for it is there and changed from now on. What each key gives stays, and so do all
     /// ranges, also where memory ran out. Deep comes exactly where a tree of depth 3 has no record of the key, and no room on the way to it.
+    #[tactic(auto, using(h5w_bt_index::proofs::Laws::index_shaped))]
     pub fn hold(&mut self, key: Key) -> Result<(), InsertError>
         requires sound { IsSound (view_of self.old) }
         requires key { TakesKey (view_of self.old) key }
@@ -82,6 +84,7 @@ impl Index {
     /// A chunk, for which a place is held, has this address from now on, and each other one that which it had.
     ///
     /// It takes no memory, and cannot fail.
+    #[tactic(auto, using(h5w_bt_index::proofs::Laws::index_shaped))]
     pub fn set(&mut self, key: Key, address: u64)
         requires sound { IsSound (view_of self.old) }
         requires slot { HasSlot (view_of self.old) key }
@@ -98,6 +101,7 @@ impl Index {
     /// A chunk, for which a place is held, has no address from now on, and each other one that which it had.
     ///
     /// It takes no memory, and cannot fail.
+    #[tactic(auto, using(h5w_bt_index::proofs::Laws::index_shaped))]
     pub fn unset(&mut self, key: Key)
         requires sound { IsSound (view_of self.old) }
         requires slot { HasSlot (view_of self.old) key }
@@ -122,6 +126,7 @@ impl Index {
     }
 
     /// Begins the plan of all that changed: takes all memory and places that [`Index::finish`] needs, and changes nothing.
+    #[tactic(auto, using(h5w_bt_index::proofs::Laws::index_shaped))]
     pub fn begin(&self, places: &Places) -> Result<Begun, PlanError>
         requires { IsSound (view_of self.now) }
         ensures begun { IfOk result (λ b. IsBegun (view_of self.now) places.now b) }
@@ -138,6 +143,7 @@ impl Index {
     /// place where they stand. All is clean from then on.
     ///
     /// It cannot fail.
+    #[tactic(auto, using(h5w_bt_index::proofs::Laws::index_shaped))]
     pub fn finish(&mut self, places: &mut Places, begun: Begun) -> Plan
         requires sound { IsSound (view_of self.old) }
         requires begun { IsBegun (view_of self.old) places.old begun }

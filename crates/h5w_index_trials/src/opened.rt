@@ -1,5 +1,7 @@
-//! Arrays that stand in an image, opened.
+//! Arrays and trees that stand in an image, opened.
 
+use h5w_bt_index::{Key, TreeIndex};
+use h5w_bt_open::open;
 use h5w_ea_index::ArrayIndex;
 use h5w_image::MemImage;
 use h5w_space::Places;
@@ -27,5 +29,33 @@ fn an_array_is_opened_as_it_was_written(rt: HostRuntime) -> Result<(), Fail> {
         None => (Some(0), None, None),
     };
     assert_eq!(rt; found, (None, Some(77), None));
+    Ok(())
+}
+
+/// An image of a tree with one chunk, of key (2, 1) at 77: its header stands at 0, its root at 38.
+fn tree_image_of_one(rt: &HostRuntime) -> Result<MemImage, Fail> {
+    let mut tree = TreeIndex::new(rt.alloc(), 0);
+    tree.insert(Key { i: 2, j: 1 }, 77)?;
+    let mut places = Places::new(rt.alloc(), 38, 1 << 30);
+    let plan = tree.plan(&mut places)?;
+    let mut bytes = Vec::new(rt.alloc());
+    for write in &plan.in_place {
+        bytes.extend_from_slice(write.piece.as_slice())?;
+    }
+    for write in &plan.copies {
+        bytes.extend_from_slice(write.piece.as_slice())?;
+    }
+    Ok(MemImage::of(rt.alloc(), &bytes)?)
+}
+
+#[test]
+fn a_tree_is_opened_as_it_was_written(rt: HostRuntime) -> Result<(), Fail> {
+    let mut image = tree_image_of_one(&rt)?;
+    let opened = open(rt.alloc(), &mut image, 0, Key { i: 0, j: 0 })?;
+    let found = (
+        opened.get(Key { i: 2, j: 1 }),
+        opened.get(Key { i: 1, j: 2 }),
+    );
+    assert_eq!(rt; found, (Some(77), None));
     Ok(())
 }

@@ -2,7 +2,7 @@
 
 ghost use Rattle.std.specs.Prelude.{◌≤◌, IfOk};
 ghost use Rattle.h5w_bt_index.specs.Held.{view_of};
-ghost use Rattle.h5w_bt_index.specs.Index.{IsIndex};
+ghost use Rattle.h5w_bt_index.specs.Index.{IsShaped};
 
 use h5w_bt_index::{InsertError, Key, TreeIndex};
 use h5w_space::Places;
@@ -11,7 +11,7 @@ use std::test::Fail;
 
 /// A tree of the chunks of so many rows, put in by rising row.
 fn rising(alloc: Global, rows: u64) -> Result<TreeIndex, InsertError>
-    ensures { IfOk result (λ t. IsIndex (view_of t)) }
+    ensures { IfOk result (λ t. IsShaped (view_of t)) }
 {
     let mut tree = TreeIndex::new(alloc, 1000);
     for row in 0..rows {
@@ -22,7 +22,7 @@ fn rising(alloc: Global, rows: u64) -> Result<TreeIndex, InsertError>
 
 /// A tree of 85 chunks, put in by falling row.
 fn falling(alloc: Global) -> Result<TreeIndex, InsertError>
-    ensures { IfOk result (λ t. IsIndex (view_of t)) }
+    ensures { IfOk result (λ t. IsShaped (view_of t)) }
 {
     let mut tree = TreeIndex::new(alloc, 1000);
     for row in 0..85u64 {

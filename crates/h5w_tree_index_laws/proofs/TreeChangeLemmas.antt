@@ -8,10 +8,11 @@ use Rattle.h5w_model.specs.Trees.{capacity_of}
 use Rattle.h5w_bt.specs.declared.records.Record.{Record}
 use Rattle.h5w_bt_index.specs.Nodes.{Tree, rank}
 use Rattle.h5w_bt_index.specs.Puts.{changed_at, half, is_over, left_of, put, raised, right_of, settled, with_divided}
-use Rattle.h5w_bt_index.specs.Sound.{IsSound}
+use Rattle.h5w_bt_index.specs.Sound.{IsShape}
 use Rattle.h5w_bt_index.specs.Marks.{IsMarked, clean_of}
 use Rattle.h5w_bt_index.specs.Index.{Index, inserted, regrown}
 use Rattle.h5w_bt_index.specs.Plans.{changes, stood}
+use Rattle.h5w_bt_index.proofs.Laws.{index_shaped}
 use Rattle.h5w_bt_index.proofs.Over.{OnTheWay, on_the_way}
 use Rattle.h5w_bt_index.proofs.Places.{at_place, none_is_not, some_same}
 use Rattle.h5w_bt_index.proofs.Replaced.{clean_stood, put_changed}
@@ -85,13 +86,13 @@ parts_changes (suc d) t e =
 abbrev marked_at : (d : ℕ) (t : Tree (suc d)) (i : ℕ) (c : Tree d) → IsMarked (suc d) t → slice_get t.children i ≡ Some c → IsMarked d c
 marked_at d t i c m e = at_place (IsMarked d) t.children i c m.1 e
 
-put_changes : (d : ℕ) (x : Record) (t : Tree d) → IsSound d (capacity_of d) t → IsMarked d t → changes d (put d x t) ≤ changes d t + (2 * d + 1)
+put_changes : (d : ℕ) (x : Record) (t : Tree d) → IsShape d (capacity_of d) t → IsMarked d t → changes d (put d x t) ≤ changes d t + (2 * d + 1)
 put_changes zero x t s m = omega arith
 put_changes (suc d) x t s m = elim (is_there x.key t.records) [
   | there a e ↦ (let here = ap (changes (suc d)) (put_here d x a t e) in omega (arith, here, inner_more d (renewed d x t) refl, below_most d t m))
   | not_there e ↦ (let w = on_the_way d x t s in
       let below = ap (changes (suc d)) (put_below d x t e) in
-      let rest = go w (put_changes d x w.child w.sound (marked_at d t (rank x.key t.records) w.child m w.before)) (is_over d (put d x w.child)) refl in
+      let rest = go w (put_changes d x w.child w.shape (marked_at d t (rank x.key t.records) w.child m w.before)) (is_over d (put d x w.child)) refl in
       omega (arith, below, rest, below_most d t m))
 ]
   where
@@ -125,7 +126,7 @@ inserted_changes x v i j = go (cases_Bool (is_over v.depth (put v.depth x v.root
     go (inl o) =
         let e : regrown v.depth (put v.depth x v.root) ≡ record { depth = suc v.depth; root = raised v.depth (put v.depth x v.root) } = cond-true (is_over v.depth (put v.depth x v.root)) _ _ o in
         let low : (inserted x v).depth ≡ suc v.depth = ap (λ (u : Index). u.depth) e in
-        omega (arith, ap all_changes e, low, j.shallow, raised_changes v.depth (put v.depth x v.root) (put_changed v.depth x v.root), put_changes v.depth x v.root i.sound i.marked)
+        omega (arith, ap all_changes e, low, j.shallow, raised_changes v.depth (put v.depth x v.root) (put_changed v.depth x v.root), put_changes v.depth x v.root (index_shaped v i).shape i.marked)
     go (inr o) =
         let e : regrown v.depth (put v.depth x v.root) ≡ record { depth = v.depth; root = (put v.depth x v.root) } = cond-false (is_over v.depth (put v.depth x v.root)) _ _ o in
-        omega (arith, ap all_changes e, i.shallow, put_changes v.depth x v.root i.sound i.marked)
+        omega (arith, ap all_changes e, i.shallow, put_changes v.depth x v.root (index_shaped v i).shape i.marked)

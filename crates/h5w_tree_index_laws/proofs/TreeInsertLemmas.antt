@@ -11,10 +11,10 @@ use Rattle.h5w_model.specs.Findings.{Used}
 use Rattle.h5w_bt.specs.declared.records.Record.{Record}
 use Rattle.h5w_bt_index.specs.Nodes.{Tree, all_records, joined, rank}
 use Rattle.h5w_bt_index.specs.Puts.{changed_at, half, is_over, left_of, put, put_record, raised, right_of, settled}
-use Rattle.h5w_bt_index.specs.Sound.{IsSound}
+use Rattle.h5w_bt_index.specs.Sound.{IsShape, IsSound}
 use Rattle.h5w_bt_index.specs.Index.{Index, IsIndex, inserted, records, regrown}
 use Rattle.h5w_tree_index_laws.specs.TreeImages.{InsertedBehind, around, behind_of, chunk_of, chunks_of, nodes_weigh, own_range, ranges_under}
-use Rattle.h5w_bt_index.proofs.Laws.{inserted-records}
+use Rattle.h5w_bt_index.proofs.Laws.{index_shaped, inserted-records}
 use Rattle.h5w_bt_index.proofs.Over.{OnTheWay, on_the_way}
 use Rattle.h5w_bt_index.proofs.Places.{none_is_not, some_same}
 use Rattle.h5w_bt_index.proofs.Records.{here, past, put-here, put-past, put-under, side, under}
@@ -110,11 +110,11 @@ parts_nodes f (suc d) t =
     let e : sum_by (nodes f d) (take k t.children ++ drop k t.children) ≡ sum_by (nodes f d) t.children = ap (sum_by (nodes f d)) (take-append-drop k t.children) in
     omega (arith, e, sum_by-append (nodes f d) (take k t.children) (drop k t.children))
 
-put_nodes : (f : Used → ℕ) (d : ℕ) (x : Record) (t : Tree d) → IsSound d (capacity_of d) t → nodes f d (put d x t) ≡ nodes f d t
+put_nodes : (f : Used → ℕ) (d : ℕ) (x : Record) (t : Tree d) → IsShape d (capacity_of d) t → nodes f d (put d x t) ≡ nodes f d t
 put_nodes f zero x t s = refl
 put_nodes f (suc d) x t s = elim (is_there x.key t.records) [
   | there a e ↦ ap (nodes f (suc d)) (put_here d x a t e)
-  | not_there e ↦ ap (nodes f (suc d)) (put_below d x t e) ∙ (let w = on_the_way d x t s in go w (put_nodes f d x w.child w.sound) (is_over d (put d x w.child)) refl)
+  | not_there e ↦ ap (nodes f (suc d)) (put_below d x t e) ∙ (let w = on_the_way d x t s in go w (put_nodes f d x w.child w.shape) (is_over d (put d x w.child)) refl)
 ]
   where
     go : (w : OnTheWay d x t) → nodes f d (put d x w.child) ≡ nodes f d w.child → (o : Bool) → is_over d (put d x w.child) ≡ o → nodes f (suc d) (settled d (rank x.key t.records) (went_down d x t)) ≡ nodes f (suc d) t
@@ -139,7 +139,7 @@ regrown_nodes f d t = go (cases_Bool (is_over d t))
     go (inr o) = ap (all_nodes f) (cond-false (is_over d t) _ _ o)
 
 pub inserted_nodes : (f : Used → ℕ) (x : Record) (v : Index) → IsIndex v → all_nodes f (inserted x v) ≡ all_nodes f v
-inserted_nodes f x v i = regrown_nodes f v.depth (put v.depth x v.root) ∙ put_nodes f v.depth x v.root i.sound
+inserted_nodes f x v i = regrown_nodes f v.depth (put v.depth x v.root) ∙ put_nodes f v.depth x v.root (index_shaped v i).shape
 
 pub inserted_behind : InsertedBehind
 inserted_behind x v bytes i j =

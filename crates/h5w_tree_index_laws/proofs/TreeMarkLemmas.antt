@@ -12,12 +12,12 @@ use Rattle.h5w_model.specs.declared.cell.Key.{Key}
 use Rattle.h5w_bt.specs.declared.records.Record.{Record}
 use Rattle.h5w_bt_index.specs.Nodes.{Tree, address_in, all_records, found, joined, rank}
 use Rattle.h5w_bt_index.specs.Puts.{changed_at, put}
-use Rattle.h5w_bt_index.specs.Sound.{IsRising, IsSound}
+use Rattle.h5w_bt_index.specs.Sound.{IsRising, IsShape, IsSound}
 use Rattle.h5w_bt_index.specs.Marks.{IsCleanPart, Part, Some_of}
 use Rattle.h5w_bt_index.specs.Index.{Index, IsClean, IsIndex, inserted, records}
 use Rattle.h5w_bt_index.specs.Plans.{changes}
 use Rattle.h5w_bt_index.proofs.Keys.{above-from, above-not_equal, below-not_equal, equal-is}
-use Rattle.h5w_bt_index.proofs.Laws.{inserted-clean, put-there, same-index}
+use Rattle.h5w_bt_index.proofs.Laws.{index_shaped, inserted-clean, put-there, same-index}
 use Rattle.h5w_bt_index.proofs.Over.{OnTheWay, on_the_way}
 use Rattle.h5w_bt_index.proofs.Places.{none_is_not, some_same}
 use Rattle.h5w_bt_index.proofs.Records.{AreAbove, Over, above_all, here, in-here, in-past, in-under, none_is_not_some, past, side, under}
@@ -154,23 +154,23 @@ some_is (Some a) h = (a, refl)
 found_child : (d : ℕ) (x : Record) (t : Tree (suc d)) (c : Tree d) → address_in x.key t.records ≡ None → slice_get t.children (rank x.key t.records) ≡ Some c → is_some (found (suc d) x.key t) ≡ true → is_some (found d x.key c) ≡ true
 found_child d x t c none at f = ap is_some (sym (found_below d x.key t c none at)) ∙ f
 
-found_under : (d : ℕ) (x : Record) (t : Tree d) → IsSound d (capacity_of d) t → is_some (found d x.key t) ≡ true → 1 ≤ times_under x.key d t
+found_under : (d : ℕ) (x : Record) (t : Tree d) → IsShape d (capacity_of d) t → is_some (found d x.key t) ≡ true → 1 ≤ times_under x.key d t
 found_under zero x t s f = let a = some_is (address_in x.key t.records) f in found_times x.key t.records a.0 a.1
 found_under (suc d) x t s f = elim (is_there x.key t.records) [
   | there a e ↦ omega (arith, found_times x.key t.records a e)
   | not_there e ↦
       let w = on_the_way d x t s in
-      omega (arith, found_under d x w.child w.sound (found_child d x t w.child e w.before f), at_most (times_under x.key d) t.children (rank x.key t.records) w.child w.before)
+      omega (arith, found_under d x w.child w.shape (found_child d x t w.child e w.before f), at_most (times_under x.key d) t.children (rank x.key t.records) w.child w.before)
 ]
 
 -- a record that is there is put below without a division
-put_down : (d : ℕ) (x : Record) (t : Tree (suc d)) → IsSound (suc d) (capacity_of (suc d)) t → address_in x.key t.records ≡ None → is_some (found (suc d) x.key t) ≡ true → put (suc d) x t ≡ went_down d x t
+put_down : (d : ℕ) (x : Record) (t : Tree (suc d)) → IsShape (suc d) (capacity_of (suc d)) t → address_in x.key t.records ≡ None → is_some (found (suc d) x.key t) ≡ true → put (suc d) x t ≡ went_down d x t
 put_down d x t s e f =
     let w = on_the_way d x t s in
-    put_below d x t e ∙ settled_not d (rank x.key t.records) (went_down d x t) (put d x w.child) w.after (there_not_over d x w.child w.sound (found_child d x t w.child e w.before f))
+    put_below d x t e ∙ settled_not d (rank x.key t.records) (went_down d x t) (put d x w.child) w.after (there_not_over d x w.child w.shape (found_child d x t w.child e w.before f))
 
 -- what is clean after it has no record of the key
-put_none : (p : Part) (d : ℕ) (x : Record) (t : Tree d) → IsSound d (capacity_of d) t → is_some (found d x.key t) ≡ true → times_under x.key d t ≤ 1 → IsCleanPart p d (put d x t) → times_of x.key p ≡ 0
+put_none : (p : Part) (d : ℕ) (x : Record) (t : Tree d) → IsShape d (capacity_of d) t → is_some (found d x.key t) ≡ true → times_under x.key d t ≤ 1 → IsCleanPart p d (put d x t) → times_of x.key p ≡ 0
 put_none p zero x t s f most h = absurd (false≢true (h.0))
 put_none p (suc d) x t s f most h = elim (is_there x.key t.records) [
   | there a e ↦ own a e (subst (IsCleanPart p (suc d)) (put_here d x a t e) h)
@@ -178,7 +178,7 @@ put_none p (suc d) x t s f most h = elim (is_there x.key t.records) [
       let w = on_the_way d x t s in
       let f_below = found_child d x t w.child e w.before f in
       let few : times_under x.key d w.child ≤ 1 = omega (arith, at_most (times_under x.key d) t.children (rank x.key t.records) w.child w.before, most) in
-      below w (found_under d x w.child w.sound f_below) (put_none p d x w.child w.sound f_below few) (subst (IsCleanPart p (suc d)) (put_down d x t s e f) h)
+      below w (found_under d x w.child w.shape f_below) (put_none p d x w.child w.shape f_below few) (subst (IsCleanPart p (suc d)) (put_down d x t s e f) h)
 ]
   where
     own : (a : ℕ) → address_in x.key t.records ≡ Some a → IsCleanPart p (suc d) (renewed d x t) → times_of x.key p ≡ 0
@@ -196,7 +196,7 @@ put_none p (suc d) x t s f most h = elim (is_there x.key t.records) [
 abbrev AreChanged : (d : ℕ) → Key → Tree d → Type 0
 AreChanged d key t = (p : Part) → IsCleanPart p d t → times_of key p ≡ 0
 
-put_again : (d : ℕ) (x : Record) (t : Tree d) → IsSound d (capacity_of d) t → is_some (found d x.key t) ≡ true → AreChanged d x.key t → changes d (put d x t) ≡ changes d t
+put_again : (d : ℕ) (x : Record) (t : Tree d) → IsShape d (capacity_of d) t → is_some (found d x.key t) ≡ true → AreChanged d x.key t → changes d (put d x t) ≡ changes d t
 put_again zero x t s f all = elim (cases_Bool t.clean) [
   | inl e ↦ absurd (omega (arith, all (record { depth = zero; tree = t }) (e, refl), found_under zero x t s f))
   | inr e ↦ leaf_one (put zero x t) refl ∙ sym (leaf_one t e)
@@ -207,7 +207,7 @@ put_again (suc d) x t s f all = elim (cases_Bool t.clean) [
     | there a g ↦ ap (changes (suc d)) (put_here d x a t g) ∙ inner_more d (renewed d x t) refl ∙ sym (inner_more d t e)
     | not_there g ↦
         let w = on_the_way d x t s in
-        let same = put_again d x w.child w.sound (found_child d x t w.child g w.before f) (λ p c. all p (inr (some_at (IsCleanPart p d) t.children (rank x.key t.records) w.child w.before c))) in
+        let same = put_again d x w.child w.shape (found_child d x t w.child g w.before f) (λ p c. all p (inr (some_at (IsCleanPart p d) t.children (rank x.key t.records) w.child w.before c))) in
         ap (changes (suc d)) (put_down d x t s g f) ∙ inner_more d (went_down d x t) refl
         ∙ ap (λ (n : ℕ). n + 1) (sum_changed (changes d) (put d x) (rank x.key t.records) t.children w.child w.before same) ∙ sym (inner_more d t e)
   ]
@@ -227,24 +227,24 @@ some_not_none o a e f = cc
 module _ (x : Record) (v : Index) (i : IsIndex v) where
   -- its record is there: the root is not divided
   same_depth : is_some (found v.depth x.key v.root) ≡ true → record { depth = v.depth; root = put v.depth x v.root } ≡ inserted x v
-  same_depth f = same-index x v (put v.depth x v.root) (there_not_over v.depth x v.root i.sound f) refl
+  same_depth f = same-index x v (put v.depth x v.root) (there_not_over v.depth x v.root (index_shaped v i).shape f) refl
 
   own_changed : (p : Part) → IsClean p (inserted x v) → times_of x.key p ≡ 0
   own_changed p c = elim (is_there x.key (records v)) [
     | there a e ↦
         let f = there_found v x.key i (some_not_none (address_in x.key (records v)) a e) in
         let most : times_under x.key v.depth v.root ≤ 1 = omega (arith, root_times x.key v i, once_times x.key (records v) i.rises) in
-        put_none p v.depth x v.root i.sound f most (subst (IsClean p) (sym (same_depth f)) c)
-    | not_there e ↦ omega (arith, part_times x.key p v.depth v.root (inserted-clean p x v i c), root_times x.key v i, absent_times x.key (records v) i.rises e)
+        put_none p v.depth x v.root (index_shaped v i).shape f most (subst (IsClean p) (sym (same_depth f)) c)
+    | not_there e ↦ omega (arith, part_times x.key p v.depth v.root (inserted-clean p x v (index_shaped v i) c), root_times x.key v i, absent_times x.key (records v) i.rises e)
   ]
 
   marked : InsertedMarked x v (inserted x v)
   marked = record {
     own = record { there = put-there x v i; changed = own_changed };
-    others = λ key h. record { there = inserted_there x v key i h.there; changed = λ p c. h.changed p (inserted-clean p x v i c) };
+    others = λ key h. record { there = inserted_there x v key i h.there; changed = λ p c. h.changed p (inserted-clean p x v (index_shaped v i) c) };
     again = λ h.
         let f = there_found v x.key i h.there in
-        ap all_changes (sym (same_depth f)) ∙ put_again v.depth x v.root i.sound f h.changed;
+        ap all_changes (sym (same_depth f)) ∙ put_again v.depth x v.root (index_shaped v i).shape f h.changed;
   }
 
 pub inserted_marks : InsertedMarks

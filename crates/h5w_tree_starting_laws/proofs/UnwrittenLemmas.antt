@@ -10,7 +10,7 @@ use Rattle.h5w_cache.specs.declared.moves.Move.{Move}
 use Rattle.h5w_bt_index.specs.Nodes.{Tree}
 use Rattle.h5w_bt_index.specs.Index.{Index}
 use Rattle.h5w_bt_index.specs.Plans.{olds, stood}
-use Rattle.h5w_bt_index.proofs.Laws.{inserted-clean}
+use Rattle.h5w_bt_index.proofs.Laws.{index_shaped, inserted-clean}
 use Rattle.h5w_bt_index.proofs.Placed.{either}
 use Rattle.h5w_tree_index_laws.specs.TreeImages.{nodes_weigh, own_range, node_range}
 use Rattle.h5w_tree_index_laws.proofs.TreeMapLemmas.{inserted_renews}
@@ -64,5 +64,5 @@ retired_none s (m ∷ ms) t none h = retired_none h.0 ms t none.1 h.2 ∙ retire
 pub unwritten_laws : UnwrittenLaws
 unwritten_laws = record {
   none = record { places = λ f. refl; clean = λ p clean. clean.1 };
-  inserted = λ x v i j u. record { places = λ f. (inserted_renews x v i j).nodes f ∙ u.places f; clean = λ p c. u.clean p (inserted-clean p x v i c) };
+  inserted = λ x v i j u. record { places = λ f. (inserted_renews x v i j).nodes f ∙ u.places f; clean = λ p c. u.clean p (inserted-clean p x v (index_shaped v i) c) };
 }

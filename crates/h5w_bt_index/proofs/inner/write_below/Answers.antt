@@ -1,22 +1,21 @@
 use Rattle.std.proofs.Common.{◌≡◌, ◌≤◌, ◌+◌, ◌∙◌, ◌++◌, ◌∷◌, ap, ap₂, sym, subst, arith, drop, length, length-drop, List, map, ℕ, slice_get}
 use Rattle.std.proofs.lemmas.List.{take_rest}
-use Rattle.h5w_model.specs.Trees.{capacity_of, ChildFields}
+use Rattle.h5w_model.specs.Trees.{ChildFields}
 use Rattle.h5w_bt.specs.Parts.{child_of}
-use Rattle.h5w_bt_index.specs.Sound.{IsSound}
 use Rattle.h5w_bt_index.specs.Plans.{AllRead, EachBy, changes, each_by, joined_blocks, placed, pointer_of, stood, writes_of, written}
 use Rattle.h5w_bt_index.proofs.Children.{child-there}
-use Rattle.h5w_bt_index.proofs.Places.{at_place}
+use Rattle.h5w_bt_index.proofs.Shapes.{shape_at}
 use Rattle.h5w_bt_index.proofs.Turns.{all_turn, count_turn, each_turn, list_turn, writes_turn}
 use Rattle.h5w_bt_index.proofs.inner.write_below.Goals as goal
 
-pub write-requires-clause-sound : goal.write-requires-clause-sound
-write-requires-clause-sound g c =
+pub write-requires-clause-shape : goal.write-requires-clause-shape
+write-requires-clause-shape g c =
     let t = g.C.Subtree.tree in
     let ys = c.deref-child-items.result.now in
     let i = c.loop-child.child-index in
     let x = c.child-item.result in
     let there = ap (λ (l : List _). slice_get (map t l) i) (sym c.deref-child-items.ensures.value) ∙ child-there t ys i x c.loop-child-test.true c.child-item.is in
-    at_place (IsSound g.C.Subtree.depth (capacity_of g.C.Subtree.depth)) (map t c.args.children.now.items) i (t x) c.requires.sound there
+    shape_at g.C.Subtree.depth (map t c.args.children.now.items) i (t x) c.requires.shape there
 
 pub write-requires-clause-enough : goal.write-requires-clause-enough
 write-requires-clause-enough g c =

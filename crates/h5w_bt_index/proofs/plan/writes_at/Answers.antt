@@ -5,4 +5,4 @@ use Rattle.h5w_bt_index.proofs.Written.{planned_fits}
 use Rattle.h5w_bt_index.proofs.plan.writes_at.Goals as goal
 
 pub put_header-requires : goal.put_header-requires
-put_header-requires c = planned_fits (index_of c.args.root.now) c.deref.result.now _ _ _ _ _ c.requires.index c.depth.ensures (ap (λ (p : ChildFields). p.records) c.in_ok-pointer.ensures.pointer) c.header.ensures
+put_header-requires c = planned_fits (index_of c.args.root.now) c.deref.result.now _ _ _ _ _ c.requires.shape c.depth.ensures (ap (λ (p : ChildFields). p.records) c.in_ok-pointer.ensures.pointer) c.header.ensures

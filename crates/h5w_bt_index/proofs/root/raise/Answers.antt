@@ -18,7 +18,7 @@ count-total-requires g c =
     let tl = ap t c.replace-left.ensures.value ∙ c.divide-right.ensures.left in
     let mi = ap (map t) ci ∙ ap₂ (λ (a b : Tree d). a ∷ b ∷ []) tl c.divide-right.ensures.right in
     let e = ap₂ (λ (a : List Record) (b : List (Tree d)). changed_node d a b undefined) (ri ∙ ap (λ (m : Record). m ∷ []) c.divide-right.ensures.middle) mi in
-    let f : length rs + sum_by (total_of d) (map t cs) < 2 ^ 64 = raised-fits d r (changed_node d rs (map t cs) undefined) e c.requires.shallow c.requires.over c.requires.sound in
+    let f : length rs + sum_by (total_of d) (map t cs) < 2 ^ 64 = raised-fits d r (changed_node d rs (map t cs) undefined) e c.requires.shallow c.requires.over c.requires.shape in
     let n : c.len.result ≡ length rs = c.len.ensures ∙ c.push_reserved.new.self.ok.0 in
     let q : sum_by (total_of d) (map t c.deref.result.now) ≡ sum_by (total_of d) (map t cs) = ap (λ (l : List _). sum_by (total_of d) (map t l)) c.deref.ensures.value in
     sums_small c.len.result (length rs) (sum_by (total_of d) (map t c.deref.result.now)) (sum_by (total_of d) (map t cs)) n q f

@@ -1,9 +1,9 @@
 use Rattle.std.proofs.Common.{sym, subst}
 use Rattle.h5w_cache.proofs.FinishLemmas.{retired_end}
-use Rattle.h5w_bt_index.specs.Index.{IsHalfFull, IsIndex}
+use Rattle.h5w_bt_index.specs.Index.{IsHalfFull, IsIndex, IsShaped}
 use Rattle.h5w_bt_index.specs.Held.{header_place, view_of}
 use Rattle.h5w_bt_index.specs.Plans.{news}
-use Rattle.h5w_bt_index.proofs.Placed.{planned_half, planned_index}
+use Rattle.h5w_bt_index.proofs.Placed.{planned_half, planned_index, planned_shaped}
 use Rattle.h5w_bt_index.proofs.Started.{planned_by}
 use Rattle.h5w_bt_index.proofs.index.TreeIndex.finish.Goals as goal
 
@@ -12,8 +12,11 @@ returns-clause-planned c =
     planned_by (header_place c.args.self.now) (view_of c.args.self.now) c.args.places.now c.args.begun _ _ _ _ _ c.requires.begun
     c.finish.ensures.moves c.finish.ensures.copies c.finish.ensures.in_place c.finish.ensures.retired c.finish.ensures.planned
 
+pub returns-clause-shape : goal.returns-clause-shape
+returns-clause-shape c = subst IsShaped (sym c.finish.ensures.planned) (planned_shaped (news c.args.begun.moves) (view_of c.args.self.now) c.requires.shape)
+
 pub returns-clause-index : goal.returns-clause-index
-returns-clause-index c = subst IsIndex (sym c.finish.ensures.planned) (planned_index (news c.args.begun.moves) (view_of c.args.self.now) c.requires.index)
+returns-clause-index c i = subst IsIndex (sym c.finish.ensures.planned) (planned_index (news c.args.begun.moves) (view_of c.args.self.now) i)
 
 pub returns-clause-half : goal.returns-clause-half
 returns-clause-half c h = subst IsHalfFull (sym c.finish.ensures.planned) (planned_half (news c.args.begun.moves) (view_of c.args.self.now) h)

@@ -6,33 +6,36 @@ use Rattle.h5w_bt_index.specs.Held.{view_of}
 use Rattle.h5w_bt_index.specs.Index.{Index, IsClean, IsHalfFull, address_of, inserted, records}
 use Rattle.h5w_bt_index.specs.Marks.{Part}
 use Rattle.h5w_bt_index.specs.Puts.{put_record}
-use Rattle.h5w_bt_index.proofs.Laws.{on_ok, inserted-map, inserted-records, inserted-half, inserted-clean}
+use Rattle.h5w_bt_index.proofs.Laws.{blocked_deep, deep_blocked, on_ok, inserted-map, inserted-records, inserted-half, inserted-clean}
 use Rattle.h5w_bt_index.proofs.index.TreeIndex.insert.Goals as goal
 
 pub returns-clause-map : goal.returns-clause-map
-returns-clause-map c =
+returns-clause-map c i =
     let x : Record = record { address = c.args.address; key = c.args.key } in
     let v : Index = view_of c.args.self.now in
     let w : Index = view_of c.put.new.self in
-    on_ok c.put.result (w ≡ inserted x v) ((k : Key) → address_of w k ≡ (if key_equal c.args.key k then c.args.address else address_of v k)) (λ h. λ k. ap (λ (u : Index). address_of u k) h ∙ inserted-map x v k c.requires.index) c.put.ensures.ok
+    on_ok c.put.result (w ≡ inserted x v) ((k : Key) → address_of w k ≡ (if key_equal c.args.key k then c.args.address else address_of v k)) (λ h. λ k. ap (λ (u : Index). address_of u k) h ∙ inserted-map x v k i) c.put.ensures.ok
 
 pub returns-clause-sorted : goal.returns-clause-sorted
-returns-clause-sorted c =
+returns-clause-sorted c i =
     let x : Record = record { address = c.args.address; key = c.args.key } in
     let v : Index = view_of c.args.self.now in
     let w : Index = view_of c.put.new.self in
-    on_ok c.put.result (w ≡ inserted x v) (records w ≡ put_record x (records v)) (λ h. ap records h ∙ inserted-records x v c.requires.index) c.put.ensures.ok
+    on_ok c.put.result (w ≡ inserted x v) (records w ≡ put_record x (records v)) (λ h. ap records h ∙ inserted-records x v i) c.put.ensures.ok
 
 pub returns-clause-half : goal.returns-clause-half
 returns-clause-half c =
     let x : Record = record { address = c.args.address; key = c.args.key } in
     let v : Index = view_of c.args.self.now in
     let w : Index = view_of c.put.new.self in
-    on_ok c.put.result (w ≡ inserted x v) (IsHalfFull v → IsHalfFull w) (λ h. λ q. subst IsHalfFull (sym h) (inserted-half x v c.requires.index q)) c.put.ensures.ok
+    on_ok c.put.result (w ≡ inserted x v) (IsHalfFull v → IsHalfFull w) (λ h. λ q. subst IsHalfFull (sym h) (inserted-half x v c.requires.shape q)) c.put.ensures.ok
 
 pub returns-clause-clean : goal.returns-clause-clean
 returns-clause-clean c =
     let x : Record = record { address = c.args.address; key = c.args.key } in
     let v : Index = view_of c.args.self.now in
     let w : Index = view_of c.put.new.self in
-    on_ok c.put.result (w ≡ inserted x v) ((p : Part) → IsClean p w → IsClean p v) (λ h. λ p q. inserted-clean p x v c.requires.index (subst (IsClean p) h q)) c.put.ensures.ok
+    on_ok c.put.result (w ≡ inserted x v) ((p : Part) → IsClean p w → IsClean p v) (λ h. λ p q. inserted-clean p x v c.requires.shape (subst (IsClean p) h q)) c.put.ensures.ok
+
+pub returns-clause-deep : goal.returns-clause-deep
+returns-clause-deep c i = (blocked_deep (view_of c.args.self.now) c.args.key i, deep_blocked (view_of c.args.self.now) c.args.key i)

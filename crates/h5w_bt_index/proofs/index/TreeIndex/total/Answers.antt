@@ -3,5 +3,5 @@ use Rattle.h5w_bt_index.specs.Held.{view_of}
 use Rattle.h5w_bt_index.proofs.Laws.{counts}
 use Rattle.h5w_bt_index.proofs.index.TreeIndex.total.Goals as goal
 
-pub returns : goal.returns
-returns c = c.total.ensures ∙ counts (view_of c.args.self.now) c.requires
+pub returns-clause-counted : goal.returns-clause-counted
+returns-clause-counted c i = c.total.ensures ∙ counts (view_of c.args.self.now) i

@@ -1,8 +1,6 @@
 use Rattle.std.proofs.Common.{sym, ◌∙◌, map}
-use Rattle.h5w_model.specs.Trees.{capacity_of}
-use Rattle.h5w_bt_index.specs.Sound.{IsSound}
 use Rattle.h5w_bt_index.specs.Typed.{inner_of}
-use Rattle.h5w_bt_index.proofs.Places.{at_place}
+use Rattle.h5w_bt_index.proofs.Shapes.{shape_at}
 use Rattle.h5w_bt_index.proofs.Children.{child-there}
 use Rattle.h5w_bt_index.proofs.Searched.{found-searched, inside-children}
 use Rattle.h5w_bt_index.proofs.inner.InnerSubtree.find.Goals as goal
@@ -12,7 +10,7 @@ find-requires g c =
     let t = g.C.Subtree.tree in
     let cs = c.args.self.now.children.items in
     let h = inside-children t cs c.args.self.now.records.items c.deref.result.now c.search-at.result.0 c.requires.children c.deref.ensures.value c.search-at.ensures.inside in
-    at_place (IsSound g.C.Subtree.depth (capacity_of g.C.Subtree.depth)) (map t cs) c.search-at.result.0 (t c.index.result.now) c.requires.each
+    shape_at g.C.Subtree.depth (map t cs) c.search-at.result.0 (t c.index.result.now) c.requires.each
     (child-there t cs c.search-at.result.0 c.index.result.now h c.index.ensures)
 
 pub returns-else-is_some : goal.returns-else-is_some

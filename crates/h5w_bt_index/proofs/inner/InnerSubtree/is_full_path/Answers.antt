@@ -1,25 +1,24 @@
 use Rattle.std.proofs.Common.{◌≡◌, ◌+◌, ℕ, sym, ap, ◌∙◌, map, length, arith, add-one, suc}
 use Rattle.h5w_model.specs.Trees.{capacity_of}
-use Rattle.h5w_bt_index.specs.Sound.{IsSound}
 use Rattle.h5w_bt_index.specs.Typed.{inner_of}
-use Rattle.h5w_bt_index.proofs.Places.{at_place}
+use Rattle.h5w_bt_index.proofs.Shapes.{shape_at}
 use Rattle.h5w_bt_index.proofs.Children.{child-there}
 use Rattle.h5w_bt_index.proofs.Searched.{full-searched, inside-children}
 use Rattle.h5w_bt_index.proofs.inner.InnerSubtree.is_full_path.Goals as goal
 
-pub is_full_path-requires-clause-sound : goal.is_full_path-requires-clause-sound
-is_full_path-requires-clause-sound g c =
+pub is_full_path-requires-clause-shape : goal.is_full_path-requires-clause-shape
+is_full_path-requires-clause-shape g c =
     let t = g.C.Subtree.tree in
     let cs = c.args.self.now.children.items in
-    let h = inside-children t cs c.args.self.now.records.items c.deref.result.now c.search-at.result.0 c.requires.sound.children c.deref.ensures.value c.search-at.ensures.inside in
-    at_place (IsSound g.C.Subtree.depth (capacity_of g.C.Subtree.depth)) (map t cs) c.search-at.result.0 (t c.index.result.now) c.requires.sound.each
+    let h = inside-children t cs c.args.self.now.records.items c.deref.result.now c.search-at.result.0 c.requires.shape.children c.deref.ensures.value c.search-at.ensures.inside in
+    shape_at g.C.Subtree.depth (map t cs) c.search-at.result.0 (t c.index.result.now) c.requires.shape.each
     (child-there t cs c.search-at.result.0 c.index.result.now h c.index.ensures)
 
 pub returns-then-len-capacity : goal.returns-then-len-capacity
 returns-then-len-capacity g c =
     let t = g.C.Subtree.tree in
     let cs = c.args.self.now.children.items in
-    let h = inside-children t cs c.args.self.now.records.items c.deref.result.now c.search-at.result.0 c.requires.sound.children c.deref.ensures.value c.search-at.ensures.inside in
+    let h = inside-children t cs c.args.self.now.records.items c.deref.result.now c.search-at.result.0 c.requires.shape.children c.deref.ensures.value c.search-at.ensures.inside in
     let e = c.capacity.ensures.exact ∙ ap capacity_of (ap (λ (n : ℕ). n + 1) c.depth.ensures ∙ add-one g.C.Subtree.depth) in
     let n : length c.args.self.now.records.items ≡ capacity_of (suc g.C.Subtree.depth) = omega (arith, e, c.if-len-capacity.true, c.len.ensures) in
     c.is_full_path.ensures ∙ sym (full-searched g.C.Subtree.depth c.args.key (inner_of g.C.Subtree.depth t c.args.self.now) c.search-at.result.0 c.deref.result.now

@@ -10,7 +10,7 @@ inner_bytes-requires g c =
     let d = g.C.Subtree.depth in
     let t = g.C.Subtree.tree in
     node_fits d (c.depth.result + 1) c.args.places.now (inner_of d t c.args.self.now) (map child_of c.in_ok-below.children.items)
-    (ap (λ (n : ℕ). n + 1) c.depth.ensures ∙ add-one d) c.requires.shallow c.requires.sound c.in_ok-below.ensures.pointers
+    (ap (λ (n : ℕ). n + 1) c.depth.ensures ∙ add-one d) c.requires.shallow c.requires.shape c.in_ok-below.ensures.pointers
 
 pub returns-clause-written : goal.returns-clause-written
 returns-clause-written g c =

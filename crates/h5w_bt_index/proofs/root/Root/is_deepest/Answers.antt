@@ -1,11 +1,11 @@
 use Rattle.std.proofs.Common.{sym, ap, ◌∙◌, subst}
 use Rattle.h5w_bt_index.specs.declared.root.Root.{Root}
-use Rattle.h5w_bt_index.specs.Index.{IsIndex, index_of}
+use Rattle.h5w_bt_index.specs.Index.{IsShaped, index_of}
 use Rattle.h5w_bt_index.specs.Puts.{is_full_path}
 use Rattle.h5w_bt_index.proofs.root.Root.is_deepest.Goals as goal
 
-pub is_full_path-requires-clause-sound : goal.is_full_path-requires-clause-sound
-is_full_path-requires-clause-sound c = (subst (λ (r : Root). IsIndex (index_of r)) c.in-Three.is c.requires).sound
+pub is_full_path-requires-clause-shape : goal.is_full_path-requires-clause-shape
+is_full_path-requires-clause-shape c = (subst (λ (r : Root). IsShaped (index_of r)) c.in-Three.is c.requires).shape
 
 pub returns-in-Three : goal.returns-in-Three
 returns-in-Three c =

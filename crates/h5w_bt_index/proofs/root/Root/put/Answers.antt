@@ -1,23 +1,23 @@
 use Rattle.std.proofs.Common.{◌≡◌, ◌≤◌, true, refl, sym, ap, ◌∙◌, subst}
 use Rattle.h5w_bt_index.specs.declared.root.Root.{Root}
 use Rattle.h5w_bt_index.specs.declared.root.Root.TheVariants.{Zero, One, Two, Three}
-use Rattle.h5w_bt_index.specs.Index.{IsIndex, index_of, inserted}
+use Rattle.h5w_bt_index.specs.Index.{IsShaped, index_of, inserted}
 use Rattle.h5w_bt_index.specs.Puts.{is_over, put}
 use Rattle.h5w_bt_index.specs.Typed.{leaf_of, inner_of}
 use Rattle.h5w_bt_index.proofs.Laws.{became_raised, became_same, raised-index, same-index, on_ok, three-not_over}
 use Rattle.h5w_bt_index.proofs.root.Root.put.Goals as goal
 
-pub put_at_root-requires-clause-sound : goal.put_at_root-requires-clause-sound
-put_at_root-requires-clause-sound c = (subst (λ (r : Root). IsIndex (index_of r)) c.in-Zero.is c.requires.index).sound
+pub put_at_root-requires-clause-shape : goal.put_at_root-requires-clause-shape
+put_at_root-requires-clause-shape c = (subst (λ (r : Root). IsShaped (index_of r)) c.in-Zero.is c.requires.shape).shape
 
-pub put_at_root-requires-in-One-clause-sound : goal.put_at_root-requires-in-One-clause-sound
-put_at_root-requires-in-One-clause-sound c = (subst (λ (r : Root). IsIndex (index_of r)) c.in-One.is c.requires.index).sound
+pub put_at_root-requires-in-One-clause-shape : goal.put_at_root-requires-in-One-clause-shape
+put_at_root-requires-in-One-clause-shape c = (subst (λ (r : Root). IsShaped (index_of r)) c.in-One.is c.requires.shape).shape
 
-pub put_at_root-requires-in-Two-clause-sound : goal.put_at_root-requires-in-Two-clause-sound
-put_at_root-requires-in-Two-clause-sound c = (subst (λ (r : Root). IsIndex (index_of r)) c.in-Two.is c.requires.index).sound
+pub put_at_root-requires-in-Two-clause-shape : goal.put_at_root-requires-in-Two-clause-shape
+put_at_root-requires-in-Two-clause-shape c = (subst (λ (r : Root). IsShaped (index_of r)) c.in-Two.is c.requires.shape).shape
 
-pub put-requires-clause-sound : goal.put-requires-clause-sound
-put-requires-clause-sound c = (subst (λ (r : Root). IsIndex (index_of r)) c.in-Three.is c.requires.index).sound
+pub put-requires-clause-shape : goal.put-requires-clause-shape
+put-requires-clause-shape c = (subst (λ (r : Root). IsShaped (index_of r)) c.in-Three.is c.requires.shape).shape
 
 pub returns-in-Some-clause-ok : goal.returns-in-Some-clause-ok
 returns-in-Some-clause-ok c =

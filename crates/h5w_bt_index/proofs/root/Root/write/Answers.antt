@@ -1,12 +1,12 @@
 use Rattle.std.proofs.Common.{◌≡◌, ◌≤◌, ◌++◌, sym, subst, length, IfOk, OnOk}
 use Rattle.h5w_bt.specs.Parts.{child_of}
 use Rattle.h5w_bt_index.specs.declared.root.Root.{Root}
-use Rattle.h5w_bt_index.specs.Index.{IsIndex, index_of}
+use Rattle.h5w_bt_index.specs.Index.{IsShaped, index_of}
 use Rattle.h5w_bt_index.specs.Plans.{AllRead, changes, placed, pointer_of, writes_of, written}
 use Rattle.h5w_bt_index.proofs.root.Root.write.Goals as goal
 
-pub write-requires-clause-sound : goal.write-requires-clause-sound
-write-requires-clause-sound c = (subst (λ (r : Root). IsIndex (index_of r)) c.in-Zero.is c.requires.index).sound
+pub write-requires-clause-shape : goal.write-requires-clause-shape
+write-requires-clause-shape c = (subst (λ (r : Root). IsShaped (index_of r)) c.in-Zero.is c.requires.shape).shape
 
 pub write-requires-clause-enough : goal.write-requires-clause-enough
 write-requires-clause-enough c = subst (λ (r : Root). changes (index_of r).depth (index_of r).root ≤ length c.args.places.now) c.in-Zero.is c.requires.enough
@@ -20,8 +20,8 @@ returns-in-Zero-clause-written c = subst (λ (r : Root). OnOk c.write.result (c.
 pub returns-in-Zero-clause-reads : goal.returns-in-Zero-clause-reads
 returns-in-Zero-clause-reads c = subst (λ (r : Root). OnOk c.write.result (AllRead (index_of r).depth c.args.places.now (index_of r).root)) (sym c.in-Zero.is) c.write.ensures.reads
 
-pub write-requires-in-One-clause-sound : goal.write-requires-in-One-clause-sound
-write-requires-in-One-clause-sound c = (subst (λ (r : Root). IsIndex (index_of r)) c.in-One.is c.requires.index).sound
+pub write-requires-in-One-clause-shape : goal.write-requires-in-One-clause-shape
+write-requires-in-One-clause-shape c = (subst (λ (r : Root). IsShaped (index_of r)) c.in-One.is c.requires.shape).shape
 
 pub write-requires-in-One-clause-enough : goal.write-requires-in-One-clause-enough
 write-requires-in-One-clause-enough c = subst (λ (r : Root). changes (index_of r).depth (index_of r).root ≤ length c.args.places.now) c.in-One.is c.requires.enough
@@ -35,8 +35,8 @@ returns-in-One-clause-written c = subst (λ (r : Root). OnOk c.write-in-One.resu
 pub returns-in-One-clause-reads : goal.returns-in-One-clause-reads
 returns-in-One-clause-reads c = subst (λ (r : Root). OnOk c.write-in-One.result (AllRead (index_of r).depth c.args.places.now (index_of r).root)) (sym c.in-One.is) c.write-in-One.ensures.reads
 
-pub write-requires-in-Two-clause-sound : goal.write-requires-in-Two-clause-sound
-write-requires-in-Two-clause-sound c = (subst (λ (r : Root). IsIndex (index_of r)) c.in-Two.is c.requires.index).sound
+pub write-requires-in-Two-clause-shape : goal.write-requires-in-Two-clause-shape
+write-requires-in-Two-clause-shape c = (subst (λ (r : Root). IsShaped (index_of r)) c.in-Two.is c.requires.shape).shape
 
 pub write-requires-in-Two-clause-enough : goal.write-requires-in-Two-clause-enough
 write-requires-in-Two-clause-enough c = subst (λ (r : Root). changes (index_of r).depth (index_of r).root ≤ length c.args.places.now) c.in-Two.is c.requires.enough
@@ -50,8 +50,8 @@ returns-in-Two-clause-written c = subst (λ (r : Root). OnOk c.write-in-Two.resu
 pub returns-in-Two-clause-reads : goal.returns-in-Two-clause-reads
 returns-in-Two-clause-reads c = subst (λ (r : Root). OnOk c.write-in-Two.result (AllRead (index_of r).depth c.args.places.now (index_of r).root)) (sym c.in-Two.is) c.write-in-Two.ensures.reads
 
-pub write-requires-in-Three-clause-sound : goal.write-requires-in-Three-clause-sound
-write-requires-in-Three-clause-sound c = (subst (λ (r : Root). IsIndex (index_of r)) c.in-Three.is c.requires.index).sound
+pub write-requires-in-Three-clause-shape : goal.write-requires-in-Three-clause-shape
+write-requires-in-Three-clause-shape c = (subst (λ (r : Root). IsShaped (index_of r)) c.in-Three.is c.requires.shape).shape
 
 pub write-requires-in-Three-clause-enough : goal.write-requires-in-Three-clause-enough
 write-requires-in-Three-clause-enough c = subst (λ (r : Root). changes (index_of r).depth (index_of r).root ≤ length c.args.places.now) c.in-Three.is c.requires.enough

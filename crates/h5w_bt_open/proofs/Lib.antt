@@ -1,0 +1,9 @@
+pub mod SpanLemmas
+pub mod FindLemmas
+pub mod CallLemmas
+pub mod HeldLemmas
+pub mod RefusedLemmas
+pub mod NodeLemmas
+pub mod StepLemmas
+pub mod TreeLemmas
+pub mod VisitLemmas
