@@ -1,9 +1,10 @@
-//! The readers of a run: each makes its calls through a seat of its own.
-ghost use Rattle.std.specs.Prelude.{◌≡◌, ℕ, ◌+◌, ◌<◌, List, []};
+//! The readers of a run: each makes its calls through a seat of its own, in a thread of its own.
+ghost use Rattle.std.specs.Prelude.{◌≡◌, ℕ, ◌+◌, ◌<◌, ◌≤◌, All, List, [], vec_len};
+ghost use Rattle.std.specs.Thread.{IsSync};
 ghost use Rattle.h5w_model.specs.Unfinished.{ReaderRules};
 ghost use Rattle.h5w_model.specs.declared.piece.Write.{Write};
 ghost use Rattle.h5w_reader.specs.Readers.{reader_rules};
-ghost use Rattle.h5w_shared.specs.Seats.{ImageId};
+ghost use Rattle.h5w_shared.specs.Seats.{ImageId, SeatView};
 ghost use Rattle.h5w_live.specs.Ends.{ReaderEnds, ReadersEnd};
 
 use crate::reading::{Stop, polls};
@@ -12,6 +13,7 @@ use h5w_model::PollLine;
 use h5w_shared::{Note, ReaderSeat, SharedImage, Worn};
 use std::alloc::Global;
 use std::sync::Wait;
+use std::thread::{Threads, join};
 
 /// The lines of a reader's calls, and a note of what its seat had seen in the end.
 #[derive(Drop)]
@@ -107,4 +109,41 @@ fn and_one(before: Result<AllEnded, Cut>, last: Result<Ended, Cut>) -> Result<Al
         return Err(Cut::OutOfMemory);
     }
     Ok(all)
+}
+
+/// All calls of the readers that have these seats, each in a thread of its own where one can be made. They are numbered from 1 on.
+pub fn read_all<R: Threads + Wait + Sync, G: Gate>(
+    rt: &R,
+    alloc: Global,
+    image: &SharedImage,
+    mut seats: Vec<ReaderSeat>,
+    name: &[u8],
+    attempts: u32,
+    calls: u32,
+    gate: &G,
+) -> Result<AllEnded, Cut>
+    requires images { All (λ (s : SeatView). s.image ≡ image.now) seats.items }
+    requires few { vec_len seats ≤ 16 }
+    ensures { (seen : List Write) → All (λ (s : SeatView). s.seen ≡ seen) seats.items
+        → ReadersEnd (reader_rules name.now attempts) image.now calls (vec_len seats) seen result }
+{
+    let Some(seat) = seats.pop() else {
+        return Ok(none(alloc));
+    };
+    let reader = number(seats.len());
+    let (last, before) = join(
+        rt,
+        move || -> Result<Ended, Cut>
+            requires { seat.image ≡ image.now }
+            ensures { ReaderEnds (reader_rules name.entry.now attempts) image.entry.now calls reader seat.seen result }
+        { read(rt, alloc, image, seat, name, attempts, reader, calls, gate) },
+        move || -> Result<AllEnded, Cut>
+            requires sync { IsSync R.row × IsSync G.row }
+            requires images { All (λ (s : SeatView). s.image ≡ image.now) seats.items }
+            requires few { vec_len seats ≤ 16 }
+            ensures { (seen : List Write) → All (λ (s : SeatView). s.seen ≡ seen) seats.items
+                → ReadersEnd (reader_rules name.entry.now attempts) image.entry.now calls (vec_len seats) seen result }
+        { read_all(rt, alloc, image, seats, name, attempts, calls, gate) },
+    );
+    and_one(before, last)
 }

@@ -1,5 +1,8 @@
-//! One writer and its readers over a file in memory that they share: the writer's batches and each reader's calls, each through a seat of its
-//! own, and what comes of them once all have ended.
+//! One writer and its readers in threads over a file in memory that they share. [`live`] runs them, and reports what each flush and each
+//! reader's call came to.
+//!
+//! Each actor has a seat of its own at the shared image. All readers' seats come of the writer's once the creation is visible. When all have
+//! ended, the writer's seat takes in a note of each reader's, so that what each reader has seen begins what the writer wrote.
 #![tactic(auto)]
 
 mod actors;
@@ -10,6 +13,7 @@ mod joining;
 mod lists;
 mod reading;
 mod report;
+mod running;
 mod seated;
 mod threads;
 mod writer;
@@ -17,3 +21,4 @@ mod writing;
 
 pub use lists::{Batches, FlushLines, PollLines};
 pub use report::{LiveError, LiveReport};
+pub use running::live;

@@ -1,10 +1,14 @@
-//! What the writer of a run leaves, and the seats of its readers.
-ghost use Rattle.std.specs.Prelude.{◌≡◌, ℕ, All, [], vec_len, IfOk};
+//! The writer of a run beside its readers, each in a thread of its own where one can be made.
+ghost use Rattle.std.specs.Prelude.{◌≡◌, ℕ, ◌≤◌, All, List, [], vec_len, IfOk};
+ghost use Rattle.h5w_model.specs.declared.piece.Write.{Write};
+ghost use Rattle.h5w_reader.specs.Readers.{reader_rules};
 ghost use Rattle.h5w_session.specs.Creations.{NewFile};
 ghost use Rattle.h5w_shared.specs.Seats.{SeatView};
+ghost use Rattle.h5w_live.specs.Ends.{ReadersEnd};
 ghost use Rattle.h5w_live.specs.Reports.{HasPutAll};
 ghost use Rattle.h5w_live.specs.Writing.{HasFlushed};
 
+use crate::actors::{AllEnded, Cut, read_all};
 use crate::writer::put_all;
 use crate::writing::Halt;
 use h5w_image::Gate;
@@ -13,6 +17,7 @@ use h5w_session::WriterCore;
 use h5w_shared::{ReaderSeat, SharedImage, WriterSeat};
 use std::alloc::Global;
 use std::sync::Wait;
+use std::thread::{Threads, join};
 
 /// What the writer of a run leaves: its seat and its session, and the lines of its flushes, or why it ended before the last, and at
 /// which batch, counted from 1.
@@ -63,4 +68,43 @@ pub fn seats(
         seats.push(seat.seat(image))?;
     }
     Ok(seats)
+}
+
+/// The writer puts all batches while the readers make their calls. What they leave comes once all have ended.
+pub fn run<R: Threads + Wait + Sync, G: Gate>(
+    rt: &R,
+    alloc: Global,
+    image: &SharedImage,
+    seat: WriterSeat,
+    session: WriterCore,
+    seats: Vec<ReaderSeat>,
+    batches: &[Values],
+    name: &[u8],
+    attempts: u32,
+    calls: u32,
+    gate: &G,
+) -> (Written, Result<AllEnded, Cut>)
+    requires image { seat.image ≡ image.now }
+    requires created { (f : NewFile) × HasFlushed f [] session seat [] }
+    requires images { All (λ (s : SeatView). s.image ≡ image.now) seats.items }
+    requires few { vec_len seats ≤ 16 }
+    ensures written { (f : NewFile) → HasFlushed f [] session seat [] → HasPutAll f batches.now image.now result.0 }
+    ensures ended { (seen : List Write) → All (λ (s : SeatView). s.seen ≡ seen) seats.items
+        → ReadersEnd (reader_rules name.now attempts) image.now calls (vec_len seats) seen result.1 }
+{
+    let (ended, written) = join(
+        rt,
+        move || -> Result<AllEnded, Cut>
+            requires images { All (λ (s : SeatView). s.image ≡ image.now) seats.items }
+            requires few { vec_len seats ≤ 16 }
+            ensures { (seen : List Write) → All (λ (s : SeatView). s.seen ≡ seen) seats.items
+                → ReadersEnd (reader_rules name.entry.now attempts) image.entry.now calls (vec_len seats) seen result }
+        { read_all(rt, alloc, image, seats, name, attempts, calls, gate) },
+        move || -> Written
+            requires image { seat.image ≡ image.now }
+            requires created { (f : NewFile) × HasFlushed f [] session seat [] }
+            ensures { (f : NewFile) → HasFlushed f [] session seat [] → HasPutAll f batches.entry.now image.entry.now result }
+        { write(rt, alloc, image, seat, session, batches, gate) },
+    );
+    (written, ended)
 }

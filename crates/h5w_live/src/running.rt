@@ -1,0 +1,67 @@
+//! One writer and its readers in threads over a file in memory that they share.
+ghost use Rattle.std.specs.Prelude.{◌≡◌, ◌≤◌, IfErr, IfOk, OnOk, None};
+ghost use Rattle.h5w_model.specs.Agrees.{Agrees, values_in};
+ghost use Rattle.h5w_options.specs.Options.{AreAttempts, AreOptions};
+ghost use Rattle.h5w_session.specs.Creations.{new_file};
+ghost use Rattle.h5w_live.specs.Reports.{AreWhole, IsCause, IsShut, run_of};
+ghost use Rattle.h5w_live.specs.Writing.{first_refused};
+
+use crate::creating::create;
+use crate::joining::finish;
+use crate::lists::Batches;
+use crate::report::{LiveError, LiveReport, lost};
+use crate::threads::{run, seats};
+use h5w_image::Gate;
+use h5w_options::Options;
+use std::alloc::Global;
+use std::sync::Wait;
+use std::thread::Threads;
+
+/// Creates a file by these options, in memory. Then, in threads, one writer appends and flushes the batches in order, and so many readers make so many
+/// calls each: the first opens the dataset, each other refreshes, and where a call finds rows all of them are read. The creation is visible
+/// before any reader begins, and the session is closed once all have ended. The first batch that is refused is the answer.
+///
+/// The writer comes to its turn `f` before the dataset header's piece of flush `f`, and reader `r` to its turn `k` after its call `k`.
+pub fn live<R: Threads + Wait + Sync, G: Gate>(
+    rt: &R,
+    alloc: Global,
+    options: &Options,
+    batches: &Batches,
+    readers: u32,
+    polls: u32,
+    attempts: u32,
+    gate: &G,
+) -> Result<LiveReport, LiveError>
+    requires options { AreOptions options.now }
+    requires readers { (1 ≤ readers) × (readers ≤ 16) }
+    requires polls { (1 ≤ polls) × (polls ≤ 10000) }
+    requires attempts { AreAttempts attempts }
+    ensures agrees { IfOk result (λ r. Agrees (run_of attempts readers polls batches.now r.flushes) batches.now r.polls) }
+    ensures whole { IfOk result (λ r. AreWhole options.now.name r.journal.writes (values_in batches.now) 0 r.flushes) }
+    ensures shut { IfOk result (λ r. IsShut options.now.name r.journal.writes (values_in batches.now)) }
+    ensures accepted { OnOk result (first_refused (new_file options.now) 0 1 batches.now ≡ None) }
+    ensures cause { IfErr result (IsCause (new_file options.now) batches.now) }
+{
+    let (image, mut seat, session) = match create(rt, alloc, options) {
+        Ok(created) => created,
+        Err(loss) => return Err(lost(loss)),
+    };
+    let Ok(seats) = seats(alloc, &image, &mut seat, readers) else {
+        return Err(LiveError::OutOfMemory);
+    };
+    let name = options.name.as_slice();
+    let (written, ended) = run(
+        rt,
+        alloc,
+        &image,
+        seat,
+        session,
+        seats,
+        batches.as_slice(),
+        name,
+        attempts,
+        polls,
+        gate,
+    );
+    finish(rt, &image, written, ended)
+}
