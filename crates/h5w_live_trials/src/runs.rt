@@ -17,7 +17,10 @@ fn report(outcome: Result<LiveReport, LiveError>) -> Result<LiveReport, Fail> {
 
 /// Asserts that the call found no rows right after the creation.
 fn check_empty(rt: &impl Abort, line: &PollLine, reader: u32, poll: u32) {
-    assert_eq!(rt; (line.reader, line.poll, line.before, line.after), (reader, poll, 5, 5));
+    assert_eq!(rt;
+        (line.reader, line.poll, line.before, line.after),
+        (reader, poll, 5, 5)
+    );
     assert!(rt; matches!(line.answer, Poll::Rows { rows: 0, sum: 0 }));
 }
 
@@ -50,6 +53,15 @@ fn an_empty_batch_has_no_line(rt: HostRuntime) -> Result<(), Fail> {
 fn the_first_batch_that_is_refused_is_the_answer(rt: HostRuntime) -> Result<(), Fail> {
     let batches: [&[i128]; 3] = [&[1], &[2, 1 << 31], &[1 << 40]];
     let outcome = run(&rt, rt.alloc(), &batches, 2, 2, &OpenGate)?;
-    assert!(rt; matches!(outcome, Err(LiveError::OutOfRange { batch: 2, index: 1, value: 2147483648 })));
+    assert!(rt;
+        matches!(
+            outcome,
+            Err(LiveError::OutOfRange {
+                batch: 2,
+                index: 1,
+                value: 2147483648
+            })
+        )
+    );
     Ok(())
 }
