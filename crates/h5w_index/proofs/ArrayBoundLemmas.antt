@@ -164,7 +164,7 @@ module _ (v : Store) (a : IsArray v) where
   move_len : (s : Space) (m : Move) (t : Space) → IsMove v.blocks v.places s m t → m.len ≤ 8214
   move_len s m t step = omega (arith, step.len, bytes_short v a m.number)
 
-  moves_raised : (s : Space) (ms : List Move) (t : Space) → AreMoves v.blocks v.places s ms t → IsRaised s t (length (out_of ms) * 8214)
+  pub moves_raised : (s : Space) (ms : List Move) (t : Space) → AreMoves v.blocks v.places s ms t → IsRaised s t (length (out_of ms) * 8214)
   moves_raised s [] t moves = raised_more s t 0 (0 * 8214) (omega arith) (raised_none s t (ap (λ (x : Space). x.end) moves) (ap (λ (x : Space). x.limit) moves))
   moves_raised s (m ∷ ms) t moves =
       let u = moves.0 in

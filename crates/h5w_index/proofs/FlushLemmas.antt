@@ -14,7 +14,7 @@ use Rattle.h5w_space.specs.declared.Extent.{Extent}
 use Rattle.h5w_cache.specs.StoreLaws.{Standing, range_of}
 use Rattle.h5w_cache.specs.Stores.{Store}
 use Rattle.h5w_cache.specs.Blocks.{BlockView}
-use Rattle.h5w_cache.specs.Plans.{bytes_of}
+use Rattle.h5w_cache.specs.Plans.{IsPlan, bytes_of}
 use Rattle.h5w_cache.proofs.FinishLemmas.{retired_end}
 use Rattle.h5w_cache.specs.declared.moves.Move.{Move}
 use Rattle.h5w_steps.specs.Moments.{Moment}
@@ -45,6 +45,9 @@ use Rattle.h5w_tree_index_laws.proofs.TreeHeaderLemmas.{header_long}
 use Rattle.h5w_tree_index_laws.proofs.TreePlanLemmas.{moves_taken}
 use Rattle.h5w_tree_index_laws.proofs.TreeLaws.{copies_are, tree_is_flush}
 use Rattle.h5w_tree_index_laws.proofs.TreeRestLemmas.{tree_rests_then}
+use Rattle.h5w_index.proofs.ArrayBoundLemmas.{moves_raised}
+use Rattle.h5w_index.proofs.RaisedLemmas.{retired_raised}
+use Rattle.h5w_index.proofs.TreeBoundLemmas.{nodes_raised}
 use Rattle.h5w_index.specs.Views.{an_array, a_tree, IsSoundTree, address_in}
 use Rattle.h5w_index.specs.Flushes.{IndexIsFlush, IndexRestsThen, IsIndexPart, IsWhole, PlanTells, PlanTold, RestsClean, RestsForgotten, RestsFreed, index_parts}
 
@@ -72,6 +75,10 @@ array_whole v ws a (inr two) =
     (All-cons P i (h ∷ []) (record { used = block_at (place_at_part v index_block) eaib_len; among = inr (inl refl); at_place = refl; long = top_long v index_block a tt refl })
     (All-cons P h [] (record { used = block_at (header_place v) eahd_len; among = inl refl; at_place = refl; long = top_long v header a tt refl }) (All-nil P)))
 
+array_limit : (v : Store) (s : Space) (ms : List Move) (cs fs : List Write) (w : Store) (t : Space) → IsArray v → IsPlan v s ms cs fs w t → t.limit ≡ s.limit
+array_limit v s ms cs fs w t is p =
+    (retired_raised p.roomy ms t p.retired).limit ∙ ap (λ (x : Space). x.limit) p.taken.roomy ∙ (moves_raised v is s ms p.taken.taken p.taken.moves).limit
+
 array_told : (v : Store) (s : Space) (ms : List Move) (cs fs : List Write) (w : Store) (t : Space) → IsArray v → IsArrayPlan v s ms cs fs w t → PlanTold (an_array v) s ms cs fs (an_array w) t
 array_told v s ms cs fs w t is p =
     let c = array_copies v s ms cs fs w t is p.plan in
@@ -83,6 +90,7 @@ array_told v s ms cs fs w t is p =
       stay = p.stay;
       map = λ key. p.map key.i;
       rises = p.end;
+      limit = array_limit v s ms cs fs w t is p.plan;
       copied = record { placed = c.are.placed; writes = c.are.writes; are = c.are.ranges };
       ends = subst (λ (us : List Used). AllEndBy t.end us) c.are.ranges p.ends;
       whole = array_whole w fs p.array p.fixed;
@@ -94,6 +102,10 @@ header_whole p v w = go (clean_of v.depth v.root)
     go : (b : Bool) → All (IsWhole (header_range p ∷ [])) (let ws : List Write = if b then [] else record { at = p; piece = bthd_bytes (header_of w) } ∷ [] in ws)
     go true = All-nil (IsWhole (header_range p ∷ []))
     go false = All-cons (IsWhole (header_range p ∷ [])) _ [] (record { used = header_range p; among = inl refl; at_place = refl; long = header_long (header_of w) }) (All-nil (IsWhole (header_range p ∷ [])))
+
+tree_limit : (p : ℕ) (v : Index) (s : Space) (ms : List Move) (cs fs : List Write) (w : Index) (t : Space) → IsTreePlan p v s ms cs fs w t → t.limit ≡ s.limit
+tree_limit p v s ms cs fs w t plan =
+    (retired_raised plan.roomy ms t plan.retired).limit ∙ ap (λ (x : Space). x.limit) plan.taken.roomy ∙ (nodes_raised s ms plan.taken.taken plan.taken.moves).limit
 
 tree_told : (p : ℕ) (v : Index) (s : Space) (ms : List Move) (cs fs : List Write) (w : Index) (t : Space) → IsSoundTree p v → IsTreePlan p v s ms cs fs w t → PlanTold (a_tree p v) s ms cs fs (a_tree p w) t
 tree_told p v s ms cs fs w t is plan =
@@ -108,6 +120,7 @@ tree_told p v s ms cs fs w t is plan =
       stay = refl;
       map = λ key. ap (λ (rs : List Record). in_leaf key (map record_of rs)) plan.records;
       rises = omega (arith, taken.rises, end);
+      limit = tree_limit p v s ms cs fs w t plan;
       copied = record { placed = written v.depth (news ms) v.root; writes = plan.copies; are = refl };
       ends = subst (λ (us : List Used). AllEndBy t.end us) (sym ranges) (λ u among. let live = taken.live u among in omega (arith, live.within, end));
       whole = subst (All (IsWhole (header_range p ∷ []))) (sym plan.in_place) (header_whole p v w);

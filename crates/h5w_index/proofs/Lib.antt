@@ -1,11 +1,11 @@
 pub mod ArrayBehindLemmas
 pub mod ToldLemmas
-pub mod FlushLemmas
-pub mod BeginLemmas
 pub mod CountLemmas
 pub mod RaisedLemmas
 pub mod ArrayBoundLemmas
 pub mod TreeBoundLemmas
+pub mod FlushLemmas
+pub mod BeginLemmas
 pub mod MarkLemmas
 pub mod PlacingLemmas
 pub mod DepthLemmas

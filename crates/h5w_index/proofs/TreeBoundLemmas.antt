@@ -25,7 +25,7 @@ use Rattle.h5w_index.proofs.RaisedLemmas.{raised_more, raised_none, raised_on, r
 
 -- ---- Places
 
-nodes_raised : (s : Space) (ms : List Move) (t : Space) → AreNodeMoves s ms t → IsRaised s t (length ms * 2048)
+pub nodes_raised : (s : Space) (ms : List Move) (t : Space) → AreNodeMoves s ms t → IsRaised s t (length ms * 2048)
 nodes_raised s [] t h = raised_more s t 0 (0 * 2048) (omega arith) (raised_none s t (ap (λ (x : Space). x.end) h) (ap (λ (x : Space). x.limit) h))
 nodes_raised s (m ∷ ms) t h =
     let first = raised_one s h.0 m.new node_size (h.1).step.takes in

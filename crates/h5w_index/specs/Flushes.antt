@@ -85,6 +85,7 @@ pub record PlanTold (v : IndexView) (s : Space) (ms : List Move) (copies fixed :
   pub stay : fixed_of w ≡ fixed_of v
   pub map : SameMap v w
   pub rises : s.end ≤ t.end
+  pub limit : t.limit ≡ s.limit
   pub copied : HasCopies v ms copies
   pub ends : AllEndBy t.end (block_ranges copied.placed)
   pub whole : All (IsWhole (fixed_of w)) fixed
