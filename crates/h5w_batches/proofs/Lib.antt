@@ -1,0 +1,4 @@
+pub mod RowLemmas
+pub mod LineLemmas
+pub mod InputLemmas
+pub mod AnswerLemmas

@@ -1,0 +1,7 @@
+pub use Rattle.h5w_model.specs.Causes
+pub use Rattle.h5w_text.specs.Lines
+pub use Rattle.h5w_text.specs.Scripts
+pub use Rattle.h5w_text.specs.Streams
+pub mod Batches
+pub mod Inputs
+pub mod Reads

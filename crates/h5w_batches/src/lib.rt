@@ -1,0 +1,13 @@
+//! The batches of an input of numbers.
+#![tactic(auto)]
+
+mod error;
+mod gathering;
+mod reading;
+#[cfg(test)]
+mod tests;
+
+pub use error::BatchError;
+pub use h5w_model::Values;
+pub use h5w_text::Source;
+pub use reading::read_batches;
