@@ -21,27 +21,27 @@ use Rattle.h5w_text.specs.declared.status.Status.{Status}
 use Rattle.h5w_text.specs.declared.status.Status.TheVariants.{Done, Usage, Missing, Exists, Format, Damaged, Flags, Again, Input, Limit, Disk, Source, Sink, Memory}
 
 -- each line of a script spells one
-no_gap : (lines more : List (List ℕ)) (line : List ℕ) (script : List Line) → play_line_of line ≡ None → map play_line_of (lines ++ line ∷ more) ≡ map Some script → ⊥
-no_gap [] more line [] none e = cc
-no_gap [] more line (l ∷ script) none e = cc
-no_gap (x ∷ lines) more line [] none e = cc
-no_gap (x ∷ lines) more line (l ∷ script) none e = let f : map play_line_of (lines ++ line ∷ more) ≡ map Some script = cc in no_gap lines more line script none f
+no_gap : (g : Rules) (lines more : List (List ℕ)) (line : List ℕ) (script : List Line) → play_line_of g line ≡ None → map (play_line_of g) (lines ++ line ∷ more) ≡ map Some script → ⊥
+no_gap g [] more line [] none e = cc
+no_gap g [] more line (l ∷ script) none e = cc
+no_gap g (x ∷ lines) more line [] none e = cc
+no_gap g (x ∷ lines) more line (l ∷ script) none e = let f : map (play_line_of g) (lines ++ line ∷ more) ≡ map Some script = cc in no_gap g lines more line script none f
 
-not_refused : (g : Rules) (s : SourceView) (text : List ℕ) → HasScript s → Refused g s text → ⊥
+not_refused : (g : Rules) (s : SourceView) (text : List ℕ) → HasScript g s → Refused g s text → ⊥
 not_refused g s text h r =
     let first : HasFirst (r.lines ++ r.line ∷ []) h.input = subst (λ (o : Option (List ℕ)). IfSome o (HasFirst (r.lines ++ r.line ∷ []))) h.told r.first in
-    no_gap r.lines (lines_of first.rest) r.line h.script r.outside (sym (ap (map play_line_of) (first.lines_are ∙ append_assoc r.lines (r.line ∷ []) (lines_of first.rest))) ∙ h.spelled)
+    no_gap g r.lines (lines_of first.rest) r.line h.script r.outside (sym (ap (map (play_line_of g)) (first.lines_are ∙ append_assoc r.lines (r.line ∷ []) (lines_of first.rest))) ∙ h.spelled)
 
-not_long : (g : Rules) (s : SourceView) (text : List ℕ) → HasScript s → TooLong g s text → ⊥
+not_long : (g : Rules) (s : SourceView) (text : List ℕ) → HasScript g s → TooLong g s text → ⊥
 not_long g s text h r =
     let long : (input_limit < length h.input) × (whole_lines_of (take input_limit h.input) ≡ r.lines) = subst (λ (o : Option (List ℕ)). IfSome o (λ input. (input_limit < length input) × (whole_lines_of (take input_limit input) ≡ r.lines))) h.told r.long in
     let bound = h.bound in let over = long.0 in omega (arith, bound, over)
 
-no_input : (g : Rules) (s : SourceView) (text : List ℕ) → HasScript s → Refused g s text ⊎ TooLong g s text → ⊥
+no_input : (g : Rules) (s : SourceView) (text : List ℕ) → HasScript g s → Refused g s text ⊎ TooLong g s text → ⊥
 no_input g s text h (inl r) = not_refused g s text h r
 no_input g s text h (inr r) = not_long g s text h r
 
-plays_whole : (g : Rules) (status : Status) (s t : SourceView) (k l : SinkView) → Plays g status s t k l → Completes status s t k l
+plays_whole : (g : Rules) (status : Status) (s t : SourceView) (k l : SinkView) → Plays g status s t k l → Completes g status s t k l
 plays_whole g Done s t k l p = λ h source sink. inl refl
 plays_whole g Usage s t k l p = absurd p.writes
 plays_whole g Missing s t k l p = absurd p.writes

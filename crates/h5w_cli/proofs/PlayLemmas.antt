@@ -62,7 +62,7 @@ rose_before a b c h r = omega arith
 pub record SoFar (g : Rules) (lines : List (List ℕ)) (text : List ℕ) (state : ScriptState) : Type 0 where
   pub script : List Line
   pub replies : List Reply
-  pub spelled : map play_line_of lines ≡ map Some script
+  pub spelled : map (play_line_of g) lines ≡ map Some script
   pub lawful : (ls : List Line) (rs : List Reply) → Lawful g state ls rs → Lawful g at_first (script ++ ls) (replies ++ rs)
   pub is : text ≡ flat_map reply_text replies
 
@@ -78,11 +78,11 @@ lawful_behind g script ls replies rs l r h =
     (subst (λ (y : List Reply). Lawful g at_first (script ++ (l ∷ ls)) y) (sym (append_assoc replies (r ∷ []) rs)) h)
 
 more_so_far : (g : Rules) (lines : List (List ℕ)) (text : List ℕ) (state : ScriptState) (line : List ℕ) (l : Line) (r : Reply)
-    → SoFar g lines text state → play_line_of line ≡ Some l → Allowed g state l r → SoFar g (lines ++ line ∷ []) (text ++ reply_text r) (next_state g state l r)
+    → SoFar g lines text state → play_line_of g line ≡ Some l → Allowed g state l r → SoFar g (lines ++ line ∷ []) (text ++ reply_text r) (next_state g state l r)
 more_so_far g lines text state line l r x spelled allowed = record {
   script = x.script ++ l ∷ [];
   replies = x.replies ++ r ∷ [];
-  spelled = map-append play_line_of lines (line ∷ []) ∙ ap (λ ls. ls ++ play_line_of line ∷ []) x.spelled ∙ ap (λ o. map Some x.script ++ o ∷ []) spelled ∙ sym (map-append Some x.script (l ∷ []));
+  spelled = map-append (play_line_of g) lines (line ∷ []) ∙ ap (λ ls. ls ++ play_line_of g line ∷ []) x.spelled ∙ ap (λ o. map Some x.script ++ o ∷ []) spelled ∙ sym (map-append Some x.script (l ∷ []));
   lawful = λ ls rs h. lawful_behind g x.script ls x.replies rs l r (x.lawful (l ∷ ls) (r ∷ rs) (allowed, h));
   is = ap (λ t. t ++ reply_text r) x.is ∙ flat_map_more reply_text [] x.replies r;
 }
@@ -147,7 +147,7 @@ going_more {v} {u} {w} {begun} {old} {new} {number} {k} {l} {m} line bytes x giv
       lines = x.lines ++ line ∷ [];
       text = x.text ++ reply_text a.reply;
       state = next_state (rules_of begun) x.state a.line a.reply;
-      so_far = more_so_far (rules_of begun) x.lines x.text x.state line a.line a.reply x.so_far a.spelled s.0;
+      so_far = more_so_far (rules_of begun) x.lines x.text x.state line a.line a.reply x.so_far (subst (λ (g : Rules). play_line_of g line ≡ Some a.line) x.rules a.spelled) s.0;
       count = omega (arith, x.count, length-append x.lines (line ∷ []));
       room = omega (arith, x.room, given.room);
       taken = x.taken ++ bytes;
@@ -278,7 +278,7 @@ ended_at_line {v} {u} {w} {begun} {world} {number} {k} {l} t m line (endings.Lin
     lines = x.lines;
     line = line;
     first = more_first x.taken line (x.lines ++ line ∷ []) room x.passed given (lines_more (lines_left v) x.lines line u w x.first given);
-    outside = h.1;
+    outside = subst (λ (g : Rules). play_line_of g line ≡ None) x.rules h.1;
     answers = x.text;
     replied = replied_of (rules_of begun) x.lines x.text x.state x.so_far;
     is = ap (λ i. x.text ++ error_text (errors.Line i)) (h.0 ∙ ap (λ i. i + 1) x.count);
@@ -297,7 +297,7 @@ ended_at_line {v} {u} {w} {begun} {world} {number} {k} {l} t m line endings.Sink
         first = more_first x.taken line (x.lines ++ line ∷ []) room x.passed given (lines_more (lines_left v) x.lines line u w x.first given);
         answers = x.text ++ reply_text h.reply;
         replied = replied_of (rules_of begun) (x.lines ++ line ∷ []) (x.text ++ reply_text h.reply) (next_state (rules_of begun) x.state h.line h.reply)
-            (more_so_far (rules_of begun) x.lines x.text x.state line h.line h.reply x.so_far h.spelled s.0);
+            (more_so_far (rules_of begun) x.lines x.text x.state line h.line h.reply x.so_far (subst (λ (g : Rules). play_line_of g line ≡ Some h.line) x.rules h.spelled) s.0);
         is = sym (append-nil (x.text ++ reply_text h.reply));
       };
       gave = gave_then_some x.text (reply_text h.reply) x.gave h.gave;

@@ -10,7 +10,7 @@ use Rattle.h5w_text.specs.Errors.{error_text}
 use Rattle.h5w_text.specs.declared.error.ErrorLine.TheVariants as errors
 use Rattle.h5w_text.specs.declared.line.LineError.{LineError}
 use Rattle.h5w_text.specs.declared.line.LineError.TheVariants as line_errors
-use Rattle.h5w_core.specs.Worlds.{WorldView}
+use Rattle.h5w_core.specs.Worlds.{WorldView, rules_of}
 use Rattle.h5w_cli.specs.Answers.{Answers, play_line_of}
 use Rattle.h5w_cli.specs.Plays.{Begun, Broken, Finished, Writes, input_limit}
 use Rattle.h5w_cli.specs.declared.ending.Ending.{Ending}
@@ -31,7 +31,7 @@ outside v = record { left = v.left; faults = v.faults; through = v.through }
 pub record Answered (bytes : List ℕ) (old new : WorldView) (k l : SinkView) : Type 0 where
   pub line : ScriptedLine
   pub reply : Reply
-  pub spelled : play_line_of bytes ≡ Some line
+  pub spelled : play_line_of (rules_of old) bytes ≡ Some line
   pub answers : Answers old line reply new
   pub gave : Gave (reply_text reply) k l
 
@@ -41,13 +41,13 @@ pub record HalfAnswered (bytes : List ℕ) (old : WorldView) (k l : SinkView) : 
   pub line : ScriptedLine
   pub reply : Reply
   pub new : WorldView
-  pub spelled : play_line_of bytes ≡ Some line
+  pub spelled : play_line_of (rules_of old) bytes ≡ Some line
   pub answers : Answers old line reply new
   pub gave : GaveSome (reply_text reply) k l
 
 -- the script ends at a line of the input, of this number
 abbrev pub EndsAt : List ℕ → ℕ → WorldView → SinkView → SinkView → Ending → Type 0
-EndsAt bytes number old k l (Line n) = (n ≡ number) × (play_line_of bytes ≡ None) × (l ≡ k)
+EndsAt bytes number old k l (Line n) = (n ≡ number) × (play_line_of (rules_of old) bytes ≡ None) × (l ≡ k)
 EndsAt bytes number old k l Input = ⊥
 EndsAt bytes number old k l Source = ⊥
 EndsAt bytes number old k l Sink = HalfAnswered bytes old k l

@@ -21,7 +21,7 @@ input_limit = 2 ^ 40
 pub record Replied (g : Rules) (lines : List (List ℕ)) (text : List ℕ) : Type 0 where
   pub script : List Line
   pub replies : List Reply
-  pub spelled : map play_line_of lines ≡ map Some script
+  pub spelled : map (play_line_of g) lines ≡ map Some script
   pub lawful : Lawful g at_first script replies
   pub is : text ≡ flat_map reply_text replies
 
@@ -60,7 +60,7 @@ pub record Refused (g : Rules) (s : SourceView) (text : List ℕ) : Type 0 where
   pub lines : List (List ℕ)
   pub line : List ℕ
   pub first : AreFirst (lines ++ line ∷ []) s
-  pub outside : play_line_of line ≡ None
+  pub outside : play_line_of g line ≡ None
   pub answers : List ℕ
   pub replied : Replied g lines answers
   pub is : text ≡ answers ++ error_text (errors.Line (length lines + 1))
@@ -126,13 +126,13 @@ pub record SameSource (s t : SourceView) : Type 0 where
   pub through : t.through ≡ s.through
 
 -- a source tells an input, which is not too long, and whose lines spell the lines of a script
-pub record HasScript (s : SourceView) : Type 0 where
+pub record HasScript (g : Rules) (s : SourceView) : Type 0 where
   pub input : List ℕ
   pub told : s.left ≡ Some input
   pub bound : length input ≤ input_limit
   pub script : List Line
-  pub spelled : map play_line_of (lines_of input) ≡ map Some script
+  pub spelled : map (play_line_of g) (lines_of input) ≡ map Some script
 
 -- a run of a script that neither source nor sink failed in ends when all is done, or for want of memory
-abbrev pub Completes : Status → SourceView → SourceView → SinkView → SinkView → Type 0
-Completes status s t k l = HasScript s → (Rose s.faults t.faults → ⊥) → (Rose k.faults l.faults → ⊥) → (status ≡ Done) ⊎ (status ≡ Memory)
+abbrev pub Completes : Rules → Status → SourceView → SourceView → SinkView → SinkView → Type 0
+Completes g status s t k l = HasScript g s → (Rose s.faults t.faults → ⊥) → (Rose k.faults l.faults → ⊥) → (status ≡ Done) ⊎ (status ≡ Memory)

@@ -46,7 +46,7 @@ Ran (Some job) status s t k l v w = Does job status s t k l v w
 
 -- a job is done, or memory is wanted, where nothing else stands in its way; the file of an append may have no place
 abbrev pub DoesWhole : Job → Status → SourceView → SourceView → SinkView → SinkView → DiskView → DiskView → Type 0
-DoesWhole (Play options attempts) status s t k l v w = Completes status s t k l
+DoesWhole (Play options attempts) status s t k l v w = Completes (rules_for options attempts) status s t k l
 DoesWhole (New file options) status s t k l v w = EndsWell (end_of (new_file options)) file v w status k l
 DoesWhole (Check file name) status s t k l v w = EndsWell (check_of name) file v w status k l
 DoesWhole (Poll file name times attempts values) status s t k l v w = EndsWell (poll_of (reader_rules name attempts) values) file v w status k l

@@ -3,6 +3,7 @@ ghost use Rattle.std.specs.Prelude.{◌≡◌, ◌≤◌, ℕ, List, length, Som
 ghost use Rattle.h5w_model.specs.Lawful.{Line as ScriptedLine, looks, shows_up_to};
 ghost use Rattle.h5w_text.specs.LinesAhead.{IsLine};
 ghost use Rattle.h5w_text.specs.Words.{line_of_script};
+ghost use Rattle.h5w_core.specs.Worlds.{rules_of};
 ghost use Rattle.h5w_cli.specs.Answers.{Answers, InRange, play_line_of};
 
 use h5w_core::{Event, OutOfMemory, Reply, World};
@@ -77,7 +78,7 @@ fn look(world: &mut World, reader: u64, most: u64) -> Result<Reply, OutOfMemory>
 
 /// The reply to a line of a script.
 fn reply(world: &mut World, line: ScriptLine) -> Result<Reply, OutOfMemory>
-    requires { InRange (line_of_script line) }
+    requires { InRange (rules_of world.old).cutting.columns (line_of_script line) }
     ensures { IfOk result (λ reply. Answers world.old (line_of_script line) reply world.new) }
 {
     match line {
@@ -102,12 +103,12 @@ fn reply(world: &mut World, line: ScriptLine) -> Result<Reply, OutOfMemory>
 
 /// The reply to a line of the input.
 pub fn answer(alloc: Global, world: &mut World, line: &TextLine) -> Result<Reply, Refusal>
-    ensures answers { IfOk result (λ reply. (bytes : List ℕ) → IsLine line.now bytes → (l : ScriptedLine) × (play_line_of bytes ≡ Some l) × Answers world.old l reply world.new) }
-    ensures refused { result ≡ Err Refusal.Line → (bytes : List ℕ) → IsLine line.now bytes → play_line_of bytes ≡ None }
+    ensures answers { IfOk result (λ reply. (bytes : List ℕ) → IsLine line.now bytes → (l : ScriptedLine) × (play_line_of (rules_of world.old) bytes ≡ Some l) × Answers world.old l reply world.new) }
+    ensures refused { result ≡ Err Refusal.Line → (bytes : List ℕ) → IsLine line.now bytes → play_line_of (rules_of world.old) bytes ≡ None }
 {
     let TextLine::Whole(bytes) = line else {
         return Err(Refusal::Line);
     };
-    let line = script_line(alloc, bytes.as_slice(), 1)?;
+    let line = script_line(alloc, bytes.as_slice(), world.columns())?;
     Ok(reply(world, line)?)
 }

@@ -13,6 +13,7 @@ mod changing;
 mod files;
 mod new_files;
 mod rows;
+mod trees;
 mod types;
 
 use appends::APPEND_ROWS;
@@ -20,6 +21,7 @@ use changing::Changing;
 use files::FILE_ROWS;
 use new_files::NEW_ROWS;
 use rows::ROWS;
+use trees::TREE_ROWS;
 use types::TYPE_ROWS;
 
 /// What the program is given in a step, and what is wanted of it. The number of a call that fails is 0 where none does.
@@ -283,6 +285,9 @@ fn rows_are_answered(rt: HostRuntime) -> Result<(), Fail> {
         check_row(&rt, row)?;
     }
     for row in NEW_ROWS.split('#').skip(1) {
+        check_row(&rt, row)?;
+    }
+    for row in TREE_ROWS.split('#').skip(1) {
         check_row(&rt, row)?;
     }
     for row in APPEND_ROWS.split('#').skip(1) {

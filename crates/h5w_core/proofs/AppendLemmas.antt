@@ -15,7 +15,7 @@ use Rattle.h5w_session.specs.declared.refusal.AppendError.{AppendError}
 use Rattle.h5w_session.specs.declared.refusal.AppendError.TheVariants as errors
 use Rattle.h5w_session.proofs.LawLemmas.{standing_laws}
 use Rattle.h5w_core.specs.Worlds.{AreRowsBy, WorldView, HaveOneLog, IsStateOf, Steps, polling_of, rules_of}
-use Rattle.h5w_core.proofs.StateLemmas.{columns_of, in_rows, load_of-log, more_rows, some_columns, spent_in-events}
+use Rattle.h5w_core.proofs.StateLemmas.{columns_of, in_rows, load_of-log, more_rows, new_now, some_columns, spent_in-events}
 use Rattle.h5w_core.proofs.WorldLemmas.{world_of, changed}
 use Rattle.h5w_image.specs.Memory.{MemView}
 use Rattle.h5w_image.specs.View.{Same}
@@ -100,6 +100,38 @@ IsOwn (errors.OutOfRange index value) = Unit {0}
 IsOwn (errors.Chunks chunks limit) = Unit {0}
 IsOwn errors.Failed = ⊥
 IsOwn errors.OutOfMemory = ⊥
+
+abbrev refusal_by : (stopped busy past : Bool) → (pending chunks limit : ℕ) → Option (ℕ × ℤ) → Option AppendError
+refusal_by stopped busy past pending chunks limit o =
+    if stopped then Some errors.Stopped
+    else if busy then Some (errors.Busy pending)
+    else elim o [ Some x ↦ Some (errors.OutOfRange x.0 x.1) | None ↦ if past then Some (errors.Chunks chunks limit) else None ]
+
+same_error : (e f : AppendError) → ◌≡◌ {A = Option AppendError} (Some e) (Some f) → e ≡ f
+same_error e f h = cc
+
+is_own : (stopped busy past : Bool) (pending chunks limit : ℕ) (o : Option (ℕ × ℤ)) (e : AppendError) → refusal_by stopped busy past pending chunks limit o ≡ Some e → IsOwn e
+is_own true busy past pending chunks limit o e h = subst IsOwn (same_error errors.Stopped e h) tt
+is_own false true past pending chunks limit o e h = subst IsOwn (same_error (errors.Busy pending) e h) tt
+is_own false false past pending chunks limit (Some x) e h = subst IsOwn (same_error (errors.OutOfRange x.0 x.1) e h) tt
+is_own false false true pending chunks limit None e h = subst IsOwn (same_error (errors.Chunks chunks limit) e h) tt
+is_own false false false pending chunks limit None e h = cc
+
+-- memory is wanted where nothing is refused first
+pub append_memory : (s : Session) (vs : List ℤ) (r : Result ℕ AppendError) → ((e : AppendError) → append_refusal s vs ≡ Some e → r ≡ Err e) → r ≡ Err errors.OutOfMemory → append_refusal s vs ≡ None
+append_memory s vs r refused is = go (append_refusal s vs) refl
+  where
+    error_is : (e : AppendError) → ◌≡◌ {A = Result ℕ AppendError} (Err e) (Err errors.OutOfMemory) → e ≡ errors.OutOfMemory
+    error_is e h = cc
+
+    more : ℕ
+    more = length vs / s.dataset.shape.cols
+
+    go : (o : Option AppendError) → append_refusal s vs ≡ o → append_refusal s vs ≡ None
+    go None h = h
+    go (Some e) h =
+        absurd (subst IsOwn (error_is e (sym (refused e h) ∙ is))
+        (is_own s.stopped (nat_lt 0 (length s.pending)) (nat_lt (chunk_limit s) (chunks_with s more)) (length s.pending) (chunks_with s more) (chunk_limit s) (first_outside s.dataset.int_type 0 vs) e h))
 
 -- its reply leaves the state, and tells no rows
 refused_state : (g : Rules) (s : ScriptState) (vs : List ℤ) (e : AppendError) → IsOwn e → next_state g s (adds vs) (append_answer (Some e) 0) ≡ s
@@ -199,7 +231,7 @@ appended_steps w vs rows accepted carries =
             ∙ sym (append_reply-answer w s fits.log vs rows fits.stands.stands fits.state),
         record {
           log = and_now (appends vs) fits.log;
-          stands = record { stands = carries fits.log fits.stands.stands; new = ap (and_now (appends vs)) fits.stands.new; journal = fits.stands.journal; bytes = fits.stands.bytes };
+          stands = record { stands = carries fits.log fits.stands.stands; new = new_now (appends vs) fits.log fits.stands.new; journal = fits.stands.journal; bytes = fits.stands.bytes };
           state = appended_state w vs s fits.log accepted fits.stands.stands fits.state;
         },
       );

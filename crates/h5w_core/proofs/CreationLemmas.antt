@@ -1,6 +1,6 @@
 -- The pieces of a new file become visible, one after another.
 use Rattle.std.proofs.Common.{◌≡◌, ℕ, zero, suc, ◌+◌, ◌/◌, ◌<◌, ◌≤◌, List, [], ◌∷◌, ◌++◌, length, replicate, get_or, sym, refl, ap, ◌∙◌, subst, arith, append_assoc, length-append, nat_lt, Option, Some, None, option_map}
-use Rattle.std.proofs.lemmas.List.{append-nil, nil_from_length}
+use Rattle.std.proofs.lemmas.List.{append-nil, length-map, nil_from_length}
 use Rattle.std.specs.Option.{unwrap_or}
 use Rattle.h5w_model.specs.Images.{image}
 use Rattle.h5w_model.specs.Datasets.{Described}
@@ -13,8 +13,11 @@ use Rattle.h5w_image.specs.View.{Same, Wrote}
 use Rattle.h5w_polling.specs.Polling.{MayPoll}
 use Rattle.h5w_model.specs.Unfinished.{Reader}
 use Rattle.h5w_reader.specs.declared.reader.ReaderCore.{ReaderCore}
+use Rattle.h5w_options.specs.Options.{AreOptions}
 use Rattle.h5w_options.specs.declared.options.Options.{Options}
-use Rattle.h5w_session.specs.Creations.{created, creation_writes, log_of, new_dataset, new_file}
+use Rattle.h5w_creation_laws.specs.CreatedFiles.{block_write, created_blocks, created_log, created_writes, described_of}
+use Rattle.h5w_session.specs.Creations.{IsCreated, log_of, new_file}
+use Rattle.h5w_session.proofs.OptionLemmas.{creatable}
 use Rattle.h5w_session.specs.Room.{HasRoomFor}
 use Rattle.h5w_session.specs.Sessions.{Session, AfterPiece, cutting_of, rows_of}
 use Rattle.h5w_session.specs.Stands.{Stands}
@@ -24,21 +27,28 @@ use Rattle.h5w_core.specs.Readers.{placed, reader_at}
 use Rattle.h5w_steady.specs.Steady.{steady}
 use Rattle.h5w_core.specs.Worlds.{HaveOneLog, HoldsTogether, nobody, polling_of, rules_for, rules_of}
 use Rattle.h5w_core.proofs.ShowLemmas.{after_facts, same_cutting}
-use Rattle.h5w_core.proofs.StateLemmas.{in_rows, rules_by, spent_in-events}
+use Rattle.h5w_core.proofs.StateLemmas.{new_now, rules_by, spent_in-events}
 use Rattle.h5w_core.proofs.WorldLemmas.{world_of}
 
 some_is : {A : Type 0} (a b : A) → Some a ≡ Some b → a ≡ b
 some_is a b same = ap (λ o. unwrap_or o a) same
 
+-- how many they are
+abbrev pub total : Options → ℕ
+total o = length (created_writes (new_file o))
+
 -- none is visible yet
-pub begins : (o : Options) (s : Session) (m n : MemView) → s ≡ created (new_file o) → Stands s (log_of []) → m ≡ fresh [] [] → Same (steady m) (steady n) → length s.pending + 1 ≤ n.pieces → s.places.end ≤ n.end
+pub begins : (o : Options) (s : Session) (m n : MemView) → AreOptions o → IsCreated (new_file o) o.limit s → Stands s (created_log (new_file o)) → m ≡ fresh [] [] → Same (steady m) (steady n) → length s.pending + 1 ≤ n.pieces → s.places.end ≤ n.end
     → Creates o 0 s n
-begins o s m n is stands empty same pieces end =
+begins o s m n by c stands empty same pieces end =
+    let is = c.session in
     let history : n.history ≡ [] = some_is n.history m.history same.history ∙ ap (λ (v : MemView). v.history) empty in
     record {
-      log = log_of [];
+      log = created_log (new_file o);
       stands = stands;
-      new = refl;
+      new = record { file = new_file o; is = creatable o by; log_is = refl };
+      is = refl;
+      none = refl;
       history = history;
       bytes = some_is n.bytes m.bytes same.bytes ∙ ap (λ (v : MemView). v.bytes) empty;
       dataset = ap (λ (x : Session). x.dataset) is;
@@ -52,12 +62,12 @@ begins o s m n is stands empty same pieces end =
       room = record { pieces = pieces; end = end };
     }
 
--- a piece is left as long as not all five are visible
-some_left : (o : Options) (count : ℕ) (s : Session) (m : MemView) → Creates o count s m → length s.pending + count ≡ 5
+-- a piece is left as long as not all are visible
+some_left : (o : Options) (count : ℕ) (s : Session) (m : MemView) → Creates o count s m → length s.pending + count ≡ total o
 some_left o count s m start = omega (arith, length-append m.history s.pending, ap length start.pieces, start.shown)
 
 -- one more
-new_committed : (s : Session) (ws : List Write) (t : Session) (o : Options) → AfterPiece s ws t → s.dataset ≡ new_dataset (new_file o) → s.committed ≡ 0 → t.committed ≡ 0
+new_committed : (s : Session) (ws : List Write) (t : Session) (o : Options) → AfterPiece s ws t → s.dataset ≡ described_of (new_file o) → s.committed ≡ 0 → t.committed ≡ 0
 new_committed s [] t o after dataset none = ap (λ (x : Session). x.committed) after.1 ∙ ap (λ (d : Described). d.shape.rows) dataset
 new_committed s (w ∷ ws) t o after dataset none = ap (λ (x : Session). x.committed) after ∙ none
 
@@ -70,7 +80,9 @@ piece_more o count s t m n piece pieces pending start shown wrote stands room =
     record {
       log = and_now (shows piece) log;
       stands = stands log start.stands;
-      new = ap (and_now (shows piece)) start.new;
+      new = new_now (shows piece) log start.new;
+      is = ap (and_now (shows piece)) start.is;
+      none = start.none;
       history = history ∙ ap (λ (ws : List Write). ws ++ piece ∷ []) start.history;
       bytes = some_is n.bytes (image m.bytes (piece ∷ [])) wrote.bytes ∙ ap (λ (b : List ℕ). image b (piece ∷ [])) start.bytes ∙ sym (image-push [] (hist log.events) piece);
       dataset = after.dataset ∙ start.dataset;
@@ -96,15 +108,15 @@ pieces_more o count s t m n [] pending some start shown room = absurd (omega ari
 pieces_more o count s t m n (w ∷ ws) pending some start shown room =
     let h = shown w ws pending in piece_more o count s t m n w ws pending start h.0 h.1 h.2 room
 
-pub shows_more : (o : Options) (count : ℕ) (s t : Session) (m n : MemView) → count < 5 → Creates o count s m → ShowsPiece s t m n → HasRoomFor t (steady n) → Creates o (count + 1) t n
+pub shows_more : (o : Options) (count : ℕ) (s t : Session) (m n : MemView) → count < total o → Creates o count s m → ShowsPiece s t m n → HasRoomFor t (steady n) → Creates o (count + 1) t n
 shows_more o count s t m n few start shown room = pieces_more o count s t m n s.pending refl (omega (arith, some_left o count s m start)) start shown room
 
--- ---- All five are visible
+-- ---- All are visible
 
-all_shown : (o : Options) (s : Session) (m : MemView) → Creates o 5 s m → s.pending ≡ []
-all_shown o s m start = nil_from_length s.pending (omega (arith, some_left o 5 s m start))
+all_shown : (o : Options) (s : Session) (m : MemView) → Creates o (total o) s m → s.pending ≡ []
+all_shown o s m start = nil_from_length s.pending (omega (arith, some_left o (total o) s m start))
 
-pub all_created : (o : Options) (s : Session) (m : MemView) → Creates o 5 s m → m.history ≡ creation_writes (new_file o)
+pub all_created : (o : Options) (s : Session) (m : MemView) → Creates o (total o) s m → m.history ≡ created_writes (new_file o)
 all_created o s m start = sym (append-nil m.history) ∙ ap (λ (ws : List Write). m.history ++ ws) (sym (all_shown o s m start)) ∙ start.pieces
 
 -- no place has a reader
@@ -119,21 +131,17 @@ nowhere (suc n) (suc r) = nowhere n r
 nobody_at : (r : ℕ) → reader_at nobody r ≡ None
 nobody_at r = ap placed (nowhere 17 r)
 
-created_fits : (o : Options) (attempts : ℕ) (s : Session) (m : MemView) → 1 ≤ attempts → Creates o 5 s m → HaveOneLog (world_of s m attempts nobody) at_first
+created_fits : (o : Options) (attempts : ℕ) (s : Session) (m : MemView) → 1 ≤ attempts → Creates o (total o) s m → HaveOneLog (world_of s m attempts nobody) at_first
 created_fits o attempts s m some start =
     let w = world_of s m attempts nobody in
     let shown = all_shown o s m start in
-    let one : s.dataset.shape.cols ≡ 1 = ap (λ (d : Described). d.shape.cols) start.dataset in
-    let rows_none : s.dataset.shape.rows ≡ 0 = ap (λ (d : Described). d.shape.rows) start.dataset in
-    let whole : length (appended start.log) / 1 ≡ length (appended start.log) = omega arith in
-    let counted : rows_of s ≡ length (appended start.log) =
-    standing_laws.appended_rows s start.log start.stands ∙ in_rows s start.log (appended start.log) start.stands ∙ ap (λ (c : ℕ). length (appended start.log) / c) one ∙ whole in
-    let pieces : length (hist start.log.events) ≡ 5 = ap length (sym start.history) ∙ start.shown in
+    let pieces : length (hist start.log.events) ≡ total o = ap length (sym start.history) ∙ start.shown in
+    let count : total o ≡ length (created_blocks (new_file o)) = length-map (created_blocks (new_file o)) block_write in
     record {
       log = start.log;
       stands = record { stands = start.stands; new = start.new; journal = start.history; bytes = start.bytes };
       state = record {
-        appended = sym (nil_from_length (appended start.log) (omega (arith, counted, rows_none, start.waits)));
+        appended = sym start.none;
         flushed = sym start.committed ∙ standing_laws.flushed_rows s start.log start.stands;
         pending = ap length (sym shown);
         ends_flush = ap (λ (ws : List Write). nat_lt 0 (length ws)) (sym shown);
@@ -141,26 +149,25 @@ created_fits o attempts s m some start =
         spent = sym start.loads;
         stopped = sym start.going;
         tries = some;
-        begun = let first : start.log.first ≡ 5 = ap (λ (l : Log). l.first) start.new in omega (arith, pieces, first);
+        begun = let first : start.log.first ≡ length (created_blocks (new_file o)) = ap (λ (l : Log). l.first) start.is in omega (arith, pieces, first, count);
         polls = λ r. subst (λ (o : Option Reader). MayPoll (polling_of w) start.log None o) (sym (nobody_at r)) tt;
       };
     }
 
-pub created_rules : (o : Options) (attempts : ℕ) (s : Session) (m : MemView) (readers : List (Option ReaderCore)) → Creates o 5 s m → rules_of (world_of s m attempts readers) ≡ rules_for o attempts
+pub created_rules : (o : Options) (attempts : ℕ) (s : Session) (m : MemView) (readers : List (Option ReaderCore)) → Creates o (total o) s m → rules_of (world_of s m attempts readers) ≡ rules_for o attempts
 created_rules o attempts s m readers start = λ i. rules_by (start.dataset i) (start.limit i) attempts
 
-pub created_world_fits : (o : Options) (attempts : ℕ) (s : Session) (m : MemView) (readers : List (Option ReaderCore)) → 1 ≤ attempts → Creates o 5 s m → readers ≡ nobody
+pub created_world_fits : (o : Options) (attempts : ℕ) (s : Session) (m : MemView) (readers : List (Option ReaderCore)) → 1 ≤ attempts → Creates o (total o) s m → readers ≡ nobody
     → HaveOneLog (world_of s m attempts readers) at_first
 created_world_fits o attempts s m readers some start none =
     subst (λ (places : List (Option ReaderCore)). HaveOneLog (world_of s m attempts places) at_first) (sym none) (created_fits o attempts s m some start)
 
-pub created_holds : (o : Options) (attempts : ℕ) (s : Session) (m : MemView) (readers : List (Option ReaderCore)) → 1 ≤ attempts → Creates o 5 s m → readers ≡ nobody → HoldsTogether s m attempts readers
+pub created_holds : (o : Options) (attempts : ℕ) (s : Session) (m : MemView) (readers : List (Option ReaderCore)) → 1 ≤ attempts → Creates o (total o) s m → readers ≡ nobody → HoldsTogether s m attempts readers
 created_holds o attempts s m readers some start none =
     record {
       room = start.room;
       folds = start.bytes ∙ ap (image []) (sym start.history);
       places = ap length none;
-      one_column = ap (λ (d : Described). d.shape.cols) start.dataset;
       script = at_first;
       fits = created_world_fits o attempts s m readers some start none;
     }

@@ -31,7 +31,7 @@ use Rattle.h5w_session.proofs.PastLemmas.{new_end}
 use Rattle.h5w_core.specs.Readers.{reader_at}
 use Rattle.h5w_steady.specs.Steady.{steady}
 use Rattle.h5w_core.specs.Worlds.{WorldView, HaveOneLog, IsStateOf, Steps, polling_by, polling_of, rules_of}
-use Rattle.h5w_core.proofs.StateLemmas.{columns_of, in_rows, load_of-log, rules_by, spent_in-events}
+use Rattle.h5w_core.proofs.StateLemmas.{columns_of, in_rows, load_of-log, new_now, rules_by, spent_in-events}
 use Rattle.h5w_core.proofs.WorldLemmas.{world_of, replaced}
 
 -- ---- A session that may hold more blocks
@@ -200,7 +200,7 @@ planned_steps w t pieces flush =
         flush_allowed w t s fits.log pieces flush fits.stands.stands fits.state,
         record {
           log = and_now (plans pieces) fits.log;
-          stands = record { stands = flush.carries fits.log fits.stands.stands; new = ap (and_now (plans pieces)) fits.stands.new; journal = fits.stands.journal; bytes = fits.stands.bytes };
+          stands = record { stands = flush.carries fits.log fits.stands.stands; new = new_now (plans pieces) fits.log fits.stands.new; journal = fits.stands.journal; bytes = fits.stands.bytes };
           state = planned_state w t s fits.log pieces flush fits.stands.stands fits.state;
         },
       );

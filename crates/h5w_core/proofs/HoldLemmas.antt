@@ -24,6 +24,7 @@ use Rattle.h5w_core.specs.Worlds.{AreRowsBy, HaveOneLog, HoldsMore, HoldsTogethe
 use Rattle.h5w_core.proofs.AppendLemmas.{append_done}
 use Rattle.h5w_core.proofs.FlushLemmas.{IsAnswered, LeavesSession, flush_done, held_log}
 use Rattle.h5w_core.proofs.ShowLemmas.{idle_steps, nothing_logged, show_done, show_logged}
+use Rattle.h5w_core.proofs.StateLemmas.{new_now}
 use Rattle.h5w_core.proofs.WorldLemmas.{changed, replaced, same_folded, still_folded, world_of}
 
 -- after an event, whatever the reply
@@ -33,7 +34,6 @@ steps_hold s t m n attempts places others event reply h steps room folds count =
   room = room;
   folds = folds;
   places = count;
-  one_column = ap (λ (g : Rules). g.cutting.columns) steps.rules ∙ h.one_column;
   script = next_state (rules_of (world_of s m attempts places)) h.script (line_of event) reply;
   fits = (steps.lawful h.script h.fits).1;
 }
@@ -50,20 +50,11 @@ same_hold s t m n attempts places h same is = record {
   room = same_room s t m n same is h.room;
   folds = same_folded m n same h.folds;
   places = h.places;
-  one_column = ap (λ (x : Session). x.dataset.shape.cols) is ∙ h.one_column;
   script = h.script;
   fits = subst (λ (w : WorldView). HaveOneLog w h.script) (sym (changed s t m n attempts places same (λ x. x) is)) h.fits;
 }
 
 -- ---- The writer's calls
-
--- a world's dataset has one column, so that any values are rows of it
-pub are_rows : (s : Session) (m : MemView) (attempts : ℕ) (places : List (Option ReaderCore)) (vs : List ℤ) → HoldsTogether s m attempts places → AreRowsBy (rules_of (world_of s m attempts places)) vs
-are_rows s m attempts places vs h =
-    (length vs, (let whole : length vs ≡ length vs * 1 = omega arith in whole ∙ ap (λ (n : ℕ). length vs * n) (sym h.one_column)))
-
-pub are_rows_of : (s : Session) (m : MemView) (attempts : ℕ) (places : List (Option ReaderCore)) (w : WorldView) (vs : List ℤ) → world_of s m attempts places ≡ w → HoldsTogether s m attempts places → AreRowsBy (rules_of w) vs
-are_rows_of s m attempts places w vs view h = subst (λ (x : WorldView). AreRowsBy (rules_of x) vs) view (are_rows s m attempts places vs h)
 
 pub append_hold : (s t : Session) (m n : MemView) (attempts : ℕ) (places : List (Option ReaderCore)) (vs : List ℤ) (r : Result ℕ AppendError) → AreRowsBy (rules_of (world_of s m attempts places)) vs → HoldsTogether s m attempts places → Same (steady m) (steady n)
     → OnOk r (t ≡ with_values s vs) → IfOk r (λ rows. rows ≡ rows_of t) → OnOk r ((log : Log) → Stands s log → Stands t (and_now (appends vs) log)) → ((e : AppendError) → append_refusal s vs ≡ Some e → r ≡ Err e)
@@ -85,7 +76,6 @@ held_hold s t m n attempts places h same left = record {
   room = held_room s t m n same left.same h.room;
   folds = same_folded m n same h.folds;
   places = h.places;
-  one_column = ap (λ (x : Session). x.dataset.shape.cols) left.same.session ∙ h.one_column;
   script = h.script;
   fits =
       subst (λ (w : WorldView). HaveOneLog w h.script) (sym (replaced s t m n attempts places same))
@@ -246,11 +236,11 @@ pub appended_stands : (s t : Session) (m n : MemView) (attempts : ℕ) (vs : Lis
 appended_stands s t m n attempts vs places w log view same stands stood =
     let there : StandsFor (world_of s m attempts places) log = subst (λ (x : WorldView). StandsFor x log) (sym view) stood in
     subst (λ (x : WorldView). StandsFor x (and_now (appends vs) log)) (sym (replaced s t m n attempts places same))
-    (record { stands = stands log there.stands; new = ap (and_now (appends vs)) there.new; journal = there.journal; bytes = there.bytes })
+    (record { stands = stands log there.stands; new = new_now (appends vs) log there.new; journal = there.journal; bytes = there.bytes })
 
 pub planned_stands : (s t : Session) (m n : MemView) (attempts pieces : ℕ) (places : List (Option ReaderCore)) (w : WorldView) (log : Log) → world_of s m attempts places ≡ w → Same (steady m) (steady n)
     → ((l : Log) → Stands s l → Stands t (and_now (plans pieces) l)) → StandsFor w log → StandsFor (world_of t n attempts places) (and_now (plans pieces) log)
 planned_stands s t m n attempts pieces places w log view same stands stood =
     let there : StandsFor (world_of s m attempts places) log = subst (λ (x : WorldView). StandsFor x log) (sym view) stood in
     subst (λ (x : WorldView). StandsFor x (and_now (plans pieces) log)) (sym (replaced s t m n attempts places same))
-    (record { stands = stands log there.stands; new = ap (and_now (plans pieces)) there.new; journal = there.journal; bytes = there.bytes })
+    (record { stands = stands log there.stands; new = new_now (plans pieces) log there.new; journal = there.journal; bytes = there.bytes })

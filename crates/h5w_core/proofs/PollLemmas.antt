@@ -193,7 +193,7 @@ module _ (w : WorldView) (s : ScriptState) (log : Log) (at : PollsAt w s log) (n
   looked_is_now : (left : Unfinished) (place len : ℕ) → next_look_of left ≡ Some (place, len) → looked w.bytes left ≡ looked_now log place len left
   looked_is_now left place len wants =
       let bytes : range w.bytes place len ≡ range (image log.start (hist log.events)) place len =
-      ap (λ (b : List ℕ). range b place len) (at.stands.bytes ∙ ap (λ (b : List ℕ). image b (hist log.events)) (sym (ap (λ (l : Log). l.start) at.stands.new))) in
+      ap (λ (b : List ℕ). range b place len) (at.stands.bytes ∙ ap (λ (b : List ℕ). image b (hist log.events)) (sym (ap (λ (l : Log). l.start) at.stands.new.log_is))) in
       ap (λ (o : Option (ℕ × ℕ)). elim o as (λ _. Unfinished) [ None ↦ left | Some x ↦ fed_left (range w.bytes x.0 x.1) left ]) wants
       ∙ ap (λ (b : List ℕ). fed_left b left) bytes
 

@@ -175,7 +175,6 @@ place_ends s m n attempts r places new h few same is =
       room = same_room s s m n same refl h.room;
       folds = same_folded m n same h.folds;
       places = length-set places r new ∙ h.places;
-      one_column = h.one_column;
       script = record (h.script) { readers = e.states };
       fits =
           subst (λ (x : WorldView). HaveOneLog x (record (h.script) { readers = e.states })) (sym (changed s s m n attempts (slice_set places r new) same (λ x. x) refl))
@@ -190,7 +189,6 @@ place_keeps s m attempts r places new h few is =
       room = h.room;
       folds = h.folds;
       places = length-set places r new ∙ h.places;
-      one_column = h.one_column;
       script = h.script;
       fits =
           other_fits w h.script (h.script).readers r new (omega (arith, h.places)) h.fits

@@ -19,7 +19,7 @@ use Rattle.h5w_session.specs.Sessions.{Session, AfterPiece, Freed, cutting_of, r
 use Rattle.h5w_session.specs.Stands.{Stands}
 use Rattle.h5w_session.proofs.LawLemmas.{standing_laws}
 use Rattle.h5w_core.specs.Worlds.{WorldView, HaveOneLog, IsStateOf, StandsFor, Steps, logged, polling_by, polling_of, rules_of, shown_world}
-use Rattle.h5w_core.proofs.StateLemmas.{in_rows, rules_by, spent_in-events}
+use Rattle.h5w_core.proofs.StateLemmas.{in_rows, new_now, rules_by, spent_in-events}
 use Rattle.h5w_core.proofs.WorldLemmas.{world_of, shown_is}
 use Rattle.h5w_image.specs.Memory.{MemView}
 use Rattle.h5w_image.specs.View.{Wrote}
@@ -117,7 +117,7 @@ pub shown_stands : (w : WorldView) (piece : Write) (t : Session) (log : Log) →
 shown_stands w piece t log stands stood =
     record {
       stands = stands;
-      new = ap (and_now (shows piece)) stood.new;
+      new = new_now (shows piece) log stood.new;
       journal = ap (λ (ws : List Write). ws ++ piece ∷ []) stood.journal;
       bytes = ap (λ (b : List ℕ). image b (piece ∷ [])) stood.bytes ∙ sym (image-push [] (hist log.events) piece);
     }

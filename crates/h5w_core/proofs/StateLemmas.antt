@@ -4,13 +4,18 @@ use Rattle.std.proofs.Math.Nat.{add-mul-div_right}
 use Rattle.std.proofs.lemmas.Nat.{div-mul-add}
 use Rattle.h5w_model.specs.Datasets.{Described}
 use Rattle.h5w_model.specs.Tables.{format_limits, limit_of}
-use Rattle.h5w_model.specs.Logs.{Log, Happening, Cutting, appends, plans, shows, appended, flushed, flushed_rows, load, spent_in, touched_chunks}
+use Rattle.h5w_model.specs.Logs.{Log, Happening, Cutting, and_now, appends, plans, shows, appended, flushed, flushed_rows, load, spent_in, touched_chunks}
 use Rattle.h5w_model.specs.Logs as logs
 use Rattle.h5w_model.specs.Lawful.{Rules, ScriptState, load_of, rows_in}
+use Rattle.h5w_session.specs.Past.{IsNew}
 use Rattle.h5w_session.specs.Sessions.{Session, with_rows}
 use Rattle.h5w_session.specs.Stands.{Stands}
 use Rattle.h5w_session.proofs.LawLemmas.{standing_laws}
 use Rattle.h5w_core.specs.Worlds.{AreRowsBy, WorldView, rules_of}
+
+-- a new file's log stays one
+pub new_now : (e : Happening) (log : Log) → IsNew log → IsNew (and_now e log)
+new_now e log new = record { file = new.file; is = new.is; log_is = ap (and_now e) new.log_is }
 
 -- a session's log has its dataset's columns
 pub columns_of : (s : Session) (log : Log) → Stands s log → log.columns ≡ s.dataset.shape.cols

@@ -1,9 +1,10 @@
 -- A session that creates its file.
 use Rattle.std.specs.Prelude.{◌≡◌, ℕ, false, [], ◌++◌, length}
 use Rattle.h5w_model.specs.Images.{image}
-use Rattle.h5w_model.specs.Logs.{Log, hist, spent}
+use Rattle.h5w_model.specs.Logs.{Log, appended, hist, spent}
 use Rattle.h5w_image.specs.Memory.{MemView}
-use Rattle.h5w_session.specs.Creations.{creation_writes, new_dataset, new_file}
+use Rattle.h5w_creation_laws.specs.CreatedFiles.{created_writes, described_of}
+use Rattle.h5w_session.specs.Creations.{log_of, new_file}
 use Rattle.h5w_session.specs.Past.{IsNew}
 use Rattle.h5w_session.specs.Room.{HasRoomFor}
 use Rattle.h5w_session.specs.Sessions.{Session, cutting_of}
@@ -16,14 +17,16 @@ pub record Creates (options : Options) (count : ℕ) (s : Session) (m : MemView)
   pub log : Log
   pub stands : Stands s log
   pub new : IsNew log
+  pub is : log ≡ log_of (new_file options) log.events
+  pub none : appended log ≡ []
   pub history : m.history ≡ hist log.events
   pub bytes : m.bytes ≡ image [] (hist log.events)
-  pub dataset : s.dataset ≡ new_dataset (new_file options)
+  pub dataset : s.dataset ≡ described_of (new_file options)
   pub limit : s.places.limit ≡ options.limit
   pub committed : s.committed ≡ 0
   pub waits : s.waits ≡ 0
   pub going : s.stopped ≡ false
   pub loads : spent (cutting_of s) log ≡ 0
-  pub pieces : m.history ++ s.pending ≡ creation_writes (new_file options)
+  pub pieces : m.history ++ s.pending ≡ created_writes (new_file options)
   pub shown : length m.history ≡ count
   pub room : HasRoomFor s (steady m)

@@ -4,8 +4,8 @@ use Rattle.std.specs.Prelude.{◌≡◌, ◌≢◌, ℕ, ◌*◌, ◌≤◌, ℤ
 use Rattle.h5w_model.specs.Images.{image}
 use Rattle.h5w_model.specs.Logs.{Log, appends, plans, shows, hist, appended, flushed_rows, spent, and_now}
 use Rattle.h5w_model.specs.Tables.{format_limits, limit_of}
-use Rattle.h5w_model.specs.declared.cell.IndexKind.TheVariants.{Array}
 use Rattle.h5w_model.specs.Lawful.{Rules, ScriptState, Allowed, line_of, next_state}
+use Rattle.h5w_options.specs.Options.{cutting_by, index_in}
 use Rattle.h5w_options.specs.declared.options.Options.{Options}
 use Rattle.h5w_model.specs.declared.event.Event.{Event}
 use Rattle.h5w_model.specs.declared.event.Event.TheVariants as events
@@ -40,9 +40,9 @@ pub record WorldView : Type 0 where
 -- the rules of a script on a file that is created by these options, with so many attempts in a reader's call
 abbrev pub rules_for : Options → ℕ → Rules
 rules_for options attempts = record {
-  cutting = record { chunk_rows = options.chunk_rows; chunk_columns = 1; columns = 1; value_size = options.int_type.size };
+  cutting = cutting_by options;
   int_type = int_type_of options.int_type;
-  chunk_limit = limit_of format_limits Array;
+  chunk_limit = limit_of format_limits (index_in options.columns);
   space_limit = options.limit;
   attempts = attempts;
 }
@@ -97,12 +97,11 @@ pub record HaveOneLog (w : WorldView) (s : ScriptState) : Type 0 where
   pub state : IsStateOf w s log
 
 -- What holds of each world, by its session, its image, its attempts and its readers: the image has room for what is
--- pending, it is what its journal makes of no bytes, readers 0 to 16 have a place, the dataset has one column, and some state of a script fits.
+-- pending, it is what its journal makes of no bytes, readers 0 to 16 have a place, and some state of a script fits.
 pub record HoldsTogether (s : Session) (m : MemView) (attempts : ℕ) (readers : List (Option ReaderCore)) : Type 0 where
   pub room : HasRoomFor s (steady m)
   pub folds : m.bytes ≡ image [] m.history
   pub places : length readers ≡ 17
-  pub one_column : s.dataset.shape.cols ≡ 1
   pub script : ScriptState
   pub fits : HaveOneLog (record { session = s; bytes = m.bytes; journal = m.history; attempts = attempts; readers = readers }) script
 
@@ -121,16 +120,16 @@ shown_world w piece s = record w { session = s; bytes = image w.bytes (piece ∷
 abbrev pub AreRowsBy : Rules → List ℤ → Type 0
 AreRowsBy g values = (n : ℕ) × (length values ≡ n * g.cutting.columns)
 
--- an event of the writer, or of a reader that has a place
-abbrev pub IsHeard : Event → Type 0
-IsHeard (events.Append values) = Unit {0}
-IsHeard events.Flush = Unit {0}
-IsHeard events.Visible = Unit {0}
-IsHeard events.Stop = Unit {0}
-IsHeard (events.Open reader) = reader ≤ 16
-IsHeard (events.Refresh reader) = reader ≤ 16
-IsHeard (events.Read reader from count) = reader ≤ 16
-IsHeard (events.Look reader) = reader ≤ 16
+-- an event of the writer, whose values are rows of the dataset, or of a reader that has a place
+abbrev pub IsHeard : Rules → Event → Type 0
+IsHeard g (events.Append values) = AreRowsBy g values
+IsHeard g events.Flush = Unit {0}
+IsHeard g events.Visible = Unit {0}
+IsHeard g events.Stop = Unit {0}
+IsHeard g (events.Open reader) = reader ≤ 16
+IsHeard g (events.Refresh reader) = reader ≤ 16
+IsHeard g (events.Read reader from count) = reader ≤ 16
+IsHeard g (events.Look reader) = reader ≤ 16
 
 -- an event that may want memory: one that is not refused, but maybe for want of a place
 abbrev pub MayWantMemory : WorldView → Event → Type 0

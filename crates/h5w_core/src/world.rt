@@ -6,14 +6,15 @@ ghost use Rattle.h5w_model.specs.Logs.{Log, and_now, shows};
 ghost use Rattle.h5w_options.specs.Options.{AreAttempts, AreOptions};
 ghost use Rattle.h5w_model.specs.declared.piece.Write.{Write};
 ghost use Rattle.h5w_image.specs.View.{Wrote};
-ghost use Rattle.h5w_session.specs.Creations.{creation_writes, new_file};
+ghost use Rattle.h5w_creation_laws.specs.CreatedFiles.{created_writes};
+ghost use Rattle.h5w_session.specs.Creations.{new_file};
 ghost use Rattle.h5w_session.specs.Room.{HasRoomFor};
 ghost use Rattle.h5w_session.specs.Sessions.{AfterPiece, rows_of as session_rows};
 ghost use Rattle.h5w_session.specs.Stands.{Stands};
 ghost use Rattle.h5w_core.specs.Readers.{IsCalling, MayRead, ended, reader_at};
 ghost use Rattle.h5w_steady.specs.Steady.{steady};
 ghost use Rattle.h5w_core.specs.Creation.{Creates};
-ghost use Rattle.h5w_core.specs.Worlds.{HaveOneLog, HoldsMore, IsHeard, IsKept, IsLeft, MayWantMemory, StandsFor, Steps, logged, nobody, rules_for, rules_of};
+ghost use Rattle.h5w_core.specs.Worlds.{AreRowsBy, HaveOneLog, HoldsMore, IsHeard, IsKept, IsLeft, MayWantMemory, StandsFor, Steps, logged, nobody, rules_for, rules_of};
 
 use crate::readers;
 use h5w_image::Journal;
@@ -39,12 +40,13 @@ pub struct World {
 
 impl Model for World {
     ghost use Rattle.std.specs.Coded.{codes};
+    ghost use Rattle.h5w_session.specs.Codes.{tree_code};
     ghost use Rattle.h5w_reader.specs.contracts.reader.ReaderCore as core;
     ghost use Rattle.h5w_core.specs.Worlds.{HoldsTogether, WorldView};
 
     ghost Value = { WorldView };
 
-    ghost coded = { Prim.hlevel (codes, core.the_row.coded) };
+    ghost coded = { Prim.hlevel (codes, tree_code, core.the_row.coded) };
 
     ghost view = { λ w. record { session = w.session; bytes = w.image.bytes; journal = w.image.history; attempts = w.attempts; readers = w.readers.items } };
 
@@ -81,7 +83,7 @@ fn places(alloc: Global) -> Result<Vec<Option<ReaderCore>>, OutOfMemory>
 /// A writer that created a file, all of whose pieces are visible.
 fn create(alloc: Global, options: &Options) -> Result<(WriterCore, SteadyImage), OutOfMemory>
     requires { AreOptions options.now }
-    ensures { IfOk result (λ made. Creates options.now 5 made.0 made.1) }
+    ensures { IfOk result (λ made. Creates options.now (length (created_writes (new_file options.now))) made.0 made.1) }
 {
     let mut session = WriterCore::create(alloc, options)?;
     let mut image = SteadyImage::new(alloc)?;
@@ -94,13 +96,13 @@ fn create(alloc: Global, options: &Options) -> Result<(WriterCore, SteadyImage),
 }
 
 impl World {
-    /// A world whose writer created a file. Its five pieces are visible, and nothing is pending.
+    /// A world whose writer created a file. Its pieces are visible, and nothing is pending.
     pub fn new(alloc: Global, options: &Options, attempts: u32) -> Result<World, OutOfMemory>
         requires options { AreOptions options.now }
         requires attempts { AreAttempts attempts }
         ensures fits { IfOk result (λ w. HaveOneLog w at_first) }
         ensures rules { IfOk result (λ w. rules_of w ≡ rules_for options.now attempts) }
-        ensures created { IfOk result (λ w. w.journal ≡ creation_writes (new_file options.now)) }
+        ensures created { IfOk result (λ w. w.journal ≡ created_writes (new_file options.now)) }
     {
         let readers = places(alloc)?;
         let (session, image) = create(alloc, options)?;
@@ -113,12 +115,20 @@ impl World {
         })
     }
 
-    /// Does what an event asks, and answers. The reply is lawful in each state that fits the world, and the state after
+    /// How many columns a row of the dataset has.
+    pub fn columns(&self) -> u64
+        ensures value { result ≡ (rules_of self.now).cutting.columns }
+        ensures some { 1 ≤ result }
+    {
+        self.session.columns()
+    }
+
+    /// Does what an event asks, and answers. Values that are appended are whole rows. The reply is lawful in each state that fits the world, and the state after
     /// it fits the world then; to each log for which the world stood the event was added, unless it was refused. What an
     /// error leaves is as before, but that a look's call is taken away, and that a flush may have held more blocks of the index;
     /// memory is not wanted for what is refused, but maybe for want of a place, nor for a piece that becomes visible.
     pub fn step(&mut self, event: Event) -> Result<Reply, OutOfMemory>
-        requires { IsHeard event }
+        requires { IsHeard (rules_of self.old) event }
         ensures lawful { IfOk result (λ reply. (s : ScriptState) → HaveOneLog self.old s → Allowed (rules_of self.old) s (line_of event) reply × HaveOneLog self.new (next_state (rules_of self.old) s (line_of event) reply)) }
         ensures logged { IfOk result (λ reply. (log : Log) → StandsFor self.old log → StandsFor self.new (logged self.old event reply log)) }
         ensures rules { rules_of self.new ≡ rules_of self.old }
@@ -145,6 +155,7 @@ impl World {
 
     /// The writer appends values.
     fn append(&mut self, values: &[i128]) -> Result<Reply, OutOfMemory>
+        requires { AreRowsBy (rules_of self.old) values.now }
         ensures steps { IfOk result (λ reply. Steps self.old (Event.Append values.now) reply self.new) }
         ensures logged { IfOk result (λ reply. (log : Log) → StandsFor self.old log → StandsFor self.new (logged self.old (Event.Append values.now) reply log)) }
         ensures kept { OnErr result (self.new ≡ self.old) }

@@ -131,7 +131,7 @@ even_rows : (c : ℕ) (ws : List (List ℕ)) (t : Bool) (vs : List ℤ) → 1 �
 even_rows c ws false vs some e h = absurd (cc)
 even_rows c ws true vs some e h = let zero_rest : length ws % c ≡ 0 = grind (arith, tests) in (length ws / c, length_values ws vs h ∙ whole_part (length ws) c some zero_rest)
 
-words_rows : (c : ℕ) (ws : List (List ℕ)) (vs : List ℤ) → 1 ≤ c → rows_of c ws ≡ Some vs → (n : ℕ) × (length vs ≡ n * c)
+pub words_rows : (c : ℕ) (ws : List (List ℕ)) (vs : List ℤ) → 1 ≤ c → rows_of c ws ≡ Some vs → (n : ℕ) × (length vs ≡ n * c)
 words_rows c [] vs some h = absurd (cc)
 words_rows c (w ∷ ws) vs some h = even_rows c (w ∷ ws) (length (w ∷ ws) % c == 0) vs some refl h
 

@@ -1,14 +1,19 @@
 -- The making of a file.
-use Rattle.std.proofs.Common.{◌≡◌, ℕ, ◌+◌, ◌≤◌, Bool, true, false, cond, List, [], ◌∷◌, ◌++◌, length, take, Option, Some, None, Result, Ok, Err, refl, sym, ap, ap₂, ◌∙◌, subst, inl, inr, arith, append_assoc, append-nil, length-append}
-use Rattle.std.specs.Prelude.{IfSome, is_none, option_map}
+use Rattle.std.proofs.Common.{◌≡◌, ℕ, ◌+◌, ◌*◌, ◌/◌, ◌<◌, ◌≤◌, ℤ, Bool, true, false, cond, List, [], ◌∷◌, ◌++◌, length, take, Option, Some, None, Result, Ok, Err, refl, sym, ap, ap₂, ◌∙◌, subst, inl, inr, arith, append_assoc, append-nil, length-append}
+use Rattle.std.specs.Prelude.{IfSome, OnOk, codes, is_none, option_map}
 use Rattle.std.specs.Option.{unwrap_or}
 use Rattle.std.specs.Ordering.{nat_cmp, eq_by_cmp}
 use Rattle.std.specs.Cmp.Lexicographic.{slice_cmp, nat_list_cmp_total}
 use Rattle.std.specs.FinMap as finite
-use Rattle.std.proofs.Math.Seq.{take-append_seam}
+use Rattle.std.proofs.Math.Seq.{take-append_seam, take-length}
+use Rattle.std.proofs.lemmas.List.{length-map}
+use Rattle.std.proofs.lemmas.Nat.{div-mul-add}
 use Rattle.h5w_model.specs.Causes.{Rose}
 use Rattle.h5w_model.specs.Images.{apply, image}
-use Rattle.h5w_model.specs.Logs.{Log}
+use Rattle.h5w_model.specs.Logs.{Log, flushed, flushed_rows, hist}
+use Rattle.h5w_model.specs.Prefixed.{IsPosition, image_at}
+use Rattle.h5w_model.specs.declared.cell.IndexKind.{IndexKind}
+use Rattle.h5w_model.specs.declared.cell.IndexKind.TheVariants.{Array, Tree}
 use Rattle.h5w_model.specs.Numbers.{range}
 use Rattle.h5w_model.specs.Superblock.{super_at}
 use Rattle.h5w_model.specs.Tables.{Shows, format_limits}
@@ -16,22 +21,27 @@ use Rattle.h5w_model.specs.Findings.{Valid}
 use Rattle.h5w_model.specs.Datasets.{Described}
 use Rattle.h5w_model.specs.declared.piece.Write.{Write}
 use Rattle.h5w_model.specs.declared.root.Super.{Super}
-use Rattle.h5w_model.proofs.ImageLemmas.{At-apply, length-apply}
+use Rattle.h5w_model.proofs.ImageLemmas.{At-apply, image-push, length-apply}
 use Rattle.h5w_model.proofs.SuperLemmas.{length-super_bytes, super_at-super_bytes}
 use Rattle.h5w_image.specs.View.{DiskState, DiskView, Files, Leaves, file, made, put}
 use Rattle.h5w_image.proofs.Names.{get-insert_same}
 use Rattle.h5w_options.specs.Options.{AreOptions}
 use Rattle.h5w_options.specs.declared.options.Options.{Options}
-use Rattle.h5w_session.specs.Creations.{IsNewFile, NewFile, array_place, array_write, created, creation_writes, first_end, header_write, index_place, index_write, log_of, new_dataset, new_file, new_super, root_write, super_write}
+use Rattle.h5w_creation_laws.specs.CreatedFiles as created
+use Rattle.h5w_creation_laws.specs.CreatedFiles.{CreatedFile, IsCreatable, block_write, created_blocks, created_log, created_writes, described_of, header_block, index_blocks, root_block, super_block, super_of}
+use Rattle.h5w_creation_laws.specs.CreationLaws.{IsShown}
+use Rattle.h5w_creation_laws.proofs.CreatedLaws.{created_new, created_sizes}
+use Rattle.h5w_creation_laws.proofs.LogLaws.{creation_laws}
+use Rattle.h5w_session.specs.Creations.{IsCreated, new_file}
 use Rattle.h5w_session.specs.Sessions.{Session, closed_of}
 use Rattle.h5w_session.specs.Stands.{Stands}
-use Rattle.h5w_session.proofs.CreationLemmas.{created_pieces, is_new, length_index}
-use Rattle.h5w_session.proofs.CreatedLemmas.{first_end_small}
+use Rattle.h5w_session.proofs.OptionLemmas.{creatable}
 use Rattle.h5w_session.proofs.LawLemmas.{shown_laws, standing_laws}
 use Rattle.h5w_text.specs.Errors.{error_text}
 use Rattle.h5w_text.specs.Says.{Said}
 use Rattle.h5w_text.specs.Statuses.{status_of}
 use Rattle.h5w_text.specs.Streams.{SinkView}
+use Rattle.h5w_text.specs.Table.{numbers_text}
 use Rattle.h5w_text.specs.declared.error.ErrorLine.{ErrorLine}
 use Rattle.h5w_text.specs.declared.error.ErrorLine.TheVariants as errors
 use Rattle.h5w_text.specs.declared.status.Status.{Status}
@@ -49,58 +59,81 @@ use Rattle.h5w_files.proofs.PutLemmas.{between-append, between_more, counts-appe
 -- ---- The bytes of a new file
 
 -- all that happened to the session that makes it
-abbrev new_log : NewFile → Log
-new_log f = showing (new_pieces f) (log_of [])
+abbrev new_log : CreatedFile → Log
+new_log f = showing (new_pieces f) (created_log f)
 
-ends_by : (w : Write) (img : List ℕ) (end : ℕ) → length img ≡ end → w.at + length w.piece ≤ end → length (apply w img) ≡ end
-ends_by w img end is low = length-apply w img ∙ omega (arith, is, low)
+-- a creation has at most five pieces
+few_blocks : (k : IndexKind) (f : CreatedFile) → length (index_blocks k f ++ header_block f ∷ root_block f ∷ super_block f ∷ []) ≤ 5
+few_blocks Array f = omega arith
+few_blocks Tree f = omega arith
 
--- the index block is the last in the file
-new_size : (f : NewFile) → IsNewFile f → length (new_bytes f) ≡ first_end f
+pub few_created : (f : CreatedFile) (most : ℕ) (s : Session) → IsCreated f most s → length s.pending ≤ 5
+few_created f most s made = omega (arith, ap (λ (x : Session). length x.pending) made.session, length-map (created_blocks f) block_write, few_blocks f.index f)
+
+-- the superblock that closes the session is as long as the one that begins it
+new_size : (f : CreatedFile) → IsCreatable f → length (new_bytes f) ≡ created.end_of f
 new_size f is =
-    let inside = (created_pieces f is).within in
-    let index = index_write (array_place f) (index_place f) in
-    let array = array_write (array_place f) (index_place f) in
-    let closing : Write = record { at = 0; piece = closed_super f } in
-    let size = length_index (array_place f) (index_place f) in
-    let super_len = length-super_bytes (record (new_super f) { flags = 0 }) in
-    let begun = length-super_bytes (new_super f) in
-    let last : 0 + length closing.piece ≤ first_end f = let low = inside.1.1.1.1.0 in omega (arith, super_len, begun, low) in
-    let one : length (apply index []) ≡ first_end f = length-apply index [] ∙ omega (arith, size) in
-    let two = ends_by array (apply index []) (first_end f) one inside.1.0 in
-    let three = ends_by (header_write f) (apply array (apply index [])) (first_end f) two inside.1.1.0 in
-    let four = ends_by (root_write f) (apply (header_write f) (apply array (apply index []))) (first_end f) three inside.1.1.1.0 in
-    let five = ends_by (super_write f) (apply (root_write f) (apply (header_write f) (apply array (apply index [])))) (first_end f) four inside.1.1.1.1.0 in
-    ends_by closing (image [] (creation_writes f)) (first_end f) five last
+    let all : Write = record { at = 0; piece = closed_super f } in
+    let before : List ℕ = image [] (created_writes f) in
+    let size : length before ≡ created.end_of f = (created_new f is).size in
+    let long : length all.piece ≡ 48 = length-super_bytes (record (super_of f) { flags = 0 }) in
+    ap length (image-push [] (created_writes f) all) ∙ length-apply all before ∙ omega (arith, size, long)
 
 -- its superblock is the last that was put
-new_superblock : (f : NewFile) → IsNewFile f → super_at (range (new_bytes f) 0 48) ≡ Ok (record (new_super f) { flags = 0 })
+new_superblock : (f : CreatedFile) → IsCreatable f → super_at (range (new_bytes f) 0 48) ≡ Ok (record (super_of f) { flags = 0 })
 new_superblock f is =
-    let closed : Super = record (new_super f) { flags = 0 } in
-    let small = first_end_small f is in
-    let there = At-apply (record { at = 0; piece = closed_super f }) (image [] (creation_writes f)) in
-    ap super_at (ap (λ n. range (new_bytes f) 0 n) (sym (length-super_bytes closed)) ∙ there) ∙ super_at-super_bytes closed refl (omega (arith, small)) (omega arith)
+    let closed : Super = record (super_of f) { flags = 0 } in
+    let last : Write = record { at = 0; piece = closed_super f } in
+    let small = (created_sizes f is).end in
+    let there = At-apply last (image [] (created_writes f)) in
+    ap (λ (img : List ℕ). super_at (range img 0 48)) (image-push [] (created_writes f) last)
+    ∙ ap super_at (ap (λ n. range (apply last (image [] (created_writes f))) 0 n) (sym (length-super_bytes closed)) ∙ there) ∙ super_at-super_bytes closed refl (omega (arith, small)) (omega arith)
+
+module _ (f : CreatedFile) where
+  shown_here : IsShown f (new_pieces f) (new_log f)
+  shown_here = creation_laws.shown f (new_pieces f)
+
+  -- no row was appended
+  no_rows : 0 < f.columns → flushed_rows (new_log f) ≡ 0
+  no_rows some =
+      let none : flushed (new_log f) ≡ [] = ap (λ (l : Log). flushed l) shown_here.kept ∙ shown_here.flushed 0 in
+      let columns : (new_log f).columns ≡ f.columns = ap (λ (l : Log). l.columns) shown_here.kept in
+      let zero : 0 ≡ 0 * f.columns + 0 = omega arith in
+      ap₂ (λ (vs : List ℤ) c. length vs / c) none columns ∙ ap (λ (n : ℕ). n / f.columns) zero ∙ div-mul-add 0 f.columns 0 some
+
+  bytes_here : image (new_log f).start (hist (new_log f).events) ≡ new_bytes f
+  bytes_here = ap₂ image (ap (λ (l : Log). l.start) shown_here.kept) shown_here.pieces
 
 -- A session that was closed behind its creation tells what its file is.
-pub empty_file : (f : NewFile) (s : Session) → IsNewFile f → s.name ≡ f.name → s.dataset ≡ new_dataset f → s.stopped ≡ true → Stands s (new_log f) → IsEmptyFile f (new_bytes f)
+pub empty_file : (f : CreatedFile) (s : Session) → IsCreatable f → s.name ≡ f.name → s.dataset ≡ described_of f → s.stopped ≡ true → Stands s (new_log f) → IsEmptyFile f (new_bytes f)
 empty_file f s is name dataset stopped stands =
-    let now = standing_laws.stopped s (new_log f) stands stopped (omega arith) in
-    let shown = shown_laws.dataset s (new_log f) 6 now.reads.shown stands refl (record { begun = omega arith; reached = omega arith }) now.reads.shows in
+    let log = new_log f in
+    let count : length (hist log.events) ≡ length (created_blocks f) + 1 =
+    ap length (shown_here f).pieces ∙ length-append (created_writes f) _ ∙ ap (λ n. n + 1) (length-map (created_blocks f) block_write) in
+    let first : log.first ≡ length (created_blocks f) = ap (λ (l : Log). l.first) (shown_here f).kept in
+    let now = standing_laws.stopped s log stands stopped (omega (arith, first, count)) in
+    let p : ℕ = length (hist log.events) in
+    let at : IsPosition log p = record { begun = omega (arith, first, count); reached = omega arith } in
+    let here : image log.start (hist log.events) ≡ image_at log p = ap (image log.start) (sym (take-length (hist log.events))) in
+    let shown = shown_laws.dataset s log p now.reads.shown stands (record { file = f; is = is; log_is = (shown_here f).kept }) at (subst (λ (img : List ℕ). Shows format_limits img s.name now.reads.shown) here now.reads.shows) in
+    let bytes = bytes_here f in
+    let rows : now.reads.shown.dataset.shape.rows ≡ 0 = now.reads.rows_are ∙ no_rows f is.some_columns in
+    let columns : now.reads.shown.dataset.shape.cols ≡ f.columns = shown.columns ∙ ap (λ (d : Described). d.shape.cols) dataset in
     record {
       summary = now.summary;
-      valid = subst (λ (n : List ℕ). Valid (new_bytes f) n now.summary) name now.valid;
+      valid = subst (λ (img : List ℕ). Valid img f.name now.summary) bytes (subst (λ (n : List ℕ). Valid (image log.start (hist log.events)) n now.summary) name now.valid);
       reads = record {
         shown = now.reads.shown;
-        shows = subst (λ (n : List ℕ). Shows format_limits (new_bytes f) n now.reads.shown) name now.reads.shows;
-        rows_are = now.reads.rows_are;
-        columns_are = now.reads.columns_are;
-        count = now.reads.count;
-        values_are = now.reads.values_are;
+        shows = subst (λ (img : List ℕ). Shows format_limits img f.name now.reads.shown) bytes (subst (λ (n : List ℕ). Shows format_limits (image log.start (hist log.events)) n now.reads.shown) name now.reads.shows);
+        rows_are = rows;
+        columns_are = columns;
+        count = (let zero : 0 ≡ 0 * now.reads.shown.dataset.shape.cols = omega arith in zero) ∙ sym (ap (λ (n : ℕ). n * now.reads.shown.dataset.shape.cols) rows);
+        values_are = λ k below. absurd (omega (arith, below));
       };
       shape = λ i. record {
         rank = (shown.rank ∙ ap (λ (d : Described). d.shape.rank) dataset) i;
-        rows = now.reads.rows_are i;
-        cols = now.reads.columns_are i;
+        rows = rows i;
+        cols = columns i;
         growing = (shown.growing ∙ ap (λ (d : Described). d.shape.growing) dataset) i;
       };
       int_type = shown.int_type ∙ ap (λ (d : Described). d.int_type) dataset;
@@ -246,9 +279,10 @@ missing_file name None h = tt
 missing_file name (Some d) h = none_is (file d name) h
 
 -- so many of its pieces
-has_put : {u v w : DiskView} (name : List ℕ) (f : NewFile) (s : Session) (left : List Write) → s ≡ created f → Missing name u → Leaves 0 (option_map (made name) u.told) u v → (p : FillsUpTo name s left v w)
+has_put : {u v w : DiskView} (name : List ℕ) (f : CreatedFile) (s : Session) (left : List Write) (most : ℕ) → IsCreated f most s → Missing name u → Leaves 0 (option_map (made name) u.told) u v → (p : FillsUpTo name s left v w)
     → HasPut name f (length p.puts) u w
-has_put {u} {v} {w} name f s left is missing m p =
+has_put {u} {v} {w} name f s left most made missing m p =
+    let is = made.session in
     let pieces : new_pieces f ≡ writes_of p.puts ++ left = sym (ap (λ (x : Session). x.pending ++ closing_of x ∷ []) is) ∙ p.pieces in
     let some : take (length p.puts) (new_pieces f) ≡ writes_of p.puts =
     ap₂ (λ n (ws : List Write). take n ws) (sym (length-writes p.puts)) pieces ∙ take-append_seam (writes_of p.puts) left in
@@ -265,22 +299,22 @@ has_put {u} {v} {w} name f s left is missing m p =
       since = between_more v.faults w.faults u.faults w.faults (counts_of p.puts) low (omega arith) p.since;
     }
 
-fewer : (f : NewFile) (s : Session) (puts : List (Write × ℕ)) (left : List Write) → s ≡ created f → s.pending ++ closing_of s ∷ [] ≡ writes_of puts ++ left → length puts + length left ≡ 6
-fewer f s puts left is pieces =
-    let all : length (writes_of puts ++ left) ≡ 6 = sym (ap length pieces) ∙ ap (λ (x : Session). length (x.pending ++ closing_of x ∷ [])) is in
+fewer : (f : CreatedFile) (s : Session) (puts : List (Write × ℕ)) (left : List Write) (most : ℕ) → IsCreated f most s → s.pending ++ closing_of s ∷ [] ≡ writes_of puts ++ left → length puts + length left ≡ length (new_pieces f)
+fewer f s puts left most made pieces =
+    let all : length (writes_of puts ++ left) ≡ length (new_pieces f) = sym (ap length pieces) ∙ ap (λ (x : Session). length (x.pending ++ closing_of x ∷ [])) made.session in
     omega (arith, all, length-append (writes_of puts) left, length-writes puts)
 
 -- ---- The answer
 
-given_missing : (name : List ℕ) (f : NewFile) (t : Option DiskState) → IfSome t (λ d. true ≡ is_none (file d name)) → IfSome t (λ d. IsGivenBy (end_of f (file d name)) (Ok (first_end f)))
+given_missing : (name : List ℕ) (f : CreatedFile) (t : Option DiskState) → IfSome t (λ d. true ≡ is_none (file d name)) → IfSome t (λ d. IsGivenBy (end_of f (file d name)) (Ok (created.end_of f)))
 given_missing name f None h = tt
 given_missing name f (Some d) h = ap (end_of f) (none_is (file d name) h)
 
-some_exists : (f : NewFile) (o : Option (List ℕ)) → false ≡ is_none o → end_of f o ≡ Err errors.Exists
+some_exists : (f : CreatedFile) (o : Option (List ℕ)) → false ≡ is_none o → end_of f o ≡ Err errors.Exists
 some_exists f None e = absurd (cc)
 some_exists f (Some b) e = refl
 
-given_exists : (name : List ℕ) (f : NewFile) (t : Option DiskState) → IfSome t (λ d. false ≡ is_none (file d name)) → IfSome t (λ d. IsGivenBy (end_of f (file d name)) (Err errors.Exists))
+given_exists : (name : List ℕ) (f : CreatedFile) (t : Option DiskState) → IfSome t (λ d. false ≡ is_none (file d name)) → IfSome t (λ d. IsGivenBy (end_of f (file d name)) (Err errors.Exists))
 given_exists name f None h = tt
 given_exists name f (Some d) h = some_exists f (file d name) h
 
@@ -288,54 +322,62 @@ leaves_same : {v w : DiskView} → Leaves 0 v.told v w → LeavesFiles v.told v 
 leaves_same p = record { told = p.told; faults = p.faults; through = p.through }
 
 -- something has the name
-pub creates_exists : {v w : DiskView} (name : List ℕ) (f : NewFile) → IfSome v.told (λ d. false ≡ is_none (file d name)) → Leaves 0 v.told v w → CreatesTo name f v w (Err errors.Exists)
+pub creates_exists : {v w : DiskView} (name : List ℕ) (f : CreatedFile) → IfSome v.told (λ d. false ≡ is_none (file d name)) → Leaves 0 v.told v w → CreatesTo name f v w (Err errors.Exists)
 creates_exists {v} name f there p = record { leaves = leaves_same p; exact = given_exists name f v.told there; cause = λ h. cc; new = tt }
 
+-- its line, which is made before it is
+pub told_end : {A E : Type 0} (f : CreatedFile) (most end : ℕ) (s : Session) (before after : List ℕ) (r : Result A E) → IsCreated f most s → end ≡ s.places.end → before ≡ [] → after ≡ before ++ numbers_text (codes "new end") (end ∷ [])
+    → OnOk r (after ≡ numbers_text (codes "new end") (created.end_of f ∷ []))
+told_end f most end s before after (Err e) made is none all = tt
+told_end f most end s before after (Ok x) made is none all =
+    all ∙ ap (λ (b : List ℕ). b ++ numbers_text (codes "new end") (end ∷ [])) none ∙ ap (λ (n : ℕ). numbers_text (codes "new end") (n ∷ [])) (is ∙ ap (λ (y : Session). y.places.end) made.session)
+
 -- it was not made
-pub creates_failed : {v w : DiskView} (name : List ℕ) (f : NewFile) → Leaves 0 v.told v w → Rose v.faults w.faults → CreatesTo name f v w (Err errors.Disk)
+pub creates_failed : {v w : DiskView} (name : List ℕ) (f : CreatedFile) → Leaves 0 v.told v w → Rose v.faults w.faults → CreatesTo name f v w (Err errors.Disk)
 creates_failed {v} name f p rose = record { leaves = inl (leaves_same p); exact = any_told v.told (λ d. tt); cause = λ h. rose; new = tt }
 
-pub creates_wanting : {v w : DiskView} (name : List ℕ) (f : NewFile) → LeavesFiles v.told v w → CreatesTo name f v w (Err errors.Memory)
+pub creates_wanting : {v w : DiskView} (name : List ℕ) (f : CreatedFile) → LeavesFiles v.told v w → CreatesTo name f v w (Err errors.Memory)
 creates_wanting {v} name f p = record { leaves = inl p; exact = any_told v.told (λ d. tt); cause = λ h. cc; new = tt }
 
 pub leaves_self : (v : DiskView) → LeavesFiles v.told v v
 leaves_self v = record { told = refl; faults = omega arith; through = refl }
 
 -- it was made
-pub creates_filled : {u v w : DiskView} (name : List ℕ) (o : Options) (s t : Session) (r : Result (Unit {0}) CreateError) → AreOptions o → s ≡ created (new_file o) → Stands s (log_of []) → Missing name u
-    → Leaves 0 (option_map (made name) u.told) u v → Fills name s t v w r → CreatesTo name (new_file o) u w (answer_of (first_end (new_file o)) r)
+pub creates_filled : {u v w : DiskView} (name : List ℕ) (o : Options) (s t : Session) (r : Result (Unit {0}) CreateError) → AreOptions o → IsCreated (new_file o) o.limit s → Stands s (created_log (new_file o)) → Missing name u
+    → Leaves 0 (option_map (made name) u.told) u v → Fills name s t v w r → CreatesTo name (new_file o) u w (answer_of (created.end_of (new_file o)) r)
 unfolding has_put
-creates_filled {u} {v} {w} name o s t (Ok a) by is stands missing m p =
+creates_filled {u} {v} {w} name o s t (Ok a) by made stands missing m p =
     let f = new_file o in
-    let six : length p.filled.puts ≡ 6 = omega (arith, fewer f s p.filled.puts [] is p.filled.pieces) in
+    let all : length p.filled.puts ≡ length (new_pieces f) = omega (arith, fewer f s p.filled.puts [] o.limit made p.filled.pieces) in
+    let is = made.session in
     let log : Stands t (new_log f) =
-    subst (λ (x : Session). Stands t (showing (x.pending ++ closing_of x ∷ []) (log_of []))) is (p.stands (log_of []) stands) in
+    subst (λ (x : Session). Stands t (showing (x.pending ++ closing_of x ∷ []) (created_log f))) is (p.stands (created_log f) stands) in
     record {
-      leaves = subst (λ n. HasPut name f n u w) six (has_put name f s [] is missing m p.filled);
+      leaves = subst (λ n. HasPut name f n u w) all (has_put name f s [] o.limit made missing m p.filled);
       exact = given_missing name f u.told missing;
       cause = λ h. cc;
-      new = empty_file f t (is_new o by) (p.same_name ∙ ap (λ (x : Session). x.name) is) (p.dataset ∙ ap (λ (x : Session). x.dataset) is) p.stopped log;
+      new = empty_file f t (creatable o by) (p.same_name ∙ ap (λ (x : Session). x.name) is) (p.dataset ∙ ap (λ (x : Session). x.dataset) is) p.stopped log;
     }
-creates_filled name o s t (Err refusals.Exists) by is stands missing m p = absurd p
-creates_filled {u} {v} {w} name o s t (Err refusals.Failed) by is stands missing m p =
+creates_filled name o s t (Err refusals.Exists) by made stands missing m p = absurd p
+creates_filled {u} {v} {w} name o s t (Err refusals.Failed) by made stands missing m p =
     let f = new_file o in
     let some = p.some in
     let low = m.faults in
     record {
       leaves = inr (record {
         pieces = length p.filled.puts;
-        few = omega (arith, fewer f s p.filled.puts p.left is p.filled.pieces, some);
-        before = has_put name f s p.left is missing m p.filled;
+        few = omega (arith, fewer f s p.filled.puts p.left o.limit made p.filled.pieces, some);
+        before = has_put name f s p.left o.limit made missing m p.filled;
         since = p.since;
       });
       exact = any_told u.told (λ d. tt);
       cause = λ h. rose_more u.faults v.faults w.faults low p.rose;
       new = tt;
     }
-creates_filled {u} {v} {w} name o s t (Err refusals.OutOfMemory) by is stands missing m p =
+creates_filled {u} {v} {w} name o s t (Err refusals.OutOfMemory) by made stands missing m p =
     let f = new_file o in
     record {
-      leaves = inr (has_put name f s (s.pending ++ closing_of s ∷ []) is missing m (record {
+      leaves = inr (has_put name f s (s.pending ++ closing_of s ∷ []) o.limit made missing m (record {
         puts = [];
         pieces = refl;
         disk = record { told = p.told ∙ no_puts name v.told; faults = p.faults; through = p.through };

@@ -8,11 +8,12 @@ use Rattle.h5w_model.specs.Findings.{Summary, Valid}
 use Rattle.h5w_model.specs.Logs.{Log}
 use Rattle.h5w_model.specs.Superblock.{super_at, super_bytes}
 use Rattle.h5w_model.specs.Tables.{Reads}
-use Rattle.h5w_model.specs.declared.cell.IndexKind.TheVariants.{Array}
 use Rattle.h5w_model.specs.declared.piece.Write.{Write}
 use Rattle.h5w_image.specs.View.{DiskState, DiskView, file}
 use Rattle.h5w_options.specs.declared.options.Options.{Options}
-use Rattle.h5w_session.specs.Creations.{NewFile, creation_writes, first_end, new_file, new_super}
+use Rattle.h5w_creation_laws.specs.CreatedFiles as created
+use Rattle.h5w_creation_laws.specs.CreatedFiles.{CreatedFile, created_writes, shape_of, super_of}
+use Rattle.h5w_session.specs.Creations.{new_file}
 use Rattle.h5w_session.specs.Sessions.{Session, closed_root}
 use Rattle.h5w_session.specs.Stands.{Stands}
 use Rattle.h5w_text.specs.Errors.{error_text}
@@ -34,29 +35,29 @@ abbrev pub closing_of : Session → Write
 closing_of s = record { at = 0; piece = super_bytes (closed_root s) }
 
 -- the superblock of a new file that nobody writes
-abbrev pub closed_super : NewFile → List ℕ
-closed_super f = super_bytes (record (new_super f) { flags = 0 })
+abbrev pub closed_super : CreatedFile → List ℕ
+closed_super f = super_bytes (record (super_of f) { flags = 0 })
 
 -- the pieces of a new file: those of its creation, and the superblock that closes it
-abbrev pub new_pieces : NewFile → List Write
-new_pieces f = creation_writes f ++ record { at = 0; piece = closed_super f } ∷ []
+abbrev pub new_pieces : CreatedFile → List Write
+new_pieces f = created_writes f ++ record { at = 0; piece = closed_super f } ∷ []
 
-abbrev pub new_bytes : NewFile → List ℕ
+abbrev pub new_bytes : CreatedFile → List ℕ
 new_bytes f = image [] (new_pieces f)
 
--- A valid file that nobody writes, with an empty dataset of this name, type, fill and chunks, in one dimension.
-pub record IsEmptyFile (f : NewFile) (bytes : List ℕ) : Type 0 where
+-- A valid file that nobody writes, with an empty dataset of this name, type, fill, chunks and columns, in the dimensions of its index.
+pub record IsEmptyFile (f : CreatedFile) (bytes : List ℕ) : Type 0 where
   pub summary : Summary
   pub valid : Valid bytes f.name summary
-  pub reads : Reads bytes f.name 0 1 []
-  pub shape : reads.shown.dataset.shape ≡ record { rank = 1; rows = 0; cols = 1; growing = false }
+  pub reads : Reads bytes f.name 0 f.columns []
+  pub shape : reads.shown.dataset.shape ≡ shape_of f
   pub int_type : reads.shown.dataset.int_type ≡ f.int_type
   pub fill : reads.shown.dataset.fill ≡ f.fill
-  pub index : reads.shown.dataset.layout.index ≡ Array
+  pub index : reads.shown.dataset.layout.index ≡ f.index
   pub chunk_rows : reads.shown.dataset.layout.chunk_rows ≡ f.chunk_rows
-  pub chunk_columns : reads.shown.dataset.layout.chunk_cols ≡ 1
-  pub super : super_at (range bytes 0 48) ≡ Ok (record (new_super f) { flags = 0 })
-  pub size : length bytes ≡ first_end f
+  pub chunk_columns : reads.shown.dataset.layout.chunk_cols ≡ f.chunk_cols
+  pub super : super_at (range bytes 0 48) ≡ Ok (record (super_of f) { flags = 0 })
+  pub size : length bytes ≡ created.end_of f
 
 -- ---- What is left of the disk
 
@@ -65,7 +66,7 @@ abbrev pub with_new : List ℕ → List ℕ → List ℕ → DiskState → DiskS
 with_new name bytes counts d = record d { files = map.insert d.files name bytes; puts = d.puts ++ counts }
 
 -- The file was not there, and now it is, with the first n pieces of a new file.
-pub record HasPut (name : List ℕ) (f : NewFile) (n : ℕ) (v w : DiskView) : Type 0 where
+pub record HasPut (name : List ℕ) (f : CreatedFile) (n : ℕ) (v w : DiskView) : Type 0 where
   pub counts : List ℕ
   pub count : length counts ≡ n
   pub missing : IfSome v.told (λ d. file d name ≡ None)
@@ -73,16 +74,16 @@ pub record HasPut (name : List ℕ) (f : NewFile) (n : ℕ) (v w : DiskView) : T
   pub since : AllBetween v.faults w.faults counts
 
 -- So many pieces were put and no more, since the disk failed then.
-pub record HasFailed (name : List ℕ) (f : NewFile) (v w : DiskView) : Type 0 where
+pub record HasFailed (name : List ℕ) (f : CreatedFile) (v w : DiskView) : Type 0 where
   pub pieces : ℕ
-  pub few : pieces < 6
+  pub few : pieces < length (new_pieces f)
   pub before : HasPut name f pieces v w
   pub since : AllRose before.counts w.faults
 
--- By the answer: with the file's end it has all six pieces; where something has the name nothing changed; where the disk failed
+-- By the answer: with the file's end it has all pieces; where something has the name nothing changed; where the disk failed
 -- nothing changed, or some of the pieces are missing; without memory nothing changed, or the file has no bytes. There is no other answer.
-abbrev pub CreateLeaves : List ℕ → NewFile → DiskView → DiskView → Result ℕ ErrorLine → Type 0
-CreateLeaves name f v w (Ok end) = HasPut name f 6 v w
+abbrev pub CreateLeaves : List ℕ → CreatedFile → DiskView → DiskView → Result ℕ ErrorLine → Type 0
+CreateLeaves name f v w (Ok end) = HasPut name f (length (new_pieces f)) v w
 CreateLeaves name f v w (Err errors.Exists) = LeavesFiles v.told v w
 CreateLeaves name f v w (Err errors.Disk) = LeavesFiles v.told v w ⊎ HasFailed name f v w
 CreateLeaves name f v w (Err errors.Memory) = LeavesFiles v.told v w ⊎ HasPut name f 0 v w
@@ -91,8 +92,8 @@ CreateLeaves name f v w (Err e) = ⊥
 -- ---- Its answer
 
 -- the end of the new file, unless something has the name
-abbrev pub end_of : NewFile → Option (List ℕ) → Result ℕ ErrorLine
-end_of f None = Ok (first_end f)
+abbrev pub end_of : CreatedFile → Option (List ℕ) → Result ℕ ErrorLine
+end_of f None = Ok (created.end_of f)
 end_of f (Some bytes) = Err errors.Exists
 
 abbrev pub create_text : Result ℕ ErrorLine → List ℕ
@@ -100,7 +101,7 @@ create_text (Ok end) = numbers_text (codes "new end") (end ∷ [])
 create_text (Err e) = error_text e
 
 -- An answer between two states of a disk.
-pub record CreatesTo (name : List ℕ) (f : NewFile) (v w : DiskView) (answer : Result ℕ ErrorLine) : Type 0 where
+pub record CreatesTo (name : List ℕ) (f : CreatedFile) (v w : DiskView) (answer : Result ℕ ErrorLine) : Type 0 where
   pub leaves : CreateLeaves name f v w answer
   pub exact : IfSome v.told (λ d. IsGivenBy (end_of f (file d name)) answer)
   pub cause : answer ≡ Err errors.Disk → Rose v.faults w.faults

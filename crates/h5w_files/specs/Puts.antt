@@ -1,9 +1,10 @@
 -- The pieces of a session that are put into a file of a disk.
 use Rattle.std.specs.Prelude.{◌≡◌, ℕ, ◌+◌, ◌≤◌, List, [], ◌∷◌, ◌++◌, length, map, option_map}
 use Rattle.h5w_model.specs.Causes.{Rose}
-use Rattle.h5w_model.specs.Logs.{Log, and_now, shows}
+use Rattle.h5w_model.specs.Logs.{Log}
 use Rattle.h5w_model.specs.declared.piece.Write.{Write}
 use Rattle.h5w_image.specs.View.{DiskState, DiskView, put}
+use Rattle.h5w_flush_laws.specs.Flushes.{shown_also}
 use Rattle.h5w_session.specs.Sessions.{Session}
 use Rattle.h5w_session.specs.Stands.{Stands}
 use Rattle.h5w_files.specs.Images.{LeavesFiles}
@@ -21,8 +22,7 @@ counts_of ps = map (λ p. p.1) ps
 
 -- the log once these pieces became visible, the oldest first
 abbrev pub showing : List Write → Log → Log
-showing [] log = log
-showing (w ∷ ws) log = showing ws (and_now (shows w) log)
+showing = shown_also
 
 -- each count of faults lies between two
 abbrev pub AllBetween : ℕ → ℕ → List ℕ → Type 0

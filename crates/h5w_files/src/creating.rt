@@ -2,7 +2,8 @@
 ghost use Rattle.std.specs.Prelude.{◌≡◌, ◌≤◌, [], ◌∷◌, codes, false, length, OnOk};
 ghost use Rattle.h5w_image.specs.View.{IsThere};
 ghost use Rattle.h5w_options.specs.Options.{AreOptions};
-ghost use Rattle.h5w_session.specs.Creations.{first_end, new_file};
+ghost use Rattle.h5w_creation_laws.specs.CreatedFiles as created;
+ghost use Rattle.h5w_session.specs.Creations.{new_file};
 ghost use Rattle.h5w_text.specs.Table.{numbers_text};
 ghost use Rattle.h5w_files.specs.Ends.{EndsWell};
 ghost use Rattle.h5w_files.specs.Creates.{CreateEnds, CreatesTo, Fills, answer_of, end_of};
@@ -55,8 +56,8 @@ fn make_file<D: Disk>(
 ) -> Result<(), CreateError>
     requires options { AreOptions options.now }
     requires empty { text.old.items ≡ [] }
-    ensures creates { CreatesTo file.now (new_file options.now) (D.view disk.old) (D.view disk.new) (answer_of (first_end (new_file options.now)) result) }
-    ensures text { OnOk result (text.new.items ≡ numbers_text (codes "new end") (first_end (new_file options.now) ∷ [])) }
+    ensures creates { CreatesTo file.now (new_file options.now) (D.view disk.old) (D.view disk.new) (answer_of (created.end_of (new_file options.now)) result) }
+    ensures text { OnOk result (text.new.items ≡ numbers_text (codes "new end") (created.end_of (new_file options.now) ∷ [])) }
 {
     let Ok(mut session) = WriterCore::create(alloc, options) else {
         return Err(CreateError::OutOfMemory);

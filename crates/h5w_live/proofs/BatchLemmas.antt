@@ -1,36 +1,48 @@
 -- A batch of the writer of a run.
-use Rattle.std.proofs.Common.{◌≡◌, ℕ, ◌+◌, ◌*◌, ◌/◌, ◌<◌, ◌≤◌, Bool, false, cond, nat_lt, List, [], ◌∷◌, ◌++◌, length, ℤ, Option, Some, None, Result, Ok, Err, sym, refl, ap, ◌∙◌, subst, arith, append_assoc, length-append, ◌⊎◌, inl, inr}
+use Rattle.std.proofs.Common.{◌≡◌, ℕ, ◌+◌, ◌*◌, ◌/◌, ◌<◌, ◌≤◌, Bool, false, cond, nat_lt, div-mul-le_self, List, [], ◌∷◌, ◌++◌, length, ℤ, Option, Some, None, Result, Ok, Err, sym, refl, ap, ◌∙◌, subst, arith, append_assoc, length-append, ◌⊎◌, inl, inr}
 use Rattle.std.specs.Prelude.{IfErr}
-use Rattle.std.proofs.lemmas.Bool.{cond_both}
+use Rattle.std.proofs.lemmas.Bool.{cases_lt, cond_both, cond-true, lt-ltb}
+use Rattle.std.proofs.lemmas.List.{length-take}
 use Rattle.h5w_model.specs.Agrees.{rows_after, values_in}
 use Rattle.h5w_model.specs.Tables.{format_limits, limit_of}
 use Rattle.h5w_model.specs.Datasets.{Described}
 use Rattle.h5w_model.specs.Lawful.{first_outside}
-use Rattle.h5w_model.specs.Logs.{Happening, Log, and_now, appended, appended_in, appends, div_up, flushed, flushed_at, flushed_rows, hist, plans}
+use Rattle.h5w_model.specs.Logs.{Happening, Log, and_now, appended, appended_in, appends, div_up, flushed, flushed_at, flushed_rows, hist, needed_chunks, plans}
 use Rattle.h5w_model.specs.declared.piece.Write.{Write}
 use Rattle.h5w_model.specs.declared.report.FlushLine.{FlushLine}
 use Rattle.h5w_model.specs.declared.root.Super.{Super}
-use Rattle.h5w_laws.proofs.LogLemmas.{position_laws, length_hist}
-use Rattle.h5w_session.specs.Creations.{NewFile, new_dataset}
+use Rattle.h5w_laws.proofs.LogLemmas.{flushed_begins, length_hist, position_laws}
+use Rattle.h5w_creation_laws.specs.CreatedFiles.{CreatedFile, created_writes, described_of}
 use Rattle.h5w_session.specs.Loads.{NoPlace}
 use Rattle.h5w_session.specs.Refusals.{append_refusal, chunks_refusal, flush_refusal}
-use Rattle.h5w_session.specs.Sessions.{AfterPiece, Session, TakesRows, chunks_with, rows_of, with_rows, with_values, IsNamed}
+use Rattle.h5w_session.specs.Sessions.{AfterPiece, AreRows, IsNamed, Session, TakesRows, chunks_with, rows_of, with_rows, with_values}
 use Rattle.h5w_session.specs.Stands.{Stands}
 use Rattle.h5w_session.specs.declared.refusal.AppendError.{AppendError}
 use Rattle.h5w_session.specs.declared.refusal.AppendError.TheVariants as errors
+use Rattle.h5w_session.proofs.FlushCalls.{takes_named}
 use Rattle.h5w_session.proofs.LawLemmas.{standing_laws, shown_laws}
 use Rattle.h5w_session.proofs.StandLemmas.{none_outside}
 use Rattle.h5w_space.specs.declared.Full.{Full}
 use Rattle.h5w_shared.specs.Seats.{ImageId, SeatView}
 use Rattle.h5w_live_laws.specs.Lines.{rows_told}
 use Rattle.h5w_live_laws.proofs.LineLemmas.{agree_more, tells_more, values_more}
-use Rattle.h5w_live.specs.Writing.{HasFlushed, HasRoom, HasWritten, LacksPlace, StaysSeated, Writes, batch_refusal, showing, too_many}
-use Rattle.h5w_live.proofs.WritingLemmas.{Shown, appended_showing, hist_showing, shown_stays, after_pending}
+use Rattle.h5w_live.specs.Writing.{HasFlushed, HasRoom, HasWritten, LacksPlace, StaysSeated, Writes, batch_refusal, cutting_for, showing, too_many}
+use Rattle.h5w_live.proofs.RowLemmas.{batches_more, rows_in_values, some_rows}
+use Rattle.h5w_live.proofs.WritingLemmas.{Shown, after_pending, appended_showing, hist_showing, is_new, shown_stays}
 use Rattle.h5w_live.proofs.FlushedLemmas.{before_last, pieces_last, rows_all, rows_last}
-use Rattle.h5w_session.proofs.FlushCalls.{takes_named}
 
 none_some : {A : Type 0} (a : A) → ◌≡◌ {A = Option A} None (Some a) → ⊥
 none_some a e = cc
+
+-- what is not too many is few
+few_of : (f : CreatedFile) (rows : ℕ) → too_many f rows ≡ None → needed_chunks (cutting_for f) rows ≤ limit_of format_limits f.index
+few_of f rows none =
+    let limit : ℕ = limit_of format_limits f.index in
+    let chunks : ℕ = needed_chunks (cutting_for f) rows in
+    elim (cases_lt limit chunks) [
+      | inl more ↦ absurd (none_some (errors.Chunks chunks limit) (sym none ∙ cond-true (nat_lt limit chunks) (Some (errors.Chunks chunks limit)) None (lt-ltb limit chunks more)))
+      | inr few ↦ few
+    ]
 
 -- ---- What refuses a batch
 
@@ -50,55 +62,73 @@ refused_as o (Err x) e failed memory is causes = go causes where
 length_values : (bs : List (List ℤ)) (b : List ℤ) → length (values_in (bs ++ b ∷ [])) ≡ length (values_in bs) + length b
 length_values bs b = ap length (values_more bs b) ∙ length-append (values_in bs) b
 
-module _ (f : NewFile) (done : List (List ℤ)) (s : Session) (v : SeatView) (lines : List FlushLine) (h : HasFlushed f done s v lines) where
-  one_column : s.dataset.shape.cols ≡ 1
-  one_column = ap (λ (d : Described). d.shape.cols) h.writes.dataset
+module _ (f : CreatedFile) (most : ℕ) (done : List (List ℤ)) (s : Session) (v : SeatView) (lines : List FlushLine) (h : HasFlushed f most done s v lines) where
+  pub columns_are : s.dataset.shape.cols ≡ f.columns
+  columns_are = ap (λ (d : Described). d.shape.cols) h.writes.dataset
 
-  pub log_column : h.writes.log.columns ≡ 1
-  log_column = ap (λ (l : Log). l.columns) h.writes.new
+  pub log_columns : h.writes.log.columns ≡ f.columns
+  log_columns = ap (λ (l : Log). l.columns) h.writes.new
 
-  whole : (n : ℕ) → n / 1 ≡ n
-  whole n = omega arith
+  some_columns : 1 ≤ f.columns
+  some_columns = h.writes.is.some_columns
 
-  -- any values are rows
-  pub are_rows : (values : List ℤ) → (n : ℕ) × (length values ≡ n * s.dataset.shape.cols)
-  are_rows values = (length values, (let e : length values ≡ length values * 1 = omega arith in e ∙ ap (λ (n : ℕ). length values * n) (sym one_column)))
+  -- the rows of what was flushed
+  pub rows_told_all : length (values_in done) / f.columns ≡ s.dataset.shape.rows
+  rows_told_all = rows_in_values s.dataset.shape.rows (length (values_in done)) f.columns some_columns h.rows
 
-  pub counted : (values : List ℤ) → length values / s.dataset.shape.cols ≡ length values
-  counted values = ap (λ (c : ℕ). length values / c) one_column ∙ whole (length values)
+  pub log_rows : length (values_in done) / h.writes.log.columns ≡ s.dataset.shape.rows
+  log_rows = ap (λ (c : ℕ). length (values_in done) / c) log_columns ∙ rows_told_all
+
+  -- rows of the session are rows of the file
+  pub whole : (values : List ℤ) (rows : AreRows s values) → length values ≡ rows.0 * f.columns
+  whole values rows = rows.1 ∙ ap (λ (c : ℕ). rows.0 * c) columns_are
+
+  pub counted : (values : List ℤ) (rows : AreRows s values) → length values / s.dataset.shape.cols ≡ rows.0
+  counted values rows = rows_in_values rows.0 (length values) s.dataset.shape.cols (omega (arith, columns_are, some_columns)) rows.1
+
+  pub counted_here : (values : List ℤ) (rows : AreRows s values) → length values / f.columns ≡ rows.0
+  counted_here values rows = rows_in_values rows.0 (length values) f.columns some_columns (whole values rows)
+
+  -- those behind the flushed ones
+  pub rows_with : (values : List ℤ) (rows : AreRows s values) → length (values_in done) + length values ≡ (s.dataset.shape.rows + rows.0) * f.columns
+  rows_with values rows =
+      let split : (s.dataset.shape.rows + rows.0) * f.columns ≡ s.dataset.shape.rows * f.columns + rows.0 * f.columns = omega arith in
+      omega (arith, h.rows, whole values rows, split)
+
+  pub all_counted : (values : List ℤ) (rows : AreRows s values) → (length (values_in done) + length values) / f.columns ≡ s.dataset.shape.rows + rows.0
+  all_counted values rows = rows_in_values (s.dataset.shape.rows + rows.0) (length (values_in done) + length values) f.columns some_columns (rows_with values rows)
 
   -- what refuses a batch
-  pub refusal_is : (x : ℤ) (xs : List ℤ) → append_refusal s (x ∷ xs) ≡ batch_refusal f (length (values_in done)) (x ∷ xs)
-  refusal_is x xs =
+  pub refusal_is : (x : ℤ) (xs : List ℤ) → AreRows s (x ∷ xs) → append_refusal s (x ∷ xs) ≡ batch_refusal f (length (values_in done)) (x ∷ xs)
+  refusal_is x xs rows =
       let values : List ℤ = x ∷ xs in
       let more : ℕ = length values / s.dataset.shape.cols in
       let checked : Option (ℕ × ℤ) → Option AppendError = λ o. elim o as (λ _. Option AppendError) [ Some y ↦ Some (errors.OutOfRange y.0 y.1) | None ↦ chunks_refusal s more ] in
-      let last : Option (ℕ × ℤ) → Option AppendError = λ o. elim o as (λ _. Option AppendError) [ Some y ↦ Some (errors.OutOfRange y.0 y.1) | None ↦ too_many (div_up (length (values_in done) + length values) f.chunk_rows) ] in
       let busy : List Write → Option AppendError = λ ws. cond (nat_lt 0 (length ws)) (Some (errors.Busy (length ws))) (checked (first_outside s.dataset.int_type 0 values)) in
       ap (λ (b : Bool). cond b (Some errors.Stopped) (busy s.pending)) h.going
       ∙ ap busy h.pending
       ∙ ap checked (ap (λ (d : Described). first_outside d.int_type 0 values) h.writes.dataset)
-      ∙ same_cases (first_outside f.int_type 0 values) (chunks_refusal s more) (too_many (div_up (length (values_in done) + length values) f.chunk_rows)) (chunks_are x xs)
+      ∙ same_cases (first_outside f.int_type 0 values) (chunks_refusal s more) (too_many f ((length (values_in done) + length values) / f.columns)) chunks_are
     where
       same_cases : (o : Option (ℕ × ℤ)) (a b : Option AppendError) → a ≡ b → ◌≡◌ {A = Option AppendError} (elim o as (λ _. Option AppendError) [ Some y ↦ Some (errors.OutOfRange y.0 y.1) | None ↦ a ])
           (elim o as (λ _. Option AppendError) [ Some y ↦ Some (errors.OutOfRange y.0 y.1) | None ↦ b ])
       same_cases None a b e = e
       same_cases (Some y) a b e = refl
 
-      chunks_are : (x : ℤ) (xs : List ℤ) → chunks_refusal s (length (x ∷ xs) / s.dataset.shape.cols) ≡ too_many (div_up (length (values_in done) + length (x ∷ xs)) f.chunk_rows)
-      chunks_are x xs =
-          let rows : rows_of s + length (x ∷ xs) / s.dataset.shape.cols ≡ length (values_in done) + length (x ∷ xs) = omega (arith, h.rows, h.waits, counted (x ∷ xs)) in
-          let all : chunks_with s (length (x ∷ xs) / s.dataset.shape.cols) ≡ div_up (length (values_in done) + length (x ∷ xs)) f.chunk_rows =
-          ap (λ (d : Described). div_up (rows_of s + length (x ∷ xs) / s.dataset.shape.cols) d.layout.chunk_rows * div_up d.shape.cols d.layout.chunk_cols) h.writes.dataset
-          ∙ (let e : div_up (rows_of s + length (x ∷ xs) / s.dataset.shape.cols) f.chunk_rows * div_up 1 1 ≡ div_up (rows_of s + length (x ∷ xs) / s.dataset.shape.cols) f.chunk_rows = omega arith in e)
-          ∙ ap (λ n. div_up n f.chunk_rows) rows in
+      chunks_are : chunks_refusal s (length (x ∷ xs) / s.dataset.shape.cols) ≡ too_many f ((length (values_in done) + length (x ∷ xs)) / f.columns)
+      chunks_are =
+          let all : ℕ = rows_of s + length (x ∷ xs) / s.dataset.shape.cols in
+          let total : all ≡ (length (values_in done) + length (x ∷ xs)) / f.columns = omega (arith, h.waits, counted (x ∷ xs) rows, all_counted (x ∷ xs) rows) in
+          let chunks : chunks_with s (length (x ∷ xs) / s.dataset.shape.cols) ≡ needed_chunks (cutting_for f) all =
+          ap (λ (d : Described). div_up all d.layout.chunk_rows * div_up d.shape.cols d.layout.chunk_cols) h.writes.dataset in
           ap (λ (d : Described). cond (nat_lt (limit_of format_limits d.layout.index) (chunks_with s (length (x ∷ xs) / s.dataset.shape.cols)))
           (Some (errors.Chunks (chunks_with s (length (x ∷ xs) / s.dataset.shape.cols)) (limit_of format_limits d.layout.index))) None) h.writes.dataset
-          ∙ ap too_many all
+          ∙ ap (λ (n : ℕ). cond (nat_lt (limit_of format_limits f.index) n) (Some (errors.Chunks n (limit_of format_limits f.index))) None) chunks
+          ∙ ap (too_many f) total
 
-  pub refusal_for : (values : List ℤ) → 1 ≤ length values → append_refusal s values ≡ batch_refusal f (length (values_in done)) values
-  refusal_for [] some = absurd (omega arith)
-  refusal_for (x ∷ xs) some = refusal_is x xs
+  pub refusal_for : (values : List ℤ) → AreRows s values → 1 ≤ length values → append_refusal s values ≡ batch_refusal f (length (values_in done)) values
+  refusal_for [] rows some = absurd (omega arith)
+  refusal_for (x ∷ xs) rows some = refusal_is x xs rows
 
   pub flush_taken : (t : Session) (values : List ℤ) → t ≡ with_values s values → flush_refusal t ≡ None
   flush_taken t values is =
@@ -106,13 +136,22 @@ module _ (f : NewFile) (done : List (List ℤ)) (s : Session) (v : SeatView) (li
       ∙ ap (λ (b : Bool). flush_refusal (record (with_values s values) { stopped = b })) h.going
       ∙ ap (λ (ws : List Write). flush_refusal (record (with_values s values) { stopped = false; pending = ws })) h.pending
 
-  pub waits_some : (t : Session) (values : List ℤ) → t ≡ with_values s values → 1 ≤ length values → 0 < t.waits
-  waits_some t values is some = omega (arith, ap (λ (x : Session). x.waits) is, counted values, some)
+  pub waits_some : (t : Session) (values : List ℤ) → AreRows s values → t ≡ with_values s values → 1 ≤ length values → 0 < t.waits
+  waits_some t values rows is some =
+      let any : 1 ≤ rows.0 = some_rows rows.0 (length values) f.columns (whole values rows) some in
+      omega (arith, ap (λ (x : Session). x.waits) is, counted values rows, any)
 
+  -- all that was appended is flushed
   pub rows_flushed : length (flushed h.writes.log) ≡ length (values_in done)
   rows_flushed =
-      sym (whole (length (flushed h.writes.log))) ∙ ap (λ (n : ℕ). length (flushed h.writes.log) / n) (sym log_column)
-      ∙ standing_laws.planned_rows s h.writes.log h.writes.stands h.going h.pending ∙ h.rows
+      let log = h.writes.log in
+      let planned : length (flushed log) / log.columns ≡ s.dataset.shape.rows = standing_laws.planned_rows s log h.writes.stands h.going h.pending in
+      let here : length (flushed log) / f.columns ≡ s.dataset.shape.rows = ap (λ (c : ℕ). length (flushed log) / c) (sym log_columns) ∙ planned in
+      let low : length (flushed log) / f.columns * f.columns ≤ length (flushed log) = div-mul-le_self (length (flushed log)) f.columns in
+      let all : length (flushed log) / f.columns * f.columns ≡ length (values_in done) = ap (λ (n : ℕ). n * f.columns) here ∙ sym h.rows in
+      let under : length (flushed log) ≤ length (appended log) =
+      (let l = length-take (length (flushed log)) (appended log) in omega (arith, l, ap length (flushed_begins 0 log.values log.events))) in
+      omega (arith, low, all, under, ap length h.appended)
 
   -- the session is the writer's still, where all that happened is in the log
   pub writes_as : (t : Session) (x : SeatView) (e : Happening) → hist (e ∷ h.writes.log.events) ≡ hist h.writes.log.events → StaysSeated v x → t.name ≡ s.name → t.dataset ≡ s.dataset
@@ -120,15 +159,16 @@ module _ (f : NewFile) (done : List (List ℤ)) (s : Session) (v : SeatView) (li
   writes_as t x e quiet seat name dataset stands = record {
     log = and_now e h.writes.log;
     stands = stands h.writes.log h.writes.stands;
+    is = h.writes.is;
     new = ap (λ (l : Log). record l { events = e ∷ h.writes.log.events }) h.writes.new;
     seat = record { start = h.writes.seat.start ∙ ap (λ (i : ImageId). i.start) (sym seat.image); pieces = quiet ∙ h.writes.seat.pieces ∙ sym seat.seen };
     begun = omega (arith, h.writes.begun, ap length seat.seen);
     name = name ∙ h.writes.name;
-    dataset = dataset ∙ h.writes.dataset ∙ ap (λ (d : Described). with_rows d.shape.rows (new_dataset f)) (sym dataset);
+    dataset = dataset ∙ h.writes.dataset ∙ ap (λ (d : Described). with_rows d.shape.rows (described_of f)) (sym dataset);
   }
 
-  module _ (x : ℤ) (xs : List ℤ) (s1 s2 s3 : Session) (v1 v2 v3 : SeatView) (line : FlushLine) (added : s1 ≡ with_values s (x ∷ xs)) (stands1 : (log : Log) → Stands s log → Stands s1 (and_now (appends (x ∷ xs)) log))
-      (same1 : StaysSeated v v1) (fits : first_outside f.int_type 0 (x ∷ xs) ≡ None) (takes : TakesRows s1 s2) (some : 1 ≤ length s2.pending)
+  module _ (x : ℤ) (xs : List ℤ) (rows : AreRows s (x ∷ xs)) (s1 s2 s3 : Session) (v1 v2 v3 : SeatView) (line : FlushLine) (added : s1 ≡ with_values s (x ∷ xs)) (stands1 : (log : Log) → Stands s log → Stands s1 (and_now (appends (x ∷ xs)) log))
+      (same1 : StaysSeated v v1) (fits : first_outside f.int_type 0 (x ∷ xs) ≡ None) (few : too_many f ((length (values_in done) + length (x ∷ xs)) / f.columns) ≡ None) (takes : TakesRows s1 s2) (some : 1 ≤ length s2.pending)
       (stands2 : (log : Log) → Stands s1 log → Stands s2 (and_now (plans (length s2.pending)) log)) (same2 : StaysSeated v1 v2) (room : HasRoom s2 v2) (after : AfterPiece s2 [] s3) (wrote : HasWritten s2.pending v2 v3)
       (stands3 : (log : Log) → Stands s2 log → Stands s3 (record log { events = showing s2.pending log.events })) (pieces_are : line.pieces ≡ length v3.seen) (rows_are : line.rows ≡ s3.committed) where
     abbrev pub es : List Happening
@@ -137,21 +177,21 @@ module _ (f : NewFile) (done : List (List ℤ)) (s : Session) (v : SeatView) (li
     abbrev pub new_log : Log
     new_log = record (h.writes.log) { events = es }
 
-    all_rows : s2.dataset.shape.rows ≡ length (values_in done) + length (x ∷ xs)
+    all_rows : s2.dataset.shape.rows ≡ s.dataset.shape.rows + rows.0
     all_rows =
         let now : rows_of s1 ≡ rows_of s + length (x ∷ xs) / s.dataset.shape.cols =
         ap (λ (t : Session). t.dataset.shape.rows + t.waits) added ∙ (let e : s.dataset.shape.rows + (s.waits + length (x ∷ xs) / s.dataset.shape.cols) ≡ s.dataset.shape.rows + s.waits + length (x ∷ xs) / s.dataset.shape.cols = omega arith in e) in
-        ap (λ (d : Described). d.shape.rows) takes.dataset ∙ now ∙ (let e : rows_of s + length (x ∷ xs) / s.dataset.shape.cols ≡ length (values_in done) + length (x ∷ xs) = omega (arith, h.rows, h.waits, counted (x ∷ xs)) in e)
+        ap (λ (d : Described). d.shape.rows) takes.dataset ∙ now ∙ (let e : rows_of s + length (x ∷ xs) / s.dataset.shape.cols ≡ s.dataset.shape.rows + rows.0 = omega (arith, h.waits, counted (x ∷ xs) rows) in e)
 
     pub facts : Shown s2 s3
     facts = shown_stays s2 s3 [] after
 
-    pub dataset_is : s3.dataset ≡ with_rows s3.dataset.shape.rows (new_dataset f)
+    pub dataset_is : s3.dataset ≡ with_rows s3.dataset.shape.rows (described_of f)
     dataset_is =
-        let named : IsNamed s1.dataset = subst (λ (t : Session). IsNamed t.dataset) (sym added) (shown_laws.named s h.writes.log h.writes.stands h.writes.new) in
-        let base : s3.dataset ≡ with_rows (rows_of s1) (new_dataset f) =
+        let named : IsNamed s1.dataset = subst (λ (t : Session). IsNamed t.dataset) (sym added) (shown_laws.named s h.writes.log h.writes.stands (is_new f s v h.writes)) in
+        let base : s3.dataset ≡ with_rows (rows_of s1) (described_of f) =
         facts.dataset ∙ takes_named s1 s2 takes named ∙ ap (λ (t : Session). with_rows (rows_of s1) t.dataset) added ∙ ap (λ (d : Described). with_rows (rows_of s1) d) h.writes.dataset in
-        base ∙ ap (λ (n : ℕ). with_rows n (new_dataset f)) (sym (ap (λ (d : Described). d.shape.rows) base))
+        base ∙ ap (λ (n : ℕ). with_rows n (described_of f)) (sym (ap (λ (d : Described). d.shape.rows) base))
 
     pub seen_is : v3.seen ≡ v.seen ++ s2.pending
     seen_is = wrote.seen ∙ ap (λ (l : List Write). l ++ s2.pending) (same2.seen ∙ same1.seen)
@@ -162,6 +202,7 @@ module _ (f : NewFile) (done : List (List ℤ)) (s : Session) (v : SeatView) (li
     abbrev pub batch_writes : Writes f s3 v3
     batch_writes = record {
       log = new_log;
+      is = h.writes.is;
       stands = stands3 (and_now (plans (length s2.pending)) (and_now (appends (x ∷ xs)) h.writes.log)) (stands2 (and_now (appends (x ∷ xs)) h.writes.log) (stands1 h.writes.log h.writes.stands));
       new = ap (λ (l : Log). record l { events = es }) h.writes.new;
       seat = record { start = h.writes.seat.start ∙ ap (λ (i : ImageId). i.start) (sym (wrote.image ∙ same2.image ∙ same1.image)); pieces = hist_is };
@@ -170,7 +211,15 @@ module _ (f : NewFile) (done : List (List ℤ)) (s : Session) (v : SeatView) (li
       dataset = dataset_is;
     }
 
-    line_rows : line.rows ≡ length (values_in done) + length (x ∷ xs)
+    now_rows : s3.dataset.shape.rows ≡ s.dataset.shape.rows + rows.0
+    now_rows = ap (λ (d : Described). d.shape.rows) facts.dataset ∙ all_rows
+
+    few_rows : needed_chunks (cutting_for f) s3.dataset.shape.rows ≤ limit_of format_limits f.index
+    few_rows =
+        subst (λ (n : ℕ). needed_chunks (cutting_for f) n ≤ limit_of format_limits f.index) (all_counted (x ∷ xs) rows ∙ sym now_rows)
+        (few_of f ((length (values_in done) + length (x ∷ xs)) / f.columns) few)
+
+    line_rows : line.rows ≡ s.dataset.shape.rows + rows.0
     line_rows = rows_are ∙ ap (λ (t : Session). t.committed) after.1 ∙ all_rows
 
     appended_is : appended new_log ≡ values_in (done ++ (x ∷ xs) ∷ [])
@@ -184,16 +233,18 @@ module _ (f : NewFile) (done : List (List ℤ)) (s : Session) (v : SeatView) (li
     tells_all : (p : ℕ) → p ≤ length v3.seen → flushed_at new_log p ≡ rows_after 0 p (lines ++ line ∷ [])
     tells_all =
         tells_more new_log lines line (length v3.seen) pieces_are
-        (λ p less. before_last h.writes.log s2.pending (x ∷ xs) (length (values_in done)) lines log_column rows_flushed (ap length h.appended) h.tells
-        (λ q low. rows_all 1 5 0 0 q done lines h.agree (omega (arith, h.last, low, ap length h.writes.seat.pieces)) ∙ h.told)
+        (λ p less. before_last h.writes.log s2.pending (x ∷ xs) (length (values_in done)) s.dataset.shape.rows lines log_rows rows_flushed (ap length h.appended) h.tells
+        (λ q low. rows_all f.columns (length (created_writes f)) 0 0 q done lines h.agree (omega (arith, h.last, low, ap length h.writes.seat.pieces)) ∙ h.told)
         p (omega (arith, less, seen_count)))
         (ap (λ (l : Log). flushed_rows l) (position_laws.now new_log (length v3.seen) (omega (arith, ap length hist_is, length_hist es)))
         ∙ sym (standing_laws.flushed_rows s3 new_log batch_writes.stands) ∙ sym rows_are)
 
-    pub batch_flushed : HasFlushed f (done ++ (x ∷ xs) ∷ []) s3 v3 (lines ++ line ∷ [])
+    pub batch_flushed : HasFlushed f most (done ++ (x ∷ xs) ∷ []) s3 v3 (lines ++ line ∷ [])
     batch_flushed = record {
       writes = batch_writes;
-      rows = ap (λ (d : Described). d.shape.rows) facts.dataset ∙ all_rows ∙ sym (length_values done (x ∷ xs));
+      batches = batches_more f.columns done (x ∷ xs) h.batches (rows.0, whole (x ∷ xs) rows);
+      rows = length_values done (x ∷ xs) ∙ rows_with (x ∷ xs) rows ∙ ap (λ (n : ℕ). n * f.columns) (sym now_rows);
+      few = few_rows;
       waits = facts.waits ∙ takes.waits;
       pending = after_pending s2 s3 [] after;
       going = facts.stopped ∙ takes.stopped ∙ ap (λ (t : Session). t.stopped) added ∙ h.going;
@@ -205,11 +256,11 @@ module _ (f : NewFile) (done : List (List ℤ)) (s : Session) (v : SeatView) (li
       };
       appended = appended_is;
       fit = ap (first_outside f.int_type 0) (values_more done (x ∷ xs)) ∙ none_outside f.int_type 0 (values_in done) (x ∷ xs) h.fit fits;
-      agree = agree_more 1 5 0 done lines x xs line h.agree (omega (arith, h.last, some, pieces_are, ap length seen_is, length-append v.seen s2.pending))
-          (line_rows ∙ (let e : length (values_in done) + length (x ∷ xs) ≡ rows_told 0 lines + length (x ∷ xs) / 1 = omega (arith, h.told) in e));
+      agree = agree_more f.columns (length (created_writes f)) 0 done lines x xs line h.agree (omega (arith, h.last, some, pieces_are, ap length seen_is, length-append v.seen s2.pending))
+          (line_rows ∙ (let e : s.dataset.shape.rows + rows.0 ≡ rows_told 0 lines + length (x ∷ xs) / f.columns = omega (arith, h.told, counted_here (x ∷ xs) rows) in e));
       tells = λ p within. tells_all p (omega (arith, within, ap length hist_is));
-      last = omega (arith, pieces_last 5 lines line, pieces_are);
-      told = rows_last 0 lines line ∙ line_rows ∙ sym (length_values done (x ∷ xs));
+      last = omega (arith, pieces_last (length (created_writes f)) lines line, pieces_are);
+      told = rows_last 0 lines line ∙ line_rows ∙ sym now_rows;
     }
 
 -- ---- Refusals
@@ -225,76 +276,88 @@ IsOfValues (Some errors.Stopped) = ⊥
 IsOfValues (Some (errors.Busy pending)) = ⊥
 IsOfValues (Some e) = Unit {0}
 
-of_chunks : (chunks : ℕ) → IsOfValues (too_many chunks)
-of_chunks chunks = cond_both (nat_lt 131060 chunks) (Some (errors.Chunks chunks 131060)) None IsOfValues (λ t. tt) (λ t. tt)
+of_chunks : (f : CreatedFile) (rows : ℕ) → IsOfValues (too_many f rows)
+of_chunks f rows =
+    cond_both (nat_lt (limit_of format_limits f.index) (needed_chunks (cutting_for f) rows)) (Some (errors.Chunks (needed_chunks (cutting_for f) rows) (limit_of format_limits f.index))) None IsOfValues
+    (λ t. tt) (λ t. tt)
 
-of_values : (f : NewFile) (rows : ℕ) (values : List ℤ) → IsOfValues (batch_refusal f rows values)
-of_values f rows [] = tt
-of_values f rows (v ∷ vs) = go (first_outside f.int_type 0 (v ∷ vs)) where
-  go : (o : Option (ℕ × ℤ)) → IsOfValues (elim o as (λ _. Option AppendError) [ Some x ↦ Some (errors.OutOfRange x.0 x.1) | None ↦ too_many (div_up (rows + length (v ∷ vs)) f.chunk_rows) ])
-  go None = of_chunks (div_up (rows + length (v ∷ vs)) f.chunk_rows)
+of_values : (f : CreatedFile) (before : ℕ) (values : List ℤ) → IsOfValues (batch_refusal f before values)
+of_values f before [] = tt
+of_values f before (v ∷ vs) = go (first_outside f.int_type 0 (v ∷ vs)) where
+  go : (o : Option (ℕ × ℤ)) → IsOfValues (elim o as (λ _. Option AppendError) [ Some x ↦ Some (errors.OutOfRange x.0 x.1) | None ↦ too_many f ((before + length (v ∷ vs)) / f.columns) ])
+  go None = of_chunks f ((before + length (v ∷ vs)) / f.columns)
   go (Some x) = tt
 
-pub not_stopped : (f : NewFile) (done : List (List ℤ)) (s : Session) (v : SeatView) (lines : List FlushLine) (values : List ℤ) → HasFlushed f done s v lines → 1 ≤ length values
+pub not_stopped : (f : CreatedFile) (most : ℕ) (done : List (List ℤ)) (s : Session) (v : SeatView) (lines : List FlushLine) (values : List ℤ) → HasFlushed f most done s v lines → AreRows s values → 1 ≤ length values
     → append_refusal s values ≡ Some errors.Stopped → ⊥
-not_stopped f done s v lines values h some e =
-    subst IsOfValues (sym (refusal_for f done s v lines h values some) ∙ e) (of_values f (length (values_in done)) values)
+not_stopped f most done s v lines values h rows some e =
+    subst IsOfValues (sym (refusal_for f most done s v lines h values rows some) ∙ e) (of_values f (length (values_in done)) values)
 
-pub not_busy : (f : NewFile) (done : List (List ℤ)) (s : Session) (v : SeatView) (lines : List FlushLine) (values : List ℤ) (pending : ℕ) → HasFlushed f done s v lines → 1 ≤ length values
+pub not_busy : (f : CreatedFile) (most : ℕ) (done : List (List ℤ)) (s : Session) (v : SeatView) (lines : List FlushLine) (values : List ℤ) (pending : ℕ) → HasFlushed f most done s v lines → AreRows s values → 1 ≤ length values
     → append_refusal s values ≡ Some (errors.Busy pending) → ⊥
-not_busy f done s v lines values pending h some e =
-    subst IsOfValues (sym (refusal_for f done s v lines h values some) ∙ e) (of_values f (length (values_in done)) values)
+not_busy f most done s v lines values pending h rows some e =
+    subst IsOfValues (sym (refusal_for f most done s v lines h values rows some) ∙ e) (of_values f (length (values_in done)) values)
 
 -- values that are taken fit
 fits_of : (o : Option (ℕ × ℤ)) (a : Option AppendError) → ◌≡◌ {A = Option AppendError} (elim o as (λ _. Option AppendError) [ Some x ↦ Some (errors.OutOfRange x.0 x.1) | None ↦ a ]) None → o ≡ None
 fits_of None a e = refl
 fits_of (Some x) a e = absurd (none_some (errors.OutOfRange x.0 x.1) (sym e))
 
+-- and need no more chunks than there are
+chunks_of : (o : Option (ℕ × ℤ)) (a : Option AppendError) → ◌≡◌ {A = Option AppendError} (elim o as (λ _. Option AppendError) [ Some x ↦ Some (errors.OutOfRange x.0 x.1) | None ↦ a ]) None → a ≡ None
+chunks_of None a e = e
+chunks_of (Some x) a e = absurd (none_some (errors.OutOfRange x.0 x.1) (sym e))
+
 -- a batch behind others, of whatever values
-pub put_flushed : (f : NewFile) (done : List (List ℤ)) (s : Session) (v : SeatView) (lines : List FlushLine) (values : List ℤ) (s1 s2 s3 : Session) (v1 v2 v3 : SeatView) (line : FlushLine) → (h : HasFlushed f done s v lines)
-    → 1 ≤ length values → s1 ≡ with_values s values → ((log : Log) → Stands s log → Stands s1 (and_now (appends values) log)) → StaysSeated v v1 → append_refusal s values ≡ None
+pub put_flushed : (f : CreatedFile) (most : ℕ) (done : List (List ℤ)) (s : Session) (v : SeatView) (lines : List FlushLine) (values : List ℤ) (s1 s2 s3 : Session) (v1 v2 v3 : SeatView) (line : FlushLine)
+    → (h : HasFlushed f most done s v lines) → AreRows s values → 1 ≤ length values → s1 ≡ with_values s values → ((log : Log) → Stands s log → Stands s1 (and_now (appends values) log)) → StaysSeated v v1 → append_refusal s values ≡ None
     → TakesRows s1 s2 → 1 ≤ length s2.pending → ((log : Log) → Stands s1 log → Stands s2 (and_now (plans (length s2.pending)) log)) → StaysSeated v1 v2 → HasRoom s2 v2 → AfterPiece s2 [] s3
     → HasWritten s2.pending v2 v3 → ((log : Log) → Stands s2 log → Stands s3 (record log { events = showing s2.pending log.events })) → line.pieces ≡ length v3.seen → line.rows ≡ s3.committed
-    → HasFlushed f (done ++ values ∷ []) s3 v3 (lines ++ line ∷ [])
-put_flushed f done s v lines [] s1 s2 s3 v1 v2 v3 line h some added stands1 same1 none takes more stands2 same2 room after wrote stands3 pieces rows = absurd (omega arith)
-put_flushed f done s v lines (x ∷ xs) s1 s2 s3 v1 v2 v3 line h some added stands1 same1 none takes more stands2 same2 room after wrote stands3 pieces rows =
-    let fits = fits_of (first_outside f.int_type 0 (x ∷ xs)) (too_many (div_up (length (values_in done) + length (x ∷ xs)) f.chunk_rows)) (sym (refusal_is f done s v lines h x xs) ∙ none) in
-    batch_flushed f done s v lines h x xs s1 s2 s3 v1 v2 v3 line added stands1 same1 fits takes more stands2 same2 room after wrote stands3 pieces rows
+    → HasFlushed f most (done ++ values ∷ []) s3 v3 (lines ++ line ∷ [])
+put_flushed f most done s v lines [] s1 s2 s3 v1 v2 v3 line h rows some added stands1 same1 none takes more stands2 same2 room after wrote stands3 pieces told = absurd (omega arith)
+put_flushed f most done s v lines (x ∷ xs) s1 s2 s3 v1 v2 v3 line h rows some added stands1 same1 none takes more stands2 same2 room after wrote stands3 pieces told =
+    let chunks : Option AppendError = too_many f ((length (values_in done) + length (x ∷ xs)) / f.columns) in
+    let taken = sym (refusal_is f most done s v lines h x xs rows) ∙ none in
+    let fits = fits_of (first_outside f.int_type 0 (x ∷ xs)) chunks taken in
+    let few = chunks_of (first_outside f.int_type 0 (x ∷ xs)) chunks taken in
+    batch_flushed f most done s v lines h x xs rows s1 s2 s3 v1 v2 v3 line added stands1 same1 fits few takes more stands2 same2 room after wrote stands3 pieces told
 
 -- the session is the writer's still after an append, and after a flush of it that was refused
-pub taken_writes : (f : NewFile) (done : List (List ℤ)) (s : Session) (v : SeatView) (lines : List FlushLine) (values : List ℤ) (t : Session) (x : SeatView) → (h : HasFlushed f done s v lines) → t ≡ with_values s values
+pub taken_writes : (f : CreatedFile) (most : ℕ) (done : List (List ℤ)) (s : Session) (v : SeatView) (lines : List FlushLine) (values : List ℤ) (t : Session) (x : SeatView) → (h : HasFlushed f most done s v lines) → t ≡ with_values s values
     → ((log : Log) → Stands s log → Stands t (and_now (appends values) log)) → StaysSeated v x → Writes f t x
-taken_writes f done s v lines values t x h is stands seat =
-    writes_as f done s v lines h t x (appends values) refl seat (ap (λ (y : Session). y.name) is) (ap (λ (y : Session). y.dataset) is) stands
+taken_writes f most done s v lines values t x h is stands seat =
+    writes_as f most done s v lines h t x (appends values) refl seat (ap (λ (y : Session). y.name) is) (ap (λ (y : Session). y.dataset) is) stands
 
-pub writes_still : (f : NewFile) (s t : Session) (v x : SeatView) → Writes f s v → StaysSeated v x → t.name ≡ s.name → t.dataset ≡ s.dataset → ((log : Log) → Stands s log → Stands t log) → Writes f t x
+pub writes_still : (f : CreatedFile) (s t : Session) (v x : SeatView) → Writes f s v → StaysSeated v x → t.name ≡ s.name → t.dataset ≡ s.dataset → ((log : Log) → Stands s log → Stands t log) → Writes f t x
 writes_still f s t v x w seat name dataset stands = record {
   log = w.log;
   stands = stands w.log w.stands;
+  is = w.is;
   new = w.new;
   seat = record { start = w.seat.start ∙ ap (λ (i : ImageId). i.start) (sym seat.image); pieces = w.seat.pieces ∙ sym seat.seen };
   begun = omega (arith, w.begun, ap length seat.seen);
   name = name ∙ w.name;
-  dataset = dataset ∙ w.dataset ∙ ap (λ (d : Described). with_rows d.shape.rows (new_dataset f)) (sym dataset);
+  dataset = dataset ∙ w.dataset ∙ ap (λ (d : Described). with_rows d.shape.rows (described_of f)) (sym dataset);
 }
 
-pub planned_writes : (f : NewFile) (s t : Session) (v x : SeatView) → Writes f s v → StaysSeated v x → TakesRows s t → (k : ℕ) → ((log : Log) → Stands s log → Stands t (and_now (plans k) log)) → Writes f t x
+pub planned_writes : (f : CreatedFile) (s t : Session) (v x : SeatView) → Writes f s v → StaysSeated v x → TakesRows s t → (k : ℕ) → ((log : Log) → Stands s log → Stands t (and_now (plans k) log)) → Writes f t x
 planned_writes f s t v x w seat takes k stands =
-    let d : t.dataset ≡ with_rows (rows_of s) (new_dataset f) = takes_named s t takes (shown_laws.named s w.log w.stands w.new) ∙ ap (with_rows (rows_of s)) w.dataset in
+    let d : t.dataset ≡ with_rows (rows_of s) (described_of f) = takes_named s t takes (shown_laws.named s w.log w.stands (is_new f s v w)) ∙ ap (with_rows (rows_of s)) w.dataset in
     record {
       log = and_now (plans k) w.log;
       stands = stands w.log w.stands;
+      is = w.is;
       new = ap (λ (l : Log). record l { events = plans k ∷ w.log.events }) w.new;
       seat = record { start = w.seat.start ∙ ap (λ (i : ImageId). i.start) (sym seat.image); pieces = w.seat.pieces ∙ sym seat.seen };
       begun = omega (arith, w.begun, ap length seat.seen);
       name = takes.name ∙ w.name;
-      dataset = d ∙ ap (λ (n : ℕ). with_rows n (new_dataset f)) (sym (ap (λ (e : Described). e.shape.rows) d));
+      dataset = d ∙ ap (λ (n : ℕ). with_rows n (described_of f)) (sym (ap (λ (e : Described). e.shape.rows) d));
     }
 
 -- the file has no place for what was appended behind others
-pub lacks_place : (f : NewFile) (done : List (List ℤ)) (s : Session) (v : SeatView) (lines : List FlushLine) (values : List ℤ) (t : Session) (full : Full) → (h : HasFlushed f done s v lines) → t ≡ with_values s values
-    → ((log : Log) → Stands s log → Stands t (and_now (appends values) log)) → ((log : Log) → Stands t log → NoPlace t log full) → LacksPlace f done values full
-lacks_place f done s v lines values t full h is stands none =
+pub lacks_place : (f : CreatedFile) (most : ℕ) (done : List (List ℤ)) (s : Session) (v : SeatView) (lines : List FlushLine) (values : List ℤ) (t : Session) (full : Full) → (h : HasFlushed f most done s v lines) → t ≡ with_values s values
+    → ((log : Log) → Stands s log → Stands t (and_now (appends values) log)) → ((log : Log) → Stands t log → NoPlace t log full) → LacksPlace f most done values full
+lacks_place f most done s v lines values t full h is stands none =
     let stood = stands h.writes.log h.writes.stands in
     let lacks = none (and_now (appends values) h.writes.log) stood in
     let dataset : t.dataset ≡ s.dataset = ap (λ (y : Session). y.dataset) is in
@@ -303,9 +366,9 @@ lacks_place f done s v lines values t full h is stands none =
       log = and_now (appends values) h.writes.log;
       stands = stood;
       new = ap (λ (l : Log). record l { events = appends values ∷ h.writes.log.events }) h.writes.new;
-      dataset = dataset ∙ h.writes.dataset ∙ ap (λ (d : Described). with_rows d.shape.rows (new_dataset f)) (sym dataset);
+      dataset = dataset ∙ h.writes.dataset ∙ ap (λ (d : Described). with_rows d.shape.rows (described_of f)) (sym dataset);
       limit = lacks.limit ∙ ap (λ (y : Session). y.places.limit) is ∙ h.limit;
       appended = sym (append_assoc h.writes.log.values (appended_in h.writes.log.events) values) ∙ ap (λ (xs : List ℤ). xs ++ values) h.appended;
-      flushed = ap (λ (c : ℕ). length (flushed h.writes.log) / c) (log_column f done s v lines h) ∙ (let e : length (flushed h.writes.log) / 1 ≡ length (flushed h.writes.log) = omega arith in e) ∙ rows_flushed f done s v lines h;
+      flushed = ap (λ (n : ℕ). n / h.writes.log.columns) (rows_flushed f most done s v lines h) ∙ ap (λ (c : ℕ). length (values_in done) / c) (log_columns f most done s v lines h);
       lacks = lacks;
     }

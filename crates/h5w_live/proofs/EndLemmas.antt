@@ -1,73 +1,94 @@
 -- The creation of a file, and its close.
-use Rattle.std.proofs.Common.{◌≡◌, ◌⊎◌, ℕ, ◌+◌, ◌/◌, ◌<◌, ◌≤◌, List, [], ◌∷◌, ◌++◌, length, take, ℤ, Ok, sym, refl, ap, ◌∙◌, subst, arith, inl, inr, length-append}
+use Rattle.std.proofs.Common.{◌≡◌, ◌⊎◌, ℕ, ◌+◌, ◌*◌, ◌/◌, ◌<◌, ◌≤◌, List, [], ◌∷◌, ◌++◌, length, map, take, ℤ, Ok, sym, refl, ap, ◌∙◌, subst, arith, inl, inr, length-append}
 use Rattle.std.proofs.lemmas.Bool.{cases_lt}
+use Rattle.std.proofs.lemmas.List.{length-map}
 use Rattle.h5w_model.specs.Agrees.{rows_after, values_in}
+use Rattle.h5w_model.specs.declared.cell.IndexKind.{IndexKind}
+use Rattle.h5w_model.specs.declared.cell.IndexKind.TheVariants.{Array, Tree}
 use Rattle.h5w_model.specs.Datasets.{Described}
 use Rattle.h5w_model.specs.Logs.{Happening, Log, events_at, flushed_at, flushed_in, hist, shown, shows}
 use Rattle.h5w_model.specs.Superblock.{super_at, super_bytes}
 use Rattle.h5w_model.specs.declared.piece.Write.{Write}
 use Rattle.h5w_model.specs.declared.report.FlushLine.{FlushLine}
 use Rattle.h5w_laws.proofs.LogLemmas.{events_at_earlier, events_at_now, length_hist}
-use Rattle.h5w_session.specs.Creations.{NewFile, created, creation_writes, log_of, new_dataset}
+use Rattle.h5w_creation_laws.specs.CreatedFiles.{CreatedFile, IsCreatable, block_write, created_blocks, created_log, created_writes, described_of, header_block, index_blocks, root_block, super_block}
+use Rattle.h5w_session.specs.Creations.{IsCreated, log_of}
 use Rattle.h5w_session.specs.Sessions.{AfterPiece, Session, cleared, closed_of, closed_root, with_rows}
 use Rattle.h5w_session.specs.Stands.{Stands}
 use Rattle.h5w_shared.specs.Seats.{ImageId, SeatView}
 use Rattle.h5w_live.specs.Writing.{HasClosed, HasFlushed, HasRoom, HasWritten, showing}
 use Rattle.h5w_live.proofs.WritingLemmas.{after_pending, appended_showing, hist_showing, shown_stays}
 use Rattle.h5w_live.proofs.FlushedLemmas.{events_among, flushed_level, flushed_showing, rows_all}
-use Rattle.h5w_live.proofs.BatchLemmas.{log_column, rows_flushed}
+use Rattle.h5w_live.proofs.BatchLemmas.{log_rows, rows_flushed}
+use Rattle.h5w_live.proofs.RowLemmas.{none_needed, rows_in_values}
 
 -- ---- The creation
 
+-- the index's pieces, of an array or of a tree, and those of the headers and the superblock
+few_blocks : (k : IndexKind) (f : CreatedFile) → length (map block_write (index_blocks k f ++ header_block f ∷ root_block f ∷ super_block f ∷ [])) ≤ 5
+few_blocks Array f = omega arith
+few_blocks Tree f = omega arith
+
+pub few_pieces : (f : CreatedFile) (most : ℕ) (s : Session) → IsCreated f most s → length s.pending ≤ 5
+few_pieces f most s made = omega (arith, ap (λ (x : Session). length x.pending) made.session, few_blocks f.index f)
+
+-- a reader finds the file once all of them are visible
+pub first_is : (f : CreatedFile) → length (created_writes f) ≡ length (created_blocks f)
+first_is f = length-map (created_blocks f) block_write
+
 -- no rows are flushed by pieces alone
-none_flushed : (ws : List Write) (p : ℕ) → p ≤ length ws → flushed_at (log_of (showing ws [])) p ≡ 0
-none_flushed ws p within =
+none_flushed : (f : CreatedFile) (ws : List Write) (p : ℕ) → 1 ≤ f.columns → p ≤ length ws → flushed_at (log_of f (showing ws [])) p ≡ 0
+none_flushed f ws p some within =
     let there : events_at (0 + p) (showing ws []) ≡ showing (take p ws) [] = events_among p ws [] within in
     let here : events_at p (showing ws []) ≡ showing (take p ws) [] = ap (λ q. events_at q (showing ws [])) (let e : p ≡ 0 + p = omega arith in e) ∙ there in
     let none : flushed_in 0 [] (events_at p (showing ws [])) ≡ [] = ap (flushed_in 0 []) here ∙ flushed_showing 0 [] (take p ws) [] in
-    ap (λ (vs : List ℤ). length vs / 1) none
+    ap (λ (vs : List ℤ). length vs / f.columns) none ∙ rows_in_values 0 0 f.columns some (omega arith)
 
-pub created_flushed : (f : NewFile) (s t : Session) (v w : SeatView) → s ≡ created f → Stands s (log_of []) → v.image.start ≡ [] → v.seen ≡ [] → HasRoom s v → AfterPiece s [] t → HasWritten s.pending v w
-    → ((log : Log) → Stands s log → Stands t (record log { events = showing s.pending log.events })) → HasFlushed f [] t w []
-created_flushed f s t v w is stood start none room after wrote stands =
-    let pending : s.pending ≡ creation_writes f = ap (λ (x : Session). x.pending) is in
-    let es : List Happening = showing (creation_writes f) [] in
+pub created_flushed : (f : CreatedFile) (most : ℕ) (s t : Session) (v w : SeatView) → IsCreatable f → IsCreated f most s → Stands s (created_log f) → v.image.start ≡ [] → v.seen ≡ [] → HasRoom s v → AfterPiece s [] t → HasWritten s.pending v w
+    → ((log : Log) → Stands s log → Stands t (record log { events = showing s.pending log.events })) → HasFlushed f most [] t w []
+created_flushed f most s t v w by made stood start none room after wrote stands =
+    let is = made.session in
+    let pending : s.pending ≡ created_writes f = ap (λ (x : Session). x.pending) is in
+    let es : List Happening = showing (created_writes f) [] in
     let facts = shown_stays s t [] after in
-    let seen : w.seen ≡ creation_writes f = wrote.seen ∙ ap (λ (l : List Write). l ++ s.pending) none ∙ pending in
+    let seen : w.seen ≡ created_writes f = wrote.seen ∙ ap (λ (l : List Write). l ++ s.pending) none ∙ pending in
     let left : t.pending ≡ [] = after_pending s t [] after in
-    let five : length (creation_writes f) ≡ 5 = refl in
-    let count : length (hist es) ≡ length (creation_writes f) = ap length (hist_showing (creation_writes f) []) in
-    let dataset : t.dataset ≡ new_dataset f = facts.dataset ∙ ap (λ (x : Session). x.dataset) is in
+    let count : length (hist es) ≡ length (created_writes f) = ap length (hist_showing (created_writes f) []) in
+    let dataset : t.dataset ≡ described_of f = facts.dataset ∙ ap (λ (x : Session). x.dataset) is in
+    let no_rows : t.dataset.shape.rows ≡ 0 = ap (λ (d : Described). d.shape.rows) dataset in
     record {
       writes = record {
-        log = log_of es;
-        stands = subst (λ (ws : List Write). Stands t (log_of (showing ws []))) pending (stands (log_of []) stood);
+        log = log_of f es;
+        stands = subst (λ (ws : List Write). Stands t (log_of f (showing ws []))) pending (stands (log_of f []) stood);
+        is = by;
         new = refl;
-        seat = record { start = sym (ap (λ (i : ImageId). i.start) wrote.image ∙ start); pieces = hist_showing (creation_writes f) [] ∙ sym seen };
-        begun = omega (arith, ap length seen, five);
+        seat = record { start = sym (ap (λ (i : ImageId). i.start) wrote.image ∙ start); pieces = hist_showing (created_writes f) [] ∙ sym seen };
+        begun = omega (arith, ap length seen);
         name = facts.name ∙ ap (λ (x : Session). x.name) is;
-        dataset = dataset ∙ sym (ap (λ (d : Described). with_rows d.shape.rows (new_dataset f)) dataset);
+        dataset = dataset ∙ sym (ap (λ (d : Described). with_rows d.shape.rows (described_of f)) dataset);
       };
-      rows = ap (λ (d : Described). d.shape.rows) dataset;
+      batches = tt;
+      rows = (let e : 0 ≡ 0 * f.columns = omega arith in e) ∙ ap (λ (n : ℕ). n * f.columns) (sym no_rows);
+      few = none_needed f t.dataset.shape.rows by no_rows;
       waits = facts.waits ∙ ap (λ (x : Session). x.waits) is;
       pending = left;
       going = facts.stopped ∙ ap (λ (x : Session). x.stopped) is;
       flags = ap (λ (x : Session). x.root.flags) after.1 ∙ ap (λ (x : Session). x.root.flags) is;
       limit = facts.limit ∙ ap (λ (x : Session). x.places.limit) is;
       room = record { pieces = omega (arith, room.pieces, wrote.pieces, ap length left); end = omega (arith, room.end, wrote.end, facts.end) };
-      appended = appended_showing (creation_writes f) [];
+      appended = appended_showing (created_writes f) [];
       fit = refl;
       agree = tt;
-      tells = λ p within. none_flushed (creation_writes f) p (omega (arith, within, count));
-      last = omega (arith, ap length seen, five);
-      told = refl;
+      tells = λ p within. none_flushed f (created_writes f) p by.some_columns (omega (arith, within, count));
+      last = omega (arith, ap length seen);
+      told = sym no_rows;
     }
 
 -- ---- The close
 
-pub closed_after : (f : NewFile) (done : List (List ℤ)) (s t u : Session) (v w : SeatView) (lines : List FlushLine) → HasFlushed f done s v lines → t ≡ closed_of s → super_at (super_bytes (closed_root s)) ≡ Ok (closed_root s)
+pub closed_after : (f : CreatedFile) (most : ℕ) (done : List (List ℤ)) (s t u : Session) (v w : SeatView) (lines : List FlushLine) → HasFlushed f most done s v lines → t ≡ closed_of s → super_at (super_bytes (closed_root s)) ≡ Ok (closed_root s)
     → ((log : Log) → Stands s log → Stands t log) → AfterPiece t [] u → HasWritten t.pending v w → ((log : Log) → Stands t log → Stands u (record log { events = showing t.pending log.events })) → HasClosed f done u w lines
-closed_after f done s t u v w lines h is reads stands1 after wrote stands2 =
+closed_after f most done s t u v w lines h is reads stands1 after wrote stands2 =
     let facts = shown_stays t u [] after in
     let x : Write = record { at = 0; piece = super_bytes (closed_root s) } in
     let pending : t.pending ≡ x ∷ [] = ap (λ (y : Session). y.pending) is in
@@ -78,15 +99,17 @@ closed_after f done s t u v w lines h is reads stands1 after wrote stands2 =
       writes = record {
         log = record (h.writes.log) { events = es };
         stands = subst (λ (ws : List Write). Stands u (record (h.writes.log) { events = showing ws h.writes.log.events })) pending (stands2 h.writes.log (stands1 h.writes.log h.writes.stands));
+        is = h.writes.is;
         new = ap (λ (l : Log). record l { events = es }) h.writes.new;
         seat = record { start = h.writes.seat.start ∙ ap (λ (i : ImageId). i.start) (sym wrote.image); pieces = ap (λ (l : List Write). l ++ x ∷ []) h.writes.seat.pieces ∙ sym seen };
         begun = omega (arith, h.writes.begun, ap length seen, length-append v.seen (x ∷ []));
         name = facts.name ∙ ap (λ (y : Session). y.name) is ∙ h.writes.name;
-        dataset = dataset ∙ h.writes.dataset ∙ ap (λ (d : Described). with_rows d.shape.rows (new_dataset f)) (sym dataset);
+        dataset = dataset ∙ h.writes.dataset ∙ ap (λ (d : Described). with_rows d.shape.rows (described_of f)) (sym dataset);
       };
       stopped = facts.stopped ∙ ap (λ (y : Session). y.stopped) is;
       pending = after_pending t u [] after;
-      rows = ap (λ (y : Session). y.committed) after.1 ∙ ap (λ (y : Session). y.dataset.shape.rows) is ∙ h.rows;
+      batches = h.batches;
+      rows = h.rows ∙ ap (λ (n : ℕ). n * f.columns) (sym (ap (λ (y : Session). y.committed) after.1 ∙ ap (λ (y : Session). y.dataset.shape.rows) is));
       appended = h.appended;
       fit = h.fit;
       agree = h.agree;
@@ -106,9 +129,8 @@ closed_after f done s t u v w lines h is reads stands1 after wrote stands2 =
         ∙ h.tells p (omega (arith, less, length_hist h.writes.log.events))
     tells_closed x p (inr more) within =
         let all : length (flushed_in 1 h.writes.log.values h.writes.log.events) ≡ length (values_in done) =
-        flushed_level 1 h.writes.log.values h.writes.log.events (length (values_in done)) (rows_flushed f done s v lines h) (ap length h.appended) in
+        flushed_level 1 h.writes.log.values h.writes.log.events (length (values_in done)) (rows_flushed f most done s v lines h) (ap length h.appended) in
         let seen : shown h.writes.log.events ≡ length v.seen = sym (length_hist h.writes.log.events) ∙ ap length h.writes.seat.pieces in
-        let told : rows_after 0 p lines ≡ length (values_in done) = rows_all 1 5 0 0 p done lines h.agree (omega (arith, h.last, more, seen)) ∙ h.told in
+        let told : rows_after 0 p lines ≡ s.dataset.shape.rows = rows_all f.columns (length (created_writes f)) 0 0 p done lines h.agree (omega (arith, h.last, more, seen)) ∙ h.told in
         ap (λ (es : List Happening). length (flushed_in 0 h.writes.log.values es) / h.writes.log.columns) (events_at_now p (shows x ∷ h.writes.log.events) more)
-        ∙ ap (λ (k : ℕ). k / h.writes.log.columns) all ∙ ap (λ (c : ℕ). length (values_in done) / c) (log_column f done s v lines h)
-        ∙ (let e : length (values_in done) / 1 ≡ length (values_in done) = omega arith in e) ∙ sym told
+        ∙ ap (λ (k : ℕ). k / h.writes.log.columns) all ∙ log_rows f most done s v lines h ∙ sym told

@@ -44,18 +44,18 @@ flushed_level j base es n low high =
     (let l = length-take (length (flushed_in j base es)) (base ++ appended_in es) in omega (arith, l, ap length (flushed_begins j base es))) in
     omega (arith, rises_behind 0 j base es (omega arith), low, high, under)
 
-module _ (log : Log) (ws : List Write) (vs : List ℤ) (n : ℕ) (one : log.columns ≡ 1) (low : length (flushed log) ≡ n) (high : length (appended log) ≡ n) where
+module _ (log : Log) (ws : List Write) (vs : List ℤ) (n r : ℕ) (rows : n / log.columns ≡ r) (low : length (flushed log) ≡ n) (high : length (appended log) ≡ n) where
   begun : List Happening
   begun = plans (length ws) ∷ appends vs ∷ log.events
 
   pub after_all : Log
   after_all = record log { events = showing ws (plans (length ws) ∷ appends vs ∷ log.events) }
 
-  rows_are : (xs : List ℤ) → length xs ≡ n → rows_in log xs ≡ n
-  rows_are xs e = ap (λ c. length xs / c) one ∙ (let w : length xs / 1 ≡ n = omega (arith, e) in w)
+  rows_are : (xs : List ℤ) → length xs ≡ n → rows_in log xs ≡ r
+  rows_are xs e = ap (λ k. k / log.columns) e ∙ rows
 
   -- among the pieces, but for the last
-  among : (i : ℕ) → i < length ws → flushed_at (record log { events = showing ws (plans (length ws) ∷ appends vs ∷ log.events) }) (shown log.events + i) ≡ n
+  among : (i : ℕ) → i < length ws → flushed_at (record log { events = showing ws (plans (length ws) ∷ appends vs ∷ log.events) }) (shown log.events + i) ≡ r
   among i less =
       let there : events_at (shown log.events + i) (showing ws (plans (length ws) ∷ appends vs ∷ log.events)) ≡ showing (take i ws) (plans (length ws) ∷ appends vs ∷ log.events) =
       events_among i ws (plans (length ws) ∷ appends vs ∷ log.events) (omega (arith, less)) in
@@ -106,17 +106,17 @@ rows_last before (g ∷ gs) f = rows_last g.rows gs f
 
 -- ---- All positions before the last piece
 
-pub before_last : (log : Log) (ws : List Write) (vs : List ℤ) (n : ℕ) (fs : List FlushLine) → log.columns ≡ 1 → length (flushed log) ≡ n → length (appended log) ≡ n
-    → ((p : ℕ) → p ≤ length (hist log.events) → flushed_at log p ≡ rows_after 0 p fs) → ((p : ℕ) → length (hist log.events) ≤ p → rows_after 0 p fs ≡ n)
+pub before_last : (log : Log) (ws : List Write) (vs : List ℤ) (n r : ℕ) (fs : List FlushLine) → n / log.columns ≡ r → length (flushed log) ≡ n → length (appended log) ≡ n
+    → ((p : ℕ) → p ≤ length (hist log.events) → flushed_at log p ≡ rows_after 0 p fs) → ((p : ℕ) → length (hist log.events) ≤ p → rows_after 0 p fs ≡ r)
     → (p : ℕ) → p < length (hist log.events) + length ws → flushed_at (record log { events = showing ws (plans (length ws) ∷ appends vs ∷ log.events) }) p ≡ rows_after 0 p fs
-before_last log ws vs n fs one low high tells told p less = go (cases_lt p (shown log.events)) where
+before_last log ws vs n r fs rows low high tells told p less = go (cases_lt p (shown log.events)) where
   count : length (hist log.events) ≡ shown log.events
   count = length_hist log.events
 
   go : (p < shown log.events) ⊎ (shown log.events ≤ p) → flushed_at (record log { events = showing ws (plans (length ws) ∷ appends vs ∷ log.events) }) p ≡ rows_after 0 p fs
-  go (inl x) = earlier log ws vs n one low high p x ∙ tells p (omega (arith, count, x))
+  go (inl x) = earlier log ws vs n r rows low high p x ∙ tells p (omega (arith, count, x))
   go (inr x) =
       let i : ℕ = p - shown log.events in
       let e : p ≡ shown log.events + i = omega (arith, x) in
       ap (flushed_at (record log { events = showing ws (plans (length ws) ∷ appends vs ∷ log.events) })) e
-      ∙ among log ws vs n one low high i (omega (arith, less, count, x)) ∙ sym (told p (omega (arith, count, x)))
+      ∙ among log ws vs n r rows low high i (omega (arith, less, count, x)) ∙ sym (told p (omega (arith, count, x)))

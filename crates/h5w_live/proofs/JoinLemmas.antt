@@ -9,8 +9,8 @@ use Rattle.h5w_model.specs.declared.report.FlushLine.{FlushLine}
 use Rattle.h5w_model.specs.declared.report.PollLine.{PollLine}
 use Rattle.h5w_image.specs.Memory.{JournalView}
 use Rattle.h5w_reader.specs.Readers.{reader_rules}
-use Rattle.h5w_session.specs.Creations.{NewFile}
-use Rattle.h5w_session.specs.Sessions.{Session, rows_of}
+use Rattle.h5w_creation_laws.specs.CreatedFiles.{CreatedFile, created_writes}
+use Rattle.h5w_session.specs.Sessions.{Session}
 use Rattle.h5w_shared.specs.Seats.{ImageId, NoteView, SeatView}
 use Rattle.h5w_shared.specs.Turns.{StartsWith}
 use Rattle.h5w_live_laws.specs.Laws.{IsStray}
@@ -26,8 +26,10 @@ use Rattle.h5w_live.specs.declared.actors.Cut.TheVariants as cuts
 use Rattle.h5w_live.specs.declared.report.LiveError.{LiveError}
 use Rattle.h5w_live.specs.declared.report.LiveError.TheVariants as lives
 use Rattle.h5w_live.specs.declared.threads.Written.{Written}
+use Rattle.h5w_live.proofs.EndLemmas.{first_is}
 use Rattle.h5w_live.proofs.PartLemmas.{reader_agrees}
 use Rattle.h5w_live.proofs.ReportLemmas.{all_whole, is_shut}
+use Rattle.h5w_live.proofs.RowLemmas.{few_values}
 use Rattle.h5w_live.proofs.RunLemmas.{is_run, restful}
 
 -- ---- The readers
@@ -36,8 +38,8 @@ module _ (i : ImageId) (v : SeatView) (r : Result AllEnded Cut) (j : Joined i v 
   start : j.closed.writes.log.start ≡ i.start
   start = j.closed.writes.seat.start ∙ ap (λ (x : ImageId). x.start) j.there
 
-  first : j.closed.writes.log.first ≡ 5
-  first = ap (λ (l : Log). l.first) j.closed.writes.new
+  first : j.closed.writes.log.first ≡ length (created_writes j.file)
+  first = ap (λ (l : Log). l.first) j.closed.writes.new ∙ sym (first_is j.file)
 
   begins_log : (seen : List Write) → StartsWith v.seen seen → StartsWith (hist j.closed.writes.log.events) seen
   begins_log seen h = subst (λ (ws : List Write). StartsWith ws seen) (sym j.closed.writes.seat.pieces) h
@@ -50,7 +52,7 @@ module _ (i : ImageId) (v : SeatView) (r : Result AllEnded Cut) (j : Joined i v 
 
   -- where what each seat had seen begins what the writer wrote
   pub agree : (e : AllEnded) → r ≡ Ok e → All (λ (n : NoteView). StartsWith v.seen n.seen) e.notes.items
-      → Agrees (run_of j.attempts j.readers j.calls j.batches j.flushes) j.batches e.lines.items
+      → Agrees (run_of j.file j.attempts j.readers j.calls j.batches j.flushes) j.batches e.lines.items
   agree e is begins =
       let d : NoteView = record { image = i; seen = [] } in
       let h = ended e is in
@@ -60,9 +62,9 @@ module _ (i : ImageId) (v : SeatView) (r : Result AllEnded Cut) (j : Joined i v 
         count = h.lines_count;
         each = λ k less.
             let one = h.each k d less in
-            reader_agrees (reader_rules j.file.name j.attempts) j.closed.writes.log (run_of j.attempts j.readers j.calls j.batches j.flushes) (k + 1) j.before (get_or e.notes.items k d).seen
+            reader_agrees (reader_rules j.file.name j.attempts) j.closed.writes.log (run_of j.file j.attempts j.readers j.calls j.batches j.flushes) (k + 1) j.before (get_or e.notes.items k d).seen
             (take j.calls (drop (k * j.calls) e.lines.items))
-            (is_run j.file j.batches j.session v j.flushes j.attempts j.readers j.calls j.closed j.some j.typed j.few) first refl j.begun
+            (is_run j.file j.batches j.session v j.flushes j.attempts j.readers j.calls j.closed j.some j.typed j.few) first j.begun
             (begins_log (get_or e.notes.items k d).seen (begins k d (omega (arith, less, h.notes_count))))
             (subst (λ (b : List ℕ). Polled (reader_rules j.file.name j.attempts) b (k + 1) j.before (get_or e.notes.items k d).seen (take j.calls (drop (k * j.calls) e.lines.items))) (sym start) one.polled);
       }
@@ -82,8 +84,8 @@ module _ (i : ImageId) (v : SeatView) (r : Result AllEnded Cut) (j : Joined i v 
 
 -- ---- The whole
 
-pub few_rows : (f : NewFile) (done : List (List ℤ)) (s : Session) (v : SeatView) (lines : List FlushLine) → HasFlushed f done s v lines → rows_of s < 2 ^ 52 → length (values_in done) < 2 ^ 52
-few_rows f done s v lines h bound = omega (arith, h.rows, bound)
+pub few_put : (f : CreatedFile) (most : ℕ) (done : List (List ℤ)) (s : Session) (v : SeatView) (lines : List FlushLine) → HasFlushed f most done s v lines → length (values_in done) < 2 ^ 52
+few_put f most done s v lines h = omega (arith, h.rows, few_values f s.dataset.shape.rows h.writes.is h.few)
 
 abbrev pub joined : (i : ImageId) (w : Written) (r : Result AllEnded Cut) (ran : Ran i w r) (s : Session) (v : SeatView) (flushes : List FlushLine) → length (values_in ran.batches) < 2 ^ 52 → v.image ≡ i
     → HasClosed ran.file ran.batches s v flushes → Joined i v r
@@ -106,27 +108,28 @@ joined i w r ran s v flushes few there closed = record {
 }
 
 -- an error that tells of no batch needs no cause
-pub none_cause : (f : NewFile) (bs : List (List ℤ)) (e : LiveError) → TellsNone e → IsCause f bs e
-none_cause f bs (lives.OutOfRange batch index value) h = absurd h
-none_cause f bs (lives.Chunks chunks limit) h = absurd h
-none_cause f bs (lives.Space full) h = absurd h
-none_cause f bs (lives.Failed worn) h = tt
-none_cause f bs lives.OutOfMemory h = tt
+pub none_cause : (f : CreatedFile) (most : ℕ) (bs : List (List ℤ)) (e : LiveError) → TellsNone e → IsCause f most bs e
+none_cause f most bs (lives.OutOfRange batch index value) h = absurd h
+none_cause f most bs (lives.Chunks chunks limit) h = absurd h
+none_cause f most bs (lives.Space full) h = absurd h
+none_cause f most bs (lives.Failed worn) h = tt
+none_cause f most bs lives.OutOfMemory h = tt
 
 -- what was copied, and the lines, are the report's
-pub reported : (f : NewFile) (bs : List (List ℤ)) (attempts readers calls : ℕ) (s : Session) (v : SeatView) (flushes : List FlushLine) → HasClosed f bs s v flushes → (journal : JournalView) (fs : List FlushLine) (ps polls : List PollLine)
-    → journal.writes ≡ v.seen → fs ≡ flushes → ps ≡ polls → Agrees (run_of attempts readers calls bs flushes) bs polls → Reports f bs attempts readers calls (record { journal = journal; flushes = fs; polls = ps })
+pub reported : (f : CreatedFile) (bs : List (List ℤ)) (attempts readers calls : ℕ) (s : Session) (v : SeatView) (flushes : List FlushLine) → HasClosed f bs s v flushes → (journal : JournalView) (fs : List FlushLine) (ps polls : List PollLine)
+    → journal.writes ≡ v.seen → fs ≡ flushes → ps ≡ polls → Agrees (run_of f attempts readers calls bs flushes) bs polls → Reports f bs attempts readers calls (record { journal = journal; flushes = fs; polls = ps })
 reported f bs attempts readers calls s v flushes h journal fs ps polls writes lines calls_are agrees = record {
-  agrees = subst (λ (ls : List FlushLine). Agrees (run_of attempts readers calls bs ls) bs ps) (sym lines) (subst (λ (ls : List PollLine). Agrees (run_of attempts readers calls bs flushes) bs ls) (sym calls_are) agrees);
-  whole = subst (λ (ws : List Write). AreWhole f.name ws (values_in bs) 0 fs) (sym writes) (subst (λ (ls : List FlushLine). AreWhole f.name v.seen (values_in bs) 0 ls) (sym lines) (all_whole f bs s v flushes h));
-  shut = subst (λ (ws : List Write). IsShut f.name ws (values_in bs)) (sym writes) (is_shut f bs s v flushes h);
+  agrees = subst (λ (ls : List FlushLine). Agrees (run_of f attempts readers calls bs ls) bs ps) (sym lines) (subst (λ (ls : List PollLine). Agrees (run_of f attempts readers calls bs flushes) bs ls) (sym calls_are) agrees);
+  whole = subst (λ (ws : List Write). AreWhole f.name f.columns ws (values_in bs) 0 fs) (sym writes) (subst (λ (ls : List FlushLine). AreWhole f.name f.columns v.seen (values_in bs) 0 ls) (sym lines) (all_whole f bs s v flushes h));
+  shut = subst (λ (ws : List Write). IsShut f.name f.columns ws (values_in bs)) (sym writes) (is_shut f bs s v flushes h);
 }
 
 -- what the threads left
-abbrev pub ran_of : (i : ImageId) (w : Written) (r : Result AllEnded Cut) (f : NewFile) (bs given : List (List ℤ)) (name : List ℕ) (attempts readers calls seats : ℕ) (before : List Write) → IsIntType f.int_type → 1 ≤ attempts → 5 ≤ length before
-    → given ≡ bs → name ≡ f.name → seats ≡ readers → HasPutAll f given i w → ReadersEnd (reader_rules name attempts) i calls seats before r → Ran i w r
-ran_of i w r f bs given name attempts readers calls seats before typed some begun batches named count put ends = record {
+abbrev pub ran_of : (i : ImageId) (w : Written) (r : Result AllEnded Cut) (f : CreatedFile) (most : ℕ) (bs given : List (List ℤ)) (name : List ℕ) (attempts readers calls seats : ℕ) (before : List Write) → IsIntType f.int_type → 1 ≤ attempts → length (created_writes f) ≤ length before
+    → given ≡ bs → name ≡ f.name → seats ≡ readers → HasPutAll f most given i w → ReadersEnd (reader_rules name attempts) i calls seats before r → Ran i w r
+ran_of i w r f most bs given name attempts readers calls seats before typed some begun batches named count put ends = record {
   file = f;
+  most = most;
   batches = bs;
   attempts = attempts;
   readers = readers;
@@ -135,7 +138,7 @@ ran_of i w r f bs given name attempts readers calls seats before typed some begu
   typed = typed;
   some = some;
   begun = begun;
-  put = subst (λ (x : List (List ℤ)). HasPutAll f x i w) batches put;
+  put = subst (λ (x : List (List ℤ)). HasPutAll f most x i w) batches put;
   ends = subst (λ (n : List ℕ). ReadersEnd (reader_rules n attempts) i calls readers before r) named (subst (λ k. ReadersEnd (reader_rules name attempts) i calls k before r) count ends);
 }
 

@@ -1,3 +1,4 @@
+pub mod RowLemmas
 pub mod CallLemmas
 pub mod ReadingLemmas
 pub mod WritingLemmas

@@ -22,10 +22,10 @@ agrees_behind run reader call a b seen (line ∷ lines) low h =
     (record { reader_is = h.0.reader_is; call_is = h.0.call_is; later = omega (arith, low, h.0.later); ends = h.0.ends; answer = h.0.answer }, h.1)
 
 -- all calls of a reader that began once the creation was visible
-pub reader_agrees : (g : ReaderRules) (log : Log) (run : Run) (reader : ℕ) (before after : List Write) (lines : List PollLine) → IsRunOf g log run → log.first ≡ 5 → run.first ≡ 5 → 5 ≤ length before
+pub reader_agrees : (g : ReaderRules) (log : Log) (run : Run) (reader : ℕ) (before after : List Write) (lines : List PollLine) → IsRunOf g log run → log.first ≡ run.first → run.first ≤ length before
     → StartsWith (hist log.events) after → Polled g log.start reader before after lines → ReaderAgrees run reader 1 run.first 0 lines
-reader_agrees g log run reader before after lines is first begun some starts p =
-    agrees_behind run reader 1 run.first (length before) 0 lines (omega (arith, begun, some)) (poll_laws.agree g log run reader before after lines p.next is (omega (arith, first, some)) starts p.tell)
+reader_agrees g log run reader before after lines is first some starts p =
+    agrees_behind run reader 1 run.first (length before) 0 lines some (poll_laws.agree g log run reader before after lines p.next is (omega (arith, first, some)) starts p.tell)
 
 -- ---- All readers
 

@@ -21,14 +21,16 @@ use Rattle.h5w_model.proofs.SuperLemmas.{length-super_bytes}
 use Rattle.h5w_headline.specs.Headline.{Served}
 use Rattle.h5w_headline.proofs.MomentLemmas.{moment, same_dataset, shown_is}
 use Rattle.h5w_laws.proofs.LogLemmas.{length_hist, position_laws}
-use Rattle.h5w_session.specs.Creations.{NewFile}
+use Rattle.h5w_creation_laws.specs.CreatedFiles.{CreatedFile, created_writes}
 use Rattle.h5w_session.specs.Sessions.{Session}
 use Rattle.h5w_session.proofs.LawLemmas.{standing_laws}
 use Rattle.h5w_shared.specs.Seats.{SeatView}
 use Rattle.h5w_live_laws.specs.Lines.{pieces_in}
 use Rattle.h5w_live.specs.Reports.{AreWhole, IsShut, IsWholeBy, header_after}
-use Rattle.h5w_live.specs.Writing.{HasClosed}
+use Rattle.h5w_live.specs.Writing.{AreBatches, AreWholeRows, HasClosed}
+use Rattle.h5w_live.proofs.EndLemmas.{first_is}
 use Rattle.h5w_live.proofs.FlushedLemmas.{pieces_rise}
+use Rattle.h5w_live.proofs.RowLemmas.{rows_in_values, some_rows}
 use Rattle.h5w_live.proofs.RunLemmas.{restful}
 
 -- before the next line all rows are told
@@ -50,29 +52,33 @@ front_of r front =
     let w : Write = record { at = 0; piece = super_bytes r } in
     ap (λ (x : List ℕ). range x 0 48) (image-push [] front w) ∙ ap (λ n. range (apply w (image [] front)) 0 n) (sym (length-super_bytes r)) ∙ At-apply w (image [] front)
 
-module _ (f : NewFile) (done : List (List ℤ)) (s : Session) (v : SeatView) (lines : List FlushLine) (h : HasClosed f done s v lines) where
+module _ (f : CreatedFile) (done : List (List ℤ)) (s : Session) (v : SeatView) (lines : List FlushLine) (h : HasClosed f done s v lines) where
   served : Served f.name h.writes.log
   served = (restful f s v 1 h.writes (omega arith)).served
 
-  columns : h.writes.log.columns ≡ 1
+  columns : h.writes.log.columns ≡ f.columns
   columns = ap (λ (l : Log). l.columns) h.writes.new
+
+  begun : h.writes.log.first ≡ length (created_writes f)
+  begun = ap (λ (l : Log). l.first) h.writes.new ∙ sym (first_is f)
 
   img : (p : ℕ) → image_at h.writes.log p ≡ image [] (take p v.seen)
   img p = ap (λ (b : List ℕ). image b (take p (hist h.writes.log.events))) (ap (λ (l : Log). l.start) h.writes.new) ∙ ap (λ (ws : List Write). image [] (take p ws)) h.writes.seat.pieces
 
-  there : (p : ℕ) → 5 ≤ p → p ≤ length v.seen → IsPosition h.writes.log p
-  there p low high = record { begun = omega (arith, low, ap (λ (l : Log). l.first) h.writes.new); reached = omega (arith, high, ap length h.writes.seat.pieces) }
+  there : (p : ℕ) → length (created_writes f) ≤ p → p ≤ length v.seen → IsPosition h.writes.log p
+  there p low high = record { begun = omega (arith, low, begun); reached = omega (arith, high, ap length h.writes.seat.pieces) }
 
-  reads_at : (p n : ℕ) → 5 ≤ p → p ≤ length v.seen → flushed_at h.writes.log p ≡ n → Reads (image [] (take p v.seen)) f.name n 1 (take n (values_in done))
+  reads_at : (p n : ℕ) → length (created_writes f) ≤ p → p ≤ length v.seen → flushed_at h.writes.log p ≡ n → Reads (image [] (take p v.seen)) f.name n f.columns (take (n * f.columns) (values_in done))
   reads_at p n low high told =
-      let values : first_rows h.writes.log (flushed_at h.writes.log p) ≡ take n (values_in done) =
-      ap (λ (c : ℕ). take (flushed_at h.writes.log p * c) (appended h.writes.log)) columns ∙ ap (λ (xs : List ℤ). take (flushed_at h.writes.log p * 1) xs) h.appended
-      ∙ ap (λ (k : ℕ). take k (values_in done)) (let e : flushed_at h.writes.log p * 1 ≡ n = omega (arith, told) in e) in
-      same_reads f.name (image_at h.writes.log p) (image [] (take p v.seen)) (flushed_at h.writes.log p) n h.writes.log.columns 1 (first_rows h.writes.log (flushed_at h.writes.log p)) (take n (values_in done))
+      let values : first_rows h.writes.log (flushed_at h.writes.log p) ≡ take (n * f.columns) (values_in done) =
+      ap (λ (c : ℕ). take (flushed_at h.writes.log p * c) (appended h.writes.log)) columns ∙ ap (λ (xs : List ℤ). take (flushed_at h.writes.log p * f.columns) xs) h.appended
+      ∙ ap (λ (k : ℕ). take (k * f.columns) (values_in done)) told in
+      same_reads f.name (image_at h.writes.log p) (image [] (take p v.seen)) (flushed_at h.writes.log p) n h.writes.log.columns f.columns (first_rows h.writes.log (flushed_at h.writes.log p))
+      (take (n * f.columns) (values_in done))
       (img p) told columns values (served.prefixed p (there p low high)).reads
 
   -- where the rows rise, the dataset header changed
-  changed : (q p : ℕ) (r : Reading) → 5 ≤ q → q ≤ p → p ≤ length v.seen → flushed_at h.writes.log q < flushed_at h.writes.log p → Shows format_limits (image [] (take q v.seen)) f.name r
+  changed : (q p : ℕ) (r : Reading) → length (created_writes f) ≤ q → q ≤ p → p ≤ length v.seen → flushed_at h.writes.log q < flushed_at h.writes.log p → Shows format_limits (image [] (take q v.seen)) f.name r
       → header_after (take p v.seen) r.place ≡ header_after (take q v.seen) r.place → ⊥
   changed q p r low order high more shows same =
       let m = moment f.name h.writes.log q served (there q low (omega (arith, order, high))) in
@@ -83,21 +89,23 @@ module _ (f : NewFile) (done : List (List ℤ)) (s : Session) (v : SeatView) (li
       let equal = same_dataset f.name h.writes.log q p m n served order (subst (λ (x : Reading). Quiet h.writes.log x.place q p) is quiet) in
       omega (arith, more, m.rows, n.rows, ap (λ (d : Described). d.shape.rows) equal)
 
-  whole_one : (pieces before : ℕ) (w : ℤ) (ws : List ℤ) (bs : List (List ℤ)) (line : FlushLine) (ls : List FlushLine) → 5 ≤ pieces → pieces < line.pieces → line.rows ≡ before + length (w ∷ ws) / 1
-      → FlushesAgree 1 line.pieces line.rows bs ls → ((p : ℕ) → pieces ≤ p → p ≤ length v.seen → flushed_at h.writes.log p ≡ rows_after before p (line ∷ ls)) → pieces_in line.pieces ls ≤ length v.seen
-      → IsWholeBy f.name v.seen (values_in done) before line
-  whole_one pieces before w ws bs line ls some later rows agree tells last =
-      let within : line.pieces ≤ length v.seen = omega (arith, pieces_rise 1 line.pieces line.rows bs ls agree, last) in
+  whole_one : (pieces before : ℕ) (w : ℤ) (ws : List ℤ) (bs : List (List ℤ)) (line : FlushLine) (ls : List FlushLine) → AreWholeRows f.columns (w ∷ ws) → length (created_writes f) ≤ pieces → pieces < line.pieces
+      → line.rows ≡ before + length (w ∷ ws) / f.columns → FlushesAgree f.columns line.pieces line.rows bs ls → ((p : ℕ) → pieces ≤ p → p ≤ length v.seen → flushed_at h.writes.log p ≡ rows_after before p (line ∷ ls)) → pieces_in line.pieces ls ≤ length v.seen
+      → IsWholeBy f.name f.columns v.seen (values_in done) before line
+  whole_one pieces before w ws bs line ls one some later rows agree tells last =
+      let within : line.pieces ≤ length v.seen = omega (arith, pieces_rise f.columns line.pieces line.rows bs ls agree, last) in
       let q : ℕ = line.pieces - 1 in
       let here : flushed_at h.writes.log line.pieces ≡ line.rows =
       tells line.pieces (omega (arith, later)) within
       ∙ ap (λ b. rows_after b line.pieces ls) (cond-true (nat_le line.pieces line.pieces) line.rows before (le-leb line.pieces line.pieces (omega arith)))
-      ∙ none_after 1 line.pieces line.rows line.rows line.pieces bs ls agree (omega arith) in
+      ∙ none_after f.columns line.pieces line.rows line.rows line.pieces bs ls agree (omega arith) in
       let earlier : flushed_at h.writes.log (line.pieces - 1) ≡ before =
       tells (line.pieces - 1) (omega (arith, later)) (omega (arith, within))
       ∙ ap (λ b. rows_after b (line.pieces - 1) ls) (cond-false (nat_le line.pieces (line.pieces - 1)) line.rows before (lt-leb line.pieces (line.pieces - 1) (omega (arith, later))))
-      ∙ none_after 1 line.pieces line.rows before (line.pieces - 1) bs ls agree (omega arith) in
-      let more : before < line.rows = (let e : length (w ∷ ws) / 1 ≡ length ws + 1 = omega arith in omega (arith, rows, e)) in
+      ∙ none_after f.columns line.pieces line.rows before (line.pieces - 1) bs ls agree (omega arith) in
+      let counted : length (w ∷ ws) / f.columns ≡ one.0 = rows_in_values one.0 (length (w ∷ ws)) f.columns h.writes.is.some_columns one.1 in
+      let any : 1 ≤ one.0 = some_rows one.0 (length (w ∷ ws)) f.columns one.1 (omega arith) in
+      let more : before < line.rows = omega (arith, rows, counted, any) in
       record {
         some = omega (arith, later);
         within = within;
@@ -107,32 +115,33 @@ module _ (f : NewFile) (done : List (List ℤ)) (s : Session) (v : SeatView) (li
         header = λ r shows. changed (line.pieces - 1) line.pieces r (omega (arith, some, later)) (omega arith) within (omega (arith, more, here, earlier)) shows;
       }
 
-  whole_each : (pieces before : ℕ) (bs : List (List ℤ)) (ls : List FlushLine) → 5 ≤ pieces → FlushesAgree 1 pieces before bs ls
-      → ((p : ℕ) → pieces ≤ p → p ≤ length v.seen → flushed_at h.writes.log p ≡ rows_after before p ls) → pieces_in pieces ls ≤ length v.seen → AreWhole f.name v.seen (values_in done) before ls
-  whole_each pieces before [] [] some agree tells last = tt
-  whole_each pieces before [] (l ∷ ls) some agree tells last = absurd agree
-  whole_each pieces before ([] ∷ bs) ls some agree tells last = whole_each pieces before bs ls some agree tells last
-  whole_each pieces before ((w ∷ ws) ∷ bs) [] some agree tells last = tt
-  whole_each pieces before ((w ∷ ws) ∷ bs) (l ∷ ls) some agree tells last = (
-    whole_one pieces before w ws bs l ls some agree.0 agree.1 agree.2 tells last,
-    whole_each l.pieces l.rows bs ls (omega (arith, some, agree.0)) agree.2
+  whole_each : (pieces before : ℕ) (bs : List (List ℤ)) (ls : List FlushLine) → AreBatches f.columns bs → length (created_writes f) ≤ pieces → FlushesAgree f.columns pieces before bs ls
+      → ((p : ℕ) → pieces ≤ p → p ≤ length v.seen → flushed_at h.writes.log p ≡ rows_after before p ls) → pieces_in pieces ls ≤ length v.seen → AreWhole f.name f.columns v.seen (values_in done) before ls
+  whole_each pieces before [] [] all some agree tells last = tt
+  whole_each pieces before [] (l ∷ ls) all some agree tells last = absurd agree
+  whole_each pieces before ([] ∷ bs) ls all some agree tells last = whole_each pieces before bs ls all.1 some agree tells last
+  whole_each pieces before ((w ∷ ws) ∷ bs) [] all some agree tells last = tt
+  whole_each pieces before ((w ∷ ws) ∷ bs) (l ∷ ls) all some agree tells last = (
+    whole_one pieces before w ws bs l ls all.0 some agree.0 agree.1 agree.2 tells last,
+    whole_each l.pieces l.rows bs ls all.1 (omega (arith, some, agree.0)) agree.2
         (λ p low high. tells p (omega (arith, low, agree.0)) high ∙ ap (λ b. rows_after b p ls) (cond-true (nat_le l.pieces p) l.rows before (le-leb l.pieces p low)))
         last,
   )
 
-  pub all_whole : AreWhole f.name v.seen (values_in done) 0 lines
-  all_whole = whole_each 5 0 done lines (omega arith) h.agree (λ p low high. h.tells p (omega (arith, high, ap length h.writes.seat.pieces))) h.last
+  pub all_whole : AreWhole f.name f.columns v.seen (values_in done) 0 lines
+  all_whole = whole_each (length (created_writes f)) 0 done lines h.batches (omega arith) h.agree (λ p low high. h.tells p (omega (arith, high, ap length h.writes.seat.pieces))) h.last
 
-  pub is_shut : IsShut f.name v.seen (values_in done)
+  pub is_shut : IsShut f.name f.columns v.seen (values_in done)
   is_shut =
       let count : length (hist h.writes.log.events) ≡ length v.seen = ap length h.writes.seat.pieces in
-      let told : flushed_at h.writes.log (length v.seen) ≡ length (values_in done) =
+      let counted : length (values_in done) / f.columns ≡ s.committed = rows_in_values s.committed (length (values_in done)) f.columns h.writes.is.some_columns h.rows in
+      let told : flushed_at h.writes.log (length v.seen) ≡ s.committed =
       ap (λ (l : Log). flushed_rows l) (position_laws.now h.writes.log (length v.seen) (omega (arith, count, length_hist h.writes.log.events)))
-      ∙ sym (standing_laws.flushed_rows s h.writes.log h.writes.stands) ∙ h.rows in
+      ∙ sym (standing_laws.flushed_rows s h.writes.log h.writes.stands) in
       record {
-        reads = same_reads f.name (image [] (take (length v.seen) v.seen)) (image [] v.seen) (length (values_in done)) (length (values_in done)) 1 1 (take (length (values_in done)) (values_in done)) (values_in done)
-            (ap (image []) (take_all (length v.seen) v.seen (omega arith))) refl refl (take_all (length (values_in done)) (values_in done) (omega arith))
-            (reads_at (length v.seen) (length (values_in done)) h.writes.begun (omega arith) told);
+        reads = same_reads f.name (image [] (take (length v.seen) v.seen)) (image [] v.seen) s.committed (length (values_in done) / f.columns) f.columns f.columns (take (s.committed * f.columns) (values_in done)) (values_in done)
+            (ap (image []) (take_all (length v.seen) v.seen (omega arith))) (sym counted) refl (take_all (s.committed * f.columns) (values_in done) (omega (arith, h.rows)))
+            (reads_at (length v.seen) s.committed h.writes.begun (omega arith) told);
         root = h.root;
         super = ap (λ (ws : List Write). super_at (range (image [] ws) 0 48)) h.pieces ∙ ap super_at (front_of h.root h.before) ∙ h.reads;
         flags = h.flags;

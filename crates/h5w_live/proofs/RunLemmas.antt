@@ -18,13 +18,14 @@ use Rattle.h5w_model.specs.Tables.{Shows, format_limits}
 use Rattle.h5w_model.specs.declared.report.FlushLine.{FlushLine}
 use Rattle.h5w_types.proofs.RunLemmas.{in_span_each}
 use Rattle.h5w_reader.specs.Readers.{reader_rules}
-use Rattle.h5w_session.specs.Creations.{NewFile}
+use Rattle.h5w_creation_laws.specs.CreatedFiles.{CreatedFile}
 use Rattle.h5w_session.specs.Sessions.{Session}
 use Rattle.h5w_session.proofs.LawLemmas.{shown_laws, standing_laws}
 use Rattle.h5w_shared.specs.Seats.{SeatView}
 use Rattle.h5w_live_laws.specs.Laws.{IsRunOf, Restful}
 use Rattle.h5w_live.specs.Reports.{run_of}
 use Rattle.h5w_live.specs.Writing.{HasClosed, Writes}
+use Rattle.h5w_live.proofs.WritingLemmas.{is_new}
 
 -- ---- Sums
 
@@ -99,25 +100,25 @@ sum_fits vs h few n =
 -- ---- The log
 
 -- readers can rest on the log
-pub restful : (f : NewFile) (s : Session) (v : SeatView) (attempts : ℕ) (w : Writes f s v) → 1 ≤ attempts → Restful (reader_rules f.name attempts) w.log
+pub restful : (f : CreatedFile) (s : Session) (v : SeatView) (attempts : ℕ) (w : Writes f s v) → 1 ≤ attempts → Restful (reader_rules f.name attempts) w.log
 restful f s v attempts w some = record {
   served = record {
     prefixed = subst (λ (n : List ℕ). Prefixed n w.log) w.name (standing_laws.prefixed s w.log w.stands);
     held = subst (λ (n : List ℕ). Held n w.log) w.name (standing_laws.held s w.log w.stands);
     fits = λ p at.
-        let most = shown_laws.fits s w.log p w.stands w.new at in
+        let most = shown_laws.fits s w.log p w.stands (is_new f s v w) at in
         let limit = standing_laws.limited s w.log w.stands in
         omega (arith, most, limit);
   };
   within = λ p r at shows.
-      shown_laws.within s w.log format_limits p r w.stands w.new (omega arith) at
+      shown_laws.within s w.log format_limits p r w.stands (is_new f s v w) (omega arith) at
       (subst (λ (n : List ℕ). Shows format_limits (image_at w.log p) n r) (sym w.name) shows);
   attempts = some;
 }
 
 -- a run is told of it
-pub is_run : (f : NewFile) (done : List (List ℤ)) (s : Session) (v : SeatView) (lines : List FlushLine) (attempts readers calls : ℕ) (h : HasClosed f done s v lines) → 1 ≤ attempts → IsIntType f.int_type
-    → length (values_in done) < 2 ^ 52 → IsRunOf (reader_rules f.name attempts) h.writes.log (run_of attempts readers calls done lines)
+pub is_run : (f : CreatedFile) (done : List (List ℤ)) (s : Session) (v : SeatView) (lines : List FlushLine) (attempts readers calls : ℕ) (h : HasClosed f done s v lines) → 1 ≤ attempts → IsIntType f.int_type
+    → length (values_in done) < 2 ^ 52 → IsRunOf (reader_rules f.name attempts) h.writes.log (run_of f attempts readers calls done lines)
 is_run f done s v lines attempts readers calls h some typed few = record {
   restful = restful f s v attempts h.writes some;
   attempts = refl;

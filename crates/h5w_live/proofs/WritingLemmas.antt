@@ -7,7 +7,8 @@ use Rattle.h5w_model.specs.Datasets.{Described}
 use Rattle.h5w_model.specs.Logs.{Happening, Log, and_now, appended_in, hist, shows}
 use Rattle.h5w_model.specs.declared.piece.Write.{Write}
 use Rattle.h5w_space.specs.Space.{Space}
-use Rattle.h5w_session.specs.Creations.{NewFile, new_dataset}
+use Rattle.h5w_creation_laws.specs.CreatedFiles.{CreatedFile, described_of}
+use Rattle.h5w_session.specs.Past.{IsNew}
 use Rattle.h5w_session.specs.Sessions.{AfterPiece, Freed, Session, stopped_of, with_rows}
 use Rattle.h5w_session.specs.Stands.{Stands}
 use Rattle.h5w_image.specs.View.{Same}
@@ -27,6 +28,10 @@ hist_showing (w ∷ ws) es = hist_showing ws (shows w ∷ es) ∙ append_assoc (
 pub appended_showing : (ws : List Write) (es : List Happening) → appended_in (showing ws es) ≡ appended_in es
 appended_showing [] es = refl
 appended_showing (w ∷ ws) es = appended_showing ws (shows w ∷ es)
+
+-- its log is a new file's
+pub is_new : (f : CreatedFile) (s : Session) (v : SeatView) (w : Writes f s v) → IsNew w.log
+is_new f s v w = record { file = f; is = w.is; log_is = w.new }
 
 -- ---- After a piece
 
@@ -174,7 +179,7 @@ pub session_done : (s t : Session) (v u : SeatView) → Showing s t v u → t.pe
 session_done s t v u so none = subst (λ (ps : List Write). AfterPiece s ps t) none so.session
 
 -- the session is the writer's still, with what is visible so far
-pub writes_on : (f : NewFile) (s t n : Session) (v u x : SeatView) → Showing s t v u → x.image ≡ u.image → x.seen ≡ u.seen → n.name ≡ t.name → n.dataset ≡ t.dataset
+pub writes_on : (f : CreatedFile) (s t n : Session) (v u x : SeatView) → Showing s t v u → x.image ≡ u.image → x.seen ≡ u.seen → n.name ≡ t.name → n.dataset ≡ t.dataset
     → ((log : Log) → Stands t log → Stands n log) → Writes f s v → Writes f n x
 writes_on f s t n v u x so image seen name dataset stands w =
     let now = so.stands w.log w.stands in
@@ -183,15 +188,16 @@ writes_on f s t n v u x so image seen name dataset stands w =
     record {
       log = record (w.log) { events = now.events };
       stands = stands (record (w.log) { events = now.events }) now.stands;
+      is = w.is;
       new = ap (λ (l : Log). record l { events = now.events }) w.new;
       seat = record { start = w.seat.start ∙ ap (λ (i : ImageId). i.start) (sym (image ∙ so.image)); pieces = now.pieces w.seat.pieces ∙ sym seen };
       begun = omega (arith, w.begun, ap length seen, so.grown);
       name = name ∙ same.name ∙ w.name;
-      dataset = d ∙ w.dataset ∙ ap (λ (e : Described). with_rows e.shape.rows (new_dataset f)) (sym d);
+      dataset = d ∙ w.dataset ∙ ap (λ (e : Described). with_rows e.shape.rows (described_of f)) (sym d);
     }
 
 -- the session is stopped where its seat failed
-pub writes_failed : (f : NewFile) (s t n : Session) (v u x : SeatView) → Showing s t v u → FailedSeat u x → n ≡ stopped_of t → ((log : Log) → Stands t log → Stands n log) → Writes f s v → Writes f n x
+pub writes_failed : (f : CreatedFile) (s t n : Session) (v u x : SeatView) → Showing s t v u → FailedSeat u x → n ≡ stopped_of t → ((log : Log) → Stands t log → Stands n log) → Writes f s v → Writes f n x
 writes_failed f s t n v u x so failed stopped stands w =
     writes_on f s t n v u x so (ap (λ (y : SeatView). y.image) failed.same) (ap (λ (y : SeatView). y.seen) failed.same)
     (ap (λ (y : Session). y.name) stopped) (ap (λ (y : Session). y.dataset) stopped) stands w

@@ -1,5 +1,5 @@
 -- What the writer and the readers of a run leave, what the run reports of it, and by what cause it does not.
-use Rattle.std.specs.Prelude.{◌≡◌, ◌≢◌, ℕ, ◌-◌, ◌^◌, ◌<◌, ◌≤◌, List, [], ◌∷◌, length, take, ℤ, Some, None, Result, Ok, Err, IfOk, IfErr, OnOk}
+use Rattle.std.specs.Prelude.{◌≡◌, ◌≢◌, ℕ, ◌-◌, ◌*◌, ◌/◌, ◌^◌, ◌<◌, ◌≤◌, List, [], ◌∷◌, length, take, ℤ, Some, None, Result, Ok, Err, IfOk, IfErr, OnOk}
 use Rattle.h5w_model.specs.Agrees.{Agrees, Run, values_in}
 use Rattle.h5w_model.specs.Headers.{header_view}
 use Rattle.h5w_model.specs.Images.{image}
@@ -10,8 +10,8 @@ use Rattle.h5w_model.specs.Tables.{Reading, Reads, Shows, format_limits}
 use Rattle.h5w_model.specs.declared.piece.Write.{Write}
 use Rattle.h5w_model.specs.declared.report.FlushLine.{FlushLine}
 use Rattle.h5w_model.specs.declared.root.Super.{Super}
+use Rattle.h5w_creation_laws.specs.CreatedFiles.{CreatedFile, created_writes}
 use Rattle.h5w_reader.specs.Readers.{reader_rules}
-use Rattle.h5w_session.specs.Creations.{NewFile}
 use Rattle.h5w_session.specs.Sessions.{Session}
 use Rattle.h5w_session.specs.declared.refusal.AppendError.TheVariants as appends
 use Rattle.h5w_shared.specs.Seats.{ImageId, SeatView}
@@ -27,14 +27,14 @@ use Rattle.h5w_live.specs.declared.writing.Halt.TheVariants as halts
 
 -- ---- The report
 
--- a run of one column: what it was asked for, its values and its flushes; the creation has five pieces
-abbrev pub run_of : (attempts readers calls : ℕ) → List (List ℤ) → List FlushLine → Run
-run_of attempts readers calls bs flushes = record {
-  columns = 1;
+-- a run over a file: what it was asked for, its values and its flushes; the creation has so many pieces as the file's index asks for
+abbrev pub run_of : CreatedFile → (attempts readers calls : ℕ) → List (List ℤ) → List FlushLine → Run
+run_of f attempts readers calls bs flushes = record {
+  columns = f.columns;
   attempts = attempts;
   readers = readers;
   calls = calls;
-  first = 5;
+  first = length (created_writes f);
   values = values_in bs;
   flushes = flushes;
 }
@@ -45,34 +45,34 @@ header_after pieces place = header_view (range (image [] pieces) place 512)
 
 -- A flush became whole by its last piece, that of the dataset header: right before it the image reads as the rows of the flush before, and
 -- right behind it as those of this one, and the piece changed the dataset header.
-pub record IsWholeBy (name : List ℕ) (pieces : List Write) (values : List ℤ) (before : ℕ) (line : FlushLine) : Type 0 where
+pub record IsWholeBy (name : List ℕ) (columns : ℕ) (pieces : List Write) (values : List ℤ) (before : ℕ) (line : FlushLine) : Type 0 where
   pub some : 1 ≤ line.pieces
   pub within : line.pieces ≤ length pieces
   pub more : before < line.rows
-  pub earlier : Reads (image [] (take (line.pieces - 1) pieces)) name before 1 (take before values)
-  pub reads : Reads (image [] (take line.pieces pieces)) name line.rows 1 (take line.rows values)
+  pub earlier : Reads (image [] (take (line.pieces - 1) pieces)) name before columns (take (before * columns) values)
+  pub reads : Reads (image [] (take line.pieces pieces)) name line.rows columns (take (line.rows * columns) values)
   pub header : (r : Reading) → Shows format_limits (image [] (take (line.pieces - 1) pieces)) name r
       → header_after (take line.pieces pieces) r.place ≢ header_after (take (line.pieces - 1) pieces) r.place
 
 -- each flush, one behind another
-abbrev pub AreWhole : List ℕ → List Write → List ℤ → ℕ → List FlushLine → Type 0
-AreWhole name pieces values before [] = Unit {0}
-AreWhole name pieces values before (line ∷ lines) = IsWholeBy name pieces values before line × AreWhole name pieces values line.rows lines
+abbrev pub AreWhole : List ℕ → ℕ → List Write → List ℤ → ℕ → List FlushLine → Type 0
+AreWhole name columns pieces values before [] = Unit {0}
+AreWhole name columns pieces values before (line ∷ lines) = IsWholeBy name columns pieces values before line × AreWhole name columns pieces values line.rows lines
 
 -- all pieces read as all values, and the superblock has flags 0: nobody writes the file
-pub record IsShut (name : List ℕ) (pieces : List Write) (values : List ℤ) : Type 0 where
-  pub reads : Reads (image [] pieces) name (length values) 1 values
+pub record IsShut (name : List ℕ) (columns : ℕ) (pieces : List Write) (values : List ℤ) : Type 0 where
+  pub reads : Reads (image [] pieces) name (length values / columns) columns values
   pub root : Super
   pub super : super_at (range (image [] pieces) 0 48) ≡ Ok root
   pub flags : root.flags ≡ 0
 
 -- why a run did not report: the first batch that is refused, or one for which the file has no place, or no fault of the values
-abbrev pub IsCause : NewFile → List (List ℤ) → LiveError → Type 0
-IsCause f bs (lives.OutOfRange batch index value) = first_refused f 0 1 bs ≡ Some (batch, appends.OutOfRange index value)
-IsCause f bs (lives.Chunks chunks limit) = (batch : ℕ) × (first_refused f 0 1 bs ≡ Some (batch, appends.Chunks chunks limit))
-IsCause f bs (lives.Space full) = (batch : ℕ) × IsFullAt f bs batch full
-IsCause f bs (lives.Failed worn) = Unit {0}
-IsCause f bs lives.OutOfMemory = Unit {0}
+abbrev pub IsCause : CreatedFile → ℕ → List (List ℤ) → LiveError → Type 0
+IsCause f most bs (lives.OutOfRange batch index value) = first_refused f 0 1 bs ≡ Some (batch, appends.OutOfRange index value)
+IsCause f most bs (lives.Chunks chunks limit) = (batch : ℕ) × (first_refused f 0 1 bs ≡ Some (batch, appends.Chunks chunks limit))
+IsCause f most bs (lives.Space full) = (batch : ℕ) × IsFullAt f most bs batch full
+IsCause f most bs (lives.Failed worn) = Unit {0}
+IsCause f most bs lives.OutOfMemory = Unit {0}
 
 -- the error tells of no batch
 abbrev pub TellsNone : LiveError → Type 0
@@ -83,24 +83,25 @@ TellsNone (lives.Failed worn) = Unit {0}
 TellsNone lives.OutOfMemory = Unit {0}
 
 -- what a run reports
-pub record Reports (f : NewFile) (bs : List (List ℤ)) (attempts readers calls : ℕ) (r : LiveReport) : Type 0 where
-  pub agrees : Agrees (run_of attempts readers calls bs r.flushes) bs r.polls
-  pub whole : AreWhole f.name r.journal.writes (values_in bs) 0 r.flushes
-  pub shut : IsShut f.name r.journal.writes (values_in bs)
+pub record Reports (f : CreatedFile) (bs : List (List ℤ)) (attempts readers calls : ℕ) (r : LiveReport) : Type 0 where
+  pub agrees : Agrees (run_of f attempts readers calls bs r.flushes) bs r.polls
+  pub whole : AreWhole f.name f.columns r.journal.writes (values_in bs) 0 r.flushes
+  pub shut : IsShut f.name f.columns r.journal.writes (values_in bs)
 
 -- ---- What the threads leave
 
 -- what the writer leaves of all batches
-pub record HasPutAll (f : NewFile) (bs : List (List ℤ)) (i : ImageId) (w : Written) : Type 0 where
+pub record HasPutAll (f : CreatedFile) (most : ℕ) (bs : List (List ℤ)) (i : ImageId) (w : Written) : Type 0 where
   pub image : w.seat.image ≡ i
-  pub flushed : IfOk w.lines (λ lines. HasFlushed f bs w.session w.seat lines.items)
+  pub flushed : IfOk w.lines (λ lines. HasFlushed f most bs w.session w.seat lines.items)
   pub accepted : OnOk w.lines (first_refused f 0 1 bs ≡ None)
-  pub refused : IfErr w.lines (λ e. Explains f bs e.0 e.1)
+  pub refused : IfErr w.lines (λ e. Explains f most bs e.0 e.1)
   pub failed : (batch : ℕ) → w.lines ≡ Err (batch, halts.Failed) → 0 < w.seat.faults
 
 -- the writer and its readers were joined: each reader's seat had seen these pieces when its thread began
 pub record Ran (i : ImageId) (w : Written) (r : Result AllEnded Cut) : Type 0 where
-  pub file : NewFile
+  pub file : CreatedFile
+  pub most : ℕ
   pub batches : List (List ℤ)
   pub attempts : ℕ
   pub readers : ℕ
@@ -108,13 +109,13 @@ pub record Ran (i : ImageId) (w : Written) (r : Result AllEnded Cut) : Type 0 wh
   pub before : List Write
   pub typed : IsIntType file.int_type
   pub some : 1 ≤ attempts
-  pub begun : 5 ≤ length before
-  pub put : HasPutAll file batches i w
+  pub begun : length (created_writes file) ≤ length before
+  pub put : HasPutAll file most batches i w
   pub ends : ReadersEnd (reader_rules file.name attempts) i calls readers before r
 
 -- and then the session was closed
 pub record Joined (i : ImageId) (v : SeatView) (r : Result AllEnded Cut) : Type 0 where
-  pub file : NewFile
+  pub file : CreatedFile
   pub batches : List (List ℤ)
   pub session : Session
   pub flushes : List FlushLine
@@ -124,7 +125,7 @@ pub record Joined (i : ImageId) (v : SeatView) (r : Result AllEnded Cut) : Type 
   pub before : List Write
   pub typed : IsIntType file.int_type
   pub some : 1 ≤ attempts
-  pub begun : 5 ≤ length before
+  pub begun : length (created_writes file) ≤ length before
   pub few : length (values_in batches) < 2 ^ 52
   pub there : v.image ≡ i
   pub closed : HasClosed file batches session v flushes

@@ -1,14 +1,15 @@
 -- A writer's session over its seat: what it has written, and the lines that tell of it.
-use Rattle.std.specs.Prelude.{◌≡◌, ℕ, ◌+◌, ◌<◌, ◌≤◌, false, true, List, [], ◌∷◌, ◌++◌, length, take, get_or, ℤ, nat_lt, if◌then◌else◌, Option, Some, None, Ok}
+use Rattle.std.specs.Prelude.{◌≡◌, ℕ, ◌+◌, ◌*◌, ◌/◌, ◌<◌, ◌≤◌, false, true, List, [], ◌∷◌, ◌++◌, length, take, get_or, ℤ, nat_lt, if◌then◌else◌, Option, Some, None, Ok}
 use Rattle.h5w_model.specs.Agrees.{FlushesAgree, values_in}
 use Rattle.h5w_model.specs.Lawful.{first_outside}
-use Rattle.h5w_model.specs.Logs.{Happening, Log, appended, div_up, flushed_rows, shows}
+use Rattle.h5w_model.specs.Logs.{Cutting, Happening, Log, appended, flushed_rows, needed_chunks, shows}
+use Rattle.h5w_model.specs.Tables.{format_limits, limit_of}
 use Rattle.h5w_model.specs.declared.piece.Write.{Write}
 use Rattle.h5w_model.specs.declared.report.FlushLine.{FlushLine}
 use Rattle.h5w_model.specs.declared.root.Super.{Super}
-use Rattle.h5w_session.specs.Creations.{NewFile, new_dataset}
+use Rattle.h5w_creation_laws.specs.CreatedFiles.{CreatedFile, IsCreatable, created_writes, described_of}
+use Rattle.h5w_session.specs.Creations.{log_of}
 use Rattle.h5w_session.specs.Loads.{NoPlace}
-use Rattle.h5w_session.specs.Past.{IsNew}
 use Rattle.h5w_session.specs.Sessions.{Session, with_rows}
 use Rattle.h5w_session.specs.Stands.{Stands}
 use Rattle.h5w_session.specs.declared.refusal.AppendError.{AppendError}
@@ -20,6 +21,21 @@ use Rattle.h5w_model.specs.Superblock.{super_at, super_bytes}
 use Rattle.h5w_live.specs.declared.writing.Halt.{Halt}
 use Rattle.h5w_live.specs.declared.writing.Halt.TheVariants as halts
 use Rattle.h5w_live_laws.specs.Lines.{TellsFlushes, pieces_in, rows_told}
+
+-- ---- Batches
+
+-- these values are whole rows of so many columns; no values are none
+abbrev pub AreWholeRows : ℕ → List ℤ → Type 0
+AreWholeRows columns values = (rows : ℕ) × (length values ≡ rows * columns)
+
+-- so is each batch
+abbrev pub AreBatches : ℕ → List (List ℤ) → Type 0
+AreBatches columns [] = Unit {0}
+AreBatches columns (values ∷ batches) = AreWholeRows columns values × AreBatches columns batches
+
+-- how the rows of a file are cut into chunks
+abbrev pub cutting_for : CreatedFile → Cutting
+cutting_for f = record { chunk_rows = f.chunk_rows; chunk_columns = f.chunk_cols; columns = f.columns; value_size = f.int_type.size }
 
 -- ---- The seat
 
@@ -54,45 +70,49 @@ showing (w ∷ ws) es = showing ws (shows w ∷ es)
 
 -- ---- The session
 
--- The session creates a file by these options, and what the seat has seen is the pieces of its log, those of the creation among them.
-pub record Writes (f : NewFile) (s : Session) (v : SeatView) : Type 0 where
+-- The session creates this file, and what the seat has seen is the pieces of its log, those of the creation among them.
+pub record Writes (f : CreatedFile) (s : Session) (v : SeatView) : Type 0 where
   pub log : Log
   pub stands : Stands s log
-  pub new : IsNew log
+  pub is : IsCreatable f
+  pub new : log ≡ log_of f log.events
   pub seat : IsLogOf v log
-  pub begun : 5 ≤ length v.seen
+  pub begun : length (created_writes f) ≤ length v.seen
   pub name : s.name ≡ f.name
-  pub dataset : s.dataset ≡ with_rows s.dataset.shape.rows (new_dataset f)
+  pub dataset : s.dataset ≡ with_rows s.dataset.shape.rows (described_of f)
 
--- All pieces of these batches are visible, and the lines tell of their flushes: nothing is pending or waits.
-pub record HasFlushed (f : NewFile) (done : List (List ℤ)) (s : Session) (v : SeatView) (lines : List FlushLine) : Type 0 where
+-- All pieces of these batches are visible, and the lines tell of their flushes: nothing is pending or waits. The file may have so many bytes.
+pub record HasFlushed (f : CreatedFile) (most : ℕ) (done : List (List ℤ)) (s : Session) (v : SeatView) (lines : List FlushLine) : Type 0 where
   pub writes : Writes f s v
-  pub rows : s.dataset.shape.rows ≡ length (values_in done)
+  pub batches : AreBatches f.columns done
+  pub rows : length (values_in done) ≡ s.dataset.shape.rows * f.columns
+  pub few : needed_chunks (cutting_for f) s.dataset.shape.rows ≤ limit_of format_limits f.index
   pub waits : s.waits ≡ 0
   pub pending : s.pending ≡ []
   pub going : s.stopped ≡ false
   pub flags : s.root.flags ≡ 5
-  pub limit : s.places.limit ≡ f.limit
+  pub limit : s.places.limit ≡ most
   pub room : HasRoom s v
   pub appended : appended writes.log ≡ values_in done
   pub fit : first_outside f.int_type 0 (values_in done) ≡ None
-  pub agree : FlushesAgree 1 5 0 done lines
+  pub agree : FlushesAgree f.columns (length (created_writes f)) 0 done lines
   pub tells : TellsFlushes writes.log lines
-  pub last : pieces_in 5 lines ≤ length v.seen
-  pub told : rows_told 0 lines ≡ length (values_in done)
+  pub last : pieces_in (length (created_writes f)) lines ≤ length v.seen
+  pub told : rows_told 0 lines ≡ s.dataset.shape.rows
 
 -- The session was closed after all pieces of these batches were visible: the last piece is the superblock with flags 0, by which nobody
 -- writes the file.
-pub record HasClosed (f : NewFile) (done : List (List ℤ)) (s : Session) (v : SeatView) (lines : List FlushLine) : Type 0 where
+pub record HasClosed (f : CreatedFile) (done : List (List ℤ)) (s : Session) (v : SeatView) (lines : List FlushLine) : Type 0 where
   pub writes : Writes f s v
   pub stopped : s.stopped ≡ true
   pub pending : s.pending ≡ []
-  pub rows : s.committed ≡ length (values_in done)
+  pub batches : AreBatches f.columns done
+  pub rows : length (values_in done) ≡ s.committed * f.columns
   pub appended : appended writes.log ≡ values_in done
   pub fit : first_outside f.int_type 0 (values_in done) ≡ None
-  pub agree : FlushesAgree 1 5 0 done lines
+  pub agree : FlushesAgree f.columns (length (created_writes f)) 0 done lines
   pub tells : TellsFlushes writes.log lines
-  pub last : pieces_in 5 lines ≤ length v.seen
+  pub last : pieces_in (length (created_writes f)) lines ≤ length v.seen
   pub before : List Write
   pub root : Super
   pub pieces : v.seen ≡ before ++ record { at = 0; piece = super_bytes root } ∷ []
@@ -101,57 +121,58 @@ pub record HasClosed (f : NewFile) (done : List (List ℤ)) (s : Session) (v : S
 
 -- ---- Refusals
 
--- the most chunks of an extensible array whose data blocks have no pages
-abbrev pub chunk_limit : ℕ
-chunk_limit = 131060
+-- so many rows need more chunks than the file's index has
+abbrev pub too_many : CreatedFile → ℕ → Option AppendError
+too_many f rows =
+    if nat_lt (limit_of format_limits f.index) (needed_chunks (cutting_for f) rows)
+    then Some (appends.Chunks (needed_chunks (cutting_for f) rows) (limit_of format_limits f.index)) else None
 
-abbrev pub too_many : ℕ → Option AppendError
-too_many chunks = if nat_lt chunk_limit chunks then Some (appends.Chunks chunks chunk_limit) else None
-
--- why a batch is not appended behind so many rows, but for the image and memory: a value is outside the type, or the rows need too many chunks
-abbrev pub batch_refusal : NewFile → ℕ → List ℤ → Option AppendError
-batch_refusal f rows [] = None
-batch_refusal f rows (v ∷ vs) =
-    elim (first_outside f.int_type 0 (v ∷ vs)) [ Some x ↦ Some (appends.OutOfRange x.0 x.1) | None ↦ too_many (div_up (rows + length (v ∷ vs)) f.chunk_rows) ]
+-- Why a batch is not appended behind so many values, but for the image and memory: a value is outside the type, or the rows need too many
+-- chunks.
+abbrev pub batch_refusal : CreatedFile → ℕ → List ℤ → Option AppendError
+batch_refusal f before [] = None
+batch_refusal f before (v ∷ vs) =
+    elim (first_outside f.int_type 0 (v ∷ vs)) [ Some x ↦ Some (appends.OutOfRange x.0 x.1) | None ↦ too_many f ((before + length (v ∷ vs)) / f.columns) ]
 
 -- the first batch that is refused, by its number from this one on, and why
-abbrev pub first_refused : NewFile → (rows batch : ℕ) → List (List ℤ) → Option (ℕ × AppendError)
-first_refused f rows batch [] = None
-first_refused f rows batch (vs ∷ rest) =
-    elim (batch_refusal f rows vs) [ Some e ↦ Some (batch, e) | None ↦ first_refused f (rows + length vs) (batch + 1) rest ]
+abbrev pub first_refused : CreatedFile → (before batch : ℕ) → List (List ℤ) → Option (ℕ × AppendError)
+first_refused f before batch [] = None
+first_refused f before batch (vs ∷ rest) =
+    elim (batch_refusal f before vs) [ Some e ↦ Some (batch, e) | None ↦ first_refused f (before + length vs) (batch + 1) rest ]
 
--- The batch was appended behind these, which were flushed, and the file has no place for it, within the bounds by the loads of the session's log.
-pub record LacksPlace (f : NewFile) (done : List (List ℤ)) (batch : List ℤ) (full : Full) : Type 0 where
+-- The batch was appended behind these, which were flushed, and the file, of so many bytes at most, has no place for it, within the bounds
+-- by the loads of the session's log.
+pub record LacksPlace (f : CreatedFile) (most : ℕ) (done : List (List ℤ)) (batch : List ℤ) (full : Full) : Type 0 where
   pub session : Session
   pub log : Log
   pub stands : Stands session log
-  pub new : IsNew log
-  pub dataset : session.dataset ≡ with_rows session.dataset.shape.rows (new_dataset f)
-  pub limit : full.limit ≡ f.limit
+  pub new : log ≡ log_of f log.events
+  pub dataset : session.dataset ≡ with_rows session.dataset.shape.rows (described_of f)
+  pub limit : full.limit ≡ most
   pub appended : appended log ≡ values_in done ++ batch
-  pub flushed : flushed_rows log ≡ length (values_in done)
+  pub flushed : flushed_rows log ≡ length (values_in done) / f.columns
   pub lacks : NoPlace session log full
 
 -- why a batch was not flushed behind these
-abbrev pub Refuses : NewFile → List (List ℤ) → List ℤ → Halt → Type 0
-Refuses f done batch (halts.OutOfRange index value) = batch_refusal f (length (values_in done)) batch ≡ Some (appends.OutOfRange index value)
-Refuses f done batch (halts.Chunks chunks limit) = batch_refusal f (length (values_in done)) batch ≡ Some (appends.Chunks chunks limit)
-Refuses f done batch (halts.Space full) = (batch_refusal f (length (values_in done)) batch ≡ None) × LacksPlace f done batch full
-Refuses f done batch halts.Failed = Unit {0}
-Refuses f done batch halts.OutOfMemory = Unit {0}
+abbrev pub Refuses : CreatedFile → ℕ → List (List ℤ) → List ℤ → Halt → Type 0
+Refuses f most done batch (halts.OutOfRange index value) = batch_refusal f (length (values_in done)) batch ≡ Some (appends.OutOfRange index value)
+Refuses f most done batch (halts.Chunks chunks limit) = batch_refusal f (length (values_in done)) batch ≡ Some (appends.Chunks chunks limit)
+Refuses f most done batch (halts.Space full) = (batch_refusal f (length (values_in done)) batch ≡ None) × LacksPlace f most done batch full
+Refuses f most done batch halts.Failed = Unit {0}
+Refuses f most done batch halts.OutOfMemory = Unit {0}
 
 -- a batch for which the file has no place, behind others that were flushed: neither it nor they are refused
-pub record IsFullAt (f : NewFile) (bs : List (List ℤ)) (batch : ℕ) (full : Full) : Type 0 where
+pub record IsFullAt (f : CreatedFile) (most : ℕ) (bs : List (List ℤ)) (batch : ℕ) (full : Full) : Type 0 where
   pub before : ℕ
   pub number : batch ≡ before + 1
   pub within : before < length bs
   pub accepted : first_refused f 0 1 (take batch bs) ≡ None
-  pub lacks : LacksPlace f (take before bs) (get_or bs before []) full
+  pub lacks : LacksPlace f most (take before bs) (get_or bs before []) full
 
 -- why the batch of this number was not flushed: it is the first that is refused, or the file has no place for it, or it was no fault of its values
-abbrev pub Explains : NewFile → List (List ℤ) → ℕ → Halt → Type 0
-Explains f bs batch (halts.OutOfRange index value) = first_refused f 0 1 bs ≡ Some (batch, appends.OutOfRange index value)
-Explains f bs batch (halts.Chunks chunks limit) = first_refused f 0 1 bs ≡ Some (batch, appends.Chunks chunks limit)
-Explains f bs batch (halts.Space full) = IsFullAt f bs batch full
-Explains f bs batch halts.Failed = Unit {0}
-Explains f bs batch halts.OutOfMemory = Unit {0}
+abbrev pub Explains : CreatedFile → ℕ → List (List ℤ) → ℕ → Halt → Type 0
+Explains f most bs batch (halts.OutOfRange index value) = first_refused f 0 1 bs ≡ Some (batch, appends.OutOfRange index value)
+Explains f most bs batch (halts.Chunks chunks limit) = first_refused f 0 1 bs ≡ Some (batch, appends.Chunks chunks limit)
+Explains f most bs batch (halts.Space full) = IsFullAt f most bs batch full
+Explains f most bs batch halts.Failed = Unit {0}
+Explains f most bs batch halts.OutOfMemory = Unit {0}

@@ -5,11 +5,11 @@ ghost use Rattle.h5w_model.specs.Lawful.{first_outside};
 ghost use Rattle.h5w_model.specs.Logs.{Log, and_now, appends, plans};
 ghost use Rattle.h5w_model.specs.declared.report.FlushLine.{FlushLine};
 ghost use Rattle.h5w_space.specs.declared.Full.{Full};
-ghost use Rattle.h5w_session.specs.Creations.{NewFile};
+ghost use Rattle.h5w_creation_laws.specs.CreatedFiles.{CreatedFile};
 ghost use Rattle.h5w_session.specs.Flushes.{SameBut};
 ghost use Rattle.h5w_session.specs.Loads.{NoPlace};
 ghost use Rattle.h5w_session.specs.Refusals.{append_refusal, flush_refusal};
-ghost use Rattle.h5w_session.specs.Sessions.{TakesRows, with_values};
+ghost use Rattle.h5w_session.specs.Sessions.{AreRows, TakesRows, with_values};
 ghost use Rattle.h5w_session.specs.Stands.{Stands};
 ghost use Rattle.h5w_session.specs.declared.refusal.AppendError.TheVariants as appending;
 ghost use Rattle.h5w_live.specs.Writing.{HasFlushed, HasRoom, LacksPlace, StaysSeated, Writes, batch_refusal};
@@ -31,8 +31,9 @@ fn take<R: Wait>(
     values: &[i128],
 ) -> Result<(), Halt>
     requires image { seat.old.image ≡ image.now }
+    requires rows { AreRows session.old values.now }
     requires some { 1 ≤ length values.now }
-    requires flushed { (f : NewFile) × (done : List (List ℤ)) × (lines : List FlushLine) × HasFlushed f done session.old seat.old lines }
+    requires flushed { (f : CreatedFile) × (most : ℕ) × (done : List (List ℤ)) × (lines : List FlushLine) × HasFlushed f most done session.old seat.old lines }
     ensures added { OnOk result (session.new ≡ with_values session.old values.now) }
     ensures stands { OnOk result ((log : Log) → Stands session.old log → Stands session.new (and_now (appends values.now) log)) }
     ensures accepted { OnOk result (append_refusal session.old values.now ≡ None) }
@@ -96,18 +97,19 @@ pub fn put<R: Wait, G: Gate>(
     number: u64,
 ) -> Result<FlushLine, Halt>
     requires image { seat.old.image ≡ image.now }
+    requires rows { AreRows session.old values.now }
     requires some { 1 ≤ length values.now }
-    requires flushed { (f : NewFile) × (done : List (List ℤ)) × (lines : List FlushLine) × HasFlushed f done session.old seat.old lines }
+    requires flushed { (f : CreatedFile) × (most : ℕ) × (done : List (List ℤ)) × (lines : List FlushLine) × HasFlushed f most done session.old seat.old lines }
     ensures image { seat.new.image ≡ image.now }
-    ensures flushed { (f : NewFile) (done : List (List ℤ)) (lines : List FlushLine) → HasFlushed f done session.old seat.old lines → IfOk result (λ line. HasFlushed f (done ++ values.now ∷ []) session.new seat.new (lines ++ line ∷ [])) }
-    ensures accepted { (f : NewFile) (done : List (List ℤ)) (lines : List FlushLine) → HasFlushed f done session.old seat.old lines → OnOk result (batch_refusal f (length (values_in done)) values.now ≡ None) }
-    ensures range { (f : NewFile) (done : List (List ℤ)) (lines : List FlushLine) → HasFlushed f done session.old seat.old lines
+    ensures flushed { (f : CreatedFile) (most : ℕ) (done : List (List ℤ)) (lines : List FlushLine) → HasFlushed f most done session.old seat.old lines → IfOk result (λ line. HasFlushed f most (done ++ values.now ∷ []) session.new seat.new (lines ++ line ∷ [])) }
+    ensures accepted { (f : CreatedFile) (most : ℕ) (done : List (List ℤ)) (lines : List FlushLine) → HasFlushed f most done session.old seat.old lines → OnOk result (batch_refusal f (length (values_in done)) values.now ≡ None) }
+    ensures range { (f : CreatedFile) (most : ℕ) (done : List (List ℤ)) (lines : List FlushLine) → HasFlushed f most done session.old seat.old lines
         → (index : ℕ) (value : ℤ) → result ≡ Err (Halt.OutOfRange index value) → batch_refusal f (length (values_in done)) values.now ≡ Some (appending.OutOfRange index value) }
-    ensures chunks { (f : NewFile) (done : List (List ℤ)) (lines : List FlushLine) → HasFlushed f done session.old seat.old lines
+    ensures chunks { (f : CreatedFile) (most : ℕ) (done : List (List ℤ)) (lines : List FlushLine) → HasFlushed f most done session.old seat.old lines
         → (chunks limit : ℕ) → result ≡ Err (Halt.Chunks chunks limit) → batch_refusal f (length (values_in done)) values.now ≡ Some (appending.Chunks chunks limit) }
-    ensures space { (f : NewFile) (done : List (List ℤ)) (lines : List FlushLine) → HasFlushed f done session.old seat.old lines
-        → (full : Full) → result ≡ Err (Halt.Space full) → (batch_refusal f (length (values_in done)) values.now ≡ None) × LacksPlace f done values.now full }
-    ensures left { (f : NewFile) (done : List (List ℤ)) (lines : List FlushLine) → HasFlushed f done session.old seat.old lines → OnErr result (Writes f session.new seat.new) }
+    ensures space { (f : CreatedFile) (most : ℕ) (done : List (List ℤ)) (lines : List FlushLine) → HasFlushed f most done session.old seat.old lines
+        → (full : Full) → result ≡ Err (Halt.Space full) → (batch_refusal f (length (values_in done)) values.now ≡ None) × LacksPlace f most done values.now full }
+    ensures left { (f : CreatedFile) (most : ℕ) (done : List (List ℤ)) (lines : List FlushLine) → HasFlushed f most done session.old seat.old lines → OnErr result (Writes f session.new seat.new) }
     ensures failed { result ≡ Err Halt.Failed → 0 < seat.new.faults }
 {
     match take(rt, image, seat, session, values) {

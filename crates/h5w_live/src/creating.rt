@@ -39,7 +39,7 @@ pub fn create<R: Wait>(
 ) -> Result<(SharedImage, WriterSeat, WriterCore), Loss>
     requires { AreOptions options.now }
     ensures image { IfOk result (λ r. r.1.image ≡ r.0) }
-    ensures created { IfOk result (λ r. HasFlushed (new_file options.now) [] r.2 r.1 []) }
+    ensures created { IfOk result (λ r. HasFlushed (new_file options.now) options.now.limit [] r.2 r.1 []) }
 {
     let mut session = WriterCore::create(alloc, options)?;
     let (image, mut seat) = room_for(alloc, &session)?;

@@ -2,7 +2,7 @@
 ghost use Rattle.std.specs.Prelude.{◌≡◌, ℕ, ◌<◌, All, IfErr, IfOk, OnOk, Ok, None, List, ℤ};
 ghost use Rattle.h5w_model.specs.Agrees.{Agrees, values_in};
 ghost use Rattle.h5w_model.specs.declared.report.FlushLine.{FlushLine};
-ghost use Rattle.h5w_session.specs.Creations.{NewFile};
+ghost use Rattle.h5w_creation_laws.specs.CreatedFiles.{CreatedFile};
 ghost use Rattle.h5w_shared.specs.Seats.{NoteView};
 ghost use Rattle.h5w_shared.specs.Turns.{StartsWith};
 ghost use Rattle.h5w_live.specs.declared.writing.Halt.TheVariants as halts;
@@ -24,7 +24,7 @@ use std::sync::Wait;
 /// The error of a batch that was not flushed, by its number.
 fn halted(batch: u64, halt: Halt, seat: WriterSeat) -> LiveError
     requires { halt ≡ Halt.Failed → 0 < seat.faults }
-    ensures { (f : NewFile) (bs : List (List ℤ)) → Explains f bs batch halt → IsCause f bs result }
+    ensures { (f : CreatedFile) (most : ℕ) (bs : List (List ℤ)) → Explains f most bs batch halt → IsCause f most bs result }
 {
     match halt {
         Halt::OutOfRange { index, value } => LiveError::OutOfRange {
@@ -62,7 +62,7 @@ fn judged(
 ) -> Result<Vec<PollLine>, Loss>
     requires { Joined image.now seat.old ended }
     ensures same { seat.new ≡ seat.old }
-    ensures agrees { (j : Joined image.now seat.old ended) → IfOk result (λ lines. Agrees (run_of j.attempts j.readers j.calls j.batches j.flushes) j.batches lines.items) }
+    ensures agrees { (j : Joined image.now seat.old ended) → IfOk result (λ lines. Agrees (run_of j.file j.attempts j.readers j.calls j.batches j.flushes) j.batches lines.items) }
 {
     match ended {
         Ok(AllEnded { lines, notes }) => {
@@ -101,9 +101,9 @@ fn shut<R: Wait>(
     mut session: WriterCore,
 ) -> Result<(WriterSeat, WriterCore), Loss>
     requires image { seat.image ≡ image.now }
-    requires flushed { (f : NewFile) × (done : List (List ℤ)) × (lines : List FlushLine) × HasFlushed f done session seat lines }
+    requires flushed { (f : CreatedFile) × (most : ℕ) × (done : List (List ℤ)) × (lines : List FlushLine) × HasFlushed f most done session seat lines }
     ensures image { IfOk result (λ r. r.0.image ≡ image.now) }
-    ensures closed { (f : NewFile) (done : List (List ℤ)) (lines : List FlushLine) → HasFlushed f done session seat lines → IfOk result (λ r. HasClosed f done r.1 r.0 lines) }
+    ensures closed { (f : CreatedFile) (most : ℕ) (done : List (List ℤ)) (lines : List FlushLine) → HasFlushed f most done session seat lines → IfOk result (λ r. HasClosed f done r.1 r.0 lines) }
 {
     match close(rt, image, &mut seat, &mut session) {
         Ok(()) => Ok((seat, session)),
@@ -124,7 +124,7 @@ pub fn finish<R: Wait>(
     requires { Ran image.now written ended }
     ensures reports { (r : Ran image.now written ended) → IfOk result (λ report. Reports r.file r.batches r.attempts r.readers r.calls report) }
     ensures accepted { (r : Ran image.now written ended) → OnOk result (first_refused r.file 0 1 r.batches ≡ None) }
-    ensures cause { (r : Ran image.now written ended) → IfErr result (λ e. IsCause r.file r.batches e) }
+    ensures cause { (r : Ran image.now written ended) → IfErr result (λ e. IsCause r.file r.most r.batches e) }
 {
     let Written {
         seat,
@@ -135,7 +135,6 @@ pub fn finish<R: Wait>(
         Ok(flushes) => flushes,
         Err((batch, halt)) => return Err(halted(batch, halt, seat)),
     };
-    let _rows = session.rows();
     let (mut seat, _session) = match shut(rt, image, seat, session) {
         Ok(shut) => shut,
         Err(loss) => return Err(lost(loss)),

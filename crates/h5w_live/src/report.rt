@@ -6,6 +6,8 @@ use h5w_image::Journal;
 use h5w_model::OutOfMemory;
 use h5w_session::Full;
 use h5w_shared::Worn;
+use std::fmt;
+use thiserror::Error;
 
 /// What a run came to: all pieces that became visible, a line for each flush, and a line for each call of each reader.
 #[derive(Drop)]
@@ -16,17 +18,28 @@ pub struct LiveReport {
 }
 
 /// Why a run did not report.
-#[derive(Drop)]
+#[derive(Drop, Error)]
 pub enum LiveError {
     /// The first value outside the type, by its batch, counted from 1, and its index in the batch.
+    #[error("value {index} of batch {batch} is {value}")]
     OutOfRange { batch: u64, index: u64, value: i128 },
     /// More chunks than the dataset's index has.
+    #[error("{chunks} chunks, at most {limit}")]
     Chunks { chunks: u64, limit: u64 },
     /// The file has no place.
+    #[error("{0}")]
     Space(Full),
     /// A seat was shown the ticket word at 2^63.
+    #[error("image failed")]
     Failed(Worn),
+    #[error("out of memory")]
     OutOfMemory,
+}
+
+impl fmt::Debug for LiveError {
+    fn fmt<W: fmt::Write>(&self, f: &mut fmt::Formatter<W>) -> fmt::Result {
+        write!(f, "{self}")
+    }
 }
 
 /// What ends a run but the values and the file.

@@ -1,10 +1,10 @@
 //! One writer and its readers in threads over a file in memory that they share.
 ghost use Rattle.std.specs.Prelude.{◌≡◌, ◌≤◌, IfErr, IfOk, OnOk, None};
 ghost use Rattle.h5w_model.specs.Agrees.{Agrees, values_in};
-ghost use Rattle.h5w_options.specs.Options.{AreAttempts, AreOptions};
+ghost use Rattle.h5w_options.specs.Options.{AreAttempts, AreOptions, columns_in};
 ghost use Rattle.h5w_session.specs.Creations.{new_file};
 ghost use Rattle.h5w_live.specs.Reports.{AreWhole, IsCause, IsShut, run_of};
-ghost use Rattle.h5w_live.specs.Writing.{first_refused};
+ghost use Rattle.h5w_live.specs.Writing.{AreBatches, first_refused};
 
 use crate::creating::create;
 use crate::joining::finish;
@@ -17,9 +17,10 @@ use std::alloc::Global;
 use std::sync::Wait;
 use std::thread::Threads;
 
-/// Creates a file by these options, in memory. Then, in threads, one writer appends and flushes the batches in order, and so many readers make so many
+/// Creates a file by these options, in memory, of one dimension or of two. Then, in threads, one writer appends and flushes the batches in order, and so many readers make so many
 /// calls each: the first opens the dataset, each other refreshes, and where a call finds rows all of them are read. The creation is visible
 /// before any reader begins, and the session is closed once all have ended. The first batch that is refused is the answer.
+/// Each batch is whole rows; an empty one is none, and has no line.
 ///
 /// The writer comes to its turn `f` before the dataset header's piece of flush `f`, and reader `r` to its turn `k` after its call `k`.
 pub fn live<R: Threads + Wait + Sync, G: Gate>(
@@ -33,14 +34,15 @@ pub fn live<R: Threads + Wait + Sync, G: Gate>(
     gate: &G,
 ) -> Result<LiveReport, LiveError>
     requires options { AreOptions options.now }
+    requires rows { AreBatches (columns_in options.now.columns) batches.now }
     requires readers { (1 ≤ readers) × (readers ≤ 16) }
     requires polls { (1 ≤ polls) × (polls ≤ 10000) }
     requires attempts { AreAttempts attempts }
-    ensures agrees { IfOk result (λ r. Agrees (run_of attempts readers polls batches.now r.flushes) batches.now r.polls) }
-    ensures whole { IfOk result (λ r. AreWhole options.now.name r.journal.writes (values_in batches.now) 0 r.flushes) }
-    ensures shut { IfOk result (λ r. IsShut options.now.name r.journal.writes (values_in batches.now)) }
+    ensures agrees { IfOk result (λ r. Agrees (run_of (new_file options.now) attempts readers polls batches.now r.flushes) batches.now r.polls) }
+    ensures whole { IfOk result (λ r. AreWhole options.now.name (columns_in options.now.columns) r.journal.writes (values_in batches.now) 0 r.flushes) }
+    ensures shut { IfOk result (λ r. IsShut options.now.name (columns_in options.now.columns) r.journal.writes (values_in batches.now)) }
     ensures accepted { OnOk result (first_refused (new_file options.now) 0 1 batches.now ≡ None) }
-    ensures cause { IfErr result (IsCause (new_file options.now) batches.now) }
+    ensures cause { IfErr result (IsCause (new_file options.now) options.now.limit batches.now) }
 {
     let (image, mut seat, session) = match create(rt, alloc, options) {
         Ok(created) => created,

@@ -2,11 +2,11 @@
 ghost use Rattle.std.specs.Prelude.{◌≡◌, ℕ, ◌≤◌, All, List, [], vec_len, IfOk};
 ghost use Rattle.h5w_model.specs.declared.piece.Write.{Write};
 ghost use Rattle.h5w_reader.specs.Readers.{reader_rules};
-ghost use Rattle.h5w_session.specs.Creations.{NewFile};
+ghost use Rattle.h5w_creation_laws.specs.CreatedFiles.{CreatedFile};
 ghost use Rattle.h5w_shared.specs.Seats.{SeatView};
 ghost use Rattle.h5w_live.specs.Ends.{ReadersEnd};
 ghost use Rattle.h5w_live.specs.Reports.{HasPutAll};
-ghost use Rattle.h5w_live.specs.Writing.{HasFlushed};
+ghost use Rattle.h5w_live.specs.Writing.{AreBatches, HasFlushed};
 
 use crate::actors::{AllEnded, Cut, read_all};
 use crate::writer::put_all;
@@ -39,8 +39,9 @@ fn write<R: Wait, G: Gate>(
     gate: &G,
 ) -> Written
     requires image { seat.image ≡ image.now }
-    requires created { (f : NewFile) × HasFlushed f [] session seat [] }
-    ensures { (f : NewFile) → HasFlushed f [] session seat [] → HasPutAll f batches.now image.now result }
+    requires rows { AreBatches session.dataset.shape.cols batches.now }
+    requires created { (f : CreatedFile) × (most : ℕ) × HasFlushed f most [] session seat [] }
+    ensures { (f : CreatedFile) (most : ℕ) → HasFlushed f most [] session seat [] → HasPutAll f most batches.now image.now result }
 {
     let lines = put_all(rt, alloc, image, &mut seat, &mut session, batches, gate);
     Written {
@@ -85,10 +86,11 @@ pub fn run<R: Threads + Wait + Sync, G: Gate>(
     gate: &G,
 ) -> (Written, Result<AllEnded, Cut>)
     requires image { seat.image ≡ image.now }
-    requires created { (f : NewFile) × HasFlushed f [] session seat [] }
+    requires rows { AreBatches session.dataset.shape.cols batches.now }
+    requires created { (f : CreatedFile) × (most : ℕ) × HasFlushed f most [] session seat [] }
     requires images { All (λ (s : SeatView). s.image ≡ image.now) seats.items }
     requires few { vec_len seats ≤ 16 }
-    ensures written { (f : NewFile) → HasFlushed f [] session seat [] → HasPutAll f batches.now image.now result.0 }
+    ensures written { (f : CreatedFile) (most : ℕ) → HasFlushed f most [] session seat [] → HasPutAll f most batches.now image.now result.0 }
     ensures ended { (seen : List Write) → All (λ (s : SeatView). s.seen ≡ seen) seats.items
         → ReadersEnd (reader_rules name.now attempts) image.now calls (vec_len seats) seen result.1 }
 {
@@ -102,8 +104,9 @@ pub fn run<R: Threads + Wait + Sync, G: Gate>(
         { read_all(rt, alloc, image, seats, name, attempts, calls, gate) },
         move || -> Written
             requires image { seat.image ≡ image.now }
-            requires created { (f : NewFile) × HasFlushed f [] session seat [] }
-            ensures { (f : NewFile) → HasFlushed f [] session seat [] → HasPutAll f batches.entry.now image.entry.now result }
+            requires rows { AreBatches session.dataset.shape.cols batches.now }
+            requires created { (f : CreatedFile) × (most : ℕ) × HasFlushed f most [] session seat [] }
+            ensures { (f : CreatedFile) (most : ℕ) → HasFlushed f most [] session seat [] → HasPutAll f most batches.entry.now image.entry.now result }
         { write(rt, alloc, image, seat, session, batches, gate) },
     );
     (written, ended)

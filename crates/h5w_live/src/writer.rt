@@ -2,9 +2,10 @@
 ghost use Rattle.std.specs.Prelude.{◌≡◌, ◌<◌, ◌≤◌, ◌+◌, ◌++◌, ◌∷◌, [], ℕ, ℤ, List, length, IfErr, IfOk, OnErr, OnOk, Err, None, Option, Some, slice_index_or};
 ghost use Rattle.h5w_model.specs.Agrees.{values_in};
 ghost use Rattle.h5w_model.specs.declared.report.FlushLine.{FlushLine};
-ghost use Rattle.h5w_session.specs.Creations.{NewFile};
+ghost use Rattle.h5w_creation_laws.specs.CreatedFiles.{CreatedFile};
+ghost use Rattle.h5w_session.specs.Sessions.{AreRows};
 ghost use Rattle.h5w_live.specs.declared.writing.Halt.{Halt};
-ghost use Rattle.h5w_live.specs.Writing.{Explains, HasClosed, HasFlushed, Refuses, batch_refusal, first_refused};
+ghost use Rattle.h5w_live.specs.Writing.{AreBatches, Explains, HasClosed, HasFlushed, Refuses, batch_refusal, first_refused};
 
 use crate::batch::put;
 use crate::writing::{Halt, show};
@@ -15,7 +16,7 @@ use h5w_shared::{SharedImage, WriterSeat};
 use std::alloc::Global;
 use std::sync::Wait;
 
-/// Puts one more batch. An empty one is none to flush, and has no line.
+/// Puts one more batch, of whole rows. An empty one is none to flush, and has no line.
 fn put_next<R: Wait, G: Gate>(
     rt: &R,
     image: &SharedImage,
@@ -26,11 +27,12 @@ fn put_next<R: Wait, G: Gate>(
     lines: &mut Vec<FlushLine>,
 ) -> Result<(), Halt>
     requires image { seat.old.image ≡ image.now }
-    requires flushed { (f : NewFile) × (done : List (List ℤ)) × HasFlushed f done session.old seat.old lines.old.items }
+    requires rows { AreRows session.old values.now }
+    requires flushed { (f : CreatedFile) × (most : ℕ) × (done : List (List ℤ)) × HasFlushed f most done session.old seat.old lines.old.items }
     ensures image { seat.new.image ≡ image.now }
-    ensures flushed { (f : NewFile) (done : List (List ℤ)) → HasFlushed f done session.old seat.old lines.old.items → OnOk result (HasFlushed f (done ++ values.now ∷ []) session.new seat.new lines.new.items) }
-    ensures accepted { (f : NewFile) (done : List (List ℤ)) → HasFlushed f done session.old seat.old lines.old.items → OnOk result (batch_refusal f (length (values_in done)) values.now ≡ None) }
-    ensures refused { (f : NewFile) (done : List (List ℤ)) → HasFlushed f done session.old seat.old lines.old.items → IfErr result (λ e. Refuses f done values.now e) }
+    ensures flushed { (f : CreatedFile) (most : ℕ) (done : List (List ℤ)) → HasFlushed f most done session.old seat.old lines.old.items → OnOk result (HasFlushed f most (done ++ values.now ∷ []) session.new seat.new lines.new.items) }
+    ensures accepted { (f : CreatedFile) (most : ℕ) (done : List (List ℤ)) → HasFlushed f most done session.old seat.old lines.old.items → OnOk result (batch_refusal f (length (values_in done)) values.now ≡ None) }
+    ensures refused { (f : CreatedFile) (most : ℕ) (done : List (List ℤ)) → HasFlushed f most done session.old seat.old lines.old.items → IfErr result (λ e. Refuses f most done values.now e) }
     ensures failed { result ≡ Err Halt.Failed → 0 < seat.new.faults }
 {
     if values.is_empty() {
@@ -65,11 +67,12 @@ pub fn put_all<R: Wait, G: Gate>(
     gate: &G,
 ) -> Result<Vec<FlushLine>, (u64, Halt)>
     requires image { seat.old.image ≡ image.now }
-    requires created { (f : NewFile) × HasFlushed f [] session.old seat.old [] }
+    requires rows { AreBatches session.old.dataset.shape.cols batches.now }
+    requires created { (f : CreatedFile) × (most : ℕ) × HasFlushed f most [] session.old seat.old [] }
     ensures image { seat.new.image ≡ image.now }
-    ensures flushed { (f : NewFile) → HasFlushed f [] session.old seat.old [] → IfOk result (λ lines. HasFlushed f batches.now session.new seat.new lines.items) }
-    ensures accepted { (f : NewFile) → HasFlushed f [] session.old seat.old [] → OnOk result (first_refused f 0 1 batches.now ≡ None) }
-    ensures refused { (f : NewFile) → HasFlushed f [] session.old seat.old [] → IfErr result (λ e. Explains f batches.now e.0 e.1) }
+    ensures flushed { (f : CreatedFile) (most : ℕ) → HasFlushed f most [] session.old seat.old [] → IfOk result (λ lines. HasFlushed f most batches.now session.new seat.new lines.items) }
+    ensures accepted { (f : CreatedFile) (most : ℕ) → HasFlushed f most [] session.old seat.old [] → OnOk result (first_refused f 0 1 batches.now ≡ None) }
+    ensures refused { (f : CreatedFile) (most : ℕ) → HasFlushed f most [] session.old seat.old [] → IfErr result (λ e. Explains f most batches.now e.0 e.1) }
     ensures failed { (batch : ℕ) → result ≡ Err (batch, Halt.Failed) → 0 < seat.new.faults }
 {
     let mut lines = Vec::new(alloc);
@@ -91,9 +94,9 @@ pub fn close<R: Wait>(
     session: &mut WriterCore,
 ) -> Result<(), Failed>
     requires image { seat.old.image ≡ image.now }
-    requires flushed { (f : NewFile) × (done : List (List ℤ)) × (lines : List FlushLine) × HasFlushed f done session.old seat.old lines }
+    requires flushed { (f : CreatedFile) × (most : ℕ) × (done : List (List ℤ)) × (lines : List FlushLine) × HasFlushed f most done session.old seat.old lines }
     ensures image { seat.new.image ≡ image.now }
-    ensures closed { (f : NewFile) (done : List (List ℤ)) (lines : List FlushLine) → HasFlushed f done session.old seat.old lines → OnOk result (HasClosed f done session.new seat.new lines) }
+    ensures closed { (f : CreatedFile) (most : ℕ) (done : List (List ℤ)) (lines : List FlushLine) → HasFlushed f most done session.old seat.old lines → OnOk result (HasClosed f done session.new seat.new lines) }
     ensures failed { OnErr result (0 < seat.new.faults) }
 {
     session.close().unwrap();

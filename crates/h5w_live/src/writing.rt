@@ -3,7 +3,7 @@ ghost use Rattle.std.specs.Prelude.{◌≡◌, ◌≢◌, ◌⊎◌, ℕ, ℤ, L
 ghost use Rattle.h5w_model.specs.Agrees.{values_in};
 ghost use Rattle.h5w_model.specs.Logs.{Log, and_now, appends};
 ghost use Rattle.h5w_model.specs.declared.report.FlushLine.{FlushLine};
-ghost use Rattle.h5w_session.specs.Creations.{NewFile};
+ghost use Rattle.h5w_creation_laws.specs.CreatedFiles.{CreatedFile};
 ghost use Rattle.h5w_session.specs.Sessions.{AfterPiece};
 ghost use Rattle.h5w_session.specs.Stands.{Stands};
 ghost use Rattle.h5w_session.specs.declared.refusal.AppendError.TheVariants as appending;
@@ -45,7 +45,7 @@ pub fn show<R: Wait, G: Gate>(
     ensures session { OnOk result (AfterPiece session.old [] session.new) }
     ensures stands { OnOk result ((log : Log) → Stands session.old log → Stands session.new (record log { events = showing session.old.pending log.events })) }
     ensures seat { OnOk result (HasWritten session.old.pending seat.old seat.new) }
-    ensures left { OnErr result ((f : NewFile) → Writes f session.old seat.old → Writes f session.new seat.new) }
+    ensures left { OnErr result ((f : CreatedFile) → Writes f session.old seat.old → Writes f session.new seat.new) }
     ensures failed { OnErr result (0 < seat.new.faults) }
     ensures image { seat.new.image ≡ image.now }
 {

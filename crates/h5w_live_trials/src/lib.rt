@@ -1,4 +1,4 @@
-//! Trials of runs in threads: with ample memory, through the gate, and over batches that are refused.
+//! Trials of runs in threads: with ample memory, through the gate, over batches that are refused, and in two dimensions.
 #![tactic(auto)]
 
 #[cfg(test)]
@@ -7,3 +7,5 @@ mod gates;
 mod helpers;
 #[cfg(test)]
 mod runs;
+#[cfg(test)]
+mod wide;

@@ -17,7 +17,9 @@ use Rattle.h5w_image.specs.View.{Same, Wrote}
 use Rattle.h5w_space.specs.Space.{Space}
 use Rattle.h5w_space.specs.declared.Full.{Full}
 use Rattle.h5w_session.specs.Loads.{first_end_of}
-use Rattle.h5w_session.specs.Creations.{created, creation_writes, log_of, new_dataset}
+use Rattle.h5w_creation_laws.specs.CreatedFiles.{IsCreatable, created_log, created_writes, described_of}
+use Rattle.h5w_session.specs.Creations.{IsCreated, log_of}
+use Rattle.h5w_session.specs.Past.{IsNew}
 use Rattle.h5w_session.specs.Room.{HasRoomFor}
 use Rattle.h5w_session.specs.Refusals.{IsSpace, append_refusal, chunks_refusal, close_refusal, flush_refusal}
 use Rattle.h5w_session.specs.Sessions.{AfterPiece, Freed, Session, TakesRows, chunk_limit, chunks_with, cleared, closed_of, closed_root, cutting_of, rows_of, with_rows, with_values, IsNamed}
@@ -68,9 +70,29 @@ all_shown s t after =
 
 -- ---- Between two batches
 
+-- it can be created, so that its log is a new file's
+creatable : IsCreatable new_file
+creatable = record {
+  named = omega arith;
+  name_bound = omega arith;
+  int_type = refl;
+  fill = tt;
+  some_rows = omega arith;
+  rows_bound = omega arith;
+  some_cols = omega arith;
+  cols_bound = omega arith;
+  some_columns = omega arith;
+  columns_bound = omega arith;
+  small = omega arith;
+  line = λ e. (refl, refl);
+}
+
+pub is_new : (log : Log) → log ≡ log_of new_file log.events → IsNew log
+is_new log is = record { file = new_file; is = creatable; log_is = is }
+
 -- a dataset of so many rows
 abbrev of_rows : ℕ → Described
-of_rows n = with_rows n (new_dataset new_file)
+of_rows n = with_rows n (described_of new_file)
 
 pub cut_alike : (bs : List (List ℤ)) (s : Session) (m : MemView) → IsAfter bs s m → cutting_of s ≡ cutting
 cut_alike bs s m h =
@@ -148,7 +170,7 @@ place_there bs s t m values h taken is stands =
       stands h.log h.stands,
       λ full none.
           let size : full.size ≤ load cutting log = subst (λ (c : Cutting). full.size ≤ load c log) cut none.size_bound in
-          let new : first_end_of log ≡ 1024 = new_end log (ap (and_now (appends values)) h.is) in
+          let new : first_end_of log ≡ 1024 = new_end log (is_new log (ap (and_now (appends values)) h.is)) in
           let place : full.at ≤ first_end_of log + spent cutting log + load cutting log = subst (λ (c : Cutting). full.at ≤ first_end_of log + spent c log + load c log) cut none.at_bound in
           omega (arith, none.limit, none.past, size, place, new, one, before, loads, limit, taken.batches),
     )
@@ -178,7 +200,7 @@ module _ (bs : List (List ℤ)) (values : List ℤ) (s0 s1 s2 s3 : Session) (m0 
       let rows : s0.dataset.shape.rows ≡ length (values_of bs) = ap (λ (d : Described). d.shape.rows) h.dataset in
       let whole : length values / s0.dataset.shape.cols ≡ length values = ap (λ (c : ℕ). length values / c) columns ∙ (let e : length values / 1 ≡ length values = omega arith in e) in
       let all : rows_of (with_values s0 values) ≡ length (values_of bs ++ values) = omega (arith, rows, whole, h.waits, length-append (values_of bs) values) in
-      let named : IsNamed s1.dataset = subst (λ (x : Session). IsNamed x.dataset) (sym added) (shown_laws.named s0 h.log h.stands h.is) in
+      let named : IsNamed s1.dataset = subst (λ (x : Session). IsNamed x.dataset) (sym added) (shown_laws.named s0 h.log h.stands (is_new h.log h.is)) in
       (all_shown s2 s3 after).dataset ∙ takes_named s1 s2 takes named ∙ ap (λ (x : Session). with_rows (rows_of x) x.dataset) added
       ∙ ap (λ (d : Described). with_rows (rows_of (with_values s0 values)) d) h.dataset ∙ ap of_rows all
 
@@ -217,23 +239,24 @@ module _ (bs : List (List ℤ)) (values : List ℤ) (s0 s1 s2 s3 : Session) (m0 
 
 -- ---- The creation
 
-pub created_after : (s t : Session) (m n o : MemView) → s ≡ created new_file → Stands s (log_of []) → m ≡ fresh [] [] → Same (steady m) (steady n) → AfterPiece s [] t → ShowsAll s.pending n o
+pub created_after : (s t : Session) (m n o : MemView) → IsCreated new_file (2 ^ 40) s → Stands s (created_log new_file) → m ≡ fresh [] [] → Same (steady m) (steady n) → AfterPiece s [] t → ShowsAll s.pending n o
     → ((log : Log) → Stands s log → Stands t (record log { events = showing s.pending log.events })) → IsAfter [] t o
-created_after s t m n o is stood empty same after shown stands =
+created_after s t m n o made stood empty same after shown stands =
+    let is = made.session in
     let facts = all_shown s t after in
-    let pending : s.pending ≡ creation_writes new_file = ap (λ (x : Session). x.pending) is in
-    let es : List Happening = showing (creation_writes new_file) [] in
+    let pending : s.pending ≡ created_writes new_file = ap (λ (x : Session). x.pending) is in
+    let es : List Happening = showing (created_writes new_file) [] in
     let history : o.history ≡ hist es =
-    shown.history ∙ ap (λ (ws : List Write). ws ++ s.pending) (some_is n.history m.history same.history ∙ ap (λ (v : MemView). v.history) empty) ∙ pending ∙ sym (hist_showing (creation_writes new_file) []) in
+    shown.history ∙ ap (λ (ws : List Write). ws ++ s.pending) (some_is n.history m.history same.history ∙ ap (λ (v : MemView). v.history) empty) ∙ pending ∙ sym (hist_showing (created_writes new_file) []) in
     record {
-      log = log_of es;
-      stands = subst (λ (ws : List Write). Stands t (log_of (showing ws []))) pending (stands (log_of []) stood);
+      log = log_of new_file es;
+      stands = subst (λ (ws : List Write). Stands t (log_of new_file (showing ws []))) pending (stands (log_of new_file []) stood);
       is = refl;
       batches = refl;
       history = history;
       bytes =
           shown.bytes ∙ ap (λ (b : List ℕ). image b s.pending) (some_is n.bytes m.bytes same.bytes ∙ ap (λ (v : MemView). v.bytes) empty)
-          ∙ ap (image []) (pending ∙ sym (hist_showing (creation_writes new_file) []));
+          ∙ ap (image []) (pending ∙ sym (hist_showing (created_writes new_file) []));
       name = facts.name ∙ ap (λ (x : Session). x.name) is;
       dataset = facts.dataset ∙ ap (λ (x : Session). x.dataset) is;
       limit = facts.limit ∙ ap (λ (x : Session). x.places.limit) is;

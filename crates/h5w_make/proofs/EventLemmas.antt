@@ -4,7 +4,7 @@ use Rattle.std.proofs.lemmas.Bool.{cond_both}
 use Rattle.std.proofs.lemmas.List.{append-nil}
 use Rattle.h5w_model.specs.Logs.{Cutting, Happening, Log, appended, appended_in, appends, div_up, flushed, hist, load, plans, shows, spent_in, touched_chunks}
 use Rattle.h5w_model.specs.declared.piece.Write.{Write}
-use Rattle.h5w_session.specs.Creations.{creation_writes}
+use Rattle.h5w_creation_laws.specs.CreatedFiles.{created_writes}
 use Rattle.h5w_make.specs.Commands.{AreBatches, new_file, showing, values_of}
 
 pub hist_showing : (ws : List Write) (es : List Happening) → hist (showing ws es) ≡ hist es ++ ws
@@ -21,7 +21,7 @@ spent_showing c log (w ∷ ws) es = spent_showing c log ws (shows w ∷ es)
 
 -- what was appended are the batches' values
 pub appended_batches : (bs : List (List ℤ)) (es : List Happening) → AreBatches bs es → appended_in es ≡ values_of bs
-appended_batches [] es is = ap appended_in is ∙ appended_showing (creation_writes new_file) []
+appended_batches [] es is = ap appended_in is ∙ appended_showing (created_writes new_file) []
 appended_batches (b ∷ bs) es h =
     ap appended_in h.2.is ∙ appended_showing h.2.pieces (plans (length h.2.pieces) ∷ appends b ∷ h.0) ∙ ap (λ (vs : List ℤ). vs ++ b) (appended_batches bs h.0 h.1)
 

@@ -17,6 +17,7 @@ use Rattle.h5w_make.specs.Makes.{IsMade}
 use Rattle.h5w_make.specs.Readings.{IsReadable}
 use Rattle.h5w_make.specs.States.{IsClosed}
 use Rattle.h5w_make.specs.declared.made.Made.{Made}
+use Rattle.h5w_make.proofs.BatchLemmas.{is_new}
 use Rattle.h5w_make.proofs.EventLemmas.{appended_batches}
 use Rattle.h5w_make.proofs.GeneratorLemmas.{all_values, length_generated}
 
@@ -66,7 +67,7 @@ module _ (bs : List (List ℤ)) (s : Session) (m : MemView) (h : IsClosed bs s m
       let p : ℕ = length (hist h.log.events) in
       let at : IsPosition h.log p = record { begun = subst (λ (n : ℕ). n ≤ p) (sym (ap (λ (l : Log). l.first) h.is)) h.begun; reached = omega arith } in
       let here : image_at h.log p ≡ m.bytes = ap (image h.log.start) (take-length (hist h.log.events)) ∙ folds in
-      omega (arith, shown_laws.fits s h.log p h.stands h.is at, ap length here, h.limit)
+      omega (arith, shown_laws.fits s h.log p h.stands (is_new h.log h.is) at, ap length here, h.limit)
 
   pub readable : IsReadable m.bytes (values_of bs)
   readable = record { reads = reads; fits = fits }

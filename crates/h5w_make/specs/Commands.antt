@@ -1,24 +1,27 @@
 -- What happens to a session that makes a file: its creation, batches of values, and its close.
-use Rattle.std.specs.Prelude.{◌≡◌, ℕ, zero, suc, ◌*◌, ◌/◌, ◌%◌, ◌^◌, false, true, List, [], ◌∷◌, ◌++◌, length, ◌==◌, if◌then◌else◌, None, ℤ}
+use Rattle.std.specs.Prelude.{◌≡◌, ℕ, zero, suc, ◌*◌, ◌/◌, ◌%◌, false, true, List, [], ◌∷◌, ◌++◌, length, ◌==◌, if◌then◌else◌, None, ℤ}
 use Rattle.h5w_model.specs.Logs.{Happening, appends, plans, shows}
 use Rattle.h5w_model.specs.Superblock.{super_bytes}
 use Rattle.h5w_model.specs.declared.piece.Write.{Write}
 use Rattle.h5w_model.specs.declared.root.Super.{Super}
-use Rattle.h5w_session.specs.Creations.{NewFile, creation_writes}
+use Rattle.h5w_model.specs.declared.cell.IndexKind.TheVariants.{Array}
+use Rattle.h5w_creation_laws.specs.CreatedFiles.{CreatedFile, created_writes}
 use Rattle.h5w_make.specs.Generators.{generated, state_after}
 
 -- the bytes of the name "data"
 abbrev pub data_name : List ℕ
 data_name = 100 ∷ 97 ∷ 116 ∷ 97 ∷ []
 
--- the file: integers of 4 bytes with a sign, the least significant byte first, 64 of them in a chunk, at most 2^40 bytes, no fill
-abbrev pub new_file : NewFile
+-- the file: integers of 4 bytes with a sign, the least significant byte first, 64 of them in a chunk, no fill
+abbrev pub new_file : CreatedFile
 new_file = record {
   name = data_name;
-  limit = 2 ^ 40;
-  chunk_rows = 64;
   int_type = record { size = 4; big = false; signed = true };
   fill = record { value = None };
+  chunk_rows = 64;
+  chunk_cols = 1;
+  columns = 1;
+  index = Array;
 }
 
 -- ---- Events, the newest first
@@ -35,7 +38,7 @@ pub record IsBatch (values : List ℤ) (before after : List Happening) : Type 0 
 
 -- The pieces of a creation became visible, and then these batches followed one another, the last of them first.
 abbrev pub AreBatches : List (List ℤ) → List Happening → Type 0
-AreBatches [] es = es ≡ showing (creation_writes new_file) []
+AreBatches [] es = es ≡ showing (created_writes new_file) []
 AreBatches (b ∷ bs) es = (before : List Happening) × AreBatches bs before × IsBatch b before es
 
 -- Last came the piece of the close, the superblock without bits 0 and 2 of its flags: nobody writes the file.

@@ -6,7 +6,7 @@ use Rattle.h5w_model.specs.Prefixed.{Held, Prefixed}
 use Rattle.h5w_model.specs.Tables.{Reads}
 use Rattle.h5w_model.specs.Findings.{Summary, Valid}
 use Rattle.h5w_session.specs.Creations.{log_of}
-use Rattle.h5w_make.specs.Commands.{AreClosed, batches, data_name}
+use Rattle.h5w_make.specs.Commands.{AreClosed, batches, data_name, new_file}
 use Rattle.h5w_make.specs.Generators.{generated, numbers}
 use Rattle.h5w_make.specs.declared.made.Made.{Made}
 
@@ -15,7 +15,7 @@ use Rattle.h5w_make.specs.declared.made.Made.{Made}
 -- is valid and reads as these values.
 pub record IsMade (n seed : ℕ) (made : Made) : Type 0 where
   pub log : Log
-  pub is : log ≡ log_of log.events
+  pub is : log ≡ log_of new_file log.events
   pub commands : AreClosed (batches seed n) log.events
   pub prefixed : Prefixed data_name log
   pub held : Held data_name log

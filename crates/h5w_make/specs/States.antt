@@ -7,7 +7,8 @@ use Rattle.h5w_model.specs.declared.piece.Write.{Write}
 use Rattle.h5w_image.specs.Memory.{MemView}
 use Rattle.h5w_space.specs.declared.Full.{Full}
 use Rattle.h5w_session.specs.Loads.{NoPlace}
-use Rattle.h5w_session.specs.Creations.{log_of, new_dataset}
+use Rattle.h5w_creation_laws.specs.CreatedFiles.{described_of}
+use Rattle.h5w_session.specs.Creations.{log_of}
 use Rattle.h5w_session.specs.Sessions.{Session, cutting_of, with_rows}
 use Rattle.h5w_session.specs.Stands.{Stands}
 use Rattle.h5w_make.specs.Commands.{AreBatches, AreClosed, data_name, new_file, values_of}
@@ -16,12 +17,12 @@ use Rattle.h5w_make.specs.Commands.{AreBatches, AreClosed, data_name, new_file, 
 pub record IsAfter (bs : List (List ℤ)) (s : Session) (m : MemView) : Type 0 where
   pub log : Log
   pub stands : Stands s log
-  pub is : log ≡ log_of log.events
+  pub is : log ≡ log_of new_file log.events
   pub batches : AreBatches bs log.events
   pub history : m.history ≡ hist log.events
   pub bytes : m.bytes ≡ image [] (hist log.events)
   pub name : s.name ≡ data_name
-  pub dataset : s.dataset ≡ with_rows (length (values_of bs)) (new_dataset new_file)
+  pub dataset : s.dataset ≡ with_rows (length (values_of bs)) (described_of new_file)
   pub limit : s.places.limit ≡ 2 ^ 40
   pub waits : s.waits ≡ 0
   pub pending : s.pending ≡ []
@@ -41,7 +42,7 @@ pub record IsTaken (bs : List (List ℤ)) (values : List ℤ) : Type 0 where
 pub record IsClosed (bs : List (List ℤ)) (s : Session) (m : MemView) : Type 0 where
   pub log : Log
   pub stands : Stands s log
-  pub is : log ≡ log_of log.events
+  pub is : log ≡ log_of new_file log.events
   pub closed : AreClosed bs log.events
   pub history : m.history ≡ hist log.events
   pub bytes : m.bytes ≡ image [] (hist log.events)

@@ -1,5 +1,5 @@
 //! A session in memory that creates a file, takes batches of values, and closes it.
-ghost use Rattle.std.specs.Prelude.{◌≡◌, ◌∷◌, ◌<◌, ◌≤◌, [], List, ℤ, length, IfOk, OnOk};
+ghost use Rattle.std.specs.Prelude.{◌≡◌, ◌∷◌, ◌<◌, ◌^◌, ◌≤◌, [], List, ℤ, length, IfOk, OnOk};
 ghost use Rattle.h5w_model.specs.Images.{image};
 ghost use Rattle.h5w_model.specs.Logs.{Log, and_now, appends, hist, plans};
 ghost use Rattle.h5w_options.specs.Options.{AreOptions};
@@ -30,6 +30,7 @@ pub const NAME: &[u8] = b"data";
 fn options(alloc: Global) -> Result<Options, OutOfMemory>
     ensures options { IfOk result AreOptions }
     ensures file { IfOk result (λ o. file_of o ≡ new_file) }
+    ensures limit { IfOk result (λ o. o.limit ≡ 2 ^ 40) }
 {
     Ok(Options {
         name: Bytes::from_vec(Vec::from_slice(alloc, NAME)?),
@@ -39,6 +40,7 @@ fn options(alloc: Global) -> Result<Options, OutOfMemory>
             signed: true,
         },
         chunk_rows: 64,
+        columns: None,
         fill: None,
         limit: 1 << 40,
     })

@@ -1,5 +1,5 @@
 -- What readers find at a session's first position, and what stays of it.
-use Rattle.std.proofs.Common.{◌≡◌, ℕ, List, [], ◌∷◌, take, ap, sym, ◌∙◌, subst, arith}
+use Rattle.std.proofs.Common.{◌≡◌, ℕ, ◌≤◌, List, [], ◌∷◌, length, take, ap, sym, ◌∙◌, subst, arith}
 use Rattle.h5w_model.specs.Images.{image}
 use Rattle.h5w_model.specs.Programs.{visits}
 use Rattle.h5w_model.specs.Logs.{Log, hist}
@@ -11,41 +11,52 @@ use Rattle.h5w_visits.specs.Ranges.{visits_of}
 use Rattle.h5w_steps.specs.Moments.{reading_of}
 use Rattle.h5w_steps.proofs.FoundLemmas.{moment_shows}
 use Rattle.h5w_steps.proofs.MomentLemmas.{header_of, root_at}
-use Rattle.h5w_session.specs.Creations.{IsNewFile, NewFile, root_place}
+use Rattle.h5w_creation_laws.specs.CreatedFiles.{CreatedFile, IsCreatable, created_blocks, created_moment, created_writes, header_place, root_len, root_place, super_of}
+use Rattle.h5w_creation_laws.proofs.CreatedLaws.{created_new}
 use Rattle.h5w_session.specs.Past.{HasCreated}
 use Rattle.h5w_session.specs.Sessions.{Session}
-use Rattle.h5w_session.proofs.CreatedLemmas.{created_file, new_image, new_moment}
+use Rattle.h5w_session.proofs.PastLemmas.{one_each}
+use Rattle.h5w_session.proofs.RootLooks.{root_alone}
 
 behind_first : (u v : Used) (us vs : List Used) → u ∷ us ≡ v ∷ vs → vs ≡ us
 behind_first u v us vs e = cc
 
--- a new file's root header is one look, and its dataset header names no further block
-pub record IsBeginning (f : NewFile) : Type 0 where
-  pub shows : Shows format_limits (new_image f) f.name (reading_of (new_moment f))
-  pub root : visits (new_image f) (root_header (root_address (new_image f))) ≡ record { place = root_place; len = 512; counts = root_view } ∷ []
-  pub header : continuation_blocks (new_image f) (reading_of (new_moment f)) ≡ []
+-- a new file's bytes
+abbrev pub new_image : CreatedFile → List ℕ
+new_image f = image [] (created_writes f)
 
-pub beginning : (f : NewFile) → IsNewFile f → IsBeginning f
+-- a new file's root header is one look, and its dataset header names no further block
+pub record IsBeginning (f : CreatedFile) : Type 0 where
+  pub shows : Shows format_limits (new_image f) f.name (reading_of (created_moment f))
+  pub root : visits (new_image f) (root_header (root_address (new_image f))) ≡ record { place = root_place; len = 512; counts = root_view } ∷ []
+  pub header : continuation_blocks (new_image f) (reading_of (created_moment f)) ≡ []
+
+pub beginning : (f : CreatedFile) → IsCreatable f → IsBeginning f
 beginning f is =
     let img = new_image f in
-    let m = new_moment f in
-    let c = created_file f is in
+    let m = created_moment f in
+    let c = created_new f is in
     let h = header_of img f.name m c.represents in
+    let short : root_len f ≤ 512 = let bound = is.name_bound in omega arith in
     record {
       shows = moment_shows img f.name m c.represents;
-      root = ap (λ (a : ℕ). visits img (root_header a)) (root_at img f.name m c.represents) ∙ c.root;
+      root = ap (λ (a : ℕ). visits img (root_header a)) (root_at img f.name m c.represents) ∙ root_alone img f.name (super_of f) (header_place f) (root_len f) c.represents.root short;
       header = h.named ∙ ap visits_of (behind_first _ _ [] h.continued h.ranges);
     }
 
 -- what stays from the first position to a later one
 pub since_first : (s : Session) (log : Log) (p : ℕ) (r : Reading) → (b : HasCreated s log) → Held s.name log → IsPosition log p → Shows format_limits (image_at log p) s.name r
-    → Keeps (new_image b.file) (reading_of (new_moment b.file)) (image_at log p) r
+    → Keeps (new_image b.file) (reading_of (created_moment b.file)) (image_at log p) r
 since_first s log p r b held at shows =
     let f = b.file in
-    let first : log.first ≡ 5 = ap (λ (l : Log). l.first) b.log_is in
-    let img : image_at log 5 ≡ new_image f = ap (λ (start : List ℕ). image start (take 5 (hist log.events))) (ap (λ (l : Log). l.start) b.log_is) ∙ ap (image []) b.pieces in
+    let m = created_moment f in
+    let n = length (created_writes f) in
+    let first : log.first ≡ length (created_blocks f) = ap (λ (l : Log). l.first) b.log_is in
+    let count : n ≡ length (created_blocks f) = one_each f in
+    let img : image_at log n ≡ new_image f = ap (λ (start : List ℕ). image start (take n (hist log.events))) (ap (λ (l : Log). l.start) b.log_is) ∙ ap (image []) b.pieces in
     let begins = beginning f b.is in
-    let there : Shows format_limits (image_at log 5) s.name (reading_of (new_moment f)) =
-    subst (λ (i : List ℕ). Shows format_limits i s.name (reading_of (new_moment f))) (sym img) (subst (λ (name : List ℕ). Shows format_limits (new_image f) name (reading_of (new_moment f))) (sym b.name) begins.shows) in
-    subst (λ (i : List ℕ). Keeps i (reading_of (new_moment f)) (image_at log p) r) img
-    (held 5 p (reading_of (new_moment f)) r (record { begun = omega (arith, first); reached = omega (arith, first, at.begun, at.reached) }) at (omega (arith, first, at.begun)) there shows)
+    let there : Shows format_limits (image_at log n) s.name (reading_of m) =
+    subst (λ (i : List ℕ). Shows format_limits i s.name (reading_of m)) (sym img) (subst (λ (name : List ℕ). Shows format_limits (new_image f) name (reading_of m)) (sym b.name) begins.shows) in
+    let low : n ≤ p = omega (arith, first, count, at.begun) in
+    subst (λ (i : List ℕ). Keeps i (reading_of m) (image_at log p) r) img
+    (held n p (reading_of m) r (record { begun = omega (arith, first, count); reached = omega (arith, low, at.reached) }) at low there shows)

@@ -1,27 +1,35 @@
 -- What the code of a flush shows, in its own words.
-use Rattle.std.proofs.Common.{◌≡◌, ℕ, ◌+◌, ◌^◌, ◌<◌, ◌≤◌, List, [], ◌∷◌, ◌++◌, length, Option, Some, None, IsSome, Result, Err, refl, ap, sym, ◌∙◌, subst, arith, length-append}
+use Rattle.std.proofs.Common.{◌≡◌, ℕ, ◌+◌, ◌*◌, ◌^◌, ◌<◌, ◌≤◌, List, [], ◌∷◌, ◌++◌, length, Option, Some, None, IsSome, Result, Err, refl, ap, sym, ◌∙◌, subst, arith, length-append}
+use Rattle.std.proofs.lemmas.Nat.{mul-le}
 use Rattle.h5w_model.specs.Logs.{div_up}
+use Rattle.h5w_model.specs.Tables.{chunks_across}
 use Rattle.h5w_model.specs.Messages.{IsIntType}
 use Rattle.h5w_model.specs.Headers.{rows_in_header, with_rows_bytes}
+use Rattle.h5w_model.specs.declared.cell.Key.{Key}
 use Rattle.h5w_model.specs.declared.root.Super.{Super}
 use Rattle.h5w_model.specs.declared.piece.Write.{Write}
 use Rattle.h5w_space.specs.Space.{Space}
-use Rattle.h5w_cache.specs.Stores.{Store}
+use Rattle.h5w_space.specs.declared.Full.{Full}
 use Rattle.h5w_cache.specs.declared.moves.Move.{Move}
 use Rattle.h5w_chunks.specs.Grids.{fill_cell}
 use Rattle.h5w_chunks.specs.Rows.{RowsWritten}
-use Rattle.h5w_chunks.specs.Shares.{new_writes}
+use Rattle.h5w_chunks.specs.Shares.{new_writes, touched}
 use Rattle.h5w_chunks.specs.declared.grid.ChunkPlace.{ChunkPlace}
-use Rattle.h5w_array_laws.specs.ArrayStores.{map_of}
-use Rattle.h5w_array_laws.specs.ArrayPlans.{IsArrayPlan}
 use Rattle.h5w_flush_laws.specs.Parts.{AreEnded}
 use Rattle.h5w_model.proofs.HeaderLemmas.{messages_at-ok}
 use Rattle.h5w_header_laws.proofs.CommitLaws.{rows_place_is, rows_there}
-use Rattle.h5w_session.specs.Sessions.{ArePieces, IsSession, IsWritable, Session, option_list, rows_of, with_rows, IsNamed}
-use Rattle.h5w_session.specs.Flushes.{IsFlushed, SameBut, flushed_of, header_piece}
-use Rattle.h5w_session.specs.Placing.{IsPartly, IsPlacing, first_number}
-use Rattle.h5w_session.proofs.FlushedLemmas.{Shown, flushed_is, flushed_pieces, shown_flushed, tops_kept}
-use Rattle.h5w_session.proofs.PlacingLemmas.{partly_kept, same_but}
+use Rattle.h5w_visits.specs.Ranges as ranges
+use Rattle.h5w_index.specs.Views.{IndexView, TakesKey}
+use Rattle.h5w_index.specs.Depths.{AreWithin}
+use Rattle.h5w_index.specs.Steps.{IsPlan}
+use Rattle.h5w_index.specs.Told.{HeldTold}
+use Rattle.h5w_index.specs.Placing.{IsPartly, IsPlacing}
+use Rattle.h5w_index.proofs.PlacingLemmas.{placing_laws}
+use Rattle.h5w_session.specs.Sessions.{ArePieces, IsSession, IsWritable, Session, bands_of, option_list, rows_of, with_rows, IsNamed}
+use Rattle.h5w_session.specs.Flushes.{ArePlanned, IsFlushed, SameBut, flushed_of, header_piece}
+use Rattle.h5w_session.specs.declared.refusal.FlushError.{FlushError}
+use Rattle.h5w_session.specs.declared.refusal.FlushError.TheVariants as errors
+use Rattle.h5w_session.proofs.FlushedLemmas.{chunks_few, fits_same, flushed_is, flushed_pieces, shown_flushed, takes_keys}
 
 -- the rows have a place in the header
 pub has_rows : (b : List ℕ) → IsWritable b → IsSome (rows_in_header b)
@@ -29,8 +37,30 @@ has_rows b w =
     let h = messages_at-ok b w.list w.read in
     subst (λ (o : Option ℕ). IsSome o) (sym (rows_place_is b h.0 w.list w.space h.1.header w.read w.first ∙ rows_there h.0 w.space w.long)) refl
 
+-- ---- What the places of a flush ask for
+
+-- of a session, up to row `to`
+pub record AsksFor (v : Session) (to : ℕ) : Type 0 where
+  pub few : div_up to v.dataset.layout.chunk_rows * chunks_across v.dataset ≤ 1000000
+  pub takes : (key : Key) → key.i < div_up to v.dataset.layout.chunk_rows → TakesKey v.index key
+  pub within : AreWithin (div_up to v.dataset.layout.chunk_rows) (chunks_across v.dataset) v.index
+
+pub asks_for : (v : Session) (to : ℕ) → IsSession v → to ≡ rows_of v → AsksFor v to
+asks_for v to is e = subst (AsksFor v) (sym e) (record { few = chunks_few v is; takes = takes_keys v is; within = is.held })
+
+-- the values that wait are as many as fit in memory
+pub values_few : (v : Session) (most : ℕ) → IsSession v → 1 ≤ v.dataset.int_type.size → length v.waiting < most → v.waits * v.dataset.shape.cols < most
+values_few v most is some few =
+    let cols = v.dataset.shape.cols in
+    let size = v.dataset.int_type.size in
+    let one : v.waits * cols * 1 ≤ v.waits * cols * size = mul-le (v.waits * cols) 1 (v.waits * cols) size (omega arith) some in
+    let split : v.waits * (cols * size) ≡ v.waits * cols * size = omega arith in
+    omega (arith, is.cells, one, split, few)
+
+-- ---- What its calls make
+
 -- the calls, of a session v, up to row `to`; r, b and e are the superblock, the header and the cells that wait then
-pub record Carried (v : Session) (to : ℕ) (t : Space) (w : Store) (ws : List Write) (r : Super) (b e : List ℕ) : Type 0 where
+pub record Carried (v : Session) (to : ℕ) (t : Space) (w : IndexView) (ws : List Write) (r : Super) (b e : List ℕ) : Type 0 where
   pub there : IsNamed v.dataset
   pub some : 0 < v.waits
   pub to_is : to ≡ rows_of v
@@ -38,13 +68,14 @@ pub record Carried (v : Session) (to : ℕ) (t : Space) (w : Store) (ws : List W
   pub typed : IsIntType v.dataset.int_type
   pub filled : length (fill_cell v.dataset) ≡ v.dataset.int_type.size
   pub chunks : List ChunkPlace
-  pub added : List ℕ
+  pub added : List Key
   pub between : Space
-  pub held : Store
+  pub named : IndexView
   pub places : Space
   pub places_are : places ≡ v.places
-  pub placing : IsPlacing v.dataset to v.index places chunks added held between
-  pub all : first_number v.dataset + length chunks ≡ div_up to v.dataset.layout.chunk_rows
+  pub placing : IsPlacing v.dataset to v.index places chunks added named between
+  pub all : length chunks ≡ touched v.dataset v.dataset.shape.rows to
+  pub within : AreWithin (div_up to v.dataset.layout.chunk_rows) (chunks_across v.dataset) named
   pub cells : List ℕ
   pub cells_are : cells ≡ v.waiting
   pub rows : List Write
@@ -53,10 +84,11 @@ pub record Carried (v : Session) (to : ℕ) (t : Space) (w : Store) (ws : List W
   pub moves : List Move
   pub copies : List Write
   pub fixed : List Write
-  pub plan : IsArrayPlan held between moves copies fixed w t
+  pub plan : IsPlan named between moves copies fixed w t
   pub supers : List Write
   pub end : ℕ
   pub end_is : end ≡ t.end
+  pub end_small : end < 2 ^ 64
   pub ended : AreEnded v.root end supers
   pub root : r ≡ record (v.root) { end = end }
   pub header : b ≡ with_rows_bytes v.header to None
@@ -66,23 +98,25 @@ pub record Carried (v : Session) (to : ℕ) (t : Space) (w : Store) (ws : List W
   pub header_short : length v.header ≤ 512
   pub none_waits : e ≡ []
 
-module _ (v : Session) (to : ℕ) (t : Space) (w : Store) (ws : List Write) (r : Super) (b e : List ℕ) (x : Carried v to t w ws r b e) where
-  carried_shown : Shown v t w
-  carried_shown =
+module _ (v : Session) (to : ℕ) (t : Space) (w : IndexView) (ws : List Write) (r : Super) (b e : List ℕ) (x : Carried v to t w ws r b e) (is : IsSession v) where
+  carried_planned : ArePlanned v v.index v.places w t
+  carried_planned =
       let rows = rows_of v in
       record {
+        fits = is.fits;
         some = x.some;
         small = omega (arith, x.small, x.to_is);
+        few = is.few;
         typed = x.typed;
         filled = x.filled;
         chunks = x.chunks;
         added = x.added;
+        named = x.named;
         between = x.between;
-        held = x.held;
         placing =
-            subst (λ (s : Space). IsPlacing v.dataset rows v.index s x.chunks x.added x.held x.between) x.places_are
-            (subst (λ (n : ℕ). IsPlacing v.dataset n v.index x.places x.chunks x.added x.held x.between) x.to_is x.placing);
-        all = subst (λ (n : ℕ). first_number v.dataset + length x.chunks ≡ div_up n v.dataset.layout.chunk_rows) x.to_is x.all;
+            subst (λ (s : Space). IsPlacing v.dataset rows v.index s x.chunks x.added x.named x.between) x.places_are
+            (subst (λ (n : ℕ). IsPlacing v.dataset n v.index x.places x.chunks x.added x.named x.between) x.to_is x.placing);
+        all = subst (λ (n : ℕ). length x.chunks ≡ touched v.dataset v.dataset.shape.rows n) x.to_is x.all;
         rows = x.rows;
         exact = x.exact ∙ ap (λ (n : ℕ). new_writes v.dataset x.cells v.dataset.shape.rows n x.chunks) x.to_is ∙ ap (λ (c : List ℕ). new_writes v.dataset c v.dataset.shape.rows rows x.chunks) x.cells_are;
         written =
@@ -95,6 +129,12 @@ module _ (v : Session) (to : ℕ) (t : Space) (w : Store) (ws : List Write) (r :
         supers = x.supers;
         ended = subst (λ (n : ℕ). AreEnded v.root n x.supers) x.end_is x.ended;
       }
+
+  carried_small : t.end < 2 ^ 64
+  carried_small = omega (arith, x.end_is, x.end_small)
+
+  carried_within : AreWithin (bands_of v) (chunks_across v.dataset) x.named
+  carried_within = subst (λ (n : ℕ). AreWithin (div_up n v.dataset.layout.chunk_rows) (chunks_across v.dataset) x.named) x.to_is x.within
 
   carried_joined : ws ≡ x.rows ++ (x.copies ++ (x.supers ++ (x.fixed ++ header_piece v ∷ [])))
   carried_joined =
@@ -114,51 +154,68 @@ module _ (v : Session) (to : ℕ) (t : Space) (w : Store) (ws : List Write) (r :
       let header : b ≡ with_rows_bytes v.header rows None = x.header ∙ ap (λ (n : ℕ). with_rows_bytes v.header n None) x.to_is in
       λ k. put (root k) (header k) (x.to_is k) (x.none_waits k)
 
-  pub carried_is : IsSession v → IsSession carried
-  unfolding carried_shown
-  carried_is is = subst IsSession (sym carried_after) (flushed_is v is x.there t w ws carried_shown carried_joined x.header_short)
+  pub carried_is : IsSession carried
+  unfolding carried_planned
+  carried_is = subst IsSession (sym carried_after) (flushed_is v is x.there t w ws carried_planned carried_small carried_within carried_joined x.header_short)
 
-  pub carried_pieces : IsSession v → ArePieces t.end ws
-  unfolding carried_shown
-  carried_pieces is = flushed_pieces v is x.there t w ws carried_shown carried_joined x.header_short
+  pub carried_pieces : ArePieces t.end ws
+  unfolding carried_planned
+  carried_pieces = flushed_pieces v is x.there t w ws carried_planned carried_small carried_within carried_joined x.header_short
 
-  pub carried_flushed : IsSession v → (s : Session) → v ≡ s → IsFlushed s carried
-  unfolding carried_shown
-  carried_flushed is s e' =
-      subst (λ (u : Session). IsFlushed u carried) e' (subst (λ (u : Session). IsFlushed v u) (sym carried_after) (shown_flushed v is x.there t w ws carried_shown carried_joined x.header_short))
+  pub carried_flushed : (s : Session) → v ≡ s → IsFlushed s carried
+  unfolding carried_planned
+  carried_flushed s e' =
+      subst (λ (u : Session). IsFlushed u carried) e'
+      (subst (λ (u : Session). IsFlushed v u) (sym carried_after) (shown_flushed v is x.there t w ws carried_planned carried_small carried_within carried_joined x.header_short))
 
 -- ---- A refused flush
 
-module _ (v : Session) (to : ℕ) (u : Store) (to_is : to ≡ rows_of v) (p : IsPartly v.dataset to v.index [] u) where
+module _ (v : Session) (to : ℕ) (u : IndexView) (to_is : to ≡ rows_of v) (p : IsPartly v.dataset to v.index [] u) where
   partly_now : IsPartly v.dataset (rows_of v) v.index [] u
   partly_now = subst (λ (n : ℕ). IsPartly v.dataset n v.index [] u) to_is p
 
-  pub refused_is : IsSession v → IsSession (record v { index = u })
-  refused_is is =
-      let kept = partly_kept v.dataset to v.index u p in
+  pub refused_is : IsSession v → AreWithin (div_up to v.dataset.layout.chunk_rows) (chunks_across v.dataset) u → IsSession (record v { index = u })
+  refused_is is within =
+      let kept : HeldTold v.index u = placing_laws.kept v.dataset to v.index u p in
       record {
         some_columns = is.some_columns;
         cells = is.cells;
         few = is.few;
         version = is.version;
         begun = is.begun;
-        array = is.array;
-        across = is.across;
+        kind = is.kind ∙ sym kept.like.kind;
+        sound = kept.like.sound;
+        fits = fits_same v.dataset v.index u kept.like.kind is.fits;
+        held = subst (λ (n : ℕ). AreWithin (div_up n v.dataset.layout.chunk_rows) (chunks_across v.dataset) u) to_is within;
         header = is.header;
         addressed = is.addressed;
         header_ends = is.header_ends;
         small = is.small;
         limit = is.limit;
-        inside = λ i from named. let same : map_of u i ≡ map_of v.index i = kept.map i in omega (arith, same, is.inside i from (λ e. named (same ∙ e)));
-        tops = λ named. tops_kept v.places.end v.places.end v.index u p.places (omega arith) (is.tops named);
-        blocks = p.array;
+        inside = placing_laws.carried v.dataset v.places.end v.places.end v.index u kept.map (omega arith) is.inside;
+        tops = λ named. subst (λ us. ranges.AllEndBy v.places.end us) (sym kept.like.fixed) (is.tops named);
       }
 
-  pub refused_same : (s : Session) → v ≡ s → SameBut s (record v { index = u })
-  refused_same s e = subst (λ (t : Session). SameBut t (record v { index = u })) e (same_but v (record v { index = u }) refl partly_now)
+  pub refused_same : IsNamed v.dataset → (s : Session) → v ≡ s → SameBut s (record v { index = u })
+  refused_same there s e =
+      let own : SameBut v (record v { index = u }) = record { session = refl; held = partly_now; unnamed = λ none. absurd (there none) } in
+      subst (λ (t : Session). SameBut t (record v { index = u })) e own
 
 pub same_error : {T U E : Type 0} (e x : E) → ◌≡◌ {A = Result T E} (Err e) (Err x) → ◌≡◌ {A = Result U E} (Err e) (Err x)
 same_error {T} {U} e x is = let same : e ≡ x = cc in ap Err same
+
+-- an error of want of room is no other
+err_of : (e x : FlushError) (r : Result ℕ FlushError) → r ≡ Err e → r ≡ Err x → e ≡ x
+err_of e x r is told = let same : ◌≡◌ {A = Result ℕ FlushError} (Err e) (Err x) = sym is ∙ told in cc
+
+pub same_space : (full : Full) (x : FlushError) (r : Result ℕ FlushError) → r ≡ Err (errors.Space full) → r ≡ Err x → errors.Space full ≡ x
+same_space full x r is told = err_of (errors.Space full) x r is told
+
+pub space_not : {full : Full} → errors.Space full ≡ errors.Failed → ⊥
+space_not same = cc
+
+pub space_not_memory : {full : Full} → errors.Space full ≡ errors.OutOfMemory → ⊥
+space_not_memory same = cc
 
 -- ---- Room
 

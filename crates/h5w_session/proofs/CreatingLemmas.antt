@@ -1,11 +1,11 @@
 -- A session that creates its file: it stands for the log without events, and each of its pieces brings it nearer to a file.
 use Rattle.std.proofs.Common.{◌≡◌, ◌≢◌, ℕ, ◌+◌, ◌*◌, ◌/◌, ◌<◌, ◌≤◌, Bool, true, false, List, [], ◌∷◌, ◌++◌, length, ℤ, refl, sym, ap, ◌∙◌, subst, inl, inr, arith, length-append, append_assoc}
+use Rattle.std.proofs.lemmas.Bool.{le-ltb}
 use Rattle.std.proofs.lemmas.List.{nil_from_length}
 use Rattle.std.proofs.lemmas.Nat.{div-mul-add}
 use Rattle.std.specs.List.Sorted.{IsPermutation}
 use Rattle.std.proofs.lemmas.List.Sorted.{length_permutation}
 use Rattle.h5w_model.specs.Numbers.{undefined}
-use Rattle.h5w_model.specs.Findings.{chunk_bytes}
 use Rattle.h5w_model.specs.Images.{image}
 use Rattle.h5w_model.specs.Logs.{Log, Happening, appends, plans, shows, hist, shown, appended, appended_in, flushed, flushed_in, flushed_rows, rows_in, and_now}
 use Rattle.h5w_model.specs.Datasets.{Described}
@@ -16,21 +16,34 @@ use Rattle.h5w_types.specs.Runs.{run_bytes}
 use Rattle.h5w_chunks.specs.Grids.{cells_of}
 use Rattle.h5w_space.specs.Space.{Space}
 use Rattle.h5w_space.specs.declared.Extent.{Extent}
+use Rattle.h5w_steps.specs.Moments.{Represents}
 use Rattle.h5w_steps.specs.Logs.{image_now}
 use Rattle.h5w_steps.proofs.GoesLemmas.{begin_goes, reads_now}
 use Rattle.h5w_steps.proofs.SessionLaws.{goes_runs}
+use Rattle.h5w_model.specs.Tables.{chunks_across, format_limits, limit_of, needed}
+use Rattle.h5w_model.specs.Logs.{div_up}
+use Rattle.h5w_model.specs.declared.cell.IndexKind.{IndexKind}
+use Rattle.h5w_model.specs.declared.cell.IndexKind.TheVariants.{Array, Tree}
+use Rattle.h5w_model.proofs.ImageLemmas.{Holds-rest}
+use Rattle.h5w_header_laws.specs.Files.{chunk_0}
+use Rattle.h5w_header_laws.specs.Spelled.{spelled_header}
+use Rattle.h5w_header_laws.proofs.SpelledLemmas.{spelled_stands}
 use Rattle.h5w_array_laws.proofs.CreatedLemmas.{created_starts}
-use Rattle.h5w_flush_laws.proofs.KnownLaws.{begin_knows}
-use Rattle.h5w_session.specs.Sessions.{Session, AfterPiece, Freed, rows_of}
-use Rattle.h5w_session.specs.Creations.{IsNewFile, NewFile, array_place, created, creation_writes, first_end, index_place, log_of, new_array, new_dataset, places_to}
-use Rattle.h5w_session.specs.Indexes.{IsIndexed, IsOwn}
+use Rattle.h5w_index.specs.Views.{IndexView, IsClean, address_in}
+use Rattle.h5w_index.specs.Flushes.{Begins}
+use Rattle.h5w_index.specs.Placing.{IsOwn}
+use Rattle.h5w_index.proofs.MarkLemmas.{mark_laws}
+use Rattle.h5w_creation_laws.specs.CreatedFiles.{CreatedFile, IsCreatable, block_place, created_blocks, created_log, created_moment, created_writes, described_of, end_of, header_block, header_place, index_blocks, index_place, root_block, super_block, super_of}
+use Rattle.h5w_creation_laws.specs.CreationLaws.{WritesEndBy}
+use Rattle.h5w_creation_laws.proofs.CreatedLaws.{created_new, created_sizes}
+use Rattle.h5w_creation.specs.Made.{IsNewIndex}
+use Rattle.h5w_creation.proofs.MadeLemmas.{created_rests}
+use Rattle.h5w_session.specs.Sessions.{Session, AfterPiece, AllEndBy, Freed, rows_of}
+use Rattle.h5w_session.specs.Creations.{IsIndexOf, IsLimit, created, log_of, places_to}
 use Rattle.h5w_session.specs.Stands.{Creating, Running, Stands}
-use Rattle.h5w_session.proofs.ArrayStarts.{new_array_is}
-use Rattle.h5w_session.proofs.CreatedLemmas.{IsCreatedFile, created_file, first_end_small, fixed_are, new_image, new_moment, no_chunks}
-use Rattle.h5w_session.proofs.CreationLemmas.{created_pieces}
-use Rattle.h5w_session.proofs.IndexLemmas.{clean_marks, created_standing}
-use Rattle.h5w_session.proofs.PastLemmas.{past_begins, past_same}
+use Rattle.h5w_session.proofs.PastLemmas.{one_each, past_begins, past_same, some_blocks}
 use Rattle.h5w_session.proofs.StandLemmas.{freed_keeps, goes_rows, last_running, left_pending, more_running, settled, with_pending}
+use Rattle.h5w_session.proofs.StateLemmas.{up_few}
 
 -- ---- Before the first position
 
@@ -51,23 +64,30 @@ pub some_length : (ws : List Write) → ws ≢ [] → 0 < length ws
 some_length [] some = absurd (some refl)
 some_length (w ∷ ws) some = omega arith
 
--- of a file's five pieces so many were shown
-pub shown_so_far : (f : NewFile) (es : List Happening) (left : List Write) → hist es ++ left ≡ creation_writes f → shown es + length left ≡ 5
+-- of a file's pieces so many were shown
+pub shown_so_far : (f : CreatedFile) (es : List Happening) (left : List Write) → hist es ++ left ≡ created_writes f → shown es + length left ≡ length (created_blocks f)
 shown_so_far f es left pieces =
-    let count : length (hist es ++ left) ≡ 5 = ap length pieces in
+    let count : length (hist es ++ left) ≡ length (created_blocks f) = ap length pieces ∙ one_each f in
     omega (arith, length_hist es, length-append (hist es) left)
 
 -- ---- A session begins
 
-pub creation_begins : (f : NewFile) → IsNewFile f → Stands (created f) (log_of [])
-creation_begins f is = record {
-  left = creation_writes f;
+some_writes : (f : CreatedFile) → created_writes f ≢ []
+some_writes f none =
+    let count : length (created_writes f) ≡ 0 = ap length none in
+    absurd (omega (arith, count, one_each f, some_blocks f))
+
+pub creation_begins : (f : CreatedFile) (most : ℕ) (v : IndexView) → IsCreatable f → IsLimit most → IsIndexOf f v → Stands (created f most v) (created_log f)
+creation_begins f most v is limit index = record {
+  left = created_writes f;
   dropped = inl refl;
   phase = inl (
     f,
     record {
       is = is;
-      some = λ e. cc;
+      limit = limit;
+      index = index;
+      some = some_writes f;
       pieces = refl;
       session = refl;
       log_is = refl;
@@ -75,15 +95,17 @@ creation_begins f is = record {
       flushed = λ k. refl;
     },
   );
-  prefixed = λ begun. absurd (omega arith);
-  still = none_still f.name (log_of []) (omega arith);
+  prefixed = λ begun. absurd (omega (arith, begun, some_blocks f));
+  still = none_still f.name (created_log f) (omega arith);
 }
 
 -- ---- A piece of a new file
 
-creating_more : (f : NewFile) (s : Session) (w x : Write) (xs : List Write) (log : Log) → Creating f s (w ∷ x ∷ xs) log → Creating f (with_pending s (x ∷ xs)) (x ∷ xs) (and_now (shows w) log)
+creating_more : (f : CreatedFile) (s : Session) (w x : Write) (xs : List Write) (log : Log) → Creating f s (w ∷ x ∷ xs) log → Creating f (with_pending s (x ∷ xs)) (x ∷ xs) (and_now (shows w) log)
 creating_more f s w x xs log c = record {
   is = c.is;
+  limit = c.limit;
+  index = c.index;
   some = λ e. some_is x xs e;
   pieces = append_assoc (hist log.events) (w ∷ []) (x ∷ xs) ∙ c.pieces;
   session = ap (λ (y : Session). with_pending y (x ∷ xs)) c.session;
@@ -101,81 +123,91 @@ places_begin true end most t freed = (ap (λ (x : Space). x.end) freed, ap (λ (
 places_begin false end most t freed = (freed.end, none_of t.free freed.free, freed.retired)
 
 -- a session that creates its file, with these pieces pending
-abbrev creating : NewFile → List Write → Bool → Bool → Session
-creating f ws stop keep = record (created f) { pending = ws; stopped = stop; keeps = keep }
+abbrev pub creating : CreatedFile → ℕ → IndexView → List Write → Bool → Bool → Session
+creating f most v ws stop keep = record (created f most v) { pending = ws; stopped = stop; keeps = keep }
 
 pub no_cells : (d : Described) → [] ≡ cells_of d []
 unfolding run_bytes
 no_cells d = refl
 
--- the array of a new file, with its places
-new_indexed : (f : NewFile) (img : List ℕ) (t : Space) → IsNewFile f → IsCreatedFile f img → t.end ≡ first_end f → t.free ≡ [] → t.retired ≡ [] → IsIndexed img (new_moment f) (λ key. undefined) t (new_array (array_place f) (index_place f))
-new_indexed f img t is made ends none_free none_retired =
-    let at = array_place f in
-    let place = index_place f in
-    let v = new_array at place in
-    let c = new_array_is at place in
-    let small = first_end_small f is in
-    let starts = created_starts at place v c (omega arith) (omega arith) in
-    record {
-      kind = refl;
-      at = sym c.header_at;
-      array = starts.array;
-      stands = made.stands;
-      standing = created_standing at place v t c (omega arith) (omega (arith, ends)) none_free none_retired;
-      fixed = sym (fixed_are f);
-      behind = sym (starts.behind (chunk_bytes (new_dataset f)));
-      map = λ key. sym (starts.map key.i);
-    }
+-- no chunk is needed
+pub no_chunks : (f : CreatedFile) → IsCreatable f → needed (described_of f) ≡ 0
+no_chunks f is =
+    let bands : div_up 0 f.chunk_rows ≡ 0 = omega (arith, up_few 0 f.chunk_rows (omega (arith, is.some_rows))) in
+    ap (λ (n : ℕ). n * chunks_across (described_of f)) bands ∙ omega arith
 
--- it is one as it is made here
-pub new_own : (f : NewFile) → IsNewFile f → IsOwn (new_array (array_place f) (index_place f))
-new_own f is =
-    let at = array_place f in
-    let place = index_place f in
-    let small = first_end_small f is in
-    let starts = created_starts at place (new_array at place) (new_array_is at place) (omega arith) (omega arith) in
-    record { headed = starts.headed; numbered = starts.numbered }
+-- chunk 0 of the dataset header stands as it was written
+header_kept : (f : CreatedFile) → IsCreatable f → chunk_0 (image [] (created_writes f)) (header_place f) ≡ spelled_header (described_of f)
+header_kept f is =
+    let img = image [] (created_writes f) in
+    let z = created_sizes f is in
+    let front = Holds-rest img (index_blocks f.index f) (header_block f ∷ root_block f ∷ super_block f ∷ []) (created_new f is).blocks in
+    (spelled_stands img format_limits (super_of f) (header_place f) (described_of f) z.spellable front.0 (omega (arith, z.header))
+    (le-ltb (limit_of format_limits f.index) (needed (described_of f)) (omega (arith, no_chunks f is)))).chunk
+
+-- an index without chunks is clean, and one as it is made here
+new_clean : (k : IndexKind) (at block : ℕ) (v : IndexView) → IsNewIndex k at block v → IsClean v
+new_clean Array at block v new = subst IsClean (sym new.1) new.2.changed
+new_clean Tree at block v new = subst IsClean (sym new) refl
+
+new_own : (k : IndexKind) (at block : ℕ) (v : IndexView) → at < undefined → block < undefined → IsNewIndex k at block v → IsOwn v
+new_own Array at block v low high new =
+    let starts = created_starts at block new.0 new.2 (omega arith) (omega arith) in
+    subst IsOwn (sym new.1) (record { headed = starts.headed; numbered = starts.numbered })
+new_own Tree at block v low high new = subst IsOwn (sym new) tt
+
+pub own_of : (f : CreatedFile) (v : IndexView) → IsCreatable f → IsIndexOf f v → IsOwn v
+own_of f v is index =
+    let small = (created_sizes f is).end in
+    new_own f.index (index_place f) (block_place f) v (omega (arith, small)) (omega (arith, small)) index.new
+
+-- writes as they are told there end by the same place
+pub writes_end : (end : ℕ) (ws : List Write) → WritesEndBy end ws → AllEndBy end ws
+writes_end end [] all = tt
+writes_end end (w ∷ ws) all = (all.0, writes_end end ws all.1)
 
 -- the last of them makes the file
-file_made : (f : NewFile) (ws : List Write) (stop keep : Bool) (w : Write) (es : List Happening) (t : Space) → IsNewFile f → Freed keep (places_to (first_end f) f.limit) t → hist es ++ w ∷ [] ≡ creation_writes f
-    → appended_in es ≡ [] → ((k : ℕ) → flushed_in k [] es ≡ []) → Running (settled (creating f ws stop keep) t) [] (log_of (shows w ∷ es))
-file_made f ws stop keep w es t is freed pieces none_appended none_flushed =
-    let next = log_of (shows w ∷ es) in
-    let m = new_moment f in
-    let img : new_image f ≡ image_now next = sym (ap (image []) pieces) in
-    let made = subst (IsCreatedFile f) img (created_file f is) in
+file_made : (f : CreatedFile) (most : ℕ) (v : IndexView) (ws : List Write) (stop keep : Bool) (w : Write) (es : List Happening) (t : Space) → IsCreatable f → IsLimit most → IsIndexOf f v → Freed keep (places_to (end_of f) most) t
+    → hist es ++ w ∷ [] ≡ created_writes f → appended_in es ≡ [] → ((k : ℕ) → flushed_in k [] es ≡ []) → Running (settled (creating f most v ws stop keep) t) [] (log_of f (shows w ∷ es))
+file_made f most v ws stop keep w es t is limit index freed pieces none_appended none_flushed =
+    let next = log_of f (shows w ∷ es) in
+    let m = created_moment f in
+    let img : image [] (created_writes f) ≡ image_now next = sym (ap (image []) pieces) in
+    let made = created_new f is in
+    let here = subst (λ (x : List ℕ). Represents x f.name m) img made.represents in
     let none : [] ≡ flushed next = sym (none_flushed 1) in
     let before = shown_so_far f es (w ∷ []) pieces in
-    let prefixed : PrefixedEach f.name next = ((λ begun. reads_now f.name next m made.represents none (omega arith) refl), none_read f.name next es (omega arith)) in
-    let goes = begin_goes f.name next m (omega (arith, before)) made.represents none (omega arith) refl prefixed in
-    let begun = places_begin keep (first_end f) f.limit t freed in
-    let kept = freed_keeps keep (places_to (first_end f) f.limit) t freed in
+    let some : 0 < f.columns = omega (arith, is.some_columns) in
+    let prefixed : PrefixedEach f.name next = ((λ begun. reads_now f.name next m here none some refl), none_read f.name next es (omega (arith, before))) in
+    let goes = begin_goes f.name next m (omega (arith, before)) here none some refl prefixed in
+    let begun = places_begin keep (end_of f) most t freed in
+    let kept = freed_keeps keep (places_to (end_of f) most) t freed in
+    let begins = subst (λ (x : List ℕ). Begins x f.name m t v) img (created_rests f t v is index.sound index.new (record { end = begun.0; none_free = begun.1; none_retired = begun.2 })) in
     record {
       after = m;
-      address = λ key. undefined;
+      address = λ key. address_in v key;
       runs = goes_runs f.name next m [] goes (λ k. none_flushed (k + 1));
-      knows = begin_knows (image_now next) f.name m (λ key. undefined) t made.represents made.index
-          (record { end = begun.0; none_free = begun.1; none_retired = begun.2 }) (λ h. made.layout);
-      keeps = record { root = refl; place = refl; dataset = refl; header = made.chunk };
-      index = inl (new_indexed f (image_now next) t is made begun.0 begun.1 begun.2);
-      marks = clean_marks (new_dataset f) 0 0 (new_array (array_place f) (index_place f)) (new_array_is (array_place f) (index_place f)).changed;
+      knows = begins.knows;
+      keeps = record { root = refl; place = refl; dataset = refl; header = subst (λ (x : List ℕ). chunk_0 x (header_place f) ≡ spelled_header (described_of f)) img (header_kept f is) };
+      index = inl begins.rests;
+      marks = mark_laws.clean (described_of f) 0 0 v (new_clean f.index (index_place f) (block_place f) v index.new);
       more = [];
-      waiting = no_cells (new_dataset f);
+      waiting = no_cells (described_of f);
       fit = refl;
       count = omega arith;
       appended = sym none_appended;
       committed = goes_rows f.name next m [] goes;
       columns = refl;
-      past = past_begins f (settled (creating f ws stop keep) t) next m is refl pieces refl refl refl kept.1 kept.0 (first_end_small f is) (created_pieces f is).within made.represents (no_chunks f is) (new_own f is);
+      past = past_begins f (settled (creating f most v ws stop keep) t) next m is refl pieces refl refl refl (record { low = omega (arith, limit.low, kept.1); high = omega (arith, limit.high, kept.1) }) kept.0
+          (writes_end (end_of f) (created_writes f) (created_sizes f is).within) here (no_chunks f is) (own_of f v is index);
     }
 
-creating_last : (f : NewFile) (s : Session) (w : Write) (log : Log) (t : Space) → Freed s.keeps s.places t → Creating f s (w ∷ []) log → Running (settled s t) [] (and_now (shows w) log)
+creating_last : (f : CreatedFile) (s : Session) (w : Write) (log : Log) (t : Space) → Freed s.keeps s.places t → Creating f s (w ∷ []) log → Running (settled s t) [] (and_now (shows w) log)
 creating_last f s w log t freed c =
     let free = subst (λ (x : Session). Freed s.keeps x.places t) c.session freed in
-    let made = file_made f s.pending s.stopped s.keeps w log.events t c.is free c.pieces c.appended c.flushed in
+    let made = file_made f s.places.limit s.index s.pending s.stopped s.keeps w log.events t c.is c.limit c.index free c.pieces c.appended c.flushed in
     subst (λ (l : Log). Running (settled s t) [] (and_now (shows w) l)) (sym c.log_is)
-    (subst (λ (x : Session). Running (settled x t) [] (log_of (shows w ∷ log.events))) (sym c.session) made)
+    (subst (λ (x : Session). Running (settled x t) [] (log_of f (shows w ∷ log.events))) (sym c.session) made)
 
 -- ---- A piece of any session
 
@@ -200,7 +232,7 @@ piece_stands s w (x ∷ xs) t log pending after st =
           let own = subst (λ (vs : List Write). Creating c.0 s vs log) left c.1 in
           let more = creating_more c.0 s w x xs log own in
           let count = shown_so_far c.0 next.events (x ∷ xs) more.pieces in
-          let first : log.first ≡ 5 = ap (λ (l : Log). l.first) c.1.log_is in
+          let first : log.first ≡ length (created_blocks c.0) = ap (λ (l : Log). l.first) c.1.log_is in
           record {
             left = x ∷ xs;
             dropped = inl refl;
@@ -226,6 +258,8 @@ keep_stands s log st = record {
       c.0,
       record {
         is = c.1.is;
+        limit = c.1.limit;
+        index = c.1.index;
         some = c.1.some;
         pieces = c.1.pieces;
         session = ap (λ (x : Session). record x { keeps = true }) c.1.session;
@@ -262,8 +296,14 @@ rows_of_values values rows cols columns count same some =
     let product : length values ≡ rows * columns = count ∙ ap (λ (n : ℕ). rows * n) same in
     ap (λ (n : ℕ). n / columns) (product ∙ omega arith) ∙ div-mul-add rows columns 0 (omega (arith, same))
 
-none_counted : (values : List ℤ) (columns : ℕ) → values ≡ [] → columns ≡ 1 → length values / columns ≡ 0
-none_counted values columns none one = ap (λ (vs : List ℤ). length vs / columns) none ∙ ap (λ (n : ℕ). 0 / n) one
+none_counted : (values : List ℤ) (columns : ℕ) → values ≡ [] → 1 ≤ columns → length values / columns ≡ 0
+none_counted values columns none some =
+    let zero : 0 ≡ 0 * columns + 0 = omega arith in
+    ap (λ (vs : List ℤ). length vs / columns) none ∙ ap (λ (n : ℕ). n / columns) zero ∙ div-mul-add 0 columns 0 (omega arith)
+
+-- a new log has columns
+some_columns : (f : CreatedFile) (log : Log) → IsCreatable f → log ≡ log_of f log.events → 1 ≤ log.columns
+some_columns f log is log_is = let columns : log.columns ≡ f.columns = ap (λ (l : Log). l.columns) log_is in omega (arith, columns, is.some_columns)
 
 pub rows_told : (s : Session) (log : Log) → 1 ≤ s.dataset.shape.cols → Stands s log → rows_in log (appended log) ≡ rows_of s
 rows_told s log some st =
@@ -271,7 +311,7 @@ rows_told s log some st =
       | inl c ↦
           let base : log.values ≡ [] = ap (λ (l : Log). l.values) c.1.log_is in
           let none : appended log ≡ [] = ap (λ (vs : List ℤ). vs ++ appended_in log.events) base ∙ c.1.appended in
-          none_counted (appended log) log.columns none (ap (λ (l : Log). l.columns) c.1.log_is) ∙ sym (ap rows_of c.1.session)
+          none_counted (appended log) log.columns none (some_columns c.0 log c.1.is c.1.log_is) ∙ sym (ap rows_of c.1.session)
       | inr r ↦
           let cols = s.dataset.shape.cols in
           let rows = s.dataset.shape.rows in
@@ -287,7 +327,7 @@ committed_told s log st =
       | inl c ↦
           let base : log.values ≡ [] = ap (λ (l : Log). l.values) c.1.log_is in
           let none : flushed log ≡ [] = ap (λ (vs : List ℤ). flushed_in 0 vs log.events) base ∙ c.1.flushed 0 in
-          none_counted (flushed log) log.columns none (ap (λ (l : Log). l.columns) c.1.log_is) ∙ sym (ap (λ (x : Session). x.committed) c.1.session)
+          none_counted (flushed log) log.columns none (some_columns c.0 log c.1.is c.1.log_is) ∙ sym (ap (λ (x : Session). x.committed) c.1.session)
       | inr r ↦ r.committed
     ]
 

@@ -3,23 +3,24 @@ use Rattle.std.proofs.Common.{◌≡◌, ℕ, zero, suc, ◌<◌, ◌≤◌, Boo
 use Rattle.std.specs.Option.{MatchOption}
 use Rattle.std.specs.Prelude.{IfOk, OnErr, OnOk}
 use Rattle.std.proofs.lemmas.Bool.{lt-ltb}
+use Rattle.h5w_model.specs.Datasets.{Described}
 use Rattle.h5w_model.specs.Logs.{Log, and_now, load, plans}
 use Rattle.h5w_model.specs.declared.piece.Write.{Write}
 use Rattle.h5w_model.specs.declared.root.Super.{Super}
 use Rattle.h5w_space.specs.declared.Full.{Full}
-use Rattle.h5w_session.specs.Sessions.{AllEndBy, IsSession, Session, TakesRows, cutting_of, rows_of, with_rows, IsNamed}
+use Rattle.h5w_header_laws.specs.Files.{with_index}
+use Rattle.h5w_index.proofs.PlacingLemmas.{placing_laws}
+use Rattle.h5w_session.specs.Sessions.{AllEndBy, IsNamed, IsSession, Session, TakesRows, cutting_of, rows_of, with_rows}
 use Rattle.h5w_session.specs.Loads.{NoPlace}
 use Rattle.h5w_session.specs.Flushes.{IsFlushed, SameBut, header_piece}
 use Rattle.h5w_session.specs.Refusals.{IsFullFor, flush_refusal}
 use Rattle.h5w_session.specs.Stands.{Stands}
+use Rattle.h5w_session.specs.Starts.{HasFlushed, IsStartFlushed, naming_piece}
 use Rattle.h5w_session.specs.declared.refusal.FlushError.{FlushError}
 use Rattle.h5w_session.specs.declared.refusal.FlushError.TheVariants as flushes
+use Rattle.h5w_session.proofs.FlushLemmas.{told_of}
 use Rattle.h5w_session.proofs.FlushStands.{refused_stands}
-use Rattle.h5w_session.proofs.FlushedLemmas.{plan_ends}
 use Rattle.h5w_session.proofs.StartLoads.{any_bound, any_carries, full_no_place}
-use Rattle.h5w_session.specs.Starts.{HasFlushed, IsStartFlushed, naming_piece}
-use Rattle.h5w_header_laws.specs.Files.{with_index}
-use Rattle.h5w_model.specs.Datasets.{Described}
 
 -- ---- Where a flush is not refused at once
 
@@ -52,12 +53,14 @@ is_idle s r is ok =
 
 some_pieces : (old new : Session) → IsFlushed old new → 1 ≤ length new.pending
 some_pieces old new x =
-    let fixed = x.fixed ++ header_piece old ∷ [] in
-    omega (arith, ap length x.pending, length-append x.rows (x.copies ++ (x.supers ++ fixed)), length-append x.copies (x.supers ++ fixed), length-append x.supers fixed, length-append x.fixed (header_piece old ∷ []))
+    let p = x.planned in
+    let fixed = p.fixed ++ header_piece old ∷ [] in
+    omega (arith, ap length x.pending, length-append p.rows (p.copies ++ (p.supers ++ fixed)), length-append p.copies (p.supers ++ fixed), length-append p.supers fixed, length-append p.fixed (header_piece old ∷ []))
 
-takes_rows : (old new : Session) → IsSession old → IsFlushed old new → TakesRows old new
-takes_rows old new is x =
-    let ends = plan_ends x.held x.named.array x.between x.moves x.copies x.fixed new.index new.places x.plan in
+takes_rows : (old new : Session) → IsFlushed old new → TakesRows old new
+takes_rows old new x =
+    let told = told_of old old.index old.places new.index new.places x.planned in
+    let placing = x.planned.placing in
     let root : new.root ≡ record (old.root) { end = new.places.end } = ap (λ (s : Session). s.root) x.session in
     let dataset : new.dataset ≡ with_rows (rows_of old) old.dataset = ap (λ (s : Session). s.dataset) x.session in
     record {
@@ -71,18 +74,20 @@ takes_rows old new is x =
       committed = ap (λ (s : Session). s.committed) x.session;
       stopped = ap (λ (s : Session). s.stopped) x.session;
       keeps = ap (λ (s : Session). s.keeps) x.session;
-      limit = ends.0 ∙ x.raised.limit;
-      rises = omega (arith, x.raised.rises, x.plan.end);
+      limit = told.limit ∙ placing.raised.limit;
+      rises = omega (arith, placing.raised.rises, told.rises);
     }
 
 started_pieces : (old new : Session) → IsStartFlushed old new → 1 ≤ length new.pending
 started_pieces old new x =
-    let supers = x.supers ++ naming_piece old x.at ∷ [] in
-    omega (arith, ap length x.pending, length-append x.rows (x.copies ++ (x.fixed ++ supers)), length-append x.copies (x.fixed ++ supers), length-append x.fixed supers, length-append x.supers (naming_piece old x.at ∷ []))
+    let p = x.planned in
+    let supers = p.supers ++ naming_piece old x.at ∷ [] in
+    omega (arith, ap length x.pending, length-append p.rows (p.copies ++ (p.fixed ++ supers)), length-append p.copies (p.fixed ++ supers), length-append p.fixed supers, length-append p.supers (naming_piece old x.at ∷ []))
 
-starts_rows : (old new : Session) → IsSession old → IsStartFlushed old new → TakesRows old new
-starts_rows old new is x =
-    let ends = plan_ends x.held x.named.array x.between x.moves x.copies x.fixed new.index new.places x.plan in
+starts_rows : (old new : Session) → IsStartFlushed old new → TakesRows old new
+starts_rows old new x =
+    let told = told_of old x.made x.first new.index new.places x.planned in
+    let placing = x.planned.placing in
     let root : new.root ≡ record (old.root) { end = new.places.end } = ap (λ (s : Session). s.root) x.session in
     let dataset : new.dataset ≡ with_index x.at (with_rows (rows_of old) old.dataset) = ap (λ (s : Session). s.dataset) x.session in
     record {
@@ -96,41 +101,53 @@ starts_rows old new is x =
       committed = ap (λ (s : Session). s.committed) x.session;
       stopped = ap (λ (s : Session). s.stopped) x.session;
       keeps = ap (λ (s : Session). s.keeps) x.session;
-      limit = ends.0 ∙ x.raised.limit ∙ x.start.raised.limit;
-      rises = omega (arith, x.start.raised.rises, x.raised.rises, x.plan.end);
+      limit = told.limit ∙ placing.raised.limit ∙ x.start.raised.limit;
+      rises = omega (arith, x.start.raised.rises, placing.raised.rises, told.rises);
     }
 
--- where the layout named the array the rows alone are others
-pub takes_named : (old new : Session) → TakesRows old new → IsNamed old.dataset → new.dataset ≡ with_rows (rows_of old) old.dataset
-takes_named old new x named = x.dataset ∙ ap (λ (n : ℕ). with_index n (with_rows (rows_of old) old.dataset)) (x.address named)
-
-any_rows : (old new : Session) → IsSession old → HasFlushed old new → TakesRows old new
-any_rows old new is (inl x) = takes_rows old new is x
-any_rows old new is (inr x) = starts_rows old new is x
+any_rows : (old new : Session) → HasFlushed old new → TakesRows old new
+any_rows old new (inl x) = takes_rows old new x
+any_rows old new (inr x) = starts_rows old new x
 
 any_pieces : (old new : Session) → HasFlushed old new → 1 ≤ length new.pending
 any_pieces old new (inl x) = some_pieces old new x
 any_pieces old new (inr x) = started_pieces old new x
 
-pub told_rows : (old new : Session) (r : Result ℕ FlushError) → IsSession old → OnOk r (HasFlushed old new) → OnOk r (TakesRows old new)
-told_rows old new (Ok n) is x = any_rows old new is x
-told_rows old new (Err e) is x = tt
+-- where the layout named the index the rows alone are others
+pub takes_named : (old new : Session) → TakesRows old new → IsNamed old.dataset → new.dataset ≡ with_rows (rows_of old) old.dataset
+takes_named old new x named = x.dataset ∙ ap (λ (n : ℕ). with_index n (with_rows (rows_of old) old.dataset)) (x.address named)
+
+pub told_rows : (old new : Session) (r : Result ℕ FlushError) → OnOk r (HasFlushed old new) → OnOk r (TakesRows old new)
+told_rows old new (Ok n) x = any_rows old new x
+told_rows old new (Err e) x = tt
 
 pub told_some : (old new : Session) (r : Result ℕ FlushError) → OnOk r (HasFlushed old new) → IfOk r (λ n. n ≡ length new.pending) → IfOk r (λ n. 1 ≤ n)
 told_some old new (Ok n) x count = omega (arith, any_pieces old new x, count)
 told_some old new (Err e) x count = tt
+
+-- ---- A flush that is refused
+
+-- a session that is as it was is so but for places that are held
+pub told_same : (old new : Session) (r : Result ℕ FlushError) → IsSession old → OnErr r (new ≡ old) → OnErr r (SameBut old new)
+told_same old new (Ok n) is same = tt
+told_same old new (Err e) is same =
+    let none = placing_laws.none old.dataset (rows_of old) old.index old.places old.places is.sound refl refl refl refl in
+    let own : SameBut old old = record { session = refl; held = none.partly; unnamed = λ unnamed. refl } in
+    subst (λ (s : Session). SameBut old s) (sym same) own
+
+pub told_left : (old new : Session) (r : Result ℕ FlushError) → IsIdle old → OnErr r (SameBut old new) → OnErr r ((log : Log) → Stands old log → Stands new log)
+told_left old new (Ok n) i kept = tt
+told_left old new (Err e) i kept = λ log stands. refused_stands old new log kept i.running i.idle stands
+
+-- ---- What a flush of some rows takes
 
 pub told_stands : (old new : Session) (r : Result ℕ FlushError) → IsIdle old → OnOk r (HasFlushed old new) → OnOk r (AllEndBy new.places.end new.pending) → IfOk r (λ n. n ≡ length new.pending)
     → IfOk r (λ n. (log : Log) → Stands old log → Stands new (and_now (plans n) log))
 told_stands old new (Ok n) i x ends count = λ log stands. subst (λ (k : ℕ). Stands new (and_now (plans k) log)) (sym count) (any_carries old new log x i.running i.idle ends stands)
 told_stands old new (Err e) i x ends count = tt
 
-pub told_left : (old new : Session) (r : Result ℕ FlushError) → IsIdle old → OnErr r (SameBut old new) → OnErr r ((log : Log) → Stands old log → Stands new log)
-told_left old new (Ok n) i kept = tt
-told_left old new (Err e) i kept = λ log stands. refused_stands old new log kept i.running i.idle stands
-
 pub told_bound : (old new : Session) (r : Result ℕ FlushError) → IsIdle old → OnOk r (HasFlushed old new) → IfOk r (λ n. n ≡ length new.pending) → IfOk r (λ n. (log : Log) → Stands old log → n ≤ load (cutting_of old) log)
-told_bound old new (Ok n) i x count = λ log stands. omega (arith, count, any_bound old new log x i.running i.idle stands)
+told_bound old new (Ok n) i x count = λ log stands. subst (λ (k : ℕ). k ≤ load (cutting_of old) log) (sym count) (any_bound old new log x i.running i.idle stands)
 told_bound old new (Err e) i x count = tt
 
 pub told_bounds : (s : Session) (r : Result ℕ FlushError) → IsIdle s → 0 < s.waits → ((full : Full) → r ≡ Err (flushes.Space full) → IsFullFor s full)

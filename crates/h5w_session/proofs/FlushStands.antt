@@ -2,26 +2,26 @@
 use Rattle.std.proofs.Common.{◌≡◌, ℕ, ◌*◌, Bool, false, List, [], ◌∷◌, ◌++◌, length, ℤ, refl, sym, ap, ◌∙◌, subst, inl, inr, arith, append-nil}
 use Rattle.std.specs.Prelude.{if◌then◌else◌}
 use Rattle.std.proofs.lemmas.Bool.{le-leb}
-use Rattle.h5w_model.specs.Logs.{Log, plans, appended, appended_in, flushed_in, and_now}
-use Rattle.h5w_model.specs.Findings.{chunk_bytes}
+use Rattle.h5w_model.specs.Logs.{Log, load, plans, appended, appended_in, flushed_in, and_now}
 use Rattle.h5w_model.specs.declared.piece.Write.{Write}
-use Rattle.h5w_cache.specs.Stores.{Store}
-use Rattle.h5w_array_laws.specs.Parts.{header, number_of}
+use Rattle.h5w_model.specs.Numbers.{undefined}
 use Rattle.h5w_steps.specs.Logs.{Goes, image_now}
 use Rattle.h5w_steps.proofs.GoesLemmas.{event_goes}
 use Rattle.h5w_steps.proofs.SessionLaws.{goes_runs}
-use Rattle.h5w_session.specs.Sessions.{Session, rows_of}
-use Rattle.h5w_session.specs.Indexes.{AreMarks, IsKeptIndex}
-use Rattle.h5w_session.specs.Flushes.{AreWays, IsFlushed, SameBut, flushed_of}
+use Rattle.h5w_session.specs.Sessions.{Session, cutting_of, rows_of}
+use Rattle.h5w_index.specs.Views.{IndexView}
+use Rattle.h5w_index.specs.Placing.{IsPartly}
+use Rattle.h5w_index.proofs.PartLemmas.{rests_held}
+use Rattle.h5w_index.proofs.PlacingLemmas.{placing_laws}
+use Rattle.h5w_index.proofs.RaisedLemmas.{raised_more, raised_none}
+use Rattle.h5w_session.specs.Indexes.{IsKeptIndex}
+use Rattle.h5w_session.specs.Flushes.{IsFlushed, SameBut, flushed_of}
 use Rattle.h5w_session.specs.Past.{Past}
 use Rattle.h5w_session.specs.Stands.{Running, Stands}
 use Rattle.h5w_session.proofs.PastLemmas.{like_itself, past_planned, past_same}
-use Rattle.h5w_session.proofs.RaisedLemmas.{raised_more, raised_none}
 use Rattle.h5w_session.proofs.StandLemmas.{goes_rows, left_running, resting}
-use Rattle.h5w_session.proofs.FlushLemmas.{after_flush, flush_running, same_ranges}
-use Rattle.h5w_starting_laws.proofs.StartLemmas.{blank_held}
-use Rattle.h5w_array_laws.specs.ArrayStores.{IsArray}
-use Rattle.h5w_ea_index.specs.Steps.{IsHeld}
+use Rattle.h5w_session.proofs.FlushLemmas.{after_flush, flush_running}
+use Rattle.h5w_model.specs.Datasets.{Described}
 use Rattle.h5w_model.specs.declared.cell.Key.{Key}
 use Rattle.h5w_steps.specs.Moments.{Moment}
 use Rattle.h5w_space.specs.Space.{Space}
@@ -83,7 +83,7 @@ nothing_running s log none r =
       appended = r.appended;
       committed = goes_rows s.name next m m.behind later ∙ sym (goes_rows s.name log m m.behind goes) ∙ r.committed;
       columns = r.columns;
-      past = past_planned s s 0 [] log m m (like_itself s) (raised_more s.places s.places 0 _ (omega arith) (raised_none s.places s.places refl refl)) tt r.past.next r.past;
+      past = past_planned s s 0 [] log m m (like_itself s) (raised_more s.places s.places 0 (load (cutting_of s) log) (omega arith) (raised_none s.places s.places refl refl)) tt r.past.next r.past;
     }
 
 -- a flush of no rows plans no pieces
@@ -95,27 +95,11 @@ nothing_stands s log running idle none st =
 
 -- ---- A flush is refused
 
-pub ways_marks : (s : Session) (v : Store) → AreWays s v → AreMarks s.dataset s.dataset.shape.rows (rows_of s) s.index → AreMarks s.dataset s.dataset.shape.rows (rows_of s) v
-ways_marks s v ways marks n changed = elim (ways n changed) [ inl before ↦ marks n before | inr way ↦ way ]
-
--- blocks that are held leave what the array is for the file
-held_kept : (img : List ℕ) (m : Moment) (address : Key → ℕ) (s : Space) (v w : Store) → IsArray w → IsHeld v w → IsKeptIndex img m address s v → IsKeptIndex img m address s w
-held_kept img m address s v w array held (inl i) = inl (record {
-  kind = i.kind;
-  at = i.at ∙ sym (held.places (number_of header));
-  array = array;
-  stands = held.stands img i.stands;
-  standing = held.standing s i.standing;
-  fixed = i.fixed ∙ sym (same_ranges v w held.places);
-  behind = i.behind ∙ sym (held.behind (chunk_bytes m.dataset));
-  map = λ key. i.map key ∙ sym (held.map key.i);
-})
-held_kept img m address s v w array held (inr none) = inr (record {
-  unnamed = none.unnamed;
-  array = array;
-  blank = blank_held v w none.blank held.map held.places held.behind;
-  map = λ key. none.map key ∙ sym (held.map key.i);
-})
+-- places that are held leave what the index is for the file; where the file has none yet, it stays
+held_kept : (img : List ℕ) (m : Moment) (address : Key → ℕ) (s : Space) (d : Described) (to : ℕ) (v w : IndexView) → IsPartly d to v [] w → (m.dataset.layout.address ≡ undefined → w ≡ v) → IsKeptIndex img m address s v
+    → IsKeptIndex img m address s w
+held_kept img m address s d to v w held still (inl i) = inl (rests_held img m address s v w (placing_laws.kept d to v w held) i)
+held_kept img m address s d to v w held still (inr none) = subst (λ (u : IndexView). IsKeptIndex img m address s u) (sym (still none.unnamed)) (inr none)
 
 refused_running : (old new : Session) (log : Log) → SameBut old new → Running old [] log → Running (record old { index = new.index }) [] log
 refused_running old new log b r = record {
@@ -124,8 +108,10 @@ refused_running old new log b r = record {
   runs = r.runs;
   knows = r.knows;
   keeps = record { root = r.keeps.root; place = r.keeps.place; dataset = r.keeps.dataset; header = r.keeps.header };
-  index = held_kept (image_now log) r.after r.address old.places old.index new.index b.array b.held r.index;
-  marks = ways_marks old new.index b.ways r.marks;
+  index =
+      held_kept (image_now log) r.after r.address old.places old.dataset (rows_of old) old.index new.index b.held
+      (λ none. b.unnamed (ap (λ (d : Described). d.layout.address) (sym r.keeps.dataset) ∙ none)) r.index;
+  marks = b.held.marks r.marks;
   more = r.more;
   waiting = r.waiting;
   fit = r.fit;
@@ -133,7 +119,7 @@ refused_running old new log b r = record {
   appended = r.appended;
   committed = r.committed;
   columns = r.columns;
-  past = past_same old (record old { index = new.index }) [] log r.after (record { name = refl; place = refl; dataset = refl; address = λ named. refl; limit = refl; own = b.own }) refl r.past;
+  past = past_same old (record old { index = new.index }) [] log r.after (record { name = refl; place = refl; dataset = refl; address = λ named. refl; limit = refl; own = b.held.own }) refl r.past;
 }
 
 pub refused_stands : (old new : Session) (log : Log) → SameBut old new → old.stopped ≡ false → old.pending ≡ [] → Stands old log → Stands new log

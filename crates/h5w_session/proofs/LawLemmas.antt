@@ -1,14 +1,14 @@
 -- What a session's relation to its log gives.
-use Rattle.std.proofs.Common.{◌≡◌, ◌⊎◌, ℕ, suc, ◌^◌, ◌≤◌, false, nat_lt, List, [], ◌∷◌, length, take, Option, Ok, Err, refl, ap, sym, ◌∙◌, subst, inl, inr, arith}
+use Rattle.std.proofs.Common.{◌≡◌, ◌⊎◌, ℕ, suc, ◌-◌, ◌*◌, ◌/◌, ◌^◌, ◌<◌, ◌≤◌, false, nat_lt, List, [], ◌∷◌, length, take, Option, Ok, Err, refl, ap, sym, ◌∙◌, subst, inl, inr, arith}
 use Rattle.std.proofs.lemmas.Bool.{cases_lt, cond-false, le-ltb, lt-ltb, ltb-false}
 use Rattle.std.specs.Prelude.{IsSome}
 use Rattle.h5w_model.specs.Arrays.{numbers_in}
 use Rattle.h5w_model.specs.Images.{At}
 use Rattle.h5w_model.specs.Numbers.{range}
 use Rattle.h5w_model.specs.Programs.{Visit, eval, ret, and_then, visits}
-use Rattle.h5w_model.specs.Logs.{Log, Happening, flushed, hist, rows_in, shown}
+use Rattle.h5w_model.specs.Logs.{Log, Happening, div_up, flushed, hist, rows_in, shown}
 use Rattle.h5w_model.specs.Datasets.{Described, dataset, dataset_place, root_header, root_view}
-use Rattle.h5w_model.specs.Tables.{Limits, Reading, Shows, format_limits, limit_of, needed, needed_keys, needed_table, table_of}
+use Rattle.h5w_model.specs.Tables.{Limits, chunks_across, Reading, Shows, format_limits, limit_of, needed, needed_keys, needed_table, table_of}
 use Rattle.h5w_model.specs.Prefixed.{EachReads, Held, IsPosition, Keeps, Prefixed, ReadsNow, continuation_blocks, image_at, root_address}
 use Rattle.h5w_model.specs.declared.cell.IndexKind.{IndexKind}
 use Rattle.h5w_model.specs.declared.piece.Write.{Write}
@@ -23,6 +23,7 @@ use Rattle.h5w_steps.proofs.FoundLemmas.{moment_shows, opens, shown_is}
 use Rattle.h5w_steps.proofs.GoesLemmas.{reads_now}
 use Rattle.h5w_steps.proofs.MomentLemmas.{few}
 use Rattle.h5w_steps.specs.Logs.{image_now}
+use Rattle.h5w_chunks.specs.Shares.{touched}
 use Rattle.h5w_cache.specs.Blocks.{BlockView}
 use Rattle.h5w_cache.specs.Plans.{bytes_of}
 use Rattle.h5w_cache.specs.StoreLaws.{AreThere}
@@ -31,25 +32,32 @@ use Rattle.h5w_array_laws.specs.Parts.{IsPart, Part, header, number_of}
 use Rattle.h5w_array_laws.specs.ArrayStores.{IsArray, IsBlock, IsWhole, block_at_part, bytes_at_part, header_place, place_at_part}
 use Rattle.h5w_array_laws.proofs.KeptLemmas.{is_some_of, of_some}
 use Rattle.h5w_flush_laws.specs.Knowledge.{IsMap}
-use Rattle.h5w_session.specs.Creations.{NewFile, array_place, new_dataset, root_place}
-use Rattle.h5w_session.specs.Indexes.{AreMarks, IsOwn, address_in}
+use Rattle.h5w_index.specs.Views.{IndexView, an_array, address_in}
+use Rattle.h5w_index.specs.Flushes.{Rests}
+use Rattle.h5w_index.specs.Marks.{IsMarked}
+use Rattle.h5w_index.specs.Placing.{IsOwn, IsOwnArray}
+use Rattle.h5w_creation_laws.specs.CreatedFiles.{CreatedFile, IsCreatable, created_blocks, created_moment, described_of, index_place, root_place}
+use Rattle.h5w_creation_laws.proofs.CreatedLaws.{created_sizes}
 use Rattle.h5w_session.specs.Laws.{IsDatasetOf, RoomStays, SaysNumbers, ShownLaws, StandingLaws}
 use Rattle.h5w_session.specs.Past.{HasCreated, HasOpened, IsNew, Past, most_of}
 use Rattle.h5w_session.specs.Sessions.{Session, chunk_limit, rows_of, with_rows, IsNamed}
 use Rattle.h5w_session.specs.Stands.{Creating, Running, Stands}
-use Rattle.h5w_session.proofs.BeginLemmas.{beginning, since_first}
-use Rattle.h5w_session.proofs.CreatedLemmas.{first_end_small, new_image, new_moment}
-use Rattle.h5w_session.proofs.CreatingLemmas.{committed_told, new_own, rows_told, shown_so_far, some_length}
-use Rattle.h5w_session.proofs.PastLemmas.{ends_front, ends_take, image_ends, new_end, new_named}
+use Rattle.h5w_session.proofs.BeginLemmas.{beginning, new_image, since_first}
+use Rattle.h5w_session.proofs.CreatingLemmas.{committed_told, own_of, rows_told, shown_so_far, some_length}
+use Rattle.h5w_session.proofs.PastLemmas.{ends_front, ends_take, image_ends, new_end, new_named, some_blocks}
 use Rattle.h5w_session.proofs.StandLemmas.{freed_keeps, goes_rows, left_running, resting}
 use Rattle.h5w_session.proofs.IndexLemmas.{kept_named}
 
 -- ---- How a log began
 
+-- a file's layout names its index
+index_low : (f : CreatedFile) → IsCreatable f → index_place f ≤ 1024
+index_low f is = let end = (created_sizes f is).end in omega (arith, end)
+
 -- what both phases tell of the dataset and the limit
 record Started (s : Session) (log : Log) : Type 0 where
   begun : IsNew log ⊎ HasOpened s log
-  column : s.dataset.shape.cols ≡ 1
+  some : 0 < s.dataset.shape.cols
   columns : log.columns ≡ s.dataset.shape.cols
   limit : s.places.limit ≤ 2 ^ 40
 
@@ -58,26 +66,21 @@ started s log st =
     elim st.phase [
       | inl c ↦
           let f = c.0 in
-          let new : s.dataset ≡ new_dataset f = ap (λ (x : Session). x.dataset) c.1.session in
-          let one : s.dataset.shape.cols ≡ 1 = ap (λ (d : Described). d.shape.cols) new in
-          let limit : s.places.limit ≡ f.limit = ap (λ (x : Session). x.places.limit) c.1.session in
+          let cols : s.dataset.shape.cols ≡ f.columns = ap (λ (x : Session). x.dataset.shape.cols) c.1.session in
           record {
-            begun = inl c.1.log_is;
-            column = one;
-            columns = ap (λ (l : Log). l.columns) c.1.log_is ∙ sym one;
-            limit = omega (arith, limit, c.1.is.limit_high);
+            begun = inl (record { file = f; is = c.1.is; log_is = c.1.log_is });
+            some = omega (arith, cols, c.1.is.some_columns);
+            columns = ap (λ (l : Log). l.columns) c.1.log_is ∙ sym cols;
+            limit = c.1.limit.high;
           }
       | inr r ↦
           record {
-            begun = elim r.past.begun [ inl b ↦ inl b.log_is | inr b ↦ inr b ];
-            column = r.past.counted.column;
+            begun = elim r.past.begun [ inl b ↦ inl (record { file = b.file; is = b.is; log_is = b.log_is }) | inr b ↦ inr b ];
+            some = r.past.counted.columns;
             columns = sym r.columns;
             limit = r.past.limit_high;
           }
     ]
-
-one_column : (s : Session) (log : Log) → Stands s log → s.dataset.shape.cols ≡ 1
-one_column s log st = (started s log st).column
 
 -- ---- What a log is
 
@@ -115,9 +118,9 @@ pub standing_laws : StandingLaws
 standing_laws = record {
   begun = λ s log st. (started s log st).begun;
   columns = λ s log st. (started s log st).columns;
-  some_columns = λ s log st. omega (arith, one_column s log st);
+  some_columns = λ s log st. (started s log st).some;
   flushed_rows = λ s log st. sym (committed_told s log st);
-  appended_rows = λ s log st. sym (rows_told s log (omega (arith, one_column s log st)) st);
+  appended_rows = λ s log st. sym (rows_told s log (let some = (started s log st).some in omega (arith, some)) st);
   prefixed = stands_prefixed;
   still = λ s log st. st.still;
   held = stands_held;
@@ -130,11 +133,11 @@ standing_laws = record {
 -- ---- What an image shows at a position
 
 -- before the first position there is none
-none_yet : (f : NewFile) (s : Session) (left : List Write) (log : Log) (p : ℕ) → Creating f s left log → IsPosition log p → ⊥
+none_yet : (f : CreatedFile) (s : Session) (left : List Write) (log : Log) (p : ℕ) → Creating f s left log → IsPosition log p → ⊥
 none_yet f s left log p c at =
     let count = shown_so_far f log.events left c.pieces in
     let some = some_length left c.some in
-    let first : log.first ≡ 5 = ap (λ (l : Log). l.first) c.log_is in
+    let first : log.first ≡ length (created_blocks f) = ap (λ (l : Log). l.first) c.log_is in
     absurd (omega (arith, count, some, first, at.begun, at.reached, length_hist log.events))
 
 past_at : (s : Session) (log : Log) (p : ℕ) → (st : Stands s log) → IsPosition log p → (m : Moment) × Past s st.left log m
@@ -147,13 +150,13 @@ past_at s log p st at =
 -- a log that is new began with the pieces of a new file
 is_created : (s : Session) (log : Log) → IsNew log → HasCreated s log ⊎ HasOpened s log → HasCreated s log
 is_created s log new (inl b) = b
-is_created s log new (inr b) = let first : log.first ≡ 5 = ap (λ (l : Log). l.first) new in absurd (omega (arith, first, b.first))
+is_created s log new (inr b) = let first : log.first ≡ length (created_blocks new.file) = ap (λ (l : Log). l.first) new.log_is in absurd (omega (arith, first, b.first, some_blocks new.file))
 
 begun_at : (s : Session) (log : Log) (p : ℕ) → Stands s log → IsNew log → IsPosition log p → HasCreated s log
 begun_at s log p st new at = is_created s log new (past_at s log p st at).1.begun
 
 kept_at : (s : Session) (log : Log) (p : ℕ) (r : Reading) → (st : Stands s log) → (new : IsNew log) → (at : IsPosition log p) → Shows format_limits (image_at log p) s.name r
-    → Keeps (new_image (begun_at s log p st new at).file) (reading_of (new_moment (begun_at s log p st new at).file)) (image_at log p) r
+    → Keeps (new_image (begun_at s log p st new at).file) (reading_of (created_moment (begun_at s log p st new at).file)) (image_at log p) r
 kept_at s log p r st new at shows = since_first s log p r (begun_at s log p st new at) (stands_held s log st) at shows
 
 -- the file at a position
@@ -169,9 +172,9 @@ dataset_is s log p r st new at shows =
     let f = b.file in
     let kept = kept_at s log p r st new at shows in
     let described = kept.stays.described in
-    let address : r.dataset.layout.address ≡ array_place f = described.address (λ e. absurd (omega (arith, e, first_end_small f b.is))) in
-    let new : r.dataset ≡ with_rows r.dataset.shape.rows (new_dataset f) =
-    described.rows_alone ∙ ap (λ (a : ℕ). record (with_rows r.dataset.shape.rows (new_dataset f)) { layout = record ((new_dataset f).layout) { address = a } }) address in
+    let address : r.dataset.layout.address ≡ index_place f = described.address (λ e. absurd (omega (arith, e, index_low f b.is))) in
+    let new : r.dataset ≡ with_rows r.dataset.shape.rows (described_of f) =
+    described.rows_alone ∙ ap (λ (a : ℕ). record (with_rows r.dataset.shape.rows (described_of f)) { layout = record ((described_of f).layout) { address = a } }) address in
     let same : r.dataset ≡ with_rows r.dataset.shape.rows s.dataset = new ∙ ap (with_rows r.dataset.shape.rows) (sym b.dataset) in
     record {
       place = kept.stays.place ∙ sym b.place;
@@ -248,26 +251,29 @@ header_alone s log p r st new at shows =
 image_fits : (s : Session) (log : Log) (p : ℕ) → Stands s log → IsNew log → IsPosition log p → length (image_at log p) ≤ s.places.limit
 image_fits s log p st new at =
     let past = (past_at s log p st at).1 in
-    let start : log.start ≡ [] = ap (λ (l : Log). l.start) new in
+    let start : log.start ≡ [] = ap (λ (l : Log). l.start) new.log_is in
     let most = most_of s log in
     let ends = image_ends most log.start (take p (hist log.events)) (omega (arith, ap length start)) (ends_take most p (hist log.events) (ends_front most (hist log.events) st.left past.ends)) in
     omega (arith, ends, new_end log new, past.limit_low)
 
--- ---- The array
+-- ---- The index
 
 -- it is one as it is made here
 own_index : (s : Session) (log : Log) → Stands s log → IsNew log → IsOwn s.index
 own_index s log st new =
     elim st.phase [
-      | inl c ↦ subst IsOwn (sym (ap (λ (x : Session). x.index) c.1.session)) (new_own c.0 c.1.is)
+      | inl c ↦ own_of c.0 s.index c.1.is c.1.index
       | inr r ↦ r.past.own new
     ]
 
--- where no rows wait no block of it changed
-none_changed : (s : Session) (n : ℕ) → s.waits ≡ 0 → AreMarks s.dataset s.dataset.shape.rows (rows_of s) s.index → times n s.index.changed ≡ 0
-none_changed s n none marks =
-    elim (cases_lt 0 (times n s.index.changed)) [
-      | inl some ↦ let way = marks n (lt-ltb 0 (times n s.index.changed) some) in absurd (omega (arith, way.1.some, none))
+-- where no rows wait no block of an array changed
+none_changed : (d : Described) (rows : ℕ) (v : Store) (n : ℕ) → IsMarked d rows rows (an_array v) → times n v.changed ≡ 0
+none_changed d rows v n marks =
+    elim (cases_lt 0 (times n v.changed)) [
+      | inl some ↦
+          let way = marks n (lt-ltb 0 (times n v.changed) some) in
+          let none : touched d rows rows ≡ 0 = cond-false (nat_lt rows rows) ((div_up rows d.layout.chunk_rows - rows / d.layout.chunk_rows) * chunks_across d) 0 (le-ltb rows rows (omega arith)) in
+          absurd (omega (arith, way.1.inside, none))
       | inr few ↦ omega arith
     ]
 
@@ -280,28 +286,30 @@ kept_there v img k is there clean part some =
 named_index : (s : Session) (log : Log) → Stands s log → IsNew log → IsNamed s.dataset
 named_index s log st new none = elim st.phase [
   | inl c ↦
-      let at : s.dataset.layout.address ≡ array_place c.0 = ap (λ (t : Session). t.dataset.layout.address) c.1.session in
-      let small = first_end_small c.0 c.1.is in
-      omega (arith, at, none, small)
+      let at : s.dataset.layout.address ≡ index_place c.0 = ap (λ (t : Session). t.dataset.layout.address) c.1.session in
+      omega (arith, at, none, index_low c.0 c.1.is)
   | inr r ↦ new_named s st.left log r.after new r.past none
 ]
 
-says_numbers : (s : Session) (log : Log) → Stands s log → IsNew log → s.stopped ≡ false → s.pending ≡ [] → s.waits ≡ 0 → SaysNumbers s (image_now log)
-says_numbers s log st new running idle none =
+says_numbers : (s : Session) (log : Log) → Stands s log → IsNew log → s.stopped ≡ false → s.pending ≡ [] → s.waits ≡ 0 → (v : Store) → s.index ≡ an_array v → SaysNumbers s v (image_now log)
+says_numbers s log st new running idle none v e =
     let r = at_rest s log st running idle in
-    let v = s.index in
     let img = image_now log in
-    let own = r.past.own new in
+    let own : IsOwnArray v = subst IsOwn e (r.past.own new) in
     let named : IsNamed s.dataset = new_named s [] log r.after new r.past in
-    let now = kept_named img r.after r.address s.places v (subst IsNamed (sym r.keeps.dataset) named) r.index in
-    let is = now.array in
+    let now = kept_named img r.after r.address s.places s.index (subst IsNamed (sym r.keeps.dataset) named) r.index in
+    let of_array : Rests img r.after r.address s.places (an_array v) = subst (λ (w : IndexView). Rests img r.after r.address s.places w) e now in
+    let is : IsArray v = of_array.sound in
+    let all : rows_of s ≡ s.dataset.shape.rows = omega (arith, none) in
+    let marks : IsMarked s.dataset s.dataset.shape.rows s.dataset.shape.rows (an_array v) =
+    subst (λ (w : IndexView). IsMarked s.dataset s.dataset.shape.rows s.dataset.shape.rows w) e (subst (λ (n : ℕ). IsMarked s.dataset s.dataset.shape.rows n s.index) all r.marks) in
     let top = is_some_of (block_at_part v header) (is.in_place header tt refl).0 in
     let there : (k : Part) → IsPart k → IsSome (block_at_part v k) → At img (place_at_part v k) (bytes_at_part v k) =
-    λ k part some. kept_there v img k is now.stands.there (none_changed s (number_of k) none r.marks) part some in
+    λ k part some. kept_there v img k is of_array.stands.there (none_changed s.dataset s.dataset.shape.rows v (number_of k) marks) part some in
     let len : length (bytes_at_part v header) ≡ 72 = ap (λ (o : Option BlockView). length (bytes_of o)) top.1 ∙ (of_some (IsBlock header) (block_at_part v header) top.0 top.1 (is.each header tt)).len in
     record {
-      address = ap (λ (d : Described). d.layout.address) (sym r.keeps.dataset) ∙ now.at;
-      map = subst (λ (d : Described). IsMap img d (address_in v)) r.keeps.dataset
+      address = ap (λ (d : Described). d.layout.address) (sym r.keeps.dataset) ∙ of_array.at_place;
+      map = subst (λ (d : Described). IsMap img d (λ key. address_in s.index key)) r.keeps.dataset
           (record { blocks = r.knows.index.blocks; read = r.knows.index.read; answers = λ key named. r.knows.index.answers key named ∙ ap (λ (a : ℕ). Ok a) (now.map key) });
       there = there;
       most = own.numbered.max;

@@ -33,11 +33,13 @@ use Rattle.h5w_visits.proofs.RangeLemmas.{among_right}
 use Rattle.h5w_header_laws.proofs.ImageLemmas.{header_read}
 use Rattle.h5w_space.specs.declared.Extent.{Extent}
 use Rattle.h5w_cache.specs.Stores.{Store}
+use Rattle.h5w_cache.specs.StoreLaws.{Standing}
 use Rattle.h5w_cache.specs.Plans.{bytes_in, bytes_of}
 use Rattle.h5w_array_laws.specs.Parts.{Part, data_of, secondary_of, index_block, header, IsPart, length_of, number_of}
 use Rattle.h5w_array_laws.specs.ArrayStores.{IsBlock, block_at_part, blocks_in_place, map_of, place_at_part}
 use Rattle.h5w_array_laws.proofs.KeptLemmas.{is_some_of, of_some}
-use Rattle.h5w_array_flushes.specs.ArrayFlushes.{ArrayRests}
+use Rattle.h5w_index.specs.Views.{an_array}
+use Rattle.h5w_index.specs.Flushes.{Rests}
 use Rattle.h5w_ea_index.specs.Ranges.{block_ranges, each_below, range_of_part, ranges_of_data, ranges_of_super_block}
 use Rattle.h5w_ea_index.proofs.StandingLemmas.{opened_finds}
 use Rattle.h5w_opening.specs.Openings.{Opened, chunk_0_len, closed_super, dataset_found, in_chunk_0, is_open, known, looked_for, place_found, refused_dataset, super_found}
@@ -203,15 +205,18 @@ module _ (img name : List ℕ) (o : Opened) (m : Moment) (is : eval img (looked_
         let here = subst (λ (d : Described). needed d ≤ limit_of format_limits d.layout.index) (dataset_same img name (length img) o m is file) few in
         open_few o.header.dataset (cut_here img name (length img) o m is file) here x.kind
 
-    rests : ArrayRests img m (λ key. map_of v key.i) (record { end = end; limit = 1024; free = []; retired = []; spare = 0 }) v
+    rests : Rests img m (λ key. map_of v key.i) (record { end = end; limit = 1024; free = []; retired = []; spare = 0 }) (an_array v)
     rests = (begins img name (length img) o m is file v x 1024 low (omega arith) (omega arith)).rests
+
+    standing : Standing v (record { end = end; limit = 1024; free = []; retired = []; spare = 0 })
+    standing = rests.stays
 
     placed : (k : Part) → IsPart k → place_at_part v k ≢ undefined → place_at_part v k + length_of k ≤ end
     placed k p ne = elim (some_or_none (block_at_part v k)) [
       | inl some ↦
           let b = is_some_of (block_at_part v k) some in
           let long : length (bytes_in v.blocks (number_of k)) ≡ length_of k = ap (λ q. length (bytes_of q)) b.1 ∙ (of_some (IsBlock k) (block_at_part v k) b.0 b.1 (x.array.each k p)).len in
-          let live = (rests.standing.live (number_of k) (record { kept = some; placed = ne })).within in
+          let live = (standing.live (number_of k) (record { kept = some; placed = ne })).within in
           omega (arith, long, live)
       | inr none ↦ absurd (ne (x.array.unplaced k p none))
     ]

@@ -17,13 +17,13 @@ use Rattle.h5w_steps.specs.Logs.{image_now}
 use Rattle.h5w_steps.proofs.MomentLemmas.{few}
 use Rattle.h5w_flush_laws.proofs.KeyLemmas.{found_table, needed_at}
 use Rattle.h5w_flush_laws.proofs.NewChunkLemmas.{has_number, number_of, some_across}
+use Rattle.h5w_index.specs.Views.{address_in}
 use Rattle.h5w_session.specs.Sessions.{Session, rows_of}
-use Rattle.h5w_session.specs.Indexes.{address_in}
 use Rattle.h5w_session.specs.Flushes.{IsFlushed}
 use Rattle.h5w_session.specs.Past.{AllAddressed, IsNew}
 use Rattle.h5w_session.specs.Stands.{Running}
 use Rattle.h5w_session.proofs.AddressedLemmas.{key_at}
-use Rattle.h5w_session.proofs.FlushLemmas.{after_flush, array_now}
+use Rattle.h5w_session.proofs.FlushLemmas.{after_flush, index_now, others_then, placed_then}
 
 band_low : (n per : ℕ) → n / per ≤ div_up n per
 band_low n zero = omega (arith, div-zero n, div-zero (n + 0 - 1))
@@ -51,13 +51,13 @@ module _ (old new : Session) (log : Log) (x : IsFlushed old new) (r : Running ol
   touched_defined : (key : Key) → key.j < chunks_across old.dataset → old.dataset.shape.rows / old.dataset.layout.chunk_rows ≤ key.i → key.i < div_up (rows_of old) old.dataset.layout.chunk_rows
       → address_in new.index key ≢ undefined
   touched_defined key side low high e =
-      let some : old.dataset.shape.rows < rows_of old = let waits = x.some in omega arith in
+      let some : old.dataset.shape.rows < rows_of old = let waits = x.planned.some in omega arith in
       let has = has_number old.dataset old.dataset.shape.rows (rows_of old) key some side low high in
       let n = number_of old.dataset old.dataset.shape.rows key in
-      let found = slice_get-get_or x.chunks n no_place (omega (arith, has.low, x.named.all)) in
-      let p = get_or x.chunks n no_place in
-      let placed = x.named.placed n p found in
-      placed.defined (sym placed.named ∙ ap (address_in x.held) has.is ∙ sym (x.plan.map key.i) ∙ e)
+      let found = slice_get-get_or x.planned.chunks n no_place (omega (arith, has.low, x.planned.all)) in
+      let p = get_or x.planned.chunks n no_place in
+      let placed = placed_then old old.index old.places new.index new.places x.planned n p found in
+      placed.defined (sym placed.named ∙ ap (λ (k : Key). address_in new.index k) has.is ∙ e)
 
   key_defined : (i j : ℕ) → i < div_up (rows_of old) old.dataset.layout.chunk_rows → j < chunks_across old.dataset → address_in new.index (key_at i j) ≢ undefined
   key_defined i j row side =
@@ -66,7 +66,8 @@ module _ (old new : Session) (log : Log) (x : IsFlushed old new) (r : Running ol
             let d_is = r.keeps.dataset in
             let band : i < bands r.after.dataset = subst (λ (d : Described). i < bands d) (sym d_is) (omega (arith, band_low old.dataset.shape.rows old.dataset.layout.chunk_rows)) in
             let column : j < chunks_across r.after.dataset = subst (λ (d : Described). j < chunks_across d) (sym d_is) side in
-            before_defined i j band column ((array_now old new log x r).map (key_at i j) ∙ sym (x.named.others (key_at i j) (inl less)) ∙ sym (x.plan.map i) ∙ e)
+            let kept = others_then old old.index old.places new.index new.places x.planned (key_at i j) (inl less) in
+            before_defined i j band column ((index_now old new log x r).map (key_at i j) ∙ sym kept ∙ e)
         | inr more ↦ touched_defined (key_at i j) side more row
       ]
 
@@ -78,7 +79,8 @@ module _ (old new : Session) (log : Log) (x : IsFlushed old new) (r : Running ol
       let row = quotient_lt k (bands d) across any below in
       let column = mod-lt k any in
       let split : k ≡ k / across * across + k % across = (row_is k across any).0 in
-      let same = needed_at (address_in new.index) d (k / across) (k % across) row column in
+      let map_then : Key → ℕ = λ key. address_in new.index key in
+      let same = needed_at map_then d (k / across) (k % across) row column in
       let d_is = r.keeps.dataset in
       key_defined (k / across) (k % across) (subst (λ (f : Described). k / across < div_up (rows_of old) f.layout.chunk_rows) d_is row) (subst (λ (f : Described). k % across < chunks_across f) d_is column)
-      (sym same ∙ sym (ap (λ (n : ℕ). get_or (map (address_in new.index) (needed_keys d)) n undefined) split) ∙ e)
+      (sym same ∙ sym (ap (λ (n : ℕ). get_or (map map_then (needed_keys d)) n undefined) split) ∙ e)

@@ -1,5 +1,5 @@
 -- A session over a file that was opened stands for the log without events.
-use Rattle.std.proofs.Common.{◌≡◌, ℕ, ◌*◌, ◌<◌, List, [], ◌++◌, length, ℤ, refl, sym, ap, ◌∙◌, subst, inl, inr, arith}
+use Rattle.std.proofs.Common.{◌≡◌, ℕ, ◌*◌, ◌<◌, ◌≤◌, List, [], ◌∷◌, ◌++◌, length, ℤ, refl, sym, ap, ◌∙◌, subst, inl, inr, arith, length-append}
 use Rattle.h5w_model.specs.Datasets.{Described}
 use Rattle.h5w_model.specs.Findings.{Summary, Valid}
 use Rattle.h5w_model.specs.Logs.{Log}
@@ -9,19 +9,24 @@ use Rattle.h5w_steps.specs.Logs.{Goes}
 use Rattle.h5w_steps.specs.Moments.{Moment, Represents}
 use Rattle.h5w_steps.proofs.MomentLemmas.{super_parts}
 use Rattle.h5w_steps.proofs.SessionLaws.{goes_runs, opened_goes}
-use Rattle.h5w_session.specs.Indexes.{address_in}
+use Rattle.h5w_index.specs.Views.{address_in}
+use Rattle.h5w_index.proofs.MarkLemmas.{mark_laws}
+use Rattle.h5w_creation_laws.specs.CreatedFiles.{CreatedFile, created_blocks, header_block, index_blocks, root_block, super_block}
 use Rattle.h5w_session.specs.Loads.{end_in, first_end_of}
 use Rattle.h5w_session.specs.Openings.{IsOver, OverLaws, opened_log}
 use Rattle.h5w_session.specs.Past.{IsNew, Past}
 use Rattle.h5w_session.specs.Sessions.{Session, rows_of}
 use Rattle.h5w_session.specs.Stands.{Running, Stands}
 use Rattle.h5w_session.proofs.CreatingLemmas.{no_cells}
-use Rattle.h5w_session.proofs.IndexLemmas.{clean_marks}
 use Rattle.h5w_session.proofs.StandLemmas.{flagged_stands, goes_rows}
 
 -- the end-of-file address of what was opened
 first_end_is : (img name : List ℕ) (m : Moment) (columns : ℕ) (values : List ℤ) → Represents img name m → first_end_of (opened_log img columns values) ≡ m.super.end
 first_end_is img name m columns values r = ap end_in (super_parts (length img) (range img 0 48) m.super r.super).read
+
+-- a reader finds a new file behind some pieces
+some_blocks : (f : CreatedFile) → 3 ≤ length (created_blocks f)
+some_blocks f = let count = length-append (index_blocks f.index f) (header_block f ∷ root_block f ∷ super_block f ∷ []) in omega (arith, count)
 
 module _ (s : Session) (img : List ℕ) (rows columns : ℕ) (values : List ℤ) (sm : Summary) (m : Moment) (valid : Valid img s.name sm) (reads : Reads img s.name rows columns values) (some : 0 < columns)
     (same : m.values ≡ values) (goes : Goes s.name (opened_log img columns values) m m.behind) (b : IsOver s img m) where
@@ -29,7 +34,7 @@ module _ (s : Session) (img : List ℕ) (rows columns : ℕ) (values : List ℤ)
   log = opened_log img columns values
 
   not_new : {A : Type 0} → IsNew log → A
-  not_new new = let first : 0 ≡ 5 = ap (λ (l : Log). l.first) new in absurd (omega (arith, first))
+  not_new new = let first : 0 ≡ length (created_blocks new.file) = ap (λ (l : Log). l.first) new.log_is in absurd (omega (arith, first, some_blocks new.file))
 
   past : Past s [] log m
   past =
@@ -50,12 +55,12 @@ module _ (s : Session) (img : List ℕ) (rows columns : ℕ) (values : List ℤ)
   running : Running s [] log
   running = record {
     after = m;
-    address = address_in s.index;
+    address = λ key. address_in s.index key;
     runs = goes_runs s.name log m m.behind goes (λ k. sym same);
     knows = b.knows;
     keeps = b.keeps;
     index = b.index;
-    marks = clean_marks s.dataset s.dataset.shape.rows (rows_of s) s.index b.clean;
+    marks = mark_laws.clean s.dataset s.dataset.shape.rows (rows_of s) s.index b.clean;
     more = [];
     waiting = b.waiting ∙ no_cells s.dataset;
     fit = refl;

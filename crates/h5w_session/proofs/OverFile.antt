@@ -21,8 +21,9 @@ use Rattle.h5w_cache.specs.Stores.{Store}
 use Rattle.h5w_array_laws.specs.ArrayStores.{header_place, IsCreated}
 use Rattle.h5w_array_laws.specs.ArrayImages.{StandsArray}
 use Rattle.h5w_model.specs.declared.cell.IndexKind.TheVariants.{Array}
-use Rattle.h5w_array_flushes.specs.ArrayBegins.{Begins}
-use Rattle.h5w_array_flushes.proofs.ArrayBeginLemmas.{array_begins}
+use Rattle.h5w_index.specs.Views.{an_array}
+use Rattle.h5w_index.specs.Flushes.{Begins}
+use Rattle.h5w_index.proofs.BeginLemmas.{index_begins}
 use Rattle.h5w_ea_index.proofs.StandingLemmas.{opened_stands}
 use Rattle.h5w_found.specs.Walks.{root_header_for, dataset_header_for}
 use Rattle.h5w_header_laws.specs.Files.{chunk_0, LayoutInChunk0}
@@ -70,8 +71,8 @@ counted d c kind =
       few = size.1;
       small = c.chunked.small;
       fill = fill_long d.int_type.size d.fill.value c.filled;
-      column = one.0;
-      across = one.2;
+      columns = omega (arith, one.0);
+      across = subst (λ n. 0 < n) (sym one.2) (omega arith);
     }
 
 -- ---- The file at a moment is what was found
@@ -114,7 +115,7 @@ module _ (img name : List ℕ) (size : ℕ) (o : Opened) (m : Moment) (is : eval
 
   module _ (v : Store) (x : IsArrayOf img o.header.dataset v) (limit : ℕ) (low : first_open o.header.dataset < 131060) (enough : 1024 ≤ limit) (most : limit ≤ 2 ^ 40) where
     abbrev s : Session
-    s = session_over o (chunk_0 img o.place) v name limit
+    s = session_over o (chunk_0 img o.place) (an_array v) name limit
 
     kind : m.dataset.layout.index ≡ Array
     kind = ap (λ (d : Described). d.layout.index) dataset_same ∙ x.kind
@@ -125,38 +126,27 @@ module _ (img name : List ℕ) (size : ℕ) (o : Opened) (m : Moment) (is : eval
     stands : StandsArray v img
     stands = opened_stands img m.super.end (first_open o.header.dataset) m.dataset m.fixed m.behind v file.index kind address low x.array x.clean x.opened
 
-    pub begins : Begins img name m s.places v
+    pub begins : Begins img name m s.places (an_array v)
     begins =
-        array_begins img name m s.places v x.array x.clean stands file kind address
+        index_begins img name m s.places (an_array v) x.array x.clean stands file kind address
         (record { end = sym (ap (λ (t : Super). t.end) super_same); none_free = refl; none_retired = refl })
 
     pub is_over : IsOver s img m
-    is_over =
-        let r = begins.rests in
-        record {
-          knows = begins.knows;
-          keeps = record { root = super_same; place = place_same; dataset = dataset_same; header = refl };
-          index = inl (record {
-            kind = r.kind;
-            at = r.at;
-            array = r.array;
-            stands = r.stands;
-            standing = r.standing;
-            fixed = r.fixed;
-            behind = r.behind;
-            map = r.map;
-          });
-          clean = x.clean;
-          end = sym (ap (λ (t : Super). t.end) super_same);
-          limit_low = enough;
-          limit_high = most;
-          counted = counted o.header.dataset cut_here x.kind;
-          committed = refl;
-          waiting = refl;
-          waits = refl;
-          idle = refl;
-          running = refl;
-        }
+    is_over = record {
+      knows = begins.knows;
+      keeps = record { root = super_same; place = place_same; dataset = dataset_same; header = refl };
+      index = inl begins.rests;
+      clean = x.clean;
+      end = sym (ap (λ (t : Super). t.end) super_same);
+      limit_low = enough;
+      limit_high = most;
+      counted = counted o.header.dataset cut_here x.kind;
+      committed = refl;
+      waiting = refl;
+      waits = refl;
+      idle = refl;
+      running = refl;
+    }
 
   -- ---- The session over a file whose array is not there yet
 
@@ -170,7 +160,7 @@ module _ (img name : List ℕ) (size : ℕ) (o : Opened) (m : Moment) (is : eval
 
   module _ (v : Store) (u : IsUnnamed o.header.dataset) (made : IsCreated 0 0 v) (inside : o.header.in_chunk_0 ≡ true) (limit : ℕ) (enough : 1024 ≤ limit) (most : limit ≤ 2 ^ 40) where
     abbrev begun : Session
-    begun = session_over o (chunk_0 img o.place) v name limit
+    begun = session_over o (chunk_0 img o.place) (an_array v) name limit
 
     blank : IsBlank v
     blank = created_blank 0 0 v made (omega arith) (omega arith)
@@ -185,7 +175,7 @@ module _ (img name : List ℕ) (size : ℕ) (o : Opened) (m : Moment) (is : eval
     is_begun = record {
       knows = subst (λ (f : Key → ℕ). Knows img name m f begun.places) (sym (blank_map v blank)) known.knows;
       keeps = record { root = super_same; place = place_same; dataset = dataset_same; header = refl };
-      index = inr (record { unnamed = unnamed; array = (created_starts 0 0 v made (omega arith) (omega arith)).array; blank = blank; map = λ key. refl });
+      index = inr (record { kind = unnamed.kind; unnamed = unnamed.address; sound = (created_starts 0 0 v made (omega arith) (omega arith)).array; blank = blank; map = λ key. refl });
       clean = made.changed;
       end = sym (ap (λ (t : Super). t.end) super_same);
       limit_low = enough;
@@ -210,26 +200,26 @@ swmr flags = let b = both_set flags in rw (b.0, b.1) refl
 
 pub opened_over : (img name : List ℕ) (size : ℕ) (o : Opened) (v : Store) (limit rows columns : ℕ) (values : List ℤ) (sm : Summary) → eval img (looked_for size name) ≡ Ok o → IsArrayOf img o.header.dataset v
     → first_open o.header.dataset < 131060 → 1024 ≤ limit → limit ≤ 2 ^ 40
-    → super_at (super_bytes (flagged_root (writing_flags o.root.flags) (session_over o (chunk_0 img o.place) v name limit))) ≡ Ok (flagged_root (writing_flags o.root.flags) (session_over o (chunk_0 img o.place) v name limit))
-    → Valid img name sm → Reads img name rows columns values → Stands (opened_session o (chunk_0 img o.place) v name limit) (opened_log img columns values)
+    → super_at (super_bytes (flagged_root (writing_flags o.root.flags) (session_over o (chunk_0 img o.place) (an_array v) name limit))) ≡ Ok (flagged_root (writing_flags o.root.flags) (session_over o (chunk_0 img o.place) (an_array v) name limit))
+    → Valid img name sm → Reads img name rows columns values → Stands (opened_session o (chunk_0 img o.place) (an_array v) name limit) (opened_log img columns values)
 opened_over img name size o v limit rows columns values sm is x low enough most reads_back valid reads =
     let first = opens img name rows columns values sm valid reads in
     let columns_are : o.header.dataset.shape.cols ≡ columns = ap (λ (d : Described). d.shape.cols) (sym (dataset_same img name size o first.0 is first.1)) ∙ first.4 in
     let one = one_column o.header.dataset (cut_here img name size o first.0 is first.1) x.kind in
     let t = over_laws.over img name rows columns values sm valid reads (let c = one.0 in omega arith) in
-    let s : Session = session_over o (chunk_0 img o.place) v name limit in
+    let s : Session = session_over o (chunk_0 img o.place) (an_array v) name limit in
     let stands = t.2 s refl (is_over img name size o t.0 is t.1 v x limit low enough most) in
     over_laws.rewritten s (opened_log img columns values) (writing_flags o.root.flags) false reads_back (swmr o.root.flags) refl refl stands
 
 pub started_over : (img name : List ℕ) (size : ℕ) (o : Opened) (v : Store) (limit rows columns : ℕ) (values : List ℤ) (sm : Summary) → eval img (looked_for size name) ≡ Ok o → IsUnnamed o.header.dataset → IsCreated 0 0 v
     → o.header.in_chunk_0 ≡ true → 1024 ≤ limit → limit ≤ 2 ^ 40
-    → super_at (super_bytes (flagged_root (writing_flags o.root.flags) (session_over o (chunk_0 img o.place) v name limit))) ≡ Ok (flagged_root (writing_flags o.root.flags) (session_over o (chunk_0 img o.place) v name limit))
-    → Valid img name sm → Reads img name rows columns values → Stands (opened_session o (chunk_0 img o.place) v name limit) (opened_log img columns values)
+    → super_at (super_bytes (flagged_root (writing_flags o.root.flags) (session_over o (chunk_0 img o.place) (an_array v) name limit))) ≡ Ok (flagged_root (writing_flags o.root.flags) (session_over o (chunk_0 img o.place) (an_array v) name limit))
+    → Valid img name sm → Reads img name rows columns values → Stands (opened_session o (chunk_0 img o.place) (an_array v) name limit) (opened_log img columns values)
 started_over img name size o v limit rows columns values sm is u made inside enough most reads_back valid reads =
     let first = opens img name rows columns values sm valid reads in
     let columns_are : o.header.dataset.shape.cols ≡ columns = ap (λ (d : Described). d.shape.cols) (sym (dataset_same img name size o first.0 is first.1)) ∙ first.4 in
     let one = one_column o.header.dataset (cut_here img name size o first.0 is first.1) u.kind in
     let t = over_laws.over img name rows columns values sm valid reads (let c = one.0 in omega arith) in
-    let s : Session = session_over o (chunk_0 img o.place) v name limit in
+    let s : Session = session_over o (chunk_0 img o.place) (an_array v) name limit in
     let stands = t.2 s refl (is_begun img name size o t.0 is t.1 v u made inside limit enough most) in
     over_laws.rewritten s (opened_log img columns values) (writing_flags o.root.flags) false reads_back (swmr o.root.flags) refl refl stands

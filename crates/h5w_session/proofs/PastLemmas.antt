@@ -1,8 +1,7 @@
 -- What a session keeps of the past, event by event.
-use Rattle.std.proofs.Common.{◌≡◌, ℕ, zero, suc, ◌+◌, ◌*◌, ◌≤◌, max, ◌⊎◌, Option, Some, None, List, [], ◌∷◌, ◌++◌, length, take, ℤ, refl, sym, ap, ◌∙◌, subst, inl, inr, arith}
+use Rattle.std.proofs.Common.{◌≡◌, ℕ, zero, suc, ◌+◌, ◌≤◌, max, ◌⊎◌, Option, Some, None, List, [], ◌∷◌, ◌++◌, length, take, ℤ, refl, sym, ap, ◌∙◌, subst, inl, inr, arith, length-append}
 use Rattle.std.proofs.lemmas.Bool.{cases_lt}
-use Rattle.std.proofs.lemmas.List.{append_assoc, append-nil, length-replicate, length-take, take-append-le}
-use Rattle.std.proofs.lemmas.Nat.{mul-le}
+use Rattle.std.proofs.lemmas.List.{append_assoc, append-nil, length-map, length-replicate, length-take, take-append-le, take_all}
 use Rattle.std.specs.Prelude.{IfSome, replicate}
 use Rattle.std.specs.Option.{unwrap_or}
 use Rattle.h5w_model.proofs.IntegerLemmas.{int_size_bounds}
@@ -21,14 +20,17 @@ use Rattle.h5w_steps.specs.Sessions.{Runs}
 use Rattle.h5w_steps.proofs.FoundLemmas.{moment_shows}
 use Rattle.h5w_steps.proofs.GoesLemmas.{image_last, image_pushed}
 use Rattle.h5w_steps.proofs.StepRepresents.{step_represents}
-use Rattle.h5w_session.specs.Creations.{IsNewFile, NewFile, creation_writes, first_end, header_place, log_of, new_dataset, array_place}
-use Rattle.h5w_session.specs.Indexes.{IsOwn}
-use Rattle.h5w_session.specs.Loads.{IsRaised, first_end_of}
+use Rattle.h5w_index.specs.Marks.{IsRaised}
+use Rattle.h5w_index.specs.Placing.{IsOwn}
+use Rattle.h5w_creation_laws.specs.CreatedFiles.{CreatedFile, IsCreatable, block_write, created_blocks, created_writes, described_of, end_of, header_block, header_place, index_blocks, index_place, root_block, super_block}
+use Rattle.h5w_creation_laws.proofs.CreatedLaws.{created_sizes}
+use Rattle.h5w_session.specs.Creations.{IsLimit, log_of}
+use Rattle.h5w_session.specs.Loads.{first_end_of}
 use Rattle.h5w_session.specs.Past.{AllAddressed, HasCreated, HasOpened, IsCounted, IsNew, Past, most_of}
 use Rattle.h5w_session.specs.Sessions.{Session, AllEndBy, cutting_of, with_rows, IsNamed}
 use Rattle.h5w_session.proofs.AddressedLemmas.{shown_addressed, step_addressed}
 use Rattle.h5w_header_laws.specs.Files.{with_index}
-use Rattle.h5w_session.proofs.CreatedLemmas.{first_end_small}
+use Rattle.h5w_session.proofs.StateLemmas.{up_some}
 
 -- ---- Lists of writes
 
@@ -60,7 +62,7 @@ spent_in-events c log other (shows w ∷ es) = spent_in-events c log other es
 
 -- ---- How the log began
 
--- Another session with the same name, place, limit and dataset, but for its rows and an index address that was not there, whose array is one
+-- Another session with the same name, place, limit and dataset, but for its rows and an index address that was not there, whose index is one
 -- as it is made here where it was before.
 pub record IsLike (s t : Session) : Type 0 where
   pub name : t.name ≡ s.name
@@ -80,27 +82,26 @@ like_named s t like named = like.dataset ∙ ap (λ (n : ℕ). with_index n (wit
 -- a new file's layout names its index
 pub created_named : (s : Session) (log : Log) → HasCreated s log → IsNamed s.dataset
 created_named s log b none =
-    let at : s.dataset.layout.address ≡ array_place b.file = ap (λ (d : Described). d.layout.address) b.dataset in
-    let small = first_end_small b.file b.is in
+    let at : s.dataset.layout.address ≡ index_place b.file = ap (λ (d : Described). d.layout.address) b.dataset in
+    let small = (created_sizes b.file b.is).end in
     absurd (omega (arith, at, none, small))
 
-first_kept : (f : NewFile) (e : Happening) (es : List Happening) → take 5 (hist es) ≡ creation_writes f → take 5 (hist (e ∷ es)) ≡ creation_writes f
-first_kept f (appends vs) es pieces = pieces
-first_kept f (plans k) es pieces = pieces
-first_kept f (shows w) es pieces =
-    let count : 5 ≤ length (hist es) = omega (arith, ap length pieces, length-take 5 (hist es)) in
-    take-append-le 5 (hist es) (w ∷ []) count ∙ pieces
+first_kept : (first : List Write) (e : Happening) (es : List Happening) → take (length first) (hist es) ≡ first → take (length first) (hist (e ∷ es)) ≡ first
+first_kept first (appends vs) es pieces = pieces
+first_kept first (plans k) es pieces = pieces
+first_kept first (shows w) es pieces =
+    let count : length first ≤ length (hist es) = omega (arith, ap length pieces, length-take (length first) (hist es)) in
+    take-append-le (length first) (hist es) (w ∷ []) count ∙ pieces
 
 created_later : (s t : Session) (e : Happening) (log : Log) → IsLike s t → HasCreated s log → HasCreated t (and_now e log)
 created_later s t e log like b = record {
   file = b.file;
   is = b.is;
   log_is = ap (and_now e) b.log_is;
-  pieces = first_kept b.file e log.events b.pieces;
+  pieces = first_kept (created_writes b.file) e log.events b.pieces;
   name = like.name ∙ b.name;
   place = like.place ∙ b.place;
   dataset = like_named s t like (created_named s log b) ∙ ap (with_rows t.dataset.shape.rows) b.dataset;
-  limit = like.limit ∙ b.limit;
 }
 
 created_still : (s t : Session) (log : Log) → IsLike s t → HasCreated s log → HasCreated t log
@@ -112,7 +113,6 @@ created_still s t log like b = record {
   name = like.name ∙ b.name;
   place = like.place ∙ b.place;
   dataset = like_named s t like (created_named s log b) ∙ ap (with_rows t.dataset.shape.rows) b.dataset;
-  limit = like.limit ∙ b.limit;
 }
 
 opened_still : (s t : Session) (e : Happening) (log : Log) → IsLike s t → HasOpened s log → HasOpened t log × HasOpened t (and_now e log)
@@ -131,25 +131,35 @@ begun_still : (s t : Session) (log : Log) → IsLike s t → HasCreated s log �
 begun_still s t log like (inl b) = inl (created_still s t log like b)
 begun_still s t log like (inr b) = inr (opened_still s t (plans 0) log like b).0
 
+-- a new file has blocks
+pub some_blocks : (f : CreatedFile) → 3 ≤ length (created_blocks f)
+some_blocks f = omega (arith, length-append (index_blocks f.index f) (header_block f ∷ root_block f ∷ super_block f ∷ []))
+
+-- each is one piece
+pub one_each : (f : CreatedFile) → length (created_writes f) ≡ length (created_blocks f)
+one_each f = length-map (created_blocks f) block_write
+
 pub new_named : (s : Session) (ws : List Write) (log : Log) (m : Moment) → IsNew log → Past s ws log m → IsNamed s.dataset
 new_named s ws log m new past =
     elim past.begun [
       | inl b ↦ created_named s log b
-      | inr b ↦ let first : 0 ≡ 5 = sym b.first ∙ ap (λ (l : Log). l.first) new in absurd (omega (arith, first))
+      | inr b ↦
+          let first : 0 ≡ length (created_blocks new.file) = sym b.first ∙ ap (λ (l : Log). l.first) new.log_is in
+          absurd (omega (arith, first, some_blocks new.file))
     ]
 
 -- a dataset is counted with whatever its rows are
 counted_rows : (n : ℕ) (d : Described) → IsCounted d → IsCounted (with_rows n d)
-counted_rows n d c = record { rows = c.rows; cols = c.cols; some = c.some; few = c.few; small = c.small; fill = c.fill; column = c.column; across = c.across }
+counted_rows n d c = record { rows = c.rows; cols = c.cols; some = c.some; few = c.few; small = c.small; fill = c.fill; columns = c.columns; across = c.across }
 
 counted_alike : (s t : Session) → IsLike s t → IsCounted s.dataset → IsCounted t.dataset
 counted_alike s t like c =
     let k = counted_rows t.dataset.shape.rows s.dataset c in
-    subst IsCounted (sym like.dataset) (record { rows = k.rows; cols = k.cols; some = k.some; few = k.few; small = k.small; fill = k.fill; column = k.column; across = k.across })
+    subst IsCounted (sym like.dataset) (record { rows = k.rows; cols = k.cols; some = k.some; few = k.few; small = k.small; fill = k.fill; columns = k.columns; across = k.across })
 
 -- the log is new where it was before
 new_before : (e : Happening) (log : Log) → IsNew (and_now e log) → IsNew log
-new_before e log new = ap (λ (l : Log). record l { events = log.events }) new
+new_before e log new = record { file = new.file; is = new.is; log_is = ap (λ (l : Log). record l { events = log.events }) new.log_is }
 
 -- the rows do not tell how they are cut
 cut_alike : (s t : Session) → IsLike s t → cutting_of t ≡ cutting_of s
@@ -305,46 +315,54 @@ fill_sized : (value : Option (List ℕ)) (size : ℕ) → IfSome value (λ (b : 
 fill_sized None size filled = length-replicate size 0
 fill_sized (Some b) size filled = filled
 
-new_counted : (f : NewFile) → IsNewFile f → IsCounted (new_dataset f)
+new_counted : (f : CreatedFile) → IsCreatable f → IsCounted (described_of f)
 new_counted f is =
-    let sizes = int_size_bounds f.int_type.size is.typed in
-    let most : f.chunk_rows * 1 * f.int_type.size ≤ 65536 * 8 = mul-le (f.chunk_rows * 1) f.int_type.size 65536 8 (omega (arith, is.chunk_bound)) sizes.1 in
-    record { rows = omega (arith, is.some_rows); cols = omega arith; some = omega (arith, sizes.0); few = omega (arith, sizes.1); small = omega (arith, most); fill = fill_sized f.fill.value f.int_type.size is.filled; column = refl; across = refl }
+    let sizes = int_size_bounds f.int_type.size is.int_type in
+    record {
+      rows = omega (arith, is.some_rows);
+      cols = omega (arith, is.some_cols);
+      some = omega (arith, sizes.0);
+      few = omega (arith, sizes.1);
+      small = omega (arith, is.small);
+      fill = fill_sized f.fill.value f.int_type.size is.fill;
+      columns = omega (arith, is.some_columns);
+      across = up_some f.columns f.chunk_cols (omega (arith, is.some_cols)) (omega (arith, is.some_columns));
+    }
 
 -- no file began
 pub new_end : (log : Log) → IsNew log → first_end_of log ≡ 1024
-new_end log is = ap first_end_of is
+new_end log is = ap first_end_of is.log_is
 
-pub past_begins : (f : NewFile) (s : Session) (log : Log) (m : Moment) → IsNewFile f → log ≡ log_of log.events → hist log.events ≡ creation_writes f → s.name ≡ f.name → s.place ≡ header_place f → s.dataset ≡ new_dataset f
-    → s.places.limit ≡ f.limit → s.places.end ≡ first_end f → first_end f ≤ 700 → AllEndBy (first_end f) (creation_writes f) → Represents (image_now log) s.name m → needed m.dataset ≡ 0 → IsOwn s.index → Past s [] log m
-past_begins f s log m is log_is pieces name place dataset limit end small fits here none own =
-    let first : log.first ≡ 5 = ap (λ (l : Log). l.first) log_is in
-    let count : length (hist log.events) ≡ 5 = ap length pieces in
+pub past_begins : (f : CreatedFile) (s : Session) (log : Log) (m : Moment) → IsCreatable f → log ≡ log_of f log.events → hist log.events ≡ created_writes f → s.name ≡ f.name → s.place ≡ header_place f → s.dataset ≡ described_of f
+    → IsLimit s.places.limit → s.places.end ≡ end_of f → AllEndBy (end_of f) (created_writes f) → Represents (image_now log) s.name m → needed m.dataset ≡ 0 → IsOwn s.index → Past s [] log m
+past_begins f s log m is log_is pieces name place dataset limit end fits here none own =
+    let small : end_of f ≤ 1024 = (created_sizes f is).end in
+    let first : log.first ≡ length (created_blocks f) = ap (λ (l : Log). l.first) log_is in
+    let count : length (hist log.events) ≡ length (created_blocks f) = ap length pieces ∙ one_each f in
     let nothing : AllAddressed (reading_of m) = λ k below. absurd (omega (arith, below, none)) in
-    let most : 1024 ≤ most_of s log = omega (arith, limit, is.limit_low) in
+    let began : first_end_of log ≡ 1024 = ap first_end_of log_is in
     record {
       begun = inl (record {
         file = f;
         is = is;
         log_is = log_is;
-        pieces = ap (take 5) pieces;
+        pieces = ap (take (length (created_writes f))) pieces ∙ take_all (length (created_writes f)) (created_writes f) (omega arith);
         name = name;
         place = place;
-        dataset = dataset ∙ ap (λ (d : Described). with_rows d.shape.rows (new_dataset f)) (sym dataset);
-        limit = limit;
+        dataset = dataset ∙ ap (λ (d : Described). with_rows d.shape.rows (described_of f)) (sym dataset);
       });
       counted = subst IsCounted (sym dataset) (new_counted f is);
-      limit_low = omega (arith, limit, is.limit_low);
-      limit_high = omega (arith, limit, is.limit_high);
+      limit_low = limit.low;
+      limit_high = limit.high;
       addressed = λ new p r at seen.
           let now : shown log.events ≤ p = omega (arith, length_hist log.events, count, first, at.begun) in
           shown_addressed (image_now log) s.name m r here nothing (subst (λ (i : List ℕ). Shows format_limits i s.name r) (image_last log p now) seen);
       next = λ new. nothing;
       own = λ new. own;
-      grew = omega (arith, end, small, new_end log log_is);
-      fits = omega (arith, small, end, most);
+      grew = omega (arith, end, small, began);
+      fits = omega (arith, small, end, limit.low);
       ends =
-          let later : AllEndBy (most_of s log) (creation_writes f) = ends_later (first_end f) (most_of s log) (creation_writes f) (omega (arith, small, most)) fits in
+          let later : AllEndBy (most_of s log) (created_writes f) = ends_later (end_of f) (most_of s log) (created_writes f) (omega (arith, small, limit.low)) fits in
           subst (AllEndBy (most_of s log)) (sym (append-nil (hist log.events) ∙ pieces)) later;
     }
 

@@ -1,9 +1,7 @@
--- How many pieces rows have, and blocks.
-use Rattle.std.proofs.Common.{◌≡◌, ℕ, zero, suc, ◌+◌, ◌-◌, ◌*◌, ◌≤◌, Bool, true, false, List, [], ◌∷◌, length, take, drop, arith, length-append}
+-- How many pieces rows have.
+use Rattle.std.proofs.Common.{◌≡◌, ℕ, zero, suc, ◌+◌, ◌-◌, ◌*◌, ◌≤◌, Bool, true, false, List, [], ◌∷◌, length, arith, length-append}
 use Rattle.std.specs.Prelude.{◌==◌, if◌then◌else◌}
 use Rattle.std.proofs.lemmas.Nat.{mul-le}
-use Rattle.std.specs.Prelude.{Option}
-use Rattle.std.proofs.Common.{length-drop, length-take}
 use Rattle.h5w_model.specs.Images.{pieces}
 use Rattle.h5w_model.specs.Datasets.{Described}
 use Rattle.h5w_model.proofs.ImageLemmas.{length-pieces}
@@ -16,12 +14,6 @@ use Rattle.h5w_chunks.proofs.BlockLemmas.{AllLong, AllLong-first, AllLong-next}
 use Rattle.h5w_chunks.proofs.Geometry.{IsCut}
 use Rattle.h5w_chunks.proofs.RowLaws.{length-new_chunk, length-share_rows, own_long}
 use Rattle.h5w_chunks.proofs.WriteLaws.{is_share}
-use Rattle.h5w_cache.specs.Blocks.{BlockView}
-use Rattle.h5w_cache.specs.Plans.{bytes_in}
-use Rattle.h5w_cache.specs.Plans as plans
-use Rattle.h5w_cache.specs.declared.moves.Move.{Move}
-
--- ---- Blocks of rows
 
 -- how many bytes some blocks have
 abbrev total_len : List (ℕ × List ℕ) → ℕ
@@ -83,20 +75,3 @@ from_few d cells from to k (p ∷ ps) cut count known =
 pub new_writes_few : (d : Described) (cells : List ℕ) (from to : ℕ) (places : List ChunkPlace) → IsCut d → length cells ≡ (to - from) * d.shape.cols * d.int_type.size → length places ≡ touched d from to
     → length (new_writes d cells from to places) ≤ length places * chunk_len d
 new_writes_few d cells from to places cut count all = from_few d cells from to 0 places cut count (omega (arith, all))
-
--- ---- Blocks of a plan
-
-pub moved_few : (blocks : List (Option BlockView)) (ms : List Move) → ((n : ℕ) → length (bytes_in blocks n) ≤ 8214) → length (plans.writes_of blocks ms) ≤ length ms * 17
-moved_few blocks [] short = omega arith
-moved_few blocks (m ∷ ms) short =
-    let bytes = bytes_in blocks m.number in
-    let rest = moved_few blocks ms short in
-    let one : length (pieces m.new bytes) ≤ 17 = omega (arith, length-pieces m.new bytes, short m.number) in
-    omega (arith, length-append (pieces m.new bytes) (plans.writes_of blocks ms), one, rest)
-
--- those before the first in place and those from it on, together
-pub split_few : (blocks : List (Option BlockView)) (ms : List Move) (k : ℕ) → k ≤ length ms → ((n : ℕ) → length (bytes_in blocks n) ≤ 8214)
-    → length (plans.writes_of blocks (take k ms)) + length (plans.writes_of blocks (drop k ms)) ≤ length ms * 17
-split_few blocks ms k inside short =
-    let all : length (take k ms) + length (drop k ms) ≡ length ms = omega (arith, length-take k ms, length-drop k ms) in
-    omega (arith, moved_few blocks (take k ms) short, moved_few blocks (drop k ms) short, all)

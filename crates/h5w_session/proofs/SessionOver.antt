@@ -13,7 +13,11 @@ use Rattle.h5w_model.specs.declared.cell.IndexKind.TheVariants.{Array, Tree}
 use Rattle.h5w_laws.proofs.ResultLemmas.{fails, refused_ok, then_ok}
 use Rattle.h5w_cache.specs.Stores.{Store}
 use Rattle.h5w_array_laws.specs.Parts.{header, holder, index_block, slot_offset}
-use Rattle.h5w_array_laws.specs.ArrayStores.{IsArray, address_in, block_at_part, map_of, place_at_part}
+use Rattle.h5w_array_laws.specs.ArrayStores.{IsArray, address_in, block_at_part, fixed_of, map_of, place_at_part}
+use Rattle.h5w_index.specs.Views.{an_array}
+use Rattle.h5w_index.specs.Placing.{AreInside}
+use Rattle.h5w_model.specs.Findings.{Used}
+use Rattle.h5w_visits.specs.Ranges.{AllEndBy}
 use Rattle.h5w_chunks.specs.Grids.{chunk_len}
 use Rattle.h5w_ea_index.specs.Ranges.{block_ranges, each_below, range_of_part, ranges_of_super_block}
 use Rattle.h5w_opening.specs.Openings.{DatasetHeaderFields, IsSaid, Opened, in_chunk_0}
@@ -24,7 +28,7 @@ use Rattle.h5w_session.specs.OpenAnswers.{opened_session, IsKeptArray}
 use Rattle.h5w_session.specs.OpenRanges.{chunk_0_range, cut_at, first_open, first_past, open_blocks, open_chunks, ranges_refused, refused_index, refused_open, chunks_from, is_starting, refused_start, starts_with, header_alone}
 use Rattle.h5w_opening.specs.Openings.{most_chunk_bytes, refused_dataset}
 use Rattle.h5w_session.specs.OpenSteps.{IsCut, IsReady, versioned, IfNamedArray, IsReadyArray}
-use Rattle.h5w_session.specs.Sessions.{AreInside, EndInPlace, IsSession, with_rows}
+use Rattle.h5w_session.specs.Sessions.{IsSession, with_rows}
 use Rattle.h5w_session.proofs.OpenRangeLemmas.{AllBy, by_left, by_range, by_right, chunk_by, map_none, none_past, or_none}
 use Rattle.h5w_session.proofs.SaidLemmas.{one_column, said}
 use Rattle.h5w_session.proofs.StateLemmas.{up_at_most}
@@ -110,6 +114,10 @@ unrefused_parts o a h =
     record { ranges = by_left o.root.end blocks chunks all; chunks = by_right o.root.end blocks chunks all; dataset = two.0; index = two.1 }
 
 -- the blocks in place are among the ranges
+record EndInPlace (end : ℕ) (v : Store) : Type 0 where
+  head : place_at_part v header + 72 ≤ end
+  block : place_at_part v index_block + 298 ≤ end
+
 tops_in : (end : ℕ) (v : Store) → IsArray v → AllBy end (block_ranges v) → EndInPlace end v
 tops_in end v a h =
     let rest = each_below (ranges_of_super_block v) 13 in
@@ -118,6 +126,12 @@ tops_in end v a h =
       head = by_range end (place_at_part v header) 72 (by_left end (range_of_part v header) (range_of_part v index_block) front) (a.in_place header tt refl).1;
       block = by_range end (place_at_part v index_block) 298 (by_right end (range_of_part v header) (range_of_part v index_block) front) (a.in_place index_block tt refl).1;
     }
+
+-- and end by the end
+tops_end : (end : ℕ) (v : Store) → EndInPlace end v → AllEndBy end (fixed_of v)
+tops_end end v t u (inl e) = subst (λ (r : Used). r.place + r.len ≤ end) e t.head
+tops_end end v t u (inr (inl e)) = subst (λ (r : Used). r.place + r.len ≤ end) e t.block
+tops_end end v t u (inr (inr e)) = absurd e
 
 -- ---- What is kept of the index
 
@@ -200,8 +214,9 @@ module _ (o : Opened) (b : List ℕ) (v : Store) (name : List ℕ) (limit : ℕ)
   long (Some u) x p = let t = (tops_in o.root.end u x.0.array p.ranges.1).block in omega arith
   long None x p = long_start d.layout.index d.layout.address o.root.end x.0.kind x.0.address p.ranges.1
 
-  named_inside : (u : Store) → AllBy o.root.end (chunks_from u (chunk_bytes d) (first_open d) (131060 - first_open d)) → AreInside d o.root.end u
-  named_inside u all i from named =
+  named_inside : (u : Store) → AllBy o.root.end (chunks_from u (chunk_bytes d) (first_open d) (131060 - first_open d)) → AreInside d o.root.end (an_array u)
+  named_inside u all key from named =
+      let i = key.i in
       let per = is_cut.chunked.rows in
       let low = open_first d per in
       let few = open_below o.header r.found.said kind in
@@ -215,11 +230,11 @@ module _ (o : Opened) (b : List ℕ) (v : Store) (name : List ℕ) (limit : ℕ)
         | inr le ↦ absurd (ne (ap (λ c. cond c (address_in (block_at_part u (holder k)) (slot_offset k)) undefined) (le-ltb k 131060 le)))
       ]
 
-  inside_by : (a : Option Store) → IsReadyArray d a v → AllBy o.root.end (open_chunks d a) → AreInside d o.root.end v
-  inside_by (Some u) x h = subst (AreInside d o.root.end) (sym x.1) (named_inside u h)
-  inside_by None x h = λ i from named. absurd (named ((created_starts 0 0 v x.1 (omega arith) (omega arith)).map i))
+  inside_by : (a : Option Store) → IsReadyArray d a v → AllBy o.root.end (open_chunks d a) → AreInside d o.root.end (an_array v)
+  inside_by (Some u) x h = subst (λ (w : Store). AreInside d o.root.end (an_array w)) (sym x.1) (named_inside u h)
+  inside_by None x h = λ key from named. absurd (named ((created_starts 0 0 v x.1 (omega arith) (omega arith)).map key.i))
 
-  pub session_is : IsSession (opened_session (versioned o) b v name limit)
+  pub session_is : IsSession (opened_session (versioned o) b (an_array v) name limit)
   session_is =
       let few = (known_says o.header r.found.said).few in
       let same : with_rows (d.shape.rows + 0) d ≡ d = ap (λ n. with_rows n d) (plus_none d.shape.rows) in
@@ -229,16 +244,17 @@ module _ (o : Opened) (b : List ℕ) (v : Store) (name : List ℕ) (limit : ℕ)
         few = subst (λ (x : Described). needed x ≤ limit_of format_limits d.layout.index) (sym same) few;
         version = refl;
         begun = long r.index r.array parts;
-        array = kind;
-        across = one.2;
+        kind = kind;
+        sound = ready_is d r.index v r.array;
+        fits = one.2;
+        held = tt;
         header = r.header_kept.0;
         addressed = λ none. r.header_kept.1 (ready_named d r.index v r.array none);
         header_ends = let t = parts.ranges.0 in let f = r.few in omega arith;
         small = small;
         limit = high;
         inside = inside_by r.index r.array parts.chunks;
-        tops = λ named. tops_by r.index r.array parts.ranges.1 named;
-        blocks = ready_is d r.index v r.array;
+        tops = λ named. tops_end o.root.end v (tops_by r.index r.array parts.ranges.1 named);
       }
     where
       plus_none : (n : ℕ) → n + 0 ≡ n

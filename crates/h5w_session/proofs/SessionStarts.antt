@@ -1,44 +1,108 @@
 -- What holds of every session holds of one that creates its file.
-use Rattle.std.proofs.Common.{◌≡◌, ℕ, ◌+◌, ◌*◌, ◌≤◌, length, refl, ap, arith}
+use Rattle.std.proofs.Common.{◌≡◌, ℕ, ◌+◌, ◌<◌, ◌≤◌, [], ◌∷◌, refl, ap, sym, subst, ◌∙◌, inl, inr, arith}
 use Rattle.h5w_model.specs.Logs.{div_up}
-use Rattle.h5w_model.specs.Messages.{shape_bytes}
-use Rattle.h5w_model.proofs.MessageLemmas.{length-shape_bytes}
-use Rattle.h5w_array_laws.proofs.CreatedLemmas.{created_starts}
+use Rattle.h5w_model.specs.Numbers.{undefined}
+use Rattle.h5w_model.specs.Arrays.{eahd_len, eaib_len}
+use Rattle.h5w_model.specs.Trees.{bthd_len}
+use Rattle.h5w_model.specs.declared.cell.Key.{Key}
+use Rattle.h5w_model.specs.declared.cell.IndexKind.{IndexKind}
+use Rattle.h5w_model.specs.declared.cell.IndexKind.TheVariants.{Array, Tree}
+use Rattle.h5w_model.proofs.MessageLemmas.{length-shape_bytes, shape_rank}
+use Rattle.h5w_visits.specs.Ranges.{AllEndBy as RangesEndBy, block_at}
+use Rattle.h5w_visits.proofs.RangeLemmas.{ends_cons, ends_nil}
+use Rattle.h5w_header_laws.specs.Spelled.{spelled_header}
 use Rattle.h5w_header_laws.proofs.SpelledLemmas.{spelled_read}
-use Rattle.h5w_session.specs.Sessions.{IsSession, IsWritable}
-use Rattle.h5w_session.specs.Creations.{IsNewFile, NewFile, array_place, created, header_write, index_place, new_array, new_dataset}
-use Rattle.h5w_session.proofs.ArrayStarts.{new_array_is}
-use Rattle.h5w_session.proofs.CreatedLemmas.{sizes, spellable}
-use Rattle.h5w_session.proofs.StateLemmas.{up_few}
+use Rattle.h5w_array_laws.specs.Parts.{index_block}
+use Rattle.h5w_array_laws.specs.ArrayStores.{header_place, place_at_part}
+use Rattle.h5w_array_laws.proofs.CreatedLemmas.{created_starts}
+use Rattle.h5w_index.specs.Views.{IndexView, address_in, fixed_of, kind_of}
+use Rattle.h5w_index.specs.Placing.{Fits}
+use Rattle.h5w_index.specs.Depths.{AreWithin}
+use Rattle.h5w_index.proofs.DepthLemmas.{depth_laws}
+use Rattle.h5w_creation_laws.specs.CreatedFiles.{CreatedFile, IsCreatable, block_place, created_writes, described_of, end_of, index_len, index_place}
+use Rattle.h5w_creation_laws.proofs.CreatedLaws.{created_sizes}
+use Rattle.h5w_creation.specs.Made.{IsNewIndex}
+use Rattle.h5w_session.specs.Sessions.{ArePieces, IsSession, IsWritable}
+use Rattle.h5w_session.specs.Creations.{IsIndexOf, IsLimit, created}
+use Rattle.h5w_session.proofs.CreatingLemmas.{no_chunks, writes_end}
+use Rattle.h5w_session.proofs.StateLemmas.{up_some}
 
-writable : (f : NewFile) → IsNewFile f → IsWritable (header_write f).piece
+writable : (f : CreatedFile) → IsCreatable f → IsWritable (spelled_header (described_of f))
 writable f is =
-    let z = sizes f is in
-    let read = spelled_read (new_dataset f) (spellable f is z) in
-    let shape : length (shape_bytes (new_dataset f).shape) ≡ 20 = length-shape_bytes (new_dataset f).shape refl in
-    record { some = omega (arith, z.lens.header); list = _; space = _; read = read.alone; first = refl; long = omega (arith, shape) }
+    let d = described_of f in
+    let z = created_sizes f is in
+    let read = spelled_read d z.spellable in
+    let shape = length-shape_bytes d.shape z.spellable.shape in
+    let rank : 1 ≤ d.shape.rank = elim (shape_rank d.shape z.spellable.shape) [ inl one ↦ omega (arith, one) | inr two ↦ omega (arith, two) ] in
+    record { some = omega (arith, z.header); list = _; space = _; read = read.alone; first = refl; long = omega (arith, shape, rank) }
 
-pub created_is : (f : NewFile) → IsNewFile f → IsSession (created f)
-created_is f is =
-    let z = sizes f is in
-    let bands : div_up 0 f.chunk_rows ≤ 0 = up_few 0 f.chunk_rows is.some_rows in
-    let none : div_up (0 + 0) f.chunk_rows * div_up 1 1 ≡ 0 = ap (λ (n : ℕ). n * div_up 1 1) (let e : div_up (0 + 0) f.chunk_rows ≡ 0 = omega (arith, bands) in e) in
-    let array = new_array_is (array_place f) (index_place f) in
-    let starts = created_starts (array_place f) (index_place f) (new_array (array_place f) (index_place f)) array (omega (arith, z.end)) (omega (arith, z.end)) in
+-- what is true of an index without chunks
+pub record IsEmptyIndex (kind : IndexKind) (end : ℕ) (v : IndexView) : Type 0 where
+  pub is_kind : kind ≡ kind_of v
+  pub held : (bands across : ℕ) → AreWithin bands across v
+  pub map : (key : Key) → address_in v key ≡ undefined
+  pub tops : RangesEndBy end (fixed_of v)
+
+pub empty_index : (k : IndexKind) (at block : ℕ) (v : IndexView) (end : ℕ) → (k ≡ Array → block ≡ at + eahd_len) → at + index_len k ≤ end → at < undefined → block < undefined → IsNewIndex k at block v → IsEmptyIndex k end v
+empty_index Array at block v end behind ends low high new =
+    let c = new.2 in
+    let starts = created_starts at block new.0 c low high in
+    let next : block ≡ at + eahd_len = behind refl in
+    subst (IsEmptyIndex Array end) (sym new.1) (record {
+      is_kind = refl;
+      held = λ bands across. tt;
+      map = λ key. starts.map key.i;
+      tops =
+          let head = block_at (header_place new.0) eahd_len in
+          let body = block_at (place_at_part new.0 index_block) eaib_len in
+          ends_cons end head (body ∷ []) (omega (arith, c.header_at, ends)) (ends_cons end body [] (omega (arith, c.index_at, next, ends)) (ends_nil end));
+    })
+empty_index Tree at block v end behind ends low high new =
+    subst (IsEmptyIndex Tree end) (sym new) (record {
+      is_kind = refl;
+      held = λ bands across. depth_laws.none bands across at;
+      map = λ key. refl;
+      tops = ends_cons end (block_at at bthd_len) [] (omega (arith, ends)) (ends_nil end);
+    })
+
+-- the index of a new file
+pub new_index : (f : CreatedFile) (v : IndexView) → IsCreatable f → IsIndexOf f v → IsEmptyIndex f.index (end_of f) v
+new_index f v is index =
+    let small = (created_sizes f is).end in
+    empty_index f.index (index_place f) (block_place f) v (end_of f) (λ e. refl) (omega arith) (omega (arith, small)) (omega (arith, small)) index.new
+
+new_fits : (f : CreatedFile) (k : IndexKind) (at block : ℕ) (v : IndexView) → IsCreatable f → f.index ≡ k → IsNewIndex k at block v → Fits (described_of f) v
+new_fits f Array at block v is e new =
+    let line = is.line e in
+    let one : div_up f.columns f.chunk_cols ≡ 1 = ap (λ (n : ℕ). div_up n f.chunk_cols) line.1 ∙ ap (λ (n : ℕ). div_up 1 n) line.0 in
+    subst (Fits (described_of f)) (sym new.1) one
+new_fits f Tree at block v is e new = subst (Fits (described_of f)) (sym new) (up_some f.columns f.chunk_cols (omega (arith, is.some_cols)) (omega (arith, is.some_columns)))
+
+pub created_is : (f : CreatedFile) (most : ℕ) (v : IndexView) → IsCreatable f → IsLimit most → IsIndexOf f v → IsSession (created f most v)
+created_is f most v is limit index =
+    let z = created_sizes f is in
+    let none = no_chunks f is in
+    let empty = new_index f v is index in
     record {
-      some_columns = omega arith;
+      some_columns = is.some_columns;
       cells = omega arith;
       few = omega (arith, none);
       version = refl;
       begun = omega arith;
-      array = refl;
-      across = refl;
+      kind = empty.is_kind;
+      sound = index.sound;
+      fits = new_fits f f.index (index_place f) (block_place f) v is refl index.new;
+      held = empty.held _ _;
       header = writable f is;
       addressed = λ none. absurd (omega (arith, none, z.end));
-      header_ends = omega (arith, z.lens.header);
+      header_ends = omega (arith, z.header);
       small = omega (arith, z.end);
-      limit = is.limit_high;
-      inside = λ i from named. absurd (named (starts.map i));
-      tops = λ named. record { head = omega (arith, array.header_at); block = omega (arith, array.index_at) };
-      blocks = starts.array;
+      limit = limit.high;
+      inside = λ key from named. absurd (named (empty.map key));
+      tops = λ named. empty.tops;
     }
+
+pub created_pieces : (f : CreatedFile) → IsCreatable f → ArePieces (end_of f) (created_writes f)
+created_pieces f is =
+    let z = created_sizes f is in
+    record { sized = z.sized; within = writes_end (end_of f) (created_writes f) z.within }

@@ -41,7 +41,8 @@ use Rattle.h5w_session.specs.Indexes.{IsKeptIndex}
 use Rattle.h5w_session.specs.Openings.{flagged, flagged_root}
 use Rattle.h5w_session.specs.Stands.{Running, Stands}
 use Rattle.h5w_types.proofs.RunLemmas.{by_cell, first_has_cell, first_outside-cons}
-use Rattle.h5w_session.proofs.IndexLemmas.{forgotten_live, freed_kept, marks_more, missed_kept, super_kept}
+use Rattle.h5w_index.proofs.MarkLemmas.{mark_laws}
+use Rattle.h5w_session.proofs.IndexLemmas.{forgotten_live, freed_kept, missed_kept, super_kept}
 use Rattle.h5w_session.proofs.PastLemmas.{past_more, past_same, past_shown, past_values}
 use Rattle.h5w_session.proofs.StateLemmas.{Accepted, rows_are}
 
@@ -100,7 +101,7 @@ values_running s values log some rows fit r =
       knows = next.knows;
       keeps = record { root = r.keeps.root; place = r.keeps.place; dataset = r.keeps.dataset; header = r.keeps.header };
       index = r.index;
-      marks = marks_more s.dataset s.dataset.shape.rows (s.dataset.shape.rows + s.waits) (s.dataset.shape.rows + (s.waits + length values / s.dataset.shape.cols)) s.index (omega arith) r.marks;
+      marks = mark_laws.more s.dataset s.dataset.shape.rows (s.dataset.shape.rows + s.waits) (s.dataset.shape.rows + (s.waits + length values / s.dataset.shape.cols)) s.index (omega arith) r.marks;
       more = r.more ++ values;
       waiting = ap (λ (b : List ℕ). b ++ cells_of s.dataset values) r.waiting ∙ sym (cells_of-append s.dataset r.more values);
       fit = none_outside s.dataset.int_type 0 r.more values r.fit fit;
@@ -134,6 +135,8 @@ stop_stands s log st =
           c.0,
           record {
             is = c.1.is;
+            limit = c.1.limit;
+            index = c.1.index;
             some = c.1.some;
             pieces = c.1.pieces;
             session = ap stopped_of c.1.session;
@@ -289,7 +292,7 @@ flagged_running s log flags stop reads swmr r =
     let off = ends_missed img m n w r.knows.file.apart raised in
     let header_off = λ (u : Used) (a : Among u m.header) (b : u.chunk ≡ false). off u (among_right u m.root (m.header ++ (m.fixed ++ m.behind)) (among_left u m.header (m.fixed ++ m.behind) a)) in
     let index_off = λ (u : Used) (a : Among u (m.fixed ++ m.behind)). off u (among_right u m.root (m.header ++ (m.fixed ++ m.behind)) (among_right u m.header (m.fixed ++ m.behind) a)) in
-    let index = missed_kept img m r.address s.places s.index w index_off r.index in
+    let index = missed_kept img s.name m r.address s.places s.index w r.knows index_off r.index in
     let kept = header_kept img s.name m w r.knows.file header_off in
     let place : m.place ≡ s.place = r.keeps.place in
     record {

@@ -1,47 +1,55 @@
 -- What the code of a first flush makes of a session.
-use Rattle.std.proofs.Common.{◌≡◌, ℕ, ◌+◌, ◌^◌, ◌<◌, ◌≤◌, Bool, true, false, ◌&&◌, not, nat_lt, List, [], ◌∷◌, ◌++◌, length, Some, Result, Err, refl, ap, sym, ◌∙◌, subst, arith, length-append}
-use Rattle.std.proofs.lemmas.Bool.{ltb-true}
+use Rattle.std.proofs.Common.{◌≡◌, ℕ, ◌^◌, ◌<◌, ◌≤◌, List, [], ◌∷◌, ◌++◌, length, Some, ap, sym, ◌∙◌, subst, arith, inl, inr}
 use Rattle.h5w_model.specs.Numbers.{undefined}
 use Rattle.h5w_model.specs.Headers.{with_rows_bytes}
 use Rattle.h5w_model.specs.Logs.{div_up}
 use Rattle.h5w_model.specs.Messages.{IsIntType}
+use Rattle.h5w_model.specs.Tables.{chunks_across}
+use Rattle.h5w_model.specs.declared.cell.Key.{Key}
 use Rattle.h5w_model.specs.declared.piece.Write.{Write}
 use Rattle.h5w_model.specs.declared.root.Super.{Super}
-use Rattle.h5w_space.specs.Space.{Space, has_size}
+use Rattle.h5w_space.specs.Space.{Space}
 use Rattle.h5w_space.specs.declared.Full.{Full}
-use Rattle.h5w_cache.specs.Plans.{IsRefused}
-use Rattle.h5w_cache.specs.Stores.{Store}
 use Rattle.h5w_cache.specs.declared.moves.Move.{Move}
 use Rattle.h5w_chunks.specs.Grids.{fill_cell}
 use Rattle.h5w_chunks.specs.Rows.{RowsWritten}
-use Rattle.h5w_chunks.specs.Shares.{new_writes}
+use Rattle.h5w_chunks.specs.Shares.{new_writes, touched}
 use Rattle.h5w_chunks.specs.declared.grid.ChunkPlace.{ChunkPlace}
 use Rattle.h5w_header_laws.specs.Files.{with_index}
-use Rattle.h5w_array_laws.specs.ArrayPlans.{IsArrayPlan}
 use Rattle.h5w_flush_laws.specs.Parts.{AreEnded}
-use Rattle.h5w_session.specs.Sessions.{ArePieces, IsSession, Session, rows_of, with_rows}
-use Rattle.h5w_session.specs.Starts.{IsStartFlushed, IsStartedAt, naming_piece, started_of, with_array}
-use Rattle.h5w_session.specs.Placing.{IsPlacing, first_number}
-use Rattle.h5w_session.specs.declared.refusal.FlushError.{FlushError}
-use Rattle.h5w_session.specs.declared.refusal.FlushError.TheVariants as flushes
-use Rattle.h5w_session.proofs.FlushedLemmas.{Shown}
-use Rattle.h5w_session.proofs.StartingLemmas.{shown_started, started_is, started_pieces}
+use Rattle.h5w_index.specs.Views.{IndexView, TakesKey, kind_of}
+use Rattle.h5w_index.specs.Depths.{AreWithin}
+use Rattle.h5w_index.specs.Steps.{IsPlan}
+use Rattle.h5w_index.specs.Placing.{AreInside, Fits, IsFullPart, IsPlacing}
+use Rattle.h5w_session.specs.Sessions.{ArePieces, IsSession, Session, bands_of, rows_of, with_rows}
+use Rattle.h5w_session.specs.Flushes.{ArePlanned}
+use Rattle.h5w_session.specs.Refusals.{IsStartFull, IsUnfilled, IsUnplaced}
+use Rattle.h5w_session.specs.Starts.{IsStartFlushed, IsStartedAt, naming_piece, started_of}
+use Rattle.h5w_session.proofs.StartingLemmas.{made_fits, made_inside, made_takes, shown_started, started_is, started_pieces}
 
--- there is no place of this size
-pub refused_so : (s : Space) (size : ℕ) (e : Full) → true ≡ (not (has_size size s.free) && nat_lt s.limit (s.end + size)) → e ≡ record { at = s.end; size = size; limit = s.limit } → IsRefused s size e
-refused_so s size e why is =
-    let both = split (has_size size s.free) (nat_lt s.limit (s.end + size)) why in
-    record { none = both.0; no_room = ltb-true s.limit (s.end + size) both.1; is = is }
-  where
-    split : (a b : Bool) → true ≡ (not a && b) → (a ≡ false) × (b ≡ true)
-    split false true h = (refl, refl)
-    split false false h = cc
-    split true b h = cc
+-- ---- What the places of such a flush ask for
+
+-- of the index that is made at places, up to row `to`
+pub record AsksOfMade (v : Session) (to : ℕ) (made : IndexView) (first : Space) : Type 0 where
+  pub fits : Fits v.dataset made
+  pub takes : (key : Key) → key.i < div_up to v.dataset.layout.chunk_rows → TakesKey made key
+  pub inside : AreInside v.dataset first.end made
+  pub limit : first.limit ≤ 2 ^ 40
+
+pub asks_of_made : (v : Session) (to : ℕ) (places : Space) (at : ℕ) (made : IndexView) (first : Space) → IsSession v → to ≡ rows_of v → places ≡ v.places → v.dataset.layout.index ≡ kind_of made → IsStartedAt places at made first
+    → AsksOfMade v to made first
+asks_of_made v to places at made first is e places_are kind start = record {
+  fits = made_fits v is made kind;
+  takes = subst (λ (n : ℕ). (key : Key) → key.i < div_up n v.dataset.layout.chunk_rows → TakesKey made key) (sym e) (made_takes v is made kind);
+  inside = made_inside v.dataset first.end places at made first start;
+  limit = subst (λ (n : ℕ). n ≤ 2 ^ 40) (sym (start.raised.limit ∙ ap (λ (s : Space). s.limit) places_are)) is.limit;
+}
+
+-- ---- What its calls make
 
 -- the calls, of a session v, up to row `to`; r, b and e are the superblock, the header and the cells that wait then
-pub record StartCarried (v : Session) (to : ℕ) (t : Space) (w : Store) (ws : List Write) (r : Super) (b e : List ℕ) (at : ℕ) : Type 0 where
+pub record StartCarried (v : Session) (to : ℕ) (t : Space) (w : IndexView) (ws : List Write) (r : Super) (b e : List ℕ) (at : ℕ) : Type 0 where
   pub absent : v.dataset.layout.address ≡ undefined
-  pub some_rows : 0 < v.dataset.layout.chunk_rows
   pub some : 0 < v.waits
   pub to_is : to ≡ rows_of v
   pub small : to < 2 ^ 52
@@ -50,14 +58,16 @@ pub record StartCarried (v : Session) (to : ℕ) (t : Space) (w : Store) (ws : L
   pub places : Space
   pub places_are : places ≡ v.places
   pub first : Space
-  pub made : Store
+  pub made : IndexView
+  pub kind : v.dataset.layout.index ≡ kind_of made
   pub start : IsStartedAt places at made first
   pub chunks : List ChunkPlace
-  pub added : List ℕ
+  pub added : List Key
   pub between : Space
-  pub held : Store
-  pub placing : IsPlacing v.dataset to made first chunks added held between
-  pub all : first_number v.dataset + length chunks ≡ div_up to v.dataset.layout.chunk_rows
+  pub named : IndexView
+  pub placing : IsPlacing v.dataset to made first chunks added named between
+  pub all : length chunks ≡ touched v.dataset v.dataset.shape.rows to
+  pub within : AreWithin (div_up to v.dataset.layout.chunk_rows) (chunks_across v.dataset) named
   pub cells : List ℕ
   pub cells_are : cells ≡ v.waiting
   pub rows : List Write
@@ -66,10 +76,11 @@ pub record StartCarried (v : Session) (to : ℕ) (t : Space) (w : Store) (ws : L
   pub moves : List Move
   pub copies : List Write
   pub fixed : List Write
-  pub plan : IsArrayPlan held between moves copies fixed w t
+  pub plan : IsPlan named between moves copies fixed w t
   pub supers : List Write
   pub end : ℕ
   pub end_is : end ≡ t.end
+  pub end_small : end < 2 ^ 64
   pub ended : AreEnded v.root end supers
   pub root : r ≡ record (v.root) { end = end }
   pub header : b ≡ with_rows_bytes v.header to (Some at)
@@ -79,24 +90,26 @@ pub record StartCarried (v : Session) (to : ℕ) (t : Space) (w : Store) (ws : L
   pub header_short : length v.header ≤ 512
   pub none_waits : e ≡ []
 
-module _ (v : Session) (to : ℕ) (t : Space) (w : Store) (ws : List Write) (r : Super) (b e : List ℕ) (at : ℕ) (x : StartCarried v to t w ws r b e at) where
+module _ (v : Session) (to : ℕ) (t : Space) (w : IndexView) (ws : List Write) (r : Super) (b e : List ℕ) (at : ℕ) (x : StartCarried v to t w ws r b e at) (is : IsSession v) where
   start_now : IsStartedAt v.places at x.made x.first
   start_now = subst (λ (s : Space). IsStartedAt s at x.made x.first) x.places_are x.start
 
-  carried_shown : Shown (with_array x.made x.first v) t w
-  carried_shown =
+  carried_planned : ArePlanned v x.made x.first w t
+  carried_planned =
       let rows = rows_of v in
       record {
+        fits = made_fits v is x.made x.kind;
         some = x.some;
         small = omega (arith, x.small, x.to_is);
+        few = is.few;
         typed = x.typed;
         filled = x.filled;
         chunks = x.chunks;
         added = x.added;
+        named = x.named;
         between = x.between;
-        held = x.held;
-        placing = subst (λ (n : ℕ). IsPlacing v.dataset n x.made x.first x.chunks x.added x.held x.between) x.to_is x.placing;
-        all = subst (λ (n : ℕ). first_number v.dataset + length x.chunks ≡ div_up n v.dataset.layout.chunk_rows) x.to_is x.all;
+        placing = subst (λ (n : ℕ). IsPlacing v.dataset n x.made x.first x.chunks x.added x.named x.between) x.to_is x.placing;
+        all = subst (λ (n : ℕ). length x.chunks ≡ touched v.dataset v.dataset.shape.rows n) x.to_is x.all;
         rows = x.rows;
         exact = x.exact ∙ ap (λ (n : ℕ). new_writes v.dataset x.cells v.dataset.shape.rows n x.chunks) x.to_is ∙ ap (λ (c : List ℕ). new_writes v.dataset c v.dataset.shape.rows rows x.chunks) x.cells_are;
         written =
@@ -109,6 +122,12 @@ module _ (v : Session) (to : ℕ) (t : Space) (w : Store) (ws : List Write) (r :
         supers = x.supers;
         ended = subst (λ (n : ℕ). AreEnded v.root n x.supers) x.end_is x.ended;
       }
+
+  carried_small : t.end < 2 ^ 64
+  carried_small = omega (arith, x.end_is, x.end_small)
+
+  carried_within : AreWithin (bands_of v) (chunks_across v.dataset) x.named
+  carried_within = subst (λ (n : ℕ). AreWithin (div_up n v.dataset.layout.chunk_rows) (chunks_across v.dataset) x.named) x.to_is x.within
 
   carried_joined : ws ≡ x.rows ++ (x.copies ++ (x.fixed ++ (x.supers ++ naming_piece v at ∷ [])))
   carried_joined =
@@ -128,22 +147,36 @@ module _ (v : Session) (to : ℕ) (t : Space) (w : Store) (ws : List Write) (r :
       let header : b ≡ with_rows_bytes v.header rows (Some at) = x.header ∙ ap (λ (n : ℕ). with_rows_bytes v.header n (Some at)) x.to_is in
       λ k. put (root k) (header k) (x.to_is k) (x.none_waits k)
 
-  pub start_carried_is : IsSession v → IsSession carried
-  unfolding carried_shown
-  start_carried_is is = subst IsSession (sym carried_after) (started_is v is at x.made x.first start_now x.absent t w ws carried_shown carried_joined x.header_short x.some_rows)
+  pub start_carried_is : IsSession carried
+  unfolding carried_planned
+  start_carried_is = subst IsSession (sym carried_after) (started_is v is at x.made x.first x.kind start_now x.absent t w ws carried_planned carried_small carried_within carried_joined x.header_short)
 
-  pub start_carried_pieces : IsSession v → ArePieces t.end ws
-  unfolding carried_shown
-  start_carried_pieces is = started_pieces v is at x.made x.first start_now x.absent t w ws carried_shown carried_joined x.header_short x.some_rows
+  pub start_carried_pieces : ArePieces t.end ws
+  unfolding carried_planned
+  start_carried_pieces = started_pieces v is at x.made x.first x.kind start_now x.absent t w ws carried_planned carried_small carried_within carried_joined x.header_short
 
-  pub start_carried_flushed : IsSession v → (s : Session) → v ≡ s → IsStartFlushed s carried
-  unfolding carried_shown
-  start_carried_flushed is s e' =
+  pub start_carried_flushed : (s : Session) → v ≡ s → IsStartFlushed s carried
+  unfolding carried_planned
+  start_carried_flushed s e' =
       subst (λ (u : Session). IsStartFlushed u carried) e'
-      (subst (λ (u : Session). IsStartFlushed v u) (sym carried_after) (shown_started v is at x.made x.first start_now x.absent t w ws carried_shown carried_joined x.header_short x.some_rows))
+      (subst (λ (u : Session). IsStartFlushed v u) (sym carried_after) (shown_started v is at x.made x.first x.kind start_now x.absent t w ws carried_planned carried_small carried_within carried_joined x.header_short))
 
-pub lengths_started : (a b c d : List Write) (h : Write) → length (a ++ (b ++ (c ++ (d ++ h ∷ [])))) ≡ length a + length b + length c + length d + 1
-lengths_started a b c d h = omega (arith, length-append a (b ++ (c ++ (d ++ h ∷ []))), length-append b (c ++ (d ++ h ∷ [])), length-append c (d ++ h ∷ []), length-append d (h ∷ []))
+-- ---- A file that has no place
 
-pub same_full : {T : Type 0} (e full : Full) → ◌≡◌ {A = Result T FlushError} (Err (flushes.Space e)) (Err (flushes.Space full)) → e ≡ full
-same_full {T} e full is = cc
+pub start_unplaced : (v : Session) (places : Space) (full : Full) → places ≡ v.places → IsUnplaced v.dataset.layout.index places full → (s : Session) → v ≡ s → IsStartFull s full
+start_unplaced v places full places_are none s e =
+    let now : IsUnplaced v.dataset.layout.index v.places full = subst (λ (t : Space). IsUnplaced v.dataset.layout.index t full) places_are none in
+    subst (λ (u : Session). IsStartFull u full) e (inl now)
+
+pub start_unfilled : (v : Session) (to : ℕ) (places : Space) (at : ℕ) (made : IndexView) (first : Space) (full : Full) → to ≡ rows_of v → places ≡ v.places → v.dataset.layout.index ≡ kind_of made → IsStartedAt places at made first
+    → IsFullPart v.dataset to made first full → (s : Session) → v ≡ s → IsStartFull s full
+start_unfilled v to places at made first full to_is places_are kind start part s e =
+    let now : IsUnfilled v full = record {
+      at = at;
+      first = first;
+      made = made;
+      kind = kind;
+      start = subst (λ (t : Space). IsStartedAt t at made first) places_are start;
+      none = subst (λ (n : ℕ). IsFullPart v.dataset n made first full) to_is part;
+    } in
+    subst (λ (u : Session). IsStartFull u full) e (inr now)

@@ -1,112 +1,89 @@
--- A first flush that was planned: the session after it stands over the log with that plan, as one whose array is there.
-use Rattle.std.proofs.Common.{◌≡◌, ℕ, ◌+◌, ◌*◌, ◌<◌, Bool, List, [], ◌∷◌, ◌++◌, ◌/◌, length, Some, None, refl, sym, ap, ◌∙◌, subst, arith, length-append, append-nil, inl}
+-- A first flush that was planned: the session after it stands over the log with that plan, as one whose index is there.
+use Rattle.std.proofs.Common.{◌≡◌, ℕ, zero, suc, ◌+◌, ◌*◌, ◌/◌, ◌-◌, ◌<◌, Bool, List, [], ◌∷◌, ◌++◌, length, Some, None, refl, sym, ap, ◌∙◌, subst, arith, length-append, append-nil, inl}
 use Rattle.std.specs.Prelude.{if◌then◌else◌}
 use Rattle.std.specs.List.{slice_get}
 use Rattle.std.proofs.lemmas.Bool.{le-ltb}
+use Rattle.std.proofs.Math.Nat.{div-zero}
 use Rattle.h5w_model.specs.Images.{image}
 use Rattle.h5w_model.specs.Headers.{with_rows_bytes}
 use Rattle.h5w_model.specs.Lawful.{first_outside}
 use Rattle.h5w_model.specs.Messages.{IsIntType}
-use Rattle.h5w_model.specs.Arrays.{eahd_len, eaib_len}
-use Rattle.h5w_model.specs.Tables.{format_limits, limit_of, needed}
-use Rattle.h5w_model.specs.Logs.{Log, plans, flushed_in, flushed_rows, appended_in, and_now}
+use Rattle.h5w_model.specs.Tables.{chunks_across, format_limits, limit_of, needed}
+use Rattle.h5w_model.specs.Logs.{Log, plans, flushed_in, flushed_rows, appended_in, and_now, div_up}
 use Rattle.h5w_model.specs.Datasets.{Described}
-use Rattle.h5w_model.specs.Findings.{Used, chunk_bytes}
 use Rattle.h5w_model.specs.declared.cell.Key.{Key}
 use Rattle.h5w_model.specs.declared.piece.Write.{Write}
 use Rattle.h5w_model.specs.declared.root.Super.{Super}
-use Rattle.h5w_visits.specs.Ranges.{block_at}
 use Rattle.h5w_visits.specs.Needed.{AreFew}
 use Rattle.h5w_chunks.specs.Grids.{cells_of, fill_cell}
 use Rattle.h5w_chunks.specs.Shares.{touched}
 use Rattle.h5w_chunks.specs.Rows.{RowsWritten}
 use Rattle.h5w_chunks.specs.declared.grid.ChunkPlace.{ChunkPlace}
+use Rattle.h5w_chunks.proofs.Geometry.{up_lt}
 use Rattle.h5w_header_laws.specs.Files.{chunk_0, commit_at, with_index}
 use Rattle.h5w_steps.specs.Moments.{Moment}
 use Rattle.h5w_steps.specs.Logs.{image_now}
 use Rattle.h5w_steps.proofs.SessionLaws.{lt-leb-false}
-use Rattle.h5w_array_laws.specs.Among.{AreAmong}
-use Rattle.h5w_array_laws.specs.ArrayStores.{behind_of, header_place}
-use Rattle.h5w_flush_laws.specs.Spaces.{Taken}
+use Rattle.h5w_flush_laws.specs.Knowledge.{Knows}
 use Rattle.h5w_flush_laws.specs.Parts.{AreEnded}
-use Rattle.h5w_flush_laws.specs.Rows.{ArePlaced, IsOutside, IsPlaced, new_chunks}
-use Rattle.h5w_flush_laws.proofs.SpaceLemmas.{taken_laws}
-use Rattle.h5w_array_flushes.specs.ArrayFlushes.{chunks_for}
-use Rattle.h5w_starting_laws.specs.Starting.{no_chunk, IsBlank, StartKnows}
-use Rattle.h5w_starting_laws.specs.StartFlushes.{parts_for}
-use Rattle.h5w_starting_laws.specs.StartCalls.{AreStartCalls, ArePending, first_named}
-use Rattle.h5w_starting_laws.proofs.StartLemmas.{blank_map, created_blank, start_of}
-use Rattle.h5w_starting_laws.proofs.StartCallLemmas.{start_pending}
+use Rattle.h5w_flush_laws.specs.Rows.{IsOutside, IsPlaced}
+use Rattle.h5w_starting_laws.specs.Starting.{no_chunk}
+use Rattle.h5w_index.specs.Views.{IndexView, an_array, a_tree, address_in, header_place}
+use Rattle.h5w_index.specs.Flushes.{PlanTold}
+use Rattle.h5w_index.specs.Placing.{Fits, IsPlacing}
+use Rattle.h5w_index.proofs.MarkLemmas.{mark_laws}
 use Rattle.h5w_session.specs.Sessions.{Session, rows_of, with_rows}
-use Rattle.h5w_session.specs.Indexes.{address_in}
 use Rattle.h5w_session.specs.Past.{Past}
 use Rattle.h5w_session.specs.Stands.{Running}
 use Rattle.h5w_session.specs.Starts.{IsStartFlushed, StartRunning, naming_piece, started_of}
-use Rattle.h5w_session.proofs.FlushLemmas.{each_fits, no_cells}
-use Rattle.h5w_session.proofs.IndexLemmas.{clean_marks}
+use Rattle.h5w_session.proofs.CreatingLemmas.{no_cells}
+use Rattle.h5w_session.proofs.FlushLemmas.{each_fits, others_then, placed_then, told_of}
+use Rattle.h5w_session.proofs.StartKinds.{AreFirstCalls, AreFirstPending, blank_none, first_named, first_pending}
 
--- the place of the first of some ranges
-abbrev first_place : List Used → ℕ
-first_place [] = 0
-first_place (u ∷ us) = u.place
+-- ---- Some chunk has its place
+
+some_across : (d : Described) (v : IndexView) → Fits d v → 0 < chunks_across d
+some_across d (an_array v) fits = subst (λ (n : ℕ). 0 < n) (sym fits) (omega arith)
+some_across d (a_tree place v) fits = fits
+
+-- where chunks stand there are columns
+some_columns : (columns c : ℕ) → 0 < div_up columns c → 0 < columns
+some_columns columns zero some = absurd (let none = div-zero (columns + zero - 1) in omega (arith, some, none))
+some_columns columns (suc c) some = let e = up_lt 0 columns (suc c) (omega arith) some in omega (arith, e)
+
+some_placed : (places : List ChunkPlace) (k : ℕ) (p : ChunkPlace) → slice_get places k ≡ Some p → 0 < length places
+some_placed [] k p here = absurd cc
+some_placed (q ∷ qs) k p here = omega arith
 
 module _ (old new : Session) (log : Log) (x : IsStartFlushed old new) (r : StartRunning old log) where
-  known : StartKnows (image_now log) old.name r.after old.places old.index
-  known = start_of (image_now log) old.name r.after r.address old.places old.index r.knows r.index.unnamed r.index.blank r.index.map
+  none_then : r.address ≡ no_chunk
+  none_then = λ i key. (r.index.map key ∙ blank_none old.index r.index.blank key) i
 
-  made_blank : IsBlank x.made
-  made_blank = created_blank x.at x.start.block x.made x.start.is_made.created (let e = x.start.is_made.header_ends in omega (arith, e)) (let e = x.start.is_made.block_ends in omega (arith, e))
+  known : Knows (image_now log) old.name r.after no_chunk old.places
+  known = subst (λ (f : Key → ℕ). Knows (image_now log) old.name r.after f old.places) none_then r.knows
 
-  -- the array that was made has no chunk
-  same_map : address_in x.made ≡ no_chunk
-  same_map = blank_map x.made made_blank
+  abbrev told : PlanTold x.planned.named x.planned.between x.planned.moves x.planned.copies x.planned.fixed new.index new.places
+  told = told_of old x.made x.first new.index new.places x.planned
 
   data_set : old.dataset ≡ r.after.dataset
   data_set = sym r.keeps.dataset
 
-  chunks_are : new_chunks old.dataset (address_in x.made) old.dataset.shape.rows 0 x.chunks ≡ chunks_for r.after no_chunk x.chunks
-  chunks_are =
-      ap (λ (f : Key → ℕ). new_chunks old.dataset f old.dataset.shape.rows 0 x.chunks) same_map
-      ∙ ap (λ (d : Described). new_chunks d no_chunk d.shape.rows 0 x.chunks) data_set
+  some_chunk : 0 < length x.planned.chunks
+  some_chunk =
+      let d = old.dataset in
+      let columns = some_columns d.shape.cols d.layout.chunk_cols (some_across d x.made x.planned.fits) in
+      let p = x.planned.written.placed d.shape.rows 0 (omega arith) (let some = x.planned.some in omega arith) columns in
+      some_placed x.planned.chunks _ p.0 p.1.stands
 
-  taken : Taken old.places (block_at x.at eahd_len ∷ block_at x.start.block eaib_len ∷ chunks_for r.after no_chunk x.chunks) x.between
-  taken =
-      subst (λ (us : List Used). Taken old.places (block_at x.at eahd_len ∷ block_at x.start.block eaib_len ∷ us) x.between) chunks_are
-      (taken_laws.joined old.places x.first x.between (block_at x.at eahd_len ∷ block_at x.start.block eaib_len ∷ []) (new_chunks old.dataset (address_in x.made) old.dataset.shape.rows 0 x.chunks) x.start.two x.taken)
-
-  -- the plan leaves the map
-  planned_map : address_in x.held ≡ address_in new.index
-  planned_map = λ i key. sym (x.plan.map key.i) i
-
-  rows_there : RowsWritten r.after.dataset (cells_of r.after.dataset r.more) r.after.dataset.shape.rows (rows_of old) x.chunks x.rows
+  rows_there : RowsWritten r.after.dataset (cells_of r.after.dataset r.more) r.after.dataset.shape.rows (rows_of old) x.planned.chunks x.planned.rows
   rows_there =
-      subst (λ (d : Described). RowsWritten d (cells_of d r.more) d.shape.rows (rows_of old) x.chunks x.rows) data_set
-      (subst (λ (b : List ℕ). RowsWritten old.dataset b old.dataset.shape.rows (rows_of old) x.chunks x.rows) r.waiting x.written)
-
-  each_placed : (k : ℕ) (p : ChunkPlace) → slice_get x.chunks k ≡ Some p → IsPlaced r.after.dataset no_chunk (address_in new.index) r.after.dataset.shape.rows k p
-  each_placed k p at =
-      subst (λ (d : Described). IsPlaced d no_chunk (address_in new.index) d.shape.rows k p) data_set
-      (subst (λ (f : Key → ℕ). IsPlaced old.dataset f (address_in new.index) old.dataset.shape.rows k p) same_map
-      (subst (λ (f : Key → ℕ). IsPlaced old.dataset (address_in x.made) f old.dataset.shape.rows k p) planned_map (x.named.placed k p at)))
-
-  placed : (copies : List (ℕ × List ℕ)) → ArePlaced r.after no_chunk (parts_for r.after new.index (rows_of old) r.more x.rows x.chunks copies x.supers new.places.end) x.chunks
-  placed copies = record {
-    written = rows_there;
-    all = subst (λ (d : Described). length x.chunks ≡ touched d d.shape.rows (rows_of old)) data_set x.named.all;
-    placed = each_placed;
-    others = λ key asked outside.
-        let before : IsOutside old.dataset old.dataset.shape.rows (rows_of old) key = subst (λ (d : Described). IsOutside d d.shape.rows (rows_of old) key) r.keeps.dataset outside in
-        x.plan.map key.i ∙ x.named.others key before ∙ made_blank.map key.i;
-    chunks = refl;
-    typed = subst (λ (d : Described). IsIntType d.int_type) data_set x.typed;
-    filled = subst (λ (d : Described). length (fill_cell d) ≡ d.int_type.size) data_set x.filled;
-    fit = each_fits r.after.dataset 0 r.more (subst (λ (d : Described). first_outside d.int_type 0 r.more ≡ None) data_set r.fit);
-  }
+      subst (λ (d : Described). RowsWritten d (cells_of d r.more) d.shape.rows (rows_of old) x.planned.chunks x.planned.rows) data_set
+      (subst (λ (b : List ℕ). RowsWritten old.dataset b old.dataset.shape.rows (rows_of old) x.planned.chunks x.planned.rows) r.waiting x.planned.written)
 
   few_after : AreFew (with_rows (rows_of old) r.after.dataset)
   few_after =
       subst (λ (d : Described). AreFew (with_rows (rows_of old) d)) data_set
-      (le-ltb (limit_of format_limits old.dataset.layout.index) (needed (with_rows (rows_of old) old.dataset)) x.few)
+      (le-ltb (limit_of format_limits old.dataset.layout.index) (needed (with_rows (rows_of old) old.dataset)) x.planned.few)
 
   count_after : length (r.after.values ++ r.more) ≡ rows_of old * r.after.dataset.shape.cols
   count_after =
@@ -116,31 +93,9 @@ module _ (old new : Session) (log : Log) (x : IsStartFlushed old new) (r : Start
       let split : (rows + old.waits) * cols ≡ rows * cols + old.waits * cols = omega arith in
       subst (λ (d : Described). length (r.after.values ++ r.more) ≡ rows_of old * d.shape.cols) data_set (length-append r.after.values r.more ∙ omega (arith, file, r.count, split))
 
-  calls : AreStartCalls r.after old.places x.between x.at x.start.block x.made x.held x.moves new.index new.places (rows_of old) r.more x.rows x.chunks x.copies x.fixed x.supers
-  calls = record {
-    rises = subst (λ (d : Described). d.shape.rows < rows_of old) data_set (let some = x.some in omega arith);
-    small = x.small;
-    few = few_after;
-    count = count_after;
-    taken = taken;
-    made = x.start.is_made;
-    names = record {
-      array = x.named.array;
-      standing = x.named.standing;
-      places = x.named.places_stay;
-      changed = x.changed;
-      behind =
-          subst (λ (us : List Used). AreAmong (behind_of (chunk_bytes r.after.dataset) x.held) (us ++ behind_of (chunk_bytes r.after.dataset) x.made)) chunks_are
-          (subst (λ (d : Described). AreAmong (behind_of (chunk_bytes d) x.held) (new_chunks old.dataset (address_in x.made) old.dataset.shape.rows 0 x.chunks ++ behind_of (chunk_bytes d) x.made)) data_set x.named.behind);
-    };
-    placed = placed;
-    plan = x.plan;
-    ended = subst (λ (s : Super). AreEnded s new.places.end x.supers) (sym r.keeps.root) x.ended;
-  }
-
-  -- the array stays where it was made
+  -- the index stays where it was made
   at_place : header_place new.index ≡ x.at
-  at_place = ap first_place x.plan.stay ∙ x.named.places_stay 846 ∙ x.start.is_made.created.header_at
+  at_place = told.place ∙ x.planned.placing.partly.like.place ∙ x.start.at_place
 
   same_header : commit_at (image_now log) r.after.place (rows_of old) (Some (header_place new.index)) ≡ naming_piece old x.at
   same_header =
@@ -148,11 +103,36 @@ module _ (old new : Session) (log : Log) (x : IsStartFlushed old new) (r : Start
       ∙ ap (λ (b : List ℕ). record { at = old.place; piece = with_rows_bytes b (rows_of old) (Some (header_place new.index)) }) r.keeps.header
       ∙ ap (λ (n : ℕ). record { at = old.place; piece = with_rows_bytes old.header (rows_of old) (Some n) }) at_place
 
-  pending_are : ArePending old.name log r.after new.index new.places (rows_of old) r.more new.pending
+  calls : AreFirstCalls (image_now log) r.after old.places x.first x.planned.between x.at x.made x.planned.named x.planned.moves new.index new.places (rows_of old) r.more x.planned.rows x.planned.chunks x.planned.added
+      x.planned.copies x.planned.fixed x.planned.supers new.pending
+  calls = record {
+    kind = ap (λ (d : Described). d.layout.index) r.keeps.dataset ∙ x.kind;
+    unnamed = r.index.unnamed;
+    made = x.start.made;
+    rises = subst (λ (d : Described). d.shape.rows < rows_of old) data_set (let some = x.planned.some in omega arith);
+    small = x.planned.small;
+    few = few_after;
+    count = count_after;
+    some = some_chunk;
+    placing = subst (λ (d : Described). IsPlacing d (rows_of old) x.made x.first x.planned.chunks x.planned.added x.planned.named x.planned.between) data_set x.planned.placing;
+    written = rows_there;
+    all = subst (λ (d : Described). length x.planned.chunks ≡ touched d d.shape.rows (rows_of old)) data_set x.planned.all;
+    placed = λ k p here. subst (λ (d : Described). IsPlaced d (λ key. address_in x.made key) (λ key. address_in new.index key) d.shape.rows k p) data_set (placed_then old x.made x.first new.index new.places x.planned k p here);
+    others = λ key outside.
+        let before : IsOutside old.dataset old.dataset.shape.rows (rows_of old) key = subst (λ (d : Described). IsOutside d d.shape.rows (rows_of old) key) r.keeps.dataset outside in
+        others_then old x.made x.first new.index new.places x.planned key before;
+    typed = subst (λ (d : Described). IsIntType d.int_type) data_set x.planned.typed;
+    filled = subst (λ (d : Described). length (fill_cell d) ≡ d.int_type.size) data_set x.planned.filled;
+    fit = each_fits r.after.dataset 0 r.more (subst (λ (d : Described). first_outside d.int_type 0 r.more ≡ None) data_set r.fit);
+    plan = x.planned.plan;
+    ended = subst (λ (s : Super). AreEnded s new.places.end x.planned.supers) (sym r.keeps.root) x.planned.ended;
+    pieces = x.pending ∙ ap (λ (w : Write). x.planned.rows ++ (x.planned.copies ++ (x.planned.fixed ++ (x.planned.supers ++ w ∷ [])))) (sym same_header);
+  }
+
+  pending_are : AreFirstPending old.name log r.after new.index new.places (rows_of old) r.more new.pending
   pending_are =
-      start_pending old.name log r.after old.places x.between new.places x.at x.start.block old.index x.made x.held new.index x.moves (rows_of old) r.more x.rows x.chunks x.copies x.fixed x.supers new.pending
-      r.runs known calls r.appended
-      (x.pending ∙ ap (λ (w : Write). x.rows ++ (x.copies ++ (x.fixed ++ (x.supers ++ w ∷ [])))) (sym same_header))
+      first_pending old.name log r.after old.places x.first x.planned.between new.places x.at x.made x.planned.named new.index x.planned.moves (rows_of old) r.more x.planned.rows x.planned.chunks x.planned.added
+      x.planned.copies x.planned.fixed x.planned.supers new.pending known r.runs r.appended calls
 
   -- ---- The session after it
 
@@ -161,8 +141,15 @@ module _ (old new : Session) (log : Log) (x : IsStartFlushed old new) (r : Start
 
   some_pieces : 0 < length new.pending
   some_pieces =
-      let supers = x.supers ++ naming_piece old x.at ∷ [] in
-      omega (arith, ap length x.pending, length-append x.rows (x.copies ++ (x.fixed ++ supers)), length-append x.copies (x.fixed ++ supers), length-append x.fixed supers, length-append x.supers (naming_piece old x.at ∷ []))
+      let supers = x.planned.supers ++ naming_piece old x.at ∷ [] in
+      omega (
+        arith,
+        ap length x.pending,
+        length-append x.planned.rows (x.planned.copies ++ (x.planned.fixed ++ supers)),
+        length-append x.planned.copies (x.planned.fixed ++ supers),
+        length-append x.planned.fixed supers,
+        length-append x.planned.supers (naming_piece old x.at ∷ []),
+      )
 
   committed_then : flushed_rows (and_now (plans (length new.pending)) log) ≡ old.committed
   committed_then =
@@ -171,30 +158,28 @@ module _ (old new : Session) (log : Log) (x : IsStartFlushed old new) (r : Start
 
   pub start_running : Past (started_of old x.at new.places new.pending new.index) new.pending (and_now (plans (length new.pending)) log) after_start
       → Running (started_of old x.at new.places new.pending new.index) new.pending (and_now (plans (length new.pending)) log)
-  start_running past =
-      let a = pending_are.begins.rests in
-      record {
-        after = after_start;
-        address = address_in new.index;
-        runs = pending_are.runs;
-        knows = pending_are.begins.knows;
-        keeps = record {
-          root = ap (λ (s : Super). record s { end = new.places.end }) r.keeps.root;
-          place = r.keeps.place;
-          dataset = ap (λ (n : ℕ). with_index n (with_rows (rows_of old) r.after.dataset)) at_place ∙ ap (λ (d : Described). with_index x.at (with_rows (rows_of old) d)) r.keeps.dataset;
-          header =
-              ap (λ (p : ℕ). chunk_0 (image (image_now log) new.pending) p) (sym r.keeps.place)
-              ∙ pending_are.header
-              ∙ ap (λ (w : Write). w.piece) same_header;
-        };
-        index = inl (record { kind = a.kind; at = a.at; array = a.array; stands = a.stands; standing = a.standing; fixed = a.fixed; behind = a.behind; map = a.map });
-        marks = clean_marks (with_index x.at (with_rows (rows_of old) old.dataset)) (rows_of old) (rows_of old + 0) new.index x.plan.clean;
-        more = [];
-        waiting = no_cells (with_rows (rows_of old) old.dataset);
-        fit = refl;
-        count = omega arith;
-        appended = append-nil (r.after.values ++ r.more) ∙ r.appended;
-        committed = committed_then;
-        columns = r.columns;
-        past = past;
-      }
+  start_running past = record {
+    after = after_start;
+    address = λ key. address_in new.index key;
+    runs = pending_are.runs;
+    knows = pending_are.begins.knows;
+    keeps = record {
+      root = ap (λ (s : Super). record s { end = new.places.end }) r.keeps.root;
+      place = r.keeps.place;
+      dataset = ap (λ (n : ℕ). with_index n (with_rows (rows_of old) r.after.dataset)) at_place ∙ ap (λ (d : Described). with_index x.at (with_rows (rows_of old) d)) r.keeps.dataset;
+      header =
+          ap (λ (p : ℕ). chunk_0 (image (image_now log) new.pending) p) (sym r.keeps.place)
+          ∙ pending_are.header
+          ∙ ap (λ (w : Write). w.piece) same_header;
+    };
+    index = inl pending_are.begins.rests;
+    marks = mark_laws.clean (with_index x.at (with_rows (rows_of old) old.dataset)) (rows_of old) (rows_of old + 0) new.index told.clean;
+    more = [];
+    waiting = no_cells (with_rows (rows_of old) old.dataset);
+    fit = refl;
+    count = omega arith;
+    appended = append-nil (r.after.values ++ r.more) ∙ r.appended;
+    committed = committed_then;
+    columns = r.columns;
+    past = past;
+  }

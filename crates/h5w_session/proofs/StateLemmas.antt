@@ -19,7 +19,8 @@ use Rattle.h5w_model.specs.declared.root.Super.{Super}
 use Rattle.h5w_model.specs.declared.piece.Write.{Write}
 use Rattle.h5w_chunks.specs.Grids.{cells_of}
 use Rattle.h5w_chunks.proofs.Geometry.{up_lt, lt_up, ceil_is_up}
-use Rattle.h5w_session.specs.Sessions.{Session, IsSession, AllEndBy, AfterPiece, AreRows, cleared, closed_of, chunk_limit, chunks_with, rows_of, row_bytes, stopped_of, with_rows, with_values}
+use Rattle.h5w_index.proofs.DepthLemmas.{depth_laws}
+use Rattle.h5w_session.specs.Sessions.{Session, IsSession, AllEndBy, AfterPiece, AreRows, bands_of, cleared, closed_of, chunk_limit, chunks_with, rows_of, row_bytes, stopped_of, with_rows, with_values}
 use Rattle.h5w_session.specs.Refusals.{append_refusal, chunks_refusal}
 use Rattle.h5w_session.specs.declared.refusal.AppendError.{AppendError}
 use Rattle.h5w_session.specs.declared.refusal.AppendError.TheVariants as appends
@@ -45,7 +46,7 @@ up_at_most n per limit some within =
     ]
 
 -- some are needed for some
-up_some : (n per : ℕ) → 0 < per → 1 ≤ n → 1 ≤ div_up n per
+pub up_some : (n per : ℕ) → 0 < per → 1 ≤ n → 1 ≤ div_up n per
 up_some n per some any = lt_up 0 n per some (omega arith)
 
 -- no more parts than things
@@ -55,6 +56,17 @@ up_few n per some =
       | inl more ↦
           let past : n * per < n = up_lt n n per some more in
           let times : n * 1 ≤ n * per = mul-le n 1 n per (omega arith) (omega arith) in
+          absurd (omega arith)
+      | inr few ↦ few
+    ]
+
+-- of more no fewer
+pub up_rises : (n more per : ℕ) → 0 < per → n ≤ more → div_up n per ≤ div_up more per
+up_rises n more per some less =
+    elim (cases_lt (div_up more per) (div_up n per)) [
+      | inl past ↦
+          let below : div_up more per * per < n = up_lt (div_up more per) n per some past in
+          let whole : more ≤ div_up more per * per = up_at_most more per (div_up more per) some (omega arith) in
           absurd (omega arith)
       | inr few ↦ few
     ]
@@ -199,8 +211,8 @@ not_refused s values chunks limit running idle inside is top few =
 
 -- ---- What holds of every session is kept
 
-pub values_is : (s : Session) (values : List ℤ) → IsSession s → AreRows s values → Accepted s values → IsSession (with_values s values)
-values_is s values is rows by =
+pub values_is : (s : Session) (values : List ℤ) → 0 < s.dataset.layout.chunk_rows → IsSession s → AreRows s values → Accepted s values → IsSession (with_values s values)
+values_is s values wide is rows by =
     let more = length values / s.dataset.shape.cols in
     let cells : length (s.waiting ++ cells_of s.dataset values) ≡ length s.waiting + length values * s.dataset.int_type.size =
     length-append s.waiting (cells_of s.dataset values) ∙ ap (λ (n : ℕ). length s.waiting + n) (length-run_bytes s.dataset.int_type 0 values by.fit) in
@@ -215,8 +227,10 @@ values_is s values is rows by =
       few = subst (λ (n : ℕ). needed (with_rows n s.dataset) ≤ chunk_limit s) (sym sum) by.room;
       version = is.version;
       begun = is.begun;
-      array = is.array;
-      across = is.across;
+      kind = is.kind;
+      sound = is.sound;
+      fits = is.fits;
+      held = depth_laws.more (bands_of s) (chunks_across s.dataset) (bands_of (with_values s values)) s.index (up_rises (rows_of s) (rows_of (with_values s values)) s.dataset.layout.chunk_rows wide (omega arith)) is.held;
       header = is.header;
       addressed = is.addressed;
       header_ends = is.header_ends;
@@ -224,7 +238,6 @@ values_is s values is rows by =
       limit = is.limit;
       inside = is.inside;
       tops = is.tops;
-      blocks = is.blocks;
     }
 
 -- the same as fields tell it

@@ -1,36 +1,56 @@
 -- Steps of the functions that take chunks.
-use Rattle.std.proofs.Common.{◌≡◌, ◌≢◌, ◌⊎◌, refl, ℕ, ◌+◌, ◌*◌, ◌/◌, ◌^◌, ◌<◌, ◌≤◌, true, false, nat_lt, if◌then◌else◌, length, replicate, Option, Some, None, Result, Ok, Err, sym, ap, subst, ◌∙◌, inl, inr, arith}
-use Rattle.std.specs.Result.{IfErr, OnErr}
+use Rattle.std.proofs.Common.{◌≡◌, ◌≢◌, ◌⊎◌, refl, ℕ, ◌+◌, ◌*◌, ◌/◌, ◌^◌, ◌<◌, ◌≤◌, Bool, true, false, nat_lt, if◌then◌else◌, length, replicate, Option, Some, None, Result, Ok, Err, sym, ap, subst, ◌∙◌, inl, inr, arith}
+use Rattle.std.specs.Result.{IfErr, OnErr, OnOk}
 use Rattle.std.specs.Option.{IfSome, option_map, unwrap_or}
 use Rattle.std.proofs.lemmas.List.{length-replicate}
-use Rattle.h5w_model.specs.Integers.{cell_bytes}
-use Rattle.h5w_model.specs.declared.cell.Cell.{Cell}
 use Rattle.std.proofs.lemmas.Bool.{cases_eq, cases_lt, eq-eqb, lt-ltb, ne_eqb}
+use Rattle.std.specs.Prelude.{List}
 use Rattle.std.proofs.lemmas.Nat.{mul-le}
-use Rattle.std.proofs.Math.Nat.{div-mul-le_self}
-use Rattle.std.specs.Int.{div_ceil}
+use Rattle.h5w_model.specs.Integers.{cell_bytes}
+use Rattle.h5w_model.specs.Logs.{div_up}
 use Rattle.h5w_model.specs.Numbers.{undefined}
 use Rattle.h5w_model.specs.Datasets.{Described}
-use Rattle.h5w_model.specs.Logs.{div_up}
+use Rattle.h5w_model.specs.Tables.{chunks_across, key_equal}
+use Rattle.h5w_model.specs.declared.cell.Cell.{Cell}
+use Rattle.h5w_model.specs.declared.cell.Key.{Key}
 use Rattle.h5w_model.proofs.IntegerLemmas.{int_size_bounds}
 use Rattle.h5w_chunks.specs.Grids.{IsGrid, chunk_len, dataset_of, fill_cell}
+use Rattle.h5w_chunks.specs.Shares.{touched, touched_key}
+use Rattle.h5w_chunks.specs.declared.grid.ChunkPlace.{ChunkPlace}
 use Rattle.h5w_chunks.specs.declared.grid.Grid.{Grid}
-use Rattle.h5w_chunks.proofs.Geometry.{ceil_is_up, lt_up}
-use Rattle.h5w_ea_index.specs.Steps.{found}
+use Rattle.h5w_chunks.proofs.Geometry.{IsCut, lt_up, share_numbers}
 use Rattle.h5w_space.specs.declared.Full.{Full}
 use Rattle.h5w_cache.specs.Plans.{IfFull}
 use Rattle.h5w_cache.specs.declared.plan.PlanError.{PlanError}
 use Rattle.h5w_cache.specs.declared.plan.PlanError.TheVariants as plan
-use Rattle.h5w_session.specs.Indexes.{IsTouched}
+use Rattle.h5w_index.specs.Steps.{IsDeep, found}
+use Rattle.h5w_index.specs.Views.{IndexView, IsSound, an_array, a_tree, address_in, is_key}
+use Rattle.h5w_index.specs.Placing.{Fits, IsPlacing, next_key}
+use Rattle.h5w_index.specs.Depths.{AreWithin}
+use Rattle.h5w_index.specs.Marks.{IsTouched}
+use Rattle.h5w_index.proofs.DepthLemmas.{depth_laws}
+use Rattle.h5w_bt_index.specs.declared.error.InsertError.{InsertError}
+use Rattle.h5w_bt_index.specs.declared.error.InsertError.TheVariants as inserts
+use Rattle.h5w_bt_index.proofs.Keys.{equal-is}
+use Rattle.h5w_flush_laws.proofs.NewChunkLemmas.{one_number}
+use Rattle.h5w_space.specs.Space.{Space}
 use Rattle.h5w_session.specs.Refusals.{IsSpace, plan_fault}
 use Rattle.h5w_session.specs.declared.refusal.FlushError.{FlushError}
 use Rattle.h5w_session.specs.declared.refusal.FlushError.TheVariants as flushes
-use Rattle.h5w_session.specs.Placing.{first_number}
 
 -- what holds anyway holds of an error
 pub on_err : {T E P : Type 0} (r : Result T E) → P → OnErr r P
 on_err (Ok x) p = tt
 on_err (Err e) p = p
+
+-- what follows of what holds of a value
+pub map_ok : {T E P Q : Type 0} (r : Result T E) → (P → Q) → OnOk r P → OnOk r Q
+map_ok (Ok x) f p = f p
+map_ok (Err e) f p = tt
+
+-- a key that is too much was so
+pub deep_so : {T P : Type 0} (r : Result T InsertError) → IfErr r (λ (e : InsertError). e ≡ inserts.Deep → P) → r ≡ Err inserts.Deep → P
+deep_so {T} {P} r told is = subst (λ (x : Result T InsertError). IfErr x (λ (e : InsertError). e ≡ inserts.Deep → P)) is told refl
 
 pub found_some : (a x : ℕ) → found a ≡ Some x → (a ≡ x) × (a ≢ undefined)
 found_some a x is =
@@ -66,7 +86,6 @@ not_less a b is =
 pub record AreSizes (g : Grid) : Type 0 where
   pub rows : g.layout.chunk.0 < 2 ^ 32
   pub some : 0 < chunk_len (dataset_of g)
-  pub product : (i : ℕ) → i < 131060 → i * g.layout.chunk.0 < 2 ^ 64
 
 part : (a b : ℕ) → 1 ≤ b → a ≤ a * b
 part a b some =
@@ -85,23 +104,71 @@ sizes_of g is =
     let low : rows < 2 ^ 32 = omega (arith, layout.small, one, two) in
     let line : cols ≤ cols * size = part cols size some_size in
     let all : rows ≤ rows * (cols * size) = part rows (cols * size) (omega (arith, layout.cols, line)) in
+    record { rows = low; some = omega (arith, layout.rows, all) }
+
+-- a chunk in the loop over those that rows go into: it is one of them, in a band of the rows, and no key is too much
+pub record IsKeyIn (d : Described) (from to k : ℕ) : Type 0 where
+  pub touched_is : IsTouched d from to (touched_key d from k)
+  pub row : (touched_key d from k).i < div_up to d.layout.chunk_rows
+  pub column : (touched_key d from k).j < chunks_across d
+  pub start : (touched_key d from k).i * d.layout.chunk_rows < to
+
+pub key_in : (d : Described) (from to k : ℕ) → IsCut d → k < touched d from to → IsKeyIn d from to k
+key_in d from to k cut known =
+    let n = share_numbers d from to k (chunks_across d) cut known refl in
     record {
-      rows = low;
-      some = omega (arith, layout.rows, all);
-      product = λ i below.
-          let times : i * rows ≤ 131060 * 2 ^ 32 = mul-le i rows 131060 (2 ^ 32) (omega arith) (omega arith) in
-          omega arith;
+      touched_is = record { number = k; inside = known; is = refl };
+      row = lt_up (touched_key d from k).i to d.layout.chunk_rows cut.rows n.band;
+      column = lt_up (touched_key d from k).j d.shape.cols d.layout.chunk_cols cut.cols n.column;
+      start = n.band;
     }
 
--- a chunk in the loop over those that rows go into
-pub touched_here : (d : Described) (to i n last : ℕ) → d.shape.rows < to → first_number d + n ≡ i → last ≡ div_ceil to d.layout.chunk_rows → 0 < d.layout.chunk_rows → i < last → IsTouched d d.shape.rows to i
-touched_here d to i n last order count end some below = record { some = order; low = omega (arith, count); high = omega (arith, below, end, ceil_is_up to d.layout.chunk_rows some) }
+pub not_deep : (bands across : ℕ) (key : Key) (v : IndexView) → IsSound v → AreWithin bands across v → bands * across ≤ 1000000 → IsDeep v key → ⊥
+not_deep bands across key v sound within few deep = depth_laws.shallow bands across key v sound within (omega arith) deep
 
--- the first of them is before the last
-pub first_below : (from to per : ℕ) → from < to → 0 < per → from / per < div_up to per
-first_below from to per order some =
-    let whole : from / per * per ≤ from = div-mul-le_self from per in
-    lt_up (from / per) to per some (omega arith)
+-- the next chunk of the loop
+pub record IsNext (d : Described) (to : ℕ) (key : Key) (chunks : List ChunkPlace) : Type 0 where
+  pub touched_is : IsTouched d d.shape.rows to key
+  pub row : key.i < div_up to d.layout.chunk_rows
+  pub column : key.j < chunks_across d
+  pub start : key.i * d.layout.chunk_rows < to
+  pub number : key ≡ next_key d chunks
+  pub inside : length chunks < touched d d.shape.rows to
+
+pub next_in : (d : Described) (to k n : ℕ) (key : Key) (chunks : List ChunkPlace) → IsCut d → n ≡ touched d d.shape.rows to → k < n → length chunks ≡ k → key ≡ touched_key d d.shape.rows k → IsNext d to key chunks
+next_in d to k n key chunks cut all low count is =
+    let at : key ≡ next_key d chunks = is ∙ ap (touched_key d d.shape.rows) (sym count) in
+    let inside : length chunks < touched d d.shape.rows to = omega (arith, all, low, count) in
+    let own = key_in d d.shape.rows to (length chunks) cut inside in
+    record {
+      touched_is = subst (IsTouched d d.shape.rows to) (sym at) own.touched_is;
+      row = subst (λ (x : Key). x.i < div_up to d.layout.chunk_rows) (sym at) own.row;
+      column = subst (λ (x : Key). x.j < chunks_across d) (sym at) own.column;
+      start = subst (λ (x : Key). x.i * d.layout.chunk_rows < to) (sym at) own.start;
+      number = at;
+      inside = inside;
+    }
+
+-- two touched chunks are not one to the index
+not_true : (b : Bool) → (b ≡ true → ⊥) → b ≡ false
+not_true true h = absurd (h refl)
+not_true false h = refl
+
+by_one : (k a : ℕ) → a ≡ 1 → k / a ≡ k
+by_one k a e = ap (λ n. k / n) e ∙ omega arith
+
+apart_keys : (d : Described) (v : IndexView) (from j k : ℕ) → Fits d v → j ≢ k → is_key v (touched_key d from j) (touched_key d from k) ≡ false
+apart_keys d (an_array v) from j k one ne =
+    let first : from / d.layout.chunk_rows + k / chunks_across d ≡ from / d.layout.chunk_rows + k = ap (λ n. from / d.layout.chunk_rows + n) (by_one k (chunks_across d) one) in
+    let second : from / d.layout.chunk_rows + j / chunks_across d ≡ from / d.layout.chunk_rows + j = ap (λ n. from / d.layout.chunk_rows + n) (by_one j (chunks_across d) one) in
+    ne_eqb (touched_key d from k).i (touched_key d from j).i (λ e. ne (omega (arith, e, first, second)))
+apart_keys d (a_tree p v) from j k some ne = not_true (key_equal (touched_key d from j) (touched_key d from k)) (λ e. ne (one_number d from j k some (equal-is (touched_key d from j) (touched_key d from k) e)))
+
+-- the next chunk has no address where it had none before
+pub absent_before : (d : Described) (to : ℕ) (v w : IndexView) (s t : Space) (chunks : List ChunkPlace) (added : List Key) (key : Key) → Fits d v → IsPlacing d to v s chunks added w t → key ≡ next_key d chunks → address_in w key ≡ undefined
+    → address_in v (next_key d chunks) ≡ undefined
+absent_before d to v w s t chunks added key fits x is none =
+    sym (x.others (next_key d chunks) (λ k low. apart_keys d v d.shape.rows k (length chunks) fits (λ e. absurd (omega (arith, e, low))))) ∙ ap (address_in w) (sym is) ∙ none
 
 -- what a plan says of a block without a place, where a flush tells it
 pub full_of : {T : Type 0} (e : PlanError) (full : Full) (P : Full → Type 0) → ◌≡◌ {A = Result T FlushError} (Err (plan_fault e)) (Err (flushes.Space full)) → IfFull e P → P full

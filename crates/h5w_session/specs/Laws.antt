@@ -11,16 +11,18 @@ use Rattle.h5w_model.specs.Prefixed.{image_at, IsPosition, Prefixed, ReadsNow, S
 use Rattle.h5w_model.specs.declared.piece.Write.{Write}
 use Rattle.h5w_image.specs.View.{ImageView, Wrote}
 use Rattle.h5w_array_laws.specs.Parts.{IsPart, Part, slot_count}
+use Rattle.h5w_cache.specs.Stores.{Store}
 use Rattle.h5w_array_laws.specs.ArrayStores.{IsMaxSet, block_at_part, bytes_at_part, data_bytes, header_place, one_data, one_secondary, place_at_part, secondary_bytes, total}
 use Rattle.h5w_flush_laws.specs.Knowledge.{IsMap}
-use Rattle.h5w_session.specs.Indexes.{IsOwn, address_in}
+use Rattle.h5w_index.specs.Views.{an_array, address_in}
+use Rattle.h5w_index.specs.Placing.{IsOwn}
 use Rattle.h5w_session.specs.Past.{HasOpened, IsNew}
 use Rattle.h5w_session.specs.Room.{HasRoomFor}
 use Rattle.h5w_session.specs.Sessions.{Session, AfterPiece, chunk_limit, cutting_of, rows_of, IsNamed}
 use Rattle.h5w_session.specs.Stands.{Stands}
 
--- The log of a session is new, over no bytes and no values, and a reader finds a file after its fifth piece; or it began over a file
--- that was opened. The columns are the dataset's, at least one. The session tells of its log how many rows are flushed and appended. At each position the image is valid
+-- The log of a session is new, over no bytes and no values, and a reader finds a file once the pieces of its creation
+-- are shown; or it began over a file that was opened. The columns are the dataset's, at least one. The session tells of its log how many rows are flushed and appended. At each position the image is valid
 -- and reads as the rows that are flushed there, and what readers rest on stays from each position to each later one. Where nothing
 -- is pending in a session that was not stopped, the image reads as all rows that were planned. The image of a session that was
 -- stopped, once a reader finds a file in it, is valid and reads as the rows that are flushed, whatever the pieces were that were
@@ -55,22 +57,22 @@ pub record IsDatasetOf (s : Session) (r : Reading) : Type 0 where
   pub chunk_columns : r.dataset.layout.chunk_cols ≡ s.dataset.layout.chunk_cols
   pub needed : needed r.dataset ≡ needed_chunks (cutting_of s) r.dataset.shape.rows
 
--- What the array's header says on the image: it stands where the dataset has it, the array's map is the file's, each block that is kept stands
+-- What an array's header says on the image: it stands where the dataset has it, the array's map is the file's, each block that is kept stands
 -- at its place, and the six numbers count these blocks and chunks: the secondary blocks and their bytes, the data blocks and their bytes, one
 -- more than the greatest chunk number that has an address, and the slots.
-pub record SaysNumbers (s : Session) (img : List ℕ) : Type 0 where
-  pub address : s.dataset.layout.address ≡ header_place s.index
+pub record SaysNumbers (s : Session) (v : Store) (img : List ℕ) : Type 0 where
+  pub address : s.dataset.layout.address ≡ header_place v
   pub map : IsMap img s.dataset (address_in s.index)
-  pub there : (k : Part) → IsPart k → IsSome (block_at_part s.index k) → At img (place_at_part s.index k) (bytes_at_part s.index k)
+  pub there : (k : Part) → IsPart k → IsSome (block_at_part v k) → At img (place_at_part v k) (bytes_at_part v k)
   pub most : ℕ
-  pub greatest : IsMaxSet s.index most
-  pub six : numbers_in (range img (header_place s.index) eahd_len) 6 12
-      ≡ total one_secondary s.index ∷ total secondary_bytes s.index ∷ total one_data s.index ∷ total data_bytes s.index ∷ most ∷ (4 + total slot_count s.index) ∷ []
+  pub greatest : IsMaxSet v most
+  pub six : numbers_in (range img (header_place v) eahd_len) 6 12
+      ≡ total one_secondary v ∷ total secondary_bytes v ∷ total one_data v ∷ total data_bytes v ∷ most ∷ (4 + total slot_count v) ∷ []
 
 -- At each position of the log of a session that created its file: whatever the image shows is a dataset of the session's shape, and is
 -- shown within all limits that allow the chunks of a session, of which few are needed, each with an address; the root header is one look, the dataset
--- header names no further block; and the image ends within the limit. Its array is one as it is made here, which the layout names; and where nothing is pending and
--- no rows wait, as after a flush whose pieces all became visible, the array's header says so on the image.
+-- header names no further block; and the image ends within the limit. Its index is one as it is made here, which the layout names; and where nothing is pending and
+-- no rows wait, as after a flush whose pieces all became visible, an array's header says so on the image.
 pub record ShownLaws : Type 0 where
   pub dataset : (s : Session) (log : Log) (p : ℕ) (r : Reading) → Stands s log → IsNew log → IsPosition log p → Shows format_limits (image_at log p) s.name r → IsDatasetOf s r
   pub shown : (s : Session) (log : Log) (limits : Limits) (p : ℕ) (r : Reading) → Stands s log → IsNew log → chunk_limit s ≤ limit_of limits s.dataset.layout.index → IsPosition log p
@@ -85,7 +87,7 @@ pub record ShownLaws : Type 0 where
   pub fits : (s : Session) (log : Log) (p : ℕ) → Stands s log → IsNew log → IsPosition log p → length (image_at log p) ≤ s.places.limit
   pub own : (s : Session) (log : Log) → Stands s log → IsNew log → IsOwn s.index
   pub named : (s : Session) (log : Log) → Stands s log → IsNew log → IsNamed s.dataset
-  pub numbers : (s : Session) (log : Log) → Stands s log → IsNew log → s.stopped ≡ false → s.pending ≡ [] → s.waits ≡ 0 → SaysNumbers s (image log.start (hist log.events))
+  pub numbers : (s : Session) (log : Log) → Stands s log → IsNew log → s.stopped ≡ false → s.pending ≡ [] → s.waits ≡ 0 → (v : Store) → s.index ≡ an_array v → SaysNumbers s v (image log.start (hist log.events))
 
 -- an image with room for a session has room for it after the oldest piece was written
 abbrev pub RoomStays : Type 0

@@ -12,11 +12,11 @@ pub use Rattle.h5w_space.specs.Space
 pub use Rattle.h5w_chunks.specs.Grids
 pub use Rattle.h5w_types.specs.Fields
 pub mod Sessions
+pub mod Codes
 pub mod Creations
 pub mod Refusals
 pub mod Indexes
 pub mod Loads
-pub mod Placing
 pub mod Past
 pub mod Stands
 pub mod Openings

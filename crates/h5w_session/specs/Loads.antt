@@ -1,11 +1,10 @@
 -- By how much calls raise the end of a session's file, by the load of its log.
-use Rattle.std.specs.Prelude.{◌≡◌, ℕ, ◌+◌, ◌<◌, ◌≤◌, max, Result, Ok, Err}
+use Rattle.std.specs.Prelude.{◌≡◌, ℕ, ◌+◌, ◌<◌, ◌≤◌, Result, Ok, Err}
 use Rattle.h5w_model.specs.Numbers.{range}
 use Rattle.h5w_model.specs.Logs.{Log, load, spent}
 use Rattle.h5w_model.specs.Superblock.{super_at}
 use Rattle.h5w_model.specs.declared.refusal.SuperError.{SuperError}
 use Rattle.h5w_model.specs.declared.root.Super.{Super}
-use Rattle.h5w_space.specs.Space.{Space}
 use Rattle.h5w_space.specs.declared.Full.{Full}
 use Rattle.h5w_session.specs.Sessions.{Session, cutting_of}
 
@@ -17,13 +16,6 @@ end_in (Err e) = 1024
 -- the end-of-file address of the file that the log began with
 abbrev pub first_end_of : Log → ℕ
 first_end_of log = end_in (super_at (range log.start 0 48))
-
--- The end rose by so many bytes at most, and not past the limit.
-pub record IsRaised (old new : Space) (most : ℕ) : Type 0 where
-  pub rises : old.end ≤ new.end
-  pub bound : new.end ≤ old.end + most
-  pub limit : new.limit ≡ old.limit
-  pub fits : new.end ≤ max old.end new.limit
 
 -- Rows wait, and the file has no place of this size there; both are bounded by the loads of the log.
 pub record NoPlace (s : Session) (log : Log) (full : Full) : Type 0 where

@@ -10,6 +10,7 @@ use Rattle.h5w_model.specs.declared.refusal.ReadError.TheVariants.{Damaged}
 use Rattle.h5w_header_laws.specs.Files.{chunk_0}
 use Rattle.h5w_cache.specs.Stores.{Store}
 use Rattle.h5w_array_laws.specs.ArrayStores.{IsArray, header_place, IsCreated}
+use Rattle.h5w_index.specs.Views.{IndexView, an_array}
 use Rattle.h5w_ea_index.specs.Opened.{IsDamaged, IsOpened, NamesNone}
 use Rattle.h5w_opening.specs.Errors.{refusal_of}
 use Rattle.h5w_opening.specs.Openings.{Opened, looked_for}
@@ -62,7 +63,7 @@ abbrev pub writing_flags : ℕ → ℕ
 writing_flags flags = flags + (1 - flags % 2) + (1 - flags / 4 % 2) * 4
 
 -- A session over what was found, with chunk 0 of the dataset header: nothing happened yet.
-abbrev pub session_over : Opened → List ℕ → Store → List ℕ → ℕ → Session
+abbrev pub session_over : Opened → List ℕ → IndexView → List ℕ → ℕ → Session
 session_over o header v name limit = record {
   name = name;
   root = o.root;
@@ -80,7 +81,7 @@ session_over o header v name limit = record {
 }
 
 -- with the superblock pending that says that the file is written
-abbrev pub opened_session : Opened → List ℕ → Store → List ℕ → ℕ → Session
+abbrev pub opened_session : Opened → List ℕ → IndexView → List ℕ → ℕ → Session
 opened_session o header v name limit = flagged (writing_flags o.root.flags) false (session_over o header v name limit)
 
 -- The session over a file of these bytes, which nothing refuses.
@@ -92,7 +93,7 @@ pub record IsOpenedOver (img : List ℕ) (size : ℕ) (name : List ℕ) (limit :
   pub unrefused : refused_open found index ≡ None
   pub array : Store
   pub kept : IsKeptArray index array
-  pub session : s ≡ opened_session found (chunk_0 img found.place) array name limit
+  pub session : s ≡ opened_session found (chunk_0 img found.place) (an_array array) name limit
 
 -- ---- The answer
 

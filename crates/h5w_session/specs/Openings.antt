@@ -8,7 +8,8 @@ use Rattle.h5w_model.specs.Tables.{Reads}
 use Rattle.h5w_model.specs.declared.root.Super.{Super}
 use Rattle.h5w_flush_laws.specs.Knowledge.{Knows}
 use Rattle.h5w_steps.specs.Moments.{Moment, Represents}
-use Rattle.h5w_session.specs.Indexes.{IsKeptIndex, address_in}
+use Rattle.h5w_index.specs.Views.{IsClean, address_in}
+use Rattle.h5w_session.specs.Indexes.{IsKeptIndex}
 use Rattle.h5w_session.specs.Past.{IsCounted}
 use Rattle.h5w_session.specs.Sessions.{Session}
 use Rattle.h5w_session.specs.Stands.{Keeps, Stands}
@@ -19,10 +20,10 @@ opened_log img columns values = record { start = img; columns = columns; values 
 
 -- The session has what the file has, its places begin where the file ends, no rows wait, and nothing is pending.
 pub record IsOver (s : Session) (img : List ℕ) (m : Moment) : Type 0 where
-  pub knows : Knows img s.name m (address_in s.index) s.places
+  pub knows : Knows img s.name m (λ key. address_in s.index key) s.places
   pub keeps : Keeps s img m
-  pub index : IsKeptIndex img m (address_in s.index) s.places s.index
-  pub clean : s.index.changed ≡ []
+  pub index : IsKeptIndex img m (λ key. address_in s.index key) s.places s.index
+  pub clean : IsClean s.index
   pub end : s.places.end ≡ m.super.end
   pub limit_low : 1024 ≤ s.places.limit
   pub limit_high : s.places.limit ≤ 2 ^ 40

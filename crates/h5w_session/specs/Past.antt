@@ -9,8 +9,9 @@ use Rattle.h5w_model.specs.Tables.{Reading, Reads, Shows, chunks_across, format_
 use Rattle.h5w_chunks.specs.Grids.{fill_cell}
 use Rattle.h5w_model.specs.declared.piece.Write.{Write}
 use Rattle.h5w_steps.specs.Moments.{Moment, reading_of}
-use Rattle.h5w_session.specs.Creations.{IsNewFile, NewFile, creation_writes, header_place, log_of, new_dataset}
-use Rattle.h5w_session.specs.Indexes.{IsOwn}
+use Rattle.h5w_index.specs.Placing.{IsOwn}
+use Rattle.h5w_creation_laws.specs.CreatedFiles.{CreatedFile, IsCreatable, created_writes, described_of, header_place}
+use Rattle.h5w_session.specs.Creations.{log_of}
 use Rattle.h5w_session.specs.Loads.{first_end_of}
 use Rattle.h5w_session.specs.Sessions.{Session, AllEndBy, cutting_of, with_rows}
 
@@ -18,16 +19,15 @@ use Rattle.h5w_session.specs.Sessions.{Session, AllEndBy, cutting_of, with_rows}
 abbrev pub AllAddressed : Reading → Type 0
 AllAddressed r = (k : ℕ) → k < needed r.dataset → get_or r.table k undefined ≢ undefined
 
--- The log began with the creation of a file, whose name, limit, header's place and dataset, but for its rows, the session has.
+-- The log began with the creation of a file, whose name, header's place and dataset, but for its rows, the session has.
 pub record HasCreated (s : Session) (log : Log) : Type 0 where
-  pub file : NewFile
-  pub is : IsNewFile file
-  pub log_is : log ≡ log_of log.events
-  pub pieces : take 5 (hist log.events) ≡ creation_writes file
+  pub file : CreatedFile
+  pub is : IsCreatable file
+  pub log_is : log ≡ log_of file log.events
+  pub pieces : take (length (created_writes file)) (hist log.events) ≡ created_writes file
   pub name : s.name ≡ file.name
   pub place : s.place ≡ header_place file
-  pub dataset : s.dataset ≡ with_rows s.dataset.shape.rows (new_dataset file)
-  pub limit : s.places.limit ≡ file.limit
+  pub dataset : s.dataset ≡ with_rows s.dataset.shape.rows (described_of file)
 
 -- The log began over a file that was opened: valid, with rows of so many columns under the session's name.
 pub record HasOpened (s : Session) (log : Log) : Type 0 where
@@ -39,14 +39,16 @@ pub record HasOpened (s : Session) (log : Log) : Type 0 where
   pub first : log.first ≡ 0
 
 -- the log is that of a session that created its file
-abbrev pub IsNew : Log → Type 0
-IsNew log = log ≡ log_of log.events
+pub record IsNew (log : Log) : Type 0 where
+  pub file : CreatedFile
+  pub is : IsCreatable file
+  pub log_is : log ≡ log_of file log.events
 
 -- the most bytes that the file may come to
 abbrev pub most_of : Session → Log → ℕ
 most_of s log = max s.places.limit (first_end_of log)
 
--- The dataset has one column, and its chunks and cells have sizes that can be counted with.
+-- The dataset has columns, and its chunks and cells have sizes that can be counted with.
 pub record IsCounted (d : Described) : Type 0 where
   pub rows : 0 < d.layout.chunk_rows
   pub cols : 0 < d.layout.chunk_cols
@@ -54,11 +56,11 @@ pub record IsCounted (d : Described) : Type 0 where
   pub few : d.int_type.size ≤ 8
   pub small : d.layout.chunk_rows * d.layout.chunk_cols * d.int_type.size < 2 ^ 32
   pub fill : length (fill_cell d) ≡ d.int_type.size
-  pub column : d.shape.cols ≡ 1
-  pub across : chunks_across d ≡ 1
+  pub columns : 0 < d.shape.cols
+  pub across : 0 < chunks_across d
 
 -- How the log began; in a file that the session created, at each position each needed chunk has an address, and so it has at the moment
--- to which the pieces left lead, and its array is one as it is made here; and the file's end and all pieces are bounded.
+-- to which the pieces left lead, and its index is one as it is made here; and the file's end and all pieces are bounded.
 pub record Past (s : Session) (left : List Write) (log : Log) (after : Moment) : Type 0 where
   pub begun : HasCreated s log ⊎ HasOpened s log
   pub counted : IsCounted s.dataset

@@ -2,27 +2,26 @@
 use Rattle.std.specs.Prelude.{◌≡◌, ◌≢◌, ◌==◌, ◌^◌, ℕ, ◌+◌, ◌-◌, ◌*◌, ◌/◌, ◌%◌, ◌<◌, ◌≤◌, Bool, true, false, List, [], ◌∷◌, ◌++◌, length, ℤ, Option, None, Some, Ok, find}
 use Rattle.h5w_model.specs.Images.{AllSized}
 use Rattle.h5w_model.specs.Superblock.{super_bytes}
-use Rattle.h5w_model.specs.Logs.{Cutting}
+use Rattle.h5w_model.specs.Logs.{Cutting, div_up}
 use Rattle.h5w_model.specs.Datasets.{Described, dataspace_kind, layout_kind}
 use Rattle.h5w_model.specs.Tables.{chunks_across, format_limits, limit_of, needed}
 use Rattle.h5w_model.specs.Numbers.{undefined}
 use Rattle.h5w_model.specs.Headers.{index_address_place, messages_at}
-use Rattle.h5w_model.specs.declared.cell.IndexKind.TheVariants.{Array}
 use Rattle.h5w_model.specs.declared.message.Msg.{Msg}
 use Rattle.h5w_model.specs.declared.root.Super.{Super}
 use Rattle.h5w_model.specs.declared.piece.Write.{Write}
 use Rattle.h5w_header_laws.specs.Files.{with_index}
 use Rattle.h5w_space.specs.Space.{Space, Commits}
-use Rattle.h5w_cache.specs.Stores.{Store}
-use Rattle.h5w_model.specs.Arrays.{eahd_len, eaib_len}
-use Rattle.h5w_array_laws.specs.Parts.{index_block}
-use Rattle.h5w_array_laws.specs.ArrayStores.{IsArray, header_place, map_of, place_at_part}
-use Rattle.h5w_chunks.specs.Grids.{cells_of, chunk_len}
+use Rattle.h5w_visits.specs.Ranges.{AllEndBy as RangesEndBy}
+use Rattle.h5w_chunks.specs.Grids.{cells_of}
+use Rattle.h5w_index.specs.Views.{IndexView, IsSound, fixed_of, kind_of}
+use Rattle.h5w_index.specs.Placing.{AreInside, Fits}
+use Rattle.h5w_index.specs.Depths.{AreWithin}
 
 -- The dataset's name; the superblock; the dataset header's place and its chunk 0; the dataset; the places of the file: all as they
 -- are once all pending pieces became visible. The rows that the file has until the last of them does; the cells of the rows that no
 -- flush has planned, and how many rows these are; the pending pieces, the oldest first; whether the session was stopped, and whether
--- what is retired stays so. Last the blocks of the index of chunks.
+-- what is retired stays so. Last the index of chunks, of either kind.
 pub record Session : Type 0 where
   pub name : List ℕ
   pub root : Super
@@ -36,7 +35,7 @@ pub record Session : Type 0 where
   pub pending : List Write
   pub stopped : Bool
   pub keeps : Bool
-  pub index : Store
+  pub index : IndexView
 
 -- the rows appended in all
 abbrev pub rows_of : Session → ℕ
@@ -92,14 +91,9 @@ pub record HasAddress (b : List ℕ) : Type 0 where
 abbrev pub IsNamed : Described → Type 0
 IsNamed d = d.layout.address ≢ undefined
 
--- each chunk that has an address, of those from the band of the next row on, ends by a place
-abbrev pub AreInside : Described → ℕ → Store → Type 0
-AreInside d end v = (i : ℕ) → d.shape.rows / d.layout.chunk_rows ≤ i → map_of v i ≢ undefined → map_of v i + chunk_len d ≤ end
-
--- the blocks in place of an array end by a place
-pub record EndInPlace (end : ℕ) (v : Store) : Type 0 where
-  pub head : header_place v + eahd_len ≤ end
-  pub block : place_at_part v index_block + eaib_len ≤ end
+-- how many bands of rows the chunks of the rows have
+abbrev pub bands_of : Session → ℕ
+bands_of s = div_up (rows_of s) s.dataset.layout.chunk_rows
 
 -- what holds of every session
 pub record IsSession (s : Session) : Type 0 where
@@ -108,9 +102,12 @@ pub record IsSession (s : Session) : Type 0 where
   pub few : needed (with_rows (rows_of s) s.dataset) ≤ chunk_limit s
   pub version : s.root.version ≡ 3
   pub begun : 48 ≤ s.places.end
-  -- the index is an array, of one chunk for each band of rows
-  pub array : s.dataset.layout.index ≡ Array
-  pub across : chunks_across s.dataset ≡ 1
+  -- the index is sound, of the dataset's kind, and of chunks that stand as the dataset's do
+  pub kind : s.dataset.layout.index ≡ kind_of s.index
+  pub sound : IsSound s.index
+  pub fits : Fits s.dataset s.index
+  -- places are held in it for chunks of the rows alone
+  pub held : AreWithin (bands_of s) (chunks_across s.dataset) s.index
   pub header : IsWritable s.header
   -- where the layout names no index yet its address can be written with the rows
   pub addressed : s.dataset.layout.address ≡ undefined → HasAddress s.header
@@ -119,8 +116,7 @@ pub record IsSession (s : Session) : Type 0 where
   pub limit : s.places.limit ≤ 2 ^ 40
   -- the chunks that rows may still go into stand in the file, and so do the blocks in place, where there are any
   pub inside : AreInside s.dataset s.places.end s.index
-  pub tops : IsNamed s.dataset → EndInPlace s.places.end s.index
-  pub blocks : IsArray s.index
+  pub tops : IsNamed s.dataset → RangesEndBy s.places.end (fixed_of s.index)
 
 -- each write ends by a place
 abbrev pub AllEndBy : ℕ → List Write → Type 0

@@ -13,8 +13,10 @@ use Rattle.h5w_steps.specs.Logs.{image_now}
 use Rattle.h5w_steps.specs.Sessions.{Runs}
 use Rattle.h5w_flush_laws.specs.Knowledge.{Knows}
 use Rattle.h5w_session.specs.Sessions.{Session, rows_of}
-use Rattle.h5w_session.specs.Indexes.{AreMarks, IsKeptIndex}
-use Rattle.h5w_session.specs.Creations.{IsNewFile, NewFile, created, creation_writes, log_of}
+use Rattle.h5w_index.specs.Marks.{IsMarked}
+use Rattle.h5w_creation_laws.specs.CreatedFiles.{CreatedFile, IsCreatable, created_writes}
+use Rattle.h5w_session.specs.Indexes.{IsKeptIndex}
+use Rattle.h5w_session.specs.Creations.{IsIndexOf, IsLimit, created, log_of}
 use Rattle.h5w_session.specs.Past.{Past}
 
 -- what the session keeps of the file is what the file is once all pieces that are left became visible
@@ -25,12 +27,14 @@ pub record Keeps (s : Session) (img : List ℕ) (m : Moment) : Type 0 where
   pub header : chunk_0 img s.place ≡ s.header
 
 -- a new file's pieces are left, and nothing else happened but that some of them became visible
-pub record Creating (f : NewFile) (s : Session) (left : List Write) (log : Log) : Type 0 where
-  pub is : IsNewFile f
+pub record Creating (f : CreatedFile) (s : Session) (left : List Write) (log : Log) : Type 0 where
+  pub is : IsCreatable f
+  pub limit : IsLimit s.places.limit
+  pub index : IsIndexOf f s.index
   pub some : left ≢ []
-  pub pieces : hist log.events ++ left ≡ creation_writes f
-  pub session : s ≡ record (created f) { pending = s.pending; stopped = s.stopped; keeps = s.keeps }
-  pub log_is : log ≡ log_of log.events
+  pub pieces : hist log.events ++ left ≡ created_writes f
+  pub session : s ≡ record (created f s.places.limit s.index) { pending = s.pending; stopped = s.stopped; keeps = s.keeps }
+  pub log_is : log ≡ log_of f log.events
   pub appended : appended_in log.events ≡ []
   pub flushed : (k : ℕ) → flushed_in k [] log.events ≡ []
 
@@ -42,7 +46,7 @@ pub record Running (s : Session) (left : List Write) (log : Log) : Type 0 where
   pub knows : Knows (image (image_now log) left) s.name after address s.places
   pub keeps : Keeps s (image (image_now log) left) after
   pub index : IsKeptIndex (image (image_now log) left) after address s.places s.index
-  pub marks : AreMarks s.dataset s.dataset.shape.rows (rows_of s) s.index
+  pub marks : IsMarked s.dataset s.dataset.shape.rows (rows_of s) s.index
   pub more : List ℤ
   pub waiting : s.waiting ≡ cells_of s.dataset more
   pub fit : first_outside s.dataset.int_type 0 more ≡ None
@@ -57,6 +61,6 @@ pub record Running (s : Session) (left : List Write) (log : Log) : Type 0 where
 pub record Stands (s : Session) (log : Log) : Type 0 where
   pub left : List Write
   pub dropped : (left ≡ s.pending) ⊎ ((s.stopped ≡ true) × (s.pending ≡ []))
-  pub phase : ((f : NewFile) × Creating f s left log) ⊎ Running s left log
+  pub phase : ((f : CreatedFile) × Creating f s left log) ⊎ Running s left log
   pub prefixed : PrefixedEach s.name log
   pub still : Still s.name log

@@ -1,37 +1,33 @@
--- A session over a file whose array is not there yet, and its first flush.
-use Rattle.std.specs.Prelude.{◌≡◌, ◌⊎◌, ℕ, ◌+◌, ◌*◌, ◌^◌, ◌<◌, ◌≤◌, true, List, [], ◌∷◌, ◌++◌, length, Some, None, ℤ}
+-- A session over a file whose index is not there yet, and its first flush.
+use Rattle.std.specs.Prelude.{◌≡◌, ◌⊎◌, ℕ, ◌+◌, ◌*◌, ◌^◌, ◌<◌, List, [], ◌∷◌, ◌++◌, length, Some, None, ℤ}
 use Rattle.h5w_model.specs.Headers.{with_rows_bytes}
 use Rattle.h5w_model.specs.Numbers.{undefined}
-use Rattle.h5w_model.specs.Findings.{chunk_bytes}
 use Rattle.h5w_model.specs.Lawful.{first_outside}
 use Rattle.h5w_model.specs.Logs.{Log, appended, flushed_rows}
-use Rattle.h5w_model.specs.Messages.{IsIntType}
-use Rattle.h5w_model.specs.Tables.{needed}
 use Rattle.h5w_model.specs.Arrays.{eahd_len, eaib_len}
+use Rattle.h5w_model.specs.Trees.{bthd_len}
 use Rattle.h5w_model.specs.declared.cell.Key.{Key}
 use Rattle.h5w_model.specs.declared.piece.Write.{Write}
-use Rattle.h5w_visits.specs.Ranges.{block_at}
-use Rattle.h5w_space.specs.Space.{Space}
-use Rattle.h5w_cache.specs.Stores.{Store, is_changed}
-use Rattle.h5w_cache.specs.declared.moves.Move.{Move}
-use Rattle.h5w_chunks.specs.Grids.{cells_of, fill_cell}
-use Rattle.h5w_chunks.specs.Rows.{RowsWritten}
-use Rattle.h5w_chunks.specs.Shares.{new_writes}
-use Rattle.h5w_chunks.specs.declared.grid.ChunkPlace.{ChunkPlace}
+use Rattle.h5w_visits.specs.Ranges.{AllEndBy, block_at}
+use Rattle.h5w_space.specs.Space.{Space, extent}
+use Rattle.h5w_cache.specs.Plans.{Took}
+use Rattle.h5w_cache.specs.Stores.{Store}
+use Rattle.h5w_chunks.specs.Grids.{cells_of}
 use Rattle.h5w_header_laws.specs.Files.{with_index}
 use Rattle.h5w_steps.specs.Moments.{Moment}
 use Rattle.h5w_steps.specs.Logs.{image_now}
 use Rattle.h5w_steps.specs.Sessions.{Runs}
-use Rattle.h5w_array_laws.specs.Parts.{index_block, number_of}
-use Rattle.h5w_array_laws.specs.ArrayPlans.{IsArrayPlan}
 use Rattle.h5w_flush_laws.specs.Spaces.{Taken}
 use Rattle.h5w_flush_laws.specs.Knowledge.{Knows}
-use Rattle.h5w_flush_laws.specs.Parts.{AreEnded}
 use Rattle.h5w_starting_laws.specs.StartCalls.{IsMade}
-use Rattle.h5w_session.specs.Sessions.{Session, chunk_limit, rows_of, with_rows}
-use Rattle.h5w_session.specs.Indexes.{IsOwn, IsStarting}
-use Rattle.h5w_session.specs.Flushes.{AreNamed, AreWays, IsFlushed, new_ranges}
-use Rattle.h5w_session.specs.Loads.{IsRaised}
+use Rattle.h5w_bt_index.specs.Index.{Index, no_tree}
+use Rattle.h5w_index.specs.Views.{IndexView, IsSound, an_array, a_tree, fixed_of, header_place, kind_of}
+use Rattle.h5w_index.specs.Marks.{IsRaised}
+use Rattle.h5w_index.specs.Placing.{IsOwn}
+use Rattle.h5w_creation_laws.specs.CreatedFiles.{index_len}
+use Rattle.h5w_session.specs.Sessions.{Session, rows_of, with_rows}
+use Rattle.h5w_session.specs.Indexes.{IsStarting}
+use Rattle.h5w_session.specs.Flushes.{ArePlanned, IsFlushed}
 use Rattle.h5w_session.specs.Stands.{Keeps}
 
 -- what Running says of such a session where nothing is pending
@@ -50,26 +46,38 @@ pub record StartRunning (s : Session) (log : Log) : Type 0 where
   pub committed : flushed_rows log ≡ s.committed
   pub columns : s.dataset.shape.cols ≡ log.columns
 
--- the session with an array that was made for it, over the places once those of its blocks are taken
-abbrev pub with_array : Store → Space → Session → Session
-with_array v t s = record s { places = t; index = v }
-
--- An array is made, for whose index block and header places are taken; this is its header's.
-pub record IsStartedAt (s : Space) (at : ℕ) (v : Store) (t : Space) : Type 0 where
+-- an array is made over places that were taken: its header's, and that of its index block, which was taken first
+pub record IsArrayMade (s : Space) (at : ℕ) (v : Store) (t : Space) : Type 0 where
   pub block : ℕ
   pub two : Taken s (block_at at eahd_len ∷ block_at block eaib_len ∷ []) t
-  pub raised : IsRaised s t (eahd_len + eaib_len)
   pub is_made : IsMade at block v
-  pub own : IsOwn v
-  pub head_in : at + eahd_len ≤ t.end
-  pub block_in : block + eaib_len ≤ t.end
 
--- the piece by which the dataset header says all rows, and where the array is
+-- a tree is made over a place that was taken, its header's
+pub record IsTreeMade (s : Space) (at place : ℕ) (v : Index) (t : Space) : Type 0 where
+  pub place_is : place ≡ at
+  pub empty : v ≡ no_tree
+  pub header : Took s t (extent at bthd_len)
+  pub ends : at + bthd_len < 2 ^ 64
+
+abbrev pub IsMadeAt : Space → ℕ → IndexView → Space → Type 0
+IsMadeAt s at (an_array v) t = IsArrayMade s at v t
+IsMadeAt s at (a_tree place v) t = IsTreeMade s at place v t
+
+-- An index without chunks is made, for whose blocks in place places are taken; this is its header's.
+pub record IsStartedAt (s : Space) (at : ℕ) (v : IndexView) (t : Space) : Type 0 where
+  pub made : IsMadeAt s at v t
+  pub sound : IsSound v
+  pub own : IsOwn v
+  pub at_place : header_place v ≡ at
+  pub raised : IsRaised s t (index_len (kind_of v))
+  pub inside : AllEndBy t.end (fixed_of v)
+
+-- the piece by which the dataset header says all rows, and where the index is
 abbrev pub naming_piece : Session → ℕ → Write
 naming_piece s at = record { at = s.place; piece = with_rows_bytes s.header (rows_of s) (Some at) }
 
 -- the session after such a flush
-abbrev pub started_of : Session → ℕ → Space → List Write → Store → Session
+abbrev pub started_of : Session → ℕ → Space → List Write → IndexView → Session
 started_of s at t ws v = record s {
   root = record (s.root) { end = t.end };
   header = (naming_piece s at).piece;
@@ -83,40 +91,19 @@ started_of s at t ws v = record s {
 
 -- A first flush of rows that wait: what each of its calls does, in their order.
 pub record IsStartFlushed (old new : Session) : Type 0 where
-  -- the layout names no array
+  -- the layout names no index
   pub absent : old.dataset.layout.address ≡ undefined
-  pub some : 0 < old.waits
-  pub small : rows_of old < 2 ^ 64
-  pub few : needed (with_rows (rows_of old) old.dataset) ≤ chunk_limit old
-  pub typed : IsIntType old.dataset.int_type
-  pub filled : length (fill_cell old.dataset) ≡ old.dataset.int_type.size
-  -- the place of the array's header, the places once those of its blocks are taken, and the array that is made there
+  -- the place of the index's header, the places once those of its blocks in place are taken, and the index that is made there
   pub at : ℕ
   pub first : Space
-  pub made : Store
+  pub made : IndexView
+  pub kind : old.dataset.layout.index ≡ kind_of made
   pub start : IsStartedAt old.places at made first
-  -- the chunks, and the array once it names them
-  pub chunks : List ChunkPlace
-  pub between : Space
-  pub taken : Taken first (new_ranges (with_array made first old) chunks) between
-  pub raised : IsRaised first between (length chunks * chunk_bytes old.dataset)
-  pub held : Store
-  pub named : AreNamed (with_array made first old) chunks held
-  pub ways : AreWays (with_array made first old) held
-  pub changed : is_changed held (number_of index_block) ≡ true
-  pub rows : List Write
-  pub exact : rows ≡ new_writes old.dataset old.waiting old.dataset.shape.rows (rows_of old) chunks
-  pub written : RowsWritten old.dataset old.waiting old.dataset.shape.rows (rows_of old) chunks rows
-  pub moves : List Move
-  pub copies : List Write
-  pub fixed : List Write
-  pub plan : IsArrayPlan held between moves copies fixed new.index new.places
-  pub supers : List Write
-  pub ended : AreEnded old.root new.places.end supers
-  -- all pieces, the header's last; the array's blocks come before the superblock
-  pub pending : new.pending ≡ rows ++ (copies ++ (fixed ++ (supers ++ naming_piece old at ∷ [])))
+  pub planned : ArePlanned old made first new.index new.places
+  -- all pieces, the header's last; the index's blocks come before the superblock
+  pub pending : new.pending ≡ planned.rows ++ (planned.copies ++ (planned.fixed ++ (planned.supers ++ naming_piece old at ∷ [])))
   pub session : new ≡ started_of old at new.places new.pending new.index
 
--- a flush of rows that wait, into a file whose array is there or is made with it
+-- a flush of rows that wait, into a file whose index is there or is made with it
 abbrev pub HasFlushed : Session → Session → Type 0
 HasFlushed old new = IsFlushed old new ⊎ IsStartFlushed old new

@@ -4,28 +4,33 @@ ghost use Rattle.h5w_model.specs.Causes.{Rose};
 ghost use Rattle.h5w_model.specs.Headers.{index_in_header, messages_at, rows_in_header, with_rows_bytes};
 ghost use Rattle.h5w_model.specs.Logs.{Log, and_now, div_up, load, plans};
 ghost use Rattle.h5w_model.specs.Tables.{chunks_across};
-ghost use Rattle.h5w_array_laws.specs.ArrayStores.{IsArray};
-ghost use Rattle.h5w_array_laws.specs.ArrayPlans.{IsArrayPlan};
-ghost use Rattle.h5w_cache.specs.Starts.{IsBegun, copy_pieces, in_place_pieces};
+ghost use Rattle.h5w_model.specs.Trees.{bthd_len};
+ghost use Rattle.h5w_model.specs.declared.cell.IndexKind.TheVariants.{Array, Tree};
+ghost use Rattle.h5w_model.specs.declared.cell.Key.{Key};
+ghost use Rattle.h5w_index.specs.Depths.{AreWithin};
+ghost use Rattle.h5w_index.specs.Held.{view_of};
+ghost use Rattle.h5w_index.specs.Marks.{IsRaised};
+ghost use Rattle.h5w_index.specs.Placing.{AreInside, Fits, IsFullPart, IsPartly, IsPlacing};
+ghost use Rattle.h5w_index.specs.Steps.{IsBegun, IsPlan, copy_pieces, in_place_pieces, next_of};
+ghost use Rattle.h5w_index.specs.Views.{IsSound, TakesKey, an_array, a_tree, kind_of};
 ghost use Rattle.std.specs.List.{slice_get};
 ghost use Rattle.h5w_chunks.specs.Grids.{IsGrid, chunk_len, dataset_of};
 ghost use Rattle.h5w_chunks.specs.declared.grid.ChunkPlace.{ChunkPlace};
 ghost use Rattle.h5w_chunks.specs.Rows.{RowsWritten};
-ghost use Rattle.h5w_chunks.specs.Shares.{new_writes, touched};
+ghost use Rattle.h5w_chunks.specs.Shares.{new_writes, share_of, touched};
 ghost use Rattle.h5w_flush_laws.specs.Parts.{AreEnded};
 ghost use Rattle.h5w_image.specs.View.{Same};
 ghost use Rattle.h5w_space.specs.declared.Full.{Full};
-ghost use Rattle.h5w_session.specs.Flushes.{IsFlushed, SameBut};
-ghost use Rattle.h5w_session.specs.Loads.{IsRaised, NoPlace};
+ghost use Rattle.h5w_session.specs.Flushes.{IsFlushed, SameBut, touched_by};
+ghost use Rattle.h5w_session.specs.Loads.{NoPlace};
 ghost use Rattle.h5w_session.specs.Starts.{HasFlushed, IsStartFlushed, IsStartedAt};
 ghost use Rattle.h5w_model.specs.Arrays.{eahd_len, eaib_len};
 ghost use Rattle.h5w_model.specs.Numbers.{undefined};
 ghost use Rattle.h5w_visits.specs.Ranges.{block_at};
 ghost use Rattle.h5w_flush_laws.specs.Spaces.{Taken};
-ghost use Rattle.h5w_session.specs.Placing.{IsPartly, IsPlacing, first_number};
-ghost use Rattle.h5w_session.specs.Refusals.{IsFullFor, IsFullPart, IsSpace, IsStartFull, IsUnplaced, flush_refusal};
-ghost use Rattle.h5w_session.specs.Room.{HasRoomFor, most_pieces, own_pieces};
-ghost use Rattle.h5w_session.specs.Sessions.{AllEndBy, AreInside, IsNamed, TakesRows, cutting_of, option_list, rows_of};
+ghost use Rattle.h5w_session.specs.Refusals.{IsArrayUnplaced, IsFullFor, IsSpace, IsStartFull, IsUnplaced, flush_refusal};
+ghost use Rattle.h5w_session.specs.Room.{HasRoomFor, chunk_pieces, most_pieces, own_pieces};
+ghost use Rattle.h5w_session.specs.Sessions.{AllEndBy, IsNamed, TakesRows, cutting_of, option_list, rows_of};
 ghost use Rattle.h5w_session.specs.Stands.{Stands};
 ghost use Rattle.h5w_session.specs.declared.refusal.FlushError.{FlushError};
 
@@ -33,20 +38,22 @@ use crate::refusal::FlushError;
 use crate::state::WriterCore;
 use crate::taking::{Taking, named_chunk, place_chunks, unset};
 use h5w_bytes::UNDEFINED;
-use h5w_cache::{Begun, Plan};
-use h5w_chunks::{ChunkPlace, Grid};
-use h5w_ea_index::ArrayIndex;
+use h5w_cache::Plan;
+use h5w_chunks::{ChunkPlace, Grid, IndexKind};
 use h5w_image::PieceWrite;
+use h5w_index::{Begun, Index};
 use h5w_model::{OutOfMemory, PIECE, Piece, Super, Write};
 use h5w_ohdr::with_rows;
 use h5w_space::{Full, Places};
 use std::alloc::Global;
 use std::mem;
 
-/// The bytes of an extensible array's index block, and of its header.
+/// The bytes of an extensible array's index block, of its header, and of a version 2 B-tree's header.
 const INDEX_BLOCK: u64 = 298;
 
 const ARRAY_HEADER: u64 = 72;
+
+const TREE_HEADER: u64 = 38;
 
 /// A flush that only has to be carried out: the writes of the new rows, with room for all that follow, and the plan of the index's blocks.
 #[derive(Drop)]
@@ -71,7 +78,7 @@ fn make_room<W: PieceWrite>(
     ensures writes { writes.new.items ≡ writes.old.items }
     ensures room { OnOk result (vec_len writes.new + (copy_pieces begun.now + in_place_pieces begun.now + 2) ≤ vec_capacity writes.new) }
     ensures pieces { OnOk result (vec_len writes.new + (copy_pieces begun.now + in_place_pieces begun.now + 2) + 1 ≤ (W.view image.new).pieces) }
-    ensures end { OnOk result (begun.now.next.end ≤ (W.view image.new).end) }
+    ensures end { OnOk result ((next_of begun.now).end ≤ (W.view image.new).end) }
     ensures image { Same (W.view image.old) (W.view image.new) }
     ensures fault { result ≡ Err FlushError.Failed → Rose (W.view image.old).faults (W.view image.new).faults }
     ensures causes { IfErr result (λ e. (e ≡ FlushError.Failed) ⊎ (e ≡ FlushError.OutOfMemory)) }
@@ -84,43 +91,60 @@ fn make_room<W: PieceWrite>(
     Ok(())
 }
 
-/// How many pieces the new rows have at most in a stored chunk.
-fn own_pieces(grid: &Grid, to: u64) -> u64
+/// How many pieces the new rows have at most in a stored chunk, of whose columns the dataset has so many.
+fn own_pieces(grid: &Grid, to: u64, columns: u64) -> u64
     requires grid { IsGrid grid.now }
-    requires one { chunks_across (dataset_of grid.now) ≡ 1 }
     requires order { grid.now.shape.rows ≤ to }
-    ensures { result ≡ own_pieces (dataset_of grid.now) grid.now.shape.rows to }
+    requires columns { columns ≤ grid.now.layout.chunk.1 }
+    ensures { result ≡ own_pieces (dataset_of grid.now) grid.now.shape.rows to columns }
 {
     let rows = (to - grid.shape.rows).min(grid.layout.chunk.0);
-    let line = grid.shape.cols * u64::from(grid.int_type.size);
-    if grid.shape.cols == grid.layout.chunk.1 {
+    let line = columns * u64::from(grid.int_type.size);
+    if columns == grid.layout.chunk.1 {
         (rows * line).div_ceil(PIECE as u64)
     } else {
         rows * line.div_ceil(PIECE as u64)
     }
 }
 
-/// Which of both is that of a chunk with this place: `own` where it is stored, else `whole`.
-fn pieces_of(place: &ChunkPlace, own: usize, whole: usize) -> usize
-    ensures { result ≡ (if place.now.stored then own else whole) }
+/// How many of its chunk's columns the dataset has in touched chunk `k`.
+fn columns_of(grid: &Grid, to: u64, k: u64) -> u64
+    requires grid { IsGrid grid.now }
+    requires known { k < touched (dataset_of grid.now) grid.now.shape.rows to }
+    ensures exact { result ≡ (share_of (dataset_of grid.now) grid.now.shape.rows to k).columns }
+    ensures bound { result ≤ grid.now.layout.chunk.1 }
 {
-    if place.stored { own } else { whole }
+    let key = grid.touched_key(grid.shape.rows, to, k);
+    let width = grid.layout.chunk.1;
+    width.min(grid.shape.cols - key.j * width)
+}
+
+/// How many pieces the writes of the new rows have at most in touched chunk `k`, which has this place.
+fn chunk_pieces(grid: &Grid, to: u64, k: u64, place: &ChunkPlace) -> u64
+    requires grid { IsGrid grid.now }
+    requires order { grid.now.shape.rows ≤ to }
+    requires known { k < touched (dataset_of grid.now) grid.now.shape.rows to }
+    ensures { result ≡ chunk_pieces (dataset_of grid.now) grid.now.shape.rows to k place.now }
+{
+    if place.stored {
+        own_pieces(grid, to, columns_of(grid, to, k))
+    } else {
+        grid.chunk_len().div_ceil(PIECE as u64)
+    }
 }
 
 /// How many pieces the writes of the new rows have at most, whose chunks have these places.
 fn most_pieces(grid: &Grid, to: u64, places: &[ChunkPlace]) -> Option<usize>
     requires grid { IsGrid grid.now }
-    requires one { chunks_across (dataset_of grid.now) ≡ 1 }
     requires order { grid.now.shape.rows ≤ to }
-    ensures sum { IfSome result (λ n. n ≡ most_pieces (dataset_of grid.now) grid.now.shape.rows to places.now) }
-    ensures enough { IfSome result (λ n. (cells : List ℕ) → length cells ≡ (to - grid.now.shape.rows) * grid.now.shape.cols * grid.now.int_type.size → length places.now ≡ touched (dataset_of grid.now) grid.now.shape.rows to
+    requires all { length places.now ≡ touched (dataset_of grid.now) grid.now.shape.rows to }
+    ensures sum { IfSome result (λ n. n ≡ most_pieces (dataset_of grid.now) grid.now.shape.rows to 0 places.now) }
+    ensures enough { IfSome result (λ n. (cells : List ℕ) → length cells ≡ (to - grid.now.shape.rows) * grid.now.shape.cols * grid.now.int_type.size
         → length (new_writes (dataset_of grid.now) cells grid.now.shape.rows to places.now) ≤ n) }
 {
-    let own = own_pieces(grid, to) as usize;
-    let whole = grid.chunk_len().div_ceil(PIECE as u64) as usize;
     let mut count = 0_usize;
-    for place in places {
-        count = count.checked_add(pieces_of(place, own, whole))?;
+    for (k, place) in places.iter().enumerate() {
+        count = count.checked_add(chunk_pieces(grid, to, k as u64, place) as usize)?;
     }
     Some(count)
 }
@@ -134,7 +158,6 @@ fn put_rows(
     after: usize,
 ) -> Result<Vec<Write>, OutOfMemory>
     requires grid { IsGrid grid.now }
-    requires one { chunks_across (dataset_of grid.now) ≡ 1 }
     requires order { grid.now.shape.rows ≤ to }
     requires count { length cells.now ≡ (to - grid.now.shape.rows) * grid.now.shape.cols * grid.now.int_type.size }
     requires all { length taking.now.chunks.items ≡ touched (dataset_of grid.now) grid.now.shape.rows to }
@@ -156,30 +179,35 @@ fn prepare<W: PieceWrite>(
     cells: &[u8],
     to: u64,
     taking: &mut Taking,
-    index: &mut ArrayIndex,
+    index: &mut Index,
     image: &mut W,
 ) -> Result<Prepared, FlushError>
     requires grid { IsGrid grid.now }
-    requires one { chunks_across (dataset_of grid.now) ≡ 1 }
     requires order { grid.now.shape.rows < to }
-    requires few { div_up to grid.now.layout.chunk.0 ≤ 131060 }
+    requires room { (to - grid.now.shape.rows) * grid.now.shape.cols < 2 ^ 64 }
+    requires few { div_up to grid.now.layout.chunk.0 * chunks_across (dataset_of grid.now) ≤ 1000000 }
     requires count { length cells.now ≡ (to - grid.now.shape.rows) * grid.now.shape.cols * grid.now.int_type.size }
-    requires inside { AreInside (dataset_of grid.now) taking.old.places.end index.old }
+    requires sound { IsSound (view_of index.old) }
+    requires fits { Fits (dataset_of grid.now) (view_of index.old) }
+    requires takes { (key : Key) → key.i < div_up to grid.now.layout.chunk.0 → TakesKey (view_of index.old) key }
+    requires within { AreWithin (div_up to grid.now.layout.chunk.0) (chunks_across (dataset_of grid.now)) (view_of index.old) }
+    requires inside { AreInside (dataset_of grid.now) taking.old.places.end (view_of index.old) }
     requires small { taking.old.places.end < 2 ^ 64 }
     requires limit { taking.old.places.limit ≤ 2 ^ 40 }
     requires no_chunks { taking.old.chunks.items ≡ [] }
     requires none_added { taking.old.added.items ≡ [] }
-    requires array { IsArray index.old }
-    ensures placed { OnOk result (IsPlacing (dataset_of grid.now) to index.old taking.old.places taking.new.chunks.items taking.new.added.items index.new taking.new.places) }
-    ensures all { OnOk result (first_number (dataset_of grid.now) + length taking.new.chunks.items ≡ div_up to grid.now.layout.chunk.0) }
+    ensures sound { IsSound (view_of index.new) }
+    ensures within { AreWithin (div_up to grid.now.layout.chunk.0) (chunks_across (dataset_of grid.now)) (view_of index.new) }
+    ensures placed { OnOk result (IsPlacing (dataset_of grid.now) to (view_of index.old) taking.old.places taking.new.chunks.items taking.new.added.items (view_of index.new) taking.new.places) }
+    ensures all { OnOk result (length taking.new.chunks.items ≡ touched (dataset_of grid.now) grid.now.shape.rows to) }
     ensures exact { IfOk result (λ p. p.writes.items ≡ new_writes (dataset_of grid.now) cells.now grid.now.shape.rows to taking.new.chunks.items) }
     ensures does { IfOk result (λ p. RowsWritten (dataset_of grid.now) cells.now grid.now.shape.rows to taking.new.chunks.items p.writes.items) }
-    ensures begun { IfOk result (λ p. IsBegun index.new.blocks index.new.places index.new.changed taking.new.places p.begun) }
+    ensures begun { IfOk result (λ p. IsBegun (view_of index.new) taking.new.places p.begun) }
     ensures room { IfOk result (λ p. vec_len p.writes + (copy_pieces p.begun + in_place_pieces p.begun + 2) ≤ vec_capacity p.writes) }
     ensures pieces { IfOk result (λ p. vec_len p.writes + (copy_pieces p.begun + in_place_pieces p.begun + 2) + 1 ≤ (W.view image.new).pieces) }
-    ensures end { IfOk result (λ p. p.begun.next.end ≤ (W.view image.new).end) }
-    ensures partly { OnErr result (IsPartly (dataset_of grid.now) to index.old taking.new.added.items index.new) }
-    ensures full { (full : Full) → result ≡ Err (FlushError.Space full) → IsFullPart (dataset_of grid.now) to index.old taking.old.places full }
+    ensures end { IfOk result (λ p. (next_of p.begun).end ≤ (W.view image.new).end) }
+    ensures partly { OnErr result (IsPartly (dataset_of grid.now) to (view_of index.old) taking.new.added.items (view_of index.new)) }
+    ensures full { (full : Full) → result ≡ Err (FlushError.Space full) → IsFullPart (dataset_of grid.now) to (view_of index.old) taking.old.places full }
     ensures image { Same (W.view image.old) (W.view image.new) }
     ensures fault { result ≡ Err FlushError.Failed → Rose (W.view image.old).faults (W.view image.new).faults }
     ensures causes { IfErr result (λ e. IsSpace e ⊎ ((e ≡ FlushError.Failed) ⊎ (e ≡ FlushError.OutOfMemory))) }
@@ -204,10 +232,9 @@ fn put_chunk<W: PieceWrite>(
     image: &mut W,
 ) -> Result<Vec<Write>, FlushError>
     requires grid { IsGrid grid.now }
-    requires one { chunks_across (dataset_of grid.now) ≡ 1 }
     requires order { grid.now.shape.rows < to }
     requires count { length cells.now ≡ (to - grid.now.shape.rows) * grid.now.shape.cols * grid.now.int_type.size }
-    requires all { first_number (dataset_of grid.now) + 1 ≡ div_up to grid.now.layout.chunk.0 }
+    requires all { touched (dataset_of grid.now) grid.now.shape.rows to ≡ 1 }
     requires ends { place.address + chunk_len (dataset_of grid.now) < 2 ^ 64 }
     ensures exact { IfOk result (λ ws. ws.items ≡ new_writes (dataset_of grid.now) cells.now grid.now.shape.rows to (place ∷ [])) }
     ensures does { IfOk result (λ ws. RowsWritten (dataset_of grid.now) cells.now grid.now.shape.rows to (place ∷ []) ws.items) }
@@ -297,7 +324,7 @@ fn join(mut writes: Vec<Write>, plan: Plan, superblock: Option<Write>, header: W
     writes
 }
 
-/// All pieces of a flush that makes the array: the rows, copies, the array's blocks, the superblock, and last the header, which names the array.
+/// All pieces of a flush that makes the index: the rows, copies, the index's blocks in place, the superblock, and last the header, which names the index.
 fn join_start(
     mut pieces: Vec<Write>,
     plan: Plan,
@@ -330,7 +357,7 @@ fn take_two(places: &mut Places) -> Result<(u64, u64), Full>
     ensures raised { OnOk result (IsRaised places.old places.new (eahd_len + eaib_len)) }
     ensures header { IfOk result (λ x. x.0 + eahd_len ≤ places.new.end) }
     ensures block { IfOk result (λ x. x.1 + eaib_len ≤ places.new.end) }
-    ensures full { IfErr result (λ full. IsUnplaced places.old full) }
+    ensures full { IfErr result (λ full. IsArrayUnplaced places.old full) }
 {
     let block = places.take(INDEX_BLOCK)?;
     let header = places.take(ARRAY_HEADER)?;
@@ -338,16 +365,51 @@ fn take_two(places: &mut Places) -> Result<(u64, u64), Full>
 }
 
 /// An array without chunks, for whose blocks places are taken, and the place of its header.
-fn start_array(alloc: Global, places: &mut Places) -> Result<(ArrayIndex, u64), FlushError>
+fn start_array(alloc: Global, places: &mut Places) -> Result<(Index, u64), FlushError>
     requires small { places.old.end < 2 ^ 64 }
     requires limit { places.old.limit ≤ 2 ^ 40 }
-    ensures started { IfOk result (λ x. IsStartedAt places.old x.1 x.0 places.new) }
-    ensures full { (full : Full) → result ≡ Err (FlushError.Space full) → IsUnplaced places.old full }
+    ensures started { IfOk result (λ x. IsStartedAt places.old x.1 (view_of x.0) places.new) }
+    ensures kind { IfOk result (λ x. kind_of (view_of x.0) ≡ Array) }
+    ensures within { IfOk result (λ x. (bands across : ℕ) → AreWithin bands across (view_of x.0)) }
+    ensures full { (full : Full) → result ≡ Err (FlushError.Space full) → IsUnplaced Array places.old full }
     ensures causes { IfErr result (λ e. IsSpace e ⊎ (e ≡ FlushError.OutOfMemory)) }
 {
     let (header, block) = take_two(places)?;
-    let index = ArrayIndex::new(alloc, header, block)?;
+    let index = Index::new_array(alloc, header, block)?;
     Ok((index, header))
+}
+
+/// A tree without chunks, for whose header a place is taken, and that place.
+fn start_tree(alloc: Global, places: &mut Places) -> Result<(Index, u64), Full>
+    requires small { places.old.end < 2 ^ 64 }
+    requires limit { places.old.limit ≤ 2 ^ 40 }
+    ensures started { IfOk result (λ x. IsStartedAt places.old x.1 (view_of x.0) places.new) }
+    ensures kind { IfOk result (λ x. kind_of (view_of x.0) ≡ Tree) }
+    ensures within { IfOk result (λ x. (bands across : ℕ) → AreWithin bands across (view_of x.0)) }
+    ensures full { IfErr result (λ full. IsUnplaced Tree places.old full) }
+{
+    let header = places.take(TREE_HEADER)?;
+    Ok((Index::new_tree(alloc, header), header))
+}
+
+/// An index without chunks, for whose blocks in place places are taken, and the place of its header.
+fn start_index(
+    alloc: Global,
+    kind: IndexKind,
+    places: &mut Places,
+) -> Result<(Index, u64), FlushError>
+    requires small { places.old.end < 2 ^ 64 }
+    requires limit { places.old.limit ≤ 2 ^ 40 }
+    ensures started { IfOk result (λ x. IsStartedAt places.old x.1 (view_of x.0) places.new) }
+    ensures kind { IfOk result (λ x. kind ≡ kind_of (view_of x.0)) }
+    ensures within { IfOk result (λ x. (bands across : ℕ) → AreWithin bands across (view_of x.0)) }
+    ensures full { (full : Full) → result ≡ Err (FlushError.Space full) → IsUnplaced kind places.old full }
+    ensures causes { IfErr result (λ e. IsSpace e ⊎ (e ≡ FlushError.OutOfMemory)) }
+{
+    match kind {
+        IndexKind::Array => start_array(alloc, places),
+        IndexKind::Tree => Ok(start_tree(alloc, places)?),
+    }
 }
 
 impl WriterCore {
@@ -356,10 +418,10 @@ impl WriterCore {
     /// index in turn; or want of memory. All memory and all places are taken here, so that nothing after it fails. Room is reserved in
     /// the image for these pieces and one more, up to the file's new end.
     ///
-    /// Where the layout names no array yet one is made: the places of its index block and then of its header are the first that are taken and
-    /// that a full file tells, and the dataset header names it with the rows.
+    /// Where the layout names no index yet one is made: the places of its blocks in place, of an array those of its index block and then of its
+    /// header, are the first that are taken and that a full file tells, and the dataset header names it with the rows.
     ///
-    /// A refused flush leaves no more than blocks of the index held, which the next flush writes in any case.
+    /// A refused flush leaves no more than places held in the index, which the next flush writes in any case.
     pub fn flush<W: PieceWrite>(&mut self, image: &mut W) -> Result<u64, FlushError>
         ensures flushed { OnOk result (TakesRows self.old self.new) }
         ensures pieces { IfOk result (λ pieces. pieces ≡ length self.new.pending) }
@@ -425,8 +487,8 @@ impl WriterCore {
     fn chunk_alone(&self) -> Option<ChunkPlace>
         requires waits { 0 < self.now.waits }
         ensures placing { IfSome result (λ p. IsPlacing self.now.dataset (rows_of self.now) self.now.index self.now.places (p ∷ []) [] self.now.index self.now.places) }
-        ensures all { IfSome result (λ p. first_number self.now.dataset + 1 ≡ div_up (rows_of self.now) self.now.dataset.layout.chunk_rows) }
-        ensures plan { IsSome result → IsArrayPlan self.now.index self.now.places [] [] [] self.now.index self.now.places }
+        ensures all { IfSome result (λ p. touched_by self.now ≡ 1) }
+        ensures plan { IsSome result → IsPlan self.now.index self.now.places [] [] [] self.now.index self.now.places }
     {
         if !self.index.is_clean() {
             return None;
@@ -444,8 +506,8 @@ impl WriterCore {
         requires there { IsNamed self.old.dataset }
         requires waits { 0 < self.old.waits }
         requires placing { IsPlacing self.old.dataset (rows_of self.old) self.old.index self.old.places (place ∷ []) [] self.old.index self.old.places }
-        requires all { first_number self.old.dataset + 1 ≡ div_up (rows_of self.old) self.old.dataset.layout.chunk_rows }
-        requires plan { IsArrayPlan self.old.index self.old.places [] [] [] self.old.index self.old.places }
+        requires all { touched_by self.old ≡ 1 }
+        requires plan { IsPlan self.old.index self.old.places [] [] [] self.old.index self.old.places }
         ensures flushed { OnOk result (IsFlushed self.old self.new) }
         ensures pieces { IfOk result (λ pieces. pieces ≡ length self.new.pending) }
         ensures ends { OnOk result (AllEndBy self.new.places.end self.new.pending) }
@@ -476,7 +538,7 @@ impl WriterCore {
         Ok(self.plan.len() as u64)
     }
 
-    /// Plans the pieces that make the rows that wait visible, into a file whose array is not there yet: it is made at two new places, and the
+    /// Plans the pieces that make the rows that wait visible, into a file whose index is not there yet: it is made at new places, and the
     /// dataset header names it. A refused flush drops it.
     fn flush_starting<W: PieceWrite>(&mut self, image: &mut W) -> Result<u64, FlushError>
         requires absent { self.old.dataset.layout.address ≡ undefined }
@@ -494,7 +556,7 @@ impl WriterCore {
         let to = self.rows();
         let alloc = *self.plan.allocator();
         let mut taking = Taking::new(alloc, self.places.copy()?);
-        let (mut index, at) = start_array(alloc, &mut taking.places)?;
+        let (mut index, at) = start_index(alloc, self.grid.layout.index, &mut taking.places)?;
         let prepared = prepare(
             &self.grid,
             &self.waiting,

@@ -12,8 +12,8 @@ pub fn standing_laws()
 {}
 
 /// At each position of the log of a session that created its file the image shows a dataset of the session's shape, within all limits
-/// that allow the chunks of a session, by one look at each header, and is no longer than the limit. Its array is one as it is made here, and
-/// where nothing is pending and no rows wait the array's header on the image tells how many blocks and chunks there are.
+/// that allow the chunks of a session, by one look at each header, and is no longer than the limit. Its index is one as it is made here, and
+/// where nothing is pending and no rows wait an array's header on the image tells how many blocks and chunks there are.
 #[tactic(auto, using(crate::proofs::LawLemmas::shown_laws))]
 pub fn shown_laws()
     ensures { ShownLaws }

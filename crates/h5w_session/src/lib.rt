@@ -1,10 +1,8 @@
 //! A session: one writer that appends rows to a dataset, and plans the pieces that make them visible.
 #![tactic(auto)]
 
-mod creation;
 mod flush;
-mod header;
-mod index;
+mod form;
 mod laws;
 mod opening;
 mod ranges;

@@ -15,6 +15,7 @@ ghost use Rattle.h5w_image.specs.View.{Looked};
 ghost use Rattle.h5w_looks.specs.Still.{IsStill};
 ghost use Rattle.h5w_chunks.specs.Grids.{IsGrid, dataset_of};
 ghost use Rattle.h5w_found.specs.Described.{described_of};
+ghost use Rattle.h5w_index.specs.Views.{an_array};
 ghost use Rattle.h5w_opening.specs.Openings.{IsFound, IsSaid, is_open};
 ghost use Rattle.h5w_opening.specs.Views.{header_fields_of, opened_of};
 ghost use Rattle.h5w_session.specs.OpenAnswers.{HasBegun, IsIndexOf, IsNotOpened, IsOpenAnswer, opened_session, writing_flags};
@@ -32,6 +33,7 @@ use h5w_chunks::{Fill, Grid};
 use h5w_ea_index::{ArrayIndex, OpenArrayError};
 use h5w_found::Dataset;
 use h5w_image::PieceRead;
+use h5w_index::Index;
 use h5w_looks::read;
 use h5w_model::{
     Cell, HeaderError, IndexKind, OutOfMemory, PIECE, Piece, ReadError, Super, Unsupported, Write,
@@ -293,7 +295,7 @@ fn writing_super(s: Super) -> Super
     }
 }
 
-/// A session over what was found, with chunk 0 of the dataset header and the index.
+/// A session over what was found, with chunk 0 of the dataset header and the array.
 fn session_over(
     alloc: Global,
     found: &Opening,
@@ -305,7 +307,7 @@ fn session_over(
     requires name { length name.now ≤ 512 }
     requires high { limit ≤ 2 ^ 40 }
     requires ready { IsReady (opened_of found.now) header index }
-    ensures session { IfOk result (λ s. s ≡ opened_session (versioned (opened_of found.now)) header index name.now limit) }
+    ensures session { IfOk result (λ s. s ≡ opened_session (versioned (opened_of found.now)) header (an_array index) name.now limit) }
     ensures reads { IfOk result (λ s. super_at (super_bytes s.root) ≡ Ok s.root) }
 {
     let root = writing_super(found.root);
@@ -325,7 +327,7 @@ fn session_over(
         spare: Vec::new(alloc),
         stopped: false,
         keeps: false,
-        index,
+        index: Index::Array(index),
     })
 }
 

@@ -6,7 +6,8 @@ ghost use Rattle.h5w_model.specs.Causes.{Rose};
 ghost use Rattle.h5w_model.specs.Logs.{Log, and_now, appended, appends, flushed_rows, rows_in, shows};
 ghost use Rattle.h5w_options.specs.Options.{AreOptions};
 ghost use Rattle.h5w_model.specs.Superblock.{super_at, super_bytes};
-ghost use Rattle.h5w_session.specs.Creations.{created, log_of, new_file};
+ghost use Rattle.h5w_session.specs.Creations.{IsCreated, new_file};
+ghost use Rattle.h5w_creation_laws.specs.CreatedFiles.{created_log};
 ghost use Rattle.h5w_image.specs.View.{Same};
 ghost use Rattle.h5w_session.specs.Room.{HasRoomFor};
 ghost use Rattle.h5w_session.specs.Sessions.{AfterPiece, AreRows, Freed, chunk_limit, chunks_with, cleared, closed_of, closed_root, rows_of, stopped_of, with_values};
@@ -15,11 +16,12 @@ ghost use Rattle.h5w_session.specs.Stands.{Stands};
 ghost use Rattle.h5w_session.specs.declared.refusal.AppendError.{AppendError};
 ghost use Rattle.h5w_session.specs.declared.refusal.CloseError.{CloseError};
 
-use crate::creation::{create_file, new_super};
+use crate::form::form_of;
 use crate::refusal::{AppendError, CloseError};
 use h5w_chunks::{Grid, IndexKind};
-use h5w_ea_index::ArrayIndex;
+use h5w_creation::create_file;
 use h5w_image::PieceWrite;
+use h5w_index::Index;
 use h5w_model::{OutOfMemory, Piece, Super, Write};
 use h5w_options::Options;
 use h5w_space::Places;
@@ -59,15 +61,20 @@ pub struct WriterCore {
     /// What is retired stays out of use.
     pub(crate) keeps: bool,
     /// The index of the chunks.
-    pub(crate) index: ArrayIndex,
+    pub(crate) index: Index,
 }
 
 impl Model for WriterCore {
     ghost use Rattle.std.specs.Prelude.{◌≤◌, length, drop, vec_capacity};
     ghost use Rattle.h5w_chunks.specs.Grids.{IsGrid, dataset_of};
+    ghost use Rattle.h5w_index.specs.Held.{view_of};
+    ghost use Rattle.std.specs.Coded.{codes};
+    ghost use Rattle.h5w_session.specs.Codes.{tree_code};
     ghost use Rattle.h5w_session.specs.Sessions.{ArePieces, IsSession, Session};
 
     ghost Value = { Session };
+
+    ghost coded = { Prim.hlevel (codes, tree_code) };
 
     ghost view = { λ w. record {
       name = w.name;
@@ -82,7 +89,7 @@ impl Model for WriterCore {
       pending = drop w.shown w.plan.items;
       stopped = w.stopped;
       keeps = w.keeps;
-      index = w.index;
+      index = view_of w.index;
     } };
 
     ghost invariant = { λ w.
@@ -99,7 +106,7 @@ impl Model for WriterCore {
           pending = drop w.shown w.plan.items;
           stopped = w.stopped;
           keeps = w.keeps;
-          index = w.index;
+          index = view_of w.index;
         })
         × IsGrid w.grid
         × ArePieces w.places.end w.plan.items
@@ -108,25 +115,29 @@ impl Model for WriterCore {
 }
 
 impl WriterCore {
-    /// A session that creates a file with a dataset of one dimension by these options. The creation's pieces are pending; they end by the
+    /// A session that creates a file with a dataset by these options. The creation's pieces are pending; they end by the
     /// file's end. Whoever makes them visible reserves room for them and one more in the image first.
     pub fn create(alloc: Global, options: &Options) -> Result<WriterCore, OutOfMemory>
         requires { AreOptions options.now }
-        ensures session { IfOk result (λ s. s ≡ created (new_file options.now)) }
-        ensures stands { IfOk result (λ s. Stands s (log_of [])) }
+        ensures session { IfOk result (λ s. IsCreated (new_file options.now) options.now.limit s) }
+        ensures stands { IfOk result (λ s. Stands s (created_log (new_file options.now))) }
     {
-        let file = create_file(alloc, options)?;
+        let name = options.name.as_slice();
+        let file = create_file(alloc, name, &form_of(options))?;
+        let mut plan = file.writes;
+        // for the piece of a close
+        plan.reserve(1).map_err(OutOfMemory::from)?;
         Ok(WriterCore {
-            name: Piece::of(options.name.as_slice()),
-            root: new_super(file.sites.end),
-            place: file.sites.header,
+            name: Piece::of(name),
+            root: file.root,
+            place: file.place,
             header: file.header,
             grid: file.grid,
-            places: Places::new(alloc, file.sites.end, options.limit),
+            places: Places::new(alloc, file.root.end, options.limit),
             committed: 0,
             waiting: Vec::new(alloc),
             waits: 0,
-            plan: file.writes,
+            plan,
             shown: 0,
             spare: Vec::new(alloc),
             stopped: false,

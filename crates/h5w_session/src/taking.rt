@@ -1,25 +1,28 @@
 //! The chunks that rows go into, and their places.
-ghost use Rattle.std.specs.Prelude.{◌≡◌, ◌⊎◌, ℕ, ◌+◌, ◌^◌, ◌<◌, ◌≤◌, [], ◌∷◌, ◌++◌, length, IfErr, IfSome, OnErr, OnOk, Err};
+ghost use Rattle.std.specs.Prelude.{◌≡◌, ◌⊎◌, ℕ, ◌+◌, ◌-◌, ◌*◌, ◌^◌, ◌<◌, ◌≤◌, [], ◌∷◌, ◌++◌, length, IfErr, IfSome, OnErr, OnOk, Err};
 ghost use Rattle.std.specs.List.{All};
 ghost use Rattle.h5w_model.specs.Datasets.{Described};
 ghost use Rattle.h5w_model.specs.Logs.{div_up};
 ghost use Rattle.h5w_model.specs.Numbers.{undefined};
 ghost use Rattle.h5w_model.specs.Tables.{chunks_across};
-ghost use Rattle.h5w_array_laws.specs.ArrayStores.{IsArray, map_of};
+ghost use Rattle.h5w_model.specs.declared.cell.Key.{Key};
 ghost use Rattle.h5w_cache.specs.Plans.{IsRefused};
-ghost use Rattle.h5w_cache.specs.Stores.{Store};
 ghost use Rattle.h5w_chunks.specs.Grids.{IsGrid, chunk_len, dataset_of};
+ghost use Rattle.h5w_chunks.specs.Shares.{touched};
 ghost use Rattle.h5w_space.specs.Space.{Space};
 ghost use Rattle.h5w_space.specs.declared.Full.{Full};
-ghost use Rattle.h5w_session.specs.Indexes.{IsTouched};
-ghost use Rattle.h5w_session.specs.Placing.{HasSlot, IsChunkFull, IsPartly, IsPlacing, first_number};
+ghost use Rattle.h5w_index.specs.Depths.{AreWithin};
+ghost use Rattle.h5w_index.specs.Held.{view_of};
+ghost use Rattle.h5w_index.specs.Marks.{IsTouched};
+ghost use Rattle.h5w_index.specs.Placing.{AreInside, Fits, IsChunkFull, IsPartly, IsPlacing, next_key};
+ghost use Rattle.h5w_index.specs.Steps.{IsDeep, IsHeld};
+ghost use Rattle.h5w_index.specs.Views.{HasSlot, IndexView, IsSound, TakesKey, address_in};
 ghost use Rattle.h5w_session.specs.Refusals.{IsSpace};
-ghost use Rattle.h5w_session.specs.Sessions.{AreInside};
 ghost use Rattle.h5w_session.specs.declared.refusal.FlushError.{FlushError};
 
 use crate::refusal::FlushError;
 use h5w_chunks::{ChunkPlace, Grid};
-use h5w_ea_index::ArrayIndex;
+use h5w_index::{Index, InsertError, Key};
 use h5w_model::OutOfMemory;
 use h5w_space::Places;
 use std::alloc::Global;
@@ -31,8 +34,8 @@ pub struct Taking {
     pub places: Places,
     /// Each chunk that the rows go into, with its place.
     pub chunks: Vec<ChunkPlace>,
-    /// The numbers of the new ones.
-    pub added: Vec<u64>,
+    /// The keys of the new ones.
+    pub added: Vec<Key>,
 }
 
 impl Taking {
@@ -59,46 +62,95 @@ fn keep<T: Copy + Drop>(items: &mut Vec<T>, item: T) -> Result<(), OutOfMemory>
     Ok(())
 }
 
-/// Gives chunk number `i` its place: that which the array names, or a new one, which the array names from now on. After a refusal the
-/// array names no more chunks than before.
-fn place_chunk(
+/// Holds a place in the index for a chunk that is not too much for it.
+fn hold(index: &mut Index, key: Key) -> Result<(), OutOfMemory>
+    requires sound { IsSound (view_of index.old) }
+    requires takes { TakesKey (view_of index.old) key }
+    requires shallow { IsDeep (view_of index.old) key → ⊥ }
+    ensures sound { IsSound (view_of index.new) }
+    ensures held { IsHeld key (view_of index.old) (view_of index.new) }
+    ensures slot { OnOk result (HasSlot (view_of index.new) key) }
+{
+    match index.hold(key) {
+        Ok(()) => Ok(()),
+        Err(InsertError::OutOfMemory) => Err(OutOfMemory),
+        Err(InsertError::Deep) => unreachable!(),
+    }
+}
+
+/// Gives a chunk that has none a new place, by which the index names it from now on. After a refusal the index names no more chunks than
+/// before.
+fn place_new(
     grid: &Grid,
-    i: u64,
+    key: Key,
     taking: &mut Taking,
-    index: &mut ArrayIndex,
+    index: &mut Index,
 ) -> Result<(), FlushError>
     requires grid { IsGrid grid.now }
-    requires one { chunks_across (dataset_of grid.now) ≡ 1 }
-    requires below { i < 131060 }
+    requires sound { IsSound (view_of index.old) }
+    requires takes { TakesKey (view_of index.old) key }
+    requires shallow { IsDeep (view_of index.old) key → ⊥ }
+    requires absent { address_in (view_of index.old) key ≡ undefined }
     requires small { taking.old.places.end < 2 ^ 64 }
     requires limit { taking.old.places.limit ≤ 2 ^ 40 }
-    ensures placed { OnOk result ((to : ℕ) (v : Store) (s : Space)
-        → IsPlacing (dataset_of grid.now) to v s taking.old.chunks.items taking.old.added.items index.old taking.old.places
-        → i ≡ first_number (dataset_of grid.now) + length taking.old.chunks.items → IsTouched (dataset_of grid.now) grid.now.shape.rows to i
-        → AreInside (dataset_of grid.now) s.end v
-        → IsPlacing (dataset_of grid.now) to v s taking.new.chunks.items taking.new.added.items index.new taking.new.places) }
+    ensures sound { IsSound (view_of index.new) }
+    ensures placed { OnOk result ((to : ℕ) (v : IndexView) (s : Space) → Fits (dataset_of grid.now) v
+        → key ≡ next_key (dataset_of grid.now) taking.old.chunks.items → length taking.old.chunks.items < touched (dataset_of grid.now) grid.now.shape.rows to
+        → IsPlacing (dataset_of grid.now) to v s taking.old.chunks.items taking.old.added.items (view_of index.old) taking.old.places
+        → IsPlacing (dataset_of grid.now) to v s taking.new.chunks.items taking.new.added.items (view_of index.new) taking.new.places) }
     ensures count { OnOk result (length taking.new.chunks.items ≡ length taking.old.chunks.items + 1) }
-    ensures partly { OnErr result ((to : ℕ) (v : Store) → IsPartly (dataset_of grid.now) to v taking.old.added.items index.old
-        → IsTouched (dataset_of grid.now) grid.now.shape.rows to i → IsPartly (dataset_of grid.now) to v taking.new.added.items index.new) }
-    ensures full { (full : Full) → result ≡ Err (FlushError.Space full)
-        → (map_of index.old i ≡ undefined) × IsRefused taking.old.places (chunk_len (dataset_of grid.now)) full }
+    ensures partly { OnErr result ((to : ℕ) (v : IndexView) → IsPartly (dataset_of grid.now) to v taking.old.added.items (view_of index.old)
+        → IsTouched (dataset_of grid.now) grid.now.shape.rows to key → IsPartly (dataset_of grid.now) to v taking.new.added.items (view_of index.new)) }
+    ensures within { (bands across : ℕ) → key.i < bands → key.j < across → AreWithin bands across (view_of index.old) → AreWithin bands across (view_of index.new) }
+    ensures full { (full : Full) → result ≡ Err (FlushError.Space full) → IsRefused taking.old.places (chunk_len (dataset_of grid.now)) full }
     ensures causes { IfErr result (λ e. IsSpace e ⊎ (e ≡ FlushError.OutOfMemory)) }
 {
-    if let Some(address) = index.get(i) {
-        let stored = i * grid.layout.chunk.0 < grid.shape.rows;
-        keep(&mut taking.chunks, ChunkPlace { address, stored })?;
-        return Ok(());
-    }
-    index.hold(i)?;
+    hold(index, key)?;
     let address = taking.places.take(grid.chunk_len())?;
     let place = ChunkPlace {
         address,
         stored: false,
     };
     keep(&mut taking.chunks, place)?;
-    keep(&mut taking.added, i)?;
-    index.set(i, address);
+    keep(&mut taking.added, key)?;
+    index.set(key, address);
     Ok(())
+}
+
+/// Gives a chunk its place: that which the index names, or a new one, which the index names from now on. After a refusal the index names no
+/// more chunks than before.
+fn place_chunk(
+    grid: &Grid,
+    key: Key,
+    taking: &mut Taking,
+    index: &mut Index,
+) -> Result<(), FlushError>
+    requires grid { IsGrid grid.now }
+    requires sound { IsSound (view_of index.old) }
+    requires takes { TakesKey (view_of index.old) key }
+    requires shallow { IsDeep (view_of index.old) key → ⊥ }
+    requires row { key.i * grid.now.layout.chunk.0 < 2 ^ 64 }
+    requires small { taking.old.places.end < 2 ^ 64 }
+    requires limit { taking.old.places.limit ≤ 2 ^ 40 }
+    ensures sound { IsSound (view_of index.new) }
+    ensures placed { OnOk result ((to : ℕ) (v : IndexView) (s : Space) → Fits (dataset_of grid.now) v → AreInside (dataset_of grid.now) s.end v
+        → key ≡ next_key (dataset_of grid.now) taking.old.chunks.items → length taking.old.chunks.items < touched (dataset_of grid.now) grid.now.shape.rows to
+        → IsPlacing (dataset_of grid.now) to v s taking.old.chunks.items taking.old.added.items (view_of index.old) taking.old.places
+        → IsPlacing (dataset_of grid.now) to v s taking.new.chunks.items taking.new.added.items (view_of index.new) taking.new.places) }
+    ensures count { OnOk result (length taking.new.chunks.items ≡ length taking.old.chunks.items + 1) }
+    ensures partly { OnErr result ((to : ℕ) (v : IndexView) → IsPartly (dataset_of grid.now) to v taking.old.added.items (view_of index.old)
+        → IsTouched (dataset_of grid.now) grid.now.shape.rows to key → IsPartly (dataset_of grid.now) to v taking.new.added.items (view_of index.new)) }
+    ensures within { (bands across : ℕ) → key.i < bands → key.j < across → AreWithin bands across (view_of index.old) → AreWithin bands across (view_of index.new) }
+    ensures full { (full : Full) → result ≡ Err (FlushError.Space full)
+        → (address_in (view_of index.old) key ≡ undefined) × IsRefused taking.old.places (chunk_len (dataset_of grid.now)) full }
+    ensures causes { IfErr result (λ e. IsSpace e ⊎ (e ≡ FlushError.OutOfMemory)) }
+{
+    if let Some(address) = index.get(key) {
+        let stored = key.i * grid.layout.chunk.0 < grid.shape.rows;
+        keep(&mut taking.chunks, ChunkPlace { address, stored })?;
+        return Ok(());
+    }
+    place_new(grid, key, taking, index)
 }
 
 /// Gives each chunk that the rows up to but not including `to` go into its place. After a refusal some of the new ones have an address.
@@ -106,57 +158,69 @@ pub fn place_chunks(
     grid: &Grid,
     to: u64,
     taking: &mut Taking,
-    index: &mut ArrayIndex,
+    index: &mut Index,
 ) -> Result<(), FlushError>
     requires grid { IsGrid grid.now }
-    requires one { chunks_across (dataset_of grid.now) ≡ 1 }
     requires order { grid.now.shape.rows < to }
-    requires few { div_up to grid.now.layout.chunk.0 ≤ 131060 }
-    requires inside { AreInside (dataset_of grid.now) taking.old.places.end index.old }
+    requires room { (to - grid.now.shape.rows) * grid.now.shape.cols < 2 ^ 64 }
+    requires few { div_up to grid.now.layout.chunk.0 * chunks_across (dataset_of grid.now) ≤ 1000000 }
+    requires sound { IsSound (view_of index.old) }
+    requires fits { Fits (dataset_of grid.now) (view_of index.old) }
+    requires takes { (key : Key) → key.i < div_up to grid.now.layout.chunk.0 → TakesKey (view_of index.old) key }
+    requires within { AreWithin (div_up to grid.now.layout.chunk.0) (chunks_across (dataset_of grid.now)) (view_of index.old) }
+    requires inside { AreInside (dataset_of grid.now) taking.old.places.end (view_of index.old) }
     requires small { taking.old.places.end < 2 ^ 64 }
     requires limit { taking.old.places.limit ≤ 2 ^ 40 }
     requires no_chunks { taking.old.chunks.items ≡ [] }
     requires none_added { taking.old.added.items ≡ [] }
-    requires array { IsArray index.old }
-    ensures placed { OnOk result (IsPlacing (dataset_of grid.now) to index.old taking.old.places taking.new.chunks.items taking.new.added.items index.new taking.new.places) }
-    ensures all { OnOk result (first_number (dataset_of grid.now) + length taking.new.chunks.items ≡ div_up to grid.now.layout.chunk.0) }
-    ensures partly { OnErr result (IsPartly (dataset_of grid.now) to index.old taking.new.added.items index.new) }
-    ensures full { (full : Full) → result ≡ Err (FlushError.Space full) → IsChunkFull (dataset_of grid.now) to index.old taking.old.places full }
+    ensures sound { IsSound (view_of index.new) }
+    ensures placed { OnOk result (IsPlacing (dataset_of grid.now) to (view_of index.old) taking.old.places taking.new.chunks.items taking.new.added.items (view_of index.new) taking.new.places) }
+    ensures all { OnOk result (length taking.new.chunks.items ≡ touched (dataset_of grid.now) grid.now.shape.rows to) }
+    ensures partly { OnErr result (IsPartly (dataset_of grid.now) to (view_of index.old) taking.new.added.items (view_of index.new)) }
+    ensures within { AreWithin (div_up to grid.now.layout.chunk.0) (chunks_across (dataset_of grid.now)) (view_of index.new) }
+    ensures full { (full : Full) → result ≡ Err (FlushError.Space full) → IsChunkFull (dataset_of grid.now) to (view_of index.old) taking.old.places full }
     ensures causes { IfErr result (λ e. IsSpace e ⊎ (e ≡ FlushError.OutOfMemory)) }
 {
-    let rows = grid.layout.chunk.0;
-    for i in grid.shape.rows / rows..to.div_ceil(rows) {
-        place_chunk(grid, i, taking, index)?;
+    let from = grid.shape.rows;
+    for k in 0..grid.touched(from, to) {
+        let key = grid.touched_key(from, to, k);
+        place_chunk(grid, key, taking, index)?;
     }
     Ok(())
 }
 
-/// The chunk that all rows up to but not including `to` go into, where it is one alone and the array names its place.
-pub fn named_chunk(grid: &Grid, to: u64, index: &ArrayIndex) -> Option<ChunkPlace>
+/// The chunk that all rows up to but not including `to` go into, where it is one alone and the index names its place.
+pub fn named_chunk(grid: &Grid, to: u64, index: &Index) -> Option<ChunkPlace>
     requires grid { IsGrid grid.now }
-    requires one { chunks_across (dataset_of grid.now) ≡ 1 }
     requires order { grid.now.shape.rows < to }
-    requires few { div_up to grid.now.layout.chunk.0 ≤ 131060 }
-    ensures placed { IfSome result (λ p. (s : Space) → AreInside (dataset_of grid.now) s.end index.now → IsPlacing (dataset_of grid.now) to index.now s (p ∷ []) [] index.now s) }
-    ensures all { IfSome result (λ p. first_number (dataset_of grid.now) + 1 ≡ div_up to grid.now.layout.chunk.0) }
+    requires room { (to - grid.now.shape.rows) * grid.now.shape.cols < 2 ^ 64 }
+    requires few { div_up to grid.now.layout.chunk.0 * chunks_across (dataset_of grid.now) ≤ 1000000 }
+    requires sound { IsSound (view_of index.now) }
+    requires fits { Fits (dataset_of grid.now) (view_of index.now) }
+    requires takes { (key : Key) → key.i < div_up to grid.now.layout.chunk.0 → TakesKey (view_of index.now) key }
+    ensures placed { IfSome result (λ p. (s : Space) → AreInside (dataset_of grid.now) s.end (view_of index.now)
+        → IsPlacing (dataset_of grid.now) to (view_of index.now) s (p ∷ []) [] (view_of index.now) s) }
+    ensures all { IfSome result (λ p. touched (dataset_of grid.now) grid.now.shape.rows to ≡ 1) }
 {
-    let rows = grid.layout.chunk.0;
-    let i = grid.shape.rows / rows;
-    let last = to.div_ceil(rows);
-    if last != i + 1 {
+    let from = grid.shape.rows;
+    if grid.touched(from, to) != 1 {
         return None;
     }
-    let address = index.get(i)?;
-    let stored = i * rows < grid.shape.rows;
+    let key = grid.touched_key(from, to, 0);
+    let address = index.get(key)?;
+    let stored = key.i * grid.layout.chunk.0 < from;
     Some(ChunkPlace { address, stored })
 }
 
-/// Chunks of these numbers have no address, as before.
-pub fn unset(added: &[u64], index: &mut ArrayIndex)
-    requires { All (HasSlot index.old) added.now }
-    ensures { (d : Described) (to : ℕ) (v : Store) → IsPartly d to v added.now index.old → IsPartly d to v [] index.new }
+/// Chunks of these keys have no address, as before.
+pub fn unset(added: &[Key], index: &mut Index)
+    requires sound { IsSound (view_of index.old) }
+    requires slots { All (HasSlot (view_of index.old)) added.now }
+    ensures sound { IsSound (view_of index.new) }
+    ensures taken_back { (d : Described) (to : ℕ) (v : IndexView) → IsPartly d to v added.now (view_of index.old) → IsPartly d to v [] (view_of index.new) }
+    ensures within { (bands across : ℕ) → AreWithin bands across (view_of index.old) → AreWithin bands across (view_of index.new) }
 {
-    for i in added {
-        index.unset(*i);
+    for key in added {
+        index.unset(*key);
     }
 }

@@ -1,5 +1,5 @@
 //! What the trials of a session have in common.
-ghost use Rattle.std.specs.Prelude.{◌≤◌, length, IfSome};
+ghost use Rattle.std.specs.Prelude.{◌*◌, ◌≤◌, length, IfSome};
 ghost use Rattle.h5w_model.specs.Messages.{IsIntType};
 ghost use Rattle.h5w_options.specs.Options.{HasValue};
 ghost use Rattle.h5w_types.specs.Fields.{int_type_of};
@@ -38,12 +38,14 @@ pub fn create(
     requires typed { IsIntType (int_type_of int_type) }
     requires some_rows { 1 ≤ chunk_rows }
     requires chunk_bound { chunk_rows ≤ 65536 }
+    requires small { chunk_rows * 1 * int_type.size ≤ 16777216 }
     requires filled { IfSome fill (HasValue (int_type_of int_type)) }
 {
     let options = Options {
         name: Bytes::from_vec(Vec::from_slice(rt.alloc(), name)?),
         int_type,
         chunk_rows,
+        columns: None,
         fill,
         limit: 1 << 40,
     };

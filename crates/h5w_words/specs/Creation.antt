@@ -1,6 +1,7 @@
--- By what a file is created: --type T --chunk R [--fill V] [--name N] [--limit B]
-use Rattle.std.specs.Prelude.{ℕ, ◌^◌, true, false, List, Option, option_map, option_and_then, codes, ℤ}
+-- By what a file is created: --type T --chunk R [--columns M --width C] [--fill V] [--name N] [--limit B]
+use Rattle.std.specs.Prelude.{ℕ, ◌*◌, ◌^◌, true, false, nat_lt, if◌then◌else◌, List, Option, Some, None, option_map, option_and_then, codes, ℤ}
 use Rattle.clap.specs.Words.{App, Row, Text, first_of, with_rule}
+use Rattle.h5w_options.specs.Options.{width_in}
 use Rattle.h5w_options.specs.declared.options.Options.{Options}
 use Rattle.h5w_types.specs.Fields.{int_type_of}
 use Rattle.h5w_types.specs.declared.int_type.IntType.{IntType}
@@ -10,8 +11,8 @@ use Rattle.h5w_words.specs.Types.{fill_given, type_named}
 -- a command with the arguments that a file is created by
 abbrev pub with_creation : App → App
 with_creation app =
-    with_rule (with_rule (with_rule (with_rule (with_rule app (option_rule (codes "type") true)) (option_rule (codes "chunk") true)) (option_rule (codes "fill") false))
-    (option_rule (codes "name") false)) (option_rule (codes "limit") false)
+    with_rule (with_rule (with_rule (with_rule (with_rule (with_rule (with_rule app (option_rule (codes "type") true)) (option_rule (codes "chunk") true)) (option_rule (codes "columns") false))
+    (option_rule (codes "width") false)) (option_rule (codes "fill") false)) (option_rule (codes "name") false)) (option_rule (codes "limit") false)
 
 -- the type of the integers
 abbrev pub type_of : List Row → Option IntType
@@ -20,6 +21,16 @@ type_of rows = option_and_then type_named (first_of (codes "type") rows)
 -- 1 to 65,536
 abbrev pub chunk_rows_of : List Row → Option ℕ
 chunk_rows_of rows = count_given 1 65536 (first_of (codes "chunk") rows)
+
+-- the columns of a row and of a chunk, 1 to 65,536 each: both are given, or neither
+abbrev pub columns_by : Option Text → Option Text → Option (Option (ℕ × ℕ))
+columns_by None None = Some None
+columns_by None (Some width) = None
+columns_by (Some columns) None = None
+columns_by (Some columns) (Some width) = option_and_then (λ m. option_map (λ c. Some (m, c)) (count_given 1 65536 (Some width))) (count_given 1 65536 (Some columns))
+
+abbrev pub columns_of : List Row → Option (Option (ℕ × ℕ))
+columns_of rows = columns_by (first_of (codes "columns") rows) (first_of (codes "width") rows)
 
 -- the dataset's name; where none is given, data
 abbrev pub name_of : List Row → Option Text
@@ -33,11 +44,15 @@ limit_of rows = count_or (2 ^ 40) 1024 (2 ^ 40) (first_of (codes "limit") rows)
 abbrev pub fill_of : List Row → IntType → Option (Option ℤ)
 fill_of rows t = fill_given (int_type_of t) (first_of (codes "fill") rows)
 
+-- a chunk has at most 16,777,216 bytes
+abbrev pub of_chunks : Options → Option Options
+of_chunks o = if nat_lt 16777216 (o.chunk_rows * width_in o.columns * o.int_type.size) then None else Some o
+
 -- the options of a file whose dataset has this name and type
 abbrev pub named_options : List Row → Text → IntType → Option Options
 named_options rows name t =
-    option_and_then (λ chunk_rows. option_and_then (λ fill. option_map (λ limit.
-    record { name = name; int_type = t; chunk_rows = chunk_rows; fill = fill; limit = limit }) (limit_of rows)) (fill_of rows t)) (chunk_rows_of rows)
+    option_and_then (λ chunk_rows. option_and_then (λ columns. option_and_then (λ fill. option_and_then (λ limit.
+    of_chunks (record { name = name; int_type = t; chunk_rows = chunk_rows; columns = columns; fill = fill; limit = limit })) (limit_of rows)) (fill_of rows t)) (columns_of rows)) (chunk_rows_of rows)
 
 -- the options of a file that is created
 abbrev pub options_of : List Row → Option Options

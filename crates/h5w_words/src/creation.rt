@@ -1,11 +1,11 @@
 //! By what a file is created.
-ghost use Rattle.std.specs.Prelude.{◌≡◌, ◌≤◌, ◌⊎◌, None, Some, IfErr, IfOk, IfSome, length};
+ghost use Rattle.std.specs.Prelude.{◌≡◌, ◌*◌, ◌≤◌, ◌⊎◌, None, Some, IfErr, IfOk, IfSome, length};
 ghost use Rattle.h5w_model.specs.Messages.{IsIntType};
-ghost use Rattle.h5w_options.specs.Options.{AreOptions};
+ghost use Rattle.h5w_options.specs.Options.{AreColumns, AreOptions, width_in};
 ghost use Rattle.h5w_types.specs.Fields.{int_type_of};
 ghost use Rattle.clap.specs.Words.{app_of, found_of, rows_of};
 ghost use Rattle.h5w_words.specs.Arguments.{has_globals};
-ghost use Rattle.h5w_words.specs.Creation.{named_options, options_of, type_of, with_creation};
+ghost use Rattle.h5w_words.specs.Creation.{columns_of, named_options, options_of, type_of, with_creation};
 
 use crate::arguments::{option, option_or};
 use crate::job::WordsError;
@@ -19,6 +19,12 @@ use std::alloc::{AllocError, Global};
 /// The most bytes that a file may have.
 const LIMIT: u64 = 1 << 40;
 
+/// The most rows of a chunk, and columns of a row and of a chunk.
+const SIDE: u64 = 65_536;
+
+/// The most bytes of a chunk.
+const CHUNK: u64 = 16_777_216;
+
 /// The arguments that a file is created by.
 pub fn creation<'a>(alloc: Global, command: Command<'a>) -> Result<Command<'a>, AllocError>
     ensures shape { IfOk result (λ c. app_of c ≡ with_creation (app_of command.entry)) }
@@ -26,6 +32,8 @@ pub fn creation<'a>(alloc: Global, command: Command<'a>) -> Result<Command<'a>, 
 {
     let command = option(alloc, command, "type")?;
     let command = option(alloc, command, "chunk")?;
+    let command = option_or(alloc, command, "columns")?;
+    let command = option_or(alloc, command, "width")?;
     let command = option_or(alloc, command, "fill")?;
     let command = option_or(alloc, command, "name")?;
     let command = option_or(alloc, command, "limit")?;
@@ -38,6 +46,36 @@ fn type_given(options: &ArgMatches<'_>) -> Option<IntType>
     ensures typed { IfSome result (λ t. IsIntType (int_type_of t)) }
 {
     type_named(text(options, "type")?.as_bytes())
+}
+
+/// The columns of a row and of a chunk; None where they are not both given or not within their limits.
+fn columns_given(options: &ArgMatches<'_>) -> Option<Option<(u64, u64)>>
+    ensures columns { result ≡ columns_of (rows_of (found_of options.now)) }
+    ensures limits { IfSome result (λ c. IfSome c AreColumns) }
+{
+    match (text(options, "columns"), text(options, "width")) {
+        (None, None) => Some(None),
+        (Some(_), Some(_)) => {
+            let columns = count(options, "columns", 1, SIDE)?;
+            let width = count(options, "width", 1, SIDE)?;
+            Some(Some((columns, width)))
+        }
+        _ => None,
+    }
+}
+
+/// The bytes of a chunk.
+fn chunk_bytes(options: &Options) -> u64
+    requires rows { options.now.chunk_rows ≤ 65536 }
+    requires columns { IfSome options.now.columns AreColumns }
+    requires typed { IsIntType (int_type_of options.now.int_type) }
+    ensures { result ≡ options.now.chunk_rows * width_in options.now.columns * options.now.int_type.size }
+{
+    let width = match options.columns {
+        Some((_, width)) => width,
+        None => 1,
+    };
+    options.chunk_rows * width * u64::from(options.int_type.size)
 }
 
 /// What the options say of a file with a dataset of this name and type; `Usage` where a number is not within its limits.
@@ -53,16 +91,22 @@ fn numbers_given(
     ensures usage { IfErr result (λ e. named_options (rows_of (found_of options.now)) name int_type ≡ None) }
     ensures limits { IfOk result AreOptions }
 {
-    let chunk_rows = count(options, "chunk", 1, 65_536).ok_or(WordsError::Usage)?;
+    let chunk_rows = count(options, "chunk", 1, SIDE).ok_or(WordsError::Usage)?;
+    let columns = columns_given(options).ok_or(WordsError::Usage)?;
     let fill = fill_given(text(options, "fill"), &int_type).ok_or(WordsError::Usage)?;
     let limit = count_or(options, "limit", LIMIT, 1_024, LIMIT).ok_or(WordsError::Usage)?;
-    Ok(Options {
+    let options = Options {
         name,
         int_type,
         chunk_rows,
+        columns,
         fill,
         limit,
-    })
+    };
+    if chunk_bytes(&options) > CHUNK {
+        return Err(WordsError::Usage);
+    }
+    Ok(options)
 }
 
 /// What the options say of a file that is created; `Usage` where they are outside the command set.

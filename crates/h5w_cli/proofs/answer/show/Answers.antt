@@ -2,8 +2,11 @@ use Rattle.std.proofs.Common.{ℕ, ◌-◌, ◌≡◌, length, min, subst, sym, 
 use Rattle.h5w_model.specs.Lawful.{shows_up_to}
 use Rattle.h5w_model.specs.declared.reply.Reply.TheVariants.{Written}
 use Rattle.h5w_cli.specs.Answers.{Answers}
-use Rattle.h5w_cli.proofs.ShowLemmas.{Shown, line_shown, more_shown}
+use Rattle.h5w_cli.proofs.ShowLemmas.{Shown, line_shown, more_shown, none_shown}
 use Rattle.h5w_cli.proofs.answer.show.Goals as goal
+
+pub loop-init : goal.loop-init
+loop-init c = none_shown c.args.world.now
 
 pub loop-preserved : goal.loop-preserved
 loop-preserved c =

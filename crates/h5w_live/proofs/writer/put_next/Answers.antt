@@ -6,18 +6,18 @@ use Rattle.h5w_live.proofs.WriterLemmas.{empty_flushed, refuses}
 use Rattle.h5w_live.proofs.writer.put_next.Goals as goal
 
 pub returns-then-is_empty-clause-flushed : goal.returns-then-is_empty-clause-flushed
-returns-then-is_empty-clause-flushed g c = λ f done h. empty_flushed f done c.args.values.now c.args.session.now c.args.seat.now c.args.lines.now.items (search rules) h
+returns-then-is_empty-clause-flushed g c = λ f most done h. empty_flushed f most done c.args.values.now c.args.session.now c.args.seat.now c.args.lines.now.items (search rules) h
 
 pub returns-in-Ok-push-clause-flushed : goal.returns-in-Ok-push-clause-flushed
-returns-in-Ok-push-clause-flushed g c = λ f done h.
-    subst (λ (ls : List FlushLine). HasFlushed f (done ++ c.args.values.now ∷ []) c.put.new.session c.put.new.seat ls) (sym c.in-Ok-push.ensures.items)
-    (c.in-Ok.ensures.flushed f done c.args.lines.now.items h)
+returns-in-Ok-push-clause-flushed g c = λ f most done h.
+    subst (λ (ls : List FlushLine). HasFlushed f most (done ++ c.args.values.now ∷ []) c.put.new.session c.put.new.seat ls) (sym c.in-Ok-push.ensures.items)
+    (c.in-Ok.ensures.flushed f most done c.args.lines.now.items h)
 
 pub returns-in-Ok-push-clause-accepted : goal.returns-in-Ok-push-clause-accepted
-returns-in-Ok-push-clause-accepted g c = λ f done h. c.in-Ok.ensures.accepted f done c.args.lines.now.items h
+returns-in-Ok-push-clause-accepted g c = λ f most done h. c.in-Ok.ensures.accepted f most done c.args.lines.now.items h
 
 pub returns-in-Err-clause-refused : goal.returns-in-Err-clause-refused
-returns-in-Err-clause-refused g c = λ f done h.
-    refuses f done c.args.values.now c.in-Err.halt (λ index value same. c.put.ensures.range f done c.args.lines.now.items h index value (c.in-Err.is ∙ ap Err same))
-    (λ chunks limit same. c.put.ensures.chunks f done c.args.lines.now.items h chunks limit (c.in-Err.is ∙ ap Err same))
-    (λ full same. c.put.ensures.space f done c.args.lines.now.items h full (c.in-Err.is ∙ ap Err same))
+returns-in-Err-clause-refused g c = λ f most done h.
+    refuses f most done c.args.values.now c.in-Err.halt (λ index value same. c.put.ensures.range f most done c.args.lines.now.items h index value (c.in-Err.is ∙ ap Err same))
+    (λ chunks limit same. c.put.ensures.chunks f most done c.args.lines.now.items h chunks limit (c.in-Err.is ∙ ap Err same))
+    (λ full same. c.put.ensures.space f most done c.args.lines.now.items h full (c.in-Err.is ∙ ap Err same))

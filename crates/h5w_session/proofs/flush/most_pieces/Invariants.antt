@@ -3,5 +3,5 @@ use Rattle.h5w_chunks.specs.Grids.{dataset_of}
 use Rattle.h5w_session.specs.Room.{most_pieces}
 use Rattle.h5w_session.proofs.flush.most_pieces.Given as goal
 
-abbrev pub invariant-loop-place : goal.invariant-loop-place
-invariant-loop-place l = l.count + most_pieces (dataset_of l.grid) l.grid.shape.rows l.to (drop l.place-index l.places) ≡ most_pieces (dataset_of l.grid) l.grid.shape.rows l.to l.places
+abbrev pub invariant-loop-k : goal.invariant-loop-k
+invariant-loop-k l = l.count + most_pieces (dataset_of l.grid) l.grid.shape.rows l.to l.k (drop l.k l.places) ≡ most_pieces (dataset_of l.grid) l.grid.shape.rows l.to 0 l.places

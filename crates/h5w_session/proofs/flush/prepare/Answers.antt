@@ -1,9 +1,8 @@
-use Rattle.std.proofs.Common.{rules, ◌≡◌, length, Err, sym, ◌∙◌, inr, arith}
-use Rattle.h5w_cache.specs.Plans.{HasNoRoom}
-use Rattle.h5w_chunks.specs.Grids.{dataset_of}
+use Rattle.std.proofs.Common.{rules, ◌≡◌, Err, sym, ◌∙◌, inr, arith}
 use Rattle.h5w_space.specs.declared.Full.{Full}
+use Rattle.h5w_index.specs.Held.{view_of}
+use Rattle.h5w_index.specs.Steps.{HasNoPlace}
 use Rattle.h5w_session.specs.Refusals.{plan_fault}
-use Rattle.h5w_session.proofs.PlacingLemmas.{all_touched}
 use Rattle.h5w_session.proofs.TakingLemmas.{full_of, plan_causes}
 use Rattle.h5w_session.proofs.flush.prepare.Goals as goal
 
@@ -12,9 +11,6 @@ put_rows-requires-clause-ends g c k p at =
     let placed = c.in_ok-place_chunks.ensures.placed in
     omega (arith, placed.inside k p at, placed.raised.fits, c.requires.small, placed.raised.limit, c.requires.limit)
 
-pub put_rows-requires-clause-all : goal.put_rows-requires-clause-all
-put_rows-requires-clause-all g c = all_touched (dataset_of c.args.grid.now) c.args.to (length c.place_chunks.new.taking.chunks.items) c.requires.one c.requires.order c.in_ok-place_chunks.ensures.all
-
 pub returns-in_err-begun-clause-causes : goal.returns-in_err-begun-clause-causes
 returns-in_err-begun-clause-causes g c =
     let told : c.from_residual-in_err-begun.result ≡ Err (plan_fault c.in_err-begun.field-0.0) = search rules in
@@ -22,8 +18,7 @@ returns-in_err-begun-clause-causes g c =
 
 pub returns-in_err-begun-clause-full : goal.returns-in_err-begun-clause-full
 returns-in_err-begun-clause-full g c full is =
-    let d = dataset_of c.args.grid.now in
-    let held = c.place_chunks.new.index in
+    let held = view_of c.place_chunks.new.index in
     let between = c.place_chunks.new.taking.places in
     let told : c.from_residual-in_err-begun.result ≡ Err (plan_fault c.in_err-begun.field-0.0) = search rules in
     inr (record {
@@ -31,8 +26,7 @@ returns-in_err-begun-clause-full g c full is =
       added = c.place_chunks.new.taking.added.items;
       held = held;
       between = between;
-      once = c.in_err-begun.ensures.once;
       placing = c.in_ok-place_chunks.ensures.placed;
-      all = all_touched d c.args.to (length c.place_chunks.new.taking.chunks.items) c.requires.one c.requires.order c.in_ok-place_chunks.ensures.all;
-      refused = full_of c.in_err-begun.field-0.0 full (λ (f : Full). HasNoRoom held.blocks held.places held.changed between f) (sym told ∙ is) c.in_err-begun.ensures.full;
+      all = c.in_ok-place_chunks.ensures.all;
+      refused = full_of c.in_err-begun.field-0.0 full (λ (f : Full). HasNoPlace held between f) (sym told ∙ is) c.in_err-begun.ensures.full;
     })

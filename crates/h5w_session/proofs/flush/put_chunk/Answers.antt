@@ -2,11 +2,7 @@ use Rattle.std.proofs.Common.{◌≡◌, ℕ, zero, suc, ◌+◌, ◌^◌, ◌<�
 use Rattle.std.specs.List.{slice_get}
 use Rattle.h5w_chunks.specs.Grids.{chunk_len, dataset_of}
 use Rattle.h5w_chunks.specs.declared.grid.ChunkPlace.{ChunkPlace}
-use Rattle.h5w_session.proofs.PlacingLemmas.{all_touched}
 use Rattle.h5w_session.proofs.flush.put_chunk.Goals as goal
-
-pub new_bytes-requires-clause-places : goal.new_bytes-requires-clause-places
-new_bytes-requires-clause-places g c = all_touched (dataset_of c.args.grid.now) c.args.to 1 c.requires.one c.requires.order c.requires.all
 
 pub new_bytes-requires-clause-ends : goal.new_bytes-requires-clause-ends
 new_bytes-requires-clause-ends g c k p at = go k at

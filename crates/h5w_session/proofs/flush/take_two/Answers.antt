@@ -2,9 +2,9 @@ use Rattle.std.proofs.Common.{◌≡◌, Err, rules}
 use Rattle.h5w_cache.specs.Plans.{Took}
 use Rattle.h5w_space.specs.Space.{extent}
 use Rattle.h5w_starting_laws.proofs.StartCallLemmas.{two_taken}
+use Rattle.h5w_index.proofs.RaisedLemmas.{raised_one}
 use Rattle.h5w_session.specs.Refusals.{no_header}
-use Rattle.h5w_session.proofs.RaisedLemmas.{raised_one}
-use Rattle.h5w_session.proofs.StartCarriedLemmas.{refused_so}
+use Rattle.h5w_session.proofs.IndexStarts.{refused_so}
 use Rattle.h5w_session.proofs.flush.take_two.Goals as goal
 
 pub returns-in_err-header-clause-full : goal.returns-in_err-header-clause-full

@@ -1,54 +1,117 @@
-use Rattle.std.proofs.Common.{rules, ◌≡◌, ◌≤◌, length, ap, sym, ◌∙◌, subst, inr, arith, ℕ}
-use Rattle.h5w_array_laws.specs.ArrayStores.{map_of}
-use Rattle.h5w_model.specs.Numbers.{undefined}
+use Rattle.std.proofs.Common.{rules, ◌≡◌, [], List, length, ap, sym, refl, ◌∙◌, subst, arith}
+use Rattle.h5w_model.specs.declared.cell.Key.{Key}
 use Rattle.h5w_chunks.specs.Grids.{dataset_of}
-use Rattle.h5w_chunks.proofs.Geometry.{ceil_is_up}
-use Rattle.h5w_session.specs.Indexes.{IsTouched}
-use Rattle.h5w_session.proofs.TakingLemmas.{first_below, on_err, touched_here}
+use Rattle.h5w_chunks.specs.declared.grid.ChunkPlace.{ChunkPlace}
+use Rattle.h5w_chunks.proofs.Geometry.{is_cut}
+use Rattle.h5w_index.specs.Held.{view_of}
+use Rattle.h5w_index.specs.Placing.{IsPlacing}
+use Rattle.h5w_index.proofs.PlacingLemmas.{placing_laws}
+use Rattle.h5w_session.proofs.TakingLemmas.{absent_before, next_in, not_deep, on_err}
 use Rattle.h5w_session.proofs.taking.place_chunks.Goals as goal
+
+pub place_chunk-requires-clause-sound : goal.place_chunk-requires-clause-sound
+place_chunk-requires-clause-sound c = c.loop-k.invariant.placing.partly.like.sound
+
+pub place_chunk-requires-clause-takes : goal.place_chunk-requires-clause-takes
+place_chunk-requires-clause-takes c =
+    let d = dataset_of c.args.grid.now in
+    let inv = c.loop-k.invariant in
+    let key = c.touched_key-key.result in
+    let next = next_in d c.args.to c.loop-k.k c.touched-k-end.result key c.loop-k.taking.chunks.items (is_cut c.args.grid.now c.requires.grid) c.touched-k-end.ensures c.loop-k-test.true inv.count c.touched_key-key.ensures.exact in
+    inv.placing.partly.like.takes key (c.requires.takes key next.row)
+
+pub place_chunk-requires-clause-shallow : goal.place_chunk-requires-clause-shallow
+place_chunk-requires-clause-shallow c deep =
+    let inv = c.loop-k.invariant in
+    not_deep _ _ c.touched_key-key.result (view_of c.loop-k.index) inv.placing.partly.like.sound inv.within c.requires.few deep
+
+pub place_chunk-requires-clause-row : goal.place_chunk-requires-clause-row
+place_chunk-requires-clause-row c =
+    let d = dataset_of c.args.grid.now in
+    let inv = c.loop-k.invariant in
+    let key = c.touched_key-key.result in
+    let next = next_in d c.args.to c.loop-k.k c.touched-k-end.result key c.loop-k.taking.chunks.items (is_cut c.args.grid.now c.requires.grid) c.touched-k-end.ensures c.loop-k-test.true inv.count c.touched_key-key.ensures.exact in
+    omega (arith, next.start)
+
+pub place_chunk-requires-clause-small : goal.place_chunk-requires-clause-small
+place_chunk-requires-clause-small c =
+    let raised = c.loop-k.invariant.placing.raised in
+    omega (arith, raised.fits, raised.limit, c.requires.small, c.requires.limit)
+
+pub place_chunk-requires-clause-limit : goal.place_chunk-requires-clause-limit
+place_chunk-requires-clause-limit c = omega (arith, c.loop-k.invariant.placing.raised.limit, c.requires.limit)
+
+pub loop-k-init : goal.loop-k-init
+loop-k-init c =
+    let d = dataset_of c.args.grid.now in
+    let v = view_of c.args.index.now in
+    let s = c.args.taking.now.places in
+    let added = c.args.taking.now.added.items in
+    record {
+      placing =
+          subst (λ (ps : List ChunkPlace). IsPlacing d c.args.to v s ps added v s) (sym c.requires.no_chunks)
+          (subst (λ (ks : List Key). IsPlacing d c.args.to v s [] ks v s) (sym c.requires.none_added) (placing_laws.none d c.args.to v s s c.requires.sound refl refl refl refl));
+      count = ap length c.requires.no_chunks;
+      within = c.requires.within;
+    }
+
+pub loop-k-preserved : goal.loop-k-preserved
+loop-k-preserved c =
+    let d = dataset_of c.args.grid.now in
+    let inv = c.loop-k.invariant in
+    let v = view_of c.args.index.now in
+    let s = c.args.taking.now.places in
+    let key = c.touched_key-key.result in
+    let next = next_in d c.args.to c.loop-k.k c.touched-k-end.result key c.loop-k.taking.chunks.items (is_cut c.args.grid.now c.requires.grid) c.touched-k-end.ensures c.loop-k-test.true inv.count c.touched_key-key.ensures.exact in
+    record {
+      placing = c.in_ok-place_chunk.ensures.placed c.args.to v s c.requires.fits c.requires.inside next.number next.inside inv.placing;
+      count = omega (arith, inv.count, c.in_ok-place_chunk.ensures.count);
+      within = c.place_chunk.ensures.within _ _ next.row next.column inv.within;
+    }
 
 pub returns-in_err-place_chunk-clause-partly : goal.returns-in_err-place_chunk-clause-partly
 returns-in_err-place_chunk-clause-partly c =
     let d = dataset_of c.args.grid.now in
-    let inv = c.loop-i.invariant in
-    let touched = touched_here d c.args.to c.loop-i.i (length c.loop-i.taking.chunks.items) c.div_ceil-i-end.result c.requires.order inv.count c.div_ceil-i-end.ensures c.requires.grid.chunked.rows c.loop-i-test.true in
-    on_err c.from_residual.result (c.in_err-place_chunk.ensures.partly c.args.to c.args.index.now inv.placing.partly touched)
+    let inv = c.loop-k.invariant in
+    let key = c.touched_key-key.result in
+    let next = next_in d c.args.to c.loop-k.k c.touched-k-end.result key c.loop-k.taking.chunks.items (is_cut c.args.grid.now c.requires.grid) c.touched-k-end.ensures c.loop-k-test.true inv.count c.touched_key-key.ensures.exact in
+    on_err c.from_residual.result (c.in_err-place_chunk.ensures.partly c.args.to (view_of c.args.index.now) inv.placing.partly next.touched_is)
+
+pub returns-in_err-place_chunk-clause-within : goal.returns-in_err-place_chunk-clause-within
+returns-in_err-place_chunk-clause-within c =
+    let d = dataset_of c.args.grid.now in
+    let inv = c.loop-k.invariant in
+    let key = c.touched_key-key.result in
+    let next = next_in d c.args.to c.loop-k.k c.touched-k-end.result key c.loop-k.taking.chunks.items (is_cut c.args.grid.now c.requires.grid) c.touched-k-end.ensures c.loop-k-test.true inv.count c.touched_key-key.ensures.exact in
+    c.place_chunk.ensures.within _ _ next.row next.column inv.within
 
 pub returns-in_err-place_chunk-clause-full : goal.returns-in_err-place_chunk-clause-full
 returns-in_err-place_chunk-clause-full c full is =
     let d = dataset_of c.args.grid.now in
-    let inv = c.loop-i.invariant in
-    let v = c.args.index.now in
-    let touched = touched_here d c.args.to c.loop-i.i (length c.loop-i.taking.chunks.items) c.div_ceil-i-end.result c.requires.order inv.count c.div_ceil-i-end.ensures c.requires.grid.chunked.rows c.loop-i-test.true in
+    let inv = c.loop-k.invariant in
+    let v = view_of c.args.index.now in
+    let w = view_of c.loop-k.index in
+    let s = c.args.taking.now.places in
+    let t = c.loop-k.taking.places in
+    let chunks = c.loop-k.taking.chunks.items in
+    let added = c.loop-k.taking.added.items in
+    let key = c.touched_key-key.result in
+    let next = next_in d c.args.to c.loop-k.k c.touched-k-end.result key chunks (is_cut c.args.grid.now c.requires.grid) c.touched-k-end.ensures c.loop-k-test.true inv.count c.touched_key-key.ensures.exact in
     let same : c.place_chunk.result ≡ c.from_residual.result = search rules in
     let told = c.place_chunk.ensures.full full (same ∙ is) in
-    let absent : map_of v c.loop-i.i ≡ undefined = sym (inv.placing.others c.loop-i.i (inr (omega (arith, inv.count)))) ∙ told.0 in
     record {
-      chunks = c.loop-i.taking.chunks.items;
-      added = c.loop-i.taking.added.items;
-      w = c.loop-i.index;
-      t = c.loop-i.taking.places;
+      chunks = chunks;
+      added = added;
+      w = w;
+      t = t;
       placing = inv.placing;
-      touched = subst (λ (n : ℕ). IsTouched d d.shape.rows c.args.to n) (sym inv.count) touched;
-      absent = ap (map_of v) inv.count ∙ absent;
+      inside = next.inside;
+      absent = absent_before d c.args.to v w s t chunks added key c.requires.fits inv.placing next.number told.0;
       refused = told.1;
     }
 
-pub loop-i-preserved : goal.loop-i-preserved
-loop-i-preserved c =
-    let d = dataset_of c.args.grid.now in
-    let inv = c.loop-i.invariant in
-    let touched = touched_here d c.args.to c.loop-i.i (length c.loop-i.taking.chunks.items) c.div_ceil-i-end.result c.requires.order inv.count c.div_ceil-i-end.ensures c.requires.grid.chunked.rows c.loop-i-test.true in
-    record {
-      placing = c.in_ok-place_chunk.ensures.placed c.args.to c.args.index.now c.args.taking.now.places inv.placing (sym inv.count) touched c.requires.inside;
-      count = omega (arith, inv.count, c.in_ok-place_chunk.ensures.count);
-    }
+pub returns-clause-sound : goal.returns-clause-sound
+returns-clause-sound c = c.loop-k.invariant.placing.partly.like.sound
 
 pub returns-clause-all : goal.returns-clause-all
-returns-clause-all c =
-    let d = dataset_of c.args.grid.now in
-    let some = c.requires.grid.chunked.rows in
-    let up = ceil_is_up c.args.to d.layout.chunk_rows some in
-    let first = first_below d.shape.rows c.args.to d.layout.chunk_rows c.requires.order some in
-    let within : c.loop-i.i ≤ c.div_ceil-i-end.result = c.loop-i.auto.i-end (omega (arith, first, up, c.div_ceil-i-end.ensures)) in
-    omega (arith, c.loop-i.invariant.count, c.loop-i-test.false, within, up, c.div_ceil-i-end.ensures)
+returns-clause-all c = omega (arith, c.loop-k.invariant.count, c.loop-k-test.false, c.loop-k.auto.k-end, c.touched-k-end.ensures)

@@ -1,12 +1,13 @@
-use Rattle.std.proofs.Common.{◌≡◌, ℤ, Ok, refl, rules, subst, sym, to_z, of_z}
+use Rattle.std.proofs.Common.{◌≡◌, ℤ, None, Ok, Err, ap, refl, rules, subst, sym, to_z, of_z}
 use Rattle.std.specs.Int.{w128}
 use Rattle.h5w_model.specs.declared.event.Event.TheVariants as events
 use Rattle.h5w_model.specs.declared.reply.Reply.TheVariants as replies
-use Rattle.h5w_core.specs.Worlds.{Steps}
+use Rattle.h5w_core.specs.Worlds.{AreRowsBy, Steps, WorldView, rules_of}
 use Rattle.h5w_core.proofs.WorldLemmas.{world_of}
-use Rattle.h5w_core.proofs.AppendLemmas.{append_done, refused_done}
+use Rattle.h5w_core.proofs.AppendLemmas.{append_done, append_memory, refused_done}
+use Rattle.h5w_session.specs.Refusals.{append_refusal}
 use Rattle.h5w_session.specs.declared.refusal.AppendError.TheVariants as errors
-use Rattle.h5w_core.proofs.HoldLemmas.{append_hold, appended_stands, are_rows, are_rows_of, same_stands}
+use Rattle.h5w_core.proofs.HoldLemmas.{append_hold, appended_stands, same_stands}
 use Rattle.h5w_core.proofs.world.World.append.Goals as goal
 use Rattle.h5w_core.proofs.world.World.append.Goals.{in-Ok, in-Err-Stopped, in-Err-Busy, in-Err-OutOfRange, in-Err-Chunks, in-Err-OutOfMemory}
 
@@ -18,7 +19,7 @@ returns-clause-steps c =
     let n = c.append.new.image in
     let attempts = c.self.inside.attempts in
     let vs = c.args.values.now in
-    let rows = are_rows_of s m attempts c.self.inside.readers.items c.args.self.now vs c.self.view_is c.self.invariant in
+    let rows = c.requires in
     elim c.match-append.branch [
       | in-Ok w ↦
           let e = w.in-Ok.ensures in
@@ -46,12 +47,12 @@ invariant_of-self c =
     let i = c.self.inside in
     let e = c.append.ensures in
     append_hold i.session c.append.new.self i.image c.append.new.image i.attempts i.readers.items c.args.values.now c.append.result
-    (are_rows i.session i.image i.attempts i.readers.items c.args.values.now c.self.invariant) c.self.invariant e.image e.added e.rows e.stands e.refused e.kept e.room
+    (subst (λ (x : WorldView). AreRowsBy (rules_of x) c.args.values.now) (sym c.self.view_is) c.requires) c.self.invariant e.image e.added e.rows e.stands e.refused e.kept e.room
 
 pub append-requires : goal.append-requires
 append-requires c =
     let i = c.self.inside in
-    record { rows = are_rows i.session i.image i.attempts i.readers.items c.args.values.now c.self.invariant }
+    record { rows = subst (λ (x : WorldView). AreRowsBy (rules_of x) c.args.values.now) (sym c.self.view_is) c.requires }
 
 pub returns-clause-logged : goal.returns-clause-logged
 returns-clause-logged c =
@@ -77,4 +78,19 @@ returns-clause-logged c =
           let e = b.in-Err-Chunks.ensures in
           rw b.result-is (λ log stood. same_stands i.session t i.image n i.attempts places places c.args.self.now log c.self.view_is e.image e.kept stood)
       | in-Err-OutOfMemory b ↦ rw b.result-is tt
+    ]
+
+pub returns-clause-memory : goal.returns-clause-memory
+returns-clause-memory c =
+    elim c.match-append.branch [
+      | in-Ok b ↦ rw b.result-is tt
+      | in-Err-Stopped b ↦ rw b.result-is tt
+      | in-Err-Busy b ↦ rw b.result-is tt
+      | in-Err-OutOfRange b ↦ rw b.result-is tt
+      | in-Err-Chunks b ↦ rw b.result-is tt
+      | in-Err-OutOfMemory b ↦
+          let e = b.in-Err-OutOfMemory in
+          rw b.result-is
+          (subst (λ (x : WorldView). append_refusal x.session c.args.values.now ≡ None) c.self.view_is
+          (append_memory c.self.inside.session c.args.values.now (Err e.field-0) e.ensures.refused (ap Err e.field-0-is)))
     ]

@@ -1,5 +1,6 @@
-use Rattle.std.proofs.Common.{ap, ◌∙◌, sym}
+use Rattle.std.proofs.Common.{ap, ◌∙◌, sym, subst}
 use Rattle.h5w_model.specs.declared.event.Event.TheVariants as events
+use Rattle.h5w_core.specs.Worlds.{AreRowsBy, IsHeard, rules_of}
 use Rattle.h5w_core.proofs.StepLemmas.{lawful_if_ok, step_lawful}
 use Rattle.h5w_core.proofs.world.World.step.Goals as goal
 
@@ -35,3 +36,8 @@ returns-in-Look-clause-lawful c =
 pub returns-in-Stop-clause-lawful : goal.returns-in-Stop-clause-lawful
 returns-in-Stop-clause-lawful c =
     step_lawful c.args.self.now c.stop.new.self c.args.event events.Stop c.stop.result (sym c.in-Stop.is) c.stop.ensures.steps
+
+pub append-requires : goal.append-requires
+append-requires c =
+    let g = rules_of c.args.self.now in
+    subst (AreRowsBy g) (sym c.as_slice.ensures) (subst (IsHeard g) c.in-Append.is c.requires)

@@ -1,9 +1,83 @@
-use Rattle.std.proofs.Common.{[], drop, subst}
+use Rattle.std.proofs.Common.{◌≡◌, ◌<◌, ◌-◌, ◌*◌, ◌^◌, ◌∙◌, [], ℕ, drop, ap, sym, subst, arith}
+use Rattle.h5w_model.proofs.IntegerLemmas.{int_size_bounds}
 use Rattle.h5w_chunks.specs.Grids.{dataset_of}
-use Rattle.h5w_array_laws.specs.ArrayPlans.{IsArrayPlan}
-use Rattle.h5w_session.specs.Sessions.{IsSession, Session}
-use Rattle.h5w_session.proofs.AloneLemmas.{map_some, placing_in}
+use Rattle.h5w_index.specs.Held.{view_of}
+use Rattle.h5w_index.specs.Steps.{IsPlan}
+use Rattle.h5w_session.specs.Sessions.{IsSession, Session, rows_of}
+use Rattle.h5w_session.proofs.AloneLemmas.{map_some, placing_in, touched_in}
+use Rattle.h5w_session.proofs.CarriedLemmas.{asks_for, values_few}
 use Rattle.h5w_session.proofs.state.WriterCore.chunk_alone.Goals as goal
+
+pub named_chunk-requires-clause-few : goal.named_chunk-requires-clause-few
+named_chunk-requires-clause-few c =
+    let i = c.self.inside in
+    let v : Session = record {
+      name = i.name;
+      root = i.root;
+      place = i.place;
+      header = i.header;
+      dataset = dataset_of i.grid;
+      places = i.places;
+      committed = i.committed;
+      waiting = i.waiting.items;
+      waits = i.waits;
+      pending = drop i.shown i.plan.items;
+      stopped = i.stopped;
+      keeps = i.keeps;
+      index = view_of i.index;
+    } in
+    let is : IsSession v = c.self.invariant.0 in
+    let to = c.rows.result in
+    let to_is : to ≡ rows_of v = c.rows.ensures.value ∙ ap rows_of (sym c.self.view_is) in
+    (asks_for v to is to_is).few
+
+pub named_chunk-requires-clause-takes : goal.named_chunk-requires-clause-takes
+named_chunk-requires-clause-takes c =
+    let i = c.self.inside in
+    let v : Session = record {
+      name = i.name;
+      root = i.root;
+      place = i.place;
+      header = i.header;
+      dataset = dataset_of i.grid;
+      places = i.places;
+      committed = i.committed;
+      waiting = i.waiting.items;
+      waits = i.waits;
+      pending = drop i.shown i.plan.items;
+      stopped = i.stopped;
+      keeps = i.keeps;
+      index = view_of i.index;
+    } in
+    let is : IsSession v = c.self.invariant.0 in
+    let to = c.rows.result in
+    let to_is : to ≡ rows_of v = c.rows.ensures.value ∙ ap rows_of (sym c.self.view_is) in
+    (asks_for v to is to_is).takes
+
+pub named_chunk-requires-clause-room : goal.named_chunk-requires-clause-room
+named_chunk-requires-clause-room c =
+    let i = c.self.inside in
+    let v : Session = record {
+      name = i.name;
+      root = i.root;
+      place = i.place;
+      header = i.header;
+      dataset = dataset_of i.grid;
+      places = i.places;
+      committed = i.committed;
+      waiting = i.waiting.items;
+      waits = i.waits;
+      pending = drop i.shown i.plan.items;
+      stopped = i.stopped;
+      keeps = i.keeps;
+      index = view_of i.index;
+    } in
+    let is : IsSession v = c.self.invariant.0 in
+    let to = c.rows.result in
+    let to_is : to ≡ rows_of v = c.rows.ensures.value ∙ ap rows_of (sym c.self.view_is) in
+    let few : i.waits * i.grid.shape.cols < 2 ^ 64 = values_few v (2 ^ 64) is (int_size_bounds i.grid.int_type.size c.self.invariant.1.typed).0 (omega (arith, i.waiting.ok)) in
+    let less : to - i.grid.shape.rows ≡ i.waits = omega (arith, to_is) in
+    subst (λ (n : ℕ). n * i.grid.shape.cols < 2 ^ 64) (sym less) few
 
 pub returns-clause-placing : goal.returns-clause-placing
 returns-clause-placing c =
@@ -21,10 +95,30 @@ returns-clause-placing c =
       pending = drop i.shown i.plan.items;
       stopped = i.stopped;
       keeps = i.keeps;
-      index = i.index;
+      index = view_of i.index;
     } in
     let is : IsSession v = c.self.invariant.0 in
     map_some c.named_chunk.result (λ p placed. placing_in v c.args.self.now c.rows.result p c.self.view_is c.rows.ensures.value (placed v.places is.inside)) c.named_chunk.ensures.placed
+
+pub returns-clause-all : goal.returns-clause-all
+returns-clause-all c =
+    let i = c.self.inside in
+    let v : Session = record {
+      name = i.name;
+      root = i.root;
+      place = i.place;
+      header = i.header;
+      dataset = dataset_of i.grid;
+      places = i.places;
+      committed = i.committed;
+      waiting = i.waiting.items;
+      waits = i.waits;
+      pending = drop i.shown i.plan.items;
+      stopped = i.stopped;
+      keeps = i.keeps;
+      index = view_of i.index;
+    } in
+    map_some c.named_chunk.result (λ p all. touched_in v c.args.self.now c.rows.result 1 c.self.view_is c.rows.ensures.value all) c.named_chunk.ensures.all
 
 pub returns-clause-plan : goal.returns-clause-plan
 returns-clause-plan c some =
@@ -42,6 +136,6 @@ returns-clause-plan c some =
       pending = drop i.shown i.plan.items;
       stopped = i.stopped;
       keeps = i.keeps;
-      index = i.index;
+      index = view_of i.index;
     } in
-    subst (λ (s : Session). IsArrayPlan s.index s.places [] [] [] s.index s.places) c.self.view_is (c.is_clean.ensures.planned c.if-not-is_clean.false v.places)
+    subst (λ (s : Session). IsPlan s.index s.places [] [] [] s.index s.places) c.self.view_is (c.is_clean.ensures.planned c.if-not-is_clean.false v.places)

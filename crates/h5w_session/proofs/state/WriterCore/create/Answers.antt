@@ -1,78 +1,106 @@
-use Rattle.std.proofs.Common.{arith, false, ◌≡◌, ◌∙◌, [], ap, sym, subst, List, ℕ}
+use Rattle.std.proofs.Common.{rules, arith, false, ◌≡◌, ◌+◌, ◌≤◌, ◌∙◌, vec_len, vec_capacity, ap, sym, subst, List, ℕ}
 use Rattle.h5w_model.specs.declared.piece.Write.{Write}
-use Rattle.h5w_space.specs.Space.{Space}
+use Rattle.h5w_model.specs.declared.root.Super.{Super}
 use Rattle.h5w_chunks.specs.Grids.{dataset_of}
+use Rattle.h5w_header_laws.specs.Spelled.{spelled_header}
+use Rattle.h5w_index.specs.Held.{view_of}
+use Rattle.h5w_creation.specs.Forms.{created_by}
+use Rattle.h5w_creation.specs.Made.{IsNewIndex}
+use Rattle.h5w_creation_laws.specs.CreatedFiles.{CreatedFile, block_place, created_log, created_writes, described_of, end_of, header_place, index_place, super_of}
 use Rattle.h5w_session.specs.Sessions.{ArePieces, IsSession, Session}
-use Rattle.h5w_session.specs.Creations.{array_place, created, creation_writes, first_end, index_place, log_of, new_array, new_file, new_super, places_to, root_place}
-use Rattle.h5w_session.proofs.CreationLemmas.{created_pieces, is_new}
-use Rattle.h5w_session.proofs.SessionStarts.{created_is}
+use Rattle.h5w_session.specs.Creations.{IsIndexOf, IsLimit, created, new_file, places_to}
 use Rattle.h5w_session.specs.Stands.{Stands}
-use Rattle.h5w_session.proofs.ArrayStarts.{created_array}
+use Rattle.h5w_session.proofs.OptionLemmas.{creatable}
+use Rattle.h5w_session.proofs.SessionStarts.{created_is, created_pieces}
 use Rattle.h5w_session.proofs.CreatingLemmas.{creation_begins}
 use Rattle.h5w_session.proofs.state.WriterCore.create.Goals as goal
+use Rattle.h5w_session.proofs.state.WriterCore.create.Goals.{After-new-3}
 
 -- the session that is made
-abbrev made : goal.After-new-3 → Session
+abbrev made : After-new-3 → Session
 made c = record {
   name = c.of.result;
-  root = c.new_super.result;
-  place = c.in_ok-file.file.sites.header;
+  root = c.in_ok-file.file.root;
+  place = c.in_ok-file.file.place;
   header = c.in_ok-file.file.header;
   dataset = dataset_of c.in_ok-file.file.grid;
   places = c.new.result;
   committed = 0;
   waiting = c.new-2.result.items;
   waits = 0;
-  pending = c.in_ok-file.file.writes.items;
+  pending = c.reserve.new.self.items;
   stopped = false;
   keeps = false;
-  index = c.in_ok-file.file.index;
+  index = view_of c.in_ok-file.file.index;
 }
 
-created_here : (c : goal.After-new-3) → made c ≡ created (new_file c.args.options.now)
-created_here c =
+-- by what the file is created
+file_here : (c : After-new-3) → created_by c.as_slice-name.result.now c.form_of.result ≡ new_file c.args.options.now
+file_here c = ap (λ (n : List ℕ). created_by n c.form_of.result) c.as_slice-name.ensures ∙ c.form_of.ensures.file
+
+made_here : (c : After-new-3) → made c ≡ created (new_file c.args.options.now) c.args.options.now.limit (view_of c.in_ok-file.file.index)
+made_here c =
     let o = c.args.options.now in
     let f = new_file o in
-    let named : c.of.result ≡ o.name = c.of.ensures ∙ c.as_slice.ensures in
-    let end : c.in_ok-file.file.sites.end ≡ first_end f = c.in_ok-file.ensures.end in
-    let root : c.new_super.result ≡ new_super f = c.new_super.ensures ∙ ap (λ (e : ℕ). record { version = 3; flags = 5; end = e; root = root_place }) end in
-    let places : c.new.result ≡ places_to (first_end f) o.limit = c.new.ensures ∙ ap (λ (e : ℕ). places_to e o.limit) end in
-    let array : c.in_ok-file.file.index ≡ new_array (array_place f) (index_place f) = created_array (array_place f) (index_place f) c.in_ok-file.file.index c.in_ok-file.ensures.index in
+    let file = file_here c in
+    let named : c.of.result ≡ o.name = c.of.ensures ∙ c.as_slice-name.ensures in
+    let root : c.in_ok-file.file.root ≡ super_of f = c.in_ok-file.ensures.root ∙ ap super_of file in
+    let place : c.in_ok-file.file.place ≡ header_place f = c.in_ok-file.ensures.place ∙ ap header_place file in
+    let header : c.in_ok-file.file.header ≡ spelled_header (described_of f) = c.in_ok-file.ensures.header ∙ ap (λ (x : CreatedFile). spelled_header (described_of x)) file in
+    let dataset : dataset_of c.in_ok-file.file.grid ≡ described_of f = c.in_ok-file.ensures.dataset ∙ ap described_of file in
+    let places : c.new.result ≡ places_to (end_of f) o.limit = c.new.ensures ∙ ap (λ (r : Super). places_to r.end o.limit) root in
+    let writes : c.reserve.new.self.items ≡ created_writes f = c.reserve.ensures.items ∙ c.in_ok-file.ensures.writes ∙ ap created_writes file in
     λ k. record {
       name = named k;
       root = root k;
-      place = c.in_ok-file.ensures.place k;
-      header = c.in_ok-file.ensures.header k;
-      dataset = c.in_ok-file.ensures.dataset k;
+      place = place k;
+      header = header k;
+      dataset = dataset k;
       places = places k;
       committed = 0;
       waiting = c.new-2.ensures.items k;
       waits = 0;
-      pending = c.in_ok-file.ensures.writes k;
+      pending = writes k;
       stopped = false;
       keeps = false;
-      index = array k;
+      index = view_of c.in_ok-file.file.index;
     }
+
+index_here : (c : After-new-3) → IsIndexOf (new_file c.args.options.now) (view_of c.in_ok-file.file.index)
+index_here c =
+    let o = c.args.options.now in
+    let v = view_of c.in_ok-file.file.index in
+    record {
+      sound = c.in_ok-file.ensures.sound;
+      new = subst (λ (x : CreatedFile). IsNewIndex x.index (index_place x) (block_place x) v) (file_here c) c.in_ok-file.ensures.index;
+    }
+
+limit_here : (c : After-new-3) → IsLimit c.args.options.now.limit
+limit_here c = record { low = c.requires.limit_low; high = c.requires.limit_high }
 
 pub invariant_of-result : goal.invariant_of-result
 invariant_of-result c =
     let o = c.args.options.now in
     let f = new_file o in
-    let is = is_new o c.requires in
-    let end : c.new.result.end ≡ first_end f = ap (λ (s : Space). s.end) c.new.ensures ∙ c.in_ok-file.ensures.end in
-    let writes : c.in_ok-file.file.writes.items ≡ creation_writes f = c.in_ok-file.ensures.writes in (
-      subst IsSession (sym (created_here c)) (created_is f is),
+    let v = view_of c.in_ok-file.file.index in
+    let is = creatable o c.requires in
+    let here = made_here c in
+    let end : (made c).places.end ≡ end_of f = ap (λ (s : Session). s.places.end) here in
+    let room : vec_len c.in_ok-file.file.writes + 1 ≤ vec_capacity c.reserve.new.self = search rules in
+    let writes : c.reserve.new.self.items ≡ created_writes f = ap (λ (s : Session). s.pending) here in (
+      subst IsSession (sym here) (created_is f o.limit v is (limit_here c) (index_here c)),
       c.in_ok-file.ensures.grid,
-      subst (λ (ws : List Write). ArePieces c.new.result.end ws) (sym writes) (subst (λ (e : ℕ). ArePieces e (creation_writes f)) (sym end) (created_pieces f is)),
+      subst (λ (ws : List Write). ArePieces c.new.result.end ws) (sym writes) (subst (λ (e : ℕ). ArePieces e (created_writes f)) (sym end) (created_pieces f is)),
       omega arith,
-      c.in_ok-file.ensures.room,
+      omega (arith, room),
     )
 
 pub returns-clause-session : goal.returns-clause-session
-returns-clause-session c = created_here c
+returns-clause-session c = record { index = index_here c; session = made_here c }
 
 pub returns-clause-stands : goal.returns-clause-stands
 returns-clause-stands c =
-    let f = new_file c.args.options.now in
-    let is = is_new c.args.options.now c.requires in
-    subst (λ (s : Session). Stands s (log_of [])) (sym (created_here c)) (creation_begins f is)
+    let o = c.args.options.now in
+    let f = new_file o in
+    let v = view_of c.in_ok-file.file.index in
+    subst (λ (s : Session). Stands s (created_log f)) (sym (made_here c)) (creation_begins f o.limit v (creatable o c.requires) (limit_here c) (index_here c))

@@ -1,5 +1,5 @@
-use Rattle.std.proofs.Common.{◌≡◌, ◌<◌, ◌∙◌, ap, subst, sym}
-use Rattle.h5w_session.specs.Sessions.{IsSession, Session}
+use Rattle.std.proofs.Common.{◌≡◌, ◌<◌, ◌∙◌, ap, sym}
+use Rattle.h5w_session.specs.Sessions.{Session}
 use Rattle.h5w_session.proofs.FlushCalls.{is_idle, some_waits, told_bound, told_bounds, told_left, told_rows, told_some, told_stands}
 use Rattle.h5w_session.proofs.FlushStands.{nothing_stands}
 use Rattle.h5w_session.proofs.state.WriterCore.flush.Goals as goal
@@ -11,22 +11,20 @@ returns-then-self-eq0-clause-stands g c log stands =
     let none : s.waits ≡ 0 = sym (ap (λ (t : Session). t.waits) c.self.view_is) ∙ c.if-self-eq0.true in
     nothing_stands s log i.running i.idle none stands
 
-pub returns-clause-stands : goal.returns-clause-stands
-returns-clause-stands g c =
-    let s = c.args.self.now in
-    let i = is_idle s c.ready.result c.ready.ensures c.in_ok-ready.was in
-    told_stands s c.flush_rows.new.self c.flush_rows.result i c.flush_rows.ensures.flushed c.flush_rows.ensures.ends c.flush_rows.ensures.pieces
-
 pub returns-clause-left : goal.returns-clause-left
 returns-clause-left g c =
     let s = c.args.self.now in
     let i = is_idle s c.ready.result c.ready.ensures c.in_ok-ready.was in
     told_left s c.flush_rows.new.self c.flush_rows.result i c.flush_rows.ensures.kept
 
+pub returns-clause-stands : goal.returns-clause-stands
+returns-clause-stands g c =
+    let s = c.args.self.now in
+    let i = is_idle s c.ready.result c.ready.ensures c.in_ok-ready.was in
+    told_stands s c.flush_rows.new.self c.flush_rows.result i c.flush_rows.ensures.flushed c.flush_rows.ensures.ends c.flush_rows.ensures.pieces
+
 pub returns-clause-flushed : goal.returns-clause-flushed
-returns-clause-flushed g c =
-    let is : IsSession c.args.self.now = subst IsSession c.self.view_is c.self.invariant.0 in
-    told_rows c.args.self.now c.flush_rows.new.self c.flush_rows.result is c.flush_rows.ensures.flushed
+returns-clause-flushed g c = told_rows c.args.self.now c.flush_rows.new.self c.flush_rows.result c.flush_rows.ensures.flushed
 
 pub returns-clause-some : goal.returns-clause-some
 returns-clause-some g c some = told_some c.args.self.now c.flush_rows.new.self c.flush_rows.result c.flush_rows.ensures.flushed c.flush_rows.ensures.pieces

@@ -1,14 +1,15 @@
-use Rattle.std.proofs.Common.{rules, Err, inl, inr, ◌≡◌, ℕ, zero, ◌+◌, ◌<◌, ◌∙◌, [], ◌∷◌, length, drop, refl, ap, sym, subst, arith}
-use Rattle.h5w_model.specs.Logs.{div_up}
-use Rattle.h5w_chunks.specs.Grids.{dataset_of}
-use Rattle.h5w_array_laws.specs.ArrayPlans.{IsArrayPlan}
-use Rattle.h5w_session.specs.Sessions.{IsSession, Session, option_list, rows_of, IsNamed}
-use Rattle.h5w_session.specs.Placing.{IsPlacing, first_number}
-use Rattle.h5w_session.proofs.CarriedLemmas.{Carried, carried_flushed, carried_is, carried_pieces, has_rows, lengths_joined, one_at_most, refused_same}
-use Rattle.h5w_session.proofs.TakingLemmas.{filled_cell, on_err}
-use Rattle.h5w_session.proofs.PlacingLemmas.{placing_none}
-use Rattle.h5w_session.proofs.AloneLemmas.{same_space, space_not, space_not_memory}
+use Rattle.std.proofs.Common.{rules, Err, inl, inr, ◌≡◌, ℕ, zero, ◌<◌, ◌∙◌, [], ◌∷◌, length, drop, refl, ap, sym, subst, arith}
 use Rattle.h5w_model.specs.declared.piece.Write.{Write}
+use Rattle.h5w_chunks.specs.Grids.{dataset_of}
+use Rattle.h5w_chunks.specs.Shares.{touched}
+use Rattle.h5w_index.specs.Held.{view_of}
+use Rattle.h5w_index.specs.Placing.{IsPlacing}
+use Rattle.h5w_index.specs.Steps.{IsPlan}
+use Rattle.h5w_index.proofs.PlacingLemmas.{placing_laws}
+use Rattle.h5w_session.specs.Sessions.{IsSession, Session, option_list, rows_of, IsNamed}
+use Rattle.h5w_session.specs.Flushes.{touched_by}
+use Rattle.h5w_session.proofs.CarriedLemmas.{Carried, asks_for, carried_flushed, carried_is, carried_pieces, has_rows, lengths_joined, one_at_most, refused_same, same_space, space_not, space_not_memory}
+use Rattle.h5w_session.proofs.TakingLemmas.{filled_cell, on_err}
 use Rattle.h5w_session.proofs.state.WriterCore.flush_chunk.Goals as goal
 
 pub put_chunk-requires-clause-all : goal.put_chunk-requires-clause-all
@@ -27,12 +28,12 @@ put_chunk-requires-clause-all g c =
       pending = drop i.shown i.plan.items;
       stopped = i.stopped;
       keeps = i.keeps;
-      index = i.index;
+      index = view_of i.index;
     } in
     let back = sym c.self.view_is in
     let to_is : c.rows-to.result ≡ rows_of v = c.rows-to.ensures.value ∙ ap rows_of back in
-    subst (λ (n : ℕ). first_number v.dataset + 1 ≡ div_up n v.dataset.layout.chunk_rows) (sym to_is)
-    (subst (λ (s : Session). first_number s.dataset + 1 ≡ div_up (rows_of s) s.dataset.layout.chunk_rows) back c.requires.all)
+    subst (λ (n : ℕ). touched v.dataset v.dataset.shape.rows n ≡ 1) (sym to_is)
+    (subst (λ (s : Session). touched_by s ≡ 1) back c.requires.all)
 
 pub put_chunk-requires-clause-ends : goal.put_chunk-requires-clause-ends
 put_chunk-requires-clause-ends g c =
@@ -50,7 +51,7 @@ put_chunk-requires-clause-ends g c =
       pending = drop i.shown i.plan.items;
       stopped = i.stopped;
       keeps = i.keeps;
-      index = i.index;
+      index = view_of i.index;
     } in
     let is : IsSession v = c.self.invariant.0 in
     let placing : IsPlacing v.dataset (rows_of v) v.index v.places (c.args.place ∷ []) [] v.index v.places =
@@ -79,7 +80,7 @@ invariant_of-self-2 g c =
       pending = drop i.shown i.plan.items;
       stopped = i.stopped;
       keeps = i.keeps;
-      index = i.index;
+      index = view_of i.index;
     } in
     let is : IsSession v = c.self.invariant.0 in
     let to = c.rows-to.result in
@@ -93,8 +94,7 @@ invariant_of-self-2 g c =
     let to_is : to ≡ rows_of v = c.rows-to.ensures.value ∙ ap rows_of back in
     let placing : IsPlacing v.dataset (rows_of v) v.index v.places (c.args.place ∷ []) [] v.index v.places =
     subst (λ (s : Session). IsPlacing s.dataset (rows_of s) s.index s.places (c.args.place ∷ []) [] s.index s.places) back c.requires.placing in
-    let all : first_number v.dataset + 1 ≡ div_up (rows_of v) v.dataset.layout.chunk_rows =
-    subst (λ (s : Session). first_number s.dataset + 1 ≡ div_up (rows_of s) s.dataset.layout.chunk_rows) back c.requires.all in
+    let all : touched_by v ≡ 1 = subst (λ (s : Session). touched_by s ≡ 1) back c.requires.all in
     let x : Carried v to t w ws r b e = record {
       there = subst (λ (u : Session). IsNamed u.dataset) (sym c.self.view_is) c.requires.there;
       some = subst (λ (u : Session). 0 < u.waits) back c.requires.waits;
@@ -105,11 +105,12 @@ invariant_of-self-2 g c =
       chunks = c.args.place ∷ [];
       added = [];
       between = v.places;
-      held = v.index;
+      named = v.index;
       places = v.places;
       places_are = refl;
       placing = subst (λ (n : ℕ). IsPlacing v.dataset n v.index v.places (c.args.place ∷ []) [] v.index v.places) (sym to_is) placing;
-      all = subst (λ (n : ℕ). first_number v.dataset + 1 ≡ div_up n v.dataset.layout.chunk_rows) (sym to_is) all;
+      all = sym (subst (λ (n : ℕ). touched v.dataset v.dataset.shape.rows n ≡ 1) (sym to_is) all);
+      within = (asks_for v to is to_is).within;
       cells = c.deref.result.now;
       cells_are = c.deref.ensures.value;
       rows = c.in_ok-writes.writes.items;
@@ -118,10 +119,11 @@ invariant_of-self-2 g c =
       moves = [];
       copies = [];
       fixed = [];
-      plan = subst (λ (s : Session). IsArrayPlan s.index s.places [] [] [] s.index s.places) back c.requires.plan;
+      plan = subst (λ (s : Session). IsPlan s.index s.places [] [] [] s.index s.places) back c.requires.plan;
       supers = option_list c.raise-superblock.result;
       end = c.end-end.result;
       end_is = c.end-end.ensures;
+      end_small = omega arith;
       ended = c.raise-superblock.ensures.ended;
       root = c.raise-superblock.ensures.root;
       header = c.raise_rows-piece.ensures.header;
@@ -160,7 +162,7 @@ returns-clause-flushed g c =
       pending = drop i.shown i.plan.items;
       stopped = i.stopped;
       keeps = i.keeps;
-      index = i.index;
+      index = view_of i.index;
     } in
     let is : IsSession v = c.self.invariant.0 in
     let to = c.rows-to.result in
@@ -174,8 +176,7 @@ returns-clause-flushed g c =
     let to_is : to ≡ rows_of v = c.rows-to.ensures.value ∙ ap rows_of back in
     let placing : IsPlacing v.dataset (rows_of v) v.index v.places (c.args.place ∷ []) [] v.index v.places =
     subst (λ (s : Session). IsPlacing s.dataset (rows_of s) s.index s.places (c.args.place ∷ []) [] s.index s.places) back c.requires.placing in
-    let all : first_number v.dataset + 1 ≡ div_up (rows_of v) v.dataset.layout.chunk_rows =
-    subst (λ (s : Session). first_number s.dataset + 1 ≡ div_up (rows_of s) s.dataset.layout.chunk_rows) back c.requires.all in
+    let all : touched_by v ≡ 1 = subst (λ (s : Session). touched_by s ≡ 1) back c.requires.all in
     let x : Carried v to t w ws r b e = record {
       there = subst (λ (u : Session). IsNamed u.dataset) (sym c.self.view_is) c.requires.there;
       some = subst (λ (u : Session). 0 < u.waits) back c.requires.waits;
@@ -186,11 +187,12 @@ returns-clause-flushed g c =
       chunks = c.args.place ∷ [];
       added = [];
       between = v.places;
-      held = v.index;
+      named = v.index;
       places = v.places;
       places_are = refl;
       placing = subst (λ (n : ℕ). IsPlacing v.dataset n v.index v.places (c.args.place ∷ []) [] v.index v.places) (sym to_is) placing;
-      all = subst (λ (n : ℕ). first_number v.dataset + 1 ≡ div_up n v.dataset.layout.chunk_rows) (sym to_is) all;
+      all = sym (subst (λ (n : ℕ). touched v.dataset v.dataset.shape.rows n ≡ 1) (sym to_is) all);
+      within = (asks_for v to is to_is).within;
       cells = c.deref.result.now;
       cells_are = c.deref.ensures.value;
       rows = c.in_ok-writes.writes.items;
@@ -199,10 +201,11 @@ returns-clause-flushed g c =
       moves = [];
       copies = [];
       fixed = [];
-      plan = subst (λ (s : Session). IsArrayPlan s.index s.places [] [] [] s.index s.places) back c.requires.plan;
+      plan = subst (λ (s : Session). IsPlan s.index s.places [] [] [] s.index s.places) back c.requires.plan;
       supers = option_list c.raise-superblock.result;
       end = c.end-end.result;
       end_is = c.end-end.ensures;
+      end_small = omega arith;
       ended = c.raise-superblock.ensures.ended;
       root = c.raise-superblock.ensures.root;
       header = c.raise_rows-piece.ensures.header;
@@ -230,7 +233,7 @@ returns-clause-ends g c =
       pending = drop i.shown i.plan.items;
       stopped = i.stopped;
       keeps = i.keeps;
-      index = i.index;
+      index = view_of i.index;
     } in
     let is : IsSession v = c.self.invariant.0 in
     let to = c.rows-to.result in
@@ -244,8 +247,7 @@ returns-clause-ends g c =
     let to_is : to ≡ rows_of v = c.rows-to.ensures.value ∙ ap rows_of back in
     let placing : IsPlacing v.dataset (rows_of v) v.index v.places (c.args.place ∷ []) [] v.index v.places =
     subst (λ (s : Session). IsPlacing s.dataset (rows_of s) s.index s.places (c.args.place ∷ []) [] s.index s.places) back c.requires.placing in
-    let all : first_number v.dataset + 1 ≡ div_up (rows_of v) v.dataset.layout.chunk_rows =
-    subst (λ (s : Session). first_number s.dataset + 1 ≡ div_up (rows_of s) s.dataset.layout.chunk_rows) back c.requires.all in
+    let all : touched_by v ≡ 1 = subst (λ (s : Session). touched_by s ≡ 1) back c.requires.all in
     let x : Carried v to t w ws r b e = record {
       there = subst (λ (u : Session). IsNamed u.dataset) (sym c.self.view_is) c.requires.there;
       some = subst (λ (u : Session). 0 < u.waits) back c.requires.waits;
@@ -256,11 +258,12 @@ returns-clause-ends g c =
       chunks = c.args.place ∷ [];
       added = [];
       between = v.places;
-      held = v.index;
+      named = v.index;
       places = v.places;
       places_are = refl;
       placing = subst (λ (n : ℕ). IsPlacing v.dataset n v.index v.places (c.args.place ∷ []) [] v.index v.places) (sym to_is) placing;
-      all = subst (λ (n : ℕ). first_number v.dataset + 1 ≡ div_up n v.dataset.layout.chunk_rows) (sym to_is) all;
+      all = sym (subst (λ (n : ℕ). touched v.dataset v.dataset.shape.rows n ≡ 1) (sym to_is) all);
+      within = (asks_for v to is to_is).within;
       cells = c.deref.result.now;
       cells_are = c.deref.ensures.value;
       rows = c.in_ok-writes.writes.items;
@@ -269,10 +272,11 @@ returns-clause-ends g c =
       moves = [];
       copies = [];
       fixed = [];
-      plan = subst (λ (s : Session). IsArrayPlan s.index s.places [] [] [] s.index s.places) back c.requires.plan;
+      plan = subst (λ (s : Session). IsPlan s.index s.places [] [] [] s.index s.places) back c.requires.plan;
       supers = option_list c.raise-superblock.result;
       end = c.end-end.result;
       end_is = c.end-end.ensures;
+      end_small = omega arith;
       ended = c.raise-superblock.ensures.ended;
       root = c.raise-superblock.ensures.root;
       header = c.raise_rows-piece.ensures.header;
@@ -300,11 +304,12 @@ returns-in_err-writes-clause-kept g c =
       pending = drop i.shown i.plan.items;
       stopped = i.stopped;
       keeps = i.keeps;
-      index = i.index;
+      index = view_of i.index;
     } in
     let is : IsSession v = c.self.invariant.0 in
-    let none = placing_none v.dataset (rows_of v) v.index v.places v.places is.blocks refl refl refl refl in
-    on_err c.from_residual.result (refused_same v (rows_of v) v.index refl none.partly c.args.self.now c.self.view_is)
+    let none = placing_laws.none v.dataset (rows_of v) v.index v.places v.places is.sound refl refl refl refl in
+    let there : IsNamed v.dataset = subst (λ (s : Session). IsNamed s.dataset) (sym c.self.view_is) c.requires.there in
+    on_err c.from_residual.result (refused_same v (rows_of v) v.index refl none.partly there c.args.self.now c.self.view_is)
 
 pub returns-in_err-writes-clause-full : goal.returns-in_err-writes-clause-full
 returns-in_err-writes-clause-full g c full is =

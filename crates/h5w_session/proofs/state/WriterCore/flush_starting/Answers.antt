@@ -1,13 +1,13 @@
-use Rattle.std.proofs.Common.{◌≡◌, ◌<◌, ◌∙◌, ℕ, Err, length, drop, ap, sym, subst, inl, inr, arith, rules}
+use Rattle.std.proofs.Common.{◌≡◌, ◌<◌, ◌-◌, ◌*◌, ◌^◌, ◌∙◌, ℕ, Err, length, drop, ap, sym, subst, arith, rules}
 use Rattle.h5w_model.specs.Numbers.{undefined}
+use Rattle.h5w_model.specs.Logs.{div_up}
+use Rattle.h5w_model.specs.Tables.{chunks_across}
+use Rattle.h5w_model.proofs.IntegerLemmas.{int_size_bounds}
 use Rattle.h5w_chunks.specs.Grids.{dataset_of}
-use Rattle.h5w_space.specs.Space.{Space}
+use Rattle.h5w_index.specs.Held.{view_of}
 use Rattle.h5w_session.specs.Sessions.{IsSession, Session, option_list, rows_of}
-use Rattle.h5w_session.specs.Refusals.{IsFullPart, IsStartFull, IsUnfilled, IsUnplaced}
-use Rattle.h5w_session.specs.Starts.{IsStartedAt}
-use Rattle.h5w_session.proofs.CarriedLemmas.{has_rows, one_at_most, same_error}
-use Rattle.h5w_session.proofs.StartCarriedLemmas.{StartCarried, lengths_started, start_carried_flushed, start_carried_is, start_carried_pieces}
-use Rattle.h5w_session.proofs.StartingLemmas.{started_map}
+use Rattle.h5w_session.proofs.CarriedLemmas.{asks_for, has_rows, lengths_joined, one_at_most, same_error, values_few}
+use Rattle.h5w_session.proofs.StartCarriedLemmas.{AsksOfMade, StartCarried, asks_of_made, start_carried_flushed, start_carried_is, start_carried_pieces, start_unfilled, start_unplaced}
 use Rattle.h5w_session.proofs.TakingLemmas.{filled_cell}
 use Rattle.h5w_session.proofs.WritableLemmas.{has_address}
 use Rattle.h5w_session.proofs.state.WriterCore.flush_starting.Goals as goal
@@ -28,17 +28,162 @@ returns-in_err-index-clause-full g c full told =
       pending = drop i.shown i.plan.items;
       stopped = i.stopped;
       keeps = i.keeps;
-      index = i.index;
+      index = view_of i.index;
     } in
     let e = c.in_err-index.field-0.0 in
     let is : c.from_residual-in_err-index.result ≡ Err e = search rules in
-    let places_are = c.new-taking.ensures.places ∙ c.in_ok-copy.ensures in
-    let no = c.in_err-index.ensures.full full (same_error e _ (sym is ∙ told)) in
-    let now : IsUnplaced v.places full = subst (λ (s : Space). IsUnplaced s full) places_are no in
-    subst (λ (s : Session). IsStartFull s full) c.self.view_is (inl now)
+    start_unplaced v c.new-taking.result.places full (c.new-taking.ensures.places ∙ c.in_ok-copy.ensures) (c.in_err-index.ensures.full full (same_error e _ (sym is ∙ told))) c.args.self.now c.self.view_is
+
+pub prepare-requires-clause-few : goal.prepare-requires-clause-few
+prepare-requires-clause-few g c =
+    let i = c.self.inside in
+    let v : Session = record {
+      name = i.name;
+      root = i.root;
+      place = i.place;
+      header = i.header;
+      dataset = dataset_of i.grid;
+      places = i.places;
+      committed = i.committed;
+      waiting = i.waiting.items;
+      waits = i.waits;
+      pending = drop i.shown i.plan.items;
+      stopped = i.stopped;
+      keeps = i.keeps;
+      index = view_of i.index;
+    } in
+    let is : IsSession v = c.self.invariant.0 in
+    let to = c.rows-to.result in
+    let to_is : to ≡ rows_of v = c.rows-to.ensures.value ∙ ap rows_of (sym c.self.view_is) in
+    (asks_for v to is to_is).few
+
+pub prepare-requires-clause-takes : goal.prepare-requires-clause-takes
+prepare-requires-clause-takes g c =
+    let i = c.self.inside in
+    let v : Session = record {
+      name = i.name;
+      root = i.root;
+      place = i.place;
+      header = i.header;
+      dataset = dataset_of i.grid;
+      places = i.places;
+      committed = i.committed;
+      waiting = i.waiting.items;
+      waits = i.waits;
+      pending = drop i.shown i.plan.items;
+      stopped = i.stopped;
+      keeps = i.keeps;
+      index = view_of i.index;
+    } in
+    let is : IsSession v = c.self.invariant.0 in
+    let to = c.rows-to.result in
+    let to_is : to ≡ rows_of v = c.rows-to.ensures.value ∙ ap rows_of (sym c.self.view_is) in
+    let asks : AsksOfMade v to (view_of c.in_ok-index.index) c.start_index.new.places =
+    asks_of_made v to c.new-taking.result.places c.in_ok-index.at (view_of c.in_ok-index.index) c.start_index.new.places is to_is (c.new-taking.ensures.places ∙ c.in_ok-copy.ensures) c.in_ok-index.ensures.kind c.in_ok-index.ensures.started in
+    asks.takes
+
+pub prepare-requires-clause-fits : goal.prepare-requires-clause-fits
+prepare-requires-clause-fits g c =
+    let i = c.self.inside in
+    let v : Session = record {
+      name = i.name;
+      root = i.root;
+      place = i.place;
+      header = i.header;
+      dataset = dataset_of i.grid;
+      places = i.places;
+      committed = i.committed;
+      waiting = i.waiting.items;
+      waits = i.waits;
+      pending = drop i.shown i.plan.items;
+      stopped = i.stopped;
+      keeps = i.keeps;
+      index = view_of i.index;
+    } in
+    let is : IsSession v = c.self.invariant.0 in
+    let to = c.rows-to.result in
+    let to_is : to ≡ rows_of v = c.rows-to.ensures.value ∙ ap rows_of (sym c.self.view_is) in
+    let asks : AsksOfMade v to (view_of c.in_ok-index.index) c.start_index.new.places =
+    asks_of_made v to c.new-taking.result.places c.in_ok-index.at (view_of c.in_ok-index.index) c.start_index.new.places is to_is (c.new-taking.ensures.places ∙ c.in_ok-copy.ensures) c.in_ok-index.ensures.kind c.in_ok-index.ensures.started in
+    asks.fits
 
 pub prepare-requires-clause-inside : goal.prepare-requires-clause-inside
-prepare-requires-clause-inside g c k from named = absurd (named (started_map c.new-taking.result.places c.in_ok-index.at c.in_ok-index.index c.start_array.new.places c.in_ok-index.ensures.started k))
+prepare-requires-clause-inside g c =
+    let i = c.self.inside in
+    let v : Session = record {
+      name = i.name;
+      root = i.root;
+      place = i.place;
+      header = i.header;
+      dataset = dataset_of i.grid;
+      places = i.places;
+      committed = i.committed;
+      waiting = i.waiting.items;
+      waits = i.waits;
+      pending = drop i.shown i.plan.items;
+      stopped = i.stopped;
+      keeps = i.keeps;
+      index = view_of i.index;
+    } in
+    let is : IsSession v = c.self.invariant.0 in
+    let to = c.rows-to.result in
+    let to_is : to ≡ rows_of v = c.rows-to.ensures.value ∙ ap rows_of (sym c.self.view_is) in
+    let asks : AsksOfMade v to (view_of c.in_ok-index.index) c.start_index.new.places =
+    asks_of_made v to c.new-taking.result.places c.in_ok-index.at (view_of c.in_ok-index.index) c.start_index.new.places is to_is (c.new-taking.ensures.places ∙ c.in_ok-copy.ensures) c.in_ok-index.ensures.kind c.in_ok-index.ensures.started in
+    asks.inside
+
+pub prepare-requires-clause-limit : goal.prepare-requires-clause-limit
+prepare-requires-clause-limit g c =
+    let i = c.self.inside in
+    let v : Session = record {
+      name = i.name;
+      root = i.root;
+      place = i.place;
+      header = i.header;
+      dataset = dataset_of i.grid;
+      places = i.places;
+      committed = i.committed;
+      waiting = i.waiting.items;
+      waits = i.waits;
+      pending = drop i.shown i.plan.items;
+      stopped = i.stopped;
+      keeps = i.keeps;
+      index = view_of i.index;
+    } in
+    let is : IsSession v = c.self.invariant.0 in
+    let to = c.rows-to.result in
+    let to_is : to ≡ rows_of v = c.rows-to.ensures.value ∙ ap rows_of (sym c.self.view_is) in
+    let asks : AsksOfMade v to (view_of c.in_ok-index.index) c.start_index.new.places =
+    asks_of_made v to c.new-taking.result.places c.in_ok-index.at (view_of c.in_ok-index.index) c.start_index.new.places is to_is (c.new-taking.ensures.places ∙ c.in_ok-copy.ensures) c.in_ok-index.ensures.kind c.in_ok-index.ensures.started in
+    asks.limit
+
+pub prepare-requires-clause-within : goal.prepare-requires-clause-within
+prepare-requires-clause-within g c = c.in_ok-index.ensures.within (div_up c.rows-to.result c.self.inside.grid.layout.chunk.0) (chunks_across (dataset_of c.self.inside.grid))
+
+pub prepare-requires-clause-room : goal.prepare-requires-clause-room
+prepare-requires-clause-room g c =
+    let i = c.self.inside in
+    let v : Session = record {
+      name = i.name;
+      root = i.root;
+      place = i.place;
+      header = i.header;
+      dataset = dataset_of i.grid;
+      places = i.places;
+      committed = i.committed;
+      waiting = i.waiting.items;
+      waits = i.waits;
+      pending = drop i.shown i.plan.items;
+      stopped = i.stopped;
+      keeps = i.keeps;
+      index = view_of i.index;
+    } in
+    let is : IsSession v = c.self.invariant.0 in
+    let to = c.rows-to.result in
+    let to_is : to ≡ rows_of v = c.rows-to.ensures.value ∙ ap rows_of (sym c.self.view_is) in
+    let few : i.waits * i.grid.shape.cols < 2 ^ 64 = values_few v (2 ^ 64) is (int_size_bounds i.grid.int_type.size c.self.invariant.1.typed).0 (omega (arith, i.waiting.ok)) in
+    let less : to - i.grid.shape.rows ≡ i.waits = omega (arith, to_is) in
+    subst (λ (n : ℕ). n * i.grid.shape.cols < 2 ^ 64) (sym less) few
 
 pub returns-in_err-prepared-clause-full : goal.returns-in_err-prepared-clause-full
 returns-in_err-prepared-clause-full g c full told =
@@ -56,28 +201,14 @@ returns-in_err-prepared-clause-full g c full told =
       pending = drop i.shown i.plan.items;
       stopped = i.stopped;
       keeps = i.keeps;
-      index = i.index;
+      index = view_of i.index;
     } in
     let to = c.rows-to.result in
     let to_is : to ≡ rows_of v = c.rows-to.ensures.value ∙ ap rows_of (sym c.self.view_is) in
     let e = c.in_err-prepared.field-0.0 in
     let is : c.from_residual-in_err-prepared.result ≡ Err e = search rules in
-    let places_are = c.new-taking.ensures.places ∙ c.in_ok-copy.ensures in
-    let first = c.start_array.new.places in
-    let made = c.in_ok-index.index in
-    let start : IsStartedAt v.places c.in_ok-index.at made first = subst (λ (s : Space). IsStartedAt s c.in_ok-index.at made first) places_are c.in_ok-index.ensures.started in
-    let part : IsFullPart v.dataset to made first full = c.in_err-prepared.ensures.full full (same_error e _ (sym is ∙ told)) in
-    let now : IsUnfilled v full = record {
-      at = c.in_ok-index.at;
-      block = start.block;
-      first = first;
-      made = made;
-      two = start.two;
-      raised = start.raised;
-      is_made = start.is_made;
-      none = subst (λ (n : ℕ). IsFullPart v.dataset n made first full) to_is part;
-    } in
-    subst (λ (s : Session). IsStartFull s full) c.self.view_is (inr now)
+    start_unfilled v to c.new-taking.result.places c.in_ok-index.at (view_of c.in_ok-index.index) c.start_index.new.places full to_is (c.new-taking.ensures.places ∙ c.in_ok-copy.ensures) c.in_ok-index.ensures.kind
+    c.in_ok-index.ensures.started (c.in_err-prepared.ensures.full full (same_error e _ (sym is ∙ told))) c.args.self.now c.self.view_is
 
 pub raise_rows-piece-requires-clause-rows : goal.raise_rows-piece-requires-clause-rows
 raise_rows-piece-requires-clause-rows g c = has_rows c.self.inside.header c.self.invariant.0.header
@@ -101,12 +232,13 @@ invariant_of-self g c =
       pending = drop i.shown i.plan.items;
       stopped = i.stopped;
       keeps = i.keeps;
-      index = i.index;
+      index = view_of i.index;
     } in
     let is : IsSession v = c.self.invariant.0 in
     let to = c.rows-to.result in
+    let to_is : to ≡ rows_of v = c.rows-to.ensures.value ∙ ap rows_of (sym c.self.view_is) in
     let t = c.finish-plan.new.places in
-    let w = c.finish-plan.new.self in
+    let w = view_of c.finish-plan.new.self in
     let ws = c.join_start.result.items in
     let r = c.raise-superblock.new.root in
     let b = c.raise_rows-piece.new.header in
@@ -114,23 +246,24 @@ invariant_of-self g c =
     let at = c.in_ok-index.at in
     let x : StartCarried v to t w ws r b e at = record {
       absent = subst (λ (u : Session). u.dataset.layout.address ≡ undefined) (sym c.self.view_is) c.requires.absent;
-      some_rows = c.self.invariant.1.chunked.rows;
       some = subst (λ (u : Session). 0 < u.waits) (sym c.self.view_is) c.requires.waits;
-      to_is = c.rows-to.ensures.value ∙ ap rows_of (sym c.self.view_is);
+      to_is = to_is;
       small = c.rows-to.ensures.bound;
       typed = c.self.invariant.1.typed;
       filled = filled_cell i.grid c.self.invariant.1;
       places = c.new-taking.result.places;
       places_are = c.new-taking.ensures.places ∙ c.in_ok-copy.ensures;
-      first = c.start_array.new.places;
-      made = c.in_ok-index.index;
+      first = c.start_index.new.places;
+      made = view_of c.in_ok-index.index;
+      kind = c.in_ok-index.ensures.kind;
       start = c.in_ok-index.ensures.started;
       chunks = c.prepare.new.taking.chunks.items;
       added = c.prepare.new.taking.added.items;
       between = c.prepare.new.taking.places;
-      held = c.prepare.new.index;
+      named = view_of c.prepare.new.index;
       placing = c.in_ok-prepared.ensures.placed;
       all = c.in_ok-prepared.ensures.all;
+      within = c.prepare.ensures.within;
       cells = c.deref.result.now;
       cells_are = c.deref.ensures.value;
       rows = c.in_ok-prepared.prepared.writes.items;
@@ -143,6 +276,7 @@ invariant_of-self g c =
       supers = option_list c.raise-superblock.result;
       end = c.end.result;
       end_is = c.end.ensures;
+      end_small = omega arith;
       ended = c.raise-superblock.ensures.ended;
       root = c.raise-superblock.ensures.root;
       header = c.raise_rows-piece.ensures.header;
@@ -181,12 +315,13 @@ returns-clause-flushed g c =
       pending = drop i.shown i.plan.items;
       stopped = i.stopped;
       keeps = i.keeps;
-      index = i.index;
+      index = view_of i.index;
     } in
     let is : IsSession v = c.self.invariant.0 in
     let to = c.rows-to.result in
+    let to_is : to ≡ rows_of v = c.rows-to.ensures.value ∙ ap rows_of (sym c.self.view_is) in
     let t = c.finish-plan.new.places in
-    let w = c.finish-plan.new.self in
+    let w = view_of c.finish-plan.new.self in
     let ws = c.join_start.result.items in
     let r = c.raise-superblock.new.root in
     let b = c.raise_rows-piece.new.header in
@@ -194,23 +329,24 @@ returns-clause-flushed g c =
     let at = c.in_ok-index.at in
     let x : StartCarried v to t w ws r b e at = record {
       absent = subst (λ (u : Session). u.dataset.layout.address ≡ undefined) (sym c.self.view_is) c.requires.absent;
-      some_rows = c.self.invariant.1.chunked.rows;
       some = subst (λ (u : Session). 0 < u.waits) (sym c.self.view_is) c.requires.waits;
-      to_is = c.rows-to.ensures.value ∙ ap rows_of (sym c.self.view_is);
+      to_is = to_is;
       small = c.rows-to.ensures.bound;
       typed = c.self.invariant.1.typed;
       filled = filled_cell i.grid c.self.invariant.1;
       places = c.new-taking.result.places;
       places_are = c.new-taking.ensures.places ∙ c.in_ok-copy.ensures;
-      first = c.start_array.new.places;
-      made = c.in_ok-index.index;
+      first = c.start_index.new.places;
+      made = view_of c.in_ok-index.index;
+      kind = c.in_ok-index.ensures.kind;
       start = c.in_ok-index.ensures.started;
       chunks = c.prepare.new.taking.chunks.items;
       added = c.prepare.new.taking.added.items;
       between = c.prepare.new.taking.places;
-      held = c.prepare.new.index;
+      named = view_of c.prepare.new.index;
       placing = c.in_ok-prepared.ensures.placed;
       all = c.in_ok-prepared.ensures.all;
+      within = c.prepare.ensures.within;
       cells = c.deref.result.now;
       cells_are = c.deref.ensures.value;
       rows = c.in_ok-prepared.prepared.writes.items;
@@ -223,6 +359,7 @@ returns-clause-flushed g c =
       supers = option_list c.raise-superblock.result;
       end = c.end.result;
       end_is = c.end.ensures;
+      end_small = omega arith;
       ended = c.raise-superblock.ensures.ended;
       root = c.raise-superblock.ensures.root;
       header = c.raise_rows-piece.ensures.header;
@@ -250,12 +387,13 @@ returns-clause-ends g c =
       pending = drop i.shown i.plan.items;
       stopped = i.stopped;
       keeps = i.keeps;
-      index = i.index;
+      index = view_of i.index;
     } in
     let is : IsSession v = c.self.invariant.0 in
     let to = c.rows-to.result in
+    let to_is : to ≡ rows_of v = c.rows-to.ensures.value ∙ ap rows_of (sym c.self.view_is) in
     let t = c.finish-plan.new.places in
-    let w = c.finish-plan.new.self in
+    let w = view_of c.finish-plan.new.self in
     let ws = c.join_start.result.items in
     let r = c.raise-superblock.new.root in
     let b = c.raise_rows-piece.new.header in
@@ -263,23 +401,24 @@ returns-clause-ends g c =
     let at = c.in_ok-index.at in
     let x : StartCarried v to t w ws r b e at = record {
       absent = subst (λ (u : Session). u.dataset.layout.address ≡ undefined) (sym c.self.view_is) c.requires.absent;
-      some_rows = c.self.invariant.1.chunked.rows;
       some = subst (λ (u : Session). 0 < u.waits) (sym c.self.view_is) c.requires.waits;
-      to_is = c.rows-to.ensures.value ∙ ap rows_of (sym c.self.view_is);
+      to_is = to_is;
       small = c.rows-to.ensures.bound;
       typed = c.self.invariant.1.typed;
       filled = filled_cell i.grid c.self.invariant.1;
       places = c.new-taking.result.places;
       places_are = c.new-taking.ensures.places ∙ c.in_ok-copy.ensures;
-      first = c.start_array.new.places;
-      made = c.in_ok-index.index;
+      first = c.start_index.new.places;
+      made = view_of c.in_ok-index.index;
+      kind = c.in_ok-index.ensures.kind;
       start = c.in_ok-index.ensures.started;
       chunks = c.prepare.new.taking.chunks.items;
       added = c.prepare.new.taking.added.items;
       between = c.prepare.new.taking.places;
-      held = c.prepare.new.index;
+      named = view_of c.prepare.new.index;
       placing = c.in_ok-prepared.ensures.placed;
       all = c.in_ok-prepared.ensures.all;
+      within = c.prepare.ensures.within;
       cells = c.deref.result.now;
       cells_are = c.deref.ensures.value;
       rows = c.in_ok-prepared.prepared.writes.items;
@@ -292,6 +431,7 @@ returns-clause-ends g c =
       supers = option_list c.raise-superblock.result;
       end = c.end.result;
       end_is = c.end.ensures;
+      end_small = omega arith;
       ended = c.raise-superblock.ensures.ended;
       root = c.raise-superblock.ensures.root;
       header = c.raise_rows-piece.ensures.header;
@@ -309,7 +449,7 @@ returns-clause-room g c =
     let copies = c.finish-plan.result.copies.items in
     let fixed = c.finish-plan.result.in_place.items in
     let supers = option_list c.raise-superblock.result in
-    let long = ap length c.join_start.ensures.items ∙ lengths_started rows copies fixed supers (record { at = c.self.inside.place; piece = c.raise_rows-piece.result }) in
+    let long = ap length c.join_start.ensures.items ∙ lengths_joined rows copies fixed supers (record { at = c.self.inside.place; piece = c.raise_rows-piece.result }) in
     record {
       pieces = omega (arith, long, one_at_most c.raise-superblock.result, c.finish-plan.ensures.copies, c.finish-plan.ensures.in_place, c.in_ok-prepared.ensures.pieces, c.in_ok-prepared.prepared.writes.ok);
       end = omega (arith, c.finish-plan.ensures.end, c.in_ok-prepared.ensures.end);

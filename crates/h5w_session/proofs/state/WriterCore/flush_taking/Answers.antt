@@ -1,13 +1,112 @@
-use Rattle.std.proofs.Common.{◌≡◌, ◌<◌, ◌∙◌, [], List, ℕ, length, drop, ap, sym, subst, arith}
+use Rattle.std.proofs.Common.{◌≡◌, ◌<◌, ◌-◌, ◌*◌, ◌^◌, ◌∙◌, [], List, ℕ, length, drop, ap, sym, subst, arith}
 use Rattle.std.specs.List.{All}
+use Rattle.h5w_model.specs.Logs.{div_up}
+use Rattle.h5w_model.specs.Tables.{chunks_across}
+use Rattle.h5w_model.specs.declared.cell.Key.{Key}
+use Rattle.h5w_model.proofs.IntegerLemmas.{int_size_bounds}
 use Rattle.h5w_chunks.specs.Grids.{dataset_of}
 use Rattle.h5w_space.specs.Space.{Space}
+use Rattle.h5w_index.specs.Held.{view_of}
+use Rattle.h5w_index.specs.Placing.{IsFullPart, IsPartly}
+use Rattle.h5w_index.specs.Views.{HasSlot}
 use Rattle.h5w_session.specs.Sessions.{IsSession, Session, option_list, rows_of, IsNamed}
-use Rattle.h5w_session.specs.Placing.{HasSlot, IsPartly}
-use Rattle.h5w_session.specs.Refusals.{IsFullPart}
-use Rattle.h5w_session.proofs.CarriedLemmas.{Carried, carried_flushed, carried_is, carried_pieces, has_rows, lengths_joined, one_at_most, refused_is, refused_same, same_error}
+use Rattle.h5w_session.proofs.CarriedLemmas.{Carried, asks_for, carried_flushed, carried_is, carried_pieces, has_rows, lengths_joined, one_at_most, refused_is, refused_same, same_error, values_few}
 use Rattle.h5w_session.proofs.TakingLemmas.{filled_cell}
 use Rattle.h5w_session.proofs.state.WriterCore.flush_taking.Goals as goal
+
+pub prepare-requires-clause-few : goal.prepare-requires-clause-few
+prepare-requires-clause-few g c =
+    let i = c.self.inside in
+    let v : Session = record {
+      name = i.name;
+      root = i.root;
+      place = i.place;
+      header = i.header;
+      dataset = dataset_of i.grid;
+      places = i.places;
+      committed = i.committed;
+      waiting = i.waiting.items;
+      waits = i.waits;
+      pending = drop i.shown i.plan.items;
+      stopped = i.stopped;
+      keeps = i.keeps;
+      index = view_of i.index;
+    } in
+    let is : IsSession v = c.self.invariant.0 in
+    let to = c.rows-to.result in
+    let to_is : to ≡ rows_of v = c.rows-to.ensures.value ∙ ap rows_of (sym c.self.view_is) in
+    (asks_for v to is to_is).few
+
+pub prepare-requires-clause-takes : goal.prepare-requires-clause-takes
+prepare-requires-clause-takes g c =
+    let i = c.self.inside in
+    let v : Session = record {
+      name = i.name;
+      root = i.root;
+      place = i.place;
+      header = i.header;
+      dataset = dataset_of i.grid;
+      places = i.places;
+      committed = i.committed;
+      waiting = i.waiting.items;
+      waits = i.waits;
+      pending = drop i.shown i.plan.items;
+      stopped = i.stopped;
+      keeps = i.keeps;
+      index = view_of i.index;
+    } in
+    let is : IsSession v = c.self.invariant.0 in
+    let to = c.rows-to.result in
+    let to_is : to ≡ rows_of v = c.rows-to.ensures.value ∙ ap rows_of (sym c.self.view_is) in
+    (asks_for v to is to_is).takes
+
+pub prepare-requires-clause-within : goal.prepare-requires-clause-within
+prepare-requires-clause-within g c =
+    let i = c.self.inside in
+    let v : Session = record {
+      name = i.name;
+      root = i.root;
+      place = i.place;
+      header = i.header;
+      dataset = dataset_of i.grid;
+      places = i.places;
+      committed = i.committed;
+      waiting = i.waiting.items;
+      waits = i.waits;
+      pending = drop i.shown i.plan.items;
+      stopped = i.stopped;
+      keeps = i.keeps;
+      index = view_of i.index;
+    } in
+    let is : IsSession v = c.self.invariant.0 in
+    let to = c.rows-to.result in
+    let to_is : to ≡ rows_of v = c.rows-to.ensures.value ∙ ap rows_of (sym c.self.view_is) in
+    (asks_for v to is to_is).within
+
+pub prepare-requires-clause-room : goal.prepare-requires-clause-room
+prepare-requires-clause-room g c =
+    let i = c.self.inside in
+    let v : Session = record {
+      name = i.name;
+      root = i.root;
+      place = i.place;
+      header = i.header;
+      dataset = dataset_of i.grid;
+      places = i.places;
+      committed = i.committed;
+      waiting = i.waiting.items;
+      waits = i.waits;
+      pending = drop i.shown i.plan.items;
+      stopped = i.stopped;
+      keeps = i.keeps;
+      index = view_of i.index;
+    } in
+    let is : IsSession v = c.self.invariant.0 in
+    let to = c.rows-to.result in
+    let to_is : to ≡ rows_of v = c.rows-to.ensures.value ∙ ap rows_of (sym c.self.view_is) in
+    let few : i.waits * i.grid.shape.cols < 2 ^ 64 = values_few v (2 ^ 64) is (int_size_bounds i.grid.int_type.size c.self.invariant.1.typed).0 (omega (arith, i.waiting.ok)) in
+    let less : to - i.grid.shape.rows ≡ i.waits = omega (arith, to_is) in
+    subst (λ (n : ℕ). n * i.grid.shape.cols < 2 ^ 64) (sym less) few
 
 pub raise_rows-piece-requires-clause-rows : goal.raise_rows-piece-requires-clause-rows
 raise_rows-piece-requires-clause-rows g c = has_rows c.self.inside.header c.self.invariant.0.header
@@ -28,12 +127,12 @@ invariant_of-self g c =
       pending = drop i.shown i.plan.items;
       stopped = i.stopped;
       keeps = i.keeps;
-      index = i.index;
+      index = view_of i.index;
     } in
     let is : IsSession v = c.self.invariant.0 in
     let to = c.rows-to.result in
     let t = c.finish-plan.new.places in
-    let w = c.finish-plan.new.self in
+    let w = view_of c.finish-plan.new.self in
     let ws = c.join.result.items in
     let r = c.raise-superblock.new.root in
     let b = c.raise_rows-piece.new.header in
@@ -48,11 +147,12 @@ invariant_of-self g c =
       chunks = c.prepare.new.taking.chunks.items;
       added = c.prepare.new.taking.added.items;
       between = c.prepare.new.taking.places;
-      held = c.prepare.new.index;
+      named = view_of c.prepare.new.index;
       places = c.new-taking.result.places;
       places_are = c.new-taking.ensures.places ∙ c.in_ok-copy.ensures;
       placing = c.in-Ok.ensures.placed;
       all = c.in-Ok.ensures.all;
+      within = c.prepare.ensures.within;
       cells = c.deref.result.now;
       cells_are = c.deref.ensures.value;
       rows = c.in-Ok.prepared.writes.items;
@@ -65,6 +165,7 @@ invariant_of-self g c =
       supers = option_list c.raise-superblock.result;
       end = c.end.result;
       end_is = c.end.ensures;
+      end_small = omega arith;
       ended = c.raise-superblock.ensures.ended;
       root = c.raise-superblock.ensures.root;
       header = c.raise_rows-piece.ensures.header;
@@ -87,8 +188,8 @@ invariant_of-self g c =
       c.join.ensures.room,
     )
 
-pub unset-requires : goal.unset-requires
-unset-requires g c = subst (λ (ks : List ℕ). All (HasSlot c.prepare.new.index) ks) (sym c.deref-in-Err.ensures.value) c.in-Err.ensures.partly.slots
+pub unset-requires-clause-slots : goal.unset-requires-clause-slots
+unset-requires-clause-slots g c = subst (λ (ks : List Key). All (HasSlot (view_of c.prepare.new.index)) ks) (sym c.deref-in-Err.ensures.value) c.in-Err.ensures.partly.slots
 
 pub invariant_of-self-in-Err-1 : goal.invariant_of-self-in-Err-1
 invariant_of-self-in-Err-1 g c =
@@ -106,15 +207,16 @@ invariant_of-self-in-Err-1 g c =
       pending = drop i.shown i.plan.items;
       stopped = i.stopped;
       keeps = i.keeps;
-      index = i.index;
+      index = view_of i.index;
     } in
     let is : IsSession v = c.self.invariant.0 in
     let to = c.rows-to.result in
-    let u = c.unset.new.index in
+    let u = view_of c.unset.new.index in
     let to_is : to ≡ rows_of v = c.rows-to.ensures.value ∙ ap rows_of (sym c.self.view_is) in
     let p : IsPartly v.dataset to v.index [] u =
-    c.unset.ensures v.dataset to v.index (subst (λ (ks : List ℕ). IsPartly v.dataset to v.index ks c.prepare.new.index) (sym c.deref-in-Err.ensures.value) c.in-Err.ensures.partly) in
-    (refused_is v to u to_is p is, c.self.invariant.1, c.self.invariant.2, c.self.invariant.3, c.self.invariant.4)
+    c.unset.ensures.taken_back v.dataset to v.index (subst (λ (ks : List Key). IsPartly v.dataset to v.index ks (view_of c.prepare.new.index)) (sym c.deref-in-Err.ensures.value) c.in-Err.ensures.partly) in
+    let within = c.unset.ensures.within (div_up to v.dataset.layout.chunk_rows) (chunks_across v.dataset) c.prepare.ensures.within in
+    (refused_is v to u to_is p is within, c.self.invariant.1, c.self.invariant.2, c.self.invariant.3, c.self.invariant.4)
 
 pub returns-in-Ok-clause-flushed : goal.returns-in-Ok-clause-flushed
 returns-in-Ok-clause-flushed g c =
@@ -132,12 +234,12 @@ returns-in-Ok-clause-flushed g c =
       pending = drop i.shown i.plan.items;
       stopped = i.stopped;
       keeps = i.keeps;
-      index = i.index;
+      index = view_of i.index;
     } in
     let is : IsSession v = c.self.invariant.0 in
     let to = c.rows-to.result in
     let t = c.finish-plan.new.places in
-    let w = c.finish-plan.new.self in
+    let w = view_of c.finish-plan.new.self in
     let ws = c.join.result.items in
     let r = c.raise-superblock.new.root in
     let b = c.raise_rows-piece.new.header in
@@ -152,11 +254,12 @@ returns-in-Ok-clause-flushed g c =
       chunks = c.prepare.new.taking.chunks.items;
       added = c.prepare.new.taking.added.items;
       between = c.prepare.new.taking.places;
-      held = c.prepare.new.index;
+      named = view_of c.prepare.new.index;
       places = c.new-taking.result.places;
       places_are = c.new-taking.ensures.places ∙ c.in_ok-copy.ensures;
       placing = c.in-Ok.ensures.placed;
       all = c.in-Ok.ensures.all;
+      within = c.prepare.ensures.within;
       cells = c.deref.result.now;
       cells_are = c.deref.ensures.value;
       rows = c.in-Ok.prepared.writes.items;
@@ -169,6 +272,7 @@ returns-in-Ok-clause-flushed g c =
       supers = option_list c.raise-superblock.result;
       end = c.end.result;
       end_is = c.end.ensures;
+      end_small = omega arith;
       ended = c.raise-superblock.ensures.ended;
       root = c.raise-superblock.ensures.root;
       header = c.raise_rows-piece.ensures.header;
@@ -196,12 +300,12 @@ returns-in-Ok-clause-ends g c =
       pending = drop i.shown i.plan.items;
       stopped = i.stopped;
       keeps = i.keeps;
-      index = i.index;
+      index = view_of i.index;
     } in
     let is : IsSession v = c.self.invariant.0 in
     let to = c.rows-to.result in
     let t = c.finish-plan.new.places in
-    let w = c.finish-plan.new.self in
+    let w = view_of c.finish-plan.new.self in
     let ws = c.join.result.items in
     let r = c.raise-superblock.new.root in
     let b = c.raise_rows-piece.new.header in
@@ -216,11 +320,12 @@ returns-in-Ok-clause-ends g c =
       chunks = c.prepare.new.taking.chunks.items;
       added = c.prepare.new.taking.added.items;
       between = c.prepare.new.taking.places;
-      held = c.prepare.new.index;
+      named = view_of c.prepare.new.index;
       places = c.new-taking.result.places;
       places_are = c.new-taking.ensures.places ∙ c.in_ok-copy.ensures;
       placing = c.in-Ok.ensures.placed;
       all = c.in-Ok.ensures.all;
+      within = c.prepare.ensures.within;
       cells = c.deref.result.now;
       cells_are = c.deref.ensures.value;
       rows = c.in-Ok.prepared.writes.items;
@@ -233,6 +338,7 @@ returns-in-Ok-clause-ends g c =
       supers = option_list c.raise-superblock.result;
       end = c.end.result;
       end_is = c.end.ensures;
+      end_small = omega arith;
       ended = c.raise-superblock.ensures.ended;
       root = c.raise-superblock.ensures.root;
       header = c.raise_rows-piece.ensures.header;
@@ -272,14 +378,15 @@ returns-in-Err-clause-kept g c =
       pending = drop i.shown i.plan.items;
       stopped = i.stopped;
       keeps = i.keeps;
-      index = i.index;
+      index = view_of i.index;
     } in
     let to = c.rows-to.result in
-    let u = c.unset.new.index in
+    let u = view_of c.unset.new.index in
     let to_is : to ≡ rows_of v = c.rows-to.ensures.value ∙ ap rows_of (sym c.self.view_is) in
     let p : IsPartly v.dataset to v.index [] u =
-    c.unset.ensures v.dataset to v.index (subst (λ (ks : List ℕ). IsPartly v.dataset to v.index ks c.prepare.new.index) (sym c.deref-in-Err.ensures.value) c.in-Err.ensures.partly) in
-    refused_same v to u to_is p c.args.self.now c.self.view_is
+    c.unset.ensures.taken_back v.dataset to v.index (subst (λ (ks : List Key). IsPartly v.dataset to v.index ks (view_of c.prepare.new.index)) (sym c.deref-in-Err.ensures.value) c.in-Err.ensures.partly) in
+    let there : IsNamed v.dataset = subst (λ (s : Session). IsNamed s.dataset) (sym c.self.view_is) c.requires.there in
+    refused_same v to u to_is p there c.args.self.now c.self.view_is
 
 pub returns-in-Err-clause-full : goal.returns-in-Err-clause-full
 returns-in-Err-clause-full g c full told =
@@ -297,7 +404,7 @@ returns-in-Err-clause-full g c full told =
       pending = drop i.shown i.plan.items;
       stopped = i.stopped;
       keeps = i.keeps;
-      index = i.index;
+      index = view_of i.index;
     } in
     let to = c.rows-to.result in
     let to_is : to ≡ rows_of v = c.rows-to.ensures.value ∙ ap rows_of (sym c.self.view_is) in

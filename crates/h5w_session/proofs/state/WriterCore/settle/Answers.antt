@@ -16,16 +16,17 @@ invariant_of-self c =
         few = is.few;
         version = is.version;
         begun = omega (arith, is.begun, end);
-        array = is.array;
-        across = is.across;
+        kind = is.kind;
+        sound = is.sound;
+        fits = is.fits;
+        held = is.held;
         header = is.header;
         addressed = is.addressed;
         header_ends = omega (arith, is.header_ends, end);
         small = omega (arith, is.small, end);
         limit = omega (arith, is.limit, limit);
         inside = λ k from named. omega (arith, is.inside k from named, end);
-        tops = λ named. let tops = is.tops named in record { head = omega (arith, tops.head, end); block = omega (arith, tops.block, end) };
-        blocks = is.blocks;
+        tops = λ named u among. omega (arith, is.tops named u among, end);
       },
       c.self.invariant.1,
       subst (λ (n : ℕ). ArePieces n i.plan.items) (sym end) c.self.invariant.2,

@@ -1,0 +1,7 @@
+use Rattle.std.proofs.Common.{sym, subst}
+use Rattle.h5w_model.specs.declared.cell.IndexKind.{IndexKind}
+use Rattle.h5w_session.specs.Refusals.{IsUnplaced}
+use Rattle.h5w_session.proofs.flush.start_index.Goals as goal
+
+pub returns-in-Array-clause-full : goal.returns-in-Array-clause-full
+returns-in-Array-clause-full c full is = subst (λ (k : IndexKind). IsUnplaced k c.args.places.now full) (sym c.in-Array.is) (c.start_array.ensures.full full is)

@@ -1,0 +1,31 @@
+use Rattle.std.proofs.Common.{◌≡◌, sym, subst, arith, List, ℕ}
+use Rattle.h5w_creation.specs.Forms.{a_name, created_by}
+use Rattle.h5w_creation_laws.specs.CreatedFiles.{IsCreatable}
+use Rattle.h5w_session.specs.Creations.{new_file}
+use Rattle.h5w_session.proofs.OptionLemmas.{creatable_by}
+use Rattle.h5w_session.proofs.form.form_of.Goals as goal
+use Rattle.h5w_session.proofs.form.form_of.Goals.{After-fill_of}
+
+-- the file that is created, under any name
+file_is : (c : After-fill_of) (name : List ℕ) → created_by name (record { int_type = c.args.options.now.int_type; fill = c.fill_of.result; chunk = (c.args.options.now.chunk_rows, c.sides_of-columns.result.1); columns = c.sides_of-columns.result.0; index = c.sides_of-columns.result.2 })
+    ≡ record (new_file c.args.options.now) { name = name }
+file_is c name = λ i. record {
+  name = name;
+  int_type = (new_file c.args.options.now).int_type;
+  fill = c.fill_of.ensures.bytes i;
+  chunk_rows = c.args.options.now.chunk_rows;
+  chunk_cols = c.sides_of-columns.ensures.width i;
+  columns = c.sides_of-columns.ensures.columns i;
+  index = c.sides_of-columns.ensures.index i;
+}
+
+pub returns-clause-form : goal.returns-clause-form
+returns-clause-form c =
+    let o = c.args.options.now in
+    record {
+      creatable = subst IsCreatable (sym (file_is c a_name)) (creatable_by a_name o (omega arith) (omega arith) c.requires);
+      filled = c.fill_of.ensures.sized;
+    }
+
+pub returns-clause-file : goal.returns-clause-file
+returns-clause-file c = file_is c c.args.options.now.name
