@@ -22,24 +22,36 @@ def root_header(name, dataset):
     return header(message(2, 0, link_info) + message(10, 0, bytes(2)) + message(6, 0, link))
 
 
-def dataset_header(kind, chunk, fill, array):
+def dataset_header(kind, chunk, fill, index, columns=None):
+    """A dataset without rows: of one dimension by an extensible array, or by a version 2 B-tree of two, with so many columns of
+    which a chunk has so many."""
     size, big, signed = TYPES[kind]
-    width = width_of(max(chunk, size))
-    shape = bytes([2, 1, 1, 1]) + bytes(8) + UNDEFINED
+    dimensions, sides = ([0], [chunk]) if columns is None else ([0, columns[0]], [chunk, columns[1]])
+    width = width_of(max(*sides, size))
+    shape = bytes([2, len(dimensions), 1, 1]) + b"".join(struct.pack("<Q", it) for it in dimensions) + UNDEFINED * len(dimensions)
     number = bytes([0x30, big | signed << 3, 0, 0]) + struct.pack("<IHH", size, 0, 8 * size)
     value = b"" if fill is None else struct.pack("<I", size) + fill.to_bytes(size, "big" if big else "little")
     fills = bytes([3, 0x0B if fill is None else 0x2B]) + value
-    sizes = chunk.to_bytes(width, "little") + size.to_bytes(width, "little")
-    layout = bytes([4, 2, 0, 2, width]) + sizes + bytes([4, 32, 4, 4, 16, 10]) + struct.pack("<Q", array)
+    sizes = b"".join(it.to_bytes(width, "little") for it in [*sides, size])
+    found_by = bytes([4, 32, 4, 4, 16, 10]) if columns is None else bytes([5, 0, 8, 0, 0, 100, 40])
+    layout = bytes([4, 2, 0, len(sides) + 1, width]) + sizes + found_by + struct.pack("<Q", index)
     return header(message(1, 0, shape) + message(3, 0, number) + message(5, 0, fills) + message(8, 0, layout))
 
 
-def new_file(kind, chunk, fill=None, name=b"data", flags=0):
+def array_blocks(at):
+    """The header of an extensible array without chunks, and its index block behind it."""
+    head = sealed(b"EAHD" + bytes([0, 0, 8, 32, 4, 16, 4, 10]) + struct.pack("<7Q", 0, 0, 0, 0, 0, 4, at + 72))
+    return head + sealed(b"EAIB" + bytes(2) + struct.pack("<Q", at) + UNDEFINED * 35)
+
+
+def tree_block():
+    """The header of a version 2 B-tree without chunks."""
+    return sealed(b"BTHD" + bytes([0, 10]) + struct.pack("<IHHBB", 2048, 24, 0, 100, 40) + UNDEFINED + struct.pack("<HQ", 0, 0))
+
+
+def new_file(kind, chunk, fill=None, name=b"data", flags=0, columns=None):
     """The bytes of a file with an empty dataset of this type, with so many rows in a chunk."""
     dataset = 48 + 54 + len(name)
-    array = dataset + len(dataset_header(kind, chunk, fill, 0))
-    index = array + 72
-    end = index + 298
-    array_header = sealed(b"EAHD" + bytes([0, 0, 8, 32, 4, 16, 4, 10]) + struct.pack("<7Q", 0, 0, 0, 0, 0, 4, index))
-    index_block = sealed(b"EAIB" + bytes(2) + struct.pack("<Q", array) + UNDEFINED * 35)
-    return superblock(flags, end) + root_header(name, dataset) + dataset_header(kind, chunk, fill, array) + array_header + index_block
+    index = dataset + len(dataset_header(kind, chunk, fill, 0, columns))
+    blocks = array_blocks(index) if columns is None else tree_block()
+    return superblock(flags, index + len(blocks)) + root_header(name, dataset) + dataset_header(kind, chunk, fill, index, columns) + blocks
