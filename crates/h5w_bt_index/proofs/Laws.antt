@@ -10,9 +10,9 @@ use Rattle.h5w_bt.specs.declared.records.Record.{Record}
 use Rattle.h5w_bt.specs.Parts.{record_of}
 use Rattle.h5w_bt_index.specs.Nodes.{Tree, all_records, records_of, address_in, found, total_of}
 use Rattle.h5w_bt_index.specs.Puts.{put_record, put, is_over, raised}
-use Rattle.h5w_bt_index.specs.Sound.{IsRising, IsShape, IsSound, AtLeast}
+use Rattle.h5w_bt_index.specs.Sound.{IsRising, IsShape, IsSound}
 use Rattle.h5w_bt_index.specs.Marks.{Part, IsMarked}
-use Rattle.h5w_bt_index.specs.Index.{Index, records, address_of, regrown, inserted, IsBlocked, IsIndex, IsShaped, IsHalfFull, IsClean, IsDeep, IsThere, found_address}
+use Rattle.h5w_bt_index.specs.Index.{Index, records, address_of, regrown, inserted, IsBlocked, IsIndex, IsShaped, HasShares, KeepsShares, IsClean, IsDeep, IsThere, found_address}
 use Rattle.h5w_bt_index.proofs.Keys.{equal-is}
 use Rattle.h5w_bt_index.proofs.Records.{under, here, past, side, in-under, in-here, in-past, put-finds_same, put-finds_other, put-rises}
 use Rattle.h5w_bt_index.proofs.Parts.{rebound, over-half, put_sound, raised_sound}
@@ -20,7 +20,7 @@ use Rattle.h5w_bt_index.proofs.Grown.{IsGood, parts_records, put_records, found_
 use Rattle.h5w_bt_index.proofs.Shapes.{put_shape, raised_shape, shape_rebound, sound_shape}
 use Rattle.h5w_bt_index.proofs.Over.{over-blocked}
 use Rattle.h5w_bt_index.proofs.Places.{some_same, none_is_not}
-use Rattle.h5w_bt_index.proofs.Halves.{put-half, raised-half}
+use Rattle.h5w_bt_index.proofs.Shares.{least_less, put-share, raised-share}
 use Rattle.h5w_bt_index.proofs.Marks.{put-clean, raised-clean, put-marked, raised-marked}
 
 -- ---- The standard's search, and that of the code
@@ -125,17 +125,14 @@ regrown-shaped d t h k s m = go (is_over d t) refl
 pub inserted-shaped : (x : Record) (v : Index) → (is_over v.depth (put v.depth x v.root) ≡ true → v.depth ≤ 2) → IsShaped v → IsShaped (inserted x v)
 inserted-shaped x v k i = regrown-shaped v.depth (put v.depth x v.root) i.shallow k (put_shape v.depth x v.root i.shallow i.shape) (put-marked v.depth x v.root i.shape i.marked)
 
-least_less : (d m n : ℕ) (t : Tree d) → n ≤ m → AtLeast d m t → AtLeast d n t
-least_less zero m n t h a = omega (arith, h, a)
-least_less (suc d) m n t h a = (omega (arith, h, a.0), a.1)
-
-pub inserted-half : (x : Record) (v : Index) → IsShaped v → IsHalfFull v → IsHalfFull (inserted x v)
-inserted-half x v i h = go (is_over v.depth (put v.depth x v.root)) refl
+pub inserted-shares : (x : Record) (v : Index) → IsShaped v → KeepsShares v (inserted x v)
+inserted-shares x v i share f h = go (is_over v.depth (put v.depth x v.root)) refl
   where
-    go : (o : Bool) → is_over v.depth (put v.depth x v.root) ≡ o → IsHalfFull (regrown v.depth (put v.depth x v.root))
-    go true o = subst IsHalfFull (sym (regrown-over v.depth (put v.depth x v.root) o))
-        (least_less (suc v.depth) 1 0 (raised v.depth (put v.depth x v.root)) (omega arith) (raised-half v.depth 0 (put v.depth x v.root) o (put-half v.depth 0 x v.root i.shape h)))
-    go false o = subst IsHalfFull (sym (regrown-not v.depth (put v.depth x v.root) o)) (put-half v.depth 0 x v.root i.shape h)
+    go : (o : Bool) → is_over v.depth (put v.depth x v.root) ≡ o → HasShares share (regrown v.depth (put v.depth x v.root))
+    go true o = subst (HasShares share) (sym (regrown-over v.depth (put v.depth x v.root) o))
+        (least_less share (suc v.depth) 1 0 (raised v.depth (put v.depth x v.root)) (omega arith)
+        (raised-share share v.depth 0 (put v.depth x v.root) (f v.depth) o (put-share share f v.depth 0 x v.root i.shape h)))
+    go false o = subst (HasShares share) (sym (regrown-not v.depth (put v.depth x v.root) o)) (put-share share f v.depth 0 x v.root i.shape h)
 
 pub inserted-clean : (p : Part) (x : Record) (v : Index) → IsShaped v → IsClean p (inserted x v) → IsClean p v
 inserted-clean p x v i h = go (is_over v.depth (put v.depth x v.root)) refl h

@@ -10,7 +10,7 @@ pub mod Children
 pub mod Bounds
 pub mod Shapes
 pub mod Over
-pub mod Halves
+pub mod Shares
 pub mod Marks
 pub mod Searched
 pub mod Down

@@ -8,7 +8,7 @@ use Rattle.h5w_bt.specs.declared.records.Record.{Record}
 use Rattle.h5w_bt_index.specs.Nodes.{Tree, all_records, joined, records_of, total_of}
 use Rattle.h5w_bt_index.specs.Sound.{AtLeast, IsRising, IsShape, IsShapedChild, IsSound}
 use Rattle.h5w_bt_index.specs.Marks.{IsMarked, clean_of}
-use Rattle.h5w_bt_index.specs.Index.{Index, IsHalfFull, IsIndex, IsShaped, records}
+use Rattle.h5w_bt_index.specs.Index.{Index, KeepsShares, IsIndex, IsShaped, records}
 use Rattle.h5w_bt_index.specs.Plans.{changes, each_by, placed, planned, stood}
 
 -- what holds of both holds of either
@@ -74,11 +74,11 @@ placed_shape (suc d) m ps t s =
           (λ qs c p. (placed_shape d _ qs c p.0, subst (λ (n : ℕ). n < 256 ^ suc d) (sym (placed_total d qs c)) p.1)) s.each;
     })
 
-pub placed_least : (d least : ℕ) (ps : List ℕ) (t : Tree d) → AtLeast d least t → AtLeast d least (placed d ps t)
-placed_least zero least ps t s = subst (λ (l : List Record). least ≤ length l) (sym (placed_own zero ps t)) s
-placed_least (suc d) least ps t s =
-    either (AtLeast (suc d) least) t.clean _ _ (λ e. s)
-    (λ e. (s.0, each_all (AtLeast d _) (AtLeast d _) (placed d) (changes d) ps t.children (λ qs c p. placed_least d _ qs c p) s.1))
+pub placed_least : (share : ℕ → ℕ) (d least : ℕ) (ps : List ℕ) (t : Tree d) → AtLeast share d least t → AtLeast share d least (placed d ps t)
+placed_least share zero least ps t s = subst (λ (l : List Record). least ≤ length l) (sym (placed_own zero ps t)) s
+placed_least share (suc d) least ps t s =
+    either (AtLeast share (suc d) least) t.clean _ _ (λ e. s)
+    (λ e. (s.0, each_all (AtLeast share d _) (AtLeast share d _) (placed d) (changes d) ps t.children (λ qs c p. placed_least share d _ qs c p) s.1))
 
 -- ---- What is clean
 
@@ -121,5 +121,5 @@ planned_shaped ps v i = record {
   marked = placed_marked v.depth ps v.root i.marked;
 }
 
-pub planned_half : (ps : List ℕ) (v : Index) → IsHalfFull v → IsHalfFull (planned ps v)
-planned_half ps v h = placed_least v.depth 0 ps v.root h
+pub planned_shares : (ps : List ℕ) (v : Index) → KeepsShares v (planned ps v)
+planned_shares ps v share f h = placed_least share v.depth 0 ps v.root h

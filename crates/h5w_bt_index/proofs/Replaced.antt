@@ -16,7 +16,7 @@ use Rattle.h5w_bt_index.proofs.Keys.{equal-is}
 use Rattle.h5w_bt_index.proofs.Records.{under, here, past, side, put-under, put-here, in-under, in-past, none_is_not_some, put-finds_other}
 use Rattle.h5w_bt_index.proofs.Steps.{is_there, there, not_there, put_here, put_below, went_down}
 use Rattle.h5w_bt_index.proofs.Over.{over-blocked}
-use Rattle.h5w_bt_index.proofs.Laws.{finds, index_shaped, inserted-clean, inserted-half, inserted-index, inserted-map, inserted-records, inserted-shaped, put-there, same-index}
+use Rattle.h5w_bt_index.proofs.Laws.{finds, index_shaped, inserted-clean, inserted-index, inserted-map, inserted-records, inserted-shaped, inserted-shares, put-there, same-index}
 
 -- ---- Its key has a record
 
@@ -100,7 +100,7 @@ is_replaced x v i h =
       depth = ap (λ (u : Index). u.depth) (sym same);
       there = λ key h. inserted_there x v key i h;
       index = inserted-index x v (λ o. let clash : true ≡ false = sym o ∙ n in absurd cc) i;
-      half = inserted-half x v (index_shaped v i);
+      shares = inserted-shares x v (index_shaped v i);
       clean = λ p. inserted-clean p x v (index_shaped v i);
       changed = subst (λ (u : Index). clean_of u.depth u.root ≡ false) same (put_changed v.depth x v.root);
     }

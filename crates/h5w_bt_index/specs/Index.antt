@@ -8,8 +8,8 @@ use Rattle.h5w_model.specs.Trees.{capacity_of}
 use Rattle.h5w_bt.specs.declared.records.Record.{Record}
 use Rattle.h5w_bt.specs.Parts.{record_of}
 use Rattle.h5w_bt_index.specs.Nodes.{Tree, LeafNode, all_records, address_in, found}
-use Rattle.h5w_bt_index.specs.Puts.{put, put_record, is_over, is_full_path, raised}
-use Rattle.h5w_bt_index.specs.Sound.{IsRising, IsShape, IsSound, AtLeast}
+use Rattle.h5w_bt_index.specs.Puts.{half, put, put_record, is_over, is_full_path, raised}
+use Rattle.h5w_bt_index.specs.Sound.{IsRising, IsShape, IsSound, AtLeast, two_fifths}
 use Rattle.h5w_bt_index.specs.Marks.{IsMarked, Part, IsCleanPart, clean_of}
 use Rattle.h5w_bt_index.specs.Typed.{leaf_of, inner_of}
 use Rattle.h5w_bt_index.specs.declared.root.Root.{Root}
@@ -86,9 +86,21 @@ pub record IsIndex (v : Index) : Type 0 where
 abbrev pub IsClean : Part → Index → Type 0
 IsClean p v = IsCleanPart p v.depth v.root
 
--- each node but the root has at least half of its capacity
+-- each node but the root has at least its depth's share of records
+abbrev pub HasShares : (ℕ → ℕ) → Index → Type 0
+HasShares share v = AtLeast share v.depth 0 v.root
+
+-- half of its capacity, as in a tree that was made here
 abbrev pub IsHalfFull : Index → Type 0
-IsHalfFull v = AtLeast v.depth 0 v.root
+IsHalfFull v = HasShares half v
+
+-- two fifths of it, as in each tree that HDF5's library made
+abbrev pub IsFilled : Index → Type 0
+IsFilled v = HasShares two_fifths v
+
+-- whatever share of no more than half of their capacity all nodes but the root of a tree have, those of the other have it
+abbrev pub KeepsShares : Index → Index → Type 0
+KeepsShares v w = (share : ℕ → ℕ) → ((d : ℕ) → share d ≤ half d) → HasShares share v → HasShares share w
 
 -- the keys of some records
 abbrev pub keys_of : List Record → List Key
@@ -103,7 +115,7 @@ pub record IsReplaced (x : Record) (v w : Index) : Type 0 where
   pub depth : w.depth ≡ v.depth
   pub there : (key : Key) → IsThere v key → IsThere w key
   pub index : IsIndex w
-  pub half : IsHalfFull v → IsHalfFull w
+  pub shares : KeepsShares v w
   pub clean : (p : Part) → IsClean p w → IsClean p v
   pub changed : clean_of w.depth w.root ≡ false
 

@@ -1,11 +1,11 @@
 -- What holds of the trees of a session.
-use Rattle.std.specs.Prelude.{◌≡◌, ℕ, zero, suc, ◌+◌, ◌<◌, ◌≤◌, ◌^◌, true, List, [], ◌∷◌, length}
+use Rattle.std.specs.Prelude.{◌≡◌, ℕ, zero, suc, ◌+◌, ◌*◌, ◌/◌, ◌<◌, ◌≤◌, ◌^◌, true, List, [], ◌∷◌, length}
 use Rattle.std.specs.List.{All}
 use Rattle.h5w_model.specs.Tables.{key_below}
 use Rattle.h5w_model.specs.Trees.{capacity_of}
 use Rattle.h5w_bt.specs.declared.records.Record.{Record}
 use Rattle.h5w_bt_index.specs.Nodes.{Tree, total_of}
-use Rattle.h5w_bt_index.specs.Puts.{counted, half}
+use Rattle.h5w_bt_index.specs.Puts.{counted}
 
 -- keys strictly rise
 abbrev pub IsRising : List Record → Type 0
@@ -24,10 +24,14 @@ abbrev pub IsSound : (d : ℕ) → ℕ → Tree d → Type 0
 IsSound zero most t = length t.records ≤ most
 IsSound (suc d) most t = IsInner d most (IsSound d (capacity_of d)) t
 
--- each node below the root has at least half of its capacity, and the root at least so many records
-abbrev pub AtLeast : (d : ℕ) → ℕ → Tree d → Type 0
-AtLeast zero least t = least ≤ length t.records
-AtLeast (suc d) least t = (least ≤ length t.records) × All (AtLeast d (half d)) t.children
+-- each node below the root has at least its depth's share of records, and the root at least so many
+abbrev pub AtLeast : (ℕ → ℕ) → (d : ℕ) → ℕ → Tree d → Type 0
+AtLeast share zero least t = least ≤ length t.records
+AtLeast share (suc d) least t = (least ≤ length t.records) × All (AtLeast share d (share d)) t.children
+
+-- two fifths of a node's capacity: so many records HDF5's library leaves in each node but the root, also where records are removed
+abbrev pub two_fifths : ℕ → ℕ
+two_fifths d = capacity_of d * 2 / 5
 
 -- An inner node whatever its keys are and whatever it says of how many records are under it: how many it has at most, and one child more
 -- than records.

@@ -2,7 +2,7 @@ ghost use Rattle.std.specs.Prelude.{◌≡◌, ◌≤◌, [], length, true, None
 ghost use Rattle.std.specs.Option.{is_some, unwrap_or};
 ghost use Rattle.h5w_model.specs.Numbers.{undefined};
 ghost use Rattle.h5w_model.specs.Tables.{key_equal};
-ghost use Rattle.h5w_bt_index.specs.Index.{IsBlocked, IsClean, IsDeep, IsHalfFull, IsIndex, IsReplaced, IsShaped, IsThere, address_of, defined, found_address, found_by, index_of, inserted, no_tree, records};
+ghost use Rattle.h5w_bt_index.specs.Index.{IsBlocked, IsClean, IsDeep, IsHalfFull, IsIndex, KeepsShares, IsReplaced, IsShaped, IsThere, address_of, defined, found_address, found_by, index_of, inserted, no_tree, records};
 ghost use Rattle.h5w_cache.specs.Plans.{IfFull};
 ghost use Rattle.h5w_bt.specs.Fields.{bthd_of};
 ghost use Rattle.h5w_bt.specs.Parts.{IsHeader};
@@ -78,6 +78,13 @@ impl TreeIndex {
             header,
             alloc,
         }
+    }
+
+    /// The root, with all that is under it.
+    pub fn root(&self) -> &Root
+        ensures { index_of result.now ≡ view_of self.now }
+    {
+        &self.root
     }
 
     /// How deep the tree is, as its header says.
@@ -174,7 +181,7 @@ impl TreeIndex {
         ensures ok { OnOk result ((view_of self.new) ≡ inserted (record { address = address; key = key }) (view_of self.old)) }
         ensures map { IsIndex (view_of self.old) → OnOk result ((k : Key) → address_of (view_of self.new) k ≡ (if key_equal key k then address else address_of (view_of self.old) k)) }
         ensures sorted { IsIndex (view_of self.old) → OnOk result (records (view_of self.new) ≡ put_record (record { address = address; key = key }) (records (view_of self.old))) }
-        ensures half { OnOk result (IsHalfFull (view_of self.old) → IsHalfFull (view_of self.new)) }
+        ensures shares { OnOk result (KeepsShares (view_of self.old) (view_of self.new)) }
         ensures clean { OnOk result ((p : Part) → IsClean p (view_of self.new) → IsClean p (view_of self.old)) }
         ensures blocked { IfErr result (λ e. e ≡ InsertError.Deep → IsBlocked (view_of self.old) key) }
         ensures refused { IsBlocked (view_of self.old) key → result ≡ Err InsertError.Deep }
@@ -197,7 +204,7 @@ impl TreeIndex {
         ensures new_found { OnOk result (found_by (view_of self.old) key ≡ None → (view_of self.new) ≡ inserted (record { address = undefined; key = key }) (view_of self.old)) }
         ensures same { IsIndex (view_of self.old) → OnOk result (IsThere (view_of self.old) key → (view_of self.new) ≡ (view_of self.old)) }
         ensures new { IsIndex (view_of self.old) → OnOk result (address_in key (records (view_of self.old)) ≡ None → (view_of self.new) ≡ inserted (record { address = undefined; key = key }) (view_of self.old)) }
-        ensures half { OnOk result (IsHalfFull (view_of self.old) → IsHalfFull (view_of self.new)) }
+        ensures shares { OnOk result (KeepsShares (view_of self.old) (view_of self.new)) }
         ensures clean { OnOk result ((p : Part) → IsClean p (view_of self.new) → IsClean p (view_of self.old)) }
         ensures blocked { IfErr result (λ e. e ≡ InsertError.Deep → IsBlocked (view_of self.old) key) }
         ensures refused { IsBlocked (view_of self.old) key → result ≡ Err InsertError.Deep }
@@ -298,7 +305,7 @@ impl TreeIndex {
         ensures planned { IsTreePlan (header_place self.old) (view_of self.old) places.old result.moves.items result.copies.items result.in_place.items (view_of self.new) places.new }
         ensures shape { IsShaped (view_of self.new) }
         ensures index { IsIndex (view_of self.old) → IsIndex (view_of self.new) }
-        ensures half { IsHalfFull (view_of self.old) → IsHalfFull (view_of self.new) }
+        ensures shares { KeepsShares (view_of self.old) (view_of self.new) }
         ensures place { header_place self.new ≡ header_place self.old }
         // as it was begun
         ensures moves { result.moves.items ≡ begun.moves }
@@ -318,7 +325,7 @@ impl TreeIndex {
         ensures planned { IfOk result (λ p. IsTreePlan (header_place self.old) (view_of self.old) places.old p.moves.items p.copies.items p.in_place.items (view_of self.new) places.new) }
         ensures shape { IsShaped (view_of self.new) }
         ensures index { IsIndex (view_of self.old) → IsIndex (view_of self.new) }
-        ensures half { IsHalfFull (view_of self.old) → IsHalfFull (view_of self.new) }
+        ensures shares { KeepsShares (view_of self.old) (view_of self.new) }
         ensures place { header_place self.new ≡ header_place self.old }
         // the first node in turn that has no place
         ensures full { IfErr result (λ e. IfFull e (HasNoPlace (changes (view_of self.old).depth (view_of self.old).root) places.old)) }

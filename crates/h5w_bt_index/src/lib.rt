@@ -18,7 +18,7 @@ mod subtree;
 pub use error::InsertError;
 pub use h5w_bt::Key;
 pub use index::TreeIndex;
-pub use inner::Inner;
+pub use inner::{Inner, count};
 pub use leaf::Leaf;
 pub use plan::Begun;
 pub use root::Root;

@@ -7,3 +7,5 @@ pub mod NodeLemmas
 pub mod StepLemmas
 pub mod TreeLemmas
 pub mod VisitLemmas
+pub mod WalkLemmas
+pub mod KeptLemmas

@@ -18,7 +18,7 @@ use Rattle.h5w_bt_open.proofs.RefusedLemmas.{refused_as_well, refused_behind, re
 
 -- ---- Lists
 
-drop_here : {A : Type 0} (xs : List A) (i : ℕ) (d : A) → i < length xs → drop i xs ≡ slice_index_or xs i d ∷ drop (suc i) xs
+pub drop_here : {A : Type 0} (xs : List A) (i : ℕ) (d : A) → i < length xs → drop i xs ≡ slice_index_or xs i d ∷ drop (suc i) xs
 drop_here [] i d h = absurd (omega arith)
 drop_here (x ∷ xs) zero d h = refl
 drop_here (x ∷ xs) (suc i) d h = drop_here xs i d (omega (arith, h))

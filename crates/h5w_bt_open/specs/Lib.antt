@@ -6,3 +6,4 @@ pub mod Spans
 pub mod Opened
 pub mod Calls
 pub mod OpenedLaws
+pub mod Kept

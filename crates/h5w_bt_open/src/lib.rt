@@ -4,13 +4,15 @@
 #![tactic(auto)]
 
 mod error;
+mod kept;
 mod laws;
 mod load;
 mod node;
 mod span;
 mod tree;
+mod walk;
 
 pub use error::OpenTreeError;
+pub use kept::{open_kept, ranges, records};
 pub use laws::{opened_finds, opened_is_index};
 pub use span::Span;
-pub use tree::open;

@@ -16,7 +16,7 @@ pub struct Span {
 }
 
 /// Whether a key comes before another: by dimension 0, then 1.
-fn is_below(a: Key, b: Key) -> bool
+pub fn is_below(a: Key, b: Key) -> bool
     ensures { result ≡ key_below a b }
 {
     a.i < b.i || (a.i == b.i && a.j < b.j)

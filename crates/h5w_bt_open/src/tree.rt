@@ -88,6 +88,13 @@ fn root_at<I: PieceRead>(
     }
 }
 
+/// A tree that was opened, and its header.
+#[derive(Drop)]
+pub struct OpenedTree {
+    pub tree: TreeIndex,
+    pub header: Bthd,
+}
+
 /// The tree whose header stands at `header`, for keys from `first` on: each node is read, by its own length, and what is refused is passed
 /// over where no such key leads to it. A header that names no root is that of a tree without records.
 ///
@@ -97,19 +104,26 @@ pub fn open<I: PieceRead>(
     image: &mut I,
     header: u64,
     first: Key,
-) -> Result<TreeIndex, OpenTreeError>
+) -> Result<OpenedTree, OpenTreeError>
     ensures loads { Loads (I.view image.old) (I.view image.new) (λ img a f. IsRefused (looked_in img header) (Leads (from_key first)) a f) result }
-    ensures shape { IfOk result (λ t. IsShaped (view_of t)) }
-    ensures clean { IfOk result (λ t. clean_of (view_of t).depth (view_of t).root ≡ true) }
-    ensures place { IfOk result (λ t. header_place t ≡ header) }
-    ensures fits { IfOk result (λ t. header + 38 < 2 ^ 64) }
-    ensures opened { IfOk result (λ t. (img : List ℕ) → IsStill (I.view image.old) img → IsStanding img header first (view_of t)) }
+    ensures shape { IfOk result (λ o. IsShaped (view_of o.tree)) }
+    ensures clean { IfOk result (λ o. clean_of (view_of o.tree).depth (view_of o.tree).root ≡ true) }
+    ensures place { IfOk result (λ o. header_place o.tree ≡ header) }
+    ensures fits { IfOk result (λ o. header + 38 < 2 ^ 64) }
+    ensures opened { IfOk result (λ o. (img : List ℕ) → IsStill (I.view image.old) img → IsStanding img header first (view_of o.tree)) }
+    ensures read { IfOk result (λ o. (img : List ℕ) → IsStill (I.view image.old) img → bthd_at (range img header bthd_len) header ≡ Ok (bthd_of o.header)) }
 {
     let keys = keys_from(first);
     let found = header_at(alloc, image, header)?;
     if found.root == UNDEFINED {
-        return Ok(TreeIndex::new(alloc, header));
+        return Ok(OpenedTree {
+            tree: TreeIndex::new(alloc, header),
+            header: found,
+        });
     }
     let root = root_at(alloc, image, found, keys)?;
-    Ok(TreeIndex::standing(alloc, header, root))
+    Ok(OpenedTree {
+        tree: TreeIndex::standing(alloc, header, root),
+        header: found,
+    })
 }

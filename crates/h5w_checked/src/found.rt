@@ -1,6 +1,6 @@
 //! What a dataset is found by.
 
-use crate::files::FILE;
+use crate::files::{FILE, GRID, TREE, UNSORTED, WRONG_TOTAL};
 use crate::tests::{change, unpacked};
 use h5w_found::{FindError, dataset_header, describe, place_of, root_header, superblock};
 use h5w_image::MemImage;
@@ -60,12 +60,12 @@ fn a_closed_file_is_opened_up_to_its_index(rt: HostRuntime) -> Result<(), Fail> 
     Ok(())
 }
 
-/// The rows of the session that opens the closed file, the place where new chunks begin, and the flags of its pending superblock.
-pub fn session_of(alloc: Global) -> Result<Result<(u64, u64, Option<u8>), OpenError>, OutOfMemory> {
-    let mut bytes = unpacked(alloc, &FILE)?;
-    change(&mut bytes, 11, &[0]);
-    change(&mut bytes, 44, &[0x52, 0xca, 0x95, 0x85]);
-    let mut image = MemImage::of(alloc, &bytes)?;
+/// Of the session that opens a file the rows, the place where new chunks begin, and the flags of its pending superblock.
+pub fn session_of(
+    alloc: Global,
+    bytes: &[u8],
+) -> Result<Result<(u64, u64, Option<u8>), OpenError>, OutOfMemory> {
+    let mut image = MemImage::of(alloc, bytes)?;
     let size = image.len();
     let session = match WriterCore::open(alloc, &mut image, size, b"data", 1 << 20) {
         Ok(session) => session,
@@ -80,7 +80,23 @@ pub fn session_of(alloc: Global) -> Result<Result<(u64, u64, Option<u8>), OpenEr
 
 #[test]
 fn a_session_opens_a_closed_file(rt: HostRuntime) -> Result<(), Fail> {
-    let session = session_of(rt.alloc())?;
+    let mut bytes = unpacked(rt.alloc(), &FILE)?;
+    change(&mut bytes, 11, &[0]);
+    change(&mut bytes, 44, &[0x52, 0xca, 0x95, 0x85]);
+    let session = session_of(rt.alloc(), &bytes)?;
     assert_eq!(rt; session, Ok((3, 574, Some(5))));
+    Ok(())
+}
+
+#[test]
+fn a_session_opens_a_tree_that_it_keeps(rt: HostRuntime) -> Result<(), Fail> {
+    let grid = unpacked(rt.alloc(), &GRID)?;
+    assert_eq!(rt; session_of(rt.alloc(), &grid)?, Ok((2, 2394, Some(5))));
+    let no_root = unpacked(rt.alloc(), &TREE)?;
+    assert_eq!(rt; session_of(rt.alloc(), &no_root)?, Ok((1, 338, Some(5))));
+    for packed in [&UNSORTED as &[u8], &WRONG_TOTAL] {
+        let other = unpacked(rt.alloc(), packed)?;
+        assert_eq!(rt; session_of(rt.alloc(), &other)?, Err(OpenError::Index));
+    }
     Ok(())
 }

@@ -3,7 +3,7 @@ use Rattle.std.proofs.Common.{◌≡◌, ℕ, ◌+◌, ◌≤◌, max, true, Lis
 use Rattle.h5w_model.specs.Programs.{eval}
 use Rattle.h5w_model.specs.Images.{Misses, apply}
 use Rattle.h5w_model.specs.Tables.{InPlace}
-use Rattle.h5w_model.specs.Trees.{bthd_at, bthd_len}
+use Rattle.h5w_model.specs.Trees.{bthd_len}
 use Rattle.h5w_model.specs.declared.cell.Key.{Key}
 use Rattle.h5w_model.specs.declared.piece.Write.{Write}
 use Rattle.h5w_model.proofs.ImageLemmas.{range-apply_missed}
@@ -32,7 +32,7 @@ use Rattle.h5w_bt_index.specs.Index.{Index, address_of}
 use Rattle.h5w_bt_index.specs.Plans.{place_of as node_place}
 use Rattle.h5w_tree_index_laws.specs.TreeImages.{IsRead, behind_of, blocks_in_place, node_range}
 use Rattle.h5w_tree_index_laws.specs.TreeFlushes.{TreeStands, header_range}
-use Rattle.h5w_tree_index_laws.proofs.TreeHeaderLemmas.{header_says, part_range, tree_left}
+use Rattle.h5w_tree_index_laws.proofs.TreeHeaderLemmas.{header_says, in_place_by, part_range, tree_left}
 use Rattle.h5w_tree_index_laws.proofs.TreeRangeLemmas.{by_weight}
 use Rattle.h5w_tree_index_laws.proofs.TreeStandLemmas.{tree_is_read}
 use Rattle.h5w_index.specs.Views as views
@@ -50,7 +50,7 @@ module _ (img name : List ℕ) (m : Moment) (s : Space) (p : ℕ) (v : Index) (i
   says = header_says v img m.dataset p kind address is.defined (stands.header clean)
 
   reads : IsRead v img
-  reads = tree_is_read v img is.index is.half clean stands.nodes
+  reads = tree_is_read v img is.index clean stands.nodes
 
   behind_is : m.behind ≡ behind_of (chunk_bytes m.dataset) v
   behind_is =
@@ -115,7 +115,7 @@ tree_missed img name m old s p v w k off r =
       nodes = tree_left v img (w ∷ []) is.index stands.nodes (λ part clean n.
           let u : Used = node_range (node_place part.depth part.tree) in
           (off u (in_file img m old s (a_tree p v) u r (among_right u (header_range p ∷ []) behind (part_range bytes part v.depth v.root is.index.sound n.ends clean))), tt));
-      header = λ e. ap (λ (l : List ℕ). bthd_at l p) (range-apply_missed w img p bthd_len (off (header_range p) head) fits) ∙ stands.header e;
+      header = λ e. ap (in_place_by p) (range-apply_missed w img p bthd_len (off (header_range p) head) fits) ∙ stands.header e;
     }
 
 again : (img : List ℕ) (m : Moment) (old : Key → ℕ) (s : Space) (v : IndexView) (w : Write) → StandsOn v (apply w img) → Rests img m old s v → Rests (apply w img) m old s v

@@ -41,7 +41,7 @@ tree_set bands across x v w i there h within =
     let own = within x.key there in
     subst (KeysWithin bands across) (sym h.is) (put_within bands across x v i own.0 own.1 within)
 
-too_many : (n most : ℕ) → 2203448 ≤ n → n ≤ most → most ≤ 2203447 → ⊥
+too_many : (n most : ℕ) → 1114349 ≤ n → n ≤ most → most ≤ 1114348 → ⊥
 too_many n most a b c = omega (arith, a, b, c)
 
 pub depth_laws : DepthLaws
@@ -75,9 +75,9 @@ depth_laws = record { none = λ bands across place key there. absurd (there refl
     planned bands across (an_array v) s ms copies fixed (a_tree q w) t plan within = absurd plan
     planned bands across (a_tree p v) s ms copies fixed (an_array w) t plan within = absurd plan
 
-    shallow : (bands across : ℕ) (key : Key) (v : IndexView) → IsSound v → AreWithin bands across v → bands * across ≤ 2203447 → IsDeep v key → ⊥
+    shallow : (bands across : ℕ) (key : Key) (v : IndexView) → IsSound v → AreWithin bands across v → bands * across ≤ 1114348 → IsDeep v key → ⊥
     shallow bands across key (an_array v) is within few deep = deep
     shallow bands across key (a_tree p v) is within few deep =
-        let many = deep_is_many v key is.index is.half deep in
+        let many = deep_is_many v key is.index is.filled deep in
         let most = within_is_few v bands across is.index within in
         absurd (too_many (length (records v)) (bands * across) many most few)

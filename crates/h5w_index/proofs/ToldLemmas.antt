@@ -16,11 +16,13 @@ use Rattle.h5w_array_laws.specs.ArrayImages.{StandsArray}
 use Rattle.h5w_bt.specs.declared.records.Record.{Record}
 use Rattle.h5w_bt_index.specs.Marks.{clean_of}
 use Rattle.h5w_bt_index.specs.Index.{Index, IsIndex, address_of, inserted}
-use Rattle.h5w_bt_index.proofs.Laws.{held-map, index_shaped, inserted-clean, inserted-half}
+use Rattle.h5w_bt_index.proofs.Laws.{held-map, index_shaped, inserted-clean, inserted-shares}
+use Rattle.h5w_bt_index.proofs.Shares.{filled_kept}
 use Rattle.h5w_bt_index.proofs.Replaced.{inserted_changed, inserted_there}
 use Rattle.h5w_tree_index_laws.specs.TreeImages as trees
 use Rattle.h5w_tree_index_laws.proofs.TreeInsertLemmas.{inserted_behind}
 use Rattle.h5w_tree_index_laws.proofs.TreeMapLemmas as maps
+use Rattle.h5w_tree_index_laws.proofs.TreeStandLemmas.{never_first}
 use Rattle.h5w_index.specs.Views.{IndexView, an_array, a_tree, IsSoundTree}
 use Rattle.h5w_index.specs.Steps.{ArrayHeld, ArraySet, ArrayUnset, TreeHeld, TreeSet, blank}
 use Rattle.h5w_index.specs.Told.{HeldTells, HeldTold, IsLike, KeepsMarks, LikeLaws, SameBlocks, SameRanges, SetTells, SetTold, UnsetTells, UnsetTold}
@@ -72,12 +74,15 @@ tree_like p v x is j =
       fixed = refl;
       blocks = (maps.inserted_renews x v is.index j).nodes;
       marks = λ part c. inserted-clean part x v (index_shaped v is.index) c;
-      sound = record { index = j; half = inserted-half x v (index_shaped v is.index) is.half; defined = is.defined };
+      sound = record { index = j; filled = filled_kept v w (inserted-shares x v (index_shaped v is.index)) is.filled; defined = is.defined };
       takes = λ key h. h;
       one = λ key other. refl;
       slots = λ key h. inserted_there x v key is.index h;
       stays = λ s h. h;
-      stands = λ img h. record { nodes = λ part clean. h.nodes part (inserted-clean part x v (index_shaped v is.index) clean); header = λ clean. absurd (never (clean_of w.depth w.root) (inserted_changed x v) clean) };
+      stands = λ img h. record {
+        nodes = λ part clean. elim (h.nodes part (inserted-clean part x v (index_shaped v is.index) clean)) [ inl e ↦ absurd (never_first x v part e clean) | inr s ↦ inr s ];
+        header = λ clean. absurd (never (clean_of w.depth w.root) (inserted_changed x v) clean);
+      };
     }
 
 -- the same tree, said otherwise

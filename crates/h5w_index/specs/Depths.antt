@@ -14,7 +14,7 @@ abbrev pub AreWithin : ℕ → ℕ → IndexView → Type 0
 AreWithin bands across (an_array v) = Unit {0}
 AreWithin bands across (a_tree place v) = KeysWithin bands across v
 
--- It is so of a tree without records, and of more bands; each call for such a key leaves it so. Where the keys are at most 2,203,447, as
+-- It is so of a tree without records, and of more bands; each call for such a key leaves it so. Where the keys are at most 1,114,348, as
 -- where a dataset has chunks within the limit, no place is refused for want of depth.
 pub record DepthLaws : Type 0 where
   pub none : (bands across place : ℕ) → AreWithin bands across (a_tree place no_tree)
@@ -23,4 +23,4 @@ pub record DepthLaws : Type 0 where
   pub set : (bands across : ℕ) (key : Key) (address : ℕ) (v w : IndexView) → IsSound v → HasSlot v key → IsSet key address v w → AreWithin bands across v → AreWithin bands across w
   pub unset : (bands across : ℕ) (key : Key) (v w : IndexView) → IsSound v → HasSlot v key → IsUnset key v w → AreWithin bands across v → AreWithin bands across w
   pub planned : (bands across : ℕ) (v : IndexView) (s : Space) (ms : List Move) (copies fixed : List Write) (w : IndexView) (t : Space) → IsPlan v s ms copies fixed w t → AreWithin bands across v → AreWithin bands across w
-  pub shallow : (bands across : ℕ) (key : Key) (v : IndexView) → IsSound v → AreWithin bands across v → bands * across ≤ 2203447 → IsDeep v key → ⊥
+  pub shallow : (bands across : ℕ) (key : Key) (v : IndexView) → IsSound v → AreWithin bands across v → bands * across ≤ 1114348 → IsDeep v key → ⊥

@@ -43,7 +43,7 @@ blank key = record { address = undefined; key = key }
 pub record TreeHeld (key : Key) (v w : Index) : Type 0 where
   pub is : (w ≡ v) ⊎ ((address_in key (records v) ≡ None) × (w ≡ inserted (blank key) v))
   pub index : trees.IsIndex w
-  pub half : trees.IsHalfFull v → trees.IsHalfFull w
+  pub shares : trees.KeepsShares v w
 
 abbrev pub IsHeld : Key → IndexView → IndexView → Type 0
 IsHeld key (an_array v) (an_array w) = ArrayHeld key.i v w

@@ -13,7 +13,7 @@ use Rattle.h5w_array_laws.specs.Parts.{holder, number_of}
 use Rattle.h5w_array_laws.specs.ArrayStores as arrays
 use Rattle.h5w_array_laws.specs.ArrayImages.{StandsArray}
 use Rattle.h5w_bt_index.specs.Marks.{clean_of}
-use Rattle.h5w_bt_index.specs.Index.{Index, IsHalfFull, IsIndex, IsThere, address_of}
+use Rattle.h5w_bt_index.specs.Index.{Index, IsFilled, IsIndex, IsThere, address_of}
 use Rattle.h5w_tree_index_laws.specs.TreeImages as trees
 use Rattle.h5w_tree_index_laws.specs.TreeFlushes.{TreeStands, header_range}
 
@@ -74,7 +74,7 @@ behind_of bytes (a_tree place v) = trees.behind_of bytes v
 
 pub record IsSoundTree (place : ℕ) (v : Index) : Type 0 where
   pub index : IsIndex v
-  pub half : IsHalfFull v
+  pub filled : IsFilled v
   pub defined : place ≢ undefined
 
 abbrev pub IsSound : IndexView → Type 0

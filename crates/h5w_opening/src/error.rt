@@ -24,7 +24,7 @@ pub enum OpenError {
     ChunkBytes { bytes: u64, limit: u64 },
     #[error("no columns")]
     NoColumns,
-    /// The index is a tree, or an array whose header names no index block: no rows are appended to such a file yet.
+    /// The index is a tree that no session keeps, or an array whose header names no index block: no rows are appended to such a file.
     #[error("index")]
     Index,
     /// The image's count of faults rose in this call.

@@ -1,8 +1,15 @@
 -- Rows that all go into one chunk that has its place.
-use Rattle.std.proofs.Common.{◌≡◌, ℕ, [], ◌∷◌, Option, Some, None, sym, ap, ◌∙◌, subst}
+use Rattle.std.proofs.Common.{◌≡◌, ℕ, ◌+◌, ◌-◌, ◌*◌, ◌/◌, ◌%◌, ◌<◌, ◌≤◌, nat_lt, [], ◌∷◌, Option, Some, None, sym, ap, ◌∙◌, subst, inl, inr, arith}
 use Rattle.std.specs.Option.{IfSome}
+use Rattle.std.proofs.lemmas.Bool.{cases_lt, cond-false, le-ltb}
+use Rattle.h5w_model.specs.Datasets.{Described}
+use Rattle.h5w_model.specs.Logs.{div_up}
+use Rattle.h5w_model.specs.Tables.{chunks_across}
+use Rattle.h5w_model.specs.declared.cell.Key.{Key}
 use Rattle.h5w_chunks.specs.declared.grid.ChunkPlace.{ChunkPlace}
-use Rattle.h5w_chunks.specs.Shares.{touched}
+use Rattle.h5w_chunks.specs.Shares.{share_of, touched, touched_key}
+use Rattle.h5w_chunks.proofs.Geometry.{IsCut, lt_up, up_lt}
+use Rattle.h5w_flush_laws.proofs.NewChunkLemmas.{touched_is}
 use Rattle.h5w_index.specs.Placing.{IsPlacing}
 use Rattle.h5w_session.specs.Sessions.{Session, rows_of}
 use Rattle.h5w_session.specs.Flushes.{touched_by}
@@ -22,3 +29,67 @@ placing_in v s to p same is x =
 pub touched_in : (v s : Session) (to n : ℕ) → v ≡ s → to ≡ rows_of s → touched v.dataset v.dataset.shape.rows to ≡ n → touched_by s ≡ n
 touched_in v s to n same is all =
     ap touched_by (sym same) ∙ ap (touched v.dataset v.dataset.shape.rows) (ap rows_of same ∙ sym is) ∙ all
+
+-- ---- One chunk alone
+
+-- so many, of which a chunk has no fewer, have one chunk
+one_part : (n part : ℕ) → 0 < part → 0 < n → n ≤ part → div_up n part ≡ 1
+one_part n part some any few =
+    let low = lt_up 0 n part some (omega arith) in
+    elim (cases_lt 1 (div_up n part)) [
+      | inl past ↦ absurd (omega (arith, up_lt 1 n part some past))
+      | inr h ↦ omega (arith, low)
+    ]
+
+-- and the other way
+part_of_one : (n part : ℕ) → 0 < part → div_up n part ≡ 1 → n ≤ part
+part_of_one n part some is =
+    elim (cases_lt part n) [
+      | inl past ↦ absurd (omega (arith, lt_up 1 n part some (omega arith), is))
+      | inr h ↦ h
+    ]
+
+-- rows of one band go into one chunk where the dataset has one side by side
+pub touched_alone : (d : Described) (from to : ℕ) → IsCut d → from < to → to ≤ from / d.layout.chunk_rows * d.layout.chunk_rows + d.layout.chunk_rows → 0 < d.shape.cols → d.shape.cols ≤ d.layout.chunk_cols → touched d from to ≡ 1
+touched_alone d from to cut some inside wide narrow =
+    let rows = d.layout.chunk_rows in
+    let i = from / rows in
+    let below = lt_up i to rows cut.rows (omega arith) in
+    let bands : div_up to rows - i ≡ 1 = elim (cases_lt (i + 1) (div_up to rows)) [
+      | inl past ↦ absurd (omega (arith, up_lt (i + 1) to rows cut.rows past))
+      | inr h ↦ omega (arith, below)
+    ] in
+    let across : chunks_across d ≡ 1 = one_part d.shape.cols d.layout.chunk_cols cut.cols wide narrow in
+    touched_is d from to some ∙ ap (λ (n : ℕ). n * chunks_across d) bands ∙ omega (arith, across)
+
+-- a product that is one has no other factor
+one_factor : (a b : ℕ) → a * b ≡ 1 → b ≡ 1
+one_factor a b is = grind arith
+
+one_across : (d : Described) (from to : ℕ) → touched d from to ≡ 1 → chunks_across d ≡ 1
+one_across d from to all =
+    elim (cases_lt from to) [
+      | inl some ↦ one_factor (div_up to d.layout.chunk_rows - from / d.layout.chunk_rows) (chunks_across d) (sym (touched_is d from to some) ∙ all)
+      | inr none ↦
+          let zero : touched d from to ≡ 0 = cond-false (nat_lt from to) ((div_up to d.layout.chunk_rows - from / d.layout.chunk_rows) * chunks_across d) 0 (le-ltb from to none) in
+          absurd (omega (arith, zero, all))
+    ]
+
+-- rows that go into one chunk have all columns there, and a chunk is no narrower
+pub record AreAllIn (d : Described) (from to : ℕ) : Type 0 where
+  pub columns : (share_of d from to 0).columns ≡ d.shape.cols
+  pub narrow : d.shape.cols ≤ d.layout.chunk_cols
+
+pub all_in : (d : Described) (from to : ℕ) → IsCut d → touched d from to ≡ 1 → AreAllIn d from to
+all_in d from to cut all =
+    let across = one_across d from to all in
+    let narrow = part_of_one d.shape.cols d.layout.chunk_cols cut.cols across in
+    let first : 0 % chunks_across d * d.layout.chunk_cols ≡ 0 = ap (λ (n : ℕ). 0 % n * d.layout.chunk_cols) across ∙ omega arith in
+    record { columns = omega (arith, first, narrow); narrow = narrow }
+
+-- the key of that chunk
+pub alone_key : (d : Described) (from to : ℕ) → touched d from to ≡ 1 → touched_key d from 0 ≡ record { i = from / d.layout.chunk_rows; j = 0 }
+alone_key d from to all =
+    let across = one_across d from to all in
+    let key : ℕ → ℕ → Key = λ i j. record { i = i; j = j } in
+    ap (λ (n : ℕ). key (from / d.layout.chunk_rows + 0 / n) (0 % n)) across ∙ ap (λ (n : ℕ). key n 0) (let e : from / d.layout.chunk_rows + 0 ≡ from / d.layout.chunk_rows = omega arith in e)

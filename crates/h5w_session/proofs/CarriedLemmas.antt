@@ -25,11 +25,11 @@ use Rattle.h5w_index.specs.Steps.{IsPlan}
 use Rattle.h5w_index.specs.Told.{HeldTold}
 use Rattle.h5w_index.specs.Placing.{IsPartly, IsPlacing}
 use Rattle.h5w_index.proofs.PlacingLemmas.{placing_laws}
-use Rattle.h5w_session.specs.Sessions.{ArePieces, IsSession, IsWritable, Session, bands_of, option_list, rows_of, with_rows, IsNamed}
+use Rattle.h5w_session.specs.Sessions.{ArePieces, IsSession, IsWritable, Session, most_bands, option_list, rows_of, with_rows, IsNamed}
 use Rattle.h5w_session.specs.Flushes.{ArePlanned, IsFlushed, SameBut, flushed_of, header_piece}
 use Rattle.h5w_session.specs.declared.refusal.FlushError.{FlushError}
 use Rattle.h5w_session.specs.declared.refusal.FlushError.TheVariants as errors
-use Rattle.h5w_session.proofs.FlushedLemmas.{chunks_few, fits_same, flushed_is, flushed_pieces, shown_flushed, takes_keys}
+use Rattle.h5w_session.proofs.FlushedLemmas.{bands_few, chunks_few, fits_same, flushed_is, flushed_pieces, shown_flushed, takes_keys}
 
 -- the rows have a place in the header
 pub has_rows : (b : List ℕ) → IsWritable b → IsSome (rows_in_header b)
@@ -43,10 +43,10 @@ has_rows b w =
 pub record AsksFor (v : Session) (to : ℕ) : Type 0 where
   pub few : div_up to v.dataset.layout.chunk_rows * chunks_across v.dataset ≤ 1000000
   pub takes : (key : Key) → key.i < div_up to v.dataset.layout.chunk_rows → TakesKey v.index key
-  pub within : AreWithin (div_up to v.dataset.layout.chunk_rows) (chunks_across v.dataset) v.index
+  pub bands : div_up to v.dataset.layout.chunk_rows ≤ most_bands v.dataset
 
 pub asks_for : (v : Session) (to : ℕ) → IsSession v → to ≡ rows_of v → AsksFor v to
-asks_for v to is e = subst (AsksFor v) (sym e) (record { few = chunks_few v is; takes = takes_keys v is; within = is.held })
+asks_for v to is e = subst (AsksFor v) (sym e) (record { few = chunks_few v is; takes = takes_keys v is; bands = bands_few v is })
 
 -- the values that wait are as many as fit in memory
 pub values_few : (v : Session) (most : ℕ) → IsSession v → 1 ≤ v.dataset.int_type.size → length v.waiting < most → v.waits * v.dataset.shape.cols < most
@@ -75,7 +75,7 @@ pub record Carried (v : Session) (to : ℕ) (t : Space) (w : IndexView) (ws : Li
   pub places_are : places ≡ v.places
   pub placing : IsPlacing v.dataset to v.index places chunks added named between
   pub all : length chunks ≡ touched v.dataset v.dataset.shape.rows to
-  pub within : AreWithin (div_up to v.dataset.layout.chunk_rows) (chunks_across v.dataset) named
+  pub within : AreWithin (most_bands v.dataset) (chunks_across v.dataset) named
   pub cells : List ℕ
   pub cells_are : cells ≡ v.waiting
   pub rows : List Write
@@ -133,9 +133,6 @@ module _ (v : Session) (to : ℕ) (t : Space) (w : IndexView) (ws : List Write) 
   carried_small : t.end < 2 ^ 64
   carried_small = omega (arith, x.end_is, x.end_small)
 
-  carried_within : AreWithin (bands_of v) (chunks_across v.dataset) x.named
-  carried_within = subst (λ (n : ℕ). AreWithin (div_up n v.dataset.layout.chunk_rows) (chunks_across v.dataset) x.named) x.to_is x.within
-
   carried_joined : ws ≡ x.rows ++ (x.copies ++ (x.supers ++ (x.fixed ++ header_piece v ∷ [])))
   carried_joined =
       let rows = rows_of v in
@@ -156,17 +153,17 @@ module _ (v : Session) (to : ℕ) (t : Space) (w : IndexView) (ws : List Write) 
 
   pub carried_is : IsSession carried
   unfolding carried_planned
-  carried_is = subst IsSession (sym carried_after) (flushed_is v is x.there t w ws carried_planned carried_small carried_within carried_joined x.header_short)
+  carried_is = subst IsSession (sym carried_after) (flushed_is v is x.there t w ws carried_planned carried_small x.within carried_joined x.header_short)
 
   pub carried_pieces : ArePieces t.end ws
   unfolding carried_planned
-  carried_pieces = flushed_pieces v is x.there t w ws carried_planned carried_small carried_within carried_joined x.header_short
+  carried_pieces = flushed_pieces v is x.there t w ws carried_planned carried_small x.within carried_joined x.header_short
 
   pub carried_flushed : (s : Session) → v ≡ s → IsFlushed s carried
   unfolding carried_planned
   carried_flushed s e' =
       subst (λ (u : Session). IsFlushed u carried) e'
-      (subst (λ (u : Session). IsFlushed v u) (sym carried_after) (shown_flushed v is x.there t w ws carried_planned carried_small carried_within carried_joined x.header_short))
+      (subst (λ (u : Session). IsFlushed v u) (sym carried_after) (shown_flushed v is x.there t w ws carried_planned carried_small x.within carried_joined x.header_short))
 
 -- ---- A refused flush
 
@@ -174,7 +171,7 @@ module _ (v : Session) (to : ℕ) (u : IndexView) (to_is : to ≡ rows_of v) (p 
   partly_now : IsPartly v.dataset (rows_of v) v.index [] u
   partly_now = subst (λ (n : ℕ). IsPartly v.dataset n v.index [] u) to_is p
 
-  pub refused_is : IsSession v → AreWithin (div_up to v.dataset.layout.chunk_rows) (chunks_across v.dataset) u → IsSession (record v { index = u })
+  pub refused_is : IsSession v → AreWithin (most_bands v.dataset) (chunks_across v.dataset) u → IsSession (record v { index = u })
   refused_is is within =
       let kept : HeldTold v.index u = placing_laws.kept v.dataset to v.index u p in
       record {
@@ -186,7 +183,7 @@ module _ (v : Session) (to : ℕ) (u : IndexView) (to_is : to ≡ rows_of v) (p 
         kind = is.kind ∙ sym kept.like.kind;
         sound = kept.like.sound;
         fits = fits_same v.dataset v.index u kept.like.kind is.fits;
-        held = subst (λ (n : ℕ). AreWithin (div_up n v.dataset.layout.chunk_rows) (chunks_across v.dataset) u) to_is within;
+        held = within;
         header = is.header;
         addressed = is.addressed;
         header_ends = is.header_ends;

@@ -2,7 +2,7 @@
 use Rattle.std.proofs.Common.{◌≡◌, ℕ, ◌+◌, ◌*◌, ◌^◌, ◌<◌, ◌≤◌, List, [], ◌∷◌, ◌++◌, length, Some, refl, ap, sym, ◌∙◌, subst, inl, inr, arith}
 use Rattle.std.specs.List.{All, slice_get}
 use Rattle.std.proofs.lemmas.List.Elements.{All-head, All-tail}
-use Rattle.h5w_model.specs.Logs.{div_up}
+use Rattle.std.proofs.lemmas.Nat.{le-div}
 use Rattle.h5w_model.specs.Arrays.{eahd_len, eaib_len}
 use Rattle.h5w_model.specs.Trees.{bthd_len}
 use Rattle.h5w_model.specs.Tables.{chunks_across, format_limits, limit_of, needed}
@@ -26,11 +26,12 @@ use Rattle.h5w_index.specs.Flushes.{IsWhole, PlanTold}
 use Rattle.h5w_index.specs.Placing.{AreInside, Fits}
 use Rattle.h5w_index.proofs.DepthLemmas.{depth_laws}
 use Rattle.h5w_index.proofs.PlacingLemmas.{placing_laws}
-use Rattle.h5w_session.specs.Sessions.{ArePieces, IsSession, Session, bands_of, chunk_limit, rows_of, with_rows, IsNamed}
+use Rattle.h5w_session.specs.Sessions.{ArePieces, IsSession, Session, bands_of, chunk_limit, most_bands, rows_of, with_rows, IsNamed}
 use Rattle.h5w_session.specs.Flushes.{ArePlanned, IsFlushed, flushed_of, header_piece}
 use Rattle.h5w_session.proofs.FlushLemmas.{told_of}
 use Rattle.h5w_session.proofs.PastLemmas.{ends_joined}
 use Rattle.h5w_session.proofs.PieceLemmas.{blocks_sized, blocks_within, rows_within}
+use Rattle.h5w_session.proofs.TakingLemmas.{limit_top}
 use Rattle.h5w_session.proofs.WritableLemmas.{writable_again, written_length}
 
 -- ---- Indexes of one kind
@@ -45,13 +46,17 @@ fits_same d (a_tree p v) (a_tree q w) same fits = fits
 fits_same d (an_array v) (a_tree q w) same fits = absurd (kinds_apart same)
 fits_same d (a_tree p v) (an_array w) same fits = absurd (kinds_apart (sym same))
 
-limit_top : (k : IndexKind) → limit_of format_limits k ≤ 1000000
-limit_top Array = omega arith
-limit_top Tree = omega arith
-
 -- the chunks of the rows are few
 pub chunks_few : (s : Session) → IsSession s → bands_of s * chunks_across s.dataset ≤ 1000000
 chunks_few s is = omega (arith, is.few, limit_top s.dataset.layout.index)
+
+some_across : (d : Described) (v : IndexView) → Fits d v → 0 < chunks_across d
+some_across d (an_array v) one = omega (arith, one)
+some_across d (a_tree p v) some = some
+
+-- and so are their bands
+pub bands_few : (s : Session) → IsSession s → bands_of s ≤ most_bands s.dataset
+bands_few s is = le-div (bands_of s) (chunk_limit s) (chunks_across s.dataset) (some_across s.dataset s.index is.fits) is.few
 
 takes_by : (k : IndexKind) (bands across : ℕ) (d : Described) (v : IndexView) → k ≡ kind_of v → chunks_across d ≡ across → Fits d v → bands * across ≤ limit_of format_limits k → (key : Key) → key.i < bands → TakesKey v key
 takes_by Array bands across d (an_array v) same is fits few key low =
@@ -174,7 +179,7 @@ pub before_is : (s : Session) → IsSession s → IsNamed s.dataset → IsBefore
 before_is s is there = record { kind = is.kind; rises = omega arith; limit = refl; inside = is.inside; tops = is.tops there }
 
 module _ (s : Session) (is : IsSession s) (there : IsNamed s.dataset) (t : Space) (w : IndexView) (ws : List Write) (x : ArePlanned s s.index s.places w t) (small : t.end < 2 ^ 64)
-    (within : AreWithin (bands_of s) (chunks_across s.dataset) x.named) (pending : ws ≡ x.rows ++ (x.copies ++ (x.supers ++ (x.fixed ++ header_piece s ∷ [])))) (header_short : length s.header ≤ 512) where
+    (within : AreWithin (most_bands s.dataset) (chunks_across s.dataset) x.named) (pending : ws ≡ x.rows ++ (x.copies ++ (x.supers ++ (x.fixed ++ header_piece s ∷ [])))) (header_short : length s.header ≤ 512) where
   abbrev after : Session
   after = flushed_of s t ws w
 
@@ -196,7 +201,7 @@ module _ (s : Session) (is : IsSession s) (there : IsNamed s.dataset) (t : Space
         kind = kind_then s is s.index s.places before w t x;
         sound = sound_then s is s.index s.places before w t x;
         fits = fits_then s is s.index s.places before w t x;
-        held = subst (λ (n : ℕ). AreWithin (div_up n d.layout.chunk_rows) (chunks_across d) w) none (held_then s is s.index s.places before w t x (bands_of s) (chunks_across d) within);
+        held = held_then s is s.index s.places before w t x (most_bands d) (chunks_across d) within;
         header = writable_again s.header rows is.header;
         addressed = λ none. absurd (there none);
         header_ends = omega (arith, written_length s.header rows is.header, is.header_ends, far);

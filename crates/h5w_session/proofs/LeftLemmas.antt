@@ -1,8 +1,9 @@
 -- Why a valid file is not opened.
 use Rattle.std.proofs.Common.{◌≡◌, ◌≢◌, ◌⊎◌, ℕ, zero, suc, ◌+◌, ◌-◌, ◌/◌, ◌%◌, ◌^◌, ◌<◌, ◌≤◌, Bool, true, false, cond, not, ◌||◌, List, [], ◌∷◌, ◌++◌, length, take, ℤ, Option, Some, None, Result, Ok, Err, refl, sym, ap, ◌∙◌, subst, inl, inr, arith}
 use Rattle.std.specs.Prelude.{IsSome, if◌then◌else◌, nat_lt, option_map, ◌==◌}
+use Rattle.std.specs.List.{All}
 use Rattle.std.specs.Option.{option_or}
-use Rattle.std.proofs.lemmas.Bool.{cases_Bool, eqb-true, le-ltb, ltb-false, eq-eqb}
+use Rattle.std.proofs.lemmas.Bool.{cases_Bool, cond_both, eqb-true, le-ltb, ltb-false, eq-eqb}
 use Rattle.h5w_model.specs.Numbers.{range, undefined}
 use Rattle.h5w_model.specs.Programs.{eval}
 use Rattle.h5w_model.specs.Headers.{header_view}
@@ -12,6 +13,7 @@ use Rattle.h5w_model.specs.Findings.{Summary, Used, Valid, chunk_bytes}
 use Rattle.h5w_model.specs.Tables.{Reads, format_limits, limit_of, needed}
 use Rattle.h5w_model.specs.declared.cell.Key.{Key}
 use Rattle.h5w_model.specs.declared.root.Super.{Super}
+use Rattle.h5w_model.specs.declared.refusal.BlockFault.{BlockFault}
 use Rattle.h5w_model.specs.declared.refusal.HeaderError.TheVariants.{Unknown}
 use Rattle.h5w_model.specs.declared.refusal.ReadError.TheVariants.{Header}
 use Rattle.h5w_model.specs.declared.refusal.ReadError.TheVariants as read_errors
@@ -23,13 +25,13 @@ use Rattle.h5w_steps.proofs.FoundLemmas.{opens}
 use Rattle.h5w_visits.proofs.HeaderLaws.{DatasetParts, RootParts, dataset_parts, root_parts}
 use Rattle.h5w_model.specs.Tables.{InPlace, address_behind, in_place}
 use Rattle.h5w_model.specs.Arrays.{super_block_of}
-use Rattle.h5w_model.specs.Findings.{index_visit}
-use Rattle.h5w_model.specs.declared.cell.IndexKind.{IndexKind}
-use Rattle.h5w_model.specs.declared.cell.IndexKind.TheVariants.{Array, Tree}
+use Rattle.h5w_model.specs.Findings.{index_visit, tree_visit}
+use Rattle.h5w_model.specs.declared.cell.IndexKind.TheVariants.{Tree}
 use Rattle.h5w_laws.proofs.ResultLemmas.{HasAnswer}
-use Rattle.h5w_visits.specs.Ranges.{Among, block_at, chunk_at}
+use Rattle.h5w_visits.specs.Indexes.{IsIndex}
+use Rattle.h5w_visits.specs.Ranges.{AllEndBy, Among, block_at, chunk_at}
 use Rattle.h5w_visits.proofs.HeaderVisits.{used_of}
-use Rattle.h5w_visits.proofs.RangeLemmas.{among_right}
+use Rattle.h5w_visits.proofs.RangeLemmas.{among_right, ends_right}
 use Rattle.h5w_header_laws.proofs.ImageLemmas.{header_read}
 use Rattle.h5w_space.specs.declared.Extent.{Extent}
 use Rattle.h5w_cache.specs.Stores.{Store}
@@ -38,21 +40,26 @@ use Rattle.h5w_cache.specs.Plans.{bytes_in, bytes_of}
 use Rattle.h5w_array_laws.specs.Parts.{Part, data_of, secondary_of, index_block, header, IsPart, length_of, number_of}
 use Rattle.h5w_array_laws.specs.ArrayStores.{IsBlock, block_at_part, blocks_in_place, map_of, place_at_part}
 use Rattle.h5w_array_laws.proofs.KeptLemmas.{is_some_of, of_some}
-use Rattle.h5w_index.specs.Views.{an_array}
+use Rattle.h5w_index.specs.Views.{IndexView, an_array, a_tree}
 use Rattle.h5w_index.specs.Flushes.{Rests}
+use Rattle.h5w_bt_index.specs.Index.{Index as TreeIndex, address_of, records}
+use Rattle.h5w_bt_open.specs.Kept.{ranges_of}
+use Rattle.h5w_tree_index_laws.specs.TreeImages.{AreSame, behind_of}
+use Rattle.h5w_tree_open_laws.proofs.OpenedEndLemmas.{opened_ends}
 use Rattle.h5w_ea_index.specs.Ranges.{block_ranges, each_below, range_of_part, ranges_of_data, ranges_of_super_block}
 use Rattle.h5w_ea_index.proofs.StandingLemmas.{opened_finds}
 use Rattle.h5w_opening.specs.Openings.{Opened, chunk_0_len, closed_super, dataset_found, in_chunk_0, is_open, known, looked_for, place_found, refused_dataset, super_found}
 use Rattle.h5w_opening.specs.declared.error.OpenError.{OpenError}
 use Rattle.h5w_opening.specs.declared.error.OpenError.TheVariants.{Read, Flags, Cut, Index}
-use Rattle.h5w_session.specs.OpenAnswers.{IsArrayOf, IsIndexOf, IsNotOpened, damaged, refused, unfound, writing_flags}
+use Rattle.h5w_session.specs.OpenAnswers.{IsArrayOf, IsBadBlock, IsIndexOf, IsNotOpened, IsTreeOf, array, damaged, refused, tree, unfound, writing_flags}
 use Rattle.h5w_session.specs.OpenLaws.{IsLeft, OpenLaws, dataset, index, open_already, unknown}
-use Rattle.h5w_session.specs.OpenRanges.{chunk_0_range, chunks_from, cut_at, first_open, first_past, header_alone, open_blocks, open_chunks, ranges_refused, refused_index, refused_start, starts_with, is_starting}
+use Rattle.h5w_session.specs.OpenRanges.{blocks_in, chunk_0_range, chunks_behind, chunks_from, cut_at, first_key, first_open, first_past, header_alone, header_len, is_starting, open_blocks, open_chunks, ranges_refused, refused_index, refused_start}
 use Rattle.h5w_session.specs.Sessions.{cleared}
 use Rattle.h5w_session.proofs.OpenRangeLemmas.{AllBy, both_none, by_both, by_later, by_take, chunks_by, past_none, range_by}
 use Rattle.h5w_session.proofs.OverFile.{begins, checked, cut_here, dataset_same, found, header_same, place_same, same_answer, super_same}
 use Rattle.h5w_session.proofs.SessionOver.{open_few}
-use Rattle.h5w_session.proofs.UndamagedLemmas.{head_ends, undamaged}
+use Rattle.h5w_session.proofs.UndamagedLemmas.{undamaged, visit_of}
+use Rattle.h5w_session.proofs.UndamagedTreeLemmas.{all_by, answered, chunks_end, head_ends}
 use Rattle.h5w_opening.proofs.OpeningLemmas.{behind_place, behind_super, opened_by, opening_gives}
 use Rattle.h5w_opening.proofs.WritingLemmas.{Alike, dataset_alike, root_alike}
 use Rattle.h5w_opening.proofs.WritingLemmas as alike
@@ -186,15 +193,16 @@ module _ (img name : List ℕ) (o : Opened) (m : Moment) (is : eval img (looked_
       ∙ ap chunk_0_len r.ranges in
       omega (arith, long, len, end_same, place_same img name (length img) o m is file)
 
-  -- the header of an array that names no index block, or the superblock
-  alone : (k : IndexKind) → o.header.dataset.layout.index ≡ k → AllBy end (header_alone k o.header.dataset.layout.address)
-  alone Tree kind = tt
-  alone Array kind =
+  -- the header of an index to which no rows are appended, or the superblock
+  super_ends : 48 ≤ end
+  super_ends = subst (λ n. 48 ≤ n) end_same (end_long img name m file)
+
+  alone : AllBy end (header_alone o.header.dataset.layout.index o.header.dataset.layout.address)
+  alone =
       let at = o.header.dataset.layout.address in
-      elim (cases_Bool (at == undefined)) [
-        | inl none ↦ subst (λ (c : Bool). AllBy end (cond c (extent 0 48 ∷ []) (extent at 72 ∷ []))) (sym none) (subst (λ n. 48 ≤ n) end_same (end_long img name m file), tt)
-        | inr named ↦ subst (λ (c : Bool). AllBy end (cond c (extent 0 48 ∷ []) (extent at 72 ∷ []))) (sym named) (head_ends img end o.header.dataset visited kind (λ e. not_both (at == undefined) (eq-eqb at undefined e) named), tt)
-      ]
+      let k = o.header.dataset.layout.index in
+      cond_both (at == undefined) (extent 0 48 ∷ []) (extent at (header_len k) ∷ []) (AllBy end) (λ none. (super_ends, tt))
+      (λ named. (head_ends img end o.header.dataset k visited refl (λ e. not_both (at == undefined) (eq-eqb at undefined e) named), tt))
 
   -- the array
   module _ (v : Store) (x : IsArrayOf img o.header.dataset v) where
@@ -206,7 +214,7 @@ module _ (img name : List ℕ) (o : Opened) (m : Moment) (is : eval img (looked_
         open_few o.header.dataset (cut_here img name (length img) o m is file) here x.kind
 
     rests : Rests img m (λ key. map_of v key.i) (record { end = end; limit = 1024; free = []; retired = []; spare = 0 }) (an_array v)
-    rests = (begins img name (length img) o m is file v x 1024 low (omega arith) (omega arith)).rests
+    rests = (begins img name (length img) o m is file (an_array v) x low 1024).rests
 
     standing : Standing v (record { end = end; limit = 1024; free = []; retired = []; spare = 0 })
     standing = rests.stays
@@ -253,13 +261,36 @@ module _ (img name : List ℕ) (o : Opened) (m : Moment) (is : eval img (looked_
     chunks_are_by : AllBy end (chunks_from v (chunk_bytes o.header.dataset) (first_open o.header.dataset) (131060 - first_open o.header.dataset))
     chunks_are_by = chunks_by end (chunk_bytes o.header.dataset) v (first_open o.header.dataset) (131060 - first_open o.header.dataset) chunk_ends
 
-  all_by : (a : Option Store) → IsIndexOf img o.header.dataset a → AllBy end (chunk_0_range o ∷ open_blocks o.header.dataset a) × AllBy end (open_chunks o.header.dataset a)
-  all_by None none = ((front, alone o.header.dataset.layout.index refl), tt)
-  all_by (Some v) x = ((front, blocks_by v x), chunks_are_by v x)
+  -- the tree
+  module _ (place : ℕ) (v : TreeIndex) (x : IsTreeOf img o.header.dataset place v) where
+    abbrev bytes : ℕ
+    bytes = chunk_bytes o.header.dataset
 
-  pub no_range : (a : Option Store) → IsIndexOf img o.header.dataset a → ranges_refused o a ≡ None
+    nodes : All (λ (r : Extent). r.at + r.size ≤ end) (ranges_of v)
+    nodes =
+        let there = visit_of img end o.header.dataset Tree visited x.kind x.named in
+        opened_ends img place end bytes (first_key o.header.dataset) v there.0 x.tree.standing x.tree.kept.index (ap (λ n. eval img (tree_visit end bytes n)) x.at ∙ there.1)
+
+    tree_blocks : AllBy end (blocks_in (a_tree place v))
+    tree_blocks =
+        let head = head_ends img end o.header.dataset Tree visited x.kind x.named in
+        (super_ends, (omega (arith, head, x.at), all_by end (ranges_of v) nodes))
+
+    tree_chunks : AllBy end (chunks_behind bytes (first_open o.header.dataset) (records v))
+    tree_chunks =
+        let rests : Rests img m (λ key. address_of v key) (record { end = end; limit = 1024; free = []; retired = []; spare = 0 }) (a_tree place v) = (begins img name (length img) o m is file (a_tree place v) x nodes 1024).rests in
+        let same : AreSame (behind_of bytes v) m.behind = subst (λ n. AreSame (behind_of n v) m.behind) (ap chunk_bytes (dataset_same img name (length img) o m is file)) rests.behind in
+        chunks_end end bytes (first_open o.header.dataset) v m.behind x.tree.kept.index same
+        (ends_right end m.fixed m.behind (subst (λ n. AllEndBy n (m.fixed ++ m.behind)) end_same file.index.ends))
+
+  all_within : (a : Option IndexView) → IsIndexOf img o.header.dataset a → AllBy end (chunk_0_range o ∷ open_blocks o.header.dataset a) × AllBy end (open_chunks o.header.dataset a)
+  all_within None none = ((front, alone), tt)
+  all_within (Some (an_array v)) x = ((front, blocks_by v x), chunks_are_by v x)
+  all_within (Some (a_tree place v)) x = ((front, tree_blocks place v x), tree_chunks place v x)
+
+  pub no_range : (a : Option IndexView) → IsIndexOf img o.header.dataset a → ranges_refused o a ≡ None
   no_range a x =
-      let h = all_by a x in
+      let h = all_within a x in
       let blocks = chunk_0_range o ∷ open_blocks o.header.dataset a in
       let chunks = open_chunks o.header.dataset a in
       let near : AllBy (2 ^ 64 - 1) (take 3 blocks ++ chunks) = by_later end (2 ^ 64 - 1) (take 3 blocks ++ chunks) (let t = end_small in omega arith) (by_both end (take 3 blocks) chunks (by_take end 3 blocks h.0) h.1) in
@@ -267,22 +298,28 @@ module _ (img name : List ℕ) (o : Opened) (m : Moment) (is : eval img (looked_
       (ap (option_map (cut_at 0)) (past_none (2 ^ 64 - 1) (take 3 blocks ++ chunks) near))
       (ap (option_map (cut_at end)) (past_none end (blocks ++ chunks) (by_both end blocks chunks h.0 h.1)))
 
+  -- no block of the index is refused
+  pub no_bad : (at : ℕ) (f : BlockFault) → IsBadBlock img o.header.dataset at f → ⊥
+  no_bad at f (array kind named bad) = undamaged img end (first_open o.header.dataset) at o.header.dataset f visited kind named bad
+  no_bad at f (tree kind named bad) =
+      let index : IsIndex img m.super.end o.header.dataset m.fixed m.behind = subst (λ (d : Described). IsIndex img m.super.end d m.fixed m.behind) (dataset_same img name (length img) o m is file) file.index in
+      answered img m.super.end at o.header.dataset m.fixed m.behind f index kind named bad
+
 -- ---- Why it is not opened
 
--- where no array will be made, the index is refused
-made_here : (k : IndexKind) (at : ℕ) → k ≡ Array → at ≡ undefined → refused_start (starts_with k at) ≡ None
-made_here Tree at kind none = cc
-made_here Array at kind none = ap refused_start (eq-eqb at undefined none)
+-- where the layout names no index, one will be made
+made_here : (at : ℕ) → at ≡ undefined → refused_start (at == undefined) ≡ None
+made_here at none = ap refused_start (eq-eqb at undefined none)
 
 only_index : (starts : Bool) (e : OpenError) → refused_start starts ≡ Some e → Index ≡ e
 only_index true e h = cc
 only_index false e h = cc
 
-left_by : (img name : List ℕ) (o : Opened) (e : OpenError) (a : Option Store) (r : Option OpenError) → eval img (looked_for (length img) name) ≡ Ok o → IsIndexOf img o.header.dataset a → refused_dataset o ≡ r
+left_by : (img name : List ℕ) (o : Opened) (e : OpenError) (a : Option IndexView) (r : Option OpenError) → eval img (looked_for (length img) name) ≡ Ok o → IsIndexOf img o.header.dataset a → refused_dataset o ≡ r
     → option_or r (refused_index o.header.dataset a) ≡ Some e → IsLeft img (length img) name e
 left_by img name o e a (Some f) is x given h = dataset o e is (given ∙ h)
 left_by img name o e None None is (inl u) given h =
-    let none = made_here o.header.dataset.layout.index o.header.dataset.layout.address u.kind u.address in
+    let none = made_here o.header.dataset.layout.address u in
     let clash : None ≡ Some e = sym none ∙ h in absurd cc
 left_by img name o e None None is (inr absent) given h = subst (IsLeft img (length img) name) (only_index (is_starting o.header.dataset) e h) (index o is absent)
 left_by img name o e (Some v) None is x given h = absurd cc
@@ -303,8 +340,7 @@ left img name rows columns values sm e short valid reads why =
 
     go : (m : Moment) → Represents img name m → (r : OpenError) → IsNotOpened img (length img) name r → IsLeft img (length img) name r
     go m file r (unfound g is) = unfound_by m file g is (finding img name m file)
-    go m file r (damaged o at f is kind named bad) =
-        absurd (undamaged img o.root.end (first_open o.header.dataset) at o.header.dataset f (visited img name o m is file short) kind named bad)
+    go m file r (damaged o at f is bad) = absurd (no_bad img name o m is file short at f bad)
     go m file r (refused o a g is x h) =
         left_by img name o g a (refused_dataset o) is x refl (ap (λ r. option_or r (option_or (refused_dataset o) (refused_index o.header.dataset a))) (sym (no_range img name o m is file short a x)) ∙ h)
 

@@ -33,6 +33,7 @@ mod OpenRangeLemmas
 mod SaidLemmas
 mod SessionOver
 mod UndamagedLemmas
+mod UndamagedTreeLemmas
 mod OverFile
 pub mod LeftLemmas
 mod OpenStepLemmas

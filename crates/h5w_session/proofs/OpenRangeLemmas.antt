@@ -1,17 +1,25 @@
 -- The ranges of a file that is opened: which of them is the first that ends behind a place.
-use Rattle.std.proofs.Common.{◌≡◌, ◌≢◌, ℕ, zero, suc, ◌+◌, ◌-◌, ◌<◌, ◌≤◌, Bool, true, false, cond, List, [], ◌∷◌, ◌++◌, take, Option, Some, None, refl, sym, ap, ◌∙◌, subst, inl, inr, arith}
-use Rattle.std.specs.Prelude.{nat_lt, option_map}
+use Rattle.std.proofs.Common.{◌≡◌, ◌≢◌, ℕ, zero, suc, ◌+◌, ◌-◌, ◌<◌, ◌≤◌, Bool, true, false, cond, List, [], ◌∷◌, ◌++◌, take, Option, Some, None, refl, sym, ap, ◌∙◌, subst, inl, inr, arith, append_assoc, append-nil}
+use Rattle.std.specs.Prelude.{nat_lt, map, option_map}
+use Rattle.std.specs.List.{All}
 use Rattle.std.specs.Option.{option_or}
 use Rattle.std.proofs.Common.{ne_eqb}
-use Rattle.std.proofs.lemmas.Bool.{cases_eq, ltb-false, le-ltb}
+use Rattle.std.proofs.lemmas.Bool.{cases_eq, ltb-true, ltb-false, le-ltb, lt-ltb}
+use Rattle.std.proofs.lemmas.List.Elements.{All-head, All-tail}
 use Rattle.h5w_model.specs.Numbers.{undefined}
+use Rattle.h5w_model.specs.Tables.{in_leaf, key_below, key_equal}
+use Rattle.h5w_model.specs.declared.cell.Key.{Key}
 use Rattle.h5w_space.specs.Space.{extent}
 use Rattle.h5w_space.specs.declared.Extent.{Extent}
 use Rattle.h5w_cache.specs.Stores.{Store}
 use Rattle.h5w_array_laws.specs.ArrayStores.{map_of}
 use Rattle.h5w_ea_index.specs.Ranges.{range_at}
 use Rattle.h5w_ea_index.specs.Steps.{found}
-use Rattle.h5w_session.specs.OpenRanges.{chunks_from, first_past}
+use Rattle.h5w_bt.specs.Parts.{record_of}
+use Rattle.h5w_bt.specs.declared.records.Record.{Record}
+use Rattle.h5w_bt_index.specs.Nodes.{address_in}
+use Rattle.h5w_bt_index.proofs.Keys.{equal-is}
+use Rattle.h5w_session.specs.OpenRanges.{chunks_behind, chunks_from, first_past}
 
 -- ---- Options
 
@@ -106,16 +114,13 @@ chunks_by end len v i (suc n) h =
     by_both end (range_at (map_of v i) len) (chunks_from v len (i + 1) n) (range_by end (map_of v i) len (λ ne. h i (omega arith) (omega arith) ne))
     (chunks_by end len v (i + 1) n (λ j low high ne. h j (omega arith) (omega arith) ne))
 
--- the first of so many chunks comes first
-pub chunk_first : (end len : ℕ) (v : Store) (i : ℕ) → i < 131060
-    → first_past end (chunks_from v len i (131060 - i)) ≡ option_or (first_past end (range_at (map_of v i) len)) (first_past end (chunks_from v len (i + 1) (131060 - (i + 1))))
-chunk_first end len v i low =
-    let e : 131060 - i ≡ suc (131060 - (i + 1)) = omega arith in
-    ap (λ n. first_past end (chunks_from v len i n)) e ∙ past_joined end (range_at (map_of v i) len) (chunks_from v len (i + 1) (131060 - (i + 1)))
+-- the next of so many chunks comes first
+pub next_chunk : (len : ℕ) (v : Store) (i : ℕ) → i < 131060 → chunks_from v len i (131060 - i) ≡ range_at (map_of v i) len ++ chunks_from v len (i + 1) (131060 - (i + 1))
+next_chunk len v i low = let e : 131060 - i ≡ suc (131060 - (i + 1)) = omega arith in ap (chunks_from v len i) e
 
 -- no chunk is left
-pub none_left : (end len : ℕ) (v : Store) (i : ℕ) → 131060 ≤ i → first_past end (chunks_from v len i (131060 - i)) ≡ None
-none_left end len v i high = let e : 131060 - i ≡ 0 = omega arith in ap (λ n. first_past end (chunks_from v len i n)) e
+pub none_left : (len : ℕ) (v : Store) (i : ℕ) → 131060 ≤ i → chunks_from v len i (131060 - i) ≡ []
+none_left len v i high = let e : 131060 - i ≡ 0 = omega arith in ap (chunks_from v len i) e
 
 -- a chunk that was found
 placed_found : (a b : ℕ) → found a ≡ Some b → (a ≢ undefined) × (a ≡ b)
@@ -126,13 +131,86 @@ placed_found a b h = elim (cases_eq a undefined) [
       (ne, let k : a ≡ b = cc in k)
 ]
 
-pub found_past : (end len a b : ℕ) → found a ≡ Some b → first_past end (range_at a len) ≡ cond (nat_lt end (b + len)) (Some (extent b len)) None
-found_past end len a b h =
-    let p = placed_found a b h in
-    ap (first_past end) (range_there a len p.0) ∙ ap (λ x. cond (nat_lt end (x + len)) (Some (extent x len)) None) p.1
+pub found_range : (len a b : ℕ) → found a ≡ Some b → range_at a len ≡ extent b len ∷ []
+found_range len a b h = let p = placed_found a b h in range_there a len p.0 ∙ ap (λ x. extent x len ∷ []) p.1
 
-pub unfound_past : (end len a : ℕ) → found a ≡ None → first_past end (range_at a len) ≡ None
-unfound_past end len a h = elim (cases_eq a undefined) [
-  | inl e ↦ ap (first_past end) (range_absent a len e)
+pub unfound_range : (len a : ℕ) → found a ≡ None → range_at a len ≡ []
+unfound_range len a h = elim (cases_eq a undefined) [
+  | inl e ↦ range_absent a len e
   | inr ne ↦ let g : ◌≡◌ {A = Option ℕ} (Some a) None = sym (ap (λ c. cond c None (Some a)) (ne_eqb a undefined ne)) ∙ h in absurd cc
 ]
+
+-- ---- Chunks of a tree
+
+-- a record of a band and later has its chunk there
+behind_first : (end len band : ℕ) (r : Record) (c : Bool) → nat_lt r.key.i band ≡ c → AllBy end (cond c [] (range_at r.address len)) → band ≤ r.key.i → r.address ≢ undefined → r.address + len ≤ end
+behind_first end len band r true e h late named = let low = ltb-true r.key.i band e in absurd (omega (arith, low, late))
+behind_first end len band r false e h late named = by_range end r.address len h named
+
+first_behind : (end len band : ℕ) (r : Record) (c : Bool) → nat_lt r.key.i band ≡ c → (band ≤ r.key.i → r.address ≢ undefined → r.address + len ≤ end) → AllBy end (cond c [] (range_at r.address len))
+first_behind end len band r true e h = tt
+first_behind end len band r false e h = range_by end r.address len (h (ltb-false r.key.i band e))
+
+-- where the chunks of a band and later end by an end, so does that of each key there
+pub behind_ends : (end len band : ℕ) (rs : List Record) (key : Key) → AllBy end (chunks_behind len band rs) → band ≤ key.i → in_leaf key (map record_of rs) ≢ undefined → in_leaf key (map record_of rs) + len ≤ end
+behind_ends end len band [] key h late = λ named. absurd (named refl)
+behind_ends end len band (r ∷ rs) key h late =
+    go (behind_ends end len band rs key (by_right end first (chunks_behind len band rs) h) late) (key_below r.key key) (key_equal r.key key) refl
+  where
+    first : List Extent
+    first = cond (nat_lt r.key.i band) [] (range_at r.address len)
+
+    later : ℕ
+    later = in_leaf key (map record_of rs)
+
+    go : (later ≢ undefined → later + len ≤ end) → (below same : Bool) → key_equal r.key key ≡ same → cond below later (cond same r.address undefined) ≢ undefined
+        → cond below later (cond same r.address undefined) + len ≤ end
+    go others true same e = others
+    go others false true e =
+        behind_first end len band r (nat_lt r.key.i band) refl (by_left end first (chunks_behind len band rs) h) (subst (λ (k : Key). band ≤ k.i) (sym (equal-is r.key key e)) late)
+    go others false false e = λ named. absurd (named refl)
+
+-- and they do where each record's does
+pub ends_behind : (end len band : ℕ) (rs : List Record) → All (λ (r : Record). band ≤ r.key.i → r.address ≢ undefined → r.address + len ≤ end) rs → AllBy end (chunks_behind len band rs)
+ends_behind end len band [] h = tt
+ends_behind end len band (r ∷ rs) h =
+    let P : Record → Type 0 = λ s. band ≤ s.key.i → s.address ≢ undefined → s.address + len ≤ end in
+    by_both end (cond (nat_lt r.key.i band) [] (range_at r.address len)) (chunks_behind len band rs) (first_behind end len band r (nat_lt r.key.i band) refl (All-head P r rs h))
+    (ends_behind end len band rs (All-tail P r rs h))
+
+-- that of a record, where its chunk is of a band or later
+abbrev pub behind_one : ℕ → ℕ → Record → List Extent
+behind_one len band r = cond (nat_lt r.key.i band) [] (range_at r.address len)
+
+-- those of some records and one more
+pub behind_more : (len band : ℕ) (rs : List Record) (r : Record) → chunks_behind len band (rs ++ r ∷ []) ≡ chunks_behind len band rs ++ behind_one len band r
+behind_more len band [] r = append-nil (behind_one len band r)
+behind_more len band (x ∷ xs) r =
+    ap (λ (es : List Extent). behind_one len band x ++ es) (behind_more len band xs r) ∙ sym (append_assoc (behind_one len band x) (chunks_behind len band xs) (behind_one len band r))
+
+pub behind_there : (len band : ℕ) (r : Record) → band ≤ r.key.i → r.address ≢ undefined → behind_one len band r ≡ extent r.address len ∷ []
+behind_there len band r late named = ap (λ c. cond c [] (range_at r.address len)) (le-ltb r.key.i band late) ∙ range_there r.address len named
+
+pub behind_early : (len band : ℕ) (r : Record) → r.key.i < band → behind_one len band r ≡ []
+behind_early len band r early = ap (λ c. cond c [] (range_at r.address len)) (lt-ltb r.key.i band early)
+
+pub behind_absent : (len band : ℕ) (r : Record) → r.address ≡ undefined → behind_one len band r ≡ []
+behind_absent len band r none = by (nat_lt r.key.i band)
+  where
+    by : (c : Bool) → cond c [] (range_at r.address len) ≡ []
+    by true = refl
+    by false = range_absent r.address len none
+
+-- ---- Keys of a tree
+
+-- a key that has a record is such a record's
+pub keys_within : (bands across : ℕ) (rs : List Record) → All (λ (r : Record). (r.key.i < bands) × (r.key.j < across)) rs → (key : Key) → (address_in key rs ≡ None → ⊥) → (key.i < bands) × (key.j < across)
+keys_within bands across [] h key = λ there. absurd (there refl)
+keys_within bands across (r ∷ rs) h key =
+    go (keys_within bands across rs (All-tail (λ (s : Record). (s.key.i < bands) × (s.key.j < across)) r rs h) key) (key_below r.key key) (key_equal r.key key) refl
+  where
+    go : ((address_in key rs ≡ None → ⊥) → (key.i < bands) × (key.j < across)) → (below same : Bool) → key_equal r.key key ≡ same
+        → (cond below (address_in key rs) (cond same (Some r.address) None) ≡ None → ⊥) → (key.i < bands) × (key.j < across)
+    go others true same e = others
+    go others false true e = λ there. subst (λ (k : Key). (k.i < bands) × (k.j < across)) (equal-is r.key key e) (All-head (λ (s : Record). (s.key.i < bands) × (s.key.j < across)) r rs h)
+    go others false false e = λ there. absurd (there refl)

@@ -8,16 +8,32 @@ use Rattle.h5w_model.specs.Programs.{eval}
 use Rattle.h5w_model.specs.Headers.{header_view}
 use Rattle.h5w_model.specs.Datasets.{Described, dataset_messages, FoundMessage}
 use Rattle.h5w_model.specs.Findings.{chunk_bytes}
-use Rattle.h5w_image.specs.View.{ImageView}
+use Rattle.h5w_model.specs.Tables.{chunks_across}
+use Rattle.h5w_image.specs.View.{ImageView, Looked}
 use Rattle.h5w_image.proofs.ViewLemmas.{looked_itself, looked_twice}
 use Rattle.h5w_looks.specs.Still.{IsStill}
 use Rattle.h5w_looks.proofs.ReadLemmas.{still_on}
 use Rattle.h5w_found.specs.Ran.{Ran, Refuses, seen}
 use Rattle.h5w_found.specs.Walks.{dataset_header_for}
 use Rattle.h5w_found.proofs.RanLemmas.{later}
+use Rattle.h5w_model.specs.declared.cell.IndexKind.TheVariants.{Array, Tree}
+use Rattle.h5w_model.specs.declared.cell.Key.{Key}
+use Rattle.h5w_ea_index.specs.Opened.{IsDamaged, IfDamaged as IfArrayDamaged, Loads as ArrayLoads}
 use Rattle.h5w_cache.specs.Stores.{Store}
-use Rattle.h5w_model.specs.declared.cell.IndexKind.TheVariants.{Array}
-use Rattle.h5w_ea_index.specs.Opened.{IfDamaged, IsDamaged, Loads}
+use Rattle.h5w_bt_index.specs.Held as trees
+use Rattle.h5w_bt_index.specs.Index.{Index as TreeView}
+use Rattle.h5w_bt_index.specs.Marks.{clean_of}
+use Rattle.h5w_bt_index.specs.declared.index.TreeIndex.{TreeIndex}
+use Rattle.h5w_bt_open.specs.Kept.{IsKeptTree, KeptOrOther}
+use Rattle.h5w_bt_open.specs.Calls.{IfDamaged as IfTreeDamaged, Loads as TreeLoads}
+use Rattle.h5w_bt_open.specs.Opened.{IsRefused, from_key, looked_in}
+use Rattle.h5w_bt_open.specs.Spans.{Leads}
+use Rattle.h5w_bt_open.specs.declared.error.OpenTreeError.{OpenTreeError}
+use Rattle.h5w_bt_open.specs.declared.error.OpenTreeError.TheVariants as tree_errors
+use Rattle.h5w_index.specs.Held.{view_of}
+use Rattle.h5w_index.specs.Views.{IndexView}
+use Rattle.h5w_index.specs.declared.index.Index.{Index as HeldIndex}
+use Rattle.h5w_index.specs.declared.index.Index.TheVariants.{Tree as HeldTree}
 use Rattle.h5w_ea_index.specs.declared.error.OpenArrayError.{OpenArrayError}
 use Rattle.h5w_ea_index.specs.declared.error.OpenArrayError.TheVariants as array_errors
 use Rattle.h5w_header_laws.specs.Files.{chunk_0}
@@ -32,10 +48,10 @@ use Rattle.h5w_opening.specs.declared.error.OpenError.TheVariants.{Read, Flags, 
 use Rattle.h5w_opening.specs.declared.finding.Opening.{Opening}
 use Rattle.h5w_opening.proofs.FoundParts.{parts}
 use Rattle.h5w_opening.proofs.WritingLemmas.{alike_ok, dataset_alike}
-use Rattle.h5w_session.specs.OpenAnswers.{IfRefusal, IsIndexOf, IsNotOpened, damaged, refused, IsKeptArray}
-use Rattle.h5w_session.specs.OpenRanges.{chunk_0_range, cut_at, first_open, first_past, open_blocks, open_chunks, ranges_refused, refused_index, refused_open, is_starting, refused_start}
-use Rattle.h5w_session.specs.OpenSteps.{IsBadIndex, IsFoundIn, IsOpenedFile, OpenStep, Says, array_error, front_of, IsKeptHeader}
-use Rattle.h5w_session.specs.Sessions.{IsWritable, HasAddress}
+use Rattle.h5w_session.specs.OpenAnswers.{IfRefusal, IsIndexOf, IsKeptIndexOf, IsNotOpened, array, damaged, refused, tree}
+use Rattle.h5w_session.specs.OpenRanges.{chunk_0_range, cut_at, first_key, first_open, first_past, open_blocks, open_chunks, ranges_refused, refused_index, refused_open, is_starting, refused_start}
+use Rattle.h5w_session.specs.OpenSteps.{IsBadIndex, IsFoundIn, IsOpenedFile, OpenStep, Says, array_error, front_of, tree_error, IsKeptHeader}
+use Rattle.h5w_session.specs.Sessions.{IsWritable, HasAddress, most_bands}
 use Rattle.h5w_session.proofs.SessionOver.{in_chunk, starts_so, unrefused_parts}
 
 -- ---- Refusals
@@ -167,7 +183,7 @@ start_quiet : (starts : Bool) (e : OpenError) → refused_start starts ≡ Some 
 start_quiet false e h f = let g : Some Index ≡ Some Failed = h ∙ ap Some f in absurd cc
 start_quiet true e h f = absurd cc
 
-index_quiet : (d : Described) (a : Option Store) (e : OpenError) → refused_index d a ≡ Some e → e ≢ Failed
+index_quiet : (d : Described) (a : Option IndexView) (e : OpenError) → refused_index d a ≡ Some e → e ≢ Failed
 index_quiet d None e h f = start_quiet (is_starting d) e h f
 index_quiet d (Some v) e h f = absurd cc
 
@@ -177,7 +193,7 @@ ranges_quiet end far past e h = elim (or_some (option_map (cut_at 0) far) (optio
   | inr p ↦ cut_quiet end past e p
 ]
 
-pub refused_quiet : (o : Opened) (a : Option Store) (e : OpenError) → refused_open o a ≡ Some e → e ≢ Failed
+pub refused_quiet : (o : Opened) (a : Option IndexView) (e : OpenError) → refused_open o a ≡ Some e → e ≢ Failed
 refused_quiet o a e h = elim (or_some (ranges_refused o a) (option_or (refused_dataset o) (refused_index o.header.dataset a)) e h) [
   | inl r ↦ ranges_quiet o.root.end (first_past (2 ^ 64 - 1) (take 3 (chunk_0_range o ∷ open_blocks o.header.dataset a) ++ open_chunks o.header.dataset a))
       (first_past o.root.end ((chunk_0_range o ∷ open_blocks o.header.dataset a) ++ open_chunks o.header.dataset a)) e r
@@ -188,7 +204,7 @@ refused_quiet o a e h = elim (or_some (ranges_refused o a) (option_or (refused_d
 ]
 
 -- a refusal of what was found refuses the file
-pub refused_file : (img : List ℕ) (size : ℕ) (name : List ℕ) (o : Opened) (a : Option Store) (e : OpenError) → IsFoundIn img size name o a → (refused_open o a ≡ Some e) ⊎ (e ≡ OutOfMemory) → IfRefusal (refusal_of e) (IsNotOpened img size name)
+pub refused_file : (img : List ℕ) (size : ℕ) (name : List ℕ) (o : Opened) (a : Option IndexView) (e : OpenError) → IsFoundIn img size name o a → (refused_open o a ≡ Some e) ⊎ (e ≡ OutOfMemory) → IfRefusal (refusal_of e) (IsNotOpened img size name)
 refused_file img size name o a e f (inl h) = by_error e h
   where
     by_error : (g : OpenError) → refused_open o a ≡ Some g → IfRefusal (refusal_of g) (IsNotOpened img size name)
@@ -205,62 +221,122 @@ refused_file img size name o a e f (inr h) = subst (λ g. IfRefusal (refusal_of 
 
 -- ---- The index
 
-abbrev as_array_error : OpenArrayError → Result (Option Store) OpenArrayError
-as_array_error e = Err e
+-- what is said of a step that opens the index
+abbrev pub index_good : Described → List ℕ → Option HeldIndex → Type 0
+index_good d img a = IsIndexOf img d (option_map view_of a)
+
+abbrev pub index_bad : Described → List ℕ → OpenError → Type 0
+index_bad d img e = IsBadIndex img d e
+
+abbrev as_array : OpenArrayError → Result (Option Store) OpenArrayError
+as_array e = Err e
+
+abbrev as_tree : OpenTreeError → Result (Option TreeIndex) OpenTreeError
+as_tree e = Err e
 
 -- an array that is not opened
 pub bad_array : {v w : ImageView} (d : Described) (first : ℕ) (e : OpenArrayError) (out : OpenError) → d.layout.index ≡ Array → d.layout.address ≢ undefined → first ≡ first_open d → out ≡ array_error e
-    → Loads {A = Option Store} v w (λ img a f. IsDamaged img d.layout.address first a f) (Err e) → OpenStep {A = Option Store} v w (λ img a. IsIndexOf img d a) (λ img e. IsBadIndex img d e) (Err out)
+    → ArrayLoads {A = Option Store} v w (λ img a f. IsDamaged img d.layout.address first a f) (Err e) → OpenStep {A = Option HeldIndex} v w (index_good d) (index_bad d) (Err out)
 bad_array {v = v} {w = w} d first e out kind named from is loads =
-    subst (λ x. OpenStep {A = Option Store} v w (λ img a. IsIndexOf img d a) (λ img e. IsBadIndex img d e) (Err x)) (sym is)
+    subst (λ x. OpenStep {A = Option HeldIndex} v w (index_good d) (index_bad d) (Err x)) (sym is)
     (record {
       looked = loads.looked;
       cause = λ h. failed e h loads.cause;
       exact = λ img still. told img e (loads.damaged img still);
     })
   where
-    failed : (f : OpenArrayError) → as_error {A = Option Store} (array_error f) ≡ Err Failed → (as_array_error f ≡ Err array_errors.Failed → Rose v.faults w.faults) → Rose v.faults w.faults
+    failed : (f : OpenArrayError) → as_error {A = Option HeldIndex} (array_error f) ≡ Err Failed → (as_array f ≡ Err array_errors.Failed → Rose v.faults w.faults) → Rose v.faults w.faults
     failed (array_errors.Damaged a f) h rose = absurd cc
     failed array_errors.Failed h rose = rose refl
     failed array_errors.OutOfMemory h rose = absurd cc
 
-    told : (img : List ℕ) (f : OpenArrayError) → IfDamaged f (λ a x. IsDamaged img d.layout.address first a x) → IfRefusal (refusal_of (array_error f)) (λ e. IsBadIndex img d e)
-    told img (array_errors.Damaged a f) h = record { kind = kind; named = named; at = a; fault = f; damaged = subst (λ n. IsDamaged img d.layout.address n a f) from h; is = refl }
+    told : (img : List ℕ) (f : OpenArrayError) → IfArrayDamaged f (λ a x. IsDamaged img d.layout.address first a x) → IfRefusal (refusal_of (array_error f)) (index_bad d img)
+    told img (array_errors.Damaged a f) h = record { at = a; fault = f; bad = array kind named (subst (λ n. IsDamaged img d.layout.address n a f) from h); is = refl }
     told img array_errors.Failed h = tt
     told img array_errors.OutOfMemory h = tt
 
+-- and a tree
+pub bad_tree : {v w : ImageView} (d : Described) (first : Key) (e : OpenTreeError) (out : OpenError) → d.layout.index ≡ Tree → d.layout.address ≢ undefined → first ≡ first_key d → out ≡ tree_error e
+    → TreeLoads {A = Option TreeIndex} v w (λ img a f. IsRefused (looked_in img d.layout.address) (Leads (from_key first)) a f) (Err e) → OpenStep {A = Option HeldIndex} v w (index_good d) (index_bad d) (Err out)
+bad_tree {v = v} {w = w} d first e out kind named from is loads =
+    subst (λ x. OpenStep {A = Option HeldIndex} v w (index_good d) (index_bad d) (Err x)) (sym is)
+    (record {
+      looked = loads.looked;
+      cause = λ h. failed e h loads.cause;
+      exact = λ img still. told img e (loads.damaged img still);
+    })
+  where
+    failed : (f : OpenTreeError) → as_error {A = Option HeldIndex} (tree_error f) ≡ Err Failed → (as_tree f ≡ Err tree_errors.Failed → Rose v.faults w.faults) → Rose v.faults w.faults
+    failed (tree_errors.Damaged a f) h rose = absurd cc
+    failed tree_errors.Failed h rose = rose refl
+    failed tree_errors.OutOfMemory h rose = absurd cc
+
+    told : (img : List ℕ) (f : OpenTreeError) → IfTreeDamaged f (λ a x. IsRefused (looked_in img d.layout.address) (Leads (from_key first)) a x) → IfRefusal (refusal_of (tree_error f)) (index_bad d img)
+    told img (tree_errors.Damaged a f) h = record { at = a; fault = f; bad = tree kind named (subst (λ k. IsRefused (looked_in img d.layout.address) (Leads (from_key k)) a f) from h); is = refl }
+    told img tree_errors.Failed h = tt
+    told img tree_errors.OutOfMemory h = tt
+
+-- a tree that is opened, or one that is not kept
+kept_as : (img : List ℕ) (place : ℕ) (first from : Key) (bands most across side : ℕ) (o : Option TreeView) → first ≡ from → bands ≡ most → across ≡ side → KeptOrOther img place first bands across o → KeptOrOther img place from most side o
+kept_as img place first from bands most across side o one two three h =
+    subst (λ (k : Key). KeptOrOther img place k most side o) one
+    (subst (λ n. KeptOrOther img place first n side o) two (subst (λ n. KeptOrOther img place first bands n o) three h))
+
+module _ {v w : ImageView} (d : Described) (first : Key) (bands across : ℕ) (tree_is : d.layout.index ≡ Tree) (named : d.layout.address ≢ undefined) (from : first ≡ first_key d) (most : bands ≡ most_bands d) (side : across ≡ chunks_across d)
+    (looked : Looked v w) (found : Option TreeIndex) (exact : (img : List ℕ) → IsStill v img → KeptOrOther img d.layout.address first bands across (option_map trees.view_of found)) where
+  exact_as : (o : Option TreeIndex) → found ≡ o → (img : List ℕ) → IsStill v img → KeptOrOther img d.layout.address (first_key d) (most_bands d) (chunks_across d) (option_map trees.view_of o)
+  exact_as o is img still =
+      kept_as img d.layout.address first (first_key d) bands (most_bands d) across (chunks_across d) (option_map trees.view_of o) from most side
+      (subst (λ (x : Option TreeIndex). KeptOrOther img d.layout.address first bands across (option_map trees.view_of x)) is (exact img still))
+
+  pub good_tree : (t : TreeIndex) → found ≡ Some t → trees.header_place t ≡ d.layout.address → clean_of (trees.view_of t).depth (trees.view_of t).root ≡ true → OpenStep v w (index_good d) (index_bad d) (Ok (Some (HeldTree t)))
+  good_tree t is at clean = record {
+    looked = looked;
+    cause = λ h. absurd cc;
+    exact = λ img still. record {
+      kind = tree_is;
+      named = named;
+      at = at;
+      clean = clean;
+      tree = subst (λ n. IsKeptTree img n (first_key d) (most_bands d) (chunks_across d) (trees.view_of t)) (sym at) (exact_as (Some t) is img still);
+    };
+  }
+
+  pub other_tree : found ≡ None → OpenStep v w (index_good d) (index_bad d) (Ok None)
+  other_tree is = record { looked = looked; cause = λ h. absurd cc; exact = λ img still. inr (tree tree_is named (exact_as None is img still)) }
+
 -- a bad index refuses the file
 pub bad_index : (img : List ℕ) (size : ℕ) (name : List ℕ) (o : Opened) (e : OpenError) → eval img (looked_for size name) ≡ Ok o → IsBadIndex img o.header.dataset e → IsNotOpened img size name e
-bad_index img size name o e is bad = subst (IsNotOpened img size name) (sym bad.is) (damaged o bad.at bad.fault is bad.kind bad.named bad.damaged)
+bad_index img size name o e is bad = subst (IsNotOpened img size name) (sym bad.is) (damaged o bad.at bad.fault is bad.bad)
 
 -- ---- All of it
 
-abbrev pub found_good : ℕ → List ℕ → List ℕ → Opening × Option Store → Type 0
-found_good size name img x = IsFoundIn img size name (opened_of x.0) x.1
+abbrev pub found_good : ℕ → List ℕ → List ℕ → Opening × Option HeldIndex → Type 0
+found_good size name img x = IsFoundIn img size name (opened_of x.0) (option_map view_of x.1)
 
-abbrev pub file_good : ℕ → List ℕ → List ℕ → Opening × List ℕ × Store → Type 0
-file_good size name img x = IsOpenedFile img size name (opened_of x.0) x.1 x.2
+abbrev pub file_good : ℕ → List ℕ → List ℕ → Opening × List ℕ × HeldIndex → Type 0
+file_good size name img x = IsOpenedFile img size name (opened_of x.0) x.1 (view_of x.2)
 
 abbrev pub not_opened : ℕ → List ℕ → List ℕ → OpenError → Type 0
 not_opened size name img e = IsNotOpened img size name e
 
-pub first_quiet : (o : Opened) (a : Option Store) (e : OpenError) → (refused_open o a ≡ Some e) ⊎ (e ≡ OutOfMemory) → e ≢ Failed
+pub first_quiet : (o : Opened) (a : Option IndexView) (e : OpenError) → (refused_open o a ≡ Some e) ⊎ (e ≡ OutOfMemory) → e ≢ Failed
 first_quiet o a e (inl h) f = refused_quiet o a e h f
 first_quiet o a e (inr h) f = let g : OutOfMemory ≡ Failed = sym h ∙ f in absurd cc
 
-pub writable_front : (img : List ℕ) (size : ℕ) (name : List ℕ) (o : Opened) (a : Option Store) → eval img (looked_for size name) ≡ Ok o → refused_open o a ≡ None → IsKeptHeader (is_starting o.header.dataset) (front_of img o.place o.header.len)
+pub writable_front : (img : List ℕ) (size : ℕ) (name : List ℕ) (o : Opened) (a : Option IndexView) → eval img (looked_for size name) ≡ Ok o → refused_open o a ≡ None → IsKeptHeader (is_starting o.header.dataset) (front_of img o.place o.header.len)
 writable_front img size name o a is none =
     let k = kept_front img size name o is in
     let parts = unrefused_parts o a none in
-    subst (IsKeptHeader (is_starting o.header.dataset)) (sym k.same) (k.writable, λ starts. k.addressed (in_chunk o (starts_so o.header.dataset starts).address parts.dataset))
+    subst (IsKeptHeader (is_starting o.header.dataset)) (sym k.same) (k.writable, λ starts. k.addressed (in_chunk o (starts_so o.header.dataset starts) parts.dataset))
 
-pub file_is : (img : List ℕ) (size : ℕ) (name : List ℕ) (o : Opened) (a : Option Store) (v : Store) (header : List ℕ) → IsFoundIn img size name o a → IsKeptArray a v → refused_open o a ≡ None → header ≡ front_of img o.place o.header.len
+pub file_is : (img : List ℕ) (size : ℕ) (name : List ℕ) (o : Opened) (a : Option IndexView) (v : IndexView) (header : List ℕ) → IsFoundIn img size name o a → IsKeptIndexOf o.header.dataset a v → refused_open o a ≡ None → header ≡ front_of img o.place o.header.len
     → IsOpenedFile img size name o header v
 file_is img size name o a v header f same none kept = record {
   is = f.is;
   index = a;
   is_index = f.index;
   unrefused = none;
-  array = same;
+  is_kept = same;
   kept = kept ∙ (kept_front img size name o f.is).same;
 }

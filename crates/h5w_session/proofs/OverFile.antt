@@ -1,49 +1,59 @@
 -- A session over a valid file has what the file has.
-use Rattle.std.proofs.Common.{◌≡◌, ◌⊎◌, ℕ, ◌/◌, ◌%◌, ◌^◌, ◌<◌, ◌≤◌, true, false, List, length, replicate, ℤ, Option, Some, None, Result, Ok, refl, sym, ap, ◌∙◌, subst, inl, inr, arith, Bool}
+use Rattle.std.proofs.Common.{◌≡◌, ◌⊎◌, ℕ, ◌+◌, ◌/◌, ◌%◌, ◌^◌, ◌<◌, ◌≤◌, true, false, List, [], length, replicate, ℤ, Option, Some, None, Result, Ok, refl, sym, ap, ◌∙◌, subst, inl, inr, arith, Bool}
 use Rattle.std.specs.Prelude.{IfSome}
+use Rattle.std.specs.List.{All}
 use Rattle.std.specs.Option.{unwrap_or}
 use Rattle.std.proofs.lemmas.List.{length-replicate}
-use Rattle.h5w_model.specs.Numbers.{range}
+use Rattle.h5w_model.specs.Numbers.{range, undefined}
 use Rattle.h5w_model.specs.Programs.{eval}
 use Rattle.h5w_model.specs.Superblock.{super_at, super_bytes}
 use Rattle.h5w_model.specs.Headers.{header_view}
 use Rattle.h5w_model.specs.Datasets.{Described, HeaderFields, dataset_messages, described, is_swmr, linked, root_header, FoundMessage, first_of, layout_kind}
 use Rattle.h5w_model.specs.Messages.{is_int_size}
 use Rattle.h5w_model.specs.Findings.{Summary, Valid}
-use Rattle.h5w_model.specs.Tables.{Reads, format_limits}
+use Rattle.h5w_model.specs.Tables.{Reads, chunks_across, format_limits}
+use Rattle.h5w_model.specs.declared.cell.Key.{Key}
+use Rattle.h5w_model.specs.declared.cell.IndexKind.{IndexKind}
+use Rattle.h5w_model.specs.declared.cell.IndexKind.TheVariants.{Array, Tree}
 use Rattle.h5w_model.specs.declared.root.Super.{Super}
 use Rattle.h5w_model.proofs.IntegerLemmas.{int_sizes}
 use Rattle.h5w_visits.proofs.HeaderLaws.{DatasetParts, RootParts, dataset_parts, root_parts}
 use Rattle.h5w_steps.specs.Moments.{Moment, Represents}
 use Rattle.h5w_steps.proofs.MomentLemmas.{super_parts}
 use Rattle.h5w_steps.proofs.FoundLemmas.{opens}
-use Rattle.h5w_cache.specs.Stores.{Store}
-use Rattle.h5w_array_laws.specs.ArrayStores.{header_place, IsCreated}
-use Rattle.h5w_array_laws.specs.ArrayImages.{StandsArray}
-use Rattle.h5w_model.specs.declared.cell.IndexKind.TheVariants.{Array}
-use Rattle.h5w_index.specs.Views.{an_array}
+use Rattle.h5w_space.specs.declared.Extent.{Extent}
+use Rattle.h5w_array_laws.specs.ArrayStores.{IsCreated}
+use Rattle.h5w_array_laws.proofs.CreatedLemmas.{created_starts}
+use Rattle.h5w_flush_laws.specs.Flushes.{IsBegun}
+use Rattle.h5w_flush_laws.specs.Knowledge.{Knows}
+use Rattle.h5w_flush_laws.proofs.KnownLaws.{begin_knows}
+use Rattle.h5w_bt_index.specs.Marks.{clean_of}
+use Rattle.h5w_bt_index.specs.Index.{Index, no_tree}
+use Rattle.h5w_bt_open.specs.Kept.{ranges_of}
+use Rattle.h5w_tree_open_laws.proofs.OpenedStandLemmas.{opened_stands as tree_stands}
+use Rattle.h5w_index.specs.Views.{IndexView, an_array, a_tree, IsClean, IsSound, IsSoundTree, StandsOn, address_in, header_place, kind_of}
 use Rattle.h5w_index.specs.Flushes.{Begins}
 use Rattle.h5w_index.proofs.BeginLemmas.{index_begins}
-use Rattle.h5w_ea_index.proofs.StandingLemmas.{opened_stands}
+use Rattle.h5w_ea_index.proofs.StandingLemmas.{opened_stands as array_stands}
 use Rattle.h5w_found.specs.Walks.{root_header_for, dataset_header_for}
 use Rattle.h5w_header_laws.specs.Files.{chunk_0, LayoutInChunk0}
 use Rattle.h5w_opening.specs.Openings.{Opened, looked_for, in_chunk_0}
 use Rattle.h5w_opening.proofs.FoundParts.{Parts, parts}
 use Rattle.h5w_opening.proofs.WritingLemmas.{alike_ok, dataset_alike, root_alike}
-use Rattle.h5w_session.specs.OpenAnswers.{IsArrayOf, opened_session, session_over, writing_flags}
-use Rattle.h5w_session.specs.OpenRanges.{first_open}
+use Rattle.h5w_starting_laws.specs.Starting.{no_chunk}
+use Rattle.h5w_starting_laws.proofs.StartLemmas.{created_blank, unnamed_nowhere}
+use Rattle.h5w_session.specs.Indexes.{IsBlank, IsKeptIndex}
+use Rattle.h5w_session.specs.OpenAnswers.{IsArrayOf, IsBlankOf, IsIndexOf, IsTreeOf, opened_session, session_over, writing_flags}
+use Rattle.h5w_session.specs.OpenRanges.{first_key, first_open}
 use Rattle.h5w_session.specs.OpenSteps.{IsCut}
 use Rattle.h5w_session.specs.Openings.{IsOver, flagged_root, opened_log}
 use Rattle.h5w_session.specs.Past.{IsCounted}
-use Rattle.h5w_session.specs.Sessions.{Session}
+use Rattle.h5w_session.specs.Sessions.{Session, most_bands}
 use Rattle.h5w_session.specs.Stands.{Stands}
 use Rattle.h5w_session.proofs.OpenedLemmas.{over_laws}
-use Rattle.h5w_session.proofs.SaidLemmas.{is_true, one_column, said}
-use Rattle.h5w_starting_laws.specs.Starting.{IsBlank, IsUnnamed, StartKnows}
-use Rattle.h5w_starting_laws.proofs.StartLemmas.{blank_map, created_blank, start_begins}
-use Rattle.h5w_array_laws.proofs.CreatedLemmas.{created_starts}
-use Rattle.h5w_model.specs.declared.cell.Key.{Key}
-use Rattle.h5w_flush_laws.specs.Knowledge.{Knows}
+use Rattle.h5w_session.proofs.SaidLemmas.{is_true, said}
+use Rattle.h5w_session.proofs.StartKinds.{blank_none}
+use Rattle.h5w_session.proofs.StateLemmas.{up_some}
 
 pub same_answer : {A E : Type 0} (r : Result A E) (a b : A) → r ≡ Ok a → r ≡ Ok b → a ≡ b
 same_answer {A = A} {E = E} r a b h g = let e : ◌≡◌ {A = Result A E} (Ok a) (Ok b) = sym h ∙ g in cc
@@ -60,9 +70,8 @@ fill_long : (n : ℕ) (o : Option (List ℕ)) → IfSome o (λ (b : List ℕ). l
 fill_long n (Some b) h = h
 fill_long n None h = length-replicate n 0
 
-pub counted : (d : Described) → IsCut d → d.layout.index ≡ Array → IsCounted d
-counted d c kind =
-    let one = one_column d c kind in
+pub counted : (d : Described) → IsCut d → 0 < d.shape.cols → IsCounted d
+counted d c some =
     let size = small_size d.int_type.size (int_sizes d.int_type.size (is_true (is_int_size d.int_type.size) c.typed)) in
     record {
       rows = c.chunked.rows;
@@ -71,9 +80,49 @@ counted d c kind =
       few = size.1;
       small = c.chunked.small;
       fill = fill_long d.int_type.size d.fill.value c.filled;
-      columns = omega (arith, one.0);
-      across = subst (λ n. 0 < n) (sym one.2) (omega arith);
+      columns = some;
+      across = up_some d.shape.cols d.layout.chunk_cols c.chunked.cols some;
     }
+
+-- ---- The index that a session begins with
+
+-- What is asked of the index of a valid file, whichever its kind: the first chunk of an array is one that an array can have, and the nodes
+-- of a tree end by the end-of-file address.
+abbrev pub IsInFile : Opened → IndexView → Type 0
+IsInFile o (an_array v) = first_open o.header.dataset < 131060
+IsInFile o (a_tree place v) = All (λ (r : Extent). r.at + r.size ≤ o.root.end) (ranges_of v)
+
+-- it is sound, and no part of it changed
+record IsUnchanged (d : Described) (v : IndexView) : Type 0 where
+  kind : d.layout.index ≡ kind_of v
+  at_place : d.layout.address ≡ header_place v
+  sound : IsSound v
+  clean : IsClean v
+
+unchanged : (img : List ℕ) (d : Described) (v : IndexView) → IsIndexOf img d (Some v) → IsUnchanged d v
+unchanged img d (an_array v) x =
+    let a : IsArrayOf img d v = x in
+    record { kind = a.kind; at_place = sym a.at; sound = a.array; clean = a.clean }
+unchanged img d (a_tree place v) x =
+    let t : IsTreeOf img d place v = x in
+    record { kind = t.kind; at_place = sym t.at; sound = record { index = t.tree.kept.index; filled = t.tree.kept.filled; defined = λ e. t.named (sym t.at ∙ e) }; clean = t.clean }
+
+-- a blank one, where the layout names none
+record IsUnmade (k : IndexKind) (v : IndexView) : Type 0 where
+  kind : k ≡ kind_of v
+  sound : IsSound v
+  blank : IsBlank v
+  clean : IsClean v
+
+unmade : (k : IndexKind) (v : IndexView) → IsBlankOf k v → IsUnmade k v
+unmade Array (an_array v) made =
+    let c : IsCreated 0 0 v = made in
+    record { kind = refl; sound = (created_starts 0 0 v c (omega arith) (omega arith)).array; blank = created_blank 0 0 v c (omega arith) (omega arith); clean = c.changed }
+unmade Tree (a_tree place v) (first, none) =
+    let sound : IsSoundTree 0 no_tree = record { index = record { shallow = omega arith; sound = omega arith; rises = tt; marked = tt }; filled = omega arith; defined = λ e. absurd (omega (arith, e)) } in
+    record { kind = refl; sound = subst (λ (w : IndexView). IsSound w) (λ i. a_tree (sym first i) (sym none i)) sound; blank = none; clean = subst (λ (w : Index). clean_of w.depth w.root ≡ true) (sym none) refl }
+unmade Array (a_tree place v) made = absurd made
+unmade Tree (an_array v) made = absurd made
 
 -- ---- The file at a moment is what was found
 
@@ -111,44 +160,55 @@ module _ (img name : List ℕ) (size : ℕ) (o : Opened) (m : Moment) (is : eval
   pub cut_here : IsCut o.header.dataset
   cut_here = said found.header.messages o.header.dataset found.says
 
+  begun_places : (limit : ℕ) → IsBegun m (record { end = o.root.end; limit = limit; free = []; retired = []; spare = 0 })
+  begun_places limit = record { end = sym (ap (λ (t : Super). t.end) super_same); none_free = refl; none_retired = refl }
+
   -- ---- The session over it
 
-  module _ (v : Store) (x : IsArrayOf img o.header.dataset v) (limit : ℕ) (low : first_open o.header.dataset < 131060) (enough : 1024 ≤ limit) (most : limit ≤ 2 ^ 40) where
+  -- what is known of the file, and of the index that is kept, is all that is asked
+  over : (v : IndexView) (limit : ℕ) → Knows img name m (λ key. address_in v key) (session_over o (chunk_0 img o.place) v name limit).places
+      → IsKeptIndex img m (λ key. address_in v key) (session_over o (chunk_0 img o.place) v name limit).places v → IsClean v → 0 < o.header.dataset.shape.cols → 1024 ≤ limit → limit ≤ 2 ^ 40
+      → IsOver (session_over o (chunk_0 img o.place) v name limit) img m
+  over v limit knows index clean some enough most = record {
+    knows = knows;
+    keeps = record { root = super_same; place = place_same; dataset = dataset_same; header = refl };
+    index = index;
+    clean = clean;
+    end = sym (ap (λ (t : Super). t.end) super_same);
+    limit_low = enough;
+    limit_high = most;
+    counted = counted o.header.dataset cut_here some;
+    committed = refl;
+    waiting = refl;
+    waits = refl;
+    idle = refl;
+    running = refl;
+  }
+
+  module _ (v : IndexView) (x : IsIndexOf img o.header.dataset (Some v)) (fits : IsInFile o v) (limit : ℕ) where
     abbrev s : Session
-    s = session_over o (chunk_0 img o.place) (an_array v) name limit
+    s = session_over o (chunk_0 img o.place) v name limit
 
-    kind : m.dataset.layout.index ≡ Array
-    kind = ap (λ (d : Described). d.layout.index) dataset_same ∙ x.kind
+    same : IsUnchanged m.dataset v
+    same = subst (λ (d : Described). IsUnchanged d v) (sym dataset_same) (unchanged img o.header.dataset v x)
 
-    address : m.dataset.layout.address ≡ header_place v
-    address = ap (λ (d : Described). d.layout.address) dataset_same ∙ sym x.at
+    stands : (u : IndexView) → IsIndexOf img o.header.dataset (Some u) → IsUnchanged m.dataset u → IsInFile o u → StandsOn u img
+    stands (an_array u) y is low =
+        let a : IsArrayOf img o.header.dataset u = y in
+        array_stands img m.super.end (first_open o.header.dataset) m.dataset m.fixed m.behind u file.index is.kind is.at_place low a.array a.clean a.opened
+    stands (a_tree place u) y is ends =
+        let t : IsTreeOf img o.header.dataset place u = y in
+        let inside = (super_parts (length img) (range img 0 48) m.super file.super).inside in
+        let small : o.root.end < 2 ^ 64 = omega (arith, inside, ap (λ (s : Super). s.end) super_same, t.tree.short) in
+        tree_stands img place o.root.end (first_key o.header.dataset) (most_bands o.header.dataset) (chunks_across o.header.dataset) u t.tree ends small
 
-    stands : StandsArray v img
-    stands = opened_stands img m.super.end (first_open o.header.dataset) m.dataset m.fixed m.behind v file.index kind address low x.array x.clean x.opened
+    pub begins : Begins img name m s.places v
+    begins = index_begins img name m s.places v same.sound same.clean (stands v x same fits) file same.kind same.at_place (begun_places limit)
 
-    pub begins : Begins img name m s.places (an_array v)
-    begins =
-        index_begins img name m s.places (an_array v) x.array x.clean stands file kind address
-        (record { end = sym (ap (λ (t : Super). t.end) super_same); none_free = refl; none_retired = refl })
+    pub is_over : 0 < o.header.dataset.shape.cols → 1024 ≤ limit → limit ≤ 2 ^ 40 → IsOver s img m
+    is_over some enough most = over v limit begins.knows (inl begins.rests) same.clean some enough most
 
-    pub is_over : IsOver s img m
-    is_over = record {
-      knows = begins.knows;
-      keeps = record { root = super_same; place = place_same; dataset = dataset_same; header = refl };
-      index = inl begins.rests;
-      clean = x.clean;
-      end = sym (ap (λ (t : Super). t.end) super_same);
-      limit_low = enough;
-      limit_high = most;
-      counted = counted o.header.dataset cut_here x.kind;
-      committed = refl;
-      waiting = refl;
-      waits = refl;
-      idle = refl;
-      running = refl;
-    }
-
-  -- ---- The session over a file whose array is not there yet
+  -- ---- The session over a file whose index is not there yet
 
   layout_here : o.header.in_chunk_0 ≡ true → LayoutInChunk0 img m.place
   layout_here inside h y read first =
@@ -158,35 +218,24 @@ module _ (img name : List ℕ) (size : ℕ) (o : Opened) (m : Moment) (is : eval
       let at : first_of layout_kind checked.header.messages ≡ Some y = ap (λ (g : HeaderFields). first_of layout_kind g.messages) (sym same) ∙ first in
       sym (ap chosen at) ∙ here
 
-  module _ (v : Store) (u : IsUnnamed o.header.dataset) (made : IsCreated 0 0 v) (inside : o.header.in_chunk_0 ≡ true) (limit : ℕ) (enough : 1024 ≤ limit) (most : limit ≤ 2 ^ 40) where
+  module _ (v : IndexView) (absent : o.header.dataset.layout.address ≡ undefined) (made : IsBlankOf o.header.dataset.layout.index v) (inside : o.header.in_chunk_0 ≡ true) (limit : ℕ) where
     abbrev begun : Session
-    begun = session_over o (chunk_0 img o.place) (an_array v) name limit
+    begun = session_over o (chunk_0 img o.place) v name limit
 
-    blank : IsBlank v
-    blank = created_blank 0 0 v made (omega arith) (omega arith)
+    blank : IsUnmade m.dataset.layout.index v
+    blank = subst (λ (d : Described). IsUnmade d.layout.index v) (sym dataset_same) (unmade o.header.dataset.layout.index v made)
 
-    unnamed : IsUnnamed m.dataset
-    unnamed = subst IsUnnamed (sym dataset_same) u
+    unnamed : m.dataset.layout.address ≡ undefined
+    unnamed = ap (λ (d : Described). d.layout.address) dataset_same ∙ absent
 
-    known : StartKnows img name m begun.places v
-    known = start_begins img name m begun.places v file unnamed (layout_here inside) (record { end = sym (ap (λ (t : Super). t.end) super_same); none_free = refl; none_retired = refl }) blank
+    known : Knows img name m (λ key. address_in v key) begun.places
+    known =
+        subst (λ (f : Key → ℕ). Knows img name m f begun.places) (λ i key. sym (blank_none v blank.blank key) i)
+        (begin_knows img name m no_chunk begun.places file (unnamed_nowhere img name m file unnamed).map (begun_places limit) (λ e. layout_here inside))
 
-    pub is_begun : IsOver begun img m
-    is_begun = record {
-      knows = subst (λ (f : Key → ℕ). Knows img name m f begun.places) (sym (blank_map v blank)) known.knows;
-      keeps = record { root = super_same; place = place_same; dataset = dataset_same; header = refl };
-      index = inr (record { kind = unnamed.kind; unnamed = unnamed.address; sound = (created_starts 0 0 v made (omega arith) (omega arith)).array; blank = blank; map = λ key. refl });
-      clean = made.changed;
-      end = sym (ap (λ (t : Super). t.end) super_same);
-      limit_low = enough;
-      limit_high = most;
-      counted = counted o.header.dataset cut_here u.kind;
-      committed = refl;
-      waiting = refl;
-      waits = refl;
-      idle = refl;
-      running = refl;
-    }
+    pub is_begun : 0 < o.header.dataset.shape.cols → 1024 ≤ limit → limit ≤ 2 ^ 40 → IsOver begun img m
+    is_begun some enough most =
+        over v limit known (inr (record { kind = blank.kind; unnamed = unnamed; sound = blank.sound; blank = blank.blank; map = λ key. refl })) blank.clean some enough most
 
 -- ---- The flags
 
@@ -198,28 +247,22 @@ swmr flags = let b = both_set flags in rw (b.0, b.1) refl
 
 -- ---- The session that was opened
 
-pub opened_over : (img name : List ℕ) (size : ℕ) (o : Opened) (v : Store) (limit rows columns : ℕ) (values : List ℤ) (sm : Summary) → eval img (looked_for size name) ≡ Ok o → IsArrayOf img o.header.dataset v
-    → first_open o.header.dataset < 131060 → 1024 ≤ limit → limit ≤ 2 ^ 40
-    → super_at (super_bytes (flagged_root (writing_flags o.root.flags) (session_over o (chunk_0 img o.place) (an_array v) name limit))) ≡ Ok (flagged_root (writing_flags o.root.flags) (session_over o (chunk_0 img o.place) (an_array v) name limit))
-    → Valid img name sm → Reads img name rows columns values → Stands (opened_session o (chunk_0 img o.place) (an_array v) name limit) (opened_log img columns values)
-opened_over img name size o v limit rows columns values sm is x low enough most reads_back valid reads =
-    let first = opens img name rows columns values sm valid reads in
-    let columns_are : o.header.dataset.shape.cols ≡ columns = ap (λ (d : Described). d.shape.cols) (sym (dataset_same img name size o first.0 is first.1)) ∙ first.4 in
-    let one = one_column o.header.dataset (cut_here img name size o first.0 is first.1) x.kind in
-    let t = over_laws.over img name rows columns values sm valid reads (let c = one.0 in omega arith) in
-    let s : Session = session_over o (chunk_0 img o.place) (an_array v) name limit in
-    let stands = t.2 s refl (is_over img name size o t.0 is t.1 v x limit low enough most) in
-    over_laws.rewritten s (opened_log img columns values) (writing_flags o.root.flags) false reads_back (swmr o.root.flags) refl refl stands
+module _ (img name : List ℕ) (size : ℕ) (o : Opened) (v : IndexView) (limit rows columns : ℕ) (values : List ℤ) (sm : Summary) (is : eval img (looked_for size name) ≡ Ok o) (some : 0 < o.header.dataset.shape.cols)
+    (reads_back : super_at (super_bytes (flagged_root (writing_flags o.root.flags) (session_over o (chunk_0 img o.place) v name limit))) ≡ Ok (flagged_root (writing_flags o.root.flags) (session_over o (chunk_0 img o.place) v name limit)))
+    (valid : Valid img name sm) (reads : Reads img name rows columns values) where
+  -- where the session is over each file that the image is
+  over_any : ((m : Moment) → Represents img name m → IsOver (session_over o (chunk_0 img o.place) v name limit) img m) → Stands (opened_session o (chunk_0 img o.place) v name limit) (opened_log img columns values)
+  over_any is_so =
+      let first = opens img name rows columns values sm valid reads in
+      let columns_are : o.header.dataset.shape.cols ≡ columns = ap (λ (d : Described). d.shape.cols) (sym (dataset_same img name size o first.0 is first.1)) ∙ first.4 in
+      let t = over_laws.over img name rows columns values sm valid reads (omega (arith, some, columns_are)) in
+      let s : Session = session_over o (chunk_0 img o.place) v name limit in
+      let stands = t.2 s refl (is_so t.0 t.1) in
+      over_laws.rewritten s (opened_log img columns values) (writing_flags o.root.flags) false reads_back (swmr o.root.flags) refl refl stands
 
-pub started_over : (img name : List ℕ) (size : ℕ) (o : Opened) (v : Store) (limit rows columns : ℕ) (values : List ℤ) (sm : Summary) → eval img (looked_for size name) ≡ Ok o → IsUnnamed o.header.dataset → IsCreated 0 0 v
-    → o.header.in_chunk_0 ≡ true → 1024 ≤ limit → limit ≤ 2 ^ 40
-    → super_at (super_bytes (flagged_root (writing_flags o.root.flags) (session_over o (chunk_0 img o.place) (an_array v) name limit))) ≡ Ok (flagged_root (writing_flags o.root.flags) (session_over o (chunk_0 img o.place) (an_array v) name limit))
-    → Valid img name sm → Reads img name rows columns values → Stands (opened_session o (chunk_0 img o.place) (an_array v) name limit) (opened_log img columns values)
-started_over img name size o v limit rows columns values sm is u made inside enough most reads_back valid reads =
-    let first = opens img name rows columns values sm valid reads in
-    let columns_are : o.header.dataset.shape.cols ≡ columns = ap (λ (d : Described). d.shape.cols) (sym (dataset_same img name size o first.0 is first.1)) ∙ first.4 in
-    let one = one_column o.header.dataset (cut_here img name size o first.0 is first.1) u.kind in
-    let t = over_laws.over img name rows columns values sm valid reads (let c = one.0 in omega arith) in
-    let s : Session = session_over o (chunk_0 img o.place) (an_array v) name limit in
-    let stands = t.2 s refl (is_begun img name size o t.0 is t.1 v u made inside limit enough most) in
-    over_laws.rewritten s (opened_log img columns values) (writing_flags o.root.flags) false reads_back (swmr o.root.flags) refl refl stands
+  pub opened_over : IsIndexOf img o.header.dataset (Some v) → IsInFile o v → 1024 ≤ limit → limit ≤ 2 ^ 40 → Stands (opened_session o (chunk_0 img o.place) v name limit) (opened_log img columns values)
+  opened_over x fits low high = over_any (λ m file. is_over img name size o m is file v x fits limit some low high)
+
+  pub started_over : o.header.dataset.layout.address ≡ undefined → IsBlankOf o.header.dataset.layout.index v → o.header.in_chunk_0 ≡ true → 1024 ≤ limit → limit ≤ 2 ^ 40
+      → Stands (opened_session o (chunk_0 img o.place) v name limit) (opened_log img columns values)
+  started_over absent made inside low high = over_any (λ m file. is_begun img name size o m is file v absent made inside limit some low high)

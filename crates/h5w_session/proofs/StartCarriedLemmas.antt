@@ -21,7 +21,7 @@ use Rattle.h5w_index.specs.Views.{IndexView, TakesKey, kind_of}
 use Rattle.h5w_index.specs.Depths.{AreWithin}
 use Rattle.h5w_index.specs.Steps.{IsPlan}
 use Rattle.h5w_index.specs.Placing.{AreInside, Fits, IsFullPart, IsPlacing}
-use Rattle.h5w_session.specs.Sessions.{ArePieces, IsSession, Session, bands_of, rows_of, with_rows}
+use Rattle.h5w_session.specs.Sessions.{ArePieces, IsSession, Session, most_bands, rows_of, with_rows}
 use Rattle.h5w_session.specs.Flushes.{ArePlanned}
 use Rattle.h5w_session.specs.Refusals.{IsStartFull, IsUnfilled, IsUnplaced}
 use Rattle.h5w_session.specs.Starts.{IsStartFlushed, IsStartedAt, naming_piece, started_of}
@@ -67,7 +67,7 @@ pub record StartCarried (v : Session) (to : ℕ) (t : Space) (w : IndexView) (ws
   pub named : IndexView
   pub placing : IsPlacing v.dataset to made first chunks added named between
   pub all : length chunks ≡ touched v.dataset v.dataset.shape.rows to
-  pub within : AreWithin (div_up to v.dataset.layout.chunk_rows) (chunks_across v.dataset) named
+  pub within : AreWithin (most_bands v.dataset) (chunks_across v.dataset) named
   pub cells : List ℕ
   pub cells_are : cells ≡ v.waiting
   pub rows : List Write
@@ -126,9 +126,6 @@ module _ (v : Session) (to : ℕ) (t : Space) (w : IndexView) (ws : List Write) 
   carried_small : t.end < 2 ^ 64
   carried_small = omega (arith, x.end_is, x.end_small)
 
-  carried_within : AreWithin (bands_of v) (chunks_across v.dataset) x.named
-  carried_within = subst (λ (n : ℕ). AreWithin (div_up n v.dataset.layout.chunk_rows) (chunks_across v.dataset) x.named) x.to_is x.within
-
   carried_joined : ws ≡ x.rows ++ (x.copies ++ (x.fixed ++ (x.supers ++ naming_piece v at ∷ [])))
   carried_joined =
       let rows = rows_of v in
@@ -149,17 +146,17 @@ module _ (v : Session) (to : ℕ) (t : Space) (w : IndexView) (ws : List Write) 
 
   pub start_carried_is : IsSession carried
   unfolding carried_planned
-  start_carried_is = subst IsSession (sym carried_after) (started_is v is at x.made x.first x.kind start_now x.absent t w ws carried_planned carried_small carried_within carried_joined x.header_short)
+  start_carried_is = subst IsSession (sym carried_after) (started_is v is at x.made x.first x.kind start_now x.absent t w ws carried_planned carried_small x.within carried_joined x.header_short)
 
   pub start_carried_pieces : ArePieces t.end ws
   unfolding carried_planned
-  start_carried_pieces = started_pieces v is at x.made x.first x.kind start_now x.absent t w ws carried_planned carried_small carried_within carried_joined x.header_short
+  start_carried_pieces = started_pieces v is at x.made x.first x.kind start_now x.absent t w ws carried_planned carried_small x.within carried_joined x.header_short
 
   pub start_carried_flushed : (s : Session) → v ≡ s → IsStartFlushed s carried
   unfolding carried_planned
   start_carried_flushed s e' =
       subst (λ (u : Session). IsStartFlushed u carried) e'
-      (subst (λ (u : Session). IsStartFlushed v u) (sym carried_after) (shown_started v is at x.made x.first x.kind start_now x.absent t w ws carried_planned carried_small carried_within carried_joined x.header_short))
+      (subst (λ (u : Session). IsStartFlushed v u) (sym carried_after) (shown_started v is at x.made x.first x.kind start_now x.absent t w ws carried_planned carried_small x.within carried_joined x.header_short))
 
 -- ---- A file that has no place
 

@@ -251,7 +251,7 @@ module _ (name : List ℕ) (log : Log) (m : Moment) (base first b t : Space) (at
         rests = record {
           kind = r.kind;
           at_place = r.at_place;
-          sound = record { index = r.index; half = r.half; defined = r.defined };
+          sound = record { index = r.index; filled = r.filled; defined = r.defined };
           stands = r.stands;
           stays = tt;
           fixed = r.fixed;

@@ -1,7 +1,6 @@
 -- What a first flush leaves is a session again, and what its calls show is such a flush.
 use Rattle.std.proofs.Common.{◌≡◌, ℕ, ◌+◌, ◌^◌, ◌<◌, ◌≤◌, List, [], ◌∷◌, ◌++◌, length, refl, sym, ◌∙◌, subst, arith}
 use Rattle.h5w_model.specs.Numbers.{undefined}
-use Rattle.h5w_model.specs.Logs.{div_up}
 use Rattle.h5w_model.specs.Tables.{chunks_across, needed}
 use Rattle.h5w_model.specs.Datasets.{Described}
 use Rattle.h5w_model.specs.declared.cell.Key.{Key}
@@ -12,7 +11,7 @@ use Rattle.h5w_header_laws.specs.Files.{with_index}
 use Rattle.h5w_index.specs.Views.{IndexView, TakesKey, an_array, a_tree, kind_of}
 use Rattle.h5w_index.specs.Depths.{AreWithin}
 use Rattle.h5w_index.specs.Placing.{AreInside, Fits}
-use Rattle.h5w_session.specs.Sessions.{ArePieces, IsSession, Session, bands_of, chunk_limit, rows_of, with_rows}
+use Rattle.h5w_session.specs.Sessions.{ArePieces, IsSession, Session, bands_of, chunk_limit, most_bands, rows_of, with_rows}
 use Rattle.h5w_session.specs.Flushes.{ArePlanned}
 use Rattle.h5w_session.specs.Starts.{IsStartFlushed, IsStartedAt, naming_piece, started_of}
 use Rattle.h5w_session.proofs.FlushedLemmas.{IsBefore, copies_pieces, fits_same, fits_then, fixed_pieces, held_then, inside_then, kind_then, limit_then, one_piece, pieces_joined, rises, rows_pieces, sound_then, supers_pieces, takes_keys, tops_then}
@@ -51,7 +50,7 @@ module _ (s : Session) (is : IsSession s) (at : ℕ) (made : IndexView) (first :
   abbrev begun : IsBefore s made first
   begun = record { kind = kind; rises = start.raised.rises; limit = start.raised.limit; inside = made_inside s.dataset first.end s.places at made first start; tops = start.inside }
 
-  module _ (t : Space) (w : IndexView) (ws : List Write) (x : ArePlanned s made first w t) (small : t.end < 2 ^ 64) (within : AreWithin (bands_of s) (chunks_across s.dataset) x.named)
+  module _ (t : Space) (w : IndexView) (ws : List Write) (x : ArePlanned s made first w t) (small : t.end < 2 ^ 64) (within : AreWithin (most_bands s.dataset) (chunks_across s.dataset) x.named)
       (pending : ws ≡ x.rows ++ (x.copies ++ (x.fixed ++ (x.supers ++ naming_piece s at ∷ [])))) (header_short : length s.header ≤ 512) where
     abbrev pub after : Session
     after = started_of s at t ws w
@@ -71,7 +70,7 @@ module _ (s : Session) (is : IsSession s) (at : ℕ) (made : IndexView) (first :
           kind = kind_then s is made first begun w t x;
           sound = sound_then s is made first begun w t x;
           fits = fits_then s is made first begun w t x;
-          held = subst (λ (n : ℕ). AreWithin (div_up n d.layout.chunk_rows) (chunks_across d) w) same (held_then s is made first begun w t x (bands_of s) (chunks_across d) within);
+          held = held_then s is made first begun w t x (most_bands d) (chunks_across d) within;
           header = named_writable s.header rows at is.header (is.addressed absent);
           addressed = λ none. absurd (header_defined made start.sound (start.at_place ∙ none));
           header_ends = omega (arith, named_length s.header rows at is.header (is.addressed absent), is.header_ends, far);

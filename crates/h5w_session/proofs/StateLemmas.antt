@@ -11,26 +11,20 @@ use Rattle.h5w_model.specs.Images.{AllSized}
 use Rattle.h5w_model.specs.Logs.{div_up}
 use Rattle.h5w_model.specs.Lawful.{first_outside}
 use Rattle.h5w_model.specs.Messages.{IsLayout}
-use Rattle.h5w_model.specs.Tables.{format_limits, limit_of, needed, chunks_across}
-use Rattle.h5w_model.specs.declared.cell.IndexKind.{IndexKind}
-use Rattle.h5w_model.specs.declared.cell.IndexKind.TheVariants.{Array, Tree}
+use Rattle.h5w_model.specs.Tables.{needed, chunks_across}
 use Rattle.h5w_model.specs.Superblock.{super_bytes}
 use Rattle.h5w_model.specs.declared.root.Super.{Super}
 use Rattle.h5w_model.specs.declared.piece.Write.{Write}
 use Rattle.h5w_chunks.specs.Grids.{cells_of}
 use Rattle.h5w_chunks.proofs.Geometry.{up_lt, lt_up, ceil_is_up}
-use Rattle.h5w_index.proofs.DepthLemmas.{depth_laws}
-use Rattle.h5w_session.specs.Sessions.{Session, IsSession, AllEndBy, AfterPiece, AreRows, bands_of, cleared, closed_of, chunk_limit, chunks_with, rows_of, row_bytes, stopped_of, with_rows, with_values}
+use Rattle.h5w_session.specs.Sessions.{Session, IsSession, AllEndBy, AfterPiece, AreRows, cleared, closed_of, chunk_limit, chunks_with, rows_of, row_bytes, stopped_of, with_rows, with_values}
 use Rattle.h5w_session.specs.Refusals.{append_refusal, chunks_refusal}
 use Rattle.h5w_session.specs.declared.refusal.AppendError.{AppendError}
 use Rattle.h5w_session.specs.declared.refusal.AppendError.TheVariants as appends
+use Rattle.h5w_session.proofs.TakingLemmas.{limit_top}
 use Rattle.h5w_types.proofs.RunLemmas.{length-run_bytes}
 
 -- ---- How many rows and chunks there can be
-
-limit_top : (k : IndexKind) → limit_of format_limits k ≤ 1000000
-limit_top Array = omega arith
-limit_top Tree = omega arith
 
 -- a number that is part of a product is no greater
 part_of : (a b limit : ℕ) → 1 ≤ b → a * b ≤ limit → a ≤ limit
@@ -56,17 +50,6 @@ up_few n per some =
       | inl more ↦
           let past : n * per < n = up_lt n n per some more in
           let times : n * 1 ≤ n * per = mul-le n 1 n per (omega arith) (omega arith) in
-          absurd (omega arith)
-      | inr few ↦ few
-    ]
-
--- of more no fewer
-pub up_rises : (n more per : ℕ) → 0 < per → n ≤ more → div_up n per ≤ div_up more per
-up_rises n more per some less =
-    elim (cases_lt (div_up more per) (div_up n per)) [
-      | inl past ↦
-          let below : div_up more per * per < n = up_lt (div_up more per) n per some past in
-          let whole : more ≤ div_up more per * per = up_at_most more per (div_up more per) some (omega arith) in
           absurd (omega arith)
       | inr few ↦ few
     ]
@@ -211,8 +194,8 @@ not_refused s values chunks limit running idle inside is top few =
 
 -- ---- What holds of every session is kept
 
-pub values_is : (s : Session) (values : List ℤ) → 0 < s.dataset.layout.chunk_rows → IsSession s → AreRows s values → Accepted s values → IsSession (with_values s values)
-values_is s values wide is rows by =
+pub values_is : (s : Session) (values : List ℤ) → IsSession s → AreRows s values → Accepted s values → IsSession (with_values s values)
+values_is s values is rows by =
     let more = length values / s.dataset.shape.cols in
     let cells : length (s.waiting ++ cells_of s.dataset values) ≡ length s.waiting + length values * s.dataset.int_type.size =
     length-append s.waiting (cells_of s.dataset values) ∙ ap (λ (n : ℕ). length s.waiting + n) (length-run_bytes s.dataset.int_type 0 values by.fit) in
@@ -230,7 +213,7 @@ values_is s values wide is rows by =
       kind = is.kind;
       sound = is.sound;
       fits = is.fits;
-      held = depth_laws.more (bands_of s) (chunks_across s.dataset) (bands_of (with_values s values)) s.index (up_rises (rows_of s) (rows_of (with_values s values)) s.dataset.layout.chunk_rows wide (omega arith)) is.held;
+      held = is.held;
       header = is.header;
       addressed = is.addressed;
       header_ends = is.header_ends;

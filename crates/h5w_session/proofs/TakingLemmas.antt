@@ -5,14 +5,16 @@ use Rattle.std.specs.Option.{IfSome, option_map, unwrap_or}
 use Rattle.std.proofs.lemmas.List.{length-replicate}
 use Rattle.std.proofs.lemmas.Bool.{cases_eq, cases_lt, eq-eqb, lt-ltb, ne_eqb}
 use Rattle.std.specs.Prelude.{List}
-use Rattle.std.proofs.lemmas.Nat.{mul-le}
+use Rattle.std.proofs.lemmas.Nat.{div-add-mod', mul-le}
 use Rattle.h5w_model.specs.Integers.{cell_bytes}
 use Rattle.h5w_model.specs.Logs.{div_up}
 use Rattle.h5w_model.specs.Numbers.{undefined}
 use Rattle.h5w_model.specs.Datasets.{Described}
-use Rattle.h5w_model.specs.Tables.{chunks_across, key_equal}
+use Rattle.h5w_model.specs.Tables.{chunks_across, format_limits, key_equal, limit_of}
 use Rattle.h5w_model.specs.declared.cell.Cell.{Cell}
 use Rattle.h5w_model.specs.declared.cell.Key.{Key}
+use Rattle.h5w_model.specs.declared.cell.IndexKind.{IndexKind}
+use Rattle.h5w_model.specs.declared.cell.IndexKind.TheVariants.{Array, Tree}
 use Rattle.h5w_model.proofs.IntegerLemmas.{int_size_bounds}
 use Rattle.h5w_chunks.specs.Grids.{IsGrid, chunk_len, dataset_of, fill_cell}
 use Rattle.h5w_chunks.specs.Shares.{touched, touched_key}
@@ -35,6 +37,7 @@ use Rattle.h5w_bt_index.proofs.Keys.{equal-is}
 use Rattle.h5w_flush_laws.proofs.NewChunkLemmas.{one_number}
 use Rattle.h5w_space.specs.Space.{Space}
 use Rattle.h5w_session.specs.Refusals.{IsSpace, plan_fault}
+use Rattle.h5w_session.specs.Sessions.{most_bands}
 use Rattle.h5w_session.specs.declared.refusal.FlushError.{FlushError}
 use Rattle.h5w_session.specs.declared.refusal.FlushError.TheVariants as flushes
 
@@ -122,6 +125,18 @@ key_in d from to k cut known =
       column = lt_up (touched_key d from k).j d.shape.cols d.layout.chunk_cols cut.cols n.column;
       start = n.band;
     }
+
+-- ---- The bands of a dataset's chunks
+
+pub limit_top : (k : IndexKind) → limit_of format_limits k ≤ 1000000
+limit_top Array = omega arith
+limit_top Tree = omega arith
+
+-- the chunks of the most bands are few
+pub most_few : (d : Described) → most_bands d * chunks_across d ≤ 1000000
+most_few d =
+    let parts = div-add-mod' (limit_of format_limits d.layout.index) (chunks_across d) in
+    omega (arith, parts, limit_top d.layout.index)
 
 pub not_deep : (bands across : ℕ) (key : Key) (v : IndexView) → IsSound v → AreWithin bands across v → bands * across ≤ 1000000 → IsDeep v key → ⊥
 not_deep bands across key v sound within few deep = depth_laws.shallow bands across key v sound within (omega arith) deep

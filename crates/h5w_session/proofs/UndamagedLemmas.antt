@@ -22,7 +22,7 @@ use Rattle.h5w_array_laws.proofs.NumberLemmas.{numbers_in-get}
 use Rattle.h5w_ea_index.specs.Opened.{IsDamaged, Refuses, address_on, index_on, named_on, refusal, refused_on, secondary_on}
 
 -- a block that was visited ends by the end
-block_there : (img : List ℕ) (end place n : ℕ) (visit : List ℕ → Visited) → HasAnswer (eval img (block_in end place n visit)) → (place + n ≤ end) × HasAnswer (eval img (visit (range img place n)))
+pub block_there : (img : List ℕ) (end place n : ℕ) (visit : List ℕ → Visited) → HasAnswer (eval img (block_in end place n visit)) → (place + n ≤ end) × HasAnswer (eval img (visit (range img place n)))
 block_there img end place n visit (us, h) =
     cond_both (nat_lt end (place + n)) (ret (Err (found 18 place)))
     (whole place n (λ b. and_then (visit b) (λ us. ret (Ok (record { place = place; len = n; chunk = false } ∷ us)))))
@@ -190,12 +190,14 @@ module _ (img : List ℕ) (end bytes top : ℕ) (h : HasAnswer (eval img (array_
   part_read index_block is ne = (index_read (ne (λ e. absurd cc))).at
   part_read header is ne = head_sound
 
--- the visit of an index is that of its array
-array_of : (img : List ℕ) (end : ℕ) (d : Described) → HasAnswer (eval img (index_visit end d)) → d.layout.index ≡ Array → d.layout.address ≢ undefined → HasAnswer (eval img (array_visit end (chunk_bytes d) d.layout.address))
-array_of img end d h kind ne =
-    let by_kind : IndexKind → Visited = λ k. elim k as (λ _. Visited) [ Array ↦ array_visit end (chunk_bytes d) d.layout.address | Tree ↦ tree_visit end (chunk_bytes d) d.layout.address ] in
-    let there = placed img d.layout.address (by_kind d.layout.index) ne h in
-    subst (λ k. HasAnswer (eval img (by_kind k))) kind there
+-- the visit of an index is that of its kind
+abbrev pub visit_by : ℕ → Described → IndexKind → Visited
+visit_by end d k = elim k as (λ _. Visited) [ Array ↦ array_visit end (chunk_bytes d) d.layout.address | Tree ↦ tree_visit end (chunk_bytes d) d.layout.address ]
+
+pub visit_of : (img : List ℕ) (end : ℕ) (d : Described) (k : IndexKind) → HasAnswer (eval img (index_visit end d)) → d.layout.index ≡ k → d.layout.address ≢ undefined → HasAnswer (eval img (visit_by end d k))
+visit_of img end d k h kind ne =
+    let there = placed img d.layout.address (visit_by end d d.layout.index) ne h in
+    subst (λ (x : IndexKind). HasAnswer (eval img (visit_by end d x))) kind there
 
 not_refused : (img : List ℕ) (end first : ℕ) (k : Part) (place : ℕ) (f : BlockFault) → IsSoundAt img end k place → Refuses img first k place f → ⊥
 not_refused img end first k place f s refused = let e : Some f ≡ None = sym refused.1 ∙ s.sound in absurd cc
@@ -205,8 +207,8 @@ pub undamaged : (img : List ℕ) (end first at : ℕ) (d : Described) (f : Block
 undamaged img end first at d f h kind ne bad =
     let named : bad.k ≢ header → named_on img d.layout.address bad.k ≢ undefined = λ other e. bad.placed other (sym bad.named ∙ e) in
     not_refused img end first bad.k at f
-    (subst (IsSoundAt img end bad.k) bad.named (part_read img end (chunk_bytes d) d.layout.address (array_of img end d h kind ne) bad.k bad.part named)) bad.is
+    (subst (IsSoundAt img end bad.k) bad.named (part_read img end (chunk_bytes d) d.layout.address (visit_of img end d Array h kind ne) bad.k bad.part named)) bad.is
 
 -- the header of an array ends by the end
-pub head_ends : (img : List ℕ) (end : ℕ) (d : Described) → HasAnswer (eval img (index_visit end d)) → d.layout.index ≡ Array → d.layout.address ≢ undefined → d.layout.address + 72 ≤ end
-head_ends img end d h kind ne = (part_read img end (chunk_bytes d) d.layout.address (array_of img end d h kind ne) header tt (λ other. absurd (other refl))).ends
+pub array_ends : (img : List ℕ) (end : ℕ) (d : Described) → HasAnswer (eval img (index_visit end d)) → d.layout.index ≡ Array → d.layout.address ≢ undefined → d.layout.address + eahd_len ≤ end
+array_ends img end d h kind ne = (part_read img end (chunk_bytes d) d.layout.address (visit_of img end d Array h kind ne) header tt (λ other. absurd (other refl))).ends

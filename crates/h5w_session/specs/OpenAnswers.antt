@@ -1,25 +1,31 @@
 -- What is answered where a file is opened.
-use Rattle.std.specs.Prelude.{◌≡◌, ◌≢◌, ℕ, ◌+◌, ◌-◌, ◌*◌, ◌/◌, ◌%◌, false, List, [], ◌∷◌, Option, Some, None, Result, Ok, Err, ◌⊎◌}
+use Rattle.std.specs.Prelude.{◌≡◌, ◌≢◌, ℕ, ◌+◌, ◌-◌, ◌*◌, ◌/◌, ◌%◌, true, false, List, [], ◌∷◌, Option, Some, None, Result, Ok, Err, ◌⊎◌}
 use Rattle.h5w_model.specs.Numbers.{undefined}
 use Rattle.h5w_model.specs.Programs.{eval}
 use Rattle.h5w_model.specs.Datasets.{Described}
 use Rattle.h5w_model.specs.Superblock.{super_bytes}
+use Rattle.h5w_model.specs.Tables.{chunks_across}
+use Rattle.h5w_model.specs.declared.cell.IndexKind.{IndexKind}
 use Rattle.h5w_model.specs.declared.cell.IndexKind.TheVariants.{Array, Tree}
 use Rattle.h5w_model.specs.declared.refusal.BlockFault.{BlockFault}
 use Rattle.h5w_model.specs.declared.refusal.ReadError.TheVariants.{Damaged}
 use Rattle.h5w_header_laws.specs.Files.{chunk_0}
 use Rattle.h5w_cache.specs.Stores.{Store}
 use Rattle.h5w_array_laws.specs.ArrayStores.{IsArray, header_place, IsCreated}
-use Rattle.h5w_index.specs.Views.{IndexView, an_array}
+use Rattle.h5w_bt_index.specs.Marks.{clean_of}
+use Rattle.h5w_bt_index.specs.Index.{Index, no_tree}
+use Rattle.h5w_bt_open.specs.Kept.{IsKeptTree, IsOtherTree}
+use Rattle.h5w_bt_open.specs.Opened.{IsRefused, from_key, looked_in}
+use Rattle.h5w_bt_open.specs.Spans.{Leads}
+use Rattle.h5w_index.specs.Views.{IndexView, an_array, a_tree}
 use Rattle.h5w_ea_index.specs.Opened.{IsDamaged, IsOpened, NamesNone}
 use Rattle.h5w_opening.specs.Errors.{refusal_of}
 use Rattle.h5w_opening.specs.Openings.{Opened, looked_for}
 use Rattle.h5w_opening.specs.declared.error.OpenError.{OpenError}
 use Rattle.h5w_opening.specs.declared.error.OpenError.TheVariants.{Read}
-use Rattle.h5w_session.specs.OpenRanges.{first_open, refused_open}
+use Rattle.h5w_session.specs.OpenRanges.{first_key, first_open, refused_open}
 use Rattle.h5w_session.specs.Openings.{flagged}
-use Rattle.h5w_session.specs.Sessions.{Session}
-use Rattle.h5w_starting_laws.specs.Starting.{IsUnnamed}
+use Rattle.h5w_session.specs.Sessions.{Session, most_bands}
 
 -- ---- The index
 
@@ -32,29 +38,51 @@ pub record IsArrayOf (img : List ℕ) (d : Described) (v : Store) : Type 0 where
   pub clean : v.changed ≡ []
   pub opened : IsOpened img (first_open d) v
 
--- the index is a tree, or a header that names no index block
-pub data HasNoArray (img : List ℕ) (d : Described) : Type 0 where
-  tree : d.layout.index ≡ Tree → HasNoArray img d
-  empty : d.layout.index ≡ Array → d.layout.address ≢ undefined → NamesNone img d.layout.address → HasNoArray img d
+-- the tree that the dataset names, as it is opened from the first key of that band on, and kept: its keys are those of chunks that the
+-- dataset can have
+pub record IsTreeOf (img : List ℕ) (d : Described) (place : ℕ) (v : Index) : Type 0 where
+  pub kind : d.layout.index ≡ Tree
+  pub named : d.layout.address ≢ undefined
+  pub at : place ≡ d.layout.address
+  pub clean : clean_of v.depth v.root ≡ true
+  pub tree : IsKeptTree img place (first_key d) (most_bands d) (chunks_across d) v
 
-abbrev pub IsIndexOf : List ℕ → Described → Option Store → Type 0
-IsIndexOf img d (Some v) = IsArrayOf img d v
-IsIndexOf img d None = IsUnnamed d ⊎ HasNoArray img d
+-- the index is a tree that is not kept, or the header of an array that names no index block
+pub data HasNoIndex (img : List ℕ) (d : Described) : Type 0 where
+  tree : d.layout.index ≡ Tree → d.layout.address ≢ undefined → IsOtherTree img d.layout.address (first_key d) (most_bands d) (chunks_across d) → HasNoIndex img d
+  empty : d.layout.index ≡ Array → d.layout.address ≢ undefined → NamesNone img d.layout.address → HasNoIndex img d
 
--- the array that a session begins with: the file's, or a blank one where the layout names none
-abbrev pub IsKeptArray : Option Store → Store → Type 0
-IsKeptArray (Some v) w = w ≡ v
-IsKeptArray None w = IsCreated 0 0 w
+abbrev pub IsIndexOf : List ℕ → Described → Option IndexView → Type 0
+IsIndexOf img d (Some (an_array v)) = IsArrayOf img d v
+IsIndexOf img d (Some (a_tree place v)) = IsTreeOf img d place v
+IsIndexOf img d None = (d.layout.address ≡ undefined) ⊎ HasNoIndex img d
+
+-- an index of a kind without chunks, of which nothing stands anywhere
+abbrev pub IsBlankOf : IndexKind → IndexView → Type 0
+IsBlankOf Array (an_array v) = IsCreated 0 0 v
+IsBlankOf Tree (a_tree place v) = (place ≡ 0) × (v ≡ no_tree)
+IsBlankOf Array (a_tree place v) = ⊥
+IsBlankOf Tree (an_array v) = ⊥
+
+-- the index that a session begins with: the file's, or a blank one of its kind where the layout names none
+abbrev pub IsKeptIndexOf : Described → Option IndexView → IndexView → Type 0
+IsKeptIndexOf d (Some v) w = w ≡ v
+IsKeptIndexOf d None w = IsBlankOf d.layout.index w
 
 -- ---- Refusals
 
--- Why a file of these bytes is not opened: something before the index; the first block of the index that is refused; or, once all was read,
--- a range or the dataset.
+-- A block of the index that the dataset names is refused: the first of an array's, from the last committed band on; of a tree's, that which
+-- the least key from there on meets of all whose lookup is refused.
+pub data IsBadBlock (img : List ℕ) (d : Described) (at : ℕ) (f : BlockFault) : Type 0 where
+  array : d.layout.index ≡ Array → d.layout.address ≢ undefined → IsDamaged img d.layout.address (first_open d) at f → IsBadBlock img d at f
+  tree : d.layout.index ≡ Tree → d.layout.address ≢ undefined → IsRefused (looked_in img d.layout.address) (Leads (from_key (first_key d))) at f → IsBadBlock img d at f
+
+-- Why a file of these bytes is not opened: something before the index; a block of the index that is refused; or, once all was read, a range
+-- or the dataset.
 pub data IsNotOpened (img : List ℕ) (size : ℕ) (name : List ℕ) : OpenError → Type 0 where
   unfound : (e : OpenError) → eval img (looked_for size name) ≡ Err e → IsNotOpened img size name e
-  damaged : (o : Opened) (at : ℕ) (f : BlockFault) → eval img (looked_for size name) ≡ Ok o → o.header.dataset.layout.index ≡ Array → o.header.dataset.layout.address ≢ undefined
-      → IsDamaged img o.header.dataset.layout.address (first_open o.header.dataset) at f → IsNotOpened img size name (Read (Damaged at f))
-  refused : (o : Opened) (a : Option Store) (e : OpenError) → eval img (looked_for size name) ≡ Ok o → IsIndexOf img o.header.dataset a → refused_open o a ≡ Some e → IsNotOpened img size name e
+  damaged : (o : Opened) (at : ℕ) (f : BlockFault) → eval img (looked_for size name) ≡ Ok o → IsBadBlock img o.header.dataset at f → IsNotOpened img size name (Read (Damaged at f))
+  refused : (o : Opened) (a : Option IndexView) (e : OpenError) → eval img (looked_for size name) ≡ Ok o → IsIndexOf img o.header.dataset a → refused_open o a ≡ Some e → IsNotOpened img size name e
 
 -- ---- The session
 
@@ -88,12 +116,12 @@ opened_session o header v name limit = flagged (writing_flags o.root.flags) fals
 pub record IsOpenedOver (img : List ℕ) (size : ℕ) (name : List ℕ) (limit : ℕ) (s : Session) : Type 0 where
   pub found : Opened
   pub is : eval img (looked_for size name) ≡ Ok found
-  pub index : Option Store
+  pub index : Option IndexView
   pub is_index : IsIndexOf img found.header.dataset index
   pub unrefused : refused_open found index ≡ None
-  pub array : Store
-  pub kept : IsKeptArray index array
-  pub session : s ≡ opened_session found (chunk_0 img found.place) (an_array array) name limit
+  pub kept : IndexView
+  pub is_kept : IsKeptIndexOf found.header.dataset index kept
+  pub session : s ≡ opened_session found (chunk_0 img found.place) kept name limit
 
 -- ---- The answer
 

@@ -8,16 +8,17 @@ use Rattle.h5w_model.specs.declared.refusal.ReadError.TheVariants.{Header}
 use Rattle.h5w_opening.specs.Openings.{Opened, is_open, looked_for, refused_dataset}
 use Rattle.h5w_opening.specs.declared.error.OpenError.{OpenError}
 use Rattle.h5w_opening.specs.declared.error.OpenError.TheVariants.{Read, Flags, Index}
-use Rattle.h5w_session.specs.OpenAnswers.{HasNoArray, IsNotOpened, writing_flags}
+use Rattle.h5w_session.specs.OpenAnswers.{HasNoIndex, IsNotOpened, writing_flags}
 use Rattle.h5w_session.specs.Sessions.{cleared}
 
 -- Why a valid file is not opened: it is open, or was not closed; a header has a message that asks to be known where the file is written; or,
--- of what was found, the layout stands outside of chunk 0, a chunk is too large, there is no column, or the index is a tree or an array's header without an index block.
+-- of what was found, the layout stands outside of chunk 0, a chunk is too large, there is no column, or the index is a tree that is not kept or an
+-- array's header without an index block.
 pub data IsLeft (img : List ℕ) (size : ℕ) (name : List ℕ) : OpenError → Type 0 where
   open_already : (flags : ℕ) → is_open flags ≡ true → IsLeft img size name (Flags flags)
   unknown : (at kind : ℕ) → eval img (looked_for size name) ≡ Err (Read (Header at (Unknown kind))) → IsLeft img size name (Read (Header at (Unknown kind)))
   dataset : (o : Opened) (e : OpenError) → eval img (looked_for size name) ≡ Ok o → refused_dataset o ≡ Some e → IsLeft img size name e
-  index : (o : Opened) → eval img (looked_for size name) ≡ Ok o → HasNoArray img o.header.dataset → IsLeft img size name Index
+  index : (o : Opened) → eval img (looked_for size name) ≡ Ok o → HasNoIndex img o.header.dataset → IsLeft img size name Index
 
 pub record OpenLaws : Type 0 where
   -- a valid file is refused by nothing else

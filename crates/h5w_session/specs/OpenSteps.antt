@@ -6,28 +6,39 @@ use Rattle.h5w_model.specs.Programs.{eval}
 use Rattle.h5w_model.specs.Datasets.{Described, dataspace_kind, layout_kind}
 use Rattle.h5w_model.specs.declared.message.Msg.{Msg}
 use Rattle.h5w_model.specs.Messages.{IsIntType, IsLayout, IsShape}
-use Rattle.h5w_model.specs.declared.cell.IndexKind.TheVariants.{Array}
+use Rattle.h5w_model.specs.declared.cell.IndexKind.TheVariants.{Array, Tree}
 use Rattle.h5w_model.specs.declared.refusal.BlockFault.{BlockFault}
 use Rattle.h5w_model.specs.declared.refusal.ReadError.TheVariants.{Damaged}
 use Rattle.h5w_image.specs.View.{ImageView, Looked}
 use Rattle.h5w_looks.specs.Still.{IsStill}
 use Rattle.h5w_header_laws.specs.Files.{chunk_0}
 use Rattle.h5w_cache.specs.Stores.{Store}
-use Rattle.h5w_array_laws.specs.ArrayStores.{IsArray, header_place, IsCreated}
-use Rattle.h5w_ea_index.specs.Opened.{IsDamaged}
+use Rattle.h5w_array_laws.specs.ArrayStores.{IsArray, header_place}
+use Rattle.h5w_bt_index.specs.Marks.{clean_of}
+use Rattle.h5w_bt_index.specs.Index.{Index}
+use Rattle.h5w_bt_open.specs.Kept.{IsKept}
+use Rattle.h5w_bt_open.specs.declared.error.OpenTreeError.{OpenTreeError}
+use Rattle.h5w_bt_open.specs.declared.error.OpenTreeError.TheVariants as tree_errors
+use Rattle.h5w_index.specs.Views.{IndexView, an_array, a_tree}
 use Rattle.h5w_ea_index.specs.declared.error.OpenArrayError.{OpenArrayError}
 use Rattle.h5w_ea_index.specs.declared.error.OpenArrayError.TheVariants as array_errors
 use Rattle.h5w_opening.specs.Errors.{refusal_of}
 use Rattle.h5w_opening.specs.Openings.{IsFound, Opened, looked_for}
 use Rattle.h5w_opening.specs.declared.error.OpenError.{OpenError}
 use Rattle.h5w_opening.specs.declared.error.OpenError.TheVariants.{Read, Failed, OutOfMemory}
-use Rattle.h5w_session.specs.OpenRanges.{first_open, refused_open, is_starting}
-use Rattle.h5w_session.specs.OpenAnswers.{IfRefusal, IsIndexOf, IsKeptArray}
-use Rattle.h5w_session.specs.Sessions.{IsWritable, HasAddress}
-use Rattle.h5w_starting_laws.specs.Starting.{IsUnnamed}
+use Rattle.h5w_session.specs.OpenRanges.{refused_open, is_starting}
+use Rattle.h5w_session.specs.OpenAnswers.{IfRefusal, IsBadBlock, IsBlankOf, IsIndexOf, IsKeptIndexOf}
+use Rattle.h5w_session.specs.Sessions.{IsWritable, HasAddress, most_bands}
+use Rattle.h5w_model.specs.Tables.{chunks_across}
 use Rattle.h5w_model.specs.Headers.{index_address_place}
 
--- why an array is not opened, as why a file is not
+-- why a tree is not opened, as why a file is not
+abbrev pub tree_error : OpenTreeError → OpenError
+tree_error (tree_errors.Damaged at f) = Read (Damaged at f)
+tree_error tree_errors.Failed = Failed
+tree_error tree_errors.OutOfMemory = OutOfMemory
+
+-- and why an array is not
 abbrev pub array_error : OpenArrayError → OpenError
 array_error (array_errors.Damaged at f) = Read (Damaged at f)
 array_error array_errors.Failed = Failed
@@ -43,13 +54,11 @@ pub record OpenStep {A : Type 0} (v w : ImageView) (P : List ℕ → A → Type 
   pub cause : answer ≡ Err Failed → Rose v.faults w.faults
   pub exact : (img : List ℕ) → IsStill v img → Says (P img) (Q img) answer
 
--- the array that the dataset names is refused at its first block that is
+-- a block of the index that the dataset names is refused
 pub record IsBadIndex (img : List ℕ) (d : Described) (e : OpenError) : Type 0 where
-  pub kind : d.layout.index ≡ Array
-  pub named : d.layout.address ≢ undefined
   pub at : ℕ
   pub fault : BlockFault
-  pub damaged : IsDamaged img d.layout.address (first_open d) at fault
+  pub bad : IsBadBlock img d at fault
   pub is : e ≡ Read (Damaged at fault)
 
 -- an array that was read is the one that the dataset names, and no block of it changed
@@ -60,12 +69,24 @@ pub record IsNamedArray (d : Described) (v : Store) : Type 0 where
   pub array : IsArray v
   pub clean : v.changed ≡ []
 
-abbrev pub IfNamedArray : Described → Option Store → Type 0
-IfNamedArray d (Some v) = IsNamedArray d v
-IfNamedArray d None = Unit {0}
+-- and so is a tree
+pub record IsNamedTree (d : Described) (place : ℕ) (v : Index) : Type 0 where
+  pub kind : d.layout.index ≡ Tree
+  pub named : d.layout.address ≢ undefined
+  pub at : place ≡ d.layout.address
+  pub kept : IsKept (most_bands d) (chunks_across d) v
+  pub clean : clean_of v.depth v.root ≡ true
+
+abbrev pub IsNamedIndex : Described → IndexView → Type 0
+IsNamedIndex d (an_array v) = IsNamedArray d v
+IsNamedIndex d (a_tree place v) = IsNamedTree d place v
+
+abbrev pub IfNamedIndex : Described → Option IndexView → Type 0
+IfNamedIndex d (Some v) = IsNamedIndex d v
+IfNamedIndex d None = Unit {0}
 
 -- what a file has, and its index
-pub record IsFoundIn (img : List ℕ) (size : ℕ) (name : List ℕ) (o : Opened) (a : Option Store) : Type 0 where
+pub record IsFoundIn (img : List ℕ) (size : ℕ) (name : List ℕ) (o : Opened) (a : Option IndexView) : Type 0 where
   pub is : eval img (looked_for size name) ≡ Ok o
   pub index : IsIndexOf img o.header.dataset a
 
@@ -92,20 +113,20 @@ pub record IsCut (d : Described) : Type 0 where
   pub chunked : IsLayout d.layout d.shape d.int_type
   pub filled : IfSome d.fill.value (λ (b : List ℕ). length b ≡ d.int_type.size)
 
--- the array that is kept: that which the layout names, or a blank one where it names none
-abbrev pub IsReadyArray : Described → Option Store → Store → Type 0
-IsReadyArray d (Some u) v = IsNamedArray d u × (v ≡ u)
-IsReadyArray d None v = IsUnnamed d × IsCreated 0 0 v
+-- the index that is kept: that which the layout names, or a blank one of its kind where it names none
+abbrev pub IsReadyIndex : Described → Option IndexView → IndexView → Type 0
+IsReadyIndex d (Some u) v = IsNamedIndex d u × (v ≡ u)
+IsReadyIndex d None v = (d.layout.address ≡ undefined) × IsBlankOf d.layout.index v
 
 -- chunk 0 can be written with rows, and where it is asked for with an index address
 abbrev pub IsKeptHeader : Bool → List ℕ → Type 0
 IsKeptHeader starts b = IsWritable b × (starts ≡ true → HasAddress b)
 
 -- what a session over a file that is there begins with, whatever the image is
-pub record IsReady (o : Opened) (header : List ℕ) (v : Store) : Type 0 where
+pub record IsReady (o : Opened) (header : List ℕ) (v : IndexView) : Type 0 where
   pub found : IsFound o
-  pub index : Option Store
-  pub array : IsReadyArray o.header.dataset index v
+  pub index : Option IndexView
+  pub ready : IsReadyIndex o.header.dataset index v
   pub unrefused : refused_open o index ≡ None
   pub header_kept : IsKeptHeader (is_starting o.header.dataset) header
   pub few : length header ≤ o.header.len
@@ -115,10 +136,10 @@ abbrev pub versioned : Opened → Opened
 versioned o = record o { root = record (o.root) { version = 3 } }
 
 -- all of a file that is opened, where nothing refuses it
-pub record IsOpenedFile (img : List ℕ) (size : ℕ) (name : List ℕ) (o : Opened) (header : List ℕ) (v : Store) : Type 0 where
+pub record IsOpenedFile (img : List ℕ) (size : ℕ) (name : List ℕ) (o : Opened) (header : List ℕ) (v : IndexView) : Type 0 where
   pub is : eval img (looked_for size name) ≡ Ok o
-  pub index : Option Store
+  pub index : Option IndexView
   pub is_index : IsIndexOf img o.header.dataset index
   pub unrefused : refused_open o index ≡ None
-  pub array : IsKeptArray index v
+  pub is_kept : IsKeptIndexOf o.header.dataset index v
   pub kept : header ≡ chunk_0 img o.place

@@ -58,6 +58,10 @@ cutting_of s = record {
 abbrev pub chunks_with : Session → ℕ → ℕ
 chunks_with s more = needed (with_rows (rows_of s + more) s.dataset)
 
+-- the most bands of chunks that a dataset's index can have
+abbrev pub most_bands : Described → ℕ
+most_bands d = limit_of format_limits d.layout.index / chunks_across d
+
 -- the most chunks of the dataset's index
 abbrev pub chunk_limit : Session → ℕ
 chunk_limit s = limit_of format_limits s.dataset.layout.index
@@ -106,8 +110,8 @@ pub record IsSession (s : Session) : Type 0 where
   pub kind : s.dataset.layout.index ≡ kind_of s.index
   pub sound : IsSound s.index
   pub fits : Fits s.dataset s.index
-  -- places are held in it for chunks of the rows alone
-  pub held : AreWithin (bands_of s) (chunks_across s.dataset) s.index
+  -- its places are for chunks that the dataset can have
+  pub held : AreWithin (most_bands s.dataset) (chunks_across s.dataset) s.index
   pub header : IsWritable s.header
   -- where the layout names no index yet its address can be written with the rows
   pub addressed : s.dataset.layout.address ≡ undefined → HasAddress s.header

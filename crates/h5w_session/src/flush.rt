@@ -30,7 +30,7 @@ ghost use Rattle.h5w_visits.specs.Ranges.{block_at};
 ghost use Rattle.h5w_flush_laws.specs.Spaces.{Taken};
 ghost use Rattle.h5w_session.specs.Refusals.{IsArrayUnplaced, IsFullFor, IsSpace, IsStartFull, IsUnplaced, flush_refusal};
 ghost use Rattle.h5w_session.specs.Room.{HasRoomFor, chunk_pieces, most_pieces, own_pieces};
-ghost use Rattle.h5w_session.specs.Sessions.{AllEndBy, IsNamed, TakesRows, cutting_of, option_list, rows_of};
+ghost use Rattle.h5w_session.specs.Sessions.{AllEndBy, IsNamed, TakesRows, cutting_of, most_bands, option_list, rows_of};
 ghost use Rattle.h5w_session.specs.Stands.{Stands};
 ghost use Rattle.h5w_session.specs.declared.refusal.FlushError.{FlushError};
 
@@ -133,6 +133,20 @@ fn chunk_pieces(grid: &Grid, to: u64, k: u64, place: &ChunkPlace) -> u64
     }
 }
 
+/// How many pieces the writes of rows that all go into a chunk with this place have at most: it has all columns of the dataset.
+fn alone_pieces(grid: &Grid, to: u64, place: &ChunkPlace) -> u64
+    requires grid { IsGrid grid.now }
+    requires order { grid.now.shape.rows ≤ to }
+    requires all { touched (dataset_of grid.now) grid.now.shape.rows to ≡ 1 }
+    ensures { result ≡ chunk_pieces (dataset_of grid.now) grid.now.shape.rows to 0 place.now }
+{
+    if place.stored {
+        own_pieces(grid, to, grid.shape.cols)
+    } else {
+        grid.chunk_len().div_ceil(PIECE as u64)
+    }
+}
+
 /// How many pieces the writes of the new rows have at most, whose chunks have these places.
 fn most_pieces(grid: &Grid, to: u64, places: &[ChunkPlace]) -> Option<usize>
     requires grid { IsGrid grid.now }
@@ -185,19 +199,19 @@ fn prepare<W: PieceWrite>(
     requires grid { IsGrid grid.now }
     requires order { grid.now.shape.rows < to }
     requires room { (to - grid.now.shape.rows) * grid.now.shape.cols < 2 ^ 64 }
-    requires few { div_up to grid.now.layout.chunk.0 * chunks_across (dataset_of grid.now) ≤ 1000000 }
+    requires few { div_up to grid.now.layout.chunk.0 ≤ most_bands (dataset_of grid.now) }
     requires count { length cells.now ≡ (to - grid.now.shape.rows) * grid.now.shape.cols * grid.now.int_type.size }
     requires sound { IsSound (view_of index.old) }
     requires fits { Fits (dataset_of grid.now) (view_of index.old) }
     requires takes { (key : Key) → key.i < div_up to grid.now.layout.chunk.0 → TakesKey (view_of index.old) key }
-    requires within { AreWithin (div_up to grid.now.layout.chunk.0) (chunks_across (dataset_of grid.now)) (view_of index.old) }
+    requires within { AreWithin (most_bands (dataset_of grid.now)) (chunks_across (dataset_of grid.now)) (view_of index.old) }
     requires inside { AreInside (dataset_of grid.now) taking.old.places.end (view_of index.old) }
     requires small { taking.old.places.end < 2 ^ 64 }
     requires limit { taking.old.places.limit ≤ 2 ^ 40 }
     requires no_chunks { taking.old.chunks.items ≡ [] }
     requires none_added { taking.old.added.items ≡ [] }
     ensures sound { IsSound (view_of index.new) }
-    ensures within { AreWithin (div_up to grid.now.layout.chunk.0) (chunks_across (dataset_of grid.now)) (view_of index.new) }
+    ensures within { AreWithin (most_bands (dataset_of grid.now)) (chunks_across (dataset_of grid.now)) (view_of index.new) }
     ensures placed { OnOk result (IsPlacing (dataset_of grid.now) to (view_of index.old) taking.old.places taking.new.chunks.items taking.new.added.items (view_of index.new) taking.new.places) }
     ensures all { OnOk result (length taking.new.chunks.items ≡ touched (dataset_of grid.now) grid.now.shape.rows to) }
     ensures exact { IfOk result (λ p. p.writes.items ≡ new_writes (dataset_of grid.now) cells.now grid.now.shape.rows to taking.new.chunks.items) }
@@ -246,7 +260,7 @@ fn put_chunk<W: PieceWrite>(
     ensures causes { IfErr result (λ e. (e ≡ FlushError.Failed) ⊎ (e ≡ FlushError.OutOfMemory)) }
 {
     writes.clear();
-    let most = most_pieces(grid, to, &[place]).ok_or(OutOfMemory)?;
+    let most = alone_pieces(grid, to, &place) as usize;
     let room = most.checked_add(2).ok_or(OutOfMemory)?;
     writes.reserve_exact(room).map_err(OutOfMemory::from)?;
     grid.new_bytes(cells, grid.shape.rows, to, &[place], &mut writes)?;

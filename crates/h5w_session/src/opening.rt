@@ -1,5 +1,5 @@
 //! A session over a file that is there.
-ghost use Rattle.std.specs.Prelude.{◌≡◌, ◌≢◌, ◌⊎◌, ℕ, ◌+◌, ◌*◌, ◌^◌, ◌<◌, ◌≤◌, false, List, ◌∷◌, [], Err, IfErr, IfOk, IfSome, IsFalse, IsTrue, OnOk, Ok, Some, find, ◌==◌, length, nat_le, vec_capacity, ℤ};
+ghost use Rattle.std.specs.Prelude.{◌≡◌, ◌≢◌, ◌⊎◌, ℕ, ◌+◌, ◌*◌, ◌^◌, ◌<◌, ◌≤◌, false, List, ◌∷◌, [], Err, IfErr, IfOk, IfSome, IsFalse, IsTrue, OnOk, Ok, Some, find, option_map, ◌==◌, length, nat_le, vec_capacity, ℤ};
 ghost use Rattle.h5w_model.specs.Causes.{Rose};
 ghost use Rattle.h5w_model.specs.Findings.{Summary, Valid};
 ghost use Rattle.h5w_model.specs.Tables.{Reads};
@@ -9,26 +9,27 @@ ghost use Rattle.h5w_model.specs.Integers.{cell_bytes};
 ghost use Rattle.h5w_model.specs.Datasets.{dataspace_kind, layout_kind};
 ghost use Rattle.h5w_model.specs.Headers.{index_address_place, messages_at};
 ghost use Rattle.h5w_model.specs.Numbers.{undefined};
-ghost use Rattle.h5w_model.specs.declared.cell.IndexKind.TheVariants.{Array};
+ghost use Rattle.h5w_model.specs.declared.cell.IndexKind.TheVariants.{Array, Tree};
 ghost use Rattle.h5w_layout.specs.Layouts.{fill_of};
 ghost use Rattle.h5w_image.specs.View.{Looked};
 ghost use Rattle.h5w_looks.specs.Still.{IsStill};
 ghost use Rattle.h5w_chunks.specs.Grids.{IsGrid, dataset_of};
 ghost use Rattle.h5w_found.specs.Described.{described_of};
-ghost use Rattle.h5w_index.specs.Views.{an_array};
+ghost use Rattle.h5w_index.specs.Held.{view_of};
 ghost use Rattle.h5w_opening.specs.Openings.{IsFound, IsSaid, is_open};
 ghost use Rattle.h5w_opening.specs.Views.{header_fields_of, opened_of};
 ghost use Rattle.h5w_session.specs.OpenAnswers.{HasBegun, IsIndexOf, IsNotOpened, IsOpenAnswer, opened_session, writing_flags};
 ghost use Rattle.h5w_session.specs.OpenRanges.{first_open, refused_open};
-ghost use Rattle.h5w_session.specs.OpenSteps.{HasLayout, IsKeptHeader, IfNamedArray, IsBadIndex, IsCut, IsFoundIn, IsOpenedFile, HasRows, IsReady, OpenStep, array_error, front_of, versioned};
+ghost use Rattle.h5w_session.specs.OpenSteps.{HasLayout, IsKeptHeader, IfNamedIndex, IsBadIndex, IsCut, IsFoundIn, IsOpenedFile, HasRows, IsReady, OpenStep, array_error, front_of, tree_error, versioned};
 ghost use Rattle.h5w_session.specs.OpenLaws.{OpenLaws};
 ghost use Rattle.h5w_session.specs.Openings.{opened_log};
 ghost use Rattle.h5w_session.specs.Sessions.{IsWritable};
 ghost use Rattle.h5w_session.specs.Stands.{Stands};
 
-use crate::ranges::{first_open, is_starting, unrefused};
+use crate::ranges::{chunks_across, first_key, first_open, is_starting, most_bands, unrefused};
 use crate::state::WriterCore;
-use h5w_bytes::{UNDEFINED, byte};
+use h5w_bt_open::{OpenTreeError, open_kept};
+use h5w_bytes::byte;
 use h5w_chunks::{Fill, Grid};
 use h5w_ea_index::{ArrayIndex, OpenArrayError};
 use h5w_found::Dataset;
@@ -62,38 +63,72 @@ fn array_error(e: OpenArrayError) -> OpenError
     }
 }
 
-/// The array that the dataset names.
+/// Why a tree is not opened, as why a file is not.
+fn tree_error(e: OpenTreeError) -> OpenError
+    ensures { result ≡ tree_error e }
+{
+    match e {
+        OpenTreeError::Damaged { at, fault } => OpenError::Read(ReadError::Damaged { at, fault }),
+        OpenTreeError::Failed => OpenError::Failed,
+        OpenTreeError::OutOfMemory => OpenError::OutOfMemory,
+    }
+}
+
+/// The array that the dataset names: None where its header names no index block.
 fn open_array<I: PieceRead>(
     alloc: Global,
     image: &mut I,
     d: &Dataset,
-) -> Result<Option<ArrayIndex>, OpenError>
+) -> Result<Option<Index>, OpenError>
     requires array { (described_of d.now).layout.index ≡ Array }
     requires named { (described_of d.now).layout.address ≢ undefined }
     requires few { first_open (described_of d.now) < 131060 }
-    ensures step { OpenStep (I.view image.old) (I.view image.new) (λ img a. IsIndexOf img (described_of d.now) a) (λ img e. IsBadIndex img (described_of d.now) e) result }
-    ensures named { IfOk result (λ a. IfNamedArray (described_of d.now) a) }
+    ensures step { OpenStep (I.view image.old) (I.view image.new) (λ img a. IsIndexOf img (described_of d.now) (option_map view_of a)) (λ img e. IsBadIndex img (described_of d.now) e) result }
+    ensures named { IfOk result (λ a. IfNamedIndex (described_of d.now) (option_map view_of a)) }
 {
     match ArrayIndex::open(alloc, image, d.layout.address, first_open(d)) {
-        Ok(index) => Ok(index),
+        Ok(Some(array)) => Ok(Some(Index::Array(array))),
+        Ok(None) => Ok(None),
         Err(e) => Err(array_error(e)),
     }
 }
 
-/// The index of the dataset: None where it is no array, or is not there.
+/// The tree that the dataset names: None where it is not kept.
+fn open_tree<I: PieceRead>(
+    alloc: Global,
+    image: &mut I,
+    d: &Dataset,
+) -> Result<Option<Index>, OpenError>
+    requires tree { (described_of d.now).layout.index ≡ Tree }
+    requires named { (described_of d.now).layout.address ≢ undefined }
+    ensures step { OpenStep (I.view image.old) (I.view image.new) (λ img a. IsIndexOf img (described_of d.now) (option_map view_of a)) (λ img e. IsBadIndex img (described_of d.now) e) result }
+    ensures named { IfOk result (λ a. IfNamedIndex (described_of d.now) (option_map view_of a)) }
+{
+    let bands = most_bands(d);
+    let across = chunks_across(d);
+    match open_kept(alloc, image, d.layout.address, first_key(d), bands, across) {
+        Ok(Some(tree)) => Ok(Some(Index::Tree(tree))),
+        Ok(None) => Ok(None),
+        Err(e) => Err(tree_error(e)),
+    }
+}
+
+/// The index of the dataset: None where it is not there, or is not kept.
 fn index_of<I: PieceRead>(
     alloc: Global,
     image: &mut I,
     d: &Dataset,
-) -> Result<Option<ArrayIndex>, OpenError>
+) -> Result<Option<Index>, OpenError>
     requires few { (described_of d.now).layout.index ≡ Array → first_open (described_of d.now) < 131060 }
-    ensures step { OpenStep (I.view image.old) (I.view image.new) (λ img a. IsIndexOf img (described_of d.now) a) (λ img e. IsBadIndex img (described_of d.now) e) result }
-    ensures named { IfOk result (λ a. IfNamedArray (described_of d.now) a) }
+    ensures step { OpenStep (I.view image.old) (I.view image.new) (λ img a. IsIndexOf img (described_of d.now) (option_map view_of a)) (λ img e. IsBadIndex img (described_of d.now) e) result }
+    ensures named { IfOk result (λ a. IfNamedIndex (described_of d.now) (option_map view_of a)) }
 {
+    if is_starting(d) {
+        return Ok(None);
+    }
     match d.layout.index {
-        IndexKind::Array if d.layout.address == UNDEFINED => Ok(None),
         IndexKind::Array => open_array(alloc, image, d),
-        IndexKind::Tree => Ok(None),
+        IndexKind::Tree => open_tree(alloc, image, d),
     }
 }
 
@@ -103,10 +138,10 @@ fn found_in<I: PieceRead>(
     image: &mut I,
     size: u64,
     name: &[u8],
-) -> Result<(Opening, Option<ArrayIndex>), OpenError>
-    ensures step { OpenStep (I.view image.old) (I.view image.new) (λ img x. IsFoundIn img size name.now (opened_of x.0) x.1) (λ img e. IsNotOpened img size name.now e) result }
+) -> Result<(Opening, Option<Index>), OpenError>
+    ensures step { OpenStep (I.view image.old) (I.view image.new) (λ img x. IsFoundIn img size name.now (opened_of x.0) (option_map view_of x.1)) (λ img e. IsNotOpened img size name.now e) result }
     ensures found { IfOk result (λ x. IsFound (opened_of x.0)) }
-    ensures named { IfOk result (λ x. IfNamedArray (opened_of x.0).header.dataset x.1) }
+    ensures named { IfOk result (λ x. IfNamedIndex (opened_of x.0).header.dataset (option_map view_of x.1)) }
 {
     let found = find(alloc, image, size, name)?;
     let index = index_of(alloc, image, &found.header.dataset)?;
@@ -295,19 +330,19 @@ fn writing_super(s: Super) -> Super
     }
 }
 
-/// A session over what was found, with chunk 0 of the dataset header and the array.
+/// A session over what was found, with chunk 0 of the dataset header and the index.
 fn session_over(
     alloc: Global,
     found: &Opening,
     header: Piece,
-    index: ArrayIndex,
+    index: Index,
     name: &[u8],
     limit: u64,
 ) -> Result<WriterCore, OutOfMemory>
     requires name { length name.now ≤ 512 }
     requires high { limit ≤ 2 ^ 40 }
-    requires ready { IsReady (opened_of found.now) header index }
-    ensures session { IfOk result (λ s. s ≡ opened_session (versioned (opened_of found.now)) header (an_array index) name.now limit) }
+    requires ready { IsReady (opened_of found.now) header (view_of index) }
+    ensures session { IfOk result (λ s. s ≡ opened_session (versioned (opened_of found.now)) header (view_of index) name.now limit) }
     ensures reads { IfOk result (λ s. super_at (super_bytes s.root) ≡ Ok s.root) }
 {
     let root = writing_super(found.root);
@@ -327,7 +362,7 @@ fn session_over(
         spare: Vec::new(alloc),
         stopped: false,
         keeps: false,
-        index: Index::Array(index),
+        index,
     })
 }
 
@@ -337,9 +372,9 @@ fn unrefused_file<I: PieceRead>(
     image: &mut I,
     size: u64,
     name: &[u8],
-) -> Result<(Opening, Piece, ArrayIndex), OpenError>
-    ensures step { OpenStep (I.view image.old) (I.view image.new) (λ img x. IsOpenedFile img size name.now (opened_of x.0) x.1 x.2) (λ img e. IsNotOpened img size name.now e) result }
-    ensures ready { IfOk result (λ x. IsReady (opened_of x.0) x.1 x.2) }
+) -> Result<(Opening, Piece, Index), OpenError>
+    ensures step { OpenStep (I.view image.old) (I.view image.new) (λ img x. IsOpenedFile img size name.now (opened_of x.0) x.1 (view_of x.2)) (λ img e. IsNotOpened img size name.now e) result }
+    ensures ready { IfOk result (λ x. IsReady (opened_of x.0) x.1 (view_of x.2)) }
 {
     let (found, index) = found_in(alloc, image, size, name)?;
     let index = unrefused(alloc, &found, index)?;
@@ -350,15 +385,19 @@ fn unrefused_file<I: PieceRead>(
 
 impl WriterCore {
     /// Opens the dataset of this name in a file of `size` bytes that is there, to append rows to it up to `limit` bytes of the file. The
-    /// image is only looked at. Where the layout names no array yet, the first flush makes one. One piece is pending, the superblock by which
-    /// the file says that it is written; all its flags but these two
-    /// stay. What the file has stays where it is, and new places begin at its end-of-file address.
+    /// image is only looked at. Where the layout names no index yet, the first flush makes one. One piece is pending, the superblock by which
+    /// the file says that it is written; all its flags but these two stay. What the file has stays where it is, and new places begin at its
+    /// end-of-file address.
     ///
     /// Tried in this order: the superblock, its flags and end-of-file address, the root header, the link, the dataset header, and what its
-    /// messages say; the index's blocks; the first of the dataset header's chunk 0 and the index's blocks in place, and then of the chunks
-    /// of the last committed band and later, that ends at 2^64 or later; the first range that ends behind the end-of-file address, of chunk 0,
-    /// the index's blocks in the order of the looks, or the superblock where the layout names no array, and those chunks; and then what
-    /// [`OpenError`] says from Layout on.
+    /// messages say; the index's blocks, from the last committed band on; the first of the dataset header's chunk 0 and the index's blocks
+    /// in place, and then of the chunks of that band and later, that ends at 2^64 or later; the first range that ends behind the end-of-file
+    /// address, of chunk 0, the superblock where the index is a tree or the layout names none, the index's blocks in the order of the looks
+    /// (of an index that is not kept its header alone), and those chunks; and then what [`OpenError`] says from Layout on.
+    ///
+    /// A tree is kept where its keys rise, each is that of a chunk that the dataset can have, each node and the header say how many records
+    /// are under them, and each node but the root has two fifths of its capacity at least. An array is kept where its header names an index
+    /// block.
     ///
     /// Failed: the image's count of faults rose.
     pub fn open<I: PieceRead>(
@@ -387,8 +426,8 @@ impl WriterCore {
 }
 
 /// A valid file is refused only where it is open already, asks its writer to know a message that is not known here, has its layout outside
-/// of chunk 0, too large chunks or no column, or has a tree or an array's header
-/// without an index block. A close gives back the flags that the file had.
+/// of chunk 0, too large chunks or no column, or has a tree that is not kept or an array's header without an index block. A close gives back
+/// the flags that the file had.
 #[tactic(auto, using(crate::proofs::LeftLemmas::open_laws))]
 pub fn open_laws()
     ensures { OpenLaws }

@@ -1,16 +1,24 @@
 //! The ranges of a file that is opened, and the first of them that is refused.
-ghost use Rattle.std.specs.Prelude.{◌≡◌, ◌⊎◌, ◌+◌, ◌-◌, ◌≤◌, ◌++◌, ◌∷◌, take, nat_lt, IfErr, IfOk, MatchOption, Some, None, Ok, Err, OnOk};
+ghost use Rattle.std.specs.Prelude.{◌≡◌, ◌⊎◌, ◌+◌, ◌-◌, ◌≤◌, ◌++◌, ◌∷◌, [], take, nat_lt, option_map, IfErr, IfOk, MatchOption, Some, None, Ok, Err, OnOk};
 ghost use Rattle.std.specs.Option.{option_copied};
-ghost use Rattle.h5w_array_laws.specs.ArrayStores.{IsCreated};
+ghost use Rattle.h5w_model.specs.Tables.{chunks_across};
+ghost use Rattle.h5w_bt_index.specs.Held as trees;
+ghost use Rattle.h5w_bt_index.specs.Index.{records};
 ghost use Rattle.h5w_found.specs.Described.{described_of};
+ghost use Rattle.h5w_index.specs.Held.{view_of};
+ghost use Rattle.h5w_index.specs.Views.{a_tree};
 ghost use Rattle.h5w_opening.specs.Views.{opened_of};
-ghost use Rattle.h5w_session.specs.OpenRanges.{chunk_0_range, chunks_from, cut_at, first_open, first_past, header_alone, open_blocks, open_chunks, is_starting, ranges_refused, refused_index, refused_open, refused_ranges, refused_start};
-ghost use Rattle.h5w_session.specs.OpenAnswers.{IsKeptArray};
-ghost use Rattle.h5w_session.specs.Sessions.{option_list};
+ghost use Rattle.h5w_session.specs.OpenRanges.{blocks_in, chunk_0_range, chunks_behind, chunks_from, chunks_in, cut_at, first_key, first_open, first_past, header_alone, header_len, open_blocks, open_chunks, is_starting, ranges_refused, refused_index, refused_open, refused_ranges, refused_start};
+ghost use Rattle.h5w_session.specs.OpenAnswers.{IsBlankOf, IsKeptIndexOf};
+ghost use Rattle.h5w_session.specs.OpenSteps.{IfNamedIndex, IsNamedIndex};
+ghost use Rattle.h5w_session.specs.Sessions.{most_bands};
 
+use h5w_bt::Record;
+use h5w_bt_index::TreeIndex;
 use h5w_bytes::UNDEFINED;
 use h5w_ea_index::ArrayIndex;
 use h5w_found::Dataset;
+use h5w_index::{Index, Key};
 use h5w_model::{BlockFault, IndexKind, OutOfMemory, ReadError};
 use h5w_opening::{OpenError, Opening, check};
 use h5w_space::Extent;
@@ -19,14 +27,18 @@ use std::alloc::Global;
 /// How many chunks an array has at most.
 const CHUNKS: u64 = 131_060;
 
-/// How many ranges come first: chunk 0 of the dataset header, the array's header and its index block.
+/// How many ranges come first: chunk 0 of the dataset header, and an array's header and its index block, or the superblock and a tree's
+/// header.
 const IN_PLACE: usize = 3;
 
 /// How many bytes a superblock has.
 const SUPERBLOCK_LEN: u64 = 48;
 
-/// How many bytes the array's header has.
-const HEADER_LEN: u64 = 72;
+/// How many bytes an array's header has.
+const ARRAY_HEADER_LEN: u64 = 72;
+
+/// How many bytes a tree's header has.
+const TREE_HEADER_LEN: u64 = 38;
 
 /// Whether a range ends behind a place.
 fn ends_past(r: &Extent, end: u64) -> bool
@@ -49,6 +61,16 @@ fn first_past(ranges: &[Extent], end: u64) -> Option<Extent>
     find_past(ranges, end).copied()
 }
 
+/// The first of these blocks, and then of these chunks, that ends behind a place.
+fn any_past(blocks: &[Extent], chunks: &[Extent], end: u64) -> Option<Extent>
+    ensures { result ≡ first_past end (blocks.now ++ chunks.now) }
+{
+    match first_past(blocks, end) {
+        Some(r) => Some(r),
+        None => first_past(chunks, end),
+    }
+}
+
 /// What is answered of a range that is cut at a place.
 fn cut_at(r: &Extent, end: u64) -> OpenError
     ensures { result ≡ cut_at end r.now }
@@ -60,169 +82,270 @@ fn cut_at(r: &Extent, end: u64) -> OpenError
     OpenError::Read(ReadError::Damaged { at: r.at, fault })
 }
 
-/// The chunk of the last committed row, 0 where there is none.
+/// The band of the last committed row, 0 where there is none.
 pub fn first_open(d: &Dataset) -> u64
     ensures { result ≡ first_open (described_of d.now) }
 {
     d.shape.rows.saturating_sub(1) / d.layout.chunk.0
 }
 
-/// The first chunk from number `from` on, of `len` bytes, that ends behind a place.
-fn first_chunk_past(index: &ArrayIndex, from: u64, len: u64, end: u64) -> Option<Extent>
-    ensures { result ≡ first_past end (chunks_from index.now len from (131060 - from)) }
+/// The first key of that band.
+pub fn first_key(d: &Dataset) -> Key
+    ensures { result ≡ first_key (described_of d.now) }
 {
+    Key {
+        i: first_open(d),
+        j: 0,
+    }
+}
+
+/// How many chunks stand side by side.
+pub fn chunks_across(d: &Dataset) -> u64
+    ensures { result ≡ chunks_across (described_of d.now) }
+{
+    d.shape.cols.div_ceil(d.layout.chunk.1)
+}
+
+/// How many bands of chunks the index has at most; 0 where there is no column.
+pub fn most_bands(d: &Dataset) -> u64
+    ensures { result ≡ most_bands (described_of d.now) }
+{
+    match chunks_across(d) {
+        0 => 0,
+        across => d.limit() / across,
+    }
+}
+
+/// The ranges of an array's chunks from number `from` on, each of `len` bytes.
+fn array_chunks(
+    alloc: Global,
+    array: &ArrayIndex,
+    from: u64,
+    len: u64,
+) -> Result<Vec<Extent>, OutOfMemory>
+    ensures { IfOk result (λ r. r.items ≡ chunks_from array.now len from (131060 - from)) }
+{
+    let mut chunks = Vec::new(alloc);
     for i in from..CHUNKS {
-        if let Some(at) = index.get(i) {
-            let chunk = Extent { at, size: len };
-            if ends_past(&chunk, end) {
-                return Some(chunk);
-            }
+        if let Some(at) = array.get(i) {
+            chunks.push(Extent { at, size: len })?;
         }
     }
-    None
+    Ok(chunks)
 }
 
-/// The first chunk of the last committed band and later that ends behind a place.
-fn open_chunk_past(index: &Option<ArrayIndex>, d: &Dataset, end: u64) -> Option<Extent>
-    ensures { result ≡ first_past end (open_chunks (described_of d.now) index.now) }
+/// The ranges of the chunks of these records from band `band` on, each of `len` bytes.
+fn chunks_behind(
+    alloc: Global,
+    records: &[Record],
+    band: u64,
+    len: u64,
+) -> Result<Vec<Extent>, OutOfMemory>
+    ensures { IfOk result (λ r. r.items ≡ chunks_behind len band records.now) }
+{
+    let mut chunks = Vec::new(alloc);
+    for r in records {
+        if r.key.i >= band && r.address != UNDEFINED {
+            chunks.push(Extent {
+                at: r.address,
+                size: len,
+            })?;
+        }
+    }
+    Ok(chunks)
+}
+
+/// The ranges of a tree's chunks from band `band` on, each of `len` bytes.
+fn tree_chunks(
+    alloc: Global,
+    tree: &TreeIndex,
+    band: u64,
+    len: u64,
+) -> Result<Vec<Extent>, OutOfMemory>
+    ensures { IfOk result (λ r. r.items ≡ chunks_behind len band (records (trees.view_of tree.now))) }
+{
+    let records = h5w_bt_open::records(alloc, tree)?;
+    chunks_behind(alloc, &records, band, len)
+}
+
+/// The ranges of the chunks of the last committed band and later.
+fn chunks_in(alloc: Global, index: &Index, d: &Dataset) -> Result<Vec<Extent>, OutOfMemory>
+    ensures { IfOk result (λ r. r.items ≡ chunks_in (described_of d.now) (view_of index.now)) }
 {
     match index {
-        Some(index) => first_chunk_past(index, first_open(d), d.chunk_bytes(), end),
-        None => None,
+        Index::Array(array) => array_chunks(alloc, array, first_open(d), d.chunk_bytes()),
+        Index::Tree(tree) => tree_chunks(alloc, tree, first_open(d), d.chunk_bytes()),
     }
 }
 
-/// The range of the header of an array that names no index block.
-fn header_alone(d: &Dataset) -> Option<Extent>
-    ensures { option_list result ≡ header_alone (described_of d.now).layout.index (described_of d.now).layout.address }
+/// The same where there is an index.
+fn open_chunks(
+    alloc: Global,
+    index: &Option<Index>,
+    d: &Dataset,
+) -> Result<Vec<Extent>, OutOfMemory>
+    ensures { IfOk result (λ r. r.items ≡ open_chunks (described_of d.now) (option_map view_of index.now)) }
 {
-    match d.layout.index {
-        IndexKind::Array if d.layout.address == UNDEFINED => Some(Extent {
-            at: 0,
-            size: SUPERBLOCK_LEN,
-        }),
-        IndexKind::Array => Some(Extent {
-            at: d.layout.address,
-            size: HEADER_LEN,
-        }),
-        IndexKind::Tree => None,
+    match index {
+        Some(index) => chunks_in(alloc, index, d),
+        None => Ok(Vec::new(alloc)),
+    }
+}
+
+/// How many bytes the header of an index has.
+fn header_len(kind: IndexKind) -> u64
+    ensures { result ≡ header_len kind }
+{
+    match kind {
+        IndexKind::Array => ARRAY_HEADER_LEN,
+        IndexKind::Tree => TREE_HEADER_LEN,
+    }
+}
+
+/// The range of the superblock.
+fn superblock() -> Extent
+    ensures { result ≡ record { at = 0; size = 48 } }
+{
+    Extent {
+        at: 0,
+        size: SUPERBLOCK_LEN,
+    }
+}
+
+/// The range of the header of an index to which no rows are appended, or of the superblock where the layout names none.
+fn header_alone(d: &Dataset) -> Extent
+    ensures { result ∷ [] ≡ header_alone (described_of d.now).layout.index (described_of d.now).layout.address }
+{
+    if d.layout.address == UNDEFINED {
+        return superblock();
+    }
+    Extent {
+        at: d.layout.address,
+        size: header_len(d.layout.index),
+    }
+}
+
+/// The ranges of the superblock, of a tree's header at `header`, and of its nodes in the order of the looks.
+fn tree_blocks(alloc: Global, tree: &TreeIndex, header: u64) -> Result<Vec<Extent>, OutOfMemory>
+    ensures { IfOk result (λ r. r.items ≡ blocks_in (a_tree header (trees.view_of tree.now))) }
+{
+    let mut blocks = Vec::new(alloc);
+    blocks.push(superblock())?;
+    blocks.push(Extent {
+        at: header,
+        size: TREE_HEADER_LEN,
+    })?;
+    let nodes = h5w_bt_open::ranges(alloc, tree)?;
+    blocks.extend_from_slice(&nodes)?;
+    Ok(blocks)
+}
+
+/// The ranges of the blocks of the index that the layout names, in the order of the looks.
+fn index_blocks(alloc: Global, index: &Index, d: &Dataset) -> Result<Vec<Extent>, OutOfMemory>
+    requires { IsNamedIndex (described_of d.now) (view_of index.now) }
+    ensures { IfOk result (λ r. r.items ≡ blocks_in (view_of index.now)) }
+{
+    match index {
+        Index::Array(array) => array.ranges(),
+        Index::Tree(tree) => tree_blocks(alloc, tree, d.layout.address),
     }
 }
 
 /// The ranges of chunk 0 of the dataset header and of the index's blocks, in the order of the looks.
-fn blocks(
-    alloc: Global,
-    found: &Opening,
-    index: &Option<ArrayIndex>,
-) -> Result<Vec<Extent>, OutOfMemory>
-    ensures { IfOk result (λ r. r.items ≡ chunk_0_range (opened_of found.now) ∷ open_blocks (opened_of found.now).header.dataset index.now) }
+fn blocks(alloc: Global, found: &Opening, index: &Option<Index>) -> Result<Vec<Extent>, OutOfMemory>
+    requires { IfNamedIndex (opened_of found.now).header.dataset (option_map view_of index.now) }
+    ensures { IfOk result (λ r. r.items ≡ chunk_0_range (opened_of found.now) ∷ open_blocks (opened_of found.now).header.dataset (option_map view_of index.now)) }
 {
-    let mut ranges = Vec::new(alloc);
-    ranges.push(Extent {
+    let d = &found.header.dataset;
+    let mut blocks = Vec::new(alloc);
+    blocks.push(Extent {
         at: found.place,
         size: found.header.len,
     })?;
     match index {
         Some(index) => {
-            let rest = index.ranges()?;
-            ranges.extend_from_slice(&rest)?;
+            let rest = index_blocks(alloc, index, d)?;
+            blocks.extend_from_slice(&rest)?;
         }
-        None => {
-            if let Some(header) = header_alone(&found.header.dataset) {
-                ranges.push(header)?;
-            }
-        }
+        None => blocks.push(header_alone(d))?,
     }
-    Ok(ranges)
+    Ok(blocks)
 }
 
-/// The first of these ranges, and then of the chunks of the last committed band and later, that ends behind a place.
-fn any_past(ranges: &[Extent], index: &Option<ArrayIndex>, d: &Dataset, end: u64) -> Option<Extent>
-    ensures { result ≡ first_past end (ranges.now ++ open_chunks (described_of d.now) index.now) }
+/// Refuses the first of these ranges that cannot stand in a file that ends at `end`.
+fn check_each(blocks: &[Extent], chunks: &[Extent], end: u64) -> Result<(), OpenError>
+    ensures { MatchOption (refused_ranges end blocks.now chunks.now) (result ≡ Ok tt) (λ e. result ≡ Err e) }
 {
-    match first_past(ranges, end) {
-        Some(r) => Some(r),
-        None => open_chunk_past(index, d, end),
-    }
-}
-
-/// Refuses the first of these ranges and the chunks that cannot stand in a file that ends at `end`.
-fn check_each(
-    ranges: &[Extent],
-    index: &Option<ArrayIndex>,
-    d: &Dataset,
-    end: u64,
-) -> Result<(), OpenError>
-    ensures { MatchOption (refused_ranges end ranges.now (open_chunks (described_of d.now) index.now)) (result ≡ Ok tt) (λ e. result ≡ Err e) }
-{
-    let front = ranges.len().min(IN_PLACE);
-    if let Some(r) = any_past(&ranges[..front], index, d, u64::MAX) {
+    let front = blocks.len().min(IN_PLACE);
+    if let Some(r) = any_past(&blocks[..front], chunks, u64::MAX) {
         return Err(cut_at(&r, 0));
     }
-    if let Some(r) = any_past(ranges, index, d, end) {
+    if let Some(r) = any_past(blocks, chunks, end) {
         return Err(cut_at(&r, end));
     }
     Ok(())
 }
 
 /// Refuses the first range that cannot stand in the file.
-fn check_ranges(alloc: Global, found: &Opening, index: &Option<ArrayIndex>) -> Result<(), OpenError>
-    ensures none { OnOk result (ranges_refused (opened_of found.now) index.now ≡ None) }
-    ensures first { IfErr result (λ e. (ranges_refused (opened_of found.now) index.now ≡ Some e) ⊎ (e ≡ OpenError.OutOfMemory)) }
+fn check_ranges(alloc: Global, found: &Opening, index: &Option<Index>) -> Result<(), OpenError>
+    requires { IfNamedIndex (opened_of found.now).header.dataset (option_map view_of index.now) }
+    ensures none { OnOk result (ranges_refused (opened_of found.now) (option_map view_of index.now) ≡ None) }
+    ensures first { IfErr result (λ e. (ranges_refused (opened_of found.now) (option_map view_of index.now) ≡ Some e) ⊎ (e ≡ OpenError.OutOfMemory)) }
 {
-    let ranges = blocks(alloc, found, index)?;
-    check_each(&ranges, index, &found.header.dataset, found.root.end)
+    let blocks = blocks(alloc, found, index)?;
+    let chunks = open_chunks(alloc, index, &found.header.dataset)?;
+    check_each(&blocks, &chunks, found.root.end)
 }
 
-/// Whether the index is an array that the layout does not name yet.
+/// Whether the layout does not name the index yet.
 pub fn is_starting(d: &Dataset) -> bool
     ensures { result ≡ is_starting (described_of d.now) }
 {
-    match d.layout.index {
-        IndexKind::Array => d.layout.address == UNDEFINED,
-        IndexKind::Tree => false,
+    d.layout.address == UNDEFINED
+}
+
+/// An index of a kind without chunks, of which nothing stands anywhere.
+fn blank_index(alloc: Global, kind: IndexKind) -> Result<Index, OutOfMemory>
+    ensures { IfOk result (λ v. IsBlankOf kind (view_of v)) }
+{
+    match kind {
+        IndexKind::Array => Index::new_array(alloc, 0, 0),
+        IndexKind::Tree => Ok(Index::new_tree(alloc, 0)),
     }
 }
 
-/// A blank array, where the layout names none.
-fn blank_array(alloc: Global, starts: bool) -> Result<ArrayIndex, OpenError>
-    ensures array { IfOk result (λ v. IsCreated 0 0 v) }
-    ensures none { OnOk result (refused_start starts ≡ None) }
-    ensures first { IfErr result (λ e. (refused_start starts ≡ Some e) ⊎ (e ≡ OpenError.OutOfMemory)) }
+/// A blank index, where the layout names none.
+fn started_index(alloc: Global, d: &Dataset) -> Result<Index, OpenError>
+    ensures blank { IfOk result (λ v. IsBlankOf (described_of d.now).layout.index (view_of v)) }
+    ensures none { OnOk result (refused_start (is_starting (described_of d.now)) ≡ None) }
+    ensures first { IfErr result (λ e. (refused_start (is_starting (described_of d.now)) ≡ Some e) ⊎ (e ≡ OpenError.OutOfMemory)) }
 {
-    if !starts {
+    if !is_starting(d) {
         return Err(OpenError::Index);
     }
-    Ok(ArrayIndex::new(alloc, 0, 0)?)
+    Ok(blank_index(alloc, d.layout.index)?)
 }
 
-/// The array that was read, or a blank one where the layout names none.
-fn kept_array(
-    alloc: Global,
-    d: &Dataset,
-    index: Option<ArrayIndex>,
-) -> Result<ArrayIndex, OpenError>
-    ensures array { IfOk result (λ v. IsKeptArray index v) }
-    ensures none { OnOk result (refused_index (described_of d.now) index ≡ None) }
-    ensures first { IfErr result (λ e. (refused_index (described_of d.now) index ≡ Some e) ⊎ (e ≡ OpenError.OutOfMemory)) }
+/// The index that was read, or a blank one where the layout names none.
+fn kept_index(alloc: Global, d: &Dataset, index: Option<Index>) -> Result<Index, OpenError>
+    ensures kept { IfOk result (λ v. IsKeptIndexOf (described_of d.now) (option_map view_of index) (view_of v)) }
+    ensures none { OnOk result (refused_index (described_of d.now) (option_map view_of index) ≡ None) }
+    ensures first { IfErr result (λ e. (refused_index (described_of d.now) (option_map view_of index) ≡ Some e) ⊎ (e ≡ OpenError.OutOfMemory)) }
 {
     match index {
         Some(index) => Ok(index),
-        None => blank_array(alloc, is_starting(d)),
+        None => started_index(alloc, d),
     }
 }
 
-/// The array that a session begins with, where nothing of what was found refuses it: a blank one where the layout names none.
-pub fn unrefused(
-    alloc: Global,
-    found: &Opening,
-    index: Option<ArrayIndex>,
-) -> Result<ArrayIndex, OpenError>
-    ensures array { IfOk result (λ v. IsKeptArray index v) }
-    ensures none { OnOk result (refused_open (opened_of found.now) index ≡ None) }
-    ensures first { IfErr result (λ e. (refused_open (opened_of found.now) index ≡ Some e) ⊎ (e ≡ OpenError.OutOfMemory)) }
+/// The index that a session begins with, where nothing of what was found refuses it: a blank one where the layout names none.
+pub fn unrefused(alloc: Global, found: &Opening, index: Option<Index>) -> Result<Index, OpenError>
+    requires named { IfNamedIndex (opened_of found.now).header.dataset (option_map view_of index) }
+    ensures kept { IfOk result (λ v. IsKeptIndexOf (opened_of found.now).header.dataset (option_map view_of index) (view_of v)) }
+    ensures none { OnOk result (refused_open (opened_of found.now) (option_map view_of index) ≡ None) }
+    ensures first { IfErr result (λ e. (refused_open (opened_of found.now) (option_map view_of index) ≡ Some e) ⊎ (e ≡ OpenError.OutOfMemory)) }
 {
     check_ranges(alloc, found, &index)?;
     check(found)?;
-    kept_array(alloc, &found.header.dataset, index)
+    kept_index(alloc, &found.header.dataset, index)
 }

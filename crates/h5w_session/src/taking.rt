@@ -18,6 +18,7 @@ ghost use Rattle.h5w_index.specs.Placing.{AreInside, Fits, IsChunkFull, IsPartly
 ghost use Rattle.h5w_index.specs.Steps.{IsDeep, IsHeld};
 ghost use Rattle.h5w_index.specs.Views.{HasSlot, IndexView, IsSound, TakesKey, address_in};
 ghost use Rattle.h5w_session.specs.Refusals.{IsSpace};
+ghost use Rattle.h5w_session.specs.Sessions.{most_bands};
 ghost use Rattle.h5w_session.specs.declared.refusal.FlushError.{FlushError};
 
 use crate::refusal::FlushError;
@@ -163,11 +164,11 @@ pub fn place_chunks(
     requires grid { IsGrid grid.now }
     requires order { grid.now.shape.rows < to }
     requires room { (to - grid.now.shape.rows) * grid.now.shape.cols < 2 ^ 64 }
-    requires few { div_up to grid.now.layout.chunk.0 * chunks_across (dataset_of grid.now) ≤ 1000000 }
+    requires few { div_up to grid.now.layout.chunk.0 ≤ most_bands (dataset_of grid.now) }
     requires sound { IsSound (view_of index.old) }
     requires fits { Fits (dataset_of grid.now) (view_of index.old) }
     requires takes { (key : Key) → key.i < div_up to grid.now.layout.chunk.0 → TakesKey (view_of index.old) key }
-    requires within { AreWithin (div_up to grid.now.layout.chunk.0) (chunks_across (dataset_of grid.now)) (view_of index.old) }
+    requires within { AreWithin (most_bands (dataset_of grid.now)) (chunks_across (dataset_of grid.now)) (view_of index.old) }
     requires inside { AreInside (dataset_of grid.now) taking.old.places.end (view_of index.old) }
     requires small { taking.old.places.end < 2 ^ 64 }
     requires limit { taking.old.places.limit ≤ 2 ^ 40 }
@@ -177,7 +178,7 @@ pub fn place_chunks(
     ensures placed { OnOk result (IsPlacing (dataset_of grid.now) to (view_of index.old) taking.old.places taking.new.chunks.items taking.new.added.items (view_of index.new) taking.new.places) }
     ensures all { OnOk result (length taking.new.chunks.items ≡ touched (dataset_of grid.now) grid.now.shape.rows to) }
     ensures partly { OnErr result (IsPartly (dataset_of grid.now) to (view_of index.old) taking.new.added.items (view_of index.new)) }
-    ensures within { AreWithin (div_up to grid.now.layout.chunk.0) (chunks_across (dataset_of grid.now)) (view_of index.new) }
+    ensures within { AreWithin (most_bands (dataset_of grid.now)) (chunks_across (dataset_of grid.now)) (view_of index.new) }
     ensures full { (full : Full) → result ≡ Err (FlushError.Space full) → IsChunkFull (dataset_of grid.now) to (view_of index.old) taking.old.places full }
     ensures causes { IfErr result (λ e. IsSpace e ⊎ (e ≡ FlushError.OutOfMemory)) }
 {
@@ -203,12 +204,15 @@ pub fn named_chunk(grid: &Grid, to: u64, index: &Index) -> Option<ChunkPlace>
     ensures all { IfSome result (λ p. touched (dataset_of grid.now) grid.now.shape.rows to ≡ 1) }
 {
     let from = grid.shape.rows;
-    if grid.touched(from, to) != 1 {
+    let (rows, columns) = grid.layout.chunk;
+    let i = from / rows;
+    let first = i * rows;
+    // another band, or a dataset of no or of more than one chunk side by side
+    if to - first > rows || grid.shape.cols == 0 || grid.shape.cols > columns {
         return None;
     }
-    let key = grid.touched_key(from, to, 0);
-    let address = index.get(key)?;
-    let stored = key.i * grid.layout.chunk.0 < from;
+    let address = index.get(Key { i, j: 0 })?;
+    let stored = first < from;
     Some(ChunkPlace { address, stored })
 }
 

@@ -11,8 +11,8 @@ use Rattle.h5w_model.specs.Trees.{capacity_of}
 use Rattle.h5w_model.specs.declared.cell.Key.{Key}
 use Rattle.h5w_bt.specs.declared.records.Record.{Record}
 use Rattle.h5w_bt_index.specs.Nodes.{Tree, address_in, all_records, records_of}
-use Rattle.h5w_bt_index.specs.Puts.{half, is_full_path}
-use Rattle.h5w_bt_index.specs.Sound.{AtLeast, IsRising, IsSound}
+use Rattle.h5w_bt_index.specs.Puts.{is_full_path}
+use Rattle.h5w_bt_index.specs.Sound.{AtLeast, IsRising, IsSound, two_fifths}
 use Rattle.h5w_bt_index.specs.Index.{records}
 use Rattle.h5w_bt_index.proofs.Joined.{length-joined}
 use Rattle.h5w_bt_index.proofs.Keys.{below-not_self, equal-self}
@@ -23,22 +23,22 @@ use Rattle.h5w_tree_index_laws.specs.TreeDepths.{DeepIsMany, WithinIsFew}
 
 abbrev least_under : ℕ → ℕ → ℕ
 least_under zero n = n
-least_under (suc d) n = n + (n + 1) * least_under d (half d)
+least_under (suc d) n = n + (n + 1) * least_under d (two_fifths d)
 
-each_least : (d n : ℕ) (cs : List (Tree d)) → ((c : Tree d) → IsSound d (capacity_of d) c → AtLeast d (half d) c → n ≤ length (all_records d c)) → All (IsSound d (capacity_of d)) cs → All (AtLeast d (half d)) cs
+each_least : (d n : ℕ) (cs : List (Tree d)) → ((c : Tree d) → IsSound d (capacity_of d) c → AtLeast two_fifths d (two_fifths d) c → n ≤ length (all_records d c)) → All (IsSound d (capacity_of d)) cs → All (AtLeast two_fifths d (two_fifths d)) cs
     → length cs * n ≤ sum_by length (map (all_records d) cs)
 each_least d n [] k s l = omega arith
 each_least d n (c ∷ cs) k s l =
-    let first = k c (All-head (IsSound d (capacity_of d)) c cs s) (All-head (AtLeast d (half d)) c cs l) in
-    let rest = each_least d n cs k (All-tail (IsSound d (capacity_of d)) c cs s) (All-tail (AtLeast d (half d)) c cs l) in
+    let first = k c (All-head (IsSound d (capacity_of d)) c cs s) (All-head (AtLeast two_fifths d (two_fifths d)) c cs l) in
+    let rest = each_least d n cs k (All-tail (IsSound d (capacity_of d)) c cs s) (All-tail (AtLeast two_fifths d (two_fifths d)) c cs l) in
     let product : suc (length cs) * n ≡ n + length cs * n = grind arith in
     omega (arith, first, rest, product, sum_by-cons (length {A = Record}) (all_records d c) (map (all_records d) cs))
 
-least_records : (d m n : ℕ) (t : Tree d) → IsSound d m t → AtLeast d n t → least_under d n ≤ length (all_records d t)
+least_records : (d m n : ℕ) (t : Tree d) → IsSound d m t → AtLeast two_fifths d n t → least_under d n ≤ length (all_records d t)
 least_records zero m n t s l = l
 least_records (suc d) m n t s l =
-    let low : ℕ = least_under d (half d) in
-    let each = each_least d low t.children (λ c. least_records d (capacity_of d) (half d) c) s.each l.1 in
+    let low : ℕ = least_under d (two_fifths d) in
+    let each = each_least d low t.children (λ c. least_records d (capacity_of d) (two_fifths d) c) s.each l.1 in
     let all = length-joined t.records (map (all_records d) t.children) (length-map t.children (all_records d) ∙ s.children) in
     let more : (n + 1) * low ≤ length t.children * low = mul-le (n + 1) low (length t.children) low (omega (arith, l.0, s.children)) (omega arith) in
     by_parts (length (all_records (suc d) t)) (length t.records) (sum_by length (map (all_records d) t.children)) (length t.children * low) n ((n + 1) * low) all each more l.0
@@ -51,7 +51,7 @@ full_root : (d : ℕ) (key : Key) (t : Tree d) → is_full_path d key t ≡ true
 full_root zero key t e = eqb-true (length t.records) (capacity_of zero) e
 full_root (suc d) key t e = eqb-true (length t.records) (capacity_of (suc d)) (and_parts (eqb (length t.records) (capacity_of (suc d))) _ e).0
 
-own_least : (d m n : ℕ) (t : Tree d) → AtLeast d m t → n ≤ length (records_of d t) → AtLeast d n t
+own_least : (d m n : ℕ) (t : Tree d) → AtLeast two_fifths d m t → n ≤ length (records_of d t) → AtLeast two_fifths d n t
 own_least zero m n t l h = h
 own_least (suc d) m n t l h = (h, l.1)
 
@@ -60,7 +60,7 @@ deep_is_many v key i h deep =
     let full = full_root v.depth key v.root deep.full in
     let least = own_least v.depth 0 (capacity_of v.depth) v.root h (omega (arith, full)) in
     let most : least_under v.depth (capacity_of v.depth) ≤ length (records v) = least_records v.depth (capacity_of v.depth) (capacity_of v.depth) v.root i.sound least in
-    let all : 2203448 ≤ length (records v) = subst (λ (d : ℕ). least_under d (capacity_of d) ≤ length (records v)) deep.deepest most in
+    let all : 1114349 ≤ length (records v) = subst (λ (d : ℕ). least_under d (capacity_of d) ≤ length (records v)) deep.deepest most in
     all
 
 -- ---- How many records there are at most

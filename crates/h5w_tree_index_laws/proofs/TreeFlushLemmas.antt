@@ -7,7 +7,7 @@ use Rattle.std.proofs.lemmas.List.Elements.{All-cons, All-nil}
 use Rattle.std.proofs.lemmas.List.Sums.{sum_by-append}
 use Rattle.h5w_model.specs.Numbers.{range}
 use Rattle.h5w_model.specs.Images.{AllMiss, Apart, Holds, image}
-use Rattle.h5w_model.specs.Trees.{bthd_at, bthd_bytes, bthd_len, node_size}
+use Rattle.h5w_model.specs.Trees.{bthd_bytes, bthd_len, node_size}
 use Rattle.h5w_model.specs.Datasets.{Described}
 use Rattle.h5w_model.specs.Findings.{Used, chunk_bytes}
 use Rattle.h5w_model.specs.Prefixed.{StaysDefined}
@@ -31,18 +31,18 @@ use Rattle.h5w_flush_laws.proofs.SpaceLemmas.{meet_nowhere}
 use Rattle.h5w_flush_laws.proofs.EarlyLemmas.{blocks_miss}
 use Rattle.h5w_bt_index.specs.Nodes.{Tree}
 use Rattle.h5w_bt_index.specs.Marks.{Part, clean_of}
-use Rattle.h5w_bt_index.specs.Index.{Index, IsClean, IsIndex, address_of}
+use Rattle.h5w_bt_index.specs.Index.{Index, IsClean, IsIndex, address_of, no_tree}
 use Rattle.h5w_bt_index.specs.Plans.{AreNodeMoves, changes, header_of, header_writes, news, place_of, placed, planned, written}
-use Rattle.h5w_tree_index_laws.specs.TreeImages.{AllStand, AreAmong, IsRead, StandsTree, behind_of, blank, blocks_in_place}
+use Rattle.h5w_tree_index_laws.specs.TreeImages.{AllStand, AreAmong, IsRead, StandsTree, behind_of, blocks_in_place}
 use Rattle.h5w_tree_index_laws.specs.TreeFlushes.{AreChunks, IsTreePart, TreeFlushed, header_range, tree_parts}
 use Rattle.h5w_bt_index.proofs.NodeBytes.{take_whole}
 use Rattle.h5w_bt_index.proofs.Placed.{planned_index}
-use Rattle.h5w_tree_index_laws.proofs.TreeHeaderLemmas.{header_says, header_long, header_written, part_range, tree_left}
+use Rattle.h5w_tree_index_laws.proofs.TreeHeaderLemmas.{header_says, header_long, header_written, in_place_by, part_range, tree_left}
 use Rattle.h5w_tree_index_laws.proofs.TreePlanLemmas.{Ends, blocks_hold, moves_taken, placed_stands, takes}
 use Rattle.h5w_tree_index_laws.specs.TreeImages.{node_range}
 use Rattle.h5w_tree_index_laws.specs.TreeFlushes.{fresh}
 use Rattle.h5w_tree_index_laws.proofs.TreeRangeLemmas.{by_weight, light}
-use Rattle.h5w_tree_index_laws.proofs.TreeStandLemmas.{good_read, node_place, part_of, tree_is_read}
+use Rattle.h5w_tree_index_laws.proofs.TreeStandLemmas.{clean_stand, good_read, node_place, tree_is_read}
 
 -- ---- Moves
 
@@ -70,8 +70,8 @@ same_placed (suc d) ps t e = cond-true t.clean _ _ e
 pub planned_same : (ps : List ℕ) (v : Index) → clean_of v.depth v.root ≡ true → planned ps v ≡ v
 planned_same ps v e = ap (λ (t : Tree v.depth). let u : Index = record { depth = v.depth; root = t } in u) (same_placed v.depth ps v.root e)
 
-pub clean_differs : (d : ℕ) (t : Tree d) → part_of d t ≡ blank → clean_of d t ≡ false → ⊥
-clean_differs d t e f = never (sym f ∙ ap (λ (p : Part). clean_of p.depth p.tree) e)
+pub clean_differs : (v : Index) → clean_of v.depth v.root ≡ false → v ≡ no_tree → ⊥
+clean_differs v f e = never (sym f ∙ ap (λ (w : Index). clean_of w.depth w.root) e)
   where
     never : ◌≡◌ {A = Bool} false true → ⊥
     never e = cc
@@ -161,11 +161,10 @@ module _ (img name : List ℕ) (m : Moment) (old : Key → ℕ) (s b c t : Space
   holds = subst (λ (bs : List (ℕ × List ℕ)). Holds copied_at bs) x.copied (blocks_hold (image img writes) copies (subst Disjoint (sym ranges_are) got.apart))
 
   pub all_stand : clean_of v.depth v.root ≡ false → AllStand copied_at v.depth (placed v.depth ps v.root)
-  all_stand e = placed_stands copied_at v.depth v.root ps x.index.shallow (record {
+  all_stand e = placed_stands copied_at v.depth v.root ps (record {
     marked = x.index.marked;
-    least = x.half;
-    some = λ q. clean_differs v.depth v.root q e;
-    clean = copies_stand;
+    sound = x.index.sound;
+    clean = clean_stand v copied_at (clean_differs v e) copies_stand;
     reads = x.plan.reads;
     holds = holds;
     enough = enough;
@@ -179,7 +178,7 @@ module _ (img name : List ℕ) (m : Moment) (old : Key → ℕ) (s b c t : Space
   read = go (cases_Bool (clean_of v.depth v.root))
     where
       go : (clean_of v.depth v.root ≡ true) ⊎ (clean_of v.depth v.root ≡ false) → IsRead w copied_at
-      go (inl e) = subst (λ (u : Index). IsRead u copied_at) (sym (same_tree e)) (tree_is_read v copied_at x.index x.half e copies_stand)
+      go (inl e) = subst (λ (u : Index). IsRead u copied_at) (sym (same_tree e)) (tree_is_read v copied_at x.index e copies_stand)
       go (inr e) = subst (λ (u : Index). IsRead u copied_at) (sym x.plan.index) (good_read (planned ps v) copied_at (planned_index ps v x.index) (all_stand e))
 
   -- ---- Ranges
@@ -262,7 +261,7 @@ module _ (img name : List ℕ) (m : Moment) (old : Key → ℕ) (s b c t : Space
       go : (clean_of v.depth v.root ≡ true) ⊎ (clean_of v.depth v.root ≡ false) → SaysInPlace copied_at d (blocks_in_place w) (header_range place ∷ [])
       go (inl e) =
           subst (λ (u : Index). SaysInPlace copied_at d (blocks_in_place u) (header_range place ∷ [])) (sym (same_tree e))
-          (header_says v copied_at d place kind at_place x.defined (ap (λ (l : List ℕ). bthd_at l place) header_stays ∙ x.stands.header e))
+          (header_says v copied_at d place kind at_place x.defined (ap (in_place_by place) header_stays ∙ x.stands.header e))
       go (inr e) = absurd (never (record { at = place; piece = bthd_bytes (header_of w) }) [] (sym none ∙ some e))
 
   index_flushed : (rows : ℕ) (more : List ℤ) → IndexFlushed img m old (tree_parts (chunk_bytes m.dataset) place w rows more writes chunks copies supers last fixed)

@@ -1,14 +1,16 @@
 -- The header of a tree, and nodes that other writes miss.
-use Rattle.std.proofs.Common.{◌≡◌, ◌≢◌, ℕ, zero, suc, ◌+◌, ◌<◌, ◌≤◌, ◌^◌, Bool, true, false, cond, eqb, List, [], ◌∷◌, ◌++◌, length, map, Result, Ok, refl, sym, ap, subst, ◌∙◌, inl, inr, arith}
+use Rattle.std.proofs.Common.{◌≡◌, ◌≢◌, ℕ, zero, suc, ◌+◌, ◌*◌, ◌<◌, ◌≤◌, ◌^◌, Bool, true, false, cond, eqb, List, [], ◌∷◌, ◌++◌, length, map, Result, Ok, refl, sym, ap, subst, ◌∙◌, inl, inr, arith, leb-true}
+use Rattle.std.specs.Prelude.{codes}
 use Rattle.std.specs.List.{All}
 use Rattle.std.proofs.lemmas.Bool.{cond-false, eqb-true}
 use Rattle.std.proofs.lemmas.List.{length-map}
 use Rattle.std.proofs.lemmas.List.Elements.{All-head, All-tail}
 use Rattle.h5w_model.specs.Numbers.{le, range, undefined}
-use Rattle.h5w_model.specs.Images.{AllMiss, apply, image}
+use Rattle.h5w_model.specs.Blocks.{block_tests}
+use Rattle.h5w_model.specs.Images.{AllMiss, Misses, apply, image}
 use Rattle.h5w_model.specs.Programs.{Prog, eval, visits}
-use Rattle.h5w_model.specs.Trees.{BthdFields, bthd_at, bthd_bytes, bthd_len, capacity_of, node_size}
-use Rattle.h5w_model.specs.Datasets.{Described, refused_as}
+use Rattle.h5w_model.specs.Trees.{BthdFields, BtinFields, RecordFields, bthd_at, bthd_bytes, bthd_len, btin_at, btin_fields, btin_len, btlf_at, btlf_len, capacity_of, child_tests, node_size, node_tests, records_in}
+use Rattle.h5w_model.specs.Datasets.{Described, refused_as, then_also}
 use Rattle.h5w_model.specs.Tables.{InPlace, nowhere, in_tree, in_place, array_in_place, tree_in_place}
 use Rattle.h5w_model.specs.Findings.{Used}
 use Rattle.h5w_model.specs.declared.cell.IndexKind.{IndexKind}
@@ -16,24 +18,26 @@ use Rattle.h5w_model.specs.declared.cell.IndexKind.TheVariants.{Array, Tree as a
 use Rattle.h5w_model.specs.declared.piece.Write.{Write}
 use Rattle.h5w_model.specs.declared.refusal.ReadError.{ReadError}
 use Rattle.h5w_model.specs.declared.refusal.ReadError.TheVariants.{Damaged}
+use Rattle.h5w_model.proofs.CheckedLemmas.{checked-passed}
 use Rattle.h5w_model.proofs.ChecksumLemmas.{length-sealed_block}
-use Rattle.h5w_model.proofs.ImageLemmas.{At-apply, At-image_missed}
+use Rattle.h5w_model.proofs.ImageLemmas.{At-apply, length-range, range-image_missed}
 use Rattle.h5w_laws.proofs.ResultLemmas.{then_from}
 use Rattle.h5w_laws.proofs.SlotLemmas.{refused_from}
 use Rattle.h5w_visits.specs.Ranges.{Among, blocks_of}
 use Rattle.h5w_visits.proofs.RangeLemmas.{among_left, among_right}
+use Rattle.h5w_visits.proofs.TreeVisits.{inner_low, leaf_low}
 use Rattle.h5w_flush_laws.specs.Parts.{SaysInPlace}
 use Rattle.h5w_bt.proofs.Spelling.{bthd_at-bthd_body, bthd_body, bthd_bytes-is}
 use Rattle.h5w_bt.specs.declared.records.Record.{Record}
+use Rattle.h5w_bt.specs.Parts.{record_of}
 use Rattle.h5w_bt_index.specs.Nodes.{Tree, records_of}
 use Rattle.h5w_bt_index.specs.Sound.{IsSound}
 use Rattle.h5w_bt_index.specs.Marks.{IsCleanPart, Part, Some_of}
 use Rattle.h5w_bt_index.specs.Index.{Index, IsClean, IsIndex}
-use Rattle.h5w_bt_index.specs.Plans.{header_of, node_bytes, place_of}
+use Rattle.h5w_bt_index.specs.Plans.{header_of, node_of, place_of}
 use Rattle.h5w_tree_index_laws.specs.TreeImages.{StandsNode, StandsTree, around, blocks_in_place, chunk_of, chunks_of, own_range, ranges_under}
 use Rattle.h5w_tree_index_laws.specs.TreeFlushes.{header_range}
 use Rattle.h5w_bt_index.proofs.Bounds.{room_small, total_fits}
-use Rattle.h5w_tree_index_laws.proofs.TreePlanLemmas.{node_long}
 use Rattle.h5w_tree_index_laws.specs.TreeImages.{node_range}
 use Rattle.h5w_tree_index_laws.proofs.TreeStandLemmas.{PartStands, placed_differs}
 
@@ -71,25 +75,33 @@ in_place_is d place kind e n =
     cond-false (eqb d.layout.address undefined) _ _ (address_other d.layout.address place e n)
     ∙ ap (λ k. by_kind k d.layout.address) kind ∙ ap tree_in_place e
 
--- where the header at its place says this tree, the block in place does
-pub header_says : (v : Index) (img : List ℕ) (d : Described) (place : ℕ) → d.layout.index ≡ a_tree → d.layout.address ≡ place → place ≢ undefined → bthd_at (range img place bthd_len) place ≡ Ok (header_of v)
+-- what a reader finds by these bytes of a header
+abbrev pub in_place_by : ℕ → List ℕ → Result InPlace ReadError
+in_place_by place b = then_also (refused_as (Damaged place) (bthd_at b place)) (λ (t : BthdFields). in_place_ok (cond (eqb t.root undefined) nowhere (in_tree t)))
+
+-- where they say this tree, it is this tree
+pub header_gives : (v : Index) (b : List ℕ) (place : ℕ) → bthd_at b place ≡ Ok (header_of v) → in_place_by place b ≡ Ok (blocks_in_place v)
+header_gives v b place reads =
+    then_from (refused_as (Damaged place) (bthd_at b place)) (λ (t : BthdFields). in_place_ok (cond (eqb t.root undefined) nowhere (in_tree t))) (header_of v) (blocks_in_place v)
+    (refused_from (Damaged place) (bthd_at b place) (header_of v) reads) refl
+
+-- where a reader finds this tree by the header at its place, the block in place says it
+pub header_says : (v : Index) (img : List ℕ) (d : Described) (place : ℕ) → d.layout.index ≡ a_tree → d.layout.address ≡ place → place ≢ undefined → in_place_by place (range img place bthd_len) ≡ Ok (blocks_in_place v)
     → SaysInPlace img d (blocks_in_place v) (header_range place ∷ [])
-header_says v img d place kind e n reads =
+header_says v img d place kind e n found =
     let is : in_place d ≡ tree_in_place place = in_place_is d place kind e n in
     record {
-      says = ap (eval img) is
-          ∙ then_from (refused_as (Damaged place) (bthd_at (range img place bthd_len) place)) (λ (t : BthdFields). in_place_ok (cond (eqb t.root undefined) nowhere (in_tree t))) (header_of v) (blocks_in_place v)
-          (refused_from (Damaged place) (bthd_at (range img place bthd_len) place) (header_of v) reads) refl;
+      says = ap (eval img) is ∙ found;
       looks = sym (ap (λ p. blocks_of (visits img p)) is);
     }
 
 -- the header once it is written
 pub header_written : (v : Index) (img : List ℕ) (place : ℕ) → IsIndex v → place_of v.depth v.root < 2 ^ 64
-    → bthd_at (range (apply (record { at = place; piece = bthd_bytes (header_of v) }) img) place bthd_len) place ≡ Ok (header_of v)
+    → in_place_by place (range (apply (record { at = place; piece = bthd_bytes (header_of v) }) img) place bthd_len) ≡ Ok (blocks_in_place v)
 header_written v img place i low =
     let w : Write = record { at = place; piece = bthd_bytes (header_of v) } in
     let there : range (apply w img) place (length (bthd_bytes (header_of v))) ≡ bthd_bytes (header_of v) = At-apply w img in
-    ap (λ b. bthd_at b place) (ap (range (apply w img) place) (sym (header_long (header_of v))) ∙ there) ∙ header_reads v place i low
+    header_gives v (range (apply w img) place bthd_len) place (ap (λ b. bthd_at b place) (ap (range (apply w img) place) (sym (header_long (header_of v))) ∙ there) ∙ header_reads v place i low)
 
 -- ---- Nodes that writes miss
 
@@ -107,18 +119,50 @@ part_sound p zero t low s h = subst PartIs (sym h.1) (record { low = low; sound 
 part_sound p (suc d) t low s (inl h) = subst PartIs (sym h.1) (record { low = low; sound = s })
 part_sound p (suc d) t low s (inr h) = some_sound d p t.children (λ c. part_sound p d c (omega (arith, low))) s.each h
 
+-- writes that miss some bytes miss the first of them
+pub miss_less : (ws : List Write) (place n m : ℕ) → m ≤ n → AllMiss ws place n → AllMiss ws place m
+miss_less [] place n m h all = tt
+miss_less (w ∷ ws) place n m h all = (less all.0, miss_less ws place n m h all.1)
+  where
+    less : Misses w place n → Misses w place m
+    less (inl before) = inl before
+    less (inr after) = inr (omega (arith, h, after))
+
+-- bytes of which none is cut off stand within the image
+inside : (img : List ℕ) (place n : ℕ) → 0 < n → n ≤ length (range img place n) → place + n ≤ length img
+inside img place n some long = omega (arith, some, long, length-range img place n)
+
+leaf_inside : (img : List ℕ) (place n : ℕ) (rs : List RecordFields) → btlf_at (range img place (btlf_len n)) place n ≡ Ok rs → place + btlf_len n ≤ length img
+leaf_inside img place n rs e =
+    let b : List ℕ = range img place (btlf_len n) in
+    let p = checked-passed (block_tests (codes "BTLF") (btlf_len n) b ++ node_tests b place) (records_in b n 6) rs e in
+    inside img place (btlf_len n) (omega arith) (leb-true (btlf_len n) (length b) p.0.0)
+
+inner_inside : (img : List ℕ) (place n d : ℕ) (v : BtinFields) → btin_at (range img place (btin_len n (suc d))) place n (suc d) ≡ Ok v → place + btin_len n (suc d) ≤ length img
+inner_inside img place n d v e =
+    let b : List ℕ = range img place (btin_len n (suc d)) in
+    let p = checked-passed (block_tests (codes "BTIN") (btin_len n (suc d)) b ++ node_tests b place ++ child_tests b place (suc d) (n + 1) (6 + 24 * n)) (btin_fields b n (suc d)) v e in
+    inside img place (btin_len n (suc d)) (omega arith) (leb-true (btin_len n (suc d)) (length b) p.0.0)
+
 -- a write that misses a node leaves it
 pub node_left : (img : List ℕ) (ws : List Write) (d : ℕ) (t : Tree d) → d ≤ 3 → IsSound d (capacity_of d) t → AllMiss ws (place_of d t) node_size → StandsNode img d t → StandsNode (image img ws) d t
-node_left img ws d t low sound miss s = record {
-  there = At-image_missed img ws (place_of d t) (node_bytes d t) (subst (λ (n : ℕ). AllMiss ws (place_of d t) n) (sym (node_long d t low sound)) miss) s.there;
-  reads = s.reads;
-  ends = s.ends;
-}
+node_left img ws zero t low sound miss s =
+    let n : ℕ = length t.records in
+    record {
+      reads = ap (λ (b : List ℕ). btlf_at b t.place n) (range-image_missed img ws t.place (btlf_len n) (miss_less ws t.place node_size (btlf_len n) (leaf_low n sound) miss) (leaf_inside img t.place n (map record_of t.records) s.reads)) ∙ s.reads;
+      ends = s.ends;
+    }
+node_left img ws (suc d) t low sound miss s =
+    let n : ℕ = length t.records in
+    record {
+      reads = ap (λ (b : List ℕ). btin_at b t.place n (suc d)) (range-image_missed img ws t.place (btin_len n (suc d)) (miss_less ws t.place node_size (btin_len n (suc d)) (inner_low d n low sound.few) miss) (inner_inside img t.place n d (node_of d t) s.reads)) ∙ s.reads;
+      ends = s.ends;
+    }
 
 pub tree_left : (v : Index) (img : List ℕ) (ws : List Write) → IsIndex v → StandsTree v img → ((p : Part) → IsClean p v → StandsNode img p.depth p.tree → AllMiss ws (place_of p.depth p.tree) node_size) → StandsTree v (image img ws)
 tree_left v img ws i stands miss p clean = go (stands p clean) (part_sound p v.depth v.root i.shallow i.sound clean)
   where
-    go : PartStands img p → PartIs p → PartStands (image img ws) p
+    go : PartStands img v p → PartIs p → PartStands (image img ws) v p
     go (inl b) is = inl b
     go (inr s) is = inr (node_left img ws p.depth p.tree is.low is.sound (miss p clean s) s)
 

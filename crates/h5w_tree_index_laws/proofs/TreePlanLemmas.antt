@@ -5,11 +5,11 @@ use Rattle.std.specs.List.{All}
 use Rattle.std.proofs.lemmas.Bool.{cases_Bool, cond-true, cond-false}
 use Rattle.std.proofs.lemmas.List.{map-append, length-drop, length-map, length-replicate}
 use Rattle.std.proofs.lemmas.List.Elements.{All-cons, All-head, All-nil, All-tail}
-use Rattle.h5w_model.specs.Numbers.{undefined}
+use Rattle.h5w_model.specs.Numbers.{range, undefined}
 use Rattle.h5w_model.specs.Images.{At, Holds, image, pieces}
-use Rattle.h5w_model.specs.Trees.{btin_bytes, btlf_bytes, capacity_of, node_size}
+use Rattle.h5w_model.specs.Trees.{RecordFields, btin_at, btin_bytes, btin_len, btlf_at, btlf_bytes, capacity_of, node_size}
 use Rattle.h5w_model.specs.Findings.{Used}
-use Rattle.h5w_model.proofs.ImageLemmas.{Apart-sym, At-image_missed, At-pieces, Holds-front, Holds-rest, image-append}
+use Rattle.h5w_model.proofs.ImageLemmas.{Apart-sym, At-front, At-image_missed, At-pieces, Holds-front, Holds-rest, image-append}
 use Rattle.h5w_visits.specs.Ranges.{Disjoint, block_at}
 use Rattle.h5w_visits.proofs.TreeVisits.{leaf_low, inner_low}
 use Rattle.h5w_space.specs.Space.{Space}
@@ -19,16 +19,15 @@ use Rattle.h5w_flush_laws.specs.Spaces.{Taken}
 use Rattle.h5w_flush_laws.proofs.SpaceLemmas.{taken_laws}
 use Rattle.h5w_flush_laws.proofs.EarlyLemmas.{blocks_miss}
 use Rattle.h5w_bt.specs.Parts.{record_of}
-use Rattle.h5w_bt_index.specs.Nodes.{Tree, records_of}
-use Rattle.h5w_bt_index.specs.Puts.{half}
-use Rattle.h5w_bt_index.specs.Sound.{AtLeast, IsSound}
+use Rattle.h5w_bt_index.specs.Nodes.{Tree}
+use Rattle.h5w_bt_index.specs.Sound.{IsSound}
 use Rattle.h5w_bt_index.specs.Marks.{IsCleanPart, IsMarked, Part, Some_of}
-use Rattle.h5w_bt_index.specs.Plans.{AllRead, AreNodeMoves, EachBy, block_of, changes, each_by, joined_blocks, node_bytes, node_of, padded, place_of, placed, pointer_of, stood, written}
-use Rattle.h5w_tree_index_laws.specs.TreeImages.{AllStand, StandsNode, blank, node_range}
+use Rattle.h5w_bt_index.specs.Plans.{AllRead, AreNodeMoves, EachBy, ReadsBack, block_of, changes, each_by, joined_blocks, node_bytes, node_of, padded, place_of, placed, pointer_of, stood, written}
+use Rattle.h5w_tree_index_laws.specs.TreeImages.{AllStand, IsReadAs, StandsNode, node_range}
 use Rattle.h5w_tree_index_laws.specs.TreeFlushes.{fresh}
 use Rattle.h5w_bt_index.proofs.Placed.{either, placed_sound}
 use Rattle.h5w_bt_index.proofs.NodeBytes.{inner_length, leaf_length}
-use Rattle.h5w_tree_index_laws.proofs.TreeStandLemmas.{PartStands, half_some, least_records, least_weaker, nodes_stand, part_of, some_records}
+use Rattle.h5w_tree_index_laws.proofs.TreeStandLemmas.{nodes_stand}
 
 -- ---- Places
 
@@ -149,12 +148,27 @@ ends_drop zero ps e = e
 ends_drop (suc n) [] e = e
 ends_drop (suc n) (p ∷ ps) e = ends_drop n ps (All-tail (λ (p : ℕ). p + node_size < 2 ^ 64) p ps e)
 
+-- a node that was written, and reads back, is read as that node
+leaf_read : (img : List ℕ) (t : Tree zero) → At img t.place (node_bytes zero t) → ReadsBack zero t → IsReadAs img zero t
+unfolding node_bytes
+leaf_read img t there back =
+    let rs : List RecordFields = map record_of t.records in
+    let front : range img t.place (length (btlf_bytes rs)) ≡ btlf_bytes rs = At-front img t.place (btlf_bytes rs) _ there in
+    ap (λ (l : List ℕ). btlf_at l t.place (length t.records)) (ap (range img t.place) (sym (leaf_length rs (length t.records) (length-map t.records record_of))) ∙ front) ∙ back t.place
+
+inner_read : (img : List ℕ) (d : ℕ) (t : Tree (suc d)) → length t.children ≡ length t.records + 1 → At img t.place (node_bytes (suc d) t) → ReadsBack (suc d) t → IsReadAs img (suc d) t
+unfolding node_bytes
+inner_read img d t n there back =
+    let b : List ℕ = btin_bytes (node_of d t) (suc d) in
+    let front : range img t.place (length b) ≡ b = At-front img t.place b _ there in
+    let long : length b ≡ btin_len (length t.records) (suc d) = inner_length (node_of d t) (length t.records) (suc d) (omega arith) (length-map t.records record_of) (length-map t.children (pointer_of d) ∙ n) in
+    ap (λ (l : List ℕ). btin_at l t.place (length t.records) (suc d)) (ap (range img t.place) (sym long) ∙ front) ∙ back t.place
+
 -- what is known of a subtree of which the changed nodes were written
 pub record WasWritten (img : List ℕ) (d : ℕ) (ps : List ℕ) (t : Tree d) : Type 0 where
   pub marked : IsMarked d t
-  pub least : AtLeast d 0 t
-  pub some : part_of d t ≡ blank → ⊥
-  pub clean : (p : Part) → IsCleanPart p d t → PartStands img p
+  pub sound : IsSound d (capacity_of d) t
+  pub clean : (p : Part) → IsCleanPart p d t → StandsNode img p.depth p.tree
   pub reads : AllRead d ps t
   pub holds : Holds img (written d ps t)
   pub enough : changes d t ≤ length ps
@@ -164,54 +178,50 @@ pub record WasWritten (img : List ℕ) (d : ℕ) (ps : List ℕ) (t : Tree d) : 
 abbrev StandsThen : List ℕ → (d : ℕ) → List ℕ → Tree d → Type 0
 StandsThen img d ps t = AllStand img d (placed d ps t)
 
-each_stands : (img : List ℕ) (d : ℕ) (cs : List (Tree d)) (ps : List ℕ) → d ≤ 3 → ((c : Tree d) (qs : List ℕ) → WasWritten img d qs c → StandsThen img d qs c) → All (IsMarked d) cs → All (AtLeast d (half d)) cs
-    → ((p : Part) → Some_of (IsCleanPart p d) cs → PartStands img p) → EachBy (AllRead d) (changes d) ps cs → Holds img (joined_blocks (each_by (written d) (changes d) ps cs)) → length (flat_map (stood d) cs) ≤ length ps → Ends ps
+each_stands : (img : List ℕ) (d : ℕ) (cs : List (Tree d)) (ps : List ℕ) → ((c : Tree d) (qs : List ℕ) → WasWritten img d qs c → StandsThen img d qs c) → All (IsMarked d) cs → All (IsSound d (capacity_of d)) cs
+    → ((p : Part) → Some_of (IsCleanPart p d) cs → StandsNode img p.depth p.tree) → EachBy (AllRead d) (changes d) ps cs → Holds img (joined_blocks (each_by (written d) (changes d) ps cs)) → length (flat_map (stood d) cs) ≤ length ps → Ends ps
     → All (AllStand img d) (each_by (placed d) (changes d) ps cs)
-each_stands img d [] ps low f m l clean reads holds enough ends = All-nil (AllStand img d)
-each_stands img d (c ∷ cs) ps low f m l clean reads holds enough ends =
+each_stands img d [] ps f m s clean reads holds enough ends = All-nil (AllStand img d)
+each_stands img d (c ∷ cs) ps f m s clean reads holds enough ends =
     let n : ℕ = changes d c in
     let all : length (flat_map (stood d) (c ∷ cs)) ≡ n + length (flat_map (stood d) cs) = length-append (stood d c) (flat_map (stood d) cs) in
-    let least : AtLeast d (half d) c = All-head (AtLeast d (half d)) c cs l in
-    let few : 1 ≤ length (records_of d c) = omega (arith, least_records d (half d) c least, half_some d low) in
     let later : List (ℕ × List ℕ) = joined_blocks (each_by (written d) (changes d) (drop n ps) cs) in
     All-cons (AllStand img d) (placed d ps c) (each_by (placed d) (changes d) (drop n ps) cs)
     (f c ps (record {
       marked = All-head (IsMarked d) c cs m;
-      least = least_weaker d c (half d) least;
-      some = some_records d c few;
+      sound = All-head (IsSound d (capacity_of d)) c cs s;
       clean = λ p q. clean p (inl q);
       reads = reads.0;
       holds = Holds-front img (written d ps c) later holds;
       enough = omega (arith, enough, all);
       ends = ends;
     }))
-    (each_stands img d cs (drop n ps) low f (All-tail (IsMarked d) c cs m) (All-tail (AtLeast d (half d)) c cs l) (λ p q. clean p (inr q)) reads.1 (Holds-rest img (written d ps c) later holds)
+    (each_stands img d cs (drop n ps) f (All-tail (IsMarked d) c cs m) (All-tail (IsSound d (capacity_of d)) c cs s) (λ p q. clean p (inr q)) reads.1 (Holds-rest img (written d ps c) later holds)
     (omega (arith, enough, all, length-drop n ps)) (ends_drop n ps ends))
 
-pub placed_stands : (img : List ℕ) (d : ℕ) (t : Tree d) (ps : List ℕ) → d ≤ 3 → WasWritten img d ps t → StandsThen img d ps t
-placed_stands img zero t ps low w =
-    either (AllStand img zero) t.clean _ _ (λ e. nodes_stand img zero t low w.some w.marked e w.least w.clean) (λ e.
+pub placed_stands : (img : List ℕ) (d : ℕ) (t : Tree d) (ps : List ℕ) → WasWritten img d ps t → StandsThen img d ps t
+placed_stands img zero t ps w =
+    either (AllStand img zero) t.clean _ _ (λ e. nodes_stand img zero t w.marked e w.clean) (λ e.
     let now : placed zero ps t ≡ record t { place = slice_index_or ps 0 undefined; clean = true } = cond-false t.clean _ _ e in
     let one : stood zero t ≡ t.place ∷ [] = cond-false t.clean _ _ e in
     let holds : Holds img (block_of zero (placed zero ps t) ∷ []) = subst (Holds img) (cond-false t.clean _ _ e) w.holds in
     subst (StandsNode img zero) now (record {
-      there = holds.0;
-      reads = w.reads e;
+      reads = leaf_read img (placed zero ps t) holds.0 (w.reads e);
       ends = subst (λ (p : ℕ). p + node_size < 2 ^ 64) (sym (ap (place_of zero) now)) (ends_at ps 0 (omega (arith, w.enough, ap length one)) w.ends);
     }))
-placed_stands img (suc d) t ps low w =
-    either (AllStand img (suc d)) t.clean _ _ (λ e. nodes_stand img (suc d) t low w.some w.marked e w.least w.clean) (λ e.
+placed_stands img (suc d) t ps w =
+    either (AllStand img (suc d)) t.clean _ _ (λ e. nodes_stand img (suc d) t w.marked e w.clean) (λ e.
     let k : ℕ = length (flat_map (stood d) t.children) in
     let now : placed (suc d) ps t ≡ record t { children = each_by (placed d) (changes d) ps t.children; place = slice_index_or ps k undefined; clean = true } = cond-false t.clean _ _ e in
     let all : stood (suc d) t ≡ flat_map (stood d) t.children ++ t.place ∷ [] = cond-false t.clean _ _ e in
     let count : length (stood (suc d) t) ≡ k + 1 = ap length all ∙ length-append (flat_map (stood d) t.children) (t.place ∷ []) in
     let holds : Holds img (joined_blocks (each_by (written d) (changes d) ps t.children) ++ block_of (suc d) (placed (suc d) ps t) ∷ []) = subst (Holds img) (cond-false t.clean _ _ e) w.holds in
-    let own : Holds img (block_of (suc d) (placed (suc d) ps t) ∷ []) = Holds-rest img (joined_blocks (each_by (written d) (changes d) ps t.children)) (block_of (suc d) (placed (suc d) ps t) ∷ []) holds in (
+    let own : Holds img (block_of (suc d) (placed (suc d) ps t) ∷ []) = Holds-rest img (joined_blocks (each_by (written d) (changes d) ps t.children)) (block_of (suc d) (placed (suc d) ps t) ∷ []) holds in
+    let sound : IsSound (suc d) (capacity_of (suc d)) (placed (suc d) ps t) = placed_sound (suc d) (capacity_of (suc d)) ps t w.sound in (
       subst (StandsNode img (suc d)) now (record {
-        there = own.0;
-        reads = (w.reads e).1;
+        reads = inner_read img d (placed (suc d) ps t) sound.children own.0 (w.reads e).1;
         ends = subst (λ (p : ℕ). p + node_size < 2 ^ 64) (sym (ap (place_of (suc d)) now)) (ends_at ps k (omega (arith, w.enough, count)) w.ends);
       }),
-      each_stands img d t.children ps (omega (arith, low)) (λ c qs. placed_stands img d c qs (omega (arith, low))) w.marked.1 w.least.1 (λ p q. w.clean p (inr q)) (w.reads e).0
+      each_stands img d t.children ps (λ c qs. placed_stands img d c qs) w.marked.1 (w.sound).each (λ p q. w.clean p (inr q)) (w.reads e).0
           (Holds-front img (joined_blocks (each_by (written d) (changes d) ps t.children)) (block_of (suc d) (placed (suc d) ps t) ∷ []) holds) (omega (arith, w.enough, count)) w.ends,
     ))

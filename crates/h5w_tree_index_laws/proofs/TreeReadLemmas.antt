@@ -7,47 +7,25 @@ use Rattle.std.proofs.lemmas.List.{length-map}
 use Rattle.std.proofs.lemmas.List.Elements.{All-cons, All-head, All-nil, All-tail}
 use Rattle.h5w_model.specs.Numbers.{range, undefined}
 use Rattle.h5w_model.specs.Programs.{Prog, eval}
-use Rattle.h5w_model.specs.Trees.{RecordFields, ChildFields, BtinFields, capacity_of, btlf_at, btlf_bytes, btlf_len, btin_at, btin_bytes, btin_len}
+use Rattle.h5w_model.specs.Trees.{RecordFields, ChildFields, BtinFields, capacity_of, btlf_at, btlf_len, btin_at, btin_len}
 use Rattle.h5w_model.specs.Datasets.{refused_as}
 use Rattle.h5w_model.specs.Tables.{in_leaf, in_node, tree_lookup, key_below, key_equal}
 use Rattle.h5w_model.specs.declared.cell.Key.{Key}
 use Rattle.h5w_model.specs.declared.refusal.ReadError.{ReadError}
 use Rattle.h5w_model.specs.declared.refusal.ReadError.TheVariants.{Damaged}
-use Rattle.h5w_model.proofs.ImageLemmas.{At-front}
 use Rattle.h5w_laws.proofs.ResultLemmas.{then_from, choice_from}
 use Rattle.h5w_laws.proofs.SlotLemmas.{refused_from}
 use Rattle.h5w_bt.specs.declared.records.Record.{Record}
 use Rattle.h5w_bt.specs.Parts.{record_of}
 use Rattle.h5w_bt_index.specs.Nodes.{Tree, all_records, records_of, joined, address_in}
 use Rattle.h5w_bt_index.specs.Sound.{IsRising, IsSound}
-use Rattle.h5w_bt_index.specs.Plans.{node_bytes, node_of, place_of, pointer_of}
-use Rattle.h5w_tree_index_laws.specs.TreeImages.{AllStand, StandsNode}
+use Rattle.h5w_bt_index.specs.Plans.{node_of, place_of, pointer_of}
+use Rattle.h5w_tree_index_laws.specs.TreeImages.{AllStand}
 use Rattle.h5w_bt_index.proofs.Records.{under, here, past, side, in-under, in-here, in-behind, in-before, below_all, rises-around, AreBelow}
 use Rattle.h5w_bt_index.proofs.Places.{All-each}
 use Rattle.h5w_bt_index.proofs.Keys.{equal-is}
 use Rattle.h5w_bt_index.proofs.Joined.{joined-each_rises}
 use Rattle.h5w_bt_index.proofs.Laws.{in_leaf-is}
-use Rattle.h5w_bt_index.proofs.NodeBytes.{inner_length, leaf_length}
-
--- ---- A node's bytes
-
--- what a leaf reads as where it stands
-pub leaf_there : (img : List ℕ) (t : Tree zero) → StandsNode img zero t → btlf_at (range img t.place (btlf_len (length t.records))) t.place (length t.records) ≡ Ok (map record_of t.records)
-unfolding node_bytes
-leaf_there img t s =
-    let rs : List RecordFields = map record_of t.records in
-    let b : List ℕ = btlf_bytes rs in
-    let front : range img t.place (length b) ≡ b = At-front img t.place b _ s.there in
-    ap (λ l. btlf_at l t.place (length t.records)) (ap (range img t.place) (sym (leaf_length rs (length t.records) (length-map t.records record_of))) ∙ front) ∙ s.reads t.place
-
-pub inner_there : (img : List ℕ) (d : ℕ) (t : Tree (suc d)) → length t.children ≡ length t.records + 1 → StandsNode img (suc d) t
-    → btin_at (range img t.place (btin_len (length t.records) (suc d))) t.place (length t.records) (suc d) ≡ Ok (node_of d t)
-unfolding node_bytes
-inner_there img d t n s =
-    let b : List ℕ = btin_bytes (node_of d t) (suc d) in
-    let front : range img t.place (length b) ≡ b = At-front img t.place b _ s.there in
-    let long : length b ≡ btin_len (length t.records) (suc d) = inner_length (node_of d t) (length t.records) (suc d) (omega arith) (length-map t.records record_of) (length-map t.children (pointer_of d) ∙ n) in
-    ap (λ l. btin_at l t.place (length t.records) (suc d)) (ap (range img t.place) (sym long) ∙ front) ∙ s.reads t.place
 
 -- ---- A lookup
 
@@ -109,9 +87,9 @@ pub lookup_gives : (img : List ℕ) (d : ℕ) (t : Tree d) (key : Key) → Good 
 lookup_gives img zero t key g =
     let rs : List RecordFields = map record_of t.records in
     then_from (refused_as (Damaged t.place) (btlf_at (range img t.place (btlf_len (length t.records))) t.place (length t.records))) (λ rs. address_ok (in_leaf key rs)) rs (in_leaf key rs)
-    (refused_from (Damaged t.place) (btlf_at (range img t.place (btlf_len (length t.records))) t.place (length t.records)) rs (leaf_there img t g.stands)) refl
+    (refused_from (Damaged t.place) (btlf_at (range img t.place (btlf_len (length t.records))) t.place (length t.records)) rs g.stands.reads) refl
 lookup_gives img (suc d) t key g =
     let go : ChildFields → Prog (Result ℕ ReadError) = λ c. tree_lookup d key c.address c.records in
     choice_from img (btin_at (range img t.place (btin_len (length t.records) (suc d))) t.place (length t.records) (suc d)) (λ (v : BtinFields). in_node go key v.records v.children) (Damaged t.place) (node_of d t) (in_leaf key (map record_of (all_records (suc d) t)))
-    (inner_there img d t g.sound.children g.stands.0)
+    (g.stands.0).reads
     (node_gives img (pointer_of d) (all_records d) go key t.records t.children g.sound.children g.rises (All-each (Good img d) (EachGives img (pointer_of d) (all_records d) go key) (λ c h. lookup_gives img d c key h) t.children (good_children img d t g)))

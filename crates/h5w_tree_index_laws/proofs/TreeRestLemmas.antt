@@ -6,7 +6,7 @@ use Rattle.std.proofs.lemmas.Bool.{cases_Bool, cond-true, cond-false}
 use Rattle.std.proofs.lemmas.List.Elements.{All-head, All-tail}
 use Rattle.h5w_model.specs.Numbers.{range}
 use Rattle.h5w_model.specs.Images.{AllMiss, Misses, image}
-use Rattle.h5w_model.specs.Trees.{bthd_at, bthd_bytes, bthd_len, node_size}
+use Rattle.h5w_model.specs.Trees.{bthd_bytes, bthd_len, node_size}
 use Rattle.h5w_model.specs.Findings.{Used, chunk_bytes}
 use Rattle.h5w_model.specs.declared.cell.Key.{Key}
 use Rattle.h5w_model.specs.declared.piece.Write.{Write}
@@ -25,13 +25,14 @@ use Rattle.h5w_flush_laws.proofs.FlushLemmas.{after_apart, supers_miss}
 use Rattle.h5w_flush_laws.proofs.FlushLaws.{final_image, index_missed_by_header, live_after}
 use Rattle.h5w_bt_index.specs.Nodes.{Tree}
 use Rattle.h5w_bt_index.specs.Marks.{IsCleanPart, Part, Some_of, clean_of}
-use Rattle.h5w_bt_index.specs.Index.{Index, IsClean, IsHalfFull, IsIndex}
+use Rattle.h5w_bt_index.specs.Index.{Index, IsClean, IsFilled, IsIndex, no_tree}
 use Rattle.h5w_bt_index.specs.Plans.{header_of, header_writes, news, place_of, planned}
-use Rattle.h5w_bt_index.proofs.Placed.{placed_clean, planned_half}
-use Rattle.h5w_tree_index_laws.specs.TreeImages.{AllStand, StandsNode, StandsTree, behind_of, node_range}
+use Rattle.h5w_bt_index.proofs.Placed.{placed_clean, planned_shares}
+use Rattle.h5w_bt_index.proofs.Shares.{filled_kept}
+use Rattle.h5w_tree_index_laws.specs.TreeImages.{AllStand, StandsNode, StandsTree, behind_of, blocks_in_place, node_range}
 use Rattle.h5w_tree_index_laws.specs.TreeFlushes.{AreChunks, IsTreePart, TreeBegins, TreeRestsThen, TreeStands, header_range, tree_parts}
 use Rattle.h5w_tree_index_laws.proofs.TreeFlushLemmas.{all_stand, after, copies_stand, header_stays, root_low, same_tree}
-use Rattle.h5w_tree_index_laws.proofs.TreeHeaderLemmas.{header_long, header_written, part_range, tree_left}
+use Rattle.h5w_tree_index_laws.proofs.TreeHeaderLemmas.{header_gives, header_long, header_written, in_place_by, part_range, tree_left}
 
 -- ---- Nodes
 
@@ -55,7 +56,7 @@ header_misses place piece u long (inl h) = inl (omega (arith, h, long))
 header_misses place piece u long (inr h) = inr (omega (arith, h))
 
 pub tree_begins : TreeBegins
-tree_begins img place h = record { nodes = λ p clean. inl clean.1; header = λ e. h }
+tree_begins img place h = record { nodes = λ p clean. inl refl; header = λ e. header_gives no_tree (range img place bthd_len) place h }
 
 module _ (img name : List ℕ) (m : Moment) (old : Key → ℕ) (s b t : Space) (place : ℕ) (v w : Index) (ms : List Move) (rows : ℕ) (more : List ℤ) (writes : List Write) (chunks : List Used) (copies : List (ℕ × List ℕ))
     (supers fixed : List Write) (last : ℕ) (k : Knows img name m old s) (are : AreChunks chunks) (i : IsFlush img m old s (tree_parts (chunk_bytes m.dataset) place w rows more writes chunks copies supers last fixed) t)
@@ -75,8 +76,8 @@ module _ (img name : List ℕ) (m : Moment) (old : Key → ℕ) (s b t : Space) 
   is_index : IsIndex w
   is_index = after img name m old s b i.between t place v w ms writes chunks copies supers last fixed k i.taken i.end i.super i.written.unseen are i.index.kept x
 
-  is_half : IsHalfFull w
-  is_half = subst IsHalfFull (sym x.plan.index) (planned_half (news ms) v x.half)
+  is_filled : IsFilled w
+  is_filled = subst IsFilled (sym x.plan.index) (filled_kept v (planned (news ms) v) (planned_shares (news ms) v) x.filled)
 
   is_clean : clean_of w.depth w.root ≡ true
   is_clean = subst (λ (u : Index). clean_of u.depth u.root ≡ true) (sym x.plan.index) (placed_clean v.depth (news ms) v.root)
@@ -137,25 +138,28 @@ module _ (img name : List ℕ) (m : Moment) (old : Key → ℕ) (s b t : Space) 
   header_end : place + 38 ≤ length copied_at
   header_end = omega (arith, k.file.index.ends (header_range place) header_before, k.ended, k.covered, image-grows img writes, image-grows (image img writes) (block_writes copies))
 
-  header_ended : clean_of v.depth v.root ≡ true → bthd_at (range ended_at place bthd_len) place ≡ Ok (header_of w)
+  abbrev found_on : List ℕ → Type 0
+  found_on y = in_place_by place (range y place bthd_len) ≡ Ok (blocks_in_place w)
+
+  header_ended : clean_of v.depth v.root ≡ true → found_on ended_at
   header_ended e =
-      ap (λ (l : List ℕ). bthd_at l place)
+      ap (in_place_by place)
       (range-image_missed copied_at supers place bthd_len (supers_miss img name m old s t f k i (header_range place) header_among) header_end
       ∙ header_stays img name m old s b i.between t place v w ms writes chunks copies supers last fixed k i.taken i.end i.super i.written.unseen are i.index.kept x)
-      ∙ subst (λ (u : Index). bthd_at (range img place bthd_len) place ≡ Ok (header_of u)) (sym (unchanged e)) (x.stands.header e)
+      ∙ subst (λ (u : Index). in_place_by place (range img place bthd_len) ≡ Ok (blocks_in_place u)) (sym (unchanged e)) (x.stands.header e)
 
-  header_last : bthd_at (range last_at place bthd_len) place ≡ Ok (header_of w)
-  header_last = subst (λ (ws : List Write). bthd_at (range (image ended_at ws) place bthd_len) place ≡ Ok (header_of w)) (sym x.plan.in_place) (go (cases_Bool (clean_of v.depth v.root)))
+  header_last : found_on last_at
+  header_last = subst (λ (ws : List Write). found_on (image ended_at ws)) (sym x.plan.in_place) (go (cases_Bool (clean_of v.depth v.root)))
     where
-      go : (clean_of v.depth v.root ≡ true) ⊎ (clean_of v.depth v.root ≡ false) → bthd_at (range (image ended_at (header_writes place v w)) place bthd_len) place ≡ Ok (header_of w)
-      go (inl e) = subst (λ (ws : List Write). bthd_at (range (image ended_at ws) place bthd_len) place ≡ Ok (header_of w)) (sym (cond-true (clean_of v.depth v.root) _ _ e)) (header_ended e)
+      go : (clean_of v.depth v.root ≡ true) ⊎ (clean_of v.depth v.root ≡ false) → found_on (image ended_at (header_writes place v w))
+      go (inl e) = subst (λ (ws : List Write). found_on (image ended_at ws)) (sym (cond-true (clean_of v.depth v.root) _ _ e)) (header_ended e)
       go (inr e) =
-          subst (λ (ws : List Write). bthd_at (range (image ended_at ws) place bthd_len) place ≡ Ok (header_of w)) (sym (cond-false (clean_of v.depth v.root) _ _ e))
+          subst (λ (ws : List Write). found_on (image ended_at ws)) (sym (cond-false (clean_of v.depth v.root) _ _ e))
           (header_written w ended_at place is_index (root_low img name m old s b i.between t place v w ms writes chunks copies supers last fixed k i.taken i.end i.super i.written.unseen are i.index.kept x e))
 
-  header_all : bthd_at (range (image last_at (commit_at last_at m.place rows None ∷ [])) place bthd_len) place ≡ Ok (header_of w)
+  header_all : found_on (image last_at (commit_at last_at m.place rows None ∷ []))
   header_all =
-      ap (λ (l : List ℕ). bthd_at l place)
+      ap (in_place_by place)
       (range-image_missed last_at (commit_at last_at m.place rows None ∷ []) place bthd_len (index_missed_by_header img name m old s t f k i (header_range place) header_among, tt)
       (omega (arith, header_end, image-grows copied_at supers, image-grows ended_at fixed)))
       ∙ header_last
@@ -176,7 +180,7 @@ tree_rests_then img name m old s b t place v w ms rows more writes chunks copies
   at_place = x.at_place;
   defined = x.defined;
   index = is_index img name m old s b t place v w ms rows more writes chunks copies supers fixed last k are i x;
-  half = is_half img name m old s b t place v w ms rows more writes chunks copies supers fixed last k are i x;
+  filled = is_filled img name m old s b t place v w ms rows more writes chunks copies supers fixed last k are i x;
   clean = is_clean img name m old s b t place v w ms rows more writes chunks copies supers fixed last k are i x;
   stands = all_stands img name m old s b t place v w ms rows more writes chunks copies supers fixed last k are i x;
   live = all_live img name m old s b t place v w ms rows more writes chunks copies supers fixed last k are i x;

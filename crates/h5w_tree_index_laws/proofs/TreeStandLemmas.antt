@@ -1,5 +1,5 @@
 -- A tree that did not change since it was written, on an image.
-use Rattle.std.proofs.Common.{◌≡◌, ◌⊎◌, ℕ, zero, suc, ◌+◌, ◌<◌, ◌≤◌, ◌^◌, Bool, true, false, eqb, List, [], ◌∷◌, length, Result, Ok, refl, sym, ap, subst, ◌∙◌, inl, inr, arith}
+use Rattle.std.proofs.Common.{◌≡◌, ◌⊎◌, ℕ, zero, suc, ◌+◌, ◌<◌, ◌^◌, Bool, true, false, eqb, List, [], ◌∷◌, length, Result, Ok, refl, sym, ap, subst, ◌∙◌, inl, inr, arith}
 use Rattle.std.specs.List.{All}
 use Rattle.std.proofs.lemmas.Bool.{cond-false, eqb-true}
 use Rattle.std.proofs.lemmas.List.Elements.{All-cons, All-head, All-nil, All-tail}
@@ -10,79 +10,46 @@ use Rattle.h5w_model.specs.Tables.{in_tree, address_behind}
 use Rattle.h5w_model.specs.Findings.{Finding, Used, Under, node_visit}
 use Rattle.h5w_laws.proofs.ResultLemmas.{and_then_from}
 use Rattle.h5w_visits.specs.Indexes.{behind_visit}
+use Rattle.h5w_bt.specs.declared.records.Record.{Record}
 use Rattle.h5w_bt_index.specs.Nodes.{Tree, records_of}
-use Rattle.h5w_bt_index.specs.Sound.{AtLeast}
-use Rattle.h5w_bt_index.specs.Puts.{half}
 use Rattle.h5w_bt_index.specs.Marks.{IsCleanPart, IsMarked, Part, Some_of, clean_of}
-use Rattle.h5w_bt_index.specs.Index.{Index, IsHalfFull, IsIndex, no_tree}
+use Rattle.h5w_bt_index.specs.Index.{Index, IsClean, IsIndex, inserted, no_tree}
 use Rattle.h5w_bt_index.specs.Plans.{header_of, place_of}
-use Rattle.h5w_tree_index_laws.specs.TreeImages.{AllStand, IsRead, StandsNode, StandsTree, TreeIsRead, behind_of, blank, blocks_in_place}
+use Rattle.h5w_tree_index_laws.specs.TreeImages.{AllStand, IsRead, StandsNode, StandsTree, TreeIsRead, behind_of, blocks_in_place}
 use Rattle.h5w_tree_index_laws.proofs.TreeReadLemmas.{Good, lookup_gives}
 use Rattle.h5w_tree_index_laws.proofs.TreeVisitLemmas.{node_under, visit_finds}
 
 -- what is known of each clean node
-abbrev pub PartStands : List ℕ → Part → Type 0
-PartStands img p = (p ≡ blank) ⊎ StandsNode img p.depth p.tree
+abbrev pub PartStands : List ℕ → Index → Part → Type 0
+PartStands img v p = (v ≡ no_tree) ⊎ StandsNode img p.depth p.tree
 
 abbrev pub part_of : (d : ℕ) → Tree d → Part
 part_of d t = record { depth = d; tree = t }
-
-pub half_some : (d : ℕ) → d ≤ 3 → 1 ≤ half d
-half_some zero h = omega arith
-half_some (suc zero) h = omega arith
-half_some (suc (suc zero)) h = omega arith
-half_some (suc (suc (suc zero))) h = omega arith
-half_some (suc (suc (suc (suc d)))) h = absurd (omega arith)
-
-abbrev count_of : Part → ℕ
-count_of p = length (records_of p.depth p.tree)
-
-pub some_records : (d : ℕ) (t : Tree d) → 1 ≤ length (records_of d t) → part_of d t ≡ blank → ⊥
-some_records d t h e = let n : length (records_of d t) ≡ 0 = ap count_of e in absurd (omega (arith, h, n))
-
-some_depth : (d : ℕ) (t : Tree (suc d)) → part_of (suc d) t ≡ blank → ⊥
-some_depth d t e = let n : suc d ≡ 0 = ap (λ (p : Part). p.depth) e in absurd (omega (arith, n))
-
-stands_not_blank : (img : List ℕ) (d : ℕ) (t : Tree d) → (part_of d t ≡ blank → ⊥) → PartStands img (part_of d t) → StandsNode img d t
-stands_not_blank img d t n (inl e) = absurd (n e)
-stands_not_blank img d t n (inr s) = s
 
 pub own_part : (d : ℕ) (t : Tree d) → clean_of d t ≡ true → IsCleanPart (part_of d t) d t
 own_part zero t e = (e, refl)
 own_part (suc d) t e = inl (e, refl)
 
-pub least_records : (d least : ℕ) (t : Tree d) → AtLeast d least t → least ≤ length (records_of d t)
-least_records zero least t h = h
-least_records (suc d) least t h = h.0
-
-pub least_weaker : (d : ℕ) (t : Tree d) (least : ℕ) → AtLeast d least t → AtLeast d 0 t
-least_weaker zero t least h = omega arith
-least_weaker (suc d) t least h = (omega arith, h.1)
-
+-- where each clean node stands, and no node changed, all stand
 abbrev Whole : List ℕ → (d : ℕ) → Tree d → Type 0
-Whole img d t = (part_of d t ≡ blank → ⊥) → IsMarked d t → clean_of d t ≡ true → AtLeast d 0 t → ((p : Part) → IsCleanPart p d t → PartStands img p) → AllStand img d t
+Whole img d t = IsMarked d t → clean_of d t ≡ true → ((p : Part) → IsCleanPart p d t → StandsNode img p.depth p.tree) → AllStand img d t
 
-pub children_stand : (img : List ℕ) (d : ℕ) (cs : List (Tree d)) → d ≤ 3 → ((c : Tree d) → Whole img d c) → All (IsMarked d) cs → All (λ (c : Tree d). clean_of d c ≡ true) cs → All (AtLeast d (half d)) cs
-    → ((p : Part) → Some_of (IsCleanPart p d) cs → PartStands img p) → All (AllStand img d) cs
-children_stand img d [] low f m e l all = All-nil (AllStand img d)
-children_stand img d (c ∷ cs) low f m e l all =
-    let least : AtLeast d (half d) c = All-head (AtLeast d (half d)) c cs l in
-    let few : 1 ≤ length (records_of d c) = omega (arith, least_records d (half d) c least, half_some d low) in
+children_stand : (img : List ℕ) (d : ℕ) (cs : List (Tree d)) → ((c : Tree d) → Whole img d c) → All (IsMarked d) cs → All (λ (c : Tree d). clean_of d c ≡ true) cs
+    → ((p : Part) → Some_of (IsCleanPart p d) cs → StandsNode img p.depth p.tree) → All (AllStand img d) cs
+children_stand img d [] f m e all = All-nil (AllStand img d)
+children_stand img d (c ∷ cs) f m e all =
     All-cons (AllStand img d) c cs
-    (f c (some_records d c few) (All-head (IsMarked d) c cs m) (All-head (λ (c : Tree d). clean_of d c ≡ true) c cs e) (least_weaker d c (half d) least) (λ p q. all p (inl q)))
-    (children_stand img d cs low f (All-tail (IsMarked d) c cs m) (All-tail (λ (c : Tree d). clean_of d c ≡ true) c cs e) (All-tail (AtLeast d (half d)) c cs l) (λ p q. all p (inr q)))
+    (f c (All-head (IsMarked d) c cs m) (All-head (λ (c : Tree d). clean_of d c ≡ true) c cs e) (λ p q. all p (inl q)))
+    (children_stand img d cs f (All-tail (IsMarked d) c cs m) (All-tail (λ (c : Tree d). clean_of d c ≡ true) c cs e) (λ p q. all p (inr q)))
 
-pub nodes_stand : (img : List ℕ) (d : ℕ) (t : Tree d) → d ≤ 3 → Whole img d t
-nodes_stand img zero t low n m e l all = stands_not_blank img zero t n (all (part_of zero t) (own_part zero t e))
-nodes_stand img (suc d) t low n m e l all = (
-  stands_not_blank img (suc d) t n (all (part_of (suc d) t) (own_part (suc d) t e)),
-  children_stand img d t.children (omega (arith, low)) (λ c. nodes_stand img d c (omega (arith, low))) m.1 (m.0 e) l.1 (λ p c. all p (inr c)),
+pub nodes_stand : (img : List ℕ) (d : ℕ) (t : Tree d) → Whole img d t
+nodes_stand img zero t m e all = all (part_of zero t) (own_part zero t e)
+nodes_stand img (suc d) t m e all = (
+  all (part_of (suc d) t) (own_part (suc d) t e),
+  children_stand img d t.children (λ c. nodes_stand img d c) m.1 (m.0 e) (λ p q. all p (inr q)),
 )
 
 -- ---- The index
-
-abbrev index_of_part : Part → Index
-index_of_part p = record { depth = p.depth; root = p.tree }
 
 pub none_read : (img : List ℕ) → IsRead no_tree img
 none_read img = record { visited = λ end bytes h. refl; found = λ key. refl }
@@ -113,14 +80,24 @@ good_read v img i s =
       found = λ key. ap (λ b. eval img (address_behind b key)) blocks ∙ lookup_gives img v.depth v.root key g;
     }
 
--- the same where the root stands
-pub stand_below : (img : List ℕ) (d : ℕ) (t : Tree d) → d ≤ 3 → StandsNode img d t → IsMarked d t → clean_of d t ≡ true → AtLeast d 0 t → ((p : Part) → IsCleanPart p d t → PartStands img p) → AllStand img d t
-stand_below img zero t low s m e l all = s
-stand_below img (suc d) t low s m e l all = (s, children_stand img d t.children (omega (arith, low)) (λ c. nodes_stand img d c (omega (arith, low))) m.1 (m.0 e) l.1 (λ p c. all p (inr c)))
+-- a tree whose root has a place has records
+not_none : (v : Index) → place_of v.depth v.root + node_size < 2 ^ 64 → v ≡ no_tree → ⊥
+not_none v low e = let none : place_of v.depth v.root ≡ undefined = ap (λ (w : Index). place_of w.depth w.root) e in absurd (omega (arith, low, none))
 
-read_either : (v : Index) (img : List ℕ) → IsIndex v → IsHalfFull v → clean_of v.depth v.root ≡ true → StandsTree v img → PartStands img (part_of v.depth v.root) → IsRead v img
-read_either v img i l clean stands (inl e) = subst (λ (w : Index). IsRead w img) (sym (ap index_of_part e)) (none_read img)
-read_either v img i l clean stands (inr s) = good_read v img i (stand_below img v.depth v.root i.shallow s i.marked clean l stands)
+-- each clean node stands, where the tree is not the one without records
+pub clean_stand : (v : Index) (img : List ℕ) → (v ≡ no_tree → ⊥) → StandsTree v img → (p : Part) → IsClean p v → StandsNode img p.depth p.tree
+clean_stand v img some stands p clean = elim (stands p clean) [ inl e ↦ absurd (some e) | inr s ↦ s ]
+
+-- of a tree that got its first record no node is clean
+pub first_changed : (x : Record) (p : Part) → IsClean p (inserted x no_tree) → ⊥
+first_changed x p clean = let clash : ◌≡◌ {A = Bool} false true = clean.0 in cc
+
+pub never_first : (x : Record) (v : Index) (p : Part) → v ≡ no_tree → IsClean p (inserted x v) → ⊥
+never_first x v p e clean = first_changed x p (subst (λ (w : Index). IsClean p (inserted x w)) e clean)
+
+read_either : (v : Index) (img : List ℕ) → IsIndex v → clean_of v.depth v.root ≡ true → StandsTree v img → PartStands img v (part_of v.depth v.root) → IsRead v img
+read_either v img i clean stands (inl e) = subst (λ (w : Index). IsRead w img) (sym e) (none_read img)
+read_either v img i clean stands (inr s) = good_read v img i (nodes_stand img v.depth v.root i.marked clean (clean_stand v img (not_none v s.ends) stands))
 
 pub tree_is_read : TreeIsRead
-tree_is_read v img i l clean stands = read_either v img i l clean stands (stands (part_of v.depth v.root) (own_part v.depth v.root clean))
+tree_is_read v img i clean stands = read_either v img i clean stands (stands (part_of v.depth v.root) (own_part v.depth v.root clean))

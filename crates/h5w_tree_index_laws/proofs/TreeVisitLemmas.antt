@@ -24,7 +24,7 @@ use Rattle.h5w_tree_index_laws.specs.TreeImages.{around, chunk_of, chunks_of, ow
 use Rattle.h5w_bt_index.proofs.Records.{Over}
 use Rattle.h5w_bt_index.proofs.Places.{All-each}
 use Rattle.h5w_bt_index.proofs.Grown.{total_is}
-use Rattle.h5w_tree_index_laws.proofs.TreeReadLemmas.{Good, good_children, leaf_there, inner_there}
+use Rattle.h5w_tree_index_laws.proofs.TreeReadLemmas.{Good, good_children}
 
 -- ---- Chunks
 
@@ -151,7 +151,7 @@ visit_finds img end bytes zero t g e =
     let fits : t.place + node_size ≤ end = subst (AllEndBy end) own_is (ends_left end own us e) (block_at t.place node_size) (inl refl) in
     let after : List RecordFields → Result Under Finding = λ rs. then_also (chunk_ranges end bytes (map (λ (r : RecordFields). r.address) rs)) (λ us. node_finding t.place true (record { ranges = us; keys = keys_of rs })) in
     ap (eval img) (cond-false (nat_lt end (t.place + node_size)) _ _ (le-ltb end (t.place + node_size) fits))
-    ∙ choice_from img (btlf_at (range img t.place (btlf_len n)) t.place n) (λ rs. ret (after rs)) (λ f. found bad_node t.place) rs (node_under bytes zero t) (leaf_there img t g.stands)
+    ∙ choice_from img (btlf_at (range img t.place (btlf_len n)) t.place n) (λ rs. ret (after rs)) (λ f. found bad_node t.place) rs (node_under bytes zero t) g.stands.reads
     (then_from (chunk_ranges end bytes (map (λ (r : RecordFields). r.address) rs)) (λ us. node_finding t.place true (record { ranges = us; keys = keys_of rs })) us (node_under bytes zero t) (chunk_list end bytes t.records (ends_right end own us e))
     (ap (λ ks. node_finding t.place true (record { ranges = us; keys = ks })) (keys_same t.records) ∙ node_finds bytes t.place (keys_in t.records) us (own ++ us) (keys_rise t.records g.rises) refl g.stands.ends))
 visit_finds img end bytes (suc d) t g e =
@@ -164,7 +164,7 @@ visit_finds img end bytes (suc d) t g e =
     let u : Under = record { ranges = us; keys = keys_in (all_records (suc d) t) } in
     let after : BtinFields → Prog (Result Under Finding) = λ v. and_then (children_under end bytes visit v.records v.children) (λ u. ret (node_finding t.place u.0 u.1)) in
     ap (eval img) (cond-false (nat_lt end (t.place + node_size)) _ _ (le-ltb end (t.place + node_size) fits))
-    ∙ choice_from img (btin_at (range img t.place (btin_len n (suc d))) t.place n (suc d)) after (λ f. found bad_node t.place) (node_of d t) (node_under bytes (suc d) t) (inner_there img d t g.sound.children g.stands.0)
+    ∙ choice_from img (btin_at (range img t.place (btin_len n (suc d))) t.place n (suc d)) after (λ f. found bad_node t.place) (node_of d t) (node_under bytes (suc d) t) (g.stands.0).reads
     (and_then_from img (children_under end bytes visit (map record_of t.records) (map (pointer_of d) t.children)) (λ u. ret (node_finding t.place u.0 u.1)) (true, u) (node_under bytes (suc d) t)
     (children_tell img end bytes visit (pointer_of d) (ranges_under bytes d) (all_records d) t.records t.children g.sound.children (ends_right end own us e) (All-each (Good img d) (EachTold img end visit (pointer_of d) (ranges_under bytes d) (all_records d)) (λ c h e. record { found = visit_finds img end bytes d c h e; total = total_is d (capacity_of d) c h.sound }) t.children (good_children img d t g)))
     (node_finds bytes t.place (keys_in (all_records (suc d) t)) us (own ++ us) (keys_rise (all_records (suc d) t) g.rises) refl (g.stands.0).ends))

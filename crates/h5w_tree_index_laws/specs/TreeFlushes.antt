@@ -2,6 +2,8 @@
 use Rattle.std.specs.Prelude.{◌≡◌, ◌≢◌, ℕ, ◌*◌, ◌^◌, ◌<◌, true, List, [], ◌∷◌, ◌++◌, length, map, None, Ok, ℤ}
 use Rattle.h5w_model.specs.Images.{image}
 use Rattle.h5w_model.specs.Numbers.{range, undefined}
+use Rattle.h5w_model.specs.Programs.{eval}
+use Rattle.h5w_model.specs.Tables.{tree_in_place}
 use Rattle.h5w_model.specs.Trees.{bthd_at, bthd_len}
 use Rattle.h5w_model.specs.Findings.{Used, chunk_bytes}
 use Rattle.h5w_model.specs.Prefixed.{StaysDefined}
@@ -20,14 +22,15 @@ use Rattle.h5w_flush_laws.specs.Knowledge.{IsAsked, Knows}
 use Rattle.h5w_flush_laws.specs.Parts.{Parts, AllUnseen, AreEnded, IndexFlushed, IsFlush, block_ranges, block_writes, flushed_to, pieces_of}
 use Rattle.h5w_flush_laws.specs.Rows.{ArePlaced, new_chunks}
 use Rattle.h5w_bt_index.specs.Marks.{clean_of}
-use Rattle.h5w_bt_index.specs.Index.{Index, IsHalfFull, IsIndex, address_of, no_tree}
-use Rattle.h5w_bt_index.specs.Plans.{IsTreePlan, header_of, news, written}
+use Rattle.h5w_bt_index.specs.Index.{Index, IsFilled, IsIndex, address_of, no_tree}
+use Rattle.h5w_bt_index.specs.Plans.{IsTreePlan, news, written}
 use Rattle.h5w_tree_index_laws.specs.TreeImages.{AreAmong, StandsTree, behind_of, blocks_in_place, node_range}
 
--- The nodes that did not change stand, and where none changed the header at its place says this tree.
+-- The nodes that did not change stand, and where none changed, what a reader finds by the header at its place is this tree: the header of a
+-- tree without records names no root, whatever else it says.
 pub record TreeStands (at_place : ℕ) (v : Index) (img : List ℕ) : Type 0 where
   pub nodes : StandsTree v img
-  pub header : clean_of v.depth v.root ≡ true → bthd_at (range img at_place bthd_len) at_place ≡ Ok (header_of v)
+  pub header : clean_of v.depth v.root ≡ true → eval img (tree_in_place at_place) ≡ Ok (blocks_in_place v)
 
 -- the range of the header
 abbrev pub header_range : ℕ → Used
@@ -66,7 +69,7 @@ pub record IsTreePart (img : List ℕ) (m : Moment) (place : ℕ) (v : Index) (s
   pub defined : place ≢ undefined
   pub stay : m.fixed ≡ header_range place ∷ []
   pub index : IsIndex v
-  pub half : IsHalfFull v
+  pub filled : IsFilled v
   pub stands : TreeStands place v img
   -- what the file uses is live in the places that the plan begins with
   pub live : (u : Used) → Among u (m.fixed ++ m.behind) → IsLive s (extent_of u)
@@ -121,7 +124,7 @@ pub record TreeRests (img : List ℕ) (m : Moment) (old : Key → ℕ) (s : Spac
   pub at_place : m.dataset.layout.address ≡ place
   pub defined : place ≢ undefined
   pub index : IsIndex v
-  pub half : IsHalfFull v
+  pub filled : IsFilled v
   pub clean : clean_of v.depth v.root ≡ true
   pub stands : TreeStands place v img
   pub live : AllLive s (m.fixed ++ m.behind)

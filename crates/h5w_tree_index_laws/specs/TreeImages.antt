@@ -1,10 +1,9 @@
 -- A tree of a session on the image of a file: where its nodes stand, and the ranges that it uses.
-use Rattle.std.specs.Prelude.{◌≡◌, ◌⊎◌, ℕ, zero, suc, ◌+◌, ◌<◌, ◌≤◌, ◌^◌, ◌==◌, true, List, [], ◌∷◌, ◌++◌, map, flat_map, if◌then◌else◌, Ok}
+use Rattle.std.specs.Prelude.{◌≡◌, ◌⊎◌, ℕ, zero, suc, ◌+◌, ◌<◌, ◌≤◌, ◌^◌, ◌==◌, true, List, [], ◌∷◌, ◌++◌, length, map, flat_map, if◌then◌else◌, Ok}
 use Rattle.std.specs.List.{All, sum_by}
-use Rattle.h5w_model.specs.Numbers.{undefined}
-use Rattle.h5w_model.specs.Images.{At}
+use Rattle.h5w_model.specs.Numbers.{range, undefined}
 use Rattle.h5w_model.specs.Programs.{eval}
-use Rattle.h5w_model.specs.Trees.{node_size}
+use Rattle.h5w_model.specs.Trees.{btin_at, btin_len, btlf_at, btlf_len, node_size}
 use Rattle.h5w_model.specs.Tables.{InPlace, nowhere, in_tree, address_behind}
 use Rattle.h5w_model.specs.Findings.{Used}
 use Rattle.h5w_model.specs.declared.cell.Key.{Key}
@@ -12,15 +11,21 @@ use Rattle.h5w_visits.specs.Ranges.{AllAmong, AllEndBy, block_at, chunk_at}
 use Rattle.h5w_steps.specs.Counts.{count_at}
 use Rattle.h5w_visits.specs.Indexes.{behind_visit}
 use Rattle.h5w_bt.specs.declared.records.Record.{Record}
+use Rattle.h5w_bt.specs.Parts.{record_of}
 use Rattle.h5w_bt_index.specs.Nodes.{Tree}
 use Rattle.h5w_bt_index.specs.Marks.{Part, clean_of}
-use Rattle.h5w_bt_index.specs.Index.{Index, IsClean, IsHalfFull, IsIndex, address_of, blank_leaf, inserted}
-use Rattle.h5w_bt_index.specs.Plans.{ReadsBack, changes, header_of, node_bytes, place_of}
+use Rattle.h5w_bt_index.specs.Index.{Index, IsClean, IsIndex, address_of, blank_leaf, inserted, no_tree}
+use Rattle.h5w_bt_index.specs.Plans.{changes, header_of, node_of, place_of}
 
--- the node stands at its place, ends below 2^64, and reads back
+-- What a reader reads at the place of a node, by the node's own length, is this node: its records, and of an inner node its pointers.
+-- Whoever wrote it, and whatever stands behind its sum.
+abbrev pub IsReadAs : List ℕ → (d : ℕ) → Tree d → Type 0
+IsReadAs img zero t = btlf_at (range img t.place (btlf_len (length t.records))) t.place (length t.records) ≡ Ok (map record_of t.records)
+IsReadAs img (suc d) t = btin_at (range img t.place (btin_len (length t.records) (suc d))) t.place (length t.records) (suc d) ≡ Ok (node_of d t)
+
+-- the node stands at its place, and ends below 2^64
 pub record StandsNode (img : List ℕ) (d : ℕ) (t : Tree d) : Type 0 where
-  pub there : At img (place_of d t) (node_bytes d t)
-  pub reads : ReadsBack d t
+  pub reads : IsReadAs img d t
   pub ends : place_of d t + node_size < 2 ^ 64
 
 -- each node does
@@ -28,13 +33,13 @@ abbrev pub AllStand : List ℕ → (d : ℕ) → Tree d → Type 0
 AllStand img zero t = StandsNode img zero t
 AllStand img (suc d) t = StandsNode img (suc d) t × All (AllStand img d) t.children
 
--- the tree without records stands nowhere
+-- the tree without records, as a node
 abbrev pub blank : Part
 blank = record { depth = 0; tree = blank_leaf }
 
--- Each node that did not change since it was written stands at its place.
+-- Each node that did not change since it was written stands at its place; the tree without records stands nowhere.
 abbrev pub StandsTree : Index → List ℕ → Type 0
-StandsTree v img = (p : Part) → IsClean p v → (p ≡ blank) ⊎ StandsNode img p.depth p.tree
+StandsTree v img = (p : Part) → IsClean p v → (v ≡ no_tree) ⊎ StandsNode img p.depth p.tree
 
 -- ---- Ranges
 
@@ -81,7 +86,7 @@ pub record IsRead (v : Index) (img : List ℕ) : Type 0 where
 
 -- a tree that stands, unchanged, is read
 abbrev pub TreeIsRead : Type 0
-TreeIsRead = (v : Index) (img : List ℕ) → IsIndex v → IsHalfFull v → clean_of v.depth v.root ≡ true → StandsTree v img → IsRead v img
+TreeIsRead = (v : Index) (img : List ℕ) → IsIndex v → clean_of v.depth v.root ≡ true → StandsTree v img → IsRead v img
 
 -- ranges that are among others, none of them more often: so that they meet as little as those
 pub record AreAmong (us vs : List Used) : Type 0 where

@@ -34,7 +34,7 @@ pub fn inserted_marks()
     ensures { InsertedMarks }
 {}
 
-/// A tree that a record more would make of depth 4 has 2,203,448 records at least.
+/// A tree that a record more would make of depth 4 has 1,114,349 records at least.
 pub fn deep_is_many()
     ensures { DeepIsMany }
 {}

@@ -119,7 +119,7 @@ module _ (img : List ℕ) (m : Moment) (base a b t : Space) (place : ℕ) (v w :
       ends = c.ends;
       placed = c.placed copies;
       index = sound.index;
-      half = sound.half;
+      filled = sound.filled;
       unwritten = unwritten;
       changed = changed;
       behind = record { among = among.among; counts = among.counts };

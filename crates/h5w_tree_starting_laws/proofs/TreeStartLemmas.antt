@@ -32,14 +32,14 @@ use Rattle.h5w_bt_index.specs.Plans.{changes, header_of, news, place_of, placed,
 use Rattle.h5w_bt_index.proofs.Placed.{planned_index}
 use Rattle.h5w_tree_index_laws.specs.TreeImages.{AllStand, AreAmong, IsRead, behind_of, node_range}
 use Rattle.h5w_tree_index_laws.specs.TreeFlushes.{chunks_for, fresh, header_range}
-use Rattle.h5w_tree_index_laws.proofs.TreeFlushLemmas.{clean_differs, moves_end, same_news, take_them}
-use Rattle.h5w_tree_index_laws.proofs.TreeHeaderLemmas.{header_long, header_reads, header_says}
+use Rattle.h5w_tree_index_laws.proofs.TreeFlushLemmas.{moves_end, same_news, take_them}
+use Rattle.h5w_tree_index_laws.proofs.TreeHeaderLemmas.{header_gives, header_long, header_reads, header_says}
 use Rattle.h5w_tree_index_laws.proofs.TreeLaws.{copies_are}
 use Rattle.h5w_tree_index_laws.proofs.TreePlanLemmas.{blocks_hold, moves_taken, placed_stands}
 use Rattle.h5w_tree_index_laws.proofs.TreeRangeLemmas.{by_weight, light}
 use Rattle.h5w_tree_index_laws.proofs.TreeStandLemmas.{good_read, node_place}
 use Rattle.h5w_tree_starting_laws.specs.TreeStarting.{IsTreeStart, TreeStartBegins, TreeStartIsFlush, TreeStartKnows, parts_for}
-use Rattle.h5w_tree_starting_laws.proofs.UnwrittenLemmas.{retired_none, unwritten_undefined, AllUndefined}
+use Rattle.h5w_tree_starting_laws.proofs.UnwrittenLemmas.{no_blank, retired_none, unwritten_undefined, AllUndefined}
 
 pub tree_start_begins : TreeStartBegins
 tree_start_begins img name m s r unnamed layout begun = record { knows = begin_knows img name m no_chunk s r (unnamed_nowhere img name m r unnamed.address).map begun (λ e. layout); unnamed = unnamed }
@@ -159,11 +159,10 @@ module _ (img name : List ℕ) (m : Moment) (base b t : Space) (place : ℕ) (v 
   holds = blocks_hold (image img writes) (copies ++ header_block ∷ []) (disjoint_right chunks (block_ranges (copies ++ header_block ∷ [])) taken_all.apart)
 
   pub all_stand : AllStand now v.depth (placed v.depth ps v.root)
-  all_stand = placed_stands now v.depth v.root ps x.index.shallow (record {
+  all_stand = placed_stands now v.depth v.root ps (record {
     marked = x.index.marked;
-    least = x.half;
-    some = λ q. clean_differs v.depth v.root q x.changed;
-    clean = λ p c. inl (x.unwritten.clean p c);
+    sound = x.index.sound;
+    clean = λ p c. absurd (no_blank v.depth v.root p x.index.shallow x.filled x.changed c (x.unwritten.clean p c));
     reads = x.plan.reads;
     holds = subst (Holds now) x.copied (Holds-front now copies (header_block ∷ []) holds);
     enough = omega (arith, count);
@@ -218,7 +217,7 @@ module _ (img name : List ℕ) (m : Moment) (base b t : Space) (place : ℕ) (v 
       let some = taken_right base b (head ∷ []) chunks x.taken in
       let part = rows_flush img name m no_chunk base some.0 f places r.knows some.1 x.rises x.few x.count x.placed in
       let d : Described = committed m.dataset rows (Some place) in
-      let says = header_says w now d place r.unnamed.kind refl defined header_now in
+      let says = header_says w now d place r.unnamed.kind refl defined (header_gives w (range now place bthd_len) place header_now) in
       record {
         rises = x.rises;
         small = x.small;

@@ -26,7 +26,7 @@ use Rattle.h5w_flush_laws.specs.Flushes.{IsBegun, Rests, flush_planned, shown_al
 use Rattle.h5w_starting_laws.specs.Starting.{no_chunk}
 use Rattle.h5w_bt.specs.declared.records.Record.{Record}
 use Rattle.h5w_bt_index.specs.Marks.{Part, clean_of}
-use Rattle.h5w_bt_index.specs.Index.{Index, IsClean, IsHalfFull, IsIndex, address_of, inserted, no_tree}
+use Rattle.h5w_bt_index.specs.Index.{Index, IsClean, IsFilled, IsIndex, address_of, inserted, no_tree}
 use Rattle.h5w_bt_index.specs.Plans.{IsTreePlan, header_of, news, written}
 use Rattle.h5w_tree_index_laws.specs.TreeImages.{AreAmong, SameNodes, behind_of, blank, blocks_in_place}
 use Rattle.h5w_tree_index_laws.specs.TreeFlushes.{TreeRests, chunks_for, header_range}
@@ -82,7 +82,7 @@ pub record IsTreeStart (m : Moment) (base b : Space) (place : ℕ) (v : Index) (
   pub ends : place + bthd_len < 2 ^ 64
   pub placed : ArePlaced m no_chunk (parts_for m place w rows more writes places copies supers t.end) places
   pub index : IsIndex v
-  pub half : IsHalfFull v
+  pub filled : IsFilled v
   pub unwritten : IsUnwritten v
   pub changed : clean_of v.depth v.root ≡ false
   -- its ranges are those of the new chunks, none of them more often

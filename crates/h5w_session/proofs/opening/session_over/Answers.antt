@@ -5,7 +5,7 @@ use Rattle.h5w_model.specs.Superblock.{super_bytes}
 use Rattle.h5w_model.proofs.SuperLemmas.{length-super_bytes}
 use Rattle.h5w_space.specs.Space.{Space}
 use Rattle.h5w_chunks.specs.Grids.{dataset_of}
-use Rattle.h5w_index.specs.Views.{an_array}
+use Rattle.h5w_index.specs.Held.{view_of}
 use Rattle.h5w_opening.specs.Openings.{Opened}
 use Rattle.h5w_opening.specs.Views.{opened_of}
 use Rattle.h5w_session.specs.OpenAnswers.{opened_session, writing_flags}
@@ -32,13 +32,13 @@ made c = record {
   pending = c.in_ok-plan.plan.items;
   stopped = false;
   keeps = false;
-  index = an_array c.args.index;
+  index = view_of c.args.index;
 }
 
 planned : (c : goal.After-new-3) → c.in_ok-plan.plan.items ≡ record { at = 0; piece = super_bytes c.writing_super-root.result } ∷ []
 planned c = c.in_ok-plan.ensures.plan ∙ ap (λ (b : List ℕ). record { at = 0; piece = b } ∷ []) c.super_piece.ensures.piece
 
-made_here : (c : goal.After-new-3) → made c ≡ opened_session (versioned (opened_of c.args.found.now)) c.args.header (an_array c.args.index) c.args.name.now c.args.limit
+made_here : (c : goal.After-new-3) → made c ≡ opened_session (versioned (opened_of c.args.found.now)) c.args.header (view_of c.args.index) c.args.name.now c.args.limit
 made_here c =
     let s : Super = c.args.found.now.root in
     let root : c.writing_super-root.result ≡ record s { version = 3; flags = writing_flags s.flags } = c.writing_super-root.ensures.root in
@@ -56,14 +56,14 @@ made_here c =
       pending = pending k;
       stopped = false;
       keeps = false;
-      index = an_array c.args.index;
+      index = view_of c.args.index;
     }
 
 pub invariant_of-result : goal.invariant_of-result
 invariant_of-result c =
     let o : Opened = opened_of c.args.found.now in
     let small : o.root.end < 2 ^ 64 = omega (arith, c.writing_super-root.ensures.small, ap (λ (r : Super). r.end) c.writing_super-root.ensures.root) in
-    let is = session_is o c.args.header c.args.index c.args.name.now c.args.limit c.requires.ready c.requires.high small in
+    let is = session_is o c.args.header (view_of c.args.index) c.args.name.now c.args.limit c.requires.ready c.requires.high small in
     let end : c.new.result.end ≡ o.root.end = ap (λ (s : Space). s.end) c.new.ensures in
     let r : Super = c.writing_super-root.result in
     let size = length-super_bytes r in

@@ -1,4 +1,4 @@
-use Rattle.std.proofs.Common.{◌≡◌, ◌≢◌, ◌*◌, ◌≤◌, [], nat_lt, refl, sym, ap, subst, ◌∙◌, arith}
+use Rattle.std.proofs.Common.{◌≡◌, ◌≢◌, ◌*◌, ◌/◌, ◌≤◌, [], nat_lt, refl, sym, ap, subst, ◌∙◌, arith}
 use Rattle.h5w_model.specs.Numbers.{undefined}
 use Rattle.h5w_model.specs.declared.cell.Key.{Key}
 use Rattle.h5w_chunks.specs.Grids.{dataset_of}
@@ -9,38 +9,36 @@ use Rattle.h5w_index.specs.Held.{view_of}
 use Rattle.h5w_index.specs.Views.{address_in}
 use Rattle.h5w_index.specs.Placing.{next_key}
 use Rattle.h5w_index.proofs.PlacingLemmas.{placing_laws}
+use Rattle.h5w_session.proofs.AloneLemmas.{alone_key, touched_alone}
 use Rattle.h5w_session.proofs.TakingLemmas.{found_some, next_in, not_less}
 use Rattle.h5w_session.proofs.taking.named_chunk.Goals as goal
 
 pub get-requires-clause-key : goal.get-requires-clause-key
 get-requires-clause-key c =
     let d = dataset_of c.args.grid.now in
-    let key = c.touched_key-key.result in
-    let all : 1 ≡ touched d d.shape.rows c.args.to = omega (arith, c.touched.ensures) in
-    let next = next_in d c.args.to 0 1 key [] (is_cut c.args.grid.now c.requires.grid) all (omega arith) refl c.touched_key-key.ensures.exact in
+    let cut = is_cut c.args.grid.now c.requires.grid in
+    let key : Key = record { i = d.shape.rows / d.layout.chunk_rows; j = 0 } in
+    let one : touched d d.shape.rows c.args.to ≡ 1 = touched_alone d d.shape.rows c.args.to cut c.requires.order (omega arith) (omega arith) (omega arith) in
+    let next = next_in d c.args.to 0 1 key [] cut (sym one) (omega arith) refl (sym (alone_key d d.shape.rows c.args.to one)) in
     c.requires.takes key next.row
-
-pub overflow_mul-stored : goal.overflow_mul-stored
-overflow_mul-stored c =
-    let d = dataset_of c.args.grid.now in
-    let key = c.touched_key-key.result in
-    let all : 1 ≡ touched d d.shape.rows c.args.to = omega (arith, c.touched.ensures) in
-    let next = next_in d c.args.to 0 1 key [] (is_cut c.args.grid.now c.requires.grid) all (omega arith) refl c.touched_key-key.ensures.exact in
-    omega (arith, next.start)
 
 pub returns-clause-placed : goal.returns-clause-placed
 returns-clause-placed c s within =
     let d = dataset_of c.args.grid.now in
     let v = view_of c.args.index.now in
-    let key = c.touched_key-key.result in
-    let p : ChunkPlace = record { address = c.in_ok-address.address; stored = nat_lt (key.i * c.args.grid.now.layout.chunk.0) c.args.grid.now.shape.rows } in
+    let cut = is_cut c.args.grid.now c.requires.grid in
+    let key : Key = record { i = d.shape.rows / d.layout.chunk_rows; j = 0 } in
+    let one : touched d d.shape.rows c.args.to ≡ 1 = touched_alone d d.shape.rows c.args.to cut c.requires.order (omega arith) (omega arith) (omega arith) in
+    let p : ChunkPlace = record { address = c.in_ok-address.address; stored = nat_lt (key.i * d.layout.chunk_rows) d.shape.rows } in
     let there = found_some (address_in v key) p.address (sym c.get.ensures ∙ c.in_ok-address.was) in
     let defined : p.address ≢ undefined = λ e. there.1 (there.0 ∙ e) in
-    let number : key ≡ next_key d [] = c.touched_key-key.ensures.exact in
+    let number : key ≡ next_key d [] = sym (alone_key d d.shape.rows c.args.to one) in
     let named : address_in v (next_key d []) ≡ p.address = ap (address_in v) (sym number) ∙ there.0 in
     let none = placing_laws.none d c.args.to v s s c.requires.sound refl refl refl refl in
     placing_laws.stored d c.args.to v v s s [] [] p c.requires.fits named defined
     (λ fresh. subst (λ (k : Key). d.shape.rows ≤ k.i * d.layout.chunk_rows) number (not_less (key.i * d.layout.chunk_rows) d.shape.rows fresh)) within none
 
 pub returns-clause-all : goal.returns-clause-all
-returns-clause-all c = omega (arith, c.touched.ensures)
+returns-clause-all c =
+    let d = dataset_of c.args.grid.now in
+    touched_alone d d.shape.rows c.args.to (is_cut c.args.grid.now c.requires.grid) c.requires.order (omega arith) (omega arith) (omega arith)

@@ -1,4 +1,5 @@
 use Rattle.std.proofs.Common.{rules, ◌≡◌, [], List, length, ap, sym, refl, ◌∙◌, subst, arith}
+use Rattle.h5w_model.specs.Tables.{chunks_across}
 use Rattle.h5w_model.specs.declared.cell.Key.{Key}
 use Rattle.h5w_chunks.specs.Grids.{dataset_of}
 use Rattle.h5w_chunks.specs.declared.grid.ChunkPlace.{ChunkPlace}
@@ -6,7 +7,8 @@ use Rattle.h5w_chunks.proofs.Geometry.{is_cut}
 use Rattle.h5w_index.specs.Held.{view_of}
 use Rattle.h5w_index.specs.Placing.{IsPlacing}
 use Rattle.h5w_index.proofs.PlacingLemmas.{placing_laws}
-use Rattle.h5w_session.proofs.TakingLemmas.{absent_before, next_in, not_deep, on_err}
+use Rattle.h5w_session.specs.Sessions.{most_bands}
+use Rattle.h5w_session.proofs.TakingLemmas.{absent_before, most_few, next_in, not_deep, on_err}
 use Rattle.h5w_session.proofs.taking.place_chunks.Goals as goal
 
 pub place_chunk-requires-clause-sound : goal.place_chunk-requires-clause-sound
@@ -23,7 +25,8 @@ place_chunk-requires-clause-takes c =
 pub place_chunk-requires-clause-shallow : goal.place_chunk-requires-clause-shallow
 place_chunk-requires-clause-shallow c deep =
     let inv = c.loop-k.invariant in
-    not_deep _ _ c.touched_key-key.result (view_of c.loop-k.index) inv.placing.partly.like.sound inv.within c.requires.few deep
+    let d = dataset_of c.args.grid.now in
+    not_deep (most_bands d) (chunks_across d) c.touched_key-key.result (view_of c.loop-k.index) inv.placing.partly.like.sound inv.within (most_few d) deep
 
 pub place_chunk-requires-clause-row : goal.place_chunk-requires-clause-row
 place_chunk-requires-clause-row c =
@@ -66,7 +69,7 @@ loop-k-preserved c =
     record {
       placing = c.in_ok-place_chunk.ensures.placed c.args.to v s c.requires.fits c.requires.inside next.number next.inside inv.placing;
       count = omega (arith, inv.count, c.in_ok-place_chunk.ensures.count);
-      within = c.place_chunk.ensures.within _ _ next.row next.column inv.within;
+      within = c.place_chunk.ensures.within (most_bands d) (chunks_across d) (omega (arith, next.row, c.requires.few)) next.column inv.within;
     }
 
 pub returns-in_err-place_chunk-clause-partly : goal.returns-in_err-place_chunk-clause-partly
@@ -83,7 +86,7 @@ returns-in_err-place_chunk-clause-within c =
     let inv = c.loop-k.invariant in
     let key = c.touched_key-key.result in
     let next = next_in d c.args.to c.loop-k.k c.touched-k-end.result key c.loop-k.taking.chunks.items (is_cut c.args.grid.now c.requires.grid) c.touched-k-end.ensures c.loop-k-test.true inv.count c.touched_key-key.ensures.exact in
-    c.place_chunk.ensures.within _ _ next.row next.column inv.within
+    c.place_chunk.ensures.within (most_bands d) (chunks_across d) (omega (arith, next.row, c.requires.few)) next.column inv.within
 
 pub returns-in_err-place_chunk-clause-full : goal.returns-in_err-place_chunk-clause-full
 returns-in_err-place_chunk-clause-full c full is =

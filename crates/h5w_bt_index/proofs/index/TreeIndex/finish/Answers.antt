@@ -1,9 +1,9 @@
 use Rattle.std.proofs.Common.{sym, subst}
 use Rattle.h5w_cache.proofs.FinishLemmas.{retired_end}
-use Rattle.h5w_bt_index.specs.Index.{IsHalfFull, IsIndex, IsShaped}
+use Rattle.h5w_bt_index.specs.Index.{IsIndex, IsShaped, KeepsShares}
 use Rattle.h5w_bt_index.specs.Held.{header_place, view_of}
 use Rattle.h5w_bt_index.specs.Plans.{news}
-use Rattle.h5w_bt_index.proofs.Placed.{planned_half, planned_index, planned_shaped}
+use Rattle.h5w_bt_index.proofs.Placed.{planned_index, planned_shaped, planned_shares}
 use Rattle.h5w_bt_index.proofs.Started.{planned_by}
 use Rattle.h5w_bt_index.proofs.index.TreeIndex.finish.Goals as goal
 
@@ -18,8 +18,8 @@ returns-clause-shape c = subst IsShaped (sym c.finish.ensures.planned) (planned_
 pub returns-clause-index : goal.returns-clause-index
 returns-clause-index c i = subst IsIndex (sym c.finish.ensures.planned) (planned_index (news c.args.begun.moves) (view_of c.args.self.now) i)
 
-pub returns-clause-half : goal.returns-clause-half
-returns-clause-half c h = subst IsHalfFull (sym c.finish.ensures.planned) (planned_half (news c.args.begun.moves) (view_of c.args.self.now) h)
+pub returns-clause-shares : goal.returns-clause-shares
+returns-clause-shares c = subst (KeepsShares (view_of c.args.self.now)) (sym c.finish.ensures.planned) (planned_shares (news c.args.begun.moves) (view_of c.args.self.now))
 
 pub returns-clause-end : goal.returns-clause-end
 returns-clause-end c = retired_end c.args.begun.next c.args.begun.moves c.finish.new.places c.finish.ensures.retired

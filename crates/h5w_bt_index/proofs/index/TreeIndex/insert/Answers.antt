@@ -3,10 +3,10 @@ use Rattle.h5w_model.specs.declared.cell.Key.{Key}
 use Rattle.h5w_model.specs.Tables.{key_equal}
 use Rattle.h5w_bt.specs.declared.records.Record.{Record}
 use Rattle.h5w_bt_index.specs.Held.{view_of}
-use Rattle.h5w_bt_index.specs.Index.{Index, IsClean, IsHalfFull, address_of, inserted, records}
+use Rattle.h5w_bt_index.specs.Index.{Index, IsClean, KeepsShares, address_of, inserted, records}
 use Rattle.h5w_bt_index.specs.Marks.{Part}
 use Rattle.h5w_bt_index.specs.Puts.{put_record}
-use Rattle.h5w_bt_index.proofs.Laws.{blocked_deep, deep_blocked, on_ok, inserted-map, inserted-records, inserted-half, inserted-clean}
+use Rattle.h5w_bt_index.proofs.Laws.{blocked_deep, deep_blocked, on_ok, inserted-map, inserted-records, inserted-shares, inserted-clean}
 use Rattle.h5w_bt_index.proofs.index.TreeIndex.insert.Goals as goal
 
 pub returns-clause-map : goal.returns-clause-map
@@ -23,12 +23,12 @@ returns-clause-sorted c i =
     let w : Index = view_of c.put.new.self in
     on_ok c.put.result (w ≡ inserted x v) (records w ≡ put_record x (records v)) (λ h. ap records h ∙ inserted-records x v i) c.put.ensures.ok
 
-pub returns-clause-half : goal.returns-clause-half
-returns-clause-half c =
+pub returns-clause-shares : goal.returns-clause-shares
+returns-clause-shares c =
     let x : Record = record { address = c.args.address; key = c.args.key } in
     let v : Index = view_of c.args.self.now in
     let w : Index = view_of c.put.new.self in
-    on_ok c.put.result (w ≡ inserted x v) (IsHalfFull v → IsHalfFull w) (λ h. λ q. subst IsHalfFull (sym h) (inserted-half x v c.requires.shape q)) c.put.ensures.ok
+    on_ok c.put.result (w ≡ inserted x v) (KeepsShares v w) (λ h. subst (KeepsShares v) (sym h) (inserted-shares x v c.requires.shape)) c.put.ensures.ok
 
 pub returns-clause-clean : goal.returns-clause-clean
 returns-clause-clean c =

@@ -1,4 +1,4 @@
-use Rattle.std.proofs.Common.{arith, Ok, refl, ◌≡◌, ◌≤◌, ◌<◌, ◌+◌, ◌/◌, ap, sym, subst, length}
+use Rattle.std.proofs.Common.{arith, Ok, refl, ◌≡◌, ◌≤◌, ◌+◌, ◌/◌, ap, sym, subst, length}
 use Rattle.h5w_model.specs.Messages.{IsLayout}
 use Rattle.h5w_model.proofs.IntegerLemmas.{int_size_bounds}
 use Rattle.h5w_session.specs.Sessions.{Session, IsSession, with_values}
@@ -13,8 +13,7 @@ overflow_add-self g c =
     let s = c.args.self.now in
     let values = c.args.values.now in
     let by = accepted s values (Ok tt) c.in_ok-check.ensures refl in
-    let wide : 0 < s.dataset.layout.chunk_rows = subst (λ (t : Session). 0 < t.dataset.layout.chunk_rows) c.self.view_is c.self.invariant.1.chunked.rows in
-    let is = values_is s values wide (subst IsSession c.self.view_is c.self.invariant.0) c.requires.rows by in
+    let is = values_is s values (subst IsSession c.self.view_is c.self.invariant.0) c.requires.rows by in
     let layout = subst (λ (t : Session). IsLayout t.dataset.layout t.dataset.shape t.dataset.int_type) c.self.view_is c.self.invariant.1.chunked in
     let some = subst (λ (t : Session). 1 ≤ t.dataset.int_type.size) c.self.view_is (int_size_bounds c.self.inside.grid.int_type.size c.self.invariant.1.typed).0 in
     let n = counts (with_values s values) is layout some in
@@ -26,8 +25,7 @@ invariant_of-self-2 g c =
     let s = c.args.self.now in
     let values = c.args.values.now in
     let by = accepted s values (Ok tt) c.in_ok-check.ensures refl in
-    let wide : 0 < s.dataset.layout.chunk_rows = subst (λ (t : Session). 0 < t.dataset.layout.chunk_rows) c.self.view_is c.self.invariant.1.chunked.rows in
-    let is = values_is s values wide (subst IsSession c.self.view_is c.self.invariant.0) c.requires.rows by in
+    let is = values_is s values (subst IsSession c.self.view_is c.self.invariant.0) c.requires.rows by in
     (waits_is _ s values c.put_cells.new.out.items c.self.view_is c.in_ok-put_cells.ensures.added is, c.self.invariant.1, c.self.invariant.2, c.self.invariant.3, c.self.invariant.4)
 
 pub returns-clause-stands : goal.returns-clause-stands

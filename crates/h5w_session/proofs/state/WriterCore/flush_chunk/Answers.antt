@@ -8,7 +8,7 @@ use Rattle.h5w_index.specs.Steps.{IsPlan}
 use Rattle.h5w_index.proofs.PlacingLemmas.{placing_laws}
 use Rattle.h5w_session.specs.Sessions.{IsSession, Session, option_list, rows_of, IsNamed}
 use Rattle.h5w_session.specs.Flushes.{touched_by}
-use Rattle.h5w_session.proofs.CarriedLemmas.{Carried, asks_for, carried_flushed, carried_is, carried_pieces, has_rows, lengths_joined, one_at_most, refused_same, same_space, space_not, space_not_memory}
+use Rattle.h5w_session.proofs.CarriedLemmas.{Carried, carried_flushed, carried_is, carried_pieces, has_rows, lengths_joined, one_at_most, refused_same, same_space, space_not, space_not_memory}
 use Rattle.h5w_session.proofs.TakingLemmas.{filled_cell, on_err}
 use Rattle.h5w_session.proofs.state.WriterCore.flush_chunk.Goals as goal
 
@@ -110,7 +110,7 @@ invariant_of-self-2 g c =
       places_are = refl;
       placing = subst (λ (n : ℕ). IsPlacing v.dataset n v.index v.places (c.args.place ∷ []) [] v.index v.places) (sym to_is) placing;
       all = sym (subst (λ (n : ℕ). touched v.dataset v.dataset.shape.rows n ≡ 1) (sym to_is) all);
-      within = (asks_for v to is to_is).within;
+      within = is.held;
       cells = c.deref.result.now;
       cells_are = c.deref.ensures.value;
       rows = c.in_ok-writes.writes.items;
@@ -192,7 +192,7 @@ returns-clause-flushed g c =
       places_are = refl;
       placing = subst (λ (n : ℕ). IsPlacing v.dataset n v.index v.places (c.args.place ∷ []) [] v.index v.places) (sym to_is) placing;
       all = sym (subst (λ (n : ℕ). touched v.dataset v.dataset.shape.rows n ≡ 1) (sym to_is) all);
-      within = (asks_for v to is to_is).within;
+      within = is.held;
       cells = c.deref.result.now;
       cells_are = c.deref.ensures.value;
       rows = c.in_ok-writes.writes.items;
@@ -263,7 +263,7 @@ returns-clause-ends g c =
       places_are = refl;
       placing = subst (λ (n : ℕ). IsPlacing v.dataset n v.index v.places (c.args.place ∷ []) [] v.index v.places) (sym to_is) placing;
       all = sym (subst (λ (n : ℕ). touched v.dataset v.dataset.shape.rows n ≡ 1) (sym to_is) all);
-      within = (asks_for v to is to_is).within;
+      within = is.held;
       cells = c.deref.result.now;
       cells_are = c.deref.ensures.value;
       rows = c.in_ok-writes.writes.items;

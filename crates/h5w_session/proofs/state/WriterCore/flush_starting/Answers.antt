@@ -1,11 +1,10 @@
 use Rattle.std.proofs.Common.{◌≡◌, ◌<◌, ◌-◌, ◌*◌, ◌^◌, ◌∙◌, ℕ, Err, length, drop, ap, sym, subst, arith, rules}
 use Rattle.h5w_model.specs.Numbers.{undefined}
-use Rattle.h5w_model.specs.Logs.{div_up}
 use Rattle.h5w_model.specs.Tables.{chunks_across}
 use Rattle.h5w_model.proofs.IntegerLemmas.{int_size_bounds}
 use Rattle.h5w_chunks.specs.Grids.{dataset_of}
 use Rattle.h5w_index.specs.Held.{view_of}
-use Rattle.h5w_session.specs.Sessions.{IsSession, Session, option_list, rows_of}
+use Rattle.h5w_session.specs.Sessions.{IsSession, Session, most_bands, option_list, rows_of}
 use Rattle.h5w_session.proofs.CarriedLemmas.{asks_for, has_rows, lengths_joined, one_at_most, same_error, values_few}
 use Rattle.h5w_session.proofs.StartCarriedLemmas.{AsksOfMade, StartCarried, asks_of_made, start_carried_flushed, start_carried_is, start_carried_pieces, start_unfilled, start_unplaced}
 use Rattle.h5w_session.proofs.TakingLemmas.{filled_cell}
@@ -55,7 +54,7 @@ prepare-requires-clause-few g c =
     let is : IsSession v = c.self.invariant.0 in
     let to = c.rows-to.result in
     let to_is : to ≡ rows_of v = c.rows-to.ensures.value ∙ ap rows_of (sym c.self.view_is) in
-    (asks_for v to is to_is).few
+    (asks_for v to is to_is).bands
 
 pub prepare-requires-clause-takes : goal.prepare-requires-clause-takes
 prepare-requires-clause-takes g c =
@@ -158,7 +157,7 @@ prepare-requires-clause-limit g c =
     asks.limit
 
 pub prepare-requires-clause-within : goal.prepare-requires-clause-within
-prepare-requires-clause-within g c = c.in_ok-index.ensures.within (div_up c.rows-to.result c.self.inside.grid.layout.chunk.0) (chunks_across (dataset_of c.self.inside.grid))
+prepare-requires-clause-within g c = c.in_ok-index.ensures.within (most_bands (dataset_of c.self.inside.grid)) (chunks_across (dataset_of c.self.inside.grid))
 
 pub prepare-requires-clause-room : goal.prepare-requires-clause-room
 prepare-requires-clause-room g c =

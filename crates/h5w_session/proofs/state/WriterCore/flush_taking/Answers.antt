@@ -1,6 +1,5 @@
 use Rattle.std.proofs.Common.{◌≡◌, ◌<◌, ◌-◌, ◌*◌, ◌^◌, ◌∙◌, [], List, ℕ, length, drop, ap, sym, subst, arith}
 use Rattle.std.specs.List.{All}
-use Rattle.h5w_model.specs.Logs.{div_up}
 use Rattle.h5w_model.specs.Tables.{chunks_across}
 use Rattle.h5w_model.specs.declared.cell.Key.{Key}
 use Rattle.h5w_model.proofs.IntegerLemmas.{int_size_bounds}
@@ -9,7 +8,7 @@ use Rattle.h5w_space.specs.Space.{Space}
 use Rattle.h5w_index.specs.Held.{view_of}
 use Rattle.h5w_index.specs.Placing.{IsFullPart, IsPartly}
 use Rattle.h5w_index.specs.Views.{HasSlot}
-use Rattle.h5w_session.specs.Sessions.{IsSession, Session, option_list, rows_of, IsNamed}
+use Rattle.h5w_session.specs.Sessions.{IsSession, Session, most_bands, option_list, rows_of, IsNamed}
 use Rattle.h5w_session.proofs.CarriedLemmas.{Carried, asks_for, carried_flushed, carried_is, carried_pieces, has_rows, lengths_joined, one_at_most, refused_is, refused_same, same_error, values_few}
 use Rattle.h5w_session.proofs.TakingLemmas.{filled_cell}
 use Rattle.h5w_session.proofs.state.WriterCore.flush_taking.Goals as goal
@@ -35,7 +34,7 @@ prepare-requires-clause-few g c =
     let is : IsSession v = c.self.invariant.0 in
     let to = c.rows-to.result in
     let to_is : to ≡ rows_of v = c.rows-to.ensures.value ∙ ap rows_of (sym c.self.view_is) in
-    (asks_for v to is to_is).few
+    (asks_for v to is to_is).bands
 
 pub prepare-requires-clause-takes : goal.prepare-requires-clause-takes
 prepare-requires-clause-takes g c =
@@ -61,27 +60,7 @@ prepare-requires-clause-takes g c =
     (asks_for v to is to_is).takes
 
 pub prepare-requires-clause-within : goal.prepare-requires-clause-within
-prepare-requires-clause-within g c =
-    let i = c.self.inside in
-    let v : Session = record {
-      name = i.name;
-      root = i.root;
-      place = i.place;
-      header = i.header;
-      dataset = dataset_of i.grid;
-      places = i.places;
-      committed = i.committed;
-      waiting = i.waiting.items;
-      waits = i.waits;
-      pending = drop i.shown i.plan.items;
-      stopped = i.stopped;
-      keeps = i.keeps;
-      index = view_of i.index;
-    } in
-    let is : IsSession v = c.self.invariant.0 in
-    let to = c.rows-to.result in
-    let to_is : to ≡ rows_of v = c.rows-to.ensures.value ∙ ap rows_of (sym c.self.view_is) in
-    (asks_for v to is to_is).within
+prepare-requires-clause-within g c = c.self.invariant.0.held
 
 pub prepare-requires-clause-room : goal.prepare-requires-clause-room
 prepare-requires-clause-room g c =
@@ -215,7 +194,7 @@ invariant_of-self-in-Err-1 g c =
     let to_is : to ≡ rows_of v = c.rows-to.ensures.value ∙ ap rows_of (sym c.self.view_is) in
     let p : IsPartly v.dataset to v.index [] u =
     c.unset.ensures.taken_back v.dataset to v.index (subst (λ (ks : List Key). IsPartly v.dataset to v.index ks (view_of c.prepare.new.index)) (sym c.deref-in-Err.ensures.value) c.in-Err.ensures.partly) in
-    let within = c.unset.ensures.within (div_up to v.dataset.layout.chunk_rows) (chunks_across v.dataset) c.prepare.ensures.within in
+    let within = c.unset.ensures.within (most_bands v.dataset) (chunks_across v.dataset) c.prepare.ensures.within in
     (refused_is v to u to_is p is within, c.self.invariant.1, c.self.invariant.2, c.self.invariant.3, c.self.invariant.4)
 
 pub returns-in-Ok-clause-flushed : goal.returns-in-Ok-clause-flushed

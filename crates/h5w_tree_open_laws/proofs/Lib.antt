@@ -1,0 +1,5 @@
+pub mod PointerLemmas
+pub mod PassedLemmas
+pub mod OpenedStandLemmas
+pub mod KeptLemmas
+pub mod OpenedEndLemmas

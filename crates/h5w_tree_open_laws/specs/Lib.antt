@@ -1,0 +1,2 @@
+pub mod OpenedTrees
+pub mod OpenedEnds
