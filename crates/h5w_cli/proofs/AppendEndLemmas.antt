@@ -18,13 +18,13 @@ use Rattle.h5w_text.specs.declared.error.ErrorLine.{ErrorLine}
 use Rattle.h5w_text.specs.declared.error.ErrorLine.TheVariants as errors
 use Rattle.h5w_text.specs.declared.status.Status.{Status}
 use Rattle.h5w_text.specs.declared.status.Status.TheVariants as statuses
-use Rattle.h5w_files.specs.Appends.{AppendEnds, AppendsNone, AppendsSome, AppendsTo, AppendsUpTo, InputRefuses, IsFree, IsOpenOver, NotOpened, Unopened, columns_of}
+use Rattle.h5w_files.specs.Appends.{AppendEnds, AppendsNone, AppendsSome, AppendsTo, AppendsUpTo, InputRefuses, IsFree, IsOpenOver, NotOpened, Unopened}
 use Rattle.h5w_files.specs.Batches.{Batches, HasFirst, SameSource as SameInput, input_limit}
 use Rattle.h5w_files.specs.Ends.{status_by}
 use Rattle.h5w_files.specs.Images.{told_bytes}
 use Rattle.h5w_files.proofs.ClearLemmas.{any_told}
 use Rattle.h5w_cli.specs.Appending.{AppendEndsWell, HasInput, HasRows}
-use Rattle.h5w_cli.specs.Plays.{SameSource}
+use Rattle.h5w_batches.specs.Inputs.{SameSource}
 
 pub same_source : (s t : SourceView) → SameInput s t → SameSource s t
 same_source s t h = record { faults = h.faults; through = h.through }

@@ -5,7 +5,7 @@ use Rattle.h5w_model.specs.Lawful.{Line, Rules}
 use Rattle.h5w_text.specs.Lines.{lines_of, whole_lines_of}
 use Rattle.h5w_text.specs.Streams.{SourceView, SinkView}
 use Rattle.h5w_words.specs.declared.job.Job.{Job}
-use Rattle.h5w_words.specs.declared.job.Job.TheVariants.{Play, New, Check, Poll, Clear, Make, Append}
+use Rattle.h5w_words.specs.declared.job.Job.TheVariants.{Play, New, Check, Poll, Clear, Make, Append, Live}
 use Rattle.h5w_image.specs.View.{DiskView}
 use Rattle.h5w_files.proofs.CreateLemmas.{creates_whole}
 use Rattle.h5w_files.proofs.CheckLemmas.{checks_whole}
@@ -13,8 +13,13 @@ use Rattle.h5w_files.proofs.ClearLemmas.{clears_whole}
 use Rattle.h5w_files.proofs.PollEndLemmas.{polls_whole}
 use Rattle.h5w_core.specs.Worlds.{rules_for}
 use Rattle.h5w_cli.specs.Answers.{play_line_of}
-use Rattle.h5w_cli.specs.Plays.{Completes, HasFirst, HasScript, Plays, Refused, TooLong, input_limit}
-use Rattle.h5w_cli.specs.Runs.{Does, DoesWhole, Ran, RanWhole}
+use Rattle.h5w_cli.specs.Plays.{Completes, HasFirst, HasScript, Plays, Refused, TooLong}
+use Rattle.h5w_batches.specs.Inputs.{input_limit}
+use Rattle.h5w_running.specs.Runs.{asked_by}
+use Rattle.h5w_running.specs.declared.ended.Ended.{Ended}
+use Rattle.h5w_running.specs.declared.ended.Ended.TheVariants as ends
+use Rattle.h5w_running.proofs.EndLemmas.{ends_well}
+use Rattle.h5w_cli.specs.Runs.{Does, DoesWhole, EndsWith, Ran, RanWhole}
 use Rattle.h5w_cli.proofs.MakeLemmas.{makes_whole}
 use Rattle.h5w_cli.proofs.AppendEndLemmas.{appends_whole}
 use Rattle.h5w_text.specs.declared.status.Status.{Status}
@@ -66,8 +71,20 @@ does_whole (Poll file name times attempts values) status s t k l v w does = poll
 does_whole (Clear file) status s t k l v w does = clears_whole file status does.1
 does_whole (Make count seed) status s t k l v w does = makes_whole count seed status does.2
 does_whole (Append file name limit keeps) status s t k l v w does = appends_whole file name limit keeps status does
+does_whole (Live options readers polls attempts) status s t k l v w does = absurd does
+
+ended_whole : (job : Job) (ended : Ended) (s t : SourceView) (k l : SinkView) (v w : DiskView) → EndsWith (λ status. Does job status s t k l v w) ended → EndsWith (λ status. DoesWhole job status s t k l v w) ended
+ended_whole job (ends.With status) s t k l v w does = does_whole job status s t k l v w does
+ended_whole job (ends.Image worn) s t k l v w does = absurd does
 
 -- a run, by its words
-pub ran_whole : (o : Option Job) (status : Status) (s t : SourceView) (k l : SinkView) (v w : DiskView) → Ran o status s t k l v w → RanWhole o status s t k l v w
-ran_whole None status s t k l v w ran = tt
-ran_whole (Some job) status s t k l v w ran = does_whole job status s t k l v w ran
+pub ran_whole : (o : Option Job) (ended : Ended) (s t : SourceView) (k l : SinkView) (v w : DiskView) → Ran o ended s t k l v w → RanWhole o ended s t k l v w
+ran_whole None ended s t k l v w ran = tt
+ran_whole (Some (Play options attempts)) ended s t k l v w ran = ended_whole (Play options attempts) ended s t k l v w ran
+ran_whole (Some (New file options)) ended s t k l v w ran = ended_whole (New file options) ended s t k l v w ran
+ran_whole (Some (Check file name)) ended s t k l v w ran = ended_whole (Check file name) ended s t k l v w ran
+ran_whole (Some (Poll file name times attempts values)) ended s t k l v w ran = ended_whole (Poll file name times attempts values) ended s t k l v w ran
+ran_whole (Some (Clear file)) ended s t k l v w ran = ended_whole (Clear file) ended s t k l v w ran
+ran_whole (Some (Make count seed)) ended s t k l v w ran = ended_whole (Make count seed) ended s t k l v w ran
+ran_whole (Some (Append file name limit keeps)) ended s t k l v w ran = ended_whole (Append file name limit keeps) ended s t k l v w ran
+ran_whole (Some (Live options readers polls attempts)) ended s t k l v w ran = ends_well (asked_by options readers polls attempts) ended ran.0

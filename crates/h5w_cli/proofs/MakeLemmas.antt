@@ -1,6 +1,6 @@
 -- How the making of a file in memory ends.
 use Rattle.std.proofs.Common.{◌≡◌, ◌⊎◌, ℕ, ◌∷◌, ◌++◌, List, [], append_assoc, append-nil, Result, Ok, Err, refl, ap, ◌∙◌, inl, inr}
-use Rattle.std.specs.Prelude.{codes, flat_map, OnOk}
+use Rattle.std.specs.Prelude.{codes, flat_map}
 use Rattle.h5w_model.specs.Causes.{Rose}
 use Rattle.h5w_text.specs.Errors.{error_text}
 use Rattle.h5w_text.specs.Replies.{spaced}

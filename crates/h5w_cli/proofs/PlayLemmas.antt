@@ -19,8 +19,9 @@ use Rattle.h5w_text.specs.declared.line.LineError.TheVariants.{Failed, Input, Ou
 use Rattle.h5w_text.proofs.LineLemmas.{lines_more, lines_done, passed_nothing, passed_twice, whole_cut, whole_lacks}
 use Rattle.h5w_core.specs.Worlds.{WorldView, HaveOneLog, rules_of}
 use Rattle.h5w_cli.specs.Answers.{Answers, play_line_of}
-use Rattle.h5w_cli.specs.Endings.{Answered, EndsAt, Runs, ending_of, outside}
-use Rattle.h5w_cli.specs.Plays.{Begun, Finished, HasFirst, Replied, SameSource, Stopped, input_limit}
+use Rattle.h5w_cli.specs.Endings.{Answered, EndsAt, Runs, ending_of}
+use Rattle.h5w_cli.specs.Plays.{Begun, Finished, HasFirst, Replied, Stopped}
+use Rattle.h5w_batches.specs.Inputs.{SameSource, input_limit, outside}
 use Rattle.h5w_cli.specs.declared.ending.Ending.{Ending}
 use Rattle.h5w_cli.specs.declared.ending.Ending.TheVariants as endings
 use Rattle.h5w_text.specs.declared.status.Status.TheVariants as statuses

@@ -9,15 +9,21 @@ use Rattle.h5w_text.specs.Says.{Said, SaidUnlessMemory, whole, failed}
 use Rattle.h5w_cli.specs.Endings.{Leaves, Runs}
 use Rattle.h5w_cli.specs.declared.ending.Ending.{Ending}
 use Rattle.h5w_core.specs.Worlds.{rules_for}
+use Rattle.h5w_options.specs.declared.options.Options.{Options}
 use Rattle.h5w_words.specs.declared.job.WordsError.{WordsError}
 use Rattle.h5w_words.specs.declared.job.Job.{Job}
-use Rattle.h5w_words.specs.declared.job.Job.TheVariants.{Play, New, Check, Poll, Clear, Make, Append}
+use Rattle.h5w_words.specs.declared.job.Job.TheVariants.{Play, New, Check, Poll, Clear, Make, Append, Live}
 use Rattle.h5w_image.specs.View.{DiskView}
 use Rattle.h5w_files.proofs.CreateLemmas.{creates_wanted}
 use Rattle.h5w_files.proofs.CheckLemmas.{checks_nothing}
 use Rattle.h5w_files.proofs.ClearLemmas.{clears_wanted}
 use Rattle.h5w_files.proofs.PollEndLemmas.{polls_nothing}
-use Rattle.h5w_cli.specs.Runs.{Does, Ran}
+use Rattle.h5w_running.specs.Runs.{asked_by}
+use Rattle.h5w_running.specs.Ends.{LiveEnds}
+use Rattle.h5w_running.specs.declared.ended.Ended.{Ended}
+use Rattle.h5w_running.specs.declared.ended.Ended.TheVariants as outcomes
+use Rattle.h5w_running.proofs.EndLemmas.{error_ends}
+use Rattle.h5w_cli.specs.Runs.{Does, IsPlain, Ran}
 use Rattle.h5w_cli.specs.Plays.{Begun, Finished, HasFirst, Plays}
 use Rattle.h5w_text.specs.declared.status.Status.{Status}
 use Rattle.h5w_text.specs.declared.status.Status.TheVariants.{Done, Usage, Missing, Exists, Format, Damaged, Flags, Again, Input, Limit, Disk, Source, Sink, Memory}
@@ -86,7 +92,7 @@ runs_at g h e x s t k l p q r = subst (λ (h : Rules). Runs {A = Unit {0}} h (Er
 -- ---- Words
 
 -- memory was refused before the words were known
-pub ran_wanting : (o : Option Job) (status : Status) (s : SourceView) (k l : SinkView) (v : DiskView) → Said (error_text errors.Memory) Memory status k l → Ran o status s s k l v v
+pub ran_wanting : (o : Option Job) (status : Status) (s : SourceView) (k l : SinkView) (v : DiskView) → Said (error_text errors.Memory) Memory status k l → Ran o (outcomes.With status) s s k l v v
 ran_wanting None status s k l v said = record { unread = refl; disk = refl; told = inr said }
 ran_wanting (Some (Play options attempts)) status s k l v said =
     let g = rules_for options attempts in (ends_said g Memory status (error_text errors.Memory) s s k k l (λ e. cc) (leaves_first g s k) said, refl)
@@ -96,13 +102,40 @@ ran_wanting (Some (Poll file name times attempts values)) status s k l v said = 
 ran_wanting (Some (Clear file)) status s k l v said = (refl, clears_wanted file status said)
 ran_wanting (Some (Make count seed)) status s k l v said = (refl, refl, makes_nothing count seed status said)
 ran_wanting (Some (Append file name limit keeps)) status s k l v said = appends_nothing file name limit keeps status said
+ran_wanting (Some (Live options readers polls attempts)) status s k l v said = (error_ends (asked_by options readers polls attempts) errors.Memory status tt (inl said), refl)
 
 -- the words are outside the command set
-pub ran_outside : (o : Option Job) (status : Status) (s : SourceView) (k l : SinkView) (v : DiskView) → o ≡ None → Said (error_text errors.Usage) Usage status k l → Ran o status s s k l v v
-ran_outside o status s k l v e said = subst (λ (x : Option Job). Ran x status s s k l v v) (sym e) (record { unread = refl; disk = refl; told = inl said })
+pub ran_outside : (o : Option Job) (status : Status) (s : SourceView) (k l : SinkView) (v : DiskView) → o ≡ None → Said (error_text errors.Usage) Usage status k l → Ran o (outcomes.With status) s s k l v v
+ran_outside o status s k l v e said = subst (λ (x : Option Job). Ran x (outcomes.With status) s s k l v v) (sym e) (record { unread = refl; disk = refl; told = inl said })
 
-pub ran_job : (o : Option Job) (job : Job) (status : Status) (s t : SourceView) (k l : SinkView) (v w : DiskView) → o ≡ Some job → Does job status s t k l v w → Ran o status s t k l v w
-ran_job o job status s t k l v w e does = subst (λ (x : Option Job). Ran x status s t k l v w) (sym e) does
+does_run : (job : Job) (status : Status) (s t : SourceView) (k l : SinkView) (v w : DiskView) → Does job status s t k l v w → Ran (Some job) (outcomes.With status) s t k l v w
+does_run (Play options attempts) status s t k l v w does = does
+does_run (New file options) status s t k l v w does = does
+does_run (Check file name) status s t k l v w does = does
+does_run (Poll file name times attempts values) status s t k l v w does = does
+does_run (Clear file) status s t k l v w does = does
+does_run (Make count seed) status s t k l v w does = does
+does_run (Append file name limit keeps) status s t k l v w does = does
+does_run (Live options readers polls attempts) status s t k l v w does = absurd does
+
+pub ran_job : (o : Option Job) (job : Job) (status : Status) (s t : SourceView) (k l : SinkView) (v w : DiskView) → o ≡ Some job → Does job status s t k l v w → Ran o (outcomes.With status) s t k l v w
+ran_job o job status s t k l v w e does = subst (λ (x : Option Job). Ran x (outcomes.With status) s t k l v w) (sym e) (does_run job status s t k l v w does)
+
+-- a job that runs nothing in threads
+pub is_plain : (job : Job) → ((options : Options) (readers polls attempts : ℕ) → job ≡ Live options readers polls attempts → ⊥) → IsPlain job
+is_plain (Play options attempts) other = tt
+is_plain (New file options) other = tt
+is_plain (Check file name) other = tt
+is_plain (Poll file name times attempts values) other = tt
+is_plain (Clear file) other = tt
+is_plain (Make count seed) other = tt
+is_plain (Append file name limit keeps) other = tt
+is_plain (Live options readers polls attempts) other = other options readers polls attempts refl
+
+-- a run in threads
+pub ran_live : (o : Option Job) (job : Job) (options : Options) (readers polls attempts : ℕ) (ended : Ended) (s t : SourceView) (k l : SinkView) (v : DiskView) → o ≡ Some job → job ≡ Live options readers polls attempts
+    → LiveEnds (asked_by options readers polls attempts) ended s t k l → Ran o ended s t k l v v
+ran_live o job options readers polls attempts ended s t k l v e is live = subst (λ (x : Option Job). Ran x ended s t k l v v) (sym (e ∙ ap Some is)) (live, refl)
 
 pub not_wanting : (e : WordsError) (P : Type 0) → e ≡ WordsError.Usage → (e ≡ WordsError.OutOfMemory) ⊎ P → P
 not_wanting e P is (inl wanting) = let clash : WordsError.Usage ≡ WordsError.OutOfMemory = sym is ∙ wanting in absurd (cc)

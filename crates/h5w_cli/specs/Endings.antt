@@ -4,15 +4,15 @@ use Rattle.h5w_model.specs.Causes.{Rose}
 use Rattle.h5w_model.specs.Lawful.{Line as ScriptedLine, Rules}
 use Rattle.h5w_model.specs.declared.reply.Reply.{Reply}
 use Rattle.h5w_text.specs.Streams.{SourceView, SinkView, Gave, GaveSome}
-use Rattle.h5w_text.specs.LinesAhead.{LinesAhead}
 use Rattle.h5w_text.specs.Replies.{reply_text}
 use Rattle.h5w_text.specs.Errors.{error_text}
 use Rattle.h5w_text.specs.declared.error.ErrorLine.TheVariants as errors
 use Rattle.h5w_text.specs.declared.line.LineError.{LineError}
 use Rattle.h5w_text.specs.declared.line.LineError.TheVariants as line_errors
 use Rattle.h5w_core.specs.Worlds.{WorldView, rules_of}
+use Rattle.h5w_batches.specs.Inputs.{input_limit}
 use Rattle.h5w_cli.specs.Answers.{Answers, play_line_of}
-use Rattle.h5w_cli.specs.Plays.{Begun, Broken, Finished, Writes, input_limit}
+use Rattle.h5w_cli.specs.Plays.{Begun, Broken, Finished, Writes}
 use Rattle.h5w_cli.specs.declared.ending.Ending.{Ending}
 use Rattle.h5w_cli.specs.declared.ending.Ending.TheVariants.{Line, Input, Source, Sink, Memory}
 use Rattle.h5w_text.specs.declared.status.Status.{Status}
@@ -22,10 +22,6 @@ abbrev pub ending_of : LineError → Ending
 ending_of line_errors.Failed = Source
 ending_of (line_errors.Input limit) = Input
 ending_of line_errors.OutOfMemory = Memory
-
--- what a reader of lines has before it, as a source
-abbrev pub outside : LinesAhead → SourceView
-outside v = record { left = v.left; faults = v.faults; through = v.through }
 
 -- a line of the input was given a reply, and its text was written
 pub record Answered (bytes : List ℕ) (old new : WorldView) (k l : SinkView) : Type 0 where

@@ -1,6 +1,6 @@
 -- What a run of a script writes, and why it ends: the lines of its input spell the lines of a script, these are given
 -- replies, and the text of the replies is written.
-use Rattle.std.specs.Prelude.{◌≡◌, ◌⊎◌, ℕ, ◌+◌, ◌^◌, ◌≤◌, ◌<◌, List, [], ◌∷◌, ◌++◌, length, map, take, flat_map, option_map, Some, None, IfSome}
+use Rattle.std.specs.Prelude.{◌≡◌, ◌⊎◌, ℕ, ◌+◌, ◌≤◌, ◌<◌, List, [], ◌∷◌, ◌++◌, length, map, take, flat_map, option_map, Some, None, IfSome}
 use Rattle.h5w_model.specs.Causes.{Rose}
 use Rattle.h5w_model.specs.Lawful.{Line, Rules, Lawful, at_first}
 use Rattle.h5w_model.specs.declared.reply.Reply.{Reply}
@@ -9,13 +9,10 @@ use Rattle.h5w_text.specs.Lines.{lines_of, whole_lines_of}
 use Rattle.h5w_text.specs.Replies.{reply_text}
 use Rattle.h5w_text.specs.Errors.{error_text}
 use Rattle.h5w_text.specs.declared.error.ErrorLine.TheVariants as errors
+use Rattle.h5w_batches.specs.Inputs.{input_limit}
 use Rattle.h5w_cli.specs.Answers.{play_line_of}
 use Rattle.h5w_text.specs.declared.status.Status.{Status}
 use Rattle.h5w_text.specs.declared.status.Status.TheVariants.{Done, Usage, Missing, Exists, Format, Damaged, Flags, Again, Input, Limit, Disk, Source, Sink, Memory}
-
--- the most bytes of an input
-abbrev pub input_limit : ℕ
-input_limit = 2 ^ 40
 
 -- a text of replies that may be given to the lines of a script, one after another
 pub record Replied (g : Rules) (lines : List (List ℕ)) (text : List ℕ) : Type 0 where
@@ -119,11 +116,6 @@ pub record Finished (g : Rules) (status : Status) (s t : SourceView) (k l : Sink
 abbrev pub Plays : Rules → Status → SourceView → SourceView → SinkView → SinkView → Type 0
 Plays g Sink s t k l = Broken g s t k l
 Plays g status s t k l = Finished g status s t k l
-
--- a source whose count of faults has not fallen, and which works through the same references
-pub record SameSource (s t : SourceView) : Type 0 where
-  pub faults : s.faults ≤ t.faults
-  pub through : t.through ≡ s.through
 
 -- a source tells an input, which is not too long, and whose lines spell the lines of a script
 pub record HasScript (g : Rules) (s : SourceView) : Type 0 where

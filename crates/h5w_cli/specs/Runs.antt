@@ -17,12 +17,21 @@ use Rattle.h5w_files.specs.Clears.{ClearEnds, flags_of}
 use Rattle.h5w_session.specs.Creations.{new_file}
 use Rattle.h5w_core.specs.Worlds.{rules_for}
 use Rattle.h5w_words.specs.declared.job.Job.{Job}
-use Rattle.h5w_words.specs.declared.job.Job.TheVariants.{Play, New, Check, Poll, Clear, Make, Append}
+use Rattle.h5w_words.specs.declared.job.Job.TheVariants.{Play, New, Check, Poll, Clear, Make, Append, Live}
+use Rattle.h5w_running.specs.Runs.{asked_by}
+use Rattle.h5w_running.specs.Ends.{LiveEnds, LiveEndsWell}
+use Rattle.h5w_running.specs.declared.ended.Ended.{Ended}
+use Rattle.h5w_running.specs.declared.ended.Ended.TheVariants as ends
 use Rattle.h5w_cli.specs.Plays.{Completes, Plays}
 use Rattle.h5w_cli.specs.Makes.{MakeEnds, MakeEndsWell}
 use Rattle.h5w_cli.specs.Appending.{AppendEndsWell}
 
--- What a job leaves of source, sink and disk. A script leaves the disk as it is, of the commands on files an append alone reads, and the
+-- the job waits for nobody
+abbrev pub IsPlain : Job → Type 0
+IsPlain (Live options readers polls attempts) = ⊥
+IsPlain job = Unit {0}
+
+-- What a job that waits for nobody leaves of source, sink and disk. A script leaves the disk as it is, of the commands on files an append alone reads, and the
 -- making of a file in memory leaves both.
 abbrev pub Does : Job → Status → SourceView → SourceView → SinkView → SinkView → DiskView → DiskView → Type 0
 Does (Play options attempts) status s t k l v w = Plays (rules_for options attempts) status s t k l × (w ≡ v)
@@ -32,6 +41,7 @@ Does (Poll file name times attempts values) status s t k l v w = (t ≡ s) × Po
 Does (Clear file) status s t k l v w = (t ≡ s) × ClearEnds file v w status k l
 Does (Make count seed) status s t k l v w = (t ≡ s) × (w ≡ v) × MakeEnds count seed status k l
 Does (Append file name limit keeps) status s t k l v w = AppendEnds file name limit keeps s t v w status k l
+Does (Live options readers polls attempts) status s t k l v w = ⊥
 
 -- the words are outside the command set: nothing is read, no file is looked at, and that is said
 pub record Refuses (status : Status) (s t : SourceView) (k l : SinkView) (v w : DiskView) : Type 0 where
@@ -39,10 +49,16 @@ pub record Refuses (status : Status) (s t : SourceView) (k l : SinkView) (v w : 
   pub disk : w ≡ v
   pub told : SaidUnlessMemory (error_text errors.Usage) statuses.Usage status k l
 
--- what a run leaves, by the job of its words
-abbrev pub Ran : Option Job → Status → SourceView → SourceView → SinkView → SinkView → DiskView → DiskView → Type 0
-Ran None status s t k l v w = Refuses status s t k l v w
-Ran (Some job) status s t k l v w = Does job status s t k l v w
+-- it ended with a status
+abbrev pub EndsWith : (Status → Type 0) → Ended → Type 0
+EndsWith Leaves (ends.With status) = Leaves status
+EndsWith Leaves (ends.Image worn) = ⊥
+
+-- What a run leaves, by the job of its words. One in threads leaves the disk as it is.
+abbrev pub Ran : Option Job → Ended → SourceView → SourceView → SinkView → SinkView → DiskView → DiskView → Type 0
+Ran None ended s t k l v w = EndsWith (λ status. Refuses status s t k l v w) ended
+Ran (Some (Live options readers polls attempts)) ended s t k l v w = LiveEnds (asked_by options readers polls attempts) ended s t k l × (w ≡ v)
+Ran (Some job) ended s t k l v w = EndsWith (λ status. Does job status s t k l v w) ended
 
 -- a job is done, or memory is wanted, where nothing else stands in its way; the file of an append may have no place
 abbrev pub DoesWhole : Job → Status → SourceView → SourceView → SinkView → SinkView → DiskView → DiskView → Type 0
@@ -53,8 +69,10 @@ DoesWhole (Poll file name times attempts values) status s t k l v w = EndsWell (
 DoesWhole (Clear file) status s t k l v w = EndsWell flags_of file v w status k l
 DoesWhole (Make count seed) status s t k l v w = MakeEndsWell status k l
 DoesWhole (Append file name limit keeps) status s t k l v w = AppendEndsWell file name status s t k l v w
+DoesWhole (Live options readers polls attempts) status s t k l v w = ⊥
 
 -- the same of the job that words of the command set have
-abbrev pub RanWhole : Option Job → Status → SourceView → SourceView → SinkView → SinkView → DiskView → DiskView → Type 0
-RanWhole None status s t k l v w = Unit {0}
-RanWhole (Some job) status s t k l v w = DoesWhole job status s t k l v w
+abbrev pub RanWhole : Option Job → Ended → SourceView → SourceView → SinkView → SinkView → DiskView → DiskView → Type 0
+RanWhole None ended s t k l v w = Unit {0}
+RanWhole (Some (Live options readers polls attempts)) ended s t k l v w = LiveEndsWell (asked_by options readers polls attempts) ended s t k l
+RanWhole (Some job) ended s t k l v w = EndsWith (λ status. DoesWhole job status s t k l v w) ended

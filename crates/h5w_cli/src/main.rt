@@ -14,6 +14,7 @@ use crate::disk::FileDisk;
 use crate::run::run;
 use crate::streams::{StdSink, StdSource};
 use h5w_image::OpenGate;
+use h5w_running::Ended;
 use h5w_text::{Status, say};
 use std::alloc::AllocError;
 use std::env;
@@ -34,7 +35,7 @@ fn main(rt: HostRuntime) -> ExitCode {
     let mut source = StdSource::new(rt.stdin());
     let mut sink = StdSink::new(rt.stdout());
     let mut disk = FileDisk::new(&rt);
-    let status = match words(&rt) {
+    let ended = match words(&rt) {
         Ok(words) => run(
             &rt,
             rt.alloc(),
@@ -44,9 +45,9 @@ fn main(rt: HostRuntime) -> ExitCode {
             &mut disk,
             &OpenGate,
         ),
-        Err(_) => say(b"error memory\n", Status::Memory, &mut sink),
+        Err(_) => Ended::With(say(b"error memory\n", Status::Memory, &mut sink)),
     };
-    ExitCode::from(status.number())
+    ExitCode::from(ended.number())
 }
 
 #[cfg(test)]

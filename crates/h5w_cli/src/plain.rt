@@ -1,6 +1,6 @@
 //! The commands that wait for nobody.
-ghost use Rattle.h5w_cli.specs.Plays.{SameSource};
-ghost use Rattle.h5w_cli.specs.Runs.{Does, DoesWhole};
+ghost use Rattle.h5w_batches.specs.Inputs.{SameSource};
+ghost use Rattle.h5w_cli.specs.Runs.{Does, DoesWhole, IsPlain};
 ghost use Rattle.h5w_words.specs.Limits.{IsWithinLimits};
 
 use crate::make::make;
@@ -19,7 +19,8 @@ pub fn plain<S: Source, K: Sink, D: Disk>(
     sink: &mut K,
     disk: &mut D,
 ) -> Status
-    requires { IsWithinLimits job.now }
+    requires limits { IsWithinLimits job.now }
+    requires waits { IsPlain job.now }
     ensures does { Does job.now result (S.view source.old) (S.view source.new) (K.view sink.old) (K.view sink.new) (D.view disk.old) (D.view disk.new) }
     ensures completes { DoesWhole job.now result (S.view source.old) (S.view source.new) (K.view sink.old) (K.view sink.new) (D.view disk.old) (D.view disk.new) }
     ensures source { SameSource (S.view source.old) (S.view source.new) }
@@ -61,5 +62,6 @@ pub fn plain<S: Source, K: Sink, D: Disk>(
             sink,
             disk,
         ),
+        Job::Live { .. } => unreachable!(),
     }
 }

@@ -4,8 +4,9 @@ ghost use Rattle.h5w_model.specs.Lawful.{at_first};
 ghost use Rattle.h5w_options.specs.Options.{AreAttempts, AreOptions};
 ghost use Rattle.h5w_text.specs.LinesAhead.{IsLine, lines_ahead};
 ghost use Rattle.h5w_core.specs.Worlds.{HaveOneLog, rules_for, rules_of};
-ghost use Rattle.h5w_cli.specs.Endings.{Answered, EndsAt, Runs, outside};
-ghost use Rattle.h5w_cli.specs.Plays.{Plays, SameSource, input_limit};
+ghost use Rattle.h5w_batches.specs.Inputs.{SameSource, input_limit, outside};
+ghost use Rattle.h5w_cli.specs.Endings.{Answered, EndsAt, Runs};
+ghost use Rattle.h5w_cli.specs.Plays.{Plays};
 
 use crate::answer::{Refusal, answer};
 use crate::ending::Ending;

@@ -11,6 +11,7 @@ use std::thread::Threads;
 mod appends;
 mod changing;
 mod files;
+mod lives;
 mod new_files;
 mod rows;
 mod trees;
@@ -19,6 +20,7 @@ mod types;
 use appends::APPEND_ROWS;
 use changing::Changing;
 use files::FILE_ROWS;
+use lives::LIVE_ROWS;
 use new_files::NEW_ROWS;
 use rows::ROWS;
 use trees::TREE_ROWS;
@@ -226,7 +228,7 @@ fn ran<R: Threads + Wait + Sync + AllocGlobal, D: Disk>(
     let words = words_of(rt, words)?;
     let mut source = MemSource::with_faults(rt.alloc(), &step.input, &[step.source])?;
     let mut sink = MemSink::with_faults(rt.alloc(), &[step.sink])?;
-    let status = run(
+    let ended = run(
         rt,
         rt.alloc(),
         &words,
@@ -236,7 +238,7 @@ fn ran<R: Threads + Wait + Sync + AllocGlobal, D: Disk>(
         &OpenGate,
     );
     let text = str::from_utf8(sink.written().unwrap_or(b""))?;
-    Ok((u64::from(status.number()), text.to_string(rt.alloc())?))
+    Ok((u64::from(ended.number()), text.to_string(rt.alloc())?))
 }
 
 /// Panics where a step of the row of this name does not come to what is wanted.
@@ -291,6 +293,9 @@ fn rows_are_answered(rt: HostRuntime) -> Result<(), Fail> {
         check_row(&rt, row)?;
     }
     for row in APPEND_ROWS.split('#').skip(1) {
+        check_row(&rt, row)?;
+    }
+    for row in LIVE_ROWS.split('#').skip(1) {
         check_row(&rt, row)?;
     }
     Ok(())

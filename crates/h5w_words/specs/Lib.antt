@@ -10,4 +10,5 @@ pub mod Play
 pub mod Files
 pub mod Makes
 pub mod Appends
+pub mod Lives
 pub mod Commands

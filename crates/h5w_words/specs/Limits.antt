@@ -2,7 +2,7 @@
 use Rattle.h5w_options.specs.Options.{AreOptions, AreAttempts}
 use Rattle.h5w_words.specs.declared.job.Job.{Job}
 use Rattle.std.specs.Prelude.{◌≤◌, ◌^◌, length}
-use Rattle.h5w_words.specs.declared.job.Job.TheVariants.{Play, New, Check, Poll, Clear, Make, Append}
+use Rattle.h5w_words.specs.declared.job.Job.TheVariants.{Play, New, Check, Poll, Clear, Make, Append, Live}
 
 abbrev pub IsWithinLimits : Job → Type 0
 IsWithinLimits (Play options attempts) = AreOptions options × AreAttempts attempts
@@ -12,3 +12,4 @@ IsWithinLimits (Poll file name times attempts values) = (1 ≤ times) × AreAtte
 IsWithinLimits (Clear file) = Unit {0}
 IsWithinLimits (Make count seed) = count ≤ 1000000
 IsWithinLimits (Append file name limit keeps) = (length name ≤ 255) × (1024 ≤ limit) × (limit ≤ 2 ^ 40)
+IsWithinLimits (Live options readers polls attempts) = AreOptions options × AreAttempts attempts × (1 ≤ readers) × (readers ≤ 16) × (1 ≤ polls) × (polls ≤ 10000)

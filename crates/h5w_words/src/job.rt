@@ -60,6 +60,17 @@ pub enum Job {
         /// Whether no place of the file is used twice.
         keeps: bool,
     },
+    /// Runs a writer of the input's batches and readers that poll beside it, in threads.
+    Live {
+        /// By what the file is created. The name has letters, digits and underscores alone.
+        options: Options,
+        /// How many readers, 1 to 16.
+        readers: u32,
+        /// How many calls of each, 1 to 10,000.
+        polls: u32,
+        /// How many attempts a call makes at most, 1 to 1,000.
+        attempts: u32,
+    },
 }
 
 /// Why words ask for nothing.

@@ -9,6 +9,7 @@ mod creation;
 mod file;
 mod files;
 mod job;
+mod live;
 mod make;
 mod name;
 mod number;

@@ -6,6 +6,7 @@ ghost use Rattle.h5w_words.specs.Limits.{IsWithinLimits};
 use crate::append::{append, append_job};
 use crate::files::{check, check_job, clear, clear_job, creating, creating_job, poll, poll_job};
 use crate::job::{Job, WordsError};
+use crate::live::{live, live_job};
 use crate::make::{make, make_job};
 use crate::play::{play, play_job};
 use clap::{ArgMatches, Command};
@@ -22,6 +23,7 @@ fn program<'a>(alloc: Global) -> Result<Command<'a>, AllocError>
     let command = command.subcommand(clear(alloc)?)?;
     let command = command.subcommand(make(alloc)?)?;
     let command = command.subcommand(append(alloc)?)?;
+    let command = command.subcommand(live(alloc)?)?;
     Ok(command)
 }
 
@@ -50,6 +52,7 @@ fn named(alloc: Global, name: &str, options: &ArgMatches<'_>) -> Result<Job, Wor
         "clear" => clear_job(alloc, options),
         "make" => make_job(options),
         "append" => append_job(alloc, options),
+        "live" => live_job(alloc, options),
         _ => Err(WordsError::Usage),
     }
 }

@@ -135,10 +135,67 @@ $ check f
 => valid rows 0 chunks 0 blocks 4 end 244 lost 0
 $ poll f --values
 => rows 0
+$ append f
+1 2
+=> error line 1
+= 8
+$ append f
+1 2 3 4 5 6
+-
+7 8 9
+10 11 12
+-
+13 14 15
+=> rows 2
+=> rows 4
+=> rows 5
+=> closed 5
+$ check f
+=> valid rows 5 chunks 6 blocks 5 end 4388 lost 2048
+$ append f
+16 17 18
+-
+x
+=> rows 6
+=> error line 3
+= 8
+$ poll f --values
+=> rows 6
+=> 1 2 3
+=> 4 5 6
+=> 7 8 9
+=> 10 11 12
+=> 13 14 15
+=> 16 17 18
 $ new g --type u8 --chunk 256 --columns 3 --width 65536
 => new end 250
 $ check g
 => valid rows 0 chunks 0 blocks 4 end 250 lost 0
+
+# a file whose leaf is full, and one more
+$ new f --type u8 --chunk 1 --columns 1 --width 1
+=> new end 244
+$ append f
+7*84
+=> rows 84
+=> closed 84
+$ check f
+=> valid rows 84 chunks 84 blocks 5 end 2376 lost 0
+$ append f
+8
+=> rows 85
+=> closed 85
+$ check f
+=> valid rows 85 chunks 85 blocks 7 end 8521 lost 2048
+$ append f
+9
+-
+1
+=> rows 86
+=> rows 87
+=> closed 87
+$ check f
+=> valid rows 87 chunks 87 blocks 7 end 12619 lost 6144
 
 # the largest chunk
 $ play --type u8 --chunk 256 --columns 1 --width 65536

@@ -1,4 +1,4 @@
-use Rattle.std.proofs.Common.{◌≡◌, ◌≤◌, ℕ, Some, subst}
+use Rattle.std.proofs.Common.{◌≡◌, ◌≤◌, Some, subst}
 use Rattle.h5w_text.specs.Scripts.{script_line_of}
 use Rattle.h5w_text.specs.Words.{line_of_script}
 use Rattle.h5w_core.specs.Worlds.{rules_of}

@@ -1,6 +1,7 @@
 use Rattle.std.proofs.Common.{◌≡◌, Result, Err, ap, subst, sym, rules}
 use Rattle.h5w_text.specs.LinesAhead.{lines_ahead}
-use Rattle.h5w_cli.specs.Endings.{Runs, ending_of, outside}
+use Rattle.h5w_batches.specs.Inputs.{outside}
+use Rattle.h5w_cli.specs.Endings.{Runs, ending_of}
 use Rattle.h5w_cli.specs.declared.ending.Ending.{Ending}
 use Rattle.h5w_core.specs.Worlds.{rules_of}
 use Rattle.h5w_cli.proofs.PlayLemmas.{ended_at_last, ended_at_line, ended_at_source, ended_whole, whole_first, whole_more}

@@ -2,7 +2,7 @@ use Rattle.std.proofs.Common.{inl}
 use Rattle.h5w_text.specs.Errors.{error_text}
 use Rattle.h5w_text.specs.declared.error.ErrorLine.TheVariants as errors
 use Rattle.h5w_core.specs.Worlds.{rules_for, rules_of}
-use Rattle.h5w_cli.specs.Plays.{input_limit}
+use Rattle.h5w_batches.specs.Inputs.{input_limit}
 use Rattle.h5w_cli.specs.declared.ending.Ending.TheVariants as endings
 use Rattle.h5w_text.specs.declared.status.Status.TheVariants as statuses
 use Rattle.h5w_cli.proofs.TellLemmas.{ends, leaves_first, runs_at}

@@ -9,4 +9,5 @@ returns c =
     let poll = command_added c.in_ok-command-3.command c.in_ok-poll.field-0 c.in_ok-command-4.command c.in_ok-command-4.ensures c.in_ok-poll.ensures.local check c.in_ok-poll.ensures.shape in
     let clear = command_added c.in_ok-command-4.command c.in_ok-clear.field-0 c.in_ok-command-5.command c.in_ok-command-5.ensures c.in_ok-clear.ensures.local poll c.in_ok-clear.ensures.shape in
     let make = command_added c.in_ok-command-5.command c.in_ok-make.field-0 c.in_ok-command-6.command c.in_ok-command-6.ensures c.in_ok-make.ensures.local clear c.in_ok-make.ensures.shape in
-    command_added c.in_ok-command-6.command c.in_ok-append.field-0 c.in_ok-command-7.command c.in_ok-command-7.ensures c.in_ok-append.ensures.local make c.in_ok-append.ensures.shape
+    let append = command_added c.in_ok-command-6.command c.in_ok-append.field-0 c.in_ok-command-7.command c.in_ok-command-7.ensures c.in_ok-append.ensures.local make c.in_ok-append.ensures.shape in
+    command_added c.in_ok-command-7.command c.in_ok-live.field-0 c.in_ok-command-8.command c.in_ok-command-8.ensures c.in_ok-live.ensures.local append c.in_ok-live.ensures.shape

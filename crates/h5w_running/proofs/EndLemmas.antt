@@ -1,0 +1,119 @@
+-- How a run in threads ends.
+use Rattle.std.proofs.Common.{◌≡◌, ◌⊎◌, ℕ, List, [], ◌∷◌, map, ℤ, Option, Some, None, Result, Ok, Err, refl, sym, ap, ◌∙◌, subst, inl, inr}
+use Rattle.std.specs.Prelude.{IfSome}
+use Rattle.h5w_model.specs.Causes.{Rose}
+use Rattle.h5w_shared.specs.Seats.{SeatView}
+use Rattle.h5w_session.specs.declared.refusal.AppendError.{AppendError}
+use Rattle.h5w_text.specs.Errors.{error_text}
+use Rattle.h5w_text.specs.Says.{Said, SaidUnlessMemory, whole, failed}
+use Rattle.h5w_text.specs.Scripts.{number_line_of}
+use Rattle.h5w_text.specs.Statuses.{status_of}
+use Rattle.h5w_text.specs.Streams.{Gave, GaveSome, SinkView, SourceView}
+use Rattle.h5w_text.specs.declared.error.ErrorLine.{ErrorLine}
+use Rattle.h5w_text.specs.declared.error.ErrorLine.TheVariants as errors
+use Rattle.h5w_text.specs.declared.status.Status.{Status}
+use Rattle.h5w_text.specs.declared.status.Status.TheVariants as statuses
+use Rattle.h5w_batches.specs.Batches.{batches_of}
+use Rattle.h5w_batches.specs.Inputs.{AreAll, HasNumbers, ReadsOutside}
+use Rattle.h5w_batches.specs.Reads.{IsTooLong, ReadsBatches}
+use Rattle.h5w_batches.specs.declared.error.BatchError.TheVariants as batch_errors
+use Rattle.h5w_batches.proofs.AnswerLemmas.{completes_of}
+use Rattle.h5w_live.specs.Writing.{first_refused}
+use Rattle.h5w_live.specs.declared.report.LiveReport.{LiveReport}
+use Rattle.h5w_running.specs.Runs.{Asked, Refuses, Tells}
+use Rattle.h5w_running.specs.Ends.{ComesTo, Ends, HasRows, LiveEnds, LiveEndsWell, broken, ended_by, image_text, written}
+use Rattle.h5w_running.specs.declared.ended.Ended.{Ended}
+use Rattle.h5w_running.specs.declared.ended.Ended.TheVariants as ends
+use Rattle.h5w_running.specs.declared.refusal.Refusal.{Refusal}
+use Rattle.h5w_running.specs.declared.refusal.Refusal.TheVariants.{Error, Image}
+
+-- ---- The last bytes
+
+said_ends : {k l : SinkView} (text : List ℕ) (status result : Status) → Said text status result k l → Ends text (ends.With status) (ends.With result) k l
+said_ends text status result (whole is gave) = written (ap ends.With is) gave
+said_ends text status result (failed is rose some) = broken (ap ends.With is) rose some
+
+-- a report
+pub tells_ends : {s t : SourceView} {k l : SinkView} (a : Asked) (r : LiveReport) (text bytes : List ℕ) (status : Status) → Tells a s t r text → bytes ≡ text → Said bytes statuses.Done status k l → LiveEnds a (ends.With status) s t k l
+tells_ends {k = k} {l} a r text bytes status tells same said =
+    record { answer = Ok r; text = text; comes = tells; ended = said_ends text statuses.Done status (subst (λ (b : List ℕ). Said b statuses.Done status k l) same said) }
+
+-- an error, or want of memory for its line
+pub error_ends : {s t : SourceView} {k l : SinkView} (a : Asked) (e : ErrorLine) (status : Status) → Refuses a s t (Error e) → SaidUnlessMemory (error_text e) (status_of e) status k l → LiveEnds a (ends.With status) s t k l
+error_ends a e status h (inl said) = record { answer = Err (Error e); text = error_text e; comes = (h, refl); ended = said_ends (error_text e) (status_of e) status said }
+error_ends a e status h (inr said) =
+    record { answer = Err (Error errors.Memory); text = error_text errors.Memory; comes = (tt, refl); ended = said_ends (error_text errors.Memory) statuses.Memory status said }
+
+-- a failed image
+pub image_ends : {s t : SourceView} {k l : SinkView} (a : Asked) (worn : SeatView) → Refuses a s t (Image worn) → Gave image_text k l → LiveEnds a (ends.Image worn) s t k l
+image_ends a worn h gave = record { answer = Err (Image worn); text = image_text; comes = (h, refl); ended = written refl gave }
+
+pub image_breaks : {s t : SourceView} {k l : SinkView} (a : Asked) (worn : SeatView) → Refuses a s t (Image worn) → Rose k.faults l.faults → GaveSome image_text k l → LiveEnds a (ends.With statuses.Sink) s t k l
+image_breaks a worn h rose some = record { answer = Err (Image worn); text = image_text; comes = (h, refl); ended = broken refl rose some }
+
+-- ---- Where nothing stands in its way
+
+one_list : {X : Type 0} (xs ys : List X) → map Some xs ≡ map Some ys → xs ≡ ys
+one_list [] [] e = refl
+one_list [] (y ∷ ys) e = absurd (cc)
+one_list (x ∷ xs) [] e = absurd (cc)
+one_list {X} (x ∷ xs) (y ∷ ys) e =
+    let first : x ≡ y = cc in
+    let behind : map Some xs ≡ map Some ys = cc in
+    ap (λ (z : X). z ∷ xs) first ∙ ap (λ (zs : List X). y ∷ zs) (one_list xs ys behind)
+
+at_told : (o : Option (List ℕ)) (P : List ℕ → Type 0) (input : List ℕ) → o ≡ Some input → IfSome o P → P input
+at_told o P input e h = subst (λ (q : Option (List ℕ)). IfSome q P) e h
+
+-- an input has one list of batches
+one_reading : {columns : ℕ} {s t : SourceView} (bs : List (List ℤ)) (h : HasNumbers columns s) → ReadsBatches columns s t bs → bs ≡ batches_of h.numbers
+one_reading {columns} {s} bs h r =
+    let all : AreAll r.reads.lines h.input = at_told s.left (AreAll r.reads.lines) h.input h.told r.reads.all in
+    let same : map Some r.numbers ≡ map Some h.numbers = sym r.reads.spell ∙ ap (map (number_line_of columns)) (sym all.1) ∙ h.spell in
+    r.batches_are ∙ ap batches_of (one_list r.numbers h.numbers same)
+
+-- no batch of an input that is taken is refused
+not_first : (a : Asked) {s t : SourceView} (bs : List (List ℤ)) (x : ℕ × AppendError) → HasRows a s → ReadsBatches a.file.columns s t bs → first_refused a.file 0 1 bs ≡ Some x → ⊥
+not_first a bs x h read e =
+    let none : first_refused a.file 0 1 bs ≡ None = ap (first_refused a.file 0 1) (one_reading bs h.has read) ∙ h.accepted in
+    let clash : None ≡ Some x = sym none ∙ e in
+    absurd (cc)
+
+not_line : {columns : ℕ} {s : SourceView} (number : ℕ) (t : SourceView) → HasNumbers columns s → ReadsOutside columns s number → ⊥
+not_line {columns} {s} number t h r = completes_of {T = Unit {0}} columns s t (Err (batch_errors.Line number)) h r
+
+not_long : {columns : ℕ} {s : SourceView} (limit : ℕ) (t : SourceView) → HasNumbers columns s → IsTooLong columns s limit → ⊥
+not_long {columns} {s} limit t h r = completes_of {T = Unit {0}} columns s t (Err (batch_errors.Input limit)) h r
+
+abbrev IsGood : Ended → Type 0
+IsGood result = (result ≡ ends.With statuses.Done) ⊎ ((result ≡ ends.With statuses.Limit) ⊎ (result ≡ ends.With statuses.Memory))
+
+good : (a : Asked) (s t : SourceView) (answer : Result LiveReport Refusal) (text : List ℕ) → ComesTo a s t answer text → HasRows a s → (Rose s.faults t.faults → ⊥) → ((worn : SeatView) → ended_by answer ≡ ends.Image worn → ⊥) → IsGood (ended_by answer)
+good a s t (Ok r) text comes h source image = inl refl
+good a s t (Err (Error errors.Usage)) text comes h source image = absurd comes.0.2
+good a s t (Err (Error errors.Missing)) text comes h source image = absurd comes.0.2
+good a s t (Err (Error errors.Exists)) text comes h source image = absurd comes.0.2
+good a s t (Err (Error (errors.Read r))) text comes h source image = absurd comes.0.2
+good a s t (Err (Error (errors.Finding kind at))) text comes h source image = absurd comes.0.2
+good a s t (Err (Error (errors.Overlap at len other other_len))) text comes h source image = absurd comes.0.2
+good a s t (Err (Error (errors.Cut end size))) text comes h source image = absurd comes.0.2
+good a s t (Err (Error errors.Layout)) text comes h source image = absurd comes.0.2
+good a s t (Err (Error (errors.ChunkBytes bytes))) text comes h source image = absurd comes.0.2
+good a s t (Err (Error errors.NoColumns)) text comes h source image = absurd comes.0.2
+good a s t (Err (Error errors.NoIndex)) text comes h source image = absurd comes.0.2
+good a s t (Err (Error (errors.FullChunks chunks limit))) text comes h source image = let why = comes.0 in absurd (not_first a why.0 _ h why.1 why.2.1)
+good a s t (Err (Error (errors.FullSpace at size limit))) text comes h source image = inr (inl refl)
+good a s t (Err (Error (errors.Line number))) text comes h source image = absurd (not_line number t h.has comes.0)
+good a s t (Err (Error (errors.Range batch index value))) text comes h source image = let why = comes.0 in absurd (not_first a why.0 _ h why.1 why.2)
+good a s t (Err (Error (errors.Input limit))) text comes h source image = absurd (not_long limit t h.has comes.0)
+good a s t (Err (Error errors.Disk)) text comes h source image = absurd comes.0.2
+good a s t (Err (Error errors.Source)) text comes h source image = let why = comes.0 in absurd (source why.0)
+good a s t (Err (Error errors.Memory)) text comes h source image = inr (inr refl)
+good a s t (Err (Image worn)) text comes h source image = absurd (image worn refl)
+
+pub ends_well : {s t : SourceView} {k l : SinkView} (a : Asked) (result : Ended) → LiveEnds a result s t k l → LiveEndsWell a result s t k l
+ends_well {s} {t} {k} {l} a result e = λ h source sink image. go h source sink image e.ended
+  where
+    go : HasRows a s → (Rose s.faults t.faults → ⊥) → (Rose k.faults l.faults → ⊥) → ((worn : SeatView) → result ≡ ends.Image worn → ⊥) → Ends e.text (ended_by e.answer) result k l → IsGood result
+    go h source sink image (broken is rose some) = absurd (sink rose)
+    go h source sink image (written is gave) = subst IsGood (sym is) (good a s t e.answer e.text e.comes h source (λ worn same. image worn (is ∙ same)))

@@ -1,0 +1,13 @@
+pub use Rattle.h5w_model.specs.Agrees
+pub use Rattle.h5w_model.specs.Causes
+pub use Rattle.h5w_text.specs.Streams
+pub use Rattle.h5w_text.specs.Replies
+pub use Rattle.h5w_text.specs.Errors
+pub use Rattle.h5w_batches.specs.Batches
+pub use Rattle.h5w_batches.specs.Inputs
+pub use Rattle.h5w_batches.specs.Reads
+pub use Rattle.h5w_live.specs.Reports
+pub use Rattle.h5w_live.specs.Writing
+pub mod Texts
+pub mod Runs
+pub mod Ends

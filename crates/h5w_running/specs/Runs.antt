@@ -1,0 +1,56 @@
+-- What a run in threads over the batches of an input comes to: what it reports, or why it does not.
+use Rattle.std.specs.Prelude.{◌≡◌, ℕ, ◌/◌, List, length, ℤ, None, Some}
+use Rattle.h5w_model.specs.Agrees.{values_in}
+use Rattle.h5w_options.specs.declared.options.Options.{Options}
+use Rattle.h5w_creation_laws.specs.CreatedFiles.{CreatedFile}
+use Rattle.h5w_session.specs.Creations.{new_file}
+use Rattle.h5w_session.specs.declared.refusal.AppendError.TheVariants as appends
+use Rattle.h5w_text.specs.Streams.{SourceView}
+use Rattle.h5w_text.specs.declared.error.ErrorLine.TheVariants as errors
+use Rattle.h5w_batches.specs.Inputs.{ReadsOutside}
+use Rattle.h5w_batches.specs.Reads.{HasFailed, IsTooLong, ReadsBatches}
+use Rattle.h5w_live.specs.Reports.{Reports}
+use Rattle.h5w_live.specs.Writing.{IsFullAt, first_refused}
+use Rattle.h5w_live.specs.declared.report.LiveReport.{LiveReport}
+use Rattle.h5w_running.specs.Texts.{report_text}
+use Rattle.h5w_running.specs.declared.refusal.Refusal.{Refusal}
+use Rattle.h5w_running.specs.declared.refusal.Refusal.TheVariants.{Error, Image}
+
+-- What was asked for: the file that is created and the most bytes that it may have, the attempts of a call, and how many readers make how
+-- many calls each.
+pub record Asked : Type 0 where
+  pub file : CreatedFile
+  pub most : ℕ
+  pub attempts : ℕ
+  pub readers : ℕ
+  pub calls : ℕ
+
+abbrev pub asked_by : Options → (readers calls attempts : ℕ) → Asked
+asked_by o readers calls attempts = record { file = new_file o; most = o.limit; attempts = attempts; readers = readers; calls = calls }
+
+-- The whole input was read, and these are its batches; the run over them came to this report, and the text is the report's, with all rows
+-- in the end.
+pub record Tells (a : Asked) (s t : SourceView) (r : LiveReport) (text : List ℕ) : Type 0 where
+  pub batches : List (List ℤ)
+  pub read : ReadsBatches a.file.columns s t batches
+  pub accepted : first_refused a.file 0 1 batches ≡ None
+  pub reports : Reports a.file batches a.attempts a.readers a.calls r
+  pub text_is : text ≡ report_text r.flushes r.polls (length (values_in batches) / a.file.columns)
+
+-- why a run over these batches does not report: the first batch that is refused, or one for which the file has no place, or no fault of theirs
+abbrev pub Halts : CreatedFile → ℕ → List (List ℤ) → Refusal → Type 0
+Halts f most bs (Error (errors.Range batch index value)) = first_refused f 0 1 bs ≡ Some (batch, appends.OutOfRange index value)
+Halts f most bs (Error (errors.FullChunks chunks limit)) = (batch : ℕ) × (first_refused f 0 1 bs ≡ Some (batch, appends.Chunks chunks limit))
+Halts f most bs (Error (errors.FullSpace at size limit)) = (batch : ℕ) × IsFullAt f most bs batch (record { at = at; size = size; limit = limit })
+Halts f most bs (Error errors.Memory) = Unit {0}
+Halts f most bs (Image worn) = Unit {0}
+Halts f most bs e = ⊥
+
+-- Why nothing is reported: the input is refused, or the source failed, or the whole input was read and the run over its batches does not
+-- report, or memory was wanting.
+abbrev pub Refuses : Asked → SourceView → SourceView → Refusal → Type 0
+Refuses a s t (Error (errors.Line number)) = ReadsOutside a.file.columns s number
+Refuses a s t (Error (errors.Input limit)) = IsTooLong a.file.columns s limit
+Refuses a s t (Error errors.Source) = HasFailed a.file.columns s t
+Refuses a s t (Error errors.Memory) = Unit {0}
+Refuses a s t e = (bs : List (List ℤ)) × ReadsBatches a.file.columns s t bs × Halts a.file a.most bs e
