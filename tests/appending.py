@@ -78,6 +78,23 @@ def used_again(folder):
     )
 
 
+def two_dimensions(folder):
+    """Rows of three columns in chunks of two by two: bands that go on, nodes that are written anew, and places that are used again, or not."""
+    rows, found = b"1 2 3 4 5 6\n\n7 8 9\n10 11 12\n\n13 14 15\n", []
+    for option, end, lost in (("", 4388, 2048), (" --no-reuse", 6436, 4096)):
+        found += steps(
+            folder,
+            ("new f --type i16le --chunk 2 --columns 3 --width 2", b"", 0, b"new end 244\n"),
+            (f"append f{option}", rows, 0, b"rows 2\nrows 4\nrows 5\nclosed 5\n"),
+            ("check f", b"", 0, b"valid rows 5 chunks 6 blocks 5 end %d lost %d\n" % (end, lost)),
+            ("append f", b"1 2\n", 8, b"error line 1\n"),
+            ("append f", b"16 17 18\n\nx\n", 8, b"rows 6\nerror line 3\n"),
+            ("poll f --values", b"", 0, b"rows 6\n1 2 3\n4 5 6\n7 8 9\n10 11 12\n13 14 15\n16 17 18\n"),
+        )
+        os.remove(f"{folder}/f")
+    return found
+
+
 def damaged(folder):
     """A file that is cut, one whose header is changed, one that another writer has open: nothing is written."""
     steps(folder, (NEW, b"", 0, b"new end 558\n"), ("append f", b"1 2 3\n", 0, b"rows 3\nclosed 3\n"))
@@ -167,5 +184,5 @@ def other_words(folder):
 
 
 def trials():
-    for find in (begins, used_again, damaged, full_device, told_at_once, unwritten, other_words):
+    for find in (begins, used_again, two_dimensions, damaged, full_device, told_at_once, unwritten, other_words):
         yield f"append: {find.__doc__.split(':')[0].split('.')[0].lower() if find.__doc__ else 'other words'}", lambda it=find: in_folder(it)

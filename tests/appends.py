@@ -19,6 +19,20 @@ def numpy_type(kind):
     return numpy.dtype(("<" if order != "be" else ">") + sign + str(int(bits) // 8))
 
 
+def wide(columns):
+    """How many values a row has: a dataset has columns, of which chunks have so many side by side, or one dimension."""
+    return columns[0] if columns else 1
+
+
+def table(values, columns):
+    """The values as rows of the dataset."""
+    return values if columns is None else [values[at : at + columns[0]] for at in range(0, len(values), columns[0])]
+
+
+def shape_of(rows, columns):
+    return (rows,) if columns is None else (rows, columns[0])
+
+
 def values_of(kind, count):
     """So many values of a type, its least and its greatest among them."""
     info = numpy.iinfo(numpy_type(kind))
@@ -26,9 +40,10 @@ def values_of(kind, count):
     return [(low, high, 0)[it] if it < 3 else low + (it * 2654435761 + it * it) % (high - low + 1) for it in range(count)]
 
 
-def text_of(batches):
-    """Lines of at most 1,000 values, an empty one behind each batch but the last."""
-    return "\n\n".join("\n".join(" ".join(map(str, it[at : at + 1000])) for at in range(0, len(it), 1000)) for it in batches) + "\n"
+def text_of(batches, columns=None):
+    """Lines of at most 1,000 values and of whole rows, an empty one behind each batch but the last."""
+    step = 1000 // wide(columns) * wide(columns)
+    return "\n\n".join("\n".join(" ".join(map(str, it[at : at + step])) for at in range(0, len(it), step)) for it in batches) + "\n"
 
 
 def run(words, text=""):
@@ -44,18 +59,19 @@ def of(what, seen, wanted):
     return [] if seen == wanted else [f"{what}: {short(seen)}, wanted {short(wanted)}"]
 
 
-def made(file, kind, chunk, fill=None):
+def made(file, kind, chunk, fill=None, columns=None):
     words = [PROGRAM, "new", file, "--type", kind, "--chunk", str(chunk)] + (["--fill", str(fill)] if fill is not None else [])
+    words += ["--columns", str(columns[0]), "--width", str(columns[1])] if columns else []
     return of("new", run(words).split(" ")[:2], ["new", "end"])
 
 
-def appended(file, batches, before=0, *options):
+def appended(file, batches, before=0, columns=None):
     """What the program says otherwise when these batches are appended to so many rows."""
     wanted, rows = "", before
     for batch in batches:
-        rows += len(batch)
+        rows += len(batch) // wide(columns)
         wanted += f"rows {rows}\n" if batch else ""
-    return of("append", run([PROGRAM, "append", file, *options], text_of(batches)), f"{wanted}closed {rows}\n")
+    return of("append", run([PROGRAM, "append", file], text_of(batches, columns)), f"{wanted}closed {rows}\n")
 
 
 # ---- What other tools read of a file that stands still
@@ -68,13 +84,14 @@ def dumped(file):
     return [int(it) for it in body.replace(",", " ").split()]
 
 
-def still(file, kind, wanted, folder, stored=True):
+def still(file, kind, wanted, folder, stored=True, columns=None):
     """What other tools read otherwise than these values, some of which are stored in a chunk."""
+    rows = table(wanted, columns)
     found = of("h5dump", dumped(file), wanted)
-    found += of("h5ls", run(["h5ls", file]).split(), ["data", "Dataset", f"{{{len(wanted)}/Inf}}"])
+    found += of("h5ls", run(["h5ls", file]).split(), ["data", "Dataset", *("{" + ", ".join(f"{it}/Inf" for it in shape_of(len(rows), columns)) + "}").split()])
     for how in ({}, {"libver": "latest", "swmr": True}):
         with h5py.File(file, "r", **how) as opened:
-            found += of(f"h5py {how}", [opened["data"].dtype.str, opened["data"][:].tolist()], [numpy_type(kind).str, wanted])
+            found += of(f"h5py {how}", [opened["data"].dtype.str, opened["data"][:].tolist()], [numpy_type(kind).str, rows])
     packed = f"{folder}/packed.h5"
     found += of("h5repack", run(["h5repack", file, packed]), "")
     # (h5diff compares no datasets without rows, nor without chunks)
@@ -82,85 +99,112 @@ def still(file, kind, wanted, folder, stored=True):
     return found + of("h5dump of h5repack's file", dumped(packed), wanted)
 
 
-def read_by_us(file, wanted):
+def lines_of(values, columns=None):
+    """A line for each row."""
+    return [str(it) if columns is None else " ".join(map(str, it)) for it in table(values, columns)]
+
+
+def read_by_us(file, wanted, columns=None):
     """What the program finds otherwise than these values."""
-    found = of("poll", run([PROGRAM, "poll", file, "--values"]), f"rows {len(wanted)}\n" + "".join(f"{it}\n" for it in wanted))
-    return found + of("check", run([PROGRAM, "check", file]).split(" ")[:3], ["valid", "rows", str(len(wanted))])
+    lines = lines_of(wanted, columns)
+    found = of("poll", run([PROGRAM, "poll", file, "--values"]), f"rows {len(lines)}\n" + "".join(f"{it}\n" for it in lines))
+    return found + of("check", run([PROGRAM, "check", file]).split(" ")[:3], ["valid", "rows", str(len(lines))])
 
 
-def stands_still(folder, kind, chunk, counts, fill=None):
+def stands_still(folder, kind, chunk, counts, fill=None, columns=None):
     """Batches of so many rows in a file of this type and chunk, read by other tools and by the program."""
-    file, values = f"{folder}/f.h5", values_of(kind, sum(counts))
-    found, batches = made(file, kind, chunk, fill), []
+    file, values = f"{folder}/f.h5", values_of(kind, sum(counts) * wide(columns))
+    found, batches = made(file, kind, chunk, fill, columns), []
     for count in counts:
-        batches.append(values[sum(map(len, batches)) :][:count])
-    found += appended(file, batches) if counts else []
-    return found + still(file, kind, values, folder) + read_by_us(file, values)
+        batches.append(values[sum(map(len, batches)) :][: count * wide(columns)])
+    found += appended(file, batches, 0, columns) if counts else []
+    return found + still(file, kind, values, folder, True, columns) + read_by_us(file, values, columns)
 
 
 # ---- Files that both append to
 
 
-def resized(file, values, libver="latest"):
+def resized(file, values, columns=None):
     """h5py appends these values."""
-    with h5py.File(file, "r+", libver=libver) as opened:
+    rows = table(values, columns)
+    with h5py.File(file, "r+", libver="latest") as opened:
         data = opened["data"]
-        data.resize((len(data) + len(values),))
-        data[len(data) - len(values) :] = values
+        data.resize(len(data) + len(rows), axis=0)
+        data[len(data) - len(rows) :] = rows
 
 
-def of_h5py(file, kind, chunk, values, fill=None, attributes=0):
-    """h5py makes a file with one growing dimension."""
+def of_h5py(file, kind, chunk, values, fill=None, attributes=0, columns=None):
+    """h5py makes a file whose dimensions grow, one or two of them."""
+    rows, sides = table(values, columns), (chunk,) if columns is None else (chunk, columns[1])
     with h5py.File(file, "w", libver="latest") as opened:
-        data = opened.create_dataset("data", shape=(0,), maxshape=(None,), chunks=(chunk,), dtype=numpy_type(kind), fillvalue=fill, track_times=True)
+        grows = (None,) * len(sides)
+        data = opened.create_dataset("data", shape=shape_of(0, columns), maxshape=grows, chunks=sides, dtype=numpy_type(kind), fillvalue=fill, track_times=True)
         for it in range(attributes):
             data.attrs[f"attribute {it}"] = "of the other program"
-        data.resize((len(values),))
-        data[:] = values
+        data.resize(len(rows), axis=0)
+        if rows:
+            data[:] = rows
 
 
-def in_turn(folder, kind, chunk, ours_first, attributes=0):
+def in_turn(folder, kind, chunk, ours_first, attributes=0, columns=None):
     """A file that one program made and both append to, in turn; each reads it right after each append."""
-    file, values = f"{folder}/f.h5", values_of(kind, 4 * chunk + 7)
-    cuts = [0, chunk + 1, chunk + 3, 3 * chunk, len(values)]
-    parts = [values[one:other] for one, other in zip(cuts, cuts[1:])]
+    count = wide(columns)
+    file, values = f"{folder}/f.h5", values_of(kind, (4 * chunk + 7) * count)
+    cuts = [0, chunk + 1, chunk + 3, 3 * chunk + 3, len(values) // count]
+    parts = [values[one * count : other * count] for one, other in zip(cuts, cuts[1:])]
     if ours_first:
-        found = made(file, kind, chunk)
-        found += appended(file, [parts[0]])
+        found = made(file, kind, chunk, None, columns)
+        found += appended(file, [parts[0]], 0, columns)
     else:
-        of_h5py(file, kind, chunk, parts[0], attributes=attributes)
+        of_h5py(file, kind, chunk, parts[0], None, attributes, columns)
         found = []
-    rows = len(parts[0])
+    there = len(parts[0])
     for turn, part in enumerate(parts[1:]):
         if (turn % 2 == 1) == ours_first:
-            found += appended(file, [part], rows)
+            found += appended(file, [part], there // count, columns)
         else:
-            resized(file, part)
-        rows += len(part)
-        found += read_by_us(file, values[:rows]) + still(file, kind, values[:rows], folder)
+            resized(file, part, columns)
+        there += len(part)
+        found += read_by_us(file, values[:there], columns) + still(file, kind, values[:there], folder, True, columns)
     if attributes:
         with h5py.File(file, "r") as opened:
             found += of("attributes", [opened["data"].attrs[it] for it in opened["data"].attrs], ["of the other program"] * attributes)
     return found
 
 
-def without_chunks(folder, kind, chunk, rows, fill):
+def without_chunks(folder, kind, chunk, rows, fill, columns=None):
     """A file of h5py's with so many rows, none of which it wrote: no chunk is there, and no index. We make the index, then both append."""
-    file, values = f"{folder}/f.h5", values_of(kind, 3 * chunk + 2)
-    of_h5py(file, kind, chunk, [], fill)
+    count = wide(columns)
+    file, values = f"{folder}/f.h5", values_of(kind, (3 * chunk + 2) * count)
+    of_h5py(file, kind, chunk, [], fill, 0, columns)
     with h5py.File(file, "r+", libver="latest") as opened:
-        opened["data"].resize((rows,))
-    wanted = [fill or 0] * rows
-    found = read_by_us(file, wanted) + appended(file, [], rows) + still(file, kind, wanted, folder, False)
-    for at in range(0, len(values), chunk):
-        part = values[at : at + chunk]
-        if at % (2 * chunk) == 0:
-            found += appended(file, [part], len(wanted))
+        opened["data"].resize(rows, axis=0)
+    wanted = [fill or 0] * rows * count
+    found = read_by_us(file, wanted, columns) + appended(file, [], rows, columns) + still(file, kind, wanted, folder, False, columns)
+    for turn, at in enumerate(range(0, len(values), chunk * count)):
+        part = values[at : at + chunk * count]
+        if turn % 2 == 0:
+            found += appended(file, [part], len(wanted) // count, columns)
         else:
-            resized(file, part)
+            resized(file, part, columns)
         wanted = wanted + part
-        found += read_by_us(file, wanted) + still(file, kind, wanted, folder)
+        found += read_by_us(file, wanted, columns) + still(file, kind, wanted, folder, True, columns)
     return found
+
+
+def by_columns(folder, kind, order):
+    """A file of h5py's whose columns it writes one after another, in this order of theirs, so that chunks come before, between and behind others
+    in its tree; then we append."""
+    columns, rows = (len(order), 1), 100
+    file, values = f"{folder}/f.h5", values_of(kind, (rows + 3) * len(order))
+    there = table(values[: rows * len(order)], columns)
+    of_h5py(file, kind, 1, [], None, 0, columns)
+    with h5py.File(file, "r+", libver="latest") as opened:
+        opened["data"].resize(rows, axis=0)
+        for at in order:
+            opened["data"][:, at] = [row[at] for row in there]
+    found = read_by_us(file, values[: rows * len(order)], columns) + appended(file, [values[rows * len(order) :]], rows, columns)
+    return found + read_by_us(file, values, columns) + still(file, kind, values, folder, True, columns)
 
 
 # ---- Files that are read while they are written
@@ -172,9 +216,9 @@ class Appending:
     def __init__(self, file, *options):
         self.process = subprocess.Popen([PROGRAM, "append", file, *options], stdin=subprocess.PIPE, stdout=subprocess.PIPE)
 
-    def feed(self, values):
+    def feed(self, values, columns=None):
         """Appends a batch, and waits until it is told to be there; the line that tells it."""
-        self.process.stdin.write(text_of([values, []]).encode())
+        self.process.stdin.write(text_of([values, []], columns).encode())
         self.process.stdin.flush()
         return self.line()
 
@@ -189,18 +233,19 @@ class Appending:
         return self.process.wait(SECONDS), said
 
 
-def watched_by_h5py(folder, kind, chunk, batches):
+def watched_by_h5py(folder, kind, chunk, batches, columns=None):
     """h5py reads, as SWMR reader, what the program told to be there, after each batch: the beginning of the values, and all that was told."""
-    file, values, found = f"{folder}/f.h5", values_of(kind, sum(batches)), made(f"{folder}/f.h5", kind, chunk)
+    m = wide(columns)
+    file, values, found = f"{folder}/f.h5", values_of(kind, sum(batches) * m), made(f"{folder}/f.h5", kind, chunk, None, columns)
     writer, rows = Appending(file, "--no-reuse"), 0
     try:
         opened = None
         for count in batches:
             rows += count
-            found += of("append", writer.feed(values[rows - count : rows]), f"rows {rows}")
+            found += of("append", writer.feed(values[(rows - count) * m : rows * m], columns), f"rows {rows}")
             opened = opened or h5py.File(file, "r", libver="latest", swmr=True)
             opened["data"].id.refresh()
-            found += of(f"h5py at {rows} rows", opened["data"][:].tolist(), values[:rows])
+            found += of(f"h5py at {rows} rows", opened["data"][:].tolist(), table(values[: rows * m], columns))
         found += of("the end", writer.end(), (0, f"closed {rows}\n"))
         opened.close()
         return found
@@ -209,19 +254,20 @@ def watched_by_h5py(folder, kind, chunk, batches):
         return found + [f"{type(error).__name__}: {error}"]
 
 
-def watched_by_us(folder, kind, chunk, batches):
+def watched_by_us(folder, kind, chunk, batches, columns=None):
     """The program polls what h5py writes, as SWMR writer: each poll that finds rows has a beginning of the values. HDF5's library writes blocks
     of its index where they stand, so that a poll may find one half written, or a superblock of before: such a poll is made again."""
-    file, values = f"{folder}/f.h5", values_of(kind, sum(batches))
-    of_h5py(file, kind, chunk, [])
+    m = wide(columns)
+    file, values = f"{folder}/f.h5", values_of(kind, sum(batches) * m)
+    of_h5py(file, kind, chunk, [], None, 0, columns)
     found, rows, again = [], 0, 0
     with h5py.File(file, "r+", libver="latest") as opened:
         opened.swmr_mode = True
         data = opened["data"]
         for count in batches:
             rows += count
-            data.resize((rows,))
-            data[rows - count :] = values[rows - count : rows]
+            data.resize(rows, axis=0)
+            data[rows - count :] = table(values[(rows - count) * m : rows * m], columns)
             data.flush()
             said = run([PROGRAM, "poll", file, "--values"])
             if said.startswith("status 5: error damaged"):
@@ -229,8 +275,8 @@ def watched_by_us(folder, kind, chunk, batches):
                 continue
             seen = said.split("\n")
             count_seen = int(seen[0].split(" ")[1]) if seen[0].startswith("rows ") else -1
-            found += of("poll", seen, [f"rows {count_seen}", *map(str, values[: max(count_seen, 0)]), ""])
-    return found + read_by_us(file, values) + ([f"{again} of {len(batches)} polls were refused"] if again == len(batches) else [])
+            found += of("poll", seen, [f"rows {count_seen}", *lines_of(values[: max(count_seen, 0) * m], columns), ""])
+    return found + read_by_us(file, values, columns) + ([f"{again} of {len(batches)} polls were refused"] if again == len(batches) else [])
 
 
 # ---- Writers that were stopped
@@ -291,10 +337,26 @@ def trials(kinds):
         yield f"{kind}: h5py's file, and both append", lambda it, k=kind, c=chunk, n=at % 3: in_turn(it, k, c, False, n)
         for rows in (0, 1, 2 * chunk + 1):
             yield f"{kind} in chunks of {chunk}: h5py's file of {rows} rows without chunks, and both append", lambda it, k=kind, c=chunk, n=rows: without_chunks(it, k, c, n, 7 if c == 5 else None)
+    for at, kind in enumerate(kinds):
+        chunk, columns, fill = ((1, (1, 1), None), (2, (3, 2), 7), (5, (4, 4), None), (64, (2, 300), 7))[at % 4]
+        words = f"{kind} of {columns[0]} columns in chunks of {chunk} by {columns[1]}"
+        for counts in ([], [3, 2], [chunk, 4 * chunk - 1, 1]):
+            yield f"{words}: {counts} rows appended", lambda it, k=kind, c=chunk, n=counts, f=fill, m=columns: stands_still(it, k, c, n, f, m)
+        yield f"{words}: our file, and both append", lambda it, k=kind, c=chunk, m=columns: in_turn(it, k, c, True, 0, m)
+        yield f"{words}: h5py's file, and both append", lambda it, k=kind, c=chunk, n=at % 3, m=columns: in_turn(it, k, c, False, n, m)
+        for rows in (2 * chunk + 1,) if at % 4 else (0,):
+            yield f"{words}: h5py's file of {rows} rows without chunks, and both append", lambda it, k=kind, c=chunk, n=rows, f=fill, m=columns: without_chunks(it, k, c, n, f, m)
+    for order in ((0, 1, 2, 3, 4), (4, 3, 2, 1, 0), (2, 0, 4, 1, 3)):
+        yield f"h5py's file, its columns written in the order {order}, and we append", lambda it, o=order: by_columns(it, "i32le", o)
+    yield "5,000 chunks of one row and one column, in flushes of 1,000", lambda it: stands_still(it, "i16be", 1, [500] * 5, None, (2, 1))
     yield "300 chunks of one row", lambda it: stands_still(it, "i32le", 1, [300])
     yield "5,000 chunks of one row, in flushes of 1,000", lambda it: stands_still(it, "i16be", 1, [1000] * 5)
     for kind, chunk, batches in (("i32le", 1, [1] * 60), ("u16be", 3, [5, 1, 1, 40, 200] * 4), ("i64le", 1, [300, 1, 1, 1, 700, 1, 1])):
         yield f"{kind} in chunks of {chunk}: h5py watches our writer, {len(batches)} batches", lambda it, k=kind, c=chunk, b=batches: watched_by_h5py(it, k, c, b)
         yield f"{kind} in chunks of {chunk}: we watch h5py's writer, {len(batches)} batches", lambda it, k=kind, c=chunk, b=batches: watched_by_us(it, k, c, b)
+    for kind, chunk, batches, columns in (("i32le", 1, [1] * 40, (2, 1)), ("u16be", 3, [5, 1, 1, 40, 200], (3, 2)), ("i64le", 2, [170, 1, 1, 1, 300, 1], (5, 4))):
+        words = f"{kind} of {columns[0]} columns in chunks of {chunk} by {columns[1]}"
+        yield f"{words}: h5py watches our writer, {len(batches)} batches", lambda it, k=kind, c=chunk, b=batches, m=columns: watched_by_h5py(it, k, c, b, m)
+        yield f"{words}: we watch h5py's writer, {len(batches)} batches", lambda it, k=kind, c=chunk, b=batches, m=columns: watched_by_us(it, k, c, b, m)
     yield "writers that were stopped", lambda it: stopped(it, "i32le", 4)
     yield "examples/watch.py", lambda it: watch(it, "i32le", 3)
