@@ -52,7 +52,7 @@ fn super_write(root: &Super) -> Write
     }
 }
 
-/// A new file whose dataset has this name, of 1 to 64 bytes.
+/// A new file whose dataset has this name, of 1 to 64 bytes. The list of its pieces has room for one at least, also once it is cleared.
 pub fn create_file(alloc: Global, name: &[u8], form: &Form) -> Result<Creation, OutOfMemory>
     requires form { IsForm form.now }
     requires named { 1 ≤ length name.now }
@@ -65,6 +65,7 @@ pub fn create_file(alloc: Global, name: &[u8], form: &Form) -> Result<Creation, 
     ensures sound { IfOk result (λ c. IsSound (view_of c.index)) }
     ensures index { IfOk result (λ c. IsNewIndex form.now.index (files.index_place (created_by name.now form.now)) (files.block_place (created_by name.now form.now)) (view_of c.index)) }
     ensures writes { IfOk result (λ c. c.writes.items ≡ files.created_writes (created_by name.now form.now)) }
+    ensures room { IfOk result (λ c. 1 ≤ vec_capacity c.writes) }
 {
     let sites = sites_of(name, form);
     let grid = grid_of(name, form, &sites);
