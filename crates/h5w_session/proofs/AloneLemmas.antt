@@ -1,6 +1,6 @@
 -- Rows that all go into one chunk that has its place.
 use Rattle.std.proofs.Common.{◌≡◌, ℕ, ◌+◌, ◌-◌, ◌*◌, ◌/◌, ◌%◌, ◌<◌, ◌≤◌, nat_lt, [], ◌∷◌, Option, Some, None, sym, ap, ◌∙◌, subst, inl, inr, arith}
-use Rattle.std.specs.Option.{IfSome}
+use Rattle.std.specs.Option.{IfNone, IfSome}
 use Rattle.std.proofs.lemmas.Bool.{cases_lt, cond-false, le-ltb}
 use Rattle.h5w_model.specs.Datasets.{Described}
 use Rattle.h5w_model.specs.Logs.{div_up}
@@ -18,6 +18,15 @@ pub map_some : {A : Type 0} {P Q : A → Type 0} (o : Option A) → ((x : A) →
 map_some None f p = tt
 map_some (Some x) f p = f x p
 
+-- what holds anyway holds where there is none, and so does what follows of it
+pub on_none : {A P : Type 0} (o : Option A) → P → IfNone o P
+on_none None p = p
+on_none (Some x) p = tt
+
+pub map_none : {A P Q : Type 0} (o : Option A) → (P → Q) → IfNone o P → IfNone o Q
+map_none None f p = f p
+map_none (Some x) f p = tt
+
 -- the chunk in the session's own words
 pub placing_in : (v s : Session) (to : ℕ) (p : ChunkPlace) → v ≡ s → to ≡ rows_of s → IsPlacing v.dataset to v.index v.places (p ∷ []) [] v.index v.places
     → IsPlacing s.dataset (rows_of s) s.index s.places (p ∷ []) [] s.index s.places
@@ -29,6 +38,11 @@ placing_in v s to p same is x =
 pub touched_in : (v s : Session) (to n : ℕ) → v ≡ s → to ≡ rows_of s → touched v.dataset v.dataset.shape.rows to ≡ n → touched_by s ≡ n
 touched_in v s to n same is all =
     ap touched_by (sym same) ∙ ap (touched v.dataset v.dataset.shape.rows) (ap rows_of same ∙ sym is) ∙ all
+
+-- and from them
+pub touched_from : (v s : Session) (to n : ℕ) → v ≡ s → to ≡ rows_of s → touched_by s ≡ n → touched v.dataset v.dataset.shape.rows to ≡ n
+touched_from v s to n same is all =
+    ap (touched v.dataset v.dataset.shape.rows) (is ∙ ap rows_of (sym same)) ∙ ap touched_by same ∙ all
 
 -- ---- One chunk alone
 
@@ -93,3 +107,25 @@ alone_key d from to all =
     let across = one_across d from to all in
     let key : ℕ → ℕ → Key = λ i j. record { i = i; j = j } in
     ap (λ (n : ℕ). key (from / d.layout.chunk_rows + 0 / n) (0 % n)) across ∙ ap (λ (n : ℕ). key n 0) (let e : from / d.layout.chunk_rows + 0 ≡ from / d.layout.chunk_rows = omega arith in e)
+
+-- rows that go into one chunk are of one band, and the dataset has one chunk side by side
+pub record IsAlone (d : Described) (from to : ℕ) : Type 0 where
+  pub inside : to ≤ from / d.layout.chunk_rows * d.layout.chunk_rows + d.layout.chunk_rows
+  pub wide : 0 < d.shape.cols
+  pub narrow : d.shape.cols ≤ d.layout.chunk_cols
+
+pub alone_is : (d : Described) (from to : ℕ) → IsCut d → from < to → touched d from to ≡ 1 → IsAlone d from to
+alone_is d from to cut some all =
+    let rows = d.layout.chunk_rows in
+    let i = from / rows in
+    let across = one_across d from to all in
+    let product : chunks_across d * (div_up to rows - i) ≡ 1 = grind (arith, touched_is d from to some, all) in
+    let bands : div_up to rows - i ≡ 1 = one_factor (chunks_across d) (div_up to rows - i) product in
+    record {
+      inside = elim (cases_lt ((i + 1) * rows) to) [
+        | inl past ↦ absurd (omega (arith, lt_up (i + 1) to rows cut.rows past, bands))
+        | inr h ↦ (let split : (i + 1) * rows ≡ i * rows + rows = grind arith in omega (arith, h, split))
+      ];
+      wide = let low = up_lt 0 d.shape.cols d.layout.chunk_cols cut.cols (omega (arith, across)) in omega (arith, low);
+      narrow = part_of_one d.shape.cols d.layout.chunk_cols cut.cols across;
+    }

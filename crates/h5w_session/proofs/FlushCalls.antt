@@ -1,5 +1,5 @@
 -- What the call of a flush tells of the session that it leaves.
-use Rattle.std.proofs.Common.{◌≡◌, ℕ, zero, suc, ◌<◌, ◌≤◌, Bool, true, false, nat_lt, if◌then◌else◌, List, [], ◌∷◌, ◌++◌, length, Option, Some, None, Result, Ok, Err, refl, sym, ap, ◌∙◌, subst, arith, length-append, inl, inr}
+use Rattle.std.proofs.Common.{◌≡◌, ℕ, zero, suc, ◌*◌, ◌<◌, ◌≤◌, Bool, true, false, nat_lt, if◌then◌else◌, List, [], ◌∷◌, ◌++◌, length, Option, Some, None, Result, Ok, Err, refl, sym, ap, ◌∙◌, subst, arith, length-append, inl, inr}
 use Rattle.std.specs.Option.{MatchOption}
 use Rattle.std.specs.Prelude.{IfOk, OnErr, OnOk}
 use Rattle.std.proofs.lemmas.Bool.{lt-ltb}
@@ -9,8 +9,9 @@ use Rattle.h5w_model.specs.declared.piece.Write.{Write}
 use Rattle.h5w_model.specs.declared.root.Super.{Super}
 use Rattle.h5w_space.specs.declared.Full.{Full}
 use Rattle.h5w_header_laws.specs.Files.{with_index}
+use Rattle.h5w_index.specs.Views.{header_place}
 use Rattle.h5w_index.proofs.PlacingLemmas.{placing_laws}
-use Rattle.h5w_session.specs.Sessions.{AllEndBy, IsNamed, IsSession, Session, TakesRows, cutting_of, rows_of, with_rows}
+use Rattle.h5w_session.specs.Sessions.{AllEndBy, IsNamed, IsSession, Session, TakesRows, cutting_of, row_bytes, rows_of, with_rows}
 use Rattle.h5w_session.specs.Loads.{NoPlace}
 use Rattle.h5w_session.specs.Flushes.{IsFlushed, SameBut, header_piece}
 use Rattle.h5w_session.specs.Refusals.{IsFullFor, flush_refusal}
@@ -20,6 +21,7 @@ use Rattle.h5w_session.specs.declared.refusal.FlushError.{FlushError}
 use Rattle.h5w_session.specs.declared.refusal.FlushError.TheVariants as flushes
 use Rattle.h5w_session.proofs.FlushLemmas.{told_of}
 use Rattle.h5w_session.proofs.FlushStands.{refused_stands}
+use Rattle.h5w_session.proofs.IndexLemmas.{header_defined}
 use Rattle.h5w_session.proofs.StartLoads.{any_bound, any_carries, full_no_place}
 
 -- ---- Where a flush is not refused at once
@@ -69,6 +71,8 @@ takes_rows old new x =
       place = ap (λ (s : Session). s.place) x.session;
       dataset = dataset ∙ ap (λ (d : Described). with_index d.layout.address (with_rows (rows_of old) old.dataset)) (sym dataset);
       address = λ named. ap (λ (d : Described). d.layout.address) dataset;
+      named = λ some none. x.there (sym (ap (λ (d : Described). d.layout.address) dataset) ∙ none);
+      made = λ some none. absurd (x.there none);
       waiting = ap (λ (s : Session). s.waiting) x.session;
       waits = ap (λ (s : Session). s.waits) x.session;
       committed = ap (λ (s : Session). s.committed) x.session;
@@ -90,12 +94,16 @@ starts_rows old new x =
     let placing = x.planned.placing in
     let root : new.root ≡ record (old.root) { end = new.places.end } = ap (λ (s : Session). s.root) x.session in
     let dataset : new.dataset ≡ with_index x.at (with_rows (rows_of old) old.dataset) = ap (λ (s : Session). s.dataset) x.session in
+    let address : new.dataset.layout.address ≡ x.at = ap (λ (d : Described). d.layout.address) dataset in
+    let at_place : header_place new.index ≡ x.at = told.place ∙ placing.partly.like.place ∙ x.start.at_place in
     record {
       name = ap (λ (s : Session). s.name) x.session;
       root = root ∙ ap (λ n. record (old.root) { end = n }) (sym (ap (λ (r : Super). r.end) root));
       place = ap (λ (s : Session). s.place) x.session;
       dataset = dataset ∙ ap (λ (d : Described). with_index d.layout.address (with_rows (rows_of old) old.dataset)) (sym dataset);
       address = λ named. absurd (named x.absent);
+      named = λ some none. header_defined new.index told.sound (at_place ∙ sym address ∙ none);
+      made = λ some none. address ∙ sym at_place;
       waiting = ap (λ (s : Session). s.waiting) x.session;
       waits = ap (λ (s : Session). s.waits) x.session;
       committed = ap (λ (s : Session). s.committed) x.session;
@@ -116,6 +124,31 @@ any_pieces old new (inr x) = started_pieces old new x
 -- where the layout named the index the rows alone are others
 pub takes_named : (old new : Session) → TakesRows old new → IsNamed old.dataset → new.dataset ≡ with_rows (rows_of old) old.dataset
 takes_named old new x named = x.dataset ∙ ap (λ (n : ℕ). with_index n (with_rows (rows_of old) old.dataset)) (x.address named)
+
+no_bytes : (b : List ℕ) → length b ≡ 0 → b ≡ []
+no_bytes [] e = refl
+no_bytes (x ∷ xs) e = absurd (omega (arith, e))
+
+-- a flush of no rows leaves the session
+pub takes_none : (s : Session) → IsSession s → s.waits ≡ 0 → TakesRows s s
+takes_none s is none =
+    let same : s.dataset.shape.rows ≡ rows_of s = omega (arith, none) in
+    record {
+      name = refl;
+      root = refl;
+      place = refl;
+      dataset = ap (λ (n : ℕ). with_index s.dataset.layout.address (with_rows n s.dataset)) same;
+      address = λ named. refl;
+      named = λ some. absurd (omega (arith, some, none));
+      made = λ some. absurd (omega (arith, some, none));
+      waiting = no_bytes s.waiting (is.cells ∙ ap (λ (n : ℕ). n * row_bytes s.dataset) none ∙ omega arith);
+      waits = none;
+      committed = refl;
+      stopped = refl;
+      keeps = refl;
+      limit = refl;
+      rises = omega arith;
+    }
 
 pub told_rows : (old new : Session) (r : Result ℕ FlushError) → OnOk r (HasFlushed old new) → OnOk r (TakesRows old new)
 told_rows old new (Ok n) x = any_rows old new x

@@ -1,6 +1,7 @@
 -- What a flush makes of a session.
-use Rattle.std.specs.Prelude.{◌≡◌, ℕ, ◌^◌, ◌<◌, ◌≤◌, List, [], ◌∷◌, ◌++◌, length, None}
+use Rattle.std.specs.Prelude.{◌≡◌, ℕ, ◌*◌, ◌^◌, ◌<◌, ◌≤◌, List, [], ◌∷◌, ◌++◌, length, nat_lt, None}
 use Rattle.h5w_model.specs.Headers.{with_rows_bytes}
+use Rattle.h5w_model.specs.Datasets.{Described}
 use Rattle.h5w_model.specs.Numbers.{undefined}
 use Rattle.h5w_model.specs.Messages.{IsIntType}
 use Rattle.h5w_model.specs.Tables.{needed}
@@ -9,11 +10,11 @@ use Rattle.h5w_model.specs.declared.piece.Write.{Write}
 use Rattle.h5w_space.specs.Space.{Space}
 use Rattle.h5w_cache.specs.declared.moves.Move.{Move}
 use Rattle.h5w_chunks.specs.Grids.{fill_cell}
-use Rattle.h5w_chunks.specs.Shares.{new_writes, touched}
+use Rattle.h5w_chunks.specs.Shares.{new_writes, touched, touched_key}
 use Rattle.h5w_chunks.specs.Rows.{RowsWritten}
 use Rattle.h5w_chunks.specs.declared.grid.ChunkPlace.{ChunkPlace}
 use Rattle.h5w_flush_laws.specs.Parts.{AreEnded}
-use Rattle.h5w_index.specs.Views.{IndexView}
+use Rattle.h5w_index.specs.Views.{IndexView, address_in}
 use Rattle.h5w_index.specs.Steps.{IsPlan}
 use Rattle.h5w_index.specs.Placing.{Fits, IsPartly, IsPlacing}
 use Rattle.h5w_session.specs.Sessions.{IsNamed, Session, chunk_limit, rows_of, with_rows}
@@ -21,6 +22,12 @@ use Rattle.h5w_session.specs.Sessions.{IsNamed, Session, chunk_limit, rows_of, w
 -- how many chunks the rows that wait go into
 abbrev pub touched_by : Session → ℕ
 touched_by s = touched s.dataset s.dataset.shape.rows (rows_of s)
+
+-- the place of the first chunk that new rows go into, by the index: it is stored where its band has rows already
+abbrev pub first_place : Described → IndexView → ChunkPlace
+first_place d v =
+    let key = touched_key d d.shape.rows 0 in
+    record { address = address_in v key; stored = nat_lt (key.i * d.layout.chunk_rows) d.shape.rows }
 
 -- the piece by which the dataset header says all rows
 abbrev pub header_piece : Session → Write

@@ -14,7 +14,7 @@ use Rattle.h5w_header_laws.specs.Files.{with_index}
 use Rattle.h5w_space.specs.Space.{Space, Commits}
 use Rattle.h5w_visits.specs.Ranges.{AllEndBy as RangesEndBy}
 use Rattle.h5w_chunks.specs.Grids.{cells_of}
-use Rattle.h5w_index.specs.Views.{IndexView, IsSound, fixed_of, kind_of}
+use Rattle.h5w_index.specs.Views.{IndexView, IsSound, fixed_of, header_place, kind_of}
 use Rattle.h5w_index.specs.Placing.{AreInside, Fits}
 use Rattle.h5w_index.specs.Depths.{AreWithin}
 
@@ -174,13 +174,16 @@ option_list None = []
 option_list (Some x) = x ∷ []
 
 -- The session after a flush has all rows: none waits, and nothing but the places, the superblock's end, the header, the index, the
--- pieces and an index address that the layout did not name is another.
+-- pieces and an index address that the layout did not name is another. Where rows waited the layout names the index; one that was not
+-- named before stands at the address that it has now.
 pub record TakesRows (old new : Session) : Type 0 where
   pub name : new.name ≡ old.name
   pub root : new.root ≡ record (old.root) { end = new.root.end }
   pub place : new.place ≡ old.place
   pub dataset : new.dataset ≡ with_index new.dataset.layout.address (with_rows (rows_of old) old.dataset)
   pub address : IsNamed old.dataset → new.dataset.layout.address ≡ old.dataset.layout.address
+  pub named : 0 < old.waits → IsNamed new.dataset
+  pub made : 0 < old.waits → old.dataset.layout.address ≡ undefined → new.dataset.layout.address ≡ header_place new.index
   pub waiting : new.waiting ≡ []
   pub waits : new.waits ≡ 0
   pub committed : new.committed ≡ old.committed

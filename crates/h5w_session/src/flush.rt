@@ -1,5 +1,5 @@
 //! The flush of a session: all memory and all places are taken before anything changes.
-ghost use Rattle.std.specs.Prelude.{◌≡◌, ◌⊎◌, ℕ, ◌+◌, ◌*◌, ◌-◌, ◌^◌, ◌<◌, ◌≤◌, [], ◌∷◌, ◌++◌, List, length, IfOk, IfErr, IfSome, IsOk, IsSome, MatchOption, OnOk, OnErr, if◌then◌else◌, None, Some, Ok, Err, vec_len, vec_capacity};
+ghost use Rattle.std.specs.Prelude.{◌≡◌, ◌⊎◌, ℕ, ◌+◌, ◌*◌, ◌-◌, ◌^◌, ◌<◌, ◌≤◌, [], ◌∷◌, ◌++◌, List, length, IfOk, IfErr, IfNone, IfSome, IsOk, IsSome, MatchOption, OnOk, OnErr, if◌then◌else◌, None, Some, Ok, Err, vec_len, vec_capacity};
 ghost use Rattle.h5w_model.specs.Causes.{Rose};
 ghost use Rattle.h5w_model.specs.Headers.{index_in_header, messages_at, rows_in_header, with_rows_bytes};
 ghost use Rattle.h5w_model.specs.Logs.{Log, and_now, div_up, load, plans};
@@ -12,7 +12,7 @@ ghost use Rattle.h5w_index.specs.Held.{view_of};
 ghost use Rattle.h5w_index.specs.Marks.{IsRaised};
 ghost use Rattle.h5w_index.specs.Placing.{AreInside, Fits, IsFullPart, IsPartly, IsPlacing};
 ghost use Rattle.h5w_index.specs.Steps.{IsBegun, IsPlan, copy_pieces, in_place_pieces, next_of};
-ghost use Rattle.h5w_index.specs.Views.{IsSound, TakesKey, an_array, a_tree, kind_of};
+ghost use Rattle.h5w_index.specs.Views.{IsClean, IsSound, TakesKey, an_array, a_tree, kind_of};
 ghost use Rattle.std.specs.List.{slice_get};
 ghost use Rattle.h5w_chunks.specs.Grids.{IsGrid, chunk_len, dataset_of};
 ghost use Rattle.h5w_chunks.specs.declared.grid.ChunkPlace.{ChunkPlace};
@@ -21,7 +21,7 @@ ghost use Rattle.h5w_chunks.specs.Shares.{new_writes, share_of, touched};
 ghost use Rattle.h5w_flush_laws.specs.Parts.{AreEnded};
 ghost use Rattle.h5w_image.specs.View.{Same};
 ghost use Rattle.h5w_space.specs.declared.Full.{Full};
-ghost use Rattle.h5w_session.specs.Flushes.{IsFlushed, SameBut, touched_by};
+ghost use Rattle.h5w_session.specs.Flushes.{IsFlushed, SameBut, first_place, touched_by};
 ghost use Rattle.h5w_session.specs.Loads.{NoPlace};
 ghost use Rattle.h5w_session.specs.Starts.{HasFlushed, IsStartFlushed, IsStartedAt};
 ghost use Rattle.h5w_model.specs.Arrays.{eahd_len, eaib_len};
@@ -62,9 +62,10 @@ struct Prepared {
     begun: Begun,
 }
 
-/// How many pieces follow the writes of the rows at most: copies, superblock, blocks in place, header.
+/// How many pieces follow the writes of the rows at most: copies, superblock, blocks in place, header. None where no list has so many.
 fn pieces_after(begun: &Begun) -> Option<usize>
-    ensures { IfSome result (λ n. n ≡ copy_pieces begun.now + in_place_pieces begun.now + 2) }
+    ensures sum { IfSome result (λ n. n ≡ copy_pieces begun.now + in_place_pieces begun.now + 2) }
+    ensures none { IfNone result (2 ^ 64 ≤ copy_pieces begun.now + in_place_pieces begun.now + 2) }
 {
     begun.copies().checked_add(begun.in_place())?.checked_add(2)
 }
@@ -147,7 +148,7 @@ fn alone_pieces(grid: &Grid, to: u64, place: &ChunkPlace) -> u64
     }
 }
 
-/// How many pieces the writes of the new rows have at most, whose chunks have these places.
+/// How many pieces the writes of the new rows have at most, whose chunks have these places. None where no list has so many.
 fn most_pieces(grid: &Grid, to: u64, places: &[ChunkPlace]) -> Option<usize>
     requires grid { IsGrid grid.now }
     requires order { grid.now.shape.rows ≤ to }
@@ -155,6 +156,7 @@ fn most_pieces(grid: &Grid, to: u64, places: &[ChunkPlace]) -> Option<usize>
     ensures sum { IfSome result (λ n. n ≡ most_pieces (dataset_of grid.now) grid.now.shape.rows to 0 places.now) }
     ensures enough { IfSome result (λ n. (cells : List ℕ) → length cells ≡ (to - grid.now.shape.rows) * grid.now.shape.cols * grid.now.int_type.size
         → length (new_writes (dataset_of grid.now) cells grid.now.shape.rows to places.now) ≤ n) }
+    ensures none { IfNone result (2 ^ 64 ≤ most_pieces (dataset_of grid.now) grid.now.shape.rows to 0 places.now) }
 {
     let mut count = 0_usize;
     for (k, place) in places.iter().enumerate() {
@@ -500,6 +502,8 @@ impl WriterCore {
     /// The chunk that has its place and that all rows that wait go into, where no block of the index changed.
     fn chunk_alone(&self) -> Option<ChunkPlace>
         requires waits { 0 < self.now.waits }
+        ensures exact { IfSome result (λ p. p ≡ first_place self.now.dataset self.now.index) }
+        ensures none { IfNone result (IsClean self.now.index → touched_by self.now ≡ 1 → (first_place self.now.dataset self.now.index).address ≡ undefined) }
         ensures placing { IfSome result (λ p. IsPlacing self.now.dataset (rows_of self.now) self.now.index self.now.places (p ∷ []) [] self.now.index self.now.places) }
         ensures all { IfSome result (λ p. touched_by self.now ≡ 1) }
         ensures plan { IsSome result → IsPlan self.now.index self.now.places [] [] [] self.now.index self.now.places }

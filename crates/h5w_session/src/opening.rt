@@ -160,6 +160,7 @@ fn header_list(alloc: Global, bytes: &[u8]) -> Result<Msgs, OpenError>
     ensures read { IfOk result (λ ms. messages_at bytes.now ≡ Ok ms) }
     ensures refused { IfErr result (λ e. (e ≡ OpenError.OutOfMemory) ⊎ ((ms : List Msg) → messages_at bytes.now ≡ Ok ms → ⊥)) }
     ensures quiet { IfErr result (λ e. e ≢ OpenError.Failed) }
+    ensures which { IfErr result (λ e. (e ≡ OpenError.OutOfMemory) ⊎ (e ≡ OpenError.Read (ReadError.Unsupported (record { 0 = 4 })))) }
 {
     match messages(alloc, bytes) {
         Ok(list) => Ok(list),

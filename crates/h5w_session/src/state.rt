@@ -124,9 +124,6 @@ impl WriterCore {
     {
         let name = options.name.as_slice();
         let file = create_file(alloc, name, &form_of(options))?;
-        let mut plan = file.writes;
-        // for the piece of a close
-        plan.reserve(1).map_err(OutOfMemory::from)?;
         Ok(WriterCore {
             name: Piece::of(name),
             root: file.root,
@@ -137,7 +134,7 @@ impl WriterCore {
             committed: 0,
             waiting: Vec::new(alloc),
             waits: 0,
-            plan,
+            plan: file.writes,
             shown: 0,
             spare: Vec::new(alloc),
             stopped: false,

@@ -1,5 +1,5 @@
 //! The chunks that rows go into, and their places.
-ghost use Rattle.std.specs.Prelude.{◌≡◌, ◌⊎◌, ℕ, ◌+◌, ◌-◌, ◌*◌, ◌^◌, ◌<◌, ◌≤◌, [], ◌∷◌, ◌++◌, length, IfErr, IfSome, OnErr, OnOk, Err};
+ghost use Rattle.std.specs.Prelude.{◌≡◌, ◌⊎◌, ℕ, ◌+◌, ◌-◌, ◌*◌, ◌^◌, ◌<◌, ◌≤◌, [], ◌∷◌, ◌++◌, length, IfErr, IfNone, IfSome, OnErr, OnOk, Err};
 ghost use Rattle.std.specs.List.{All};
 ghost use Rattle.h5w_model.specs.Datasets.{Described};
 ghost use Rattle.h5w_model.specs.Logs.{div_up};
@@ -17,6 +17,7 @@ ghost use Rattle.h5w_index.specs.Marks.{IsTouched};
 ghost use Rattle.h5w_index.specs.Placing.{AreInside, Fits, IsChunkFull, IsPartly, IsPlacing, next_key};
 ghost use Rattle.h5w_index.specs.Steps.{IsDeep, IsHeld};
 ghost use Rattle.h5w_index.specs.Views.{HasSlot, IndexView, IsSound, TakesKey, address_in};
+ghost use Rattle.h5w_session.specs.Flushes.{first_place};
 ghost use Rattle.h5w_session.specs.Refusals.{IsSpace};
 ghost use Rattle.h5w_session.specs.Sessions.{most_bands};
 ghost use Rattle.h5w_session.specs.declared.refusal.FlushError.{FlushError};
@@ -190,7 +191,7 @@ pub fn place_chunks(
     Ok(())
 }
 
-/// The chunk that all rows up to but not including `to` go into, where it is one alone and the index names its place.
+/// The chunk that all rows up to but not including `to` go into, where it is one alone and the index names its place; None elsewhere.
 pub fn named_chunk(grid: &Grid, to: u64, index: &Index) -> Option<ChunkPlace>
     requires grid { IsGrid grid.now }
     requires order { grid.now.shape.rows < to }
@@ -202,6 +203,8 @@ pub fn named_chunk(grid: &Grid, to: u64, index: &Index) -> Option<ChunkPlace>
     ensures placed { IfSome result (λ p. (s : Space) → AreInside (dataset_of grid.now) s.end (view_of index.now)
         → IsPlacing (dataset_of grid.now) to (view_of index.now) s (p ∷ []) [] (view_of index.now) s) }
     ensures all { IfSome result (λ p. touched (dataset_of grid.now) grid.now.shape.rows to ≡ 1) }
+    ensures exact { IfSome result (λ p. p ≡ first_place (dataset_of grid.now) (view_of index.now)) }
+    ensures none { IfNone result (touched (dataset_of grid.now) grid.now.shape.rows to ≡ 1 → (first_place (dataset_of grid.now) (view_of index.now)).address ≡ undefined) }
 {
     let from = grid.shape.rows;
     let (rows, columns) = grid.layout.chunk;

@@ -1,4 +1,4 @@
-use Rattle.std.proofs.Common.{◌≡◌, ◌≢◌, ◌*◌, ◌/◌, ◌≤◌, [], nat_lt, refl, sym, ap, subst, ◌∙◌, arith}
+use Rattle.std.proofs.Common.{rules, ◌≡◌, ◌≢◌, ℕ, ◌*◌, ◌/◌, ◌≤◌, [], nat_lt, None, refl, sym, ap, subst, ◌∙◌, arith}
 use Rattle.h5w_model.specs.Numbers.{undefined}
 use Rattle.h5w_model.specs.declared.cell.Key.{Key}
 use Rattle.h5w_chunks.specs.Grids.{dataset_of}
@@ -9,9 +9,10 @@ use Rattle.h5w_index.specs.Held.{view_of}
 use Rattle.h5w_index.specs.Views.{address_in}
 use Rattle.h5w_index.specs.Placing.{next_key}
 use Rattle.h5w_index.proofs.PlacingLemmas.{placing_laws}
-use Rattle.h5w_session.proofs.AloneLemmas.{alone_key, touched_alone}
-use Rattle.h5w_session.proofs.TakingLemmas.{found_some, next_in, not_less}
+use Rattle.h5w_session.proofs.AloneLemmas.{alone_is, alone_key, on_none, touched_alone}
+use Rattle.h5w_session.proofs.TakingLemmas.{found_none, found_some, next_in, not_less}
 use Rattle.h5w_session.proofs.taking.named_chunk.Goals as goal
+use Rattle.h5w_session.proofs.taking.named_chunk.Goals.{then-to-first-via-then-to-first, then-to-first-via-else-to-first+then-grid-eq0, then-to-first-via-else-to-first+else-grid-eq0+then-grid-columns}
 
 pub get-requires-clause-key : goal.get-requires-clause-key
 get-requires-clause-key c =
@@ -21,6 +22,35 @@ get-requires-clause-key c =
     let one : touched d d.shape.rows c.args.to ≡ 1 = touched_alone d d.shape.rows c.args.to cut c.requires.order (omega arith) (omega arith) (omega arith) in
     let next = next_in d c.args.to 0 1 key [] cut (sym one) (omega arith) refl (sym (alone_key d d.shape.rows c.args.to one)) in
     c.requires.takes key next.row
+
+-- rows that go into more chunks than one, or into none
+pub returns-then-to-first-clause-none : goal.returns-then-to-first-clause-none
+returns-then-to-first-clause-none c all =
+    let d = dataset_of c.args.grid.now in
+    let alone = alone_is d d.shape.rows c.args.to (is_cut c.args.grid.now c.requires.grid) c.requires.order all in
+    absurd (elim c.then-to-first.branch [
+      | then-to-first-via-then-to-first w ↦ omega (arith, alone.inside, w.if-to-first.true)
+      | then-to-first-via-else-to-first+then-grid-eq0 w ↦ omega (arith, alone.wide, w.if-grid-eq0.true)
+      | then-to-first-via-else-to-first+else-grid-eq0+then-grid-columns w ↦ omega (arith, alone.narrow, w.if-grid-columns.true)
+    ])
+
+pub returns-in_err-address-clause-none : goal.returns-in_err-address-clause-none
+returns-in_err-address-clause-none c =
+    let d = dataset_of c.args.grid.now in
+    let v = view_of c.args.index.now in
+    let key : Key = record { i = d.shape.rows / d.layout.chunk_rows; j = 0 } in
+    let none : c.get.result ≡ None = search rules in
+    on_none c.from_residual.result (λ all. ap (address_in v) (alone_key d d.shape.rows c.args.to all) ∙ found_none (address_in v key) (sym c.get.ensures ∙ none))
+
+pub returns-clause-exact : goal.returns-clause-exact
+returns-clause-exact c =
+    let d = dataset_of c.args.grid.now in
+    let v = view_of c.args.index.now in
+    let key : Key = record { i = d.shape.rows / d.layout.chunk_rows; j = 0 } in
+    let one : touched d d.shape.rows c.args.to ≡ 1 = touched_alone d d.shape.rows c.args.to (is_cut c.args.grid.now c.requires.grid) c.requires.order (omega arith) (omega arith) (omega arith) in
+    let there = found_some (address_in v key) c.in_ok-address.address (sym c.get.ensures ∙ c.in_ok-address.was) in
+    let put : ℕ → Key → ChunkPlace = λ a k. record { address = a; stored = nat_lt (k.i * d.layout.chunk_rows) d.shape.rows } in
+    ap (λ (a : ℕ). put a key) (sym there.0) ∙ ap (λ (k : Key). put (address_in v k) k) (sym (alone_key d d.shape.rows c.args.to one))
 
 pub returns-clause-placed : goal.returns-clause-placed
 returns-clause-placed c s within =

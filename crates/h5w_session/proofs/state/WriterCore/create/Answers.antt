@@ -1,4 +1,4 @@
-use Rattle.std.proofs.Common.{rules, arith, false, ◌≡◌, ◌+◌, ◌≤◌, ◌∙◌, vec_len, vec_capacity, ap, sym, subst, List, ℕ}
+use Rattle.std.proofs.Common.{arith, false, ◌≡◌, ◌∙◌, ap, sym, subst, List, ℕ}
 use Rattle.h5w_model.specs.declared.piece.Write.{Write}
 use Rattle.h5w_model.specs.declared.root.Super.{Super}
 use Rattle.h5w_chunks.specs.Grids.{dataset_of}
@@ -28,7 +28,7 @@ made c = record {
   committed = 0;
   waiting = c.new-2.result.items;
   waits = 0;
-  pending = c.reserve.new.self.items;
+  pending = c.in_ok-file.file.writes.items;
   stopped = false;
   keeps = false;
   index = view_of c.in_ok-file.file.index;
@@ -49,7 +49,7 @@ made_here c =
     let header : c.in_ok-file.file.header ≡ spelled_header (described_of f) = c.in_ok-file.ensures.header ∙ ap (λ (x : CreatedFile). spelled_header (described_of x)) file in
     let dataset : dataset_of c.in_ok-file.file.grid ≡ described_of f = c.in_ok-file.ensures.dataset ∙ ap described_of file in
     let places : c.new.result ≡ places_to (end_of f) o.limit = c.new.ensures ∙ ap (λ (r : Super). places_to r.end o.limit) root in
-    let writes : c.reserve.new.self.items ≡ created_writes f = c.reserve.ensures.items ∙ c.in_ok-file.ensures.writes ∙ ap created_writes file in
+    let writes : c.in_ok-file.file.writes.items ≡ created_writes f = c.in_ok-file.ensures.writes ∙ ap created_writes file in
     λ k. record {
       name = named k;
       root = root k;
@@ -86,13 +86,12 @@ invariant_of-result c =
     let is = creatable o c.requires in
     let here = made_here c in
     let end : (made c).places.end ≡ end_of f = ap (λ (s : Session). s.places.end) here in
-    let room : vec_len c.in_ok-file.file.writes + 1 ≤ vec_capacity c.reserve.new.self = search rules in
-    let writes : c.reserve.new.self.items ≡ created_writes f = ap (λ (s : Session). s.pending) here in (
+    let writes : c.in_ok-file.file.writes.items ≡ created_writes f = ap (λ (s : Session). s.pending) here in (
       subst IsSession (sym here) (created_is f o.limit v is (limit_here c) (index_here c)),
       c.in_ok-file.ensures.grid,
       subst (λ (ws : List Write). ArePieces c.new.result.end ws) (sym writes) (subst (λ (e : ℕ). ArePieces e (created_writes f)) (sym end) (created_pieces f is)),
       omega arith,
-      omega (arith, room),
+      c.in_ok-file.ensures.room,
     )
 
 pub returns-clause-session : goal.returns-clause-session

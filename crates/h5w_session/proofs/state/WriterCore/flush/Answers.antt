@@ -1,6 +1,6 @@
-use Rattle.std.proofs.Common.{◌≡◌, ◌<◌, ◌∙◌, ap, sym}
-use Rattle.h5w_session.specs.Sessions.{Session}
-use Rattle.h5w_session.proofs.FlushCalls.{is_idle, some_waits, told_bound, told_bounds, told_left, told_rows, told_some, told_stands}
+use Rattle.std.proofs.Common.{◌≡◌, ◌<◌, ◌∙◌, ap, subst, sym}
+use Rattle.h5w_session.specs.Sessions.{IsSession, Session}
+use Rattle.h5w_session.proofs.FlushCalls.{is_idle, some_waits, takes_none, told_bound, told_bounds, told_left, told_rows, told_some, told_stands}
 use Rattle.h5w_session.proofs.FlushStands.{nothing_stands}
 use Rattle.h5w_session.proofs.state.WriterCore.flush.Goals as goal
 
@@ -10,6 +10,12 @@ returns-then-self-eq0-clause-stands g c log stands =
     let i = is_idle s c.ready.result c.ready.ensures c.in_ok-ready.was in
     let none : s.waits ≡ 0 = sym (ap (λ (t : Session). t.waits) c.self.view_is) ∙ c.if-self-eq0.true in
     nothing_stands s log i.running i.idle none stands
+
+pub returns-then-self-eq0-clause-flushed : goal.returns-then-self-eq0-clause-flushed
+returns-then-self-eq0-clause-flushed g c =
+    let s = c.args.self.now in
+    let none : s.waits ≡ 0 = sym (ap (λ (t : Session). t.waits) c.self.view_is) ∙ c.if-self-eq0.true in
+    takes_none s (subst IsSession c.self.view_is c.self.invariant.0) none
 
 pub returns-clause-left : goal.returns-clause-left
 returns-clause-left g c =
