@@ -1,6 +1,6 @@
 //! Files byte by byte and their verdicts: by hand, of another program, and of the library libhdf5.
 
-use crate::tests::{Patch, failing, finding, unpacked, valid, verdict_of};
+use crate::tests::{Patch, failing, finding, overlap, patch, unpacked, valid, verdict_of};
 use h5w_check::{CheckError, Summary};
 use std::test::Fail;
 
@@ -9,16 +9,7 @@ fn each_file_has_its_verdict(rt: HostRuntime) -> Result<(), Fail> {
     let rows: [(&[u8], &str, Result<Summary, CheckError>); 19] = [
         (&FILE, "data", valid(3, 2, 5, 574, 0)),
         (&FILE, "dat", finding(7, 48)),
-        (
-            &OVERLAP,
-            "data",
-            Err(CheckError::Overlap {
-                at: 580,
-                len: 30,
-                other: 570,
-                other_len: 30,
-            }),
-        ),
+        (&OVERLAP, "data", overlap(580, 30, 570, 30)),
         (&SECONDARY, "data", valid(245, 1, 7, 1159, 12)),
         (&NESTED, "data", finding(6, 48)),
         (&LONG_ROOT, "data", valid(0, 0, 3, 782, 95)),
@@ -30,16 +21,7 @@ fn each_file_has_its_verdict(rt: HostRuntime) -> Result<(), Fail> {
         (&CUT_NODE, "data", finding(18, 338)),
         (&WRONG_TOTAL, "data", finding(15, 338)),
         (&LEAF_TWICE, "data", finding(16, 338)),
-        (
-            &EMPTY_TWICE,
-            "data",
-            Err(CheckError::Overlap {
-                at: 2386,
-                len: 2048,
-                other: 2386,
-                other_len: 2048,
-            }),
-        ),
+        (&EMPTY_TWICE, "data", overlap(2386, 2048, 2386, 2048)),
         (&SHARED_CHILD, "data", finding(16, 338)),
         (&LEAF_OFTEN, "data", finding(16, 338)),
         (&NODE_OFTEN, "data", finding(16, 338)),
@@ -53,122 +35,42 @@ fn each_file_has_its_verdict(rt: HostRuntime) -> Result<(), Fail> {
 
 #[test]
 fn each_change_has_its_verdict(rt: HostRuntime) -> Result<(), Fail> {
-    let rows: [(&[u8], Patch, Result<Summary, CheckError>); 10] = [
+    let rows: [(Patch, Result<Summary, CheckError>); 7] = [
         // the second slot names the first chunk
-        (
-            &FILE,
-            Patch {
-                at: 282,
-                bytes: [0x2e, 0x02, 0x00, 0x00, 0x00, 0x00, 0x00, 0x00],
-                sum_at: 554,
-                sum: [0x1d, 0x4b, 0x2a, 0x30],
-            },
-            Err(CheckError::Overlap {
-                at: 558,
-                len: 8,
-                other: 558,
-                other_len: 8,
-            }),
-        ),
+        (patch(282, 558, 554, 0x302a_4b1d), overlap(558, 8, 558, 8)),
         // the second chunk passes the end
-        (
-            &FILE,
-            Patch {
-                at: 282,
-                bytes: [0x3a, 0x02, 0x00, 0x00, 0x00, 0x00, 0x00, 0x00],
-                sum_at: 554,
-                sum: [0x6a, 0xab, 0x61, 0x18],
-            },
-            finding(17, 570),
-        ),
+        (patch(282, 570, 554, 0x1861_ab6a), finding(17, 570)),
         // 2^63 rows
-        (
-            &FILE,
-            Patch {
-                at: 121,
-                bytes: [0x00, 0x00, 0x00, 0x00, 0x00, 0x00, 0x00, 0x80],
-                sum_at: 184,
-                sum: [0x1d, 0xa1, 0x6c, 0xb3],
-            },
-            finding(20, 106),
-        ),
+        (patch(121, 1 << 63, 184, 0xb36c_a11d), finding(20, 106)),
         // an end past the image
-        (
-            &FILE,
-            Patch {
-                at: 28,
-                bytes: [0x58, 0x02, 0x00, 0x00, 0x00, 0x00, 0x00, 0x00],
-                sum_at: 44,
-                sum: [0x07, 0xd4, 0x2a, 0x70],
-            },
-            finding(5, 0),
-        ),
-        // a depth of 4
-        (
-            &TREE,
-            Patch {
-                at: 312,
-                bytes: [0x04, 0x00, 0x64, 0x28, 0xff, 0xff, 0xff, 0xff],
-                sum_at: 334,
-                sum: [0x40, 0x6a, 0xcb, 0xa2],
-            },
-            finding(10, 300),
-        ),
+        (patch(28, 600, 44, 0x702a_d407), finding(5, 0)),
         // no signature of the array
         (
-            &FILE,
-            Patch {
-                at: 188,
-                bytes: [0x00, 0x41, 0x48, 0x44, 0x00, 0x00, 0x08, 0x20],
-                sum_at: 256,
-                sum: [0xa1, 0x70, 0x0f, 0xb6],
-            },
+            patch(188, 0x2008_0000_4448_4100, 256, 0xb60f_70a1),
             finding(10, 188),
         ),
         // open for writing without SWMR
-        (
-            &FILE,
-            Patch {
-                at: 8,
-                bytes: [0x03, 0x08, 0x08, 0x01, 0x00, 0x00, 0x00, 0x00],
-                sum_at: 44,
-                sum: [0x73, 0x57, 0x46, 0x72],
-            },
-            finding(4, 0),
-        ),
+        (patch(8, 0x0108_0803, 44, 0x7246_5773), finding(4, 0)),
         // a sum that is of other flags
-        (
-            &FILE,
-            Patch {
-                at: 8,
-                bytes: [0x03, 0x08, 0x08, 0x01, 0x00, 0x00, 0x00, 0x00],
-                sum_at: 44,
-                sum: [0x57, 0x97, 0x72, 0xe9],
-            },
-            finding(3, 0),
-        ),
-        // the third leaf, behind keys that fell, passes the end
-        (
-            &LEAF_OFTEN,
-            Patch {
-                at: 410,
-                bytes: [0x62, 0x09, 0x00, 0x00, 0x00, 0x00, 0x00, 0x00],
-                sum_at: 419,
-                sum: [0xc3, 0xa0, 0x3f, 0x70],
-            },
-            finding(18, 2402),
-        ),
+        (patch(8, 0x0108_0803, 44, 0xe972_9757), finding(3, 0)),
+    ];
+    for (patch, wanted) in rows {
+        assert_eq!(rt; verdict_of(rt.alloc(), &FILE, &patch, "data")?, wanted);
+    }
+    Ok(())
+}
+
+#[test]
+fn each_change_of_a_tree_has_its_verdict(rt: HostRuntime) -> Result<(), Fail> {
+    let depth = patch(312, 0xffff_ffff_2864_0004, 334, 0xa2cb_6a40);
+    let behind_the_end = patch(410, 2402, 419, 0x703f_a0c3);
+    let wrong_total = patch(417, 2 << 48, 425, 0xc84d_5c6c);
+    let rows: [(&[u8], Patch, Result<Summary, CheckError>); 3] = [
+        (&TREE, depth, finding(10, 300)),
+        // the third leaf, behind keys that fell
+        (&LEAF_OFTEN, behind_the_end, finding(18, 2402)),
         // the third name of the node says that two records stand under it
-        (
-            &NODE_OFTEN,
-            Patch {
-                at: 417,
-                bytes: [0x00, 0x00, 0x00, 0x00, 0x00, 0x00, 0x02, 0x00],
-                sum_at: 425,
-                sum: [0x6c, 0x5c, 0x4d, 0xc8],
-            },
-            finding(15, 338),
-        ),
+        (&NODE_OFTEN, wrong_total, finding(15, 338)),
     ];
     for (packed, patch, wanted) in rows {
         assert_eq!(rt; verdict_of(rt.alloc(), packed, &patch, "data")?, wanted);

@@ -26,6 +26,26 @@ impl Patch {
     };
 }
 
+/// A number in eight bytes, the least significant first, and the sum of its block.
+pub fn patch(at: usize, number: u64, sum_at: usize, sum: u32) -> Patch {
+    Patch {
+        at,
+        bytes: number.to_le_bytes(),
+        sum_at,
+        sum: sum.to_le_bytes(),
+    }
+}
+
+/// Two ranges that meet.
+pub fn overlap(at: u64, len: u64, other: u64, other_len: u64) -> Result<Summary, CheckError> {
+    Err(CheckError::Overlap {
+        at,
+        len,
+        other,
+        other_len,
+    })
+}
+
 /// A finding.
 pub fn finding(kind: u8, at: u64) -> Result<Summary, CheckError> {
     Err(CheckError::Finding { kind, at })
