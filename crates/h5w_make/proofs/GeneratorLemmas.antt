@@ -1,8 +1,9 @@
 -- The numbers of a generator, and its batches.
-use Rattle.std.proofs.Common.{◌≡◌, ℕ, zero, suc, ◌+◌, ◌*◌, ◌/◌, ◌%◌, ◌^◌, ◌<◌, ◌≤◌, List, [], ◌∷◌, ◌++◌, length, map, ℤ, pos, Option, Some, None, sym, refl, ap, ◌∙◌, arith, append_assoc, ◌-◌}
+use Rattle.std.proofs.Common.{◌≡◌, ℕ, zero, suc, ◌+◌, ◌*◌, ◌/◌, ◌%◌, ◌^◌, ◌<◌, ◌≤◌, List, [], ◌∷◌, ◌++◌, length, map, take, drop, ℤ, pos, Option, Some, None, sym, refl, ap, ◌∙◌, arith, append_assoc, ◌-◌}
 use Rattle.std.specs.Prelude.{sum, ◌==◌, nat_lt}
-use Rattle.std.proofs.lemmas.List.{length-map}
-use Rattle.std.proofs.lemmas.List.Sums.{sum_by-cons}
+use Rattle.std.proofs.lemmas.List.{drop-map, length-map, take-map, take_all}
+use Rattle.std.proofs.lemmas.List.Sums.{sum_by-append, sum_by-cons, sum_by-take-le}
+use Rattle.std.proofs.Math.Seq.{take-add}
 use Rattle.std.proofs.Math.ListN.{get_or, get_or-map}
 use Rattle.std.proofs.lemmas.Bool.{cond_both, cond-true, eqb-true, lt-ltb}
 use Rattle.h5w_model.specs.Integers.{cell_bytes_of}
@@ -89,6 +90,20 @@ value_at ns vs i is = ap (λ (xs : List ℤ). get_or xs i (pos 0)) is ∙ get_or
 
 pub inside : (ns : List ℕ) (vs : List ℤ) (i : ℕ) → vs ≡ map pos ns → i < length vs → i < length ns
 inside ns vs i is within = omega (arith, within, ap length is, length-map ns pos)
+
+-- the numbers of a part, and their sum behind that of those before
+
+pub part_numbers : (ns : List ℕ) (values : List ℤ) (from count : ℕ) → values ≡ take count (drop from (map pos ns)) → values ≡ map pos (take count (drop from ns))
+part_numbers ns values from count is = is ∙ ap (take count) (drop-map pos from ns) ∙ take-map pos count (drop from ns)
+
+pub sum_more : (ns : List ℕ) (from count : ℕ) → sum (take (from + count) ns) ≡ sum (take from ns) + sum (take count (drop from ns))
+sum_more ns from count = ap sum (take-add from count ns) ∙ sum_by-append (λ (n : ℕ). n) (take from ns) (take count (drop from ns))
+
+pub sum_within : (ns : List ℕ) (from count : ℕ) → sum (take from ns) + sum (take count (drop from ns)) ≤ sum ns
+sum_within ns from count = omega (arith, sum_more ns from count, sum_by-take-le (λ (n : ℕ). n) ns (from + count))
+
+pub sum_all : (ns : List ℕ) (k : ℕ) → length ns ≤ k → sum (take k ns) ≡ sum ns
+sum_all ns k all = ap sum (take_all k ns all)
 
 -- ---- Loops
 

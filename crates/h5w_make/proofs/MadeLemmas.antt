@@ -12,7 +12,7 @@ use Rattle.h5w_image.specs.Memory.{MemView}
 use Rattle.h5w_session.specs.Sessions.{Session}
 use Rattle.h5w_session.proofs.LawLemmas.{shown_laws, standing_laws}
 use Rattle.h5w_make.specs.Commands.{batches, data_name, values_of}
-use Rattle.h5w_make.specs.Generators.{numbers}
+use Rattle.h5w_make.specs.Generators.{generated, numbers}
 use Rattle.h5w_make.specs.Makes.{IsMade}
 use Rattle.h5w_make.specs.Readings.{IsReadable}
 use Rattle.h5w_make.specs.States.{IsClosed}
@@ -78,8 +78,12 @@ module _ (bs : List (List ℤ)) (s : Session) (m : MemView) (h : IsClosed bs s m
   pub all_held : Held data_name h.log
   all_held = subst (λ (name : List ℕ). Held name h.log) h.name (standing_laws.held s h.log h.stands)
 
+-- the file of a generator's numbers
+pub readable_numbers : (n seed : ℕ) (s : Session) (m : MemView) → IsClosed (batches seed n) s m → IsReadable m.bytes (generated seed n)
+readable_numbers n seed s m h = subst (λ (vs : List ℤ). IsReadable m.bytes vs) (all_values seed n) (readable (batches seed n) s m h)
+
 -- what is told
-pub made_is : (n seed : ℕ) (s : Session) (m : MemView) (made : Made) → (h : IsClosed (batches seed n) s m) → made.rows ≡ length (values_of (batches seed n)) → made.sum ≡ sum (numbers seed n)
+pub made_is : (n seed : ℕ) (s : Session) (m : MemView) (made : Made) → (h : IsClosed (batches seed n) s m) → made.rows ≡ n → made.sum ≡ sum (numbers seed n)
     → made.pieces ≡ length m.history → made.blocks ≡ (valid (batches seed n) s m h).0.blocks → IsMade n seed made
 made_is n seed s m made h rows total pieces blocks =
     let bs = batches seed n in
@@ -97,7 +101,7 @@ made_is n seed s m made h rows total pieces blocks =
           subst (λ (vs : List ℤ). Reads (image [] (hist h.log.events)) data_name n 1 vs) (all_values seed n)
           (subst (λ (k : ℕ). Reads (image [] (hist h.log.events)) data_name k 1 (values_of bs)) count
           (subst (λ (img : List ℕ). Reads img data_name (length (values_of bs)) 1 (values_of bs)) h.bytes (reads bs s m h)));
-      rows = rows ∙ count;
+      rows = rows;
       sum = total;
       pieces = pieces ∙ ap length h.history;
       blocks = blocks;

@@ -1,10 +1,8 @@
 -- A reader's calls at one image.
-use Rattle.std.proofs.Common.{◌≡◌, ◌≢◌, ℕ, zero, suc, ◌*◌, ◌≤◌, ◌<◌, List, [], length, take, ℤ, Option, Some, None, Result, Ok, Err, sym, refl, ap, ◌∙◌, subst, arith, inl, inr, option_map}
+use Rattle.std.proofs.Common.{◌≡◌, ◌≢◌, ℕ, zero, suc, ◌+◌, ◌*◌, ◌≤◌, ◌<◌, List, [], length, take, drop, ℤ, Option, Some, None, Result, Ok, Err, sym, refl, ap, ◌∙◌, subst, arith, inl, inr, option_map}
 use Rattle.std.specs.Prelude.{◌==◌}
 use Rattle.std.proofs.lemmas.Bool.{cond-false, ne_eqb}
 use Rattle.std.specs.List.{AllByRecursion}
-use Rattle.std.proofs.Math.Seq.{take-length}
-use Rattle.std.proofs.lemmas.List.{nil_from_length}
 use Rattle.std.specs.Option.{unwrap_or}
 use Rattle.h5w_model.specs.Numbers.{range}
 use Rattle.h5w_model.specs.Programs.{Prog, ret, whole, counted, stored, eval, visits, next_look, fed, IsLookAt}
@@ -22,7 +20,7 @@ use Rattle.h5w_reader.specs.Readers.{BegunRead, StepTells, IsRefused, IsRows}
 use Rattle.h5w_reader.specs.declared.step.Step.{Step}
 use Rattle.h5w_reader.specs.declared.step.Step.TheVariants as steps
 use Rattle.h5w_make.specs.Commands.{data_name}
-use Rattle.h5w_make.specs.Readings.{IsReadable, KnowsAll, ending, looks_left}
+use Rattle.h5w_make.specs.Readings.{IsReadable, IsReaderOf, ending, looks_left}
 
 -- ---- What calls give
 
@@ -37,18 +35,21 @@ opens img values r =
     let p = open_call format_limits 16 8 data_name in
     still_calls.opens img data_name format_limits 16 8 (looks_on img p) (eval img p) r.fits (looks_at img p) (takes_on img p (plain_open format_limits 16 8 data_name)) ∙ r.reads.shows
 
-read_some : (img : List ℕ) (values : List ℤ) (n : ℕ) → (r : IsReadable img values) → n ≡ length values → 1 ≤ n → eval img (values_call r.reads.shown 0 n) ≡ Ok values
-read_some img values n r is some =
-    let p = values_call r.reads.shown 0 n in
-    let all : n * 1 ≡ length values = omega (arith, is) in
-    still_reads img data_name (length values) 1 values r.reads 0 n (looks_on img p) (eval img p) r.fits some (omega (arith, is)) (looks_at img p) (takes_on img p (plain_values r.reads.shown 0 n))
-    ∙ ap (λ (k : ℕ). Ok (take k values)) all ∙ ap Ok (take-length values)
+read_some : (img : List ℕ) (values : List ℤ) (from count : ℕ) → (r : IsReadable img values) → 1 ≤ count → from + count ≤ length values → eval img (values_call r.reads.shown from count) ≡ Ok (take count (drop from values))
+read_some img values from count r some within =
+    let p = values_call r.reads.shown from count in
+    let n : count * 1 ≡ count = omega arith in
+    let k : from * 1 ≡ from = omega arith in
+    still_reads img data_name (length values) 1 values r.reads from count (looks_on img p) (eval img p) r.fits some within (looks_at img p) (takes_on img p (plain_values r.reads.shown from count))
+    ∙ ap (λ (x : ℕ). Ok (take x (drop (from * 1) values))) n ∙ ap (λ (x : ℕ). Ok (take count (drop x values))) k
 
-pub reads_all : (img : List ℕ) (values : List ℤ) (n : ℕ) → (r : IsReadable img values) → n ≡ length values → eval img (values_program (Some r.reads.shown) 0 n) ≡ Ok values
-reads_all img values zero r is = ap Ok (sym (nil_from_length values (sym is)))
-reads_all img values (suc k) r is =
+-- a read of a part gives its values
+pub reads_part : (img : List ℕ) (values : List ℤ) (from count : ℕ) → (r : IsReadable img values) → from + count ≤ length values
+    → eval img (values_program (Some r.reads.shown) from count) ≡ Ok (take count (drop from values))
+reads_part img values from zero r within = refl
+reads_part img values from (suc k) r within =
     let some : suc k ≢ 0 = λ none. absurd (omega (arith, none)) in
-    ap (eval img) (cond-false (suc k == 0) (ret (Ok [])) (values_call r.reads.shown 0 (suc k)) (ne_eqb (suc k) 0 some)) ∙ read_some img values (suc k) r is (omega arith)
+    ap (eval img) (cond-false (suc k == 0) (ret (Ok [])) (values_call r.reads.shown from (suc k)) (ne_eqb (suc k) 0 some)) ∙ read_some img values from (suc k) r (omega arith) within
 
 -- ---- A look
 
@@ -174,18 +175,18 @@ rows_or_values a b e = cc
 values_or_rows : (a : Result (List ℤ) ReadError) (b : Result Reading ReadError) → ◌≡◌ {A = Option Unfinished} (Some (values_left (ret a))) (Some (rows_left (ret b))) → ⊥
 values_or_rows a b e = cc
 
--- the call of an open, and that of a read of all rows
+-- the call of an open, and that of a read of some rows
 abbrev pub open_left : Unfinished
 open_left = rows_left (open_call format_limits 16 8 data_name)
 
-abbrev pub read_left : Reading → ℕ → Unfinished
-read_left shown n = values_left (values_program (Some shown) 0 n)
+abbrev pub read_left : Reading → ℕ → ℕ → Unfinished
+read_left shown from count = values_left (values_program (Some shown) from count)
 
 -- an open knows what the image shows
-pub opened_rows : (img : List ℕ) (values : List ℤ) (n : ℕ) (old new : Reader) → (r : IsReadable img values) → IsRows (Some (ending img open_left)) n old new → KnowsAll r.reads.shown new × (n ≡ length values)
+pub opened_rows : (img : List ℕ) (values : List ℤ) (n : ℕ) (old new : Reader) → IsReadable img values → IsRows (Some (ending img open_left)) n old new → IsReaderOf img values new × (n ≡ length values)
 opened_rows img values n old new r tells =
     let is : tells.0 ≡ r.reads.shown = ok_is tells.0 r.reads.shown (sym (rows_are (eval img (open_call format_limits 16 8 data_name)) (Ok tells.0) tells.1) ∙ opens img values r) in (
-      record { known = ap (λ (x : Reader). x.known) tells.3 ∙ ap Some is; idle = ap (λ (x : Reader). x.left) tells.3 },
+      record { readable = r; known = ap (λ (x : Reader). x.known) tells.3 ∙ ap Some is; idle = ap (λ (x : Reader). x.left) tells.3 },
       tells.2 ∙ ap (λ (x : Reading). x.dataset.shape.rows) is ∙ r.reads.rows_are,
     )
 
@@ -198,74 +199,80 @@ open_refused img values e r (inl is) = absurd (ok_err r.reads.shown e (sym (open
 open_refused img values e r (inr (inl is)) = absurd (rows_or_values (eval img (open_call format_limits 16 8 data_name)) (Err e) is)
 open_refused img values e r (inr (inr is)) = is
 
--- a read gives the values
-pub read_values : (img : List ℕ) (values vs : List ℤ) (n : ℕ) → (r : IsReadable img values) → n ≡ length values → Some (ending img (read_left r.reads.shown n)) ≡ Some (values_left (ret (Ok vs))) → vs ≡ values
-read_values img values vs n r all is =
-    ok_is vs values (sym (values_same (eval img (values_program (Some r.reads.shown) 0 n)) (Ok vs) is) ∙ reads_all img values n r all)
+-- a read gives the values of its part
+pub read_values : (img : List ℕ) (values vs : List ℤ) (from count : ℕ) → (r : IsReadable img values) → from + count ≤ length values
+    → Some (ending img (read_left r.reads.shown from count)) ≡ Some (values_left (ret (Ok vs))) → vs ≡ take count (drop from values)
+read_values img values vs from count r within is =
+    let part = take count (drop from values) in
+    ok_is vs part (sym (values_same (eval img (values_program (Some r.reads.shown) from count)) (Ok vs) is) ∙ reads_part img values from count r within)
 
-pub read_no_rows : (img : List ℕ) (shown x : Reading) (n : ℕ) → Some (ending img (read_left shown n)) ≡ Some (rows_left (ret (Ok x))) → ⊥
-read_no_rows img shown x n e = values_or_rows (eval img (values_program (Some shown) 0 n)) (Ok x) e
+pub read_no_rows : (img : List ℕ) (shown x : Reading) (from count : ℕ) → Some (ending img (read_left shown from count)) ≡ Some (rows_left (ret (Ok x))) → ⊥
+read_no_rows img shown x from count e = values_or_rows (eval img (values_program (Some shown) from count)) (Ok x) e
 
-pub read_refused : (img : List ℕ) (values : List ℤ) (n : ℕ) (e : ReadError) → (r : IsReadable img values) → n ≡ length values → IsRefused (Some (ending img (read_left r.reads.shown n))) e → e ≡ refusals.OutOfMemory
-read_refused img values n e r all (inl is) = absurd (values_or_rows (eval img (values_program (Some r.reads.shown) 0 n)) (Err e) is)
-read_refused img values n e r all (inr (inl is)) =
-    absurd (ok_err values e (sym (reads_all img values n r all) ∙ values_same (eval img (values_program (Some r.reads.shown) 0 n)) (Err e) is))
-read_refused img values n e r all (inr (inr is)) = is
-
--- a read that needs no look
-pub read_at_once : (img : List ℕ) (values vs : List ℤ) (n : ℕ) → (r : IsReadable img values) → n ≡ length values → values_program (Some r.reads.shown) 0 n ≡ ret (Ok vs) → vs ≡ values
-read_at_once img values vs n r all is = ok_is vs values (sym (ap (eval img) is) ∙ reads_all img values n r all)
+pub read_refused : (img : List ℕ) (values : List ℤ) (from count : ℕ) (e : ReadError) → (r : IsReadable img values) → from + count ≤ length values → IsRefused (Some (ending img (read_left r.reads.shown from count))) e
+    → e ≡ refusals.OutOfMemory
+read_refused img values from count e r within (inl is) = absurd (values_or_rows (eval img (values_program (Some r.reads.shown) from count)) (Err e) is)
+read_refused img values from count e r within (inr (inl is)) =
+    absurd (ok_err (take count (drop from values)) e (sym (reads_part img values from count r within) ∙ values_same (eval img (values_program (Some r.reads.shown) from count)) (Err e) is))
+read_refused img values from count e r within (inr (inr is)) = is
 
 -- ---- Whole answers
 
 -- an open knows what the image shows, or wants memory
-abbrev pub IsOpened : (img : List ℕ) (values : List ℤ) → IsReadable img values → Step → Reader → Type 0
-IsOpened img values r steps.More new = ⊥
-IsOpened img values r (steps.Rows n) new = KnowsAll r.reads.shown new × (n ≡ length values)
-IsOpened img values r (steps.Values vs) new = ⊥
-IsOpened img values r (steps.Refused e) new = e ≡ refusals.OutOfMemory
+abbrev pub IsOpened : List ℕ → List ℤ → Step → Reader → Type 0
+IsOpened img values steps.More new = ⊥
+IsOpened img values (steps.Rows n) new = IsReaderOf img values new × (n ≡ length values)
+IsOpened img values (steps.Values vs) new = ⊥
+IsOpened img values (steps.Refused e) new = e ≡ refusals.OutOfMemory
 
-pub opened : (img : List ℕ) (values : List ℤ) (old new : Reader) (step : Step) → (r : IsReadable img values) → step ≢ steps.More → StepTells (Some (ending img open_left)) old step new → IsOpened img values r step new
+pub opened : (img : List ℕ) (values : List ℤ) (old new : Reader) (step : Step) → IsReadable img values → step ≢ steps.More → StepTells (Some (ending img open_left)) old step new → IsOpened img values step new
 opened img values old new steps.More r more tells = more refl
 opened img values old new (steps.Rows n) r more tells = opened_rows img values n old new r tells
 opened img values old new (steps.Values vs) r more tells = open_no_values img vs tells.0
 opened img values old new (steps.Refused e) r more tells = open_refused img values e r tells.0
 
--- a read gives the values, or wants memory
-abbrev pub IsRead : List ℤ → Step → Type 0
-IsRead values steps.More = ⊥
-IsRead values (steps.Rows n) = ⊥
-IsRead values (steps.Values vs) = vs ≡ values
-IsRead values (steps.Refused e) = e ≡ refusals.OutOfMemory
+-- A read gives the values of its part, and the reader has no call then, or it wants memory.
+abbrev pub IsRead : List ℤ → Reader → Step → Reader → Type 0
+IsRead part old steps.More new = ⊥
+IsRead part old (steps.Rows n) new = ⊥
+IsRead part old (steps.Values vs) new = (vs ≡ part) × (new ≡ with_left old None)
+IsRead part old (steps.Refused e) new = e ≡ refusals.OutOfMemory
 
-pub read_all : (img : List ℕ) (values : List ℤ) (n : ℕ) (old new : Reader) (step : Step) → (r : IsReadable img values) → n ≡ length values → step ≢ steps.More
-    → StepTells (Some (ending img (read_left r.reads.shown n))) old step new → IsRead values step
-read_all img values n old new steps.More r all more tells = more refl
-read_all img values n old new (steps.Rows k) r all more tells = read_no_rows img r.reads.shown tells.0 n tells.1
-read_all img values n old new (steps.Values vs) r all more tells = read_values img values vs n r all tells.0
-read_all img values n old new (steps.Refused e) r all more tells = read_refused img values n e r all tells.0
+pub read_answer : (img : List ℕ) (values : List ℤ) (from count : ℕ) (old new : Reader) (step : Step) → (r : IsReadable img values) → from + count ≤ length values → step ≢ steps.More
+    → StepTells (Some (ending img (read_left r.reads.shown from count))) old step new → IsRead (take count (drop from values)) old step new
+read_answer img values from count old new steps.More r within more tells = more refl
+read_answer img values from count old new (steps.Rows k) r within more tells = read_no_rows img r.reads.shown tells.0 from count tells.1
+read_answer img values from count old new (steps.Values vs) r within more tells = (read_values img values vs from count r within tells.0, tells.1)
+read_answer img values from count old new (steps.Refused e) r within more tells = read_refused img values from count e r within tells.0
 
 -- ---- A read that begins
 
--- the rows of two lists that the image reads as
-pub same_rows : (img : List ℕ) (xs ys : List ℤ) (old : Reader) → (r : IsReadable img xs) → KnowsAll r.reads.shown old → (q : IsReadable img ys) → KnowsAll q.reads.shown old → length xs ≡ length ys
-same_rows img xs ys old r knows q known =
-    let is : r.reads.shown ≡ q.reads.shown = ap (λ o. unwrap_or o r.reads.shown) (sym knows.known ∙ known.known) in
-    sym r.reads.rows_are ∙ ap (λ (x : Reading). x.dataset.shape.rows) is ∙ q.reads.rows_are
+-- the rows of two lists that the image reads as, by the same reader
+pub same_rows : (img : List ℕ) (xs ys : List ℤ) (r : Reader) → IsReaderOf img xs r → IsReaderOf img ys r → length xs ≡ length ys
+same_rows img xs ys r one other =
+    let is : one.readable.reads.shown ≡ other.readable.reads.shown = ap (λ o. unwrap_or o one.readable.reads.shown) (sym one.known ∙ other.known) in
+    sym one.readable.reads.rows_are ∙ ap (λ (x : Reading). x.dataset.shape.rows) is ∙ other.readable.reads.rows_are
 
-pub program_known : (shown : Reading) (n : ℕ) (old new : Reader) (vs : List ℤ) → KnowsAll shown old → (new ≡ old) × (values_program old.known 0 n ≡ ret (Ok vs)) → values_program (Some shown) 0 n ≡ ret (Ok vs)
-program_known shown n old new vs knows begun = ap (λ (k : Option Reading). values_program k 0 n) (sym knows.known) ∙ begun.1
+-- what a read makes of a reader that opened the file
+module _ (img : List ℕ) (values : List ℤ) (from count : ℕ) (old new : Reader) (h : IsReaderOf img values old) where
+  -- it needs no look
+  pub at_once : (o : Option (List ℤ)) (vs : List ℤ) → from + count ≤ length values → o ≡ Some vs → BegunRead (values_program old.known from count) old o new → (vs ≡ take count (drop from values)) × (new ≡ old)
+  at_once o vs within some begun =
+      let b : BegunRead (values_program old.known from count) old (Some vs) new = subst (λ (x : Option (List ℤ)). BegunRead (values_program old.known from count) old x new) some begun in
+      let is : values_program (Some h.readable.reads.shown) from count ≡ ret (Ok vs) = ap (λ (k : Option Reading). values_program k from count) (sym h.known) ∙ b.1 in
+      (ok_is vs (take count (drop from values)) (sym (ap (eval img) is) ∙ reads_part img values from count h.readable within), b.0)
 
-pub begun_some : (old new : Reader) (values : Option (List ℤ)) (vs : List ℤ) (n : ℕ) → values ≡ Some vs → BegunRead (values_program old.known 0 n) old values new → (new ≡ old) × (values_program old.known 0 n ≡ ret (Ok vs))
-begun_some old new values vs n some begun = subst (λ (o : Option (List ℤ)). BegunRead (values_program old.known 0 n) old o new) some begun
+  begun_is : (o : Option (List ℤ)) → o ≡ None → BegunRead (values_program old.known from count) old o new → new ≡ with_left old (Some (values_left (values_program old.known from count)))
+  begun_is o none begun = subst (λ (x : Option (List ℤ)). BegunRead (values_program old.known from count) old x new) none begun
 
-pub begun_none : (old new : Reader) (values : Option (List ℤ)) (n : ℕ) → values ≡ None → BegunRead (values_program old.known 0 n) old values new → new ≡ with_left old (Some (values_left (values_program old.known 0 n)))
-begun_none old new values n none begun = subst (λ (o : Option (List ℤ)). BegunRead (values_program old.known 0 n) old o new) none begun
+  -- it has begun
+  pub begun_left : (o : Option (List ℤ)) → o ≡ None → BegunRead (values_program old.known from count) old o new → new.left ≡ Some (read_left h.readable.reads.shown from count)
+  begun_left o none begun = ap (λ (r : Reader). r.left) (begun_is o none begun) ∙ ap (λ (k : Option Reading). Some (values_left (values_program k from count))) h.known
 
-pub left_known : (shown : Reading) (n : ℕ) (old new : Reader) → KnowsAll shown old → new ≡ with_left old (Some (values_left (values_program old.known 0 n))) → new.left ≡ Some (read_left shown n)
-left_known shown n old new knows is =
-    ap (λ (r : Reader). r.left) is ∙ ap (λ (k : Option Reading). Some (values_left (values_program k 0 n))) knows.known
+  -- and once it is answered the reader is as before
+  pub ends_as_begun : (o : Option (List ℤ)) (last : Reader) → o ≡ None → BegunRead (values_program old.known from count) old o new → last ≡ with_left new None → last ≡ old
+  ends_as_begun o last none begun ended = ended ∙ ap (λ (r : Reader). with_left r None) (begun_is o none begun) ∙ ap (with_left old) (sym h.idle)
 
 -- the same image, and the reader of what it shows
-pub still_knows : (a b : List ℕ) (values : List ℤ) (now : Reader) → a ≡ b → (r : IsReadable a values) → KnowsAll r.reads.shown now → (q : IsReadable b values) × KnowsAll q.reads.shown now
-still_knows a b values now same r knows = subst (λ (img : List ℕ). (q : IsReadable img values) × KnowsAll q.reads.shown now) same (r, knows)
+pub still_opened : (a b : List ℕ) (values : List ℤ) (r s : Reader) → a ≡ b → s ≡ r → IsReaderOf a values r → IsReaderOf b values s
+still_opened a b values r s same is h = subst (λ (img : List ℕ). IsReaderOf img values s) same (subst (λ (x : Reader). IsReaderOf a values x) (sym is) h)

@@ -1,7 +1,7 @@
 -- What a reader's call comes to on one image.
 use Rattle.std.specs.Prelude.{◌≡◌, ℕ, ◌^◌, ◌≤◌, List, length, Option, None, Some, ℤ}
 use Rattle.h5w_model.specs.Programs.{ret, eval, visits}
-use Rattle.h5w_model.specs.Tables.{Reading, Reads}
+use Rattle.h5w_model.specs.Tables.{Reads}
 use Rattle.h5w_model.specs.Unfinished.{Reader, Unfinished, rows_left, values_left}
 use Rattle.h5w_make.specs.Commands.{data_name}
 
@@ -21,7 +21,8 @@ pub record IsReadable (img : List ℕ) (values : List ℤ) : Type 0 where
   pub reads : Reads img data_name (length values) 1 values
   pub fits : length img ≤ 2 ^ 64
 
--- a reader without a call, that knows what the image shows
-pub record KnowsAll (shown : Reading) (r : Reader) : Type 0 where
-  pub known : r.known ≡ Some shown
+-- a reader of an image that reads as these values: it knows what the image shows, and has no call
+pub record IsReaderOf (img : List ℕ) (values : List ℤ) (r : Reader) : Type 0 where
+  pub readable : IsReadable img values
+  pub known : r.known ≡ Some readable.reads.shown
   pub idle : r.left ≡ None

@@ -1,5 +1,5 @@
 //! A file that is made of a generator's values.
-ghost use Rattle.std.specs.Prelude.{◌≡◌, ◌<◌, ◌≤◌, ◌^◌, List, ℕ, map, pos, sum, IfOk};
+ghost use Rattle.std.specs.Prelude.{◌≤◌, IfOk};
 ghost use Rattle.h5w_make.specs.Makes.{IsMade};
 
 use crate::batch::write;
@@ -20,21 +20,9 @@ pub struct Made {
     pub blocks: u64,
 }
 
-/// The sum of values that are numbers.
-fn sum_of(values: &[i128]) -> u64
-    requires { (ns : List ℕ) × (values.now ≡ map pos ns) × (sum ns < 2 ^ 64) }
-    ensures { (ns : List ℕ) → values.now ≡ map pos ns → result ≡ sum ns }
-{
-    let mut sum = 0;
-    for value in values {
-        sum += *value as u64;
-    }
-    sum
-}
-
 /// Makes a file in memory: a dataset `data` of integers of 4 bytes, 64 in a chunk, of at most 2^40 bytes. The first `n` numbers of the
 /// generator that begins with the seed are appended, with a flush after each 1,000 and at the end, and the session is closed. Then the
-/// file is checked, and a reader reads all values. Nothing but memory can be wanting.
+/// file is checked, and a reader reads all values, part by part. Nothing but memory can be wanting.
 pub fn make(alloc: Global, n: u64, seed: u64) -> Result<Made, OutOfMemory>
     requires { n ≤ 1000000 }
     ensures { IfOk result (IsMade n seed) }
@@ -42,10 +30,10 @@ pub fn make(alloc: Global, n: u64, seed: u64) -> Result<Made, OutOfMemory>
     let mut image = write(alloc, n, seed)?;
     let pieces = image.journal().len();
     let blocks = blocks(alloc, &mut image)?;
-    let (rows, values) = read_back(alloc, &mut image)?;
+    let (rows, sum) = read_back(alloc, &mut image)?;
     Ok(Made {
         rows,
-        sum: sum_of(&values.into_vec()),
+        sum,
         pieces,
         blocks,
     })

@@ -1,5 +1,5 @@
-//! The file that was made: its check, and its values by a reader.
-ghost use Rattle.std.specs.Prelude.{◌≡◌, ◌≢◌, List, ℕ, ℤ, length, Some, IfOk, OnOk};
+//! The file that was made: its check, and its rows by a reader.
+ghost use Rattle.std.specs.Prelude.{◌≡◌, ◌≢◌, ◌+◌, ◌<◌, ◌≤◌, ◌^◌, List, ℕ, ℤ, drop, length, map, pos, sum, take, Some, IfOk, OnOk};
 ghost use Rattle.h5w_model.specs.Findings.{Summary as Found, Valid};
 ghost use Rattle.h5w_model.specs.Unfinished.{Reader, Unfinished, rows_left, values_left};
 ghost use Rattle.h5w_model.specs.Tables.{Reading};
@@ -9,7 +9,7 @@ ghost use Rattle.h5w_reader.specs.Cores.{reader};
 ghost use Rattle.h5w_reader.specs.Readers.{StepTells, new_reader, reader_rules};
 ghost use Rattle.h5w_reader.specs.declared.step.Step.TheVariants as steps;
 ghost use Rattle.h5w_make.specs.Commands.{data_name};
-ghost use Rattle.h5w_make.specs.Readings.{IsReadable, KnowsAll, ending};
+ghost use Rattle.h5w_make.specs.Readings.{IsReadable, IsReaderOf, ending};
 
 use crate::batch::NAME;
 use h5w_check::{CheckError, check};
@@ -17,6 +17,9 @@ use h5w_model::{OutOfMemory, ReadError, Values};
 use h5w_reader::{ReadBegin, ReaderCore, Step};
 use h5w_steady::SteadyImage;
 use std::alloc::Global;
+
+/// How many rows are read at once: those of 16 chunks.
+const PART: u64 = 1024;
 
 /// How often a call may look at a dataset header that changes, which it does not here.
 const ATTEMPTS: u32 = 8;
@@ -56,7 +59,7 @@ fn answer(call: &mut ReaderCore, image: &mut SteadyImage) -> Step
 fn find_rows(call: &mut ReaderCore, image: &mut SteadyImage) -> Result<u64, OutOfMemory>
     requires begun { reader call.old ≡ new_reader (reader_rules data_name 8) }
     requires readable { (values : List ℤ) × IsReadable image.old.bytes values }
-    ensures knows { (values : List ℤ) → (readable : IsReadable image.old.bytes values) → OnOk result (KnowsAll readable.reads.shown (reader call.new)) }
+    ensures opened { (values : List ℤ) → IsReadable image.old.bytes values → OnOk result (IsReaderOf image.old.bytes values (reader call.new)) }
     ensures rows { (values : List ℤ) → IsReadable image.old.bytes values → IfOk result (λ rows. rows ≡ length values) }
     ensures image { Same (steady image.old) (steady image.new) }
 {
@@ -67,17 +70,19 @@ fn find_rows(call: &mut ReaderCore, image: &mut SteadyImage) -> Result<u64, OutO
     }
 }
 
-/// All values of the file, by a reader that opened it.
-fn read_values(
+/// The values of `count` rows from row `from` on, by a reader that opened the file, and stays as it is.
+fn read_part(
     call: &mut ReaderCore,
-    rows: u64,
+    from: u64,
+    count: u64,
     image: &mut SteadyImage,
 ) -> Result<Values, OutOfMemory>
-    requires { (values : List ℤ) × (readable : IsReadable image.old.bytes values) × KnowsAll readable.reads.shown (reader call.old) × (rows ≡ length values) }
-    ensures values { (values : List ℤ) → (readable : IsReadable image.old.bytes values) → KnowsAll readable.reads.shown (reader call.old) → IfOk result (λ read. read ≡ values) }
+    requires { (values : List ℤ) × IsReaderOf image.old.bytes values (reader call.old) × (from + count ≤ length values) }
+    ensures values { (values : List ℤ) → IsReaderOf image.old.bytes values (reader call.old) → IfOk result (λ part. part ≡ take count (drop from values)) }
+    ensures reader { OnOk result (reader call.new ≡ reader call.old) }
     ensures image { Same (steady image.old) (steady image.new) }
 {
-    match call.read(0, rows) {
+    match call.read(from, count) {
         Ok(Some(values)) => return Ok(values),
         Ok(None) => {}
         Err(ReadBegin::OutOfMemory) => return Err(OutOfMemory),
@@ -90,15 +95,44 @@ fn read_values(
     }
 }
 
-/// The rows and the values of a file, as a reader finds them.
-pub fn read_back(alloc: Global, image: &mut SteadyImage) -> Result<(u64, Values), OutOfMemory>
-    requires { (values : List ℤ) × IsReadable image.old.bytes values }
-    ensures rows { (values : List ℤ) → IsReadable image.old.bytes values → IfOk result (λ read. read.0 ≡ length values) }
-    ensures values { (values : List ℤ) → IsReadable image.old.bytes values → IfOk result (λ read. read.1 ≡ values) }
+/// The sum of values that are numbers.
+fn sum_of(values: &[i128]) -> u64
+    requires { (ns : List ℕ) × (values.now ≡ map pos ns) × (sum ns < 2 ^ 64) }
+    ensures { (ns : List ℕ) → values.now ≡ map pos ns → result ≡ sum ns }
+{
+    let mut sum = 0;
+    for value in values {
+        sum += *value as u64;
+    }
+    sum
+}
+
+/// The sum of all values of the file, by a reader that opened it. No more than a part of them is held at once.
+fn sum_rows(call: &mut ReaderCore, rows: u64, image: &mut SteadyImage) -> Result<u64, OutOfMemory>
+    requires { (ns : List ℕ) × IsReaderOf image.old.bytes (map pos ns) (reader call.old) × (rows ≡ length ns) × (sum ns < 2 ^ 64) }
+    ensures sum { (ns : List ℕ) → IsReaderOf image.old.bytes (map pos ns) (reader call.old) → IfOk result (λ total. total ≡ sum ns) }
+    ensures image { Same (steady image.old) (steady image.new) }
+{
+    let mut total = 0;
+    let mut from = 0;
+    while from < rows {
+        let count = PART.min(rows - from);
+        let values = read_part(call, from, count, image)?;
+        total += sum_of(values.as_slice());
+        from += count;
+    }
+    Ok(total)
+}
+
+/// The rows of a file of numbers and their sum, as a reader finds them.
+pub fn read_back(alloc: Global, image: &mut SteadyImage) -> Result<(u64, u64), OutOfMemory>
+    requires { (ns : List ℕ) × IsReadable image.old.bytes (map pos ns) × (sum ns < 2 ^ 64) }
+    ensures rows { (ns : List ℕ) → IsReadable image.old.bytes (map pos ns) → IfOk result (λ read. read.0 ≡ length ns) }
+    ensures sum { (ns : List ℕ) → IsReadable image.old.bytes (map pos ns) → IfOk result (λ read. read.1 ≡ sum ns) }
     ensures image { Same (steady image.old) (steady image.new) }
 {
     let mut call = ReaderCore::open(alloc, NAME, ATTEMPTS)?;
     let rows = find_rows(&mut call, image)?;
-    let values = read_values(&mut call, rows, image)?;
-    Ok((rows, values))
+    let total = sum_rows(&mut call, rows, image)?;
+    Ok((rows, total))
 }

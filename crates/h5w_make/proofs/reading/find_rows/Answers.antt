@@ -9,25 +9,26 @@ use Rattle.h5w_make.proofs.reading.find_rows.Goals.{in_default-via-in-Refused+in
 pub unreachable-requires : goal.unreachable-requires
 unreachable-requires c =
     let img = c.args.image.now.bytes in
+    let values = c.requires.readable.0 in
     let left = ap (λ (r : Reader). r.left) c.requires.begun in
-    let told = opened img c.requires.readable.0 (reader c.args.call.now) (reader c.answer.new.call) c.answer.result c.requires.readable.1 c.answer.ensures.answered (c.answer.ensures.answer open_left left) in
+    let told = opened img values (reader c.args.call.now) (reader c.answer.new.call) c.answer.result c.requires.readable.1 c.answer.ensures.answered (c.answer.ensures.answer open_left left) in
     elim c.in_default.branch [
       | in_default-via-in-Refused+in_default w ↦
-          let memory = subst (λ (s : Step). IsOpened img c.requires.readable.0 c.requires.readable.1 s (reader c.answer.new.call)) w.in_default.is told in
+          let memory = subst (λ (s : Step). IsOpened img values s (reader c.answer.new.call)) w.in_default.is told in
           search (rules, memory)
       | in_default-via-in_default w ↦ search (rules, told)
     ]
 
-pub returns-in-Rows-clause-knows : goal.returns-in-Rows-clause-knows
-returns-in-Rows-clause-knows c = λ values readable.
+pub returns-in-Rows-clause-opened : goal.returns-in-Rows-clause-opened
+returns-in-Rows-clause-opened c = λ values readable.
     let img = c.args.image.now.bytes in
     let left = ap (λ (r : Reader). r.left) c.requires.begun in
     let told = opened img values (reader c.args.call.now) (reader c.answer.new.call) c.answer.result readable c.answer.ensures.answered (c.answer.ensures.answer open_left left) in
-    (subst (λ (s : Step). IsOpened img values readable s (reader c.answer.new.call)) c.in-Rows.is told).0
+    (subst (λ (s : Step). IsOpened img values s (reader c.answer.new.call)) c.in-Rows.is told).0
 
 pub returns-in-Rows-clause-rows : goal.returns-in-Rows-clause-rows
 returns-in-Rows-clause-rows c = λ values readable.
     let img = c.args.image.now.bytes in
     let left = ap (λ (r : Reader). r.left) c.requires.begun in
     let told = opened img values (reader c.args.call.now) (reader c.answer.new.call) c.answer.result readable c.answer.ensures.answered (c.answer.ensures.answer open_left left) in
-    (subst (λ (s : Step). IsOpened img values readable s (reader c.answer.new.call)) c.in-Rows.is told).1
+    (subst (λ (s : Step). IsOpened img values s (reader c.answer.new.call)) c.in-Rows.is told).1

@@ -1,7 +1,7 @@
 use Rattle.std.proofs.Common.{arith, rules, ◌≡◌, ◌<◌, ◌^◌, ℕ, pos, get_or}
 use Rattle.std.proofs.lemmas.List.Sums.{get_or-le-sum_by, sum_by_more, sum_by_more_le}
 use Rattle.h5w_make.proofs.GeneratorLemmas.{inside, value_at}
-use Rattle.h5w_make.proofs.made.sum_of.Goals as goal
+use Rattle.h5w_make.proofs.reading.sum_of.Goals as goal
 
 pub overflow_cast-sum : goal.overflow_cast-sum
 overflow_cast-sum c =
