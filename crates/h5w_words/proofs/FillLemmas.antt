@@ -2,7 +2,7 @@
 use Rattle.std.proofs.Common.{◌≡◌, ◌⊎◌, ℕ, ◌-◌, ◌*◌, ◌^◌, ◌≤◌, Bool, true, false, if◌then◌else◌, pos, refl, sym, subst, inl, inr, arith}
 use Rattle.std.proofs.Math.Dec.{leb-zero}
 use Rattle.std.proofs.lemmas.Bool.{lt-ltb}
-use Rattle.h5w_model.specs.Integers.{cell_bytes_of, is_in_span, span_of}
+use Rattle.h5w_model.specs.Integers.{cell_bytes_of, is_in_span}
 use Rattle.h5w_model.specs.Messages.{IntTypeFields, IsIntType}
 use Rattle.h5w_model.proofs.IntegerLemmas.{int_sizes}
 use Rattle.h5w_options.specs.Options.{HasValue}

@@ -87,7 +87,7 @@ matched a words m is kinds matches =
 pub faulty : (a : App) (words : List Text) (e : Error) → a ≡ program → (is_simple_and_free a ≡ true → HasKind (fault_of a words) e) → kind_of e ≢ OutOfMemory → fault_of program words ≢ []
 faulty a words e is kinds other = some_fault (fault_of program words) e (subst (λ b. is_simple_and_free b ≡ true → HasKind (fault_of b words) e) is kinds free) other
 
-pub usage_alone : {T : Type 0} {P Q : Type 0} (r : Result T WordsError) → IsErrAnd r (λ e. e ≡ words_errors.Usage → P) → (P → Q) → IfErr r (λ e. (e ≡ words_errors.OutOfMemory) ⊎ Q)
+pub usage_alone : {T : Type 0} {P Q : Type 0} (r : Result T WordsError) → IsErrAnd r (λ e. (e ≡ words_errors.Usage → P) × (P → e ≡ words_errors.Usage)) → (P → Q) → IfErr r (λ e. (e ≡ words_errors.OutOfMemory) ⊎ Q)
 usage_alone (Ok x) h f = tt
-usage_alone (Err words_errors.Usage) h f = inr (f (h refl))
+usage_alone (Err words_errors.Usage) h f = inr (f (h.0 refl))
 usage_alone (Err words_errors.OutOfMemory) h f = inl refl

@@ -1,7 +1,7 @@
--- The bounds of what a job goes by.
+-- The limits that a command asks of its job.
+use Rattle.std.specs.Prelude.{◌≤◌, ◌^◌, length}
 use Rattle.h5w_options.specs.Options.{AreOptions, AreAttempts}
 use Rattle.h5w_words.specs.declared.job.Job.{Job}
-use Rattle.std.specs.Prelude.{◌≤◌, ◌^◌, length}
 use Rattle.h5w_words.specs.declared.job.Job.TheVariants.{Play, New, Check, Poll, Clear, Make, Append, Live}
 
 abbrev pub IsWithinLimits : Job → Type 0

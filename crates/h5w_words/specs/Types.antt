@@ -1,5 +1,5 @@
 -- The names of integer types, and fills of a type.
-use Rattle.std.specs.Prelude.{ℕ, ◌-◌, ◌*◌, ◌^◌, Bool, true, false, List, [], ◌∷◌, ◌==◌, if◌then◌else◌, Option, Some, None, option_map, option_and_then, codes, ℤ, pos}
+use Rattle.std.specs.Prelude.{ℕ, ◌-◌, ◌*◌, ◌^◌, Bool, true, false, [], ◌∷◌, ◌==◌, if◌then◌else◌, Option, Some, None, option_map, option_and_then, codes, ℤ, pos}
 use Rattle.clap.specs.Words.{Text}
 use Rattle.h5w_model.specs.Messages.{IntTypeFields}
 use Rattle.h5w_text.specs.Scripts.{count_in, is_word}

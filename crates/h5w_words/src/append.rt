@@ -6,15 +6,12 @@ ghost use Rattle.h5w_words.specs.Arguments.{has_globals};
 ghost use Rattle.h5w_words.specs.Limits.{IsWithinLimits};
 
 use crate::arguments::{flag, option_or, word};
-use crate::file::FileName;
-use crate::files::owned;
+use crate::creation::limit_given;
+use crate::files::{file_given, link_name_given};
 use crate::job::{Job, WordsError};
-use crate::values::{count_or, is_given, link_name_or, text};
+use crate::values::is_given;
 use clap::{ArgMatches, Command};
 use std::alloc::{AllocError, Global};
-
-/// The most bytes that the file may have.
-const LIMIT: u64 = 1 << 40;
 
 /// The command with its arguments.
 pub fn append<'a>(alloc: Global) -> Result<Command<'a>, AllocError>
@@ -35,18 +32,10 @@ pub fn append_job(alloc: Global, options: &ArgMatches<'_>) -> Result<Job, WordsE
     ensures usage { IfErr result (λ e. (e ≡ WordsError.OutOfMemory) ⊎ (append_of (rows_of (found_of options.now)) ≡ None)) }
     ensures limits { IfOk result IsWithinLimits }
 {
-    let Some(file) = text(options, "FILE") else {
-        return Err(WordsError::Usage);
-    };
-    let Some(name) = link_name_or(options, "name", "data") else {
-        return Err(WordsError::Usage);
-    };
-    let Some(limit) = count_or(options, "limit", LIMIT, 1_024, LIMIT) else {
-        return Err(WordsError::Usage);
-    };
+    let limit = limit_given(options).ok_or(WordsError::Usage)?;
     Ok(Job::Append {
-        file: FileName::of(alloc, file)?,
-        name: owned(alloc, name)?,
+        file: file_given(alloc, options)?,
+        name: link_name_given(alloc, options)?,
         limit,
         keeps: is_given(options, "no-reuse"),
     })

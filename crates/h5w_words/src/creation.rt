@@ -1,11 +1,11 @@
 //! By what a file is created.
-ghost use Rattle.std.specs.Prelude.{◌≡◌, ◌*◌, ◌≤◌, ◌⊎◌, None, Some, IfErr, IfOk, IfSome, length};
+ghost use Rattle.std.specs.Prelude.{◌≡◌, ◌*◌, ◌^◌, ◌≤◌, ◌⊎◌, None, Some, IfErr, IfOk, IfSome, length};
 ghost use Rattle.h5w_model.specs.Messages.{IsIntType};
 ghost use Rattle.h5w_options.specs.Options.{AreColumns, AreOptions, width_in};
 ghost use Rattle.h5w_types.specs.Fields.{int_type_of};
 ghost use Rattle.clap.specs.Words.{app_of, found_of, rows_of};
 ghost use Rattle.h5w_words.specs.Arguments.{has_globals};
-ghost use Rattle.h5w_words.specs.Creation.{columns_of, named_options, options_of, type_of, with_creation};
+ghost use Rattle.h5w_words.specs.Creation.{columns_of, limit_of, named_options, options_of, type_of, with_creation};
 
 use crate::arguments::{option, option_or};
 use crate::job::WordsError;
@@ -78,6 +78,14 @@ fn chunk_bytes(options: &Options) -> u64
     options.chunk_rows * width * u64::from(options.int_type.size)
 }
 
+/// How many bytes the file may have; None where the number is not within its limits.
+pub fn limit_given(options: &ArgMatches<'_>) -> Option<u64>
+    ensures limit { result ≡ limit_of (rows_of (found_of options.now)) }
+    ensures bounds { IfSome result (λ n. (1024 ≤ n) × (n ≤ 2 ^ 40)) }
+{
+    count_or(options, "limit", LIMIT, 1_024, LIMIT)
+}
+
 /// What the options say of a file with a dataset of this name and type; `Usage` where a number is not within its limits.
 fn numbers_given(
     options: &ArgMatches<'_>,
@@ -94,7 +102,7 @@ fn numbers_given(
     let chunk_rows = count(options, "chunk", 1, SIDE).ok_or(WordsError::Usage)?;
     let columns = columns_given(options).ok_or(WordsError::Usage)?;
     let fill = fill_given(text(options, "fill"), &int_type).ok_or(WordsError::Usage)?;
-    let limit = count_or(options, "limit", LIMIT, 1_024, LIMIT).ok_or(WordsError::Usage)?;
+    let limit = limit_given(options).ok_or(WordsError::Usage)?;
     let options = Options {
         name,
         int_type,

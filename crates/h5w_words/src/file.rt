@@ -27,6 +27,7 @@ impl FileName {
         })
     }
 
+    /// The name's text.
     pub fn as_str(&self) -> &str
         ensures { result.now ≡ self.now }
     {

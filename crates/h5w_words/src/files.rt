@@ -1,14 +1,15 @@
 //! The commands on files.
-ghost use Rattle.std.specs.Prelude.{◌≡◌, ◌⊎◌, false, None, Some, IfErr, IfOk};
+ghost use Rattle.std.specs.Prelude.{◌≡◌, ◌≤◌, ◌⊎◌, false, None, Some, IfErr, IfOk, length};
 ghost use Rattle.clap.specs.Words.{app_of, found_of, rows_of};
 ghost use Rattle.h5w_words.specs.Arguments.{has_globals};
-ghost use Rattle.h5w_words.specs.Files.{check_app, check_of, clear_app, clear_of, creating_app, creating_of, poll_app, poll_numbers_of, poll_of};
+ghost use Rattle.h5w_words.specs.Files.{check_app, check_of, clear_app, clear_of, creating_app, creating_of, file_of, link_name_of, poll_app, poll_numbers_of, poll_of};
 ghost use Rattle.h5w_words.specs.Limits.{IsWithinLimits};
 
 use crate::arguments::{flag, option_or, word};
 use crate::creation::{creation, options_given};
 use crate::file::FileName;
 use crate::job::{Job, WordsError};
+use crate::play::attempts_given;
 use crate::values::{count_or, is_given, link_name_or, text};
 use clap::{ArgMatches, Command};
 use h5w_model::Bytes;
@@ -59,10 +60,26 @@ pub fn clear<'a>(alloc: Global) -> Result<Command<'a>, AllocError>
     Ok(command)
 }
 
-/// The name of a link, owned.
-pub fn owned(alloc: Global, name: &str) -> Result<Bytes, AllocError>
-    ensures { IfOk result (λ b. b ≡ name.now) }
+/// The name of the file, which is a word of the command.
+pub fn file_given(alloc: Global, options: &ArgMatches<'_>) -> Result<FileName, WordsError>
+    ensures ok { IfOk result (λ file. file_of (rows_of (found_of options.now)) ≡ Some file) }
+    ensures usage { IfErr result (λ e. (e ≡ WordsError.OutOfMemory) ⊎ (file_of (rows_of (found_of options.now)) ≡ None)) }
 {
+    let Some(file) = text(options, "FILE") else {
+        return Err(WordsError::Usage);
+    };
+    Ok(FileName::of(alloc, file)?)
+}
+
+/// The name of the root group's link to the dataset; `Usage` where no link has the name that is given.
+pub fn link_name_given(alloc: Global, options: &ArgMatches<'_>) -> Result<Bytes, WordsError>
+    ensures ok { IfOk result (λ name. link_name_of (rows_of (found_of options.now)) ≡ Some name) }
+    ensures usage { IfErr result (λ e. (e ≡ WordsError.OutOfMemory) ⊎ (link_name_of (rows_of (found_of options.now)) ≡ None)) }
+    ensures bounds { IfOk result (λ name. (1 ≤ length name) × (length name ≤ 255)) }
+{
+    let Some(name) = link_name_or(options, "name", "data") else {
+        return Err(WordsError::Usage);
+    };
     Ok(Bytes::from_vec(Vec::from_slice(alloc, name.as_bytes())?))
 }
 
@@ -72,11 +89,8 @@ pub fn creating_job(alloc: Global, options: &ArgMatches<'_>) -> Result<Job, Word
     ensures usage { IfErr result (λ e. (e ≡ WordsError.OutOfMemory) ⊎ (creating_of (rows_of (found_of options.now)) ≡ None)) }
     ensures limits { IfOk result IsWithinLimits }
 {
-    let Some(file) = text(options, "FILE") else {
-        return Err(WordsError::Usage);
-    };
     Ok(Job::New {
-        file: FileName::of(alloc, file)?,
+        file: file_given(alloc, options)?,
         options: options_given(alloc, options)?,
     })
 }
@@ -87,15 +101,9 @@ pub fn check_job(alloc: Global, options: &ArgMatches<'_>) -> Result<Job, WordsEr
     ensures usage { IfErr result (λ e. (e ≡ WordsError.OutOfMemory) ⊎ (check_of (rows_of (found_of options.now)) ≡ None)) }
     ensures limits { IfOk result IsWithinLimits }
 {
-    let Some(file) = text(options, "FILE") else {
-        return Err(WordsError::Usage);
-    };
-    let Some(name) = link_name_or(options, "name", "data") else {
-        return Err(WordsError::Usage);
-    };
     Ok(Job::Check {
-        file: FileName::of(alloc, file)?,
-        name: owned(alloc, name)?,
+        file: file_given(alloc, options)?,
+        name: link_name_given(alloc, options)?,
     })
 }
 
@@ -106,12 +114,12 @@ fn poll_named(options: &ArgMatches<'_>, file: FileName, name: Bytes) -> Result<J
     ensures limits { IfOk result IsWithinLimits }
 {
     let times = count_or(options, "times", 1, 1, 1_000_000).ok_or(WordsError::Usage)?;
-    let attempts = count_or(options, "attempts", 8, 1, 1_000).ok_or(WordsError::Usage)?;
+    let attempts = attempts_given(options).ok_or(WordsError::Usage)?;
     Ok(Job::Poll {
         file,
         name,
         times,
-        attempts: attempts as u32,
+        attempts,
         values: is_given(options, "values"),
     })
 }
@@ -122,14 +130,8 @@ pub fn poll_job(alloc: Global, options: &ArgMatches<'_>) -> Result<Job, WordsErr
     ensures usage { IfErr result (λ e. (e ≡ WordsError.OutOfMemory) ⊎ (poll_of (rows_of (found_of options.now)) ≡ None)) }
     ensures limits { IfOk result IsWithinLimits }
 {
-    let Some(file) = text(options, "FILE") else {
-        return Err(WordsError::Usage);
-    };
-    let Some(name) = link_name_or(options, "name", "data") else {
-        return Err(WordsError::Usage);
-    };
-    let file = FileName::of(alloc, file)?;
-    let name = owned(alloc, name)?;
+    let file = file_given(alloc, options)?;
+    let name = link_name_given(alloc, options)?;
     poll_named(options, file, name)
 }
 
@@ -139,10 +141,7 @@ pub fn clear_job(alloc: Global, options: &ArgMatches<'_>) -> Result<Job, WordsEr
     ensures usage { IfErr result (λ e. (e ≡ WordsError.OutOfMemory) ⊎ (clear_of (rows_of (found_of options.now)) ≡ None)) }
     ensures limits { IfOk result IsWithinLimits }
 {
-    let Some(file) = text(options, "FILE") else {
-        return Err(WordsError::Usage);
-    };
     Ok(Job::Clear {
-        file: FileName::of(alloc, file)?,
+        file: file_given(alloc, options)?,
     })
 }

@@ -17,20 +17,23 @@ pub enum Job {
     },
     /// Makes a file with an empty dataset.
     New {
+        /// The name of the file.
         file: FileName,
         /// By what the file is created. The name has letters, digits and underscores alone.
         options: Options,
     },
     /// Checks a whole file.
     Check {
+        /// The name of the file.
         file: FileName,
-        /// The name of the root group's link to the dataset.
+        /// The name of the root group's link to the dataset, of 1 to 255 bytes.
         name: Bytes,
     },
     /// Opens a dataset and refreshes it.
     Poll {
+        /// The name of the file.
         file: FileName,
-        /// The name of the root group's link to the dataset.
+        /// The name of the root group's link to the dataset, of 1 to 255 bytes.
         name: Bytes,
         /// How many calls, the open among them, 1 to 1,000,000.
         times: u64,
@@ -41,6 +44,7 @@ pub enum Job {
     },
     /// Clears the flags of writers in a file.
     Clear {
+        /// The name of the file.
         file: FileName,
     },
     /// Makes a file in memory of a generator's values.
@@ -52,12 +56,13 @@ pub enum Job {
     },
     /// Appends the numbers of the input to a dataset.
     Append {
+        /// The name of the file.
         file: FileName,
         /// The name of the root group's link to the dataset, of 1 to 255 bytes.
         name: Bytes,
         /// How many bytes the file may have, 1,024 to 2^40.
         limit: u64,
-        /// Whether no place of the file is used twice.
+        /// Whether places that the session lets go are kept, and none of them is used again.
         keeps: bool,
     },
     /// Runs a writer of the input's batches and readers that poll beside it, in threads.
@@ -79,6 +84,7 @@ pub enum WordsError {
     /// They are outside the command set.
     #[error("words outside the command set")]
     Usage,
+    /// Memory was refused.
     #[error("out of memory")]
     OutOfMemory,
 }
@@ -100,7 +106,7 @@ impl From<clap::Error> for WordsError {
     ghost use Rattle.clap.specs.declared.error.kind.ErrorKind.TheVariants.{OutOfMemory as no_memory_for_clap};
     ghost use Rattle.h5w_words.specs.declared.job.WordsError.TheVariants.{Usage as outside};
 
-    ghost from_gives = { λ e r. r ≡ outside → kind_of e ≢ no_memory_for_clap };
+    ghost from_gives = { λ e r. (r ≡ outside → kind_of e ≢ no_memory_for_clap) × (kind_of e ≢ no_memory_for_clap → r ≡ outside) };
 
     fn from(e: clap::Error) -> WordsError {
         match e.kind() {

@@ -8,7 +8,8 @@ ghost use Rattle.h5w_words.specs.Lives.{live_app, live_of};
 use crate::arguments::{option, option_or};
 use crate::creation::{creation, options_given};
 use crate::job::{Job, WordsError};
-use crate::values::{count, count_or};
+use crate::play::attempts_given;
+use crate::values::count;
 use clap::{ArgMatches, Command};
 use std::alloc::{AllocError, Global};
 
@@ -33,12 +34,12 @@ pub fn live_job(alloc: Global, options: &ArgMatches<'_>) -> Result<Job, WordsErr
 {
     let readers = count(options, "readers", 1, 16).ok_or(WordsError::Usage)?;
     let polls = count(options, "polls", 1, 10_000).ok_or(WordsError::Usage)?;
-    let attempts = count_or(options, "attempts", 8, 1, 1_000).ok_or(WordsError::Usage)?;
+    let attempts = attempts_given(options).ok_or(WordsError::Usage)?;
     let options = options_given(alloc, options)?;
     Ok(Job::Live {
         options,
         readers: readers as u32,
         polls: polls as u32,
-        attempts: attempts as u32,
+        attempts,
     })
 }

@@ -1,9 +1,10 @@
 //! The command that runs a script.
-ghost use Rattle.std.specs.Prelude.{◌≡◌, ◌⊎◌, false, None, Some, IfErr, IfOk};
+ghost use Rattle.std.specs.Prelude.{◌≡◌, ◌⊎◌, false, None, Some, IfErr, IfOk, IfSome};
 ghost use Rattle.clap.specs.Words.{app_of, found_of, rows_of};
+ghost use Rattle.h5w_options.specs.Options.{AreAttempts};
 ghost use Rattle.h5w_words.specs.Arguments.{has_globals};
 ghost use Rattle.h5w_words.specs.Limits.{IsWithinLimits};
-ghost use Rattle.h5w_words.specs.Play.{play_app, play_of};
+ghost use Rattle.h5w_words.specs.Play.{attempts_of, play_app, play_of};
 
 use crate::arguments::option_or;
 use crate::creation::{creation, options_given};
@@ -23,18 +24,22 @@ pub fn play<'a>(alloc: Global) -> Result<Command<'a>, AllocError>
     Ok(command)
 }
 
+/// How many attempts a reader's call makes at most; None where the number is not within its limits.
+pub fn attempts_given(options: &ArgMatches<'_>) -> Option<u32>
+    ensures attempts { result ≡ attempts_of (rows_of (found_of options.now)) }
+    ensures bounds { IfSome result AreAttempts }
+{
+    let attempts = count_or(options, "attempts", 8, 1, 1_000)?;
+    Some(attempts as u32)
+}
+
 /// The script that the options ask for; `Usage` where they are outside the command set.
 pub fn play_job(alloc: Global, options: &ArgMatches<'_>) -> Result<Job, WordsError>
     ensures ok { IfOk result (λ job. play_of (rows_of (found_of options.now)) ≡ Some job) }
     ensures usage { IfErr result (λ e. (e ≡ WordsError.OutOfMemory) ⊎ (play_of (rows_of (found_of options.now)) ≡ None)) }
     ensures limits { IfOk result IsWithinLimits }
 {
-    let Some(attempts) = count_or(options, "attempts", 8, 1, 1_000) else {
-        return Err(WordsError::Usage);
-    };
+    let attempts = attempts_given(options).ok_or(WordsError::Usage)?;
     let options = options_given(alloc, options)?;
-    Ok(Job::Play {
-        options,
-        attempts: attempts as u32,
-    })
+    Ok(Job::Play { options, attempts })
 }

@@ -1,5 +1,5 @@
 //! The names of integer types, and fills of a type.
-ghost use Rattle.std.specs.Prelude.{◌≡◌, ◌≤◌, ℕ, ◌^◌, IfSome, Bool, option_map};
+ghost use Rattle.std.specs.Prelude.{◌≡◌, IfSome, option_map};
 ghost use Rattle.h5w_model.specs.Messages.{IsIntType};
 ghost use Rattle.h5w_options.specs.Options.{HasValue};
 ghost use Rattle.h5w_types.specs.Fields.{int_type_of};

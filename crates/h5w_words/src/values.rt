@@ -59,7 +59,7 @@ pub fn name_or<'a>(options: &ArgMatches<'a>, name: &str, default: &'a str) -> Op
 pub fn link_name_or<'a>(options: &ArgMatches<'a>, name: &str, default: &'a str) -> Option<&'a str>
     requires { IsTrue (is_link_name default.now) }
     ensures name { option_map (λ s. s.now) result ≡ link_name_or default.now (first_of name.now (rows_of (found_of options.now))) }
-    ensures bounds { IfSome result (λ s. length s.now ≤ 255) }
+    ensures bounds { IfSome result (λ s. (1 ≤ length s.now) × (length s.now ≤ 255)) }
 {
     match text(options, name) {
         Some(text) if is_link_name(text.as_bytes()) => Some(text),

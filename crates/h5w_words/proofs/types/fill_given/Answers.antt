@@ -1,4 +1,4 @@
-use Rattle.std.proofs.Common.{◌≡◌, ◌∙◌, ◌≤◌, ℤ, pos, rules, sym, subst, arith, to_z, of_z}
+use Rattle.std.proofs.Common.{◌≡◌, ◌∙◌, ◌≤◌, rules, sym, subst, arith, to_z, of_z}
 use Rattle.std.specs.Int.{w128}
 use Rattle.h5w_options.specs.Options.{HasValue}
 use Rattle.h5w_types.specs.Fields.{int_type_of}
