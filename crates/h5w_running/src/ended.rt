@@ -4,7 +4,7 @@ ghost use Rattle.h5w_running.specs.Ends.{ended_number};
 use h5w_shared::Worn;
 use h5w_text::Status;
 
-/// How a run in threads ended.
+/// How a job ended, that of the program or one in threads.
 #[derive(Drop)]
 pub enum Ended {
     /// With a status.
