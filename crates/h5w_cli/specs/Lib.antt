@@ -14,6 +14,7 @@ pub use Rattle.h5w_files.specs.Appends
 pub use Rattle.h5w_words.specs.Commands
 pub use Rattle.h5w_words.specs.Limits
 pub use Rattle.h5w_core.specs.Worlds
+pub mod Edges
 pub mod Answers
 pub mod Plays
 pub mod Endings

@@ -1,5 +1,5 @@
 //! The replies to the lines of a script.
-ghost use Rattle.std.specs.Prelude.{◌≡◌, ◌≤◌, ℕ, List, length, Some, None, Err, IfOk};
+ghost use Rattle.std.specs.Prelude.{◌≡◌, ◌≤◌, ℕ, List, Some, None, Err, IfOk};
 ghost use Rattle.h5w_model.specs.Lawful.{Line as ScriptedLine, looks, shows_up_to};
 ghost use Rattle.h5w_text.specs.LinesAhead.{IsLine};
 ghost use Rattle.h5w_text.specs.Words.{line_of_script};

@@ -2,12 +2,11 @@
 //!
 //! It rests on file systems that put a write of up to 512 bytes into a file whole, and show it to each later read: local ones, as ext4,
 //! xfs and tmpfs. Over a network they may not.
-ghost use Rattle.std.specs.Prelude.{◌≡◌, ◌≤◌, ◌^◌, None, [], length, IfOk};
-ghost use Rattle.h5w_model.specs.Causes.{Rose};
+ghost use Rattle.std.specs.Prelude.{◌≡◌, ◌≤◌, ◌^◌, None, [], length, true, false, IfOk, OnErr, OnOk};
+ghost use Rattle.h5w_cli.specs.Edges.{IsKept};
 
 use crate::streams::count_fault;
 use h5w_image::{Disk, Failed, MakeError, OutOfMemory, PIECE, Piece, Write};
-use std::alloc::Global;
 use std::fs::{File, OpenOptions};
 use std::io;
 use std::io::ErrorKind;
@@ -33,7 +32,7 @@ pub struct FileDisk<'a> {
     faults: u64,
 }
 
-/// Reads from a place on until the buffer is full or the file ends: so many bytes.
+/// Reads from a place on until the buffer is full or the file ends, and answers how many bytes that were.
 fn read_from(file: &File, at: u64, buf: &mut [u8]) -> io::Result<usize>
     ensures { IfOk result (λ n. n ≤ length buf.new) }
 {
@@ -64,8 +63,11 @@ fn write_from(file: &File, at: u64, bytes: &[u8]) -> io::Result<()> {
 }
 
 impl<'a> FileDisk<'a> {
-    /// All files that the program may name.
-    pub fn new(rt: &'a HostRuntime) -> FileDisk<'a> {
+    /// All files that the program may name. None is kept open yet.
+    pub fn new(rt: &'a HostRuntime) -> FileDisk<'a>
+        ensures kept { result.kept ≡ None }
+        ensures faults { result.faults ≡ 0 }
+    {
         FileDisk {
             rt,
             kept: None,
@@ -73,9 +75,11 @@ impl<'a> FileDisk<'a> {
         }
     }
 
-    /// Opens the file of this name, and keeps it open.
+    /// Opens the file of this name, and keeps it open. Where that fails, the file that was kept stays so.
     fn open(&mut self, name: &str, writable: bool) -> io::Result<()>
-        ensures { self.new.faults ≡ self.old.faults }
+        ensures kept { OnOk result (IsKept self.new.kept name.now writable) }
+        ensures failed { OnErr result (self.new.kept ≡ self.old.kept) }
+        ensures faults { self.new.faults ≡ self.old.faults }
     {
         let file = OpenOptions::new()
             .read(true)
@@ -91,7 +95,9 @@ impl<'a> FileDisk<'a> {
 
     /// Sees to it that the file of this name is the one that is kept open, and may be written where `writable` is set.
     fn keep(&mut self, name: &str, writable: bool) -> io::Result<()>
-        ensures { self.new.faults ≡ self.old.faults }
+        ensures kept { OnOk result (IsKept self.new.kept name.now writable) }
+        ensures failed { OnErr result (self.new.kept ≡ self.old.kept) }
+        ensures faults { self.new.faults ≡ self.old.faults }
     {
         match &self.kept {
             Some(kept) if kept.name.as_str() == name && (kept.writable || !writable) => Ok(()),
@@ -101,42 +107,48 @@ impl<'a> FileDisk<'a> {
 
     /// How many bytes the file of this name has.
     fn measure(&mut self, name: &str) -> io::Result<u64>
-        ensures { self.new.faults ≡ self.old.faults }
+        ensures kept { OnOk result (IsKept self.new.kept name.now false) }
+        ensures faults { self.new.faults ≡ self.old.faults }
     {
         self.open(name, false)?;
         match &self.kept {
             Some(kept) => Ok(kept.file.metadata()?.len()),
-            None => Err(ErrorKind::NotFound.into()),
+            None => unreachable!(),
         }
     }
 
-    /// Reads from a place of the file on: so many bytes.
+    /// Reads from a place of the file on, and answers how many bytes that were.
     fn read(&mut self, name: &str, at: u64, buf: &mut [u8]) -> io::Result<usize>
         ensures bound { IfOk result (λ n. n ≤ length buf.new) }
+        ensures kept { OnOk result (IsKept self.new.kept name.now false) }
         ensures faults { self.new.faults ≡ self.old.faults }
     {
         self.keep(name, false)?;
         match &self.kept {
             Some(kept) if at < END => read_from(&kept.file, at, buf),
             Some(_) => Ok(0),
-            None => Err(ErrorKind::NotFound.into()),
+            None => unreachable!(),
         }
     }
 
     /// Writes bytes at a place of the file.
     fn write(&mut self, name: &str, at: u64, bytes: &[u8]) -> io::Result<()>
-        ensures { self.new.faults ≡ self.old.faults }
+        ensures kept { OnOk result (IsKept self.new.kept name.now true) }
+        ensures faults { self.new.faults ≡ self.old.faults }
     {
         self.keep(name, true)?;
         match &self.kept {
             Some(kept) if at < END => write_from(&kept.file, at, bytes),
-            _ => Err(ErrorKind::InvalidInput.into()),
+            Some(_) => Err(ErrorKind::InvalidInput.into()),
+            None => unreachable!(),
         }
     }
 
-    /// Makes the file of this name, and keeps it open.
+    /// Makes the file of this name, and keeps it open. Where that fails, the file that was kept stays so.
     fn create(&mut self, name: &str) -> io::Result<()>
-        ensures { self.new.faults ≡ self.old.faults }
+        ensures kept { OnOk result (IsKept self.new.kept name.now true) }
+        ensures failed { OnErr result (self.new.kept ≡ self.old.kept) }
+        ensures faults { self.new.faults ≡ self.old.faults }
     {
         let owned = String::from_str(self.rt.alloc(), name)?;
         let file = OpenOptions::new()

@@ -11,7 +11,8 @@ use h5w_text::{Sink, Source, Status};
 use h5w_words::Job;
 use std::alloc::Global;
 
-/// Does what was asked, by a source, a sink and a disk. It returns whatever they do.
+/// Does a job that waits for nobody, and answers the status with which it ends: input comes from the source, text goes to the sink, files
+/// are those of the disk. Whatever these answer, it returns.
 pub fn plain<S: Source, K: Sink, D: Disk>(
     alloc: Global,
     job: &Job,

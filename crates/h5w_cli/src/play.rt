@@ -1,5 +1,5 @@
 //! A script of a writer and readers.
-ghost use Rattle.std.specs.Prelude.{◌≡◌, ◌≤◌, ◌+◌, ◌^◌, ℕ, List, [], length, OnOk, IfErr, IfOk};
+ghost use Rattle.std.specs.Prelude.{◌≡◌, ◌+◌, ℕ, List, length, OnOk, IfErr};
 ghost use Rattle.h5w_model.specs.Lawful.{at_first};
 ghost use Rattle.h5w_options.specs.Options.{AreAttempts, AreOptions};
 ghost use Rattle.h5w_text.specs.LinesAhead.{IsLine, lines_ahead};

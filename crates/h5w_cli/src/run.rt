@@ -13,7 +13,9 @@ use std::alloc::Global;
 use std::sync::Wait;
 use std::thread::Threads;
 
-/// Does what the words ask for, the first of which is the program's name.
+/// Does the job that the words ask for, the first of which is the program's name, and answers how it ended. Input comes from the source,
+/// text goes to the sink, files are those of the disk, and threads pass the gate at each of their turns. To words outside the command set
+/// it says `error usage`.
 pub fn run<R: Threads + Wait + Sync, S: Source, K: Sink, D: Disk, G: Gate>(
     rt: &R,
     alloc: Global,
