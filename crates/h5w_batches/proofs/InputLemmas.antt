@@ -79,7 +79,8 @@ pub refused_last : {columns : ℕ} {v u w : LinesAhead} {number : ℕ} {b : Batc
     → HasNoValues columns (number + 1) line e → Refuses columns (outside v) t e
 refused_last t line e room h given none values = outside_at t line h.going.going (first_last line room h.going.going given none) e values
 
-rose_before : (a b c : ℕ) → a ≤ b → Rose b c → Rose a c
+-- a count that rose since then rose since before
+pub rose_before : (a b c : ℕ) → a ≤ b → Rose b c → Rose a c
 rose_before a b c h r = omega arith
 
 -- the next line is not given

@@ -2,7 +2,7 @@
 use Rattle.std.proofs.Common.{◌≡◌, ◌⊎◌, ℕ, ◌+◌, ◌<◌, ◌≤◌, List, [], ◌∷◌, ◌++◌, length, ℤ, Option, Some, None, refl, sym, ap, ◌∙◌, subst, inl, inr, arith, append_assoc, append-nil, length-append}
 use Rattle.std.specs.Prelude.{IfSome, map, option_map, take}
 use Rattle.std.proofs.lemmas.Bool.{cases_lt}
-use Rattle.std.proofs.lemmas.List.{map-append}
+use Rattle.std.proofs.lemmas.List.{length-map, map-append}
 use Rattle.std.proofs.Math.Seq.{take-append-add}
 use Rattle.h5w_text.specs.Bytes.{Lacks}
 use Rattle.h5w_text.specs.Lines.{lines_of, whole_lines_of}
@@ -11,6 +11,15 @@ use Rattle.h5w_text.specs.Scripts.{number_line_of}
 use Rattle.h5w_text.specs.Streams.{SourceView}
 use Rattle.h5w_text.proofs.LineLemmas.{lines_done, lines_more, passed_nothing, passed_twice, whole_cut, whole_lacks}
 use Rattle.h5w_batches.specs.Inputs.{AreAll, AreFirst, ReadsAll, ReadsTooMuch, ReadsWhole, Spell, input_limit, outside}
+
+-- as many lines as lists of values
+pub spell_count : (columns : ℕ) (lines : List (List ℕ)) (numbers : List (List ℤ)) → Spell columns lines numbers → length lines ≡ length numbers
+spell_count columns lines numbers e = sym (length-map lines (number_line_of columns)) ∙ ap length e ∙ length-map numbers Some
+
+-- with the values of one more line
+pub spell_more : (columns : ℕ) (lines : List (List ℕ)) (numbers : List (List ℤ)) (line : List ℕ) (values : List ℤ) → Spell columns lines numbers → number_line_of columns line ≡ Some values → Spell columns (lines ++ line ∷ []) (numbers ++ values ∷ [])
+spell_more columns lines numbers line values e spelled =
+    map-append (number_line_of columns) lines (line ∷ []) ∙ ap (λ ls. ls ++ number_line_of columns line ∷ []) e ∙ ap (λ o. map Some numbers ++ o ∷ []) spelled ∙ sym (map-append Some numbers (values ∷ []))
 
 -- so many first lines of the input were read, and have these values
 pub record Going (columns : ℕ) (v w : LinesAhead) (number : ℕ) (numbers : List (List ℤ)) : Type 0 where
@@ -34,7 +43,7 @@ going_more : {columns : ℕ} {v u w : LinesAhead} {number : ℕ} {numbers : List
     → Going columns v w (number + 1) (numbers ++ values ∷ [])
 going_more {columns} {v} {u} {w} {number} {numbers} line bytes values x given passed spelled = record {
   lines = x.lines ++ line ∷ [];
-  spell = map-append (number_line_of columns) x.lines (line ∷ []) ∙ ap (λ ls. ls ++ number_line_of columns line ∷ []) x.spell ∙ ap (λ o. map Some numbers ++ o ∷ []) spelled ∙ sym (map-append Some numbers (values ∷ []));
+  spell = spell_more columns x.lines numbers line values x.spell spelled;
   count = omega (arith, x.count, length-append x.lines (line ∷ []));
   room = omega (arith, x.room, given.room);
   taken = x.taken ++ bytes;
@@ -89,6 +98,17 @@ within_first taken b lines room all e whole first = elim (cases_lt all (length (
   | inr short ↦ (lines_of b, inl (short, first))
 ]
 
+none_first : (input : List ℕ) (all : ℕ) → AreFirstOf all [] input
+none_first input all = elim (cases_lt all (length input)) [
+  | inl long ↦ (whole_lines_of (take all input), inr (long, refl))
+  | inr short ↦ (lines_of input, inl (short, refl))
+]
+
+-- no lines are the first ones
+pub first_none : (o : Option (List ℕ)) → IfSome o (AreFirst [])
+first_none None = tt
+first_none (Some input) = none_first input input_limit
+
 -- whole lines were taken
 whole_cases : (taken : List ℕ) (lines : List (List ℕ)) (a b : Option (List ℕ)) (room all : ℕ) → all ≡ room + length taken → ((more : List ℕ) → whole_lines_of (taken ++ more) ≡ lines ++ whole_lines_of more) → a ≡ option_map (λ rest. taken ++ rest) b
     → option_map lines_of a ≡ option_map (λ ls. lines ++ ls) (option_map lines_of b) → IfSome a (AreFirstOf all lines)
@@ -109,6 +129,15 @@ last_cases taken lines (Some a) (Some b) room all e none cut first =
     let same : length a ≡ length taken = ap length is ∙ ap (λ rest. length (taken ++ rest)) none ∙ ap length (append-nil taken) in
     let these : lines_of a ≡ lines ++ lines_of b = cc in
     (lines_of b, inl (omega (arith, same, e), these))
+
+-- lines with their ends were read
+pub first_read : {columns : ℕ} {v u : LinesAhead} {number : ℕ} {numbers : List (List ℤ)} → v.room ≡ input_limit → (x : GoingWhole columns v u number numbers) → IfSome v.left (AreFirst x.going.lines)
+first_read {v = v} {u} room x = whole_cases x.going.taken x.going.lines v.left u.left u.room input_limit (sym room ∙ x.going.passed.room) x.whole x.going.passed.left x.going.first
+
+-- all lines are the first ones
+pub first_all : (lines : List (List ℕ)) (o : Option (List ℕ)) → IfSome o (AreAll lines) → IfSome o (AreFirst lines)
+first_all lines None h = tt
+first_all lines (Some input) h = ([], inl (h.0, h.1 ∙ sym (append-nil lines)))
 
 -- a line with its end was read behind the others
 pub first_whole : {columns : ℕ} {v u w : LinesAhead} {number : ℕ} {numbers : List (List ℤ)} (line : List ℕ) → v.room ≡ input_limit → (x : GoingWhole columns v u number numbers) → Given line u w → IsWhole line u w

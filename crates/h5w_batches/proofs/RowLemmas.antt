@@ -33,7 +33,7 @@ even_rows : (c : ℕ) (ws : List (List ℕ)) (t : Bool) (vs : List ℤ) → 1 �
 even_rows c ws false vs some e h = absurd (cc)
 even_rows c ws true vs some e h = let zero_rest : length ws % c ≡ 0 = grind (arith, tests) in (length ws / c, length_values ws vs h ∙ whole_part (length ws) c some zero_rest)
 
-words_rows : (c : ℕ) (ws : List (List ℕ)) (vs : List ℤ) → 1 ≤ c → rows_of c ws ≡ Some vs → AreWholeRows c vs
+pub words_rows : (c : ℕ) (ws : List (List ℕ)) (vs : List ℤ) → 1 ≤ c → rows_of c ws ≡ Some vs → AreWholeRows c vs
 words_rows c [] vs some h = absurd (cc)
 words_rows c (w ∷ ws) vs some h = even_rows c (w ∷ ws) (length (w ∷ ws) % c == 0) vs some refl h
 
@@ -41,7 +41,7 @@ line_rows : (c : ℕ) (ws : List (List ℕ)) (t : Bool) (vs : List ℤ) → 1 �
 line_rows c ws true vs some h = words_rows c ws vs some h
 line_rows c ws false vs some h = absurd (cc)
 
-spelled_rows : (c : ℕ) (line : List ℕ) (vs : List ℤ) → 1 ≤ c → number_line_of c line ≡ Some vs → AreWholeRows c vs
+pub spelled_rows : (c : ℕ) (line : List ℕ) (vs : List ℤ) → 1 ≤ c → number_line_of c line ≡ Some vs → AreWholeRows c vs
 unfolding number_line_of
 spelled_rows c [] vs some h = let is : [] ≡ vs = cc in (0, ap length (sym is) ∙ none_rows c)
 spelled_rows c (b ∷ bs) vs some h = line_rows c (words_of (b ∷ bs)) (nat_le (length (b ∷ bs)) line_limit) vs some h

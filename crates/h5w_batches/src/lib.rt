@@ -9,5 +9,5 @@ mod tests;
 
 pub use error::BatchError;
 pub use h5w_model::Values;
-pub use h5w_text::Source;
-pub use reading::read_batches;
+pub use h5w_text::{Source, TextLine};
+pub use reading::{INPUT_LIMIT, line_values, read_batches};

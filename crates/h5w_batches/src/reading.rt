@@ -1,7 +1,7 @@
 ghost use Rattle.std.specs.Prelude.{◌≡◌, ◌≤◌, ◌+◌, ℕ, List, ℤ, length, Some, Err, IsSome, OnOk, IfErr, IfOk};
 ghost use Rattle.h5w_text.specs.LinesAhead.{IsLine, lines_ahead};
 ghost use Rattle.h5w_text.specs.Scripts.{number_line_of};
-ghost use Rattle.h5w_batches.specs.Batches.{AreBatches};
+ghost use Rattle.h5w_batches.specs.Batches.{AreBatches, AreWholeRows};
 ghost use Rattle.h5w_batches.specs.Inputs.{HasNumbers, ReadsOutside, ReadsTooMuch, SameSource, input_limit, outside};
 ghost use Rattle.h5w_batches.specs.Reads.{HasFailed, HasNoValues, IsBeside, IsRefused, IsTooLong, ReadsBatches, Refuses, Takes};
 
@@ -12,11 +12,11 @@ use h5w_text::{Intake, Lines, Next, Source, TextError, TextLine, number_line};
 use std::alloc::Global;
 
 /// The most bytes of an input.
-const INPUT_LIMIT: u64 = 1 << 40;
+pub const INPUT_LIMIT: u64 = 1 << 40;
 
-/// The values of a line.
-#[tactic(auto, using(crate::proofs::RowLemmas::long_outside))]
-fn line_values(
+/// The values of the line of this number: those of whole rows of so many columns; an empty line has none. Line: it has no such values.
+#[tactic(auto, using(crate::proofs::RowLemmas::spelled_rows, crate::proofs::RowLemmas::long_outside))]
+pub fn line_values(
     alloc: Global,
     columns: u64,
     line: &TextLine,
@@ -24,6 +24,7 @@ fn line_values(
 ) -> Result<Vec<i128>, BatchError>
     requires { 1 ≤ columns }
     ensures values { IfOk result (λ values. (bytes : List ℕ) → IsLine line.now bytes → number_line_of columns bytes ≡ Some values.items) }
+    ensures rows { IfOk result (λ values. AreWholeRows columns values.items) }
     ensures refused { IfErr result (λ e. (bytes : List ℕ) → IsLine line.now bytes → HasNoValues columns number bytes e) }
 {
     match line {
