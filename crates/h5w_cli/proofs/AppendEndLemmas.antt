@@ -19,15 +19,12 @@ use Rattle.h5w_text.specs.declared.error.ErrorLine.TheVariants as errors
 use Rattle.h5w_text.specs.declared.status.Status.{Status}
 use Rattle.h5w_text.specs.declared.status.Status.TheVariants as statuses
 use Rattle.h5w_files.specs.Appends.{AppendEnds, AppendsNone, AppendsSome, AppendsTo, AppendsUpTo, InputRefuses, IsFree, IsOpenOver, NotOpened, Unopened}
-use Rattle.h5w_files.specs.Batches.{Batches, HasFirst, SameSource as SameInput, input_limit}
+use Rattle.h5w_batches.specs.Batches.{Batches}
+use Rattle.h5w_batches.specs.Inputs.{AreFirst, AreWithin, input_limit}
 use Rattle.h5w_files.specs.Ends.{status_by}
 use Rattle.h5w_files.specs.Images.{told_bytes}
 use Rattle.h5w_files.proofs.ClearLemmas.{any_told}
 use Rattle.h5w_cli.specs.Appending.{AppendEndsWell, HasInput, HasRows}
-use Rattle.h5w_batches.specs.Inputs.{SameSource}
-
-pub same_source : (s t : SourceView) → SameInput s t → SameSource s t
-same_source s t h = record { faults = h.faults; through = h.through }
 
 -- memory was wanting before the file was looked at
 pub appends_nothing : {s : SourceView} {v : DiskView} {k l : SinkView} (name at : List ℕ) (limit : ℕ) (keeps : Bool) (status : Status) → Said (error_text errors.Memory) statuses.Memory status k l
@@ -60,13 +57,18 @@ found_dataset first o h =
     let same : x.found ≡ h.found = let e = sym x.is ∙ h.is in cc in
     ap (λ (s : Session). s.dataset) o.is ∙ ap (λ (s : Session). s.dataset) x.session ∙ ap (λ (f : Opened). f.header.dataset) same
 
+-- the lines of an input that is not too long begin with the first ones
+first_lines : (lines : List (List ℕ)) (input : List ℕ) → length input ≤ input_limit → AreFirst lines input → (behind : List (List ℕ)) × (lines_of input ≡ lines ++ behind)
+first_lines lines input bound (behind, inl all) = (behind, all.1)
+first_lines lines input bound (behind, inr long) = let over = long.0 in absurd (omega (arith, over, bound))
+
 -- a line that was read has rows of the dataset
 line_rows : {name at : List ℕ} {s : SourceView} {v : DiskView} (h : HasInput name at s v) (d : Described) → d ≡ h.found.header.dataset → (lines : List (List ℕ)) (line : List ℕ)
-    → IfSome s.left (HasFirst (lines ++ line ∷ [])) → HasRows d line
+    → IfSome s.left (AreFirst (lines ++ line ∷ [])) → HasRows d line
 line_rows h d same lines line first =
-    let begins : HasFirst (lines ++ line ∷ []) h.input = subst (λ (o : Option (List ℕ)). IfSome o (HasFirst (lines ++ line ∷ []))) h.given first in
-    let all : All (HasRows h.found.header.dataset) (lines ++ line ∷ lines_of begins.rest) = subst (All (HasRows h.found.header.dataset)) (begins.lines_are ∙ append_assoc lines (line ∷ []) (lines_of begins.rest)) h.lines in
-    subst (λ (x : Described). HasRows x line) (sym same) (among (HasRows h.found.header.dataset) lines (lines_of begins.rest) line all)
+    let begins = first_lines (lines ++ line ∷ []) h.input h.bound (subst (λ (o : Option (List ℕ)). IfSome o (AreFirst (lines ++ line ∷ []))) h.given first) in
+    let all : All (HasRows h.found.header.dataset) (lines ++ line ∷ begins.0) = subst (All (HasRows h.found.header.dataset)) (begins.1 ∙ append_assoc lines (line ∷ []) begins.0) h.lines in
+    subst (λ (x : Described). HasRows x line) (sym same) (among (HasRows h.found.header.dataset) lines begins.0 line all)
 
 input_ends : {name at : List ℕ} {s : SourceView} {v : DiskView} (t : SourceView) (first : Session) (b : Batches) (h : HasInput name at s v) → first.dataset ≡ h.found.header.dataset → (Rose s.faults t.faults → ⊥) → (e : ErrorLine)
     → InputRefuses name first s t b v e → (status_of e ≡ statuses.Limit) ⊎ (status_of e ≡ statuses.Memory)
@@ -90,7 +92,7 @@ input_ends t first b h same source (errors.Range n i x) r =
     let rows = line_rows h first.dataset same at.reads.lines r.1.line at.reads.first in
     let spelled = rows.1 in let within = rows.2 in let other = r.1.spelled in let outside = r.2 in absurd (cc)
 input_ends t first b h same source (errors.Input limit) r =
-    let long = subst (λ (o : Option (List ℕ)). IfSome o (λ input. (input_limit < length input) × (whole_lines_of (take input_limit input) ≡ r.2.lines))) h.given r.2.long in
+    let long = subst (λ (o : Option (List ℕ)). IfSome o (AreWithin r.2.lines)) h.given r.2.long in
     let over = long.0 in let bound = h.bound in absurd (omega (arith, over, bound))
 input_ends t first b h same source errors.Disk r = absurd r
 input_ends t first b h same source errors.Source r = absurd (source r.0)

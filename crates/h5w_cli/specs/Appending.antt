@@ -15,7 +15,7 @@ use Rattle.h5w_text.specs.Streams.{SourceView, SinkView}
 use Rattle.h5w_text.specs.declared.status.Status.{Status}
 use Rattle.h5w_text.specs.declared.status.Status.TheVariants as statuses
 use Rattle.h5w_files.specs.Images.{told_bytes}
-use Rattle.h5w_files.specs.Batches.{input_limit}
+use Rattle.h5w_batches.specs.Inputs.{input_limit}
 
 -- a line of numbers has rows of a dataset, and each value is in the range of its type
 abbrev pub HasRows : Described → List ℕ → Type 0

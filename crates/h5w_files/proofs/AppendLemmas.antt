@@ -27,7 +27,8 @@ use Rattle.h5w_text.specs.declared.error.ErrorLine.TheVariants as errors
 use Rattle.h5w_text.specs.declared.status.Status.{Status}
 use Rattle.h5w_text.specs.declared.status.Status.TheVariants as statuses
 use Rattle.h5w_files.specs.Images.{told_bytes}
-use Rattle.h5w_files.specs.Batches.{AreTaken, Batches, after_lines, close_batch, closed_text, no_batches}
+use Rattle.h5w_batches.specs.Batches.{Batches, after_lines, close_batch, no_batches}
+use Rattle.h5w_files.specs.Taken.{AreTaken, closed_text}
 use Rattle.h5w_files.specs.Puts.{writes_of}
 use Rattle.h5w_files.specs.Appends.{AppendEnds, AppendsSome, AppendsUpTo, Broke, Closed, ClosedUp, Holds, InputRefuses, IsOpenOver, ShutAgain, Unopened, columns_of, lines_of}
 use Rattle.h5w_files.specs.Appending.{Settles}

@@ -1,18 +1,12 @@
 -- Batches, their rows, and the logs that store them.
-use Rattle.std.proofs.Common.{◌≡◌, ℕ, zero, suc, ◌%◌, Bool, true, false, Some, None, tests, ◌+◌, ◌*◌, ◌/◌, ◌<◌, ◌≤◌, List, [], ◌∷◌, ◌++◌, length, ℤ, refl, sym, ap, ◌∙◌, subst, arith, append_assoc, append-nil}
+use Rattle.std.proofs.Common.{◌≡◌, ℕ, zero, suc, ◌+◌, ◌*◌, ◌/◌, ◌<◌, ◌≤◌, List, [], ◌∷◌, ◌++◌, length, ℤ, refl, sym, ap, ◌∙◌, arith, append_assoc, append-nil}
 use Rattle.std.proofs.lemmas.Bool.{le-leb, lt-leb}
-use Rattle.std.specs.Prelude.{◌==◌, codes, nat_le, if◌then◌else◌}
+use Rattle.std.specs.Prelude.{codes, if◌then◌else◌}
 use Rattle.h5w_model.specs.Logs.{Happening, Log, and_now, appended_in, flushed_in, hist, plans, shows}
 use Rattle.h5w_model.specs.declared.piece.Write.{Write}
-use Rattle.h5w_text.specs.Lines.{line_limit, words_of}
-use Rattle.h5w_text.specs.Lines.{values_of as values_in}
-use Rattle.h5w_text.specs.LinesAhead.{IsLine}
-use Rattle.h5w_text.specs.Scripts.{number_line_of, rows_of}
-use Rattle.h5w_text.specs.declared.line.TextLine.{TextLine}
-use Rattle.h5w_text.specs.declared.line.TextLine.TheVariants.{Long}
 use Rattle.h5w_text.specs.Table.{numbers_text}
-use Rattle.h5w_text.proofs.ScriptLemmas.{length_values, numbers_long}
-use Rattle.h5w_files.specs.Batches.{Batches, after_line, after_lines, batch_of, close_batch, no_batches, rows_after, rows_lines, values_of}
+use Rattle.h5w_batches.specs.Batches.{Batches, after_line, after_lines, batch_of, close_batch, no_batches}
+use Rattle.h5w_files.specs.Taken.{rows_after, rows_lines, values_of}
 use Rattle.h5w_files.specs.Puts.{showing}
 
 -- ---- Batches
@@ -41,10 +35,6 @@ lines_values b (l ∷ ls) =
 
 pub all_values : (ls : List (List ℤ)) → values_of (close_batch (after_lines no_batches ls)).closed ≡ values_of ls
 all_values ls = values_closed (after_lines no_batches ls) ∙ lines_values no_batches ls
-
-pub lines-append : (b : Batches) (ls : List (List ℤ)) (l : List ℤ) → after_lines b (ls ++ l ∷ []) ≡ after_line (after_lines b ls) l
-lines-append b [] l = refl
-lines-append b (x ∷ ls) l = lines-append (after_line b x) ls l
 
 -- ---- Rows
 
@@ -118,32 +108,3 @@ plan_done k n base es h = ap (λ t. if t then base ++ appended_in es else flushe
 
 pub plan_open : (k n : ℕ) (base : List ℤ) (es : List Happening) → n < k → flushed_in n base (plans k ∷ es) ≡ flushed_in n base es
 plan_open k n base es h = ap (λ t. if t then base ++ appended_in es else flushed_in n base es) (lt-leb k n h)
-
--- ---- The rows of a line
-
-pub none_rows : (c : ℕ) → 0 ≡ 0 * c
-none_rows c = omega arith
-
-whole_part : (n c : ℕ) → 1 ≤ c → n % c ≡ 0 → n ≡ n / c * c
-whole_part n c some e = omega (arith, e)
-
-even_rows : (c : ℕ) (ws : List (List ℕ)) (t : Bool) (vs : List ℤ) → 1 ≤ c → (length ws % c == 0) ≡ t → (if t then values_in ws else None) ≡ Some vs → (n : ℕ) × (length vs ≡ n * c)
-even_rows c ws false vs some e h = absurd (cc)
-even_rows c ws true vs some e h = let zero_rest : length ws % c ≡ 0 = grind (arith, tests) in (length ws / c, length_values ws vs h ∙ whole_part (length ws) c some zero_rest)
-
-pub words_rows : (c : ℕ) (ws : List (List ℕ)) (vs : List ℤ) → 1 ≤ c → rows_of c ws ≡ Some vs → (n : ℕ) × (length vs ≡ n * c)
-words_rows c [] vs some h = absurd (cc)
-words_rows c (w ∷ ws) vs some h = even_rows c (w ∷ ws) (length (w ∷ ws) % c == 0) vs some refl h
-
-line_rows : (c : ℕ) (ws : List (List ℕ)) (t : Bool) (vs : List ℤ) → 1 ≤ c → (if t then rows_of c ws else None) ≡ Some vs → (n : ℕ) × (length vs ≡ n * c)
-line_rows c ws true vs some h = words_rows c ws vs some h
-line_rows c ws false vs some h = absurd (cc)
-
-pub spelled_rows : (c : ℕ) (line : List ℕ) (vs : List ℤ) → 1 ≤ c → number_line_of c line ≡ Some vs → (n : ℕ) × (length vs ≡ n * c)
-unfolding number_line_of
-spelled_rows c [] vs some h = let is : [] ≡ vs = cc in (0, ap length (sym is) ∙ none_rows c)
-spelled_rows c (b ∷ bs) vs some h = line_rows c (words_of (b ∷ bs)) (nat_le (length (b ∷ bs)) line_limit) vs some h
-
--- a line that is too long is outside the grammar
-pub long_outside : (c : ℕ) (line : TextLine) (bytes : List ℕ) → line ≡ Long → IsLine line bytes → number_line_of c bytes ≡ None
-long_outside c line bytes e h = numbers_long c bytes (subst (λ (l : TextLine). IsLine l bytes) e h)

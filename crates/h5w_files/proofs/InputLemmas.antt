@@ -14,16 +14,20 @@ use Rattle.h5w_text.specs.declared.error.ErrorLine.{ErrorLine}
 use Rattle.h5w_text.specs.declared.error.ErrorLine.TheVariants as errors
 use Rattle.h5w_text.specs.declared.line.LineError.{LineError}
 use Rattle.h5w_text.specs.declared.line.LineError.TheVariants as line_errors
-use Rattle.h5w_files.specs.Batches.{AreTaken, Batches, HasFirst, ReadsAll, ReadsFirst, ReadsLine, ReadsTooMuch, ReadsWhole, SameSource, after_line, after_lines, close_batch, input_limit, no_batches, of_all, of_first}
+use Rattle.h5w_batches.specs.Batches.{Batches, after_line, after_lines, close_batch, no_batches}
+use Rattle.h5w_batches.specs.Inputs.{AreFirst, ReadsAll, ReadsTooMuch, ReadsWhole, SameSource, Spell, input_limit, outside}
+use Rattle.h5w_batches.specs.Reads.{error_of}
+use Rattle.h5w_files.specs.Taken.{AreTaken, ReadsFirst, ReadsLine, of_all, of_first}
 use Rattle.h5w_files.specs.Appends.{HasTaken, InputRefuses, Stored, columns_of}
-use Rattle.h5w_files.specs.Appending.{Closes, FlushRefused, HalfTold, IsBegun, IsReady, PutsAll, PutsBy, ReadyUnlessDisk, LineRefused, Steps, StepsOn, Takes, TakesInput, TakesInputOn, Told, ending_of, outside}
+use Rattle.h5w_files.specs.Appending.{Closes, FlushRefused, HalfTold, IsBegun, IsReady, PutsAll, PutsBy, ReadyUnlessDisk, LineRefused, Steps, StepsOn, TakesInput, TakesInputOn, TakesLine, Told, ending_of}
 use Rattle.h5w_files.specs.Puts.{writes_of}
 use Rattle.h5w_files.specs.declared.batching.Ending.{Ending}
 use Rattle.h5w_files.specs.declared.batching.Ending.TheVariants as endings
-use Rattle.h5w_files.proofs.BatchLemmas.{lines-append}
-use Rattle.h5w_files.proofs.ReadLemmas.{Going, GoingWhole, reads_first, reads_line, reads_too_much, reads_whole, starts, whole_first, whole_more}
+use Rattle.h5w_batches.proofs.RowLemmas.{lines-append}
+use Rattle.h5w_batches.proofs.LineLemmas.{GoingWhole, first_all, first_none, first_read, reads_too_much, reads_whole, spell_count, spell_more, starts, whole_first, whole_more}
 use Rattle.h5w_files.proofs.PutLemmas.{length-writes, puts_there}
-use Rattle.h5w_files.proofs.SinkLemmas.{gave_nothing, rose_before}
+use Rattle.h5w_batches.proofs.InputLemmas.{rose_before}
+use Rattle.h5w_files.proofs.SinkLemmas.{gave_nothing}
 use Rattle.h5w_files.proofs.StoreLemmas.{broke_puts, stored_none, stored_puts}
 
 -- ---- A loop over the lines
@@ -51,13 +55,13 @@ same_columns first s b h = ap (λ (d : Described). d.shape.cols) h.dataset
 
 -- one more line
 next_batches : (name : List ℕ) (first t r : Session) (line : List ℕ) (values : List ℤ) (numbers : List (List ℤ)) (next : Batches) (u w : DiskView) (m l : SinkView) → number_line_of (columns_of first) line ≡ Some values
-    → Takes line first (after_lines no_batches numbers) next → Told name first r next u w m l → Told name first r (after_lines no_batches (numbers ++ values ∷ [])) u w m l
+    → TakesLine line first (after_lines no_batches numbers) next → Told name first r next u w m l → Told name first r (after_lines no_batches (numbers ++ values ∷ [])) u w m l
 next_batches name first t r line values numbers next u w m l spelled takes told =
     let same : takes.values ≡ values = some_same takes.values values (number_line_of (columns_of first) line) takes.spelled spelled in
     subst (λ (b : Batches). Told name first r b u w m l) (takes.next_is ∙ ap (after_line (after_lines no_batches numbers)) same ∙ sym (lines-append no_batches numbers values)) told
 
 pub done_more : {v w z : DiskView} {k l o : SinkView} (name : List ℕ) (s t r : Session) (line : List ℕ) (number : ℕ) (values : List ℤ) (numbers : List (List ℤ)) → columns_of t ≡ columns_of s → DoneOn name s t numbers v w k l
-    → number_line_of (columns_of t) line ≡ Some values → StepsOn name t r (Takes line) (LineRefused line number t) w z l o (Ok tt) → DoneOn name s r (numbers ++ values ∷ []) v z k o
+    → number_line_of (columns_of t) line ≡ Some values → StepsOn name t r (TakesLine line) (LineRefused line number t) w z l o (Ok tt) → DoneOn name s r (numbers ++ values ∷ []) v z k o
 done_more {v} {w} {z} {k} {l} {o} name s t r line number values numbers columns done spelled step = λ first u m told.
     let before = done first u m told in
     let h = step first (after_lines no_batches numbers) u m before in
@@ -65,7 +69,7 @@ done_more {v} {w} {z} {k} {l} {o} name s t r line number values numbers columns 
     next_batches name first t r line values numbers h.0 u z m o is h.1 h.2
 
 pub taking_more : {v w z : DiskView} {k l o : SinkView} {x y e : LinesAhead} {number : ℕ} (name : List ℕ) (s t r : Session) (line : List ℕ) (values : List ℤ) → (h : Taking name s t x y number v w k l) → Given line y e
-    → IsWhole line y e → number_line_of (columns_of t) line ≡ Some values → StepsOn name t r (Takes line) (LineRefused line (number + 1) t) w z l o (Ok tt) → IsReady name r z → columns_of r ≡ columns_of t
+    → IsWhole line y e → number_line_of (columns_of t) line ≡ Some values → StepsOn name t r (TakesLine line) (LineRefused line (number + 1) t) w z l o (Ok tt) → IsReady name r z → columns_of r ≡ columns_of t
     → Taking name s r x e (number + 1) v z k o
 taking_more {number = number} name s t r line values h given whole spelled step ready columns = record {
   numbers = h.numbers ++ values ∷ [];
@@ -74,6 +78,22 @@ taking_more {number = number} name s t r line values h given whole spelled step 
   ready = ready;
   columns = columns ∙ h.columns;
 }
+
+-- ---- The first lines
+
+reads_first : {columns : ℕ} {x y : LinesAhead} {number : ℕ} {numbers : List (List ℤ)} → x.room ≡ input_limit → GoingWhole columns x y number numbers → ReadsFirst columns (outside x) numbers
+reads_first room h = record { lines = h.going.lines; spell = h.going.spell; first = first_read room h }
+
+-- with one more line
+reads_more : (columns : ℕ) (x : LinesAhead) (lines : List (List ℕ)) (numbers : List (List ℤ)) (line : List ℕ) (values : List ℤ) → Spell columns lines numbers → number_line_of columns line ≡ Some values → IfSome x.left (AreFirst (lines ++ line ∷ []))
+    → ReadsFirst columns (outside x) (numbers ++ values ∷ [])
+reads_more columns x lines numbers line values spell spelled first = record { lines = lines ++ line ∷ []; spell = spell_more columns lines numbers line values spell spelled; first = first }
+
+reads_line : (columns : ℕ) (x : LinesAhead) (lines : List (List ℕ)) (numbers : List (List ℤ)) (line : List ℕ) → Spell columns lines numbers → IfSome x.left (AreFirst (lines ++ line ∷ [])) → ReadsLine columns (outside x) numbers line
+reads_line columns x lines numbers line spell first = record { lines = lines; spell = spell; count = spell_count columns lines numbers spell; first = first }
+
+all_first : {columns : ℕ} {x y : SourceView} {numbers : List (List ℤ)} → ReadsAll columns x y numbers → ReadsFirst columns x numbers
+all_first {x = x} h = record { lines = h.lines; spell = h.spell; first = first_all h.lines x.left h.all }
 
 -- ---- Its end
 
@@ -99,24 +119,20 @@ close_cause name first t numbers u errors.Disk all stored c = absurd c
 close_cause name first t numbers u errors.Source all stored c = absurd c
 close_cause name first t numbers u errors.Memory all stored c = tt
 
-abbrev ToEnd : Session → List (List ℤ) → SourceView → SourceView → Type 0
-ToEnd s numbers x y = ReadsFirst (columns_of s) x numbers × ReadsAll (columns_of s) x y numbers
-
 -- the end of the input closes the last batch
-pub taken_end : {v w : DiskView} {k l : SinkView} {x y : SourceView} (z : DiskView) (o : SinkView) (name : List ℕ) (s t q : Session) (numbers : List (List ℤ)) (r : Result (Unit {0}) Ending) → ToEnd s numbers x y → DoneOn name s t numbers v w k l
+pub taken_end : {v w : DiskView} {k l : SinkView} {x y : SourceView} (z : DiskView) (o : SinkView) (name : List ℕ) (s t q : Session) (numbers : List (List ℤ)) (r : Result (Unit {0}) Ending) → ReadsAll (columns_of s) x y numbers → DoneOn name s t numbers v w k l
     → StepsOn name t q Closes (FlushRefused t) w z l o r → TakesInputOn name s q x y v z k o r
 taken_end {v} {w} {k} {l} {x} {y} z o name s t q numbers r read done step = λ first u m told.
     let before = done first u m told in
-    let read_of = subst (λ c. ReadsFirst c x numbers × ReadsAll c x y numbers) (same_columns first s no_batches told.stored.taken) read in
+    let read_of = subst (λ c. ReadsAll c x y numbers) (same_columns first s no_batches told.stored.taken) read in
     cases first u m before read_of r (step first (after_lines no_batches numbers) u m before)
   where
-    cases : (first : Session) (u : DiskView) (m : SinkView) → Told name first t (after_lines no_batches numbers) u w m l → ReadsFirst (columns_of first) x numbers × ReadsAll (columns_of first) x y numbers → (r : Result (Unit {0}) Ending)
+    cases : (first : Session) (u : DiskView) (m : SinkView) → Told name first t (after_lines no_batches numbers) u w m l → ReadsAll (columns_of first) x y numbers → (r : Result (Unit {0}) Ending)
         → Steps name first q (after_lines no_batches numbers) (Closes first (after_lines no_batches numbers)) (FlushRefused t) u z m o r → TakesInput name first q x y u z m o r
-    cases first u m before read (Ok a) h = (numbers, read.1, subst (λ (b : Batches). Told name first q b u z m o) h.1 h.2)
-    cases first u m before read (Err (endings.Refused e)) h =
-        (after_lines no_batches numbers, of_first numbers read.0, close_cause name first t numbers u e read.1 before.stored h.1, h.0)
-    cases first u m before read (Err endings.Disk) h = (after_lines no_batches numbers, of_first numbers read.0, h)
-    cases first u m before read (Err endings.Sink) h = (close_batch (after_lines no_batches numbers), of_all numbers read.1, subst (λ (b : Batches). HalfTold name first q b u z m o) h.1 h.2)
+    cases first u m before read (Ok a) h = (numbers, read, subst (λ (b : Batches). Told name first q b u z m o) h.1 h.2)
+    cases first u m before read (Err (endings.Refused e)) h = (after_lines no_batches numbers, of_first numbers (all_first read), close_cause name first t numbers u e read before.stored h.1, h.0)
+    cases first u m before read (Err endings.Disk) h = (after_lines no_batches numbers, of_first numbers (all_first read), h)
+    cases first u m before read (Err endings.Sink) h = (close_batch (after_lines no_batches numbers), of_all numbers read, subst (λ (b : Batches). HalfTold name first q b u z m o) h.1 h.2)
 
 -- ---- A line at which it ends
 
@@ -143,31 +159,32 @@ line_cause y name first t numbers u line number errors.Source reads count stored
 line_cause y name first t numbers u line number errors.Memory reads count stored c = tt
 
 -- the line is refused, or a disk or a sink failed at it
-pub taken_line : {v w : DiskView} {k l : SinkView} {x y e : LinesAhead} {number : ℕ} (z : DiskView) (o : SinkView) (t : SourceView) (name : List ℕ) (s q r : Session) (line : List ℕ) (ending : Ending) → x.room ≡ input_limit → (h : Taking name s q x y number v w k l) → Given line y e
-    → ((values : List ℤ) → number_line_of (columns_of s) line ≡ Some values → Going (columns_of s) x e (number + 1) (h.numbers ++ values ∷ []))
-    → StepsOn name q r (Takes line) (LineRefused line (number + 1) q) w z l o (Err ending) → TakesInputOn name s r (outside x) t v z k o (Err ending)
-taken_line {v} {w} {k} {l} {x} {y} {e} {number} z o t name s q r line ending room h given more step = λ first u m told.
+pub taken_line : {v w : DiskView} {k l : SinkView} {x y : LinesAhead} {number : ℕ} (z : DiskView) (o : SinkView) (t : SourceView) (name : List ℕ) (s q r : Session) (line : List ℕ) (ending : Ending) → x.room ≡ input_limit → (h : Taking name s q x y number v w k l)
+    → IfSome x.left (AreFirst (h.going.going.lines ++ line ∷ [])) → StepsOn name q r (TakesLine line) (LineRefused line (number + 1) q) w z l o (Err ending) → TakesInputOn name s r (outside x) t v z k o (Err ending)
+taken_line {v} {w} {k} {l} {x} {y} {number} z o t name s q r line ending room h behind step = λ first u m told.
     let before = h.done first u m told in
     cases first u m before (same_columns first s no_batches told.stored.taken) ending (step first (after_lines no_batches h.numbers) u m before)
   where
     cases : (first : Session) (u : DiskView) (m : SinkView) → Told name first q (after_lines no_batches h.numbers) u w m l → columns_of s ≡ columns_of first → (ending : Ending)
-        → Steps name first r (after_lines no_batches h.numbers) (Takes line first (after_lines no_batches h.numbers)) (LineRefused line (number + 1) q) u z m o (Err ending) → TakesInput name first r (outside x) t u z m o (Err ending)
+        → Steps name first r (after_lines no_batches h.numbers) (TakesLine line first (after_lines no_batches h.numbers)) (LineRefused line (number + 1) q) u z m o (Err ending) → TakesInput name first r (outside x) t u z m o (Err ending)
     cases first u m before same (endings.Refused a) g =
-        let count : number + 1 ≡ length h.numbers + 1 = omega (arith, h.going.going.count, h.going.going.same) in (
+        let spell = h.going.going.spell in
+        let same_count = spell_count (columns_of s) h.going.going.lines h.numbers spell in
+        let count : number + 1 ≡ length h.numbers + 1 = omega (arith, h.going.going.count, same_count) in (
           after_lines no_batches h.numbers,
-          of_first h.numbers (subst (λ c. ReadsFirst c (outside x) h.numbers) same (reads_first room h.going.going)),
-          line_cause t name first q h.numbers u line (number + 1) a (subst (λ c. ReadsLine c (outside x) h.numbers line) same (reads_line line room h.going.going given)) count before.stored g.1,
+          of_first h.numbers (subst (λ c. ReadsFirst c (outside x) h.numbers) same (reads_first room h.going)),
+          line_cause t name first q h.numbers u line (number + 1) a (subst (λ c. ReadsLine c (outside x) h.numbers line) same (reads_line (columns_of s) x h.going.going.lines h.numbers line spell behind)) count before.stored g.1,
           g.0,
         )
     cases first u m before same endings.Disk g =
-        (after_lines no_batches h.numbers, of_first h.numbers (subst (λ c. ReadsFirst c (outside x) h.numbers) same (reads_first room h.going.going)), g)
+        (after_lines no_batches h.numbers, of_first h.numbers (subst (λ c. ReadsFirst c (outside x) h.numbers) same (reads_first room h.going)), g)
     cases first u m before same endings.Sink g =
         let takes = g.1 in
         let values = takes.values in
         let is = subst (λ c. number_line_of c line ≡ Some values) (sym same) takes.spelled in
         let next : g.0 ≡ after_lines no_batches (h.numbers ++ values ∷ []) = takes.next_is ∙ sym (lines-append no_batches h.numbers values) in (
           after_lines no_batches (h.numbers ++ values ∷ []),
-          of_first (h.numbers ++ values ∷ []) (subst (λ c. ReadsFirst c (outside x) (h.numbers ++ values ∷ [])) same (reads_first room (more values is))),
+          of_first (h.numbers ++ values ∷ []) (subst (λ c. ReadsFirst c (outside x) (h.numbers ++ values ∷ [])) same (reads_more (columns_of s) x h.going.going.lines h.numbers line values h.going.going.spell is behind)),
           subst (λ (b : Batches). HalfTold name first r b u z m o) next g.2,
         )
 
@@ -175,11 +192,11 @@ taken_line {v} {w} {k} {l} {x} {y} {e} {number} z o t name s q r line ending roo
 
 pub taken_source : {v w : DiskView} {k l : SinkView} {x y : LinesAhead} {number : ℕ} (t : SourceView) (j : IntakeView) (name : List ℕ) (s q : Session) (e : LineError) → x.room ≡ input_limit → x.limit ≡ input_limit → (h : Taking name s q x y number v w k l)
     → Stays y (lines_ahead t j) → (e ≡ line_errors.Failed → Rose y.faults t.faults) → (e ≡ line_errors.Failed → GivenUp y (lines_ahead t j) j.held) → ((limit : ℕ) → e ≡ line_errors.Input limit → (limit ≡ y.limit) × IsOver y)
-    → TakesInputOn name s q (outside x) t v w k l (Err (ending_of e))
+    → TakesInputOn name s q (outside x) t v w k l (Err (ending_of (error_of e)))
 taken_source {v} {w} {k} {l} {x} {y} t j name s q line_errors.Failed room limited h stays rose up over = λ first u m told.
     let same = same_columns first s no_batches told.stored.taken in (
       after_lines no_batches h.numbers,
-      of_first h.numbers (subst (λ c. ReadsFirst c (outside x) h.numbers) same (reads_first room h.going.going)),
+      of_first h.numbers (subst (λ c. ReadsFirst c (outside x) h.numbers) same (reads_first room h.going)),
       (rose_before x.faults y.faults t.faults h.going.going.passed.stays.faults (rose refl), h.numbers, subst (λ c. ReadsWhole c (outside x) t h.numbers) same (reads_whole t j room h.going (up refl)), refl),
       h.done first u m told,
     )
@@ -187,14 +204,14 @@ taken_source {v} {w} {k} {l} {x} {y} t j name s q (line_errors.Input limit) room
     let same = same_columns first s no_batches told.stored.taken in
     let o = over limit refl in (
       after_lines no_batches h.numbers,
-      of_first h.numbers (subst (λ c. ReadsFirst c (outside x) h.numbers) same (reads_first room h.going.going)),
+      of_first h.numbers (subst (λ c. ReadsFirst c (outside x) h.numbers) same (reads_first room h.going)),
       (o.0 ∙ h.going.going.passed.stays.limit ∙ limited, h.numbers, subst (λ c. ReadsTooMuch c (outside x) h.numbers) same (reads_too_much room h.going o.1), refl),
       h.done first u m told,
     )
 taken_source {v} {w} {k} {l} {x} {y} t j name s q line_errors.OutOfMemory room limited h stays rose up over = λ first u m told.
     let same = same_columns first s no_batches told.stored.taken in (
       after_lines no_batches h.numbers,
-      of_first h.numbers (subst (λ c. ReadsFirst c (outside x) h.numbers) same (reads_first room h.going.going)),
+      of_first h.numbers (subst (λ c. ReadsFirst c (outside x) h.numbers) same (reads_first room h.going)),
       tt,
       h.done first u m told,
     )
@@ -211,19 +228,15 @@ input_of name q r a s b t i v w k l z h none same given =
 pub same_source_of : {a s b t : SourceView} → SameSource a b → a ≡ s → b ≡ t → SameSource s t
 same_source_of {a} {s} {b} {t} h same given = subst (λ (x : SourceView). SameSource x t) same (subst (λ (y : SourceView). SameSource a y) given h)
 
-pub ready_source : {w : DiskView} (name : List ℕ) (t : Session) (e : LineError) → IsReady name t w → ReadyUnlessDisk name t w (Err (ending_of e))
+pub ready_source : {w : DiskView} (name : List ℕ) (t : Session) (e : LineError) → IsReady name t w → ReadyUnlessDisk name t w (Err (ending_of (error_of e)))
 ready_source name t line_errors.Failed ready = ready
 ready_source name t (line_errors.Input limit) ready = ready
 ready_source name t line_errors.OutOfMemory ready = ready
 
 -- ---- The beginning
 
-nothing_first : (o : Option (List ℕ)) → IfSome o (HasFirst [])
-nothing_first None = tt
-nothing_first (Some input) = record { taken = []; rest = input; is = refl; bound = omega arith; lines_are = refl }
-
 nothing_read : (columns : ℕ) (x y : SourceView) → AreTaken columns x y no_batches
-nothing_read columns x y = of_first [] (record { lines = []; spell = refl; first = nothing_first x.left })
+nothing_read columns x y = of_first [] (record { lines = []; spell = refl; first = first_none x.left })
 
 begun_end : {v w : DiskView} (name : List ℕ) (s t : Session) → PutsAll name s t v w → IsBegun name s v → (1 ≤ w.pieces) × (t.places.end ≤ w.end name)
 begun_end {v} {w} name s t q begun =

@@ -13,7 +13,6 @@ pub mod CreateLemmas
 pub mod BatchLemmas
 pub mod StoreLemmas
 pub mod StepLemmas
-pub mod ReadLemmas
 pub mod InputLemmas
 pub mod ShutLemmas
 pub mod AppendLemmas

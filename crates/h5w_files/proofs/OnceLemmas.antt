@@ -19,7 +19,8 @@ use Rattle.h5w_files.specs.Polling.{After, FindsRows, FindsValues, IsOfCall, IsO
 use Rattle.h5w_files.specs.Polling as calls
 use Rattle.h5w_files.specs.declared.polling.Ending.{Ending}
 use Rattle.h5w_files.specs.declared.polling.Ending.TheVariants as endings
-use Rattle.h5w_files.proofs.SinkLemmas.{gave_both, gave_nothing, gave_then_some, rose_before}
+use Rattle.h5w_batches.proofs.InputLemmas.{rose_before}
+use Rattle.h5w_files.proofs.SinkLemmas.{gave_both, gave_nothing, gave_then_some}
 
 -- ---- One call
 

@@ -25,7 +25,8 @@ use Rattle.h5w_files.specs.declared.polling.Ending.TheVariants as endings
 use Rattle.h5w_files.proofs.ClearLemmas.{any_told, leaves_files, none_of}
 use Rattle.h5w_files.proofs.ImageLemmas.{leaves_on, looked_files}
 use Rattle.h5w_files.proofs.EndLemmas.{completes}
-use Rattle.h5w_files.proofs.SinkLemmas.{gave_nothing, gave_some_more, rose_before, said_behind}
+use Rattle.h5w_batches.proofs.InputLemmas.{rose_before}
+use Rattle.h5w_files.proofs.SinkLemmas.{gave_nothing, gave_some_more, said_behind}
 
 -- ---- Before the first call
 

@@ -20,7 +20,8 @@ use Rattle.h5w_text.specs.Streams.{SourceView, SinkView}
 use Rattle.h5w_text.specs.declared.error.ErrorLine.{ErrorLine}
 use Rattle.h5w_text.specs.declared.error.ErrorLine.TheVariants as errors
 use Rattle.h5w_files.specs.Images.{LeavesFiles, told_bytes}
-use Rattle.h5w_files.specs.Batches.{Batches, after_lines, close_batch, no_batches, of_all, rows_after, values_of}
+use Rattle.h5w_batches.specs.Batches.{Batches, after_lines, close_batch, no_batches}
+use Rattle.h5w_files.specs.Taken.{of_all, rows_after, values_of}
 use Rattle.h5w_files.specs.Puts.{AllRose, after_puts, counts_of, writes_of}
 use Rattle.h5w_files.specs.Appends.{Broke, ClosedUp, InputRefuses, Holds, IsHalted, IsLogOf, OfEachLog, OfValid, Stored, columns_of}
 use Rattle.h5w_files.specs.Appending.{ClosesBy, IsReady, PutsAll, PutsBy, PutsHalted, Settles, TakesInput, Told}

@@ -3,10 +3,10 @@ use Rattle.std.proofs.Common.{◌≡◌, ◌≤◌, ℕ, ◌+◌, List, [], ◌+
 use Rattle.std.specs.Prelude.{option_map}
 use Rattle.std.proofs.Math.Seq.{take-append-add}
 use Rattle.std.proofs.lemmas.List.{take-append-le, take_min}
-use Rattle.h5w_model.specs.Causes.{Rose}
 use Rattle.h5w_text.specs.Says.{Said, failed, whole}
 use Rattle.h5w_text.specs.Streams.{SinkView, Gave, GaveSome, Grows}
 use Rattle.h5w_text.specs.declared.status.Status.{Status}
+use Rattle.h5w_batches.proofs.InputLemmas.{rose_before}
 
 grows_nothing : (o : Option (List ℕ)) → Grows [] o o
 grows_nothing None = inl refl
@@ -33,9 +33,6 @@ gave_nothing k = record { written = grows_nothing k.written; faults = omega arit
 
 pub gave_then_some : {k l m : SinkView} (xs ys : List ℕ) → Gave xs k l → GaveSome ys l m → GaveSome (xs ++ ys) k m
 gave_then_some {k} {l} {m} xs ys p q = (length xs + q.0, subst (λ (bytes : List ℕ). Gave bytes k m) (sym (take-append-add xs ys q.0)) (gave_both xs (take q.0 ys) p q.1))
-
-pub rose_before : (a b c : ℕ) → a ≤ b → Rose b c → Rose a c
-rose_before a b c h r = omega arith
 
 -- some first part of a text is one of a longer text
 pub gave_some_more : {k l : SinkView} (xs ys : List ℕ) → GaveSome xs k l → GaveSome (xs ++ ys) k l

@@ -17,15 +17,16 @@ use Rattle.h5w_text.specs.Streams.{SinkView, Gave, GaveSome}
 use Rattle.h5w_text.specs.Table.{numbers_text}
 use Rattle.h5w_text.specs.declared.error.ErrorLine.{ErrorLine}
 use Rattle.h5w_text.specs.declared.error.ErrorLine.TheVariants as errors
-use Rattle.h5w_files.specs.Batches.{Batches, after_line, close_batch}
+use Rattle.h5w_batches.specs.Batches.{Batches, after_line, close_batch}
 use Rattle.h5w_files.specs.Appends.{HasTaken, columns_of, lines_of}
-use Rattle.h5w_files.specs.Appending.{AppendsAll, AppendsBy, Closes, FlushRefused, FlushesBy, Halted, HasNone, HasNoValues, IsReady, LineRefused, Planned, PutsAll, PutsBy, PutsHalted, Steps, StepsOn, Takes, Told, Unflushed, Unput, ValuesRefused}
+use Rattle.h5w_files.specs.Appending.{AppendsAll, AppendsBy, Closes, FlushRefused, FlushesBy, Halted, HasNone, IsReady, LineRefused, Planned, PutsAll, PutsBy, PutsHalted, Steps, StepsOn, TakesLine, Told, Unflushed, Unput, ValuesRefused}
 use Rattle.h5w_files.specs.Puts.{writes_of}
 use Rattle.h5w_files.specs.declared.batching.Ending.{Ending}
 use Rattle.h5w_files.specs.declared.batching.Ending.TheVariants as endings
 use Rattle.h5w_files.proofs.BatchLemmas.{batch_lines, nothing_closes}
 use Rattle.h5w_files.proofs.PutLemmas.{length-writes, puts_there}
-use Rattle.h5w_files.proofs.SinkLemmas.{gave_both, gave_then_some, rose_before}
+use Rattle.h5w_batches.proofs.InputLemmas.{rose_before}
+use Rattle.h5w_files.proofs.SinkLemmas.{gave_both, gave_then_some}
 use Rattle.h5w_files.proofs.StoreLemmas.{broke_batch, broke_before, stored_batch, stored_same, stored_unflushed, stored_values}
 
 -- ---- Refusals that a session gives which is ready
@@ -229,7 +230,7 @@ close_half {v} {x} {w} {k} {l} name s t r bytes ready p plan q is rose gave = λ
 
 -- a line that closes a batch has no values
 pub line_closes : {v : DiskView} {k : SinkView} (w : DiskView) (l : SinkView) (name : List ℕ) (s t : Session) (line : List ℕ) (number : ℕ) (r : Result (Unit {0}) Ending) → number_line_of (columns_of s) line ≡ Some [] → StepsOn name s t Closes (FlushRefused s) v w k l r
-    → StepsOn name s t (Takes line) (LineRefused line number s) v w k l r
+    → StepsOn name s t (TakesLine line) (LineRefused line number s) v w k l r
 line_closes {v} {k} w l name s t line number r spelled steps = λ first b u m told. cases first b u m (subst (λ c. number_line_of c line ≡ Some []) (columns_same first s b told.stored.taken) spelled) r (steps first b u m told)
   where
     refused : (e : ErrorLine) → FlushRefused s e → LineRefused line number s e
@@ -254,35 +255,11 @@ line_closes {v} {k} w l name s t line number r spelled steps = λ first b u m to
     refused errors.Memory c = tt
 
     cases : (first : Session) (b : Batches) (u : DiskView) (m : SinkView) → number_line_of (columns_of first) line ≡ Some [] → (r : Result (Unit {0}) Ending) → Steps name first t b (Closes first b) (FlushRefused s) u w m l r
-        → Steps name first t b (Takes line first b) (LineRefused line number s) u w m l r
+        → Steps name first t b (TakesLine line first b) (LineRefused line number s) u w m l r
     cases first b u m is (Ok a) h = (h.0, record { values = []; spelled = is; next_is = h.1 }, h.2)
     cases first b u m is (Err (endings.Refused e)) h = (h.0, refused e h.1)
     cases first b u m is (Err endings.Disk) h = h
     cases first b u m is (Err endings.Sink) h = (h.0, record { values = []; spelled = is; next_is = h.1 }, h.2)
-
--- one that has no values is refused
-pub line_outside : {v w : DiskView} (k : SinkView) (name : List ℕ) (s : Session) (line : List ℕ) (number : ℕ) (e : Ending) → Unput name v w → HasNoValues (columns_of s) number line e → StepsOn name s s (Takes line) (LineRefused line number s) v w k k (Err e)
-line_outside k name s line number (endings.Refused (errors.Line n)) p h = λ first b u m told. (told_unput name first s b p told, h)
-line_outside k name s line number (endings.Refused errors.Memory) p h = λ first b u m told. (told_unput name first s b p told, tt)
-line_outside k name s line number (endings.Refused errors.Usage) p h = absurd h
-line_outside k name s line number (endings.Refused errors.Missing) p h = absurd h
-line_outside k name s line number (endings.Refused errors.Exists) p h = absurd h
-line_outside k name s line number (endings.Refused (errors.Read e)) p h = absurd h
-line_outside k name s line number (endings.Refused (errors.Finding kind at)) p h = absurd h
-line_outside k name s line number (endings.Refused (errors.Overlap at len other other_len)) p h = absurd h
-line_outside k name s line number (endings.Refused (errors.Cut end size)) p h = absurd h
-line_outside k name s line number (endings.Refused errors.Layout) p h = absurd h
-line_outside k name s line number (endings.Refused (errors.ChunkBytes bytes)) p h = absurd h
-line_outside k name s line number (endings.Refused errors.NoColumns) p h = absurd h
-line_outside k name s line number (endings.Refused errors.NoIndex) p h = absurd h
-line_outside k name s line number (endings.Refused (errors.FullChunks chunks limit)) p h = absurd h
-line_outside k name s line number (endings.Refused (errors.FullSpace at size limit)) p h = absurd h
-line_outside k name s line number (endings.Refused (errors.Range n i x)) p h = absurd h
-line_outside k name s line number (endings.Refused (errors.Input limit)) p h = absurd h
-line_outside k name s line number (endings.Refused errors.Disk) p h = absurd h
-line_outside k name s line number (endings.Refused errors.Source) p h = absurd h
-line_outside k name s line number endings.Disk p h = absurd h
-line_outside k name s line number endings.Sink p h = absurd h
 
 nonempty_line : (b : Batches) (values : List ℤ) → 1 ≤ length values → after_line b values ≡ record b { waiting = b.waiting ++ values }
 nonempty_line b [] h = absurd (omega (arith, h))
@@ -290,7 +267,7 @@ nonempty_line b (x ∷ xs) h = refl
 
 -- its values are appended, or refused
 pub line_appends : {v w : DiskView} (k : SinkView) (name : List ℕ) (s t : Session) (line : List ℕ) (number n : ℕ) (values : List ℤ) (r : Result (Unit {0}) Ending) → IsReady name s v → Unput name v w → number_line_of (columns_of s) line ≡ Some values
-    → 1 ≤ length values → length values ≡ n * s.dataset.shape.cols → AppendsBy number values s t v w r → StepsOn name s t (Takes line) (LineRefused line number s) v w k k r
+    → 1 ≤ length values → length values ≡ n * s.dataset.shape.cols → AppendsBy number values s t v w r → StepsOn name s t (TakesLine line) (LineRefused line number s) v w k k r
 line_appends {v} {w} k name s t line number n values (Ok a) ready p spelled some rows h = λ first b u m told.
     let taken = told.stored.taken in
     let after = nonempty_line b values some in (

@@ -1,6 +1,7 @@
 -- What a session stores of its batches, step by step.
 use Rattle.std.proofs.Common.{◌≡◌, ◌⊎◌, ℕ, zero, suc, ◌+◌, ◌*◌, ◌/◌, ◌<◌, ◌≤◌, List, [], ◌∷◌, ◌++◌, length, ℤ, refl, sym, ap, ◌∙◌, subst, inl, inr, arith, append_assoc, append-nil, length-append}
 use Rattle.std.specs.Prelude.{option_map}
+use Rattle.std.proofs.Math.Nat.{zero-mul}
 use Rattle.h5w_model.specs.Causes.{Rose}
 use Rattle.h5w_model.specs.Logs.{Log, and_now, appended_in, appends, flushed_in, hist, plans}
 use Rattle.h5w_model.specs.declared.piece.Write.{Write}
@@ -12,11 +13,12 @@ use Rattle.h5w_session.specs.Room.{HasRoomFor}
 use Rattle.h5w_session.specs.Sessions.{IsNamed, Session, TakesRows, rows_of, with_values}
 use Rattle.h5w_session.specs.Stands.{Stands}
 use Rattle.h5w_files.specs.Images.{LeavesFiles, file_image}
-use Rattle.h5w_files.specs.Batches.{Batches, close_batch, no_batches, values_of}
+use Rattle.h5w_batches.specs.Batches.{Batches, close_batch, no_batches}
+use Rattle.h5w_files.specs.Taken.{values_of}
 use Rattle.h5w_files.specs.Puts.{AllBetween, AllRose, PutsPieces, after_puts, counts_of, showing, writes_of}
 use Rattle.h5w_files.specs.Appends.{Broke, HasTaken, IsLogOf, Settled, Stored, columns_of, grown}
 use Rattle.h5w_files.specs.Appending.{AppendsAll, Halted, HasNone, Planned, PutsAll, PutsHalted, Unflushed, Unput}
-use Rattle.h5w_files.proofs.BatchLemmas.{batch_rows, none_rows, plan_done, plan_open, showing_appended, showing_flushed, showing_hist, showing_same, values_closed}
+use Rattle.h5w_files.proofs.BatchLemmas.{batch_rows, plan_done, plan_open, showing_appended, showing_flushed, showing_hist, showing_same, values_closed}
 use Rattle.h5w_files.proofs.ImageLemmas.{same_name}
 use Rattle.h5w_files.proofs.PutLemmas.{between-append, between_more, counts-append, no_puts, puts_twice, rose-append, rose_more, rose_since, writes-append}
 
@@ -281,7 +283,7 @@ planned_taken name first s t b w some p h =
       dataset = dataset ∙ ap (λ n. grown n t.dataset.layout.address first.dataset) (sym rows);
       named = λ n. r.address (here n) ∙ h.named n;
       rows = rows ∙ ap (λ n. n + s.waits) h.rows ∙ sym (batch_rows (columns_of first) first.dataset.shape.rows s.waits b some p.waits h.waits);
-      waits = none_rows (columns_of first) ∙ ap (λ n. n * columns_of first) (sym r.waits);
+      waits = sym (zero-mul (columns_of first)) ∙ ap (λ n. n * columns_of first) (sym r.waits);
     }
 
 batch_log : (img : List ℕ) (columns : ℕ) (xs : List ℤ) (name : List ℕ) (s t r : Session) (ws vs : List Write) (b : Batches) (v : DiskView) → Planned name s t v → ((log : Log) → Stands t log → Stands r (showing vs log)) → length t.pending ≡ length vs
@@ -366,7 +368,7 @@ broke_batch {u} {v} {x} {w} name first s t r b some p plan q h =
 -- a session that has just begun has stored nothing
 pub stored_none : (name : List ℕ) (first : Session) (v : DiskView) → first.waits ≡ 0 → Stored name first first no_batches v v
 stored_none name first v none = record {
-  taken = record { name = refl; root = refl; dataset = refl; named = λ n. refl; rows = refl; waits = none_rows (columns_of first) ∙ ap (λ n. n * columns_of first) (sym none) };
+  taken = record { name = refl; root = refl; dataset = refl; named = λ n. refl; rows = refl; waits = sym (zero-mul (columns_of first)) ∙ ap (λ n. n * columns_of first) (sym none) };
   puts = [];
   disk = record { told = no_puts name v.told; faults = omega arith; through = refl };
   since = tt;

@@ -10,15 +10,17 @@ use Rattle.h5w_session.specs.Refusals.{IsFullFor, append_refusal}
 use Rattle.h5w_session.specs.Sessions.{Session, TakesRows, rows_of, stopped_of, with_values}
 use Rattle.h5w_session.specs.Stands.{Stands}
 use Rattle.h5w_session.specs.declared.refusal.AppendError.TheVariants as append_errors
-use Rattle.h5w_text.specs.LinesAhead.{LinesAhead}
 use Rattle.h5w_text.specs.Scripts.{number_line_of}
 use Rattle.h5w_text.specs.Streams.{SourceView, SinkView, Gave, GaveSome}
-use Rattle.h5w_text.specs.declared.line.LineError.{LineError}
-use Rattle.h5w_text.specs.declared.line.LineError.TheVariants as line_errors
 use Rattle.h5w_text.specs.declared.error.ErrorLine.{ErrorLine}
 use Rattle.h5w_text.specs.declared.error.ErrorLine.TheVariants as errors
 use Rattle.h5w_files.specs.Images.{LeavesFiles}
-use Rattle.h5w_files.specs.Batches.{AreTaken, Batches, ReadsAll, after_line, after_lines, close_batch, no_batches, rows_after}
+use Rattle.h5w_batches.specs.Batches.{Batches, after_lines, close_batch, no_batches}
+use Rattle.h5w_batches.specs.Inputs.{ReadsAll}
+use Rattle.h5w_batches.specs.Reads.{Takes}
+use Rattle.h5w_batches.specs.declared.error.BatchError.{BatchError}
+use Rattle.h5w_batches.specs.declared.error.BatchError.TheVariants as batch_errors
+use Rattle.h5w_files.specs.Taken.{AreTaken, rows_after}
 use Rattle.h5w_files.specs.Appends.{Broke, ClosedUp, InputRefuses, IsOpenOver, Stored, Unopened, columns_of, lines_of}
 use Rattle.h5w_files.specs.Puts.{PutsPieces, PutsSome}
 use Rattle.h5w_files.specs.declared.batching.Ending.{Ending}
@@ -152,16 +154,8 @@ abbrev pub Closes : Session → Batches → Batches → Type 0
 Closes first b next = next ≡ close_batch b
 
 -- the batches behind a line
-pub record Takes (line : List ℕ) (first : Session) (b next : Batches) : Type 0 where
-  pub values : List ℤ
-  pub spelled : number_line_of (columns_of first) line ≡ Some values
-  pub next_is : next ≡ after_line b values
-
--- why a line has no values
-abbrev pub HasNoValues : ℕ → ℕ → List ℕ → Ending → Type 0
-HasNoValues columns number line (endings.Refused (errors.Line n)) = (n ≡ number) × (number_line_of columns line ≡ None)
-HasNoValues columns number line (endings.Refused errors.Memory) = Unit {0}
-HasNoValues columns number line e = ⊥
+abbrev pub TakesLine : List ℕ → Session → Batches → Batches → Type 0
+TakesLine line first b next = Takes (columns_of first) line b next
 
 -- there are values
 abbrev pub HasSome : Option (List ℤ) → Type 0
@@ -188,14 +182,12 @@ TakesInput name first t x y u w k l (Err endings.Sink) = (b : Batches) × AreTak
 abbrev pub TakesInputOn : List ℕ → Session → Session → SourceView → SourceView → DiskView → DiskView → SinkView → SinkView → Result (Unit {0}) Ending → Type 0
 TakesInputOn name s t x y v w k l r = (first : Session) (u : DiskView) (m : SinkView) → Told name first s no_batches u v m k → TakesInput name first t x y u w m l r
 
-abbrev pub ending_of : LineError → Ending
-ending_of line_errors.Failed = endings.Refused errors.Source
-ending_of (line_errors.Input limit) = endings.Refused (errors.Input limit)
-ending_of line_errors.OutOfMemory = endings.Refused errors.Memory
-
--- what a reader of lines has before it, as a source
-abbrev pub outside : LinesAhead → SourceView
-outside v = record { left = v.left; faults = v.faults; through = v.through }
+-- the end of an append whose input was not read
+abbrev pub ending_of : BatchError → Ending
+ending_of (batch_errors.Line n) = endings.Refused (errors.Line n)
+ending_of (batch_errors.Input limit) = endings.Refused (errors.Input limit)
+ending_of batch_errors.Source = endings.Refused errors.Source
+ending_of batch_errors.OutOfMemory = endings.Refused errors.Memory
 
 -- ---- A file
 

@@ -30,7 +30,9 @@ use Rattle.h5w_text.specs.declared.error.ErrorLine.TheVariants as errors
 use Rattle.h5w_text.specs.declared.status.Status.{Status}
 use Rattle.h5w_files.specs.Images.{LeavesFiles, told_bytes}
 use Rattle.h5w_files.specs.Ends.{EndsBy}
-use Rattle.h5w_files.specs.Batches.{AreTaken, Batches, ReadsAll, ReadsLine, ReadsTooMuch, ReadsWhole, after_lines, close_batch, closed_text, input_limit, no_batches, rows_after, rows_lines, values_of}
+use Rattle.h5w_batches.specs.Batches.{Batches, after_lines, close_batch, no_batches}
+use Rattle.h5w_batches.specs.Inputs.{ReadsAll, ReadsTooMuch, ReadsWhole, input_limit}
+use Rattle.h5w_files.specs.Taken.{AreTaken, ReadsLine, closed_text, rows_after, rows_lines, values_of}
 use Rattle.h5w_files.specs.Puts.{AllBetween, AllRose, after_puts, counts_of, writes_of}
 
 -- ---- A session that stores batches

@@ -8,13 +8,16 @@ pub use Rattle.h5w_session.specs.Sessions
 pub use Rattle.h5w_session.specs.Stands
 pub use Rattle.h5w_text.specs.Streams
 pub use Rattle.h5w_text.specs.Says
+pub use Rattle.h5w_batches.specs.Batches
+pub use Rattle.h5w_batches.specs.Inputs
+pub use Rattle.h5w_batches.specs.Reads
 pub mod Images
 pub mod Ends
 pub mod Checks
 pub mod Clears
 pub mod Puts
 pub mod Creates
-pub mod Batches
+pub mod Taken
 pub mod Appends
 pub mod Appending
 pub mod Answering

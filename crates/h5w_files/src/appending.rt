@@ -6,38 +6,20 @@ ghost use Rattle.h5w_session.specs.Sessions.{rows_of};
 ghost use Rattle.h5w_session.specs.Stands.{Stands};
 ghost use Rattle.h5w_text.specs.LinesAhead.{lines_ahead};
 ghost use Rattle.h5w_files.specs.Images.{LeavesFiles};
-ghost use Rattle.h5w_files.specs.Batches.{SameSource, closed_text, input_limit};
+ghost use Rattle.h5w_batches.specs.Inputs.{SameSource, input_limit, outside};
+ghost use Rattle.h5w_files.specs.Taken.{closed_text};
 ghost use Rattle.h5w_files.specs.Appends.{AppendEnds, columns_of, open_line};
-ghost use Rattle.h5w_files.specs.Appending.{ClosesBy, HasSize, IsBegun, IsReady, LooksOpen, OpensBy, ReadyUnlessDisk, SettlesOn, TakesInput, TakesInputOn, outside};
+ghost use Rattle.h5w_files.specs.Appending.{ClosesBy, HasSize, IsBegun, IsReady, LooksOpen, OpensBy, ReadyUnlessDisk, SettlesOn, TakesInput, TakesInputOn};
 
 use crate::batching::{Ending, close_batch, put_all, take_line};
 use crate::image::DiskImage;
 use crate::putting::close;
+use h5w_batches::INPUT_LIMIT;
 use h5w_image::Disk;
 use h5w_model::ReadError;
 use h5w_session::{OpenError, WriterCore};
-use h5w_text::{
-    ErrorLine, Intake, LineError, Lines, Next, Sink, Source, Status, say, tell, write_numbers,
-};
+use h5w_text::{ErrorLine, Intake, Lines, Next, Sink, Source, Status, say, tell, write_numbers};
 use std::alloc::Global;
-
-/// The most bytes of an input.
-const INPUT_LIMIT: u64 = 1 << 40;
-
-impl From<LineError> for Ending {
-    ghost use Rattle.std.specs.Prelude.{◌≡◌};
-    ghost use Rattle.h5w_files.specs.Appending.{ending_of};
-
-    ghost from_gives = { λ e ending. ending ≡ ending_of e };
-
-    fn from(e: LineError) -> Ending {
-        Ending::Refused(match e {
-            LineError::Failed => ErrorLine::Source,
-            LineError::Input { limit } => ErrorLine::Input { limit },
-            LineError::OutOfMemory => ErrorLine::Memory,
-        })
-    }
-}
 
 /// Appends the lines of an input, one after another, to its end, which closes the last batch.
 fn take_lines<S: Source, K: Sink, D: Disk>(

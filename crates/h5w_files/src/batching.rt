@@ -1,17 +1,18 @@
 //! The batches of an append: a session whose rows are put into a file.
-ghost use Rattle.std.specs.Prelude.{◌≡◌, ◌≤◌, ◌*◌, ℕ, List, length, Some, IfErr, IfOk, OnOk};
+ghost use Rattle.std.specs.Prelude.{◌≡◌, ◌≤◌, ℕ, List, length, OnOk};
 ghost use Rattle.h5w_image.specs.View.{IsThere};
 ghost use Rattle.h5w_session.specs.Sessions.{AreRows};
 ghost use Rattle.h5w_text.specs.LinesAhead.{IsLine};
 ghost use Rattle.h5w_text.specs.Scripts.{number_line_of};
 ghost use Rattle.h5w_files.specs.Appends.{columns_of};
-ghost use Rattle.h5w_files.specs.Appending.{AppendsBy, Closes, FlushRefused, FlushesBy, HasSome, IsReady, HasNoValues, LineRefused, PutsBy, ReadyUnlessDisk, StepsOn, Takes, Unput};
+ghost use Rattle.h5w_files.specs.Appending.{AppendsBy, Closes, FlushRefused, FlushesBy, HasSome, IsReady, LineRefused, PutsBy, ReadyUnlessDisk, StepsOn, TakesLine, Unput};
 
 use crate::image::DiskImage;
 use crate::putting::put_pending;
+use h5w_batches::{BatchError, line_values};
 use h5w_image::Disk;
 use h5w_session::{AppendError, FlushError, WriterCore};
-use h5w_text::{ErrorLine, Sink, TextError, TextLine, number_line, write_numbers};
+use h5w_text::{ErrorLine, LineError, Sink, TextLine, write_numbers};
 use std::alloc::Global;
 
 /// Why an append ends before its input does.
@@ -23,6 +24,34 @@ pub enum Ending {
     Disk,
     /// The sink failed.
     Sink,
+}
+
+impl From<BatchError> for Ending {
+    ghost use Rattle.std.specs.Prelude.{◌≡◌};
+    ghost use Rattle.h5w_files.specs.Appending.{ending_of};
+
+    ghost from_gives = { λ e ending. ending ≡ ending_of e };
+
+    fn from(e: BatchError) -> Ending {
+        Ending::Refused(match e {
+            BatchError::Line(number) => ErrorLine::Line(number),
+            BatchError::Input { limit } => ErrorLine::Input { limit },
+            BatchError::Source => ErrorLine::Source,
+            BatchError::OutOfMemory => ErrorLine::Memory,
+        })
+    }
+}
+
+impl From<LineError> for Ending {
+    ghost use Rattle.std.specs.Prelude.{◌≡◌};
+    ghost use Rattle.h5w_batches.specs.Reads.{error_of};
+    ghost use Rattle.h5w_files.specs.Appending.{ending_of};
+
+    ghost from_gives = { λ e ending. ending ≡ ending_of (error_of e) };
+
+    fn from(e: LineError) -> Ending {
+        Ending::from(BatchError::from(e))
+    }
 }
 
 /// Appends the values of the line of this number. Where the image failed the session is stopped.
@@ -127,29 +156,6 @@ pub fn close_batch<K: Sink, D: Disk>(
     }
 }
 
-/// The values of a line.
-#[tactic(auto, using(crate::proofs::BatchLemmas::spelled_rows, crate::proofs::BatchLemmas::long_outside))]
-fn line_values(
-    alloc: Global,
-    line: &TextLine,
-    columns: u64,
-    number: u64,
-) -> Result<Vec<i128>, Ending>
-    requires { 1 ≤ columns }
-    ensures values { IfOk result (λ values. (bytes : List ℕ) → IsLine line.now bytes → number_line_of columns bytes ≡ Some values.items) }
-    ensures rows { IfOk result (λ values. (n : ℕ) × (length values.items ≡ n * columns)) }
-    ensures refused { IfErr result (λ e. (bytes : List ℕ) → IsLine line.now bytes → HasNoValues columns number bytes e) }
-{
-    match line {
-        TextLine::Whole(bytes) => match number_line(alloc, bytes.as_slice(), columns) {
-            Ok(values) => Ok(values),
-            Err(TextError::Grammar) => Err(Ending::Refused(ErrorLine::Line(number))),
-            Err(TextError::OutOfMemory) => Err(Ending::Refused(ErrorLine::Memory)),
-        },
-        TextLine::Long => Err(Ending::Refused(ErrorLine::Line(number))),
-    }
-}
-
 /// Appends the values of a line of the input, whose rows have so many; an empty one closes a batch.
 pub fn take_line<K: Sink, D: Disk>(
     alloc: Global,
@@ -167,9 +173,9 @@ pub fn take_line<K: Sink, D: Disk>(
     ensures ready { ReadyUnlessDisk file.now session.new (D.view disk.new) result }
     ensures columns { OnOk result (columns_of session.new ≡ columns_of session.old) }
     ensures spelled { OnOk result ((bytes : List ℕ) → IsLine line.now bytes → HasSome (number_line_of (columns_of session.old) bytes)) }
-    ensures steps { (bytes : List ℕ) → IsLine line.now bytes → StepsOn file.now session.old session.new (Takes bytes) (LineRefused bytes number session.old) (D.view disk.old) (D.view disk.new) (K.view sink.old) (K.view sink.new) result }
+    ensures steps { (bytes : List ℕ) → IsLine line.now bytes → StepsOn file.now session.old session.new (TakesLine bytes) (LineRefused bytes number session.old) (D.view disk.old) (D.view disk.new) (K.view sink.old) (K.view sink.new) result }
 {
-    let values = line_values(alloc, line, columns, number)?;
+    let values = line_values(alloc, columns, line, number)?;
     if values.is_empty() {
         return close_batch(session, file, text, sink, disk);
     }

@@ -1,5 +1,4 @@
 use Rattle.std.proofs.Common.{rules}
-use Rattle.h5w_cli.proofs.AppendEndLemmas.{same_source}
 use Rattle.h5w_cli.proofs.CompleteLemmas.{does_whole}
 use Rattle.h5w_cli.proofs.plain.plain.Goals as goal
 
@@ -23,9 +22,6 @@ returns-in-Make-clause-does g c = search rules
 
 pub returns-in-Append-clause-does : goal.returns-in-Append-clause-does
 returns-in-Append-clause-does g c = search rules
-
-pub returns-in-Append-clause-source : goal.returns-in-Append-clause-source
-returns-in-Append-clause-source g c = same_source _ _ c.append.ensures.source
 
 pub returns-in-Play-clause-completes : goal.returns-in-Play-clause-completes
 returns-in-Play-clause-completes g c = does_whole _ _ _ _ _ _ _ _ (returns-in-Play-clause-does g c)

@@ -1,7 +1,7 @@
 use Rattle.std.proofs.Common.{◌≡◌, ◌∙◌, Err, Ok, Result, rules, subst}
 use Rattle.std.specs.Prelude.{OnOk}
 use Rattle.h5w_session.specs.Sessions.{rows_of}
-use Rattle.h5w_files.specs.Batches.{closed_text}
+use Rattle.h5w_files.specs.Taken.{closed_text}
 use Rattle.h5w_files.specs.declared.batching.Ending.{Ending}
 use Rattle.h5w_files.specs.declared.batching.Ending.TheVariants as endings
 use Rattle.h5w_files.proofs.AppendLemmas.{appends_broke, appends_done, appends_half, appends_none, appends_refused}

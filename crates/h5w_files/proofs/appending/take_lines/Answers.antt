@@ -1,9 +1,10 @@
 use Rattle.std.proofs.Common.{◌≡◌, ◌+◌, ◌∷◌, ◌++◌, [], Err, Some, ap, subst, rules}
 use Rattle.h5w_text.specs.LinesAhead.{lines_ahead}
 use Rattle.h5w_text.specs.Scripts.{number_line_of}
+use Rattle.h5w_batches.specs.Reads.{error_of}
+use Rattle.h5w_batches.proofs.LineLemmas.{first_last, first_whole, last_more, reads_all}
 use Rattle.h5w_files.specs.Appending.{ending_of}
 use Rattle.h5w_files.proofs.InputLemmas.{done_more, ready_source, taken_end, taken_line, taken_source, taking_first, taking_more}
-use Rattle.h5w_files.proofs.ReadLemmas.{last_more, reads_all, reads_first, whole_more}
 use Rattle.h5w_files.proofs.appending.take_lines.Goals as goal
 
 pub loop-line-init : goal.loop-line-init
@@ -15,12 +16,12 @@ loop-line-init g c = record {
 
 pub returns-in_err-line-clause-ready : goal.returns-in_err-line-clause-ready
 returns-in_err-line-clause-ready g c =
-    let is : c.from_residual.result ≡ Err (ending_of c.in_err-line.field-0.0) = search rules in
+    let is : c.from_residual.result ≡ Err (ending_of (error_of c.in_err-line.field-0.0)) = search rules in
     rw is (ready_source c.args.file.now c.loop-line.session c.in_err-line.field-0.0 c.loop-line.invariant.taking.ready)
 
 pub returns-in_err-line-clause-takes : goal.returns-in_err-line-clause-takes
 returns-in_err-line-clause-takes g c =
-    let is : c.from_residual.result ≡ Err (ending_of c.in_err-line.field-0.0) = search rules in
+    let is : c.from_residual.result ≡ Err (ending_of (error_of c.in_err-line.field-0.0)) = search rules in
     rw is (taken_source (g.S.Source.view c.next.new.self.source.now) c.next.new.self.intake.now c.args.file.now c.args.session.now c.loop-line.session c.in_err-line.field-0.0 c.requires.room c.requires.limit c.loop-line.invariant.taking c.in_err-line.ensures.stays
     (λ e. c.in_err-line.ensures.cause (ap Err e)) (λ e. c.in_err-line.ensures.failed (ap Err e)) (λ limit e. c.in_err-line.ensures.input limit (ap Err e)))
 
@@ -29,8 +30,8 @@ returns-in_err-take_line-in-Line-clause-takes g c =
     let is : c.from_residual-in_err-take_line-in-Line.result ≡ Err c.in_err-take_line-in-Line.field-0.0 = search rules in
     let given = rw c.in-Line.is at c.in_ok-line.ensures.line in
     let taking = c.loop-line.invariant.taking in
-    rw is (taken_line {e = lines_ahead (g.S.Source.view c.next.new.self.source.now) c.next.new.self.intake.now} _ _ (g.S.Source.view c.next.new.self.source.now) c.args.file.now c.args.session.now c.loop-line.session c.take_line.new.session given.0 c.in_err-take_line-in-Line.field-0.0 c.requires.room taking given.2
-    (λ values spelled. (whole_more given.0 values taking.going given.2 given.3 spelled).going) (c.in_err-take_line-in-Line.ensures.steps given.0 given.1))
+    rw is (taken_line _ _ (g.S.Source.view c.next.new.self.source.now) c.args.file.now c.args.session.now c.loop-line.session c.take_line.new.session given.0 c.in_err-take_line-in-Line.field-0.0 c.requires.room taking
+    (first_whole given.0 c.requires.room taking.going given.2 given.3) (c.in_err-take_line-in-Line.ensures.steps given.0 given.1))
 
 pub loop-line-preserved-in_ok-take_line-in-Line : goal.loop-line-preserved-in_ok-take_line-in-Line
 loop-line-preserved-in_ok-take_line-in-Line g c =
@@ -59,8 +60,8 @@ returns-in_err-take_line-in-Last-clause-takes g c =
     let is : c.from_residual-in_err-take_line-in-Last.result ≡ Err c.in_err-take_line-in-Last.field-0.0 = search rules in
     let given = rw c.in-Last.is at c.in_ok-line.ensures.line in
     let taking = c.loop-line.invariant.taking in
-    rw is (taken_line {e = lines_ahead (g.S.Source.view c.next.new.self.source.now) c.next.new.self.intake.now} _ _ (g.S.Source.view c.next.new.self.source.now) c.args.file.now c.args.session.now c.loop-line.session c.take_line-in-Last.new.session given.0 c.in_err-take_line-in-Last.field-0.0 c.requires.room taking given.2
-    (λ values spelled. last_more given.0 values taking.going.going given.2 given.2.passed spelled) (c.in_err-take_line-in-Last.ensures.steps given.0 given.1))
+    rw is (taken_line _ _ (g.S.Source.view c.next.new.self.source.now) c.args.file.now c.args.session.now c.loop-line.session c.take_line-in-Last.new.session given.0 c.in_err-take_line-in-Last.field-0.0 c.requires.room taking
+    (first_last given.0 c.requires.room taking.going.going given.2 given.3) (c.in_err-take_line-in-Last.ensures.steps given.0 given.1))
 
 pub returns-in-Last-clause-takes : goal.returns-in-Last-clause-takes
 returns-in-Last-clause-takes g c =
@@ -72,7 +73,7 @@ returns-in-Last-clause-takes g c =
     let j = c.next.new.self.intake.now in
     let going = last_more given.0 some.0 taking.going.going given.2 given.2.passed spelled in
     let numbers = taking.numbers ++ some.0 ∷ [] in
-    taken_end _ _ c.args.file.now c.args.session.now c.take_line-in-Last.new.session c.close_batch.new.session numbers c.close_batch.result (reads_first c.requires.room going, reads_all t j c.requires.room going (record { before = given.3; now = given.3 }))
+    taken_end _ _ c.args.file.now c.args.session.now c.take_line-in-Last.new.session c.close_batch.new.session numbers c.close_batch.result (reads_all t j c.requires.room going (record { before = given.3; now = given.3 }))
     (done_more c.args.file.now c.args.session.now c.loop-line.session c.take_line-in-Last.new.session given.0 (c.loop-line.number + 1) some.0 taking.numbers taking.columns taking.done some.1 (c.in_ok-take_line-in-Last.ensures.steps given.0 given.1))
     c.close_batch.ensures.steps
 
@@ -82,5 +83,5 @@ returns-in-End-clause-takes g c =
     let taking = c.loop-line.invariant.taking in
     let t = g.S.Source.view c.next.new.self.source.now in
     let j = c.next.new.self.intake.now in
-    taken_end _ _ c.args.file.now c.args.session.now c.loop-line.session c.close_batch-in-End.new.session taking.numbers c.close_batch-in-End.result (reads_first c.requires.room taking.going.going, reads_all t j c.requires.room taking.going.going ended) taking.done
+    taken_end _ _ c.args.file.now c.args.session.now c.loop-line.session c.close_batch-in-End.new.session taking.numbers c.close_batch-in-End.result (reads_all t j c.requires.room taking.going.going ended) taking.done
     c.close_batch-in-End.ensures.steps

@@ -7,7 +7,7 @@ use Rattle.h5w_files.specs.Polling.{ToldBy}
 use Rattle.h5w_files.specs.Polls.{values_text}
 use Rattle.h5w_files.specs.declared.polling.Ending.TheVariants as endings
 use Rattle.h5w_files.proofs.OnceLemmas.{once_counted, once_lines, once_refused, once_uncounted, once_unlined, once_unread, still_yet}
-use Rattle.h5w_files.proofs.SinkLemmas.{rose_before}
+use Rattle.h5w_batches.proofs.InputLemmas.{rose_before}
 use Rattle.h5w_files.proofs.polling.write_once.Goals as goal
 
 pub returns-in_err-rows-clause-gives : goal.returns-in_err-rows-clause-gives
