@@ -1,5 +1,5 @@
 //! The writer of a run: each batch is appended and flushed, and its pieces become visible one by one.
-ghost use Rattle.std.specs.Prelude.{◌≡◌, ◌≢◌, ◌⊎◌, ℕ, ℤ, List, ◌<◌, ◌≤◌, ◌+◌, ◌++◌, ◌∷◌, [], length, IfErr, IfOk, OnErr, OnOk, Ok, Err, Some, None};
+ghost use Rattle.std.specs.Prelude.{◌≡◌, ◌≢◌, ◌⊎◌, ℕ, ℤ, List, ◌<◌, ◌≤◌, ◌+◌, ◌++◌, ◌∷◌, [], length, true, IfErr, IfOk, OnErr, OnOk, Ok, Err, Some, None};
 ghost use Rattle.h5w_model.specs.Agrees.{values_in};
 ghost use Rattle.h5w_model.specs.Logs.{Log, and_now, appends};
 ghost use Rattle.h5w_model.specs.declared.report.FlushLine.{FlushLine};
@@ -30,7 +30,8 @@ pub enum Halt {
     OutOfMemory,
 }
 
-/// All pending pieces become visible, one after another. Before the last of them the writer comes to its turn of this number.
+/// All pending pieces become visible, one after another. Before the last of them the writer comes to its turn of this number. Where the
+/// seat fails, the session is stopped.
 pub fn show<R: Wait, G: Gate>(
     rt: &R,
     image: &SharedImage,
@@ -46,6 +47,7 @@ pub fn show<R: Wait, G: Gate>(
     ensures stands { OnOk result ((log : Log) → Stands session.old log → Stands session.new (record log { events = showing session.old.pending log.events })) }
     ensures seat { OnOk result (HasWritten session.old.pending seat.old seat.new) }
     ensures left { OnErr result ((f : CreatedFile) → Writes f session.old seat.old → Writes f session.new seat.new) }
+    ensures stopped { OnErr result ((session.new.stopped ≡ true) × (session.new.pending ≡ [])) }
     ensures failed { OnErr result (0 < seat.new.faults) }
     ensures image { seat.new.image ≡ image.now }
 {

@@ -1,4 +1,5 @@
 use Rattle.std.proofs.Common.{drop, length, ap, ◌∙◌, arith}
+use Rattle.h5w_session.specs.Sessions.{Session}
 use Rattle.h5w_shared.specs.Seats.{SeatView}
 use Rattle.h5w_live.proofs.WritingLemmas.{after_pending, no_piece, oldest, shows_next, stands_done, writes_failed}
 use Rattle.h5w_live.proofs.writing.show.Goals as goal
@@ -6,6 +7,9 @@ use Rattle.h5w_live.proofs.writing.show.Goals as goal
 pub returns-in-Err-clause-left : goal.returns-in-Err-clause-left
 returns-in-Err-clause-left g c = λ f w.
     writes_failed f c.args.session.now c.loop-w.session c.failed.new.self c.args.seat.now c.loop-w.seat c.write.new.seat c.loop-w.invariant.1 c.in-Err.ensures.refused c.failed.ensures.session c.failed.ensures.stands w
+
+pub returns-in-Err-clause-stopped : goal.returns-in-Err-clause-stopped
+returns-in-Err-clause-stopped g c = (ap (λ (s : Session). s.stopped) c.failed.ensures.session, ap (λ (s : Session). s.pending) c.failed.ensures.session)
 
 pub loop-w-smaller : goal.loop-w-smaller
 loop-w-smaller g c =
