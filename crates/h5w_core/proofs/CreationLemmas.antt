@@ -1,10 +1,10 @@
 -- The pieces of a new file become visible, one after another.
-use Rattle.std.proofs.Common.{◌≡◌, ℕ, zero, suc, ◌+◌, ◌/◌, ◌<◌, ◌≤◌, List, [], ◌∷◌, ◌++◌, length, replicate, get_or, sym, refl, ap, ◌∙◌, subst, arith, append_assoc, length-append, nat_lt, Option, Some, None, option_map}
+use Rattle.std.proofs.Common.{◌≡◌, ℕ, zero, suc, ◌+◌, ◌<◌, ◌≤◌, List, [], ◌∷◌, ◌++◌, length, replicate, get_or, sym, refl, ap, ◌∙◌, subst, arith, append_assoc, length-append, nat_lt, Option, Some, None}
 use Rattle.std.proofs.lemmas.List.{append-nil, length-map, nil_from_length}
 use Rattle.std.specs.Option.{unwrap_or}
 use Rattle.h5w_model.specs.Images.{image}
 use Rattle.h5w_model.specs.Datasets.{Described}
-use Rattle.h5w_model.specs.Logs.{Cutting, Log, and_now, appended, hist, spent, shows}
+use Rattle.h5w_model.specs.Logs.{Cutting, Log, and_now, hist, spent, shows}
 use Rattle.h5w_model.specs.Lawful.{at_first}
 use Rattle.h5w_model.specs.declared.piece.Write.{Write}
 use Rattle.h5w_model.proofs.ImageLemmas.{image-push}
@@ -16,10 +16,10 @@ use Rattle.h5w_reader.specs.declared.reader.ReaderCore.{ReaderCore}
 use Rattle.h5w_options.specs.Options.{AreOptions}
 use Rattle.h5w_options.specs.declared.options.Options.{Options}
 use Rattle.h5w_creation_laws.specs.CreatedFiles.{block_write, created_blocks, created_log, created_writes, described_of}
-use Rattle.h5w_session.specs.Creations.{IsCreated, log_of, new_file}
+use Rattle.h5w_session.specs.Creations.{IsCreated, new_file}
 use Rattle.h5w_session.proofs.OptionLemmas.{creatable}
 use Rattle.h5w_session.specs.Room.{HasRoomFor}
-use Rattle.h5w_session.specs.Sessions.{Session, AfterPiece, cutting_of, rows_of}
+use Rattle.h5w_session.specs.Sessions.{Session, AfterPiece, cutting_of}
 use Rattle.h5w_session.specs.Stands.{Stands}
 use Rattle.h5w_session.proofs.LawLemmas.{standing_laws}
 use Rattle.h5w_core.specs.Creation.{Creates}

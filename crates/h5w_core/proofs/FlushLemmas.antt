@@ -1,7 +1,6 @@
 -- The writer plans a flush.
 use Rattle.std.proofs.Common.{◌≡◌, ◌⊎◌, ℕ, ◌+◌, ◌<◌, ◌≤◌, List, [], ◌∷◌, length, ℤ, Bool, true, false, nat_lt, sym, refl, ap, ◌∙◌, subst, inl, inr, arith, Option, Some, None, Result, Ok, Err, if◌then◌else◌}
 use Rattle.std.specs.Prelude.{MatchBool}
-use Rattle.std.specs.Option.{unwrap_or}
 use Rattle.std.proofs.lemmas.Bool.{cases_lt, lt-ltb, le-ltb}
 use Rattle.h5w_model.specs.Logs.{Log, plans, appended, flushed_rows, load, spent, spent_in, Cutting, and_now}
 use Rattle.h5w_model.specs.Datasets.{Described}

@@ -6,7 +6,7 @@ use Rattle.h5w_model.specs.Numbers.{range}
 use Rattle.h5w_model.specs.Programs.{Prog, ret, whole, counted, stored, next_look}
 use Rattle.h5w_model.specs.Tables.{Reading}
 use Rattle.h5w_model.specs.Calls.{rows_seen, values_call}
-use Rattle.h5w_model.specs.Unfinished.{Unfinished, rows_left, values_left, next_look_of, wanted, fed_left, values_program, Reader, with_left}
+use Rattle.h5w_model.specs.Unfinished.{Unfinished, rows_left, values_left, wanted, fed_left, values_program, Reader, with_left}
 use Rattle.h5w_model.specs.declared.refusal.ReadError.{ReadError}
 use Rattle.h5w_model.specs.declared.reply.Reply.TheVariants as replies
 use Rattle.h5w_polling.specs.Laws.{reply_to, after_look}

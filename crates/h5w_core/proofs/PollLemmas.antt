@@ -1,11 +1,10 @@
 -- The readers of a world poll its log: what each event of a reader is answered, and how they poll on.
-use Rattle.std.proofs.Common.{◌≡◌, ◌⊎◌, ℕ, ◌≤◌, cond, Bool, true, List, [], Option, Some, None, Result, ℤ, refl, sym, ◌∙◌, ap, subst, inl, inr, arith}
+use Rattle.std.proofs.Common.{◌≡◌, ◌⊎◌, ℕ, cond, Bool, List, [], Option, Some, None, refl, sym, ◌∙◌, ap, subst, inl, inr}
 use Rattle.std.specs.Prelude.{IsSome, ◌==◌}
 use Rattle.std.proofs.lemmas.Bool.{cond_both, eq-eqb, eqb-true}
 use Rattle.h5w_model.specs.Numbers.{range}
 use Rattle.h5w_model.specs.Images.{image}
 use Rattle.h5w_model.specs.Logs.{Log, hist}
-use Rattle.h5w_model.specs.Tables.{Reading}
 use Rattle.h5w_model.specs.Calls.{values_call}
 use Rattle.h5w_model.specs.Unfinished.{Unfinished, values_left, next_look_of, wanted, fed_left, Reader}
 use Rattle.h5w_model.specs.Lawful.{Line, opens, refreshes, reads, looks, ScriptState, ReaderState, Calling, Allowed, next_state, reader_in, put_reader}
@@ -18,7 +17,6 @@ use Rattle.h5w_polling.specs.Scripts.{AllPoll, Moves, Polled, Readers, Refuses, 
 use Rattle.h5w_polling.proofs.LookLemmas.{look_laws}
 use Rattle.h5w_polling.proofs.ScriptLemmas.{begin_line_laws, look_line_laws}
 use Rattle.h5w_reader.specs.Readers.{reader_rules}
-use Rattle.h5w_session.proofs.LawLemmas.{standing_laws}
 use Rattle.h5w_core.specs.Readers.{LookGives, LooksTo, LookReplies, CallReplies, OpenGives, ReadGives, ReadLooks, ReadsTo, ReadsPast, ReadsNothing, ReadBegins, RefreshGives, RefreshesTo, looked, reader_at}
 use Rattle.h5w_core.specs.Worlds.{WorldView, IsStateOf, StandsFor, polling_of}
 

@@ -1,5 +1,5 @@
 -- An event of a reader, by its place.
-use Rattle.std.proofs.Common.{◌≡◌, ℕ, ◌<◌, ◌≤◌, cond, Bool, true, false, List, ◌∷◌, length, get_or, Option, Some, None, option_map, Result, Ok, Err, sym, refl, ap, ◌∙◌, subst, inl, inr, arith}
+use Rattle.std.proofs.Common.{◌≡◌, ℕ, ◌<◌, ◌≤◌, cond, Bool, true, false, List, length, get_or, Option, Some, None, option_map, Result, Ok, Err, sym, refl, ap, ◌∙◌, subst, arith}
 use Rattle.std.specs.Prelude.{◌==◌, slice_set}
 use Rattle.std.specs.Result.{IfOk, OnErr}
 use Rattle.std.proofs.lemmas.Bool.{cond_both, eq-eqb, eqb-true}
@@ -7,8 +7,7 @@ use Rattle.std.proofs.lemmas.List.{get_or-set_same, get_or-set_other, length-set
 use Rattle.std.proofs.lemmas.Option.{slice_get-get_or}
 use Rattle.std.specs.Option.{unwrap_or}
 use Rattle.h5w_model.specs.Logs.{Log}
-use Rattle.h5w_model.specs.Tables.{Reading}
-use Rattle.h5w_model.specs.Unfinished.{Unfinished, Reader}
+use Rattle.h5w_model.specs.Unfinished.{Reader}
 use Rattle.h5w_model.specs.Lawful.{ScriptState, ReaderState, Calling, line_of, next_state, reader_in, put_reader}
 use Rattle.h5w_model.specs.declared.event.Event.{Event}
 use Rattle.h5w_model.specs.declared.event.Event.TheVariants as events
@@ -17,7 +16,7 @@ use Rattle.h5w_model.specs.declared.reply.Reply.{Reply}
 use Rattle.h5w_image.specs.Memory.{MemView}
 use Rattle.h5w_image.specs.View.{Same}
 use Rattle.h5w_image.proofs.ViewLemmas.{same_itself}
-use Rattle.h5w_polling.specs.Polling.{Polling, CallPolls, MayPoll, Knows, Polls, now}
+use Rattle.h5w_polling.specs.Polling.{Polling, CallPolls, MayPoll, now}
 use Rattle.h5w_polling.specs.Scripts.{AllPoll, Readers}
 use Rattle.h5w_polling.proofs.EventLemmas.{knows_later}
 use Rattle.h5w_polling.proofs.PutLemmas.{put_other}

@@ -1,9 +1,9 @@
 -- The oldest pending piece becomes visible.
-use Rattle.std.proofs.Common.{◌≡◌, ◌≢◌, ◌⊎◌, ℕ, suc, ◌+◌, ◌-◌, ◌<◌, ◌≤◌, List, [], ◌∷◌, ◌++◌, length, Bool, true, false, nat_lt, if◌then◌else◌, min, sym, refl, ap, ◌∙◌, subst, inl, inr, arith, length-append, Option, None, ℤ}
+use Rattle.std.proofs.Common.{◌≡◌, ◌≢◌, ◌⊎◌, ℕ, suc, ◌-◌, ◌<◌, ◌≤◌, List, [], ◌∷◌, ◌++◌, length, Bool, true, false, nat_lt, if◌then◌else◌, min, sym, refl, ap, ◌∙◌, subst, inl, inr, arith, length-append, Option, None, ℤ}
 use Rattle.std.specs.List.{slice_get}
 use Rattle.std.proofs.lemmas.Bool.{lt-ltb}
 use Rattle.h5w_model.specs.Images.{image}
-use Rattle.h5w_model.specs.Logs.{Log, Cutting, Happening, appends, plans, shows, hist, appended, flushed, flushed_rows, spent, and_now}
+use Rattle.h5w_model.specs.Logs.{Log, Cutting, Happening, appends, plans, shows, hist, appended, flushed_rows, spent, and_now}
 use Rattle.h5w_model.specs.Lawful.{Rules, ScriptState, after_shows, committed, rows_in}
 use Rattle.h5w_model.specs.declared.event.Event.TheVariants as events
 use Rattle.h5w_model.specs.declared.piece.Write.{Write}

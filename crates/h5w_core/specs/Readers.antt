@@ -3,7 +3,7 @@ use Rattle.std.specs.Prelude.{◌≡◌, ◌⊎◌, ℕ, ◌+◌, ◌<◌, ◌�
 use Rattle.h5w_model.specs.Numbers.{range}
 use Rattle.h5w_model.specs.Tables.{Reading}
 use Rattle.h5w_model.specs.Calls.{rows_seen, values_call}
-use Rattle.h5w_model.specs.Unfinished.{Unfinished, values_left, next_look_of, wanted, fed_left, ReaderRules, Reader, with_left}
+use Rattle.h5w_model.specs.Unfinished.{Unfinished, values_left, next_look_of, fed_left, ReaderRules, Reader, with_left}
 use Rattle.h5w_model.specs.declared.reply.Reply.{Reply}
 use Rattle.h5w_model.specs.declared.reply.Reply.TheVariants as replies
 use Rattle.h5w_polling.specs.Laws.{refreshing, reading, reply_to, after_look}

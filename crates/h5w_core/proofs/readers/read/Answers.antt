@@ -1,4 +1,4 @@
-use Rattle.std.proofs.Common.{Some, refl}
+use Rattle.std.proofs.Common.{Some}
 use Rattle.h5w_reader.specs.Cores.{reader}
 use Rattle.h5w_core.specs.Readers.{ReadLooks, placed}
 use Rattle.h5w_core.proofs.PlaceLemmas.{read_begins, read_nothing}
