@@ -1,6 +1,6 @@
 -- How an append to a file ends.
 use Rattle.std.proofs.Common.{◌≡◌, ◌⊎◌, ℕ, Bool, List, [], ◌∷◌, ◌++◌, append_assoc, Option, Some, None, Result, Ok, Err, refl, sym, subst, ap, ◌∙◌, inl, inr, arith}
-use Rattle.std.specs.Prelude.{◌<◌, IfSome, length, take}
+use Rattle.std.specs.Prelude.{◌≤◌, IfSome, length}
 use Rattle.std.specs.List.{All}
 use Rattle.std.proofs.lemmas.List.Elements.{All-head, All-tail}
 use Rattle.h5w_model.specs.Causes.{Rose}
@@ -10,7 +10,7 @@ use Rattle.h5w_opening.specs.Openings.{Opened}
 use Rattle.h5w_opening.specs.declared.error.OpenError.TheVariants as opens
 use Rattle.h5w_session.specs.Sessions.{Session}
 use Rattle.h5w_text.specs.Errors.{error_text}
-use Rattle.h5w_text.specs.Lines.{lines_of, whole_lines_of}
+use Rattle.h5w_text.specs.Lines.{lines_of}
 use Rattle.h5w_text.specs.Says.{Said, whole, failed}
 use Rattle.h5w_text.specs.Statuses.{status_of}
 use Rattle.h5w_text.specs.Streams.{SourceView, SinkView}

@@ -15,7 +15,7 @@ use Rattle.h5w_text.specs.Streams.{SinkView, Gave, GaveSome}
 use Rattle.h5w_text.specs.declared.error.ErrorLine.{ErrorLine}
 use Rattle.h5w_text.specs.declared.error.ErrorLine.TheVariants as errors
 use Rattle.h5w_files.specs.Polls.{count_text, new_lines, values_text}
-use Rattle.h5w_files.specs.Polling.{After, FindsRows, FindsValues, IsOfCall, IsOfEnding, OnceBroken, OnceGives, OnceRefused, OnceText, OnceWhole, RefusedBy, ToldBy, WroteBy, knowing}
+use Rattle.h5w_files.specs.Polling.{FindsRows, FindsValues, IsOfCall, OnceBroken, OnceGives, OnceRefused, RefusedBy, ToldBy}
 use Rattle.h5w_files.specs.Polling as calls
 use Rattle.h5w_files.specs.declared.polling.Ending.{Ending}
 use Rattle.h5w_files.specs.declared.polling.Ending.TheVariants as endings

@@ -16,9 +16,9 @@ use Rattle.h5w_text.specs.declared.status.Status.{Status}
 use Rattle.h5w_text.specs.declared.status.Status.TheVariants as statuses
 use Rattle.h5w_files.specs.Images.{file_image, told_bytes}
 use Rattle.h5w_files.specs.Ends.{IsGivenBy, EndsWell}
-use Rattle.h5w_files.specs.Polls.{PollBegins, IsOfPoll, PollEnds, PollsTo, PollWrites, PollWritesNone, PollWritesOf, new_lines, poll_of}
+use Rattle.h5w_files.specs.Polls.{PollBegins, IsOfPoll, PollEnds, PollWrites, PollWritesOf, new_lines, poll_of}
 use Rattle.h5w_files.specs.Polls as polls
-use Rattle.h5w_files.specs.Polling.{IsOfCall, IsOfEnding, IsOfPollEnding, MissingBy, PollGives, PolledOf, TimesGive, TimesRefused, TimesText, TimesWhole, WroteBy}
+use Rattle.h5w_files.specs.Polling.{IsOfCall, IsOfEnding, IsOfPollEnding, PollGives, PolledOf, TimesGive, TimesRefused, TimesText}
 use Rattle.h5w_files.specs.Polling as calls
 use Rattle.h5w_files.specs.declared.polling.Ending.{Ending}
 use Rattle.h5w_files.specs.declared.polling.Ending.TheVariants as endings

@@ -14,9 +14,9 @@ use Rattle.h5w_reader.specs.Readers.{new_reader}
 use Rattle.h5w_text.specs.Streams.{SinkView, Gave}
 use Rattle.h5w_text.specs.declared.error.ErrorLine.{ErrorLine}
 use Rattle.h5w_text.specs.declared.error.ErrorLine.TheVariants as errors
-use Rattle.h5w_files.specs.Polls.{PollBegins, Shown, at_first, count_text, new_lines, polled_text, values_text}
+use Rattle.h5w_files.specs.Polls.{PollBegins, Shown, count_text, new_lines, polled_text, values_text}
 use Rattle.h5w_files.specs.Polls as polls
-use Rattle.h5w_files.specs.Polling.{After, IsOfEnding, OnceBroken, OnceGives, OnceRefused, OnceText, OnceWhole, TimesGive, TimesRefused, TimesText, TimesWhole, WroteBy, knowing}
+use Rattle.h5w_files.specs.Polling.{After, OnceBroken, OnceGives, OnceRefused, OnceWhole, TimesGive, TimesRefused, TimesWhole, knowing}
 use Rattle.h5w_files.specs.Polling as calls
 use Rattle.h5w_files.specs.declared.polling.Ending.{Ending}
 use Rattle.h5w_files.specs.declared.polling.Ending.TheVariants as endings

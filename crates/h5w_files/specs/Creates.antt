@@ -1,5 +1,5 @@
 -- What the making of a new file tells, and what it leaves.
-use Rattle.std.specs.Prelude.{◌≡◌, ◌⊎◌, ℕ, ◌<◌, ◌≤◌, false, true, List, [], ◌∷◌, ◌++◌, length, take, codes, Option, Some, None, IfSome, OnOk, Result, Ok, Err, option_map}
+use Rattle.std.specs.Prelude.{◌≡◌, ◌⊎◌, ℕ, ◌<◌, ◌≤◌, true, List, [], ◌∷◌, ◌++◌, length, take, codes, Option, Some, None, IfSome, OnOk, Result, Ok, Err, option_map}
 use Rattle.std.specs.FinMap as map
 use Rattle.h5w_model.specs.Causes.{Rose}
 use Rattle.h5w_model.specs.Numbers.{range}
