@@ -1,6 +1,6 @@
 //! Files byte by byte and their verdicts: by hand, of another program, and of the library libhdf5.
 
-use crate::tests::{Patch, failing, finding, overlap, patch, unpacked, valid, verdict_of};
+use crate::tests::{Patch, failing, finding, number_patch, overlap, unpacked, valid, verdict_of};
 use h5w_check::{CheckError, Summary};
 use std::test::Fail;
 
@@ -37,22 +37,28 @@ fn each_file_has_its_verdict(rt: HostRuntime) -> Result<(), Fail> {
 fn each_change_has_its_verdict(rt: HostRuntime) -> Result<(), Fail> {
     let rows: [(Patch, Result<Summary, CheckError>); 7] = [
         // the second slot names the first chunk
-        (patch(282, 558, 554, 0x302a_4b1d), overlap(558, 8, 558, 8)),
+        (
+            number_patch(282, 558, 554, 0x302a_4b1d),
+            overlap(558, 8, 558, 8),
+        ),
         // the second chunk passes the end
-        (patch(282, 570, 554, 0x1861_ab6a), finding(17, 570)),
+        (number_patch(282, 570, 554, 0x1861_ab6a), finding(17, 570)),
         // 2^63 rows
-        (patch(121, 1 << 63, 184, 0xb36c_a11d), finding(20, 106)),
+        (
+            number_patch(121, 1 << 63, 184, 0xb36c_a11d),
+            finding(20, 106),
+        ),
         // an end past the image
-        (patch(28, 600, 44, 0x702a_d407), finding(5, 0)),
+        (number_patch(28, 600, 44, 0x702a_d407), finding(5, 0)),
         // no signature of the array
         (
-            patch(188, 0x2008_0000_4448_4100, 256, 0xb60f_70a1),
+            number_patch(188, 0x2008_0000_4448_4100, 256, 0xb60f_70a1),
             finding(10, 188),
         ),
         // open for writing without SWMR
-        (patch(8, 0x0108_0803, 44, 0x7246_5773), finding(4, 0)),
+        (number_patch(8, 0x0108_0803, 44, 0x7246_5773), finding(4, 0)),
         // a sum that is of other flags
-        (patch(8, 0x0108_0803, 44, 0xe972_9757), finding(3, 0)),
+        (number_patch(8, 0x0108_0803, 44, 0xe972_9757), finding(3, 0)),
     ];
     for (patch, wanted) in rows {
         assert_eq!(rt; verdict_of(rt.alloc(), &FILE, &patch, "data")?, wanted);
@@ -62,9 +68,9 @@ fn each_change_has_its_verdict(rt: HostRuntime) -> Result<(), Fail> {
 
 #[test]
 fn each_change_of_a_tree_has_its_verdict(rt: HostRuntime) -> Result<(), Fail> {
-    let depth = patch(312, 0xffff_ffff_2864_0004, 334, 0xa2cb_6a40);
-    let behind_the_end = patch(410, 2402, 419, 0x703f_a0c3);
-    let wrong_total = patch(417, 2 << 48, 425, 0xc84d_5c6c);
+    let depth = number_patch(312, 0xffff_ffff_2864_0004, 334, 0xa2cb_6a40);
+    let behind_the_end = number_patch(410, 2402, 419, 0x703f_a0c3);
+    let wrong_total = number_patch(417, 2 << 48, 425, 0xc84d_5c6c);
     let rows: [(&[u8], Patch, Result<Summary, CheckError>); 3] = [
         (&TREE, depth, finding(10, 300)),
         // the third leaf, behind keys that fell

@@ -27,7 +27,7 @@ impl Patch {
 }
 
 /// A number in eight bytes, the least significant first, and the sum of its block.
-pub fn patch(at: usize, number: u64, sum_at: usize, sum: u32) -> Patch {
+pub fn number_patch(at: usize, number: u64, sum_at: usize, sum: u32) -> Patch {
     Patch {
         at,
         bytes: number.to_le_bytes(),
