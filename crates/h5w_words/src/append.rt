@@ -6,10 +6,9 @@ ghost use Rattle.h5w_words.specs.Arguments.{has_globals};
 ghost use Rattle.h5w_words.specs.Limits.{IsWithinLimits};
 
 use crate::arguments::{flag, option_or, word};
-use crate::creation::limit_given;
 use crate::files::{file_given, link_name_given};
 use crate::job::{Job, WordsError};
-use crate::values::is_given;
+use crate::values::{is_given, limit_given};
 use clap::{ArgMatches, Command};
 use std::alloc::{AllocError, Global};
 

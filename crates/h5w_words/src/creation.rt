@@ -1,23 +1,20 @@
 //! By what a file is created.
-ghost use Rattle.std.specs.Prelude.{◌≡◌, ◌*◌, ◌^◌, ◌≤◌, ◌⊎◌, None, Some, IfErr, IfOk, IfSome, length};
+ghost use Rattle.std.specs.Prelude.{◌≡◌, ◌*◌, ◌≤◌, ◌⊎◌, None, Some, IfErr, IfOk, IfSome, length};
 ghost use Rattle.h5w_model.specs.Messages.{IsIntType};
 ghost use Rattle.h5w_options.specs.Options.{AreColumns, AreOptions, width_in};
 ghost use Rattle.h5w_types.specs.Fields.{int_type_of};
 ghost use Rattle.clap.specs.Words.{app_of, found_of, rows_of};
 ghost use Rattle.h5w_words.specs.Arguments.{has_globals};
-ghost use Rattle.h5w_words.specs.Creation.{columns_of, limit_of, named_options, options_of, type_of, with_creation};
+ghost use Rattle.h5w_words.specs.Creation.{columns_of, named_options, options_of, type_of, with_creation};
 
 use crate::arguments::{option, option_or};
 use crate::job::WordsError;
 use crate::types::{fill_given, type_named};
-use crate::values::{count, count_or, name_or, text};
+use crate::values::{count, limit_given, name_or, text};
 use clap::{ArgMatches, Command};
 use h5w_model::Bytes;
 use h5w_options::{IntType, Options};
 use std::alloc::{AllocError, Global};
-
-/// The most bytes that a file may have.
-const LIMIT: u64 = 1 << 40;
 
 /// The most rows of a chunk, and columns of a row and of a chunk.
 const SIDE: u64 = 65_536;
@@ -76,14 +73,6 @@ fn chunk_bytes(options: &Options) -> u64
         None => 1,
     };
     options.chunk_rows * width * u64::from(options.int_type.size)
-}
-
-/// How many bytes the file may have; None where the number is not within its limits.
-pub fn limit_given(options: &ArgMatches<'_>) -> Option<u64>
-    ensures limit { result ≡ limit_of (rows_of (found_of options.now)) }
-    ensures bounds { IfSome result (λ n. (1024 ≤ n) × (n ≤ 2 ^ 40)) }
-{
-    count_or(options, "limit", LIMIT, 1_024, LIMIT)
 }
 
 /// What the options say of a file with a dataset of this name and type; `Usage` where a number is not within its limits.

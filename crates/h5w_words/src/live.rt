@@ -8,8 +8,7 @@ ghost use Rattle.h5w_words.specs.Lives.{live_app, live_of};
 use crate::arguments::{option, option_or};
 use crate::creation::{creation, options_given};
 use crate::job::{Job, WordsError};
-use crate::play::attempts_given;
-use crate::values::count;
+use crate::values::{attempts_given, count};
 use clap::{ArgMatches, Command};
 use std::alloc::{AllocError, Global};
 

@@ -1,15 +1,14 @@
 //! The command that runs a script.
-ghost use Rattle.std.specs.Prelude.{◌≡◌, ◌⊎◌, false, None, Some, IfErr, IfOk, IfSome};
+ghost use Rattle.std.specs.Prelude.{◌≡◌, ◌⊎◌, false, None, Some, IfErr, IfOk};
 ghost use Rattle.clap.specs.Words.{app_of, found_of, rows_of};
-ghost use Rattle.h5w_options.specs.Options.{AreAttempts};
 ghost use Rattle.h5w_words.specs.Arguments.{has_globals};
 ghost use Rattle.h5w_words.specs.Limits.{IsWithinLimits};
-ghost use Rattle.h5w_words.specs.Play.{attempts_of, play_app, play_of};
+ghost use Rattle.h5w_words.specs.Play.{play_app, play_of};
 
 use crate::arguments::option_or;
 use crate::creation::{creation, options_given};
 use crate::job::{Job, WordsError};
-use crate::values::count_or;
+use crate::values::attempts_given;
 use clap::{ArgMatches, Command};
 use std::alloc::{AllocError, Global};
 
@@ -22,15 +21,6 @@ pub fn play<'a>(alloc: Global) -> Result<Command<'a>, AllocError>
     let command = creation(alloc, command)?;
     let command = option_or(alloc, command, "attempts")?;
     Ok(command)
-}
-
-/// How many attempts a reader's call makes at most; None where the number is not within its limits.
-pub fn attempts_given(options: &ArgMatches<'_>) -> Option<u32>
-    ensures attempts { result ≡ attempts_of (rows_of (found_of options.now)) }
-    ensures bounds { IfSome result AreAttempts }
-{
-    let attempts = count_or(options, "attempts", 8, 1, 1_000)?;
-    Some(attempts as u32)
 }
 
 /// The script that the options ask for; `Usage` where they are outside the command set.

@@ -1,12 +1,18 @@
 //! The values of a command's options.
-ghost use Rattle.std.specs.Prelude.{◌≡◌, ◌≤◌, IfSome, IsTrue, length, option_map};
+ghost use Rattle.std.specs.Prelude.{◌≡◌, ◌^◌, ◌≤◌, IfSome, IsTrue, length, option_map};
 ghost use Rattle.clap.specs.Words.{first_of, found_of, rows_of};
+ghost use Rattle.h5w_options.specs.Options.{AreAttempts};
 ghost use Rattle.h5w_words.specs.Arguments.{count_given, count_or, is_given, link_name_or, name_or};
+ghost use Rattle.h5w_words.specs.Creation.{limit_of};
 ghost use Rattle.h5w_words.specs.Names.{is_link_name, is_name};
+ghost use Rattle.h5w_words.specs.Play.{attempts_of};
 
 use crate::name::{is_link_name, is_name};
 use crate::number::count_in;
 use clap::ArgMatches;
+
+/// The most bytes that a file may have.
+const LIMIT: u64 = 1 << 40;
 
 /// The text of an option, where it was given.
 #[tactic(auto, using(crate::proofs::WordLemmas::first_text))]
@@ -40,6 +46,23 @@ pub fn count_or(
         Some(text) => count_in(text.as_bytes(), least, most),
         None => Some(default),
     }
+}
+
+/// How many attempts a reader's call makes at most; None where the number is not within its limits.
+pub fn attempts_given(options: &ArgMatches<'_>) -> Option<u32>
+    ensures attempts { result ≡ attempts_of (rows_of (found_of options.now)) }
+    ensures bounds { IfSome result AreAttempts }
+{
+    let attempts = count_or(options, "attempts", 8, 1, 1_000)?;
+    Some(attempts as u32)
+}
+
+/// How many bytes the file may have; None where the number is not within its limits.
+pub fn limit_given(options: &ArgMatches<'_>) -> Option<u64>
+    ensures limit { result ≡ limit_of (rows_of (found_of options.now)) }
+    ensures bounds { IfSome result (λ n. (1024 ≤ n) × (n ≤ 2 ^ 40)) }
+{
+    count_or(options, "limit", LIMIT, 1_024, LIMIT)
 }
 
 /// The name that an option gives, or `default` where it was not given.
