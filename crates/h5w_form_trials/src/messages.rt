@@ -1,4 +1,4 @@
-//! Messages that today's writer does not write: of other types, grids, fills and trees.
+//! Messages by themselves: types, grids, fills and trees.
 ghost use Rattle.std.specs.Prelude.{IfOk};
 ghost use Rattle.h5w_types.specs.Messages.{IsIntType};
 ghost use Rattle.h5w_types.specs.Fields.{int_type_of};

@@ -1,4 +1,4 @@
-//! What a writer of today does not do with headers: it asks of none whether it may be written, and none is long.
+//! Headers by themselves: whether one may be written, and long ones.
 
 use h5w_model::{Bytes, HeaderError, Msg};
 use h5w_ohdr::{Msgs, with_rows};

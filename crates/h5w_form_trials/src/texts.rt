@@ -1,4 +1,4 @@
-//! Texts and lines that no run of today's program shows.
+//! Texts and lines by themselves, some of which no run of the program shows.
 
 use h5w_text::{
     ErrorLine, Intake, LineError, Lines, MemSource, Next, Reply, TextLine, script_line,
