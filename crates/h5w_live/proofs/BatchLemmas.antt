@@ -14,7 +14,7 @@ use Rattle.h5w_model.specs.declared.root.Super.{Super}
 use Rattle.h5w_laws.proofs.LogLemmas.{flushed_begins, length_hist, position_laws}
 use Rattle.h5w_creation_laws.specs.CreatedFiles.{CreatedFile, created_writes, described_of}
 use Rattle.h5w_session.specs.Loads.{NoPlace}
-use Rattle.h5w_session.specs.Refusals.{append_refusal, chunks_refusal, flush_refusal}
+use Rattle.h5w_session.specs.Refusals.{IsFullFor, append_refusal, chunks_refusal, flush_refusal}
 use Rattle.h5w_session.specs.Sessions.{AfterPiece, AreRows, IsNamed, Session, TakesRows, chunks_with, rows_of, with_rows, with_values}
 use Rattle.h5w_session.specs.Stands.{Stands}
 use Rattle.h5w_session.specs.declared.refusal.AppendError.{AppendError}
@@ -28,7 +28,7 @@ use Rattle.h5w_live_laws.specs.Lines.{rows_told}
 use Rattle.h5w_live_laws.proofs.LineLemmas.{agree_more, tells_more, values_more}
 use Rattle.h5w_live.specs.Writing.{HasFlushed, HasRoom, HasWritten, LacksPlace, StaysSeated, Writes, batch_refusal, cutting_for, showing, too_many}
 use Rattle.h5w_live.proofs.RowLemmas.{batches_more, rows_in_values, some_rows}
-use Rattle.h5w_live.proofs.WritingLemmas.{Shown, after_pending, appended_showing, hist_showing, is_new, shown_stays}
+use Rattle.h5w_live.proofs.WritingLemmas.{Shown, after_pending, appended_showing, hist_showing, is_new, put_behind, shown_stays}
 use Rattle.h5w_live.proofs.FlushedLemmas.{before_last, pieces_last, rows_all, rows_last}
 
 none_some : {A : Type 0} (a : A) → ◌≡◌ {A = Option A} None (Some a) → ⊥
@@ -242,6 +242,7 @@ module _ (f : CreatedFile) (most : ℕ) (done : List (List ℤ)) (s : Session) (
     pub batch_flushed : HasFlushed f most (done ++ (x ∷ xs) ∷ []) s3 v3 (lines ++ line ∷ [])
     batch_flushed = record {
       writes = batch_writes;
+      put = put_behind (showing (created_writes f) []) h.writes.log.events done x xs s2.pending h.put;
       batches = batches_more f.columns done (x ∷ xs) h.batches (rows.0, whole (x ∷ xs) rows);
       rows = length_values done (x ∷ xs) ∙ rows_with (x ∷ xs) rows ∙ ap (λ (n : ℕ). n * f.columns) (sym now_rows);
       few = few_rows;
@@ -356,19 +357,24 @@ planned_writes f s t v x w seat takes k stands =
 
 -- the file has no place for what was appended behind others
 pub lacks_place : (f : CreatedFile) (most : ℕ) (done : List (List ℤ)) (s : Session) (v : SeatView) (lines : List FlushLine) (values : List ℤ) (t : Session) (full : Full) → (h : HasFlushed f most done s v lines) → t ≡ with_values s values
-    → ((log : Log) → Stands s log → Stands t (and_now (appends values) log)) → ((log : Log) → Stands t log → NoPlace t log full) → LacksPlace f most done values full
-lacks_place f most done s v lines values t full h is stands none =
+    → ((log : Log) → Stands s log → Stands t (and_now (appends values) log)) → IsFullFor t full → ((log : Log) → Stands t log → NoPlace t log full) → LacksPlace f most done values full
+lacks_place f most done s v lines values t full h is stands full_for none =
     let stood = stands h.writes.log h.writes.stands in
-    let lacks = none (and_now (appends values) h.writes.log) stood in
+    let places : t.places.limit ≡ most = ap (λ (y : Session). y.places.limit) is ∙ h.limit in
     let dataset : t.dataset ≡ s.dataset = ap (λ (y : Session). y.dataset) is in
     record {
       session = t;
       log = and_now (appends values) h.writes.log;
       stands = stood;
       new = ap (λ (l : Log). record l { events = appends values ∷ h.writes.log.events }) h.writes.new;
+      before = h.writes.log.events;
+      put = h.put;
+      events = refl;
       dataset = dataset ∙ h.writes.dataset ∙ ap (λ (d : Described). with_rows d.shape.rows (described_of f)) (sym dataset);
-      limit = lacks.limit ∙ ap (λ (y : Session). y.places.limit) is ∙ h.limit;
+      places = places;
+      limit = (none (and_now (appends values) h.writes.log) stood).limit ∙ places;
       appended = sym (append_assoc h.writes.log.values (appended_in h.writes.log.events) values) ∙ ap (λ (xs : List ℤ). xs ++ values) h.appended;
       flushed = ap (λ (n : ℕ). n / h.writes.log.columns) (rows_flushed f most done s v lines h) ∙ ap (λ (c : ℕ). length (values_in done) / c) (log_columns f most done s v lines h);
-      lacks = lacks;
+      full_for = full_for;
+      lacks = none;
     }

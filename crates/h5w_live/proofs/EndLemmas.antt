@@ -67,6 +67,7 @@ created_flushed f most s t v w by made stood start none room after wrote stands 
         name = facts.name ∙ ap (λ (x : Session). x.name) is;
         dataset = dataset ∙ sym (ap (λ (d : Described). with_rows d.shape.rows (described_of f)) dataset);
       };
+      put = refl;
       batches = tt;
       rows = (let e : 0 ≡ 0 * f.columns = omega arith in e) ∙ ap (λ (n : ℕ). n * f.columns) (sym no_rows);
       few = none_needed f t.dataset.shape.rows by no_rows;

@@ -15,8 +15,9 @@ use Rattle.h5w_shared.specs.Seats.{SeatView}
 use Rattle.h5w_live_laws.proofs.LineLemmas.{agree_empty, values_more}
 use Rattle.h5w_live.specs.declared.writing.Halt.{Halt}
 use Rattle.h5w_live.specs.declared.writing.Halt.TheVariants as halts
-use Rattle.h5w_live.specs.Writing.{AreBatches, Explains, HasFlushed, LacksPlace, Refuses, batch_refusal, first_refused}
+use Rattle.h5w_live.specs.Writing.{AreBatches, Explains, HasFlushed, LacksPlace, Refuses, batch_refusal, first_refused, showing}
 use Rattle.h5w_live.proofs.RowLemmas.{batch_rows, batches_more}
+use Rattle.h5w_live.proofs.WritingLemmas.{put_empty}
 
 -- ---- One batch
 
@@ -27,6 +28,7 @@ no_values (v ∷ vs) none = absurd (omega (arith, none))
 pub empty_flushed : (f : CreatedFile) (most : ℕ) (done : List (List ℤ)) (values : List ℤ) (s : Session) (v : SeatView) (lines : List FlushLine) → length values ≡ 0 → HasFlushed f most done s v lines → HasFlushed f most (done ++ values ∷ []) s v lines
 empty_flushed f most done values s v lines none h = subst (λ (vs : List ℤ). HasFlushed f most (done ++ vs ∷ []) s v lines) (sym (no_values values none)) (record {
   writes = h.writes;
+  put = put_empty (showing (created_writes f) []) h.writes.log.events done h.put;
   batches = batches_more f.columns done [] h.batches (0, omega arith);
   rows = ap length same ∙ h.rows;
   few = h.few;

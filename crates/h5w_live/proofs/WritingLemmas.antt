@@ -1,10 +1,10 @@
 -- The pieces of a session become visible through its seat.
-use Rattle.std.proofs.Common.{◌≡◌, ℕ, ◌+◌, ◌-◌, ◌<◌, ◌≤◌, Bool, true, false, List, [], ◌∷◌, ◌++◌, length, Some, None, sym, refl, ap, ◌∙◌, subst, arith, append_assoc, length-append}
+use Rattle.std.proofs.Common.{◌≡◌, ℕ, ◌+◌, ◌-◌, ◌<◌, ◌≤◌, Bool, true, false, List, [], ◌∷◌, ◌++◌, length, ℤ, Some, None, sym, refl, ap, ◌∙◌, subst, arith, append_assoc, length-append}
 use Rattle.std.proofs.lemmas.List.{append-nil}
 use Rattle.std.specs.Option.{unwrap_or}
 use Rattle.std.specs.Prelude.{slice_get, drop}
 use Rattle.h5w_model.specs.Datasets.{Described}
-use Rattle.h5w_model.specs.Logs.{Happening, Log, and_now, appended_in, hist, shows}
+use Rattle.h5w_model.specs.Logs.{Happening, Log, and_now, appended_in, appends, hist, plans, shows}
 use Rattle.h5w_model.specs.declared.piece.Write.{Write}
 use Rattle.h5w_space.specs.Space.{Space}
 use Rattle.h5w_creation_laws.specs.CreatedFiles.{CreatedFile, described_of}
@@ -14,7 +14,7 @@ use Rattle.h5w_session.specs.Stands.{Stands}
 use Rattle.h5w_image.specs.View.{Same}
 use Rattle.h5w_shared.specs.Seats.{FailedSeat, ImageId, SeatView, seen_through}
 use Rattle.h5w_shared.proofs.ThreadLemmas.{through_seats}
-use Rattle.h5w_live.specs.Writing.{HasPlaces, HasWritten, StaysSeated, Writes, showing}
+use Rattle.h5w_live.specs.Writing.{ArePut, HasPlaces, HasWritten, StaysSeated, Writes, showing}
 
 pub some_is : {A : Type 0} (a b : A) → Some a ≡ Some b → a ≡ b
 some_is a b same = ap (λ o. unwrap_or o a) same
@@ -28,6 +28,18 @@ hist_showing (w ∷ ws) es = hist_showing ws (shows w ∷ es) ∙ append_assoc (
 pub appended_showing : (ws : List Write) (es : List Happening) → appended_in (showing ws es) ≡ appended_in es
 appended_showing [] es = refl
 appended_showing (w ∷ ws) es = appended_showing ws (shows w ∷ es)
+
+-- a batch more was put
+pub put_behind : (before now : List Happening) (bs : List (List ℤ)) (v : ℤ) (vs : List ℤ) (ws : List Write) → ArePut before bs now → ArePut before (bs ++ (v ∷ vs) ∷ []) (showing ws (plans (length ws) ∷ appends (v ∷ vs) ∷ now))
+put_behind before now [] v vs ws h = (ws, ap (λ (es : List Happening). showing ws (plans (length ws) ∷ appends (v ∷ vs) ∷ es)) h)
+put_behind before now ([] ∷ bs) v vs ws h = put_behind before now bs v vs ws h
+put_behind before now ((x ∷ xs) ∷ bs) v vs ws h = (h.0, put_behind (showing h.0 (plans (length h.0) ∷ appends (x ∷ xs) ∷ before)) now bs v vs ws h.1)
+
+-- an empty one is none
+pub put_empty : (before now : List Happening) (bs : List (List ℤ)) → ArePut before bs now → ArePut before (bs ++ [] ∷ []) now
+put_empty before now [] h = h
+put_empty before now ([] ∷ bs) h = put_empty before now bs h
+put_empty before now ((x ∷ xs) ∷ bs) h = (h.0, put_empty (showing h.0 (plans (length h.0) ∷ appends (x ∷ xs) ∷ before)) now bs h.1)
 
 -- its log is a new file's
 pub is_new : (f : CreatedFile) (s : Session) (v : SeatView) (w : Writes f s v) → IsNew w.log

@@ -2,7 +2,7 @@
 use Rattle.std.specs.Prelude.{◌≡◌, ℕ, ◌+◌, ◌*◌, ◌/◌, ◌<◌, ◌≤◌, false, true, List, [], ◌∷◌, ◌++◌, length, take, get_or, ℤ, nat_lt, if◌then◌else◌, Option, Some, None, Ok}
 use Rattle.h5w_model.specs.Agrees.{FlushesAgree, values_in}
 use Rattle.h5w_model.specs.Lawful.{first_outside}
-use Rattle.h5w_model.specs.Logs.{Cutting, Happening, Log, appended, flushed_rows, needed_chunks, shows}
+use Rattle.h5w_model.specs.Logs.{Cutting, Happening, Log, appended, appends, flushed_rows, needed_chunks, plans, shows}
 use Rattle.h5w_model.specs.Tables.{format_limits, limit_of}
 use Rattle.h5w_model.specs.declared.piece.Write.{Write}
 use Rattle.h5w_model.specs.declared.report.FlushLine.{FlushLine}
@@ -10,10 +10,11 @@ use Rattle.h5w_model.specs.declared.root.Super.{Super}
 use Rattle.h5w_creation_laws.specs.CreatedFiles.{CreatedFile, IsCreatable, created_writes, described_of}
 use Rattle.h5w_session.specs.Creations.{log_of}
 use Rattle.h5w_session.specs.Loads.{NoPlace}
+use Rattle.h5w_session.specs.Refusals.{IsFullFor}
 use Rattle.h5w_session.specs.Sessions.{Session, with_rows}
 use Rattle.h5w_session.specs.Stands.{Stands}
 use Rattle.h5w_session.specs.declared.refusal.AppendError.{AppendError}
-use Rattle.h5w_session.specs.declared.refusal.AppendError.TheVariants as appends
+use Rattle.h5w_session.specs.declared.refusal.AppendError.TheVariants as errors
 use Rattle.h5w_space.specs.declared.Full.{Full}
 use Rattle.h5w_shared.specs.Seats.{SeatView}
 use Rattle.h5w_shared.specs.Threads.{IsLogOf}
@@ -68,6 +69,13 @@ abbrev pub showing : List Write → List Happening → List Happening
 showing [] es = es
 showing (w ∷ ws) es = showing ws (shows w ∷ es)
 
+-- What happened behind these events is that the batches were put, one behind another, and nothing else: each that has values was appended,
+-- a flush planned some pieces, and these became visible.
+abbrev pub ArePut : List Happening → List (List ℤ) → List Happening → Type 0
+ArePut before [] now = now ≡ before
+ArePut before ([] ∷ batches) now = ArePut before batches now
+ArePut before ((v ∷ vs) ∷ batches) now = (ws : List Write) × ArePut (showing ws (plans (length ws) ∷ appends (v ∷ vs) ∷ before)) batches now
+
 -- ---- The session
 
 -- The session creates this file, and what the seat has seen is the pieces of its log, those of the creation among them.
@@ -81,9 +89,11 @@ pub record Writes (f : CreatedFile) (s : Session) (v : SeatView) : Type 0 where
   pub name : s.name ≡ f.name
   pub dataset : s.dataset ≡ with_rows s.dataset.shape.rows (described_of f)
 
--- All pieces of these batches are visible, and the lines tell of their flushes: nothing is pending or waits. The file may have so many bytes.
+-- All pieces of these batches are visible, and the lines tell of their flushes: nothing is pending or waits, and nothing else happened
+-- since the creation. The file may have so many bytes.
 pub record HasFlushed (f : CreatedFile) (most : ℕ) (done : List (List ℤ)) (s : Session) (v : SeatView) (lines : List FlushLine) : Type 0 where
   pub writes : Writes f s v
+  pub put : ArePut (showing (created_writes f) []) done writes.log.events
   pub batches : AreBatches f.columns done
   pub rows : length (values_in done) ≡ s.dataset.shape.rows * f.columns
   pub few : needed_chunks (cutting_for f) s.dataset.shape.rows ≤ limit_of format_limits f.index
@@ -125,14 +135,14 @@ pub record HasClosed (f : CreatedFile) (done : List (List ℤ)) (s : Session) (v
 abbrev pub too_many : CreatedFile → ℕ → Option AppendError
 too_many f rows =
     if nat_lt (limit_of format_limits f.index) (needed_chunks (cutting_for f) rows)
-    then Some (appends.Chunks (needed_chunks (cutting_for f) rows) (limit_of format_limits f.index)) else None
+    then Some (errors.Chunks (needed_chunks (cutting_for f) rows) (limit_of format_limits f.index)) else None
 
 -- Why a batch is not appended behind so many values, but for the image and memory: a value is outside the type, or the rows need too many
 -- chunks.
 abbrev pub batch_refusal : CreatedFile → ℕ → List ℤ → Option AppendError
 batch_refusal f before [] = None
 batch_refusal f before (v ∷ vs) =
-    elim (first_outside f.int_type 0 (v ∷ vs)) [ Some x ↦ Some (appends.OutOfRange x.0 x.1) | None ↦ too_many f ((before + length (v ∷ vs)) / f.columns) ]
+    elim (first_outside f.int_type 0 (v ∷ vs)) [ Some x ↦ Some (errors.OutOfRange x.0 x.1) | None ↦ too_many f ((before + length (v ∷ vs)) / f.columns) ]
 
 -- the first batch that is refused, by its number from this one on, and why
 abbrev pub first_refused : CreatedFile → (before batch : ℕ) → List (List ℤ) → Option (ℕ × AppendError)
@@ -140,23 +150,29 @@ first_refused f before batch [] = None
 first_refused f before batch (vs ∷ rest) =
     elim (batch_refusal f before vs) [ Some e ↦ Some (batch, e) | None ↦ first_refused f (before + length vs) (batch + 1) rest ]
 
--- The batch was appended behind these, which were flushed, and the file, of so many bytes at most, has no place for it, within the bounds
--- by the loads of the session's log.
+-- The batch was appended behind these, which were flushed, and nothing else happened since the creation. The file, of so many bytes at most,
+-- has no place for what comes next of it in turn, a new chunk or a block of the index, within the bounds by the loads of every log of the
+-- session.
 pub record LacksPlace (f : CreatedFile) (most : ℕ) (done : List (List ℤ)) (batch : List ℤ) (full : Full) : Type 0 where
   pub session : Session
   pub log : Log
   pub stands : Stands session log
   pub new : log ≡ log_of f log.events
+  pub before : List Happening
+  pub put : ArePut (showing (created_writes f) []) done before
+  pub events : log.events ≡ appends batch ∷ before
   pub dataset : session.dataset ≡ with_rows session.dataset.shape.rows (described_of f)
+  pub places : session.places.limit ≡ most
   pub limit : full.limit ≡ most
   pub appended : appended log ≡ values_in done ++ batch
   pub flushed : flushed_rows log ≡ length (values_in done) / f.columns
-  pub lacks : NoPlace session log full
+  pub full_for : IsFullFor session full
+  pub lacks : (any : Log) → Stands session any → NoPlace session any full
 
 -- why a batch was not flushed behind these
 abbrev pub Refuses : CreatedFile → ℕ → List (List ℤ) → List ℤ → Halt → Type 0
-Refuses f most done batch (halts.OutOfRange index value) = batch_refusal f (length (values_in done)) batch ≡ Some (appends.OutOfRange index value)
-Refuses f most done batch (halts.Chunks chunks limit) = batch_refusal f (length (values_in done)) batch ≡ Some (appends.Chunks chunks limit)
+Refuses f most done batch (halts.OutOfRange index value) = batch_refusal f (length (values_in done)) batch ≡ Some (errors.OutOfRange index value)
+Refuses f most done batch (halts.Chunks chunks limit) = batch_refusal f (length (values_in done)) batch ≡ Some (errors.Chunks chunks limit)
 Refuses f most done batch (halts.Space full) = (batch_refusal f (length (values_in done)) batch ≡ None) × LacksPlace f most done batch full
 Refuses f most done batch halts.Failed = Unit {0}
 Refuses f most done batch halts.OutOfMemory = Unit {0}
@@ -171,8 +187,8 @@ pub record IsFullAt (f : CreatedFile) (most : ℕ) (bs : List (List ℤ)) (batch
 
 -- why the batch of this number was not flushed: it is the first that is refused, or the file has no place for it, or it was no fault of its values
 abbrev pub Explains : CreatedFile → ℕ → List (List ℤ) → ℕ → Halt → Type 0
-Explains f most bs batch (halts.OutOfRange index value) = first_refused f 0 1 bs ≡ Some (batch, appends.OutOfRange index value)
-Explains f most bs batch (halts.Chunks chunks limit) = first_refused f 0 1 bs ≡ Some (batch, appends.Chunks chunks limit)
+Explains f most bs batch (halts.OutOfRange index value) = first_refused f 0 1 bs ≡ Some (batch, errors.OutOfRange index value)
+Explains f most bs batch (halts.Chunks chunks limit) = first_refused f 0 1 bs ≡ Some (batch, errors.Chunks chunks limit)
 Explains f most bs batch (halts.Space full) = IsFullAt f most bs batch full
 Explains f most bs batch halts.Failed = Unit {0}
 Explains f most bs batch halts.OutOfMemory = Unit {0}

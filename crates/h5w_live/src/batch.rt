@@ -8,7 +8,7 @@ ghost use Rattle.h5w_space.specs.declared.Full.{Full};
 ghost use Rattle.h5w_creation_laws.specs.CreatedFiles.{CreatedFile};
 ghost use Rattle.h5w_session.specs.Flushes.{SameBut};
 ghost use Rattle.h5w_session.specs.Loads.{NoPlace};
-ghost use Rattle.h5w_session.specs.Refusals.{append_refusal, flush_refusal};
+ghost use Rattle.h5w_session.specs.Refusals.{IsFullFor, append_refusal, flush_refusal};
 ghost use Rattle.h5w_session.specs.Sessions.{AreRows, TakesRows, with_values};
 ghost use Rattle.h5w_session.specs.Stands.{Stands};
 ghost use Rattle.h5w_session.specs.declared.refusal.AppendError.TheVariants as appending;
@@ -70,6 +70,7 @@ fn plan<R: Wait>(
     ensures stands { OnOk result ((log : Log) → Stands session.old log → Stands session.new (and_now (plans (length session.new.pending)) log)) }
     ensures range { (index : ℕ) (value : ℤ) → result ≢ Err (Halt.OutOfRange index value) }
     ensures chunks { (chunks limit : ℕ) → result ≢ Err (Halt.Chunks chunks limit) }
+    ensures full { (full : Full) → result ≡ Err (Halt.Space full) → IsFullFor session.old full }
     ensures space { (full : Full) → result ≡ Err (Halt.Space full) → (log : Log) → Stands session.old log → NoPlace session.old log full }
     ensures kept { OnErr result (SameBut session.old session.new) }
     ensures left { OnErr result ((log : Log) → Stands session.old log → Stands session.new log) }

@@ -53,6 +53,7 @@ pub fn flush<R: Wait>(
     ensures stands { IfOk result (λ pieces. (log : Log) → Stands session.old log → Stands session.new (and_now (plans pieces) log)) }
     ensures refused { (e : FlushError) → flush_refusal session.old ≡ Some e → result ≡ Err e }
     ensures causes { IfErr result (λ e. (flush_refusal session.old ≡ Some e) ⊎ (IsSpace e ⊎ ((e ≡ FlushError.Failed) ⊎ (e ≡ FlushError.OutOfMemory)))) }
+    ensures full { (full : Full) → result ≡ Err (FlushError.Space full) → IsFullFor session.old full }
     ensures bounds { (full : Full) → result ≡ Err (FlushError.Space full) → (log : Log) → Stands session.old log → NoPlace session.old log full }
     ensures kept { OnErr result (SameBut session.old session.new) }
     ensures left { OnErr result ((log : Log) → Stands session.old log → Stands session.new log) }

@@ -1,7 +1,13 @@
 use Rattle.std.proofs.Common.{rules, ◌≡◌, subst}
 use Rattle.h5w_space.specs.declared.Full.{Full}
 use Rattle.h5w_session.specs.Loads.{NoPlace}
+use Rattle.h5w_session.specs.Refusals.{IsFullFor}
 use Rattle.h5w_live.proofs.batch.plan.Goals as goal
+
+pub returns-in-Err-Space-clause-full : goal.returns-in-Err-Space-clause-full
+returns-in-Err-Space-clause-full g c = λ full same.
+    let is : c.in-Err-Space.full ≡ full = cc in
+    subst (λ (x : Full). IsFullFor c.args.session.now x) is (c.flush.ensures.full c.in-Err-Space.full (search rules))
 
 pub returns-in-Err-Space-clause-space : goal.returns-in-Err-Space-clause-space
 returns-in-Err-Space-clause-space g c = λ full same log stands.

@@ -60,5 +60,5 @@ returns-in-Err-plan-clause-space g c = λ f most done lines h full same.
     let halt : c.in-Err-plan.halt ≡ halts.Space full = cc in (
       sym (refusal_for f most done c.args.session.now c.args.seat.now lines h c.args.values.now c.requires.rows c.requires.some) ∙ c.in-Ok.ensures.accepted,
       lacks_place f most done c.args.session.now c.args.seat.now lines c.args.values.now c.take.new.session full h c.in-Ok.ensures.added c.in-Ok.ensures.stands
-          (c.plan.ensures.space full (c.in-Err-plan.is ∙ ap Err halt)),
+          (c.plan.ensures.full full (c.in-Err-plan.is ∙ ap Err halt)) (c.plan.ensures.space full (c.in-Err-plan.is ∙ ap Err halt)),
     )
