@@ -10,14 +10,12 @@ ghost use Rattle.h5w_cli.specs.Plays.{Plays};
 
 use crate::answer::{Refusal, answer};
 use crate::ending::Ending;
+use h5w_batches::INPUT_LIMIT;
 use h5w_core::{Options, World};
 use h5w_text::{
     ErrorLine, Intake, Lines, Next, Sink, Source, Status, TextLine, say, tell, write_reply,
 };
 use std::alloc::Global;
-
-/// The most bytes of an input.
-const INPUT_LIMIT: u64 = 1 << 40;
 
 /// Answers a line of the input, and writes the reply's text. What `text` had before is let go.
 fn answer_line<K: Sink>(
