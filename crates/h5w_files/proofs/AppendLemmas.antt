@@ -1,6 +1,5 @@
 -- What an append leaves of its file, and how it ends.
 use Rattle.std.proofs.Common.{◌≡◌, ◌⊎◌, ℕ, ◌/◌, ◌%◌, Bool, true, false, if◌then◌else◌, nat_lt, List, [], ◌∷◌, ◌++◌, length, ℤ, Result, Ok, Err, refl, sym, ap, ◌∙◌, subst, inl, inr, arith, tests}
-use Rattle.h5w_model.specs.Causes.{Rose}
 use Rattle.h5w_model.specs.Datasets.{refused_as, super_refusal, then_also}
 use Rattle.h5w_model.specs.Images.{apply, image}
 use Rattle.h5w_model.specs.Numbers.{range}
@@ -19,9 +18,9 @@ use Rattle.h5w_image.specs.View.{DiskView}
 use Rattle.h5w_session.specs.OpenAnswers.{writing_flags}
 use Rattle.h5w_session.specs.Sessions.{Session, cleared}
 use Rattle.h5w_text.specs.Errors.{error_text}
-use Rattle.h5w_text.specs.Says.{Said, SaidUnlessMemory, failed}
+use Rattle.h5w_text.specs.Says.{Said, SaidUnlessMemory}
 use Rattle.h5w_text.specs.Statuses.{status_of}
-use Rattle.h5w_text.specs.Streams.{SourceView, SinkView, GaveSome}
+use Rattle.h5w_text.specs.Streams.{SourceView, SinkView}
 use Rattle.h5w_text.specs.declared.error.ErrorLine.{ErrorLine}
 use Rattle.h5w_text.specs.declared.error.ErrorLine.TheVariants as errors
 use Rattle.h5w_text.specs.declared.status.Status.{Status}
@@ -30,13 +29,13 @@ use Rattle.h5w_files.specs.Images.{told_bytes}
 use Rattle.h5w_batches.specs.Batches.{Batches, after_lines, close_batch, no_batches}
 use Rattle.h5w_files.specs.Taken.{AreTaken, closed_text}
 use Rattle.h5w_files.specs.Puts.{writes_of}
-use Rattle.h5w_files.specs.Appends.{AppendEnds, AppendsSome, AppendsUpTo, Broke, Closed, ClosedUp, Holds, InputRefuses, IsOpenOver, ShutAgain, Unopened, columns_of, lines_of}
+use Rattle.h5w_files.specs.Appends.{AppendEnds, AppendsSome, Broke, Broken, Closed, ClosedUp, Holds, InputRefuses, IsOpenOver, ShutAgain, Unopened, columns_of, lines_of}
 use Rattle.h5w_files.specs.Appending.{Settles}
 use Rattle.h5w_files.specs.declared.batching.Ending.TheVariants as endings
 use Rattle.h5w_files.proofs.BatchLemmas.{all_values}
 use Rattle.h5w_files.proofs.ClearLemmas.{any_told}
 use Rattle.h5w_files.proofs.ShutLemmas.{bytes_after, holds_after}
-use Rattle.h5w_files.proofs.SinkLemmas.{gave_some_more, said_behind}
+use Rattle.h5w_files.proofs.SinkLemmas.{gave_nothing}
 
 -- ---- The superblock of a file that is opened
 
@@ -114,16 +113,22 @@ closed_of_up name at limit keeps first b opened c = record {
   shut = shut_again name at limit keeps first b opened c;
 }
 
+-- and the one whose disk failed
+broken_of : {v w : DiskView} (name at : List ℕ) (limit : ℕ) (keeps : Bool) (first : Session) (b : Batches) → IsOpenOver name at limit keeps v first → Broke name first b v w → Broken name at first b v w
+broken_of name at limit keeps first b opened broke =
+    record { broke = broke; holds = holds_after name at first b broke.puts (first_named name at limit keeps first opened) opened.stands broke.disk broke.logs }
+
 -- ---- Its end
 
 pub appends_done : {v w : DiskView} {k l m : SinkView} {x y : SourceView} (name at : List ℕ) (limit : ℕ) (keeps : Bool) (n : ℕ) (first : Session) (status : Status) (text : List ℕ) → IsOpenOver name at limit keeps v first → Settles name n first x y v w k l (Ok tt)
     → text ≡ closed_text n → Said text statuses.Done status l m → AppendEnds name at limit keeps x y v w status k m
-appends_done {v} {w} name at limit keeps n first status text opened h is said =
+appends_done {v} {w} {k} {l} name at limit keeps n first status text opened h is said =
     let b = close_batch (after_lines no_batches h.0) in
     let closed = closed_of_up name at limit keeps first b opened h.2 in
-    record {
+    inl (record {
       answer = Ok tt;
-      text = lines_of first b.closed ++ text;
+      front = lines_of first b.closed;
+      last = text;
       comes = record {
         first = first;
         opened = opened;
@@ -132,69 +137,71 @@ appends_done {v} {w} name at limit keeps n first status text opened h is said =
         closed = closed;
         holds = λ img rows columns values sm told valid reads.
             subst (λ (vs : List ℤ). Holds name at w columns (values ++ vs)) (all_values h.0) (closed.holds img rows columns values sm told valid reads);
-        text_is = ap (λ (t : List ℕ). lines_of first b.closed ++ t) (is ∙ ap closed_text h.4);
+        front_is = refl;
+        last_is = is ∙ ap closed_text h.4;
       };
-      said = said_behind (lines_of first b.closed) text statuses.Done status h.3 said;
-    }
+      middle = l;
+      gave = h.3;
+      said = said;
+    })
 
 some_appends : {v w : DiskView} {x y : SourceView} (name at : List ℕ) (limit : ℕ) (keeps : Bool) (first : Session) (b : Batches) (e : ErrorLine) → IsOpenOver name at limit keeps v first → AreTaken (columns_of first) x y b
-    → InputRefuses name first x y b v e → ClosedUp name first b v w → AppendsSome name at limit keeps x y v w e (lines_of first b.closed ++ error_text e)
+    → InputRefuses name first x y b v e → ClosedUp name first b v w → AppendsSome name at limit keeps x y v w e (lines_of first b.closed) (error_text e)
 some_appends name at limit keeps first b e opened taken refused closed =
-    record { first = first; opened = opened; batches = b; taken = taken; refused = refused; closed = closed_of_up name at limit keeps first b opened closed; text_is = refl }
-
-up_to : {v w : DiskView} {x y : SourceView} (name at : List ℕ) (limit : ℕ) (keeps : Bool) (first : Session) (b : Batches) → IsOpenOver name at limit keeps v first → AreTaken (columns_of first) x y b → Broke name first b v w
-    → AppendsUpTo name at limit keeps x y v w (lines_of first b.closed ++ error_text errors.Disk)
-up_to name at limit keeps first b opened taken broke = record {
-  first = first;
-  opened = opened;
-  batches = b;
-  taken = taken;
-  broke = broke;
-  holds = holds_after name at first b broke.puts (first_named name at limit keeps first opened) opened.stands broke.disk broke.logs;
-  text_is = refl;
-}
+    record { first = first; opened = opened; batches = b; taken = taken; refused = refused; closed = closed_of_up name at limit keeps first b opened closed; front_is = refl; last_is = refl }
 
 pub appends_refused : {v w : DiskView} {k l m : SinkView} {x y : SourceView} (name at : List ℕ) (limit : ℕ) (keeps : Bool) (n : ℕ) (first : Session) (e : ErrorLine) (status : Status) → IsOpenOver name at limit keeps v first
     → Settles name n first x y v w k l (Err (endings.Refused e)) → SaidUnlessMemory (error_text e) (status_of e) status l m → AppendEnds name at limit keeps x y v w status k m
-appends_refused name at limit keeps n first e status opened h (inl said) = record {
+appends_refused {l = l} name at limit keeps n first e status opened h (inl said) = inl (record {
   answer = Err e;
-  text = lines_of first h.0.closed ++ error_text e;
+  front = lines_of first h.0.closed;
+  last = error_text e;
   comes = inr (inl (some_appends name at limit keeps first h.0 e opened h.1 h.2 h.3));
-  said = said_behind (lines_of first h.0.closed) (error_text e) (status_of e) status h.4 said;
-}
-appends_refused name at limit keeps n first e status opened h (inr said) = record {
+  middle = l;
+  gave = h.4;
+  said = said;
+})
+appends_refused {l = l} name at limit keeps n first e status opened h (inr said) = inl (record {
   answer = Err errors.Memory;
-  text = lines_of first h.0.closed ++ error_text errors.Memory;
+  front = lines_of first h.0.closed;
+  last = error_text errors.Memory;
   comes = inr (inl (some_appends name at limit keeps first h.0 errors.Memory opened h.1 tt h.3));
-  said = said_behind (lines_of first h.0.closed) (error_text errors.Memory) statuses.Memory status h.4 said;
-}
+  middle = l;
+  gave = h.4;
+  said = said;
+})
 
 pub appends_broke : {v w : DiskView} {k l m : SinkView} {x y : SourceView} (name at : List ℕ) (limit : ℕ) (keeps : Bool) (n : ℕ) (first : Session) (status : Status) → IsOpenOver name at limit keeps v first → Settles name n first x y v w k l (Err endings.Disk)
     → Said (error_text errors.Disk) statuses.Disk status l m → AppendEnds name at limit keeps x y v w status k m
-appends_broke name at limit keeps n first status opened h said = record {
+appends_broke {l = l} name at limit keeps n first status opened h said = inl (record {
   answer = Err errors.Disk;
-  text = lines_of first h.0.closed ++ error_text errors.Disk;
-  comes = inr (inr (refl, up_to name at limit keeps first h.0 opened h.1 h.2.broke));
-  said = said_behind (lines_of first h.0.closed) (error_text errors.Disk) statuses.Disk status h.2.gave said;
-}
+  front = lines_of first h.0.closed;
+  last = error_text errors.Disk;
+  comes = inr (inr (
+    refl,
+    record {
+      first = first;
+      opened = opened;
+      batches = h.0;
+      taken = h.1;
+      broken = broken_of name at limit keeps first h.0 opened h.2.broke;
+      front_is = refl;
+      last_is = refl;
+    },
+  ));
+  middle = l;
+  gave = h.2.gave;
+  said = said;
+})
 
-pub appends_half : {v w : DiskView} {k l : SinkView} {x y : SourceView} (name at : List ℕ) (limit : ℕ) (keeps : Bool) (n : ℕ) (first : Session) → IsOpenOver name at limit keeps v first → Settles name n first x y v w k l (Err endings.Sink)
+-- the sink failed at the line of a batch
+pub appends_cut : {v w : DiskView} {k l : SinkView} {x y : SourceView} (name at : List ℕ) (limit : ℕ) (keeps : Bool) (n : ℕ) (first : Session) → IsOpenOver name at limit keeps v first → Settles name n first x y v w k l (Err endings.Sink)
     → AppendEnds name at limit keeps x y v w statuses.Sink k l
-appends_half {v} {w} {k} {l} {x} {y} name at limit keeps n first opened h = cases h.0 h.1 h.2 h.3 h.4
+appends_cut {v} {w} name at limit keeps n first opened h = inr (refl, record { first = first; opened = opened; batches = h.0; taken = h.1; stops = h.3; left = cases h.0 h.2 })
   where
-    cases : (b : Batches) → AreTaken (columns_of first) x y b → ClosedUp name first b v w ⊎ Broke name first b v w → Rose k.faults l.faults → GaveSome (lines_of first b.closed) k l → AppendEnds name at limit keeps x y v w statuses.Sink k l
-    cases b taken (inl closed) rose gave = record {
-      answer = Err errors.Memory;
-      text = lines_of first b.closed ++ error_text errors.Memory;
-      comes = inr (inl (some_appends name at limit keeps first b errors.Memory opened taken tt closed));
-      said = failed refl rose (gave_some_more (lines_of first b.closed) (error_text errors.Memory) gave);
-    }
-    cases b taken (inr broke) rose gave = record {
-      answer = Err errors.Disk;
-      text = lines_of first b.closed ++ error_text errors.Disk;
-      comes = inr (inr (refl, up_to name at limit keeps first b opened taken broke));
-      said = failed refl rose (gave_some_more (lines_of first b.closed) (error_text errors.Disk) gave);
-    }
+    cases : (b : Batches) → ClosedUp name first b v w ⊎ Broke name first b v w → Closed name at first b v w ⊎ Broken name at first b v w
+    cases b (inl closed) = inl (closed_of_up name at limit keeps first b opened closed)
+    cases b (inr broke) = inr (broken_of name at limit keeps first b opened broke)
 
 wanting : {v w : DiskView} (name at : List ℕ) (e : ErrorLine) → Unopened name at v w e → Unopened name at v w errors.Memory
 wanting {v} name at e h = record { disk = h.disk; exact = any_told v.told (λ d. inl (inr refl)); kinds = inr (OutOfMemory, refl); cause = λ f. cc }
@@ -202,6 +209,21 @@ wanting {v} name at e h = record { disk = h.disk; exact = any_told v.told (λ d.
 -- the file was not opened
 pub appends_none : {v w : DiskView} {k l : SinkView} (x : SourceView) (name at : List ℕ) (limit : ℕ) (keeps : Bool) (e : ErrorLine) (status : Status) → Unopened name at v w e → SaidUnlessMemory (error_text e) (status_of e) status k l
     → AppendEnds name at limit keeps x x v w status k l
-appends_none x name at limit keeps e status h (inl said) = record { answer = Err e; text = error_text e; comes = inl (record { unopened = h; unread = refl; text_is = refl }); said = said }
-appends_none x name at limit keeps e status h (inr said) =
-    record { answer = Err errors.Memory; text = error_text errors.Memory; comes = inl (record { unopened = wanting name at e h; unread = refl; text_is = refl }); said = said }
+appends_none {k = k} x name at limit keeps e status h (inl said) = inl (record {
+  answer = Err e;
+  front = [];
+  last = error_text e;
+  comes = inl (record { unopened = h; unread = refl; front_is = refl; last_is = refl });
+  middle = k;
+  gave = gave_nothing k;
+  said = said;
+})
+appends_none {k = k} x name at limit keeps e status h (inr said) = inl (record {
+  answer = Err errors.Memory;
+  front = [];
+  last = error_text errors.Memory;
+  comes = inl (record { unopened = wanting name at e h; unread = refl; front_is = refl; last_is = refl });
+  middle = k;
+  gave = gave_nothing k;
+  said = said;
+})

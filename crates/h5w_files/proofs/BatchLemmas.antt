@@ -1,12 +1,12 @@
 -- Batches, their rows, and the logs that store them.
 use Rattle.std.proofs.Common.{◌≡◌, ℕ, zero, suc, ◌+◌, ◌*◌, ◌/◌, ◌<◌, ◌≤◌, List, [], ◌∷◌, ◌++◌, length, ℤ, refl, sym, ap, ◌∙◌, arith, append_assoc, append-nil}
 use Rattle.std.proofs.lemmas.Bool.{le-leb, lt-leb}
-use Rattle.std.specs.Prelude.{codes, if◌then◌else◌}
+use Rattle.std.specs.Prelude.{if◌then◌else◌}
 use Rattle.h5w_model.specs.Logs.{Happening, Log, and_now, appended_in, flushed_in, hist, plans, shows}
 use Rattle.h5w_model.specs.declared.piece.Write.{Write}
-use Rattle.h5w_text.specs.Table.{numbers_text}
 use Rattle.h5w_batches.specs.Batches.{Batches, after_line, after_lines, batch_of, close_batch, no_batches}
 use Rattle.h5w_files.specs.Taken.{rows_after, rows_lines, values_of}
+use Rattle.h5w_files.specs.Polls.{count_text}
 use Rattle.h5w_files.specs.Puts.{showing}
 
 -- ---- Batches
@@ -43,11 +43,11 @@ rows-append c rows [] b = refl
 rows-append c rows (x ∷ bs) b = rows-append c (rows + length x / c) bs b
 
 pub rows_lines-append : (c rows : ℕ) (bs : List (List ℤ)) (b : List ℤ)
-    → rows_lines c rows (bs ++ b ∷ []) ≡ rows_lines c rows bs ++ numbers_text (codes "rows") ((rows_after c rows bs + length b / c) ∷ [])
-rows_lines-append c rows [] b = append-nil (numbers_text (codes "rows") ((rows + length b / c) ∷ []))
+    → rows_lines c rows (bs ++ b ∷ []) ≡ rows_lines c rows bs ++ count_text (rows_after c rows bs + length b / c)
+rows_lines-append c rows [] b = append-nil (count_text (rows + length b / c))
 rows_lines-append c rows (x ∷ bs) b =
-    ap (λ (t : List ℕ). numbers_text (codes "rows") ((rows + length x / c) ∷ []) ++ t) (rows_lines-append c (rows + length x / c) bs b)
-    ∙ sym (append_assoc (numbers_text (codes "rows") ((rows + length x / c) ∷ [])) (rows_lines c (rows + length x / c) bs) (numbers_text (codes "rows") ((rows_after c (rows + length x / c) bs + length b / c) ∷ [])))
+    ap (λ (t : List ℕ). count_text (rows + length x / c) ++ t) (rows_lines-append c (rows + length x / c) bs b)
+    ∙ sym (append_assoc (count_text (rows + length x / c)) (rows_lines c (rows + length x / c) bs) (count_text (rows_after c (rows + length x / c) bs + length b / c)))
 
 divides : (n c : ℕ) → 1 ≤ c → n * c / c ≡ n
 divides n c some = grind arith
@@ -59,7 +59,7 @@ waiting_rows c n vs some e = ap (λ k. k / c) e ∙ divides n c some
 expands : (m c : ℕ) → suc m * c ≡ m * c + c
 expands m c = grind arith
 
-some_batch : (c n : ℕ) (vs : List ℤ) → 1 ≤ c → 1 ≤ n → length vs ≡ n * c → batch_of vs ≡ vs ∷ []
+pub some_batch : (c n : ℕ) (vs : List ℤ) → 1 ≤ c → 1 ≤ n → length vs ≡ n * c → batch_of vs ≡ vs ∷ []
 some_batch c zero vs some more e = absurd (omega (arith, more))
 some_batch c (suc m) [] some more e = absurd (omega (arith, e, expands m c, some))
 some_batch c (suc m) (v ∷ vs) some more e = refl
@@ -69,10 +69,10 @@ batch_rows c rows n b some more e =
     ap (λ (x : List (List ℤ)). rows_after c rows (b.closed ++ x)) (some_batch c n b.waiting some more e) ∙ rows-append c rows b.closed b.waiting ∙ ap (λ k. rows_after c rows b.closed + k) (waiting_rows c n b.waiting some e)
 
 pub batch_lines : (c rows n : ℕ) (b : Batches) → 1 ≤ c → 1 ≤ n → length b.waiting ≡ n * c
-    → rows_lines c rows (close_batch b).closed ≡ rows_lines c rows b.closed ++ numbers_text (codes "rows") ((rows_after c rows b.closed + n) ∷ [])
+    → rows_lines c rows (close_batch b).closed ≡ rows_lines c rows b.closed ++ count_text (rows_after c rows b.closed + n)
 batch_lines c rows n b some more e =
     ap (λ (x : List (List ℤ)). rows_lines c rows (b.closed ++ x)) (some_batch c n b.waiting some more e) ∙ rows_lines-append c rows b.closed b.waiting
-    ∙ ap (λ k. rows_lines c rows b.closed ++ numbers_text (codes "rows") ((rows_after c rows b.closed + k) ∷ [])) (waiting_rows c n b.waiting some e)
+    ∙ ap (λ k. rows_lines c rows b.closed ++ count_text (rows_after c rows b.closed + k)) (waiting_rows c n b.waiting some e)
 
 none_waits : (c : ℕ) (vs : List ℤ) → length vs ≡ 0 * c → vs ≡ []
 none_waits c [] e = refl

@@ -95,10 +95,15 @@ freed_end : (b : Bool) (s t : Space) → Freed b s t → t.end ≡ s.end
 freed_end true s t is = ap (λ (x : Space). x.end) is
 freed_end false s t is = is.end
 
+freed_limit : (b : Bool) (s t : Space) → Freed b s t → t.limit ≡ s.limit
+freed_limit true s t is = ap (λ (x : Space). x.limit) is
+freed_limit false s t is = is.limit
+
 -- what a piece leaves of its session
 record Leaving (s t : Session) (ws : List Write) : Type 0 where
   session : t ≡ record s { places = t.places; committed = t.committed; pending = t.pending }
   end : t.places.end ≡ s.places.end
+  limit : t.places.limit ≡ s.places.limit
   pending : t.pending ≡ ws
 
 leaving : (s : Session) (ws : List Write) (t : Session) → AfterPiece s ws t → Leaving s t ws
@@ -108,6 +113,7 @@ leaving s [] t after =
     record {
       session = after.1 ∙ (λ i. record s { places = t.places; committed = sym committed i; pending = sym pending i });
       end = freed_end s.keeps s.places t.places after.0;
+      limit = freed_limit s.keeps s.places t.places after.0;
       pending = pending;
     }
 leaving s (w ∷ ws) t after =
@@ -117,6 +123,7 @@ leaving s (w ∷ ws) t after =
     record {
       session = after ∙ (λ i. record s { places = sym places i; committed = sym committed i; pending = sym pending i });
       end = ap (λ (x : Space). x.end) places;
+      limit = ap (λ (x : Space). x.limit) places;
       pending = pending;
     }
 
@@ -130,6 +137,7 @@ puts_one {v} {w} name s t wr ws pending after stands p =
       pieces = pending ∙ ap (λ (xs : List Write). wr ∷ xs) (sym l.pending);
       session = l.session;
       end = l.end;
+      limit = l.limit;
       stands = stands;
       disk = record { told = p.told ∙ one v.told; faults = p.faults; through = p.through };
       since = (omega arith, p.faults, tt);
@@ -151,6 +159,7 @@ puts_none {v} {w} name s p room ends = record {
   pieces = refl;
   session = refl;
   end = refl;
+  limit = refl;
   stands = λ log stands. stands;
   disk = record { told = p.told ∙ no_puts name v.told; faults = p.faults; through = p.through };
   since = tt;
@@ -182,6 +191,7 @@ puts_then {u} {v} {w} name r s t p q =
           ∙ ap (λ (ws : List Write). ws ++ t.pending) (sym (writes-append p.puts q.puts));
       session = q.session ∙ (λ i. record (p.session i) { places = t.places; committed = t.committed; pending = t.pending });
       end = q.end ∙ p.end;
+      limit = q.limit ∙ p.limit;
       stands = λ log stands. subst (λ (l : Log). Stands t l) (sym (ap (λ (ws : List Write). showing ws log) (writes-append p.puts q.puts) ∙ showing-append (writes_of p.puts) (writes_of q.puts) log))
           (q.stands (showing (writes_of p.puts) log) (p.stands log stands));
       disk = record {

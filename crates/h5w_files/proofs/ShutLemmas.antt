@@ -134,9 +134,9 @@ settles_disk name first s h = h
 -- a sink that failed
 pub settles_sink : {u v : DiskView} {k l : SinkView} {x y : SourceView} (w : DiskView) (name : List ℕ) (first s : Session) (r : Result (Unit {0}) Ending) → ClosesBy name s v w r → TakesInput name first s x y u v k l (Err endings.Sink)
     → Settles name (rows_of s) first x y u w k l (Err endings.Sink)
-settles_sink {u} w name first s (Ok a) c h = (h.0, h.1, inl (c first h.0 u h.2.stored), h.2.rose, h.2.gave)
+settles_sink {u} w name first s (Ok a) c h = (h.0, h.1, inl (c first h.0 u h.2.stored), h.2.stops)
 settles_sink w name first s (Err (endings.Refused e)) c h = absurd c
-settles_sink {u} w name first s (Err endings.Disk) c h = (h.0, h.1, inr (c first h.0 u h.2.stored), h.2.rose, h.2.gave)
+settles_sink {u} w name first s (Err endings.Disk) c h = (h.0, h.1, inr (c first h.0 u h.2.stored), h.2.stops)
 settles_sink w name first s (Err endings.Sink) c h = absurd c
 
 -- ---- The file
@@ -243,7 +243,7 @@ pub settles_from : {v u : DiskView} (w : DiskView) (k l : SinkView) (x y : Sourc
 settles_from w k l x y name n first (Ok a) p h = (h.0, h.1, closed_before name first (close_batch (after_lines no_batches h.0)) p h.2, h.3, h.4)
 settles_from w k l x y name n first (Err (endings.Refused e)) p h = (h.0, h.1, refuses_from x y name first h.0 e p h.2, closed_before name first h.0 p h.3, h.4)
 settles_from w k l x y name n first (Err endings.Disk) p h = (h.0, h.1, record { broke = broke_from name first h.0 p h.2.broke; gave = h.2.gave })
-settles_from {v} {u} w k l x y name n first (Err endings.Sink) p h = (h.0, h.1, either h.0 h.2, h.3, h.4)
+settles_from {v} {u} w k l x y name n first (Err endings.Sink) p h = (h.0, h.1, either h.0 h.2, h.3)
   where
     either : (b : Batches) → ClosedUp name first b u w ⊎ Broke name first b u w → ClosedUp name first b v w ⊎ Broke name first b v w
     either b (inl c) = inl (closed_before name first b p c)

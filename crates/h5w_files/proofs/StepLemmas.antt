@@ -1,6 +1,6 @@
 -- The steps of an append: batches that are closed, and lines that are taken.
 use Rattle.std.proofs.Common.{◌≡◌, ◌≢◌, ◌⊎◌, ℕ, ◌+◌, ◌*◌, ◌≤◌, Bool, true, false, List, [], ◌∷◌, ◌++◌, length, ℤ, Option, Some, None, Result, Ok, Err, refl, sym, ap, ◌∙◌, subst, inl, inr, arith, append-nil}
-use Rattle.std.specs.Prelude.{IfSome, IsSome, codes, nat_lt, if◌then◌else◌}
+use Rattle.std.specs.Prelude.{IfSome, IsSome, nat_lt, if◌then◌else◌}
 use Rattle.h5w_model.specs.Causes.{Rose}
 use Rattle.h5w_model.specs.Datasets.{Described}
 use Rattle.h5w_model.specs.Lawful.{first_outside}
@@ -14,19 +14,18 @@ use Rattle.h5w_session.specs.declared.refusal.FlushError.{FlushError}
 use Rattle.h5w_session.specs.declared.refusal.FlushError.TheVariants as flush_errors
 use Rattle.h5w_text.specs.Scripts.{number_line_of}
 use Rattle.h5w_text.specs.Streams.{SinkView, Gave, GaveSome}
-use Rattle.h5w_text.specs.Table.{numbers_text}
 use Rattle.h5w_text.specs.declared.error.ErrorLine.{ErrorLine}
 use Rattle.h5w_text.specs.declared.error.ErrorLine.TheVariants as errors
 use Rattle.h5w_batches.specs.Batches.{Batches, after_line, close_batch}
-use Rattle.h5w_files.specs.Appends.{HasTaken, columns_of, lines_of}
+use Rattle.h5w_files.specs.Appends.{HasTaken, columns_of, last_line_of, lines_of}
 use Rattle.h5w_files.specs.Appending.{AppendsAll, AppendsBy, Closes, FlushRefused, FlushesBy, Halted, HasNone, IsReady, LineRefused, Planned, PutsAll, PutsBy, PutsHalted, Steps, StepsOn, TakesLine, Told, Unflushed, Unput, ValuesRefused}
+use Rattle.h5w_files.specs.Polls.{count_text}
 use Rattle.h5w_files.specs.Puts.{writes_of}
 use Rattle.h5w_files.specs.declared.batching.Ending.{Ending}
 use Rattle.h5w_files.specs.declared.batching.Ending.TheVariants as endings
-use Rattle.h5w_files.proofs.BatchLemmas.{batch_lines, nothing_closes}
+use Rattle.h5w_files.proofs.BatchLemmas.{batch_lines, batch_rows, nothing_closes, some_batch}
 use Rattle.h5w_files.proofs.PutLemmas.{length-writes, puts_there}
-use Rattle.h5w_batches.proofs.InputLemmas.{rose_before}
-use Rattle.h5w_files.proofs.SinkLemmas.{gave_both, gave_then_some}
+use Rattle.h5w_files.proofs.SinkLemmas.{gave_both}
 use Rattle.h5w_files.proofs.StoreLemmas.{broke_batch, broke_before, stored_batch, stored_same, stored_unflushed, stored_values}
 
 -- ---- Refusals that a session gives which is ready
@@ -165,12 +164,17 @@ told_unput name first s b p t = record { stored = stored_same name first s b p t
 nothing_put : (v : DiskView) (name : List ℕ) → Unput name v v
 nothing_put v name = record { disk = record { told = refl; faults = omega arith; through = refl }; room = omega arith; end = omega arith }
 
--- the line of a batch stands behind those before it
-batch_text : (name : List ℕ) (first s : Session) (b : Batches) (bytes : List ℕ) → 1 ≤ columns_of first → 1 ≤ s.waits → HasTaken first s b → bytes ≡ numbers_text (codes "rows") (rows_of s ∷ [])
+-- the line of a batch
+batch_line : (name : List ℕ) (first s : Session) (b : Batches) (bytes : List ℕ) → 1 ≤ columns_of first → 1 ≤ s.waits → HasTaken first s b → bytes ≡ count_text (rows_of s) → last_line_of first (close_batch b).closed ≡ bytes
+batch_line name first s b bytes some waits h is =
+    ap count_text (batch_rows (columns_of first) first.dataset.shape.rows s.waits b some waits h.waits ∙ ap (λ n. n + s.waits) (sym h.rows)) ∙ sym is
+
+-- it stands behind those before it
+batch_text : (name : List ℕ) (first s : Session) (b : Batches) (bytes : List ℕ) → 1 ≤ columns_of first → 1 ≤ s.waits → HasTaken first s b → bytes ≡ count_text (rows_of s)
     → lines_of first (close_batch b).closed ≡ lines_of first b.closed ++ bytes
 batch_text name first s b bytes some waits h is =
     batch_lines (columns_of first) first.dataset.shape.rows s.waits b some waits h.waits
-    ∙ ap (λ (t : List ℕ). lines_of first b.closed ++ t) (ap (λ n. numbers_text (codes "rows") (n ∷ [])) (ap (λ n. n + s.waits) (sym h.rows)) ∙ sym is)
+    ∙ ap (λ (t : List ℕ). lines_of first b.closed ++ t) (ap count_text (ap (λ n. n + s.waits) (sym h.rows)) ∙ sym is)
 
 -- its flush was refused
 pub close_refused : {v w : DiskView} {k : SinkView} (name : List ℕ) (s t : Session) (e : ErrorLine) → Unput name v w → Unflushed s t → FlushRefused s e → StepsOn name s t Closes (FlushRefused s) v w k k (Err (endings.Refused e))
@@ -200,7 +204,7 @@ close_broke name s t r ready p plan q =
     λ first b u m told. record { broke = broke_batch name first s t r b (some_columns name first s b told.stored.taken ready) p plan q told.stored; gave = told.gave }
 
 -- all was put, and its line was written
-pub close_whole : {v x w : DiskView} {k l : SinkView} (name : List ℕ) (s t r : Session) (bytes : List ℕ) → IsReady name s v → Unput name v x → Planned name s t x → PutsAll name t r x w → bytes ≡ numbers_text (codes "rows") (rows_of s ∷ [])
+pub close_whole : {v x w : DiskView} {k l : SinkView} (name : List ℕ) (s t r : Session) (bytes : List ℕ) → IsReady name s v → Unput name v x → Planned name s t x → PutsAll name t r x w → bytes ≡ count_text (rows_of s)
     → Gave bytes k l → StepsOn name s r Closes (FlushRefused s) v w k l (Ok tt)
 close_whole {v} {x} {w} {k} {l} name s t r bytes ready p plan q is gave = λ first b u m told.
     let some = some_columns name first s b told.stored.taken ready in (
@@ -213,7 +217,7 @@ close_whole {v} {x} {w} {k} {l} name s t r bytes ready p plan q is gave = λ fir
     )
 
 -- and the sink failed at its line
-pub close_half : {v x w : DiskView} {k l : SinkView} (name : List ℕ) (s t r : Session) (bytes : List ℕ) → IsReady name s v → Unput name v x → Planned name s t x → PutsAll name t r x w → bytes ≡ numbers_text (codes "rows") (rows_of s ∷ [])
+pub close_half : {v x w : DiskView} {k l : SinkView} (name : List ℕ) (s t r : Session) (bytes : List ℕ) → IsReady name s v → Unput name v x → Planned name s t x → PutsAll name t r x w → bytes ≡ count_text (rows_of s)
     → Rose k.faults l.faults → GaveSome bytes k l → StepsOn name s r Closes (FlushRefused s) v w k l (Err endings.Sink)
 close_half {v} {x} {w} {k} {l} name s t r bytes ready p plan q is rose gave = λ first b u m told.
     let some = some_columns name first s b told.stored.taken ready in (
@@ -221,8 +225,16 @@ close_half {v} {x} {w} {k} {l} name s t r bytes ready p plan q is rose gave = λ
       refl,
       record {
         stored = stored_batch name first s t r b some p plan q told.stored;
-        rose = rose_before m.faults k.faults l.faults told.gave.faults rose;
-        gave = subst (λ (y : List ℕ). GaveSome y m l) (sym (batch_text name first s b bytes some plan.waits told.stored.taken is)) (gave_then_some (lines_of first b.closed) bytes told.gave gave);
+        stops = record {
+          before = b.closed;
+          last = b.waiting;
+          closed = ap (λ (x : List (List ℤ)). b.closed ++ x) (some_batch (columns_of first) s.waits b.waiting some plan.waits told.stored.taken.waits);
+          waiting = refl;
+          middle = k;
+          gave = told.gave;
+          rose = rose;
+          some = subst (λ (y : List ℕ). GaveSome y k l) (sym (batch_line name first s b bytes some plan.waits told.stored.taken is)) gave;
+        };
       },
     )
 

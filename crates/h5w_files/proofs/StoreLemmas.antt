@@ -90,6 +90,9 @@ added_taken first s b values n some rows h =
       rows = h.rows;
       waits = length-append b.waiting values ∙ ap (λ k. k + length values) h.waits ∙ ap (λ k. s.waits * columns_of first + k) count ∙ distributes s.waits n (columns_of first)
           ∙ ap (λ k. (s.waits + k) * columns_of first) (sym quotient);
+      limit = h.limit;
+      rises = h.rises;
+      keeps = h.keeps;
     }
   where
     divides : (n c : ℕ) → 1 ≤ c → n * c / c ≡ n
@@ -133,6 +136,8 @@ but_taken first s t b same h =
     let root : t.root ≡ s.root = ap (λ (x : Session). x.root) same in
     let dataset : t.dataset ≡ s.dataset = ap (λ (x : Session). x.dataset) same in
     let waits : t.waits ≡ s.waits = ap (λ (x : Session). x.waits) same in
+    let end : t.places.end ≡ s.places.end = ap (λ (x : Session). x.places.end) same in
+    let low = h.rises in
     record {
       name = name ∙ h.name;
       root = root ∙ h.root ∙ ap (λ n. record (first.root) { end = n }) (sym (ap (λ (r : Super). r.end) root));
@@ -140,6 +145,9 @@ but_taken first s t b same h =
       named = λ n. ap (λ (d : Described). d.layout.address) dataset ∙ h.named n;
       rows = ap (λ (d : Described). d.shape.rows) dataset ∙ h.rows;
       waits = h.waits ∙ ap (λ n. n * columns_of first) (sym waits);
+      limit = ap (λ (x : Session). x.places.limit) same ∙ h.limit;
+      rises = omega (arith, low, end);
+      keeps = ap (λ (x : Session). x.keeps) same ∙ h.keeps;
     }
 
 pub same_log : (img : List ℕ) (columns : ℕ) (xs : List ℤ) (s t : Session) (ws : List Write) (b : Batches) → ((log : Log) → Stands s log → Stands t log) → Settled img columns xs s ws b → Settled img columns xs t ws b
@@ -219,6 +227,8 @@ puts_taken name first s t b p h =
     let root : t.root ≡ s.root = ap (λ (x : Session). x.root) same in
     let dataset : t.dataset ≡ s.dataset = ap (λ (x : Session). x.dataset) same in
     let waits : t.waits ≡ s.waits = ap (λ (x : Session). x.waits) same in
+    let end = p.end in
+    let low = h.rises in
     record {
       name = name_is ∙ h.name;
       root = root ∙ h.root ∙ ap (λ n. record (first.root) { end = n }) (sym (ap (λ (r : Super). r.end) root));
@@ -226,6 +236,9 @@ puts_taken name first s t b p h =
       named = λ n. ap (λ (d : Described). d.layout.address) dataset ∙ h.named n;
       rows = ap (λ (d : Described). d.shape.rows) dataset ∙ h.rows;
       waits = h.waits ∙ ap (λ n. n * columns_of first) (sym waits);
+      limit = p.limit ∙ h.limit;
+      rises = omega (arith, low, end);
+      keeps = ap (λ (x : Session). x.keeps) same ∙ h.keeps;
     }
 
 pub writes_both : (P : List Write → Type 0) (ps qs : List (Write × ℕ)) → P (writes_of ps ++ writes_of qs) → P (writes_of (ps ++ qs))
@@ -277,6 +290,8 @@ planned_taken name first s t b w some p h =
     let dataset : t.dataset ≡ grown (rows_of s) t.dataset.layout.address first.dataset = r.dataset ∙ ap (grown (rows_of s) t.dataset.layout.address) h.dataset in
     let here : IsNamed first.dataset → IsNamed s.dataset = λ n e. n (sym (h.named n) ∙ e) in
     let rows : t.dataset.shape.rows ≡ rows_of s = ap (λ (d : Described). d.shape.rows) dataset in
+    let low = h.rises in
+    let more = r.rises in
     record {
       name = r.name ∙ h.name;
       root = r.root ∙ ap (λ (x : Super). record x { end = t.root.end }) h.root;
@@ -284,6 +299,9 @@ planned_taken name first s t b w some p h =
       named = λ n. r.address (here n) ∙ h.named n;
       rows = rows ∙ ap (λ n. n + s.waits) h.rows ∙ sym (batch_rows (columns_of first) first.dataset.shape.rows s.waits b some p.waits h.waits);
       waits = sym (zero-mul (columns_of first)) ∙ ap (λ n. n * columns_of first) (sym r.waits);
+      limit = r.limit ∙ h.limit;
+      rises = omega (arith, low, more);
+      keeps = r.keeps ∙ h.keeps;
     }
 
 batch_log : (img : List ℕ) (columns : ℕ) (xs : List ℤ) (name : List ℕ) (s t r : Session) (ws vs : List Write) (b : Batches) (v : DiskView) → Planned name s t v → ((log : Log) → Stands t log → Stands r (showing vs log)) → length t.pending ≡ length vs
@@ -368,7 +386,17 @@ broke_batch {u} {v} {x} {w} name first s t r b some p plan q h =
 -- a session that has just begun has stored nothing
 pub stored_none : (name : List ℕ) (first : Session) (v : DiskView) → first.waits ≡ 0 → Stored name first first no_batches v v
 stored_none name first v none = record {
-  taken = record { name = refl; root = refl; dataset = refl; named = λ n. refl; rows = refl; waits = sym (zero-mul (columns_of first)) ∙ ap (λ n. n * columns_of first) (sym none) };
+  taken = record {
+    name = refl;
+    root = refl;
+    dataset = refl;
+    named = λ n. refl;
+    rows = refl;
+    waits = sym (zero-mul (columns_of first)) ∙ ap (λ n. n * columns_of first) (sym none);
+    limit = refl;
+    rises = omega arith;
+    keeps = refl;
+  };
   puts = [];
   disk = record { told = no_puts name v.told; faults = omega arith; through = refl };
   since = tt;

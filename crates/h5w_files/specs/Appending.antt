@@ -11,7 +11,7 @@ use Rattle.h5w_session.specs.Sessions.{Session, TakesRows, rows_of, stopped_of, 
 use Rattle.h5w_session.specs.Stands.{Stands}
 use Rattle.h5w_session.specs.declared.refusal.AppendError.TheVariants as append_errors
 use Rattle.h5w_text.specs.Scripts.{number_line_of}
-use Rattle.h5w_text.specs.Streams.{SourceView, SinkView, Gave, GaveSome}
+use Rattle.h5w_text.specs.Streams.{SourceView, SinkView, Gave}
 use Rattle.h5w_text.specs.declared.error.ErrorLine.{ErrorLine}
 use Rattle.h5w_text.specs.declared.error.ErrorLine.TheVariants as errors
 use Rattle.h5w_files.specs.Images.{LeavesFiles}
@@ -21,7 +21,7 @@ use Rattle.h5w_batches.specs.Reads.{Takes}
 use Rattle.h5w_batches.specs.declared.error.BatchError.{BatchError}
 use Rattle.h5w_batches.specs.declared.error.BatchError.TheVariants as batch_errors
 use Rattle.h5w_files.specs.Taken.{AreTaken, rows_after}
-use Rattle.h5w_files.specs.Appends.{Broke, ClosedUp, InputRefuses, IsOpenOver, Stored, Unopened, columns_of, lines_of}
+use Rattle.h5w_files.specs.Appends.{Broke, ClosedUp, InputRefuses, IsOpenOver, StopsAtLine, Stored, Unopened, columns_of, lines_of}
 use Rattle.h5w_files.specs.Puts.{PutsPieces, PutsSome}
 use Rattle.h5w_files.specs.declared.batching.Ending.{Ending}
 use Rattle.h5w_files.specs.declared.batching.Ending.TheVariants as endings
@@ -127,11 +127,10 @@ pub record Told (name : List ℕ) (first t : Session) (b : Batches) (u w : DiskV
   pub stored : Stored name first t b u w
   pub gave : Gave (lines_of first b.closed) k l
 
--- they were stored, and the sink failed behind some first part of their lines
+-- they were stored, and the sink failed at the line of the last
 pub record HalfTold (name : List ℕ) (first t : Session) (b : Batches) (u w : DiskView) (k l : SinkView) : Type 0 where
   pub stored : Stored name first t b u w
-  pub rose : Rose k.faults l.faults
-  pub gave : GaveSome (lines_of first b.closed) k l
+  pub stops : StopsAtLine first b k l
 
 -- the disk failed behind them, and their lines were written
 pub record BrokeTold (name : List ℕ) (first : Session) (b : Batches) (u w : DiskView) (k l : SinkView) : Type 0 where
@@ -213,7 +212,7 @@ Settles name rows first x y u w k l (Ok a) = (numbers : List (List ℤ)) × Read
 Settles name rows first x y u w k l (Err (endings.Refused e)) = (b : Batches) × AreTaken (columns_of first) x y b × InputRefuses name first x y b u e × ClosedUp name first b u w × Gave (lines_of first b.closed) k l
 Settles name rows first x y u w k l (Err endings.Disk) = (b : Batches) × AreTaken (columns_of first) x y b × BrokeTold name first b u w k l
 Settles name rows first x y u w k l (Err endings.Sink) =
-    (b : Batches) × AreTaken (columns_of first) x y b × (ClosedUp name first b u w ⊎ Broke name first b u w) × Rose k.faults l.faults × GaveSome (lines_of first b.closed) k l
+    (b : Batches) × AreTaken (columns_of first) x y b × (ClosedUp name first b u w ⊎ Broke name first b u w) × StopsAtLine first b k l
 
 -- whatever was taken
 abbrev pub SettlesOn : List ℕ → Session → DiskView → DiskView → Result (Unit {0}) Ending → Result (Unit {0}) Ending → Type 0

@@ -1,5 +1,5 @@
 -- What an append to a file tells, and what it leaves.
-use Rattle.std.specs.Prelude.{◌≡◌, ◌⊎◌, ℕ, ◌+◌, ◌*◌, ◌/◌, ◌%◌, Bool, true, List, [], ◌∷◌, ◌++◌, length, Option, Some, None, IfSome, Result, Ok, Err, ℤ, option_map}
+use Rattle.std.specs.Prelude.{◌≡◌, ◌⊎◌, ℕ, ◌+◌, ◌*◌, ◌/◌, ◌%◌, ◌≤◌, Bool, true, List, [], ◌∷◌, ◌++◌, length, Option, Some, None, IfSome, Result, Ok, Err, ℤ, option_map}
 use Rattle.h5w_model.specs.Causes.{Rose}
 use Rattle.h5w_model.specs.Datasets.{Described}
 use Rattle.h5w_model.specs.Findings.{Summary, Valid}
@@ -24,16 +24,18 @@ use Rattle.h5w_session.specs.Stands.{Stands}
 use Rattle.h5w_session.specs.declared.refusal.AppendError.TheVariants as appends
 use Rattle.h5w_text.specs.Errors.{error_text}
 use Rattle.h5w_text.specs.Scripts.{number_line_of}
-use Rattle.h5w_text.specs.Streams.{SourceView, SinkView}
+use Rattle.h5w_text.specs.Streams.{SourceView, SinkView, Gave, GaveSome}
 use Rattle.h5w_text.specs.declared.error.ErrorLine.{ErrorLine}
 use Rattle.h5w_text.specs.declared.error.ErrorLine.TheVariants as errors
 use Rattle.h5w_text.specs.declared.status.Status.{Status}
+use Rattle.h5w_text.specs.declared.status.Status.TheVariants as statuses
 use Rattle.h5w_files.specs.Images.{LeavesFiles, told_bytes}
-use Rattle.h5w_files.specs.Ends.{EndsBy}
+use Rattle.h5w_files.specs.Ends.{EndsBehind}
 use Rattle.h5w_batches.specs.Batches.{Batches, after_lines, close_batch, no_batches}
 use Rattle.h5w_batches.specs.Inputs.{ReadsAll, ReadsTooMuch, ReadsWhole, input_limit}
 use Rattle.h5w_files.specs.Taken.{AreTaken, ReadsLine, closed_text, rows_after, rows_lines, values_of}
 use Rattle.h5w_files.specs.Puts.{AllBetween, AllRose, after_puts, counts_of, writes_of}
+use Rattle.h5w_files.specs.Polls.{count_text}
 
 -- ---- A session that stores batches
 
@@ -43,6 +45,10 @@ columns_of s = s.dataset.shape.cols
 
 abbrev pub lines_of : Session → List (List ℤ) → List ℕ
 lines_of first bs = rows_lines (columns_of first) first.dataset.shape.rows bs
+
+-- the line of the last of these batches
+abbrev pub last_line_of : Session → List (List ℤ) → List ℕ
+last_line_of first bs = count_text (rows_after (columns_of first) first.dataset.shape.rows bs)
 
 -- The session is that of a log over a file with these bytes and values. These pieces became visible; the batches that were closed
 -- are flushed, and the values that wait are appended behind them.
@@ -59,7 +65,7 @@ abbrev pub grown : ℕ → ℕ → Described → Described
 grown rows index d = record d { shape = record (d.shape) { rows = rows }; layout = record (d.layout) { address = index } }
 
 -- The session is the one that began, once these batches were closed, and these values wait. An index that the dataset named is where it
--- was.
+-- was, the file may grow to the limit that it had, and its end did not fall.
 pub record HasTaken (first s : Session) (b : Batches) : Type 0 where
   pub name : s.name ≡ first.name
   pub root : s.root ≡ record (first.root) { end = s.root.end }
@@ -67,6 +73,9 @@ pub record HasTaken (first s : Session) (b : Batches) : Type 0 where
   pub named : IsNamed first.dataset → s.dataset.layout.address ≡ first.dataset.layout.address
   pub rows : s.dataset.shape.rows ≡ rows_after (columns_of first) first.dataset.shape.rows b.closed
   pub waits : length b.waiting ≡ s.waits * columns_of first
+  pub limit : s.places.limit ≡ first.places.limit
+  pub rises : first.places.end ≤ s.places.end
+  pub keeps : s.keeps ≡ first.keeps
 
 -- where the file was valid, a log of the session
 abbrev pub OfEachLog : Session → (List ℕ → ℕ → List ℤ → Type 0) → Type 0
@@ -229,6 +238,20 @@ pub record IsShut (name : List ℕ) (root : Super) (w : DiskView) : Type 0 where
 abbrev pub ShutAgain : List ℕ → List ℕ → DiskView → DiskView → Type 0
 ShutAgain name at v w = (img : List ℕ) (root : Super) → told_bytes v.told name ≡ Some img → super_at (range img 0 48) ≡ Ok root → (root.flags % 2 ≡ 0) × (root.flags / 4 % 2 ≡ 0) × IsShut name root w
 
+-- ---- A sink that fails at a line
+
+-- The sink failed at the line of the last of these batches: the lines of those before were written, then some first part of that one. No
+-- value waits.
+pub record StopsAtLine (first : Session) (b : Batches) (k l : SinkView) : Type 0 where
+  pub before : List (List ℤ)
+  pub last : List ℤ
+  pub closed : b.closed ≡ before ++ last ∷ []
+  pub waiting : b.waiting ≡ []
+  pub middle : SinkView
+  pub gave : Gave (lines_of first before) k middle
+  pub rose : Rose middle.faults l.faults
+  pub some : GaveSome (last_line_of first b.closed) middle l
+
 -- ---- The whole append
 
 -- The session that began was closed behind these batches: where the file was valid it is so, with their values behind its own.
@@ -237,49 +260,67 @@ pub record Closed (name at : List ℕ) (first : Session) (b : Batches) (v w : Di
   pub holds : OfValid name at v (λ columns values. Holds name at w columns (values ++ values_of b.closed))
   pub shut : ShutAgain name at v w
 
+-- The disk failed: no more was put, and where the file was valid it is so, with the values of the batches before.
+pub record Broken (name at : List ℕ) (first : Session) (b : Batches) (v w : DiskView) : Type 0 where
+  pub broke : Broke name first b v w
+  pub holds : OfValid name at v (λ columns values. Holds name at w columns (values ++ values_of b.closed))
+
 -- All was appended: each line is of numbers, and the end of the input closes the last batch.
-pub record AppendsWhole (name at : List ℕ) (limit : ℕ) (keeps : Bool) (s t : SourceView) (v w : DiskView) (text : List ℕ) : Type 0 where
+pub record AppendsWhole (name at : List ℕ) (limit : ℕ) (keeps : Bool) (s t : SourceView) (v w : DiskView) (front last : List ℕ) : Type 0 where
   pub first : Session
   pub opened : IsOpenOver name at limit keeps v first
   pub numbers : List (List ℤ)
   pub read : ReadsAll (columns_of first) s t numbers
   pub closed : Closed name at first (close_batch (after_lines no_batches numbers)) v w
   pub holds : OfValid name at v (λ columns values. Holds name at w columns (values ++ values_of numbers))
-  pub text_is : text
-      ≡ lines_of first (close_batch (after_lines no_batches numbers)).closed ++ closed_text (rows_after (columns_of first) first.dataset.shape.rows (close_batch (after_lines no_batches numbers)).closed)
+  pub front_is : front ≡ lines_of first (close_batch (after_lines no_batches numbers)).closed
+  pub last_is : last ≡ closed_text (rows_after (columns_of first) first.dataset.shape.rows (close_batch (after_lines no_batches numbers)).closed)
 
 -- A refusal, behind which the session was closed: what waits for the end of its batch is dropped.
-pub record AppendsSome (name at : List ℕ) (limit : ℕ) (keeps : Bool) (s t : SourceView) (v w : DiskView) (e : ErrorLine) (text : List ℕ) : Type 0 where
+pub record AppendsSome (name at : List ℕ) (limit : ℕ) (keeps : Bool) (s t : SourceView) (v w : DiskView) (e : ErrorLine) (front last : List ℕ) : Type 0 where
   pub first : Session
   pub opened : IsOpenOver name at limit keeps v first
   pub batches : Batches
   pub taken : AreTaken (columns_of first) s t batches
   pub refused : InputRefuses name first s t batches v e
   pub closed : Closed name at first batches v w
-  pub text_is : text ≡ lines_of first batches.closed ++ error_text e
+  pub front_is : front ≡ lines_of first batches.closed
+  pub last_is : last ≡ error_text e
 
--- The disk failed: no more was put, and where the file was valid it is so, with the values of the batches before.
-pub record AppendsUpTo (name at : List ℕ) (limit : ℕ) (keeps : Bool) (s t : SourceView) (v w : DiskView) (text : List ℕ) : Type 0 where
+-- The disk failed behind these batches.
+pub record AppendsUpTo (name at : List ℕ) (limit : ℕ) (keeps : Bool) (s t : SourceView) (v w : DiskView) (front last : List ℕ) : Type 0 where
   pub first : Session
   pub opened : IsOpenOver name at limit keeps v first
   pub batches : Batches
   pub taken : AreTaken (columns_of first) s t batches
-  pub broke : Broke name first batches v w
-  pub holds : OfValid name at v (λ columns values. Holds name at w columns (values ++ values_of batches.closed))
-  pub text_is : text ≡ lines_of first batches.closed ++ error_text errors.Disk
+  pub broken : Broken name at first batches v w
+  pub front_is : front ≡ lines_of first batches.closed
+  pub last_is : last ≡ error_text errors.Disk
 
 -- what is written of a file that is not opened
-pub record AppendsNone (name at : List ℕ) (s t : SourceView) (v w : DiskView) (e : ErrorLine) (text : List ℕ) : Type 0 where
+pub record AppendsNone (name at : List ℕ) (s t : SourceView) (v w : DiskView) (e : ErrorLine) (front last : List ℕ) : Type 0 where
   pub unopened : Unopened name at v w e
   pub unread : t ≡ s
-  pub text_is : text ≡ error_text e
+  pub front_is : front ≡ []
+  pub last_is : last ≡ error_text e
 
--- an append between two states of a source and a disk, by its answer and by what it writes
-abbrev pub AppendsTo : List ℕ → List ℕ → ℕ → Bool → SourceView → SourceView → DiskView → DiskView → Result (Unit {0}) ErrorLine → List ℕ → Type 0
-AppendsTo name at limit keeps s t v w (Ok a) text = AppendsWhole name at limit keeps s t v w text
-AppendsTo name at limit keeps s t v w (Err e) text =
-    AppendsNone name at s t v w e text ⊎ (AppendsSome name at limit keeps s t v w e text ⊎ ((e ≡ errors.Disk) × AppendsUpTo name at limit keeps s t v w text))
+-- An append between two states of a source and a disk, by its answer and by what it writes: a line for each batch, and then a last line.
+abbrev pub AppendsTo : List ℕ → List ℕ → ℕ → Bool → SourceView → SourceView → DiskView → DiskView → Result (Unit {0}) ErrorLine → List ℕ → List ℕ → Type 0
+AppendsTo name at limit keeps s t v w (Ok a) front last = AppendsWhole name at limit keeps s t v w front last
+AppendsTo name at limit keeps s t v w (Err e) front last =
+    AppendsNone name at s t v w e front last ⊎ (AppendsSome name at limit keeps s t v w e front last ⊎ ((e ≡ errors.Disk) × AppendsUpTo name at limit keeps s t v w front last))
 
--- how an append ends
+-- The sink failed at the line of a batch: the file has that batch, those before it, and no more. The session was closed behind it, unless
+-- the disk failed at that.
+pub record AppendsCut (name at : List ℕ) (limit : ℕ) (keeps : Bool) (s t : SourceView) (v w : DiskView) (k l : SinkView) : Type 0 where
+  pub first : Session
+  pub opened : IsOpenOver name at limit keeps v first
+  pub batches : Batches
+  pub taken : AreTaken (columns_of first) s t batches
+  pub stops : StopsAtLine first batches k l
+  pub left : Closed name at first batches v w ⊎ Broken name at first batches v w
+
+-- how an append ends: the lines of all its batches are written before the last line, or the sink fails at one of them
 abbrev pub AppendEnds : List ℕ → List ℕ → ℕ → Bool → SourceView → SourceView → DiskView → DiskView → Status → SinkView → SinkView → Type 0
-AppendEnds name at limit keeps s t v w status k l = EndsBy {A = Unit {0}} (AppendsTo name at limit keeps s t v w) status k l
+AppendEnds name at limit keeps s t v w status k l =
+    EndsBehind {A = Unit {0}} (AppendsTo name at limit keeps s t v w) status k l ⊎ ((status ≡ statuses.Sink) × AppendsCut name at limit keeps s t v w k l)

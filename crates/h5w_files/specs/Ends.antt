@@ -2,7 +2,7 @@
 use Rattle.std.specs.Prelude.{◌≡◌, ◌⊎◌, ℕ, List, Option, Some, Result, Ok, Err}
 use Rattle.h5w_model.specs.Causes.{Rose}
 use Rattle.h5w_image.specs.View.{DiskState, DiskView, file}
-use Rattle.h5w_text.specs.Streams.{SinkView}
+use Rattle.h5w_text.specs.Streams.{SinkView, Gave}
 use Rattle.h5w_text.specs.Says.{Said}
 use Rattle.h5w_text.specs.Statuses.{status_of}
 use Rattle.h5w_text.specs.declared.error.ErrorLine.{ErrorLine}
@@ -29,6 +29,17 @@ pub record EndsBy {A : Type 0} (Comes : Result A ErrorLine → List ℕ → Type
   pub text : List ℕ
   pub comes : Comes answer text
   pub said : Said text (status_by answer) status k l
+
+-- What comes before the last text of an answer was written; behind it the last was, and the status is the answer's, or the sink failed
+-- behind some first part of it.
+pub record EndsBehind {A : Type 0} (Comes : Result A ErrorLine → List ℕ → List ℕ → Type 0) (status : Status) (k l : SinkView) : Type 0 where
+  pub answer : Result A ErrorLine
+  pub front : List ℕ
+  pub last : List ℕ
+  pub comes : Comes answer front last
+  pub middle : SinkView
+  pub gave : Gave front k middle
+  pub said : Said last (status_by answer) status middle l
 
 -- A disk tells its files, one has this name, and an answer that is no error is given of its bytes.
 pub record HasGood {A : Type 0} (given : Option (List ℕ) → Result A ErrorLine) (name : List ℕ) (v : DiskView) : Type 0 where

@@ -20,6 +20,7 @@ use Rattle.h5w_files.specs.Ends.{IsGivenBy, EndsBy}
 
 -- ---- Its lines
 
+-- how many rows there are
 abbrev pub count_text : ℕ → List ℕ
 count_text rows = numbers_text (codes "rows") (rows ∷ [])
 

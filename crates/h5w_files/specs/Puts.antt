@@ -40,6 +40,7 @@ pub record PutsPieces (name : List ℕ) (s t : Session) (v w : DiskView) : Type 
   pub pieces : s.pending ≡ writes_of puts ++ t.pending
   pub session : t ≡ record s { places = t.places; committed = t.committed; pending = t.pending }
   pub end : t.places.end ≡ s.places.end
+  pub limit : t.places.limit ≡ s.places.limit
   pub stands : (log : Log) → Stands s log → Stands t (showing (writes_of puts) log)
   pub disk : LeavesFiles (option_map (after_puts name puts) v.told) v w
   pub since : AllBetween v.faults w.faults (counts_of puts)

@@ -4,6 +4,7 @@ use Rattle.h5w_text.specs.Streams.{SourceView}
 use Rattle.h5w_text.specs.Table.{numbers_text}
 use Rattle.h5w_batches.specs.Batches.{Batches, after_lines, close_batch, no_batches}
 use Rattle.h5w_batches.specs.Inputs.{AreFirst, ReadsAll, Spell}
+use Rattle.h5w_files.specs.Polls.{count_text}
 
 -- ---- Batches
 
@@ -20,7 +21,7 @@ rows_after columns rows (b ∷ bs) = rows_after columns (rows + length b / colum
 -- a line for each batch: how many rows there are with it
 abbrev pub rows_lines : ℕ → ℕ → List (List ℤ) → List ℕ
 rows_lines columns rows [] = []
-rows_lines columns rows (b ∷ bs) = numbers_text (codes "rows") ((rows + length b / columns) ∷ []) ++ rows_lines columns (rows + length b / columns) bs
+rows_lines columns rows (b ∷ bs) = count_text (rows + length b / columns) ++ rows_lines columns (rows + length b / columns) bs
 
 -- the last line
 abbrev pub closed_text : ℕ → List ℕ

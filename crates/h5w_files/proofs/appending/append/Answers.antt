@@ -4,7 +4,7 @@ use Rattle.h5w_session.specs.Sessions.{rows_of}
 use Rattle.h5w_files.specs.Taken.{closed_text}
 use Rattle.h5w_files.specs.declared.batching.Ending.{Ending}
 use Rattle.h5w_files.specs.declared.batching.Ending.TheVariants as endings
-use Rattle.h5w_files.proofs.AppendLemmas.{appends_broke, appends_done, appends_half, appends_none, appends_refused}
+use Rattle.h5w_files.proofs.AppendLemmas.{appends_broke, appends_cut, appends_done, appends_none, appends_refused}
 use Rattle.h5w_files.proofs.ShutLemmas.{settles_from}
 use Rattle.h5w_files.proofs.appending.append.Goals as goal
 
@@ -37,4 +37,4 @@ returns-clause-appends g c =
     let is : c.settle.result ≡ Err endings.Sink = search rules in
     let settles = rw is at c.settle.ensures.settles in
     let h = settles_from _ _ _ _ _ c.args.file.now (rows_of c.take_all-taken.new.session) c.in-Ok.session (Err endings.Sink) c.in-Ok.ensures.2 (settles c.in-Ok.session (g.S.Source.view c.args.source.now) (g.S.Source.view c.take_all-taken.new.source) (g.D.Disk.view c.open.new.disk) (g.K.Sink.view c.args.sink.now) (g.K.Sink.view c.take_all-taken.new.sink) c.take_all-taken.ensures.takes) in
-    appends_half c.args.file.now c.args.name.now c.args.limit c.args.keeps (rows_of c.take_all-taken.new.session) c.in-Ok.session c.in-Ok.ensures.0 h
+    appends_cut c.args.file.now c.args.name.now c.args.limit c.args.keeps (rows_of c.take_all-taken.new.session) c.in-Ok.session c.in-Ok.ensures.0 h

@@ -1,7 +1,6 @@
-use Rattle.std.proofs.Common.{◌≡◌, [], ◌∷◌, length, Err, rules}
-use Rattle.std.specs.Prelude.{codes}
-use Rattle.h5w_text.specs.Table.{numbers_text}
+use Rattle.std.proofs.Common.{◌≡◌, length, Err, rules}
 use Rattle.h5w_session.specs.Sessions.{rows_of}
+use Rattle.h5w_files.specs.Polls.{count_text}
 use Rattle.h5w_files.proofs.StepLemmas.{close_half, close_none, close_whole, flush_ended, none_planned, puts_ended, ready_batch, some_planned}
 use Rattle.h5w_files.proofs.batching.close_batch.Goals as goal
 
@@ -34,11 +33,11 @@ returns-in-Err-write-clause-ready g c =
 pub returns-in-Ok-write-clause-steps : goal.returns-in-Ok-write-clause-steps
 returns-in-Ok-write-clause-steps g c =
     let plan = some_planned c.args.file.now c.args.session.now c.flush.new.session c.requires c.in_ok-flush.ensures.flushes (search rules) in
-    let text : c.deref.result.now ≡ numbers_text (codes "rows") (rows_of c.args.session.now ∷ []) = search rules in
+    let text : c.deref.result.now ≡ count_text (rows_of c.args.session.now) = search rules in
     close_whole c.args.file.now c.args.session.now c.flush.new.session c.put_all.new.session c.deref.result.now c.requires c.in_ok-flush.ensures.unput plan c.in_ok-put_all.ensures text c.in-Ok-write.ensures.gave
 
 pub returns-in-Err-write-clause-steps : goal.returns-in-Err-write-clause-steps
 returns-in-Err-write-clause-steps g c =
     let plan = some_planned c.args.file.now c.args.session.now c.flush.new.session c.requires c.in_ok-flush.ensures.flushes (search rules) in
-    let text : c.deref.result.now ≡ numbers_text (codes "rows") (rows_of c.args.session.now ∷ []) = search rules in
+    let text : c.deref.result.now ≡ count_text (rows_of c.args.session.now) = search rules in
     close_half c.args.file.now c.args.session.now c.flush.new.session c.put_all.new.session c.deref.result.now c.requires c.in_ok-flush.ensures.unput plan c.in_ok-put_all.ensures text c.in-Err-write.ensures.cause c.in-Err-write.ensures.failed
