@@ -234,7 +234,7 @@ fn open<D: Disk>(
 
 /// Appends the numbers of the source to the dataset that the root group's link of `name` leads to in the file of the name `file`, which
 /// grows to `limit` bytes at most: each line has the values of rows, and an empty line and the end of the input close a batch. A batch
-/// becomes visible at once, and how many rows the file has then is written. Where `keeps` is set no place of the file is used twice.
+/// becomes visible at once, and how many rows the file has then is written. Where `keeps` is set no place that is let go is used again.
 /// After a refusal what was not closed is dropped, and nobody writes the file.
 pub fn append<S: Source, K: Sink, D: Disk>(
     alloc: Global,
