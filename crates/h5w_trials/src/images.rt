@@ -94,6 +94,20 @@ enum SixValues {
     Last,
 }
 
+/// Six of these values, or all where there are fewer.
+fn six_of(values: &[i128], told: SixValues) -> &[i128] {
+    match told {
+        SixValues::First => &values[..values.len().min(6)],
+        SixValues::Last => &values[values.len().saturating_sub(6)..],
+    }
+}
+
+/// The text of so many rows, and of six of their values.
+fn told_rows(alloc: Global, rows: u64, values: &Values, told: SixValues) -> Result<String, Fail> {
+    let six = six_of(values.as_slice(), told);
+    Ok(format!(in alloc; "rows {rows} {six:?}")?)
+}
+
 /// What a reader finds: the rows and six of the values, or a refusal.
 fn found(alloc: Global, image: &[u8], told: SixValues) -> Result<String, Fail> {
     let (mut reader, opened, _) = opened(alloc, image)?;
@@ -102,12 +116,7 @@ fn found(alloc: Global, image: &[u8], told: SixValues) -> Result<String, Fail> {
         Err(error) => return Ok(format!(in alloc; "{error:?}")?),
     };
     let values = all_values(alloc, &mut reader, image, rows)?;
-    let values = values.as_slice();
-    let six = match told {
-        SixValues::First => &values[..values.len().min(6)],
-        SixValues::Last => &values[values.len().saturating_sub(6)..],
-    };
-    Ok(format!(in alloc; "rows {rows} {six:?}")?)
+    told_rows(alloc, rows, &values, told)
 }
 
 /// Panics where a reader finds something else.

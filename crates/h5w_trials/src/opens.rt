@@ -4,6 +4,7 @@ use crate::files::{FOUR, File, NEW, THREE, bytes_of};
 use crate::looks::{answer, rows};
 use h5w_model::{BlockFault, ReadError, Sums};
 use h5w_reader::{Look, ReadBegin, ReaderCore};
+use std::alloc::Global;
 use std::process::Abort;
 use std::test::Fail;
 
@@ -142,6 +143,18 @@ const REFRESHES: [(File, Result<u64, ReadError>, &[u64]); 4] = [
     (FOUR, Ok(4), &[106]),
 ];
 
+/// What a refresh of the reader comes to on this image, and the places of its looks.
+fn refreshed(
+    alloc: Global,
+    reader: &mut ReaderCore,
+    image: &[u8],
+) -> Result<(Result<u64, ReadError>, Vec<u64>), Fail> {
+    reader.refresh()?;
+    let (step, places) = answer(alloc, reader, (image, 0, image))?;
+    Ok((rows(step), places))
+}
+
+/// Panics where a refresh on this file comes to something else, or looks at other places.
 fn check_refresh(
     rt: &(impl Abort + AllocGlobal),
     reader: &mut ReaderCore,
@@ -150,9 +163,9 @@ fn check_refresh(
     places: &[u64],
 ) -> Result<(), Fail> {
     let image = bytes_of(rt.alloc(), file)?;
-    reader.refresh()?;
-    let (step, taken) = answer(rt.alloc(), reader, (&image, 0, &image))?;
-    assert_eq!(rt; (rows(step), taken.as_slice()), (expected, places));
+    let (rows, taken) = refreshed(rt.alloc(), reader, &image)?;
+    assert_eq!(rt; rows, expected);
+    assert_eq!(rt; taken.as_slice(), places);
     assert_eq!(rt; reader.seen(), expected.unwrap_or(3));
     Ok(())
 }
