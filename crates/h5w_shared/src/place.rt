@@ -1,5 +1,5 @@
 //! A seat at the table with what it counts, and the turns that it takes.
-ghost use Rattle.std.specs.Prelude.{◌≡◌, ◌<◌, ◌∷◌, [], ℕ, false, true, IfOk, IfSome, IfNone, OnErr, None, Some};
+ghost use Rattle.std.specs.Prelude.{◌≡◌, ◌<◌, ◌∷◌, [], ℕ, false, true, IfOk, IfSome, IfNone, OnErr, OnOk, None, Some};
 ghost use Rattle.h5w_shared.specs.declared.table.Stage.TheVariants.{Serving, Waiting};
 ghost use Rattle.h5w_shared.specs.Turns.{FoundStore, Returned, finished, serving_with};
 ghost use Rattle.h5w_shared.specs.Places.{AtRest, Counts, IsAt, Keeps, Met, Refused, Turn, Twin as TwinOf, Unchanged, Waits};
@@ -60,6 +60,7 @@ impl Place {
         requires rest { AtRest self.old }
         requires table { IsAt shelf.now.table_id self.old }
         ensures drew { IfOk result (Waits self.old self.new) }
+        ensures worn { OnOk result (self.old.worn ≡ false) }
         ensures refused { OnErr result (Refused self.old self.new) }
     {
         for _ in rt.forever() {
@@ -79,6 +80,7 @@ impl Place {
         requires rest { AtRest self.old }
         requires table { IsAt shelf.now.table_id self.old }
         ensures turn { IfOk result (Turn self.old self.new) }
+        ensures worn { OnOk result (self.old.worn ≡ false) }
         ensures refused { OnErr result (Refused self.old self.new) }
     {
         let ticket = self.draw(rt, shelf)?;

@@ -136,6 +136,7 @@ impl WriterSeat {
         ensures same { OnOk result (self.new ≡ self.old) }
         ensures shows { OnOk result (out.new ≡ range (bytes_of self.new) at len) }
         ensures bound { OnOk result (length out.new ≤ len) }
+        ensures worn { OnOk result (self.old.worn ≡ false) }
         ensures refused { OnErr result (FailedSeat self.old self.new × (out.new ≡ out.old)) }
     {
         self.place.look(rt, image.shelf(), at, len, out)
@@ -152,6 +153,7 @@ impl WriterSeat {
         requires pieces { 1 ≤ self.old.pieces }
         requires end { w.now.at + length w.now.piece ≤ self.old.end }
         ensures wrote { OnOk result (self.new ≡ record self.old { seen = self.old.seen ++ w.now ∷ []; pieces = self.old.pieces - 1 }) }
+        ensures worn { OnOk result (self.old.worn ≡ false) }
         ensures refused { OnErr result (FailedSeat self.old self.new) }
     {
         self.place.write(rt, image.shelf(), w)
@@ -167,6 +169,7 @@ impl WriterSeat {
     ) -> Result<(), ImageError>
         requires image { self.old.image ≡ image.now }
         ensures room { OnOk result (self.new ≡ record self.old { pieces = max self.old.pieces pieces; end = max self.old.end end }) }
+        ensures worn { OnOk result (self.old.worn ≡ false) }
         ensures refused { result ≡ Err ImageError.Failed → FailedSeat self.old self.new }
         ensures memory { result ≡ Err ImageError.OutOfMemory → self.new ≡ self.old }
     {
@@ -179,6 +182,7 @@ impl WriterSeat {
         requires { self.old.image ≡ image.now }
         ensures copied { IfOk result (λ j. j.writes ≡ self.new.seen) }
         ensures same { OnOk result (self.new ≡ self.old) }
+        ensures worn { OnOk result (self.old.worn ≡ false) }
         ensures refused { result ≡ Err ImageError.Failed → FailedSeat self.old self.new }
         ensures memory { result ≡ Err ImageError.OutOfMemory → self.new ≡ self.old }
     {
@@ -253,6 +257,7 @@ impl ReaderSeat {
         ensures grown { OnOk result (StartsWith self.new.seen self.old.seen) }
         ensures shows { OnOk result (out.new ≡ range (bytes_of self.new) at len) }
         ensures bound { OnOk result (length out.new ≤ len) }
+        ensures worn { OnOk result (self.old.worn ≡ false) }
         ensures refused { OnErr result (FailedSeat self.old self.new × (out.new ≡ out.old)) }
     {
         self.place.look(rt, image.shelf(), at, len, out)
