@@ -13,7 +13,7 @@ use std::alloc::Global;
 use std::sync::Wait;
 
 impl Place {
-    /// Puts the image's bytes from `at` on into `out`.
+    /// Puts the image's bytes from `at` on into `out`. A patient seat lets others wait first.
     pub fn look<R: Wait>(
         &mut self,
         rt: &R,
@@ -21,6 +21,7 @@ impl Place {
         at: u64,
         len: usize,
         out: &mut Piece,
+        patient: bool,
     ) -> Result<(), Failed>
         requires rest { AtRest self.old }
         requires table { IsAt shelf.now.table_id self.old }
@@ -30,7 +31,7 @@ impl Place {
         ensures worn { OnOk result (self.old.worn ≡ false) }
         ensures refused { OnErr result (Refused self.old self.new × (out.new ≡ out.old)) }
     {
-        let mut store = self.turn(rt, shelf)?;
+        let mut store = self.turn(rt, shelf, patient)?;
         let shown = store.look(at, len, out);
         self.end(shelf, store);
         shown
@@ -47,7 +48,7 @@ impl Place {
         ensures worn { OnOk result (self.old.worn ≡ false) }
         ensures refused { OnErr result (Refused self.old self.new) }
     {
-        let mut store = self.turn(rt, shelf)?;
+        let mut store = self.turn(rt, shelf, false)?;
         let written = store.write(w);
         self.end(shelf, store);
         written
@@ -69,7 +70,7 @@ impl Place {
         ensures refused { result ≡ Err ImageError.Failed → Refused self.old self.new }
         ensures memory { result ≡ Err ImageError.OutOfMemory → (x : MemView) × Came self.old self.new x × FoundStore self.old.seat.me.0 x }
     {
-        let mut store = self.turn(rt, shelf)?;
+        let mut store = self.turn(rt, shelf, false)?;
         let room = store.reserve(pieces, end);
         self.end(shelf, store);
         room
@@ -89,7 +90,7 @@ impl Place {
         ensures refused { result ≡ Err ImageError.Failed → Refused self.old self.new }
         ensures memory { result ≡ Err ImageError.OutOfMemory → (x : MemView) × Came self.old self.new x × FoundStore self.old.seat.me.0 x }
     {
-        let store = self.turn(rt, shelf)?;
+        let store = self.turn(rt, shelf, false)?;
         let copy = copied(alloc, store.journal());
         self.end(shelf, store);
         Ok(copy?)

@@ -1,9 +1,9 @@
-ghost use Rattle.std.specs.Prelude.{◌≡◌, ◌≤◌, ◌-◌, ◌+◌, ◌++◌, ◌∷◌, [], ℕ, false, true, max, length, refl, OnOk, OnErr, Err};
+ghost use Rattle.std.specs.Prelude.{◌≡◌, ◌≤◌, ◌-◌, ◌+◌, ◌++◌, ◌∷◌, [], ℕ, false, true, length, refl, OnOk, OnErr, Err};
 ghost use Rattle.h5w_model.specs.Numbers.{range};
 ghost use Rattle.h5w_model.specs.Causes.{Rose};
 ghost use Rattle.h5w_image.specs.View.{Looked, Same, GivesRange, Wrote};
 ghost use Rattle.h5w_shared.specs.Turns.{StartsWith};
-ghost use Rattle.h5w_shared.specs.Seats.{FailedSeat, bytes_of, seen_through};
+ghost use Rattle.h5w_shared.specs.Seats.{FailedSeat, HasMadeRoom, bytes_of, seen_through};
 
 use crate::image::SharedImage;
 use crate::seats::{ReaderSeat, WriterSeat};
@@ -57,7 +57,7 @@ impl<'a, R: Wait> PieceWrite for Writing<'a, R> {
         ensures pieces { OnOk result (pieces ≤ self.new.seat.now.pieces) }
         ensures end { OnOk result (end ≤ self.new.seat.now.end) }
         ensures cause { result ≡ Err ImageError.Failed → Rose self.old.seat.now.faults self.new.seat.now.faults }
-        ensures room { OnOk result (self.new.seat.now ≡ record self.old.seat.now { pieces = max self.old.seat.now.pieces pieces; end = max self.old.seat.now.end end }) }
+        ensures room { OnOk result (HasMadeRoom pieces end self.old.seat.now self.new.seat.now) }
         ensures worn { OnOk result (self.old.seat.now.worn ≡ false) }
         ensures refused { result ≡ Err ImageError.Failed → FailedSeat self.old.seat.now self.new.seat.now }
         ensures memory { result ≡ Err ImageError.OutOfMemory → self.new.seat.now ≡ self.old.seat.now }
