@@ -13,7 +13,7 @@ use Rattle.h5w_model.specs.declared.refusal.ReadError.TheVariants as reads
 use Rattle.h5w_model.specs.declared.root.Super.{Super}
 use Rattle.h5w_opening.specs.declared.error.OpenError.{OpenError}
 use Rattle.h5w_opening.specs.declared.error.OpenError.TheVariants as opens
-use Rattle.h5w_image.specs.View.{DiskView, file}
+use Rattle.h5w_image.specs.View.{DiskView, IsThere, file}
 use Rattle.h5w_space.specs.declared.Full.{Full}
 use Rattle.h5w_session.specs.Loads.{NoPlace}
 use Rattle.h5w_session.specs.OpenAnswers.{HasBegun, IsNotOpened, IsOpenedOver}
@@ -187,9 +187,10 @@ open_line opens.Index = errors.NoIndex
 open_line opens.Failed = errors.Disk
 open_line opens.OutOfMemory = errors.Memory
 
--- The session that begins over the file: it is open with both flags of writers pending, and what is retired stays so where that is asked
--- for. Over a valid file it is that of the log to which nothing happened yet.
+-- The session that begins over the file, which is there: it is open with both flags of writers pending, and what is retired stays so where
+-- that is asked for. Over a valid file it is that of the log to which nothing happened yet.
 pub record IsOpenOver (name at : List ℕ) (limit : ℕ) (keeps : Bool) (v : DiskView) (first : Session) : Type 0 where
+  pub there : IsThere v name
   pub opened : Session
   pub begun : HasBegun at limit opened
   pub is : first ≡ record opened { keeps = keeps }
