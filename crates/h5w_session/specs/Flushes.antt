@@ -74,9 +74,10 @@ pub record ArePlanned (s : Session) (v : IndexView) (before : Space) (w : IndexV
   pub copies : List Write
   pub fixed : List Write
   pub plan : IsPlan named between moves copies fixed w t
-  -- the superblock, where the end of the file is another
+  -- the superblock, if the end of the file is another, and only then
   pub supers : List Write
   pub ended : AreEnded s.root t.end supers
+  pub unraised : t.end ≡ s.root.end → supers ≡ []
 
 -- A flush of rows that wait: what each of its calls does, in their order.
 pub record IsFlushed (old new : Session) : Type 0 where

@@ -275,6 +275,7 @@ fn raise(root: &mut Super, end: u64) -> Option<Write>
     requires { root.old.version ≡ 3 }
     ensures root { root.new ≡ record root.old { end = end } }
     ensures ended { AreEnded root.old end (option_list result) }
+    ensures unraised { end ≡ root.old.end → option_list result ≡ [] }
     ensures sized { IfSome result (λ w. (w.at ≡ 0) × (length w.piece ≡ 48)) }
 {
     if root.end == end {
@@ -432,12 +433,17 @@ impl WriterCore {
     /// index in turn; or want of memory. All memory and all places are taken here, so that nothing after it fails. Room is reserved in
     /// the image for these pieces and one more, up to the file's new end.
     ///
+    /// The pieces are, in this order: those of the rows, chunk after chunk; the copies of the index's changed blocks; the superblock, only if
+    /// the end of the file is another; the changed blocks in place; and the dataset header. A first flush plans the superblock after the blocks
+    /// in place.
+    ///
     /// Where the layout names no index yet one is made: the places of its blocks in place, of an array those of its index block and then of its
     /// header, are the first that are taken and that a full file tells, and the dataset header names it with the rows.
     ///
     /// A refused flush leaves no more than places held in the index, which the next flush writes in any case.
     pub fn flush<W: PieceWrite>(&mut self, image: &mut W) -> Result<u64, FlushError>
         ensures flushed { OnOk result (TakesRows self.old self.new) }
+        ensures planned { 0 < self.old.waits → OnOk result (HasFlushed self.old self.new) }
         ensures pieces { IfOk result (λ pieces. pieces ≡ length self.new.pending) }
         ensures some { 0 < self.old.waits → IfOk result (λ pieces. 1 ≤ pieces) }
         ensures nothing { self.old.waits ≡ 0 → OnOk result (self.new ≡ self.old) }
