@@ -4,6 +4,7 @@ ghost use Rattle.h5w_model.specs.Images.{image};
 ghost use Rattle.h5w_model.specs.Lawful.{ScriptState, Allowed, at_first, line_of, next_state};
 ghost use Rattle.h5w_model.specs.Logs.{Log, and_now, shows};
 ghost use Rattle.h5w_options.specs.Options.{AreAttempts, AreOptions};
+ghost use Rattle.h5w_options.specs.declared.options.Options.{Options};
 ghost use Rattle.h5w_model.specs.declared.piece.Write.{Write};
 ghost use Rattle.h5w_image.specs.View.{Wrote};
 ghost use Rattle.h5w_space.specs.declared.Full.{Full};
@@ -82,18 +83,26 @@ fn places(alloc: Global) -> Result<Vec<Option<ReaderCore>>, OutOfMemory>
     Ok(places)
 }
 
+/// All pending pieces become visible: of a file that is created, those that are left.
+fn show_all(session: &mut WriterCore, image: &mut SteadyImage)
+    requires { HasRoomFor session.old (steady image.old) }
+    ensures { (options : Options) → Creates options 0 session.old image.old → Creates options (length session.old.pending) session.new image.new }
+{
+    let pieces = session.pending();
+    for _ in 0..pieces {
+        show(session, image);
+    }
+}
+
 /// A writer that created a file, all of whose pieces are visible.
 fn create(alloc: Global, options: &Options) -> Result<(WriterCore, SteadyImage), OutOfMemory>
     requires { AreOptions options.now }
     ensures { IfOk result (λ made. Creates options.now (length (created_writes (new_file options.now))) made.0 made.1) }
 {
-    let mut session = WriterCore::create(alloc, options)?;
     let mut image = SteadyImage::new(alloc)?;
-    let pieces = session.pending();
-    image.make_room(pieces + 1, session.end())?;
-    for _ in 0..pieces {
-        show(&mut session, &mut image);
-    }
+    let mut session = WriterCore::create(alloc, options)?;
+    image.make_room(session.pending() + 1, session.end())?;
+    show_all(&mut session, &mut image);
     Ok((session, image))
 }
 
