@@ -63,7 +63,7 @@ begins o s m n by c stands empty same pieces end =
     }
 
 -- a piece is left as long as not all are visible
-some_left : (o : Options) (count : ℕ) (s : Session) (m : MemView) → Creates o count s m → length s.pending + count ≡ total o
+pub some_left : (o : Options) (count : ℕ) (s : Session) (m : MemView) → Creates o count s m → length s.pending + count ≡ total o
 some_left o count s m start = omega (arith, length-append m.history s.pending, ap length start.pieces, start.shown)
 
 -- one more

@@ -7,6 +7,8 @@ use Rattle.h5w_model.specs.Datasets.{Described}
 use Rattle.h5w_model.specs.Lawful.{Rules, ScriptState, FlushAllowed, IsPlanned, IsFull, load_of, rows_in, rows_of}
 use Rattle.h5w_model.specs.declared.event.Event.TheVariants as events
 use Rattle.h5w_model.specs.declared.piece.Write.{Write}
+use Rattle.h5w_model.specs.declared.memory.OutOfMemory.{OutOfMemory}
+use Rattle.h5w_model.specs.declared.reply.Reply.{Reply}
 use Rattle.h5w_model.specs.declared.reply.Reply.TheVariants as replies
 use Rattle.h5w_polling.specs.Polling.{Polling}
 use Rattle.h5w_polling.specs.Scripts.{AllPoll, Readers}
@@ -19,7 +21,7 @@ use Rattle.h5w_reader.specs.declared.reader.ReaderCore.{ReaderCore}
 use Rattle.h5w_session.specs.Flushes.{SameBut}
 use Rattle.h5w_session.specs.Sessions.{Session, TakesRows, cutting_of, with_rows}
 use Rattle.h5w_session.specs.Sessions as sessions
-use Rattle.h5w_session.specs.Refusals.{IsSpace, flush_refusal}
+use Rattle.h5w_session.specs.Refusals.{IsFullFor, IsSpace, flush_refusal}
 use Rattle.h5w_session.specs.Loads.{NoPlace}
 use Rattle.h5w_session.specs.Stands.{Stands}
 use Rattle.h5w_session.specs.declared.refusal.FlushError.{FlushError}
@@ -29,7 +31,7 @@ use Rattle.h5w_session.proofs.LawLemmas.{standing_laws}
 use Rattle.h5w_session.proofs.PastLemmas.{new_end}
 use Rattle.h5w_core.specs.Readers.{reader_at}
 use Rattle.h5w_steady.specs.Steady.{steady}
-use Rattle.h5w_core.specs.Worlds.{WorldView, HaveOneLog, IsStateOf, Steps, polling_by, polling_of, rules_of}
+use Rattle.h5w_core.specs.Worlds.{WorldView, HaveOneLog, IsStateOf, Steps, full_reply, polling_by, polling_of, rules_of}
 use Rattle.h5w_core.proofs.StateLemmas.{columns_of, in_rows, load_of-log, new_now, rules_by, spent_in-events}
 use Rattle.h5w_core.proofs.WorldLemmas.{world_of, replaced}
 
@@ -368,6 +370,26 @@ module _ (s t : Session) (m k : MemView) (attempts : ℕ) (readers : List (Optio
       let reply = replies.FullSpace full.at full.size full.limit in
       subst (λ (x : WorldView). Steps x events.Flush reply (world_of t k attempts readers)) view
       (subst (λ (x : WorldView). Steps old events.Flush reply x) (sym (replaced s t m k attempts readers same)) (full_steps old t full free.0 free.1 (space full answered) left))
+
+-- the place that a reply tells
+abbrev ok_reply : Reply → Result Reply OutOfMemory
+ok_reply r = Ok r
+
+same_place : (f full : Full) → ok_reply (full_reply f) ≡ ok_reply (full_reply full) → f ≡ full
+same_place f full same =
+    let at : f.at ≡ full.at = cc in
+    let size : f.size ≡ full.size = cc in
+    let limit : f.limit ≡ full.limit = cc in
+    λ i. record { at = at i; size = size i; limit = limit i }
+
+abbrev flush_err : FlushError → Result ℕ FlushError
+flush_err e = Err e
+
+-- is the session's
+pub full_told : (w : WorldView) (s : Session) (e : FlushError) (f full : Full) → s ≡ w.session → e ≡ errors.Space f → ((x : Full) → flush_err e ≡ Err (errors.Space x) → IsFullFor s x)
+    → ok_reply (full_reply f) ≡ ok_reply (full_reply full) → IsFullFor w.session full
+full_told w s e f full same is told replied =
+    subst (λ (t : Session). IsFullFor t full) same (subst (IsFullFor s) (same_place f full replied) (told f (ap Err is)))
 
 -- what a flush that is answered with pieces tells
 pub record IsAnswered (s t : Session) (r : Result ℕ FlushError) (pieces : ℕ) : Type 0 where

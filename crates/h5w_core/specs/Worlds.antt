@@ -19,6 +19,7 @@ use Rattle.h5w_model.specs.Unfinished.{Reader}
 use Rattle.h5w_reader.specs.Readers.{reader_rules}
 use Rattle.h5w_reader.specs.declared.reader.ReaderCore.{ReaderCore}
 use Rattle.h5w_core.specs.Readers.{IsCalling, MayRead, ended, reader_at}
+use Rattle.h5w_space.specs.declared.Full.{Full}
 use Rattle.h5w_steady.specs.Steady.{steady}
 use Rattle.h5w_types.specs.Fields.{int_type_of}
 use Rattle.h5w_session.specs.Refusals.{append_refusal, flush_refusal}
@@ -115,6 +116,10 @@ logged w event reply log = log
 -- the world once its oldest pending piece became visible, with this session
 abbrev pub shown_world : WorldView → Write → Session → WorldView
 shown_world w piece s = record w { session = s; bytes = image w.bytes (piece ∷ []); journal = w.journal ++ piece ∷ [] }
+
+-- the reply that the file has no place
+abbrev pub full_reply : Full → Reply
+full_reply full = replies.FullSpace full.at full.size full.limit
 
 -- these values are rows of the dataset
 abbrev pub AreRowsBy : Rules → List ℤ → Type 0

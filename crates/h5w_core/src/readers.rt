@@ -1,8 +1,10 @@
 //! What an event makes of a reader in its place.
-ghost use Rattle.std.specs.Prelude.{◌≡◌, None, IfOk, OnErr, option_map};
+ghost use Rattle.std.specs.Prelude.{◌≡◌, None, IfOk, Ok, OnErr, option_map};
 ghost use Rattle.h5w_image.specs.View.{Same};
 ghost use Rattle.h5w_core.specs.Readers.{IsCalling, LookGives, LookReplies, MayRead, OpenGives, ReadGives, ReadLooks, RefreshGives, ended, placed};
 ghost use Rattle.h5w_steady.specs.Steady.{steady};
+ghost use Rattle.h5w_core.specs.Worlds.{full_reply};
+ghost use Rattle.h5w_space.specs.declared.Full.{Full};
 ghost use Rattle.h5w_reader.specs.Readers.{reader_rules};
 
 use h5w_model::{OutOfMemory, ReadError, Reply};
@@ -21,6 +23,7 @@ pub fn open(
     ensures gives { IfOk result (λ reply. OpenGives reader (reader_rules name.now attempts) (placed place.old) reply (placed place.new)) }
     ensures kept { OnErr result (placed place.new ≡ placed place.old) }
     ensures memory { OnErr result (placed place.old ≡ None) }
+    ensures no_space { (full : Full) → result ≡ Ok (full_reply full) → ⊥ }
 {
     if place.is_some() {
         return Ok(Reply::ReaderExists { reader });
@@ -31,7 +34,8 @@ pub fn open(
 
 /// Begins a refresh.
 pub fn refresh(place: &mut Option<ReaderCore>, reader: u64) -> Reply
-    ensures { RefreshGives reader (placed place.old) result (placed place.new) }
+    ensures gives { RefreshGives reader (placed place.old) result (placed place.new) }
+    ensures no_space { (full : Full) → result ≡ full_reply full → ⊥ }
 {
     let Some(core) = place else {
         return Reply::NoReader { reader };
@@ -54,6 +58,7 @@ pub fn read(
     ensures gives { IfOk result (λ reply. ReadGives reader from count (placed place.old) reply (placed place.new)) }
     ensures kept { OnErr result (placed place.new ≡ placed place.old) }
     ensures memory { OnErr result (MayRead from count (placed place.old)) }
+    ensures no_space { (full : Full) → result ≡ Ok (full_reply full) → ⊥ }
 {
     let Some(core) = place else {
         return Ok(Reply::NoReader { reader });
@@ -83,6 +88,7 @@ pub fn look(
     ensures calling { OnErr result (IsCalling (placed place.old)) }
     ensures ended { OnErr result (placed place.new ≡ option_map ended (placed place.old)) }
     ensures image { Same (steady image.old) (steady image.new) }
+    ensures no_space { (full : Full) → result ≡ Ok (full_reply full) → ⊥ }
 {
     let Some(core) = place else {
         return Ok(Reply::NoReader { reader });

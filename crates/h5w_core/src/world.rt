@@ -1,20 +1,23 @@
 //! The world of one writer and its readers.
-ghost use Rattle.std.specs.Prelude.{◌≡◌, ◌≤◌, [], ◌∷◌, ◌^◌, List, length, IfOk, IsOk, None, OnErr, option_map};
+ghost use Rattle.std.specs.Prelude.{◌≡◌, ◌≤◌, [], ◌∷◌, ◌^◌, List, length, IfOk, IsOk, None, Ok, OnErr, option_map};
 ghost use Rattle.h5w_model.specs.Images.{image};
 ghost use Rattle.h5w_model.specs.Lawful.{ScriptState, Allowed, at_first, line_of, next_state};
 ghost use Rattle.h5w_model.specs.Logs.{Log, and_now, shows};
 ghost use Rattle.h5w_options.specs.Options.{AreAttempts, AreOptions};
+ghost use Rattle.h5w_options.specs.declared.options.Options.{Options};
 ghost use Rattle.h5w_model.specs.declared.piece.Write.{Write};
 ghost use Rattle.h5w_image.specs.View.{Wrote};
+ghost use Rattle.h5w_space.specs.declared.Full.{Full};
 ghost use Rattle.h5w_creation_laws.specs.CreatedFiles.{created_writes};
 ghost use Rattle.h5w_session.specs.Creations.{new_file};
+ghost use Rattle.h5w_session.specs.Refusals.{IsFullFor};
 ghost use Rattle.h5w_session.specs.Room.{HasRoomFor};
 ghost use Rattle.h5w_session.specs.Sessions.{AfterPiece, rows_of as session_rows};
 ghost use Rattle.h5w_session.specs.Stands.{Stands};
 ghost use Rattle.h5w_core.specs.Readers.{IsCalling, MayRead, ended, reader_at};
 ghost use Rattle.h5w_steady.specs.Steady.{steady};
 ghost use Rattle.h5w_core.specs.Creation.{Creates};
-ghost use Rattle.h5w_core.specs.Worlds.{AreRowsBy, HaveOneLog, HoldsMore, IsHeard, IsKept, IsLeft, MayWantMemory, StandsFor, Steps, logged, nobody, rules_for, rules_of};
+ghost use Rattle.h5w_core.specs.Worlds.{AreRowsBy, HaveOneLog, HoldsMore, IsHeard, IsKept, IsLeft, MayWantMemory, StandsFor, Steps, full_reply, logged, nobody, rules_for, rules_of};
 
 use crate::readers;
 use h5w_image::Journal;
@@ -80,18 +83,26 @@ fn places(alloc: Global) -> Result<Vec<Option<ReaderCore>>, OutOfMemory>
     Ok(places)
 }
 
+/// All pending pieces become visible: of a file that is created, those that are left.
+fn show_all(session: &mut WriterCore, image: &mut SteadyImage)
+    requires { HasRoomFor session.old (steady image.old) }
+    ensures { (options : Options) → Creates options 0 session.old image.old → Creates options (length session.old.pending) session.new image.new }
+{
+    let pieces = session.pending();
+    for _ in 0..pieces {
+        show(session, image);
+    }
+}
+
 /// A writer that created a file, all of whose pieces are visible.
 fn create(alloc: Global, options: &Options) -> Result<(WriterCore, SteadyImage), OutOfMemory>
     requires { AreOptions options.now }
     ensures { IfOk result (λ made. Creates options.now (length (created_writes (new_file options.now))) made.0 made.1) }
 {
-    let mut session = WriterCore::create(alloc, options)?;
     let mut image = SteadyImage::new(alloc)?;
-    let pieces = session.pending();
-    image.make_room(pieces + 1, session.end())?;
-    for _ in 0..pieces {
-        show(&mut session, &mut image);
-    }
+    let mut session = WriterCore::create(alloc, options)?;
+    image.make_room(session.pending() + 1, session.end())?;
+    show_all(&mut session, &mut image);
     Ok((session, image))
 }
 
@@ -126,11 +137,13 @@ impl World {
     /// Does what an event asks, and answers. Values that are appended are whole rows. The reply is lawful in each state that fits the world, and the state after
     /// it fits the world then; to each log for which the world stood the event was added, unless it was refused. What an
     /// error leaves is as before, but that a look's call is taken away, and that a flush may have held more blocks of the index;
-    /// memory is not wanted for what is refused, but maybe for want of a place, nor for a piece that becomes visible.
+    /// memory is not wanted for what is refused, but maybe for want of a place, nor for a piece that becomes visible. FullSpace is replied
+    /// only if the session's file has no place of this size, free or at its end, for the rows that wait.
     pub fn step(&mut self, event: Event) -> Result<Reply, OutOfMemory>
         requires { IsHeard (rules_of self.old) event }
         ensures lawful { IfOk result (λ reply. (s : ScriptState) → HaveOneLog self.old s → Allowed (rules_of self.old) s (line_of event) reply × HaveOneLog self.new (next_state (rules_of self.old) s (line_of event) reply)) }
         ensures logged { IfOk result (λ reply. (log : Log) → StandsFor self.old log → StandsFor self.new (logged self.old event reply log)) }
+        ensures full { (full : Full) → result ≡ Ok (full_reply full) → IsFullFor self.old.session full }
         ensures rules { rules_of self.new ≡ rules_of self.old }
         ensures kept { OnErr result (IsLeft self.old event self.new) }
         ensures memory { OnErr result (MayWantMemory self.old event) }
@@ -158,6 +171,7 @@ impl World {
         requires { AreRowsBy (rules_of self.old) values.now }
         ensures steps { IfOk result (λ reply. Steps self.old (Event.Append values.now) reply self.new) }
         ensures logged { IfOk result (λ reply. (log : Log) → StandsFor self.old log → StandsFor self.new (logged self.old (Event.Append values.now) reply log)) }
+        ensures no_space { (full : Full) → result ≡ Ok (full_reply full) → ⊥ }
         ensures kept { OnErr result (self.new ≡ self.old) }
         ensures memory { OnErr result (MayWantMemory self.old (Event.Append values.now)) }
     {
@@ -176,6 +190,7 @@ impl World {
     fn flush(&mut self) -> Result<Reply, OutOfMemory>
         ensures steps { IfOk result (λ reply. Steps self.old Event.Flush reply self.new) }
         ensures logged { IfOk result (λ reply. (log : Log) → StandsFor self.old log → StandsFor self.new (logged self.old Event.Flush reply log)) }
+        ensures full { (full : Full) → result ≡ Ok (full_reply full) → IsFullFor self.old.session full }
         ensures kept { OnErr result (HoldsMore self.old self.new) }
         ensures memory { OnErr result (MayWantMemory self.old Event.Flush) }
     {
@@ -197,6 +212,7 @@ impl World {
     fn show(&mut self) -> Reply
         ensures steps { Steps self.old Event.Visible result self.new }
         ensures logged { (log : Log) → StandsFor self.old log → StandsFor self.new (logged self.old Event.Visible result log) }
+        ensures no_space { (full : Full) → result ≡ full_reply full → ⊥ }
     {
         let pieces = show(&mut self.session, &mut self.image);
         Reply::Written {
@@ -208,6 +224,7 @@ impl World {
     /// The writer stops, and what is pending is dropped.
     fn stop(&mut self) -> Reply
         ensures steps { Steps self.old Event.Stop result self.new }
+        ensures no_space { (full : Full) → result ≡ full_reply full → ⊥ }
         ensures logged { (log : Log) → StandsFor self.old log → StandsFor self.new log }
     {
         self.session.stop();
@@ -218,6 +235,7 @@ impl World {
     fn open(&mut self, reader: u64) -> Result<Reply, OutOfMemory>
         requires { reader ≤ 16 }
         ensures steps { IfOk result (λ reply. Steps self.old (Event.Open reader) reply self.new) }
+        ensures no_space { (full : Full) → result ≡ Ok (full_reply full) → ⊥ }
         ensures logged { (log : Log) → StandsFor self.old log → StandsFor self.new log }
         ensures rules { rules_of self.new ≡ rules_of self.old }
         ensures kept { OnErr result (IsKept self.old self.new reader (reader_at self.old.readers reader)) }
@@ -236,6 +254,7 @@ impl World {
     fn refresh(&mut self, reader: u64) -> Reply
         requires { reader ≤ 16 }
         ensures steps { Steps self.old (Event.Refresh reader) result self.new }
+        ensures no_space { (full : Full) → result ≡ full_reply full → ⊥ }
         ensures logged { (log : Log) → StandsFor self.old log → StandsFor self.new log }
     {
         readers::refresh(&mut self.readers[reader as usize], reader)
@@ -245,6 +264,7 @@ impl World {
     fn read(&mut self, reader: u64, from: u64, count: u64) -> Result<Reply, OutOfMemory>
         requires { reader ≤ 16 }
         ensures steps { IfOk result (λ reply. Steps self.old (Event.Read reader from count) reply self.new) }
+        ensures no_space { (full : Full) → result ≡ Ok (full_reply full) → ⊥ }
         ensures logged { (log : Log) → StandsFor self.old log → StandsFor self.new log }
         ensures rules { rules_of self.new ≡ rules_of self.old }
         ensures kept { OnErr result (IsKept self.old self.new reader (reader_at self.old.readers reader)) }
@@ -257,6 +277,7 @@ impl World {
     fn look(&mut self, reader: u64) -> Result<Reply, OutOfMemory>
         requires { reader ≤ 16 }
         ensures steps { IfOk result (λ reply. Steps self.old (Event.Look reader) reply self.new) }
+        ensures no_space { (full : Full) → result ≡ Ok (full_reply full) → ⊥ }
         ensures logged { (log : Log) → StandsFor self.old log → StandsFor self.new log }
         ensures rules { rules_of self.new ≡ rules_of self.old }
         ensures kept { OnErr result (IsKept self.old self.new reader (option_map ended (reader_at self.old.readers reader))) }

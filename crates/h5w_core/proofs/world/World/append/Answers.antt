@@ -94,3 +94,14 @@ returns-clause-memory c =
           (subst (λ (x : WorldView). append_refusal x.session c.args.values.now ≡ None) c.self.view_is
           (append_memory c.self.inside.session c.args.values.now (Err e.field-0) e.ensures.refused (ap Err e.field-0-is)))
     ]
+
+pub returns-clause-no_space : goal.returns-clause-no_space
+returns-clause-no_space c =
+    elim c.match-append.branch [
+      | in-Ok b ↦ rw b.result-is (λ full told. absurd cc)
+      | in-Err-Stopped b ↦ rw b.result-is (λ full told. absurd cc)
+      | in-Err-Busy b ↦ rw b.result-is (λ full told. absurd cc)
+      | in-Err-OutOfRange b ↦ rw b.result-is (λ full told. absurd cc)
+      | in-Err-Chunks b ↦ rw b.result-is (λ full told. absurd cc)
+      | in-Err-OutOfMemory b ↦ rw b.result-is (λ full told. absurd cc)
+    ]

@@ -1,7 +1,7 @@
 use Rattle.std.proofs.Common.{◌≡◌, None, Ok, Err, refl, ap, subst}
 use Rattle.h5w_session.specs.Refusals.{flush_refusal}
 use Rattle.h5w_core.specs.Worlds.{WorldView}
-use Rattle.h5w_core.proofs.FlushLemmas.{LeavesSession, busy_done, flush_done, full_done, memory_only, stopped_done}
+use Rattle.h5w_core.proofs.FlushLemmas.{LeavesSession, busy_done, flush_done, full_done, full_told, memory_only, stopped_done}
 use Rattle.h5w_core.proofs.HoldLemmas.{answered, flush_hold, held_stands, holds_more, planned_stands}
 use Rattle.h5w_core.proofs.world.World.flush.Goals as goal
 use Rattle.h5w_core.proofs.world.World.flush.Goals.{in-Ok, in-Err-Stopped, in-Err-Busy, in-Err-Space, in-Err-OutOfMemory}
@@ -89,4 +89,16 @@ returns-clause-memory c =
           rw b.result-is
           (subst (λ (x : WorldView). flush_refusal x.session ≡ None) c.self.view_is
           (memory_only c.self.inside.session (Err e.field-0) e.ensures.refused (ap Err e.field-0-is)))
+    ]
+
+pub returns-clause-full : goal.returns-clause-full
+returns-clause-full c =
+    elim c.match-flush.branch [
+      | in-Ok b ↦ rw b.result-is (λ full told. absurd cc)
+      | in-Err-Stopped b ↦ rw b.result-is (λ full told. absurd cc)
+      | in-Err-Busy b ↦ rw b.result-is (λ full told. absurd cc)
+      | in-Err-Space b ↦
+          let e = b.in-Err-Space in
+          rw b.result-is (λ full told. full_told c.args.self.now c.self.inside.session e.field-0 e.field-0-0 full (ap (λ (x : WorldView). x.session) c.self.view_is) e.field-0-is e.ensures.full told)
+      | in-Err-OutOfMemory b ↦ rw b.result-is (λ full told. absurd cc)
     ]

@@ -1,7 +1,7 @@
 use Rattle.std.proofs.Common.{ap, ◌∙◌, sym, subst}
 use Rattle.h5w_model.specs.declared.event.Event.TheVariants as events
 use Rattle.h5w_core.specs.Worlds.{AreRowsBy, IsHeard, rules_of}
-use Rattle.h5w_core.proofs.StepLemmas.{lawful_if_ok, step_lawful}
+use Rattle.h5w_core.proofs.StepLemmas.{lawful_if_ok, never_full, reply_never_full, step_lawful}
 use Rattle.h5w_core.proofs.world.World.step.Goals as goal
 
 pub returns-in-Append-clause-lawful : goal.returns-in-Append-clause-lawful
@@ -41,3 +41,27 @@ pub append-requires : goal.append-requires
 append-requires c =
     let g = rules_of c.args.self.now in
     subst (AreRowsBy g) (sym c.as_slice.ensures) (subst (IsHeard g) c.in-Append.is c.requires)
+
+pub returns-in-Append-clause-full : goal.returns-in-Append-clause-full
+returns-in-Append-clause-full c = never_full c.args.self.now.session c.append.result c.append.ensures.no_space
+
+pub returns-in-Visible-clause-full : goal.returns-in-Visible-clause-full
+returns-in-Visible-clause-full c = reply_never_full c.args.self.now.session c.show.result c.show.ensures.no_space
+
+pub returns-in-Stop-clause-full : goal.returns-in-Stop-clause-full
+returns-in-Stop-clause-full c = reply_never_full c.args.self.now.session c.stop.result c.stop.ensures.no_space
+
+pub returns-in-Open-clause-full : goal.returns-in-Open-clause-full
+returns-in-Open-clause-full c = never_full c.args.self.now.session c.open.result c.open.ensures.no_space
+
+pub returns-in-Refresh-clause-full : goal.returns-in-Refresh-clause-full
+returns-in-Refresh-clause-full c = reply_never_full c.args.self.now.session c.refresh.result c.refresh.ensures.no_space
+
+pub returns-in-Read-clause-full : goal.returns-in-Read-clause-full
+returns-in-Read-clause-full c = never_full c.args.self.now.session c.read.result c.read.ensures.no_space
+
+pub returns-in-Look-clause-full : goal.returns-in-Look-clause-full
+returns-in-Look-clause-full c = never_full c.args.self.now.session c.look.result c.look.ensures.no_space
+
+pub returns-in-Flush-clause-full : goal.returns-in-Flush-clause-full
+returns-in-Flush-clause-full c = c.flush.ensures.full
