@@ -3,6 +3,7 @@ ghost use Rattle.std.specs.Prelude.{◌≡◌, ◌∷◌, ◌<◌, ◌^◌, ◌�
 ghost use Rattle.h5w_model.specs.Images.{image};
 ghost use Rattle.h5w_model.specs.Logs.{Log, and_now, appends, hist, plans};
 ghost use Rattle.h5w_options.specs.Options.{AreOptions};
+ghost use Rattle.h5w_image.specs.Memory.{fresh};
 ghost use Rattle.h5w_image.specs.View.{Same};
 ghost use Rattle.h5w_session.specs.Creations.{new_file as file_of};
 ghost use Rattle.h5w_session.specs.Refusals.{append_refusal, flush_refusal};
@@ -61,16 +62,16 @@ fn show_all(session: &mut WriterCore, image: &mut SteadyImage)
     }
 }
 
-/// A session that created the file, and its image.
-fn create(alloc: Global) -> Result<(WriterCore, SteadyImage), OutOfMemory>
-    ensures { IfOk result (λ made. IsAfter [] made.0 made.1) }
+/// A session that created the file in a new image.
+fn create(alloc: Global, image: &mut SteadyImage) -> Result<WriterCore, OutOfMemory>
+    requires { image.old ≡ fresh [] [] }
+    ensures { IfOk result (λ session. IsAfter [] session image.new) }
 {
     let options = options(alloc)?;
     let mut session = WriterCore::create(alloc, &options)?;
-    let mut image = SteadyImage::new(alloc)?;
     image.make_room(session.pending() + 1, session.end())?;
-    show_all(&mut session, &mut image);
-    Ok((session, image))
+    show_all(&mut session, image);
+    Ok(session)
 }
 
 /// Appends values that are not refused.
@@ -162,13 +163,38 @@ fn close(session: &mut WriterCore, image: &mut SteadyImage) -> Result<(), OutOfM
     Ok(())
 }
 
+/// Puts `n` values of the generator into the file, and closes it.
+fn fill(
+    alloc: Global,
+    n: u64,
+    seed: u64,
+    session: &mut WriterCore,
+    image: &mut SteadyImage,
+) -> Result<(), OutOfMemory>
+    requires few { n ≤ 1000000 }
+    requires created { IsAfter [] session.old image.old }
+    ensures { OnOk result (IsClosed (batches seed n) session.new image.new) }
+{
+    put_all(alloc, n, seed, session, image)?;
+    close(session, image)
+}
+
+/// Makes the closed file of `n` values of the generator in a new image.
+fn write_into(alloc: Global, n: u64, seed: u64, image: &mut SteadyImage) -> Result<(), OutOfMemory>
+    requires few { n ≤ 1000000 }
+    requires new { image.old ≡ fresh [] [] }
+    ensures { OnOk result ((s : Session) × IsClosed (batches seed n) s image.new) }
+{
+    let mut session = create(alloc, image)?;
+    fill(alloc, n, seed, &mut session, image)
+}
+
 /// The closed file of `n` values of the generator, in memory.
 pub fn write(alloc: Global, n: u64, seed: u64) -> Result<SteadyImage, OutOfMemory>
     requires { n ≤ 1000000 }
     ensures { IfOk result (λ image. (s : Session) × IsClosed (batches seed n) s image) }
 {
-    let (mut session, mut image) = create(alloc)?;
-    put_all(alloc, n, seed, &mut session, &mut image)?;
-    close(&mut session, &mut image)?;
+    let mut image = SteadyImage::new(alloc)?;
+    write_into(alloc, n, seed, &mut image)?;
     Ok(image)
 }

@@ -124,6 +124,19 @@ fn sum_rows(call: &mut ReaderCore, rows: u64, image: &mut SteadyImage) -> Result
     Ok(total)
 }
 
+/// The rows of a file of numbers and their sum, by a reader that begins to open it.
+fn rows_and_sum(call: &mut ReaderCore, image: &mut SteadyImage) -> Result<(u64, u64), OutOfMemory>
+    requires begun { reader call.old ≡ new_reader (reader_rules data_name 8) }
+    requires readable { (ns : List ℕ) × IsReadable image.old.bytes (map pos ns) × (sum ns < 2 ^ 64) }
+    ensures rows { (ns : List ℕ) → IsReadable image.old.bytes (map pos ns) → IfOk result (λ read. read.0 ≡ length ns) }
+    ensures sum { (ns : List ℕ) → IsReadable image.old.bytes (map pos ns) → IfOk result (λ read. read.1 ≡ sum ns) }
+    ensures image { Same (steady image.old) (steady image.new) }
+{
+    let rows = find_rows(call, image)?;
+    let total = sum_rows(call, rows, image)?;
+    Ok((rows, total))
+}
+
 /// The rows of a file of numbers and their sum, as a reader finds them.
 pub fn read_back(alloc: Global, image: &mut SteadyImage) -> Result<(u64, u64), OutOfMemory>
     requires { (ns : List ℕ) × IsReadable image.old.bytes (map pos ns) × (sum ns < 2 ^ 64) }
@@ -132,7 +145,5 @@ pub fn read_back(alloc: Global, image: &mut SteadyImage) -> Result<(u64, u64), O
     ensures image { Same (steady image.old) (steady image.new) }
 {
     let mut call = ReaderCore::open(alloc, NAME, ATTEMPTS)?;
-    let rows = find_rows(&mut call, image)?;
-    let total = sum_rows(&mut call, rows, image)?;
-    Ok((rows, total))
+    rows_and_sum(&mut call, image)
 }

@@ -13,5 +13,5 @@ returns c =
     let made : IsCreated new_file (2 ^ 40) s.session =
     subst (λ (f : CreatedFile). IsCreated f (2 ^ 40) s.session) o.ensures.file (subst (λ (n : ℕ). IsCreated (file_of o.options) n s.session) o.ensures.limit s.ensures.session) in
     let stands : Stands s.session (created_log new_file) = subst (λ (f : CreatedFile). Stands s.session (created_log f)) o.ensures.file s.ensures.stands in
-    created_after s.session c.show_all.new.session c.in_ok-image.image c.make_room.new.self c.show_all.new.image made stands c.in_ok-image.ensures
+    created_after s.session c.show_all.new.session c.args.image.now c.make_room.new.self c.show_all.new.image made stands c.requires
     c.make_room.ensures.same c.show_all.ensures.session c.show_all.ensures.image c.show_all.ensures.stands

@@ -1,5 +1,0 @@
-use Rattle.h5w_make.specs.Commands.{batches}
-use Rattle.h5w_make.proofs.batch.write.Goals as goal
-
-pub returns : goal.returns
-returns c = (c.close.new.session, c.in_ok-close.ensures (batches c.args.seed c.args.n) c.in_ok-put_all.ensures)
