@@ -158,6 +158,22 @@ def words_are_told_once():
     return found if len(rows) >= 50 else [f"only {len(rows)} words were found in docs/WORDS.md"]
 
 
+def definitions_are_there():
+    """Each name of DEFINITIONS.md is in the crate under whose heading it is, or in the one that is named behind it."""
+    crate, found, count, of = "", [], 0, {}
+    for number, line in enumerate(read("docs/DEFINITIONS.md").split("\n"), 1):
+        heading = re.match(r"##+ (h5w_\w+)$", line)
+        crate = heading.group(1) if heading else crate
+        for name, other in re.findall(r"`([A-Za-z_][\w-]*)`(?: of (h5w_\w+))?", line) if crate else []:
+            where = other or crate
+            if where not in of:
+                paths = glob.glob(f"{TOP}/crates/{where}/specs/**/*.antt", recursive=True) + glob.glob(f"{TOP}/crates/{where}/src/**/*.rt", recursive=True)
+                of[where] = {it for path in paths for it in re.findall(r"[A-Za-z_][\w-]*", read(os.path.relpath(path, TOP)))}
+            count += 1
+            found += [f"docs/DEFINITIONS.md:{number}: {where} has no `{name}`"] if name not in of[where] and name != "clap" else []
+    return found if count > 300 else [f"only {count} names were found in docs/DEFINITIONS.md"]
+
+
 def no_wide_cells():
     """No cell of a table of docs/ has more than 300 columns."""
     found = []
@@ -178,6 +194,7 @@ def trials():
     yield "manual page, usage and script have the same options", options_agree
     yield "DECISIONS.md lists its headings", headings_are_listed
     yield "WORDS.md has each word once", words_are_told_once
+    yield "each name of DEFINITIONS.md is in its crate", definitions_are_there
     yield "tables without wide cells", no_wide_cells
 
 
