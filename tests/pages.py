@@ -178,6 +178,8 @@ def no_wide_cells():
     """No cell of a table of docs/ has more than 300 columns."""
     found = []
     for it in PAGES:
+        if not os.path.exists(f"{TOP}/docs/{it}.md"):
+            continue
         for number, line in enumerate(read(f"docs/{it}.md").split("\n"), 1):
             if line.startswith("|") and max(map(len, line.split(" | "))) > 300:
                 found.append(f"docs/{it}.md:{number} has a cell of {max(map(len, line.split(' | ')))} columns")
