@@ -47,13 +47,20 @@ def sentences(text):
 
 
 def front_page():
-    """README is a page that is read: so many lines of so many columns, and sentences of so many words."""
+    """README is a page that is read: so many lines of so many columns."""
     lines = read("README.md").rstrip("\n").split("\n")
     found = [f"README.md has {len(lines)} lines, more than {LINES}"] if len(lines) > LINES else []
-    found += [f"README.md:{k} has {len(it)} columns, more than {COLUMNS}" for k, it in enumerate(lines, 1) if len(it) > COLUMNS]
-    for it in sentences(read("README.md")):
-        if len(it.split()) > WORDS:
-            found.append(f"README.md has a sentence of {len(it.split())} words, more than {WORDS}: {it[:80]} ..")
+    return found + [f"README.md:{k} has {len(it)} columns, more than {COLUMNS}" for k, it in enumerate(lines, 1) if len(it) > COLUMNS]
+
+
+def short_sentences():
+    """No sentence of README, of the crates' pages and of docs/ is longer than so many words; PERFORMANCE.md tells measurements."""
+    names = ["README.md", *[f"crates/{it}/README.md" for it in crates()], *[f"docs/{it}.md" for it in PAGES if it != "PERFORMANCE"]]
+    found = []
+    for name in names:
+        for it in sentences(read(name)) if os.path.exists(f"{TOP}/{name}") else []:
+            if len(it.split()) > WORDS:
+                found.append(f"{name} has a sentence of {len(it.split())} words, more than {WORDS}: {it[:80]} ..")
     return found
 
 
@@ -188,7 +195,8 @@ def no_wide_cells():
 
 def trials():
     """Each check by its name."""
-    yield "README's lines, columns and sentences", front_page
+    yield "README's lines and columns", front_page
+    yield "no sentence is long", short_sentences
     yield "each text that the sources spell stands in FORMAT.md", each_text_is_told
     yield "each error line of FORMAT.md is spelled, and stands in the manual page", each_line_is_spelled
     yield "each crate has its page and its rows", each_crate_has_its_pages
