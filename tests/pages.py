@@ -147,6 +147,16 @@ def options_agree():
     return found if len(commands) == 9 and len(options) > 10 else [f"{len(commands)} commands and {len(options)} options were found in the synopsis"]
 
 
+def versions_agree():
+    """The script, the manual page, README and CHANGES.md tell the same version."""
+    if not os.path.exists(f"{TOP}/docs/CHANGES.md"):
+        return ["docs/CHANGES.md is missing"]
+    places = [("h5swmr", r"^version=(.*)$"), ("docs/h5swmr.1", r'^\.TH .* "h5swmr ([^"]*)"'), ("README.md", r"\bVersion (\d[\d.]*\d)"), ("docs/CHANGES.md", r"^## (\d[\d.]*\d)")]
+    told = [(name, re.search(form, read(name), re.M)) for name, form in places]
+    versions = {it.group(1) for _, it in told if it}
+    return [f"{name} tells no version" for name, it in told if not it] + ([f"versions {sorted(versions)}"] if len(versions) > 1 else [])
+
+
 def headings_are_listed():
     """DECISIONS.md begins with a list of its headings."""
     page = read("docs/DECISIONS.md")
@@ -202,6 +212,7 @@ def trials():
     yield "each crate has its page and its rows", each_crate_has_its_pages
     yield "each page is there", each_page_is_there
     yield "manual page, usage and script have the same options", options_agree
+    yield "the version is the same everywhere", versions_agree
     yield "DECISIONS.md lists its headings", headings_are_listed
     yield "WORDS.md has each word once", words_are_told_once
     yield "each name of DEFINITIONS.md is in its crate", definitions_are_there
