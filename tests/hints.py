@@ -1,4 +1,4 @@
-"""Trials of ./h5swmr itself: its help, its version, the hints that it adds to two statuses, and whose process and signals are whose."""
+"""Trials of ./h5swmr itself: its help, its version, the hints that it adds to two statuses, and what input and signals the program gets."""
 import os
 import re
 import shutil
@@ -113,11 +113,9 @@ def odd_files(folder):
     return found + of("a file that may be read", run(["check", "locked/shown"], folder, **user)[::2], (0, b""))
 
 
-# Words whose program waits for a line, and runs in the script's own process; and words that a glance does not know.
-OWN = [["append", "f"], ["append", "--name=data", "f", "--no-reuse"], ["append", "f", "--limit", "4096", "--name", "data"]]
-OWN += [["play", *NEW], ["play", *NEW, "--columns", "3", "--width=2", "--fill", "7", "--attempts", "9", "--limit", "4096", "--name", "a_1"]]
-OWN += [["live", *NEW, "--readers", "2", "--polls", "3"], ["append", "\u00e9 f"]]
-OTHERS = [["append", "--", "f"], ["play", "--fill", "1000", *NEW]]
+# Words whose program waits for a line.
+WAITING = [["append", "f"], ["append", "--name=data", "f", "--no-reuse"], ["append", "--", "f"], ["append", "\u00e9 f"], ["play", *NEW]]
+WAITING += [["live", *NEW, "--readers", "2", "--polls", "3"]]
 
 
 def is_there(pid):
@@ -138,7 +136,7 @@ def programs(process):
 
 
 def begun(words, folder):
-    """The script, and the process that has become the program."""
+    """The script, and the process that runs the program."""
     process = subprocess.Popen([SCRIPT, *words], stdin=subprocess.PIPE, stdout=subprocess.PIPE, stderr=subprocess.PIPE, cwd=folder)
     for _ in range(SECONDS * 100):
         found = programs(process)
@@ -149,28 +147,26 @@ def begun(words, folder):
 
 
 def processes(folder):
-    """The program takes the script's place where the words are known, and else gets what the script gets: input, signals, and its end."""
+    """The program gets what the script gets: input, signals, and its end."""
     for name in ("f", "\u00e9 f"):
         with open(f"{folder}/{name}", "wb") as file:
             file.write(new_file("i32le", 2))
     found = []
-    for words in OWN + OTHERS:
-        process, pid = begun(words, folder)
-        found += of(f"{words} run in the script's process", pid == process.pid, words in OWN)
-        text, errors = process.communicate(b"", SECONDS)
+    for words in WAITING:
+        process, _ = begun(words, folder)
+        _, errors = process.communicate(b"", SECONDS)
         found += of(f"{words} at the end of the input", (process.returncode, errors), (0, b""))
-    for words in (["play", *NEW], *OTHERS[1:]):
-        found += of(f"the text of {words}", piped(words, folder), (0, b"appended 1\nflushing 5\n", b""))
-        for it in (signal.SIGTERM, signal.SIGINT, signal.SIGHUP, signal.SIGQUIT):
-            process, pid = begun(words, folder)
-            process.send_signal(it)
-            found += of(f"{words} by {it.name}", process.wait(SECONDS), -it)
-            found += of(f"the program of {words} is there after {it.name}", is_there(pid), False)
-            process.communicate()
+    words = ["play", *NEW]
+    found += of(f"the text of {words}", piped(words, folder), (0, b"appended 1\nflushing 5\n", b""))
+    for it in (signal.SIGTERM, signal.SIGINT, signal.SIGHUP, signal.SIGQUIT):
         process, pid = begun(words, folder)
-        os.kill(pid, signal.SIGKILL)
-        found += of(f"{words} whose program is killed", (process.wait(SECONDS), process.communicate()[1]), (-9, b""))
-    return found
+        process.send_signal(it)
+        found += of(f"{words} by {it.name}", process.wait(SECONDS), -it)
+        found += of(f"the program of {words} is there after {it.name}", is_there(pid), False)
+        process.communicate()
+    process, pid = begun(words, folder)
+    os.kill(pid, signal.SIGKILL)
+    return found + of(f"{words} whose program is killed", (process.wait(SECONDS), process.communicate()[1]), (-9, b""))
 
 
 def piped(words, folder):
@@ -188,7 +184,7 @@ def trials():
         "help and version": helps,
         "help and version where no program is": helps_without_a_program,
         "hints of what is odd at a file": odd_files,
-        "the program's process, its input and its signals": processes,
+        "the program's input and signals": processes,
     }
     for name, find in table.items():
         yield name, lambda it=find: in_folder(it)

@@ -133,15 +133,12 @@ def each_page_is_there():
 
 
 def options_agree():
-    """The manual page's synopsis, the usage and the script's glance have the same options and commands."""
+    """The manual page's synopsis and the usage have the same options and commands."""
     synopsis = re.search(r"^\.SH SYNOPSIS\n(.*?)^\.SH ", read("docs/h5swmr.1"), re.M | re.S).group(1)
     synopsis = re.sub(r"\\f[BIR]", "", synopsis).replace("\\-", "-")
-    usage, script = read("docs/usage.txt"), read("h5swmr")
-    glance = script[script.index("\nset_command() {"):]
-    glance = {it for text in re.findall(r'"([a-z -]*)"', glance[: glance.index("\n}\n")]) for it in text.split()}
+    usage = read("docs/usage.txt")
     options = {*re.findall(r"--([a-z-]+)", synopsis)} - {"version"}
     found = [f"docs/usage.txt and the synopsis differ in --{it}" for it in sorted(options ^ ({*re.findall(r"--([a-z-]+)", usage)} - {"version"}))]
-    found += [f"h5swmr and the synopsis differ in --{it}" for it in sorted(options ^ glance)]
     commands = {*re.findall(r"^h5swmr ([a-z]+)", synopsis, re.M)}
     found += [f"docs/usage.txt and the synopsis differ in {it}" for it in sorted(commands ^ {*re.findall(r"^  h5swmr ([a-z]+)", usage, re.M)})]
     return found if len(commands) == 9 and len(options) > 10 else [f"{len(commands)} commands and {len(options)} options were found in the synopsis"]
