@@ -20,6 +20,3 @@ pub use header::Bthd;
 pub use inner::Btin;
 pub use leaf::Btlf;
 pub use records::{Record, Records};
-
-#[cfg(test)]
-mod tests;

@@ -7,8 +7,6 @@ mod moves;
 mod plan;
 mod settle;
 mod store;
-#[cfg(test)]
-mod tests;
 mod write;
 
 pub use block::{Block, Link, copied};

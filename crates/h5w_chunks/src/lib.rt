@@ -13,6 +13,3 @@ pub use grid::{ChunkPlace, Grid};
 pub use h5w_layout::{Fill, IndexKind, Layout};
 pub use h5w_model::{Cell, Key, OutOfMemory, PIECE, Piece, Write};
 pub use h5w_types::{IntType, Shape};
-
-#[cfg(test)]
-mod tests;

@@ -122,6 +122,3 @@ impl Deps {
         })
     }
 }
-
-#[cfg(test)]
-mod tests;

@@ -19,7 +19,7 @@ use Rattle.h5w_headline.proofs.MomentLemmas.{Moment, keeps}
 -- ---- The value of a cell
 
 -- a row and a column of so many
-below_product : (row col rows cols : ℕ) → row < rows → col < cols → row * cols + col < rows * cols
+pub below_product : (row col rows cols : ℕ) → row < rows → col < cols → row * cols + col < rows * cols
 below_product row col rows cols h g =
     let more : (row + 1) * cols ≤ rows * cols = mul-le-mul_right cols (let e : row + 1 ≤ rows = omega arith in e) in
     omega (arith, more)

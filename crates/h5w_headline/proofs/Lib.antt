@@ -21,3 +21,4 @@ pub mod BoundLemmas
 pub mod ReadLooks
 pub mod StillLemmas
 pub mod StillReads
+pub mod PartReads

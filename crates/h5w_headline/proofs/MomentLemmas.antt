@@ -62,7 +62,7 @@ pub record Moment (name : List ℕ) (log : Log) (p : ℕ) : Type 0 where
   pub reached : IsReached (image_at log p) shown.dataset
   pub fits : length (image_at log p) ≤ 2 ^ 64
 
-get_take : (n : ℕ) (xs : List ℤ) (k : ℕ) → k < n → slice_get (take n xs) k ≡ slice_get xs k
+pub get_take : (n : ℕ) (xs : List ℤ) (k : ℕ) → k < n → slice_get (take n xs) k ≡ slice_get xs k
 get_take zero xs k h = absurd (omega arith)
 get_take (suc n) [] k h = refl
 get_take (suc n) (x ∷ xs) zero h = refl

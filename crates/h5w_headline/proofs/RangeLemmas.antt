@@ -119,7 +119,7 @@ div_mono : (a b n : ℕ) → 0 < n → a ≤ b → a / n ≤ b / n
 div_mono a b n some h = le-div (a / n) b n some (let l : a / n * n ≤ a = div-mul-le_self a n in omega (arith, l))
 
 -- the chunk of a touched row
-touched_by : (d : Described) (first to row col : ℕ) → Sound d → first ≤ row → row < to → col < d.shape.cols
+pub touched_by : (d : Described) (first to row col : ℕ) → Sound d → first ≤ row → row < to → col < d.shape.cols
     → IsTouched d first to (row / d.layout.chunk_rows) (col / d.layout.chunk_cols)
 touched_by d first to row col good low high inside =
     let n : ℕ = d.layout.chunk_cols in
@@ -142,7 +142,7 @@ keys_touched d first to some good =
 
 -- each value, from the range of its chunk
 value_told : (img : List ℕ) (r : Reading) (xs : List ℤ) (first to : ℕ) (ranges : List (Option (List ℕ))) (k : ℕ) → Sound r.dataset → first < to
-    → ((row col : ℕ) → row < to → col < r.dataset.shape.cols → HasCell img r xs row col) → Parts img r first to (touched_keys r first to) ranges
+    → ((row col : ℕ) → first ≤ row → row < to → col < r.dataset.shape.cols → HasCell img r xs row col) → Parts img r first to (touched_keys r first to) ranges
     → first * r.dataset.shape.cols ≤ k → k < first * r.dataset.shape.cols + (to - first) * r.dataset.shape.cols
     → slice_get xs k
     ≡ Some (value_from r first
@@ -167,13 +167,13 @@ value_told img r xs first to ranges k good some has parts low high =
     let same : a + (i - a) ≡ i = omega (arith, t.first) in
     let key_of : ℕ → Option (ℕ × ℕ) = λ x. Some (x, j) in
     let part = part_at img r first to (touched_keys r first to) ranges number (i, j) parts (key ∙ ap key_of same) in
-    let v = has row col by.high by.column in
+    let v = has row col by.low by.high by.column in
     ap (λ n. slice_get xs n) (sym (div-add-mod' k cols)) ∙ v.listed
     ∙ ap Some (sym (part row col v.value by.low by.high by.column (band_of i d.layout.chunk_rows row good.rows refl) (band_of j d.layout.chunk_cols col good.cols refl) v.shown))
 
 -- and so all of them
 pub values_told : (img : List ℕ) (r : Reading) (xs : List ℤ) (first to : ℕ) (ranges : List (Option (List ℕ))) → Sound r.dataset → first < to
-    → ((row col : ℕ) → row < to → col < r.dataset.shape.cols → HasCell img r xs row col) → Parts img r first to (touched_keys r first to) ranges
+    → ((row col : ℕ) → first ≤ row → row < to → col < r.dataset.shape.cols → HasCell img r xs row col) → Parts img r first to (touched_keys r first to) ranges
     → values_from r first to ranges ≡ take ((to - first) * r.dataset.shape.cols) (drop (first * r.dataset.shape.cols) xs)
 values_told img r xs first to ranges good some has parts =
     let d : Described = r.dataset in

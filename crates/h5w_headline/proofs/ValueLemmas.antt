@@ -162,7 +162,7 @@ values_read name log p from first to q ts a call takes =
     (keys_touched d first to q.some (sound name log p q.here)) call takes in
     let told : a ≡ Ok (values_from r first to c.ranges) = (takes_ret (Ok (values_from r first to c.ranges)) (looks_of c.rest) a c.takes).1 in
     told ∙ ap Ok (values_told (image_at log p) r (appended log) first to c.ranges (sound name log p q.here) q.some
-    (λ row col low inside. has_value name log p q.here row col (omega (arith, q.within)) inside) c.are)
+    (λ row col from low inside. has_value name log p q.here row col (omega (arith, q.within)) inside) c.are)
 
 pub reads_values : ReadsValues
 reads_values name log seen r from first count ls a served at before shows call some within takes =

@@ -2,4 +2,5 @@ pub mod Headline
 pub mod Bounds
 pub mod Known
 pub mod Still
+pub mod Partly
 pub mod Examples

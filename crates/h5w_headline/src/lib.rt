@@ -17,4 +17,4 @@ pub use headline::{
     ends_when_still, opens_on_rows, reads_values, refreshes_to_rows, within_from_last,
 };
 pub use known::known_addresses;
-pub use still::{still_calls, still_reads, still_refresh};
+pub use still::{partly_reads, still_calls, still_reads, still_refresh};

@@ -1,5 +1,6 @@
 //! What is answered over looks at one image, as where no writer is at work.
 
+ghost use Rattle.h5w_headline.specs.Partly.{PartlyReads};
 ghost use Rattle.h5w_headline.specs.Still.{StillCalls, StillReads, StillRefresh};
 
 /// On a still image an open and a refresh answer what the image gives.
@@ -15,4 +16,10 @@ pub fn still_refresh()
 /// A read of rows in a still image gives the rows that it reads as.
 pub fn still_reads()
     ensures { StillReads }
+{}
+
+/// A read in a still image that ends before some chunk does gives the cells if all that it touches is inside the image.
+/// Else it tells the first range that is cut.
+pub fn partly_reads()
+    ensures { PartlyReads }
 {}

@@ -1,7 +1,7 @@
 use Rattle.std.proofs.Common.{◌≤◌, [], ◌∷◌, get_or, subst, sym, arith}
 use Rattle.h5w_model.specs.Trees.{btin_len}
 use Rattle.h5w_bt.proofs.Tables.{capacity_row, capacity-fits}
-use Rattle.h5w_bt.proofs.tests.spelled.Goals as goal
+use Rattle.h5w_block_trials.proofs.trees.spelled.Goals as goal
 
 pub encode-len-requires-clause-room : goal.encode-len-requires-clause-room
 encode-len-requires-clause-room c =

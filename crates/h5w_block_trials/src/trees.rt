@@ -1,10 +1,14 @@
+//! The blocks of a version 2 B-tree.
+
 ghost use Rattle.std.specs.Prelude.{◌≡◌, ◌≤◌, length, IfOk};
 ghost use Rattle.std.specs.List.{All};
 ghost use Rattle.h5w_model.specs.Trees.{capacity_of};
 ghost use Rattle.h5w_bt.specs.Parts.{IsNode};
 ghost use Rattle.h5w_bt.specs.Fields.{btin_of};
 
-use super::*;
+use h5w_bt::{
+    BlockFault, Bthd, Btin, Btlf, Child, Children, Key, Record, Records, capacity, subtree,
+};
 use h5w_sum::seal;
 use std::alloc::Global;
 use std::test::*;

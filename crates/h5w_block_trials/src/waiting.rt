@@ -1,4 +1,6 @@
-use super::*;
+//! What waits for what.
+
+use h5w_deps::{Deps, DepsError};
 use std::test::Fail;
 
 #[test]

@@ -1,6 +1,6 @@
 use Rattle.std.proofs.Common.{◌≡◌, ◌≤◌, length}
 use Rattle.std.specs.List.{All}
-use Rattle.h5w_bt.proofs.tests.children.Given as goal
+use Rattle.h5w_block_trials.proofs.trees.children.Given as goal
 
 abbrev pub invariant-loop-k : goal.invariant-loop-k
 invariant-loop-k l = record {

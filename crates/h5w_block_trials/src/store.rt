@@ -1,8 +1,10 @@
+//! The store of the blocks of a session.
+
 ghost use Rattle.std.specs.Prelude.{◌≡◌, ◌<◌, [], IfOk, length, replicate};
 ghost use Rattle.h5w_cache.specs.Stores.{grown, no_blocks};
 
-use crate::{Block, Cache, Link};
 use h5w_bytes::UNDEFINED;
+use h5w_cache::{Block, Cache, Link};
 use h5w_model::OutOfMemory;
 use h5w_space::Places;
 use std::alloc::Global;

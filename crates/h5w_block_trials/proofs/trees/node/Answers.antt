@@ -6,7 +6,7 @@ use Rattle.std.proofs.lemmas.List.Elements.{All-map, All-weaker}
 use Rattle.h5w_bt.specs.declared.children.Child.{Child}
 use Rattle.h5w_bt.specs.Parts.{IsPointer, child_of, record_of}
 use Rattle.h5w_bt.proofs.Tables.{capacity-many}
-use Rattle.h5w_bt.proofs.tests.node.Goals as goal
+use Rattle.h5w_block_trials.proofs.trees.node.Goals as goal
 
 small : (depth v : ℕ) → 1 < depth → v ≤ 49 → v < 256 ^ depth
 small zero v deep h = absurd (omega arith)

@@ -1,4 +1,8 @@
-use crate::{Cell, ChunkPlace, Fill, Grid, IndexKind, IntType, Layout, OutOfMemory, Shape, Write};
+//! Rows in chunks.
+
+use h5w_chunks::{
+    Cell, ChunkPlace, Fill, Grid, IndexKind, IntType, Layout, OutOfMemory, Shape, Write,
+};
 use std::test::Fail;
 
 /// Three columns of big-endian integers of two bytes in chunks of two rows and two columns, with the fill 9.

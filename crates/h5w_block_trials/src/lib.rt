@@ -1,0 +1,16 @@
+//! Trials of numbers in bytes, of places and blocks, of chunks, of the blocks of a tree, and of what waits for what. There are only
+//! tests here, so that no crate is proved once more for them.
+#![tactic(auto)]
+
+#[cfg(test)]
+mod bytes;
+#[cfg(test)]
+mod cells;
+#[cfg(test)]
+mod places;
+#[cfg(test)]
+mod store;
+#[cfg(test)]
+mod trees;
+#[cfg(test)]
+mod waiting;
