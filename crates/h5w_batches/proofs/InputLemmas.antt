@@ -6,12 +6,12 @@ use Rattle.h5w_text.specs.LinesAhead.{Ended, Given, GivenUp, IntakeView, IsOver,
 use Rattle.h5w_text.specs.Streams.{SourceView}
 use Rattle.h5w_text.specs.declared.line.LineError.{LineError}
 use Rattle.h5w_text.specs.declared.line.LineError.TheVariants as line_errors
-use Rattle.h5w_batches.specs.Batches.{AreBatches, Batches, after_line, after_lines, close_batch, no_batches}
+use Rattle.h5w_batches.specs.Batches.{AreBatches, Batches, end_batch, no_batches, with_line, with_lines}
 use Rattle.h5w_batches.specs.Inputs.{AreFirst, ReadsAll, input_limit, outside}
-use Rattle.h5w_batches.specs.Reads.{HasNoValues, ReadsBatches, Refuses, Takes, error_of}
+use Rattle.h5w_batches.specs.Reads.{HasNoValues, ReadsBatches, Refuses, TakesEach, error_of}
 use Rattle.h5w_batches.specs.declared.error.BatchError.{BatchError}
 use Rattle.h5w_batches.specs.declared.error.BatchError.TheVariants as errors
-use Rattle.h5w_batches.proofs.RowLemmas.{batches_rows, lines-append}
+use Rattle.h5w_batches.proofs.RowLemmas.{batches_rows, with-append}
 use Rattle.h5w_batches.proofs.LineLemmas.{Going, GoingWhole, first_last, first_whole, last_more, reads_all, reads_too_much, reads_whole, starts, whole_first, whole_more}
 
 -- ---- A loop over the lines
@@ -20,16 +20,16 @@ use Rattle.h5w_batches.proofs.LineLemmas.{Going, GoingWhole, first_last, first_w
 pub record Gathers (columns : ℕ) (v w : LinesAhead) (number : ℕ) (b : Batches) : Type 0 where
   pub numbers : List (List ℤ)
   pub going : GoingWhole columns v w number numbers
-  pub batches_are : b ≡ after_lines no_batches numbers
+  pub batches_are : b ≡ with_lines no_batches numbers
 
 pub gathers_none : (columns : ℕ) (v : LinesAhead) → Gathers columns v v 0 no_batches
 gathers_none columns v = record { numbers = []; going = whole_first columns v; batches_are = refl }
 
 -- the batches behind one more line
-next_batches : {columns : ℕ} {line : List ℕ} {b next : Batches} (numbers : List (List ℤ)) (x : Takes columns line b next) → b ≡ after_lines no_batches numbers → next ≡ after_lines no_batches (numbers ++ x.values ∷ [])
-next_batches numbers x e = x.next_is ∙ ap (λ (c : Batches). after_line c x.values) e ∙ sym (lines-append no_batches numbers x.values)
+next_batches : {columns : ℕ} {line : List ℕ} {b next : Batches} (numbers : List (List ℤ)) (x : TakesEach columns line b next) → b ≡ with_lines no_batches numbers → next ≡ with_lines no_batches (numbers ++ x.values ∷ [])
+next_batches numbers x e = x.next_is ∙ ap (λ (c : Batches). with_line c x.values) e ∙ sym (with-append no_batches numbers x.values)
 
-pub gathers_more : {columns : ℕ} {v u w : LinesAhead} {number : ℕ} {b next : Batches} (line : List ℕ) → Gathers columns v u number b → Given line u w → IsWhole line u w → Takes columns line b next → Gathers columns v w (number + 1) next
+pub gathers_more : {columns : ℕ} {v u w : LinesAhead} {number : ℕ} {b next : Batches} (line : List ℕ) → Gathers columns v u number b → Given line u w → IsWhole line u w → TakesEach columns line b next → Gathers columns v w (number + 1) next
 gathers_more line h given is x = record {
   numbers = h.numbers ++ x.values ∷ [];
   going = whole_more line x.values h.going given is x.spelled;
@@ -38,17 +38,17 @@ gathers_more line h given is x = record {
 
 -- ---- Its end
 
-all_batches : {columns : ℕ} {s t : SourceView} {b : Batches} {batches : List (List ℤ)} (numbers : List (List ℤ)) → ReadsAll columns s t numbers → b ≡ after_lines no_batches numbers → batches ≡ (close_batch b).closed → ReadsBatches columns s t batches
-all_batches numbers reads e f = record { numbers = numbers; reads = reads; batches_are = f ∙ ap (λ (c : Batches). (close_batch c).closed) e }
+all_batches : {columns : ℕ} {s t : SourceView} {b : Batches} {batches : List (List ℤ)} (numbers : List (List ℤ)) → ReadsAll columns s t numbers → b ≡ with_lines no_batches numbers → batches ≡ (end_batch b).closed → ReadsBatches columns s t batches
+all_batches numbers reads e f = record { numbers = numbers; reads = reads; batches_are = f ∙ ap (λ (c : Batches). (end_batch c).closed) e }
 
 -- no line is left
-pub gathers_all : {columns : ℕ} {v u : LinesAhead} {number : ℕ} {b : Batches} {batches : List (List ℤ)} (t : SourceView) (j : IntakeView) → v.room ≡ input_limit → Gathers columns v u number b → Ended u (lines_ahead t j) → batches ≡ (close_batch b).closed
+pub gathers_all : {columns : ℕ} {v u : LinesAhead} {number : ℕ} {b : Batches} {batches : List (List ℤ)} (t : SourceView) (j : IntakeView) → v.room ≡ input_limit → Gathers columns v u number b → Ended u (lines_ahead t j) → batches ≡ (end_batch b).closed
     → ReadsBatches columns (outside v) t batches
 gathers_all t j room h ended is = all_batches h.numbers (reads_all t j room h.going.going ended) h.batches_are is
 
 -- the last line was read
 pub gathers_last : {columns : ℕ} {v u : LinesAhead} {number : ℕ} {b next : Batches} {batches : List (List ℤ)} (line : List ℕ) (t : SourceView) (j : IntakeView) → v.room ≡ input_limit → Gathers columns v u number b → Given line u (lines_ahead t j)
-    → IfSome (lines_ahead t j).left (λ rest. rest ≡ []) → Takes columns line b next → batches ≡ (close_batch next).closed → ReadsBatches columns (outside v) t batches
+    → IfSome (lines_ahead t j).left (λ rest. rest ≡ []) → TakesEach columns line b next → batches ≡ (end_batch next).closed → ReadsBatches columns (outside v) t batches
 gathers_last line t j room h given none x is =
     all_batches (h.numbers ++ x.values ∷ []) (reads_all t j room (last_more line x.values h.going.going given given.passed x.spelled) (record { before = none; now = none })) (next_batches h.numbers x h.batches_are) is
 

@@ -9,13 +9,17 @@ use Rattle.h5w_text.specs.Streams.{SourceView}
 use Rattle.h5w_text.specs.declared.line.TextLine.{TextLine}
 use Rattle.h5w_text.specs.declared.line.TextLine.TheVariants.{Long}
 use Rattle.h5w_text.proofs.ScriptLemmas.{length_values, numbers_long}
-use Rattle.h5w_batches.specs.Batches.{AreBatches, AreWholeRows, Batches, after_line, after_lines, batch_of, batches_of, close_batch, no_batches}
+use Rattle.h5w_batches.specs.Batches.{AreBatches, AreWholeRows, Batches, after_line, after_lines, batches_of, end_batch, no_batches, with_line, with_lines}
 use Rattle.h5w_batches.specs.Inputs.{Spell}
 use Rattle.h5w_batches.specs.Reads.{ReadsBatches}
 
 pub lines-append : (b : Batches) (ls : List (List ℤ)) (l : List ℤ) → after_lines b (ls ++ l ∷ []) ≡ after_line (after_lines b ls) l
 lines-append b [] l = refl
 lines-append b (x ∷ ls) l = lines-append (after_line b x) ls l
+
+pub with-append : (b : Batches) (ls : List (List ℤ)) (l : List ℤ) → with_lines b (ls ++ l ∷ []) ≡ with_line (with_lines b ls) l
+with-append b [] l = refl
+with-append b (x ∷ ls) l = with-append (with_line b x) ls l
 
 -- a line that is too long is outside the grammar
 pub long_outside : (c : ℕ) (line : TextLine) (bytes : List ℕ) → line ≡ Long → IsLine line bytes → number_line_of c bytes ≡ None
@@ -62,10 +66,6 @@ both_rows m n c = grind arith
 rows-append : (c : ℕ) (us vs : List ℤ) → AreWholeRows c us → AreWholeRows c vs → AreWholeRows c (us ++ vs)
 rows-append c us vs p q = (p.0 + q.0, length-append us vs ∙ ap (λ k. k + length vs) p.1 ∙ ap (λ k. p.0 * c + k) q.1 ∙ both_rows p.0 q.0 c)
 
-batch_rows : (c : ℕ) (vs : List ℤ) → AreWholeRows c vs → AreBatches c (batch_of vs)
-batch_rows c [] h = tt
-batch_rows c (v ∷ vs) h = (h, tt)
-
 batches-append : (c : ℕ) (bs cs : List (List ℤ)) → AreBatches c bs → AreBatches c cs → AreBatches c (bs ++ cs)
 batches-append c [] cs h k = k
 batches-append c (b ∷ bs) cs h k = (h.0, batches-append c bs cs h.1 k)
@@ -73,19 +73,19 @@ batches-append c (b ∷ bs) cs h k = (h.0, batches-append c bs cs h.1 k)
 abbrev HaveRows : ℕ → Batches → Type 0
 HaveRows c b = AreBatches c b.closed × AreWholeRows c b.waiting
 
-closed_rows : (c : ℕ) (b : Batches) → HaveRows c b → HaveRows c (close_batch b)
-closed_rows c b h = (batches-append c b.closed (batch_of b.waiting) h.0 (batch_rows c b.waiting h.1), (0, none_rows c))
+closed_rows : (c : ℕ) (b : Batches) → HaveRows c b → HaveRows c (end_batch b)
+closed_rows c b h = (batches-append c b.closed (b.waiting ∷ []) h.0 (h.1, tt), (0, none_rows c))
 
-after_rows : (c : ℕ) (b : Batches) (l : List ℤ) → HaveRows c b → AreWholeRows c l → HaveRows c (after_line b l)
+after_rows : (c : ℕ) (b : Batches) (l : List ℤ) → HaveRows c b → AreWholeRows c l → HaveRows c (with_line b l)
 after_rows c b [] h k = closed_rows c b h
 after_rows c b (v ∷ vs) h k = (h.0, rows-append c b.waiting (v ∷ vs) h.1 k)
 
-all_rows : (c : ℕ) (b : Batches) (ls : List (List ℤ)) → HaveRows c b → AreBatches c ls → HaveRows c (after_lines b ls)
+all_rows : (c : ℕ) (b : Batches) (ls : List (List ℤ)) → HaveRows c b → AreBatches c ls → HaveRows c (with_lines b ls)
 all_rows c b [] h k = h
-all_rows c b (l ∷ ls) h k = all_rows c (after_line b l) ls (after_rows c b l h k.0) k.1
+all_rows c b (l ∷ ls) h k = all_rows c (with_line b l) ls (after_rows c b l h k.0) k.1
 
 numbers_rows : (c : ℕ) (ls : List (List ℤ)) → AreBatches c ls → AreBatches c (batches_of ls)
-numbers_rows c ls h = (closed_rows c (after_lines no_batches ls) (all_rows c no_batches ls (tt, (0, none_rows c)) h)).0
+numbers_rows c ls h = (closed_rows c (with_lines no_batches ls) (all_rows c no_batches ls (tt, (0, none_rows c)) h)).0
 
 -- the batches of an input are whole rows
 pub batches_rows : (c : ℕ) (s t : SourceView) (batches : List (List ℤ)) → 1 ≤ c → ReadsBatches c s t batches → AreBatches c batches

@@ -9,6 +9,27 @@ pub record Batches : Type 0 where
 abbrev pub no_batches : Batches
 no_batches = record { closed = []; waiting = [] }
 
+-- ---- Each batch
+
+-- the values that wait are a batch; where none wait it is an empty one
+abbrev pub end_batch : Batches → Batches
+end_batch b = record { closed = b.closed ++ b.waiting ∷ []; waiting = [] }
+
+-- the values of a line wait; an empty line has none, and closes a batch
+abbrev pub with_line : Batches → List ℤ → Batches
+with_line b [] = end_batch b
+with_line b (v ∷ vs) = record b { waiting = b.waiting ++ v ∷ vs }
+
+abbrev pub with_lines : Batches → List (List ℤ) → Batches
+with_lines b [] = b
+with_lines b (l ∷ ls) = with_lines (with_line b l) ls
+
+-- the batches of lines with these values, behind which the input ends; an empty one is one of them
+abbrev pub batches_of : List (List ℤ) → List (List ℤ)
+batches_of lines = (end_batch (with_lines no_batches lines)).closed
+
+-- ---- The batches that have values
+
 -- a batch, where there are values
 abbrev pub batch_of : List ℤ → List (List ℤ)
 batch_of [] = []
@@ -27,9 +48,7 @@ abbrev pub after_lines : Batches → List (List ℤ) → Batches
 after_lines b [] = b
 after_lines b (l ∷ ls) = after_lines (after_line b l) ls
 
--- the batches of lines with these values, behind which the input ends
-abbrev pub batches_of : List (List ℤ) → List (List ℤ)
-batches_of lines = (close_batch (after_lines no_batches lines)).closed
+-- ---- Rows
 
 -- these values are whole rows of so many columns; no values are none
 abbrev pub AreWholeRows : ℕ → List ℤ → Type 0

@@ -5,7 +5,7 @@ use Rattle.h5w_text.specs.Scripts.{number_line_of}
 use Rattle.h5w_text.specs.Streams.{SourceView}
 use Rattle.h5w_text.specs.declared.line.LineError.{LineError}
 use Rattle.h5w_text.specs.declared.line.LineError.TheVariants as line_errors
-use Rattle.h5w_batches.specs.Batches.{Batches, after_line, batches_of}
+use Rattle.h5w_batches.specs.Batches.{Batches, after_line, batches_of, with_line}
 use Rattle.h5w_batches.specs.Inputs.{ReadsAll, ReadsOutside, ReadsTooMuch, ReadsWhole, input_limit}
 use Rattle.h5w_batches.specs.declared.error.BatchError.{BatchError}
 use Rattle.h5w_batches.specs.declared.error.BatchError.TheVariants as errors
@@ -46,6 +46,12 @@ IsRefused error (Err e) = (e ≡ error) ⊎ IsBeside e
 -- ---- One line
 
 -- the batches behind a line
+pub record TakesEach (columns : ℕ) (line : List ℕ) (b next : Batches) : Type 0 where
+  pub values : List ℤ
+  pub spelled : number_line_of columns line ≡ Some values
+  pub next_is : next ≡ with_line b values
+
+-- the batches behind a line, of those that have values
 pub record Takes (columns : ℕ) (line : List ℕ) (b next : Batches) : Type 0 where
   pub values : List ℤ
   pub spelled : number_line_of columns line ≡ Some values

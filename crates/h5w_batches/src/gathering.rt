@@ -1,5 +1,5 @@
 ghost use Rattle.std.specs.Prelude.{◌≡◌, IfOk, OnOk};
-ghost use Rattle.h5w_batches.specs.Batches.{after_line, close_batch, no_batches};
+ghost use Rattle.h5w_batches.specs.Batches.{end_batch, no_batches, with_line};
 
 use h5w_model::{OutOfMemory, Values};
 use std::alloc::Global;
@@ -34,13 +34,10 @@ impl Gathering {
         }
     }
 
-    /// Closes the batch of the values that wait, where there are any.
+    /// Closes the batch of the values that wait; where none wait it is an empty one.
     fn close(&mut self) -> Result<(), OutOfMemory>
-        ensures { OnOk result (self.new ≡ close_batch self.old) }
+        ensures { OnOk result (self.new ≡ end_batch self.old) }
     {
-        if self.waiting.is_empty() {
-            return Ok(());
-        }
         let waiting = mem::replace(&mut self.waiting, Vec::new(self.alloc));
         self.closed.push(Values::from_vec(waiting))?;
         Ok(())
@@ -48,7 +45,7 @@ impl Gathering {
 
     /// Takes the values of one more line; an empty one has none, and closes a batch.
     pub fn take_line(&mut self, values: &[i128]) -> Result<(), OutOfMemory>
-        ensures { OnOk result (self.new ≡ after_line self.old values.now) }
+        ensures { OnOk result (self.new ≡ with_line self.old values.now) }
     {
         if values.is_empty() {
             return self.close();
@@ -59,7 +56,7 @@ impl Gathering {
 
     /// The batches of an input that ends here.
     pub fn finish(mut self) -> Result<Vec<Values>, OutOfMemory>
-        ensures { IfOk result (λ batches. batches.items ≡ (close_batch self).closed) }
+        ensures { IfOk result (λ batches. batches.items ≡ (end_batch self).closed) }
     {
         self.close()?;
         Ok(self.closed)

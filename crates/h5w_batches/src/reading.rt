@@ -3,7 +3,7 @@ ghost use Rattle.h5w_text.specs.LinesAhead.{IsLine, lines_ahead};
 ghost use Rattle.h5w_text.specs.Scripts.{number_line_of};
 ghost use Rattle.h5w_batches.specs.Batches.{AreBatches, AreWholeRows};
 ghost use Rattle.h5w_batches.specs.Inputs.{HasNumbers, ReadsOutside, ReadsTooMuch, SameSource, input_limit, outside};
-ghost use Rattle.h5w_batches.specs.Reads.{HasFailed, HasNoValues, IsBeside, IsRefused, IsTooLong, ReadsBatches, Refuses, Takes};
+ghost use Rattle.h5w_batches.specs.Reads.{HasFailed, HasNoValues, IsBeside, IsRefused, IsTooLong, ReadsBatches, Refuses, TakesEach};
 
 use crate::error::BatchError;
 use crate::gathering::Gathering;
@@ -46,7 +46,7 @@ fn take_line(
     batches: &mut Gathering,
 ) -> Result<(), BatchError>
     requires { 1 ≤ columns }
-    ensures takes { OnOk result ((bytes : List ℕ) → IsLine line.now bytes → Takes columns bytes batches.old batches.new) }
+    ensures takes { OnOk result ((bytes : List ℕ) → IsLine line.now bytes → TakesEach columns bytes batches.old batches.new) }
     ensures refused { IfErr result (λ e. (bytes : List ℕ) → IsLine line.now bytes → HasNoValues columns number bytes e) }
 {
     let values = line_values(alloc, columns, line, number)?;
@@ -87,9 +87,9 @@ fn read_lines<S: Source>(
 }
 
 /// The batches of an input of numbers, which is read to its end: each line has the values of rows of so many columns, or is empty; an empty
-/// line closes a batch, and so does the end of the input. No batch is empty. Line: this is the first line that has no such values. Input:
-/// the input has more than 2^40 bytes, and no line that ends among so many first ones is refused. Source: the source failed, and no line
-/// that was read is refused.
+/// line closes a batch, and so does the end of the input. A batch may be empty. Line: this is the first line that has no such values.
+/// Input: the input has more than 2^40 bytes, and no line that ends among so many first ones is refused. Source: the source failed, and no
+/// line that was read is refused.
 pub fn read_batches<S: Source>(
     alloc: Global,
     columns: u64,

@@ -35,12 +35,12 @@ fn refusal(
 #[test]
 fn an_empty_line_and_the_end_close_a_batch(rt: HostRuntime) -> Result<(), Fail> {
     let inputs: [(&[u8], &[i128]); 7] = [
-        (b"", &[]),
-        (b"\n", &[]),
+        (b"", &[0]),
+        (b"\n", &[0, 0]),
         (b"1 2 3\n\n4\n", &[1, 2, 3, 0, 4, 0]),
         (b"1 2 3\n4", &[1, 2, 3, 4, 0]),
-        (b"\n\n1\n\n\n2", &[1, 0, 2, 0]),
-        (b"-1\n\n", &[-1, 0]),
+        (b"\n\n1\n\n\n2", &[0, 0, 1, 0, 0, 2, 0]),
+        (b"-1\n\n", &[-1, 0, 0]),
         (b"1\n2\n\n3\n4\n", &[1, 2, 0, 3, 4, 0]),
     ];
     for (input, expected) in inputs {

@@ -48,11 +48,17 @@ nothing_past [] k e lt = omega arith
 nothing_past (x ∷ xs) zero e lt = cc e
 nothing_past (x ∷ xs) (suc k) e lt = nothing_past xs k e (omega arith)
 
+-- a seat that is not worn after some tries was not worn before
+pub awake_before : (p l : Place) → Keeps p l → l.worn ≡ false → p.worn ≡ false
+awake_before p l kept awake = go p.worn refl where
+  go : (b : Bool) → p.worn ≡ b → p.worn ≡ false
+  go false e = e
+  go true e = absurd (true≢false (sym (kept.worn e) ∙ awake))
+
 -- a ticket that is drawn after some tries
 pub drawn_after : (p l q : Place) (t : ℕ) → AtRest p → Keeps p l → l.worn ≡ false → Waits l q t → Waits p q t
 drawn_after p l q t rest kept awake drew =
-    let was : (b : Bool) → p.worn ≡ b → p.worn ≡ false = λ b. go b in
-    let same : p.worn ≡ false = was p.worn refl in
+    let same : p.worn ≡ false = awake_before p l kept awake in
     let me : l.seat.me.0 ≡ p.seat.me.0 = ap (λ m. m.0) kept.me ∙ ap (λ (b : Bool). worn_as b p.seat.me.0) (awake ∙ (sym same ∙ rest.counts.shown)) in record {
       table = drew.table ∙ kept.table;
       me = drew.me ∙ ap (λ v. (record v { stage = Waiting t }, [])) me;
@@ -61,7 +67,3 @@ drawn_after p l q t rest kept awake drew =
       faults = drew.faults ∙ kept.faults;
       counts = drew.counts;
     }
-  where
-    go : (b : Bool) → p.worn ≡ b → p.worn ≡ false
-    go false e = e
-    go true e = absurd (true≢false (sym (kept.worn e) ∙ awake))

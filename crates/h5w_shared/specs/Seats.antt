@@ -53,6 +53,14 @@ pub record FailedSeat (s t : SeatView) : Type 0 where
   pub counted : Rose s.faults t.faults
   pub kept : s.faults ≤ t.faults
 
+-- there is room for so many pieces, which end by this place, and no less than before; all else is as it was
+pub record HasMadeRoom (pieces end : ℕ) (s t : SeatView) : Type 0 where
+  pub same : t ≡ record s { pieces = t.pieces; end = t.end }
+  pub asked : pieces ≤ t.pieces
+  pub asked_end : end ≤ t.end
+  pub kept : s.pieces ≤ t.pieces
+  pub kept_end : s.end ≤ t.end
+
 -- the image that a seat is of, as numbers
 abbrev pub numbers_of : ImageId → List ℕ
 numbers_of i =

@@ -1,5 +1,5 @@
 //! A seat at the table with what it counts, and the turns that it takes.
-ghost use Rattle.std.specs.Prelude.{◌≡◌, ◌<◌, ◌∷◌, [], ℕ, false, true, IfOk, IfSome, IfNone, OnErr, None, Some};
+ghost use Rattle.std.specs.Prelude.{◌≡◌, ◌<◌, ◌∷◌, [], ℕ, false, true, IfOk, IfSome, IfNone, OnErr, OnOk, None, Some};
 ghost use Rattle.h5w_shared.specs.declared.table.Stage.TheVariants.{Serving, Waiting};
 ghost use Rattle.h5w_shared.specs.Turns.{FoundStore, Returned, finished, serving_with};
 ghost use Rattle.h5w_shared.specs.Places.{AtRest, Counts, IsAt, Keeps, Met, Refused, Turn, Twin as TwinOf, Unchanged, Waits};
@@ -7,7 +7,7 @@ ghost use Rattle.h5w_shared.specs.Places.{AtRest, Counts, IsAt, Keeps, Met, Refu
 use crate::table::{Both, Draw, End, Look, Shelf, Tell, Token, Twin};
 use h5w_image::{Failed, MemImage};
 use std::sync::Wait;
-use std::thread;
+use std::{hint, thread};
 
 /// The word of the tickets that are drawn.
 const TICKET: usize = 0;
@@ -20,6 +20,12 @@ const STORE: usize = 0;
 
 /// The ticket word's last value. A seat that was shown it draws no more.
 const LAST: u64 = 1 << 63;
+
+/// A reader draws no ticket while more than so many wait.
+const FEW: u64 = 2;
+
+/// How often the next in line looks before it lets another thread run.
+const SPINS: u32 = 100;
 
 /// A seat at the table, with what it counts.
 #[derive(Drop)]
@@ -55,11 +61,12 @@ impl Place {
         None
     }
 
-    /// Draws the next ticket. Failed: the seat was shown the ticket word's last value, and counts it.
-    fn draw<R: Wait>(&mut self, rt: &R, shelf: &Shelf) -> Result<u64, Failed>
+    /// Draws the next ticket; a patient seat waits until few others do. Failed: the seat was shown the ticket word's last value, and counts it.
+    fn draw<R: Wait>(&mut self, rt: &R, shelf: &Shelf, patient: bool) -> Result<u64, Failed>
         requires rest { AtRest self.old }
         requires table { IsAt shelf.now.table_id self.old }
         ensures drew { IfOk result (Waits self.old self.new) }
+        ensures worn { OnOk result (self.old.worn ≡ false) }
         ensures refused { OnErr result (Refused self.old self.new) }
     {
         for _ in rt.forever() {
@@ -67,21 +74,39 @@ impl Place {
                 self.faults = self.faults.saturating_add(1);
                 return Err(Failed);
             }
-            if let Some(ticket) = self.try_draw(shelf) {
+            if patient && self.others_wait(shelf) {
+                thread::yield_now();
+            } else if let Some(ticket) = self.try_draw(shelf) {
                 return Ok(ticket);
             }
         }
         unreachable!()
     }
 
-    /// Waits for a turn, and takes the store out.
-    pub fn turn<R: Wait>(&mut self, rt: &R, shelf: &Shelf) -> Result<MemImage, Failed>
+    /// More than a few wait, as far as this seat was shown.
+    fn others_wait(&mut self, shelf: &Shelf) -> bool
+        requires rest { AtRest self.old }
+        requires table { IsAt shelf.now.table_id self.old }
+        ensures same { Unchanged self.old self.new }
+    {
+        let serving = shelf.load::<Tell>(&mut self.seat, SERVING);
+        self.next.saturating_sub(serving) > FEW
+    }
+
+    /// Waits for a turn, and takes the store out. A patient seat draws no ticket while more than a few others wait.
+    pub fn turn<R: Wait>(
+        &mut self,
+        rt: &R,
+        shelf: &Shelf,
+        patient: bool,
+    ) -> Result<MemImage, Failed>
         requires rest { AtRest self.old }
         requires table { IsAt shelf.now.table_id self.old }
         ensures turn { IfOk result (Turn self.old self.new) }
+        ensures worn { OnOk result (self.old.worn ≡ false) }
         ensures refused { OnErr result (Refused self.old self.new) }
     {
-        let ticket = self.draw(rt, shelf)?;
+        let ticket = self.draw(rt, shelf, patient)?;
         wait(rt, shelf, &mut self.seat, ticket);
         Ok(shelf.exchange(&mut self.seat, STORE, None).unwrap())
     }
@@ -144,11 +169,18 @@ fn wait<R: Wait>(rt: &R, shelf: &Shelf, seat: &mut Token, ticket: u64)
     ensures table { seat.new.table_id ≡ seat.old.table_id }
     ensures served { (x : _) × FoundStore seat.old.me.0 x × (seat.new.me ≡ (serving_with ticket x seat.old.me.0, (0, Some x) ∷ [])) }
 {
+    let mut tries = 0u32;
     for _ in rt.forever() {
-        if shelf.load::<Look>(seat, SERVING) == ticket {
+        let serving = shelf.load::<Look>(seat, SERVING);
+        if serving == ticket {
             return;
         }
-        thread::yield_now();
+        if ticket.wrapping_sub(serving) == 1 && tries < SPINS {
+            tries += 1;
+            hint::spin_loop();
+        } else {
+            thread::yield_now();
+        }
     }
     unreachable!()
 }

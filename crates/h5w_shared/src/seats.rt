@@ -1,7 +1,7 @@
 ghost use Rattle.std.specs.Prelude.{◌≡◌, ◌≤◌, ◌<◌, ◌-◌, ◌+◌, ◌++◌, ◌∷◌, ◌⊎◌, [], false, true, max, length, IfOk, OnOk, OnErr, Err, Ok, MatchResult};
 ghost use Rattle.h5w_model.specs.Numbers.{range};
 ghost use Rattle.h5w_shared.specs.Turns.{StartsWith, opening};
-ghost use Rattle.h5w_shared.specs.Seats.{FailedSeat, bytes_of, note_of, reader_of};
+ghost use Rattle.h5w_shared.specs.Seats.{FailedSeat, HasMadeRoom, bytes_of, note_of, reader_of};
 
 use crate::image::SharedImage;
 use crate::place::Place;
@@ -12,21 +12,30 @@ use h5w_model::{Piece, Write};
 use std::marker::Model;
 use std::sync::Wait;
 
+/// A seat that has to make room makes it for so many pieces at least.
+const MORE: u64 = 256;
+
+/// And for so many bytes past the end that was asked for.
+const FARTHER: u64 = 65_536;
+
 /// The one seat of a shared image that writes it. Its list is the image's history.
 #[derive(Drop)]
 pub struct WriterSeat {
     place: Place,
+    /// There is room for so many pieces at least, which end by this place.
+    pieces: u64,
+    end: u64,
 }
 
 impl Model for WriterSeat {
-    ghost use Rattle.std.specs.Prelude.{true};
+    ghost use Rattle.std.specs.Prelude.{◌≤◌, true};
     ghost use Rattle.h5w_shared.specs.Seats.{Rests, SeatView, writer_view};
 
     ghost Value = { SeatView };
 
     ghost view = { λ s. writer_view s.place };
 
-    ghost invariant = { λ s. Rests true s.place };
+    ghost invariant = { λ s. Rests true s.place × (s.pieces ≤ s.place.seat.me.0.pieces) × (s.end ≤ s.place.seat.me.0.end) };
 }
 
 /// A seat of a shared image that looks at it. Its list begins the image's history.
@@ -80,6 +89,8 @@ impl WriterSeat {
                 faults: 0,
                 seen: 0,
             },
+            pieces: 0,
+            end: 0,
         }
     }
 
@@ -136,9 +147,10 @@ impl WriterSeat {
         ensures same { OnOk result (self.new ≡ self.old) }
         ensures shows { OnOk result (out.new ≡ range (bytes_of self.new) at len) }
         ensures bound { OnOk result (length out.new ≤ len) }
+        ensures worn { OnOk result (self.old.worn ≡ false) }
         ensures refused { OnErr result (FailedSeat self.old self.new × (out.new ≡ out.old)) }
     {
-        self.place.look(rt, image.shelf(), at, len, out)
+        self.place.look(rt, image.shelf(), at, len, out, false)
     }
 
     /// Adds the write as the last piece of the history.
@@ -152,13 +164,16 @@ impl WriterSeat {
         requires pieces { 1 ≤ self.old.pieces }
         requires end { w.now.at + length w.now.piece ≤ self.old.end }
         ensures wrote { OnOk result (self.new ≡ record self.old { seen = self.old.seen ++ w.now ∷ []; pieces = self.old.pieces - 1 }) }
+        ensures worn { OnOk result (self.old.worn ≡ false) }
         ensures refused { OnErr result (FailedSeat self.old self.new) }
     {
-        self.place.write(rt, image.shelf(), w)
+        self.place.write(rt, image.shelf(), w)?;
+        self.pieces = self.pieces.saturating_sub(1);
+        Ok(())
     }
 
-    /// Makes room for so many pieces that end by `end`.
-    pub(crate) fn reserve<R: Wait>(
+    /// Makes room for so many pieces that end by `end`, in a turn.
+    fn ask<R: Wait>(
         &mut self,
         rt: &R,
         image: &SharedImage,
@@ -167,10 +182,37 @@ impl WriterSeat {
     ) -> Result<(), ImageError>
         requires image { self.old.image ≡ image.now }
         ensures room { OnOk result (self.new ≡ record self.old { pieces = max self.old.pieces pieces; end = max self.old.end end }) }
+        ensures worn { OnOk result (self.old.worn ≡ false) }
         ensures refused { result ≡ Err ImageError.Failed → FailedSeat self.old self.new }
         ensures memory { result ≡ Err ImageError.OutOfMemory → self.new ≡ self.old }
     {
-        self.place.reserve(rt, image.shelf(), pieces, end)
+        self.place.reserve(rt, image.shelf(), pieces, end)?;
+        self.pieces = self.pieces.max(pieces);
+        self.end = self.end.max(end);
+        Ok(())
+    }
+
+    /// Makes room for so many pieces that end by `end`; without a turn where it is there. Where it is not, for more, if there is memory.
+    pub(crate) fn reserve<R: Wait>(
+        &mut self,
+        rt: &R,
+        image: &SharedImage,
+        pieces: u64,
+        end: u64,
+    ) -> Result<(), ImageError>
+        requires image { self.old.image ≡ image.now }
+        ensures room { OnOk result (HasMadeRoom pieces end self.old self.new) }
+        ensures worn { OnOk result (self.old.worn ≡ false) }
+        ensures refused { result ≡ Err ImageError.Failed → FailedSeat self.old self.new }
+        ensures memory { result ≡ Err ImageError.OutOfMemory → self.new ≡ self.old }
+    {
+        if !self.place.worn && pieces <= self.pieces && end <= self.end {
+            return Ok(());
+        }
+        match self.ask(rt, image, pieces.max(MORE), end.saturating_add(FARTHER)) {
+            Err(ImageError::OutOfMemory) => self.ask(rt, image, pieces, end),
+            other => other,
+        }
     }
 
     /// A copy of the history: all pieces that were written, the oldest first. May wait for a turn.
@@ -179,6 +221,7 @@ impl WriterSeat {
         requires { self.old.image ≡ image.now }
         ensures copied { IfOk result (λ j. j.writes ≡ self.new.seen) }
         ensures same { OnOk result (self.new ≡ self.old) }
+        ensures worn { OnOk result (self.old.worn ≡ false) }
         ensures refused { result ≡ Err ImageError.Failed → FailedSeat self.old self.new }
         ensures memory { result ≡ Err ImageError.OutOfMemory → self.new ≡ self.old }
     {
@@ -253,9 +296,10 @@ impl ReaderSeat {
         ensures grown { OnOk result (StartsWith self.new.seen self.old.seen) }
         ensures shows { OnOk result (out.new ≡ range (bytes_of self.new) at len) }
         ensures bound { OnOk result (length out.new ≤ len) }
+        ensures worn { OnOk result (self.old.worn ≡ false) }
         ensures refused { OnErr result (FailedSeat self.old self.new × (out.new ≡ out.old)) }
     {
-        self.place.look(rt, image.shelf(), at, len, out)
+        self.place.look(rt, image.shelf(), at, len, out, true)
     }
 
     /// What shows that the seat was shown the ticket word at 2^63. Err exactly where its count of faults is 0.

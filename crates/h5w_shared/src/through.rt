@@ -1,9 +1,9 @@
-ghost use Rattle.std.specs.Prelude.{◌≡◌, ◌≤◌, ◌-◌, ◌+◌, ◌++◌, ◌∷◌, [], ℕ, false, true, max, length, refl, OnOk, OnErr, Err};
+ghost use Rattle.std.specs.Prelude.{◌≡◌, ◌≤◌, ◌-◌, ◌+◌, ◌++◌, ◌∷◌, [], ℕ, false, true, length, refl, OnOk, OnErr, Err};
 ghost use Rattle.h5w_model.specs.Numbers.{range};
 ghost use Rattle.h5w_model.specs.Causes.{Rose};
 ghost use Rattle.h5w_image.specs.View.{Looked, Same, GivesRange, Wrote};
 ghost use Rattle.h5w_shared.specs.Turns.{StartsWith};
-ghost use Rattle.h5w_shared.specs.Seats.{FailedSeat, bytes_of, seen_through};
+ghost use Rattle.h5w_shared.specs.Seats.{FailedSeat, HasMadeRoom, bytes_of, seen_through};
 
 use crate::image::SharedImage;
 use crate::seats::{ReaderSeat, WriterSeat};
@@ -41,6 +41,7 @@ impl<'a, R: Wait> PieceRead for Writing<'a, R> {
         ensures failed { OnErr result (out.new ≡ out.old) }
         ensures cause { OnErr result (Rose self.old.seat.now.faults self.new.seat.now.faults) }
         ensures seat { OnOk result (self.new.seat.now ≡ self.old.seat.now) }
+        ensures worn { OnOk result (self.old.seat.now.worn ≡ false) }
         ensures refused { OnErr result (FailedSeat self.old.seat.now self.new.seat.now) }
     {
         self.seat.look(self.rt, self.image, at, len, out)
@@ -56,7 +57,8 @@ impl<'a, R: Wait> PieceWrite for Writing<'a, R> {
         ensures pieces { OnOk result (pieces ≤ self.new.seat.now.pieces) }
         ensures end { OnOk result (end ≤ self.new.seat.now.end) }
         ensures cause { result ≡ Err ImageError.Failed → Rose self.old.seat.now.faults self.new.seat.now.faults }
-        ensures room { OnOk result (self.new.seat.now ≡ record self.old.seat.now { pieces = max self.old.seat.now.pieces pieces; end = max self.old.seat.now.end end }) }
+        ensures room { OnOk result (HasMadeRoom pieces end self.old.seat.now self.new.seat.now) }
+        ensures worn { OnOk result (self.old.seat.now.worn ≡ false) }
         ensures refused { result ≡ Err ImageError.Failed → FailedSeat self.old.seat.now self.new.seat.now }
         ensures memory { result ≡ Err ImageError.OutOfMemory → self.new.seat.now ≡ self.old.seat.now }
     {
@@ -71,6 +73,7 @@ impl<'a, R: Wait> PieceWrite for Writing<'a, R> {
         ensures same { OnErr result (Same (seen_through true self.old.seat.ghost_name self.old.seat.now) (seen_through true self.new.seat.ghost_name self.new.seat.now)) }
         ensures cause { OnErr result (Rose self.old.seat.now.faults self.new.seat.now.faults) }
         ensures seat { OnOk result (self.new.seat.now ≡ record self.old.seat.now { seen = self.old.seat.now.seen ++ w.now ∷ []; pieces = self.old.seat.now.pieces - 1 }) }
+        ensures worn { OnOk result (self.old.seat.now.worn ≡ false) }
         ensures refused { OnErr result (FailedSeat self.old.seat.now self.new.seat.now) }
     {
         self.seat.write(self.rt, self.image, w)
@@ -91,6 +94,7 @@ impl<'a, R: Wait> PieceRead for Reading<'a, R> {
         ensures cause { OnErr result (Rose self.old.seat.now.faults self.new.seat.now.faults) }
         ensures seat { OnOk result (self.new.seat.now ≡ record self.old.seat.now { seen = self.new.seat.now.seen }) }
         ensures grown { OnOk result (StartsWith self.new.seat.now.seen self.old.seat.now.seen) }
+        ensures worn { OnOk result (self.old.seat.now.worn ≡ false) }
         ensures refused { OnErr result (FailedSeat self.old.seat.now self.new.seat.now) }
     {
         self.seat.look(self.rt, self.image, at, len, out)

@@ -1,11 +1,15 @@
 -- The kinds of argument that a command may have, and their values.
-use Rattle.std.specs.Prelude.{ℕ, Bool, true, false, codes, if◌then◌else◌, Option, Some, None, option_and_then}
-use Rattle.clap.specs.Words.{Rule, Text, new_rule}
+use Rattle.std.specs.Prelude.{◌≡◌, ℕ, Bool, true, false, List, [], ◌∷◌, codes, if◌then◌else◌, IfOk, Result, Option, Some, None, option_and_then}
+use Rattle.std.specs.declared.alloc.AllocError.{AllocError}
+use Rattle.clap.specs.Words.{App, Rule, Text, app_of, new_rule, with_rule}
+use Rattle.clap.specs.declared.builder.arg.Arg.{Arg}
 use Rattle.clap.specs.declared.builder.action.ArgAction.TheVariants.{SetTrue}
 use Rattle.clap.specs.declared.builder.command.Command.{Command}
 use Rattle.clap.specs.declared.builder.command.Command.TheViews.{out-Command}
 use Rattle.h5w_text.specs.Scripts.{count_in, is_word}
 use Rattle.h5w_words.specs.Names.{is_link_name, is_name}
+use Rattle.h5w_words.specs.declared.arguments.Argument.{Argument}
+use Rattle.h5w_words.specs.declared.arguments.Argument.TheVariants.{Word, Needed, Optional, Flag}
 
 -- an option --name VALUE, which is required or may be left out
 abbrev pub option_rule : Text → Bool → Rule
@@ -19,9 +23,29 @@ word_rule name = record (new_rule name) { required = true }
 abbrev pub flag_rule : Text → Rule
 flag_rule name = record (new_rule name) { long = Some name; action = Some SetTrue }
 
+-- the argument of this name and kind
+abbrev pub rule_named : Argument → Rule
+rule_named (Word name) = word_rule name.now
+rule_named (Needed name) = option_rule name.now true
+rule_named (Optional name) = option_rule name.now false
+rule_named (Flag name) = flag_rule name.now
+
+-- a command with these arguments, in order
+abbrev pub with_rules : App → List Rule → App
+with_rules app [] = app
+with_rules app (rule ∷ rules) = with_rules (with_rule app rule) rules
+
+-- an argument holds for its command alone
+abbrev pub IsLocal : Arg → Type 0
+IsLocal a = a.global ≡ false
+
 -- an argument holds for the command's subcommands too
 abbrev pub has_globals : Command → Bool
 has_globals c = (out-Command c).has_globals
+
+-- where a command was made, it is this app, and no argument of it holds for its subcommands too
+abbrev pub Makes : Result Command AllocError → App → Type 0
+Makes made app = IfOk made (λ c. (app_of c ≡ app) × (has_globals c ≡ false))
 
 -- a number from least to most, which has to be given
 abbrev pub count_given : (least most : ℕ) → Option Text → Option ℕ

@@ -5,7 +5,8 @@ ghost use Rattle.h5w_words.specs.Appends.{append_app, append_of};
 ghost use Rattle.h5w_words.specs.Arguments.{has_globals};
 ghost use Rattle.h5w_words.specs.Limits.{IsWithinLimits};
 
-use crate::arguments::{flag, option_or, word};
+use crate::arguments::Argument::{Flag, Optional, Word};
+use crate::arguments::with_arguments;
 use crate::files::{file_given, link_name_given};
 use crate::job::{Job, WordsError};
 use crate::values::{is_given, limit_given};
@@ -18,11 +19,16 @@ pub fn append<'a>(alloc: Global) -> Result<Command<'a>, AllocError>
     ensures local { IfOk result (λ c. has_globals c ≡ false) }
 {
     let command = Command::new(alloc, "append");
-    let command = word(alloc, command, "FILE")?;
-    let command = option_or(alloc, command, "name")?;
-    let command = option_or(alloc, command, "limit")?;
-    let command = flag(alloc, command, "no-reuse")?;
-    Ok(command)
+    with_arguments(
+        alloc,
+        command,
+        &[
+            Word("FILE"),
+            Optional("name"),
+            Optional("limit"),
+            Flag("no-reuse"),
+        ],
+    )
 }
 
 /// What the arguments ask for; `Usage` where they are outside the command set.

@@ -1,67 +1,59 @@
 //! The kinds of argument that a command may have.
-ghost use Rattle.std.specs.Prelude.{◌≡◌, IfOk, true, false};
-ghost use Rattle.clap.specs.Words.{app_of, with_rule};
-ghost use Rattle.h5w_words.specs.Arguments.{flag_rule, has_globals, option_rule, word_rule};
+ghost use Rattle.std.specs.Prelude.{◌≡◌, false, map, IfOk};
+ghost use Rattle.std.specs.List.{All};
+ghost use Rattle.clap.specs.Words.{app_of, rule_of};
+ghost use Rattle.h5w_words.specs.Arguments.{IsLocal, has_globals, rule_named, with_rules};
 
 use clap::{Arg, ArgAction, Command};
 use std::alloc::{AllocError, Global};
 
-/// Adds an option `--name VALUE` that has to be there.
-#[tactic(auto, using(crate::proofs::WordLemmas::added_globals))]
-pub fn option<'a>(
-    alloc: Global,
-    command: Command<'a>,
-    name: &'a str,
-) -> Result<Command<'a>, AllocError>
-    ensures shape { IfOk result (λ c. app_of c ≡ with_rule (app_of command.entry) (option_rule name.entry.now true)) }
-    ensures globals { IfOk result (λ c. has_globals c ≡ has_globals command.entry) }
-{
-    let arg = Arg::new(alloc, name).long(name).required(true);
-    let command = command.arg(arg)?;
-    Ok(command)
+/// An argument of a command, by its name.
+#[derive(Clone, Copy)]
+pub enum Argument<'a> {
+    /// A word that has to be there.
+    Word(&'a str),
+    /// An option `--name VALUE` that has to be there.
+    Needed(&'a str),
+    /// An option `--name VALUE` that may be left out.
+    Optional(&'a str),
+    /// An option `--name` without a value.
+    Flag(&'a str),
 }
 
-/// Adds an option `--name VALUE` that may be left out.
-#[tactic(auto, using(crate::proofs::WordLemmas::added_globals))]
-pub fn option_or<'a>(
-    alloc: Global,
-    command: Command<'a>,
-    name: &'a str,
-) -> Result<Command<'a>, AllocError>
-    ensures shape { IfOk result (λ c. app_of c ≡ with_rule (app_of command.entry) (option_rule name.entry.now false)) }
-    ensures globals { IfOk result (λ c. has_globals c ≡ has_globals command.entry) }
+/// The argument, as `clap` has it.
+fn arg<'a>(alloc: Global, argument: Argument<'a>) -> Arg<'a>
+    ensures rule { rule_of result ≡ rule_named argument.entry }
+    ensures local { IsLocal result }
 {
-    let arg = Arg::new(alloc, name).long(name);
-    let command = command.arg(arg)?;
-    Ok(command)
+    match argument {
+        Argument::Word(name) => Arg::new(alloc, name).required(true),
+        Argument::Needed(name) => Arg::new(alloc, name).long(name).required(true),
+        Argument::Optional(name) => Arg::new(alloc, name).long(name),
+        Argument::Flag(name) => Arg::new(alloc, name).long(name).action(ArgAction::SetTrue),
+    }
 }
 
-/// Adds a word that has to be there.
-#[tactic(auto, using(crate::proofs::WordLemmas::added_globals))]
-pub fn word<'a>(
-    alloc: Global,
-    command: Command<'a>,
-    name: &'a str,
-) -> Result<Command<'a>, AllocError>
-    ensures shape { IfOk result (λ c. app_of c ≡ with_rule (app_of command.entry) (word_rule name.entry.now)) }
-    ensures globals { IfOk result (λ c. has_globals c ≡ has_globals command.entry) }
+/// The arguments of a table, in order.
+fn listed<'a>(alloc: Global, table: &[Argument<'a>]) -> Result<Vec<Arg<'a>>, AllocError>
+    ensures rules { IfOk result (λ args. map rule_of args.items ≡ map rule_named table.now) }
+    ensures local { IfOk result (λ args. All IsLocal args.items) }
 {
-    let arg = Arg::new(alloc, name).required(true);
-    let command = command.arg(arg)?;
-    Ok(command)
+    let mut args = Vec::new(alloc);
+    for argument in table {
+        args.push(arg(alloc, *argument))?;
+    }
+    Ok(args)
 }
 
-/// Adds an option `--name` without a value.
-#[tactic(auto, using(crate::proofs::WordLemmas::added_globals))]
-pub fn flag<'a>(
+/// Adds the arguments of a table, in order.
+pub fn with_arguments<'a>(
     alloc: Global,
     command: Command<'a>,
-    name: &'a str,
+    table: &[Argument<'a>],
 ) -> Result<Command<'a>, AllocError>
-    ensures shape { IfOk result (λ c. app_of c ≡ with_rule (app_of command.entry) (flag_rule name.entry.now)) }
+    ensures shape { IfOk result (λ c. app_of c ≡ with_rules (app_of command.entry) (map rule_named table.now)) }
     ensures globals { IfOk result (λ c. has_globals c ≡ has_globals command.entry) }
 {
-    let arg = Arg::new(alloc, name).long(name).action(ArgAction::SetTrue);
-    let command = command.arg(arg)?;
-    Ok(command)
+    let args = listed(alloc, table)?;
+    command.args(args)
 }

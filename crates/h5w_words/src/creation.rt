@@ -7,7 +7,8 @@ ghost use Rattle.clap.specs.Words.{app_of, found_of, rows_of};
 ghost use Rattle.h5w_words.specs.Arguments.{has_globals};
 ghost use Rattle.h5w_words.specs.Creation.{columns_of, named_options, options_of, type_of, with_creation};
 
-use crate::arguments::{option, option_or};
+use crate::arguments::Argument::{Needed, Optional};
+use crate::arguments::with_arguments;
 use crate::job::WordsError;
 use crate::types::{fill_given, type_named};
 use crate::values::{count, limit_given, name_or, text};
@@ -27,14 +28,19 @@ pub fn creation<'a>(alloc: Global, command: Command<'a>) -> Result<Command<'a>, 
     ensures shape { IfOk result (λ c. app_of c ≡ with_creation (app_of command.entry)) }
     ensures globals { IfOk result (λ c. has_globals c ≡ has_globals command.entry) }
 {
-    let command = option(alloc, command, "type")?;
-    let command = option(alloc, command, "chunk")?;
-    let command = option_or(alloc, command, "columns")?;
-    let command = option_or(alloc, command, "width")?;
-    let command = option_or(alloc, command, "fill")?;
-    let command = option_or(alloc, command, "name")?;
-    let command = option_or(alloc, command, "limit")?;
-    Ok(command)
+    with_arguments(
+        alloc,
+        command,
+        &[
+            Needed("type"),
+            Needed("chunk"),
+            Optional("columns"),
+            Optional("width"),
+            Optional("fill"),
+            Optional("name"),
+            Optional("limit"),
+        ],
+    )
 }
 
 /// The type that the options give; None where it is none of the 14.

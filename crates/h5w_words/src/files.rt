@@ -5,7 +5,8 @@ ghost use Rattle.h5w_words.specs.Arguments.{has_globals};
 ghost use Rattle.h5w_words.specs.Files.{check_app, check_of, clear_app, clear_of, creating_app, creating_of, file_of, link_name_of, poll_app, poll_numbers_of, poll_of};
 ghost use Rattle.h5w_words.specs.Limits.{IsWithinLimits};
 
-use crate::arguments::{flag, option_or, word};
+use crate::arguments::Argument::{Flag, Optional, Word};
+use crate::arguments::with_arguments;
 use crate::creation::{creation, options_given};
 use crate::file::FileName;
 use crate::job::{Job, WordsError};
@@ -20,7 +21,7 @@ pub fn creating<'a>(alloc: Global) -> Result<Command<'a>, AllocError>
     ensures local { IfOk result (λ c. has_globals c ≡ false) }
 {
     let command = Command::new(alloc, "new");
-    let command = word(alloc, command, "FILE")?;
+    let command = with_arguments(alloc, command, &[Word("FILE")])?;
     creation(alloc, command)
 }
 
@@ -30,9 +31,7 @@ pub fn check<'a>(alloc: Global) -> Result<Command<'a>, AllocError>
     ensures local { IfOk result (λ c. has_globals c ≡ false) }
 {
     let command = Command::new(alloc, "check");
-    let command = word(alloc, command, "FILE")?;
-    let command = option_or(alloc, command, "name")?;
-    Ok(command)
+    with_arguments(alloc, command, &[Word("FILE"), Optional("name")])
 }
 
 /// The command that polls a file, with its arguments.
@@ -41,12 +40,17 @@ pub fn poll<'a>(alloc: Global) -> Result<Command<'a>, AllocError>
     ensures local { IfOk result (λ c. has_globals c ≡ false) }
 {
     let command = Command::new(alloc, "poll");
-    let command = word(alloc, command, "FILE")?;
-    let command = option_or(alloc, command, "name")?;
-    let command = option_or(alloc, command, "times")?;
-    let command = option_or(alloc, command, "attempts")?;
-    let command = flag(alloc, command, "values")?;
-    Ok(command)
+    with_arguments(
+        alloc,
+        command,
+        &[
+            Word("FILE"),
+            Optional("name"),
+            Optional("times"),
+            Optional("attempts"),
+            Flag("values"),
+        ],
+    )
 }
 
 /// The command that clears the flags of writers, with its argument.
@@ -55,8 +59,7 @@ pub fn clear<'a>(alloc: Global) -> Result<Command<'a>, AllocError>
     ensures local { IfOk result (λ c. has_globals c ≡ false) }
 {
     let command = Command::new(alloc, "clear");
-    let command = word(alloc, command, "FILE")?;
-    Ok(command)
+    with_arguments(alloc, command, &[Word("FILE")])
 }
 
 /// The name of the file, which is a word of the command.

@@ -5,7 +5,8 @@ ghost use Rattle.h5w_words.specs.Arguments.{has_globals};
 ghost use Rattle.h5w_words.specs.Limits.{IsWithinLimits};
 ghost use Rattle.h5w_words.specs.Lives.{live_app, live_of};
 
-use crate::arguments::{option, option_or};
+use crate::arguments::Argument::{Needed, Optional};
+use crate::arguments::with_arguments;
 use crate::creation::{creation, options_given};
 use crate::job::{Job, WordsError};
 use crate::values::{attempts_given, count};
@@ -19,10 +20,11 @@ pub fn live<'a>(alloc: Global) -> Result<Command<'a>, AllocError>
 {
     let command = Command::new(alloc, "live");
     let command = creation(alloc, command)?;
-    let command = option(alloc, command, "readers")?;
-    let command = option(alloc, command, "polls")?;
-    let command = option_or(alloc, command, "attempts")?;
-    Ok(command)
+    with_arguments(
+        alloc,
+        command,
+        &[Needed("readers"), Needed("polls"), Optional("attempts")],
+    )
 }
 
 /// The run that the options ask for; `Usage` where they are outside the command set.

@@ -5,7 +5,8 @@ ghost use Rattle.h5w_words.specs.Arguments.{has_globals};
 ghost use Rattle.h5w_words.specs.Limits.{IsWithinLimits};
 ghost use Rattle.h5w_words.specs.Makes.{make_app, make_of};
 
-use crate::arguments::word;
+use crate::arguments::Argument::Word;
+use crate::arguments::with_arguments;
 use crate::job::{Job, WordsError};
 use crate::values::count;
 use clap::{ArgMatches, Command};
@@ -20,9 +21,7 @@ pub fn make<'a>(alloc: Global) -> Result<Command<'a>, AllocError>
     ensures local { IfOk result (λ c. has_globals c ≡ false) }
 {
     let command = Command::new(alloc, "make");
-    let command = word(alloc, command, "N")?;
-    let command = word(alloc, command, "SEED")?;
-    Ok(command)
+    with_arguments(alloc, command, &[Word("N"), Word("SEED")])
 }
 
 /// What the arguments ask for; `Usage` where they are outside the command set.

@@ -5,7 +5,8 @@ ghost use Rattle.h5w_words.specs.Arguments.{has_globals};
 ghost use Rattle.h5w_words.specs.Limits.{IsWithinLimits};
 ghost use Rattle.h5w_words.specs.Play.{play_app, play_of};
 
-use crate::arguments::option_or;
+use crate::arguments::Argument::Optional;
+use crate::arguments::with_arguments;
 use crate::creation::{creation, options_given};
 use crate::job::{Job, WordsError};
 use crate::values::attempts_given;
@@ -19,8 +20,7 @@ pub fn play<'a>(alloc: Global) -> Result<Command<'a>, AllocError>
 {
     let command = Command::new(alloc, "play");
     let command = creation(alloc, command)?;
-    let command = option_or(alloc, command, "attempts")?;
-    Ok(command)
+    with_arguments(alloc, command, &[Optional("attempts")])
 }
 
 /// The script that the options ask for; `Usage` where they are outside the command set.

@@ -1,5 +1,6 @@
 ghost use Rattle.std.specs.Prelude.{◌≡◌, ◌≢◌, ◌⊎◌, [], Some, None, map, string_bytes, IfOk, IfErr};
-ghost use Rattle.clap.specs.Words.{app_of, fault_of, found_of, rows_of, subcommand_of, subcommand_rows_of};
+ghost use Rattle.clap.specs.Words.{App, app_of, fault_of, found_of, rows_of, subcommand_of, subcommand_rows_of, with_subcommand};
+ghost use Rattle.h5w_words.specs.Arguments.{Makes};
 ghost use Rattle.h5w_words.specs.Commands.{asked_of, job_of, named_of, program};
 ghost use Rattle.h5w_words.specs.Limits.{IsWithinLimits};
 
@@ -12,19 +13,30 @@ use crate::play::{play, play_job};
 use clap::{ArgMatches, Command};
 use std::alloc::{AllocError, Global};
 
-/// The program with its commands.
+/// A command with one more, if both were made.
+fn added<'a>(
+    command: Result<Command<'a>, AllocError>,
+    more: Result<Command<'a>, AllocError>,
+) -> Result<Command<'a>, AllocError>
+    ensures { (a b : App) → Makes command.entry a → Makes more.entry b → Makes result (with_subcommand a b.top) }
+{
+    let command = command?;
+    command.subcommand(more?)
+}
+
+/// The program with its commands. Memory may be wanting for each, which the next one passes on.
 fn program<'a>(alloc: Global) -> Result<Command<'a>, AllocError>
     ensures { IfOk result (λ c. app_of c ≡ program) }
 {
-    let command = Command::new(alloc, "h5swmr").subcommand(play(alloc)?)?;
-    let command = command.subcommand(creating(alloc)?)?;
-    let command = command.subcommand(check(alloc)?)?;
-    let command = command.subcommand(poll(alloc)?)?;
-    let command = command.subcommand(clear(alloc)?)?;
-    let command = command.subcommand(make(alloc)?)?;
-    let command = command.subcommand(append(alloc)?)?;
-    let command = command.subcommand(live(alloc)?)?;
-    Ok(command)
+    let command = Ok(Command::new(alloc, "h5swmr"));
+    let command = added(command, play(alloc));
+    let command = added(command, creating(alloc));
+    let command = added(command, check(alloc));
+    let command = added(command, poll(alloc));
+    let command = added(command, clear(alloc));
+    let command = added(command, make(alloc));
+    let command = added(command, append(alloc));
+    added(command, live(alloc))
 }
 
 /// What the program's commands make of the words.

@@ -26,14 +26,28 @@ $ live --type i16le --chunk 2 --columns 3 --width 2 --readers 1 --polls 2
 => poll 1 2 4 4 rows 0 sum 0
 => done 0
 
-# a value outside the type in the second batch
+# a value outside the type in the fourth batch; the first and the third are empty
 $ live --type i8 --chunk 2 --readers 1 --polls 1
 -
 1 2
 -
 -
 3
-127 128 => error range 2 2 128
+127 128 => error range 4 2 128
+= 8
+
+# behind one empty batch, the first
+$ live --type i8 --chunk 2 --readers 1 --polls 1
+-
+200 => error range 2 0 200
+= 8
+
+# behind a batch and an empty one
+$ live --type i8 --chunk 2 --readers 1 --polls 1
+1
+-
+-
+200 => error range 3 0 200
 = 8
 
 # a line that is no row

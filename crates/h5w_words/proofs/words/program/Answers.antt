@@ -1,13 +1,22 @@
-use Rattle.h5w_words.proofs.WordLemmas.{command_added}
+use Rattle.std.proofs.Common.{codes}
+use Rattle.clap.specs.Words.{new_app}
+use Rattle.h5w_words.specs.Appends.{append_app}
+use Rattle.h5w_words.specs.Commands.{program}
+use Rattle.h5w_words.specs.Files.{check_app, clear_app, creating_app, poll_app}
+use Rattle.h5w_words.specs.Lives.{live_app}
+use Rattle.h5w_words.specs.Makes.{make_app}
+use Rattle.h5w_words.specs.Play.{play_app}
+use Rattle.h5w_words.proofs.WordLemmas.{app_made, made}
 use Rattle.h5w_words.proofs.words.program.Goals as goal
 
 pub returns : goal.returns
 returns c =
-    let play = command_added c.new.result c.in_ok-play.field-0 c.in_ok-command.command c.in_ok-command.ensures c.in_ok-play.ensures.local c.new.ensures.app c.in_ok-play.ensures.shape in
-    let new = command_added c.in_ok-command.command c.in_ok-creating.field-0 c.in_ok-command-2.command c.in_ok-command-2.ensures c.in_ok-creating.ensures.local play c.in_ok-creating.ensures.shape in
-    let check = command_added c.in_ok-command-2.command c.in_ok-check.field-0 c.in_ok-command-3.command c.in_ok-command-3.ensures c.in_ok-check.ensures.local new c.in_ok-check.ensures.shape in
-    let poll = command_added c.in_ok-command-3.command c.in_ok-poll.field-0 c.in_ok-command-4.command c.in_ok-command-4.ensures c.in_ok-poll.ensures.local check c.in_ok-poll.ensures.shape in
-    let clear = command_added c.in_ok-command-4.command c.in_ok-clear.field-0 c.in_ok-command-5.command c.in_ok-command-5.ensures c.in_ok-clear.ensures.local poll c.in_ok-clear.ensures.shape in
-    let make = command_added c.in_ok-command-5.command c.in_ok-make.field-0 c.in_ok-command-6.command c.in_ok-command-6.ensures c.in_ok-make.ensures.local clear c.in_ok-make.ensures.shape in
-    let append = command_added c.in_ok-command-6.command c.in_ok-append.field-0 c.in_ok-command-7.command c.in_ok-command-7.ensures c.in_ok-append.ensures.local make c.in_ok-append.ensures.shape in
-    command_added c.in_ok-command-7.command c.in_ok-live.field-0 c.in_ok-command-8.command c.in_ok-command-8.ensures c.in_ok-live.ensures.local append c.in_ok-live.ensures.shape
+    let play = c.added-command.ensures (new_app (codes "h5swmr")) play_app (c.new.ensures.app, c.new.ensures.local) (made c.play.result play_app c.play.ensures.shape c.play.ensures.local) in
+    let creating = c.added-command-2.ensures _ creating_app play (made c.creating.result creating_app c.creating.ensures.shape c.creating.ensures.local) in
+    let check = c.added-command-3.ensures _ check_app creating (made c.check.result check_app c.check.ensures.shape c.check.ensures.local) in
+    let poll = c.added-command-4.ensures _ poll_app check (made c.poll.result poll_app c.poll.ensures.shape c.poll.ensures.local) in
+    let clear = c.added-command-5.ensures _ clear_app poll (made c.clear.result clear_app c.clear.ensures.shape c.clear.ensures.local) in
+    let make = c.added-command-6.ensures _ make_app clear (made c.make.result make_app c.make.ensures.shape c.make.ensures.local) in
+    let append = c.added-command-7.ensures _ append_app make (made c.append.result append_app c.append.ensures.shape c.append.ensures.local) in
+    let live = c.added.ensures _ live_app append (made c.live.result live_app c.live.ensures.shape c.live.ensures.local) in
+    app_made c.added.result program live
