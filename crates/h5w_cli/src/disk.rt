@@ -1,7 +1,8 @@
 //! The files of the system as a disk. A file's bytes are told by nothing here.
 //!
 //! It rests on file systems that put a write of up to 512 bytes into a file whole, and show it to each later read: local ones, as ext4,
-//! xfs and tmpfs. Over a network they may not.
+//! xfs and tmpfs. Over a network they may not. To a read during the write some of them, as ext4, may show a part of it: so a poll looks
+//! again where it is refused.
 ghost use Rattle.std.specs.Prelude.{◌≡◌, ◌≤◌, ◌^◌, None, [], length, true, false, IfOk, OnErr, OnOk};
 ghost use Rattle.h5w_cli.specs.Edges.{IsKept};
 

@@ -1,10 +1,10 @@
 -- The plan of an array none of whose blocks changed.
-use Rattle.std.proofs.Common.{◌≡◌, ℕ, ◌+◌, ◌<◌, ◌≤◌, max, List, [], ◌++◌, length, true, ◌==◌, refl, ap, sym, subst, ◌∙◌, arith, rules, tests}
+use Rattle.std.proofs.Common.{◌≡◌, ℕ, max, List, [], ◌++◌, length, true, ◌==◌, refl, ap, sym, subst, ◌∙◌, arith, rules, tests}
 use Rattle.std.proofs.lemmas.List.{nil_from_length}
 use Rattle.std.proofs.lemmas.List.Sorted.{IsPermutation-refl}
 use Rattle.h5w_space.specs.Space.{Space}
 use Rattle.h5w_cache.specs.Stores.{Store, times}
-use Rattle.h5w_cache.specs.Plans.{AreTaken, AreWrites, IsOrder, IsPlan}
+use Rattle.h5w_cache.specs.Plans.{IsOrder, IsPlan}
 use Rattle.h5w_cache.specs.StoreLaws.{KeepsStore}
 use Rattle.h5w_array_laws.specs.ArrayStores.{IsArray}
 use Rattle.h5w_array_laws.specs.ArrayPlans.{IsArrayPlan}

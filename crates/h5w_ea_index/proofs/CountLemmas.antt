@@ -15,7 +15,8 @@ use Rattle.h5w_cache.proofs.PlannedLemmas.{times-same, times-other}
 use Rattle.h5w_array_laws.specs.Parts.{Part, data_of, secondary_of, header, IsPart, number_of, slot_count, slots_from, holder, slot_offset, visit_order}
 use Rattle.h5w_array_laws.specs.ArrayStores.{IsArray, IsBlock, Names, block_at_part, address_in, slots_in, chunks_in, total, one_secondary, one_data, secondary_bytes, data_bytes}
 use Rattle.h5w_ea_index.specs.Steps.{IsHeld}
-use Rattle.h5w_ea_index.specs.Counts.{six, IsCounted, with_at}
+use Rattle.h5w_ea_index.specs.Counts.{IsCounted, with_at}
+use Rattle.h5w_ea_index.specs.Reach.{six}
 use Rattle.h5w_ea_index.proofs.ByteLemmas.{length-with_number, take-with_number, numbers_in-with_other, numbers_in-with_number}
 use Rattle.h5w_ea_index.proofs.PartLemmas.{number_decides, held_at}
 use Rattle.h5w_ea_index.proofs.StoreLemmas.{none-listed, set-same, set-other, set-cases}

@@ -10,7 +10,6 @@ use Rattle.h5w_model.specs.Checked.{viewed}
 use Rattle.h5w_model.specs.Arrays.{EahdFields, eahd_at, eahd_fields, eahd_len, parameter_tests}
 use Rattle.h5w_model.proofs.CheckedLemmas.{checked-passed}
 use Rattle.h5w_model.specs.declared.refusal.BlockFault.{BlockFault}
-use Rattle.h5w_model.specs.declared.refusal.BlockFault.TheVariants.{Cut}
 use Rattle.h5w_image.specs.View.{ImageView, Looked}
 use Rattle.h5w_image.proofs.ViewLemmas.{looked_twice}
 use Rattle.h5w_laws.proofs.LoweringLemmas.{length_range}

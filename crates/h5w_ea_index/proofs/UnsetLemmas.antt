@@ -10,10 +10,11 @@ use Rattle.h5w_array_laws.specs.Among.{AreAmong}
 use Rattle.h5w_array_laws.specs.Parts.{Part, holder, slot_count, slot_offset}
 use Rattle.h5w_array_laws.specs.ArrayStores.{IsNumbered, IsMaxSet, block_at_part, address_in, map_of, behind_of, total, one_secondary, one_data, secondary_bytes, data_bytes}
 use Rattle.h5w_ea_index.specs.Steps.{IsHeld, IsUnset}
-use Rattle.h5w_ea_index.specs.Counts.{six, number_at, IsCounted, with_at}
+use Rattle.h5w_ea_index.specs.Counts.{IsCounted, with_at}
+use Rattle.h5w_ea_index.specs.Reach.{KeepsReach, six, number_at}
 use Rattle.h5w_ea_index.proofs.CountLemmas.{total_same}
 use Rattle.h5w_ea_index.proofs.SetLemmas.{unset_from}
-use Rattle.h5w_ea_index.proofs.WayLemmas.{Setting, setting_block, setting_kept, setting_six}
+use Rattle.h5w_ea_index.proofs.WayLemmas.{Setting, setting_block, setting_kept, setting_six, setting_top_number, top_written}
 
 pub unset_then : (i : ℕ) (u v w : Store) → IsUnset i u v → IsHeld v w → IsUnset i u w
 unset_then i u v w a b = record {
@@ -80,3 +81,13 @@ unset_numbered v u w i count s h above least c =
       six = c.six ∙ ap (λ l. with_at 4 count l) e
           ∙ (λ t. same one_secondary t ∷ same secondary_bytes t ∷ same one_data t ∷ same data_bytes t ∷ count ∷ (4 + same slot_count t) ∷ []);
     }
+
+-- what was reached and has an address is reached
+pub unset_reach : (v u w : Store) (i count : ℕ) → Setting v u i undefined → ((j : ℕ) → count ≤ j → j < number_at 4 u → j < 131060 → map_of u j ≡ undefined) → IsCounted (with_at 4 count (six u)) u w → KeepsReach v w
+unset_reach v u w i count s above c j there was =
+    let now = top_written u w count c in
+    let same = setting_top_number v u i undefined s in
+    elim (cases_lt j count) [
+      | inl lt ↦ omega (arith, now, lt)
+      | inr ge ↦ absurd (there (c.held.map j ∙ above j ge (omega (arith, was, same)) (map_high w j there)))
+    ]

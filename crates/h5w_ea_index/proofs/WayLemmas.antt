@@ -2,12 +2,14 @@
 use Rattle.std.proofs.Common.{◌≡◌, ◌≢◌, inl, inr, ℕ, ◌+◌, ◌-◌, ◌*◌, ◌^◌, ◌<◌, ◌≤◌, Bool, List, [], ◌∷◌, length, map, get_or, replicate, true, false, max, min, refl, sym, ap, subst, ◌∙◌, arith, eq-eqb, ne_eqb}
 use Rattle.std.proofs.lemmas.Bool.{cases_eq, cases_lt, cases_Bool}
 use Rattle.std.proofs.lemmas.Bool.Decides.{nat_tests}
+use Rattle.std.proofs.lemmas.List.{get_or-set_same, get_or-set_other}
 use Rattle.std.specs.Prelude.{Option, Some, None, IsSome, IfSome, is_some, cond, nat_lt, ◌==◌}
 use Rattle.std.proofs.lemmas.List.Elements.{All-head, All-tail}
 use Rattle.std.proofs.lemmas.Option.{IfSome_then}
 use Rattle.std.specs.List.{All}
 use Rattle.h5w_model.specs.Numbers.{undefined, field}
 use Rattle.h5w_model.specs.Arrays.{numbers_in}
+use Rattle.h5w_model.proofs.ArrayLemmas.{length-numbers_in}
 use Rattle.h5w_cache.specs.Blocks.{BlockView, numbered}
 use Rattle.h5w_cache.specs.Plans.{bytes_of}
 use Rattle.h5w_cache.specs.Stores.{Store, block_of, place_of, is_changed, changed_to, marked, kept_under, times}
@@ -18,7 +20,8 @@ use Rattle.h5w_array_laws.specs.Parts.{Part, data_of, secondary_of, index_block,
 use Rattle.h5w_array_laws.specs.ArrayStores.{IsArray, IsNumbered, IsMaxSet, block_at_part, place_at_part, header_place, address_in, map_of, total, one_secondary, one_data, secondary_bytes, data_bytes, behind_of}
 use Rattle.h5w_array_laws.proofs.KeptLemmas.{is_some_of, of_some}
 use Rattle.h5w_ea_index.specs.Steps.{IsHeld, IsSet, IsSlotOrHeader, OnWay, Touches}
-use Rattle.h5w_ea_index.specs.Counts.{six, number_at, IsCounted, with_at, more_at}
+use Rattle.h5w_ea_index.specs.Counts.{IsCounted, with_at, more_at}
+use Rattle.h5w_ea_index.specs.Reach.{max_index_set, six, number_at}
 use Rattle.h5w_ea_index.specs.Fresh.{IsFresh}
 use Rattle.h5w_ea_index.proofs.ByteLemmas.{get_or-numbers_in}
 use Rattle.h5w_ea_index.proofs.PartLemmas.{held_at, IsHeldAt, part_parent, are_children, slots_fit}
@@ -384,3 +387,53 @@ setting_way v u w i x s h =
     touch_onward (IsSlotOrHeader i) v u w
     (touch_more (λ n. n ≡ number_of (holder i)) (IsSlotOrHeader i) v u (λ n e. inl e) (subst (Touches (λ n. n ≡ number_of (holder i)) v) (sym k.2) (touch_changed v (number_of (holder i)) (numbered (slot_offset i) x k.0))))
     (touch_more (λ n. n ≡ number_of header) (IsSlotOrHeader i) u w (λ n e. inr e) h)
+
+-- ---- The max index set
+
+top_marked : (v : Store) (n : ℕ) → max_index_set (marked n v) ≡ max_index_set v
+top_marked v n = ap (λ (s : Store). max_index_set s) (marked-is n v)
+
+pub top_both : (v : Store) → max_index_set (marked 845 (marked 846 v)) ≡ max_index_set v
+top_both v = top_marked (marked 846 v) 845 ∙ top_marked v 846
+
+pub marking_reach : (v w : Store) (k : Part) → Marking v w k → max_index_set w ≡ max_index_set v
+marking_reach v w k m = ap (λ (s : Store). max_index_set s) m.is ∙ top_marked v (number_of k)
+
+other_number : (l : List ℕ) (i n : ℕ) → 4 ≢ i → get_or (more_at i n l) 4 0 ≡ get_or l 4 0
+other_number l i n ne = get_or-set_other l i 4 (min (get_or l i 0 + n) (2 ^ 64 - 1)) 0 ne
+
+making_top_number : (v u : Store) (k : Part) (b : BlockView) → Making v u k b → max_index_set u ≡ max_index_set v
+making_top_number v u k b m = ap (λ l. get_or l 4 0) (making_six v u k b m)
+
+pub data_reach : (v u w : Store) (k : Part) (b : BlockView) (len slots : ℕ) → Making v u k b → IsCounted (more_at 5 slots (more_at 3 len (more_at 2 1 (six u)))) u w → max_index_set w ≡ max_index_set v
+data_reach v u w k b len slots m c =
+    ap (λ l. get_or l 4 0) c.six
+    ∙ other_number (more_at 3 len (more_at 2 1 (six u))) 5 slots (λ e. absurd (omega (arith, e)))
+    ∙ other_number (more_at 2 1 (six u)) 3 len (λ e. absurd (omega (arith, e)))
+    ∙ other_number (six u) 2 1 (λ e. absurd (omega (arith, e)))
+    ∙ making_top_number v u k b m
+
+pub secondary_reach : (v u w : Store) (k : Part) (b : BlockView) (len : ℕ) → Making v u k b → IsCounted (more_at 1 len (more_at 0 1 (six u))) u w → max_index_set w ≡ max_index_set v
+secondary_reach v u w k b len m c =
+    ap (λ l. get_or l 4 0) c.six
+    ∙ other_number (more_at 0 1 (six u)) 1 len (λ e. absurd (omega (arith, e)))
+    ∙ other_number (six u) 0 1 (λ e. absurd (omega (arith, e)))
+    ∙ making_top_number v u k b m
+
+-- the max index set is written
+pub top_written : (u w : Store) (n : ℕ) → IsCounted (with_at 4 n (six u)) u w → max_index_set w ≡ n
+top_written u w n c = let len = length-numbers_in (bytes_of (block_of u 846)) 6 12 in ap (λ l. get_or l 4 0) c.six ∙ get_or-set_same (six u) 4 n 0 (omega (arith, len))
+
+pub setting_top_number : (v u : Store) (i x : ℕ) → Setting v u i x → max_index_set u ≡ max_index_set v
+setting_top_number v u i x s = ap (λ l. get_or l 4 0) (setting_six v u i x s)
+
+-- the number is raised, where a call before left it
+pub raised_reach : (v u w : Store) (count : ℕ) → max_index_set u ≡ max_index_set v → IsCounted (with_at 4 (max (number_at 4 u) count) (six u)) u w → max_index_set w ≡ max (max_index_set v) count
+raised_reach v u w count top c = top_written u w (max (number_at 4 u) count) c ∙ ap (λ n. max n count) top
+
+pub setting_reach : (v u w : Store) (i x : ℕ) → Setting v u i x → IsCounted (with_at 4 (max (number_at 4 u) (i + 1)) (six u)) u w → max_index_set w ≡ max (max_index_set v) (i + 1)
+setting_reach v u w i x s c = raised_reach v u w (i + 1) (setting_top_number v u i x s) c
+
+-- of an array whose numbers are true each chunk with an address is reached
+pub numbered_reach : (v : Store) (i : ℕ) → IsNumbered v → map_of v i ≢ undefined → i < max_index_set v
+numbered_reach v i h there = let b = h.greatest.above i there in let e : max_index_set v ≡ h.max = ap (λ l. get_or l 4 0) h.six in omega (arith, b, e)

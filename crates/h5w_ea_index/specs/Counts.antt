@@ -6,13 +6,6 @@ use Rattle.h5w_array_laws.specs.Parts.{header, number_of}
 use Rattle.h5w_array_laws.specs.ArrayStores.{IsArray, bytes_at_part}
 use Rattle.h5w_ea_index.specs.Steps.{IsHeld, Touches}
 
--- secondary blocks, their bytes, data blocks, their bytes, max index set, number of elements
-abbrev pub six : Store → List ℕ
-six v = numbers_in (bytes_at_part v header) 6 12
-
-abbrev pub number_at : ℕ → Store → ℕ
-number_at i v = slice_index_or (six v) i 0
-
 -- one of them is another, and the rest as it was
 pub record IsCounted (numbers : List ℕ) (v w : Store) : Type 0 where
   pub array : IsArray w

@@ -5,6 +5,7 @@ pub use Rattle.h5w_array_laws.specs.ArrayPlans
 pub use Rattle.h5w_array_laws.specs.Among
 pub mod Steps
 pub mod Fresh
+pub mod Reach
 pub mod Counts
 pub mod Created
 pub mod Opened

@@ -1,12 +1,11 @@
 -- An array that is opened: what its blocks are on the image, and which of them is refused.
-use Rattle.std.specs.Prelude.{◌≡◌, ◌≢◌, ◌⊎◌, ℕ, ◌+◌, ◌-◌, ◌*◌, ◌^◌, ◌<◌, ◌≤◌, ◌==◌, Bool, true, false, List, length, replicate, nat_lt, if◌then◌else◌, Option, Some, None, IfSome, Result, Ok, Err}
+use Rattle.std.specs.Prelude.{◌≡◌, ◌≢◌, ◌⊎◌, ℕ, ◌+◌, ◌-◌, ◌*◌, ◌<◌, ◌≤◌, ◌==◌, Bool, true, false, List, length, replicate, nat_lt, if◌then◌else◌, Option, Some, None, IfSome, Result, Ok, Err}
 use Rattle.h5w_model.specs.Causes.{Rose}
 use Rattle.h5w_model.specs.Numbers.{field, range, undefined}
 use Rattle.h5w_model.specs.Checksum.{is_sealed}
 use Rattle.h5w_model.specs.Images.{At}
 use Rattle.h5w_model.specs.Arrays.{EahdFields, blocks_before, eahd_at, eahd_len, eaib_at, eaib_len, eadb_at, easb_at, numbers_in, slots_len, super_block_of}
 use Rattle.h5w_model.specs.declared.refusal.BlockFault.{BlockFault}
-use Rattle.h5w_model.specs.declared.refusal.BlockFault.TheVariants.{Cut}
 use Rattle.h5w_image.specs.View.{ImageView, Looked}
 use Rattle.h5w_image.specs.declared.fault.ImageError.{ImageError}
 use Rattle.h5w_image.specs.declared.fault.ImageError.TheVariants as image_errors

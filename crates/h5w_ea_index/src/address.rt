@@ -1,11 +1,12 @@
 //! The addresses of chunks in the blocks that are kept.
 
-ghost use Rattle.std.specs.Prelude.{◌≡◌, ◌≢◌, ◌⊎◌, ℕ, ◌+◌, ◌-◌, ◌*◌, ◌<◌, ◌≤◌, ◌^◌, true, IfSome, OnOk, length};
+ghost use Rattle.std.specs.Prelude.{◌≡◌, ◌≢◌, ◌⊎◌, ℕ, ◌+◌, ◌-◌, ◌*◌, ◌<◌, ◌≤◌, ◌^◌, true, IfSome, OnOk, length, max};
 ghost use Rattle.h5w_model.specs.Numbers.{undefined};
 ghost use Rattle.h5w_cache.specs.Stores.{block_of, is_changed};
 ghost use Rattle.h5w_array_laws.specs.Parts.{IsPart, holder, number_of};
 ghost use Rattle.h5w_array_laws.specs.ArrayStores.{IsArray, IsNumbered, address_in, map_of};
 ghost use Rattle.h5w_ea_index.specs.Fresh.{part_of};
+ghost use Rattle.h5w_ea_index.specs.Reach.{KeepsReach, max_index_set};
 ghost use Rattle.h5w_ea_index.specs.Steps.{IsHeld, IsSet, IsSlotOrHeader, IsUnset, OnWay, Touches};
 
 use crate::fresh::data_number;
@@ -59,6 +60,7 @@ fn hold_holder(alloc: Global, cache: &mut Cache, holder: Holder) -> Result<(), O
     ensures array { IsArray cache.new }
     ensures numbered { IsNumbered cache.old → IsNumbered cache.new }
     ensures held { IsHeld cache.old cache.new }
+    ensures reach { max_index_set cache.new ≡ max_index_set cache.old }
     ensures way { Touches (OnWay (part_of holder)) cache.old cache.new }
     ensures changed { OnOk result (is_changed cache.new (number_of (part_of holder)) ≡ true) }
 {
@@ -78,6 +80,7 @@ pub fn hold(alloc: Global, cache: &mut Cache, i: u64) -> Result<(), OutOfMemory>
     ensures array { IsArray cache.new }
     ensures numbered { IsNumbered cache.old → IsNumbered cache.new }
     ensures held { IsHeld cache.old cache.new }
+    ensures reach { max_index_set cache.new ≡ max_index_set cache.old }
     ensures way { Touches (OnWay (holder i)) cache.old cache.new }
     ensures changed { OnOk result (is_changed cache.new (number_of (holder i)) ≡ true) }
 {
@@ -93,11 +96,32 @@ pub fn set(cache: &mut Cache, i: u64, address: u64)
     ensures array { IsArray cache.new }
     ensures numbered { IsNumbered cache.old → IsNumbered cache.new }
     ensures set { IsSet i address cache.old cache.new }
+    ensures reach { max_index_set cache.new ≡ max (max_index_set cache.old) (i + 1) }
     ensures way { Touches (IsSlotOrHeader i) cache.old cache.new }
 {
     let slot = locate(i);
     cache.set_number(holder_number(slot.holder), slot.offset, address);
     reach(cache, i + 1);
+}
+
+/// The max index set is above chunk number `i`, which has an address. Where it was not, header and index block are changed from now on.
+pub fn reach_chunk(cache: &mut Cache, i: u64)
+    requires below { i < 131060 }
+    requires array { IsArray cache.old }
+    requires defined { map_of cache.old i ≢ undefined }
+    ensures array { IsArray cache.new }
+    ensures numbered { IsNumbered cache.old → IsNumbered cache.new }
+    ensures held { IsHeld cache.old cache.new }
+    ensures reach { max_index_set cache.new ≡ max (max_index_set cache.old) (i + 1) }
+    ensures way { Touches (OnWay (holder i)) cache.old cache.new }
+    ensures kept { i < max_index_set cache.old → cache.new ≡ cache.old }
+{
+    let count = i + 1;
+    if count <= max_index_set(cache) {
+        return;
+    }
+    hold_in_place(cache);
+    reach(cache, count);
 }
 
 /// One more than the greatest chunk number below `count` that has an address, 0 where none has.
@@ -125,6 +149,7 @@ pub fn unset(cache: &mut Cache, i: u64)
     ensures array { IsArray cache.new }
     ensures numbered { IsNumbered cache.old → IsNumbered cache.new }
     ensures unset { IsUnset i cache.old cache.new }
+    ensures reach { KeepsReach cache.old cache.new }
     ensures way { Touches (IsSlotOrHeader i) cache.old cache.new }
 {
     let slot = locate(i);

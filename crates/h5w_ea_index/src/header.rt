@@ -4,7 +4,8 @@
 ghost use Rattle.std.specs.Prelude.{◌≡◌, ℕ, ◌+◌, ◌*◌, ◌<◌, ◌≤◌, ◌^◌, true, length, max};
 ghost use Rattle.h5w_cache.specs.Stores.{is_changed};
 ghost use Rattle.h5w_array_laws.specs.ArrayStores.{IsArray};
-ghost use Rattle.h5w_ea_index.specs.Counts.{IsCounted, more_at, number_at, six, with_at};
+ghost use Rattle.h5w_ea_index.specs.Counts.{IsCounted, more_at, with_at};
+ghost use Rattle.h5w_ea_index.specs.Reach.{number_at, six};
 
 use crate::slot::HEADER;
 use h5w_bytes::number;

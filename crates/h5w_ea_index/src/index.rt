@@ -1,4 +1,4 @@
-ghost use Rattle.std.specs.Prelude.{◌≡◌, ◌≢◌, ℕ, ◌+◌, ◌<◌, ◌≤◌, ◌^◌, IsTrue, IfErr, IfOk, OnErr, OnOk, length, ◌==◌, List, []};
+ghost use Rattle.std.specs.Prelude.{◌≡◌, ◌≢◌, ◌↔◌, ℕ, ◌+◌, ◌<◌, ◌≤◌, ◌^◌, IsTrue, IfErr, IfOk, OnErr, OnOk, length, max, ◌==◌, List, []};
 ghost use Rattle.h5w_space.specs.Space.{Space};
 ghost use Rattle.h5w_model.specs.Numbers.{undefined};
 ghost use Rattle.h5w_cache.specs.Plans.{HasNoRoom, IfFull};
@@ -11,11 +11,13 @@ ghost use Rattle.h5w_array_laws.specs.ArrayPlans.{IsArrayPlan};
 ghost use Rattle.h5w_looks.specs.Still.{IsStill};
 ghost use Rattle.h5w_ea_index.specs.Opened.{IfFound, IfNowhere, IsDamaged, IsOpened, Loads, NamesNone};
 ghost use Rattle.h5w_ea_index.specs.Ranges.{block_ranges};
+ghost use Rattle.h5w_ea_index.specs.Reach.{IsReached, KeepsReach, max_index_set};
 ghost use Rattle.h5w_ea_index.specs.Steps.{IsHeld, IsSet, IsSlotOrHeader, IsUnset, OnWay, Touches, found};
 
 use crate::address;
 use crate::create::create;
 use crate::error::OpenArrayError;
+use crate::header::max_index_set;
 use crate::open::open;
 use crate::plan::finish;
 use crate::ranges::ranges;
@@ -126,10 +128,11 @@ impl ArrayIndex {
     }
 
     /// The blocks on the way to the slot of chunk number `i` are there, and changed from now on. Map and ranges stay, also where
-    /// memory ran out.
+    /// memory ran out, and so does the max index set.
     pub fn hold(&mut self, i: u64) -> Result<(), OutOfMemory>
         requires { i < 131060 }
         ensures held { IsHeld self.old self.new }
+        ensures reach { max_index_set self.new ≡ max_index_set self.old }
         // Only the blocks on this way are others, or changed from now on.
         ensures way { Touches (OnWay (holder i)) self.old self.new }
         ensures changed { OnOk result (IsTrue (is_changed self.new (number_of (holder i)))) }
@@ -139,12 +142,14 @@ impl ArrayIndex {
         address::hold(self.alloc, &mut self.cache, i)
     }
 
-    /// Chunk number `i`, which is held, has this address from now on, and each other one that which it had.
+    /// Chunk number `i`, which is held, has this address from now on, and each other one that which it had. The max index set is above
+    /// it.
     pub fn set(&mut self, i: u64, address: u64)
         requires below { i < 131060 }
         requires held { IsTrue (is_changed self.old (number_of (holder i))) }
         requires defined { address ≢ undefined }
         ensures set { IsSet i address self.old self.new }
+        ensures reach { max_index_set self.new ≡ max (max_index_set self.old) (i + 1) }
         ensures way { Touches (IsSlotOrHeader i) self.old self.new }
         ensures array { IsArray self.new }
         ensures numbered { IsNumbered self.old → IsNumbered self.new }
@@ -157,11 +162,38 @@ impl ArrayIndex {
         requires below { i < 131060 }
         requires held { IsTrue (is_changed self.old (number_of (holder i))) }
         ensures unset { IsUnset i self.old self.new }
+        // the max index set stays above each chunk with an address that it was above
+        ensures reach { KeepsReach self.old self.new }
         ensures way { Touches (IsSlotOrHeader i) self.old self.new }
         ensures array { IsArray self.new }
         ensures numbered { IsNumbered self.old → IsNumbered self.new }
     {
         address::unset(&mut self.cache, i);
+    }
+
+    /// Whether the header's max index set is above chunk number `i`: HDF5's library takes each chunk from that number on for one without
+    /// an address.
+    pub fn is_reached(&self, i: u64) -> bool
+        ensures exact { IsTrue result ↔ IsReached i self.now }
+    {
+        i < max_index_set(&self.cache)
+    }
+
+    /// The max index set is above chunk number `i`, which has an address, from now on. Where it was so before nothing changes; elsewhere
+    /// header and index block are changed, and the rest stays.
+    ///
+    /// So a writer that stopped between the two leaves an array: the index block names chunks that its header does not reach.
+    pub fn reach(&mut self, i: u64)
+        requires below { i < 131060 }
+        requires defined { map_of self.old i ≢ undefined }
+        ensures held { IsHeld self.old self.new }
+        ensures reach { max_index_set self.new ≡ max (max_index_set self.old) (i + 1) }
+        ensures kept { IsReached i self.old → self.new ≡ self.old }
+        ensures way { Touches (OnWay (holder i)) self.old self.new }
+        ensures array { IsArray self.new }
+        ensures numbered { IsNumbered self.old → IsNumbered self.new }
+    {
+        address::reach_chunk(&mut self.cache, i);
     }
 
     /// Whether no block changed since it was written. Then the plan of the changed blocks writes nothing, and leaves the array and all

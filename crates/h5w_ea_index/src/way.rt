@@ -5,6 +5,7 @@ ghost use Rattle.h5w_model.specs.Numbers.{undefined};
 ghost use Rattle.h5w_cache.specs.Stores.{block_of, is_changed, kept_under, marked};
 ghost use Rattle.h5w_array_laws.specs.Parts.{IsPart, data_of, index_block, number_of, parent, secondary_of};
 ghost use Rattle.h5w_array_laws.specs.ArrayStores.{IsArray, IsNumbered};
+ghost use Rattle.h5w_ea_index.specs.Reach.{max_index_set};
 ghost use Rattle.h5w_ea_index.specs.Steps.{IsHeld, OnWay, Touches};
 
 use crate::fresh::{data_block, data_number, secondary_block, secondary_number};
@@ -29,6 +30,7 @@ pub fn hold_in_place(cache: &mut Cache)
     ensures array { IsArray cache.new }
     ensures numbered { IsNumbered cache.old → IsNumbered cache.new }
     ensures held { IsHeld cache.old cache.new }
+    ensures reach { max_index_set cache.new ≡ max_index_set cache.old }
     ensures way { Touches (OnWay index_block) cache.old cache.new }
     ensures changed { is_changed cache.new 845 ≡ true }
 {
@@ -55,6 +57,7 @@ fn make_secondary(alloc: Global, cache: &mut Cache, sblock: u32) -> Result<(), O
     ensures array { IsArray cache.new }
     ensures numbered { IsNumbered cache.old → IsNumbered cache.new }
     ensures held { IsHeld cache.old cache.new }
+    ensures reach { max_index_set cache.new ≡ max_index_set cache.old }
     ensures way { Touches (OnWay (secondary_of sblock)) cache.old cache.new }
     ensures changed { OnOk result (is_changed cache.new (number_of (secondary_of sblock)) ≡ true) }
 {
@@ -74,6 +77,7 @@ fn make_data(alloc: Global, cache: &mut Cache, sblock: u32, block: u32) -> Resul
     ensures array { IsArray cache.new }
     ensures numbered { IsNumbered cache.old → IsNumbered cache.new }
     ensures held { IsHeld cache.old cache.new }
+    ensures reach { max_index_set cache.new ≡ max_index_set cache.old }
     ensures way { Touches (OnWay (data_of sblock block)) cache.old cache.new }
     ensures changed { OnOk result (is_changed cache.new (number_of (data_of sblock block)) ≡ true) }
 {
@@ -93,6 +97,7 @@ fn hold_secondary(alloc: Global, cache: &mut Cache, sblock: u32) -> Result<(), O
     ensures array { IsArray cache.new }
     ensures numbered { IsNumbered cache.old → IsNumbered cache.new }
     ensures held { IsHeld cache.old cache.new }
+    ensures reach { max_index_set cache.new ≡ max_index_set cache.old }
     ensures way { Touches (OnWay (secondary_of sblock)) cache.old cache.new }
     ensures changed { OnOk result (is_changed cache.new (number_of (secondary_of sblock)) ≡ true) }
 {
@@ -112,6 +117,7 @@ fn hold_data(alloc: Global, cache: &mut Cache, sblock: u32, block: u32) -> Resul
     ensures array { IsArray cache.new }
     ensures numbered { IsNumbered cache.old → IsNumbered cache.new }
     ensures held { IsHeld cache.old cache.new }
+    ensures reach { max_index_set cache.new ≡ max_index_set cache.old }
     ensures way { Touches (OnWay (data_of sblock block)) cache.old cache.new }
     ensures changed { OnOk result (is_changed cache.new (number_of (data_of sblock block)) ≡ true) }
 {
@@ -130,6 +136,7 @@ fn hold_above(alloc: Global, cache: &mut Cache, sblock: u32, block: u32) -> Resu
     ensures array { IsArray cache.new }
     ensures numbered { IsNumbered cache.old → IsNumbered cache.new }
     ensures held { IsHeld cache.old cache.new }
+    ensures reach { max_index_set cache.new ≡ max_index_set cache.old }
     ensures way { Touches (OnWay (data_of sblock block)) cache.old cache.new }
     ensures changed { OnOk result (is_changed cache.new (number_of (parent (data_of sblock block))) ≡ true) }
 {
@@ -152,6 +159,7 @@ pub fn hold_way(
     ensures array { IsArray cache.new }
     ensures numbered { IsNumbered cache.old → IsNumbered cache.new }
     ensures held { IsHeld cache.old cache.new }
+    ensures reach { max_index_set cache.new ≡ max_index_set cache.old }
     ensures way { Touches (OnWay (data_of sblock block)) cache.old cache.new }
     ensures changed { OnOk result (is_changed cache.new (number_of (data_of sblock block)) ≡ true) }
 {

@@ -33,9 +33,10 @@ sized_bytes (Some d) name size img h e = inner (file d name) h e
 still : (r : ℕ) (v : DiskView) (name : List ℕ) (size : ℕ) (img : List ℕ) → size < 2 ^ 64 → HasSize v name size → told_bytes v.told name ≡ Some img → IsStill (file_image r name v) img
 still r v name size img small sized told = let count = sized_bytes v.told name size img sized told in record { told = told; alone = refl; short = omega (arith, count, small) }
 
-pub opened_over : {v : DiskView} (r : ℕ) (name at : List ℕ) (limit size : ℕ) (s : Session) → size < 2 ^ 64 → HasSize v name size → HasBegun at limit s → ((img : List ℕ) → IsStill (file_image r name v) img → IsOpenAnswer img size at limit (Ok s))
+pub opened_over : {v : DiskView} (r : ℕ) (name at : List ℕ) (limit size : ℕ) (s : Session) → IsThere v name → size < 2 ^ 64 → HasSize v name size → HasBegun at limit s → ((img : List ℕ) → IsStill (file_image r name v) img → IsOpenAnswer img size at limit (Ok s))
     → ((img : List ℕ) (rows columns : ℕ) (values : List ℤ) (sm : Summary) → IsStill (file_image r name v) img → Valid img at sm → Reads img at rows columns values → Stands s (opened_log img columns values)) → IsOpenOver name at limit false v s
-opened_over {v} r name at limit size s small sized begun exact stands = record {
+opened_over {v} r name at limit size s there small sized begun exact stands = record {
+  there = there;
   opened = s;
   begun = begun;
   is = λ i. record s { keeps = begun.frees i };
@@ -100,6 +101,7 @@ open_failed {v} name at p rose = record { disk = leaves_files 0 v.told p; exact 
 
 pub opened_before : {u v : DiskView} (name at : List ℕ) (limit : ℕ) (s : Session) → LeavesFiles u.told u v → IsOpenOver name at limit false v s → IsOpenOver name at limit false u s
 opened_before {u} {v} name at limit s p h = record {
+  there = subst (λ t. IfSome t (λ d. IsSome (file d name))) p.told h.there;
   opened = h.opened;
   begun = h.begun;
   is = h.is;
@@ -122,6 +124,7 @@ open_wanting {v} name at p = record { disk = p; exact = any_told v.told (λ d. i
 -- what is retired stays so
 pub opened_keeping : {v : DiskView} (name at : List ℕ) (limit : ℕ) (keeps : Bool) (s t : Session) → t ≡ record s { keeps = keeps } → ((log : Log) → Stands s log → Stands t log) → IsOpenOver name at limit false v s → IsOpenOver name at limit keeps v t
 opened_keeping name at limit keeps s t is stands h = record {
+  there = h.there;
   opened = h.opened;
   begun = h.begun;
   is = is ∙ ap (λ (x : Session). record x { keeps = keeps }) h.is;

@@ -22,7 +22,7 @@ use Rattle.h5w_text.specs.declared.error.ErrorLine.{ErrorLine}
 use Rattle.h5w_text.specs.declared.error.ErrorLine.TheVariants as errors
 use Rattle.h5w_files.specs.Answering.{AnswersCall, IsForRows, IsForValues, evaluated}
 use Rattle.h5w_files.specs.Polls.{Shown}
-use Rattle.h5w_files.specs.Polling.{FindsRows, FindsValues, IsOfCall, RefusedBy, read_line}
+use Rattle.h5w_files.specs.Polling.{FindsRows, FindsValues, HasJustBegun, IsOfCall, RefusedBy, read_line}
 
 -- ---- On an image that stays as it is
 
@@ -45,6 +45,11 @@ refreshes_still img g r fits shown =
     still_refresh img g.name (refresh_rules g r) r (looks_on img p) (eval img p) fits shown refl refl (looks_there img p) (takes_on img p (plain_rows (refresh_rules g r)))
 
 -- ---- A call for rows
+
+-- begun anew it is as it was
+pub begun_anew : (first now mid new : Reader) → HasJustBegun first → now ≡ first → mid ≡ with_left now None → new ≡ with_left mid (Some (rows_left (rows_program mid.rules mid.known))) → new ≡ first
+begun_anew first now mid new fresh same ended begun =
+    begun ∙ ap (λ (r : Reader). with_left r (Some (rows_left (rows_program r.rules r.known)))) (ended ∙ ap (λ (r : Reader). with_left r None) same) ∙ ap (λ l. with_left first l) (sym fresh)
 
 pub line_kind : (e : ReadError) → IsOfCall (read_line e)
 line_kind reads.NotHdf5 = tt

@@ -28,13 +28,13 @@ use Rattle.h5w_files.specs.Appending.{ClosesBy, IsReady, PutsAll, PutsBy, PutsHa
 use Rattle.h5w_files.specs.declared.batching.Ending.{Ending}
 use Rattle.h5w_files.specs.declared.batching.Ending.TheVariants as endings
 use Rattle.h5w_files.proofs.PutLemmas.{between_more, rose-append, rose_more, rose_since, counts-append, writes-append}
-use Rattle.h5w_files.proofs.StoreLemmas.{puts_more, same_log, settled_log, since_more, writes_both}
+use Rattle.h5w_files.proofs.StoreLemmas.{agrees, first_planned, first_whole, puts_more, same_log, settled_log, since_more, writes_both}
 
 -- ---- The close
 
 -- the session was closed, and its piece was put
-pub shut_whole : {v w : DiskView} (name : List ℕ) (s t r : Session) → t ≡ closed_of s → super_at (super_bytes (closed_root s)) ≡ Ok (closed_root s) → ((log : Log) → Stands s log → Stands t log) → PutsAll name t r v w → ClosesBy name s v w (Ok tt)
-shut_whole {v} {w} name s t r closed reads stands q = λ first b u h.
+pub shut_whole : {v w : DiskView} (name : List ℕ) (s t r : Session) → s.pending ≡ [] → t ≡ closed_of s → super_at (super_bytes (closed_root s)) ≡ Ok (closed_root s) → ((log : Log) → Stands s log → Stands t log) → PutsAll name t r v w → ClosesBy name s v w (Ok tt)
+shut_whole {v} {w} name s t r idle closed reads stands q = λ first b u h.
     let ps = q.puts in
     let piece : Write = record { at = 0; piece = super_bytes (closed_root s) } in
     let one : writes_of ps.puts ≡ piece ∷ [] = sym (append-nil (writes_of ps.puts)) ∙ ap (λ (x : List Write). writes_of ps.puts ++ x) (sym q.all) ∙ sym ps.pieces ∙ ap (λ (x : Session). x.pending) closed in
@@ -43,6 +43,7 @@ shut_whole {v} {w} name s t r closed reads stands q = λ first b u h.
       puts = h.puts ++ ps.puts;
       disk = puts_more name h.puts ps.puts h.disk ps.disk;
       since = since_more u.faults v.faults w.faults h.puts ps.puts h.disk.faults ps.disk.faults h.since ps.since;
+      begins = first_whole first.pending s h.puts ps.puts idle h.begins;
       front = writes_of h.puts;
       root = closed_root s;
       last = writes-append h.puts ps.puts ∙ ap (λ (x : List Write). writes_of h.puts ++ x) one;
@@ -59,8 +60,8 @@ shut_whole {v} {w} name s t r closed reads stands q = λ first b u h.
     }
 
 -- the disk failed at it
-pub shut_broke : {v w : DiskView} (name : List ℕ) (s t r : Session) → t ≡ closed_of s → ((log : Log) → Stands s log → Stands t log) → PutsHalted name t r v w → ClosesBy name s v w (Err endings.Disk)
-shut_broke {v} {w} name s t r closed stands q = λ first b u h.
+pub shut_broke : {v w : DiskView} (name : List ℕ) (s t r : Session) → s.pending ≡ [] → t ≡ closed_of s → ((log : Log) → Stands s log → Stands t log) → PutsHalted name t r v w → ClosesBy name s v w (Err endings.Disk)
+shut_broke {v} {w} name s t r idle closed stands q = λ first b u h.
     let ps = q.puts.before in
     record {
       puts = h.puts ++ ps.puts;
@@ -69,6 +70,7 @@ shut_broke {v} {w} name s t r closed stands q = λ first b u h.
       rose = rose_more u.faults v.faults w.faults h.disk.faults q.puts.rose;
       behind = subst (λ (cs : List ℕ). AllRose cs w.faults) (sym (counts-append h.puts ps.puts))
           (rose-append (counts_of h.puts) (counts_of ps.puts) w.faults (rose_since u.faults v.faults (counts_of h.puts) w.faults h.since q.puts.rose) q.puts.since);
+      begins = agrees first.pending (writes_of (h.puts ++ ps.puts)) q.middle.pending (first_planned first.pending s q.middle h.puts ps.puts idle h.begins);
       logs = λ img columns xs begun.
           let l = settled_log img columns xs t q.middle (writes_of h.puts) (writes_of ps.puts) b ps.stands (same_log img columns xs s t (writes_of h.puts) b stands (h.logs img columns xs begun)) in
           record {
@@ -87,12 +89,12 @@ shut_broke {v} {w} name s t r closed stands q = λ first b u h.
     }
 
 -- by the result of the puts
-pub shut_by : (v w : DiskView) (name : List ℕ) (s t r : Session) (q : Result (Unit {0}) Ending) → t ≡ closed_of s → super_at (super_bytes (closed_root s)) ≡ Ok (closed_root s) → ((log : Log) → Stands s log → Stands t log) → PutsBy name t r v w q
+pub shut_by : (v w : DiskView) (name : List ℕ) (s t r : Session) (q : Result (Unit {0}) Ending) → s.pending ≡ [] → t ≡ closed_of s → super_at (super_bytes (closed_root s)) ≡ Ok (closed_root s) → ((log : Log) → Stands s log → Stands t log) → PutsBy name t r v w q
     → ClosesBy name s v w q
-shut_by v w name s t r (Ok a) closed reads stands q = shut_whole name s t r closed reads stands q
-shut_by v w name s t r (Err (endings.Refused e)) closed reads stands q = absurd q
-shut_by v w name s t r (Err endings.Disk) closed reads stands q = shut_broke name s t r closed stands q
-shut_by v w name s t r (Err endings.Sink) closed reads stands q = absurd q
+shut_by v w name s t r (Ok a) idle closed reads stands q = shut_whole name s t r idle closed reads stands q
+shut_by v w name s t r (Err (endings.Refused e)) idle closed reads stands q = absurd q
+shut_by v w name s t r (Err endings.Disk) idle closed reads stands q = shut_broke name s t r idle closed stands q
+shut_by v w name s t r (Err endings.Sink) idle closed reads stands q = absurd q
 
 -- ---- Behind what was taken
 
@@ -191,6 +193,7 @@ closed_before {v} {u} {w} name first b p c = record {
   puts = c.puts;
   disk = puts_before name c.puts p c.disk;
   since = between_more u.faults w.faults v.faults w.faults (counts_of c.puts) p.faults (omega arith) c.since;
+  begins = c.begins;
   front = c.front;
   root = c.root;
   last = c.last;
@@ -206,6 +209,7 @@ broke_from {v} {u} {w} name first b p c = record {
   since = between_more u.faults w.faults v.faults w.faults (counts_of c.puts) p.faults (omega arith) c.since;
   rose = rose_more v.faults u.faults w.faults p.faults c.rose;
   behind = c.behind;
+  begins = c.begins;
   logs = c.logs;
 }
 
@@ -215,6 +219,7 @@ stored_from {v} {u} {w} name first s b p c = record {
   puts = c.puts;
   disk = puts_before name c.puts p c.disk;
   since = between_more u.faults w.faults v.faults w.faults (counts_of c.puts) p.faults (omega arith) c.since;
+  begins = c.begins;
   logs = c.logs;
 }
 

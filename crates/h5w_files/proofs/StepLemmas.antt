@@ -201,7 +201,7 @@ close_none {v} {w} {k} name s t p none = λ first b u m told.
 -- the disk failed at a piece
 pub close_broke : {v x w : DiskView} {k : SinkView} (name : List ℕ) (s t r : Session) → IsReady name s v → Unput name v x → Planned name s t x → PutsHalted name t r x w → StepsOn name s r Closes (FlushRefused s) v w k k (Err endings.Disk)
 close_broke name s t r ready p plan q =
-    λ first b u m told. record { broke = broke_batch name first s t r b (some_columns name first s b told.stored.taken ready) p plan q told.stored; gave = told.gave }
+    λ first b u m told. record { broke = broke_batch name first s t r b (some_columns name first s b told.stored.taken ready) ready.idle p plan q told.stored; gave = told.gave }
 
 -- all was put, and its line was written
 pub close_whole : {v x w : DiskView} {k l : SinkView} (name : List ℕ) (s t r : Session) (bytes : List ℕ) → IsReady name s v → Unput name v x → Planned name s t x → PutsAll name t r x w → bytes ≡ count_text (rows_of s)
@@ -211,7 +211,7 @@ close_whole {v} {x} {w} {k} {l} name s t r bytes ready p plan q is gave = λ fir
       close_batch b,
       refl,
       record {
-        stored = stored_batch name first s t r b some p plan q told.stored;
+        stored = stored_batch name first s t r b some ready.idle p plan q told.stored;
         gave = subst (λ (y : List ℕ). Gave y m l) (sym (batch_text name first s b bytes some plan.waits told.stored.taken is)) (gave_both (lines_of first b.closed) bytes told.gave gave);
       },
     )
@@ -224,7 +224,7 @@ close_half {v} {x} {w} {k} {l} name s t r bytes ready p plan q is rose gave = λ
       close_batch b,
       refl,
       record {
-        stored = stored_batch name first s t r b some p plan q told.stored;
+        stored = stored_batch name first s t r b some ready.idle p plan q told.stored;
         stops = record {
           before = b.closed;
           last = b.waiting;

@@ -15,7 +15,7 @@ use Rattle.h5w_session.specs.Stands.{Stands}
 use Rattle.h5w_files.specs.Images.{LeavesFiles, file_image}
 use Rattle.h5w_batches.specs.Batches.{Batches, close_batch, no_batches}
 use Rattle.h5w_files.specs.Taken.{values_of}
-use Rattle.h5w_files.specs.Puts.{AllBetween, AllRose, PutsPieces, after_puts, counts_of, showing, writes_of}
+use Rattle.h5w_files.specs.Puts.{AgreesAtFirst, AllBetween, AllRose, ComesFirst, PutsPieces, after_puts, counts_of, showing, writes_of}
 use Rattle.h5w_files.specs.Appends.{Broke, HasTaken, IsLogOf, Settled, Stored, columns_of, grown}
 use Rattle.h5w_files.specs.Appending.{AppendsAll, Halted, HasNone, Planned, PutsAll, PutsHalted, Unflushed, Unput}
 use Rattle.h5w_files.proofs.BatchLemmas.{batch_rows, plan_done, plan_open, showing_appended, showing_flushed, showing_hist, showing_same, values_closed}
@@ -75,6 +75,34 @@ since_more a b c ps qs low high p q =
     subst (λ (cs : List ℕ). AllBetween a c cs) (sym (counts-append ps qs))
     (between-append a c (counts_of ps) (counts_of qs) (between_more a b a c (counts_of ps) (omega arith) high p) (between_more b c a c (counts_of qs) low (omega arith) q))
 
+-- what is pending is put, or stays
+first_still : (vs ws : List Write) (s t : Session) → t.pending ≡ s.pending → ComesFirst vs (ws ++ s.pending) → ComesFirst vs (ws ++ t.pending)
+first_still vs ws s t same h = (h.0, h.1 ∙ ap (λ (x : List Write). ws ++ x) (sym same))
+
+first_put : (vs : List Write) (s t : Session) (ps qs : List (Write × ℕ)) → s.pending ≡ writes_of qs ++ t.pending → ComesFirst vs (writes_of ps ++ s.pending) → ComesFirst vs (writes_of (ps ++ qs) ++ t.pending)
+first_put vs s t ps qs pieces h =
+    (h.0, h.1 ∙ ap (λ (x : List Write). writes_of ps ++ x) pieces ∙ sym (append_assoc (writes_of ps) (writes_of qs) t.pending) ∙ ap (λ (x : List Write). x ++ t.pending) (sym (writes-append ps qs)))
+
+-- and then more
+first_more : (vs ws xs : List Write) → ComesFirst vs ws → ComesFirst vs (ws ++ xs)
+first_more vs ws xs h = (h.0 ++ xs, sym (append_assoc vs h.0 xs) ∙ ap (λ (x : List Write). x ++ xs) h.1)
+
+-- of a session that has nothing pending
+first_idle : (vs ws : List Write) (s : Session) → s.pending ≡ [] → ComesFirst vs (ws ++ s.pending) → ComesFirst vs ws
+first_idle vs ws s idle h = (h.0, h.1 ∙ ap (λ (x : List Write). ws ++ x) idle ∙ append-nil ws)
+
+-- more pieces of it, behind those
+pub first_planned : (vs : List Write) (s t : Session) (ps qs : List (Write × ℕ)) → s.pending ≡ [] → ComesFirst vs (writes_of ps ++ s.pending) → ComesFirst vs (writes_of (ps ++ qs) ++ t.pending)
+first_planned vs s t ps qs idle h =
+    first_more vs (writes_of (ps ++ qs)) t.pending (subst (λ (x : List Write). ComesFirst vs x) (sym (writes-append ps qs)) (first_more vs (writes_of ps) (writes_of qs) (first_idle vs (writes_of ps) s idle h)))
+
+-- as far as they were put
+pub agrees : (vs ws xs : List Write) → ComesFirst vs (ws ++ xs) → AgreesAtFirst vs ws
+agrees vs ws xs h = (xs, h)
+
+pub first_whole : (vs : List Write) (s : Session) (ps qs : List (Write × ℕ)) → s.pending ≡ [] → ComesFirst vs (writes_of ps ++ s.pending) → ComesFirst vs (writes_of (ps ++ qs))
+first_whole vs s ps qs idle h = subst (λ (x : List Write). ComesFirst vs x) (sym (writes-append ps qs)) (first_more vs (writes_of ps) (writes_of qs) (first_idle vs (writes_of ps) s idle h))
+
 -- ---- Values of a line
 
 added_taken : (first s : Session) (b : Batches) (values : List ℤ) (n : ℕ) → 1 ≤ columns_of first → length values ≡ n * s.dataset.shape.cols → HasTaken first s b → HasTaken first (with_values s values) (record b { waiting = b.waiting ++ values })
@@ -125,6 +153,7 @@ stored_values {u} {v} {w} name first s t b values n some rows a p h = record {
   puts = h.puts;
   disk = unput_more name h.puts h.disk p.disk;
   since = between_more u.faults v.faults u.faults w.faults (counts_of h.puts) (omega arith) p.disk.faults h.since;
+  begins = first_still first.pending (writes_of h.puts) s t (ap (λ (x : Session). x.pending) a.session) h.begins;
   logs = λ img columns xs stands. added_log img columns xs s t (writes_of h.puts) b values a (h.logs img columns xs stands);
 }
 
@@ -163,6 +192,7 @@ stored_unflushed {u} {v} {w} name first s t b a p h = record {
   puts = h.puts;
   disk = unput_more name h.puts h.disk p.disk;
   since = between_more u.faults v.faults u.faults w.faults (counts_of h.puts) (omega arith) p.disk.faults h.since;
+  begins = first_still first.pending (writes_of h.puts) s t (ap (λ (x : Session). x.pending) a.same.session) h.begins;
   logs = λ img columns xs stands. same_log img columns xs s t (writes_of h.puts) b a.stands (h.logs img columns xs stands);
 }
 
@@ -173,6 +203,7 @@ stored_same {u} {v} {w} name first s b p h = record {
   puts = h.puts;
   disk = unput_more name h.puts h.disk p.disk;
   since = between_more u.faults v.faults u.faults w.faults (counts_of h.puts) (omega arith) p.disk.faults h.since;
+  begins = h.begins;
   logs = h.logs;
 }
 
@@ -184,6 +215,7 @@ broke_before {u} {v} {w} name first s t b a p rose h = record {
   since = between_more u.faults v.faults u.faults w.faults (counts_of h.puts) (omega arith) p.disk.faults h.since;
   rose = rose_more u.faults v.faults w.faults h.disk.faults rose;
   behind = rose_since u.faults v.faults (counts_of h.puts) w.faults h.since rose;
+  begins = agrees first.pending (writes_of h.puts) s.pending h.begins;
   logs = λ img columns xs stands. let l = h.logs img columns xs stands in record {
     session = t;
     stopped = ap (λ (x : Session). x.stopped) a.session;
@@ -251,6 +283,7 @@ stored_puts {u} {v} {w} name first s t b p h = record {
   puts = h.puts ++ p.puts;
   disk = puts_more name h.puts p.puts h.disk p.disk;
   since = since_more u.faults v.faults w.faults h.puts p.puts h.disk.faults p.disk.faults h.since p.since;
+  begins = first_put first.pending s t h.puts p.puts p.pieces h.begins;
   logs = λ img columns xs stands. writes_both (λ ws. Settled img columns xs t ws b) h.puts p.puts (settled_log img columns xs s t (writes_of h.puts) (writes_of p.puts) b p.stands (h.logs img columns xs stands));
 }
 
@@ -265,6 +298,7 @@ broke_puts {u} {v} {w} name first s t b p h =
       rose = rose_more u.faults v.faults w.faults h.disk.faults p.puts.rose;
       behind = subst (λ (cs : List ℕ). AllRose cs w.faults) (sym (counts-append h.puts q.puts))
           (rose-append (counts_of h.puts) (counts_of q.puts) w.faults (rose_since u.faults v.faults (counts_of h.puts) w.faults h.since p.puts.rose) p.puts.since);
+      begins = agrees first.pending (writes_of (h.puts ++ q.puts)) p.middle.pending (first_put first.pending s p.middle h.puts q.puts q.pieces h.begins);
       logs = λ img columns xs stands.
           let l = settled_log img columns xs s p.middle (writes_of h.puts) (writes_of q.puts) b q.stands (h.logs img columns xs stands) in
           record {
@@ -325,8 +359,8 @@ batch_log img columns xs name s t r ws vs b v p stands count l =
     }
 
 -- all pieces were put
-pub stored_batch : {u v x w : DiskView} (name : List ℕ) (first s t r : Session) (b : Batches) → 1 ≤ columns_of first → Unput name v x → Planned name s t x → PutsAll name t r x w → Stored name first s b u v → Stored name first r (close_batch b) u w
-stored_batch {u} {v} {x} {w} name first s t r b some p plan q h =
+pub stored_batch : {u v x w : DiskView} (name : List ℕ) (first s t r : Session) (b : Batches) → 1 ≤ columns_of first → s.pending ≡ [] → Unput name v x → Planned name s t x → PutsAll name t r x w → Stored name first s b u v → Stored name first r (close_batch b) u w
+stored_batch {u} {v} {x} {w} name first s t r b some idle p plan q h =
     let ps = q.puts in
     let before = stored_same name first s b p h in
     let count : length t.pending ≡ length (writes_of ps.puts) = ap length ps.pieces ∙ ap (λ (ws : List Write). length (writes_of ps.puts ++ ws)) q.all ∙ ap length (append-nil (writes_of ps.puts)) in
@@ -336,6 +370,7 @@ stored_batch {u} {v} {x} {w} name first s t r b some p plan q h =
       disk = puts_more name h.puts ps.puts (unput_more name h.puts h.disk p.disk) ps.disk;
       since = since_more u.faults x.faults w.faults h.puts ps.puts (unput_more name h.puts h.disk p.disk).faults ps.disk.faults
           (between_more u.faults v.faults u.faults x.faults (counts_of h.puts) (omega arith) p.disk.faults h.since) ps.since;
+      begins = first_planned first.pending s r h.puts ps.puts idle h.begins;
       logs = λ img columns xs stands.
           writes_both (λ ws. Settled img columns xs r ws (close_batch b)) h.puts ps.puts
           (batch_log img columns xs name s t r (writes_of h.puts) (writes_of ps.puts) b x plan ps.stands count (h.logs img columns xs stands));
@@ -358,8 +393,8 @@ half_log img columns xs name s t m r ws vs b v p stands few halted l =
     }
 
 -- the disk failed at one of them
-pub broke_batch : {u v x w : DiskView} (name : List ℕ) (first s t r : Session) (b : Batches) → 1 ≤ columns_of first → Unput name v x → Planned name s t x → PutsHalted name t r x w → Stored name first s b u v → Broke name first b u w
-broke_batch {u} {v} {x} {w} name first s t r b some p plan q h =
+pub broke_batch : {u v x w : DiskView} (name : List ℕ) (first s t r : Session) (b : Batches) → 1 ≤ columns_of first → s.pending ≡ [] → Unput name v x → Planned name s t x → PutsHalted name t r x w → Stored name first s b u v → Broke name first b u w
+broke_batch {u} {v} {x} {w} name first s t r b some idle p plan q h =
     let ps = q.puts.before in
     let left = q.puts.left in
     let disk = unput_more name h.puts h.disk p.disk in
@@ -372,6 +407,7 @@ broke_batch {u} {v} {x} {w} name first s t r b some p plan q h =
       rose = rose_more u.faults x.faults w.faults disk.faults q.puts.rose;
       behind = subst (λ (cs : List ℕ). AllRose cs w.faults) (sym (counts-append h.puts ps.puts))
           (rose-append (counts_of h.puts) (counts_of ps.puts) w.faults (rose_since u.faults x.faults (counts_of h.puts) w.faults since q.puts.rose) q.puts.since);
+      begins = agrees first.pending (writes_of (h.puts ++ ps.puts)) q.middle.pending (first_planned first.pending s q.middle h.puts ps.puts idle h.begins);
       logs = λ img columns xs stands. record {
         session = r;
         stopped = ap (λ (y : Session). y.stopped) q.halted.session;
@@ -400,6 +436,7 @@ stored_none name first v none = record {
   puts = [];
   disk = record { told = no_puts name v.told; faults = omega arith; through = refl };
   since = tt;
+  begins = ([], append-nil first.pending);
   logs = λ img columns xs stands. record {
     of = record { log = opened_log img columns xs; stands = stands; begun = refl; pieces = refl; flushed_are = sym (append-nil xs); appended_are = refl };
     settled = λ n. sym (append-nil xs);

@@ -13,7 +13,7 @@ use Rattle.h5w_model.specs.declared.refusal.ReadError.TheVariants as reads
 use Rattle.h5w_model.specs.declared.root.Super.{Super}
 use Rattle.h5w_opening.specs.declared.error.OpenError.{OpenError}
 use Rattle.h5w_opening.specs.declared.error.OpenError.TheVariants as opens
-use Rattle.h5w_image.specs.View.{DiskView, file}
+use Rattle.h5w_image.specs.View.{DiskView, IsThere, file}
 use Rattle.h5w_space.specs.declared.Full.{Full}
 use Rattle.h5w_session.specs.Loads.{NoPlace}
 use Rattle.h5w_session.specs.OpenAnswers.{HasBegun, IsNotOpened, IsOpenedOver}
@@ -34,7 +34,7 @@ use Rattle.h5w_files.specs.Ends.{EndsBehind}
 use Rattle.h5w_batches.specs.Batches.{Batches, after_lines, close_batch, no_batches}
 use Rattle.h5w_batches.specs.Inputs.{ReadsAll, ReadsTooMuch, ReadsWhole, input_limit}
 use Rattle.h5w_files.specs.Taken.{AreTaken, ReadsLine, closed_text, rows_after, rows_lines, values_of}
-use Rattle.h5w_files.specs.Puts.{AllBetween, AllRose, after_puts, counts_of, writes_of}
+use Rattle.h5w_files.specs.Puts.{AgreesAtFirst, AllBetween, AllRose, ComesFirst, after_puts, counts_of, writes_of}
 use Rattle.h5w_files.specs.Polls.{count_text}
 
 -- ---- A session that stores batches
@@ -86,12 +86,14 @@ pub record Settled (img : List ℕ) (columns : ℕ) (values : List ℤ) (s : Ses
   pub of : IsLogOf img columns values s ws b
   pub settled : (n : ℕ) → flushed_in n values of.log.events ≡ values ++ values_of b.closed
 
--- The session's first pieces were put into the file, one after another, those of these batches.
+-- The session's first pieces were put into the file, one after another, those of these batches. Before them come those that were pending
+-- when it began.
 pub record Stored (name : List ℕ) (first s : Session) (b : Batches) (v w : DiskView) : Type 0 where
   pub taken : HasTaken first s b
   pub puts : List (Write × ℕ)
   pub disk : LeavesFiles (option_map (after_puts name puts) v.told) v w
   pub since : AllBetween v.faults w.faults (counts_of puts)
+  pub begins : ComesFirst first.pending (writes_of puts ++ s.pending)
   pub logs : OfEachLog first (λ img columns values. Settled img columns values s (writes_of puts) b)
 
 -- the session of a log that was stopped
@@ -101,20 +103,24 @@ pub record IsHalted (img : List ℕ) (columns : ℕ) (values : List ℤ) (name :
   pub named : session.name ≡ name
   pub of : IsLogOf img columns values session ws b
 
--- The disk failed: the puts that were done are the session's first pieces, and no put came behind the fault.
+-- The disk failed: the puts that were done are the session's first pieces, of which those come first that were pending when it began, and
+-- no put came behind the fault.
 pub record Broke (name : List ℕ) (first : Session) (b : Batches) (v w : DiskView) : Type 0 where
   pub puts : List (Write × ℕ)
   pub disk : LeavesFiles (option_map (after_puts name puts) v.told) v w
   pub since : AllBetween v.faults w.faults (counts_of puts)
   pub rose : Rose v.faults w.faults
   pub behind : AllRose (counts_of puts) w.faults
+  pub begins : AgreesAtFirst first.pending (writes_of puts)
   pub logs : OfEachLog first (λ img columns values. IsHalted img columns values first.name (writes_of puts) b)
 
--- The session was closed: its last piece is the superblock without the flags of writers, else as the session had it, but for its end.
+-- The session was closed: its first pieces are those that were pending when it began, and its last piece is the superblock without the
+-- flags of writers, else as the session had it, but for its end.
 pub record ClosedUp (name : List ℕ) (first : Session) (b : Batches) (v w : DiskView) : Type 0 where
   pub puts : List (Write × ℕ)
   pub disk : LeavesFiles (option_map (after_puts name puts) v.told) v w
   pub since : AllBetween v.faults w.faults (counts_of puts)
+  pub begins : ComesFirst first.pending (writes_of puts)
   pub front : List Write
   pub root : Super
   pub last : writes_of puts ≡ front ++ record { at = 0; piece = super_bytes root } ∷ []
@@ -187,9 +193,10 @@ open_line opens.Index = errors.NoIndex
 open_line opens.Failed = errors.Disk
 open_line opens.OutOfMemory = errors.Memory
 
--- The session that begins over the file: it is open with both flags of writers pending, and what is retired stays so where that is asked
--- for. Over a valid file it is that of the log to which nothing happened yet.
+-- The session that begins over the file, which is there: it is open with both flags of writers pending, and what is retired stays so where
+-- that is asked for. Over a valid file it is that of the log to which nothing happened yet.
 pub record IsOpenOver (name at : List ℕ) (limit : ℕ) (keeps : Bool) (v : DiskView) (first : Session) : Type 0 where
+  pub there : IsThere v name
   pub opened : Session
   pub begun : HasBegun at limit opened
   pub is : first ≡ record opened { keeps = keeps }

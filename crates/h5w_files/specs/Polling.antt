@@ -1,9 +1,9 @@
 -- What a reader's calls of a poll find, call by call.
-use Rattle.std.specs.Prelude.{◌≡◌, ◌⊎◌, ℕ, zero, suc, Bool, List, [], ◌++◌, IfErr, IfSome, Option, Some, None, Result, Ok, Err, ℤ}
+use Rattle.std.specs.Prelude.{◌≡◌, ◌⊎◌, ℕ, zero, suc, Bool, true, false, List, [], ◌++◌, IfErr, IfSome, Option, Some, None, Result, Ok, Err, ℤ}
 use Rattle.h5w_model.specs.Causes.{Rose}
 use Rattle.h5w_model.specs.Programs.{Prog, eval}
 use Rattle.h5w_model.specs.Tables.{Reading, reading}
-use Rattle.h5w_model.specs.Unfinished.{Reader, ReaderRules, rows_left, values_program}
+use Rattle.h5w_model.specs.Unfinished.{Reader, ReaderRules, rows_left, rows_program, values_program}
 use Rattle.h5w_model.specs.declared.refusal.ReadError.{ReadError}
 use Rattle.h5w_model.specs.declared.refusal.ReadError.TheVariants as reads
 use Rattle.h5w_image.specs.View.{DiskView, ImageView, file}
@@ -39,6 +39,20 @@ IsOfCall errors.Disk = Unit {0}
 IsOfCall errors.Memory = Unit {0}
 IsOfCall e = ⊥
 
+-- bytes half written may give the refusal: it comes before their sum was found right, or as that is wrong
+abbrev pub may_pass : ReadError → Bool
+may_pass reads.NotHdf5 = true
+may_pass (reads.Super e) = true
+may_pass (reads.Header at e) = true
+may_pass (reads.Unsupported n) = true
+may_pass (reads.Damaged at fault) = true
+may_pass e = false
+
+-- a call is refused, and bytes half written may give that refusal
+abbrev pub is_doubtful : Result ℕ ErrorLine → Bool
+is_doubtful (Err (errors.Read e)) = may_pass e
+is_doubtful found = false
+
 -- a refusal is what is given, unless the disk failed, or memory was wanting
 abbrev pub RefusedBy : {A : Type 0} → Result A ReadError → ErrorLine → Type 0
 RefusedBy given (errors.Read e) = given ≡ Err e
@@ -49,6 +63,10 @@ RefusedBy given e = ⊥
 -- a reader that knows this, and has no call
 abbrev pub knowing : ReaderRules → Reading → Reader
 knowing g r = record { rules = g; known = Some r; left = None }
+
+-- the reader's call for rows has just begun
+abbrev pub HasJustBegun : Reader → Type 0
+HasJustBegun r = r.left ≡ Some (rows_left (rows_program r.rules r.known))
 
 -- the rows that an image gives a call
 abbrev pub FindsRows : List ℕ → Reader → Result ℕ ErrorLine → Reader → Type 0

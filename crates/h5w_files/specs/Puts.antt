@@ -20,6 +20,14 @@ writes_of ps = map (λ p. p.0) ps
 abbrev pub counts_of : List (Write × ℕ) → List ℕ
 counts_of ps = map (λ p. p.1) ps
 
+-- these pieces come first among those
+abbrev pub ComesFirst : List Write → List Write → Type 0
+ComesFirst vs ws = (rest : List Write) × (vs ++ rest ≡ ws)
+
+-- the pieces are the same as far as both lists go
+abbrev pub AgreesAtFirst : List Write → List Write → Type 0
+AgreesAtFirst vs ws = (left : List Write) × ComesFirst vs (ws ++ left)
+
 -- the log once these pieces became visible, the oldest first
 abbrev pub showing : List Write → Log → Log
 showing = shown_also

@@ -1,5 +1,5 @@
 //! A reader's call over an image, to its answer.
-ghost use Rattle.std.specs.Prelude.{◌≡◌, ◌≢◌, ◌⊎◌, ℕ, List, Some, Err, IsSome, IfErr, IfOk, option_map};
+ghost use Rattle.std.specs.Prelude.{◌≡◌, ◌≢◌, ◌⊎◌, ◌≤◌, ◌-◌, ℕ, List, Some, Err, IsSome, IfErr, IfOk, option_map};
 ghost use Rattle.h5w_model.specs.Causes.{Rose};
 ghost use Rattle.h5w_model.specs.Unfinished.{wanted};
 ghost use Rattle.h5w_image.specs.View.{Looked};
@@ -17,8 +17,12 @@ use h5w_text::ErrorLine;
 const LOOKS: u64 = u64::MAX;
 
 /// Takes the looks of the reader's unfinished call to its answer. A disk that is looked at so often that they are too many to
-/// count is answered as for want of memory.
-pub fn answered<I: PieceRead>(reader: &mut ReaderCore, image: &mut I) -> Result<Step, ErrorLine>
+/// count is answered as for want of memory. Each look takes one of `looks`, as long as some are left.
+pub fn answered<I: PieceRead>(
+    reader: &mut ReaderCore,
+    image: &mut I,
+    looks: &mut u64,
+) -> Result<Step, ErrorLine>
     requires { IsSome (wanted (cores.reader reader.old).left) }
     ensures looked { Looked (I.view image.old) (I.view image.new) }
     ensures causes { IfErr result (λ e. (e ≡ ErrorLine.Disk) ⊎ (e ≡ ErrorLine.Memory)) }
@@ -26,12 +30,14 @@ pub fn answered<I: PieceRead>(reader: &mut ReaderCore, image: &mut I) -> Result<
     ensures ended { IfOk result (λ step. step ≢ steps.More) }
     ensures answers { IfOk result (λ step. AnswersCall (cores.reader reader.old) step (cores.reader reader.new)) }
     ensures exact { IfOk result (λ step. (img : List ℕ) → IsStill (I.view image.old) img → StepTells (option_map (evaluated img) (cores.reader reader.old).left) (cores.reader reader.old) step (cores.reader reader.new)) }
+    ensures fewer { looks.new ≤ looks.old - 1 }
 {
     let mut piece = Piece::new();
     for _ in 0..LOOKS {
         let Some(look) = reader.want() else {
             unreachable!()
         };
+        *looks = looks.saturating_sub(1);
         match image.look(look.at, look.len, &mut piece) {
             Ok(()) => match reader.give(&piece) {
                 Step::More => {}

@@ -1,5 +1,5 @@
 //! The command that polls a file.
-ghost use Rattle.std.specs.Prelude.{◌≡◌, ◌≤◌, ◌+◌, ◌&&◌, ℕ, List, nat_lt, None, IsSome, IfErr, IfOk, OnOk, Some, Err};
+ghost use Rattle.std.specs.Prelude.{◌≡◌, ◌≤◌, ◌+◌, ◌-◌, ◌&&◌, ℕ, List, nat_lt, true, None, IsSome, IfErr, IfOk, OnOk, Some, Err};
 ghost use Rattle.h5w_model.specs.Calls.{rows_seen};
 ghost use Rattle.h5w_model.specs.Causes.{Rose};
 ghost use Rattle.h5w_model.specs.Unfinished.{rows_left, rows_program, wanted, with_left};
@@ -9,7 +9,7 @@ ghost use Rattle.h5w_reader.specs.Cores as cores;
 ghost use Rattle.h5w_reader.specs.Readers.{reader_rules};
 ghost use Rattle.h5w_files.specs.Answering.{IsForRows};
 ghost use Rattle.h5w_files.specs.Ends.{EndsWell};
-ghost use Rattle.h5w_files.specs.Polling.{FindsRows, FindsValues, IsOfCall, OnceGives, PollGives, TimesGive, ToldBy, read_line};
+ghost use Rattle.h5w_files.specs.Polling.{FindsRows, FindsValues, HasJustBegun, IsOfCall, OnceGives, PollGives, TimesGive, ToldBy, is_doubtful, may_pass, read_line};
 ghost use Rattle.h5w_files.specs.Polls.{PollEnds, count_text, poll_of, values_text};
 
 use crate::answering::answered;
@@ -19,6 +19,11 @@ use h5w_model::{OutOfMemory, ReadError, Values};
 use h5w_reader::{ReadBegin, ReaderCore, Step};
 use h5w_text::{ErrorLine, Sink, Status, tell, write_numbers, write_rows};
 use std::alloc::Global;
+
+/// A refusal that bytes half written may give is told once it stood for so many looks of its call. A file system may show a look a
+/// write half done, for as long as the writer is interrupted there: some 20 microseconds, or a turn of another program, which are
+/// some milliseconds. A look takes half a microsecond and more, and so all of them take 25 milliseconds and more.
+const STANDS: u64 = 50_000;
 
 /// Why a poll ends before its last call.
 enum Ending {
@@ -71,8 +76,36 @@ fn read_line(error: ReadError) -> ErrorLine
     }
 }
 
-/// The rows that the reader's call finds.
-fn rows_found<I: PieceRead>(reader: &mut ReaderCore, image: &mut I) -> Result<u64, ErrorLine>
+/// Whether bytes half written may give this refusal: it comes before their sum was found right, or as that is wrong.
+fn may_pass(refusal: &ReadError) -> bool
+    ensures { result ≡ may_pass refusal.now }
+{
+    matches!(
+        refusal,
+        ReadError::NotHdf5
+            | ReadError::Super(_)
+            | ReadError::Header { .. }
+            | ReadError::Unsupported(_)
+            | ReadError::Damaged { .. }
+    )
+}
+
+/// Whether a call is refused, and bytes half written may give that refusal.
+fn is_doubtful(found: &Result<u64, ErrorLine>) -> bool
+    ensures { result ≡ is_doubtful found.now }
+{
+    match found {
+        Err(ErrorLine::Read(refusal)) => may_pass(refusal),
+        _ => false,
+    }
+}
+
+/// The rows that the reader's call finds. Each look takes one of `looks`, as long as some are left.
+fn rows_of_call<I: PieceRead>(
+    reader: &mut ReaderCore,
+    image: &mut I,
+    looks: &mut u64,
+) -> Result<u64, ErrorLine>
     requires begun { IsSome (wanted (cores.reader reader.old).left) }
     requires call { IsForRows (cores.reader reader.old).left }
     ensures looked { Looked (I.view image.old) (I.view image.new) }
@@ -81,12 +114,41 @@ fn rows_found<I: PieceRead>(reader: &mut ReaderCore, image: &mut I) -> Result<u6
     ensures idle { OnOk result ((cores.reader reader.new).left ≡ None) }
     ensures seen { IfOk result (λ rows. rows_seen (cores.reader reader.new).known ≡ rows) }
     ensures exact { (img : List ℕ) → IsStill (I.view image.old) img → FindsRows img (cores.reader reader.old) result (cores.reader reader.new) }
+    ensures ended { is_doubtful result ≡ true → cores.reader reader.new ≡ with_left (cores.reader reader.old) None }
+    ensures fewer { looks.new ≤ looks.old - 1 }
 {
-    match answered(reader, image)? {
+    match answered(reader, image, looks)? {
         Step::Rows(rows) => Ok(rows),
         Step::Refused(error) => Err(read_line(error)),
         Step::More => unreachable!(),
         Step::Values(_) => unreachable!(),
+    }
+}
+
+/// The rows that the reader's call finds, which has just begun. As long as some of `looks` are left, it is begun anew where bytes
+/// half written may give its refusal.
+fn rows_found<I: PieceRead>(
+    reader: &mut ReaderCore,
+    image: &mut I,
+    looks: &mut u64,
+) -> Result<u64, ErrorLine>
+    requires begun { IsSome (wanted (cores.reader reader.old).left) }
+    requires call { IsForRows (cores.reader reader.old).left }
+    requires fresh { HasJustBegun (cores.reader reader.old) }
+    ensures looked { Looked (I.view image.old) (I.view image.new) }
+    ensures kinds { IfErr result IsOfCall }
+    ensures cause { result ≡ Err ErrorLine.Disk → Rose (I.view image.old).faults (I.view image.new).faults }
+    ensures idle { OnOk result ((cores.reader reader.new).left ≡ None) }
+    ensures seen { IfOk result (λ rows. rows_seen (cores.reader reader.new).known ≡ rows) }
+    ensures exact { (img : List ℕ) → IsStill (I.view image.old) img → FindsRows img (cores.reader reader.old) result (cores.reader reader.new) }
+    ensures stood { is_doubtful result ≡ true → looks.new ≡ 0 }
+{
+    'again: loop {
+        let found = rows_of_call(reader, image, looks);
+        if *looks == 0 || !is_doubtful(&found) {
+            return found;
+        }
+        refresh(reader);
     }
 }
 
@@ -111,7 +173,8 @@ fn values_found<I: PieceRead>(
         Err(ReadBegin::OutOfMemory) => return Err(ErrorLine::Memory),
         Err(_) => unreachable!(),
     }
-    match answered(reader, image)? {
+    let mut uncounted = 0;
+    match answered(reader, image, &mut uncounted)? {
         Step::Values(values) => Ok(values),
         Step::Refused(error) => Err(read_line(error)),
         Step::More => unreachable!(),
@@ -152,7 +215,8 @@ fn has_new(values: bool, printed: u64, rows: u64) -> bool
     values && printed < rows
 }
 
-/// Answers the reader's call: writes how many rows it finds, and then, where `values` is set, those behind the first `printed`.
+/// Answers the reader's call, which has just begun: writes how many rows it finds, and then, where `values` is set, those behind
+/// the first `printed`.
 fn write_once<I: PieceRead, K: Sink>(
     alloc: Global,
     reader: &mut ReaderCore,
@@ -163,11 +227,13 @@ fn write_once<I: PieceRead, K: Sink>(
 ) -> Result<u64, Ending>
     requires begun { IsSome (wanted (cores.reader reader.old).left) }
     requires call { IsForRows (cores.reader reader.old).left }
+    requires fresh { HasJustBegun (cores.reader reader.old) }
     ensures looked { Looked (I.view image.old) (I.view image.new) }
     ensures idle { OnOk result ((cores.reader reader.new).left ≡ None) }
     ensures gives { OnceGives values printed (I.view image.old) (I.view image.new) (cores.reader reader.old) result (cores.reader reader.new) (K.view sink.old) (K.view sink.new) }
 {
-    let rows = rows_found(reader, image)?;
+    let mut looks = STANDS;
+    let rows = rows_found(reader, image, &mut looks)?;
     write_count(alloc, rows, sink)?;
     if !has_new(values, printed, rows) {
         return Ok(rows);
@@ -183,6 +249,7 @@ fn refresh(reader: &mut ReaderCore)
     ensures begun { cores.reader reader.new ≡ with_left (cores.reader reader.old) (Some (rows_left (rows_program (cores.reader reader.old).rules (cores.reader reader.old).known))) }
     ensures wanting { IsSome (wanted (cores.reader reader.new).left) }
     ensures call { IsForRows (cores.reader reader.new).left }
+    ensures fresh { HasJustBegun (cores.reader reader.new) }
 {
     match reader.refresh() {
         Ok(()) => {}
@@ -201,6 +268,7 @@ fn write_times<I: PieceRead, K: Sink>(
 ) -> Result<(), Ending>
     requires begun { IsSome (wanted (cores.reader reader.old).left) }
     requires call { IsForRows (cores.reader reader.old).left }
+    requires fresh { HasJustBegun (cores.reader reader.old) }
     requires some { 1 ≤ times }
     ensures looked { Looked (I.view image.old) (I.view image.new) }
     ensures gives { TimesGive times values (I.view image.old) (I.view image.new) (cores.reader reader.old) result (K.view sink.old) (K.view sink.new) }
@@ -241,7 +309,8 @@ fn polled<K: Sink, D: Disk>(
 
 /// Opens the dataset that the root group's link of `name` leads to in the file of the name `file`, and refreshes it `times` less
 /// one times. Writes how many rows each of these calls finds before the next begins, and where `values` is set, behind it each row
-/// that was not written yet.
+/// that was not written yet. A file system may show a write half done: a refusal that may come of it is told only after the call was
+/// begun anew until it had taken 50,000 looks.
 pub fn poll<K: Sink, D: Disk>(
     alloc: Global,
     file: &str,

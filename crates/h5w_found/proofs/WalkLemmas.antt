@@ -14,7 +14,7 @@ use Rattle.h5w_model.specs.declared.refusal.ReadError.TheVariants.{Header}
 use Rattle.h5w_model.specs.declared.refusal.HeaderError.{HeaderError}
 use Rattle.h5w_model.specs.declared.refusal.HeaderError.TheVariants as header_errors
 use Rattle.h5w_found.specs.Ran.{Told, seen}
-use Rattle.h5w_found.specs.Errors.{find_errors, refused_header}
+use Rattle.h5w_found.specs.Errors.{IsFindKind, find_errors, refused_header}
 use Rattle.h5w_found.specs.declared.error.FindError.TheVariants.{Refused}
 use Rattle.h5w_found.specs.Walks.{known_by, block_for, walk_for, from_chunk_0_for}
 use Rattle.h5w_found.specs.Headers.{found_of, founds, stack, ranges_of, range_of, Visit, Passed, block_before, entered}
@@ -120,6 +120,17 @@ told_header given place (header_errors.Unknown kind) (inl e) = record { exact = 
 told_header given place (header_errors.Unknown kind) (inr e) = absurd cc
 told_header given place header_errors.Continuations (inl e) = record { exact = e; quiet = λ g. absurd cc }
 told_header given place header_errors.Continuations (inr e) = absurd cc
+
+-- it is one of its bytes
+pub header_kind : (place : ℕ) (f : HeaderError) → IsFindKind (refused_header place f)
+header_kind place header_errors.OutOfMemory = tt
+header_kind place (header_errors.Short need got) = tt
+header_kind place (header_errors.Sum sums) = tt
+header_kind place (header_errors.Overrun there) = tt
+header_kind place header_errors.Signature = tt
+header_kind place (header_errors.Version n) = tt
+header_kind place (header_errors.Unknown kind) = tt
+header_kind place header_errors.Continuations = tt
 
 pub told_refused : {B : Type 0} (given : Result B ReadError) (e : ReadError) → given ≡ Err e → Told find_errors given (Err (Refused e))
 told_refused given e h = record { exact = h; quiet = λ g. absurd cc }

@@ -1,8 +1,8 @@
 //! The dataset's header.
-ghost use Rattle.std.specs.Prelude.{◌≡◌, ◌+◌, ◌≤◌, ◌^◌, length};
+ghost use Rattle.std.specs.Prelude.{◌≡◌, ◌+◌, ◌≤◌, ◌^◌, length, IfErr};
 ghost use Rattle.h5w_model.specs.Programs.{eval};
 ghost use Rattle.h5w_found.specs.Ran.{Ran, seen};
-ghost use Rattle.h5w_found.specs.Errors.{find_errors};
+ghost use Rattle.h5w_found.specs.Errors.{IsFindKind, find_errors};
 ghost use Rattle.h5w_found.specs.Walks.{dataset_header_for};
 ghost use Rattle.h5w_found.specs.Headers.{header_of};
 
@@ -31,7 +31,8 @@ pub fn dataset_header<I: PieceRead>(
 ) -> Result<Header, FindError>
     // Where the image tells its bytes and nobody else writes it: Ok exactly where they have this header, and else the first refusal,
     // unless the image failed, which its count of faults shows, or memory ran out.
-    ensures { Ran find_errors (I.view image.old) (I.view image.new) (λ img. eval img (dataset_header_for writing place)) (seen header_of result) }
+    ensures ran { Ran find_errors (I.view image.old) (I.view image.new) (λ img. eval img (dataset_header_for writing place)) (seen header_of result) }
+    ensures kinds { IfErr result IsFindKind }
 {
     let mut bytes = read(alloc, image, place, PIECE as u64)?;
     let p = match prefix(&bytes) {

@@ -1,8 +1,8 @@
 //! The bytes of a header that is looked for.
-ghost use Rattle.std.specs.Prelude.{◌≡◌, ◌+◌, ◌≤◌, ◌^◌, length, Ok, IfOk};
+ghost use Rattle.std.specs.Prelude.{◌≡◌, ◌+◌, ◌≤◌, ◌^◌, length, Ok, IfErr, IfOk};
 ghost use Rattle.h5w_model.specs.Numbers.{range};
 ghost use Rattle.h5w_found.specs.Ran.{Ran, seen};
-ghost use Rattle.h5w_found.specs.Errors.{find_errors};
+ghost use Rattle.h5w_found.specs.Errors.{IsFindKind, find_errors};
 
 use crate::error::FindError;
 use h5w_image::PieceRead;
@@ -16,6 +16,7 @@ pub fn read<I: PieceRead>(
     len: u64,
 ) -> Result<Vec<u8>, FindError>
     ensures ran { Ran find_errors (I.view image.old) (I.view image.new) (λ img. Ok (range img at len)) (seen (λ b. b.items) result) }
+    ensures kinds { IfErr result IsFindKind }
     ensures inside { IfOk result (λ b. at + length b.items ≤ 2 ^ 64) }
     ensures few { IfOk result (λ b. length b.items ≤ len) }
 {

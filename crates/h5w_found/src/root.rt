@@ -1,9 +1,9 @@
 //! The root group's header, and the place that its link gives.
-ghost use Rattle.std.specs.Prelude.{◌≡◌, ◌⊎◌, ◌+◌, ◌++◌, ◌≤◌, ◌^◌, length, map, Ok, Err, IfOk};
+ghost use Rattle.std.specs.Prelude.{◌≡◌, ◌⊎◌, ◌+◌, ◌++◌, ◌≤◌, ◌^◌, length, map, Ok, Err, IfErr, IfOk};
 ghost use Rattle.h5w_model.specs.Programs.{eval};
 ghost use Rattle.h5w_model.specs.Datasets.{linked};
 ghost use Rattle.h5w_found.specs.Ran.{Ran, Told, answering, seen};
-ghost use Rattle.h5w_found.specs.Errors.{find_errors};
+ghost use Rattle.h5w_found.specs.Errors.{IsFindKind, find_errors};
 ghost use Rattle.h5w_found.specs.Walks.{root_header_for};
 ghost use Rattle.h5w_found.specs.Headers.{founds, header_of, listed, whole_chunk_0};
 
@@ -20,7 +20,8 @@ use std::alloc::Global;
 
 /// Puts bytes behind others.
 fn put_behind(bytes: &mut Vec<u8>, more: &[u8]) -> Result<(), FindError>
-    ensures { Told find_errors (Ok (bytes.old.items ++ more.now)) (answering bytes.new.items result) }
+    ensures told { Told find_errors (Ok (bytes.old.items ++ more.now)) (answering bytes.new.items result) }
+    ensures kinds { IfErr result IsFindKind }
 {
     match bytes.extend_from_slice(more) {
         Ok(()) => Ok(()),
@@ -39,6 +40,7 @@ fn whole_chunk_0<I: PieceRead>(
     requires inside { place + length bytes.items ≤ 2 ^ 64 }
     requires few { length bytes.items ≤ 512 }
     ensures ran { Ran find_errors (I.view image.old) (I.view image.new) (λ img. Ok (whole_chunk_0 img place total bytes.items)) (seen (λ b. b.items) result) }
+    ensures kinds { IfErr result IsFindKind }
     ensures inside { IfOk result (λ b. place + length b.items ≤ 2 ^ 64) }
 {
     if total <= PIECE as u64 {
@@ -62,7 +64,8 @@ pub fn root_header<I: PieceRead>(
 ) -> Result<Header, FindError>
     // Where the image tells its bytes and nobody else writes it: Ok exactly where they have this header, and else the first refusal,
     // unless the image failed, which its count of faults shows, or memory ran out.
-    ensures { Ran find_errors (I.view image.old) (I.view image.new) (λ img. eval img (root_header_for writing place)) (seen header_of result) }
+    ensures ran { Ran find_errors (I.view image.old) (I.view image.new) (λ img. eval img (root_header_for writing place)) (seen header_of result) }
+    ensures kinds { IfErr result IsFindKind }
 {
     let bytes = read(alloc, image, place, PIECE as u64)?;
     let p = match prefix(&bytes) {
@@ -92,7 +95,8 @@ fn listed(alloc: Global, found: Vec<FoundMessage>) -> Result<Msgs, OutOfMemory>
 
 /// The place that the link of this name gives, in the root header with these messages.
 pub fn place_of(alloc: Global, found: Vec<FoundMessage>, name: &[u8]) -> Result<u64, FindError>
-    ensures { Told find_errors (linked name.now (founds found.items)) result }
+    ensures told { Told find_errors (linked name.now (founds found.items)) result }
+    ensures kinds { IfErr result IsFindKind }
 {
     let msgs = listed(alloc, found)?;
     let links = match links(alloc, &msgs) {

@@ -1,11 +1,11 @@
 //! The messages of a header and of its continuation blocks, visited in order.
-ghost use Rattle.std.specs.Prelude.{◌≡◌, ◌⊎◌, ◌+◌, ◌≤◌, ◌^◌, ◌++◌, ◌∷◌, [], ℕ, List, length, true, Ok, Err, IfOk, OnOk};
+ghost use Rattle.std.specs.Prelude.{◌≡◌, ◌⊎◌, ◌+◌, ◌≤◌, ◌^◌, ◌++◌, ◌∷◌, [], ℕ, List, length, true, Ok, Err, IfErr, IfOk, OnOk};
 ghost use Rattle.h5w_model.specs.Programs.{eval};
 ghost use Rattle.h5w_model.specs.Datasets.{found_at, header_refusal, refused_as};
 ghost use Rattle.h5w_model.specs.Headers.{block_at, messages_at};
 ghost use Rattle.h5w_model.specs.declared.refusal.HeaderError.TheVariants.{OutOfMemory as no_memory};
 ghost use Rattle.h5w_found.specs.Ran.{Ran, Told, answering, seen};
-ghost use Rattle.h5w_found.specs.Errors.{find_errors};
+ghost use Rattle.h5w_found.specs.Errors.{IsFindKind, find_errors};
 ghost use Rattle.h5w_found.specs.Walks.{from_chunk_0_for, known_by, walk_for};
 ghost use Rattle.h5w_found.specs.Headers.{Passed, block_before, entered, founds, found_of, header_of, ranges_of, stack};
 
@@ -113,7 +113,8 @@ fn put_block(
     next: &mut Vec<FoundMessage>,
 ) -> Result<(), FindError>
     requires { place + length bytes.now ≤ 2 ^ 64 }
-    ensures { Told find_errors (block_before writing tracked place len bytes.now (stack next.old.items)) (answering (stack next.new.items) result) }
+    ensures told { Told find_errors (block_before writing tracked place len bytes.now (stack next.old.items)) (answering (stack next.new.items) result) }
+    ensures kinds { IfErr result IsFindKind }
 {
     let got = bytes.len();
     if (got as u64) < len {
@@ -136,7 +137,8 @@ fn put_block(
 
 /// Adds a range.
 fn add_extent(extents: &mut Vec<Extent>, place: u64, len: u64) -> Result<(), FindError>
-    ensures { Told find_errors (Ok (ranges_of extents.old.items ++ record { place = place; len = len } ∷ [])) (answering (ranges_of extents.new.items) result) }
+    ensures told { Told find_errors (Ok (ranges_of extents.old.items ++ record { place = place; len = len } ∷ [])) (answering (ranges_of extents.new.items) result) }
+    ensures kinds { IfErr result IsFindKind }
 {
     match extents.push(Extent { place, len }) {
         Ok(()) => Ok(()),
@@ -155,9 +157,10 @@ fn enter<I: PieceRead>(
     extents: &mut Vec<Extent>,
 ) -> Result<(), FindError>
     requires { m.now.kind ≡ 16 }
-    ensures { Ran find_errors (I.view image.old) (I.view image.new)
+    ensures ran { Ran find_errors (I.view image.old) (I.view image.new)
         (entered writing tracked (found_of m.now) (stack next.old.items) (ranges_of extents.old.items))
         (answering (stack next.new.items, ranges_of extents.new.items) result) }
+    ensures kinds { IfErr result IsFindKind }
 {
     let body = m.body.as_slice();
     let (place, len) = (number(body, 0, 8), number(body, 8, 8));
@@ -196,9 +199,10 @@ fn walk<I: PieceRead>(
     mut next: Vec<FoundMessage>,
     mut extents: Vec<Extent>,
 ) -> Result<Header, FindError>
-    ensures { Ran find_errors (I.view image.old) (I.view image.new)
+    ensures ran { Ran find_errors (I.view image.old) (I.view image.new)
         (λ img. eval img (walk_for writing 32 header tracked (ranges_of extents.items) [] (stack next.items)))
         (seen header_of result) }
+    ensures kinds { IfErr result IsFindKind }
 {
     let mut done = Vec::new(alloc);
     let mut more = BLOCKS;
@@ -223,7 +227,8 @@ fn chunk_0_messages(
     bytes: &[u8],
 ) -> Result<Vec<FoundMessage>, FindError>
     requires { place + length bytes.now ≤ 2 ^ 64 }
-    ensures { Told find_errors (seen (found_at place true) (refused_as (header_refusal place) (known_by writing (messages_at bytes.now)))) (seen (λ v. stack v.items) result) }
+    ensures told { Told find_errors (seen (found_at place true) (refused_as (header_refusal place) (known_by writing (messages_at bytes.now)))) (seen (λ v. stack v.items) result) }
+    ensures kinds { IfErr result IsFindKind }
 {
     let got = bytes.len();
     match chunk_0_list(alloc, writing, bytes) {
@@ -246,7 +251,8 @@ pub fn from_chunk_0<I: PieceRead>(
     bytes: &[u8],
 ) -> Result<Header, FindError>
     requires { place + length bytes.now ≤ 2 ^ 64 }
-    ensures { Ran find_errors (I.view image.old) (I.view image.new) (λ img. eval img (from_chunk_0_for writing place p.now bytes.now)) (seen header_of result) }
+    ensures ran { Ran find_errors (I.view image.old) (I.view image.new) (λ img. eval img (from_chunk_0_for writing place p.now bytes.now)) (seen header_of result) }
+    ensures kinds { IfErr result IsFindKind }
 {
     let next = chunk_0_messages(alloc, writing, place, bytes)?;
     let mut extents = Vec::new(alloc);

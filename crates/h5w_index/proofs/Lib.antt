@@ -7,6 +7,7 @@ pub mod TreeBoundLemmas
 pub mod FlushLemmas
 pub mod BeginLemmas
 pub mod MarkLemmas
+pub mod ReachLemmas
 pub mod PlacingLemmas
 pub mod DepthLemmas
 pub mod PartLemmas

@@ -16,6 +16,7 @@ use Rattle.h5w_model.specs.declared.piece.Write.{Write}
 use Rattle.h5w_visits.specs.Ranges.{Among, chunk_at}
 use Rattle.h5w_visits.proofs.RangeLemmas.{among_left, among_right, among_split}
 use Rattle.h5w_space.specs.Space.{Space, extent}
+use Rattle.h5w_space.specs.declared.Extent.{Extent}
 use Rattle.h5w_space.specs.declared.Full.{Full}
 use Rattle.h5w_cache.specs.Plans.{Took}
 use Rattle.h5w_cache.specs.declared.moves.Move.{Move}
@@ -36,13 +37,14 @@ use Rattle.h5w_flush_laws.proofs.PartLemmas.{count_append}
 use Rattle.h5w_flush_laws.proofs.SpaceLemmas.{taken_laws}
 use Rattle.h5w_tree_index_laws.specs.TreeImages.{AreSame}
 use Rattle.h5w_tree_index_laws.proofs.TreeRangeLemmas.{by_weight}
-use Rattle.h5w_index.specs.Views.{IndexView, an_array, a_tree, HasSlot, IsSound, address_in, behind_of, is_key}
+use Rattle.h5w_index.specs.Views.{IndexView, an_array, a_tree, HasSlot, IsReached, IsSound, address_in, behind_of, is_key}
 use Rattle.h5w_index.specs.Steps.{IsHeld, IsPlan, IsSet, IsUnset}
 use Rattle.h5w_index.specs.Told.{HeldTold, IsLike, SameMap, SetTold}
 use Rattle.h5w_index.specs.Marks.{IsMarked, IsRaised, IsTouched}
-use Rattle.h5w_index.specs.Placing.{AllPlaced, AreInside, Fits, FullPartBound, IsFullPart, IsOwn, IsPartly, IsPlacing, OwnLaws, PlacingLaws, most_of, next_key}
+use Rattle.h5w_index.specs.Placing.{AllPlaced, AreInside, Fits, FullPartBound, IsFullPart, IsOwn, IsPartly, IsPlacing, OwnLaws, PlacingLaws, TakesEach, most_of, next_key}
 use Rattle.h5w_index.proofs.MarkLemmas.{full_bounds, mark_laws, plan_bounds}
 use Rattle.h5w_index.proofs.RaisedLemmas.{raised_more, raised_next, raised_none, raised_on, raised_one, raised_still}
+use Rattle.h5w_index.proofs.ReachLemmas.{reach_laws}
 use Rattle.h5w_index.proofs.ToldLemmas.{held_tells, like_laws, same_ranges, set_tells, unset_tells}
 
 -- ---- Lists
@@ -84,7 +86,7 @@ not_true : (b : Bool) → (b ≡ true → ⊥) → b ≡ false
 not_true true h = absurd (h refl)
 not_true false h = refl
 
-some_fits : (d : Described) (v : IndexView) → Fits d v → 0 < chunks_across d
+pub some_fits : (d : Described) (v : IndexView) → Fits d v → 0 < chunks_across d
 some_fits d (an_array v) e = omega (arith, e)
 some_fits d (a_tree p v) some = some
 
@@ -139,6 +141,11 @@ own_laws = record { held = held; set = set; unset = unset; planned = planned }
 
 -- ---- Chunks that may have got an address
 
+-- where readers look for a key they look for one that is it to the index
+reach_as : (v : IndexView) (key other : Key) → is_key v key other ≡ true → IsReached v key → IsReached v other
+reach_as (an_array v) key other e low = reach_laws.lower (an_array v) key other (let same = eqb-true other.i key.i e in omega (arith, same)) low
+reach_as (a_tree p v) key other e low = tt
+
 partly_none : (d : Described) (to : ℕ) (v : IndexView) → IsSound v → IsPartly d to v [] v
 partly_none d to v is = record {
   like = like_laws.itself v is;
@@ -148,6 +155,7 @@ partly_none d to v is = record {
   rest = λ key none. refl;
   own = λ o. o;
   marks = λ m. m;
+  reach = λ key there low. low;
 }
 
 slots_stay : (w u : IndexView) (added : List Key) → IsLike w u → All (HasSlot w) added → All (HasSlot u) added
@@ -164,6 +172,7 @@ partly_held d to key v w u added t h p =
       rest = λ other none. told.map other ∙ p.rest other none;
       own = λ o. own_laws.held key w u h (p.own o);
       marks = λ m. mark_laws.held d d.shape.rows to key w u p.like.sound t h (p.marks m);
+      reach = λ other there low. reach_laws.held key other w u h (p.reach other (λ e. there (told.map other ∙ e)) low);
     }
 
 -- a chunk gets an address where a place is held for it
@@ -182,6 +191,11 @@ partly_set d to key address v w u added t slot defined none h p =
           told.map other ∙ cond-false (is_key w key other) address (address_in w other) (p.like.one key other ∙ differs) ∙ p.rest other (all_front P added (key ∷ []) differ);
       own = λ o. own_laws.set key address w u h (p.own o);
       marks = λ m. mark_laws.set d d.shape.rows to key address w u p.like.sound t h (p.marks m);
+      reach = λ other there low.
+          elim (cases_Bool (is_key w key other)) [
+            | inl e ↦ reach_as u key other (told.like.one key other ∙ e) (reach_laws.new key address w u h)
+            | inr e ↦ reach_laws.set key other address w u h (p.reach other (λ none. there (told.map other ∙ cond-false (is_key w key other) address (address_in w other) e ∙ none)) low)
+          ];
     }
 
 -- it has none again
@@ -204,9 +218,18 @@ partly_unset d to key v w u added h p =
           ];
       own = λ o. own_laws.unset key w u h (p.own o);
       marks = λ m. mark_laws.unset d d.shape.rows to key w u p.like.sound t h (p.marks m);
+      reach = λ other there low.
+          elim (cases_Bool (is_key w key other)) [
+            | inl e ↦ absurd (there (told.map other ∙ cond-true (is_key w key other) undefined (address_in w other) e))
+            | inr e ↦ reach_laws.unset key w u h other there (p.reach other (λ none. there (told.map other ∙ cond-false (is_key w key other) undefined (address_in w other) e ∙ none)) low)
+          ];
     }
 
 -- ---- Chunks get their places
+
+taken_also : (s t n : Space) (rs : List Extent) (r : Extent) → TakesEach s rs t → Took t n r → TakesEach s (rs ++ r ∷ []) n
+taken_also s t n [] r e took = (n, subst (λ (u : Space). Took u n r) e took, refl)
+taken_also s t n (q ∷ rs) r e took = (e.0, e.1, taken_also e.0 t n rs r e.2 took)
 
 placing_none : (d : Described) (to : ℕ) (v : IndexView) (s t : Space) → IsSound v → t.end ≡ s.end → t.free ≡ s.free → t.retired ≡ s.retired → t.limit ≡ s.limit → IsPlacing d to v s [] [] v t
 placing_none d to v s t is end free retired limit = record {
@@ -217,6 +240,11 @@ placing_none d to v s t is end free retired limit = record {
   taken = taken_laws.none_taken s t end free retired;
   raised = subst (λ n. IsRaised s t n) (let e : 0 ≡ 0 * chunk_bytes d = omega arith in e) (raised_none s t end limit);
   inside = λ k p at. absurd (let clash : ◌≡◌ {A = Option ChunkPlace} None (Some p) = at in cc);
+  reached = λ k p at. absurd (let clash : ◌≡◌ {A = Option ChunkPlace} None (Some p) = at in cc);
+  first = t;
+  copied = record { end = end; free = free; retired = retired; limit = limit };
+  ranges = [];
+  each = refl;
 }
 
 pushed_long : (chunks : List ChunkPlace) (p : ChunkPlace) → length (chunks ++ p ∷ []) ≡ length chunks + 1
@@ -224,7 +252,7 @@ pushed_long chunks p = length-append chunks (p ∷ []) ∙ omega arith
 
 -- The next chunk has its place already.
 module _ (d : Described) (to : ℕ) (v w : IndexView) (s t : Space) (chunks : List ChunkPlace) (added : List Key) (p : ChunkPlace) (fits : Fits d v) (named : address_in w (next_key d chunks) ≡ p.address) (defined : p.address ≢ undefined)
-    (whole : p.stored ≡ false → d.shape.rows ≤ (next_key d chunks).i * d.layout.chunk_rows) (within : AreInside d s.end v) (x : IsPlacing d to v s chunks added w t) where
+    (whole : p.stored ≡ false → d.shape.rows ≤ (next_key d chunks).i * d.layout.chunk_rows) (looked : IsReached w (next_key d chunks)) (within : AreInside d s.end v) (x : IsPlacing d to v s chunks added w t) where
   before_there : address_in v (next_key d chunks) ≡ p.address
   before_there = sym (x.others (next_key d chunks) (λ k low. apart_keys d v d.shape.rows k (length chunks) fits (λ e. absurd (omega (arith, e, low))))) ∙ named
 
@@ -265,6 +293,15 @@ module _ (d : Described) (to : ℕ) (v w : IndexView) (s t : Space) (chunks : Li
               let own = within (next_key d chunks) (omega arith) is_there in
               subst (λ (c : ChunkPlace). c.address + chunk_len d ≤ t.end) last.1 (omega (arith, own, before_there, x.raised.rises))
         ];
+    reached = λ k q at.
+        elim (get_pushed chunks p k q at) [
+          | inl before ↦ x.reached k q before
+          | inr last ↦ subst (λ n. IsReached w (touched_key d d.shape.rows n)) (sym last.0) looked
+        ];
+    first = x.first;
+    copied = x.copied;
+    ranges = x.ranges;
+    each = x.each;
   }
 
 -- one range in front of others, and between them
@@ -380,7 +417,38 @@ module _ (d : Described) (to : ℕ) (v w h u : IndexView) (s t next : Space) (ch
               | inl before ↦ omega (arith, x.inside k q before, end)
               | inr last ↦ subst (λ (c : ChunkPlace). c.address + chunk_len d ≤ next.end) last.1 took.live.within
             ];
+        reached = λ k q at.
+            elim (get_pushed chunks p k q at) [
+              | inl before ↦ reach_laws.set key (touched_key d d.shape.rows k) p.address h u set (reach_laws.held key (touched_key d d.shape.rows k) w h held (x.reached k q before))
+              | inr last ↦ subst (λ n. IsReached u (touched_key d d.shape.rows n)) (sym last.0) (reach_laws.new key p.address h u set)
+            ];
+        first = x.first;
+        copied = x.copied;
+        ranges = x.ranges ++ extent p.address (chunk_len d) ∷ [];
+        each = taken_also x.first t next x.ranges (extent p.address (chunk_len d)) x.each took;
       }
+
+-- ---- A place is held for one that has its place
+
+placing_holds : (d : Described) (to : ℕ) (key : Key) (v w u : IndexView) (s t : Space) (chunks : List ChunkPlace) (added : List Key) → IsTouched d d.shape.rows to key → IsHeld key w u → IsPlacing d to v s chunks added w t → IsPlacing d to v s chunks added u t
+placing_holds d to key v w u s t chunks added touches held x =
+    let told = held_tells key w u x.partly.like.sound held in
+    let bytes : ℕ = chunk_bytes d in
+    record {
+      partly = partly_held d to key v w u added touches held x.partly;
+      placed = λ k q at. let o = x.placed k q at in record { named = told.map (touched_key d d.shape.rows k) ∙ o.named; defined = o.defined; kept = o.kept; stored = o.stored; whole = o.whole };
+      others = λ other outside. told.map other ∙ x.others other outside;
+      behind = part_onward (behind_of bytes u) (behind_of bytes w) (new_chunks d (address_in v) d.shape.rows 0 chunks ++ behind_of bytes v)
+          (same_among (behind_of bytes u) (behind_of bytes w) (same_ranges w u bytes x.partly.like.sound told.like told.map)) x.behind;
+      taken = x.taken;
+      raised = x.raised;
+      inside = x.inside;
+      reached = λ k q at. reach_laws.held key (touched_key d d.shape.rows k) w u held (x.reached k q at);
+      first = x.first;
+      copied = x.copied;
+      ranges = x.ranges;
+      each = x.each;
+    }
 
 -- ---- All have their places
 
@@ -422,7 +490,7 @@ one_or_none d v (suc n) key =
           ]
     ]
 
-chunk_there : (chunks : List ChunkPlace) (k : ℕ) → k < length chunks → (p : ChunkPlace) × (slice_get chunks k ≡ Some p)
+pub chunk_there : (chunks : List ChunkPlace) (k : ℕ) → k < length chunks → (p : ChunkPlace) × (slice_get chunks k ≡ Some p)
 chunk_there [] k low = absurd (omega (arith, low))
 chunk_there (p ∷ ps) zero low = (p, refl)
 chunk_there (p ∷ ps) (suc k) low = chunk_there ps k (omega (arith, low))
@@ -503,6 +571,7 @@ pub placing_laws : PlacingLaws
 placing_laws = record {
   none = placing_none;
   stored = placing_stored;
+  holds = placing_holds;
   new = placing_new;
   held = partly_held;
   unset = partly_unset;

@@ -8,8 +8,9 @@ use Rattle.h5w_model.specs.Findings.{chunk_bytes}
 use Rattle.h5w_model.specs.declared.cell.Key.{Key}
 use Rattle.h5w_model.specs.declared.piece.Write.{Write}
 use Rattle.h5w_space.specs.Space.{Space, extent}
+use Rattle.h5w_space.specs.declared.Extent.{Extent}
 use Rattle.h5w_space.specs.declared.Full.{Full}
-use Rattle.h5w_cache.specs.Plans.{IsRefused, Took}
+use Rattle.h5w_cache.specs.Plans.{Chain, IsRefused, Took}
 use Rattle.h5w_cache.specs.Stores.{Store}
 use Rattle.h5w_cache.specs.declared.moves.Move.{Move}
 use Rattle.h5w_chunks.specs.Grids.{chunk_len}
@@ -23,7 +24,7 @@ use Rattle.h5w_array_flushes.specs.ArrayFlushes.{chunks_for}
 use Rattle.h5w_flush_laws.specs.Parts.{block_writes}
 use Rattle.h5w_flush_laws.specs.Spaces.{Taken}
 use Rattle.h5w_flush_laws.specs.Rows.{IsOutside, IsPlaced, new_chunks}
-use Rattle.h5w_index.specs.Views.{IndexView, an_array, a_tree, HasSlot, IsSound, address_in, behind_of, is_key}
+use Rattle.h5w_index.specs.Views.{IndexView, an_array, a_tree, HasSlot, IsReached, IsSound, KeepsReach, address_in, behind_of, is_key}
 use Rattle.h5w_index.specs.Steps.{HasNoPlace, IsHeld, IsPlan, IsSet, IsUnset}
 use Rattle.h5w_index.specs.Told.{HeldTold, IsLike, SameMap}
 use Rattle.h5w_index.specs.Flushes.{AreCopies, IsIndexPart, Rests}
@@ -57,12 +58,24 @@ pub record IsPartly (d : Described) (to : ℕ) (v : IndexView) (added : List Key
   pub rest : (key : Key) → All (λ other. is_key v other key ≡ false) added → address_in w key ≡ address_in v key
   pub own : IsOwn v → IsOwn w
   pub marks : IsMarked d d.shape.rows to v → IsMarked d d.shape.rows to w
+  pub reach : KeepsReach v w
 
 -- the key of the next chunk, behind so many
 abbrev pub next_key : Described → List ChunkPlace → Key
 next_key d chunks = touched_key d d.shape.rows (length chunks)
 
--- Some first chunks have their places, and the index names them there: v and s are index and places before.
+-- ranges were taken one after another
+abbrev pub TakesEach : Space → List Extent → Space → Type 0
+TakesEach s rs t = Chain (λ (u : Space) (r : Extent) (n : Space). Took u n r) s rs t
+
+-- the same places, but for the room that they have
+pub record IsCopy (s t : Space) : Type 0 where
+  pub end : t.end ≡ s.end
+  pub free : t.free ≡ s.free
+  pub retired : t.retired ≡ s.retired
+  pub limit : t.limit ≡ s.limit
+
+-- Some first chunks have their places, the index names them there, and readers look for them: v and s are index and places before.
 pub record IsPlacing (d : Described) (to : ℕ) (v : IndexView) (s : Space) (chunks : List ChunkPlace) (added : List Key) (w : IndexView) (t : Space) : Type 0 where
   pub partly : IsPartly d to v added w
   pub placed : (k : ℕ) (p : ChunkPlace) → slice_get chunks k ≡ Some p → IsPlaced d (address_in v) (address_in w) d.shape.rows k p
@@ -71,6 +84,12 @@ pub record IsPlacing (d : Described) (to : ℕ) (v : IndexView) (s : Space) (chu
   pub taken : Taken s (new_chunks d (address_in v) d.shape.rows 0 chunks) t
   pub raised : IsRaised s t (length chunks * chunk_bytes d)
   pub inside : (k : ℕ) (p : ChunkPlace) → slice_get chunks k ≡ Some p → p.address + chunk_len d ≤ t.end
+  pub reached : (k : ℕ) (p : ChunkPlace) → slice_get chunks k ≡ Some p → IsReached w (touched_key d d.shape.rows k)
+  -- by nothing but places that were taken
+  pub first : Space
+  pub copied : IsCopy s first
+  pub ranges : List Extent
+  pub each : TakesEach first ranges t
 
 -- ---- A file that has no place
 
@@ -122,9 +141,12 @@ pub record AllPlaced (d : Described) (to : ℕ) (v : IndexView) (w : IndexView) 
 pub record PlacingLaws : Type 0 where
   -- no chunk yet
   pub none : (d : Described) (to : ℕ) (v : IndexView) (s t : Space) → IsSound v → t.end ≡ s.end → t.free ≡ s.free → t.retired ≡ s.retired → t.limit ≡ s.limit → IsPlacing d to v s [] [] v t
-  -- the next has its place already
+  -- the next has its place already, and readers look for it
   pub stored : (d : Described) (to : ℕ) (v w : IndexView) (s t : Space) (chunks : List ChunkPlace) (added : List Key) (p : ChunkPlace) → Fits d v → address_in w (next_key d chunks) ≡ p.address → p.address ≢ undefined
-      → (p.stored ≡ false → d.shape.rows ≤ (next_key d chunks).i * d.layout.chunk_rows) → AreInside d s.end v → IsPlacing d to v s chunks added w t → IsPlacing d to v s (chunks ++ p ∷ []) added w t
+      → (p.stored ≡ false → d.shape.rows ≤ (next_key d chunks).i * d.layout.chunk_rows) → IsReached w (next_key d chunks) → AreInside d s.end v → IsPlacing d to v s chunks added w t → IsPlacing d to v s (chunks ++ p ∷ []) added w t
+  -- a place is held for one of the chunks, and nothing else
+  pub holds : (d : Described) (to : ℕ) (key : Key) (v w u : IndexView) (s t : Space) (chunks : List ChunkPlace) (added : List Key) → IsTouched d d.shape.rows to key → IsHeld key w u → IsPlacing d to v s chunks added w t
+      → IsPlacing d to v s chunks added u t
   -- the next has none: a place is held for it in the index and one is taken in the file, and the index names it
   pub new : (d : Described) (to : ℕ) (v w h u : IndexView) (s t next : Space) (chunks : List ChunkPlace) (added : List Key) (p : ChunkPlace) → Fits d v → 0 < chunk_len d → length chunks < touched d d.shape.rows to
       → address_in w (next_key d chunks) ≡ undefined → p.stored ≡ false → p.address ≢ undefined → IsHeld (next_key d chunks) w h → HasSlot h (next_key d chunks) → Took t next (extent p.address (chunk_len d))
@@ -145,6 +167,17 @@ pub record PlacingLaws : Type 0 where
   pub raised : (d : Described) (to : ℕ) (v held w : IndexView) (s between t : Space) (chunks : List ChunkPlace) (added : List Key) (ms : List Move) (copies fixed : List Write) → length chunks ≡ touched d d.shape.rows to
       → IsMarked d d.shape.rows to v → IsPlacing d to v s chunks added held between → IsPlan held between ms copies fixed w t → IsRaised s t (most_of d to)
   pub full : (d : Described) (to : ℕ) (v : IndexView) (s : Space) (full : Full) → 0 < chunk_len d → 0 < touched d d.shape.rows to → IsMarked d d.shape.rows to v → IsFullPart d to v s full → FullPartBound d to s full
+
+-- What readers look for they look for after each call too, where it has an address; and they look for each chunk that gets one. They do
+-- for all chunks of an index that was made here, and for each chunk of a lower band.
+pub record ReachLaws : Type 0 where
+  pub held : (key other : Key) (v w : IndexView) → IsHeld key v w → IsReached v other → IsReached w other
+  pub set : (key other : Key) (address : ℕ) (v w : IndexView) → IsSet key address v w → IsReached v other → IsReached w other
+  pub new : (key : Key) (address : ℕ) (v w : IndexView) → IsSet key address v w → IsReached w key
+  pub unset : (key : Key) (v w : IndexView) → IsUnset key v w → KeepsReach v w
+  pub planned : (v : IndexView) (s : Space) (ms : List Move) (copies fixed : List Write) (w : IndexView) (t : Space) → IsSound v → IsPlan v s ms copies fixed w t → (key : Key) → IsReached v key → IsReached w key
+  pub own : (v : IndexView) (key : Key) → IsOwn v → address_in v key ≢ undefined → IsReached v key
+  pub lower : (v : IndexView) (key other : Key) → other.i ≤ key.i → IsReached v key → IsReached v other
 
 -- an index stays one that was made here
 pub record OwnLaws : Type 0 where

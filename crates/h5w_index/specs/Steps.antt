@@ -1,5 +1,5 @@
 -- What the calls make of an index, kind by kind.
-use Rattle.std.specs.Prelude.{◌≡◌, ◌⊎◌, ℕ, ◌≤◌, ◌==◌, List, length, None, Option, Some, if◌then◌else◌}
+use Rattle.std.specs.Prelude.{◌≡◌, ◌⊎◌, ℕ, ◌+◌, ◌≤◌, ◌==◌, max, List, length, None, Option, Some, if◌then◌else◌}
 use Rattle.h5w_model.specs.Numbers.{undefined}
 use Rattle.h5w_model.specs.declared.cell.Key.{Key}
 use Rattle.h5w_model.specs.declared.piece.Write.{Write}
@@ -13,6 +13,7 @@ use Rattle.h5w_array_laws.specs.Parts.{holder}
 use Rattle.h5w_array_laws.specs.ArrayStores.{IsArray, IsNumbered}
 use Rattle.h5w_array_laws.specs.ArrayPlans.{IsArrayPlan}
 use Rattle.h5w_ea_index.specs.Steps as slots
+use Rattle.h5w_ea_index.specs.Reach.{KeepsReach, max_index_set}
 use Rattle.h5w_bt.specs.declared.records.Record.{Record}
 use Rattle.h5w_bt_index.specs.Nodes.{address_in}
 use Rattle.h5w_bt_index.specs.Index as trees
@@ -28,9 +29,10 @@ found a = if a == undefined then None else Some a
 
 -- ---- A place is held for a key
 
--- The blocks on the way to a slot are there; map and ranges stay.
+-- The blocks on the way to a slot are there; map and ranges stay. The max index set is no less.
 pub record ArrayHeld (i : ℕ) (v w : Store) : Type 0 where
   pub held : slots.IsHeld v w
+  pub reach : max_index_set v ≤ max_index_set w
   pub way : slots.Touches (slots.OnWay (holder i)) v w
   pub array : IsArray w
   pub numbered : IsNumbered v → IsNumbered w
@@ -58,14 +60,17 @@ IsDeep (a_tree p v) key = trees.IsDeep v key
 
 -- ---- A chunk that has its place gets an address, or has none again
 
+-- the max index set is above it
 pub record ArraySet (i address : ℕ) (v w : Store) : Type 0 where
   pub set : slots.IsSet i address v w
+  pub reach : max_index_set w ≡ max (max_index_set v) (i + 1)
   pub way : slots.Touches (slots.IsSlotOrHeader i) v w
   pub array : IsArray w
   pub numbered : IsNumbered v → IsNumbered w
 
 pub record ArrayUnset (i : ℕ) (v w : Store) : Type 0 where
   pub unset : slots.IsUnset i v w
+  pub reach : KeepsReach v w
   pub way : slots.Touches (slots.IsSlotOrHeader i) v w
   pub array : IsArray w
   pub numbered : IsNumbered v → IsNumbered w

@@ -12,6 +12,7 @@ use Rattle.h5w_cache.specs.StoreLaws.{Standing}
 use Rattle.h5w_array_laws.specs.Parts.{holder, number_of}
 use Rattle.h5w_array_laws.specs.ArrayStores as arrays
 use Rattle.h5w_array_laws.specs.ArrayImages.{StandsArray}
+use Rattle.h5w_ea_index.specs.Reach as reach
 use Rattle.h5w_bt_index.specs.Marks.{clean_of}
 use Rattle.h5w_bt_index.specs.Index.{Index, IsFilled, IsIndex, IsThere, address_of}
 use Rattle.h5w_tree_index_laws.specs.TreeImages as trees
@@ -47,6 +48,16 @@ is_key (a_tree place v) key other = key_equal key other
 abbrev pub TakesKey : IndexView → Key → Type 0
 TakesKey (an_array v) key = key.i < 131060
 TakesKey (a_tree place v) key = Unit {0}
+
+-- readers look for the chunk's address: HDF5's library takes each chunk from the max index set of an array's header on for one without an
+-- address
+abbrev pub IsReached : IndexView → Key → Type 0
+IsReached (an_array v) key = reach.IsReached key.i v
+IsReached (a_tree place v) key = Unit {0}
+
+-- each chunk that was reached and has an address is reached
+abbrev pub KeepsReach : IndexView → IndexView → Type 0
+KeepsReach v w = (key : Key) → address_in w key ≢ undefined → IsReached v key → IsReached w key
 
 -- a place is held for the key: the block of its slot is changed, or a record is there
 abbrev pub HasSlot : IndexView → Key → Type 0

@@ -7,7 +7,7 @@ ghost use Rattle.h5w_array_laws.specs.ArrayImages.{StartsArray};
 ghost use Rattle.h5w_bt_index.specs.Held as trees;
 ghost use Rattle.h5w_bt_index.specs.Index.{IsFilled, IsIndex, KeepsShares, no_tree};
 ghost use Rattle.h5w_index.specs.Held.{view_of};
-ghost use Rattle.h5w_index.specs.Views.{HasSlot, IsClean, IsSound, TakesKey, a_tree, address_in, an_array};
+ghost use Rattle.h5w_index.specs.Views.{HasSlot, IsClean, IsReached, IsSound, TakesKey, a_tree, address_in, an_array};
 ghost use Rattle.h5w_index.specs.Steps.{HasNoPlace, IsBegun, IsDeep, IsHeld, IsPlan, IsSet, IsUnset, copy_pieces, found, in_place_pieces, moves_of, next_of};
 
 use crate::begun::Begun;
@@ -111,6 +111,37 @@ impl Index {
         match self {
             Index::Array(index) => index.unset(key.i),
             Index::Tree(index) => index.unset(key),
+        }
+    }
+
+    /// Whether readers look for the address of a chunk.
+    #[tactic(auto, using(h5w_bt_index::proofs::Laws::index_shaped))]
+    pub fn is_reached(&self, key: Key) -> bool
+        ensures exact { IsTrue result ↔ IsReached (view_of self.now) key }
+    {
+        match self {
+            Index::Array(index) => index.is_reached(key.i),
+            Index::Tree(_) => true,
+        }
+    }
+
+    /// Readers look from now on for a chunk that has an address. Where they did before nothing changes; elsewhere an array's header and
+    /// index block are changed.
+    ///
+    /// It takes no memory, and cannot fail.
+    #[tactic(auto, using(h5w_bt_index::proofs::Laws::index_shaped))]
+    pub fn reach(&mut self, key: Key)
+        requires sound { IsSound (view_of self.old) }
+        requires key { TakesKey (view_of self.old) key }
+        requires defined { address_in (view_of self.old) key ≢ undefined }
+        ensures sound { IsSound (view_of self.new) }
+        ensures held { IsHeld key (view_of self.old) (view_of self.new) }
+        ensures reached { IsReached (view_of self.new) key }
+        ensures kept { IsReached (view_of self.old) key → view_of self.new ≡ view_of self.old }
+    {
+        match self {
+            Index::Array(index) => index.reach(key.i),
+            Index::Tree(_) => {}
         }
     }
 

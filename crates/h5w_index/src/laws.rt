@@ -4,7 +4,7 @@
 ghost use Rattle.h5w_index.specs.Flushes.{IndexBegins, IndexIsFlush, IndexRestsThen, PlanTells, RestsForgotten, RestsFreed, RestsMissed};
 ghost use Rattle.h5w_index.specs.Depths.{DepthLaws};
 ghost use Rattle.h5w_index.specs.Marks.{FullBounds, MarkLaws, PlanBounds};
-ghost use Rattle.h5w_index.specs.Placing.{IndexPart, OwnLaws, PlacingLaws, RestsHeld};
+ghost use Rattle.h5w_index.specs.Placing.{IndexPart, OwnLaws, PlacingLaws, ReachLaws, RestsHeld};
 ghost use Rattle.h5w_index.specs.Told.{HeldTells, LikeLaws, SameRanges, SetTells, UnsetTells};
 
 /// Where a place is held, the map and all that stands stay.
@@ -71,6 +71,11 @@ pub fn rests_held()
 /// An index that was made here stays such a one.
 pub fn own_laws()
     ensures { OwnLaws }
+{}
+
+/// Readers look for each chunk that gets an address, and go on to do so.
+pub fn reach_laws()
+    ensures { ReachLaws }
 {}
 
 /// What each plan leaves.

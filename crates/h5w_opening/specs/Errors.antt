@@ -3,6 +3,7 @@ use Rattle.std.specs.Prelude.{Option, Some, None}
 use Rattle.h5w_image.specs.declared.fault.ImageError.{ImageError}
 use Rattle.h5w_image.specs.declared.fault.ImageError.TheVariants as image_errors
 use Rattle.h5w_found.specs.Ran.{Errors}
+use Rattle.h5w_found.specs.Errors.{IsOfBytes}
 use Rattle.h5w_found.specs.declared.error.FindError.{FindError}
 use Rattle.h5w_found.specs.declared.error.FindError.TheVariants as find_errors
 use Rattle.h5w_opening.specs.declared.error.OpenError.{OpenError}
@@ -30,6 +31,11 @@ refusal_of Layout = Some Layout
 refusal_of (ChunkBytes bytes limit) = Some (ChunkBytes bytes limit)
 refusal_of NoColumns = Some NoColumns
 refusal_of Index = Some Index
+
+-- A refusal of reading is one of the file's bytes: an open tells flags by Flags, compares no two looks, and has seen no rows before.
+abbrev pub IsOpenKind : OpenError → Type 0
+IsOpenKind (Read e) = IsOfBytes e
+IsOpenKind e = Unit {0}
 
 abbrev pub open_errors : Errors OpenError OpenError
 open_errors = record { refusal = refusal_of; failed = Failed }

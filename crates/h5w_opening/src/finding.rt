@@ -1,9 +1,9 @@
 //! A file that is opened for appending, up to the index of its chunks.
-ghost use Rattle.std.specs.Prelude.{◌≡◌, MatchOption, IfOk, Ok, Err, false};
+ghost use Rattle.std.specs.Prelude.{◌≡◌, MatchOption, IfErr, IfOk, Ok, Err, false};
 ghost use Rattle.h5w_model.specs.Programs.{eval};
 ghost use Rattle.h5w_found.specs.Ran.{Ran, Told, seen};
 ghost use Rattle.h5w_found.specs.Headers.{founds, ranges_of};
-ghost use Rattle.h5w_opening.specs.Errors.{open_errors};
+ghost use Rattle.h5w_opening.specs.Errors.{IsOpenKind, open_errors};
 ghost use Rattle.h5w_opening.specs.Openings.{IsFound, IsSaid, chunk_0_len, closed_super, dataset_found, in_chunk_0, is_open, known, looked_for, place_found, refused_dataset, super_found};
 ghost use Rattle.h5w_opening.specs.Views.{header_fields_of, opened_of};
 
@@ -52,6 +52,7 @@ fn is_open(flags: u8) -> bool
 /// The superblock, where nobody writes the file and it has all its bytes.
 fn closed(s: Super, size: u64) -> Result<Super, OpenError>
     ensures told { Told open_errors (closed_super size s) result }
+    ensures kinds { IfErr result IsOpenKind }
     ensures closed { IfOk result (λ t. is_open t.flags ≡ false) }
 {
     if is_open(s.flags) {
@@ -66,6 +67,7 @@ fn closed(s: Super, size: u64) -> Result<Super, OpenError>
 /// The superblock of a file of `size` bytes.
 fn start<I: PieceRead>(alloc: Global, image: &mut I, size: u64) -> Result<Super, OpenError>
     ensures ran { Ran open_errors (I.view image.old) (I.view image.new) (super_found size) result }
+    ensures kinds { IfErr result IsOpenKind }
     ensures closed { IfOk result (λ t. is_open t.flags ≡ false) }
 {
     let s = superblock(alloc, image)?;
@@ -79,7 +81,8 @@ fn header_place<I: PieceRead>(
     root: u64,
     name: &[u8],
 ) -> Result<u64, OpenError>
-    ensures { Ran open_errors (I.view image.old) (I.view image.new) (place_found name.now root) result }
+    ensures ran { Ran open_errors (I.view image.old) (I.view image.new) (place_found name.now root) result }
+    ensures kinds { IfErr result IsOpenKind }
 {
     let header = root_header(alloc, image, true, root)?;
     let place = place_of(alloc, header.messages, name)?;
@@ -110,6 +113,7 @@ fn chunk_0_len(extents: &[Extent]) -> u64
 /// What these messages say of a dataset whose header has `len` bytes in chunk 0.
 fn known(found: &[FoundMessage], len: u64) -> Result<DatasetHeader, OpenError>
     ensures told { Told open_errors (known len (founds found.now)) (seen header_fields_of result) }
+    ensures kinds { IfErr result IsOpenKind }
     ensures len { IfOk result (λ h. h.len ≡ len) }
 {
     let d = match describe(found) {
@@ -134,6 +138,7 @@ fn dataset_at<I: PieceRead>(
     place: u64,
 ) -> Result<DatasetHeader, OpenError>
     ensures ran { Ran open_errors (I.view image.old) (I.view image.new) (dataset_found place) (seen header_fields_of result) }
+    ensures kinds { IfErr result IsOpenKind }
     ensures said { IfOk result (λ h. IsSaid (header_fields_of h)) }
 {
     let header = dataset_header(alloc, image, true, place)?;
@@ -151,6 +156,8 @@ pub fn find<I: PieceRead>(
     // Where the image tells its bytes and nobody else writes it: Ok exactly where they have this, and else the first refusal, unless the
     // image failed, which its count of faults shows, or memory ran out.
     ensures ran { Ran open_errors (I.view image.old) (I.view image.new) (λ img. eval img (looked_for size name.now)) (seen opened_of result) }
+    // On every image a Read is none of NotSwmr, Again, Shrunk and OutOfMemory.
+    ensures kinds { IfErr result IsOpenKind }
     // On every image some messages say what was found.
     ensures found { IfOk result (λ o. IsFound (opened_of o)) }
 {

@@ -90,6 +90,7 @@ pub record Carried (v : Session) (to : ℕ) (t : Space) (w : IndexView) (ws : Li
   pub end_is : end ≡ t.end
   pub end_small : end < 2 ^ 64
   pub ended : AreEnded v.root end supers
+  pub unraised : end ≡ v.root.end → supers ≡ []
   pub root : r ≡ record (v.root) { end = end }
   pub header : b ≡ with_rows_bytes v.header to None
   pub piece : List ℕ
@@ -128,6 +129,7 @@ module _ (v : Session) (to : ℕ) (t : Space) (w : IndexView) (ws : List Write) 
         plan = x.plan;
         supers = x.supers;
         ended = subst (λ (n : ℕ). AreEnded v.root n x.supers) x.end_is x.ended;
+        unraised = subst (λ (n : ℕ). n ≡ v.root.end → x.supers ≡ []) x.end_is x.unraised;
       }
 
   carried_small : t.end < 2 ^ 64

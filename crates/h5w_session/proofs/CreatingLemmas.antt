@@ -283,7 +283,7 @@ keep_stands s log st = record {
       appended = r.appended;
       committed = r.committed;
       columns = r.columns;
-      past = past_same s (record s { keeps = true }) st.left log r.after (record { name = refl; place = refl; dataset = refl; address = λ named. refl; limit = refl; own = λ o. o }) refl r.past;
+      past = past_same s (record s { keeps = true }) st.left log r.after (record { name = refl; place = refl; dataset = refl; address = λ named. refl; limit = refl; own = λ o. o; reach = λ first img h. h }) refl r.past;
     })
   ];
   prefixed = st.prefixed;

@@ -119,7 +119,7 @@ refused_running old new log b r = record {
   appended = r.appended;
   committed = r.committed;
   columns = r.columns;
-  past = past_same old (record old { index = new.index }) [] log r.after (record { name = refl; place = refl; dataset = refl; address = λ named. refl; limit = refl; own = b.held.own }) refl r.past;
+  past = past_same old (record old { index = new.index }) [] log r.after (record { name = refl; place = refl; dataset = refl; address = λ named. refl; limit = refl; own = b.held.own; reach = λ first img reached more key low there. b.held.reach key there (reached more key low (λ e. there ((placing_laws.kept old.dataset (rows_of old) old.index new.index b.held).map key ∙ e))) }) refl r.past;
 }
 
 pub refused_stands : (old new : Session) (log : Log) → SameBut old new → old.stopped ≡ false → old.pending ≡ [] → Stands old log → Stands new log

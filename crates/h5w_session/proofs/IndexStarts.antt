@@ -15,14 +15,13 @@ use Rattle.h5w_cache.specs.Stores.{Store}
 use Rattle.h5w_array_laws.specs.Parts.{index_block}
 use Rattle.h5w_array_laws.specs.ArrayStores.{IsCreated, header_place, place_at_part}
 use Rattle.h5w_array_laws.proofs.CreatedLemmas.{created_starts}
-use Rattle.h5w_flush_laws.specs.Spaces.{Taken}
 use Rattle.h5w_bt_index.specs.Index.{no_tree}
 use Rattle.h5w_index.specs.Views.{IndexView, an_array, a_tree, IsSound, kind_of}
 use Rattle.h5w_index.specs.Depths.{AreWithin}
 use Rattle.h5w_index.specs.Marks.{IsRaised}
 use Rattle.h5w_index.proofs.DepthLemmas.{depth_laws}
 use Rattle.h5w_index.proofs.RaisedLemmas.{raised_one}
-use Rattle.h5w_session.specs.Starts.{IsStartedAt}
+use Rattle.h5w_session.specs.Starts.{IsStartedAt, TookTwo}
 use Rattle.h5w_session.specs.declared.refusal.FlushError.{FlushError}
 use Rattle.h5w_session.specs.declared.refusal.FlushError.TheVariants as flushes
 
@@ -55,7 +54,7 @@ pub end_small : (s t : Space) (most : ℕ) → IsRaised s t most → s.end < 2 ^
 end_small s t most raised small limit = omega (arith, raised.fits, raised.limit, small, limit)
 
 -- an array
-pub array_begun : (s t : Space) (at block : ℕ) (x : Store) (v : IndexView) → v ≡ an_array x → IsCreated at block x → Taken s (block_at at eahd_len ∷ block_at block eaib_len ∷ []) t → IsRaised s t (eahd_len + eaib_len)
+pub array_begun : (s t : Space) (at block : ℕ) (x : Store) (v : IndexView) → v ≡ an_array x → IsCreated at block x → TookTwo s at block t → IsRaised s t (eahd_len + eaib_len)
     → at + eahd_len ≤ t.end → block + eaib_len ≤ t.end → t.end < 2 ^ 64 → IsBegunIndex Array s at t v
 array_begun s t at block x v is c two raised head body small =
     let starts = created_starts at block x c (omega (arith, head, small)) (omega (arith, body, small)) in

@@ -1,14 +1,14 @@
 -- What a session's relation to its log gives.
-use Rattle.std.proofs.Common.{◌≡◌, ◌⊎◌, ℕ, suc, ◌-◌, ◌*◌, ◌/◌, ◌^◌, ◌<◌, ◌≤◌, false, nat_lt, List, [], ◌∷◌, length, take, Option, Ok, Err, refl, ap, sym, ◌∙◌, subst, inl, inr, arith}
+use Rattle.std.proofs.Common.{◌≡◌, ◌⊎◌, ℕ, suc, ◌-◌, ◌*◌, ◌/◌, ◌^◌, ◌<◌, ◌≤◌, false, nat_lt, max, List, [], ◌∷◌, length, take, Option, Ok, Err, refl, ap, sym, ◌∙◌, subst, inl, inr, arith}
 use Rattle.std.proofs.lemmas.Bool.{cases_lt, cond-false, le-ltb, lt-ltb, ltb-false}
 use Rattle.std.specs.Prelude.{IsSome}
-use Rattle.h5w_model.specs.Arrays.{numbers_in}
+use Rattle.h5w_model.specs.Arrays.{eahd_len, numbers_in}
 use Rattle.h5w_model.specs.Images.{At}
 use Rattle.h5w_model.specs.Numbers.{range}
 use Rattle.h5w_model.specs.Programs.{Visit, eval, ret, and_then, visits}
-use Rattle.h5w_model.specs.Logs.{Log, Happening, div_up, flushed, hist, rows_in, shown}
+use Rattle.h5w_model.specs.Logs.{Log, Happening, flushed, hist, rows_in, shown}
 use Rattle.h5w_model.specs.Datasets.{Described, dataset, dataset_place, root_header, root_view}
-use Rattle.h5w_model.specs.Tables.{Limits, chunks_across, Reading, Shows, format_limits, limit_of, needed, needed_keys, needed_table, table_of}
+use Rattle.h5w_model.specs.Tables.{Limits, Reading, Shows, format_limits, limit_of, needed, needed_keys, needed_table, table_of}
 use Rattle.h5w_model.specs.Prefixed.{EachReads, Held, IsPosition, Keeps, Prefixed, ReadsNow, continuation_blocks, image_at, root_address}
 use Rattle.h5w_model.specs.declared.cell.IndexKind.{IndexKind}
 use Rattle.h5w_model.specs.declared.piece.Write.{Write}
@@ -21,32 +21,24 @@ use Rattle.h5w_laws.proofs.ValidLemmas.{dataset_ok, place_ok}
 use Rattle.h5w_steps.specs.Moments.{Moment, Represents, reading_of}
 use Rattle.h5w_steps.proofs.FoundLemmas.{moment_shows, opens, shown_is}
 use Rattle.h5w_steps.proofs.GoesLemmas.{reads_now}
-use Rattle.h5w_steps.proofs.MomentLemmas.{few}
+use Rattle.h5w_steps.proofs.MomentLemmas.{few, super_parts}
 use Rattle.h5w_steps.specs.Logs.{image_now}
-use Rattle.h5w_chunks.specs.Shares.{touched}
-use Rattle.h5w_cache.specs.Blocks.{BlockView}
-use Rattle.h5w_cache.specs.Plans.{bytes_of}
-use Rattle.h5w_cache.specs.StoreLaws.{AreThere}
-use Rattle.h5w_cache.specs.Stores.{Store, times}
-use Rattle.h5w_array_laws.specs.Parts.{IsPart, Part, header, number_of}
-use Rattle.h5w_array_laws.specs.ArrayStores.{IsArray, IsBlock, IsWhole, block_at_part, bytes_at_part, header_place, place_at_part}
-use Rattle.h5w_array_laws.proofs.KeptLemmas.{is_some_of, of_some}
-use Rattle.h5w_flush_laws.specs.Knowledge.{IsMap}
-use Rattle.h5w_index.specs.Views.{IndexView, an_array, address_in}
-use Rattle.h5w_index.specs.Flushes.{Rests}
-use Rattle.h5w_index.specs.Marks.{IsMarked}
+use Rattle.h5w_cache.specs.Stores.{Store}
+use Rattle.h5w_index.specs.Views.{an_array}
 use Rattle.h5w_index.specs.Placing.{IsOwn, IsOwnArray}
 use Rattle.h5w_creation_laws.specs.CreatedFiles.{CreatedFile, IsCreatable, created_blocks, created_moment, described_of, index_place, root_place}
 use Rattle.h5w_creation_laws.proofs.CreatedLaws.{created_sizes}
 use Rattle.h5w_session.specs.Laws.{IsDatasetOf, RoomStays, SaysNumbers, ShownLaws, StandingLaws}
+use Rattle.h5w_session.specs.Loads.{end_in, first_end_of}
 use Rattle.h5w_session.specs.Past.{HasCreated, HasOpened, IsNew, Past, most_of}
-use Rattle.h5w_session.specs.Sessions.{Session, chunk_limit, rows_of, with_rows, IsNamed}
-use Rattle.h5w_session.specs.Stands.{Creating, Running, Stands}
+use Rattle.h5w_session.specs.Sessions.{Session, chunk_limit, with_rows, IsNamed}
+use Rattle.h5w_session.specs.Stands.{Creating, Stands}
 use Rattle.h5w_session.proofs.BeginLemmas.{beginning, new_image, since_first}
 use Rattle.h5w_session.proofs.CreatingLemmas.{committed_told, own_of, rows_told, shown_so_far, some_length}
-use Rattle.h5w_session.proofs.PastLemmas.{ends_front, ends_take, image_ends, new_end, new_named, some_blocks}
+use Rattle.h5w_session.proofs.PastLemmas.{ends_front, ends_later, ends_take, image_ends, new_end, new_named, some_blocks}
 use Rattle.h5w_session.proofs.StandLemmas.{freed_keeps, goes_rows, left_running, resting}
 use Rattle.h5w_session.proofs.IndexLemmas.{kept_named}
+use Rattle.h5w_session.proofs.RestLemmas.{array_rests, at_rest}
 
 -- ---- How a log began
 
@@ -90,15 +82,6 @@ stands_prefixed s log st = each_gives_prefixed s.name log st.prefixed
 stands_held : (s : Session) (log : Log) → Stands s log → Held s.name log
 stands_held s log st = still_gives_held s.name log (stands_prefixed s log st) st.still
 
--- where nothing was dropped and nothing is pending
-at_rest : (s : Session) (log : Log) → (st : Stands s log) → s.stopped ≡ false → s.pending ≡ [] → Running s [] log
-at_rest s log st running idle =
-    let none : st.left ≡ [] = left_running s st.left running st.dropped ∙ idle in
-    elim st.phase [
-      | inl c ↦ absurd (c.1.some none)
-      | inr r ↦ subst (λ (ws : List Write). Running s ws log) none r
-    ]
-
 reads_all : (s : Session) (log : Log) → Stands s log → s.stopped ≡ false → s.pending ≡ [] → ReadsNow s.name log
 reads_all s log st running idle =
     let r = at_rest s log st running idle in
@@ -113,22 +96,6 @@ all_planned s log st running idle =
 last_reads : (name : List ℕ) (log : Log) (es : List Happening) → EachReads name log es → log.first ≤ shown es → ReadsNow name (record log { events = es })
 last_reads name log [] each begun = each begun
 last_reads name log (e ∷ es) each begun = each.0 begun
-
-pub standing_laws : StandingLaws
-standing_laws = record {
-  begun = λ s log st. (started s log st).begun;
-  columns = λ s log st. (started s log st).columns;
-  some_columns = λ s log st. (started s log st).some;
-  flushed_rows = λ s log st. sym (committed_told s log st);
-  appended_rows = λ s log st. sym (rows_told s log (let some = (started s log st).some in omega (arith, some)) st);
-  prefixed = stands_prefixed;
-  still = λ s log st. st.still;
-  held = stands_held;
-  reads = λ s log st running idle. (reads_all s log st running idle).reads;
-  planned_rows = all_planned;
-  stopped = λ s log st stopped begun. last_reads s.name log log.events st.prefixed (omega (arith, begun, length_hist log.events));
-  limited = λ s log st. (started s log st).limit;
-}
 
 -- ---- What an image shows at a position
 
@@ -147,6 +114,67 @@ past_at s log p st at =
       | inr r ↦ (r.after, r.past)
     ]
 
+-- the file at a position
+moment_at : (s : Session) (log : Log) (p : ℕ) → Stands s log → IsPosition log p → (m : Moment) × Represents (image_at log p) s.name m
+moment_at s log p st at =
+    let here = stands_prefixed s log st p at in
+    let file = opens (image_at log p) s.name _ log.columns _ here.summary here.valid here.reads in
+    (file.0, file.1)
+
+few_needed : (s : Session) (log : Log) (p : ℕ) (r : Reading) → Stands s log → IsPosition log p → Shows format_limits (image_at log p) s.name r → needed r.dataset ≤ limit_of format_limits r.dataset.layout.index
+few_needed s log p r st at shows =
+    let file = moment_at s log p st at in
+    let m = file.0 in
+    let top = limit_of format_limits m.dataset.layout.index in
+    let inside : needed m.dataset ≤ top = ltb-false top (needed m.dataset) (few (image_at log p) s.name m file.1) in
+    subst (λ (x : Reading). needed x.dataset ≤ limit_of format_limits x.dataset.layout.index) (sym (shown_is (image_at log p) s.name m r file.1 shows)) inside
+
+-- the file that was opened ends within its bytes
+opened_end : (s : Session) (log : Log) → HasOpened s log → first_end_of log ≤ length log.start
+opened_end s log b =
+    let file = opens log.start s.name b.rows log.columns log.values b.summary b.valid b.reads in
+    let parts = super_parts (length log.start) (range log.start 0 48) file.0.super file.1.super in
+    let end : first_end_of log ≡ file.0.super.end = ap end_in parts.read in
+    omega (arith, parts.inside, end)
+
+-- the file that the log began with ends within the limit, or within its bytes
+first_within : (s : Session) (left : List Write) (log : Log) (m : Moment) → Past s left log m → first_end_of log ≤ max s.places.limit (length log.start)
+first_within s left log m past =
+    elim past.begun [
+      | inl b ↦ let end = new_end log (record { file = b.file; is = b.is; log_is = b.log_is }) in omega (arith, end, past.limit_low)
+      | inr b ↦ omega (arith, opened_end s log b)
+    ]
+
+image_within : (s : Session) (log : Log) (p : ℕ) → Stands s log → IsPosition log p → length (image_at log p) ≤ max s.places.limit (length log.start)
+image_within s log p st at =
+    let file = past_at s log p st at in
+    let past = file.1 in
+    let shown = take p (hist log.events) in
+    let most = most_of s log in
+    let end = max s.places.limit (length log.start) in
+    let less : most ≤ end = omega (arith, first_within s st.left log file.0 past) in
+    image_ends end log.start shown (omega arith) (ends_later most end shown less (ends_take most p (hist log.events) (ends_front most (hist log.events) st.left past.ends)))
+
+pub standing_laws : StandingLaws
+standing_laws = record {
+  begun = λ s log st. (started s log st).begun;
+  columns = λ s log st. (started s log st).columns;
+  some_columns = λ s log st. (started s log st).some;
+  flushed_rows = λ s log st. sym (committed_told s log st);
+  appended_rows = λ s log st. sym (rows_told s log (let some = (started s log st).some in omega (arith, some)) st);
+  prefixed = stands_prefixed;
+  still = λ s log st. st.still;
+  held = stands_held;
+  reads = λ s log st running idle. (reads_all s log st running idle).reads;
+  planned_rows = all_planned;
+  stopped = λ s log st stopped begun. last_reads s.name log log.events st.prefixed (omega (arith, begun, length_hist log.events));
+  limited = λ s log st. (started s log st).limit;
+  fits = image_within;
+  within = few_needed;
+}
+
+-- ---- In a file that the session created
+
 -- a log that is new began with the pieces of a new file
 is_created : (s : Session) (log : Log) → IsNew log → HasCreated s log ⊎ HasOpened s log → HasCreated s log
 is_created s log new (inl b) = b
@@ -158,13 +186,6 @@ begun_at s log p st new at = is_created s log new (past_at s log p st at).1.begu
 kept_at : (s : Session) (log : Log) (p : ℕ) (r : Reading) → (st : Stands s log) → (new : IsNew log) → (at : IsPosition log p) → Shows format_limits (image_at log p) s.name r
     → Keeps (new_image (begun_at s log p st new at).file) (reading_of (created_moment (begun_at s log p st new at).file)) (image_at log p) r
 kept_at s log p r st new at shows = since_first s log p r (begun_at s log p st new at) (stands_held s log st) at shows
-
--- the file at a position
-moment_at : (s : Session) (log : Log) (p : ℕ) → Stands s log → IsPosition log p → (m : Moment) × Represents (image_at log p) s.name m
-moment_at s log p st at =
-    let here = stands_prefixed s log st p at in
-    let file = opens (image_at log p) s.name _ log.columns _ here.summary here.valid here.reads in
-    (file.0, file.1)
 
 dataset_is : (s : Session) (log : Log) (p : ℕ) (r : Reading) → Stands s log → IsNew log → IsPosition log p → Shows format_limits (image_at log p) s.name r → IsDatasetOf s r
 dataset_is s log p r st new at shows =
@@ -200,14 +221,6 @@ moment_within limits img name m few r =
     (place_ok img name m.super (m.place, m.root) r.super r.root)
     (and_then_from img (dataset m.place) (λ d. and_then (needed_table limits d) (λ t. ret (Ok (record { place = m.place; dataset = d; table = t })))) d shown header.0
     (and_then_from img (needed_table limits d) (λ t. ret (Ok (record { place = m.place; dataset = d; table = t }))) m.table shown table refl))
-
-few_needed : (s : Session) (log : Log) (p : ℕ) (r : Reading) → Stands s log → IsPosition log p → Shows format_limits (image_at log p) s.name r → needed r.dataset ≤ limit_of format_limits r.dataset.layout.index
-few_needed s log p r st at shows =
-    let file = moment_at s log p st at in
-    let m = file.0 in
-    let top = limit_of format_limits m.dataset.layout.index in
-    let inside : needed m.dataset ≤ top = ltb-false top (needed m.dataset) (few (image_at log p) s.name m file.1) in
-    subst (λ (x : Reading). needed x.dataset ≤ limit_of format_limits x.dataset.layout.index) (sym (shown_is (image_at log p) s.name m r file.1 shows)) inside
 
 -- by the session's own index
 few_of : (s : Session) (log : Log) (p : ℕ) (r : Reading) → Stands s log → IsNew log → IsPosition log p → Shows format_limits (image_at log p) s.name r → needed r.dataset ≤ chunk_limit s
@@ -250,11 +263,8 @@ header_alone s log p r st new at shows =
 
 image_fits : (s : Session) (log : Log) (p : ℕ) → Stands s log → IsNew log → IsPosition log p → length (image_at log p) ≤ s.places.limit
 image_fits s log p st new at =
-    let past = (past_at s log p st at).1 in
     let start : log.start ≡ [] = ap (λ (l : Log). l.start) new.log_is in
-    let most = most_of s log in
-    let ends = image_ends most log.start (take p (hist log.events)) (omega (arith, ap length start)) (ends_take most p (hist log.events) (ends_front most (hist log.events) st.left past.ends)) in
-    omega (arith, ends, new_end log new, past.limit_low)
+    omega (arith, image_within s log p st at, ap length start)
 
 -- ---- The index
 
@@ -265,23 +275,6 @@ own_index s log st new =
       | inl c ↦ own_of c.0 s.index c.1.is c.1.index
       | inr r ↦ r.past.own new
     ]
-
--- where no rows wait no block of an array changed
-none_changed : (d : Described) (rows : ℕ) (v : Store) (n : ℕ) → IsMarked d rows rows (an_array v) → times n v.changed ≡ 0
-none_changed d rows v n marks =
-    elim (cases_lt 0 (times n v.changed)) [
-      | inl some ↦
-          let way = marks n (lt-ltb 0 (times n v.changed) some) in
-          let none : touched d rows rows ≡ 0 = cond-false (nat_lt rows rows) ((div_up rows d.layout.chunk_rows - rows / d.layout.chunk_rows) * chunks_across d) 0 (le-ltb rows rows (omega arith)) in
-          absurd (omega (arith, way.1.inside, none))
-      | inr few ↦ omega arith
-    ]
-
-kept_there : (v : Store) (img : List ℕ) (k : Part) → IsArray v → AreThere v img → times (number_of k) v.changed ≡ 0 → IsPart k → IsSome (block_at_part v k) → At img (place_at_part v k) (bytes_at_part v k)
-kept_there v img k is there clean part some =
-    let b = is_some_of (block_at_part v k) some in
-    let whole : IsWhole v k b.0 = of_some (IsWhole v k) (block_at_part v k) b.0 b.1 (is.whole k part (ap (nat_lt 0) clean)) in
-    there (number_of k) (record { kept = some; placed = whole.placed }) clean
 
 named_index : (s : Session) (log : Log) → Stands s log → IsNew log → IsNamed s.dataset
 named_index s log st new none = elim st.phase [
@@ -294,27 +287,15 @@ named_index s log st new none = elim st.phase [
 says_numbers : (s : Session) (log : Log) → Stands s log → IsNew log → s.stopped ≡ false → s.pending ≡ [] → s.waits ≡ 0 → (v : Store) → s.index ≡ an_array v → SaysNumbers s v (image_now log)
 says_numbers s log st new running idle none v e =
     let r = at_rest s log st running idle in
-    let img = image_now log in
     let own : IsOwnArray v = subst IsOwn e (r.past.own new) in
-    let named : IsNamed s.dataset = new_named s [] log r.after new r.past in
-    let now = kept_named img r.after r.address s.places s.index (subst IsNamed (sym r.keeps.dataset) named) r.index in
-    let of_array : Rests img r.after r.address s.places (an_array v) = subst (λ (w : IndexView). Rests img r.after r.address s.places w) e now in
-    let is : IsArray v = of_array.sound in
-    let all : rows_of s ≡ s.dataset.shape.rows = omega (arith, none) in
-    let marks : IsMarked s.dataset s.dataset.shape.rows s.dataset.shape.rows (an_array v) =
-    subst (λ (w : IndexView). IsMarked s.dataset s.dataset.shape.rows s.dataset.shape.rows w) e (subst (λ (n : ℕ). IsMarked s.dataset s.dataset.shape.rows n s.index) all r.marks) in
-    let top = is_some_of (block_at_part v header) (is.in_place header tt refl).0 in
-    let there : (k : Part) → IsPart k → IsSome (block_at_part v k) → At img (place_at_part v k) (bytes_at_part v k) =
-    λ k part some. kept_there v img k is of_array.stands.there (none_changed s.dataset s.dataset.shape.rows v (number_of k) marks) part some in
-    let len : length (bytes_at_part v header) ≡ 72 = ap (λ (o : Option BlockView). length (bytes_of o)) top.1 ∙ (of_some (IsBlock header) (block_at_part v header) top.0 top.1 (is.each header tt)).len in
+    let rest = array_rests s log r none (new_named s [] log r.after new r.past) v e in
     record {
-      address = ap (λ (d : Described). d.layout.address) (sym r.keeps.dataset) ∙ of_array.at_place;
-      map = subst (λ (d : Described). IsMap img d (λ key. address_in s.index key)) r.keeps.dataset
-          (record { blocks = r.knows.index.blocks; read = r.knows.index.read; answers = λ key named. r.knows.index.answers key named ∙ ap (λ (a : ℕ). Ok a) (now.map key) });
-      there = there;
+      address = rest.address;
+      map = rest.map;
+      there = rest.there;
       most = own.numbered.max;
       greatest = own.numbered.greatest;
-      six = ap (λ (b : List ℕ). numbers_in b 6 12) (ap (range img (header_place v)) (sym len) ∙ there header tt (is.in_place header tt refl).0) ∙ own.numbered.six;
+      six = ap (λ (at : ℕ). numbers_in (range (image_now log) at eahd_len) 6 12) (sym rest.address) ∙ rest.six ∙ own.numbered.six;
     }
 
 pub shown_laws : ShownLaws

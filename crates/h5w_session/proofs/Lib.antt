@@ -9,7 +9,9 @@ pub mod SessionStarts
 pub mod TakingLemmas
 pub mod RootLooks
 pub mod BeginLemmas
+pub mod RestLemmas
 pub mod LawLemmas
+pub mod FindingLemmas
 pub mod AloneLemmas
 pub mod RowPieces
 pub mod IndexStarts
@@ -25,6 +27,7 @@ pub mod StartingLemmas
 pub mod StartCarriedLemmas
 pub mod NextLemmas
 pub mod PieceBounds
+pub mod ReachedLemmas
 pub mod LoadLemmas
 pub mod StartLoads
 pub mod FlushCalls

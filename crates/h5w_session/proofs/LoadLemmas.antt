@@ -1,5 +1,5 @@
 -- What a flush takes, by the load of its log: its pieces, the rise of the file's end, and the place that a full file does not have.
-use Rattle.std.proofs.Common.{◌≡◌, ℕ, ◌+◌, ◌-◌, ◌*◌, ◌/◌, ◌<◌, ◌≤◌, false, nat_lt, List, [], ◌∷◌, ◌++◌, length, sym, ap, ◌∙◌, subst, arith, length-append}
+use Rattle.std.proofs.Common.{◌≡◌, ℕ, ◌+◌, ◌-◌, ◌*◌, ◌/◌, ◌<◌, ◌≤◌, false, nat_lt, List, [], ◌∷◌, ◌++◌, length, sym, ap, ◌∙◌, subst, inl, arith, length-append}
 use Rattle.std.proofs.lemmas.Bool.{cond-true, lt-ltb}
 use Rattle.std.proofs.lemmas.Nat.{mul-le}
 use Rattle.h5w_model.specs.Logs.{Log, appended, div_up, flushed, load, plans, spent, touched_chunks, and_now}
@@ -25,7 +25,7 @@ use Rattle.h5w_index.proofs.RaisedLemmas.{raised_more, raised_on}
 use Rattle.h5w_session.specs.Flushes.{ArePlanned, IsFlushed, flushed_of, header_piece, touched_by}
 use Rattle.h5w_session.specs.Loads.{NoPlace, first_end_of}
 use Rattle.h5w_session.specs.Past.{IsCounted, Past}
-use Rattle.h5w_session.specs.Sessions.{Session, AllEndBy, cutting_of, rows_of, with_rows}
+use Rattle.h5w_session.specs.Sessions.{Session, AllEndBy, AreReached, cutting_of, rows_of, with_rows}
 use Rattle.h5w_session.specs.Stands.{Running, Stands}
 use Rattle.h5w_session.proofs.FlushLemmas.{after_flush}
 use Rattle.h5w_session.proofs.FlushStands.{flush_stands, idle_running}
@@ -33,6 +33,7 @@ use Rattle.h5w_session.proofs.LawLemmas.{standing_laws}
 use Rattle.h5w_session.proofs.NextLemmas.{next_addressed}
 use Rattle.h5w_session.proofs.PastLemmas.{IsLike, past_planned}
 use Rattle.h5w_session.proofs.PieceBounds.{new_writes_few}
+use Rattle.h5w_session.proofs.ReachedLemmas.{any_reached}
 
 -- ---- Numbers
 
@@ -134,8 +135,8 @@ module _ (s : Session) (v : IndexView) (before : Space) (w : IndexView) (t : Spa
 
 -- ---- A flush into a file whose index is there
 
-like_flushed : (old new : Session) → new ≡ flushed_of old new.places new.pending new.index → new.places.limit ≡ old.places.limit → (IsOwn old.index → IsOwn new.index) → IsLike old new
-like_flushed old new e limit own =
+like_flushed : (old new : Session) → new ≡ flushed_of old new.places new.pending new.index → new.places.limit ≡ old.places.limit → (IsOwn old.index → IsOwn new.index) → AreReached new → IsLike old new
+like_flushed old new e limit own reached =
     let same : new.dataset ≡ with_rows (rows_of old) old.dataset = ap (λ (t : Session). t.dataset) e in
     record {
       name = ap (λ (t : Session). t.name) e;
@@ -144,6 +145,7 @@ like_flushed old new e limit own =
       address = λ named. ap (λ (d : Described). d.layout.address) same;
       limit = limit;
       own = own;
+      reach = λ first img before more. reached;
     }
 
 module _ (old new : Session) (log : Log) (x : IsFlushed old new) (running : old.stopped ≡ false) (idle : old.pending ≡ []) (st : Stands old log) (r : Running old [] log) where
@@ -166,7 +168,7 @@ module _ (old new : Session) (log : Log) (x : IsFlushed old new) (running : old.
   -- what it keeps of the past
   past_flushed : AllEndBy new.places.end new.pending → Past new new.pending (and_now (plans (length new.pending)) log) (after_flush old new log x r)
   past_flushed within =
-      past_planned old new (length new.pending) new.pending log r.after (after_flush old new log x r) (like_flushed old new x.session flush_raised.limit (planned_own old old.index old.places new.index new.places x.planned)) flush_raised
+      past_planned old new (length new.pending) new.pending log r.after (after_flush old new log x r) (like_flushed old new x.session flush_raised.limit (planned_own old old.index old.places new.index new.places x.planned) (any_reached old new (inl x))) flush_raised
       within (λ new_log. next_addressed old new log x r new_log) r.past
 
 -- the pieces of a flush, and what is left of the relation to the log

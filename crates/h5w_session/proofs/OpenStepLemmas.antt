@@ -1,6 +1,6 @@
 -- How the steps of an opening compose, and what each of them means for the whole.
 use Rattle.std.proofs.Common.{◌≡◌, ◌≢◌, ◌⊎◌, ℕ, ◌-◌, ◌^◌, min, Bool, true, false, cond, not, ◌&&◌, List, ◌∷◌, ◌++◌, take, Option, Some, None, Result, Ok, Err, refl, sym, ap, ◌∙◌, subst, inl, inr, arith}
-use Rattle.std.specs.Prelude.{nat_lt, option_map, ◌==◌}
+use Rattle.std.specs.Prelude.{IfErr, nat_lt, option_map, ◌==◌}
 use Rattle.std.specs.Option.{option_or}
 use Rattle.h5w_model.specs.Causes.{Rose}
 use Rattle.h5w_model.specs.Numbers.{range, undefined}
@@ -40,7 +40,7 @@ use Rattle.h5w_header_laws.specs.Files.{chunk_0}
 use Rattle.h5w_header_laws.proofs.FileLaws.{has_space, has_layout}
 use Rattle.h5w_header_laws.proofs.ImageLemmas.{header_read}
 use Rattle.h5w_space.specs.declared.Extent.{Extent}
-use Rattle.h5w_opening.specs.Errors.{open_errors, refusal_of}
+use Rattle.h5w_opening.specs.Errors.{IsOpenKind, open_errors, refusal_of}
 use Rattle.h5w_opening.specs.Openings.{Opened, chunk_0_len, looked_for, most_chunk_bytes, refused_dataset, in_chunk_0}
 use Rattle.h5w_opening.specs.Views.{opened_of}
 use Rattle.h5w_opening.specs.declared.error.OpenError.{OpenError}
@@ -70,6 +70,10 @@ as_error e = Err e
 same_error : {A B : Type 0} (e : OpenError) → as_error {A = A} e ≡ Err Failed → as_error {A = B} e ≡ Err Failed
 same_error e h = let g : e ≡ Failed = cc in ap (λ x. Err x) g
 
+-- no failed image, and where it refuses to read for its bytes
+abbrev pub IsQuiet : OpenError → Type 0
+IsQuiet e = IsOpenKind e × (e ≢ Failed)
+
 -- ---- Steps
 
 -- one step answered, and another goes on
@@ -78,6 +82,7 @@ pub step_on : {A B : Type 0} {v w x : ImageView} {P : List ℕ → A → Type 0}
 step_on {v = v} {w = w} {x = x} {P = P} {R = R} {S = S} T U a answer one two good bad = record {
   looked = looked_twice one.looked two.looked;
   cause = λ e. later v.faults w.faults x.faults one.looked.faults (two.cause e);
+  kinds = two.kinds;
   exact = λ img still. says_map answer (R img) (T img) (S img) (U img) (good img (one.exact img still)) (bad img (one.exact img still)) (two.exact img (still_on img one.looked still));
 }
 
@@ -87,6 +92,7 @@ pub step_then_stop : {A B C : Type 0} {v w x : ImageView} {P : List ℕ → A �
 step_then_stop {B = B} {C = C} {v = v} {w = w} {x = x} {P = P} {S = S} T U a e one two bad = record {
   looked = looked_twice one.looked two.looked;
   cause = λ h. later v.faults w.faults x.faults one.looked.faults (two.cause (same_error {A = C} {B = B} e h));
+  kinds = two.kinds;
   exact = λ img still. refusal_map (refusal_of e) (S img) (U img) (bad img (one.exact img still)) (two.exact img (still_on img one.looked still));
 }
 
@@ -96,15 +102,17 @@ pub step_stop : {A B : Type 0} {v w : ImageView} {P : List ℕ → A → Type 0}
 step_stop {A = A} {B = B} {Q = Q} T U e one bad = record {
   looked = one.looked;
   cause = λ h. one.cause (same_error {A = B} {B = A} e h);
+  kinds = one.kinds;
   exact = λ img still. refusal_map (refusal_of e) (Q img) (U img) (bad img) (one.exact img still);
 }
 
 -- a step answered, and then what looks at no image was refused
 pub step_refused : {A B : Type 0} {v w : ImageView} {P : List ℕ → A → Type 0} {Q : List ℕ → OpenError → Type 0} (T : List ℕ → B → Type 0) (U : List ℕ → OpenError → Type 0) (a : A) (e : OpenError)
-    → OpenStep v w P Q (Ok a) → (e ≢ Failed) → ((img : List ℕ) → P img a → IfRefusal (refusal_of e) (U img)) → OpenStep {A = B} v w T U (Err e)
+    → OpenStep v w P Q (Ok a) → IsQuiet e → ((img : List ℕ) → P img a → IfRefusal (refusal_of e) (U img)) → OpenStep {A = B} v w T U (Err e)
 step_refused {B = B} T U a e one quiet bad = record {
   looked = one.looked;
-  cause = λ h. absurd (quiet (is_failed h));
+  cause = λ h. absurd (quiet.1 (is_failed h));
+  kinds = quiet.0;
   exact = λ img still. bad img (one.exact img still);
 }
   where
@@ -117,12 +125,13 @@ pub step_both : {A B C : Type 0} {v w x : ImageView} {P : List ℕ → A → Typ
 step_both T U a b c one two good = record {
   looked = looked_twice one.looked two.looked;
   cause = λ e. absurd cc;
+  kinds = tt;
   exact = λ img still. good img (one.exact img still) (two.exact img (still_on img one.looked still));
 }
 
 -- nothing was looked at
 pub step_alone : {A : Type 0} (v : ImageView) (P : List ℕ → A → Type 0) (Q : List ℕ → OpenError → Type 0) (a : A) → ((img : List ℕ) → IsStill v img → P img a) → OpenStep v v P Q (Ok a)
-step_alone v P Q a h = record { looked = looked_itself v; cause = λ e. absurd cc; exact = h }
+step_alone v P Q a h = record { looked = looked_itself v; cause = λ e. absurd cc; kinds = tt; exact = h }
 
 -- ---- What was found
 
@@ -130,12 +139,13 @@ as_refusal : {A : Type 0} (given : Result A OpenError) (o : Option OpenError) �
 as_refusal given (Some e) h = h
 as_refusal given None h = tt
 
-pub ran_step : {v w : ImageView} (size : ℕ) (name : List ℕ) (r : Result Opening OpenError) → Ran open_errors v w (λ img. eval img (looked_for size name)) (seen opened_of r)
+pub ran_step : {v w : ImageView} (size : ℕ) (name : List ℕ) (r : Result Opening OpenError) → Ran open_errors v w (λ img. eval img (looked_for size name)) (seen opened_of r) → IfErr r IsOpenKind
     → OpenStep v w (λ img o. eval img (looked_for size name) ≡ Ok (opened_of o)) (λ img e. eval img (looked_for size name) ≡ Err e) r
-ran_step size name (Ok o) ran = record { looked = ran.looked; cause = λ e. absurd cc; exact = ran.exact }
-ran_step size name (Err e) ran = record {
+ran_step size name (Ok o) ran kinds = record { looked = ran.looked; cause = λ e. absurd cc; kinds = tt; exact = ran.exact }
+ran_step size name (Err e) ran kinds = record {
   looked = ran.looked;
   cause = λ h. ran.cause (same_error {A = Opening} {B = Opened} e h);
+  kinds = kinds;
   exact = λ img still. as_refusal (eval img (looked_for size name)) (refusal_of e) (ran.exact img still);
 }
 
@@ -163,37 +173,43 @@ kept_front img size name o is =
       writable = record { some = omega (arith, r.long, r.some); list = r.listed; space = x.space; read = r.read; first = x.found; long = x.long };
     }
 
--- ---- What refuses an opening is no failed image
+-- ---- What refuses an opening is no failed image, and is refused for its bytes
 
 or_some : {A : Type 0} (a b : Option A) (x : A) → option_or a b ≡ Some x → (a ≡ Some x) ⊎ (b ≡ Some x)
 or_some (Some a) b x h = inl h
 or_some None b x h = inr h
 
-cut_quiet : (end : ℕ) (o : Option Extent) (e : OpenError) → option_map (cut_at end) o ≡ Some e → e ≢ Failed
-cut_quiet end (Some r) e h f = let g : Some (cut_at end r) ≡ Some Failed = h ∙ ap Some f in absurd cc
-cut_quiet end None e h f = absurd cc
+abbrev some_error : OpenError → Option OpenError
+some_error e = Some e
 
-dataset_quiet : (a b c : Bool) (n : ℕ) (e : OpenError) → cond a (Some Layout) (cond b (Some (ChunkBytes n most_chunk_bytes)) (cond c (Some NoColumns) None)) ≡ Some e → e ≢ Failed
-dataset_quiet true b c n e h f = let g : Some Layout ≡ Some Failed = h ∙ ap Some f in absurd cc
-dataset_quiet false true c n e h f = let g : Some (ChunkBytes n most_chunk_bytes) ≡ Some Failed = h ∙ ap Some f in absurd cc
-dataset_quiet false false true n e h f = let g : Some NoColumns ≡ Some Failed = h ∙ ap Some f in absurd cc
-dataset_quiet false false false n e h f = absurd cc
+quiet_so : (x e : OpenError) → some_error x ≡ Some e → IsQuiet x → IsQuiet e
+quiet_so x e h quiet = let same : x ≡ e = cc in subst IsQuiet same quiet
 
-start_quiet : (starts : Bool) (e : OpenError) → refused_start starts ≡ Some e → e ≢ Failed
-start_quiet false e h f = let g : Some Index ≡ Some Failed = h ∙ ap Some f in absurd cc
-start_quiet true e h f = absurd cc
+cut_quiet : (end : ℕ) (o : Option Extent) (e : OpenError) → option_map (cut_at end) o ≡ Some e → IsQuiet e
+cut_quiet end (Some r) e h = quiet_so (cut_at end r) e h (tt, λ f. absurd cc)
+cut_quiet end None e h = absurd cc
 
-index_quiet : (d : Described) (a : Option IndexView) (e : OpenError) → refused_index d a ≡ Some e → e ≢ Failed
-index_quiet d None e h f = start_quiet (is_starting d) e h f
-index_quiet d (Some v) e h f = absurd cc
+dataset_quiet : (a b c : Bool) (n : ℕ) (e : OpenError) → cond a (Some Layout) (cond b (Some (ChunkBytes n most_chunk_bytes)) (cond c (Some NoColumns) None)) ≡ Some e → IsQuiet e
+dataset_quiet true b c n e h = quiet_so Layout e h (tt, λ f. absurd cc)
+dataset_quiet false true c n e h = quiet_so (ChunkBytes n most_chunk_bytes) e h (tt, λ f. absurd cc)
+dataset_quiet false false true n e h = quiet_so NoColumns e h (tt, λ f. absurd cc)
+dataset_quiet false false false n e h = absurd cc
 
-ranges_quiet : (end : ℕ) (far past : Option Extent) (e : OpenError) → option_or (option_map (cut_at 0) far) (option_map (cut_at end) past) ≡ Some e → e ≢ Failed
+start_quiet : (starts : Bool) (e : OpenError) → refused_start starts ≡ Some e → IsQuiet e
+start_quiet false e h = quiet_so Index e h (tt, λ f. absurd cc)
+start_quiet true e h = absurd cc
+
+index_quiet : (d : Described) (a : Option IndexView) (e : OpenError) → refused_index d a ≡ Some e → IsQuiet e
+index_quiet d None e h = start_quiet (is_starting d) e h
+index_quiet d (Some v) e h = absurd cc
+
+ranges_quiet : (end : ℕ) (far past : Option Extent) (e : OpenError) → option_or (option_map (cut_at 0) far) (option_map (cut_at end) past) ≡ Some e → IsQuiet e
 ranges_quiet end far past e h = elim (or_some (option_map (cut_at 0) far) (option_map (cut_at end) past) e h) [
   | inl f ↦ cut_quiet 0 far e f
   | inr p ↦ cut_quiet end past e p
 ]
 
-pub refused_quiet : (o : Opened) (a : Option IndexView) (e : OpenError) → refused_open o a ≡ Some e → e ≢ Failed
+pub refused_quiet : (o : Opened) (a : Option IndexView) (e : OpenError) → refused_open o a ≡ Some e → IsQuiet e
 refused_quiet o a e h = elim (or_some (ranges_refused o a) (option_or (refused_dataset o) (refused_index o.header.dataset a)) e h) [
   | inl r ↦ ranges_quiet o.root.end (first_past (2 ^ 64 - 1) (take 3 (chunk_0_range o ∷ open_blocks o.header.dataset a) ++ open_chunks o.header.dataset a))
       (first_past o.root.end ((chunk_0_range o ∷ open_blocks o.header.dataset a) ++ open_chunks o.header.dataset a)) e r
@@ -242,9 +258,15 @@ bad_array {v = v} {w = w} d first e out kind named from is loads =
     (record {
       looked = loads.looked;
       cause = λ h. failed e h loads.cause;
+      kinds = by_bytes e;
       exact = λ img still. told img e (loads.damaged img still);
     })
   where
+    by_bytes : (f : OpenArrayError) → IsOpenKind (array_error f)
+    by_bytes (array_errors.Damaged a f) = tt
+    by_bytes array_errors.Failed = tt
+    by_bytes array_errors.OutOfMemory = tt
+
     failed : (f : OpenArrayError) → as_error {A = Option HeldIndex} (array_error f) ≡ Err Failed → (as_array f ≡ Err array_errors.Failed → Rose v.faults w.faults) → Rose v.faults w.faults
     failed (array_errors.Damaged a f) h rose = absurd cc
     failed array_errors.Failed h rose = rose refl
@@ -263,9 +285,15 @@ bad_tree {v = v} {w = w} d first e out kind named from is loads =
     (record {
       looked = loads.looked;
       cause = λ h. failed e h loads.cause;
+      kinds = by_bytes e;
       exact = λ img still. told img e (loads.damaged img still);
     })
   where
+    by_bytes : (f : OpenTreeError) → IsOpenKind (tree_error f)
+    by_bytes (tree_errors.Damaged a f) = tt
+    by_bytes tree_errors.Failed = tt
+    by_bytes tree_errors.OutOfMemory = tt
+
     failed : (f : OpenTreeError) → as_error {A = Option HeldIndex} (tree_error f) ≡ Err Failed → (as_tree f ≡ Err tree_errors.Failed → Rose v.faults w.faults) → Rose v.faults w.faults
     failed (tree_errors.Damaged a f) h rose = absurd cc
     failed tree_errors.Failed h rose = rose refl
@@ -293,6 +321,7 @@ module _ {v w : ImageView} (d : Described) (first : Key) (bands across : ℕ) (t
   good_tree t is at clean = record {
     looked = looked;
     cause = λ h. absurd cc;
+    kinds = tt;
     exact = λ img still. record {
       kind = tree_is;
       named = named;
@@ -303,7 +332,7 @@ module _ {v w : ImageView} (d : Described) (first : Key) (bands across : ℕ) (t
   }
 
   pub other_tree : found ≡ None → OpenStep v w (index_good d) (index_bad d) (Ok None)
-  other_tree is = record { looked = looked; cause = λ h. absurd cc; exact = λ img still. inr (tree tree_is named (exact_as None is img still)) }
+  other_tree is = record { looked = looked; cause = λ h. absurd cc; kinds = tt; exact = λ img still. inr (tree tree_is named (exact_as None is img still)) }
 
 -- a bad index refuses the file
 pub bad_index : (img : List ℕ) (size : ℕ) (name : List ℕ) (o : Opened) (e : OpenError) → eval img (looked_for size name) ≡ Ok o → IsBadIndex img o.header.dataset e → IsNotOpened img size name e
@@ -320,9 +349,9 @@ file_good size name img x = IsOpenedFile img size name (opened_of x.0) x.1 (view
 abbrev pub not_opened : ℕ → List ℕ → List ℕ → OpenError → Type 0
 not_opened size name img e = IsNotOpened img size name e
 
-pub first_quiet : (o : Opened) (a : Option IndexView) (e : OpenError) → (refused_open o a ≡ Some e) ⊎ (e ≡ OutOfMemory) → e ≢ Failed
-first_quiet o a e (inl h) f = refused_quiet o a e h f
-first_quiet o a e (inr h) f = let g : OutOfMemory ≡ Failed = sym h ∙ f in absurd cc
+pub first_quiet : (o : Opened) (a : Option IndexView) (e : OpenError) → (refused_open o a ≡ Some e) ⊎ (e ≡ OutOfMemory) → IsQuiet e
+first_quiet o a e (inl h) = refused_quiet o a e h
+first_quiet o a e (inr h) = subst IsQuiet (sym h) (tt, λ f. absurd cc)
 
 pub writable_front : (img : List ℕ) (size : ℕ) (name : List ℕ) (o : Opened) (a : Option IndexView) → eval img (looked_for size name) ≡ Ok o → refused_open o a ≡ None → IsKeptHeader (is_starting o.header.dataset) (front_of img o.place o.header.len)
 writable_front img size name o a is none =

@@ -1,24 +1,29 @@
 -- A session over a file that was opened stands for the log without events.
-use Rattle.std.proofs.Common.{◌≡◌, ℕ, ◌*◌, ◌<◌, ◌≤◌, List, [], ◌∷◌, ◌++◌, length, ℤ, refl, sym, ap, ◌∙◌, subst, inl, inr, arith, length-append}
+use Rattle.std.proofs.Common.{◌≡◌, ℕ, ◌*◌, ◌<◌, ◌≤◌, List, [], ◌∷◌, ◌++◌, length, get_or, ℤ, refl, sym, ap, ◌∙◌, subst, inl, inr, arith, length-append}
 use Rattle.h5w_model.specs.Datasets.{Described}
 use Rattle.h5w_model.specs.Findings.{Summary, Valid}
-use Rattle.h5w_model.specs.Logs.{Log}
+use Rattle.h5w_model.specs.Logs.{Log, div_up, rows_in}
 use Rattle.h5w_model.specs.Numbers.{range}
 use Rattle.h5w_model.specs.Tables.{Reads}
 use Rattle.h5w_steps.specs.Logs.{Goes}
 use Rattle.h5w_steps.specs.Moments.{Moment, Represents}
 use Rattle.h5w_steps.proofs.MomentLemmas.{super_parts}
 use Rattle.h5w_steps.proofs.SessionLaws.{goes_runs, opened_goes}
-use Rattle.h5w_index.specs.Views.{address_in}
+use Rattle.h5w_cache.specs.Stores.{times}
+use Rattle.h5w_index.specs.Views.{IndexView, IsClean, IsReached, an_array, a_tree, address_in}
+use Rattle.h5w_index.specs.Flushes.{Rests}
 use Rattle.h5w_index.proofs.MarkLemmas.{mark_laws}
 use Rattle.h5w_creation_laws.specs.CreatedFiles.{CreatedFile, created_blocks, header_block, index_blocks, root_block, super_block}
 use Rattle.h5w_session.specs.Loads.{end_in, first_end_of}
 use Rattle.h5w_session.specs.Openings.{IsOver, OverLaws, opened_log}
 use Rattle.h5w_session.specs.Past.{IsNew, Past}
-use Rattle.h5w_session.specs.Sessions.{Session, rows_of}
+use Rattle.h5w_session.specs.Sessions.{AreReached, Session, rows_of}
+use Rattle.h5w_session.specs.Reaches.{FileFinds}
 use Rattle.h5w_session.specs.Stands.{Running, Stands}
 use Rattle.h5w_session.proofs.CreatingLemmas.{no_cells}
+use Rattle.h5w_session.proofs.RestLemmas.{array_six}
 use Rattle.h5w_session.proofs.StandLemmas.{flagged_stands, goes_rows}
+use Rattle.h5w_session.proofs.StartKinds.{blank_none}
 
 -- the end-of-file address of what was opened
 first_end_is : (img name : List ℕ) (m : Moment) (columns : ℕ) (values : List ℤ) → Represents img name m → first_end_of (opened_log img columns values) ≡ m.super.end
@@ -36,6 +41,28 @@ module _ (s : Session) (img : List ℕ) (rows columns : ℕ) (values : List ℤ)
   not_new : {A : Type 0} → IsNew log → A
   not_new new = let first : 0 ≡ length (created_blocks new.file) = ap (λ (l : Log). l.first) new.log_is in absurd (omega (arith, first, some_blocks new.file))
 
+  -- all rows were there before
+  first_rows : rows_in log values ≡ s.dataset.shape.rows
+  first_rows = goes_rows s.name log m m.behind goes ∙ ap (λ (d : Described). d.shape.rows) b.keeps.dataset
+
+  -- readers look for each chunk that HDF5's library found before
+  opened_reached : FileFinds img s.name → AreReached s
+  opened_reached finds key low there =
+      elim b.index [
+        | inr none ↦ absurd (there (blank_none s.index none.blank key))
+        | inl rest ↦ by s.index refl rest
+      ]
+    where
+      by : (v : IndexView) → s.index ≡ v → Rests img m (λ k. address_in s.index k) s.places s.index → IsReached s.index key
+      by (a_tree place v) e rest = subst (λ (w : IndexView). IsReached w key) (sym e) tt
+      by (an_array v) e rest =
+          let of_array : Rests img m (λ k. address_in s.index k) s.places (an_array v) = subst (λ (w : IndexView). Rests img m (λ k. address_in s.index k) s.places w) e rest in
+          let clean : v.changed ≡ [] = subst IsClean e b.clean in
+          let six = array_six img m (λ k. address_in s.index k) s.places v of_array (ap (times 846) clean) in
+          let needed : key.i < div_up m.dataset.shape.rows m.dataset.layout.chunk_rows = subst (λ (d : Described). key.i < div_up d.shape.rows d.layout.chunk_rows) (sym b.keeps.dataset) low in
+          let found = finds m (λ k. address_in s.index k) goes.now b.knows.index of_array.kind key needed there in
+          subst (λ (w : IndexView). IsReached w key) (sym e) (omega (arith, found, ap (λ l. get_or l 4 0) six))
+
   past : Past s [] log m
   past =
       let end = first_end_is img s.name m columns values goes.now in
@@ -47,6 +74,7 @@ module _ (s : Session) (img : List ℕ) (rows columns : ℕ) (values : List ℤ)
         addressed = λ new. not_new new;
         next = λ new. not_new new;
         own = λ new. not_new new;
+        reach = λ before. elim before [ inl more ↦ absurd (let first : rows_in log values ≡ s.dataset.shape.rows = first_rows in omega (arith, more, first)) | inr finds ↦ opened_reached finds ];
         grew = omega (arith, b.end, end);
         fits = omega (arith, b.end, end);
         ends = tt;

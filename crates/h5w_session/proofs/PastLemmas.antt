@@ -7,7 +7,7 @@ use Rattle.std.specs.Option.{unwrap_or}
 use Rattle.h5w_model.proofs.IntegerLemmas.{int_size_bounds}
 use Rattle.h5w_model.specs.Findings.{Valid}
 use Rattle.h5w_model.specs.Images.{apply, image}
-use Rattle.h5w_model.specs.Logs.{Log, Cutting, Happening, appends, plans, shows, hist, shown, load, spent, spent_in, and_now}
+use Rattle.h5w_model.specs.Logs.{Log, Cutting, Happening, appends, plans, shows, hist, rows_in, shown, load, spent, spent_in, and_now}
 use Rattle.h5w_model.specs.Datasets.{Described}
 use Rattle.h5w_model.specs.Prefixed.{IsPosition, image_at}
 use Rattle.h5w_model.specs.Tables.{Reading, Reads, Shows, format_limits, needed}
@@ -22,11 +22,13 @@ use Rattle.h5w_steps.proofs.GoesLemmas.{image_last, image_pushed}
 use Rattle.h5w_steps.proofs.StepRepresents.{step_represents}
 use Rattle.h5w_index.specs.Marks.{IsRaised}
 use Rattle.h5w_index.specs.Placing.{IsOwn}
+use Rattle.h5w_index.proofs.ReachLemmas.{reach_laws}
 use Rattle.h5w_creation_laws.specs.CreatedFiles.{CreatedFile, IsCreatable, block_write, created_blocks, created_writes, described_of, end_of, header_block, header_place, index_blocks, index_place, root_block, super_block}
 use Rattle.h5w_creation_laws.proofs.CreatedLaws.{created_sizes}
 use Rattle.h5w_session.specs.Creations.{IsLimit, log_of}
 use Rattle.h5w_session.specs.Loads.{first_end_of}
 use Rattle.h5w_session.specs.Past.{AllAddressed, HasCreated, HasOpened, IsCounted, IsNew, Past, most_of}
+use Rattle.h5w_session.specs.Reaches.{ReachedFrom}
 use Rattle.h5w_session.specs.Sessions.{Session, AllEndBy, cutting_of, with_rows, IsNamed}
 use Rattle.h5w_session.proofs.AddressedLemmas.{shown_addressed, step_addressed}
 use Rattle.h5w_header_laws.specs.Files.{with_index}
@@ -63,7 +65,7 @@ spent_in-events c log other (shows w ∷ es) = spent_in-events c log other es
 -- ---- How the log began
 
 -- Another session with the same name, place, limit and dataset, but for its rows and an index address that was not there, whose index is one
--- as it is made here where it was before.
+-- as it is made here where it was before, and whose chunks are looked for where they were before.
 pub record IsLike (s t : Session) : Type 0 where
   pub name : t.name ≡ s.name
   pub place : t.place ≡ s.place
@@ -71,9 +73,10 @@ pub record IsLike (s t : Session) : Type 0 where
   pub address : IsNamed s.dataset → t.dataset.layout.address ≡ s.dataset.layout.address
   pub limit : t.places.limit ≡ s.places.limit
   pub own : IsOwn s.index → IsOwn t.index
+  pub reach : (first : ℕ) (img : List ℕ) → ReachedFrom first img s → ReachedFrom first img t
 
 pub like_itself : (s : Session) → IsLike s s
-like_itself s = record { name = refl; place = refl; dataset = refl; address = λ named. refl; limit = refl; own = λ o. o }
+like_itself s = record { name = refl; place = refl; dataset = refl; address = λ named. refl; limit = refl; own = λ o. o; reach = λ first img h. h }
 
 -- where the layout names the index the rows alone are others
 like_named : (s t : Session) → IsLike s t → IsNamed s.dataset → t.dataset ≡ with_rows t.dataset.shape.rows s.dataset
@@ -203,6 +206,7 @@ past_values s t vs log m like end past =
       addressed = λ new. subst (λ (name : List ℕ). EachAddressed name (and_now e log)) (sym like.name) (same_positions e log s.name refl (past.addressed (new_before e log new)));
       next = λ new. past.next (new_before e log new);
       own = λ new. like.own (past.own (new_before e log new));
+      reach = like.reach (rows_in log log.values) log.start past.reach;
       grew =
           let more = spent_in-events (cutting_of s) log (e ∷ log.events) log.events in
           grew_alike s t log like (and_now e log) s.places.end (omega (arith, past.grew, more)) end;
@@ -224,6 +228,7 @@ past_planned s t k ws log m n like raised within next past =
       addressed = λ new. subst (λ (name : List ℕ). EachAddressed name (and_now e log)) (sym like.name) (same_positions e log s.name refl (past.addressed (new_before e log new)));
       next = λ new. next (new_before e log new);
       own = λ new. like.own (past.own (new_before e log new));
+      reach = like.reach (rows_in log log.values) log.start past.reach;
       grew =
           let more = spent_in-events (cutting_of s) log (e ∷ log.events) log.events in
           grew_alike s t log like (and_now e log) t.places.end (omega (arith, past.grew, raised.bound, more)) refl;
@@ -241,6 +246,7 @@ past_more s t ws log m n like end fits same past = record {
   addressed = λ new. subst (λ (name : List ℕ). EachAddressed name log) (sym like.name) (past.addressed new);
   next = λ new. subst AllAddressed (sym same) (past.next new);
   own = λ new. like.own (past.own new);
+  reach = like.reach (rows_in log log.values) log.start past.reach;
   grew = grew_alike s t log like log s.places.end past.grew end;
   fits = fits_alike s t log like s.places.end past.fits end;
   ends = ends_joined (most_of t log) (hist log.events) ws (ends_alike s t log like (hist log.events) (ends_front (most_of s log) (hist log.events) [] past.ends)) (ends_later t.places.limit (most_of t log) ws (omega arith) fits);
@@ -256,6 +262,7 @@ past_same s t ws log m like end past = record {
   addressed = λ new. subst (λ (name : List ℕ). EachAddressed name log) (sym like.name) (past.addressed new);
   next = past.next;
   own = λ new. like.own (past.own new);
+  reach = like.reach (rows_in log log.values) log.start past.reach;
   grew = grew_alike s t log like log s.places.end past.grew end;
   fits = fits_alike s t log like s.places.end past.fits end;
   ends = ends_alike s t log like (hist log.events ++ ws) past.ends;
@@ -301,6 +308,7 @@ past_shown s t w ws log n like end r past =
       addressed = λ new. subst (λ (name : List ℕ). EachAddressed name next) (sym like.name) (addressed (new_before e log new));
       next = λ new. past.next (new_before e log new);
       own = λ new. like.own (past.own (new_before e log new));
+      reach = like.reach (rows_in log log.values) log.start past.reach;
       grew =
           let more = spent_in-events (cutting_of s) log (e ∷ log.events) log.events in
           grew_alike s t log like next s.places.end (omega (arith, past.grew, more)) end;
@@ -359,6 +367,7 @@ past_begins f s log m is log_is pieces name place dataset limit end fits here no
           shown_addressed (image_now log) s.name m r here nothing (subst (λ (i : List ℕ). Shows format_limits i s.name r) (image_last log p now) seen);
       next = λ new. nothing;
       own = λ new. own;
+      reach = λ more key low there. reach_laws.own s.index key own there;
       grew = omega (arith, end, small, began);
       fits = omega (arith, small, end, limit.low);
       ends =

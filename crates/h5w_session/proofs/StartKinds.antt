@@ -43,7 +43,7 @@ use Rattle.h5w_starting_laws.specs.Starting.{no_chunk, StartKnows}
 use Rattle.h5w_starting_laws.specs.StartCalls.{AreStartCalls}
 use Rattle.h5w_starting_laws.proofs.StartLemmas.{blank_map, created_blank}
 use Rattle.h5w_starting_laws.proofs.StartPieceLemmas.{named_changed}
-use Rattle.h5w_starting_laws.proofs.StartCallLemmas.{start_pending}
+use Rattle.h5w_starting_laws.proofs.StartCallLemmas.{start_pending, two_taken}
 use Rattle.h5w_bt_index.specs.Index.{Index, no_tree}
 use Rattle.h5w_index.specs.Views.{IndexView, an_array, a_tree, address_in, behind_of, fixed_of, header_place, kind_of}
 use Rattle.h5w_index.specs.Steps.{IsPlan}
@@ -147,7 +147,7 @@ module _ (name : List ℕ) (log : Log) (m : Moment) (base first b t : Space) (at
   array_taken : Taken base (block_at at eahd_len ∷ block_at array_made.block eaib_len ∷ chunks_for m no_chunk places) b
   array_taken =
       subst (λ (us : List Used). Taken base (block_at at eahd_len ∷ block_at array_made.block eaib_len ∷ us) b) array_chunks
-      (taken_laws.joined base first b (block_at at eahd_len ∷ block_at array_made.block eaib_len ∷ []) (new_chunks m.dataset (λ key. address_in (an_array u) key) m.dataset.shape.rows 0 places) array_made.two c.placing.taken)
+      (taken_laws.joined base first b (block_at at eahd_len ∷ block_at array_made.block eaib_len ∷ []) (new_chunks m.dataset (λ key. address_in (an_array u) key) m.dataset.shape.rows 0 places) (two_taken base array_made.two.between first at array_made.block array_made.two.first array_made.two.second) c.placing.taken)
 
   -- some chunk got an address, and so the index block is changed
   array_changed : is_changed v (number_of index_block) ≡ true

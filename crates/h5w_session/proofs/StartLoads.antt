@@ -28,6 +28,7 @@ use Rattle.h5w_session.proofs.FlushStands.{idle_running}
 use Rattle.h5w_session.proofs.IndexLemmas.{kept_starting}
 use Rattle.h5w_session.proofs.LoadLemmas.{at_most, flush_bound, flush_carries, load_is, part_no_place, planned_few, planned_own, planned_raised, refused_bound}
 use Rattle.h5w_session.proofs.PastLemmas.{IsLike, new_named, past_planned}
+use Rattle.h5w_session.proofs.ReachedLemmas.{any_reached}
 use Rattle.h5w_session.proofs.StartedLemmas.{after_start, start_running}
 
 like_started : (old new : Session) (x : IsStartFlushed old new) → new.places.limit ≡ old.places.limit → (IsOwn old.index → IsOwn new.index) → IsLike old new
@@ -40,6 +41,7 @@ like_started old new x limit own =
       address = λ named. absurd (named x.absent);
       limit = limit;
       own = own;
+      reach = λ first img before more. any_reached old new (inr x);
     }
 
 -- an index that was just made is clean

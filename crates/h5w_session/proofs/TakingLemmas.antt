@@ -185,6 +185,9 @@ pub absent_before : (d : Described) (to : ℕ) (v w : IndexView) (s t : Space) (
 absent_before d to v w s t chunks added key fits x is none =
     sym (x.others (next_key d chunks) (λ k low. apart_keys d v d.shape.rows k (length chunks) fits (λ e. absurd (omega (arith, e, low))))) ∙ ap (address_in w) (sym is) ∙ none
 
+pub same_error : {T E : Type 0} (e f : E) → ◌≡◌ {A = Result T E} (Err e) (Err f) → e ≡ f
+same_error {T} {E} e f is = cc
+
 -- what a plan says of a block without a place, where a flush tells it
 pub full_of : {T : Type 0} (e : PlanError) (full : Full) (P : Full → Type 0) → ◌≡◌ {A = Result T FlushError} (Err (plan_fault e)) (Err (flushes.Space full)) → IfFull e P → P full
 full_of (plan.Full f) full P is told = let same : f ≡ full = cc in subst P same told

@@ -23,10 +23,14 @@ use Rattle.h5w_session.specs.Sessions.{IsNamed, Session, chunk_limit, rows_of, w
 abbrev pub touched_by : Session → ℕ
 touched_by s = touched s.dataset s.dataset.shape.rows (rows_of s)
 
--- the place of the first chunk that new rows go into, by the index: it is stored where its band has rows already
+-- the key of the first chunk that new rows go into
+abbrev pub first_key : Described → Key
+first_key d = touched_key d d.shape.rows 0
+
+-- the place of that chunk by the index: it is stored where its band has rows already
 abbrev pub first_place : Described → IndexView → ChunkPlace
 first_place d v =
-    let key = touched_key d d.shape.rows 0 in
+    let key = first_key d in
     record { address = address_in v key; stored = nat_lt (key.i * d.layout.chunk_rows) d.shape.rows }
 
 -- the piece by which the dataset header says all rows
@@ -70,9 +74,10 @@ pub record ArePlanned (s : Session) (v : IndexView) (before : Space) (w : IndexV
   pub copies : List Write
   pub fixed : List Write
   pub plan : IsPlan named between moves copies fixed w t
-  -- the superblock, where the end of the file is another
+  -- the superblock, if the end of the file is another, and only then
   pub supers : List Write
   pub ended : AreEnded s.root t.end supers
+  pub unraised : t.end ≡ s.root.end → supers ≡ []
 
 -- A flush of rows that wait: what each of its calls does, in their order.
 pub record IsFlushed (old new : Session) : Type 0 where

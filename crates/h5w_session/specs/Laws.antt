@@ -1,5 +1,5 @@
 -- What is true of a log of which a session is the session.
-use Rattle.std.specs.Prelude.{◌≡◌, ◌^◌, ◌≢◌, ℕ, ◌+◌, ◌<◌, ◌≤◌, true, false, List, [], ◌∷◌, length, get_or, ◌⊎◌, IsSome}
+use Rattle.std.specs.Prelude.{◌≡◌, ◌^◌, ◌≢◌, ℕ, ◌+◌, ◌<◌, ◌≤◌, true, false, List, [], ◌∷◌, length, get_or, max, ◌⊎◌, IsSome}
 use Rattle.h5w_model.specs.Numbers.{range, undefined}
 use Rattle.h5w_model.specs.Arrays.{eahd_len, numbers_in}
 use Rattle.h5w_model.specs.Images.{At, image}
@@ -26,7 +26,8 @@ use Rattle.h5w_session.specs.Stands.{Stands}
 -- and reads as the rows that are flushed there, and what readers rest on stays from each position to each later one. Where nothing
 -- is pending in a session that was not stopped, the image reads as all rows that were planned. The image of a session that was
 -- stopped, once a reader finds a file in it, is valid and reads as the rows that are flushed, whatever the pieces were that were
--- dropped. The limit is one that a file may have.
+-- dropped. The limit is one that a file may have. No image is longer than the limit or than the file that the log began with, whichever
+-- is more, and none needs more chunks than an index of its kind can have.
 pub record StandingLaws : Type 0 where
   pub begun : (s : Session) (log : Log) → Stands s log → IsNew log ⊎ HasOpened s log
   pub columns : (s : Session) (log : Log) → Stands s log → log.columns ≡ s.dataset.shape.cols
@@ -41,6 +42,8 @@ pub record StandingLaws : Type 0 where
   pub planned_rows : (s : Session) (log : Log) → Stands s log → s.stopped ≡ false → s.pending ≡ [] → rows_in log (flushed log) ≡ s.dataset.shape.rows
   pub stopped : (s : Session) (log : Log) → Stands s log → s.stopped ≡ true → log.first ≤ length (hist log.events) → ReadsNow s.name log
   pub limited : (s : Session) (log : Log) → Stands s log → s.places.limit ≤ 2 ^ 40
+  pub fits : (s : Session) (log : Log) (p : ℕ) → Stands s log → IsPosition log p → length (image_at log p) ≤ max s.places.limit (length log.start)
+  pub within : (s : Session) (log : Log) (p : ℕ) (r : Reading) → Stands s log → IsPosition log p → Shows format_limits (image_at log p) s.name r → needed r.dataset ≤ limit_of format_limits r.dataset.layout.index
 
 -- ---- What readers find
 

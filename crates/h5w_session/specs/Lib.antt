@@ -17,6 +17,7 @@ pub mod Creations
 pub mod Refusals
 pub mod Indexes
 pub mod Loads
+pub mod Reaches
 pub mod Past
 pub mod Stands
 pub mod Openings
@@ -28,3 +29,4 @@ pub mod Flushes
 pub mod Starts
 pub mod Room
 pub mod Laws
+pub mod Finding

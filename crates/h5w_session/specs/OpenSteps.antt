@@ -1,5 +1,5 @@
 -- What the steps of an opening answer.
-use Rattle.std.specs.Prelude.{◌≡◌, ◌≢◌, ℕ, ◌≤◌, min, List, [], length, find, ◌==◌, IfSome, Option, Some, None, Result, Ok, Err, Bool, true, ◌+◌}
+use Rattle.std.specs.Prelude.{◌≡◌, ◌≢◌, ℕ, ◌≤◌, min, List, [], length, find, ◌==◌, IfErr, IfSome, Option, Some, None, Result, Ok, Err, Bool, true, ◌+◌}
 use Rattle.h5w_model.specs.Causes.{Rose}
 use Rattle.h5w_model.specs.Numbers.{range, undefined}
 use Rattle.h5w_model.specs.Programs.{eval}
@@ -22,7 +22,7 @@ use Rattle.h5w_bt_open.specs.declared.error.OpenTreeError.TheVariants as tree_er
 use Rattle.h5w_index.specs.Views.{IndexView, an_array, a_tree}
 use Rattle.h5w_ea_index.specs.declared.error.OpenArrayError.{OpenArrayError}
 use Rattle.h5w_ea_index.specs.declared.error.OpenArrayError.TheVariants as array_errors
-use Rattle.h5w_opening.specs.Errors.{refusal_of}
+use Rattle.h5w_opening.specs.Errors.{IsOpenKind, refusal_of}
 use Rattle.h5w_opening.specs.Openings.{IsFound, Opened, looked_for}
 use Rattle.h5w_opening.specs.declared.error.OpenError.{OpenError}
 use Rattle.h5w_opening.specs.declared.error.OpenError.TheVariants.{Read, Failed, OutOfMemory}
@@ -48,10 +48,11 @@ abbrev pub Says : {A : Type 0} → (A → Type 0) → (OpenError → Type 0) →
 Says P Q (Ok a) = P a
 Says P Q (Err e) = IfRefusal (refusal_of e) Q
 
--- a step that looked at an image: on a still one its answer is told, and so is its refusal
+-- A step that looked at an image: what it refuses to read is refused for its bytes. On a still one its answer is told, and so is its refusal.
 pub record OpenStep {A : Type 0} (v w : ImageView) (P : List ℕ → A → Type 0) (Q : List ℕ → OpenError → Type 0) (answer : Result A OpenError) : Type 0 where
   pub looked : Looked v w
   pub cause : answer ≡ Err Failed → Rose v.faults w.faults
+  pub kinds : IfErr answer IsOpenKind
   pub exact : (img : List ℕ) → IsStill v img → Says (P img) (Q img) answer
 
 -- a block of the index that the dataset names is refused

@@ -1,7 +1,7 @@
 -- What a session keeps of the positions of its log, and of the bounds of its file.
 use Rattle.std.specs.Prelude.{◌≡◌, ◌≢◌, ◌⊎◌, ℕ, ◌+◌, ◌*◌, ◌^◌, ◌<◌, ◌≤◌, max, List, ◌++◌, length, get_or, take}
 use Rattle.h5w_model.specs.Numbers.{undefined}
-use Rattle.h5w_model.specs.Logs.{Log, hist, spent}
+use Rattle.h5w_model.specs.Logs.{Log, hist, rows_in, spent}
 use Rattle.h5w_model.specs.Prefixed.{IsPosition, image_at}
 use Rattle.h5w_model.specs.Datasets.{Described}
 use Rattle.h5w_model.specs.Findings.{Summary, Valid}
@@ -13,6 +13,7 @@ use Rattle.h5w_index.specs.Placing.{IsOwn}
 use Rattle.h5w_creation_laws.specs.CreatedFiles.{CreatedFile, IsCreatable, created_writes, described_of, header_place}
 use Rattle.h5w_session.specs.Creations.{log_of}
 use Rattle.h5w_session.specs.Loads.{first_end_of}
+use Rattle.h5w_session.specs.Reaches.{ReachedFrom}
 use Rattle.h5w_session.specs.Sessions.{Session, AllEndBy, cutting_of, with_rows}
 
 -- each needed chunk of what an image shows has an address
@@ -69,6 +70,8 @@ pub record Past (s : Session) (left : List Write) (log : Log) (after : Moment) :
   pub addressed : IsNew log → (p : ℕ) (r : Reading) → IsPosition log p → Shows format_limits (image_at log p) s.name r → AllAddressed r
   pub next : IsNew log → AllAddressed (reading_of after)
   pub own : IsNew log → IsOwn s.index
+  -- once the session brought rows, or where it was so before, readers look for each chunk that the rows need
+  pub reach : ReachedFrom (rows_in log log.values) log.start s
   -- the file grew by no more than what its plans were bound to
   pub grew : s.places.end ≤ first_end_of log + spent (cutting_of s) log
   -- the end and all pieces are within the limit, or within the file that it began with

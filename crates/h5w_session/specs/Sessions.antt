@@ -7,6 +7,7 @@ use Rattle.h5w_model.specs.Datasets.{Described, dataspace_kind, layout_kind}
 use Rattle.h5w_model.specs.Tables.{chunks_across, format_limits, limit_of, needed}
 use Rattle.h5w_model.specs.Numbers.{undefined}
 use Rattle.h5w_model.specs.Headers.{index_address_place, messages_at}
+use Rattle.h5w_model.specs.declared.cell.Key.{Key}
 use Rattle.h5w_model.specs.declared.message.Msg.{Msg}
 use Rattle.h5w_model.specs.declared.root.Super.{Super}
 use Rattle.h5w_model.specs.declared.piece.Write.{Write}
@@ -14,7 +15,7 @@ use Rattle.h5w_header_laws.specs.Files.{with_index}
 use Rattle.h5w_space.specs.Space.{Space, Commits}
 use Rattle.h5w_visits.specs.Ranges.{AllEndBy as RangesEndBy}
 use Rattle.h5w_chunks.specs.Grids.{cells_of}
-use Rattle.h5w_index.specs.Views.{IndexView, IsSound, fixed_of, header_place, kind_of}
+use Rattle.h5w_index.specs.Views.{IndexView, IsReached, IsSound, address_in, fixed_of, header_place, kind_of}
 use Rattle.h5w_index.specs.Placing.{AreInside, Fits}
 use Rattle.h5w_index.specs.Depths.{AreWithin}
 
@@ -98,6 +99,10 @@ IsNamed d = d.layout.address ≢ undefined
 -- how many bands of rows the chunks of the rows have
 abbrev pub bands_of : Session → ℕ
 bands_of s = div_up (rows_of s) s.dataset.layout.chunk_rows
+
+-- readers look for each chunk that has an address and that the planned rows need
+abbrev pub AreReached : Session → Type 0
+AreReached s = (key : Key) → key.i < div_up s.dataset.shape.rows s.dataset.layout.chunk_rows → address_in s.index key ≢ undefined → IsReached s.index key
 
 -- what holds of every session
 pub record IsSession (s : Session) : Type 0 where

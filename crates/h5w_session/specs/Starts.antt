@@ -8,7 +8,7 @@ use Rattle.h5w_model.specs.Arrays.{eahd_len, eaib_len}
 use Rattle.h5w_model.specs.Trees.{bthd_len}
 use Rattle.h5w_model.specs.declared.cell.Key.{Key}
 use Rattle.h5w_model.specs.declared.piece.Write.{Write}
-use Rattle.h5w_visits.specs.Ranges.{AllEndBy, block_at}
+use Rattle.h5w_visits.specs.Ranges.{AllEndBy}
 use Rattle.h5w_space.specs.Space.{Space, extent}
 use Rattle.h5w_cache.specs.Plans.{Took}
 use Rattle.h5w_cache.specs.Stores.{Store}
@@ -17,7 +17,6 @@ use Rattle.h5w_header_laws.specs.Files.{with_index}
 use Rattle.h5w_steps.specs.Moments.{Moment}
 use Rattle.h5w_steps.specs.Logs.{image_now}
 use Rattle.h5w_steps.specs.Sessions.{Runs}
-use Rattle.h5w_flush_laws.specs.Spaces.{Taken}
 use Rattle.h5w_flush_laws.specs.Knowledge.{Knows}
 use Rattle.h5w_starting_laws.specs.StartCalls.{IsMade}
 use Rattle.h5w_bt_index.specs.Index.{Index, no_tree}
@@ -46,10 +45,16 @@ pub record StartRunning (s : Session) (log : Log) : Type 0 where
   pub committed : flushed_rows log ≡ s.committed
   pub columns : s.dataset.shape.cols ≡ log.columns
 
--- an array is made over places that were taken: its header's, and that of its index block, which was taken first
+-- a place for an index block is taken, and then one for an array's header
+pub record TookTwo (s : Space) (at block : ℕ) (t : Space) : Type 0 where
+  pub between : Space
+  pub first : Took s between (extent block eaib_len)
+  pub second : Took between t (extent at eahd_len)
+
+-- an array is made over two places that were taken: that of its index block, and then its header's
 pub record IsArrayMade (s : Space) (at : ℕ) (v : Store) (t : Space) : Type 0 where
   pub block : ℕ
-  pub two : Taken s (block_at at eahd_len ∷ block_at block eaib_len ∷ []) t
+  pub two : TookTwo s at block t
   pub is_made : IsMade at block v
 
 -- a tree is made over a place that was taken, its header's

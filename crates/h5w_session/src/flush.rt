@@ -12,7 +12,7 @@ ghost use Rattle.h5w_index.specs.Held.{view_of};
 ghost use Rattle.h5w_index.specs.Marks.{IsRaised};
 ghost use Rattle.h5w_index.specs.Placing.{AreInside, Fits, IsFullPart, IsPartly, IsPlacing};
 ghost use Rattle.h5w_index.specs.Steps.{IsBegun, IsPlan, copy_pieces, in_place_pieces, next_of};
-ghost use Rattle.h5w_index.specs.Views.{IsClean, IsSound, TakesKey, an_array, a_tree, kind_of};
+ghost use Rattle.h5w_index.specs.Views.{IsClean, IsReached, IsSound, TakesKey, an_array, a_tree, kind_of};
 ghost use Rattle.std.specs.List.{slice_get};
 ghost use Rattle.h5w_chunks.specs.Grids.{IsGrid, chunk_len, dataset_of};
 ghost use Rattle.h5w_chunks.specs.declared.grid.ChunkPlace.{ChunkPlace};
@@ -21,16 +21,14 @@ ghost use Rattle.h5w_chunks.specs.Shares.{new_writes, share_of, touched};
 ghost use Rattle.h5w_flush_laws.specs.Parts.{AreEnded};
 ghost use Rattle.h5w_image.specs.View.{Same};
 ghost use Rattle.h5w_space.specs.declared.Full.{Full};
-ghost use Rattle.h5w_session.specs.Flushes.{IsFlushed, SameBut, first_place, touched_by};
+ghost use Rattle.h5w_session.specs.Flushes.{IsFlushed, SameBut, first_key, first_place, touched_by};
 ghost use Rattle.h5w_session.specs.Loads.{NoPlace};
-ghost use Rattle.h5w_session.specs.Starts.{HasFlushed, IsStartFlushed, IsStartedAt};
+ghost use Rattle.h5w_session.specs.Starts.{HasFlushed, IsStartFlushed, IsStartedAt, TookTwo};
 ghost use Rattle.h5w_model.specs.Arrays.{eahd_len, eaib_len};
 ghost use Rattle.h5w_model.specs.Numbers.{undefined};
-ghost use Rattle.h5w_visits.specs.Ranges.{block_at};
-ghost use Rattle.h5w_flush_laws.specs.Spaces.{Taken};
 ghost use Rattle.h5w_session.specs.Refusals.{IsArrayUnplaced, IsFullFor, IsSpace, IsStartFull, IsUnplaced, flush_refusal};
 ghost use Rattle.h5w_session.specs.Room.{HasRoomFor, chunk_pieces, most_pieces, own_pieces};
-ghost use Rattle.h5w_session.specs.Sessions.{AllEndBy, IsNamed, TakesRows, cutting_of, most_bands, option_list, rows_of};
+ghost use Rattle.h5w_session.specs.Sessions.{AllEndBy, AreReached, IsNamed, TakesRows, cutting_of, most_bands, option_list, rows_of};
 ghost use Rattle.h5w_session.specs.Stands.{Stands};
 ghost use Rattle.h5w_session.specs.declared.refusal.FlushError.{FlushError};
 
@@ -277,6 +275,7 @@ fn raise(root: &mut Super, end: u64) -> Option<Write>
     requires { root.old.version ≡ 3 }
     ensures root { root.new ≡ record root.old { end = end } }
     ensures ended { AreEnded root.old end (option_list result) }
+    ensures unraised { end ≡ root.old.end → option_list result ≡ [] }
     ensures sized { IfSome result (λ w. (w.at ≡ 0) × (length w.piece ≡ 48)) }
 {
     if root.end == end {
@@ -369,7 +368,7 @@ fn join_start(
 fn take_two(places: &mut Places) -> Result<(u64, u64), Full>
     requires small { places.old.end < 2 ^ 64 }
     requires limit { places.old.limit ≤ 2 ^ 40 }
-    ensures taken { IfOk result (λ x. Taken places.old (block_at x.0 eahd_len ∷ block_at x.1 eaib_len ∷ []) places.new) }
+    ensures taken { IfOk result (λ x. TookTwo places.old x.0 x.1 places.new) }
     ensures raised { OnOk result (IsRaised places.old places.new (eahd_len + eaib_len)) }
     ensures header { IfOk result (λ x. x.0 + eahd_len ≤ places.new.end) }
     ensures block { IfOk result (λ x. x.1 + eaib_len ≤ places.new.end) }
@@ -434,15 +433,22 @@ impl WriterCore {
     /// index in turn; or want of memory. All memory and all places are taken here, so that nothing after it fails. Room is reserved in
     /// the image for these pieces and one more, up to the file's new end.
     ///
+    /// The pieces are, in this order: those of the rows, chunk after chunk; the copies of the index's changed blocks; the superblock, only if
+    /// the end of the file is another; the changed blocks in place; and the dataset header. A first flush plans the superblock after the blocks
+    /// in place.
+    ///
     /// Where the layout names no index yet one is made: the places of its blocks in place, of an array those of its index block and then of its
     /// header, are the first that are taken and that a full file tells, and the dataset header names it with the rows.
     ///
     /// A refused flush leaves no more than places held in the index, which the next flush writes in any case.
     pub fn flush<W: PieceWrite>(&mut self, image: &mut W) -> Result<u64, FlushError>
         ensures flushed { OnOk result (TakesRows self.old self.new) }
+        ensures planned { 0 < self.old.waits → OnOk result (HasFlushed self.old self.new) }
         ensures pieces { IfOk result (λ pieces. pieces ≡ length self.new.pending) }
         ensures some { 0 < self.old.waits → IfOk result (λ pieces. 1 ≤ pieces) }
         ensures nothing { self.old.waits ≡ 0 → OnOk result (self.new ≡ self.old) }
+        // readers look for each chunk that the rows need
+        ensures reached { 0 < self.old.waits → OnOk result (AreReached self.new) }
         ensures stands { IfOk result (λ pieces. (log : Log) → Stands self.old log → Stands self.new (and_now (plans pieces) log)) }
         ensures bound { IfOk result (λ pieces. (log : Log) → Stands self.old log → pieces ≤ load (cutting_of self.old) log) }
         ensures refused { (e : FlushError) → flush_refusal self.old ≡ Some e → result ≡ Err e }
@@ -499,11 +505,11 @@ impl WriterCore {
         }
     }
 
-    /// The chunk that has its place and that all rows that wait go into, where no block of the index changed.
+    /// The chunk that has its place, where readers look for it, and that all rows that wait go into; where no block of the index changed.
     fn chunk_alone(&self) -> Option<ChunkPlace>
         requires waits { 0 < self.now.waits }
         ensures exact { IfSome result (λ p. p ≡ first_place self.now.dataset self.now.index) }
-        ensures none { IfNone result (IsClean self.now.index → touched_by self.now ≡ 1 → (first_place self.now.dataset self.now.index).address ≡ undefined) }
+        ensures none { IfNone result (IsClean self.now.index → touched_by self.now ≡ 1 → IsReached self.now.index (first_key self.now.dataset) → (first_place self.now.dataset self.now.index).address ≡ undefined) }
         ensures placing { IfSome result (λ p. IsPlacing self.now.dataset (rows_of self.now) self.now.index self.now.places (p ∷ []) [] self.now.index self.now.places) }
         ensures all { IfSome result (λ p. touched_by self.now ≡ 1) }
         ensures plan { IsSome result → IsPlan self.now.index self.now.places [] [] [] self.now.index self.now.places }

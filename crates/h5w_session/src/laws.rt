@@ -5,7 +5,8 @@ ghost use Rattle.h5w_session.specs.Openings.{OverLaws};
 
 /// A session's log is new, or began over a valid file; its columns are the dataset's. The session knows how many rows are flushed and
 /// appended; at each position of its log the image is valid and reads as the rows that are flushed there, and what readers
-/// rest on stays from each position to each later one. What a stopped session left is valid and reads as the flushed rows.
+/// rest on stays from each position to each later one. What a stopped session left is valid and reads as the flushed rows. No image is
+/// longer than the limit or than the file that the log began with, whichever is more, and none needs more chunks than its index can have.
 #[tactic(auto, using(crate::proofs::LawLemmas::standing_laws))]
 pub fn standing_laws()
     ensures { StandingLaws }

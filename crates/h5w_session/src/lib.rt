@@ -1,6 +1,7 @@
 //! A session: one writer that appends rows to a dataset, and plans the pieces that make them visible.
 #![tactic(auto)]
 
+mod finding;
 mod flush;
 mod form;
 mod laws;
@@ -10,6 +11,7 @@ mod refusal;
 mod state;
 mod taking;
 
+pub use finding::session_finds;
 pub use h5w_chunks::{Fill, Grid, IndexKind, IntType, Layout, Shape};
 pub use h5w_model::{Bytes, Cell, OutOfMemory, Piece, Super, Write};
 pub use h5w_opening::OpenError;

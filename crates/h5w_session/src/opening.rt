@@ -16,6 +16,7 @@ ghost use Rattle.h5w_looks.specs.Still.{IsStill};
 ghost use Rattle.h5w_chunks.specs.Grids.{IsGrid, dataset_of};
 ghost use Rattle.h5w_found.specs.Described.{described_of};
 ghost use Rattle.h5w_index.specs.Held.{view_of};
+ghost use Rattle.h5w_opening.specs.Errors.{IsOpenKind};
 ghost use Rattle.h5w_opening.specs.Openings.{IsFound, IsSaid, is_open};
 ghost use Rattle.h5w_opening.specs.Views.{header_fields_of, opened_of};
 ghost use Rattle.h5w_session.specs.OpenAnswers.{HasBegun, IsIndexOf, IsNotOpened, IsOpenAnswer, opened_session, writing_flags};
@@ -225,6 +226,7 @@ fn check_header(alloc: Global, bytes: &[u8], starts: bool) -> Result<(), OpenErr
     ensures writable { OnOk result (IsKeptHeader starts bytes.now) }
     ensures refused { IfErr result (λ e. (e ≡ OpenError.OutOfMemory) ⊎ (IsKeptHeader starts bytes.now → ⊥)) }
     ensures quiet { IfErr result (λ e. e ≢ OpenError.Failed) }
+    ensures kinds { IfErr result IsOpenKind }
 {
     if bytes.is_empty() {
         return Err(no_dataspace());
@@ -413,6 +415,8 @@ impl WriterCore {
         requires high { limit ≤ 2 ^ 40 }
         ensures looked { Looked (I.view image.old) (I.view image.new) }
         ensures cause { result ≡ Err OpenError.Failed → Rose (I.view image.old).faults (I.view image.new).faults }
+        // on every image a Read is none of NotSwmr, Again, Shrunk and OutOfMemory
+        ensures kinds { IfErr result IsOpenKind }
         // where the image tells its bytes and nobody else writes it
         ensures exact { (img : List ℕ) → IsStill (I.view image.old) img → IsOpenAnswer img size name.now limit result }
         ensures begun { IfOk result (λ s. HasBegun name.now limit s) }

@@ -16,8 +16,8 @@ ghost use Rattle.h5w_index.specs.Held.{view_of};
 ghost use Rattle.h5w_index.specs.Marks.{IsTouched};
 ghost use Rattle.h5w_index.specs.Placing.{AreInside, Fits, IsChunkFull, IsPartly, IsPlacing, next_key};
 ghost use Rattle.h5w_index.specs.Steps.{IsDeep, IsHeld};
-ghost use Rattle.h5w_index.specs.Views.{HasSlot, IndexView, IsSound, TakesKey, address_in};
-ghost use Rattle.h5w_session.specs.Flushes.{first_place};
+ghost use Rattle.h5w_index.specs.Views.{HasSlot, IndexView, IsReached, IsSound, TakesKey, address_in};
+ghost use Rattle.h5w_session.specs.Flushes.{first_key, first_place};
 ghost use Rattle.h5w_session.specs.Refusals.{IsSpace};
 ghost use Rattle.h5w_session.specs.Sessions.{most_bands};
 ghost use Rattle.h5w_session.specs.declared.refusal.FlushError.{FlushError};
@@ -119,8 +119,8 @@ fn place_new(
     Ok(())
 }
 
-/// Gives a chunk its place: that which the index names, or a new one, which the index names from now on. After a refusal the index names no
-/// more chunks than before.
+/// Gives a chunk its place: that which the index names, or a new one, which the index names from now on. Readers look for it there, as
+/// they might not have done for a chunk that a stopped writer left. After a refusal the index names no more chunks than before.
 fn place_chunk(
     grid: &Grid,
     key: Key,
@@ -148,6 +148,7 @@ fn place_chunk(
     ensures causes { IfErr result (λ e. IsSpace e ⊎ (e ≡ FlushError.OutOfMemory)) }
 {
     if let Some(address) = index.get(key) {
+        index.reach(key);
         let stored = key.i * grid.layout.chunk.0 < grid.shape.rows;
         keep(&mut taking.chunks, ChunkPlace { address, stored })?;
         return Ok(());
@@ -191,7 +192,8 @@ pub fn place_chunks(
     Ok(())
 }
 
-/// The chunk that all rows up to but not including `to` go into, where it is one alone and the index names its place; None elsewhere.
+/// The chunk that all rows up to but not including `to` go into, where it is one alone, the index names its place and readers look for it
+/// there; None elsewhere.
 pub fn named_chunk(grid: &Grid, to: u64, index: &Index) -> Option<ChunkPlace>
     requires grid { IsGrid grid.now }
     requires order { grid.now.shape.rows < to }
@@ -204,7 +206,7 @@ pub fn named_chunk(grid: &Grid, to: u64, index: &Index) -> Option<ChunkPlace>
         → IsPlacing (dataset_of grid.now) to (view_of index.now) s (p ∷ []) [] (view_of index.now) s) }
     ensures all { IfSome result (λ p. touched (dataset_of grid.now) grid.now.shape.rows to ≡ 1) }
     ensures exact { IfSome result (λ p. p ≡ first_place (dataset_of grid.now) (view_of index.now)) }
-    ensures none { IfNone result (touched (dataset_of grid.now) grid.now.shape.rows to ≡ 1 → (first_place (dataset_of grid.now) (view_of index.now)).address ≡ undefined) }
+    ensures none { IfNone result (touched (dataset_of grid.now) grid.now.shape.rows to ≡ 1 → IsReached (view_of index.now) (first_key (dataset_of grid.now)) → (first_place (dataset_of grid.now) (view_of index.now)).address ≡ undefined) }
 {
     let from = grid.shape.rows;
     let (rows, columns) = grid.layout.chunk;
@@ -214,7 +216,11 @@ pub fn named_chunk(grid: &Grid, to: u64, index: &Index) -> Option<ChunkPlace>
     if to - first > rows || grid.shape.cols == 0 || grid.shape.cols > columns {
         return None;
     }
-    let address = index.get(Key { i, j: 0 })?;
+    let key = Key { i, j: 0 };
+    let address = index.get(key)?;
+    if !index.is_reached(key) {
+        return None;
+    }
     let stored = first < from;
     Some(ChunkPlace { address, stored })
 }

@@ -12,11 +12,11 @@ use Rattle.h5w_check.proofs.header.dataset_header.Goals as goal
 pub returns-in-Ok : goal.returns-in-Ok
 returns-in-Ok g c =
     let place = c.args.at in
-    ran_begin _ _ _ (ran_found (dataset_finding place) (λ img. eval img (dataset_header_for false place)) (Ok (header_of c.in-Ok.header)) (rw c.in-Ok.is at c.dataset_header.ensures))
+    ran_begin _ _ _ (ran_found (dataset_finding place) (λ img. eval img (dataset_header_for false place)) (Ok (header_of c.in-Ok.header)) (rw c.in-Ok.is at c.dataset_header.ensures.ran))
     (λ img. ap (λ r. refused_as (dataset_finding place) r) (sym (dataset_reading img place)))
 
 pub returns-in-Err : goal.returns-in-Err
 returns-in-Err g c =
     let place = c.args.at in
-    rw c.dataset_finding.ensures (ran_begin _ _ _ (ran_found {A = HeaderFields} (dataset_finding place) (λ img. eval img (dataset_header_for false place)) (Err c.in-Err.error) (rw c.in-Err.is at c.dataset_header.ensures))
+    rw c.dataset_finding.ensures (ran_begin _ _ _ (ran_found {A = HeaderFields} (dataset_finding place) (λ img. eval img (dataset_header_for false place)) (Err c.in-Err.error) (rw c.in-Err.is at c.dataset_header.ensures.ran))
     (λ img. ap (λ r. refused_as (dataset_finding place) r) (sym (dataset_reading img place))))

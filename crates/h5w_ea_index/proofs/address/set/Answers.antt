@@ -2,7 +2,7 @@ use Rattle.std.proofs.Common.{◌∙◌, ap}
 use Rattle.h5w_cache.specs.Stores.{Store, is_changed}
 use Rattle.h5w_array_laws.specs.Parts.{Part, number_of}
 use Rattle.h5w_ea_index.specs.Fresh.{part_of}
-use Rattle.h5w_ea_index.proofs.WayLemmas.{Setting, holder_part, read_fits, setting_from, setting_array, setting_set, setting_top, setting_numbered, setting_way, set_then}
+use Rattle.h5w_ea_index.proofs.WayLemmas.{Setting, holder_part, read_fits, setting_from, setting_array, setting_set, setting_top, setting_numbered, setting_reach, setting_way, set_then}
 use Rattle.h5w_ea_index.proofs.address.set.Goals as goal
 
 pub holder_number-requires : goal.holder_number-requires
@@ -58,3 +58,12 @@ returns-clause-way c =
     let s : Setting v u c.args.i c.args.address = setting_from v u c.args.i c.args.address c.holder_number.result c.locate-slot.result.offset k c.requires.below c.ranges.address.fits c.requires.array c.requires.changed
     c.locate-slot.ensures.holder c.holder_number.ensures c.locate-slot.ensures.offset c.set_number.ensures in
     setting_way v u c.reach.new.cache c.args.i c.args.address s c.reach.ensures.others
+
+pub returns-clause-reach : goal.returns-clause-reach
+returns-clause-reach c =
+    let v : Store = c.args.cache.now in
+    let u : Store = c.set_number.new.self in
+    let k : Part = part_of c.locate-slot.result.holder in
+    let s : Setting v u c.args.i c.args.address = setting_from v u c.args.i c.args.address c.holder_number.result c.locate-slot.result.offset k c.requires.below c.ranges.address.fits c.requires.array c.requires.changed
+    c.locate-slot.ensures.holder c.holder_number.ensures c.locate-slot.ensures.offset c.set_number.ensures in
+    setting_reach v u c.reach.new.cache c.args.i c.args.address s c.reach.ensures

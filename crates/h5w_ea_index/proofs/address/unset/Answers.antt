@@ -3,7 +3,7 @@ use Rattle.h5w_model.specs.Numbers.{undefined}
 use Rattle.h5w_cache.specs.Stores.{Store, is_changed}
 use Rattle.h5w_array_laws.specs.Parts.{Part, number_of}
 use Rattle.h5w_ea_index.specs.Fresh.{part_of}
-use Rattle.h5w_ea_index.proofs.UnsetLemmas.{max_below, setting_unset, top_number, unset_numbered, unset_then}
+use Rattle.h5w_ea_index.proofs.UnsetLemmas.{max_below, setting_unset, top_number, unset_numbered, unset_reach, unset_then}
 use Rattle.h5w_ea_index.proofs.WayLemmas.{Setting, holder_part, read_fits, setting_from, setting_array, setting_top, setting_way}
 use Rattle.h5w_ea_index.proofs.address.unset.Goals as goal
 
@@ -80,3 +80,13 @@ returns-clause-way c =
     let s : Setting v u c.args.i undefined = setting_from v u c.args.i undefined c.holder_number.result c.locate-slot.result.offset k c.requires.below (omega arith) c.requires.array c.requires.changed
     c.locate-slot.ensures.holder c.holder_number.ensures c.locate-slot.ensures.offset c.set_number.ensures in
     setting_way v u c.set_max_index.new.cache c.args.i undefined s c.set_max_index.ensures.others
+
+pub returns-clause-reach : goal.returns-clause-reach
+returns-clause-reach c =
+    let v : Store = c.args.cache.now in
+    let u : Store = c.set_number.new.self in
+    let k : Part = part_of c.locate-slot.result.holder in
+    let s : Setting v u c.args.i undefined = setting_from v u c.args.i undefined c.holder_number.result c.locate-slot.result.offset k c.requires.below (omega arith) c.requires.array c.requires.changed
+    c.locate-slot.ensures.holder c.holder_number.ensures c.locate-slot.ensures.offset c.set_number.ensures in
+    unset_reach v u c.set_max_index.new.cache c.args.i c.last_set-count.result s
+    (λ j from below low. c.last_set-count.ensures.above j from (let is = c.max_index_set.ensures in let m = c.min.ensures in omega arith)) c.set_max_index.ensures

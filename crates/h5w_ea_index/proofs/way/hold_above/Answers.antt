@@ -28,3 +28,6 @@ returns-clause-way c =
     touch_onward (OnWay (data_of c.args.sblock c.args.block)) c.args.cache.now c.hold_in_place.new.cache c.hold_secondary.new.cache
     (in_place_way (data_of c.args.sblock c.args.block) c.args.cache.now c.hold_in_place.new.cache c.hold_in_place.ensures.way)
     (secondary_way c.args.sblock (data_of c.args.sblock c.args.block) c.hold_in_place.new.cache c.hold_secondary.new.cache (second_parent c.args.sblock c.args.block c.if-sblock-lt4.false) c.hold_secondary.ensures.way)
+
+pub returns-clause-reach : goal.returns-clause-reach
+returns-clause-reach c = c.hold_secondary.ensures.reach ∙ c.hold_in_place.ensures.reach

@@ -1,7 +1,7 @@
 use Rattle.std.proofs.Common.{refl}
 use Rattle.h5w_cache.specs.Stores.{Store}
 use Rattle.h5w_array_laws.specs.Parts.{data_of}
-use Rattle.h5w_ea_index.proofs.WayLemmas.{Marking, marking_from, none_at, marking_array, marking_numbered, marking_held, marking_changed, marking_way}
+use Rattle.h5w_ea_index.proofs.WayLemmas.{Marking, marking_from, none_at, marking_array, marking_numbered, marking_held, marking_reach, marking_changed, marking_way}
 use Rattle.h5w_ea_index.proofs.way.hold_data.Goals as goal
 
 pub returns-then-is_kept : goal.returns-then-is_kept
@@ -13,6 +13,7 @@ returns-then-is_kept c =
       array = marking_array v w (data_of c.args.sblock c.args.block) m;
       numbered = marking_numbered v w (data_of c.args.sblock c.args.block) m;
       held = marking_held v w (data_of c.args.sblock c.args.block) m;
+      reach = marking_reach v w (data_of c.args.sblock c.args.block) m;
       way = marking_way v w (data_of c.args.sblock c.args.block) m;
       changed = marking_changed v w (data_of c.args.sblock c.args.block) m;
     }

@@ -1,3 +1,4 @@
+use Rattle.std.proofs.Common.{◌∙◌}
 use Rattle.h5w_array_laws.specs.Parts.{data_of}
 use Rattle.h5w_ea_index.specs.Steps.{OnWay}
 use Rattle.h5w_ea_index.proofs.TouchLemmas.{touch_onward}
@@ -12,3 +13,6 @@ returns-clause-numbered c = λ h. c.hold_data.ensures.numbered (c.hold_above.ens
 
 pub returns-clause-way : goal.returns-clause-way
 returns-clause-way c = touch_onward (OnWay (data_of c.args.sblock c.args.block)) c.args.cache.now c.hold_above.new.cache c.hold_data.new.cache c.hold_above.ensures.way c.hold_data.ensures.way
+
+pub returns-clause-reach : goal.returns-clause-reach
+returns-clause-reach c = c.hold_data.ensures.reach ∙ c.hold_above.ensures.reach

@@ -4,7 +4,7 @@ use Rattle.h5w_array_laws.specs.Parts.{secondary_of}
 use Rattle.h5w_ea_index.proofs.StepLemmas.{held_onward}
 use Rattle.h5w_ea_index.specs.Steps.{OnWay}
 use Rattle.h5w_ea_index.proofs.TouchLemmas.{header_way, touch_onward}
-use Rattle.h5w_ea_index.proofs.WayLemmas.{Making, made_from, clean_at, making_array, making_held, making_changed, making_top, making_way, secondary_numbered}
+use Rattle.h5w_ea_index.proofs.WayLemmas.{Making, made_from, clean_at, making_array, making_held, making_changed, making_top, making_way, secondary_numbered, secondary_reach}
 use Rattle.h5w_ea_index.proofs.way.make_secondary.Goals as goal
 
 pub add-requires-clause-clean : goal.add-requires-clause-clean
@@ -37,6 +37,13 @@ returns-clause-held c =
     let u : Store = c.add.new.cache in
     let m : Making v u (secondary_of c.args.sblock) c.in_ok-block.block = made_from v u (secondary_of c.args.sblock) c.in_ok-block.block c.secondary_number.result c.place.result c.requires.part c.requires.array c.requires.none c.requires.changed c.in_ok-block.ensures c.place.ensures c.secondary_number.ensures.value c.add.ensures in
     held_onward v u c.count_secondary.new.cache (making_held v u (secondary_of c.args.sblock) c.in_ok-block.block m) c.count_secondary.ensures.held
+
+pub returns-clause-reach : goal.returns-clause-reach
+returns-clause-reach c =
+    let v : Store = c.args.cache.now in
+    let u : Store = c.add.new.cache in
+    let m : Making v u (secondary_of c.args.sblock) c.in_ok-block.block = made_from v u (secondary_of c.args.sblock) c.in_ok-block.block c.secondary_number.result c.place.result c.requires.part c.requires.array c.requires.none c.requires.changed c.in_ok-block.ensures c.place.ensures c.secondary_number.ensures.value c.add.ensures in
+    secondary_reach v u c.count_secondary.new.cache (secondary_of c.args.sblock) c.in_ok-block.block (length c.bytes.result.now) m c.count_secondary.ensures
 
 pub returns-clause-changed : goal.returns-clause-changed
 returns-clause-changed c =

@@ -12,7 +12,7 @@ returns-in-Ok-clause-disk g c =
 
 pub returns-in-Ok-clause-opens : goal.returns-in-Ok-clause-opens
 returns-in-Ok-clause-opens g c =
-    opened_over _ c.args.file.now c.args.name.now c.args.limit c.args.size c.in-Ok.session c.ranges.size.fits c.requires.sized c.in-Ok.ensures.begun c.in-Ok.ensures.exact c.in-Ok.ensures.stands
+    opened_over _ c.args.file.now c.args.name.now c.args.limit c.args.size c.in-Ok.session c.requires.there c.ranges.size.fits c.requires.sized c.in-Ok.ensures.begun c.in-Ok.ensures.exact c.in-Ok.ensures.stands
 
 pub returns-in-Err-clause-disk : goal.returns-in-Err-clause-disk
 returns-in-Err-clause-disk g c =

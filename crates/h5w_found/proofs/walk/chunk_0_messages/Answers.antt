@@ -2,7 +2,7 @@ use Rattle.std.proofs.Common.{length}
 use Rattle.h5w_model.specs.Headers.{messages_at}
 use Rattle.h5w_found.specs.Walks.{known_by}
 use Rattle.h5w_found.proofs.ListedLemmas.{known_by_listed, messages_listed, listed_ok, listed_err}
-use Rattle.h5w_found.proofs.WalkLemmas.{gives_err, chunk_refused}
+use Rattle.h5w_found.proofs.WalkLemmas.{chunk_refused, gives_err, header_kind}
 use Rattle.h5w_found.proofs.walk.chunk_0_messages.Goals as goal
 
 pub put_before-requires-clause-listed : goal.put_before-requires-clause-listed
@@ -17,8 +17,11 @@ refused_header-requires-clause-overrun c =
     let b = a.bytes.now in
     listed_err (length b) c.chunk_0_list.result (known_by a.writing (messages_at b)) c.in-Err.error c.chunk_0_list.ensures (known_by_listed (length b) a.writing (messages_at b) (messages_listed b)) c.in-Err.is
 
-pub returns-in-Err : goal.returns-in-Err
-returns-in-Err c =
+pub returns-in-Err-clause-kinds : goal.returns-in-Err-clause-kinds
+returns-in-Err-clause-kinds c = rw c.refused_header.ensures (header_kind c.args.place c.in-Err.error)
+
+pub returns-in-Err-clause-told : goal.returns-in-Err-clause-told
+returns-in-Err-clause-told c =
     let a = c.args in
     let b = a.bytes.now in
     rw c.refused_header.ensures (chunk_refused a.writing a.place b c.in-Err.error (gives_err c.chunk_0_list.result (known_by a.writing (messages_at b)) c.in-Err.error c.chunk_0_list.ensures c.in-Err.is))

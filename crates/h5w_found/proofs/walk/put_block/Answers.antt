@@ -3,7 +3,7 @@ use Rattle.h5w_model.specs.Headers.{block_at}
 use Rattle.h5w_found.specs.Walks.{known_by}
 use Rattle.h5w_found.specs.Headers.{stack}
 use Rattle.h5w_found.proofs.ListedLemmas.{known_by_listed, block_listed, listed_ok, listed_err}
-use Rattle.h5w_found.proofs.WalkLemmas.{gives_err, before_refused}
+use Rattle.h5w_found.proofs.WalkLemmas.{before_refused, gives_err, header_kind}
 use Rattle.h5w_found.proofs.walk.put_block.Goals as goal
 
 pub put_before-requires-clause-listed : goal.put_before-requires-clause-listed
@@ -18,8 +18,11 @@ refused_header-requires-clause-overrun c =
     let b = a.bytes.now in
     listed_err (length b) c.block_list.result (known_by a.writing (block_at a.tracked b)) c.in-Err.error c.block_list.ensures (known_by_listed (length b) a.writing (block_at a.tracked b) (block_listed a.tracked b)) c.in-Err.is
 
-pub returns-in-Err : goal.returns-in-Err
-returns-in-Err c =
+pub returns-in-Err-clause-kinds : goal.returns-in-Err-clause-kinds
+returns-in-Err-clause-kinds c = rw c.refused_header.ensures (header_kind c.args.place c.in-Err.error)
+
+pub returns-in-Err-clause-told : goal.returns-in-Err-clause-told
+returns-in-Err-clause-told c =
     let a = c.args in
     let b = a.bytes.now in
     rw c.refused_header.ensures

@@ -4,14 +4,14 @@ use Rattle.h5w_found.proofs.RanLemmas.{going_stop, going_on, going_end, told_ok,
 use Rattle.h5w_found.proofs.WalkLemmas.{walk_step, walk_done, walk_on}
 use Rattle.h5w_found.proofs.walk.walk.Goals as goal
 
-pub returns-in_err-enter : goal.returns-in_err-enter
-returns-in_err-enter g c =
+pub returns-in_err-enter-clause-ran : goal.returns-in_err-enter-clause-ran
+returns-in_err-enter-clause-ran g c =
     let a = c.args in
     let l = c.loop-done in
     let some : 0 < l.more = omega arith in
     let passed = rw c.in-Some.is at c.in_ok-m.ensures.passed in
     let is : c.from_residual-in_err-enter.result ≡ Err c.in_err-enter.field-0.0 = search rules in
-    rw is (going_stop _ _ (entered a.writing a.tracked (found_of c.in-Some.m) (stack c.pass.new.next.items) (ranges_of l.extents.items)) c.in_err-enter.field-0.0 l.invariant c.in_err-enter.ensures
+    rw is (going_stop _ _ (entered a.writing a.tracked (found_of c.in-Some.m) (stack c.pass.new.next.items) (ranges_of l.extents.items)) c.in_err-enter.field-0.0 l.invariant c.in_err-enter.ensures.ran
     (λ img f said. walk_step img a.writing l.more (l.more - 1) a.header a.tracked (ranges_of l.extents.items) (founds l.done.items) (stack l.next.items) (founds c.pass.new.done.items) (stack c.pass.new.next.items) c.in-Some.m some refl passed
     ∙ step_err _ f (walk_on a.writing (l.more - 1) a.header a.tracked (founds c.pass.new.done.items) img) said))
 
@@ -21,12 +21,12 @@ loop-done-preserved g c =
     let l = c.loop-done in
     let some : 0 < l.more = omega arith in
     let passed = rw c.in-Some.is at c.in_ok-m.ensures.passed in
-    going_on _ _ _ (entered a.writing a.tracked (found_of c.in-Some.m) (stack c.pass.new.next.items) (ranges_of l.extents.items)) (stack c.enter.new.next.items, ranges_of c.enter.new.extents.items) l.invariant c.in_ok-enter.ensures
+    going_on _ _ _ (entered a.writing a.tracked (found_of c.in-Some.m) (stack c.pass.new.next.items) (ranges_of l.extents.items)) (stack c.enter.new.next.items, ranges_of c.enter.new.extents.items) l.invariant c.in_ok-enter.ensures.ran
     (λ img said. walk_step img a.writing l.more (l.more - 1) a.header a.tracked (ranges_of l.extents.items) (founds l.done.items) (stack l.next.items) (founds c.pass.new.done.items) (stack c.pass.new.next.items) c.in-Some.m some refl passed
     ∙ step_ok _ _ (walk_on a.writing (l.more - 1) a.header a.tracked (founds c.pass.new.done.items) img) said)
 
-pub returns : goal.returns
-returns g c =
+pub returns-clause-ran : goal.returns-clause-ran
+returns-clause-ran g c =
     let a = c.args in
     let l = c.loop-done in
     let passed = rw c.in_default.is at c.in_ok-m.ensures.passed in

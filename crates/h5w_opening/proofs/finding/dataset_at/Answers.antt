@@ -16,14 +16,14 @@ returns-in_err-header-clause-ran g c =
     let e = c.in_err-header.field-0.0 in
     let is : c.from_residual.result ≡ Err (open_error e) = search rules in
     rw is (ran_stop (λ img. refused_as Read (eval img (dataset_header_for true c.args.place))) (open_error e) _
-    (ran_as Read open_error (λ img. eval img (dataset_header_for true c.args.place)) (Err e) all_read c.in_err-header.ensures)
+    (ran_as Read open_error (λ img. eval img (dataset_header_for true c.args.place)) (Err e) all_read c.in_err-header.ensures.ran)
     (λ img f said. step_err _ f (λ (h : HeaderFields). known (chunk_0_len h.ranges) h.messages) said))
 
 pub returns-clause-ran : goal.returns-clause-ran
 returns-clause-ran g c =
     let h = header_of c.in_ok-header.header in
     ran_end (λ img. refused_as Read (eval img (dataset_header_for true c.args.place))) h (known (chunk_0_len h.ranges) h.messages) _ _
-    (ran_as Read open_error (λ img. eval img (dataset_header_for true c.args.place)) (Ok h) all_read c.in_ok-header.ensures)
+    (ran_as Read open_error (λ img. eval img (dataset_header_for true c.args.place)) (Ok h) all_read c.in_ok-header.ensures.ran)
     (rw (c.chunk_0_len-len.ensures, c.deref.ensures.value, c.deref-2.ensures.value) at c.known.ensures.told)
     (λ img said. step_ok _ h (λ (h : HeaderFields). known (chunk_0_len h.ranges) h.messages) said)
 

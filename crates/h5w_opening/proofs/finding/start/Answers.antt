@@ -15,12 +15,12 @@ returns-in_err-s-clause-ran g c =
     let e = c.in_err-s.field-0.0 in
     let is : c.from_residual.result ≡ Err (open_error e) = search rules in
     rw is (ran_stop (λ img. refused_as Read (refused_as super_refusal (super_at (range img 0 48)))) (open_error e) _
-    (ran_as Read open_error (λ img. refused_as super_refusal (super_at (range img 0 48))) (Err e) all_read c.in_err-s.ensures)
+    (ran_as Read open_error (λ img. refused_as super_refusal (super_at (range img 0 48))) (Err e) all_read c.in_err-s.ensures.ran)
     (λ img f said. step_err _ f (closed_super c.args.size) said))
 
 pub returns-clause-ran : goal.returns-clause-ran
 returns-clause-ran g c =
     let s = c.in_ok-s.s in
     ran_end (λ img. refused_as Read (refused_as super_refusal (super_at (range img 0 48)))) s (closed_super c.args.size s) _ _
-    (ran_as Read open_error (λ img. refused_as super_refusal (super_at (range img 0 48))) (Ok s) all_read c.in_ok-s.ensures) c.closed.ensures.told
+    (ran_as Read open_error (λ img. refused_as super_refusal (super_at (range img 0 48))) (Ok s) all_read c.in_ok-s.ensures.ran) c.closed.ensures.told
     (λ img said. step_ok _ s (closed_super c.args.size) said)

@@ -1,15 +1,23 @@
-use Rattle.std.proofs.Common.{rules, ◌≡◌, Err, sym, ◌∙◌, inr, arith}
+use Rattle.std.proofs.Common.{rules, ◌≡◌, Err, sym, ap, ◌∙◌, inl, inr, arith}
 use Rattle.h5w_space.specs.declared.Full.{Full}
 use Rattle.h5w_index.specs.Held.{view_of}
 use Rattle.h5w_index.specs.Steps.{HasNoPlace}
 use Rattle.h5w_session.specs.Refusals.{plan_fault}
-use Rattle.h5w_session.proofs.TakingLemmas.{full_of, plan_causes}
+use Rattle.h5w_session.specs.declared.refusal.FlushError.TheVariants as flushes
+use Rattle.h5w_session.proofs.TakingLemmas.{full_of, plan_causes, same_error}
 use Rattle.h5w_session.proofs.flush.prepare.Goals as goal
 
 pub put_rows-requires-clause-ends : goal.put_rows-requires-clause-ends
 put_rows-requires-clause-ends g c k p at =
     let placed = c.in_ok-place_chunks.ensures.placed in
     omega (arith, placed.inside k p at, placed.raised.fits, c.requires.small, placed.raised.limit, c.requires.limit)
+
+pub returns-in_err-place_chunks-clause-full : goal.returns-in_err-place_chunks-clause-full
+returns-in_err-place_chunks-clause-full g c full told =
+    let e = c.in_err-place_chunks.field-0.0 in
+    let is : c.from_residual.result ≡ Err e = search rules in
+    let same : e ≡ flushes.Space full = same_error e (flushes.Space full) (sym is ∙ told) in
+    inl (c.place_chunks.ensures.full full (c.in_err-place_chunks.was ∙ ap (λ x. Err x) same))
 
 pub returns-in_err-begun-clause-causes : goal.returns-in_err-begun-clause-causes
 returns-in_err-begun-clause-causes g c =

@@ -1,7 +1,6 @@
 use Rattle.std.proofs.Common.{◌≡◌, Err, rules}
 use Rattle.h5w_cache.specs.Plans.{Took}
 use Rattle.h5w_space.specs.Space.{extent}
-use Rattle.h5w_starting_laws.proofs.StartCallLemmas.{two_taken}
 use Rattle.h5w_index.proofs.RaisedLemmas.{raised_one}
 use Rattle.h5w_session.specs.Refusals.{no_header}
 use Rattle.h5w_session.proofs.IndexStarts.{refused_so}
@@ -44,4 +43,4 @@ returns-clause-taken c =
       live = c.in_ok-header.ensures.live;
       stays_live = c.in_ok-header.ensures.stays_live;
     } in
-    two_taken s a t h b first second
+    record { between = a; first = first; second = second }

@@ -1,4 +1,5 @@
 use Rattle.std.proofs.Common.{rules, ◌≡◌, ◌≢◌, ℕ, ◌*◌, ◌/◌, ◌≤◌, [], nat_lt, None, refl, sym, ap, subst, ◌∙◌, arith}
+use Rattle.std.specs.Prelude.{IsTrue}
 use Rattle.h5w_model.specs.Numbers.{undefined}
 use Rattle.h5w_model.specs.declared.cell.Key.{Key}
 use Rattle.h5w_chunks.specs.Grids.{dataset_of}
@@ -6,7 +7,7 @@ use Rattle.h5w_chunks.specs.Shares.{touched}
 use Rattle.h5w_chunks.specs.declared.grid.ChunkPlace.{ChunkPlace}
 use Rattle.h5w_chunks.proofs.Geometry.{is_cut}
 use Rattle.h5w_index.specs.Held.{view_of}
-use Rattle.h5w_index.specs.Views.{address_in}
+use Rattle.h5w_index.specs.Views.{IsReached, address_in}
 use Rattle.h5w_index.specs.Placing.{next_key}
 use Rattle.h5w_index.proofs.PlacingLemmas.{placing_laws}
 use Rattle.h5w_session.proofs.AloneLemmas.{alone_is, alone_key, on_none, touched_alone}
@@ -25,7 +26,7 @@ get-requires-clause-key c =
 
 -- rows that go into more chunks than one, or into none
 pub returns-then-to-first-clause-none : goal.returns-then-to-first-clause-none
-returns-then-to-first-clause-none c all =
+returns-then-to-first-clause-none c all reached =
     let d = dataset_of c.args.grid.now in
     let alone = alone_is d d.shape.rows c.args.to (is_cut c.args.grid.now c.requires.grid) c.requires.order all in
     absurd (elim c.then-to-first.branch [
@@ -40,7 +41,16 @@ returns-in_err-address-clause-none c =
     let v = view_of c.args.index.now in
     let key : Key = record { i = d.shape.rows / d.layout.chunk_rows; j = 0 } in
     let none : c.get.result ≡ None = search rules in
-    on_none c.from_residual.result (λ all. ap (address_in v) (alone_key d d.shape.rows c.args.to all) ∙ found_none (address_in v key) (sym c.get.ensures ∙ none))
+    on_none c.from_residual.result (λ all reached. ap (address_in v) (alone_key d d.shape.rows c.args.to all) ∙ found_none (address_in v key) (sym c.get.ensures ∙ none))
+
+-- a chunk that readers do not look for
+pub returns-then-not-is_reached-clause-none : goal.returns-then-not-is_reached-clause-none
+returns-then-not-is_reached-clause-none c all reached =
+    let d = dataset_of c.args.grid.now in
+    let v = view_of c.args.index.now in
+    let yes : IsTrue c.is_reached.result = c.is_reached.ensures.exact.1 (subst (IsReached v) (alone_key d d.shape.rows c.args.to all) reached) in
+    let clash : ⊥ = grind (arith, yes, c.if-not-is_reached.true) in
+    absurd clash
 
 pub returns-clause-exact : goal.returns-clause-exact
 returns-clause-exact c =
@@ -66,7 +76,8 @@ returns-clause-placed c s within =
     let named : address_in v (next_key d []) ≡ p.address = ap (address_in v) (sym number) ∙ there.0 in
     let none = placing_laws.none d c.args.to v s s c.requires.sound refl refl refl refl in
     placing_laws.stored d c.args.to v v s s [] [] p c.requires.fits named defined
-    (λ fresh. subst (λ (k : Key). d.shape.rows ≤ k.i * d.layout.chunk_rows) number (not_less (key.i * d.layout.chunk_rows) d.shape.rows fresh)) within none
+    (λ fresh. subst (λ (k : Key). d.shape.rows ≤ k.i * d.layout.chunk_rows) number (not_less (key.i * d.layout.chunk_rows) d.shape.rows fresh))
+    (subst (IsReached v) number (c.is_reached.ensures.exact.0 c.if-not-is_reached.false)) within none
 
 pub returns-clause-all : goal.returns-clause-all
 returns-clause-all c =

@@ -1,29 +1,54 @@
-use Rattle.std.proofs.Common.{◌≡◌, ◌≢◌, ◌*◌, ◌≤◌, nat_lt, List, sym, ◌∙◌, subst, ap}
+use Rattle.std.proofs.Common.{◌≡◌, ◌≢◌, ◌*◌, ◌≤◌, nat_lt, List, length, sym, ◌∙◌, subst, ap}
 use Rattle.h5w_model.specs.Numbers.{undefined}
 use Rattle.h5w_model.specs.declared.cell.Key.{Key}
 use Rattle.h5w_chunks.specs.Grids.{dataset_of}
 use Rattle.h5w_chunks.specs.declared.grid.ChunkPlace.{ChunkPlace}
 use Rattle.h5w_index.specs.Held.{view_of}
-use Rattle.h5w_index.specs.Views.{address_in}
+use Rattle.h5w_index.specs.Views.{IsReached, address_in}
 use Rattle.h5w_index.specs.Placing.{IsPlacing, next_key}
+use Rattle.h5w_index.specs.Marks.{IsTouched}
+use Rattle.h5w_index.proofs.DepthLemmas.{depth_laws}
 use Rattle.h5w_index.proofs.PlacingLemmas.{placing_laws}
-use Rattle.h5w_session.proofs.TakingLemmas.{found_none, found_some, map_ok, not_less}
+use Rattle.h5w_index.proofs.ToldLemmas.{held_tells}
+use Rattle.h5w_session.proofs.TakingLemmas.{found_none, found_some, map_ok, not_less, on_err}
 use Rattle.h5w_session.proofs.taking.place_chunk.Goals as goal
+
+pub reach-requires-clause-defined : goal.reach-requires-clause-defined
+reach-requires-clause-defined c = (found_some (address_in (view_of c.args.index.now) c.args.key) c.in-Some.address (sym c.get.ensures ∙ c.in-Some.is)).1
+
+pub returns-in_err-keep-clause-partly : goal.returns-in_err-keep-clause-partly
+returns-in_err-keep-clause-partly c =
+    on_err c.from_residual.result (λ to v x touches.
+    placing_laws.held (dataset_of c.args.grid.now) to c.args.key v (view_of c.args.index.now) (view_of c.reach.new.self) c.args.taking.now.added.items touches c.reach.ensures.held x)
+
+pub returns-in_err-keep-clause-within : goal.returns-in_err-keep-clause-within
+returns-in_err-keep-clause-within c bands across row column x =
+    depth_laws.held bands across c.args.key (view_of c.args.index.now) (view_of c.reach.new.self) c.requires.sound row column c.reach.ensures.held x
+
+pub returns-in-Some-clause-within : goal.returns-in-Some-clause-within
+returns-in-Some-clause-within c bands across row column x =
+    depth_laws.held bands across c.args.key (view_of c.args.index.now) (view_of c.reach.new.self) c.requires.sound row column c.reach.ensures.held x
 
 pub returns-in-Some-clause-placed : goal.returns-in-Some-clause-placed
 returns-in-Some-clause-placed c to v s fits within number inside x =
     let d = dataset_of c.args.grid.now in
     let w = view_of c.args.index.now in
+    let u = view_of c.reach.new.self in
     let key = c.args.key in
+    let t = c.args.taking.now.places in
     let chunks = c.args.taking.now.chunks.items in
     let added = c.args.taking.now.added.items in
     let p : ChunkPlace = record { address = c.in-Some.address; stored = nat_lt (key.i * c.args.grid.now.layout.chunk.0) c.args.grid.now.shape.rows } in
     let there = found_some (address_in w key) p.address (sym c.get.ensures ∙ c.in-Some.is) in
     let defined : p.address ≢ undefined = λ e. there.1 (there.0 ∙ e) in
-    let named : address_in w (next_key d chunks) ≡ p.address = ap (address_in w) (sym number) ∙ there.0 in
-    subst (λ (ps : List ChunkPlace). IsPlacing d to v s ps added w c.args.taking.now.places) (sym c.in_ok-keep.ensures.added)
-    (placing_laws.stored d to v w s c.args.taking.now.places chunks added p fits named defined
-    (λ fresh. subst (λ (k : Key). d.shape.rows ≤ k.i * d.layout.chunk_rows) number (not_less (key.i * d.layout.chunk_rows) d.shape.rows fresh)) within x)
+    let held = held_tells key w u c.requires.sound c.reach.ensures.held in
+    let named : address_in u (next_key d chunks) ≡ p.address = ap (address_in u) (sym number) ∙ held.map key ∙ there.0 in
+    let touches : IsTouched d d.shape.rows to key = record { number = length chunks; inside = inside; is = number } in
+    let now : IsPlacing d to v s chunks added u t = placing_laws.holds d to key v w u s t chunks added touches c.reach.ensures.held x in
+    subst (λ (ps : List ChunkPlace). IsPlacing d to v s ps added u t) (sym c.in_ok-keep.ensures.added)
+    (placing_laws.stored d to v u s t chunks added p fits named defined
+    (λ fresh. subst (λ (k : Key). d.shape.rows ≤ k.i * d.layout.chunk_rows) number (not_less (key.i * d.layout.chunk_rows) d.shape.rows fresh))
+    (subst (IsReached u) number c.reach.ensures.reached) within now)
 
 pub place_new-requires-clause-absent : goal.place_new-requires-clause-absent
 place_new-requires-clause-absent c = found_none (address_in (view_of c.args.index.now) c.args.key) (sym c.get.ensures ∙ c.in_default.is)

@@ -2,8 +2,6 @@ use Rattle.std.proofs.Common.{◌≡◌, ◌≤◌, ◌∙◌, rules, length, So
 use Rattle.std.proofs.lemmas.Grind.{common_steps}
 use Rattle.std.specs.Result.{MatchResult}
 use Rattle.h5w_text.specs.declared.script.TextError.TheVariants.{Grammar}
-use Rattle.h5w_text.specs.Scripts.{number_line_of}
-use Rattle.h5w_text.specs.Lines.{words_of}
 use Rattle.h5w_text.specs.Scripts.{rows_of}
 use Rattle.h5w_text.proofs.ScriptLemmas.{numbers_are, numbers_long, numbers_none}
 use Rattle.h5w_text.proofs.script.number_line.Goals as goal

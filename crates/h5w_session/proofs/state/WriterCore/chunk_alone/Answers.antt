@@ -4,8 +4,8 @@ use Rattle.h5w_model.proofs.IntegerLemmas.{int_size_bounds}
 use Rattle.h5w_chunks.specs.Grids.{dataset_of}
 use Rattle.h5w_index.specs.Held.{view_of}
 use Rattle.h5w_index.specs.Steps.{IsPlan}
-use Rattle.h5w_index.specs.Views.{IsClean}
-use Rattle.h5w_session.specs.Flushes.{first_place}
+use Rattle.h5w_index.specs.Views.{IsClean, IsReached}
+use Rattle.h5w_session.specs.Flushes.{first_key, first_place}
 use Rattle.h5w_session.specs.Sessions.{IsSession, Session, rows_of}
 use Rattle.h5w_session.proofs.AloneLemmas.{map_none, map_some, placing_in, touched_from, touched_in}
 use Rattle.h5w_session.proofs.CarriedLemmas.{asks_for, values_few}
@@ -144,7 +144,7 @@ returns-clause-plan c some =
     subst (λ (s : Session). IsPlan s.index s.places [] [] [] s.index s.places) c.self.view_is (c.is_clean.ensures.planned c.if-not-is_clean.false v.places)
 
 pub returns-then-not-is_clean-clause-none : goal.returns-then-not-is_clean-clause-none
-returns-then-not-is_clean-clause-none c clean all =
+returns-then-not-is_clean-clause-none c clean all reached =
     let here : IsClean (view_of c.self.inside.index) = subst (λ (s : Session). IsClean s.index) (sym c.self.view_is) clean in
     let yes : IsTrue c.is_clean.result = c.is_clean.ensures.clean.1 here in
     let clash : ⊥ = grind (arith, yes, c.if-not-is_clean.true) in
@@ -171,5 +171,6 @@ returns-clause-none c =
       keeps = i.keeps;
       index = view_of i.index;
     } in
-    map_none c.named_chunk.result (λ none clean all.
-    ap (λ (s : Session). (first_place s.dataset s.index).address) (sym c.self.view_is) ∙ none (touched_from v c.args.self.now c.rows.result 1 c.self.view_is c.rows.ensures.value all)) c.named_chunk.ensures.none
+    map_none c.named_chunk.result (λ none clean all reached.
+    ap (λ (s : Session). (first_place s.dataset s.index).address) (sym c.self.view_is)
+    ∙ none (touched_from v c.args.self.now c.rows.result 1 c.self.view_is c.rows.ensures.value all) (subst (λ (s : Session). IsReached s.index (first_key s.dataset)) (sym c.self.view_is) reached)) c.named_chunk.ensures.none

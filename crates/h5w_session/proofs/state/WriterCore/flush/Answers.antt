@@ -1,7 +1,8 @@
-use Rattle.std.proofs.Common.{◌≡◌, ◌<◌, ◌∙◌, ap, subst, sym}
+use Rattle.std.proofs.Common.{◌≡◌, ◌<◌, ◌∙◌, ap, subst, sym, arith}
 use Rattle.h5w_session.specs.Sessions.{IsSession, Session}
 use Rattle.h5w_session.proofs.FlushCalls.{is_idle, some_waits, takes_none, told_bound, told_bounds, told_left, told_rows, told_some, told_stands}
 use Rattle.h5w_session.proofs.FlushStands.{nothing_stands}
+use Rattle.h5w_session.proofs.ReachedLemmas.{told_reached}
 use Rattle.h5w_session.proofs.state.WriterCore.flush.Goals as goal
 
 pub returns-then-self-eq0-clause-stands : goal.returns-then-self-eq0-clause-stands
@@ -16,6 +17,15 @@ returns-then-self-eq0-clause-flushed g c =
     let s = c.args.self.now in
     let none : s.waits ≡ 0 = sym (ap (λ (t : Session). t.waits) c.self.view_is) ∙ c.if-self-eq0.true in
     takes_none s (subst IsSession c.self.view_is c.self.invariant.0) none
+
+pub returns-then-self-eq0-clause-reached : goal.returns-then-self-eq0-clause-reached
+returns-then-self-eq0-clause-reached g c some =
+    let s = c.args.self.now in
+    let none : s.waits ≡ 0 = sym (ap (λ (t : Session). t.waits) c.self.view_is) ∙ c.if-self-eq0.true in
+    absurd (omega (arith, some, none))
+
+pub returns-clause-reached : goal.returns-clause-reached
+returns-clause-reached g c some = told_reached c.args.self.now c.flush_rows.new.self c.flush_rows.result c.flush_rows.ensures.flushed
 
 pub returns-clause-left : goal.returns-clause-left
 returns-clause-left g c =

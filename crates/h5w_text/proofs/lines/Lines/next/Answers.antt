@@ -28,3 +28,111 @@ loop-line-preserved g c =
       same_reference = c.loop-line.invariant.same_reference;
       same_intake = c.loop-line.invariant.same_intake;
     }
+
+pub new-line-requires : goal.new-line-requires
+new-line-requires g c = omega arith
+
+pub loop-line-init : goal.loop-line-init
+loop-line-init g c = grind (arith, common_steps)
+
+pub returns-in_err-fill-clause-line : goal.returns-in_err-fill-clause-line
+returns-in_err-fill-clause-line g c = grind (arith, common_steps)
+
+pub returns-in_err-fill-clause-stays : goal.returns-in_err-fill-clause-stays
+returns-in_err-fill-clause-stays g c = grind (arith, common_steps)
+
+pub returns-in_err-fill-clause-input : goal.returns-in_err-fill-clause-input
+returns-in_err-fill-clause-input g c = grind (arith, common_steps)
+
+pub returns-in_err-fill-clause-over : goal.returns-in_err-fill-clause-over
+returns-in_err-fill-clause-over g c = grind (arith, common_steps)
+
+pub returns-in_err-fill-clause-failed : goal.returns-in_err-fill-clause-failed
+returns-in_err-fill-clause-failed g c = grind (arith, common_steps)
+
+pub returns-in_err-fill-clause-cause : goal.returns-in_err-fill-clause-cause
+returns-in_err-fill-clause-cause g c = grind (arith, common_steps)
+
+pub returns-in_err-fill-clause-same_reference : goal.returns-in_err-fill-clause-same_reference
+returns-in_err-fill-clause-same_reference g c = omega arith
+
+pub returns-in_err-fill-clause-same_intake : goal.returns-in_err-fill-clause-same_intake
+returns-in_err-fill-clause-same_intake g c = omega arith
+
+pub last-requires : goal.last-requires
+last-requires g c = omega arith
+
+pub returns-then-not-branch-clause-stays : goal.returns-then-not-branch-clause-stays
+returns-then-not-branch-clause-stays g c = grind (arith, common_steps)
+
+pub returns-then-not-branch-clause-input : goal.returns-then-not-branch-clause-input
+returns-then-not-branch-clause-input g c = grind (arith, common_steps)
+
+pub returns-then-not-branch-clause-over : goal.returns-then-not-branch-clause-over
+returns-then-not-branch-clause-over g c = grind (arith, common_steps)
+
+pub returns-then-not-branch-clause-failed : goal.returns-then-not-branch-clause-failed
+returns-then-not-branch-clause-failed g c = grind (arith, common_steps)
+
+pub returns-then-not-branch-clause-cause : goal.returns-then-not-branch-clause-cause
+returns-then-not-branch-clause-cause g c = grind (arith, common_steps)
+
+pub returns-then-not-branch-clause-same_reference : goal.returns-then-not-branch-clause-same_reference
+returns-then-not-branch-clause-same_reference g c = omega arith
+
+pub returns-then-not-branch-clause-same_intake : goal.returns-then-not-branch-clause-same_intake
+returns-then-not-branch-clause-same_intake g c = omega arith
+
+pub advance-requires : goal.advance-requires
+advance-requires g c = omega arith
+
+pub returns-in_err-advance-clause-line : goal.returns-in_err-advance-clause-line
+returns-in_err-advance-clause-line g c = grind (arith, common_steps)
+
+pub returns-in_err-advance-clause-stays : goal.returns-in_err-advance-clause-stays
+returns-in_err-advance-clause-stays g c = grind (arith, common_steps)
+
+pub returns-in_err-advance-clause-input : goal.returns-in_err-advance-clause-input
+returns-in_err-advance-clause-input g c = grind (arith, common_steps)
+
+pub returns-in_err-advance-clause-over : goal.returns-in_err-advance-clause-over
+returns-in_err-advance-clause-over g c = grind (arith, common_steps)
+
+pub returns-in_err-advance-clause-failed : goal.returns-in_err-advance-clause-failed
+returns-in_err-advance-clause-failed g c = grind (arith, common_steps)
+
+pub returns-in_err-advance-clause-cause : goal.returns-in_err-advance-clause-cause
+returns-in_err-advance-clause-cause g c = grind (arith, common_steps)
+
+pub returns-in_err-advance-clause-same_reference : goal.returns-in_err-advance-clause-same_reference
+returns-in_err-advance-clause-same_reference g c = omega arith
+
+pub returns-in_err-advance-clause-same_intake : goal.returns-in_err-advance-clause-same_intake
+returns-in_err-advance-clause-same_intake g c = omega arith
+
+pub finish-requires : goal.finish-requires
+finish-requires g c = omega arith
+
+pub returns-then-branch-clause-stays : goal.returns-then-branch-clause-stays
+returns-then-branch-clause-stays g c = grind (arith, common_steps)
+
+pub returns-then-branch-clause-input : goal.returns-then-branch-clause-input
+returns-then-branch-clause-input g c = grind (arith, common_steps)
+
+pub returns-then-branch-clause-over : goal.returns-then-branch-clause-over
+returns-then-branch-clause-over g c = grind (arith, common_steps)
+
+pub returns-then-branch-clause-failed : goal.returns-then-branch-clause-failed
+returns-then-branch-clause-failed g c = grind (arith, common_steps)
+
+pub returns-then-branch-clause-cause : goal.returns-then-branch-clause-cause
+returns-then-branch-clause-cause g c = grind (arith, common_steps)
+
+pub returns-then-branch-clause-same_reference : goal.returns-then-branch-clause-same_reference
+returns-then-branch-clause-same_reference g c = omega arith
+
+pub returns-then-branch-clause-same_intake : goal.returns-then-branch-clause-same_intake
+returns-then-branch-clause-same_intake g c = omega arith
+
+pub loop-line-smaller : goal.loop-line-smaller
+loop-line-smaller g c = grind (arith, common_steps)
