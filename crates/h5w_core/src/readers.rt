@@ -1,16 +1,24 @@
 //! What an event makes of a reader in its place.
-ghost use Rattle.std.specs.Prelude.{◌≡◌, None, IfOk, Ok, OnErr, option_map};
+ghost use Rattle.std.specs.Prelude.{◌≡◌, None, Some, IfOk, Ok, OnErr, option_map};
 ghost use Rattle.h5w_image.specs.View.{Same};
 ghost use Rattle.h5w_core.specs.Readers.{IsCalling, LookGives, LookReplies, MayRead, OpenGives, ReadGives, ReadLooks, RefreshGives, ended, placed};
 ghost use Rattle.h5w_steady.specs.Steady.{steady};
 ghost use Rattle.h5w_core.specs.Worlds.{full_reply};
 ghost use Rattle.h5w_space.specs.declared.Full.{Full};
+ghost use Rattle.h5w_reader.specs.Cores.{reader};
 ghost use Rattle.h5w_reader.specs.Readers.{reader_rules};
 
 use h5w_model::{OutOfMemory, ReadError, Reply};
 use h5w_reader::{ReadBegin, ReaderCore, Step};
 use h5w_steady::SteadyImage;
 use std::alloc::Global;
+
+/// Puts a reader into its place.
+fn put(place: &mut Option<ReaderCore>, core: ReaderCore)
+    ensures { placed place.new ≡ Some (reader core) }
+{
+    *place = Some(core);
+}
 
 /// Begins to open a reader of the dataset of this name, where none is there.
 pub fn open(
@@ -28,7 +36,8 @@ pub fn open(
     if place.is_some() {
         return Ok(Reply::ReaderExists { reader });
     }
-    *place = Some(ReaderCore::open(alloc, name, attempts)?);
+    let core = ReaderCore::open(alloc, name, attempts)?;
+    put(place, core);
     Ok(Reply::Opening { reader })
 }
 

@@ -138,7 +138,7 @@ impl World {
     /// it fits the world then; to each log for which the world stood the event was added, unless it was refused. What an
     /// error leaves is as before, but that a look's call is taken away, and that a flush may have held more blocks of the index;
     /// memory is not wanted for what is refused, but maybe for want of a place, nor for a piece that becomes visible. FullSpace is replied
-    /// only if the session's file has no place of this size, free or at its end, for the rows that wait.
+    /// only if the session's file has no place of this size for the rows that wait, as its flush says.
     pub fn step(&mut self, event: Event) -> Result<Reply, OutOfMemory>
         requires { IsHeard (rules_of self.old) event }
         ensures lawful { IfOk result (λ reply. (s : ScriptState) → HaveOneLog self.old s → Allowed (rules_of self.old) s (line_of event) reply × HaveOneLog self.new (next_state (rules_of self.old) s (line_of event) reply)) }

@@ -204,7 +204,7 @@ appends_cut {v} {w} name at limit keeps n first opened h = inr (refl, record { f
     cases b (inr broke) = inr (broken_of name at limit keeps first b opened broke)
 
 wanting : {v w : DiskView} (name at : List ℕ) (e : ErrorLine) → Unopened name at v w e → Unopened name at v w errors.Memory
-wanting {v} name at e h = record { disk = h.disk; exact = any_told v.told (λ d. inl (inr refl)); kinds = inr (OutOfMemory, refl); cause = λ f. cc }
+wanting {v} name at e h = record { disk = h.disk; exact = any_told v.told (λ d. inl (inr refl)); kinds = inr (OutOfMemory, refl, tt); cause = λ f. cc }
 
 -- the file was not opened
 pub appends_none : {v w : DiskView} {k l : SinkView} (x : SourceView) (name at : List ℕ) (limit : ℕ) (keeps : Bool) (e : ErrorLine) (status : Status) → Unopened name at v w e → SaidUnlessMemory (error_text e) (status_of e) status k l

@@ -7,6 +7,7 @@ use Rattle.h5w_model.specs.Logs.{Log}
 use Rattle.h5w_model.specs.Tables.{Reads}
 use Rattle.h5w_image.specs.View.{DiskState, DiskView, IsThere, Leaves, Looked, file}
 use Rattle.h5w_looks.specs.Still.{IsStill}
+use Rattle.h5w_opening.specs.Errors.{IsOpenKind}
 use Rattle.h5w_opening.specs.declared.error.OpenError.{OpenError}
 use Rattle.h5w_opening.specs.declared.error.OpenError.TheVariants as opens
 use Rattle.h5w_session.specs.OpenAnswers.{HasBegun, IsNotOpened, IsOpenAnswer}
@@ -76,12 +77,12 @@ there_cases (Some d) name at e size h f = inner (file d name) h f
     inner (Some img) h f = f img refl
 
 pub unopened_over : {S : Type 0} {v w : DiskView} (r q : ℕ) (name other at : List ℕ) (limit size : ℕ) (x : OpenError) (e : ErrorLine) → size < 2 ^ 64 → HasSize v name size → e ≡ open_line x → Looked (file_image r name v) (file_image q other w)
-    → ((img : List ℕ) → IsStill (file_image r name v) img → IsOpenAnswer img size at limit (Err x)) → (◌≡◌ {A = Result S OpenError} (Err x) (Err opens.Failed) → Rose v.faults w.faults) → Unopened name at v w e
-unopened_over {S} {v} {w} r q name other at limit size x e small sized is looked exact cause = record {
+    → ((img : List ℕ) → IsStill (file_image r name v) img → IsOpenAnswer img size at limit (Err x)) → (◌≡◌ {A = Result S OpenError} (Err x) (Err opens.Failed) → Rose v.faults w.faults) → IsOpenKind x → Unopened name at v w e
+unopened_over {S} {v} {w} r q name other at limit size x e small sized is looked exact cause kind = record {
   disk = looked_files r q name other looked;
   exact = there_cases v.told name at e size sized (λ img told. subst (λ (y : ErrorLine). IsFree y ⊎ ((z : OpenError) × (open_line z ≡ y) × IsNotOpened img (length img) at z)) (sym is)
       (refusal_case img (length img) limit at x (subst (λ n. IsOpenAnswer img n at limit (Err x)) (sized_bytes v.told name size img sized told) (exact img (still r v name size img small sized told)))));
-  kinds = inr (x, sym is);
+  kinds = inr (x, sym is, kind);
   cause = λ h. cause (ap Err (disk_failed x (sym is ∙ h)));
 }
 
@@ -95,7 +96,7 @@ open_missing {v} name at p none = record { disk = leaves_files 0 v.told p; exact
     told (Some d) h = inr (subst (λ (o : Option (List ℕ)). NotOpened at o errors.Missing) (sym (none_of (file d name) h)) refl)
 
 pub open_failed : {v w : DiskView} (name at : List ℕ) → Leaves 0 v.told v w → Rose v.faults w.faults → Unopened name at v w errors.Disk
-open_failed {v} name at p rose = record { disk = leaves_files 0 v.told p; exact = any_told v.told (λ d. inl (inl refl)); kinds = inr (opens.Failed, refl); cause = λ h. rose }
+open_failed {v} name at p rose = record { disk = leaves_files 0 v.told p; exact = any_told v.told (λ d. inl (inl refl)); kinds = inr (opens.Failed, refl, tt); cause = λ h. rose }
 
 -- ---- From one state to another
 
@@ -119,7 +120,7 @@ unopened_before {u} {v} {w} name at e p h = record {
 
 -- room was refused
 pub open_wanting : {v w : DiskView} (name at : List ℕ) → LeavesFiles v.told v w → Unopened name at v w errors.Memory
-open_wanting {v} name at p = record { disk = p; exact = any_told v.told (λ d. inl (inr refl)); kinds = inr (opens.OutOfMemory, refl); cause = λ h. cc }
+open_wanting {v} name at p = record { disk = p; exact = any_told v.told (λ d. inl (inr refl)); kinds = inr (opens.OutOfMemory, refl, tt); cause = λ h. cc }
 
 -- what is retired stays so
 pub opened_keeping : {v : DiskView} (name at : List ℕ) (limit : ℕ) (keeps : Bool) (s t : Session) → t ≡ record s { keeps = keeps } → ((log : Log) → Stands s log → Stands t log) → IsOpenOver name at limit false v s → IsOpenOver name at limit keeps v t

@@ -11,6 +11,7 @@ use Rattle.h5w_model.specs.Tables.{Reads}
 use Rattle.h5w_model.specs.declared.piece.Write.{Write}
 use Rattle.h5w_model.specs.declared.refusal.ReadError.TheVariants as reads
 use Rattle.h5w_model.specs.declared.root.Super.{Super}
+use Rattle.h5w_opening.specs.Errors.{IsOpenKind}
 use Rattle.h5w_opening.specs.declared.error.OpenError.{OpenError}
 use Rattle.h5w_opening.specs.declared.error.OpenError.TheVariants as opens
 use Rattle.h5w_image.specs.View.{DiskView, IsThere, file}
@@ -213,8 +214,9 @@ abbrev pub NotOpened : List ℕ → Option (List ℕ) → ErrorLine → Type 0
 NotOpened at None e = e ≡ errors.Missing
 NotOpened at (Some img) e = (x : OpenError) × (open_line x ≡ e) × IsNotOpened img (length img) at x
 
+-- why a file is not opened: where it is read, it tells of no two looks that differ, of no rows that were seen before, and of no want of memory
 abbrev pub IsOfOpen : ErrorLine → Type 0
-IsOfOpen e = (e ≡ errors.Missing) ⊎ ((x : OpenError) × (open_line x ≡ e))
+IsOfOpen e = (e ≡ errors.Missing) ⊎ ((x : OpenError) × (open_line x ≡ e) × IsOpenKind x)
 
 -- The file is not opened, and everything stays as it was.
 pub record Unopened (name at : List ℕ) (v w : DiskView) (e : ErrorLine) : Type 0 where
