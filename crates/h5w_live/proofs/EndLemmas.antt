@@ -1,7 +1,7 @@
 -- The creation of a file, and its close.
-use Rattle.std.proofs.Common.{◌≡◌, ◌⊎◌, ℕ, ◌+◌, ◌*◌, ◌/◌, ◌<◌, ◌≤◌, List, [], ◌∷◌, ◌++◌, length, map, take, ℤ, Ok, sym, refl, ap, ◌∙◌, subst, arith, inl, inr, length-append}
+use Rattle.std.proofs.Common.{◌≡◌, ◌⊎◌, ℕ, ◌+◌, ◌-◌, ◌*◌, ◌/◌, ◌<◌, ◌≤◌, List, [], ◌∷◌, ◌++◌, length, map, take, ℤ, Ok, sym, refl, ap, ◌∙◌, subst, arith, inl, inr, length-append}
 use Rattle.std.proofs.lemmas.Bool.{cases_lt}
-use Rattle.std.proofs.lemmas.List.{length-map}
+use Rattle.std.proofs.lemmas.List.{length-map, take-append-le, take_all}
 use Rattle.h5w_model.specs.Agrees.{rows_after, values_in}
 use Rattle.h5w_model.specs.declared.cell.IndexKind.{IndexKind}
 use Rattle.h5w_model.specs.declared.cell.IndexKind.TheVariants.{Array, Tree}
@@ -16,6 +16,7 @@ use Rattle.h5w_session.specs.Creations.{IsCreated, log_of}
 use Rattle.h5w_session.specs.Sessions.{AfterPiece, Session, cleared, closed_of, closed_root, with_rows}
 use Rattle.h5w_session.specs.Stands.{Stands}
 use Rattle.h5w_shared.specs.Seats.{ImageId, SeatView}
+use Rattle.h5w_live.specs.Reports.{before_close}
 use Rattle.h5w_live.specs.Writing.{HasClosed, HasFlushed, HasRoom, HasWritten, showing}
 use Rattle.h5w_live.proofs.WritingLemmas.{after_pending, appended_showing, hist_showing, shown_stays}
 use Rattle.h5w_live.proofs.FlushedLemmas.{events_among, flushed_level, flushed_showing, rows_all}
@@ -85,7 +86,23 @@ created_flushed f most s t v w by made stood start none room after wrote stands 
       told = sym no_rows;
     }
 
+-- then the seat has seen the pieces of the creation, and no others
+pub created_seen : (f : CreatedFile) (most : ℕ) (s : Session) (v : SeatView) (lines : List FlushLine) → HasFlushed f most [] s v lines → v.seen ≡ created_writes f
+created_seen f most s v lines h = sym h.writes.seat.pieces ∙ ap hist h.put ∙ hist_showing (created_writes f) []
+
 -- ---- The close
+
+without_last : (ws : List Write) (x : Write) → before_close (ws ++ x ∷ []) ≡ ws
+without_last ws x =
+    let count : length (ws ++ x ∷ []) - 1 ≡ length ws = omega (arith, length-append ws (x ∷ [])) in
+    ap (λ n. take n (ws ++ x ∷ [])) count ∙ take-append-le (length ws) ws (x ∷ []) (omega arith) ∙ take_all (length ws) ws (omega arith)
+
+-- the close writes one piece
+pub closed_last : (s t : Session) (v w : SeatView) → t ≡ closed_of s → HasWritten t.pending v w → before_close w.seen ≡ v.seen
+closed_last s t v w is wrote =
+    let x : Write = record { at = 0; piece = super_bytes (closed_root s) } in
+    let seen : w.seen ≡ v.seen ++ x ∷ [] = wrote.seen ∙ ap (λ (y : Session). v.seen ++ y.pending) is in
+    ap before_close seen ∙ without_last v.seen x
 
 pub closed_after : (f : CreatedFile) (most : ℕ) (done : List (List ℤ)) (s t u : Session) (v w : SeatView) (lines : List FlushLine) → HasFlushed f most done s v lines → t ≡ closed_of s → super_at (super_bytes (closed_root s)) ≡ Ok (closed_root s)
     → ((log : Log) → Stands s log → Stands t log) → AfterPiece t [] u → HasWritten t.pending v w → ((log : Log) → Stands t log → Stands u (record log { events = showing t.pending log.events })) → HasClosed f done u w lines

@@ -1,4 +1,4 @@
--- What a run's log is to its readers, once the session was closed.
+-- What a run's log is to its readers, once all batches were flushed.
 use Rattle.std.proofs.Common.{◌≡◌, ℕ, zero, suc, ◌+◌, ◌*◌, ◌/◌, ◌^◌, ◌<◌, ◌≤◌, Bool, true, false, List, [], ◌∷◌, length, take, ℤ, ◌+ℤ◌, ◌≤ℤ◌, ◌<ℤ◌, None, ◌⊎◌, inl, inr, sym, refl, ap, subst, arith}
 use Rattle.std.proofs.lemmas.Bool.{and_parts}
 use Rattle.std.specs.Int.Signed.{le_z, lt_z}
@@ -24,7 +24,7 @@ use Rattle.h5w_session.proofs.LawLemmas.{shown_laws, standing_laws}
 use Rattle.h5w_shared.specs.Seats.{SeatView}
 use Rattle.h5w_live_laws.specs.Laws.{IsRunOf, Restful}
 use Rattle.h5w_live.specs.Reports.{run_of}
-use Rattle.h5w_live.specs.Writing.{HasClosed, Writes}
+use Rattle.h5w_live.specs.Writing.{HasFlushed, Writes}
 use Rattle.h5w_live.proofs.WritingLemmas.{is_new}
 
 -- ---- Sums
@@ -117,9 +117,9 @@ restful f s v attempts w some = record {
 }
 
 -- a run is told of it
-pub is_run : (f : CreatedFile) (done : List (List ℤ)) (s : Session) (v : SeatView) (lines : List FlushLine) (attempts readers calls : ℕ) (h : HasClosed f done s v lines) → 1 ≤ attempts → IsIntType f.int_type
+pub is_run : (f : CreatedFile) (most : ℕ) (done : List (List ℤ)) (s : Session) (v : SeatView) (lines : List FlushLine) (attempts readers calls : ℕ) (h : HasFlushed f most done s v lines) → 1 ≤ attempts → IsIntType f.int_type
     → length (values_in done) < 2 ^ 52 → IsRunOf (reader_rules f.name attempts) h.writes.log (run_of f attempts readers calls done lines)
-is_run f done s v lines attempts readers calls h some typed few = record {
+is_run f most done s v lines attempts readers calls h some typed few = record {
   restful = restful f s v attempts h.writes some;
   attempts = refl;
   columns = sym (ap (λ (l : Log). l.columns) h.writes.new);

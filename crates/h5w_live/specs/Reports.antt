@@ -1,5 +1,5 @@
 -- What the writer and the readers of a run leave, what the run reports of it, and by what cause it does not.
-use Rattle.std.specs.Prelude.{◌≡◌, ◌≢◌, ℕ, ◌-◌, ◌*◌, ◌/◌, ◌^◌, ◌<◌, ◌≤◌, List, [], ◌∷◌, length, take, ℤ, Some, None, Result, Ok, Err, IfOk, IfErr, OnOk}
+use Rattle.std.specs.Prelude.{◌≡◌, ◌≢◌, ℕ, ◌+◌, ◌-◌, ◌*◌, ◌/◌, ◌^◌, ◌<◌, ◌≤◌, List, [], ◌∷◌, length, take, drop, ℤ, Some, None, Result, Ok, Err, IfOk, IfErr, OnOk}
 use Rattle.h5w_model.specs.Agrees.{Agrees, Run, values_in}
 use Rattle.h5w_model.specs.Headers.{header_view}
 use Rattle.h5w_model.specs.Images.{image}
@@ -9,14 +9,17 @@ use Rattle.h5w_model.specs.Superblock.{super_at}
 use Rattle.h5w_model.specs.Tables.{Reading, Reads, Shows, format_limits}
 use Rattle.h5w_model.specs.declared.piece.Write.{Write}
 use Rattle.h5w_model.specs.declared.report.FlushLine.{FlushLine}
+use Rattle.h5w_model.specs.declared.report.PollLine.{PollLine}
 use Rattle.h5w_model.specs.declared.root.Super.{Super}
 use Rattle.h5w_creation_laws.specs.CreatedFiles.{CreatedFile, created_writes}
 use Rattle.h5w_reader.specs.Readers.{reader_rules}
 use Rattle.h5w_session.specs.Sessions.{Session}
 use Rattle.h5w_session.specs.declared.refusal.AppendError.TheVariants as appends
 use Rattle.h5w_shared.specs.Seats.{ImageId, SeatView}
+use Rattle.h5w_shared.specs.Turns.{StartsWith}
 use Rattle.h5w_live.specs.Ends.{ReadersEnd}
-use Rattle.h5w_live.specs.Writing.{Explains, HasClosed, HasFlushed, IsFullAt, first_refused}
+use Rattle.h5w_live.specs.Reading.{Polled}
+use Rattle.h5w_live.specs.Writing.{Explains, HasFlushed, IsFullAt, first_refused}
 use Rattle.h5w_live.specs.declared.actors.AllEnded.{AllEnded}
 use Rattle.h5w_live.specs.declared.actors.Cut.{Cut}
 use Rattle.h5w_live.specs.declared.report.LiveError.{LiveError}
@@ -66,6 +69,27 @@ pub record IsShut (name : List ℕ) (columns : ℕ) (pieces : List Write) (value
   pub super : super_at (range (image [] pieces) 0 48) ≡ Ok root
   pub flags : root.flags ≡ 0
 
+-- the pieces without the last one, which is that of the close
+abbrev pub before_close : List Write → List Write
+before_close pieces = take (length pieces - 1) pieces
+
+-- each call ended when its seat had seen at most so many pieces
+abbrev pub EndBy : ℕ → List PollLine → Type 0
+EndBy most [] = Unit {0}
+EndBy most (line ∷ lines) = (line.after ≤ most) × EndBy most lines
+
+-- The lines tell of the calls of the reader of this number through its seat, which had seen the pieces of the creation before the first, and in
+-- the end some first ones of these pieces.
+pub record TellsSeat (f : CreatedFile) (attempts reader : ℕ) (pieces : List Write) (lines : List PollLine) : Type 0 where
+  pub seen : List Write
+  pub begins : StartsWith pieces seen
+  pub polled : Polled (reader_rules f.name attempts) [] reader (created_writes f) seen lines
+  pub within : EndBy (length pieces) lines
+
+-- so do the lines of each reader, one reader behind another
+abbrev pub TellSeats : CreatedFile → (attempts readers calls : ℕ) → List Write → List PollLine → Type 0
+TellSeats f attempts readers calls pieces lines = (k : ℕ) → k < readers → TellsSeat f attempts (k + 1) pieces (take calls (drop (k * calls) lines))
+
 -- why a run did not report: the first batch that is refused, or one for which the file has no place, or no fault of the values
 abbrev pub IsCause : CreatedFile → ℕ → List (List ℤ) → LiveError → Type 0
 IsCause f most bs (lives.OutOfRange batch index value) = first_refused f 0 1 bs ≡ Some (batch, appends.OutOfRange index value)
@@ -87,6 +111,7 @@ pub record Reports (f : CreatedFile) (bs : List (List ℤ)) (attempts readers ca
   pub agrees : Agrees (run_of f attempts readers calls bs r.flushes) bs r.polls
   pub whole : AreWhole f.name f.columns r.journal.writes (values_in bs) 0 r.flushes
   pub shut : IsShut f.name f.columns r.journal.writes (values_in bs)
+  pub seats : TellSeats f attempts readers calls (before_close r.journal.writes) r.polls
 
 -- ---- What the threads leave
 
@@ -98,7 +123,7 @@ pub record HasPutAll (f : CreatedFile) (most : ℕ) (bs : List (List ℤ)) (i : 
   pub refused : IfErr w.lines (λ e. Explains f most bs e.0 e.1)
   pub failed : (batch : ℕ) → w.lines ≡ Err (batch, halts.Failed) → 0 < w.seat.faults
 
--- the writer and its readers were joined: each reader's seat had seen these pieces when its thread began
+-- the writer and its readers were joined: each reader's seat had seen the pieces of the creation when its thread began
 pub record Ran (i : ImageId) (w : Written) (r : Result AllEnded Cut) : Type 0 where
   pub file : CreatedFile
   pub most : ℕ
@@ -106,27 +131,22 @@ pub record Ran (i : ImageId) (w : Written) (r : Result AllEnded Cut) : Type 0 wh
   pub attempts : ℕ
   pub readers : ℕ
   pub calls : ℕ
-  pub before : List Write
   pub typed : IsIntType file.int_type
   pub some : 1 ≤ attempts
-  pub begun : length (created_writes file) ≤ length before
   pub put : HasPutAll file most batches i w
-  pub ends : ReadersEnd (reader_rules file.name attempts) i calls readers before r
+  pub ends : ReadersEnd (reader_rules file.name attempts) i calls readers (created_writes file) r
 
--- and then the session was closed
-pub record Joined (i : ImageId) (v : SeatView) (r : Result AllEnded Cut) : Type 0 where
+-- and the session, whose flushes have these lines, is not closed yet
+pub record Joined (i : ImageId) (s : Session) (v : SeatView) (flushes : List FlushLine) (r : Result AllEnded Cut) : Type 0 where
   pub file : CreatedFile
+  pub most : ℕ
   pub batches : List (List ℤ)
-  pub session : Session
-  pub flushes : List FlushLine
   pub attempts : ℕ
   pub readers : ℕ
   pub calls : ℕ
-  pub before : List Write
   pub typed : IsIntType file.int_type
   pub some : 1 ≤ attempts
-  pub begun : length (created_writes file) ≤ length before
   pub few : length (values_in batches) < 2 ^ 52
   pub there : v.image ≡ i
-  pub closed : HasClosed file batches session v flushes
-  pub ends : ReadersEnd (reader_rules file.name attempts) i calls readers before r
+  pub flushed : HasFlushed file most batches s v flushes
+  pub ends : ReadersEnd (reader_rules file.name attempts) i calls readers (created_writes file) r

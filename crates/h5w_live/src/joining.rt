@@ -3,10 +3,11 @@ ghost use Rattle.std.specs.Prelude.{◌≡◌, ℕ, ◌<◌, All, IfErr, IfOk, O
 ghost use Rattle.h5w_model.specs.Agrees.{Agrees, values_in};
 ghost use Rattle.h5w_model.specs.declared.report.FlushLine.{FlushLine};
 ghost use Rattle.h5w_creation_laws.specs.CreatedFiles.{CreatedFile};
+ghost use Rattle.h5w_session.specs.Sessions.{Session};
 ghost use Rattle.h5w_shared.specs.Seats.{NoteView};
 ghost use Rattle.h5w_shared.specs.Turns.{StartsWith};
 ghost use Rattle.h5w_live.specs.declared.writing.Halt.TheVariants as halts;
-ghost use Rattle.h5w_live.specs.Reports.{AreWhole, IsCause, IsShut, Joined, Ran, Reports, TellsNone, run_of};
+ghost use Rattle.h5w_live.specs.Reports.{AreWhole, IsCause, IsShut, Joined, Ran, Reports, TellSeats, TellsNone, before_close, run_of};
 ghost use Rattle.h5w_live.specs.Writing.{Explains, HasClosed, HasFlushed, first_refused};
 
 use crate::actors::{AllEnded, Cut};
@@ -16,7 +17,7 @@ use crate::threads::Written;
 use crate::writer::close;
 use crate::writing::Halt;
 use h5w_image::{ImageError, Journal};
-use h5w_model::PollLine;
+use h5w_model::{FlushLine, PollLine};
 use h5w_session::WriterCore;
 use h5w_shared::{Note, SharedImage, WriterSeat};
 use std::sync::Wait;
@@ -54,15 +55,16 @@ fn meet_all(image: &SharedImage, seat: &mut WriterSeat, mut notes: Vec<Note>)
     }
 }
 
-/// The lines of the readers' calls, which agree with those of the flushes.
+/// The lines of the readers' calls, which agree with those of the flushes. What each reader's seat has seen begins what the writer's has.
 fn judged(
     image: &SharedImage,
     seat: &mut WriterSeat,
     ended: Result<AllEnded, Cut>,
 ) -> Result<Vec<PollLine>, Loss>
-    requires { Joined image.now seat.old ended }
+    requires { (s : Session) × (fs : List FlushLine) × Joined image.now s seat.old fs ended }
     ensures same { seat.new ≡ seat.old }
-    ensures agrees { (j : Joined image.now seat.old ended) → IfOk result (λ lines. Agrees (run_of j.file j.attempts j.readers j.calls j.batches j.flushes) j.batches lines.items) }
+    ensures agrees { (s : Session) (fs : List FlushLine) (j : Joined image.now s seat.old fs ended) → IfOk result (λ lines. Agrees (run_of j.file j.attempts j.readers j.calls j.batches fs) j.batches lines.items) }
+    ensures seats { (s : Session) (fs : List FlushLine) (j : Joined image.now s seat.old fs ended) → IfOk result (λ lines. TellSeats j.file j.attempts j.readers j.calls seat.old.seen lines.items) }
 {
     match ended {
         Ok(AllEnded { lines, notes }) => {
@@ -98,15 +100,16 @@ fn shut<R: Wait>(
     rt: &R,
     image: &SharedImage,
     mut seat: WriterSeat,
-    mut session: WriterCore,
-) -> Result<(WriterSeat, WriterCore), Loss>
+    session: &mut WriterCore,
+) -> Result<WriterSeat, Loss>
     requires image { seat.image ≡ image.now }
-    requires flushed { (f : CreatedFile) × (most : ℕ) × (done : List (List ℤ)) × (lines : List FlushLine) × HasFlushed f most done session seat lines }
-    ensures image { IfOk result (λ r. r.0.image ≡ image.now) }
-    ensures closed { (f : CreatedFile) (most : ℕ) (done : List (List ℤ)) (lines : List FlushLine) → HasFlushed f most done session seat lines → IfOk result (λ r. HasClosed f done r.1 r.0 lines) }
+    requires flushed { (f : CreatedFile) × (most : ℕ) × (done : List (List ℤ)) × (lines : List FlushLine) × HasFlushed f most done session.old seat lines }
+    ensures image { IfOk result (λ r. r.image ≡ image.now) }
+    ensures closed { (f : CreatedFile) (most : ℕ) (done : List (List ℤ)) (lines : List FlushLine) → HasFlushed f most done session.old seat lines → IfOk result (λ r. HasClosed f done session.new r lines) }
+    ensures last { IfOk result (λ r. before_close r.seen ≡ seat.seen) }
 {
-    match close(rt, image, &mut seat, &mut session) {
-        Ok(()) => Ok((seat, session)),
+    match close(rt, image, &mut seat, session) {
+        Ok(()) => Ok(seat),
         Err(_) => match seat.worn() {
             Ok(worn) => Err(Loss::Failed(worn)),
             Err(_) => unreachable!(),
@@ -114,7 +117,29 @@ fn shut<R: Wait>(
     }
 }
 
-/// Closes the file, takes in what the readers left, and reports. The writer's error comes first.
+/// Takes in what the readers left, then closes the session, and reports.
+fn reported<R: Wait>(
+    rt: &R,
+    image: &SharedImage,
+    mut seat: WriterSeat,
+    session: &mut WriterCore,
+    flushes: Vec<FlushLine>,
+    ended: Result<AllEnded, Cut>,
+) -> Result<LiveReport, Loss>
+    requires { Joined image.now session.old seat flushes.items ended }
+    ensures { (j : Joined image.now session.old seat flushes.items ended) → IfOk result (λ report. Reports j.file j.batches j.attempts j.readers j.calls report) }
+{
+    let polls = judged(image, &mut seat, ended)?;
+    let seat = shut(rt, image, seat, session)?;
+    let journal = copied(rt, image, seat)?;
+    Ok(LiveReport {
+        journal,
+        flushes: FlushLines::from_vec(flushes),
+        polls: PollLines::from_vec(polls),
+    })
+}
+
+/// Closes the session after all threads were joined, and reports. The writer's error comes first, then that of the readers, then that of the close.
 pub fn finish<R: Wait>(
     rt: &R,
     image: &SharedImage,
@@ -128,27 +153,14 @@ pub fn finish<R: Wait>(
 {
     let Written {
         seat,
-        session,
+        mut session,
         lines,
     } = written;
-    let flushes = match lines {
-        Ok(flushes) => flushes,
-        Err((batch, halt)) => return Err(halted(batch, halt, seat)),
-    };
-    let (mut seat, _session) = match shut(rt, image, seat, session) {
-        Ok(shut) => shut,
-        Err(loss) => return Err(lost(loss)),
-    };
-    let polls = match judged(image, &mut seat, ended) {
-        Ok(polls) => polls,
-        Err(loss) => return Err(lost(loss)),
-    };
-    match copied(rt, image, seat) {
-        Ok(journal) => Ok(LiveReport {
-            journal,
-            flushes: FlushLines::from_vec(flushes),
-            polls: PollLines::from_vec(polls),
-        }),
-        Err(loss) => Err(lost(loss)),
+    match lines {
+        Ok(flushes) => match reported(rt, image, seat, &mut session, flushes, ended) {
+            Ok(report) => Ok(report),
+            Err(loss) => Err(lost(loss)),
+        },
+        Err((batch, halt)) => Err(halted(batch, halt, seat)),
     }
 }

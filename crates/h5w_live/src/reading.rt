@@ -3,10 +3,11 @@ ghost use Rattle.std.specs.Prelude.{◌≡◌, ◌≢◌, ◌<◌, ◌≤◌, le
 ghost use Rattle.std.specs.Int.{int_wrap, w128};
 ghost use Rattle.h5w_model.specs.Agrees.{total};
 ghost use Rattle.h5w_reader.specs.Cores as cores;
-ghost use Rattle.h5w_reader.specs.Readers.{reader_rules};
+ghost use Rattle.h5w_reader.specs.Readers.{new_reader, reader_rules};
 ghost use Rattle.h5w_live_laws.specs.Laws.{IsStray};
 ghost use Rattle.h5w_live_laws.specs.Polls.{AnswersPoll};
 ghost use Rattle.h5w_model.specs.Calls.{rows_seen};
+ghost use Rattle.h5w_model.specs.Unfinished.{wanted};
 ghost use Rattle.h5w_model.specs.declared.refusal.ReadError.{ReadError};
 ghost use Rattle.h5w_live.specs.Reading.{IsBegun, IsReady, Polled, ReadsThrough, Strays};
 
@@ -146,6 +147,43 @@ fn begin(core: &mut ReaderCore, call: u32)
     }
 }
 
+/// The calls of a reader that has begun to open the dataset: the first opens it, each other refreshes. The reader comes to its turn after each.
+fn polls_of<R: Wait, G: Gate>(
+    rt: &R,
+    alloc: Global,
+    image: &SharedImage,
+    seat: &mut ReaderSeat,
+    core: &mut ReaderCore,
+    reader: u32,
+    calls: u32,
+    gate: &G,
+) -> Result<Vec<PollLine>, Stop>
+    requires image { seat.old.image ≡ image.now }
+    requires opening { cores.reader core.old ≡ new_reader (cores.reader core.old).rules }
+    requires wanting { IsSome (wanted (cores.reader core.old).left) }
+    ensures image { seat.new.image ≡ image.now }
+    ensures count { IfOk result (λ lines. vec_len lines ≡ calls) }
+    ensures lines { IfOk result (λ lines. Polled (cores.reader core.old).rules image.now.start reader seat.old.seen seat.new.seen lines.items) }
+    ensures stray { result ≡ Err Stop.Stray → Strays (cores.reader core.old).rules image.now.start reader seat.old.seen seat.new.seen }
+    ensures failed { result ≡ Err Stop.Failed → 0 < seat.new.faults }
+{
+    let mut lines = Vec::new(alloc);
+    for call in 0..calls {
+        begin(core, call);
+        let before = seat.seen();
+        let answer = poll(rt, image, seat, core)?;
+        lines.push(PollLine {
+            reader,
+            poll: call + 1,
+            before,
+            after: seat.seen(),
+            answer,
+        })?;
+        gate.turn(reader, u64::from(call + 1));
+    }
+    Ok(lines)
+}
+
 /// The calls of a reader: the first opens the dataset of this name, each other refreshes. Where one finds rows, all of them are read.
 /// The reader comes to its turn after each.
 pub fn polls<R: Wait, G: Gate>(
@@ -167,19 +205,5 @@ pub fn polls<R: Wait, G: Gate>(
     ensures failed { result ≡ Err Stop.Failed → 0 < seat.new.faults }
 {
     let mut core = ReaderCore::open(alloc, name, attempts)?;
-    let mut lines = Vec::new(alloc);
-    for call in 0..calls {
-        begin(&mut core, call);
-        let before = seat.seen();
-        let answer = poll(rt, image, seat, &mut core)?;
-        lines.push(PollLine {
-            reader,
-            poll: call + 1,
-            before,
-            after: seat.seen(),
-            answer,
-        })?;
-        gate.turn(reader, u64::from(call + 1));
-    }
-    Ok(lines)
+    polls_of(rt, alloc, image, seat, &mut core, reader, calls, gate)
 }

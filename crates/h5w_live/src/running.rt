@@ -3,7 +3,7 @@ ghost use Rattle.std.specs.Prelude.{◌≡◌, ◌≤◌, IfErr, IfOk, OnOk, Non
 ghost use Rattle.h5w_model.specs.Agrees.{Agrees, values_in};
 ghost use Rattle.h5w_options.specs.Options.{AreAttempts, AreOptions, columns_in};
 ghost use Rattle.h5w_session.specs.Creations.{new_file};
-ghost use Rattle.h5w_live.specs.Reports.{AreWhole, IsCause, IsShut, run_of};
+ghost use Rattle.h5w_live.specs.Reports.{AreWhole, IsCause, IsShut, TellSeats, before_close, run_of};
 ghost use Rattle.h5w_live.specs.Writing.{AreBatches, first_refused};
 
 use crate::creating::create;
@@ -41,6 +41,7 @@ pub fn live<R: Threads + Wait + Sync, G: Gate>(
     ensures agrees { IfOk result (λ r. Agrees (run_of (new_file options.now) attempts readers polls batches.now r.flushes) batches.now r.polls) }
     ensures whole { IfOk result (λ r. AreWhole options.now.name (columns_in options.now.columns) r.journal.writes (values_in batches.now) 0 r.flushes) }
     ensures shut { IfOk result (λ r. IsShut options.now.name (columns_in options.now.columns) r.journal.writes (values_in batches.now)) }
+    ensures seats { IfOk result (λ r. TellSeats (new_file options.now) attempts readers polls (before_close r.journal.writes) r.polls) }
     ensures accepted { OnOk result (first_refused (new_file options.now) 0 1 batches.now ≡ None) }
     ensures cause { IfErr result (IsCause (new_file options.now) options.now.limit batches.now) }
 {

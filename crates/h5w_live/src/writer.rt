@@ -5,6 +5,7 @@ ghost use Rattle.h5w_model.specs.declared.report.FlushLine.{FlushLine};
 ghost use Rattle.h5w_creation_laws.specs.CreatedFiles.{CreatedFile};
 ghost use Rattle.h5w_session.specs.Sessions.{AreRows};
 ghost use Rattle.h5w_live.specs.declared.writing.Halt.{Halt};
+ghost use Rattle.h5w_live.specs.Reports.{before_close};
 ghost use Rattle.h5w_live.specs.Writing.{AreBatches, Explains, HasClosed, HasFlushed, Refuses, batch_refusal, first_refused};
 
 use crate::batch::put;
@@ -97,6 +98,7 @@ pub fn close<R: Wait>(
     requires flushed { (f : CreatedFile) × (most : ℕ) × (done : List (List ℤ)) × (lines : List FlushLine) × HasFlushed f most done session.old seat.old lines }
     ensures image { seat.new.image ≡ image.now }
     ensures closed { (f : CreatedFile) (most : ℕ) (done : List (List ℤ)) (lines : List FlushLine) → HasFlushed f most done session.old seat.old lines → OnOk result (HasClosed f done session.new seat.new lines) }
+    ensures last { OnOk result (before_close seat.new.seen ≡ seat.old.seen) }
     ensures failed { OnErr result (0 < seat.new.faults) }
 {
     session.close().unwrap();

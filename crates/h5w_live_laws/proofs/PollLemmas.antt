@@ -121,15 +121,16 @@ onward g log known before after next (polls.Again attempts) h first knows starts
     let longer = through_starts log.start before after f.looks f.looked in
     (subst (λ (k : Option Reading). KnowsShown g.name log (length after) k) (sym f.knows) (known_later g.name log (length before) (length after) known (starts_length after before longer) knows), longer)
 
-tell_starts : (g : ReaderRules) (log : Log) (reader call : ℕ) (known : Option Reading) (before : List Write) (lines : List PollLine) (next : Option Reading) (after : List Write)
-    → TellPolls g log.start reader call known before lines next after → StartsWith after before
-tell_starts g log reader call known before [] next after h = subst (λ (l : List Write). StartsWith l before) (sym h.1) (starts_itself before)
-tell_starts g log reader call known before (line ∷ lines) next after h =
-    starts_both after h.1 before (tell_starts g log reader (call + 1) h.0 h.1 lines next after h.3) (answer_starts line.answer h.2.answers)
+-- what was seen in the end begins with what was seen before
+pub tell_starts : (g : ReaderRules) (start : List ℕ) (reader call : ℕ) (known : Option Reading) (before : List Write) (lines : List PollLine) (next : Option Reading) (after : List Write)
+    → TellPolls g start reader call known before lines next after → StartsWith after before
+tell_starts g start reader call known before [] next after h = subst (λ (l : List Write). StartsWith l before) (sym h.1) (starts_itself before)
+tell_starts g start reader call known before (line ∷ lines) next after h =
+    starts_both after h.1 before (tell_starts g start reader (call + 1) h.0 h.1 lines next after h.3) (answer_starts line.answer h.2.answers)
   where
-    answer_starts : (a : Poll) → AnswersPoll g log.start known before h.1 h.0 a → StartsWith h.1 before
-    answer_starts (polls.Rows rows sum) f = starts_both h.1 f.between before (through_starts log.start f.between h.1 f.reads f.read) (through_starts log.start before f.between f.looks f.looked)
-    answer_starts (polls.Again attempts) f = through_starts log.start before h.1 f.looks f.looked
+    answer_starts : (a : Poll) → AnswersPoll g start known before h.1 h.0 a → StartsWith h.1 before
+    answer_starts (polls.Rows rows sum) f = starts_both h.1 f.between before (through_starts start f.between h.1 f.reads f.read) (through_starts start before f.between f.looks f.looked)
+    answer_starts (polls.Again attempts) f = through_starts start before h.1 f.looks f.looked
 
 -- what is known behind all lines
 known_after : (g : ReaderRules) (log : Log) (reader call : ℕ) (known : Option Reading) (before : List Write) (lines : List PollLine) (next : Option Reading) (after : List Write)
@@ -138,7 +139,7 @@ known_after : (g : ReaderRules) (log : Log) (reader call : ℕ) (known : Option 
 known_after g log reader call known before [] next after h first knows starts t =
     subst (λ (l : List Write). KnowsShown g.name log (length l) next) (sym t.1) (subst (λ (k : Option Reading). KnowsShown g.name log (length before) k) (sym t.0) knows)
 known_after g log reader call known before (line ∷ lines) next after h first knows starts t =
-    let here = onward g log known before t.1 t.0 line.answer h first knows (starts_both (hist log.events) after t.1 starts (tell_starts g log reader (call + 1) t.0 t.1 lines next after t.3)) t.2.answers in
+    let here = onward g log known before t.1 t.0 line.answer h first knows (starts_both (hist log.events) after t.1 starts (tell_starts g log.start reader (call + 1) t.0 t.1 lines next after t.3)) t.2.answers in
     known_after g log reader (call + 1) t.0 t.1 lines next after h (omega (arith, first, starts_length t.1 before here.1)) here.0 starts t.3
 
 -- ---- Values
@@ -223,7 +224,7 @@ agree_from : (g : ReaderRules) (log : Log) (run : Run) (reader call : ℕ) (know
     → ReaderAgrees run reader call (length before) (rows_seen known) lines
 agree_from g log run reader call known before after [] next h first knows starts t = tt
 agree_from g log run reader call known before after (line ∷ lines) next h first knows starts t =
-    let line_starts = starts_both (hist log.events) after t.1 starts (tell_starts g log reader (call + 1) t.0 t.1 lines next after t.3) in
+    let line_starts = starts_both (hist log.events) after t.1 starts (tell_starts g log.start reader (call + 1) t.0 t.1 lines next after t.3) in
     let here = onward g log known before t.1 t.0 line.answer h.restful first knows line_starts t.2.answers in
     let agrees = answer_agrees g log run known before t.1 t.0 line line.answer h first knows line_starts t.2.before_is t.2.after_is t.2.answers in
     let longer = starts_length t.1 before here.1 in
@@ -281,6 +282,6 @@ poll_laws = record {
   agree = λ g log run reader before after lines next h first starts t. agree_from g log run reader 1 None before after lines next h first tt starts t;
   none_stray = λ g log reader before between after lines next h first starts t stray.
       let middle = starts_both (hist log.events) after between starts (stray_starts g log next between after stray) in
-      not_stray g log next between after h (omega (arith, first, starts_length between before (tell_starts g log reader 1 None before lines next between t)))
+      not_stray g log next between after h (omega (arith, first, starts_length between before (tell_starts g log.start reader 1 None before lines next between t)))
       (known_after g log reader 1 None before lines next between h first tt middle t) starts stray;
 }

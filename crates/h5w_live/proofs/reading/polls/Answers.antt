@@ -1,32 +1,18 @@
-use Rattle.std.proofs.Common.{rules, ◌+◌, refl}
-use Rattle.h5w_reader.specs.Cores.{reader}
-use Rattle.h5w_reader.specs.Readers.{reader_rules}
-use Rattle.h5w_live.proofs.ReadingLemmas.{polls_first, polls_more, polls_stray}
+use Rattle.std.proofs.Common.{sym, ap, ◌∙◌, subst}
+use Rattle.std.specs.Prelude.{IfOk}
+use Rattle.h5w_model.specs.Unfinished.{Reader, ReaderRules}
+use Rattle.h5w_reader.specs.Readers.{new_reader}
+use Rattle.h5w_live.specs.Reading.{Polled, Strays}
 use Rattle.h5w_live.proofs.reading.polls.Goals as goal
 
-pub loop-call-init : goal.loop-call-init
-loop-call-init g c = (
-  c.requires.image,
-  polls_first (reader_rules c.args.name.now c.args.attempts) c.args.image.now.start c.args.reader c.args.seat.now.seen (reader c.in_ok-core.core) c.new-lines.result.items c.in_ok-core.ensures.begun c.in_ok-core.ensures.wanting
-      c.new-lines.ensures.items,
-)
-
-pub begin-requires : goal.begin-requires
-begin-requires g c = c.loop-call.invariant.1.ready
-
-pub returns-in_err-answer-clause-stray : goal.returns-in_err-answer-clause-stray
-returns-in_err-answer-clause-stray g c = λ e.
-    polls_stray (reader_rules c.args.name.now c.args.attempts) c.args.image.now.start c.args.reader c.args.seat.now.seen c.loop-call.call (reader c.loop-call.core) (reader c.begin.new.core) c.loop-call.seat.seen c.poll.new.seat.seen
-    c.loop-call.lines.items c.loop-call.invariant.1 c.begin.ensures.rules c.begin.ensures.known (c.poll.ensures.stray (search rules))
-
-pub loop-call-preserved : goal.loop-call-preserved
-loop-call-preserved g c = (
-  c.poll.ensures.image,
-  polls_more (reader_rules c.args.name.now c.args.attempts) c.args.image.now.start c.args.reader c.args.seat.now.seen c.loop-call.call (reader c.loop-call.core) (reader c.begin.new.core) c.loop-call.seat.seen c.poll.new.seat.seen
-      c.loop-call.lines.items c.loop-call.invariant.1 c.begin.ensures.rules c.begin.ensures.known (reader c.poll.new.core)
-      (record { reader = c.args.reader; poll = c.loop-call.call + 1; before = c.seen-before.result; after = c.seen.result; answer = c.in_ok-answer.answer }) c.push.new.self.items c.in_ok-answer.ensures.answers c.in_ok-answer.ensures.idle
-      c.in_ok-answer.ensures.rules refl refl c.seen-before.ensures c.seen.ensures c.in_ok-push.ensures.items,
-)
+pub polls_of-requires-clause-opening : goal.polls_of-requires-clause-opening
+polls_of-requires-clause-opening g c κs within =
+    let begun = c.in_ok-core.ensures.begun in begun ∙ ap (λ (r : Reader). new_reader r.rules) (sym begun)
 
 pub returns-clause-lines : goal.returns-clause-lines
-returns-clause-lines g c = record { next = (reader c.loop-call.core).known; tell = c.loop-call.invariant.1.tell }
+returns-clause-lines g c =
+    subst (λ (x : ReaderRules). IfOk c.polls_of.result (λ lines. Polled x c.args.image.now.start c.args.reader c.args.seat.now.seen c.polls_of.new.seat.seen lines.items)) (ap (λ (r : Reader). r.rules) c.in_ok-core.ensures.begun) c.polls_of.ensures.lines
+
+pub returns-clause-stray : goal.returns-clause-stray
+returns-clause-stray g c = λ e.
+    subst (λ (x : ReaderRules). Strays x c.args.image.now.start c.args.reader c.args.seat.now.seen c.polls_of.new.seat.seen) (ap (λ (r : Reader). r.rules) c.in_ok-core.ensures.begun) (c.polls_of.ensures.stray e)

@@ -3,9 +3,10 @@ use Rattle.h5w_model.specs.Agrees.{Agrees, values_in}
 use Rattle.h5w_options.specs.Options.{columns_in}
 use Rattle.h5w_session.specs.Creations.{new_file}
 use Rattle.h5w_shared.specs.Seats.{SeatView}
-use Rattle.h5w_live.specs.Reports.{AreWhole, IsShut, Reports, run_of}
+use Rattle.h5w_live.specs.Reports.{AreWhole, IsShut, Reports, TellSeats, before_close, run_of}
 use Rattle.h5w_live.specs.Writing.{AreBatches, HasFlushed}
 use Rattle.h5w_live.specs.declared.report.LiveReport.{LiveReport}
+use Rattle.h5w_live.proofs.EndLemmas.{created_seen}
 use Rattle.h5w_live.proofs.JoinLemmas.{if_ok, ran_of}
 use Rattle.h5w_live.proofs.WriterLemmas.{batches_of}
 use Rattle.h5w_live.proofs.running.live.Goals as goal
@@ -18,14 +19,14 @@ run-written-requires-clause-rows g c κs within =
 pub finish-requires : goal.finish-requires
 finish-requires g c =
     ran_of c.in-Ok.created.0 c.run-written.result.0 c.run-written.result.1 (new_file c.args.options.now) c.args.options.now.limit c.args.batches.now c.as_slice.result.now c.as_slice-name.result.now c.args.attempts c.args.readers c.args.polls
-    (vec_len c.in-Ok-seats.seats) c.in-Ok.created.1.seen c.requires.options.typed c.requires.attempts.some c.in-Ok.ensures.created.writes.begun c.as_slice.ensures c.as_slice-name.ensures c.in-Ok-seats.ensures.count
+    (vec_len c.in-Ok-seats.seats) c.in-Ok.created.1.seen c.requires.options.typed c.requires.attempts.some (created_seen (new_file c.args.options.now) c.args.options.now.limit c.in-Ok.created.2 c.in-Ok.created.1 [] c.in-Ok.ensures.created) c.as_slice.ensures c.as_slice-name.ensures c.in-Ok-seats.ensures.count
     (c.run-written.ensures.written (new_file c.args.options.now) c.args.options.now.limit (subst (λ (v : SeatView). HasFlushed (new_file c.args.options.now) c.args.options.now.limit [] c.in-Ok.created.2 v []) (sym c.in-Ok-seats.ensures.same) c.in-Ok.ensures.created))
     (c.run-written.ensures.ended c.in-Ok.created.1.seen c.in-Ok-seats.ensures.seen)
 
 pub returns-clause-agrees : goal.returns-clause-agrees
 returns-clause-agrees g c =
     let ran = ran_of c.in-Ok.created.0 c.run-written.result.0 c.run-written.result.1 (new_file c.args.options.now) c.args.options.now.limit c.args.batches.now c.as_slice.result.now c.as_slice-name.result.now c.args.attempts c.args.readers c.args.polls
-    (vec_len c.in-Ok-seats.seats) c.in-Ok.created.1.seen c.requires.options.typed c.requires.attempts.some c.in-Ok.ensures.created.writes.begun c.as_slice.ensures c.as_slice-name.ensures c.in-Ok-seats.ensures.count
+    (vec_len c.in-Ok-seats.seats) c.in-Ok.created.1.seen c.requires.options.typed c.requires.attempts.some (created_seen (new_file c.args.options.now) c.args.options.now.limit c.in-Ok.created.2 c.in-Ok.created.1 [] c.in-Ok.ensures.created) c.as_slice.ensures c.as_slice-name.ensures c.in-Ok-seats.ensures.count
     (c.run-written.ensures.written (new_file c.args.options.now) c.args.options.now.limit (subst (λ (v : SeatView). HasFlushed (new_file c.args.options.now) c.args.options.now.limit [] c.in-Ok.created.2 v []) (sym c.in-Ok-seats.ensures.same) c.in-Ok.ensures.created))
     (c.run-written.ensures.ended c.in-Ok.created.1.seen c.in-Ok-seats.ensures.seen) in
     if_ok (λ (r : LiveReport). Reports (new_file c.args.options.now) c.args.batches.now c.args.attempts c.args.readers c.args.polls r)
@@ -34,7 +35,7 @@ returns-clause-agrees g c =
 pub returns-clause-whole : goal.returns-clause-whole
 returns-clause-whole g c =
     let ran = ran_of c.in-Ok.created.0 c.run-written.result.0 c.run-written.result.1 (new_file c.args.options.now) c.args.options.now.limit c.args.batches.now c.as_slice.result.now c.as_slice-name.result.now c.args.attempts c.args.readers c.args.polls
-    (vec_len c.in-Ok-seats.seats) c.in-Ok.created.1.seen c.requires.options.typed c.requires.attempts.some c.in-Ok.ensures.created.writes.begun c.as_slice.ensures c.as_slice-name.ensures c.in-Ok-seats.ensures.count
+    (vec_len c.in-Ok-seats.seats) c.in-Ok.created.1.seen c.requires.options.typed c.requires.attempts.some (created_seen (new_file c.args.options.now) c.args.options.now.limit c.in-Ok.created.2 c.in-Ok.created.1 [] c.in-Ok.ensures.created) c.as_slice.ensures c.as_slice-name.ensures c.in-Ok-seats.ensures.count
     (c.run-written.ensures.written (new_file c.args.options.now) c.args.options.now.limit (subst (λ (v : SeatView). HasFlushed (new_file c.args.options.now) c.args.options.now.limit [] c.in-Ok.created.2 v []) (sym c.in-Ok-seats.ensures.same) c.in-Ok.ensures.created))
     (c.run-written.ensures.ended c.in-Ok.created.1.seen c.in-Ok-seats.ensures.seen) in
     if_ok (λ (r : LiveReport). Reports (new_file c.args.options.now) c.args.batches.now c.args.attempts c.args.readers c.args.polls r)
@@ -43,16 +44,25 @@ returns-clause-whole g c =
 pub returns-clause-shut : goal.returns-clause-shut
 returns-clause-shut g c =
     let ran = ran_of c.in-Ok.created.0 c.run-written.result.0 c.run-written.result.1 (new_file c.args.options.now) c.args.options.now.limit c.args.batches.now c.as_slice.result.now c.as_slice-name.result.now c.args.attempts c.args.readers c.args.polls
-    (vec_len c.in-Ok-seats.seats) c.in-Ok.created.1.seen c.requires.options.typed c.requires.attempts.some c.in-Ok.ensures.created.writes.begun c.as_slice.ensures c.as_slice-name.ensures c.in-Ok-seats.ensures.count
+    (vec_len c.in-Ok-seats.seats) c.in-Ok.created.1.seen c.requires.options.typed c.requires.attempts.some (created_seen (new_file c.args.options.now) c.args.options.now.limit c.in-Ok.created.2 c.in-Ok.created.1 [] c.in-Ok.ensures.created) c.as_slice.ensures c.as_slice-name.ensures c.in-Ok-seats.ensures.count
     (c.run-written.ensures.written (new_file c.args.options.now) c.args.options.now.limit (subst (λ (v : SeatView). HasFlushed (new_file c.args.options.now) c.args.options.now.limit [] c.in-Ok.created.2 v []) (sym c.in-Ok-seats.ensures.same) c.in-Ok.ensures.created))
     (c.run-written.ensures.ended c.in-Ok.created.1.seen c.in-Ok-seats.ensures.seen) in
     if_ok (λ (r : LiveReport). Reports (new_file c.args.options.now) c.args.batches.now c.args.attempts c.args.readers c.args.polls r)
     (λ (r : LiveReport). IsShut c.args.options.now.name (columns_in c.args.options.now.columns) r.journal.writes (values_in c.args.batches.now)) c.finish.result (λ r h. h.shut) (c.finish.ensures.reports ran)
 
+pub returns-clause-seats : goal.returns-clause-seats
+returns-clause-seats g c =
+    let ran = ran_of c.in-Ok.created.0 c.run-written.result.0 c.run-written.result.1 (new_file c.args.options.now) c.args.options.now.limit c.args.batches.now c.as_slice.result.now c.as_slice-name.result.now c.args.attempts c.args.readers c.args.polls
+    (vec_len c.in-Ok-seats.seats) c.in-Ok.created.1.seen c.requires.options.typed c.requires.attempts.some (created_seen (new_file c.args.options.now) c.args.options.now.limit c.in-Ok.created.2 c.in-Ok.created.1 [] c.in-Ok.ensures.created) c.as_slice.ensures c.as_slice-name.ensures c.in-Ok-seats.ensures.count
+    (c.run-written.ensures.written (new_file c.args.options.now) c.args.options.now.limit (subst (λ (v : SeatView). HasFlushed (new_file c.args.options.now) c.args.options.now.limit [] c.in-Ok.created.2 v []) (sym c.in-Ok-seats.ensures.same) c.in-Ok.ensures.created))
+    (c.run-written.ensures.ended c.in-Ok.created.1.seen c.in-Ok-seats.ensures.seen) in
+    if_ok (λ (r : LiveReport). Reports (new_file c.args.options.now) c.args.batches.now c.args.attempts c.args.readers c.args.polls r)
+    (λ (r : LiveReport). TellSeats (new_file c.args.options.now) c.args.attempts c.args.readers c.args.polls (before_close r.journal.writes) r.polls) c.finish.result (λ r h. h.seats) (c.finish.ensures.reports ran)
+
 pub returns-clause-accepted : goal.returns-clause-accepted
 returns-clause-accepted g c =
     let ran = ran_of c.in-Ok.created.0 c.run-written.result.0 c.run-written.result.1 (new_file c.args.options.now) c.args.options.now.limit c.args.batches.now c.as_slice.result.now c.as_slice-name.result.now c.args.attempts c.args.readers c.args.polls
-    (vec_len c.in-Ok-seats.seats) c.in-Ok.created.1.seen c.requires.options.typed c.requires.attempts.some c.in-Ok.ensures.created.writes.begun c.as_slice.ensures c.as_slice-name.ensures c.in-Ok-seats.ensures.count
+    (vec_len c.in-Ok-seats.seats) c.in-Ok.created.1.seen c.requires.options.typed c.requires.attempts.some (created_seen (new_file c.args.options.now) c.args.options.now.limit c.in-Ok.created.2 c.in-Ok.created.1 [] c.in-Ok.ensures.created) c.as_slice.ensures c.as_slice-name.ensures c.in-Ok-seats.ensures.count
     (c.run-written.ensures.written (new_file c.args.options.now) c.args.options.now.limit (subst (λ (v : SeatView). HasFlushed (new_file c.args.options.now) c.args.options.now.limit [] c.in-Ok.created.2 v []) (sym c.in-Ok-seats.ensures.same) c.in-Ok.ensures.created))
     (c.run-written.ensures.ended c.in-Ok.created.1.seen c.in-Ok-seats.ensures.seen) in
     c.finish.ensures.accepted ran
@@ -60,7 +70,7 @@ returns-clause-accepted g c =
 pub returns-clause-cause : goal.returns-clause-cause
 returns-clause-cause g c =
     let ran = ran_of c.in-Ok.created.0 c.run-written.result.0 c.run-written.result.1 (new_file c.args.options.now) c.args.options.now.limit c.args.batches.now c.as_slice.result.now c.as_slice-name.result.now c.args.attempts c.args.readers c.args.polls
-    (vec_len c.in-Ok-seats.seats) c.in-Ok.created.1.seen c.requires.options.typed c.requires.attempts.some c.in-Ok.ensures.created.writes.begun c.as_slice.ensures c.as_slice-name.ensures c.in-Ok-seats.ensures.count
+    (vec_len c.in-Ok-seats.seats) c.in-Ok.created.1.seen c.requires.options.typed c.requires.attempts.some (created_seen (new_file c.args.options.now) c.args.options.now.limit c.in-Ok.created.2 c.in-Ok.created.1 [] c.in-Ok.ensures.created) c.as_slice.ensures c.as_slice-name.ensures c.in-Ok-seats.ensures.count
     (c.run-written.ensures.written (new_file c.args.options.now) c.args.options.now.limit (subst (λ (v : SeatView). HasFlushed (new_file c.args.options.now) c.args.options.now.limit [] c.in-Ok.created.2 v []) (sym c.in-Ok-seats.ensures.same) c.in-Ok.ensures.created))
     (c.run-written.ensures.ended c.in-Ok.created.1.seen c.in-Ok-seats.ensures.seen) in
     c.finish.ensures.cause ran
