@@ -12,9 +12,7 @@ use crate::answer::{Refusal, answer};
 use crate::ending::Ending;
 use h5w_batches::INPUT_LIMIT;
 use h5w_core::{Options, World};
-use h5w_text::{
-    ErrorLine, Intake, Lines, Next, Sink, Source, Status, TextLine, say, tell, write_reply,
-};
+use h5w_text::{ErrorLine, Intake, Lines, Next, Sink, Source, Status, TextLine, tell, write_reply};
 use std::alloc::Global;
 
 /// Answers a line of the input, and writes the reply's text. What `text` had before is let go.
@@ -88,6 +86,25 @@ fn script<S: Source, K: Sink>(
     answer_lines(alloc, world, &mut lines, sink)
 }
 
+/// Makes a new world by these options, and answers the lines of the input on it.
+fn played<S: Source, K: Sink>(
+    alloc: Global,
+    options: &Options,
+    attempts: u32,
+    source: &mut S,
+    sink: &mut K,
+) -> Result<(), Ending>
+    requires options { AreOptions options.now }
+    requires attempts { AreAttempts attempts }
+    ensures runs { Runs (rules_for options.now attempts) result (S.view source.old) (S.view source.new) (K.view sink.old) (K.view sink.new) }
+    ensures source { SameSource (S.view source.old) (S.view source.new) }
+{
+    let Ok(mut world) = World::new(alloc, options, attempts) else {
+        return Err(Ending::Memory);
+    };
+    script(alloc, &mut world, source, sink)
+}
+
 /// Runs the script from the source on a new world, by these options.
 pub fn play<S: Source, K: Sink>(
     alloc: Global,
@@ -101,10 +118,7 @@ pub fn play<S: Source, K: Sink>(
     ensures plays { Plays (rules_for options.now attempts) result (S.view source.old) (S.view source.new) (K.view sink.old) (K.view sink.new) }
     ensures source { SameSource (S.view source.old) (S.view source.new) }
 {
-    let Ok(mut world) = World::new(alloc, options, attempts) else {
-        return say(b"error memory\n", Status::Memory, sink);
-    };
-    match script(alloc, &mut world, source, sink) {
+    match played(alloc, options, attempts, source, sink) {
         Ok(()) => Status::Done,
         Err(Ending::Line(number)) => tell(alloc, &ErrorLine::Line(number), sink),
         Err(Ending::Input) => {
