@@ -12,7 +12,7 @@ from trees import lookup3, message, sealed
 
 # where other programs want all processors a turn may be long
 SECONDS = 120
-READERS, POLLS = 3, 1_000_000
+READERS, POLLS, ATTEMPTS = 3, 1_000_000, 1000
 
 
 def with_long_header():
@@ -48,23 +48,21 @@ class Fast:
 
 
 def polled(file):
-    """The rows that so many calls find, and what is not as it should be. A call beside so fast a writer may find the dataset header changed in each
-    of its attempts; then the rest of the calls begin with an open."""
-    rows, found = [], []
-    while not found and len(rows) < POLLS:
-        words = [PROGRAM, "poll", file, "--times", str(POLLS - len(rows)), "--attempts", "1000"]
-        ran = subprocess.run(words, capture_output=True, timeout=SECONDS)
+    """The rows that so many attempts find, and what is not as it should be. A call beside so fast a writer may find the dataset header changed in
+    each of its attempts; then those that are left begin with an open."""
+    rows, found, left = [], [], POLLS
+    while not found and left > 0:
+        ran = subprocess.run([PROGRAM, "poll", file, "--times", str(left), "--attempts", str(ATTEMPTS)], capture_output=True, timeout=SECONDS)
         lines = ran.stdout.decode().split("\n")
         more = [int(it[5:]) for it in lines if it.startswith("rows ")]
-        is_again = ran.returncode == 7 and lines[len(more)].startswith("error again 1000 ")
+        is_again = ran.returncode == 7 and lines[len(more)].startswith(f"error again {ATTEMPTS} ")
         found = [] if is_again else of("poll", (ran.returncode, lines[len(more) :], ran.stderr), (0, [""], b""))
-        rows += more
-        rows += (rows[-1:] or [0]) * is_again
+        rows, left = rows + more, left - len(more) - ATTEMPTS * is_again
     return rows, found + of("rows that fell", [it for it in zip(rows, rows[1:]) if it[1] < it[0]], [])
 
 
 def polls(folder):
-    """Polls beside a fast `append`: each call finds rows, never fewer than before, and at last all are there."""
+    """Beside a fast `append`: each call finds rows, never fewer than before, and at last all are there."""
     file = f"{folder}/f"
     with open(file, "wb") as it:
         it.write(with_long_header())
@@ -93,4 +91,4 @@ def damaged(folder):
 def trials():
     for find in (polls, damaged):
         with tempfile.TemporaryDirectory(prefix="h5swmr-race-") as folder:
-            yield find.__doc__.split(":")[0].replace("`", ""), lambda it=find: it(folder)
+            yield f"poll: {find.__doc__.split(':')[0].replace('`', '').lower()}", lambda it=find: it(folder)
