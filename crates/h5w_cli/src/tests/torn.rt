@@ -22,6 +22,15 @@ impl Torn {
             looks: 0,
         }
     }
+
+    /// What the next look shows.
+    fn shown(&self) -> &[u8] {
+        if self.begins <= self.looks && self.looks < self.ends {
+            &self.half
+        } else {
+            &self.bytes
+        }
+    }
 }
 
 impl Disk for Torn {
@@ -36,9 +45,7 @@ impl Disk for Torn {
     }
 
     fn look(&mut self, _name: &str, at: u64, len: usize, out: &mut Piece) -> Result<(), Failed> {
-        let is_half = self.begins <= self.looks && self.looks < self.ends;
-        let bytes = if is_half { &self.half } else { &self.bytes };
-        let rest = bytes.get(at as usize..).unwrap_or(&[]);
+        let rest = self.shown().get(at as usize..).unwrap_or(&[]);
         out.set(&rest[..rest.len().min(len)]);
         self.looks = self.looks.saturating_add(1);
         Ok(())
