@@ -7,8 +7,6 @@ mod files;
 #[cfg(test)]
 mod headers;
 #[cfg(test)]
-mod images;
-#[cfg(test)]
 mod looks;
 #[cfg(test)]
 mod opens;
