@@ -146,6 +146,15 @@ def begun(words, folder):
     return process, process.pid
 
 
+def stays(pid):
+    """Whether this process still runs the program after some time, in which the system may end it."""
+    for _ in range(100):
+        if not is_there(pid):
+            return False
+        time.sleep(0.02)
+    return True
+
+
 def processes(folder):
     """The program gets what the script gets: input, signals, and its end."""
     for name in ("f", "\u00e9 f"):
@@ -164,6 +173,11 @@ def processes(folder):
         found += of(f"{words} by {it.name}", process.wait(SECONDS), -it)
         found += of(f"the program of {words} is there after {it.name}", is_there(pid), False)
         process.communicate()
+    process, pid = begun(["append", "f"], folder)
+    process.kill()
+    found += of("append by a kill", process.wait(SECONDS), -signal.SIGKILL)
+    found += of("the program is there after a kill of the script", stays(pid), False)
+    process.communicate()
     process, pid = begun(words, folder)
     os.kill(pid, signal.SIGKILL)
     return found + of(f"{words} whose program is killed", (process.wait(SECONDS), process.communicate()[1]), (-9, b""))
