@@ -139,6 +139,29 @@ fn reported<R: Wait>(
     })
 }
 
+/// The report of a run whose writer left these lines, or why there is none. The writer's error comes first.
+fn settled<R: Wait>(
+    rt: &R,
+    image: &SharedImage,
+    seat: WriterSeat,
+    session: &mut WriterCore,
+    lines: Result<Vec<FlushLine>, (u64, Halt)>,
+    ended: Result<AllEnded, Cut>,
+) -> Result<LiveReport, LiveError>
+    requires { Ran image.now (record { seat = seat; session = session.old; lines = lines }) ended }
+    ensures reports { (r : Ran image.now (record { seat = seat; session = session.old; lines = lines }) ended) → IfOk result (λ report. Reports r.file r.batches r.attempts r.readers r.calls report) }
+    ensures accepted { (r : Ran image.now (record { seat = seat; session = session.old; lines = lines }) ended) → OnOk result (first_refused r.file 0 1 r.batches ≡ None) }
+    ensures cause { (r : Ran image.now (record { seat = seat; session = session.old; lines = lines }) ended) → IfErr result (λ e. IsCause r.file r.most r.batches e) }
+{
+    match lines {
+        Ok(flushes) => match reported(rt, image, seat, session, flushes, ended) {
+            Ok(report) => Ok(report),
+            Err(loss) => Err(lost(loss)),
+        },
+        Err((batch, halt)) => Err(halted(batch, halt, seat)),
+    }
+}
+
 /// Closes the session after all threads were joined, and reports. The writer's error comes first, then that of the readers, then that of the close.
 pub fn finish<R: Wait>(
     rt: &R,
@@ -156,11 +179,5 @@ pub fn finish<R: Wait>(
         mut session,
         lines,
     } = written;
-    match lines {
-        Ok(flushes) => match reported(rt, image, seat, &mut session, flushes, ended) {
-            Ok(report) => Ok(report),
-            Err(loss) => Err(lost(loss)),
-        },
-        Err((batch, halt)) => Err(halted(batch, halt, seat)),
-    }
+    settled(rt, image, seat, &mut session, lines, ended)
 }
