@@ -88,10 +88,10 @@ class Case:
             values = [0] * len(values)
         return values
 
-    def under_way(self):
+    def under_way(self, first):
         """The values of each batch; they are no others' values."""
         begins = itertools.accumulate(self.batches, initial=0)
-        return [self.values(10_000 + first * wide(self.columns), rows) for first, rows in zip(begins, self.batches)]
+        return [self.values(first + before * wide(self.columns), rows) for before, rows in zip(begins, self.batches)]
 
 
 def cases():
@@ -153,29 +153,46 @@ def goes_on(case, folder, there, under_way):
 # ---- The stops
 
 
-def stopped_at(case, shim, folder, begun, at):
-    """What is not as it should be if the append is stopped before this write; None if all its writes are before that."""
-    file, batches = f"{folder}/stopped", case.under_way()
+def stop(case, shim, folder, at, batches):
+    """Appends to a copy of the file that was begun, but for this write and all behind it, and clears the flags. How many batches were told, and what is
+    not as it should be; None in place of the first if all writes are before that."""
+    file = f"{folder}/stopped"
     shutil.copyfile(f"{folder}/begun", file)
     how = {"env": {**os.environ, "LD_PRELOAD": shim, "H5SWMR_STOP": str(at)}}
     status, text = ran([PROGRAM, "append", file], text_of(batches, case.columns), **how)
     if status == 0:
-        return None
-    told = text.count("rows ")
-    there = begun + sum(batches[:told], [])
-    found = of("append", status, -signal.SIGKILL) + of("clear", ran([PROGRAM, "clear", file]), (0, f"clear {0 if at == 1 else 5} 0\n"))
-    found += checked(file, len(there) // wide(case.columns))
-    return found + goes_on(case, folder, there, (case.batches + [case.chunk + 1])[told])
+        return None, []
+    found = of("status", status, -signal.SIGKILL) + of("clear", ran([PROGRAM, "clear", file]), (0, f"clear {0 if at == 1 else 5} 0\n"))
+    return text.count("rows "), found
 
 
-def stopped(case, shim, folder):
-    """What is not as it should be at any stop of this case."""
-    begun, found = case.begin(f"{folder}/begun"), []
+def stopped(case, shim, folder, begun, first=10_000, then=None):
+    """What is not as it should be at any stop of an append to a file that begins with these values, once others go on, or `then` does."""
+    batches, found = case.under_way(first), []
     for at in itertools.count(1):
-        here = stopped_at(case, shim, folder, begun, at)
-        if here is None:
+        told, here = stop(case, shim, folder, at, batches)
+        if told is None:
             return found + ([f"{at - 1} writes were stopped"] if found or at < 6 else [])
+        there = begun + sum(batches[:told], [])
+        here += checked(f"{folder}/stopped", len(there) // wide(case.columns))
+        here += then(there) if then else goes_on(case, folder, there, (case.batches + [case.chunk + 1])[told])
         found += [f"before write {at}: {it}" for it in here]
+
+
+def stopped_once(case, shim, folder):
+    """What is not as it should be at any stop of this case."""
+    return stopped(case, shim, folder, case.begin(f"{folder}/begun"))
+
+
+def stopped_twice(case, shim, folder):
+    """What is not as it should be at any stop of an append to a file whose writer was stopped before."""
+
+    def again(there):
+        with tempfile.TemporaryDirectory(dir=folder) as other:
+            shutil.copyfile(f"{folder}/stopped", f"{other}/begun")
+            return [f"and then {it}" for it in stopped(case, shim, other, there, 15_000)]
+
+    return stopped(case, shim, folder, case.begin(f"{folder}/begun"), 10_000, again)
 
 
 def trials():
@@ -186,4 +203,7 @@ def trials():
     with tempfile.TemporaryDirectory(prefix="h5swmr-stop-") as folder:
         shim = built(folder)
         for case in cases():
-            yield case.name(), lambda it, c=case: stopped(c, shim, it)
+            yield case.name(), lambda it, c=case: stopped_once(c, shim, it)
+        for columns in (None, (3, 2)):
+            case = Case("our file", 1, columns, 0, [2])
+            yield f"{case.name()}, and then again", lambda it, c=case: stopped_twice(c, shim, it)
