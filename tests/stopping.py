@@ -154,8 +154,8 @@ def goes_on(case, folder, there, under_way):
 
 
 def stop(case, shim, folder, at, batches):
-    """Appends to a copy of the file that was begun, but for this write and all behind it, and clears the flags. How many batches were told, and what is
-    not as it should be; None in place of the first if all writes are before that."""
+    """Appends to a copy of the file that was begun, but for this write and all behind it, and clears the flags. How many batches were told,
+    and what is not as it should be; None in place of the first if all writes are before that."""
     file = f"{folder}/stopped"
     shutil.copyfile(f"{folder}/begun", file)
     how = {"env": {**os.environ, "LD_PRELOAD": shim, "H5SWMR_STOP": str(at)}}
