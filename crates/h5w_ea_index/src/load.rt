@@ -82,7 +82,8 @@ fn judge(at: u64, fault: BlockFault, needed: bool) -> Result<(), OpenArrayError>
     }
 }
 
-/// Whether these bytes at `at` are the block. Where they are refused, and it leads to no chunk from number `first` on, they are not.
+/// True if `bytes`, which stand at `at`, decode as the block. If they do not: false when no chunk from `first` on needs the block,
+/// else the refusal.
 fn is_whole(
     alloc: Global,
     part: Copied,

@@ -27,7 +27,7 @@ pub fn rows_seen(known: &Option<Known>) -> u64
     }
 }
 
-/// The number of a dataset's chunk without a known address before which `n` such stand.
+/// The number of the `n`-th chunk (from 0) of a dataset whose address is not known.
 pub fn unknown(known: &Option<Known>, d: &Dataset, n: usize) -> usize
     requires { n < 2 ^ 63 }
     ensures { result ≡ unknown_at (known_table (known_of known.now) (described_of d.now)) n }
