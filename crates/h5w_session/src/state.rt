@@ -310,7 +310,7 @@ impl WriterCore {
         self.stopped = true;
     }
 
-    /// What is retired stays out of use from now on, so that no place of this session is used twice.
+    /// What is retired stays out of use from now on: it is forgotten once the pieces of its flush are visible.
     pub fn keep_retired(&mut self)
         ensures session { self.new ≡ record self.old { keeps = true } }
         ensures stands { (log : Log) → Stands self.old log → Stands self.new log }
