@@ -169,6 +169,10 @@ impl<'a> FileDisk<'a> {
 impl<'a> Disk for FileDisk<'a> {
     ghost view = { λ s. record { told = None; faults = s.faults; through = []; pieces = 2 ^ 64; end = λ name. 2 ^ 64 } };
 
+    fn faults(&self) -> u64 {
+        self.faults
+    }
+
     /// A folder has a size too; each look at it fails.
     fn size(&mut self, name: &str) -> Result<Option<u64>, Failed> {
         match self.measure(name) {

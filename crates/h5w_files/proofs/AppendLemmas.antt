@@ -1,5 +1,6 @@
 -- What an append leaves of its file, and how it ends.
 use Rattle.std.proofs.Common.{◌≡◌, ◌⊎◌, ℕ, ◌/◌, ◌%◌, Bool, true, false, if◌then◌else◌, nat_lt, List, [], ◌∷◌, ◌++◌, length, ℤ, Result, Ok, Err, refl, sym, ap, ◌∙◌, subst, inl, inr, arith, tests}
+use Rattle.std.specs.Prelude.{OnOk}
 use Rattle.h5w_model.specs.Datasets.{refused_as, super_refusal, then_also}
 use Rattle.h5w_model.specs.Images.{apply, image}
 use Rattle.h5w_model.specs.Numbers.{range}
@@ -16,7 +17,7 @@ use Rattle.h5w_opening.specs.declared.error.OpenError.TheVariants.{Cut, Flags, O
 use Rattle.h5w_opening.proofs.OpeningLemmas.{behind_super, opened_by, opening_gives}
 use Rattle.h5w_image.specs.View.{DiskView}
 use Rattle.h5w_session.specs.OpenAnswers.{writing_flags}
-use Rattle.h5w_session.specs.Sessions.{Session, cleared}
+use Rattle.h5w_session.specs.Sessions.{Session, cleared, rows_of}
 use Rattle.h5w_text.specs.Errors.{error_text}
 use Rattle.h5w_text.specs.Says.{Said, SaidUnlessMemory}
 use Rattle.h5w_text.specs.Statuses.{status_of}
@@ -30,7 +31,8 @@ use Rattle.h5w_batches.specs.Batches.{Batches, after_lines, close_batch, no_batc
 use Rattle.h5w_files.specs.Taken.{AreTaken, closed_text}
 use Rattle.h5w_files.specs.Puts.{writes_of}
 use Rattle.h5w_files.specs.Appends.{AppendEnds, AppendsSome, Broke, Broken, Closed, ClosedUp, Holds, InputRefuses, IsOpenOver, ShutAgain, Unopened, columns_of, lines_of}
-use Rattle.h5w_files.specs.Appending.{Settles}
+use Rattle.h5w_files.specs.Appending.{BeginsNone, Finishes, FinishesBy, Settles, SettlesOn, TakesInput}
+use Rattle.h5w_files.specs.declared.batching.Ending.{Ending}
 use Rattle.h5w_files.specs.declared.batching.Ending.TheVariants as endings
 use Rattle.h5w_files.proofs.BatchLemmas.{all_values}
 use Rattle.h5w_files.proofs.ClearLemmas.{any_told}
@@ -227,3 +229,29 @@ appends_none {k = k} x name at limit keeps e status h (inr said) = inl (record {
   gave = gave_nothing k;
   said = said;
 })
+
+-- ---- By its result
+
+pub appends_whole : {v w : DiskView} {k l m : SinkView} {x y : SourceView} (name at : List ℕ) (limit : ℕ) (keeps : Bool) (status : Status) (text bytes : List ℕ) → bytes ≡ text → Finishes name at limit keeps x y v w k l text (Ok tt)
+    → Said bytes statuses.Done status l m → AppendEnds name at limit keeps x y v w status k m
+appends_whole name at limit keeps status text bytes is h said = appends_done name at limit keeps h.rows h.first status bytes h.opened h.settles (is ∙ h.line) said
+
+pub appends_some : {v w : DiskView} {k l m : SinkView} {x y : SourceView} (name at : List ℕ) (limit : ℕ) (keeps : Bool) (e : ErrorLine) (status : Status) (text : List ℕ)
+    → BeginsNone name at x y v w k l e ⊎ Finishes name at limit keeps x y v w k l text (Err (endings.Refused e)) → SaidUnlessMemory (error_text e) (status_of e) status l m → AppendEnds name at limit keeps x y v w status k m
+appends_some {v} {w} {k} {l} {m} {x} {y} name at limit keeps e status text (inl h) said =
+    subst (λ (z : SourceView). AppendEnds name at limit keeps x z v w status k m) (sym h.unread)
+    (appends_none x name at limit keeps e status h.unopened (subst (λ (o : SinkView). SaidUnlessMemory (error_text e) (status_of e) status o m) h.unwritten said))
+appends_some name at limit keeps e status text (inr h) said = appends_refused name at limit keeps h.rows h.first e status h.opened h.settles said
+
+pub finishes_by : {v : DiskView} (u w : DiskView) (k l : SinkView) (x y : SourceView) (text : List ℕ) (name at : List ℕ) (limit : ℕ) (keeps : Bool) (first s : Session) (taken r : Result (Unit {0}) Ending) (n : ℕ) → IsOpenOver name at limit keeps v first → v.faults ≡ n
+    → TakesInput name first s x y v u k l taken → OnOk taken (text ≡ closed_text (rows_of s)) → OnOk r (taken ≡ Ok tt) → SettlesOn n name s u w taken r → FinishesBy name at limit keeps x y v w k l text r
+finishes_by {v} u w k l x y text name at limit keeps first s taken r n opened counted takes line done settles = cases r done (settles first x y v k l counted takes)
+  where
+    last : taken ≡ Ok tt → text ≡ closed_text (rows_of s)
+    last is = subst (λ (q : Result (Unit {0}) Ending). OnOk q (text ≡ closed_text (rows_of s))) is line
+
+    cases : (q : Result (Unit {0}) Ending) → OnOk q (taken ≡ Ok tt) → Settles name (rows_of s) first x y v w k l q → FinishesBy name at limit keeps x y v w k l text q
+    cases (Ok a) done h = record { first = first; opened = opened; rows = rows_of s; settles = h; line = last done }
+    cases (Err (endings.Refused e)) done h = inr (record { first = first; opened = opened; rows = rows_of s; settles = h; line = tt })
+    cases (Err endings.Disk) done h = record { first = first; opened = opened; rows = rows_of s; settles = h; line = tt }
+    cases (Err endings.Sink) done h = record { first = first; opened = opened; rows = rows_of s; settles = h; line = tt }

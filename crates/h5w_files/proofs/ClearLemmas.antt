@@ -37,6 +37,7 @@ pub finds_missing : {v w : DiskView} (name bytes : List ℕ) → Leaves 0 v.told
     → FindsFlags name v w bytes (Err errors.Missing)
 finds_missing {v} name bytes p none = record {
   disk = leaves_files 0 v.told p;
+  calm = tt;
   exact = told v.told none;
   kinds = tt;
   cause = λ e. cc;
@@ -57,6 +58,7 @@ any_told (Some d) h = h d
 pub finds_failed : {u w : DiskView} (name bytes : List ℕ) → LeavesFiles u.told u w → Rose u.faults w.faults → FindsFlags name u w bytes (Err errors.Disk)
 finds_failed {u} name bytes p rose = record {
   disk = p;
+  calm = tt;
   exact = any_told u.told (λ d. tt);
   kinds = tt;
   cause = λ e. rose;
@@ -78,11 +80,12 @@ if_both : {A E : Type 0} (r : Result A E) {P Q : Type 0} → (P → Q) → OnOk 
 if_both (Ok a) f p = f p
 if_both (Err e) f p = tt
 
-pub finds_flags : {u v w : DiskView} (name bytes : List ℕ) (r : Result ℕ ErrorLine) → Leaves 0 u.told u v → Leaves 0 v.told v w → IsThere v name
+pub finds_flags : {u v w : DiskView} (name bytes : List ℕ) (r : Result ℕ ErrorLine) → Leaves 0 u.told u v → v.faults ≡ u.faults → Leaves 0 v.told v w → w.faults ≡ v.faults → IsThere v name
     → FileGivesRange v name 0 48 bytes → length bytes ≤ 48 → r ≡ flags_at bytes → IfErr r IsOfClear → OnOk r (48 ≤ length bytes) → (r ≡ Err errors.Disk → ⊥)
     → FindsFlags name u w bytes r
-finds_flags {u} {v} {w} name bytes r p q there given bound e kinds whole quiet = record {
+finds_flags {u} {v} {w} name bytes r p calm q calmer there given bound e kinds whole quiet = record {
   disk = leaves_twice p q;
+  calm = if_ok r (calmer ∙ calm);
   exact = told u.told (subst (λ t. IfSome t (λ d. IsSome (file d name))) p.told there) (subst (λ t. IfSome t (λ d. bytes ≡ range (unwrap_or (file d name) []) 0 48)) p.told given);
   kinds = kinds;
   cause = λ failed. absurd (quiet failed);
@@ -100,8 +103,7 @@ finds_flags {u} {v} {w} name bytes r p q there given bound e kinds whole quiet =
 -- what was found is refused
 pub clears_refused : {v w : DiskView} (name bytes : List ℕ) (e : ErrorLine) → FindsFlags name v w bytes (Err e) → ClearsTo name v w (Err e)
 clears_refused {v} {w} name bytes e p = record {
-  faults = v.faults;
-  since = omega arith;
+  calm = tt;
   disk = record { told = p.disk.told ∙ same v.told; faults = p.disk.faults; through = p.disk.through };
   exact = p.exact;
   kinds = p.kinds;
@@ -115,8 +117,7 @@ clears_refused {v} {w} name bytes e p = record {
 -- memory is wanting before anything is put
 pub clears_wanting : {v w : DiskView} (name bytes : List ℕ) (flags : ℕ) → FindsFlags name v w bytes (Ok flags) → ClearsTo name v w (Err errors.Memory)
 clears_wanting {v} {w} name bytes flags p = record {
-  faults = v.faults;
-  since = omega arith;
+  calm = tt;
   disk = record { told = p.disk.told ∙ same v.told; faults = p.disk.faults; through = p.disk.through };
   exact = any_told v.told (λ d. tt);
   kinds = tt;
@@ -130,8 +131,7 @@ clears_wanting {v} {w} name bytes flags p = record {
 -- none of the flags is set
 pub clears_nothing : {v w : DiskView} (name bytes : List ℕ) (flags : ℕ) → FindsFlags name v w bytes (Ok flags) → cleared flags ≡ flags → ClearsTo name v w (Ok flags)
 clears_nothing {v} {w} name bytes flags p none = record {
-  faults = v.faults;
-  since = omega arith;
+  calm = p.calm;
   disk = record { told = p.disk.told ∙ same v.told; faults = p.disk.faults; through = p.disk.through };
   exact = p.exact;
   kinds = tt;
@@ -145,10 +145,9 @@ clears_nothing {v} {w} name bytes flags p none = record {
 -- the put of the superblock
 pub clears_put : {u v w : DiskView} (name bytes : List ℕ) (flags : ℕ) → FindsFlags name u v bytes (Ok flags) → cleared flags ≢ flags → Puts name bytes flags v w (Ok tt) → ClearsTo name u w (Ok flags)
 clears_put {u} {v} {w} name bytes flags p some q = record {
-  faults = q.faults;
-  since = omega (arith, p.disk.faults, q.since);
+  calm = q.calm ∙ p.calm;
   disk = record {
-    told = q.ok.told ∙ ap (option_map (put name (record { at = 0; piece = flagged bytes (cleared flags) }) q.faults)) p.disk.told ∙ same u.told p.bytes_are;
+    told = q.ok.told ∙ ap₂ (λ n t. option_map (put name (record { at = 0; piece = flagged bytes (cleared flags) }) n) t) p.calm p.disk.told ∙ same u.told p.bytes_are;
     faults = omega (arith, p.disk.faults, q.ok.faults);
     through = q.ok.through ∙ p.disk.through;
   };
@@ -158,11 +157,11 @@ clears_put {u} {v} {w} name bytes flags p some q = record {
 }
   where
     same : (t : Option DiskState) → IfSome t (λ d. bytes ≡ range (unwrap_or (file d name) []) 0 48)
-        → option_map (put name (record { at = 0; piece = flagged bytes (cleared flags) }) q.faults) t ≡ option_map (after_clear name (Ok flags) q.faults) t
+        → option_map (put name (record { at = 0; piece = flagged bytes (cleared flags) }) u.faults) t ≡ option_map (after_clear name (Ok flags) u.faults) t
     same None is = refl
     same (Some d) is =
-        ap (λ b. Some (put name (record { at = 0; piece = flagged b (cleared flags) }) q.faults d)) is
-        ∙ ap Some (sym (cond-false (cleared flags == flags) d (cleared_file name flags q.faults d) (ne_eqb (cleared flags) flags some)))
+        ap (λ b. Some (put name (record { at = 0; piece = flagged b (cleared flags) }) u.faults d)) is
+        ∙ ap Some (sym (cond-false (cleared flags == flags) d (cleared_file name flags u.faults d) (ne_eqb (cleared flags) flags some)))
 
 -- the put is refused
 free_error : (e : ErrorLine) → (e ≡ errors.Disk) ⊎ (e ≡ errors.Memory) → (given : Result ℕ ErrorLine) → IsGivenBy given (Err e)
@@ -178,8 +177,7 @@ rose_after a b c low rose = omega arith
 
 pub clears_failed : {u v w : DiskView} (name bytes : List ℕ) (flags : ℕ) (e : ErrorLine) → FindsFlags name u v bytes (Ok flags) → Puts name bytes flags v w (Err e) → ClearsTo name u w (Err e)
 clears_failed {u} {v} {w} name bytes flags e p q = record {
-  faults = u.faults;
-  since = omega arith;
+  calm = tt;
   disk = record {
     told = q.refused.told ∙ p.disk.told ∙ same u.told;
     faults = omega (arith, p.disk.faults, q.refused.faults);
@@ -197,15 +195,14 @@ clears_failed {u} {v} {w} name bytes flags e p q = record {
 -- an error's line may want memory
 memory_too : {v w : DiskView} (name : List ℕ) (e : ErrorLine) → ClearsTo name v w (Err e) → ClearsTo name v w (Err errors.Memory)
 memory_too {v} {w} name e p = record {
-  faults = p.faults;
-  since = p.since;
+  calm = tt;
   disk = record { told = p.disk.told ∙ same v.told; faults = p.disk.faults; through = p.disk.through };
   exact = any_told v.told (λ d. tt);
   kinds = tt;
   cause = λ failed. cc;
 }
   where
-    same : (t : Option DiskState) → option_map (after_clear name (Err e) p.faults) t ≡ option_map (after_clear name (Err errors.Memory) p.faults) t
+    same : (t : Option DiskState) → option_map (after_clear name (Err e) v.faults) t ≡ option_map (after_clear name (Err errors.Memory) v.faults) t
     same None = refl
     same (Some d) = refl
 
@@ -224,8 +221,7 @@ clears_wanted {v} name status said = record {
   text = error_text errors.Memory;
   comes = (
     record {
-      faults = v.faults;
-      since = omega arith;
+      calm = tt;
       disk = record { told = same v.told; faults = omega arith; through = refl };
       exact = any_told v.told (λ d. tt);
       kinds = tt;

@@ -48,13 +48,13 @@ use Rattle.h5w_text.specs.declared.status.Status.{Status}
 use Rattle.h5w_text.specs.declared.status.Status.TheVariants as statuses
 use Rattle.h5w_files.specs.Images.{LeavesFiles}
 use Rattle.h5w_files.specs.Ends.{IsGivenBy, EndsWell, status_by}
-use Rattle.h5w_files.specs.Puts.{AllBetween, AllRose, PutsPieces, PutsSome, after_puts, counts_of, showing, writes_of}
+use Rattle.h5w_files.specs.Puts.{PutsPieces, PutsSome, after_puts, counts_of, showing, writes_of}
 use Rattle.h5w_files.specs.Creates.{CreateEnds, CreatesTo, Fills, FillsAll, FillsSome, FillsUpTo, HasPut, IsEmptyFile, answer_of, closed_super, closing_of, create_line, create_text, end_of, new_bytes, new_pieces, with_new}
 use Rattle.h5w_files.specs.declared.creating.CreateError.{CreateError}
 use Rattle.h5w_files.specs.declared.creating.CreateError.TheVariants as refusals
 use Rattle.h5w_files.proofs.ClearLemmas.{any_told}
 use Rattle.h5w_files.proofs.EndLemmas.{completes}
-use Rattle.h5w_files.proofs.PutLemmas.{between-append, between_more, counts-append, length-counts, length-writes, no_puts, puts_twice, rose-append, rose_more, rose_since, showing-append, writes-append}
+use Rattle.h5w_files.proofs.PutLemmas.{are_both, are_of, length-counts, length-writes, no_puts, puts_twice, rose_more, showing-append, writes-append}
 
 -- ---- The bytes of a new file
 
@@ -186,18 +186,18 @@ puts_made name ps (Some d) = ap Some (ap (after_puts name ps) (made_new name d) 
 closes_same : {v w : DiskView} (name : List ℕ) (s t : Session) → PutsPieces name s t v w → closing_of t ≡ closing_of s
 closes_same name s t p = ap closing_of p.session
 
-up_to : {u v w : DiskView} (name : List ℕ) (s t : Session) → Leaves 0 u.told u v → PutsPieces name s t v w → FillsUpTo name s (t.pending ++ closing_of s ∷ []) u w
-up_to {u} {v} {w} name s t m p =
+up_to : {u v w : DiskView} (name : List ℕ) (s t : Session) → Leaves 0 u.told u v → v.faults ≡ u.faults → PutsPieces name s t v w → FillsUpTo name s (t.pending ++ closing_of s ∷ []) u w
+up_to {u} {v} {w} name s t m calm p =
     let low = m.faults in
     record {
       puts = p.puts;
       pieces = ap (λ (ws : List Write). ws ++ closing_of s ∷ []) p.pieces ∙ append_assoc (writes_of p.puts) t.pending (closing_of s ∷ []);
       disk = record { told = p.disk.told ∙ ap (option_map (after_puts name p.puts)) m.told; faults = omega (arith, low, p.disk.faults); through = p.disk.through ∙ m.through };
-      since = between_more v.faults w.faults u.faults w.faults (counts_of p.puts) low (omega arith) p.since;
+      since = are_of v.faults u.faults (counts_of p.puts) calm p.since;
     }
 
-up_to_both : {u v w x : DiskView} (name : List ℕ) (r s t : Session) → Leaves 0 u.told u v → PutsPieces name r s v w → s.pending ≡ [] → PutsPieces name (closed_of s) t w x → FillsUpTo name r t.pending u x
-up_to_both {u} {v} {w} {x} name r s t m p none q =
+up_to_both : {u v w x : DiskView} (name : List ℕ) (r s t : Session) → Leaves 0 u.told u v → v.faults ≡ u.faults → PutsPieces name r s v w → w.faults ≡ v.faults → s.pending ≡ [] → PutsPieces name (closed_of s) t w x → FillsUpTo name r t.pending u x
+up_to_both {u} {v} {w} {x} name r s t m calm p calmer none q =
     let low = m.faults in
     record {
       puts = p.puts ++ q.puts;
@@ -210,45 +210,38 @@ up_to_both {u} {v} {w} {x} name r s t m p none q =
         faults = omega (arith, low, p.disk.faults, q.disk.faults);
         through = q.disk.through ∙ p.disk.through ∙ m.through;
       };
-      since =
-          subst (λ (cs : List ℕ). AllBetween u.faults x.faults cs) (sym (counts-append p.puts q.puts))
-          (between-append u.faults x.faults (counts_of p.puts) (counts_of q.puts) (between_more v.faults w.faults u.faults x.faults (counts_of p.puts) low q.disk.faults p.since)
-          (between_more w.faults x.faults u.faults x.faults (counts_of q.puts) (omega (arith, low, p.disk.faults)) (omega arith) q.since));
+      since = are_both u.faults p.puts q.puts (are_of v.faults u.faults (counts_of p.puts) calm p.since) (are_of w.faults u.faults (counts_of q.puts) (calmer ∙ calm) q.since);
     }
 
 -- the disk failed at one of the first pieces
-pub fills_some : {u v w : DiskView} (name : List ℕ) (s t : Session) → Leaves 0 u.told u v → PutsSome name s t v w → FillsSome name s u w
+pub fills_some : {u v w : DiskView} (name : List ℕ) (s t : Session) → Leaves 0 u.told u v → v.faults ≡ u.faults → PutsSome name s t v w → FillsSome name s u w
 unfolding up_to
-fills_some {u} {v} {w} name s t m p =
+fills_some {u} {v} {w} name s t m calm p =
     let low = m.faults in
     record {
       left = t.pending ++ closing_of s ∷ [];
       some = let count = length-append t.pending (closing_of s ∷ []) in omega (arith, count);
-      filled = up_to name s t m p.before;
+      filled = up_to name s t m calm p.before;
       rose = rose_more u.faults v.faults w.faults low p.rose;
-      since = p.since;
     }
 
 -- at the last one
-pub fills_but_last : {u v w x : DiskView} (name : List ℕ) (r s c t : Session) → Leaves 0 u.told u v → PutsPieces name r s v w → s.pending ≡ [] → c ≡ closed_of s → PutsSome name c t w x → FillsSome name r u x
+pub fills_but_last : {u v w x : DiskView} (name : List ℕ) (r s c t : Session) → Leaves 0 u.told u v → v.faults ≡ u.faults → PutsPieces name r s v w → w.faults ≡ v.faults → s.pending ≡ [] → c ≡ closed_of s → PutsSome name c t w x → FillsSome name r u x
 unfolding up_to_both
-fills_but_last {u} {v} {w} {x} name r s c t m p none is q =
+fills_but_last {u} {v} {w} {x} name r s c t m calm p calmer none is q =
     let low = m.faults in
     let last : PutsSome name (closed_of s) t w x = subst (λ (y : Session). PutsSome name y t w x) is q in
     record {
       left = t.pending;
       some = last.left;
-      filled = up_to_both name r s t m p none last.before;
+      filled = up_to_both name r s t m calm p calmer none last.before;
       rose = rose_more u.faults w.faults x.faults (omega (arith, low, p.disk.faults)) last.rose;
-      since =
-          subst (λ (cs : List ℕ). AllRose cs x.faults) (sym (counts-append p.puts last.before.puts))
-          (rose-append (counts_of p.puts) (counts_of last.before.puts) x.faults (rose_since v.faults w.faults (counts_of p.puts) x.faults p.since last.rose) last.since);
     }
 
 -- at none
-pub fills_all : {u v w x : DiskView} (name : List ℕ) (r s c t : Session) → Leaves 0 u.told u v → PutsPieces name r s v w → s.pending ≡ [] → c ≡ closed_of s → ((log : Log) → Stands s log → Stands c log)
-    → PutsPieces name c t w x → t.pending ≡ [] → FillsAll name r t u x
-fills_all {u} {v} {w} {x} name r s c t m p none is keeps q all =
+pub fills_all : {u v w x : DiskView} (name : List ℕ) (r s c t : Session) → Leaves 0 u.told u v → v.faults ≡ u.faults → PutsPieces name r s v w → w.faults ≡ v.faults → s.pending ≡ [] → c ≡ closed_of s → ((log : Log) → Stands s log → Stands c log)
+    → PutsPieces name c t w x → t.pending ≡ [] → x.faults ≡ w.faults → FillsAll name r t u x
+fills_all {u} {v} {w} {x} name r s c t m calm p calmer none is keeps q all calmest =
     let last : PutsPieces name (closed_of s) t w x = subst (λ (y : Session). PutsPieces name y t w x) is q in
     let same : t ≡ record (closed_of s) { places = t.places; committed = t.committed; pending = t.pending } = last.session in
     let first : r.pending ≡ writes_of p.puts = p.pieces ∙ ap (λ (ws : List Write). writes_of p.puts ++ ws) none ∙ append-nil (writes_of p.puts) in
@@ -256,7 +249,8 @@ fills_all {u} {v} {w} {x} name r s c t m p none is keeps q all =
     let both : writes_of p.puts ++ writes_of last.puts ≡ r.pending ++ closing_of r ∷ [] =
     ap₂ (λ (vs ws : List Write). vs ++ ws) (sym first) (sym second ∙ ap (λ (c : Write). c ∷ []) (closes_same name r s p)) in
     record {
-      filled = subst (λ (ws : List Write). FillsUpTo name r ws u x) all (up_to_both name r s t m p none last);
+      filled = subst (λ (ws : List Write). FillsUpTo name r ws u x) all (up_to_both name r s t m calm p calmer none last);
+      calm = calmest ∙ calmer ∙ calm;
       same_name = ap (λ (y : Session). y.name) same ∙ ap (λ (y : Session). y.name) p.session;
       dataset = ap (λ (y : Session). y.dataset) same ∙ ap (λ (y : Session). y.dataset) p.session;
       stopped = ap (λ (y : Session). y.stopped) same;
@@ -279,9 +273,9 @@ missing_file name None h = tt
 missing_file name (Some d) h = none_is (file d name) h
 
 -- so many of its pieces
-has_put : {u v w : DiskView} (name : List ℕ) (f : CreatedFile) (s : Session) (left : List Write) (most : ℕ) → IsCreated f most s → Missing name u → Leaves 0 (option_map (made name) u.told) u v → (p : FillsUpTo name s left v w)
+has_put : {u v w : DiskView} (name : List ℕ) (f : CreatedFile) (s : Session) (left : List Write) (most : ℕ) → IsCreated f most s → Missing name u → Leaves 0 (option_map (made name) u.told) u v → v.faults ≡ u.faults → (p : FillsUpTo name s left v w)
     → HasPut name f (length p.puts) u w
-has_put {u} {v} {w} name f s left most made missing m p =
+has_put {u} {v} {w} name f s left most made missing m calm p =
     let is = made.session in
     let pieces : new_pieces f ≡ writes_of p.puts ++ left = sym (ap (λ (x : Session). x.pending ++ closing_of x ∷ []) is) ∙ p.pieces in
     let some : take (length p.puts) (new_pieces f) ≡ writes_of p.puts =
@@ -296,7 +290,7 @@ has_put {u} {v} {w} name f s left most made missing m p =
         faults = omega (arith, low, p.disk.faults);
         through = p.disk.through ∙ m.through;
       };
-      since = between_more v.faults w.faults u.faults w.faults (counts_of p.puts) low (omega arith) p.since;
+      since = are_of v.faults u.faults (counts_of p.puts) calm p.since;
     }
 
 fewer : (f : CreatedFile) (s : Session) (puts : List (Write × ℕ)) (left : List Write) (most : ℕ) → IsCreated f most s → s.pending ++ closing_of s ∷ [] ≡ writes_of puts ++ left → length puts + length left ≡ length (new_pieces f)
@@ -323,7 +317,7 @@ leaves_same p = record { told = p.told; faults = p.faults; through = p.through }
 
 -- something has the name
 pub creates_exists : {v w : DiskView} (name : List ℕ) (f : CreatedFile) → IfSome v.told (λ d. false ≡ is_none (file d name)) → Leaves 0 v.told v w → CreatesTo name f v w (Err errors.Exists)
-creates_exists {v} name f there p = record { leaves = leaves_same p; exact = given_exists name f v.told there; cause = λ h. cc; new = tt }
+creates_exists {v} name f there p = record { leaves = leaves_same p; exact = given_exists name f v.told there; cause = λ h. cc; calm = tt; new = tt }
 
 -- its line, which is made before it is
 pub told_end : {A E : Type 0} (f : CreatedFile) (most end : ℕ) (s : Session) (before after : List ℕ) (r : Result A E) → IsCreated f most s → end ≡ s.places.end → before ≡ [] → after ≡ before ++ numbers_text (codes "new end") (end ∷ [])
@@ -334,32 +328,33 @@ told_end f most end s before after (Ok x) made is none all =
 
 -- it was not made
 pub creates_failed : {v w : DiskView} (name : List ℕ) (f : CreatedFile) → Leaves 0 v.told v w → Rose v.faults w.faults → CreatesTo name f v w (Err errors.Disk)
-creates_failed {v} name f p rose = record { leaves = inl (leaves_same p); exact = any_told v.told (λ d. tt); cause = λ h. rose; new = tt }
+creates_failed {v} name f p rose = record { leaves = inl (leaves_same p); exact = any_told v.told (λ d. tt); cause = λ h. rose; calm = tt; new = tt }
 
 pub creates_wanting : {v w : DiskView} (name : List ℕ) (f : CreatedFile) → LeavesFiles v.told v w → CreatesTo name f v w (Err errors.Memory)
-creates_wanting {v} name f p = record { leaves = inl p; exact = any_told v.told (λ d. tt); cause = λ h. cc; new = tt }
+creates_wanting {v} name f p = record { leaves = inl p; exact = any_told v.told (λ d. tt); cause = λ h. cc; calm = tt; new = tt }
 
 pub leaves_self : (v : DiskView) → LeavesFiles v.told v v
 leaves_self v = record { told = refl; faults = omega arith; through = refl }
 
 -- it was made
 pub creates_filled : {u v w : DiskView} (name : List ℕ) (o : Options) (s t : Session) (r : Result (Unit {0}) CreateError) → AreOptions o → IsCreated (new_file o) o.limit s → Stands s (created_log (new_file o)) → Missing name u
-    → Leaves 0 (option_map (made name) u.told) u v → Fills name s t v w r → CreatesTo name (new_file o) u w (answer_of (created.end_of (new_file o)) r)
+    → Leaves 0 (option_map (made name) u.told) u v → v.faults ≡ u.faults → Fills name s t v w r → CreatesTo name (new_file o) u w (answer_of (created.end_of (new_file o)) r)
 unfolding has_put
-creates_filled {u} {v} {w} name o s t (Ok a) by made stands missing m p =
+creates_filled {u} {v} {w} name o s t (Ok a) by made stands missing m calm p =
     let f = new_file o in
     let all : length p.filled.puts ≡ length (new_pieces f) = omega (arith, fewer f s p.filled.puts [] o.limit made p.filled.pieces) in
     let is = made.session in
     let log : Stands t (new_log f) =
     subst (λ (x : Session). Stands t (showing (x.pending ++ closing_of x ∷ []) (created_log f))) is (p.stands (created_log f) stands) in
     record {
-      leaves = subst (λ n. HasPut name f n u w) all (has_put name f s [] o.limit made missing m p.filled);
+      leaves = subst (λ n. HasPut name f n u w) all (has_put name f s [] o.limit made missing m calm p.filled);
       exact = given_missing name f u.told missing;
       cause = λ h. cc;
+      calm = p.calm ∙ calm;
       new = empty_file f t (creatable o by) (p.same_name ∙ ap (λ (x : Session). x.name) is) (p.dataset ∙ ap (λ (x : Session). x.dataset) is) p.stopped log;
     }
-creates_filled name o s t (Err refusals.Exists) by made stands missing m p = absurd p
-creates_filled {u} {v} {w} name o s t (Err refusals.Failed) by made stands missing m p =
+creates_filled name o s t (Err refusals.Exists) by made stands missing m calm p = absurd p
+creates_filled {u} {v} {w} name o s t (Err refusals.Failed) by made stands missing m calm p =
     let f = new_file o in
     let some = p.some in
     let low = m.faults in
@@ -367,17 +362,17 @@ creates_filled {u} {v} {w} name o s t (Err refusals.Failed) by made stands missi
       leaves = inr (record {
         pieces = length p.filled.puts;
         few = omega (arith, fewer f s p.filled.puts p.left o.limit made p.filled.pieces, some);
-        before = has_put name f s p.left o.limit made missing m p.filled;
-        since = p.since;
+        before = has_put name f s p.left o.limit made missing m calm p.filled;
       });
       exact = any_told u.told (λ d. tt);
       cause = λ h. rose_more u.faults v.faults w.faults low p.rose;
+      calm = tt;
       new = tt;
     }
-creates_filled {u} {v} {w} name o s t (Err refusals.OutOfMemory) by made stands missing m p =
+creates_filled {u} {v} {w} name o s t (Err refusals.OutOfMemory) by made stands missing m calm p =
     let f = new_file o in
     record {
-      leaves = inr (has_put name f s (s.pending ++ closing_of s ∷ []) o.limit made missing m (record {
+      leaves = inr (has_put name f s (s.pending ++ closing_of s ∷ []) o.limit made missing m calm (record {
         puts = [];
         pieces = refl;
         disk = record { told = p.told ∙ no_puts name v.told; faults = p.faults; through = p.through };
@@ -385,6 +380,7 @@ creates_filled {u} {v} {w} name o s t (Err refusals.OutOfMemory) by made stands 
       }));
       exact = any_told u.told (λ d. tt);
       cause = λ h. cc;
+      calm = tt;
       new = tt;
     }
 

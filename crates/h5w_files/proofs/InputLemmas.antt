@@ -17,9 +17,10 @@ use Rattle.h5w_text.specs.declared.line.LineError.TheVariants as line_errors
 use Rattle.h5w_batches.specs.Batches.{Batches, after_line, after_lines, close_batch, no_batches}
 use Rattle.h5w_batches.specs.Inputs.{AreFirst, ReadsAll, ReadsTooMuch, ReadsWhole, SameSource, Spell, input_limit, outside}
 use Rattle.h5w_batches.specs.Reads.{error_of}
+use Rattle.h5w_files.specs.Images.{LeavesFiles}
 use Rattle.h5w_files.specs.Taken.{AreTaken, ReadsFirst, ReadsLine, of_all, of_first}
 use Rattle.h5w_files.specs.Appends.{HasTaken, InputRefuses, Stored, columns_of}
-use Rattle.h5w_files.specs.Appending.{Closes, FlushRefused, HalfTold, IsBegun, IsReady, PutsAll, PutsBy, ReadyUnlessDisk, LineRefused, Steps, StepsOn, TakesInput, TakesInputOn, TakesLine, Told, ending_of}
+use Rattle.h5w_files.specs.Appending.{Closes, FlushRefused, HalfTold, IsBegun, IsReady, PutsAll, PutsBy, ReadyUnlessDisk, LineRefused, Steps, StepsOn, TakesInput, TakesInputFrom, TakesInputOn, TakesLine, Told, ending_of}
 use Rattle.h5w_files.specs.Puts.{writes_of}
 use Rattle.h5w_files.specs.declared.batching.Ending.{Ending}
 use Rattle.h5w_files.specs.declared.batching.Ending.TheVariants as endings
@@ -33,19 +34,19 @@ use Rattle.h5w_files.proofs.StoreLemmas.{broke_puts, stored_none, stored_puts}
 -- ---- A loop over the lines
 
 -- what the session has done behind so many first lines, whatever it had done before
-abbrev pub DoneOn : List ℕ → Session → Session → List (List ℤ) → DiskView → DiskView → SinkView → SinkView → Type 0
-DoneOn name s t numbers v w k l = (first : Session) (u : DiskView) (m : SinkView) → Told name first s no_batches u v m k → Told name first t (after_lines no_batches numbers) u w m l
+abbrev pub DoneOn : ℕ → List ℕ → Session → Session → List (List ℤ) → DiskView → DiskView → SinkView → SinkView → Type 0
+DoneOn n name s t numbers v w k l = (first : Session) (u : DiskView) (m : SinkView) → u.faults ≡ n → Told name first s no_batches u v m k → Told name first t (after_lines no_batches numbers) u w m l
 
 -- so many lines were read and taken
-pub record Taking (name : List ℕ) (s t : Session) (x y : LinesAhead) (number : ℕ) (v w : DiskView) (k l : SinkView) : Type 0 where
+pub record Taking (n : ℕ) (name : List ℕ) (s t : Session) (x y : LinesAhead) (number : ℕ) (v w : DiskView) (k l : SinkView) : Type 0 where
   pub numbers : List (List ℤ)
   pub going : GoingWhole (columns_of s) x y number numbers
-  pub done : DoneOn name s t numbers v w k l
+  pub done : DoneOn n name s t numbers v w k l
   pub ready : IsReady name t w
   pub columns : columns_of t ≡ columns_of s
 
-pub taking_first : {v : DiskView} {k : SinkView} (name : List ℕ) (s : Session) (x : LinesAhead) → IsReady name s v → Taking name s s x x 0 v v k k
-taking_first name s x ready = record { numbers = []; going = whole_first (columns_of s) x; done = λ first u m told. told; ready = ready; columns = refl }
+pub taking_first : {v : DiskView} {k : SinkView} (n : ℕ) (name : List ℕ) (s : Session) (x : LinesAhead) → IsReady name s v → Taking n name s s x x 0 v v k k
+taking_first n name s x ready = record { numbers = []; going = whole_first (columns_of s) x; done = λ first u m counted told. told; ready = ready; columns = refl }
 
 some_same : (a b : List ℤ) (o : Option (List ℤ)) → o ≡ Some a → o ≡ Some b → a ≡ b
 some_same a b o e f = let same : Some a ≡ Some b = sym e ∙ f in cc
@@ -60,21 +61,21 @@ next_batches name first t r line values numbers next u w m l spelled takes told 
     let same : takes.values ≡ values = some_same takes.values values (number_line_of (columns_of first) line) takes.spelled spelled in
     subst (λ (b : Batches). Told name first r b u w m l) (takes.next_is ∙ ap (after_line (after_lines no_batches numbers)) same ∙ sym (lines-append no_batches numbers values)) told
 
-pub done_more : {v w z : DiskView} {k l o : SinkView} (name : List ℕ) (s t r : Session) (line : List ℕ) (number : ℕ) (values : List ℤ) (numbers : List (List ℤ)) → columns_of t ≡ columns_of s → DoneOn name s t numbers v w k l
-    → number_line_of (columns_of t) line ≡ Some values → StepsOn name t r (TakesLine line) (LineRefused line number t) w z l o (Ok tt) → DoneOn name s r (numbers ++ values ∷ []) v z k o
-done_more {v} {w} {z} {k} {l} {o} name s t r line number values numbers columns done spelled step = λ first u m told.
-    let before = done first u m told in
-    let h = step first (after_lines no_batches numbers) u m before in
+pub done_more : {v w z : DiskView} {k l o : SinkView} (n : ℕ) (name : List ℕ) (s t r : Session) (line : List ℕ) (number : ℕ) (values : List ℤ) (numbers : List (List ℤ)) → columns_of t ≡ columns_of s → DoneOn n name s t numbers v w k l
+    → number_line_of (columns_of t) line ≡ Some values → StepsOn n name t r (TakesLine line) (LineRefused line number t) w z l o (Ok tt) → DoneOn n name s r (numbers ++ values ∷ []) v z k o
+done_more {v} {w} {z} {k} {l} {o} n name s t r line number values numbers columns done spelled step = λ first u m counted told.
+    let before = done first u m counted told in
+    let h = step first (after_lines no_batches numbers) u m counted before in
     let is = subst (λ c. number_line_of c line ≡ Some values) (same_columns first t (after_lines no_batches numbers) before.stored.taken) spelled in
     next_batches name first t r line values numbers h.0 u z m o is h.1 h.2
 
-pub taking_more : {v w z : DiskView} {k l o : SinkView} {x y e : LinesAhead} {number : ℕ} (name : List ℕ) (s t r : Session) (line : List ℕ) (values : List ℤ) → (h : Taking name s t x y number v w k l) → Given line y e
-    → IsWhole line y e → number_line_of (columns_of t) line ≡ Some values → StepsOn name t r (TakesLine line) (LineRefused line (number + 1) t) w z l o (Ok tt) → IsReady name r z → columns_of r ≡ columns_of t
-    → Taking name s r x e (number + 1) v z k o
-taking_more {number = number} name s t r line values h given whole spelled step ready columns = record {
+pub taking_more : {v w z : DiskView} {k l o : SinkView} {x y e : LinesAhead} {number : ℕ} (n : ℕ) (name : List ℕ) (s t r : Session) (line : List ℕ) (values : List ℤ) → (h : Taking n name s t x y number v w k l) → Given line y e
+    → IsWhole line y e → number_line_of (columns_of t) line ≡ Some values → StepsOn n name t r (TakesLine line) (LineRefused line (number + 1) t) w z l o (Ok tt) → IsReady name r z → columns_of r ≡ columns_of t
+    → Taking n name s r x e (number + 1) v z k o
+taking_more {number = number} n name s t r line values h given whole spelled step ready columns = record {
   numbers = h.numbers ++ values ∷ [];
   going = whole_more line values h.going given whole (subst (λ c. number_line_of c line ≡ Some values) h.columns spelled);
-  done = done_more name s t r line (number + 1) values h.numbers h.columns h.done spelled step;
+  done = done_more n name s t r line (number + 1) values h.numbers h.columns h.done spelled step;
   ready = ready;
   columns = columns ∙ h.columns;
 }
@@ -120,12 +121,12 @@ close_cause name first t numbers u errors.Source all stored c = absurd c
 close_cause name first t numbers u errors.Memory all stored c = tt
 
 -- the end of the input closes the last batch
-pub taken_end : {v w : DiskView} {k l : SinkView} {x y : SourceView} (z : DiskView) (o : SinkView) (name : List ℕ) (s t q : Session) (numbers : List (List ℤ)) (r : Result (Unit {0}) Ending) → ReadsAll (columns_of s) x y numbers → DoneOn name s t numbers v w k l
-    → StepsOn name t q Closes (FlushRefused t) w z l o r → TakesInputOn name s q x y v z k o r
-taken_end {v} {w} {k} {l} {x} {y} z o name s t q numbers r read done step = λ first u m told.
-    let before = done first u m told in
+pub taken_end : {v w : DiskView} {k l : SinkView} {x y : SourceView} (z : DiskView) (o : SinkView) (n : ℕ) (name : List ℕ) (s t q : Session) (numbers : List (List ℤ)) (r : Result (Unit {0}) Ending) → ReadsAll (columns_of s) x y numbers → DoneOn n name s t numbers v w k l
+    → StepsOn n name t q Closes (FlushRefused t) w z l o r → TakesInputOn n name s q x y v z k o r
+taken_end {v} {w} {k} {l} {x} {y} z o n name s t q numbers r read done step = λ first u m counted told.
+    let before = done first u m counted told in
     let read_of = subst (λ c. ReadsAll c x y numbers) (same_columns first s no_batches told.stored.taken) read in
-    cases first u m before read_of r (step first (after_lines no_batches numbers) u m before)
+    cases first u m before read_of r (step first (after_lines no_batches numbers) u m counted before)
   where
     cases : (first : Session) (u : DiskView) (m : SinkView) → Told name first t (after_lines no_batches numbers) u w m l → ReadsAll (columns_of first) x y numbers → (r : Result (Unit {0}) Ending)
         → Steps name first q (after_lines no_batches numbers) (Closes first (after_lines no_batches numbers)) (FlushRefused t) u z m o r → TakesInput name first q x y u z m o r
@@ -159,11 +160,11 @@ line_cause y name first t numbers u line number errors.Source reads count stored
 line_cause y name first t numbers u line number errors.Memory reads count stored c = tt
 
 -- the line is refused, or a disk or a sink failed at it
-pub taken_line : {v w : DiskView} {k l : SinkView} {x y : LinesAhead} {number : ℕ} (z : DiskView) (o : SinkView) (t : SourceView) (name : List ℕ) (s q r : Session) (line : List ℕ) (ending : Ending) → x.room ≡ input_limit → (h : Taking name s q x y number v w k l)
-    → IfSome x.left (AreFirst (h.going.going.lines ++ line ∷ [])) → StepsOn name q r (TakesLine line) (LineRefused line (number + 1) q) w z l o (Err ending) → TakesInputOn name s r (outside x) t v z k o (Err ending)
-taken_line {v} {w} {k} {l} {x} {y} {number} z o t name s q r line ending room h behind step = λ first u m told.
-    let before = h.done first u m told in
-    cases first u m before (same_columns first s no_batches told.stored.taken) ending (step first (after_lines no_batches h.numbers) u m before)
+pub taken_line : {v w : DiskView} {k l : SinkView} {x y : LinesAhead} {number : ℕ} (z : DiskView) (o : SinkView) (t : SourceView) (n : ℕ) (name : List ℕ) (s q r : Session) (line : List ℕ) (ending : Ending) → x.room ≡ input_limit → (h : Taking n name s q x y number v w k l)
+    → IfSome x.left (AreFirst (h.going.going.lines ++ line ∷ [])) → StepsOn n name q r (TakesLine line) (LineRefused line (number + 1) q) w z l o (Err ending) → TakesInputOn n name s r (outside x) t v z k o (Err ending)
+taken_line {v} {w} {k} {l} {x} {y} {number} z o t n name s q r line ending room h behind step = λ first u m counted told.
+    let before = h.done first u m counted told in
+    cases first u m before (same_columns first s no_batches told.stored.taken) ending (step first (after_lines no_batches h.numbers) u m counted before)
   where
     cases : (first : Session) (u : DiskView) (m : SinkView) → Told name first q (after_lines no_batches h.numbers) u w m l → columns_of s ≡ columns_of first → (ending : Ending)
         → Steps name first r (after_lines no_batches h.numbers) (TakesLine line first (after_lines no_batches h.numbers)) (LineRefused line (number + 1) q) u z m o (Err ending) → TakesInput name first r (outside x) t u z m o (Err ending)
@@ -190,40 +191,40 @@ taken_line {v} {w} {k} {l} {x} {y} {number} z o t name s q r line ending room h 
 
 -- ---- The next line is not there
 
-pub taken_source : {v w : DiskView} {k l : SinkView} {x y : LinesAhead} {number : ℕ} (t : SourceView) (j : IntakeView) (name : List ℕ) (s q : Session) (e : LineError) → x.room ≡ input_limit → x.limit ≡ input_limit → (h : Taking name s q x y number v w k l)
+pub taken_source : {v w : DiskView} {k l : SinkView} {x y : LinesAhead} {number : ℕ} (t : SourceView) (j : IntakeView) (n : ℕ) (name : List ℕ) (s q : Session) (e : LineError) → x.room ≡ input_limit → x.limit ≡ input_limit → (h : Taking n name s q x y number v w k l)
     → Stays y (lines_ahead t j) → (e ≡ line_errors.Failed → Rose y.faults t.faults) → (e ≡ line_errors.Failed → GivenUp y (lines_ahead t j) j.held) → ((limit : ℕ) → e ≡ line_errors.Input limit → (limit ≡ y.limit) × IsOver y)
-    → TakesInputOn name s q (outside x) t v w k l (Err (ending_of (error_of e)))
-taken_source {v} {w} {k} {l} {x} {y} t j name s q line_errors.Failed room limited h stays rose up over = λ first u m told.
+    → TakesInputOn n name s q (outside x) t v w k l (Err (ending_of (error_of e)))
+taken_source {v} {w} {k} {l} {x} {y} t j n name s q line_errors.Failed room limited h stays rose up over = λ first u m counted told.
     let same = same_columns first s no_batches told.stored.taken in (
       after_lines no_batches h.numbers,
       of_first h.numbers (subst (λ c. ReadsFirst c (outside x) h.numbers) same (reads_first room h.going)),
       (rose_before x.faults y.faults t.faults h.going.going.passed.stays.faults (rose refl), h.numbers, subst (λ c. ReadsWhole c (outside x) t h.numbers) same (reads_whole t j room h.going (up refl)), refl),
-      h.done first u m told,
+      h.done first u m counted told,
     )
-taken_source {v} {w} {k} {l} {x} {y} t j name s q (line_errors.Input limit) room limited h stays rose up over = λ first u m told.
+taken_source {v} {w} {k} {l} {x} {y} t j n name s q (line_errors.Input limit) room limited h stays rose up over = λ first u m counted told.
     let same = same_columns first s no_batches told.stored.taken in
     let o = over limit refl in (
       after_lines no_batches h.numbers,
       of_first h.numbers (subst (λ c. ReadsFirst c (outside x) h.numbers) same (reads_first room h.going)),
       (o.0 ∙ h.going.going.passed.stays.limit ∙ limited, h.numbers, subst (λ c. ReadsTooMuch c (outside x) h.numbers) same (reads_too_much room h.going o.1), refl),
-      h.done first u m told,
+      h.done first u m counted told,
     )
-taken_source {v} {w} {k} {l} {x} {y} t j name s q line_errors.OutOfMemory room limited h stays rose up over = λ first u m told.
+taken_source {v} {w} {k} {l} {x} {y} t j n name s q line_errors.OutOfMemory room limited h stays rose up over = λ first u m counted told.
     let same = same_columns first s no_batches told.stored.taken in (
       after_lines no_batches h.numbers,
       of_first h.numbers (subst (λ c. ReadsFirst c (outside x) h.numbers) same (reads_first room h.going)),
       tt,
-      h.done first u m told,
+      h.done first u m counted told,
     )
 
 -- ---- From the lines to the source, which is given back
 
-pub input_of : (name : List ℕ) (q r : Session) (a s b t : SourceView) (i : IntakeView) (v w : DiskView) (k l : SinkView) (z : Result (Unit {0}) Ending) → TakesInputOn name q r (outside (lines_ahead a i)) b v w k l z → i.held ≡ [] → a ≡ s → b ≡ t
-    → TakesInputOn name q r s t v w k l z
-input_of name q r a s b t i v w k l z h none same given =
-    subst (λ (x : SourceView). TakesInputOn name q r x t v w k l z) same
-    (subst (λ (y : SourceView). TakesInputOn name q r a y v w k l z) given
-    (subst (λ (x : SourceView). TakesInputOn name q r x b v w k l z) (starts a i none) h))
+pub input_of : (n : ℕ) (name : List ℕ) (q r : Session) (a s b t : SourceView) (i : IntakeView) (v w : DiskView) (k l : SinkView) (z : Result (Unit {0}) Ending) → TakesInputOn n name q r (outside (lines_ahead a i)) b v w k l z → i.held ≡ [] → a ≡ s → b ≡ t
+    → TakesInputOn n name q r s t v w k l z
+input_of n name q r a s b t i v w k l z h none same given =
+    subst (λ (x : SourceView). TakesInputOn n name q r x t v w k l z) same
+    (subst (λ (y : SourceView). TakesInputOn n name q r a y v w k l z) given
+    (subst (λ (x : SourceView). TakesInputOn n name q r x b v w k l z) (starts a i none) h))
 
 pub same_source_of : {a s b t : SourceView} → SameSource a b → a ≡ s → b ≡ t → SameSource s t
 same_source_of {a} {s} {b} {t} h same given = subst (λ (x : SourceView). SameSource x t) same (subst (λ (y : SourceView). SameSource a y) given h)
@@ -238,8 +239,8 @@ ready_source name t line_errors.OutOfMemory ready = ready
 nothing_read : (columns : ℕ) (x y : SourceView) → AreTaken columns x y no_batches
 nothing_read columns x y = of_first [] (record { lines = []; spell = refl; first = first_none x.left })
 
-begun_end : {v w : DiskView} (name : List ℕ) (s t : Session) → PutsAll name s t v w → IsBegun name s v → (1 ≤ w.pieces) × (t.places.end ≤ w.end name)
-begun_end {v} {w} name s t q begun =
+begun_end : {v w : DiskView} (n : ℕ) (name : List ℕ) (s t : Session) → PutsAll n name s t v w → IsBegun name s v → (1 ≤ w.pieces) × (t.places.end ≤ w.end name)
+begun_end {v} {w} n name s t q begun =
     let ps = q.puts in
     let count : length s.pending ≡ length (writes_of ps.puts) = ap length ps.pieces ∙ ap (λ (ws : List Write). length (writes_of ps.puts ++ ws)) q.all ∙ ap length (append-nil (writes_of ps.puts)) in
     let puts = length-writes ps.puts in
@@ -251,9 +252,9 @@ begun_end {v} {w} name s t q begun =
     let ends = ps.ends in
     (omega (arith, count, puts, one, room, left), omega (arith, end, low, ends))
 
-pub ready_begun : {v w : DiskView} (name : List ℕ) (s t : Session) → 1 ≤ s.dataset.shape.cols → PutsAll name s t v w → IsBegun name s v → IsReady name t w
-ready_begun name s t columns q begun =
-    let both = begun_end name s t q begun in
+pub ready_begun : {v w : DiskView} (n : ℕ) (name : List ℕ) (s t : Session) → 1 ≤ s.dataset.shape.cols → PutsAll n name s t v w → IsBegun name s v → IsReady name t w
+ready_begun n name s t columns q begun =
+    let both = begun_end n name s t q begun in
     record {
       there = puts_there name q.puts.puts q.puts.disk begun.there;
       running = ap (λ (y : Session). y.stopped) q.puts.session ∙ begun.running;
@@ -263,14 +264,15 @@ ready_begun name s t columns q begun =
       end = both.1;
     }
 
-pub told_begun : {v w : DiskView} (k : SinkView) (name : List ℕ) (s t : Session) → PutsAll name s t v w → IsBegun name s v → Told name s t no_batches v w k k
-told_begun {v} k name s t q begun = record { stored = stored_puts name s s t no_batches q.puts (stored_none name s v begun.waits); gave = gave_nothing k }
+pub told_begun : {u v w : DiskView} (k : SinkView) (n : ℕ) (name : List ℕ) (s t : Session) → u.faults ≡ n → LeavesFiles u.told u v → PutsAll n name s t v w → IsBegun name s v → Told name s t no_batches u w k k
+told_begun k n name s t counted p q begun =
+    record { stored = stored_puts name s s t no_batches (q.before ∙ sym counted) q.puts (stored_none name s p begun.waits); gave = gave_nothing k }
 
-pub begun_ended : {v : DiskView} (w : DiskView) (k : SinkView) (x : SourceView) (name : List ℕ) (s t : Session) (e : Ending) → PutsBy name s t v w (Err e) → IsBegun name s v → TakesInput name s t x x v w k k (Err e)
-begun_ended w k x name s t (endings.Refused e) h begun = absurd h
-begun_ended {v} w k x name s t endings.Disk h begun =
-    (no_batches, nothing_read (columns_of s) x x, record { broke = broke_puts name s s t no_batches h (stored_none name s v begun.waits); gave = gave_nothing k })
-begun_ended w k x name s t endings.Sink h begun = absurd h
+pub begun_ended : {v : DiskView} (w : DiskView) (k : SinkView) (x : SourceView) (n : ℕ) (name : List ℕ) (s t : Session) (e : Ending) → PutsBy n name s t v w (Err e) → IsBegun name s v → TakesInputFrom n name s t x x v w k k (Err e)
+begun_ended w k x n name s t (endings.Refused e) h begun = absurd h
+begun_ended w k x n name s t endings.Disk h begun = λ u counted p.
+    (no_batches, nothing_read (columns_of s) x x, record { broke = broke_puts n name s s t no_batches counted h (stored_none name s p begun.waits); gave = gave_nothing k })
+begun_ended w k x n name s t endings.Sink h begun = absurd h
 
 -- memory for the last line was wanting
 pub last_wanting : {u w : DiskView} {k l : SinkView} {x y : SourceView} (name : List ℕ) (first t : Session) → TakesInput name first t x y u w k l (Ok tt) → TakesInput name first t x y u w k l (Err (endings.Refused errors.Memory))

@@ -12,7 +12,7 @@ use Rattle.h5w_space.specs.Space.{Space}
 use Rattle.h5w_session.specs.Sessions.{AfterPiece, Freed, Session}
 use Rattle.h5w_session.specs.Stands.{Stands}
 use Rattle.h5w_files.specs.Images.{LeavesFiles}
-use Rattle.h5w_files.specs.Puts.{AllBetween, AllRose, PutsPieces, PutsSome, after_puts, counts_of, showing, writes_of}
+use Rattle.h5w_files.specs.Puts.{AllAre, PutsPieces, PutsSome, after_puts, counts_of, showing, writes_of}
 
 -- ---- Lists of puts, one behind the other
 
@@ -50,21 +50,16 @@ showing-append (v ∷ vs) ws log = showing-append vs ws (and_now (shows v) log)
 
 -- ---- Counts of faults
 
-pub between_more : (a b c d : ℕ) (cs : List ℕ) → c ≤ a → b ≤ d → AllBetween a b cs → AllBetween c d cs
-between_more a b c d [] low high all = tt
-between_more a b c d (x ∷ xs) low high all = let h = all.0 in let k = all.1 in (omega (arith, low, h), omega (arith, high, k), between_more a b c d xs low high all.2)
+pub are_of : (a b : ℕ) (cs : List ℕ) → a ≡ b → AllAre a cs → AllAre b cs
+are_of a b cs same all = subst (λ n. AllAre n cs) same all
 
-pub between-append : (a b : ℕ) (cs ds : List ℕ) → AllBetween a b cs → AllBetween a b ds → AllBetween a b (cs ++ ds)
-between-append a b [] ds all more = more
-between-append a b (c ∷ cs) ds all more = (all.0, all.1, between-append a b cs ds all.2 more)
+pub are-append : (n : ℕ) (cs ds : List ℕ) → AllAre n cs → AllAre n ds → AllAre n (cs ++ ds)
+are-append n [] ds all more = more
+are-append n (c ∷ cs) ds all more = (all.0, are-append n cs ds all.1 more)
 
-pub rose_since : (a b : ℕ) (cs : List ℕ) (c : ℕ) → AllBetween a b cs → Rose b c → AllRose cs c
-rose_since a b [] c all rose = tt
-rose_since a b (x ∷ xs) c all rose = let h = all.1 in (omega (arith, h, rose), rose_since a b xs c all.2 rose)
-
-pub rose-append : (cs ds : List ℕ) (b : ℕ) → AllRose cs b → AllRose ds b → AllRose (cs ++ ds) b
-rose-append [] ds b all more = more
-rose-append (c ∷ cs) ds b all more = (all.0, rose-append cs ds b all.1 more)
+-- of puts, and more behind them
+pub are_both : (n : ℕ) (ps qs : List (Write × ℕ)) → AllAre n (counts_of ps) → AllAre n (counts_of qs) → AllAre n (counts_of (ps ++ qs))
+are_both n ps qs all more = subst (λ (cs : List ℕ). AllAre n cs) (sym (counts-append ps qs)) (are-append n (counts_of ps) (counts_of qs) all more)
 
 pub rose_more : (a b c : ℕ) → a ≤ b → Rose b c → Rose a c
 rose_more a b c low rose = omega (arith, low, rose)
@@ -140,7 +135,7 @@ puts_one {v} {w} name s t wr ws pending after stands p =
       limit = l.limit;
       stands = stands;
       disk = record { told = p.told ∙ one v.told; faults = p.faults; through = p.through };
-      since = (omega arith, p.faults, tt);
+      since = (refl, tt);
       room = p.pieces;
       ends = p.end name;
     }
@@ -167,6 +162,11 @@ puts_none {v} {w} name s p room ends = record {
   ends = ends;
 }
 
+-- whatever count of faults stood before each
+pub none_put : (v : DiskView) (n : ℕ) (name : List ℕ) (s : Session) → (p : PutsPieces name s s v v) × AllAre n (counts_of p.puts)
+unfolding puts_none
+none_put v n name s = (puts_none name s (record { told = refl; faults = omega arith; through = refl }) (omega arith) (omega arith), tt)
+
 -- the disk failed at it
 pub puts_failed : {v w : DiskView} (name : List ℕ) (s : Session) → 1 ≤ length s.pending → Leaves 0 v.told v w → Rose v.faults w.faults → PutsSome name s s v w
 unfolding puts_none
@@ -174,13 +174,12 @@ puts_failed {v} {w} name s some p rose = record {
   before = puts_none name s (record { told = p.told; faults = p.faults; through = p.through }) (let h = p.pieces in omega (arith, h)) (p.end name);
   left = some;
   rose = rose;
-  since = tt;
 }
 
 -- ---- Pieces, one behind the other
 
-pub puts_then : {u v w : DiskView} (name : List ℕ) (r s t : Session) → PutsPieces name r s u v → PutsPieces name s t v w → PutsPieces name r t u w
-puts_then {u} {v} {w} name r s t p q =
+pub puts_then : {u v w : DiskView} (name : List ℕ) (r s t : Session) → v.faults ≡ u.faults → PutsPieces name r s u v → PutsPieces name s t v w → PutsPieces name r t u w
+puts_then {u} {v} {w} name r s t calm p q =
     let count : length (p.puts ++ q.puts) ≡ length p.puts + length q.puts = length-append p.puts q.puts in
     let first = p.room in
     let second = q.room in
@@ -199,24 +198,18 @@ puts_then {u} {v} {w} name r s t p q =
         faults = omega (arith, p.disk.faults, q.disk.faults);
         through = q.disk.through ∙ p.disk.through;
       };
-      since =
-          subst (λ (cs : List ℕ). AllBetween u.faults w.faults cs) (sym (counts-append p.puts q.puts))
-          (between-append u.faults w.faults (counts_of p.puts) (counts_of q.puts) (between_more u.faults v.faults u.faults w.faults (counts_of p.puts) (omega arith) q.disk.faults p.since)
-          (between_more v.faults w.faults u.faults w.faults (counts_of q.puts) p.disk.faults (omega arith) q.since));
+      since = are_both u.faults p.puts q.puts p.since (are_of v.faults u.faults (counts_of q.puts) calm q.since);
       room = omega (arith, count, first, second);
       ends = omega (arith, p.ends, q.ends);
     }
 
 -- and then the disk failed
-pub some_then : {u v w : DiskView} (name : List ℕ) (r s t : Session) → PutsPieces name r s u v → PutsSome name s t v w → PutsSome name r t u w
+pub some_then : {u v w : DiskView} (name : List ℕ) (r s t : Session) → v.faults ≡ u.faults → PutsPieces name r s u v → PutsSome name s t v w → PutsSome name r t u w
 unfolding puts_then
-some_then {u} {v} {w} name r s t p q = record {
-  before = puts_then name r s t p q.before;
+some_then {u} {v} {w} name r s t calm p q = record {
+  before = puts_then name r s t calm p q.before;
   left = q.left;
   rose = rose_more u.faults v.faults w.faults p.disk.faults q.rose;
-  since =
-      subst (λ (cs : List ℕ). AllRose cs w.faults) (sym (counts-append p.puts q.before.puts))
-      (rose-append (counts_of p.puts) (counts_of q.before.puts) w.faults (rose_since u.faults v.faults (counts_of p.puts) w.faults p.since q.rose) q.since);
 }
 
 pub none_left : (ws : List Write) → length ws ≤ 0 → ws ≡ []

@@ -22,19 +22,19 @@ use Rattle.h5w_text.specs.declared.error.ErrorLine.TheVariants as errors
 use Rattle.h5w_files.specs.Images.{LeavesFiles, told_bytes}
 use Rattle.h5w_batches.specs.Batches.{Batches, after_lines, close_batch, no_batches}
 use Rattle.h5w_files.specs.Taken.{of_all, rows_after, values_of}
-use Rattle.h5w_files.specs.Puts.{AllRose, after_puts, counts_of, writes_of}
+use Rattle.h5w_files.specs.Puts.{after_puts, counts_of, writes_of}
 use Rattle.h5w_files.specs.Appends.{Broke, ClosedUp, InputRefuses, Holds, IsHalted, IsLogOf, OfEachLog, OfValid, Stored, columns_of}
 use Rattle.h5w_files.specs.Appending.{ClosesBy, IsReady, PutsAll, PutsBy, PutsHalted, Settles, TakesInput, Told}
 use Rattle.h5w_files.specs.declared.batching.Ending.{Ending}
 use Rattle.h5w_files.specs.declared.batching.Ending.TheVariants as endings
-use Rattle.h5w_files.proofs.PutLemmas.{between_more, rose-append, rose_more, rose_since, counts-append, writes-append}
-use Rattle.h5w_files.proofs.StoreLemmas.{agrees, first_planned, first_whole, puts_more, same_log, settled_log, since_more, writes_both}
+use Rattle.h5w_files.proofs.PutLemmas.{are_both, are_of, writes-append}
+use Rattle.h5w_files.proofs.StoreLemmas.{agrees, first_planned, first_whole, puts_more, rose_halted, same_log, settled_log, writes_both}
 
 -- ---- The close
 
 -- the session was closed, and its piece was put
-pub shut_whole : {v w : DiskView} (name : List ℕ) (s t r : Session) → s.pending ≡ [] → t ≡ closed_of s → super_at (super_bytes (closed_root s)) ≡ Ok (closed_root s) → ((log : Log) → Stands s log → Stands t log) → PutsAll name t r v w → ClosesBy name s v w (Ok tt)
-shut_whole {v} {w} name s t r idle closed reads stands q = λ first b u h.
+pub shut_whole : {v w : DiskView} (n : ℕ) (name : List ℕ) (s t r : Session) → s.pending ≡ [] → t ≡ closed_of s → super_at (super_bytes (closed_root s)) ≡ Ok (closed_root s) → ((log : Log) → Stands s log → Stands t log) → PutsAll n name t r v w → ClosesBy n name s v w (Ok tt)
+shut_whole {v} {w} n name s t r idle closed reads stands q = λ first b u counted h.
     let ps = q.puts in
     let piece : Write = record { at = 0; piece = super_bytes (closed_root s) } in
     let one : writes_of ps.puts ≡ piece ∷ [] = sym (append-nil (writes_of ps.puts)) ∙ ap (λ (x : List Write). writes_of ps.puts ++ x) (sym q.all) ∙ sym ps.pieces ∙ ap (λ (x : Session). x.pending) closed in
@@ -42,7 +42,8 @@ shut_whole {v} {w} name s t r idle closed reads stands q = λ first b u h.
     record {
       puts = h.puts ++ ps.puts;
       disk = puts_more name h.puts ps.puts h.disk ps.disk;
-      since = since_more u.faults v.faults w.faults h.puts ps.puts h.disk.faults ps.disk.faults h.since ps.since;
+      since = are_both u.faults h.puts ps.puts h.since (are_of v.faults u.faults (counts_of ps.puts) (q.before ∙ sym counted) ps.since);
+      calm = q.calm ∙ sym counted;
       begins = first_whole first.pending s h.puts ps.puts idle h.begins;
       front = writes_of h.puts;
       root = closed_root s;
@@ -60,16 +61,14 @@ shut_whole {v} {w} name s t r idle closed reads stands q = λ first b u h.
     }
 
 -- the disk failed at it
-pub shut_broke : {v w : DiskView} (name : List ℕ) (s t r : Session) → s.pending ≡ [] → t ≡ closed_of s → ((log : Log) → Stands s log → Stands t log) → PutsHalted name t r v w → ClosesBy name s v w (Err endings.Disk)
-shut_broke {v} {w} name s t r idle closed stands q = λ first b u h.
-    let ps = q.puts.before in
+pub shut_broke : {v w : DiskView} (n : ℕ) (name : List ℕ) (s t r : Session) → s.pending ≡ [] → t ≡ closed_of s → ((log : Log) → Stands s log → Stands t log) → PutsHalted n name t r v w → ClosesBy n name s v w (Err endings.Disk)
+shut_broke {v} {w} n name s t r idle closed stands q = λ first b u counted h.
+    let ps = q.puts in
     record {
       puts = h.puts ++ ps.puts;
       disk = puts_more name h.puts ps.puts h.disk ps.disk;
-      since = since_more u.faults v.faults w.faults h.puts ps.puts h.disk.faults ps.disk.faults h.since ps.since;
-      rose = rose_more u.faults v.faults w.faults h.disk.faults q.puts.rose;
-      behind = subst (λ (cs : List ℕ). AllRose cs w.faults) (sym (counts-append h.puts ps.puts))
-          (rose-append (counts_of h.puts) (counts_of ps.puts) w.faults (rose_since u.faults v.faults (counts_of h.puts) w.faults h.since q.puts.rose) q.puts.since);
+      since = are_both u.faults h.puts ps.puts h.since (are_of n u.faults (counts_of ps.puts) (sym counted) q.since);
+      rose = rose_halted u.faults v.faults n w.faults counted h.disk.faults q.rose;
       begins = agrees first.pending (writes_of (h.puts ++ ps.puts)) q.middle.pending (first_planned first.pending s q.middle h.puts ps.puts idle h.begins);
       logs = λ img columns xs begun.
           let l = settled_log img columns xs t q.middle (writes_of h.puts) (writes_of ps.puts) b ps.stands (same_log img columns xs s t (writes_of h.puts) b stands (h.logs img columns xs begun)) in
@@ -89,12 +88,12 @@ shut_broke {v} {w} name s t r idle closed stands q = λ first b u h.
     }
 
 -- by the result of the puts
-pub shut_by : (v w : DiskView) (name : List ℕ) (s t r : Session) (q : Result (Unit {0}) Ending) → s.pending ≡ [] → t ≡ closed_of s → super_at (super_bytes (closed_root s)) ≡ Ok (closed_root s) → ((log : Log) → Stands s log → Stands t log) → PutsBy name t r v w q
-    → ClosesBy name s v w q
-shut_by v w name s t r (Ok a) idle closed reads stands q = shut_whole name s t r idle closed reads stands q
-shut_by v w name s t r (Err (endings.Refused e)) idle closed reads stands q = absurd q
-shut_by v w name s t r (Err endings.Disk) idle closed reads stands q = shut_broke name s t r idle closed stands q
-shut_by v w name s t r (Err endings.Sink) idle closed reads stands q = absurd q
+pub shut_by : (v w : DiskView) (n : ℕ) (name : List ℕ) (s t r : Session) (q : Result (Unit {0}) Ending) → s.pending ≡ [] → t ≡ closed_of s → super_at (super_bytes (closed_root s)) ≡ Ok (closed_root s) → ((log : Log) → Stands s log → Stands t log) → PutsBy n name t r v w q
+    → ClosesBy n name s v w q
+shut_by v w n name s t r (Ok a) idle closed reads stands q = shut_whole n name s t r idle closed reads stands q
+shut_by v w n name s t r (Err (endings.Refused e)) idle closed reads stands q = absurd q
+shut_by v w n name s t r (Err endings.Disk) idle closed reads stands q = shut_broke n name s t r idle closed stands q
+shut_by v w n name s t r (Err endings.Sink) idle closed reads stands q = absurd q
 
 -- ---- Behind what was taken
 
@@ -111,35 +110,35 @@ all_rows name first t b ready told =
     omega (arith, rows, none)
 
 -- all was, and the session was closed or the disk failed
-pub settles_all : {u v : DiskView} {k l : SinkView} {x y : SourceView} (w : DiskView) (name : List ℕ) (first s : Session) (r : Result (Unit {0}) Ending) → IsReady name s v → ClosesBy name s v w r → TakesInput name first s x y u v k l (Ok tt) → Settles name (rows_of s) first x y u w k l r
-settles_all {u} {v} w name first s (Ok a) ready c h =
-    (h.0, h.1, c first (close_batch (after_lines no_batches h.0)) u h.2.stored, h.2.gave, all_rows name first s (after_lines no_batches h.0) ready h.2)
-settles_all w name first s (Err (endings.Refused e)) ready c h = absurd c
-settles_all {u} w name first s (Err endings.Disk) ready c h =
-    let b = close_batch (after_lines no_batches h.0) in (b, of_all h.0 h.1, record { broke = c first b u h.2.stored; gave = h.2.gave })
-settles_all w name first s (Err endings.Sink) ready c h = absurd c
+pub settles_all : {u v : DiskView} {k l : SinkView} {x y : SourceView} (w : DiskView) (n : ℕ) (name : List ℕ) (first s : Session) (r : Result (Unit {0}) Ending) → u.faults ≡ n → IsReady name s v → ClosesBy n name s v w r → TakesInput name first s x y u v k l (Ok tt) → Settles name (rows_of s) first x y u w k l r
+settles_all {u} {v} w n name first s (Ok a) counted ready c h =
+    (h.0, h.1, c first (close_batch (after_lines no_batches h.0)) u counted h.2.stored, h.2.gave, all_rows name first s (after_lines no_batches h.0) ready h.2)
+settles_all w n name first s (Err (endings.Refused e)) counted ready c h = absurd c
+settles_all {u} w n name first s (Err endings.Disk) counted ready c h =
+    let b = close_batch (after_lines no_batches h.0) in (b, of_all h.0 h.1, record { broke = c first b u counted h.2.stored; gave = h.2.gave })
+settles_all w n name first s (Err endings.Sink) counted ready c h = absurd c
 
 -- a refusal
-pub settles_some : {u v w : DiskView} {k l : SinkView} {x y : SourceView} (name : List ℕ) (first s : Session) (e : ErrorLine) → ClosesBy name s v w (Ok tt) → TakesInput name first s x y u v k l (Err (endings.Refused e))
+pub settles_some : {u v w : DiskView} {k l : SinkView} {x y : SourceView} (n : ℕ) (name : List ℕ) (first s : Session) (e : ErrorLine) → u.faults ≡ n → ClosesBy n name s v w (Ok tt) → TakesInput name first s x y u v k l (Err (endings.Refused e))
     → Settles name (rows_of s) first x y u w k l (Err (endings.Refused e))
-settles_some {u} name first s e c h = (h.0, h.1, h.2, c first h.0 u h.3.stored, h.3.gave)
+settles_some {u} n name first s e counted c h = (h.0, h.1, h.2, c first h.0 u counted h.3.stored, h.3.gave)
 
-pub settles_broke : {u v : DiskView} {k l : SinkView} {x y : SourceView} (w : DiskView) (name : List ℕ) (first s : Session) (e : ErrorLine) (r : Ending) → ClosesBy name s v w (Err r) → TakesInput name first s x y u v k l (Err (endings.Refused e))
+pub settles_broke : {u v : DiskView} {k l : SinkView} {x y : SourceView} (w : DiskView) (n : ℕ) (name : List ℕ) (first s : Session) (e : ErrorLine) (r : Ending) → u.faults ≡ n → ClosesBy n name s v w (Err r) → TakesInput name first s x y u v k l (Err (endings.Refused e))
     → Settles name (rows_of s) first x y u w k l (Err r)
-settles_broke w name first s e (endings.Refused f) c h = absurd c
-settles_broke {u} w name first s e endings.Disk c h = (h.0, h.1, record { broke = c first h.0 u h.3.stored; gave = h.3.gave })
-settles_broke w name first s e endings.Sink c h = absurd c
+settles_broke w n name first s e (endings.Refused f) counted c h = absurd c
+settles_broke {u} w n name first s e endings.Disk counted c h = (h.0, h.1, record { broke = c first h.0 u counted h.3.stored; gave = h.3.gave })
+settles_broke w n name first s e endings.Sink counted c h = absurd c
 
 pub settles_disk : {u v : DiskView} {k l : SinkView} {x y : SourceView} (name : List ℕ) (first s : Session) → TakesInput name first s x y u v k l (Err endings.Disk) → Settles name (rows_of s) first x y u v k l (Err endings.Disk)
 settles_disk name first s h = h
 
 -- a sink that failed
-pub settles_sink : {u v : DiskView} {k l : SinkView} {x y : SourceView} (w : DiskView) (name : List ℕ) (first s : Session) (r : Result (Unit {0}) Ending) → ClosesBy name s v w r → TakesInput name first s x y u v k l (Err endings.Sink)
+pub settles_sink : {u v : DiskView} {k l : SinkView} {x y : SourceView} (w : DiskView) (n : ℕ) (name : List ℕ) (first s : Session) (r : Result (Unit {0}) Ending) → u.faults ≡ n → ClosesBy n name s v w r → TakesInput name first s x y u v k l (Err endings.Sink)
     → Settles name (rows_of s) first x y u w k l (Err endings.Sink)
-settles_sink {u} w name first s (Ok a) c h = (h.0, h.1, inl (c first h.0 u h.2.stored), h.2.stops)
-settles_sink w name first s (Err (endings.Refused e)) c h = absurd c
-settles_sink {u} w name first s (Err endings.Disk) c h = (h.0, h.1, inr (c first h.0 u h.2.stored), h.2.stops)
-settles_sink w name first s (Err endings.Sink) c h = absurd c
+settles_sink {u} w n name first s (Ok a) counted c h = (h.0, h.1, inl (c first h.0 u counted h.2.stored), h.2.stops)
+settles_sink w n name first s (Err (endings.Refused e)) counted c h = absurd c
+settles_sink {u} w n name first s (Err endings.Disk) counted c h = (h.0, h.1, inr (c first h.0 u counted h.2.stored), h.2.stops)
+settles_sink w n name first s (Err endings.Sink) counted c h = absurd c
 
 -- ---- The file
 
@@ -182,74 +181,3 @@ pub holds_after : {v w : DiskView} (name at : List ℕ) (first : Session) (b : B
 holds_after {v} {w} name at first b ps named stands p logs = λ img rows columns values sm told valid reads.
     log_holds name at img columns values w (writes_of ps) b (ap (λ t. told_bytes t name) p.told ∙ bytes_after name ps img v.told told)
     (subst (λ (n : List ℕ). IsHalted img columns values n (writes_of ps) b) named (logs img columns values (stands img rows columns values sm told valid reads)))
-
--- ---- From the state before the file was opened
-
-puts_before : {v u w : DiskView} (name : List ℕ) (ps : List (Write × ℕ)) → LeavesFiles v.told v u → LeavesFiles (option_map (after_puts name ps) u.told) u w → LeavesFiles (option_map (after_puts name ps) v.told) v w
-puts_before name ps p q = record { told = q.told ∙ ap (option_map (after_puts name ps)) p.told; faults = omega (arith, p.faults, q.faults); through = q.through ∙ p.through }
-
-closed_before : {v u w : DiskView} (name : List ℕ) (first : Session) (b : Batches) → LeavesFiles v.told v u → ClosedUp name first b u w → ClosedUp name first b v w
-closed_before {v} {u} {w} name first b p c = record {
-  puts = c.puts;
-  disk = puts_before name c.puts p c.disk;
-  since = between_more u.faults w.faults v.faults w.faults (counts_of c.puts) p.faults (omega arith) c.since;
-  begins = c.begins;
-  front = c.front;
-  root = c.root;
-  last = c.last;
-  reads = c.reads;
-  root_is = c.root_is;
-  logs = c.logs;
-}
-
-broke_from : {v u w : DiskView} (name : List ℕ) (first : Session) (b : Batches) → LeavesFiles v.told v u → Broke name first b u w → Broke name first b v w
-broke_from {v} {u} {w} name first b p c = record {
-  puts = c.puts;
-  disk = puts_before name c.puts p c.disk;
-  since = between_more u.faults w.faults v.faults w.faults (counts_of c.puts) p.faults (omega arith) c.since;
-  rose = rose_more v.faults u.faults w.faults p.faults c.rose;
-  behind = c.behind;
-  begins = c.begins;
-  logs = c.logs;
-}
-
-stored_from : {v u w : DiskView} (name : List ℕ) (first s : Session) (b : Batches) → LeavesFiles v.told v u → Stored name first s b u w → Stored name first s b v w
-stored_from {v} {u} {w} name first s b p c = record {
-  taken = c.taken;
-  puts = c.puts;
-  disk = puts_before name c.puts p c.disk;
-  since = between_more u.faults w.faults v.faults w.faults (counts_of c.puts) p.faults (omega arith) c.since;
-  begins = c.begins;
-  logs = c.logs;
-}
-
-refuses_from : {v u : DiskView} (x y : SourceView) (name : List ℕ) (first : Session) (b : Batches) (e : ErrorLine) → LeavesFiles v.told v u → InputRefuses name first x y b u e → InputRefuses name first x y b v e
-refuses_from x y name first b errors.Usage p c = c
-refuses_from x y name first b errors.Missing p c = c
-refuses_from x y name first b errors.Exists p c = c
-refuses_from x y name first b (errors.Read e) p c = c
-refuses_from x y name first b (errors.Finding kind at) p c = c
-refuses_from x y name first b (errors.Overlap at len other other_len) p c = c
-refuses_from x y name first b (errors.Cut end size) p c = c
-refuses_from x y name first b errors.Layout p c = c
-refuses_from x y name first b (errors.ChunkBytes bytes) p c = c
-refuses_from x y name first b errors.NoColumns p c = c
-refuses_from x y name first b errors.NoIndex p c = c
-refuses_from x y name first b (errors.FullChunks chunks limit) p c = c
-refuses_from x y name first b (errors.FullSpace at size limit) p c = record { numbers = c.numbers; batches = c.batches; read = c.read; session = c.session; before = c.before; stored = stored_from name first c.session b p c.stored; full_for = c.full_for; bounds = c.bounds }
-refuses_from x y name first b (errors.Line n) p c = c
-refuses_from x y name first b (errors.Range n i z) p c = c
-refuses_from x y name first b (errors.Input limit) p c = c
-refuses_from x y name first b errors.Disk p c = c
-refuses_from x y name first b errors.Source p c = c
-refuses_from x y name first b errors.Memory p c = c
-
-pub settles_from : {v u : DiskView} (w : DiskView) (k l : SinkView) (x y : SourceView) (name : List ℕ) (n : ℕ) (first : Session) (r : Result (Unit {0}) Ending) → LeavesFiles v.told v u → Settles name n first x y u w k l r → Settles name n first x y v w k l r
-settles_from w k l x y name n first (Ok a) p h = (h.0, h.1, closed_before name first (close_batch (after_lines no_batches h.0)) p h.2, h.3, h.4)
-settles_from w k l x y name n first (Err (endings.Refused e)) p h = (h.0, h.1, refuses_from x y name first h.0 e p h.2, closed_before name first h.0 p h.3, h.4)
-settles_from w k l x y name n first (Err endings.Disk) p h = (h.0, h.1, record { broke = broke_from name first h.0 p h.2.broke; gave = h.2.gave })
-settles_from {v} {u} w k l x y name n first (Err endings.Sink) p h = (h.0, h.1, either h.0 h.2, h.3)
-  where
-    either : (b : Batches) → ClosedUp name first b u w ⊎ Broke name first b u w → ClosedUp name first b v w ⊎ Broke name first b v w
-    either b (inl c) = inl (closed_before name first b p c)
-    either b (inr c) = inr (broke_from name first b p c)

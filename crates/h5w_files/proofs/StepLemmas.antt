@@ -130,8 +130,8 @@ ready_unflushed {v} {w} name s t p a r =
       end = let low = q.end in omega (arith, end, low);
     }
 
-pub ready_batch : {v x w : DiskView} (name : List ℕ) (s t r : Session) → Unput name v x → Planned name s t x → PutsAll name t r x w → IsReady name s v → IsReady name r w
-ready_batch {v} {x} {w} name s t r p plan q ready =
+pub ready_batch : {v x w : DiskView} (n : ℕ) (name : List ℕ) (s t r : Session) → Unput name v x → Planned name s t x → PutsAll n name t r x w → IsReady name s v → IsReady name r w
+ready_batch {v} {x} {w} n name s t r p plan q ready =
     let ps = q.puts in
     let same = ps.session in
     let count : length t.pending ≡ length (writes_of ps.puts) = ap length ps.pieces ∙ ap (λ (ws : List Write). length (writes_of ps.puts ++ ws)) q.all ∙ ap length (append-nil (writes_of ps.puts)) in
@@ -177,21 +177,21 @@ batch_text name first s b bytes some waits h is =
     ∙ ap (λ (t : List ℕ). lines_of first b.closed ++ t) (ap count_text (ap (λ n. n + s.waits) (sym h.rows)) ∙ sym is)
 
 -- its flush was refused
-pub close_refused : {v w : DiskView} {k : SinkView} (name : List ℕ) (s t : Session) (e : ErrorLine) → Unput name v w → Unflushed s t → FlushRefused s e → StepsOn name s t Closes (FlushRefused s) v w k k (Err (endings.Refused e))
-close_refused name s t e p a cause = λ first b u m told. (record { stored = stored_unflushed name first s t b a p told.stored; gave = told.gave }, cause)
+pub close_refused : {v w : DiskView} {k : SinkView} (n : ℕ) (name : List ℕ) (s t : Session) (e : ErrorLine) → Unput name v w → Unflushed s t → FlushRefused s e → StepsOn n name s t Closes (FlushRefused s) v w k k (Err (endings.Refused e))
+close_refused n name s t e p a cause = λ first b u m counted told. (record { stored = stored_unflushed name first s t b a p told.stored; gave = told.gave }, cause)
 
 -- memory for its line was wanting
-pub close_wanting : {v : DiskView} {k : SinkView} (name : List ℕ) (s : Session) → StepsOn name s s Closes (FlushRefused s) v v k k (Err (endings.Refused errors.Memory))
-close_wanting name s = λ first b u m told. (told, tt)
+pub close_wanting : {v : DiskView} {k : SinkView} (n : ℕ) (name : List ℕ) (s : Session) → StepsOn n name s s Closes (FlushRefused s) v v k k (Err (endings.Refused errors.Memory))
+close_wanting n name s = λ first b u m counted told. (told, tt)
 
 -- the image failed
-pub close_failed : {v w : DiskView} {k : SinkView} (name : List ℕ) (s c t : Session) → Unput name v w → Unflushed s c → Halted c t → Rose v.faults w.faults → StepsOn name s t Closes (FlushRefused s) v w k k (Err endings.Disk)
-close_failed {v} {w} name s c t p a halted rose =
-    λ first b u m told. record { broke = broke_before name first c t b halted p rose (stored_unflushed name first s c b a (nothing_put v name) told.stored); gave = told.gave }
+pub close_failed : {v w : DiskView} {k : SinkView} (n : ℕ) (name : List ℕ) (s c t : Session) → Unput name v w → Unflushed s c → Halted c t → Rose v.faults w.faults → StepsOn n name s t Closes (FlushRefused s) v w k k (Err endings.Disk)
+close_failed {v} {w} n name s c t p a halted rose =
+    λ first b u m counted told. record { broke = broke_before name first c t b halted p rose (stored_unflushed name first s c b a (nothing_put v name) told.stored); gave = told.gave }
 
 -- no row waits
-pub close_none : {v w : DiskView} {k : SinkView} (name : List ℕ) (s t : Session) → Unput name v w → HasNone s t → StepsOn name s t Closes (FlushRefused s) v w k k (Ok tt)
-close_none {v} {w} {k} name s t p none = λ first b u m told.
+pub close_none : {v w : DiskView} {k : SinkView} (n : ℕ) (name : List ℕ) (s t : Session) → Unput name v w → HasNone s t → StepsOn n name s t Closes (FlushRefused s) v w k k (Ok tt)
+close_none {v} {w} {k} n name s t p none = λ first b u m counted told.
     let same : close_batch b ≡ b = nothing_closes b (columns_of first) s.waits none.0 told.stored.taken.waits in (
       close_batch b,
       refl,
@@ -199,32 +199,32 @@ close_none {v} {w} {k} name s t p none = λ first b u m told.
     )
 
 -- the disk failed at a piece
-pub close_broke : {v x w : DiskView} {k : SinkView} (name : List ℕ) (s t r : Session) → IsReady name s v → Unput name v x → Planned name s t x → PutsHalted name t r x w → StepsOn name s r Closes (FlushRefused s) v w k k (Err endings.Disk)
-close_broke name s t r ready p plan q =
-    λ first b u m told. record { broke = broke_batch name first s t r b (some_columns name first s b told.stored.taken ready) ready.idle p plan q told.stored; gave = told.gave }
+pub close_broke : {v x w : DiskView} {k : SinkView} (n : ℕ) (name : List ℕ) (s t r : Session) → IsReady name s v → Unput name v x → Planned name s t x → PutsHalted n name t r x w → StepsOn n name s r Closes (FlushRefused s) v w k k (Err endings.Disk)
+close_broke n name s t r ready p plan q =
+    λ first b u m counted told. record { broke = broke_batch n name first s t r b counted (some_columns name first s b told.stored.taken ready) ready.idle p plan q told.stored; gave = told.gave }
 
 -- all was put, and its line was written
-pub close_whole : {v x w : DiskView} {k l : SinkView} (name : List ℕ) (s t r : Session) (bytes : List ℕ) → IsReady name s v → Unput name v x → Planned name s t x → PutsAll name t r x w → bytes ≡ count_text (rows_of s)
-    → Gave bytes k l → StepsOn name s r Closes (FlushRefused s) v w k l (Ok tt)
-close_whole {v} {x} {w} {k} {l} name s t r bytes ready p plan q is gave = λ first b u m told.
+pub close_whole : {v x w : DiskView} {k l : SinkView} (n : ℕ) (name : List ℕ) (s t r : Session) (bytes : List ℕ) → IsReady name s v → Unput name v x → Planned name s t x → PutsAll n name t r x w → bytes ≡ count_text (rows_of s)
+    → Gave bytes k l → StepsOn n name s r Closes (FlushRefused s) v w k l (Ok tt)
+close_whole {v} {x} {w} {k} {l} n name s t r bytes ready p plan q is gave = λ first b u m counted told.
     let some = some_columns name first s b told.stored.taken ready in (
       close_batch b,
       refl,
       record {
-        stored = stored_batch name first s t r b some ready.idle p plan q told.stored;
+        stored = stored_batch n name first s t r b counted some ready.idle p plan q told.stored;
         gave = subst (λ (y : List ℕ). Gave y m l) (sym (batch_text name first s b bytes some plan.waits told.stored.taken is)) (gave_both (lines_of first b.closed) bytes told.gave gave);
       },
     )
 
 -- and the sink failed at its line
-pub close_half : {v x w : DiskView} {k l : SinkView} (name : List ℕ) (s t r : Session) (bytes : List ℕ) → IsReady name s v → Unput name v x → Planned name s t x → PutsAll name t r x w → bytes ≡ count_text (rows_of s)
-    → Rose k.faults l.faults → GaveSome bytes k l → StepsOn name s r Closes (FlushRefused s) v w k l (Err endings.Sink)
-close_half {v} {x} {w} {k} {l} name s t r bytes ready p plan q is rose gave = λ first b u m told.
+pub close_half : {v x w : DiskView} {k l : SinkView} (n : ℕ) (name : List ℕ) (s t r : Session) (bytes : List ℕ) → IsReady name s v → Unput name v x → Planned name s t x → PutsAll n name t r x w → bytes ≡ count_text (rows_of s)
+    → Rose k.faults l.faults → GaveSome bytes k l → StepsOn n name s r Closes (FlushRefused s) v w k l (Err endings.Sink)
+close_half {v} {x} {w} {k} {l} n name s t r bytes ready p plan q is rose gave = λ first b u m counted told.
     let some = some_columns name first s b told.stored.taken ready in (
       close_batch b,
       refl,
       record {
-        stored = stored_batch name first s t r b some ready.idle p plan q told.stored;
+        stored = stored_batch n name first s t r b counted some ready.idle p plan q told.stored;
         stops = record {
           before = b.closed;
           last = b.waiting;
@@ -241,9 +241,9 @@ close_half {v} {x} {w} {k} {l} name s t r bytes ready p plan q is rose gave = λ
 -- ---- Lines
 
 -- a line that closes a batch has no values
-pub line_closes : {v : DiskView} {k : SinkView} (w : DiskView) (l : SinkView) (name : List ℕ) (s t : Session) (line : List ℕ) (number : ℕ) (r : Result (Unit {0}) Ending) → number_line_of (columns_of s) line ≡ Some [] → StepsOn name s t Closes (FlushRefused s) v w k l r
-    → StepsOn name s t (TakesLine line) (LineRefused line number s) v w k l r
-line_closes {v} {k} w l name s t line number r spelled steps = λ first b u m told. cases first b u m (subst (λ c. number_line_of c line ≡ Some []) (columns_same first s b told.stored.taken) spelled) r (steps first b u m told)
+pub line_closes : {v : DiskView} {k : SinkView} (w : DiskView) (l : SinkView) (n : ℕ) (name : List ℕ) (s t : Session) (line : List ℕ) (number : ℕ) (r : Result (Unit {0}) Ending) → number_line_of (columns_of s) line ≡ Some [] → StepsOn n name s t Closes (FlushRefused s) v w k l r
+    → StepsOn n name s t (TakesLine line) (LineRefused line number s) v w k l r
+line_closes {v} {k} w l n name s t line number r spelled steps = λ first b u m counted told. cases first b u m (subst (λ c. number_line_of c line ≡ Some []) (columns_same first s b told.stored.taken) spelled) r (steps first b u m counted told)
   where
     refused : (e : ErrorLine) → FlushRefused s e → LineRefused line number s e
     refused errors.Usage c = absurd c
@@ -278,16 +278,16 @@ nonempty_line b [] h = absurd (omega (arith, h))
 nonempty_line b (x ∷ xs) h = refl
 
 -- its values are appended, or refused
-pub line_appends : {v w : DiskView} (k : SinkView) (name : List ℕ) (s t : Session) (line : List ℕ) (number n : ℕ) (values : List ℤ) (r : Result (Unit {0}) Ending) → IsReady name s v → Unput name v w → number_line_of (columns_of s) line ≡ Some values
-    → 1 ≤ length values → length values ≡ n * s.dataset.shape.cols → AppendsBy number values s t v w r → StepsOn name s t (TakesLine line) (LineRefused line number s) v w k k r
-line_appends {v} {w} k name s t line number n values (Ok a) ready p spelled some rows h = λ first b u m told.
+pub line_appends : {v w : DiskView} (k : SinkView) (faults : ℕ) (name : List ℕ) (s t : Session) (line : List ℕ) (number n : ℕ) (values : List ℤ) (r : Result (Unit {0}) Ending) → IsReady name s v → Unput name v w → number_line_of (columns_of s) line ≡ Some values
+    → 1 ≤ length values → length values ≡ n * s.dataset.shape.cols → AppendsBy number values s t v w r → StepsOn faults name s t (TakesLine line) (LineRefused line number s) v w k k r
+line_appends {v} {w} k faults name s t line number n values (Ok a) ready p spelled some rows h = λ first b u m counted told.
     let taken = told.stored.taken in
     let after = nonempty_line b values some in (
       after_line b values,
       record { values = values; spelled = subst (λ c. number_line_of c line ≡ Some values) (columns_same first s b taken) spelled; next_is = refl },
       subst (λ (x : Batches). Told name first t x u w m k) (sym after) (record { stored = stored_values name first s t b values n (some_columns name first s b taken ready) rows h p told.stored; gave = told.gave }),
     )
-line_appends {v} {w} k name s t line number n values (Err (endings.Refused e)) ready p spelled some rows h = λ first b u m told.
+line_appends {v} {w} k faults name s t line number n values (Err (endings.Refused e)) ready p spelled some rows h = λ first b u m counted told.
     (subst (λ (x : Session). Told name first x b u w m k) (sym h.0) (told_unput name first s b p told), refused e h.1)
   where
     refused : (e : ErrorLine) → ValuesRefused number s values e → LineRefused line number s e
@@ -310,15 +310,15 @@ line_appends {v} {w} k name s t line number n values (Err (endings.Refused e)) r
     refused errors.Disk c = absurd c
     refused errors.Source c = absurd c
     refused errors.Memory c = tt
-line_appends k name s t line number n values (Err endings.Disk) ready p spelled some rows h = λ first b u m told. record { broke = broke_before name first s t b h.0 p h.1 told.stored; gave = told.gave }
-line_appends k name s t line number n values (Err endings.Sink) ready p spelled some rows h = absurd h
+line_appends k faults name s t line number n values (Err endings.Disk) ready p spelled some rows h = λ first b u m counted told. record { broke = broke_before name first s t b h.0 p h.1 told.stored; gave = told.gave }
+line_appends k faults name s t line number n values (Err endings.Sink) ready p spelled some rows h = absurd h
 
 -- ---- By results
 
-pub flush_ended : {v w : DiskView} (k : SinkView) (name : List ℕ) (s t : Session) (e : Ending) → Unput name v w → FlushesBy name s t v w (Err e) → StepsOn name s t Closes (FlushRefused s) v w k k (Err e)
-flush_ended k name s t (endings.Refused e) p h = close_refused name s t e p h.0 h.1
-flush_ended k name s t endings.Disk p h = close_failed name s h.0 t p h.1 h.2 h.3
-flush_ended k name s t endings.Sink p h = absurd h
+pub flush_ended : {v w : DiskView} (k : SinkView) (n : ℕ) (name : List ℕ) (s t : Session) (e : Ending) → Unput name v w → FlushesBy name s t v w (Err e) → StepsOn n name s t Closes (FlushRefused s) v w k k (Err e)
+flush_ended k n name s t (endings.Refused e) p h = close_refused n name s t e p h.0 h.1
+flush_ended k n name s t endings.Disk p h = close_failed n name s h.0 t p h.1 h.2 h.3
+flush_ended k n name s t endings.Sink p h = absurd h
 
 pub none_planned : {x : DiskView} (name : List ℕ) (s t : Session) → HasNone s t ⊎ Planned name s t x → length t.pending ≡ 0 → HasNone s t
 none_planned name s t (inl h) e = h
@@ -328,7 +328,7 @@ pub some_planned : {v x : DiskView} (name : List ℕ) (s t : Session) → IsRead
 some_planned name s t ready (inl h) some = absurd (some (ap (λ (y : Session). length y.pending) h.1 ∙ ap length ready.idle))
 some_planned name s t ready (inr p) some = p
 
-pub puts_ended : {v x : DiskView} (w : DiskView) (k : SinkView) (name : List ℕ) (s t r : Session) (e : Ending) → IsReady name s v → Unput name v x → Planned name s t x → PutsBy name t r x w (Err e) → StepsOn name s r Closes (FlushRefused s) v w k k (Err e)
-puts_ended w k name s t r (endings.Refused e) ready p plan h = absurd h
-puts_ended w k name s t r endings.Disk ready p plan h = close_broke name s t r ready p plan h
-puts_ended w k name s t r endings.Sink ready p plan h = absurd h
+pub puts_ended : {v x : DiskView} (w : DiskView) (k : SinkView) (n : ℕ) (name : List ℕ) (s t r : Session) (e : Ending) → IsReady name s v → Unput name v x → Planned name s t x → PutsBy n name t r x w (Err e) → StepsOn n name s r Closes (FlushRefused s) v w k k (Err e)
+puts_ended w k n name s t r (endings.Refused e) ready p plan h = absurd h
+puts_ended w k n name s t r endings.Disk ready p plan h = close_broke n name s t r ready p plan h
+puts_ended w k n name s t r endings.Sink ready p plan h = absurd h

@@ -1,5 +1,5 @@
 -- What a session stores of its batches, step by step.
-use Rattle.std.proofs.Common.{◌≡◌, ◌⊎◌, ℕ, zero, suc, ◌+◌, ◌*◌, ◌/◌, ◌<◌, ◌≤◌, List, [], ◌∷◌, ◌++◌, length, ℤ, refl, sym, ap, ◌∙◌, subst, inl, inr, arith, append_assoc, append-nil, length-append}
+use Rattle.std.proofs.Common.{◌≡◌, ◌≢◌, ◌⊎◌, ℕ, zero, suc, ◌+◌, ◌*◌, ◌/◌, ◌<◌, ◌≤◌, List, [], ◌∷◌, ◌++◌, length, ℤ, refl, sym, ap, ◌∙◌, subst, inl, inr, arith, append_assoc, append-nil, length-append}
 use Rattle.std.specs.Prelude.{option_map}
 use Rattle.std.proofs.Math.Nat.{zero-mul}
 use Rattle.h5w_model.specs.Causes.{Rose}
@@ -15,12 +15,12 @@ use Rattle.h5w_session.specs.Stands.{Stands}
 use Rattle.h5w_files.specs.Images.{LeavesFiles, file_image}
 use Rattle.h5w_batches.specs.Batches.{Batches, close_batch, no_batches}
 use Rattle.h5w_files.specs.Taken.{values_of}
-use Rattle.h5w_files.specs.Puts.{AgreesAtFirst, AllBetween, AllRose, ComesFirst, PutsPieces, after_puts, counts_of, showing, writes_of}
+use Rattle.h5w_files.specs.Puts.{AgreesAtFirst, AllAre, ComesFirst, PutsPieces, PutsSome, after_puts, counts_of, showing, writes_of}
 use Rattle.h5w_files.specs.Appends.{Broke, HasTaken, IsLogOf, Settled, Stored, columns_of, grown}
 use Rattle.h5w_files.specs.Appending.{AppendsAll, Halted, HasNone, Planned, PutsAll, PutsHalted, Unflushed, Unput}
 use Rattle.h5w_files.proofs.BatchLemmas.{batch_rows, plan_done, plan_open, showing_appended, showing_flushed, showing_hist, showing_same, values_closed}
 use Rattle.h5w_files.proofs.ImageLemmas.{same_name}
-use Rattle.h5w_files.proofs.PutLemmas.{between-append, between_more, counts-append, no_puts, puts_twice, rose-append, rose_more, rose_since, writes-append}
+use Rattle.h5w_files.proofs.PutLemmas.{are_both, are_of, no_puts, none_put, puts_twice, rose_more, writes-append}
 
 -- ---- Disks
 
@@ -69,11 +69,6 @@ puts_more {u} name ps qs p q = record {
 pub unput_more : {u v w : DiskView} (name : List ℕ) (ps : List (Write × ℕ)) → LeavesFiles (option_map (after_puts name ps) u.told) u v → LeavesFiles v.told v w
     → LeavesFiles (option_map (after_puts name ps) u.told) u w
 unput_more name ps p q = record { told = q.told ∙ p.told; faults = omega (arith, p.faults, q.faults); through = q.through ∙ p.through }
-
-pub since_more : (a b c : ℕ) (ps qs : List (Write × ℕ)) → a ≤ b → b ≤ c → AllBetween a b (counts_of ps) → AllBetween b c (counts_of qs) → AllBetween a c (counts_of (ps ++ qs))
-since_more a b c ps qs low high p q =
-    subst (λ (cs : List ℕ). AllBetween a c cs) (sym (counts-append ps qs))
-    (between-append a c (counts_of ps) (counts_of qs) (between_more a b a c (counts_of ps) (omega arith) high p) (between_more b c a c (counts_of qs) low (omega arith) q))
 
 -- what is pending is put, or stays
 first_still : (vs ws : List Write) (s t : Session) → t.pending ≡ s.pending → ComesFirst vs (ws ++ s.pending) → ComesFirst vs (ws ++ t.pending)
@@ -152,7 +147,7 @@ stored_values {u} {v} {w} name first s t b values n some rows a p h = record {
   taken = subst (λ (x : Session). HasTaken first x (record b { waiting = b.waiting ++ values })) (sym a.session) (added_taken first s b values n some rows h.taken);
   puts = h.puts;
   disk = unput_more name h.puts h.disk p.disk;
-  since = between_more u.faults v.faults u.faults w.faults (counts_of h.puts) (omega arith) p.disk.faults h.since;
+  since = h.since;
   begins = first_still first.pending (writes_of h.puts) s t (ap (λ (x : Session). x.pending) a.session) h.begins;
   logs = λ img columns xs stands. added_log img columns xs s t (writes_of h.puts) b values a (h.logs img columns xs stands);
 }
@@ -191,7 +186,7 @@ stored_unflushed {u} {v} {w} name first s t b a p h = record {
   taken = but_taken first s t b a.same.session h.taken;
   puts = h.puts;
   disk = unput_more name h.puts h.disk p.disk;
-  since = between_more u.faults v.faults u.faults w.faults (counts_of h.puts) (omega arith) p.disk.faults h.since;
+  since = h.since;
   begins = first_still first.pending (writes_of h.puts) s t (ap (λ (x : Session). x.pending) a.same.session) h.begins;
   logs = λ img columns xs stands. same_log img columns xs s t (writes_of h.puts) b a.stands (h.logs img columns xs stands);
 }
@@ -202,7 +197,7 @@ stored_same {u} {v} {w} name first s b p h = record {
   taken = h.taken;
   puts = h.puts;
   disk = unput_more name h.puts h.disk p.disk;
-  since = between_more u.faults v.faults u.faults w.faults (counts_of h.puts) (omega arith) p.disk.faults h.since;
+  since = h.since;
   begins = h.begins;
   logs = h.logs;
 }
@@ -212,9 +207,8 @@ pub broke_before : {u v w : DiskView} (name : List ℕ) (first s t : Session) (b
 broke_before {u} {v} {w} name first s t b a p rose h = record {
   puts = h.puts;
   disk = unput_more name h.puts h.disk p.disk;
-  since = between_more u.faults v.faults u.faults w.faults (counts_of h.puts) (omega arith) p.disk.faults h.since;
+  since = h.since;
   rose = rose_more u.faults v.faults w.faults h.disk.faults rose;
-  behind = rose_since u.faults v.faults (counts_of h.puts) w.faults h.since rose;
   begins = agrees first.pending (writes_of h.puts) s.pending h.begins;
   logs = λ img columns xs stands. let l = h.logs img columns xs stands in record {
     session = t;
@@ -223,6 +217,37 @@ broke_before {u} {v} {w} name first s t b a p rose h = record {
     of = record { log = l.of.log; stands = a.stands l.of.log l.of.stands; begun = l.of.begun; pieces = l.of.pieces; flushed_are = l.of.flushed_are; appended_are = l.of.appended_are };
   };
 }
+
+-- ---- The puts of pending pieces
+
+-- all were put
+pub puts_all : {v w : DiskView} (n : ℕ) (name : List ℕ) (s t : Session) → v.faults ≡ n → PutsPieces name s t v w → t.pending ≡ [] → w.faults ≡ v.faults → PutsAll n name s t v w
+puts_all n name s t counted p all calm = record { puts = p; all = all; before = counted; calm = calm ∙ counted }
+
+-- the disk failed at one of them
+pub puts_halted : {v w : DiskView} (n : ℕ) (name : List ℕ) (s middle t : Session) → v.faults ≡ n → PutsSome name s middle v w → Halted middle t → PutsHalted n name s t v w
+puts_halted {v} {w} n name s middle t counted p halted = record {
+  middle = middle;
+  puts = p.before;
+  since = are_of v.faults n (counts_of p.before.puts) counted p.before.since;
+  left = λ some. p.left;
+  rose = λ low. subst (λ m. Rose m w.faults) counted p.rose;
+  halted = halted;
+}
+
+-- it had failed before
+pub puts_late : {v : DiskView} (n : ℕ) (name : List ℕ) (s t : Session) → v.faults ≢ n → Halted s t → PutsHalted n name s t v v
+puts_late {v} n name s t other halted = record {
+  middle = s;
+  puts = (none_put v n name s).0;
+  since = (none_put v n name s).1;
+  left = λ some. some;
+  rose = λ low. rises n v.faults low other;
+  halted = halted;
+}
+  where
+    rises : (a b : ℕ) → a ≤ b → b ≢ a → Rose a b
+    rises a b low other = grind (arith, low, other)
 
 -- ---- Pieces of no flush
 
@@ -277,27 +302,28 @@ pub writes_both : (P : List Write → Type 0) (ps qs : List (Write × ℕ)) → 
 writes_both P ps qs h = subst P (sym (writes-append ps qs)) h
 
 -- pieces that bring no rows were put
-pub stored_puts : {u v w : DiskView} (name : List ℕ) (first s t : Session) (b : Batches) → PutsPieces name s t v w → Stored name first s b u v → Stored name first t b u w
-stored_puts {u} {v} {w} name first s t b p h = record {
+pub stored_puts : {u v w : DiskView} (name : List ℕ) (first s t : Session) (b : Batches) → v.faults ≡ u.faults → PutsPieces name s t v w → Stored name first s b u v → Stored name first t b u w
+stored_puts {u} {v} {w} name first s t b calm p h = record {
   taken = puts_taken name first s t b p h.taken;
   puts = h.puts ++ p.puts;
   disk = puts_more name h.puts p.puts h.disk p.disk;
-  since = since_more u.faults v.faults w.faults h.puts p.puts h.disk.faults p.disk.faults h.since p.since;
+  since = are_both u.faults h.puts p.puts h.since (are_of v.faults u.faults (counts_of p.puts) calm p.since);
   begins = first_put first.pending s t h.puts p.puts p.pieces h.begins;
   logs = λ img columns xs stands. writes_both (λ ws. Settled img columns xs t ws b) h.puts p.puts (settled_log img columns xs s t (writes_of h.puts) (writes_of p.puts) b p.stands (h.logs img columns xs stands));
 }
 
+pub rose_halted : (a b n c : ℕ) → a ≡ n → a ≤ b → (n ≤ b → Rose n c) → Rose a c
+rose_halted a b n c same low rose = let risen = rose (omega (arith, same, low)) in omega (arith, same, risen)
+
 -- the disk failed at one of them
-pub broke_puts : {u v w : DiskView} (name : List ℕ) (first s t : Session) (b : Batches) → PutsHalted name s t v w → Stored name first s b u v → Broke name first b u w
-broke_puts {u} {v} {w} name first s t b p h =
-    let q = p.puts.before in
+pub broke_puts : {u v w : DiskView} (n : ℕ) (name : List ℕ) (first s t : Session) (b : Batches) → u.faults ≡ n → PutsHalted n name s t v w → Stored name first s b u v → Broke name first b u w
+broke_puts {u} {v} {w} n name first s t b counted p h =
+    let q = p.puts in
     record {
       puts = h.puts ++ q.puts;
       disk = puts_more name h.puts q.puts h.disk q.disk;
-      since = since_more u.faults v.faults w.faults h.puts q.puts h.disk.faults q.disk.faults h.since q.since;
-      rose = rose_more u.faults v.faults w.faults h.disk.faults p.puts.rose;
-      behind = subst (λ (cs : List ℕ). AllRose cs w.faults) (sym (counts-append h.puts q.puts))
-          (rose-append (counts_of h.puts) (counts_of q.puts) w.faults (rose_since u.faults v.faults (counts_of h.puts) w.faults h.since p.puts.rose) p.puts.since);
+      since = are_both u.faults h.puts q.puts h.since (are_of n u.faults (counts_of q.puts) (sym counted) p.since);
+      rose = rose_halted u.faults v.faults n w.faults counted h.disk.faults p.rose;
       begins = agrees first.pending (writes_of (h.puts ++ q.puts)) p.middle.pending (first_put first.pending s p.middle h.puts q.puts q.pieces h.begins);
       logs = λ img columns xs stands.
           let l = settled_log img columns xs s p.middle (writes_of h.puts) (writes_of q.puts) b q.stands (h.logs img columns xs stands) in
@@ -359,8 +385,8 @@ batch_log img columns xs name s t r ws vs b v p stands count l =
     }
 
 -- all pieces were put
-pub stored_batch : {u v x w : DiskView} (name : List ℕ) (first s t r : Session) (b : Batches) → 1 ≤ columns_of first → s.pending ≡ [] → Unput name v x → Planned name s t x → PutsAll name t r x w → Stored name first s b u v → Stored name first r (close_batch b) u w
-stored_batch {u} {v} {x} {w} name first s t r b some idle p plan q h =
+pub stored_batch : {u v x w : DiskView} (n : ℕ) (name : List ℕ) (first s t r : Session) (b : Batches) → u.faults ≡ n → 1 ≤ columns_of first → s.pending ≡ [] → Unput name v x → Planned name s t x → PutsAll n name t r x w → Stored name first s b u v → Stored name first r (close_batch b) u w
+stored_batch {u} {v} {x} {w} n name first s t r b counted some idle p plan q h =
     let ps = q.puts in
     let before = stored_same name first s b p h in
     let count : length t.pending ≡ length (writes_of ps.puts) = ap length ps.pieces ∙ ap (λ (ws : List Write). length (writes_of ps.puts ++ ws)) q.all ∙ ap length (append-nil (writes_of ps.puts)) in
@@ -368,8 +394,7 @@ stored_batch {u} {v} {x} {w} name first s t r b some idle p plan q h =
       taken = puts_taken name first t r (close_batch b) ps (planned_taken name first s t b x some plan h.taken);
       puts = h.puts ++ ps.puts;
       disk = puts_more name h.puts ps.puts (unput_more name h.puts h.disk p.disk) ps.disk;
-      since = since_more u.faults x.faults w.faults h.puts ps.puts (unput_more name h.puts h.disk p.disk).faults ps.disk.faults
-          (between_more u.faults v.faults u.faults x.faults (counts_of h.puts) (omega arith) p.disk.faults h.since) ps.since;
+      since = are_both u.faults h.puts ps.puts h.since (are_of x.faults u.faults (counts_of ps.puts) (q.before ∙ sym counted) ps.since);
       begins = first_planned first.pending s r h.puts ps.puts idle h.begins;
       logs = λ img columns xs stands.
           writes_both (λ ws. Settled img columns xs r ws (close_batch b)) h.puts ps.puts
@@ -393,20 +418,17 @@ half_log img columns xs name s t m r ws vs b v p stands few halted l =
     }
 
 -- the disk failed at one of them
-pub broke_batch : {u v x w : DiskView} (name : List ℕ) (first s t r : Session) (b : Batches) → 1 ≤ columns_of first → s.pending ≡ [] → Unput name v x → Planned name s t x → PutsHalted name t r x w → Stored name first s b u v → Broke name first b u w
-broke_batch {u} {v} {x} {w} name first s t r b some idle p plan q h =
-    let ps = q.puts.before in
-    let left = q.puts.left in
+pub broke_batch : {u v x w : DiskView} (n : ℕ) (name : List ℕ) (first s t r : Session) (b : Batches) → u.faults ≡ n → 1 ≤ columns_of first → s.pending ≡ [] → Unput name v x → Planned name s t x → PutsHalted n name t r x w → Stored name first s b u v → Broke name first b u w
+broke_batch {u} {v} {x} {w} n name first s t r b counted some idle p plan q h =
+    let ps = q.puts in
+    let left = q.left plan.some in
     let disk = unput_more name h.puts h.disk p.disk in
-    let since = between_more u.faults v.faults u.faults x.faults (counts_of h.puts) (omega arith) p.disk.faults h.since in
     let few : length (writes_of ps.puts) < length t.pending = omega (arith, ap length ps.pieces, length-append (writes_of ps.puts) q.middle.pending, left) in
     record {
       puts = h.puts ++ ps.puts;
       disk = puts_more name h.puts ps.puts disk ps.disk;
-      since = since_more u.faults x.faults w.faults h.puts ps.puts disk.faults ps.disk.faults since ps.since;
-      rose = rose_more u.faults x.faults w.faults disk.faults q.puts.rose;
-      behind = subst (λ (cs : List ℕ). AllRose cs w.faults) (sym (counts-append h.puts ps.puts))
-          (rose-append (counts_of h.puts) (counts_of ps.puts) w.faults (rose_since u.faults x.faults (counts_of h.puts) w.faults since q.puts.rose) q.puts.since);
+      since = are_both u.faults h.puts ps.puts h.since (are_of n u.faults (counts_of ps.puts) (sym counted) q.since);
+      rose = rose_halted u.faults x.faults n w.faults counted disk.faults q.rose;
       begins = agrees first.pending (writes_of (h.puts ++ ps.puts)) q.middle.pending (first_planned first.pending s q.middle h.puts ps.puts idle h.begins);
       logs = λ img columns xs stands. record {
         session = r;
@@ -420,8 +442,8 @@ broke_batch {u} {v} {x} {w} name first s t r b some idle p plan q h =
 -- ---- The beginning
 
 -- a session that has just begun has stored nothing
-pub stored_none : (name : List ℕ) (first : Session) (v : DiskView) → first.waits ≡ 0 → Stored name first first no_batches v v
-stored_none name first v none = record {
+pub stored_none : {u v : DiskView} (name : List ℕ) (first : Session) → LeavesFiles u.told u v → first.waits ≡ 0 → Stored name first first no_batches u v
+stored_none {u} {v} name first p none = record {
   taken = record {
     name = refl;
     root = refl;
@@ -434,7 +456,7 @@ stored_none name first v none = record {
     keeps = refl;
   };
   puts = [];
-  disk = record { told = no_puts name v.told; faults = omega arith; through = refl };
+  disk = record { told = p.told ∙ no_puts name u.told; faults = p.faults; through = p.through };
   since = tt;
   begins = ([], append-nil first.pending);
   logs = λ img columns xs stands. record {

@@ -1,5 +1,5 @@
 -- What the calls of an append do, one by one.
-use Rattle.std.specs.Prelude.{◌≡◌, ◌⊎◌, ℕ, ◌+◌, ◌≤◌, false, Bool, List, [], length, Option, Some, None, IfSome, Result, Ok, Err, ℤ, option_map}
+use Rattle.std.specs.Prelude.{◌≡◌, ◌⊎◌, ℕ, ◌+◌, ◌≤◌, false, Bool, List, [], length, Option, Some, None, IfSome, OnOk, Result, Ok, Err, ℤ, option_map}
 use Rattle.h5w_model.specs.Causes.{Rose}
 use Rattle.h5w_model.specs.Lawful.{first_outside}
 use Rattle.h5w_model.specs.Logs.{Log, and_now, appends, plans}
@@ -20,9 +20,9 @@ use Rattle.h5w_batches.specs.Inputs.{ReadsAll}
 use Rattle.h5w_batches.specs.Reads.{Takes}
 use Rattle.h5w_batches.specs.declared.error.BatchError.{BatchError}
 use Rattle.h5w_batches.specs.declared.error.BatchError.TheVariants as batch_errors
-use Rattle.h5w_files.specs.Taken.{AreTaken, rows_after}
+use Rattle.h5w_files.specs.Taken.{AreTaken, closed_text, rows_after}
 use Rattle.h5w_files.specs.Appends.{Broke, ClosedUp, InputRefuses, IsOpenOver, StopsAtLine, Stored, Unopened, columns_of, lines_of}
-use Rattle.h5w_files.specs.Puts.{PutsPieces, PutsSome}
+use Rattle.h5w_files.specs.Puts.{AllAre, PutsPieces, counts_of}
 use Rattle.h5w_files.specs.declared.batching.Ending.{Ending}
 use Rattle.h5w_files.specs.declared.batching.Ending.TheVariants as endings
 
@@ -96,22 +96,27 @@ FlushesBy name s t v w (Err (endings.Refused e)) = Unflushed s t × FlushRefused
 FlushesBy name s t v w (Err endings.Disk) = (middle : Session) × Unflushed s middle × Halted middle t × Rose v.faults w.faults
 FlushesBy name s t v w (Err endings.Sink) = ⊥
 
--- All pending pieces were put.
-pub record PutsAll (name : List ℕ) (s t : Session) (v w : DiskView) : Type 0 where
+-- All pending pieces were put, and the disk failed so often and no more.
+pub record PutsAll (faults : ℕ) (name : List ℕ) (s t : Session) (v w : DiskView) : Type 0 where
   pub puts : PutsPieces name s t v w
   pub all : t.pending ≡ []
+  pub before : v.faults ≡ faults
+  pub calm : w.faults ≡ faults
 
--- The disk failed at one of them, and the session was stopped.
-pub record PutsHalted (name : List ℕ) (s t : Session) (v w : DiskView) : Type 0 where
+-- The disk failed once more than so often, before all of them were put, and the session was stopped.
+pub record PutsHalted (faults : ℕ) (name : List ℕ) (s t : Session) (v w : DiskView) : Type 0 where
   pub middle : Session
-  pub puts : PutsSome name s middle v w
+  pub puts : PutsPieces name s middle v w
+  pub since : AllAre faults (counts_of puts.puts)
+  pub left : 1 ≤ length s.pending → 1 ≤ length middle.pending
+  pub rose : faults ≤ v.faults → Rose faults w.faults
   pub halted : Halted middle t
 
-abbrev pub PutsBy : List ℕ → Session → Session → DiskView → DiskView → Result (Unit {0}) Ending → Type 0
-PutsBy name s t v w (Ok a) = PutsAll name s t v w
-PutsBy name s t v w (Err (endings.Refused e)) = ⊥
-PutsBy name s t v w (Err endings.Disk) = PutsHalted name s t v w
-PutsBy name s t v w (Err endings.Sink) = ⊥
+abbrev pub PutsBy : ℕ → List ℕ → Session → Session → DiskView → DiskView → Result (Unit {0}) Ending → Type 0
+PutsBy faults name s t v w (Ok a) = PutsAll faults name s t v w
+PutsBy faults name s t v w (Err (endings.Refused e)) = ⊥
+PutsBy faults name s t v w (Err endings.Disk) = PutsHalted faults name s t v w
+PutsBy faults name s t v w (Err endings.Sink) = ⊥
 
 -- ---- Batches
 
@@ -144,10 +149,10 @@ Steps name first t b Next Cause u w k l (Err (endings.Refused e)) = Told name fi
 Steps name first t b Next Cause u w k l (Err endings.Disk) = BrokeTold name first b u w k l
 Steps name first t b Next Cause u w k l (Err endings.Sink) = (next : Batches) × Next next × HalfTold name first t next u w k l
 
--- for each session that began with the first, whatever was stored before
-abbrev pub StepsOn : List ℕ → Session → Session → (Session → Batches → Batches → Type 0) → (ErrorLine → Type 0) → DiskView → DiskView → SinkView → SinkView → Result (Unit {0}) Ending → Type 0
-StepsOn name s t Next Cause v w k l r =
-    (first : Session) (b : Batches) (u : DiskView) (m : SinkView) → Told name first s b u v m k → Steps name first t b (Next first b) Cause u w m l r
+-- for each session that began with the first, whatever was stored before, of a disk that had failed so often
+abbrev pub StepsOn : ℕ → List ℕ → Session → Session → (Session → Batches → Batches → Type 0) → (ErrorLine → Type 0) → DiskView → DiskView → SinkView → SinkView → Result (Unit {0}) Ending → Type 0
+StepsOn faults name s t Next Cause v w k l r =
+    (first : Session) (b : Batches) (u : DiskView) (m : SinkView) → u.faults ≡ faults → Told name first s b u v m k → Steps name first t b (Next first b) Cause u w m l r
 
 abbrev pub Closes : Session → Batches → Batches → Type 0
 Closes first b next = next ≡ close_batch b
@@ -178,8 +183,14 @@ TakesInput name first t x y u w k l (Err (endings.Refused e)) = (b : Batches) ×
 TakesInput name first t x y u w k l (Err endings.Disk) = (b : Batches) × AreTaken (columns_of first) x y b × BrokeTold name first b u w k l
 TakesInput name first t x y u w k l (Err endings.Sink) = (b : Batches) × AreTaken (columns_of first) x y b × HalfTold name first t b u w k l
 
-abbrev pub TakesInputOn : List ℕ → Session → Session → SourceView → SourceView → DiskView → DiskView → SinkView → SinkView → Result (Unit {0}) Ending → Type 0
-TakesInputOn name s t x y v w k l r = (first : Session) (u : DiskView) (m : SinkView) → Told name first s no_batches u v m k → TakesInput name first t x y u w m l r
+-- whatever was stored before, of a disk that had failed so often
+abbrev pub TakesInputOn : ℕ → List ℕ → Session → Session → SourceView → SourceView → DiskView → DiskView → SinkView → SinkView → Result (Unit {0}) Ending → Type 0
+TakesInputOn faults name s t x y v w k l r =
+    (first : Session) (u : DiskView) (m : SinkView) → u.faults ≡ faults → Told name first s no_batches u v m k → TakesInput name first t x y u w m l r
+
+-- of a session that has just begun, from each state of the disk on in which the file was as it is, and the disk had failed so often
+abbrev pub TakesInputFrom : ℕ → List ℕ → Session → Session → SourceView → SourceView → DiskView → DiskView → SinkView → SinkView → Result (Unit {0}) Ending → Type 0
+TakesInputFrom faults name s t x y v w k l r = (u : DiskView) → u.faults ≡ faults → LeavesFiles u.told u v → TakesInput name s t x y u w k l r
 
 -- the end of an append whose input was not read
 abbrev pub ending_of : BatchError → Ending
@@ -199,11 +210,11 @@ pub record IsBegun (name : List ℕ) (s : Session) (v : DiskView) : Type 0 where
   pub room : 2 ≤ v.pieces
   pub end : s.places.end ≤ v.end name
 
--- the session was closed, or the disk failed
-abbrev pub ClosesBy : List ℕ → Session → DiskView → DiskView → Result (Unit {0}) Ending → Type 0
-ClosesBy name s v w (Ok a) = (first : Session) (b : Batches) (u : DiskView) → Stored name first s b u v → ClosedUp name first b u w
-ClosesBy name s v w (Err endings.Disk) = (first : Session) (b : Batches) (u : DiskView) → Stored name first s b u v → Broke name first b u w
-ClosesBy name s v w (Err e) = ⊥
+-- the session was closed, or the disk failed more often than so
+abbrev pub ClosesBy : ℕ → List ℕ → Session → DiskView → DiskView → Result (Unit {0}) Ending → Type 0
+ClosesBy faults name s v w (Ok a) = (first : Session) (b : Batches) (u : DiskView) → u.faults ≡ faults → Stored name first s b u v → ClosedUp name first b u w
+ClosesBy faults name s v w (Err endings.Disk) = (first : Session) (b : Batches) (u : DiskView) → u.faults ≡ faults → Stored name first s b u v → Broke name first b u w
+ClosesBy faults name s v w (Err e) = ⊥
 
 -- What is left of an append once the session of so many rows was closed, by the result of it all.
 abbrev pub Settles : List ℕ → ℕ → Session → SourceView → SourceView → DiskView → DiskView → SinkView → SinkView → Result (Unit {0}) Ending → Type 0
@@ -214,9 +225,10 @@ Settles name rows first x y u w k l (Err endings.Disk) = (b : Batches) × AreTak
 Settles name rows first x y u w k l (Err endings.Sink) =
     (b : Batches) × AreTaken (columns_of first) x y b × (ClosedUp name first b u w ⊎ Broke name first b u w) × StopsAtLine first b k l
 
--- whatever was taken
-abbrev pub SettlesOn : List ℕ → Session → DiskView → DiskView → Result (Unit {0}) Ending → Result (Unit {0}) Ending → Type 0
-SettlesOn name s v w taken r = (first : Session) (x y : SourceView) (u : DiskView) (k l : SinkView) → TakesInput name first s x y u v k l taken → Settles name (rows_of s) first x y u w k l r
+-- whatever was taken, of a disk that had failed so often
+abbrev pub SettlesOn : ℕ → List ℕ → Session → DiskView → DiskView → Result (Unit {0}) Ending → Result (Unit {0}) Ending → Type 0
+SettlesOn faults name s v w taken r =
+    (first : Session) (x y : SourceView) (u : DiskView) (k l : SinkView) → u.faults ≡ faults → TakesInput name first s x y u v k l taken → Settles name (rows_of s) first x y u w k l r
 
 -- ---- The open
 
@@ -233,3 +245,26 @@ LooksOpen name at limit v w (Err e) = Unopened name at v w e
 abbrev pub OpensBy : List ℕ → List ℕ → ℕ → Bool → DiskView → DiskView → Result Session ErrorLine → Type 0
 OpensBy name at limit keeps v w (Ok s) = IsOpenOver name at limit keeps v s × IsBegun name s w × LeavesFiles v.told v w
 OpensBy name at limit keeps v w (Err e) = Unopened name at v w e
+
+-- ---- The whole append
+
+-- The session that began over the file took its input and was closed, or the disk failed. The text is the last line of all.
+pub record Finishes (name at : List ℕ) (limit : ℕ) (keeps : Bool) (x y : SourceView) (v w : DiskView) (k l : SinkView) (text : List ℕ) (result : Result (Unit {0}) Ending) : Type 0 where
+  pub first : Session
+  pub opened : IsOpenOver name at limit keeps v first
+  pub rows : ℕ
+  pub settles : Settles name rows first x y v w k l result
+  pub line : OnOk result (text ≡ closed_text rows)
+
+-- The file was not opened: nothing was read and nothing written.
+pub record BeginsNone (name at : List ℕ) (x y : SourceView) (v w : DiskView) (k l : SinkView) (e : ErrorLine) : Type 0 where
+  pub unopened : Unopened name at v w e
+  pub unread : y ≡ x
+  pub unwritten : l ≡ k
+
+-- either, by the result of it all
+abbrev pub FinishesBy : List ℕ → List ℕ → ℕ → Bool → SourceView → SourceView → DiskView → DiskView → SinkView → SinkView → List ℕ → Result (Unit {0}) Ending → Type 0
+FinishesBy name at limit keeps x y v w k l text (Ok a) = Finishes name at limit keeps x y v w k l text (Ok a)
+FinishesBy name at limit keeps x y v w k l text (Err (endings.Refused e)) = BeginsNone name at x y v w k l e ⊎ Finishes name at limit keeps x y v w k l text (Err (endings.Refused e))
+FinishesBy name at limit keeps x y v w k l text (Err endings.Disk) = Finishes name at limit keeps x y v w k l text (Err endings.Disk)
+FinishesBy name at limit keeps x y v w k l text (Err endings.Sink) = Finishes name at limit keeps x y v w k l text (Err endings.Sink)

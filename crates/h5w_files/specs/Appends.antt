@@ -35,7 +35,7 @@ use Rattle.h5w_files.specs.Ends.{EndsBehind}
 use Rattle.h5w_batches.specs.Batches.{Batches, after_lines, close_batch, no_batches}
 use Rattle.h5w_batches.specs.Inputs.{ReadsAll, ReadsTooMuch, ReadsWhole, input_limit}
 use Rattle.h5w_files.specs.Taken.{AreTaken, ReadsLine, closed_text, rows_after, rows_lines, values_of}
-use Rattle.h5w_files.specs.Puts.{AgreesAtFirst, AllBetween, AllRose, ComesFirst, after_puts, counts_of, writes_of}
+use Rattle.h5w_files.specs.Puts.{AgreesAtFirst, AllAre, ComesFirst, after_puts, counts_of, writes_of}
 use Rattle.h5w_files.specs.Polls.{count_text}
 
 -- ---- A session that stores batches
@@ -87,13 +87,13 @@ pub record Settled (img : List ℕ) (columns : ℕ) (values : List ℤ) (s : Ses
   pub of : IsLogOf img columns values s ws b
   pub settled : (n : ℕ) → flushed_in n values of.log.events ≡ values ++ values_of b.closed
 
--- The session's first pieces were put into the file, one after another, those of these batches. Before them come those that were pending
--- when it began.
+-- The session's first pieces were put into the file, one after another, those of these batches, each before the disk failed. Before them
+-- come those that were pending when it began.
 pub record Stored (name : List ℕ) (first s : Session) (b : Batches) (v w : DiskView) : Type 0 where
   pub taken : HasTaken first s b
   pub puts : List (Write × ℕ)
   pub disk : LeavesFiles (option_map (after_puts name puts) v.told) v w
-  pub since : AllBetween v.faults w.faults (counts_of puts)
+  pub since : AllAre v.faults (counts_of puts)
   pub begins : ComesFirst first.pending (writes_of puts ++ s.pending)
   pub logs : OfEachLog first (λ img columns values. Settled img columns values s (writes_of puts) b)
 
@@ -104,23 +104,23 @@ pub record IsHalted (img : List ℕ) (columns : ℕ) (values : List ℤ) (name :
   pub named : session.name ≡ name
   pub of : IsLogOf img columns values session ws b
 
--- The disk failed: the puts that were done are the session's first pieces, of which those come first that were pending when it began, and
--- no put came behind the fault.
+-- The disk failed: the puts that were done are the session's first pieces, of which those come first that were pending when it began.
+-- Each of them came before the first fault.
 pub record Broke (name : List ℕ) (first : Session) (b : Batches) (v w : DiskView) : Type 0 where
   pub puts : List (Write × ℕ)
   pub disk : LeavesFiles (option_map (after_puts name puts) v.told) v w
-  pub since : AllBetween v.faults w.faults (counts_of puts)
+  pub since : AllAre v.faults (counts_of puts)
   pub rose : Rose v.faults w.faults
-  pub behind : AllRose (counts_of puts) w.faults
   pub begins : AgreesAtFirst first.pending (writes_of puts)
   pub logs : OfEachLog first (λ img columns values. IsHalted img columns values first.name (writes_of puts) b)
 
 -- The session was closed: its first pieces are those that were pending when it began, and its last piece is the superblock without the
--- flags of writers, else as the session had it, but for its end.
+-- flags of writers, else as the session had it, but for its end. The disk did not fail.
 pub record ClosedUp (name : List ℕ) (first : Session) (b : Batches) (v w : DiskView) : Type 0 where
   pub puts : List (Write × ℕ)
   pub disk : LeavesFiles (option_map (after_puts name puts) v.told) v w
-  pub since : AllBetween v.faults w.faults (counts_of puts)
+  pub since : AllAre v.faults (counts_of puts)
+  pub calm : w.faults ≡ v.faults
   pub begins : ComesFirst first.pending (writes_of puts)
   pub front : List Write
   pub root : Super

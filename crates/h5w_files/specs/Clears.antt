@@ -55,12 +55,11 @@ abbrev pub after_clear : List ℕ → Result ℕ ErrorLine → ℕ → DiskState
 after_clear name (Ok flags) faults d = if cleared flags == flags then d else cleared_file name flags faults d
 after_clear name (Err e) faults d = d
 
--- An answer, the flags before, between two states of a disk. No put but the one that clears flags, and it is the last that is
--- done.
+-- An answer, the flags before, between two states of a disk, which did not fail where it is no error. No put but the one that clears
+-- flags, before which it did not fail either, and it is the last that is done.
 pub record ClearsTo (name : List ℕ) (v w : DiskView) (answer : Result ℕ ErrorLine) : Type 0 where
-  pub faults : ℕ
-  pub since : v.faults ≤ faults
-  pub disk : LeavesFiles (option_map (after_clear name answer faults) v.told) v w
+  pub disk : LeavesFiles (option_map (after_clear name answer v.faults) v.told) v w
+  pub calm : OnOk answer (w.faults ≡ v.faults)
   pub exact : IfSome v.told (λ d. IsGivenBy (flags_of (file d name)) answer)
   pub kinds : IfErr answer IsOfClear
   pub cause : answer ≡ Err errors.Disk → Rose v.faults w.faults
@@ -68,6 +67,7 @@ pub record ClearsTo (name : List ℕ) (v w : DiskView) (answer : Result ℕ Erro
 -- the flags of a file's superblock were found, with the first 48 bytes of the file
 pub record FindsFlags (name : List ℕ) (v w : DiskView) (bytes : List ℕ) (answer : Result ℕ ErrorLine) : Type 0 where
   pub disk : LeavesFiles v.told v w
+  pub calm : OnOk answer (w.faults ≡ v.faults)
   pub exact : IfSome v.told (λ d. IsGivenBy (flags_of (file d name)) answer)
   pub kinds : IfErr answer IsOfClear
   pub cause : answer ≡ Err errors.Disk → Rose v.faults w.faults
@@ -77,9 +77,8 @@ pub record FindsFlags (name : List ℕ) (v w : DiskView) (bytes : List ℕ) (ans
 
 -- a superblock was put without the flags of writers
 pub record Puts (name bytes : List ℕ) (flags : ℕ) (v w : DiskView) (answer : Result (Unit {0}) ErrorLine) : Type 0 where
-  pub faults : ℕ
-  pub since : v.faults ≤ faults
-  pub ok : OnOk answer (LeavesFiles (option_map (put name (record { at = 0; piece = flagged bytes (cleared flags) }) faults) v.told) v w)
+  pub ok : OnOk answer (LeavesFiles (option_map (put name (record { at = 0; piece = flagged bytes (cleared flags) }) v.faults) v.told) v w)
+  pub calm : OnOk answer (w.faults ≡ v.faults)
   pub refused : OnErr answer (LeavesFiles v.told v w)
   pub kinds : IfErr answer (λ e. (e ≡ errors.Disk) ⊎ (e ≡ errors.Memory))
   pub cause : answer ≡ Err errors.Disk → Rose v.faults w.faults

@@ -24,7 +24,7 @@ use Rattle.h5w_text.specs.declared.error.ErrorLine.TheVariants as errors
 use Rattle.h5w_text.specs.declared.status.Status.{Status}
 use Rattle.h5w_files.specs.Images.{LeavesFiles}
 use Rattle.h5w_files.specs.Ends.{IsGivenBy, EndsBy}
-use Rattle.h5w_files.specs.Puts.{AllBetween, AllRose, after_puts, counts_of, showing, writes_of}
+use Rattle.h5w_files.specs.Puts.{AllAre, after_puts, counts_of, showing, writes_of}
 use Rattle.h5w_files.specs.declared.creating.CreateError.{CreateError}
 use Rattle.h5w_files.specs.declared.creating.CreateError.TheVariants as refusals
 
@@ -61,24 +61,23 @@ pub record IsEmptyFile (f : CreatedFile) (bytes : List ℕ) : Type 0 where
 
 -- ---- What is left of the disk
 
--- with a new file of this name and these bytes; so many faults stood before each of its puts
+-- with a new file of this name and these bytes, and of each of its puts how many faults stood before it
 abbrev pub with_new : List ℕ → List ℕ → List ℕ → DiskState → DiskState
 with_new name bytes counts d = record d { files = map.insert d.files name bytes; puts = d.puts ++ counts }
 
--- The file was not there, and now it is, with the first n pieces of a new file.
+-- The file was not there, and now it is, with the first n pieces of a new file, each put before the disk failed.
 pub record HasPut (name : List ℕ) (f : CreatedFile) (n : ℕ) (v w : DiskView) : Type 0 where
   pub counts : List ℕ
   pub count : length counts ≡ n
   pub missing : IfSome v.told (λ d. file d name ≡ None)
   pub disk : LeavesFiles (option_map (with_new name (image [] (take n (new_pieces f))) counts) v.told) v w
-  pub since : AllBetween v.faults w.faults counts
+  pub since : AllAre v.faults counts
 
 -- So many pieces were put and no more, since the disk failed then.
 pub record HasFailed (name : List ℕ) (f : CreatedFile) (v w : DiskView) : Type 0 where
   pub pieces : ℕ
   pub few : pieces < length (new_pieces f)
   pub before : HasPut name f pieces v w
-  pub since : AllRose before.counts w.faults
 
 -- By the answer: with the file's end it has all pieces; where something has the name nothing changed; where the disk failed
 -- nothing changed, or some of the pieces are missing; without memory nothing changed, or the file has no bytes. There is no other answer.
@@ -100,11 +99,12 @@ abbrev pub create_text : Result ℕ ErrorLine → List ℕ
 create_text (Ok end) = numbers_text (codes "new end") (end ∷ [])
 create_text (Err e) = error_text e
 
--- An answer between two states of a disk.
+-- An answer between two states of a disk, which did not fail where it is no error.
 pub record CreatesTo (name : List ℕ) (f : CreatedFile) (v w : DiskView) (answer : Result ℕ ErrorLine) : Type 0 where
   pub leaves : CreateLeaves name f v w answer
   pub exact : IfSome v.told (λ d. IsGivenBy (end_of f (file d name)) answer)
   pub cause : answer ≡ Err errors.Disk → Rose v.faults w.faults
+  pub calm : OnOk answer (w.faults ≡ v.faults)
   pub new : OnOk answer (IsEmptyFile f (new_bytes f))
 
 -- how the making of a file ends
@@ -129,11 +129,12 @@ pub record FillsUpTo (name : List ℕ) (s : Session) (left : List Write) (v w : 
   pub puts : List (Write × ℕ)
   pub pieces : s.pending ++ closing_of s ∷ [] ≡ writes_of puts ++ left
   pub disk : LeavesFiles (option_map (after_puts name puts) v.told) v w
-  pub since : AllBetween v.faults w.faults (counts_of puts)
+  pub since : AllAre v.faults (counts_of puts)
 
 -- All were, and the session is closed.
 pub record FillsAll (name : List ℕ) (s t : Session) (v w : DiskView) : Type 0 where
   pub filled : FillsUpTo name s [] v w
+  pub calm : w.faults ≡ v.faults
   pub same_name : t.name ≡ s.name
   pub dataset : t.dataset ≡ s.dataset
   pub stopped : t.stopped ≡ true
@@ -145,7 +146,6 @@ pub record FillsSome (name : List ℕ) (s : Session) (v w : DiskView) : Type 0 w
   pub some : 1 ≤ length left
   pub filled : FillsUpTo name s left v w
   pub rose : Rose v.faults w.faults
-  pub since : AllRose (counts_of filled.puts) w.faults
 
 abbrev pub Fills : List ℕ → Session → Session → DiskView → DiskView → Result (Unit {0}) CreateError → Type 0
 Fills name s t v w (Ok a) = FillsAll name s t v w

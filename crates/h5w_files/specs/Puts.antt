@@ -32,17 +32,12 @@ AgreesAtFirst vs ws = (left : List Write) × ComesFirst vs (ws ++ left)
 abbrev pub showing : List Write → Log → Log
 showing = shown_also
 
--- each count of faults lies between two
-abbrev pub AllBetween : ℕ → ℕ → List ℕ → Type 0
-AllBetween a b [] = Unit {0}
-AllBetween a b (c ∷ cs) = (a ≤ c) × (c ≤ b) × AllBetween a b cs
+-- each count of faults is this one
+abbrev pub AllAre : ℕ → List ℕ → Type 0
+AllAre n [] = Unit {0}
+AllAre n (c ∷ cs) = (c ≡ n) × AllAre n cs
 
--- from each count of faults the count rose to this one
-abbrev pub AllRose : List ℕ → ℕ → Type 0
-AllRose [] b = Unit {0}
-AllRose (c ∷ cs) b = Rose c b × AllRose cs b
-
--- The oldest pending pieces of a session were put into the file, one after another.
+-- The oldest pending pieces of a session were put into the file, one after another, each before the disk failed.
 pub record PutsPieces (name : List ℕ) (s t : Session) (v w : DiskView) : Type 0 where
   pub puts : List (Write × ℕ)
   pub pieces : s.pending ≡ writes_of puts ++ t.pending
@@ -51,13 +46,12 @@ pub record PutsPieces (name : List ℕ) (s t : Session) (v w : DiskView) : Type 
   pub limit : t.places.limit ≡ s.places.limit
   pub stands : (log : Log) → Stands s log → Stands t (showing (writes_of puts) log)
   pub disk : LeavesFiles (option_map (after_puts name puts) v.told) v w
-  pub since : AllBetween v.faults w.faults (counts_of puts)
+  pub since : AllAre v.faults (counts_of puts)
   pub room : v.pieces ≤ w.pieces + length puts
   pub ends : v.end name ≤ w.end name
 
--- And then the disk failed at one of them: no put came behind the fault.
+-- And then the disk failed at one of them.
 pub record PutsSome (name : List ℕ) (s t : Session) (v w : DiskView) : Type 0 where
   pub before : PutsPieces name s t v w
   pub left : 1 ≤ length t.pending
   pub rose : Rose v.faults w.faults
-  pub since : AllRose (counts_of before.puts) w.faults

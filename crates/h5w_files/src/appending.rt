@@ -9,7 +9,7 @@ ghost use Rattle.h5w_files.specs.Images.{LeavesFiles};
 ghost use Rattle.h5w_batches.specs.Inputs.{SameSource, input_limit, outside};
 ghost use Rattle.h5w_files.specs.Taken.{closed_text};
 ghost use Rattle.h5w_files.specs.Appends.{AppendEnds, columns_of, open_line};
-ghost use Rattle.h5w_files.specs.Appending.{ClosesBy, HasSize, IsBegun, IsReady, LooksOpen, OpensBy, ReadyUnlessDisk, SettlesOn, TakesInput, TakesInputOn};
+ghost use Rattle.h5w_files.specs.Appending.{ClosesBy, FinishesBy, HasSize, IsBegun, IsReady, LooksOpen, OpensBy, ReadyUnlessDisk, SettlesOn, TakesInputFrom, TakesInputOn};
 
 use crate::batching::{Ending, close_batch, put_all, take_line};
 use crate::image::DiskImage;
@@ -28,6 +28,7 @@ fn take_lines<S: Source, K: Sink, D: Disk>(
     session: &mut WriterCore,
     lines: &mut Lines<'_, S>,
     file: &str,
+    faults: u64,
     text: &mut Vec<u8>,
     sink: &mut K,
     disk: &mut D,
@@ -37,7 +38,7 @@ fn take_lines<S: Source, K: Sink, D: Disk>(
     requires room { length lines.old.intake.now.held + lines.old.intake.now.more ≡ input_limit }
     requires limit { lines.old.intake.now.limit ≡ input_limit }
     ensures ready { ReadyUnlessDisk file.now session.new (D.view disk.new) result }
-    ensures takes { TakesInputOn file.now session.old session.new (outside (lines_ahead (S.view lines.old.source.now) lines.old.intake.now)) (S.view lines.new.source.now) (D.view disk.old) (D.view disk.new) (K.view sink.old) (K.view sink.new) result }
+    ensures takes { TakesInputOn faults file.now session.old session.new (outside (lines_ahead (S.view lines.old.source.now) lines.old.intake.now)) (S.view lines.new.source.now) (D.view disk.old) (D.view disk.new) (K.view sink.old) (K.view sink.new) result }
     ensures source { SameSource (S.view lines.old.source.now) (S.view lines.new.source.now) }
     ensures same_reference { lines.new.source.ghost_name ≡ lines.old.source.ghost_name }
     ensures same_intake { lines.new.intake.ghost_name ≡ lines.old.intake.ghost_name }
@@ -48,7 +49,7 @@ fn take_lines<S: Source, K: Sink, D: Disk>(
             Next::Line(line) => {
                 number += 1;
                 take_line(
-                    alloc, columns, session, &line, number, file, text, sink, disk,
+                    alloc, columns, session, &line, number, file, faults, text, sink, disk,
                 )?;
             }
             Next::Last(line) => {
@@ -59,13 +60,14 @@ fn take_lines<S: Source, K: Sink, D: Disk>(
                     &line,
                     number + 1,
                     file,
+                    faults,
                     text,
                     sink,
                     disk,
                 )?;
-                return close_batch(session, file, text, sink, disk);
+                return close_batch(session, file, faults, text, sink, disk);
             }
-            Next::End => return close_batch(session, file, text, sink, disk),
+            Next::End => return close_batch(session, file, faults, text, sink, disk),
         }
     }
 }
@@ -76,6 +78,7 @@ fn take_source<S: Source, K: Sink, D: Disk>(
     columns: u64,
     session: &mut WriterCore,
     file: &str,
+    faults: u64,
     text: &mut Vec<u8>,
     source: &mut S,
     sink: &mut K,
@@ -84,12 +87,14 @@ fn take_source<S: Source, K: Sink, D: Disk>(
     requires ready { IsReady file.now session.old (D.view disk.old) }
     requires columns { columns ≡ columns_of session.old }
     ensures ready { ReadyUnlessDisk file.now session.new (D.view disk.new) result }
-    ensures takes { TakesInputOn file.now session.old session.new (S.view source.old) (S.view source.new) (D.view disk.old) (D.view disk.new) (K.view sink.old) (K.view sink.new) result }
+    ensures takes { TakesInputOn faults file.now session.old session.new (S.view source.old) (S.view source.new) (D.view disk.old) (D.view disk.new) (K.view sink.old) (K.view sink.new) result }
     ensures source { SameSource (S.view source.old) (S.view source.new) }
 {
     let mut intake = Intake::new(alloc, INPUT_LIMIT);
     let mut lines = Lines::new(alloc, source, &mut intake);
-    take_lines(alloc, columns, session, &mut lines, file, text, sink, disk)
+    take_lines(
+        alloc, columns, session, &mut lines, file, faults, text, sink, disk,
+    )
 }
 
 /// Says in the file that it is written, and appends the lines of the source. `text` gets the last line of all.
@@ -97,6 +102,7 @@ fn take_all<S: Source, K: Sink, D: Disk>(
     alloc: Global,
     session: &mut WriterCore,
     file: &str,
+    faults: u64,
     text: &mut Vec<u8>,
     source: &mut S,
     sink: &mut K,
@@ -104,13 +110,15 @@ fn take_all<S: Source, K: Sink, D: Disk>(
 ) -> Result<(), Ending>
     requires begun { IsBegun file.now session.old (D.view disk.old) }
     ensures ready { ReadyUnlessDisk file.now session.new (D.view disk.new) result }
-    ensures takes { TakesInput file.now session.old session.new (S.view source.old) (S.view source.new) (D.view disk.old) (D.view disk.new) (K.view sink.old) (K.view sink.new) result }
+    ensures takes { TakesInputFrom faults file.now session.old session.new (S.view source.old) (S.view source.new) (D.view disk.old) (D.view disk.new) (K.view sink.old) (K.view sink.new) result }
     ensures text { OnOk result (text.new.items ≡ closed_text (rows_of session.new)) }
     ensures source { SameSource (S.view source.old) (S.view source.new) }
 {
     let columns = session.columns();
-    put_all(session, file, disk)?;
-    take_source(alloc, columns, session, file, text, source, sink, disk)?;
+    put_all(session, file, faults, disk)?;
+    take_source(
+        alloc, columns, session, file, faults, text, source, sink, disk,
+    )?;
     text.clear();
     match write_numbers(text, b"closed", &[session.rows()]) {
         Ok(()) => Ok(()),
@@ -119,12 +127,17 @@ fn take_all<S: Source, K: Sink, D: Disk>(
 }
 
 /// Closes the session, and puts its last piece into the file.
-fn shut<D: Disk>(session: &mut WriterCore, file: &str, disk: &mut D) -> Result<(), Ending>
+fn shut<D: Disk>(
+    session: &mut WriterCore,
+    file: &str,
+    faults: u64,
+    disk: &mut D,
+) -> Result<(), Ending>
     requires { IsReady file.now session.old (D.view disk.old) }
-    ensures { ClosesBy file.now session.old (D.view disk.old) (D.view disk.new) result }
+    ensures { ClosesBy faults file.now session.old (D.view disk.old) (D.view disk.new) result }
 {
     close(session);
-    put_all(session, file, disk)
+    put_all(session, file, faults, disk)
 }
 
 /// Closes the session behind what was taken of the input, unless the disk failed.
@@ -132,20 +145,21 @@ fn settle<D: Disk>(
     taken: Result<(), Ending>,
     session: &mut WriterCore,
     file: &str,
+    faults: u64,
     disk: &mut D,
 ) -> Result<(), Ending>
     requires { ReadyUnlessDisk file.now session.old (D.view disk.old) taken }
     ensures taken { OnOk result (taken ≡ Ok tt) }
-    ensures settles { SettlesOn file.now session.old (D.view disk.old) (D.view disk.new) taken result }
+    ensures settles { SettlesOn faults file.now session.old (D.view disk.old) (D.view disk.new) taken result }
 {
     match taken {
-        Ok(()) => shut(session, file, disk),
-        Err(Ending::Refused(error)) => match shut(session, file, disk) {
+        Ok(()) => shut(session, file, faults, disk),
+        Err(Ending::Refused(error)) => match shut(session, file, faults, disk) {
             Ok(()) => Err(Ending::Refused(error)),
             Err(ending) => Err(ending),
         },
         Err(Ending::Disk) => Err(Ending::Disk),
-        Err(Ending::Sink) => match shut(session, file, disk) {
+        Err(Ending::Sink) => match shut(session, file, faults, disk) {
             Ok(()) => Err(Ending::Sink),
             Err(_) => Err(Ending::Sink),
         },
@@ -232,6 +246,33 @@ fn open<D: Disk>(
     Ok(session)
 }
 
+/// Opens the file, appends the lines of the source, and closes the session. `text` gets the last line of all.
+fn append_all<S: Source, K: Sink, D: Disk>(
+    alloc: Global,
+    file: &str,
+    name: &[u8],
+    limit: u64,
+    keeps: bool,
+    text: &mut Vec<u8>,
+    source: &mut S,
+    sink: &mut K,
+    disk: &mut D,
+) -> Result<(), Ending>
+    requires name { length name.now ≤ 512 }
+    requires low { 1024 ≤ limit }
+    requires high { limit ≤ 2 ^ 40 }
+    ensures finishes { FinishesBy file.now name.now limit keeps (S.view source.old) (S.view source.new) (D.view disk.old) (D.view disk.new) (K.view sink.old) (K.view sink.new) text.new.items result }
+    ensures source { SameSource (S.view source.old) (S.view source.new) }
+{
+    let faults = disk.faults();
+    let mut session = match open(alloc, file, name, limit, keeps, disk) {
+        Ok(session) => session,
+        Err(error) => return Err(Ending::Refused(error)),
+    };
+    let taken = take_all(alloc, &mut session, file, faults, text, source, sink, disk);
+    settle(taken, &mut session, file, faults, disk)
+}
+
 /// Appends the numbers of the source to the dataset that the root group's link of `name` leads to in the file of the name `file`, which
 /// grows to `limit` bytes at most: each line has the values of rows, and an empty line and the end of the input close a batch. A batch
 /// becomes visible at once, and how many rows the file has then is written. Where `keeps` is set no place that is let go is used again.
@@ -252,13 +293,10 @@ pub fn append<S: Source, K: Sink, D: Disk>(
     ensures appends { AppendEnds file.now name.now limit keeps (S.view source.old) (S.view source.new) (D.view disk.old) (D.view disk.new) result (K.view sink.old) (K.view sink.new) }
     ensures source { SameSource (S.view source.old) (S.view source.new) }
 {
-    let mut session = match open(alloc, file, name, limit, keeps, disk) {
-        Ok(session) => session,
-        Err(error) => return tell(alloc, &error, sink),
-    };
     let mut text = Vec::new(alloc);
-    let taken = take_all(alloc, &mut session, file, &mut text, source, sink, disk);
-    match settle(taken, &mut session, file, disk) {
+    match append_all(
+        alloc, file, name, limit, keeps, &mut text, source, sink, disk,
+    ) {
         Ok(()) => say(&text, Status::Done, sink),
         Err(Ending::Refused(error)) => tell(alloc, &error, sink),
         Err(Ending::Disk) => say(b"error disk\n", Status::Disk, sink),

@@ -110,13 +110,23 @@ fn flush<D: Disk>(session: &mut WriterCore, file: &str, disk: &mut D) -> Result<
     }
 }
 
-/// Puts the session's pending pieces into the file. Where the disk fails the session is stopped.
-pub fn put_all<D: Disk>(session: &mut WriterCore, file: &str, disk: &mut D) -> Result<(), Ending>
+/// Puts the session's pending pieces into the file. Where the disk fails, or has failed more often than `faults` times, the session is
+/// stopped.
+pub fn put_all<D: Disk>(
+    session: &mut WriterCore,
+    file: &str,
+    faults: u64,
+    disk: &mut D,
+) -> Result<(), Ending>
     requires there { IsThere (D.view disk.old) file.now }
     requires room { length session.old.pending ≤ (D.view disk.old).pieces }
     requires end { session.old.places.end ≤ (D.view disk.old).end file.now }
-    ensures { PutsBy file.now session.old session.new (D.view disk.old) (D.view disk.new) result }
+    ensures { PutsBy faults file.now session.old session.new (D.view disk.old) (D.view disk.new) result }
 {
+    if disk.faults() != faults {
+        session.failed();
+        return Err(Ending::Disk);
+    }
     match put_pending(session, file, disk) {
         Ok(()) => Ok(()),
         Err(_) => {
@@ -127,10 +137,11 @@ pub fn put_all<D: Disk>(session: &mut WriterCore, file: &str, disk: &mut D) -> R
 }
 
 /// Closes a batch: flushes the rows that wait, where there are any, puts all their pieces into the file, and then writes how many rows it
-/// has. `text` gets that line before.
+/// has. `text` gets that line before. Nothing is put where the disk has failed more often than `faults` times.
 pub fn close_batch<K: Sink, D: Disk>(
     session: &mut WriterCore,
     file: &str,
+    faults: u64,
     text: &mut Vec<u8>,
     sink: &mut K,
     disk: &mut D,
@@ -138,7 +149,7 @@ pub fn close_batch<K: Sink, D: Disk>(
     requires { IsReady file.now session.old (D.view disk.old) }
     ensures ready { ReadyUnlessDisk file.now session.new (D.view disk.new) result }
     ensures columns { OnOk result (columns_of session.new ≡ columns_of session.old) }
-    ensures steps { StepsOn file.now session.old session.new Closes (FlushRefused session.old) (D.view disk.old) (D.view disk.new) (K.view sink.old) (K.view sink.new) result }
+    ensures steps { StepsOn faults file.now session.old session.new Closes (FlushRefused session.old) (D.view disk.old) (D.view disk.new) (K.view sink.old) (K.view sink.new) result }
 {
     text.clear();
     match write_numbers(text, b"rows", &[session.rows()]) {
@@ -149,7 +160,7 @@ pub fn close_batch<K: Sink, D: Disk>(
     if session.pending() == 0 {
         return Ok(());
     }
-    put_all(session, file, disk)?;
+    put_all(session, file, faults, disk)?;
     match sink.write(text) {
         Ok(()) => Ok(()),
         Err(_) => Err(Ending::Sink),
@@ -164,6 +175,7 @@ pub fn take_line<K: Sink, D: Disk>(
     line: &TextLine,
     number: u64,
     file: &str,
+    faults: u64,
     text: &mut Vec<u8>,
     sink: &mut K,
     disk: &mut D,
@@ -173,11 +185,11 @@ pub fn take_line<K: Sink, D: Disk>(
     ensures ready { ReadyUnlessDisk file.now session.new (D.view disk.new) result }
     ensures columns { OnOk result (columns_of session.new ≡ columns_of session.old) }
     ensures spelled { OnOk result ((bytes : List ℕ) → IsLine line.now bytes → HasSome (number_line_of (columns_of session.old) bytes)) }
-    ensures steps { (bytes : List ℕ) → IsLine line.now bytes → StepsOn file.now session.old session.new (TakesLine bytes) (LineRefused bytes number session.old) (D.view disk.old) (D.view disk.new) (K.view sink.old) (K.view sink.new) result }
+    ensures steps { (bytes : List ℕ) → IsLine line.now bytes → StepsOn faults file.now session.old session.new (TakesLine bytes) (LineRefused bytes number session.old) (D.view disk.old) (D.view disk.new) (K.view sink.old) (K.view sink.new) result }
 {
     let values = line_values(alloc, columns, line, number)?;
     if values.is_empty() {
-        return close_batch(session, file, text, sink, disk);
+        return close_batch(session, file, faults, text, sink, disk);
     }
     append_values(session, &values, number, file, disk)
 }

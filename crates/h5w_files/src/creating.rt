@@ -1,9 +1,11 @@
 //! The command that makes a file.
-ghost use Rattle.std.specs.Prelude.{◌≡◌, ◌≤◌, [], ◌∷◌, codes, false, length, OnOk};
+ghost use Rattle.std.specs.Prelude.{◌≡◌, ◌≤◌, [], ◌∷◌, codes, false, length, IfErr, IfOk, OnOk};
 ghost use Rattle.h5w_image.specs.View.{IsThere};
 ghost use Rattle.h5w_options.specs.Options.{AreOptions};
 ghost use Rattle.h5w_creation_laws.specs.CreatedFiles as created;
-ghost use Rattle.h5w_session.specs.Creations.{new_file};
+ghost use Rattle.h5w_creation_laws.specs.CreatedFiles.{created_log};
+ghost use Rattle.h5w_session.specs.Creations.{IsCreated, new_file};
+ghost use Rattle.h5w_session.specs.Stands.{Stands};
 ghost use Rattle.h5w_text.specs.Table.{numbers_text};
 ghost use Rattle.h5w_files.specs.Ends.{EndsWell};
 ghost use Rattle.h5w_files.specs.Creates.{CreateEnds, CreatesTo, Fills, answer_of, end_of};
@@ -46,6 +48,44 @@ fn fill<D: Disk>(session: &mut WriterCore, file: &str, disk: &mut D) -> Result<(
     }
 }
 
+/// Begins a session of a new file. `text` gets the line of the file's end.
+fn begin(alloc: Global, options: &Options, text: &mut Vec<u8>) -> Result<WriterCore, CreateError>
+    requires options { AreOptions options.now }
+    requires empty { text.old.items ≡ [] }
+    ensures session { IfOk result (λ s. IsCreated (new_file options.now) options.now.limit s) }
+    ensures stands { IfOk result (λ s. Stands s (created_log (new_file options.now))) }
+    ensures refused { IfErr result (λ e. e ≡ CreateError.OutOfMemory) }
+    ensures text { OnOk result (text.new.items ≡ numbers_text (codes "new end") (created.end_of (new_file options.now) ∷ [])) }
+{
+    let Ok(session) = WriterCore::create(alloc, options) else {
+        return Err(CreateError::OutOfMemory);
+    };
+    match write_numbers(text, b"new end", &[session.end()]) {
+        Ok(()) => Ok(session),
+        Err(_) => Err(CreateError::OutOfMemory),
+    }
+}
+
+/// Makes the file, with the session's pieces and the one that closes it.
+fn make_filled<D: Disk>(
+    session: &mut WriterCore,
+    file: &str,
+    options: &Options,
+    disk: &mut D,
+) -> Result<(), CreateError>
+    requires options { AreOptions options.now }
+    requires session { IsCreated (new_file options.now) options.now.limit session.old }
+    requires stands { Stands session.old (created_log (new_file options.now)) }
+    ensures { CreatesTo file.now (new_file options.now) (D.view disk.old) (D.view disk.new) (answer_of (created.end_of (new_file options.now)) result) }
+{
+    match disk.make(file) {
+        Ok(true) => fill(session, file, disk),
+        Ok(false) => Err(CreateError::Exists),
+        Err(MakeError::Failed) => Err(CreateError::Failed),
+        Err(MakeError::OutOfMemory) => Err(CreateError::OutOfMemory),
+    }
+}
+
 /// Makes the file. `text` gets the line of its end before it is there.
 fn make_file<D: Disk>(
     alloc: Global,
@@ -59,18 +99,9 @@ fn make_file<D: Disk>(
     ensures creates { CreatesTo file.now (new_file options.now) (D.view disk.old) (D.view disk.new) (answer_of (created.end_of (new_file options.now)) result) }
     ensures text { OnOk result (text.new.items ≡ numbers_text (codes "new end") (created.end_of (new_file options.now) ∷ [])) }
 {
-    let Ok(mut session) = WriterCore::create(alloc, options) else {
-        return Err(CreateError::OutOfMemory);
-    };
-    match write_numbers(text, b"new end", &[session.end()]) {
-        Ok(()) => {}
-        Err(_) => return Err(CreateError::OutOfMemory),
-    }
-    match disk.make(file) {
-        Ok(true) => fill(&mut session, file, disk),
-        Ok(false) => Err(CreateError::Exists),
-        Err(MakeError::Failed) => Err(CreateError::Failed),
-        Err(MakeError::OutOfMemory) => Err(CreateError::OutOfMemory),
+    match begin(alloc, options, text) {
+        Ok(mut session) => make_filled(&mut session, file, options, disk),
+        Err(error) => Err(error),
     }
 }
 

@@ -19,6 +19,7 @@ fn put_next<D: Disk>(session: &mut WriterCore, file: &str, disk: &mut D) -> Resu
     requires end { session.old.places.end ≤ (D.view disk.old).end file.now }
     ensures puts { OnOk result (PutsPieces file.now session.old session.new (D.view disk.old) (D.view disk.new)) }
     ensures one { OnOk result (length session.new.pending + 1 ≡ length session.old.pending) }
+    ensures calm { OnOk result ((D.view disk.new).faults ≡ (D.view disk.old).faults) }
     ensures failed { OnErr result (PutsSome file.now session.old session.new (D.view disk.old) (D.view disk.new)) }
 {
     let Some(w) = session.next() else {
@@ -44,6 +45,7 @@ pub fn put_pending<D: Disk>(
     requires end { session.old.places.end ≤ (D.view disk.old).end file.now }
     ensures puts { OnOk result (PutsPieces file.now session.old session.new (D.view disk.old) (D.view disk.new)) }
     ensures all { OnOk result (session.new.pending ≡ []) }
+    ensures calm { OnOk result ((D.view disk.new).faults ≡ (D.view disk.old).faults) }
     ensures failed { OnErr result (PutsSome file.now session.old session.new (D.view disk.old) (D.view disk.new)) }
 {
     for _ in 0..session.pending() {

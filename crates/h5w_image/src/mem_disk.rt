@@ -108,10 +108,17 @@ impl MemDisk {
 impl Disk for MemDisk {
     ghost view = { λ m. disk_in_memory m };
 
+    fn faults(&self) -> u64
+        ensures { result ≡ self.now.faults }
+    {
+        self.faults
+    }
+
     /// It fails exactly where this call is one that is to fail.
     fn size(&mut self, name: &str) -> Result<Option<u64>, Failed>
         ensures same { Leaves 0 (Some self.old.told) (disk_in_memory self.old) (disk_in_memory self.new) }
         ensures exact { IfOk result (λ size. size ≡ option_map length (file self.old.told name.now)) }
+        ensures calm { OnOk result (self.new.faults ≡ self.old.faults) }
         ensures cause { OnErr result (Rose self.old.faults self.new.faults) }
         ensures failing { is_err result ≡ fails self.old }
         ensures after { self.new ≡ called self.old }
@@ -128,6 +135,7 @@ impl Disk for MemDisk {
         ensures exact { IfOk result (λ new. new ≡ is_none (file self.old.told name.now)) }
         ensures made { result ≡ Ok true → Leaves 0 (Some (made name.now self.old.told)) (disk_in_memory self.old) (disk_in_memory self.new) }
         ensures same { result ≢ Ok true → Leaves 0 (Some self.old.told) (disk_in_memory self.old) (disk_in_memory self.new) }
+        ensures calm { OnOk result (self.new.faults ≡ self.old.faults) }
         ensures cause { result ≡ Err MakeError.Failed → Rose self.old.faults self.new.faults }
         ensures failing { result ≡ Err MakeError.Failed ↔ IsTrue (fails self.old) }
         ensures new { result ≡ Ok true → self.new ≡ with_file name.now [] (called self.old) }
@@ -149,6 +157,7 @@ impl Disk for MemDisk {
         ensures shows { OnOk result (out.new ≡ range (unwrap_or (file self.old.told name.now) []) at len) }
         ensures bound { OnOk result (length out.new ≤ len) }
         ensures failed { OnErr result (out.new ≡ out.old) }
+        ensures calm { OnOk result (self.new.faults ≡ self.old.faults) }
         ensures cause { OnErr result (Rose self.old.faults self.new.faults) }
         ensures failing { is_err result ≡ fails self.old }
         ensures after { self.new ≡ called self.old }
@@ -165,6 +174,7 @@ impl Disk for MemDisk {
         requires end { w.now.at + length w.now.piece ≤ unwrap_or (finite.get self.old.ends name.now) 0 }
         ensures put { OnOk result (Leaves 1 (Some (after_put name.now w.now self.old.faults self.old.told)) (disk_in_memory self.old) (disk_in_memory self.new)) }
         ensures same { OnErr result (Leaves 0 (Some self.old.told) (disk_in_memory self.old) (disk_in_memory self.new)) }
+        ensures calm { OnOk result (self.new.faults ≡ self.old.faults) }
         ensures cause { OnErr result (Rose self.old.faults self.new.faults) }
         ensures failing { is_err result ≡ fails self.old }
         ensures after { self.new ≡ (if fails self.old then called self.old else with_put name.now w.now (called self.old)) }
@@ -182,6 +192,7 @@ impl Disk for MemDisk {
         ensures same { Leaves 0 (Some self.old.told) (disk_in_memory self.old) (disk_in_memory self.new) }
         ensures pieces { OnOk result (pieces ≤ self.new.pieces) }
         ensures end { OnOk result (end ≤ unwrap_or (finite.get self.new.ends name.now) 0) }
+        ensures calm { OnOk result (self.new.faults ≡ self.old.faults) }
         ensures ok { OnOk result (self.new ≡ with_room name.now pieces end self.old) }
         ensures refused { OnErr result (self.new ≡ self.old) }
     {

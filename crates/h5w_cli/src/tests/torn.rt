@@ -36,6 +36,10 @@ impl Torn {
 impl Disk for Torn {
     ghost view = { λ s. record { told = None; faults = 0; through = []; pieces = 2 ^ 64; end = λ name. 2 ^ 64 } };
 
+    fn faults(&self) -> u64 {
+        0
+    }
+
     fn size(&mut self, _name: &str) -> Result<Option<u64>, Failed> {
         Ok(Some(self.bytes.len() as u64))
     }

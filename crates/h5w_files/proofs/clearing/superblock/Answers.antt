@@ -11,7 +11,7 @@ returns-in-Ok g c =
     let sized = rw c.in-Ok-Some.field-0-is at c.in-Ok-Some.ensures.exact in
     record {
       finds =
-          finds_flags name c.look.new.out c.flags_at.result c.size.ensures.same c.look.ensures.same (there_when_sized name c.in-Ok-Some.field-0-0 c.size.ensures.same sized) c.in-Ok.ensures.shows c.in-Ok.ensures.bound
+          finds_flags name c.look.new.out c.flags_at.result c.size.ensures.same c.in-Ok-Some.ensures.calm c.look.ensures.same c.in-Ok.ensures.calm (there_when_sized name c.in-Ok-Some.field-0-0 c.size.ensures.same sized) c.in-Ok.ensures.shows c.in-Ok.ensures.bound
           (c.flags_at.ensures.exact ∙ ap flags_at c.as_slice.ensures.value) c.flags_at.ensures.kinds
           (subst (λ (b : List ℕ). OnOk c.flags_at.result (48 ≤ length b)) c.as_slice.ensures.value c.flags_at.ensures.whole) c.flags_at.ensures.quiet;
     }

@@ -1,9 +1,9 @@
-use Rattle.std.proofs.Common.{refl, arith}
+use Rattle.std.proofs.Common.{◌∙◌, refl, arith}
 use Rattle.h5w_files.proofs.PutLemmas.{end_left, none_left, puts_none, puts_then, puts_there, room_left, some_then}
 use Rattle.h5w_files.proofs.putting.put_pending.Goals as goal
 
 pub loop-init : goal.loop-init
-loop-init g c = record { before = puts_none c.args.file.now c.args.session.now (record { told = refl; faults = omega arith; through = refl }) (omega arith) (omega arith); left = omega arith; count = c.pending-end.ensures }
+loop-init g c = record { before = puts_none c.args.file.now c.args.session.now (record { told = refl; faults = omega arith; through = refl }) (omega arith) (omega arith); left = omega arith; count = c.pending-end.ensures; calm = refl }
 
 pub put_next-requires-clause-there : goal.put_next-requires-clause-there
 put_next-requires-clause-there g c = puts_there c.args.file.now c.loop.invariant.before.puts c.loop.invariant.before.disk c.requires.there
@@ -23,7 +23,7 @@ pub put_next-requires-clause-end : goal.put_next-requires-clause-end
 put_next-requires-clause-end g c = end_left c.args.file.now c.args.session.now c.loop.session c.loop.invariant.before c.requires.end
 
 pub returns-in-Err-clause-failed : goal.returns-in-Err-clause-failed
-returns-in-Err-clause-failed g c = some_then c.args.file.now c.args.session.now c.loop.session c.put_next.new.session c.loop.invariant.before c.in-Err.ensures.failed
+returns-in-Err-clause-failed g c = some_then c.args.file.now c.args.session.now c.loop.session c.put_next.new.session c.loop.invariant.calm c.loop.invariant.before c.in-Err.ensures.failed
 
 pub loop-preserved : goal.loop-preserved
 loop-preserved g c =
@@ -31,9 +31,10 @@ loop-preserved g c =
     let sum = i.left in
     let one = c.in-Ok.ensures.one in
     record {
-      before = puts_then c.args.file.now c.args.session.now c.loop.session c.put_next.new.session i.before c.in-Ok.ensures.puts;
+      before = puts_then c.args.file.now c.args.session.now c.loop.session c.put_next.new.session i.calm i.before c.in-Ok.ensures.puts;
       left = omega (arith, sum, one);
       count = i.count;
+      calm = c.in-Ok.ensures.calm ∙ i.calm;
     }
 
 pub returns-clause-puts : goal.returns-clause-puts

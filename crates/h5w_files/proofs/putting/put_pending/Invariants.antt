@@ -7,4 +7,5 @@ invariant-loop g l = record {
   before : PutsPieces l.fn.file l.fn.session l.session (g.D.Disk.view l.fn.disk) (g.D.Disk.view l.disk);
   left : length l.session.pending + l.counter ≡ length l.fn.session.pending;
   count : l.end ≡ length l.fn.session.pending;
+  calm : (g.D.Disk.view l.disk).faults ≡ (g.D.Disk.view l.fn.disk).faults;
 }
