@@ -179,8 +179,8 @@ impl ArrayIndex {
         i < max_index_set(&self.cache)
     }
 
-    /// The max index set is above chunk number `i`, which has an address, from now on. Where it was so before nothing changes; elsewhere
-    /// header and index block are changed, and the rest stays.
+    /// The max index set is above chunk number `i`, which has an address, from now on. If it was so before nothing changes. Else blocks on
+    /// the way to the chunk are changed, the header among them; all addresses stay.
     ///
     /// So a writer that stopped between the two leaves an array: the index block names chunks that its header does not reach.
     pub fn reach(&mut self, i: u64)

@@ -194,7 +194,7 @@ open_line opens.Index = errors.NoIndex
 open_line opens.Failed = errors.Disk
 open_line opens.OutOfMemory = errors.Memory
 
--- The session that begins over the file, which is there: it is open with both flags of writers pending, and what is retired stays so where
+-- The session that begins over the file, which is there if the disk tells its files: it is open with both flags of writers pending, and what is retired stays so where
 -- that is asked for. Over a valid file it is that of the log to which nothing happened yet.
 pub record IsOpenOver (name at : List ℕ) (limit : ℕ) (keeps : Bool) (v : DiskView) (first : Session) : Type 0 where
   pub there : IsThere v name

@@ -39,7 +39,7 @@ IsOfCall errors.Disk = Unit {0}
 IsOfCall errors.Memory = Unit {0}
 IsOfCall e = ⊥
 
--- bytes half written may give the refusal: it comes before their sum was found right, or as that is wrong
+-- bytes half written may give the refusal; some of these also come of bytes whose sum is right
 abbrev pub may_pass : ReadError → Bool
 may_pass reads.NotHdf5 = true
 may_pass (reads.Super e) = true

@@ -76,7 +76,7 @@ fn read_line(error: ReadError) -> ErrorLine
     }
 }
 
-/// Whether bytes half written may give this refusal: it comes before their sum was found right, or as that is wrong.
+/// Whether bytes half written may give this refusal. Some of these also come of bytes whose sum is right.
 fn may_pass(refusal: &ReadError) -> bool
     ensures { result ≡ may_pass refusal.now }
 {
@@ -309,8 +309,8 @@ fn polled<K: Sink, D: Disk>(
 
 /// Opens the dataset that the root group's link of `name` leads to in the file of the name `file`, and refreshes it `times` less
 /// one times. Writes how many rows each of these calls finds before the next begins, and where `values` is set, behind it each row
-/// that was not written yet. A file system may show a write half done: a refusal that may come of it is told only after the call was
-/// begun anew until it had taken 50,000 looks.
+/// that was not written yet. A file system may show a write half done: a call whose refusal may come of it is begun anew until it took
+/// 50,000 looks. Rows show that number, since a look leaves no trace that a clause could count.
 pub fn poll<K: Sink, D: Disk>(
     alloc: Global,
     file: &str,

@@ -125,8 +125,8 @@ impl Index {
         }
     }
 
-    /// Readers look from now on for a chunk that has an address. Where they did before nothing changes; elsewhere an array's header and
-    /// index block are changed.
+    /// Readers look from now on for a chunk that has an address. If they did before nothing changes. Else blocks on the way to it are
+    /// changed, an array's header among them.
     ///
     /// It takes no memory, and cannot fail.
     #[tactic(auto, using(h5w_bt_index::proofs::Laws::index_shaped))]

@@ -48,7 +48,7 @@ abbrev pub Says : {A : Type 0} → (A → Type 0) → (OpenError → Type 0) →
 Says P Q (Ok a) = P a
 Says P Q (Err e) = IfRefusal (refusal_of e) Q
 
--- A step that looked at an image: what it refuses to read is refused for its bytes. On a still one its answer is told, and so is its refusal.
+-- A step that looked at an image: a refusal to read is none of NotSwmr, Again, Shrunk and OutOfMemory. On a still one its answer is told, and so is its refusal.
 pub record OpenStep {A : Type 0} (v w : ImageView) (P : List ℕ → A → Type 0) (Q : List ℕ → OpenError → Type 0) (answer : Result A OpenError) : Type 0 where
   pub looked : Looked v w
   pub cause : answer ≡ Err Failed → Rose v.faults w.faults

@@ -70,7 +70,7 @@ pub record Past (s : Session) (left : List Write) (log : Log) (after : Moment) :
   pub addressed : IsNew log → (p : ℕ) (r : Reading) → IsPosition log p → Shows format_limits (image_at log p) s.name r → AllAddressed r
   pub next : IsNew log → AllAddressed (reading_of after)
   pub own : IsNew log → IsOwn s.index
-  -- once the session brought rows, or where it was so before, readers look for each chunk that the rows need
+  -- once the session brought rows, or where it was so before, readers look for each chunk that the rows need and that has an address
   pub reach : ReachedFrom (rows_in log log.values) log.start s
   -- the file grew by no more than what its plans were bound to
   pub grew : s.places.end ≤ first_end_of log + spent (cutting_of s) log

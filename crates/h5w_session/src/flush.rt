@@ -447,7 +447,7 @@ impl WriterCore {
         ensures pieces { IfOk result (λ pieces. pieces ≡ length self.new.pending) }
         ensures some { 0 < self.old.waits → IfOk result (λ pieces. 1 ≤ pieces) }
         ensures nothing { self.old.waits ≡ 0 → OnOk result (self.new ≡ self.old) }
-        // readers look for each chunk that the rows need
+        // readers look for each chunk that the rows need and that has an address
         ensures reached { 0 < self.old.waits → OnOk result (AreReached self.new) }
         ensures stands { IfOk result (λ pieces. (log : Log) → Stands self.old log → Stands self.new (and_now (plans pieces) log)) }
         ensures bound { IfOk result (λ pieces. (log : Log) → Stands self.old log → pieces ≤ load (cutting_of self.old) log) }
