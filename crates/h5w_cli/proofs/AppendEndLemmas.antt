@@ -35,7 +35,7 @@ appends_nothing {s} {v} {k} name at limit keeps status said = inl (record {
   front = [];
   last = error_text errors.Memory;
   comes = inl (record {
-    unopened = record { disk = record { told = refl; faults = omega arith; through = refl }; exact = any_told v.told (λ d. inl (inr refl)); kinds = inr (opens.OutOfMemory, refl); cause = λ h. cc };
+    unopened = record { disk = record { told = refl; faults = omega arith; through = refl }; exact = any_told v.told (λ d. inl (inr refl)); kinds = inr (opens.OutOfMemory, refl, tt); cause = λ h. cc };
     unread = refl;
     front_is = refl;
     last_is = refl;
