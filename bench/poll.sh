@@ -39,6 +39,6 @@ rows = [list(map(int, line.split())) for line in sys.stdin]
 failed = len(rows) != 2
 for chunks, one, many, few, more in rows:
     cost, reads = (many - one) / 10000, (more - few) / 10000
-    print(f"an idle refresh of poll at {chunks:,} chunks, instructions: {cost:.0f} (at most 6000); reads of the file: {reads:.2f} (at most 1)")
-    failed = failed or cost > 6000 or reads > 1
+    print(f"an idle refresh of poll at {chunks:,} chunks, instructions: {cost:.0f} (at most 1500); reads of the file: {reads:.2f} (at most 1)")
+    failed = failed or cost > 1500 or reads > 1
 sys.exit(failed)'
