@@ -9,7 +9,7 @@ use thiserror::Error;
 #[derive(Clone, Copy, Debug, PartialEq, Eq, Error)]
 pub enum FindError {
     /// The first refusal. It is none of want of memory.
-    #[error("{0}")]
+    #[error("refused")]
     Refused(ReadError),
     /// The image's count of faults rose in this call.
     #[error("image failed")]

@@ -8,7 +8,7 @@ use thiserror::Error;
 #[derive(Clone, Copy, Debug, PartialEq, Eq, Error)]
 pub enum OpenError {
     /// It is not read: never NotSwmr, Again, Shrunk or OutOfMemory, since two looks are never compared here, and no rows were seen before.
-    #[error("{0}")]
+    #[error("refused")]
     Read(ReadError),
     /// It is open for writing, or was not closed: flag bit 0 or 2 is set.
     #[error("flags {flags}")]
