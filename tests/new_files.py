@@ -22,11 +22,11 @@ def root_header(name, dataset):
     return header(message(2, 0, link_info) + message(10, 0, bytes(2)) + message(6, 0, link))
 
 
-def dataset_header(kind, chunk, fill, index, columns=None):
-    """A dataset without rows: of one dimension by an extensible array, or by a version 2 B-tree of two, with so many columns of
+def dataset_header(kind, chunk, fill, index, columns=None, rows=0):
+    """A dataset of so many rows: of one dimension by an extensible array, or by a version 2 B-tree of two, with so many columns of
     which a chunk has so many."""
     size, big, signed = TYPES[kind]
-    dimensions, sides = ([0], [chunk]) if columns is None else ([0, columns[0]], [chunk, columns[1]])
+    dimensions, sides = ([rows], [chunk]) if columns is None else ([rows, columns[0]], [chunk, columns[1]])
     width = width_of(max(*sides, size))
     shape = bytes([2, len(dimensions), 1, 1]) + b"".join(struct.pack("<Q", it) for it in dimensions) + UNDEFINED * len(dimensions)
     number = bytes([0x30, big | signed << 3, 0, 0]) + struct.pack("<IHH", size, 0, 8 * size)

@@ -252,6 +252,7 @@ module _ (img name : List ℕ) (m : Moment) (old : Key → ℕ) (s b c t : Space
       let read = plan_is_read v b ms (block_writes copies) fixed w t (image img writes) x.plan stands_rows in
       let e : Described = committed m.dataset rows None in
       record {
+        blocks = blocks_in_place w;
         behind = read.visited last (chunk_bytes m.dataset) ends_by;
         answers = λ key n. read.found key (n x.kind);
         each_says = each_says;

@@ -16,7 +16,7 @@ use Rattle.h5w_cache.specs.Stores.{Store}
 use Rattle.h5w_cache.specs.declared.moves.Move.{Move}
 use Rattle.h5w_steps.specs.Moments.{Moment}
 use Rattle.h5w_array_laws.specs.Among.{AreAmong}
-use Rattle.h5w_array_laws.specs.ArrayStores.{IsArray, header_place, map_of, fixed_of, blocks_in_place, behind_of}
+use Rattle.h5w_array_laws.specs.ArrayStores.{IsArray, header_place, map_of, fixed_of, behind_of}
 use Rattle.h5w_array_laws.specs.ArrayImages.{StandsArray, IsPlanned}
 use Rattle.h5w_array_laws.specs.ArrayPlans.{fresh}
 use Rattle.h5w_flush_laws.specs.Spaces.{Taken, LetGo}
@@ -36,7 +36,6 @@ array_parts bytes w rows more writes chunks copies supers last fixed = record {
   end = last;
   in_place = fixed;
   named = None;
-  blocks = blocks_in_place w;
   address = λ key. map_of w key.i;
   fixed = fixed_of w;
   behind = behind_of bytes w;

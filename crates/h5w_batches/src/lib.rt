@@ -4,8 +4,6 @@
 mod error;
 mod gathering;
 mod reading;
-#[cfg(test)]
-mod tests;
 
 pub use error::BatchError;
 pub use h5w_model::Values;

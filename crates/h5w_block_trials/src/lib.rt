@@ -1,5 +1,5 @@
-//! Trials of numbers in bytes, of places and blocks, of chunks, of the blocks of a tree, and of what waits for what. There are only
-//! tests here, so that no crate is proved once more for them.
+//! Trials of numbers in bytes, of places and blocks, of chunks, of the blocks of a tree, of what waits for what, and of an image that
+//! threads share. There are only tests here, so that no crate is proved once more for them.
 #![tactic(auto)]
 
 #[cfg(test)]
@@ -8,6 +8,8 @@ mod bytes;
 mod cells;
 #[cfg(test)]
 mod places;
+#[cfg(test)]
+mod sharing;
 #[cfg(test)]
 mod store;
 #[cfg(test)]

@@ -1,5 +1,5 @@
 -- The shape of nodes that were read, and of those that stand for others.
-use Rattle.std.proofs.Common.{◌≡◌, inl, inr, ℕ, zero, suc, ◌+◌, ◌-◌, ◌*◌, ◌<◌, ◌≤◌, ◌^◌, Bool, true, false, List, [], ◌∷◌, ◌++◌, length, map, replicate, Ok, refl, sym, ap, subst, ◌∙◌, arith, nat_le, leb-true, if◌then◌else◌}
+use Rattle.std.proofs.Common.{◌≡◌, inl, inr, ℕ, zero, suc, ◌+◌, ◌-◌, ◌*◌, ◌<◌, ◌≤◌, ◌^◌, Bool, true, false, List, [], ◌∷◌, ◌++◌, length, map, Option, Ok, refl, sym, ap, subst, ◌∙◌, arith, nat_le, leb-true, if◌then◌else◌}
 use Rattle.std.specs.Prelude.{codes}
 use Rattle.std.specs.List.{All}
 use Rattle.std.proofs.lemmas.Bool.{cond-false}
@@ -16,7 +16,8 @@ use Rattle.h5w_bt.specs.Parts.{IsHeader, record_of}
 use Rattle.h5w_bt_index.specs.Nodes.{Tree, total_of}
 use Rattle.h5w_bt_index.specs.Marks.{IsMarked, clean_of}
 use Rattle.h5w_bt_index.specs.Sound.{IsShapedChild}
-use Rattle.h5w_bt_open.specs.Opened.{AreWhole, IsChild, IsHeld, IsLeafIn, IsRead, no_chunk, nowhere_below, passed_of, said}
+use Rattle.h5w_bt_open.specs.declared.span.Span.{Span}
+use Rattle.h5w_bt_open.specs.Opened.{AreWhole, IsChild, IsHeld, IsLeafIn, IsOpened, IsRead, counted_node, nowhere_below, passed_of, said, told_under, with_total}
 
 -- ---- What was read
 
@@ -69,14 +70,6 @@ header_read b at h e =
 
 -- ---- What stands for others
 
-all_same : {A : Type 0} (P : A → Type 0) (n : ℕ) (x : A) → P x → All P (replicate n x)
-all_same P zero x h = All-nil P
-all_same P (suc n) x h = All-cons P x (replicate n x) h (all_same P n x h)
-
-long_same : {A : Type 0} (n : ℕ) (x : A) → length (replicate n x) ≡ n
-long_same zero x = refl
-long_same (suc n) x = ap suc (long_same n x)
-
 none_fits : (d : ℕ) → d ≤ 3 → 0 < 256 ^ suc d
 none_fits zero h = omega arith
 none_fits (suc zero) h = omega arith
@@ -84,45 +77,38 @@ none_fits (suc (suc zero)) h = omega arith
 none_fits (suc (suc (suc zero))) h = omega arith
 none_fits (suc (suc (suc (suc d)))) h = absurd (omega (arith, h))
 
-said_none : (d : ℕ) → said d nowhere_below ≡ 0
-said_none zero = refl
-said_none (suc d) = refl
+-- what a node says of how many records are under it fits where what its pointer says does
+total_fits : (d : ℕ) (c : ChildFields) (t : Tree d) → IsHeld d c t → said d c < 256 ^ suc d → total_of d t < 256 ^ suc d
+total_fits zero c t h fits = let few = h.shape in omega (arith, few)
+total_fits (suc d) c t h fits = subst (λ (n : ℕ). n < 256 ^ suc (suc d)) (sym h.total) fits
 
-pub one_more : {A : Type 0} (n : ℕ) (x : A) → replicate (n + 1) x ≡ replicate n x ++ x ∷ []
-one_more zero x = refl
-one_more (suc n) x = let e : suc n + 1 ≡ suc (n + 1) = omega arith in ap (λ (k : ℕ). replicate k x) e ∙ ap (λ (l : List _). x ∷ l) (one_more n x)
+none_said : (d : ℕ) → d ≤ 3 → said d nowhere_below < 256 ^ suc d
+none_said zero low = none_fits zero low
+none_said (suc d) low = none_fits (suc d) low
 
-pub passed_held : (d : ℕ) (c : ChildFields) → d ≤ 3 → c.records ≤ capacity_of d → IsHeld d c (passed_of d c)
-passed_held zero c low few = record {
-  shape = subst (λ (n : ℕ). n ≤ capacity_of zero) (sym (long_same c.records no_chunk)) few;
-  total = long_same c.records no_chunk;
-  clean = refl;
-  marked = tt;
-}
-passed_held (suc d) c low few =
-    let below : IsHeld d nowhere_below (passed_of d nowhere_below) = passed_held d nowhere_below (omega (arith, low)) (omega arith) in
-    let fits : total_of d (passed_of d nowhere_below) < 256 ^ suc d = subst (λ (n : ℕ). n < 256 ^ suc d) (sym (below.total ∙ said_none d)) (none_fits d (omega (arith, low))) in
+pub passed_held : (d : ℕ) (c : ChildFields) → d ≤ 3 → IsHeld d c (passed_of d c)
+passed_held zero c low = record { shape = omega arith; total = tt; clean = refl; marked = tt }
+passed_held (suc d) c low =
+    let t : Tree d = passed_of d nowhere_below in
+    let below : IsHeld d nowhere_below t = passed_held d nowhere_below (omega (arith, low)) in
+    let fits : total_of d t < 256 ^ suc d = total_fits d nowhere_below t below (none_said d (omega (arith, low))) in
     record {
-      shape = record {
-        few = subst (λ (n : ℕ). n ≤ capacity_of (suc d)) (sym (long_same c.records no_chunk)) few;
-        children = long_same (c.records + 1) (passed_of d nowhere_below) ∙ ap (λ (n : ℕ). n + 1) (sym (long_same c.records no_chunk));
-        each = all_same (IsShapedChild d) (c.records + 1) (passed_of d nowhere_below) (below.shape, fits);
-      };
+      shape = record { few = omega arith; children = refl; each = All-cons (IsShapedChild d) t [] (below.shape, fits) (All-nil (IsShapedChild d)) };
       total = refl;
       clean = refl;
-      marked = (λ h. all_same (λ (t : Tree d). clean_of d t ≡ true) (c.records + 1) (passed_of d nowhere_below) below.clean, all_same (IsMarked d) (c.records + 1) (passed_of d nowhere_below) below.marked);
+      marked = (λ h. All-cons (λ (u : Tree d). clean_of d u ≡ true) t [] below.clean (All-nil (λ (u : Tree d). clean_of d u ≡ true)), All-cons (IsMarked d) t [] below.marked (All-nil (IsMarked d)));
     }
 
 pub leaf_held : (b : List ℕ) (at n : ℕ) (c : ChildFields) (needed : Bool) (t : Tree zero) → n ≡ c.records → c.records ≤ capacity_of zero → IsLeafIn (btlf_at b at n) c needed t → IsHeld zero c t
 leaf_held b at n c needed t e few (inl leaf) =
     let long = leaf_count b at n t.records leaf.records ∙ e in
-    record { shape = subst (λ (k : ℕ). k ≤ capacity_of zero) (sym long) few; total = long; clean = leaf.clean; marked = tt }
-leaf_held b at n c needed t e few (inr p) = subst (IsHeld zero c) (sym p.1.1) (passed_held zero c (omega arith) few)
+    record { shape = subst (λ (k : ℕ). k ≤ capacity_of zero) (sym long) few; total = tt; clean = leaf.clean; marked = tt }
+leaf_held b at n c needed t e few (inr p) = subst (IsHeld zero c) (sym p.1.1) (passed_held zero c (omega arith))
 
 -- one more child
 pub whole_more : (d : ℕ) (ts : List (Tree d)) (c : ChildFields) (t : Tree d) → AreWhole d ts → IsChild d c → IsHeld d c t → AreWhole d (ts ++ t ∷ [])
 whole_more d ts c t w is h = record {
-  shapes = behind (IsShapedChild d) ts t w.shapes (h.shape, subst (λ (n : ℕ). n < 256 ^ suc d) (sym h.total) is.fits);
+  shapes = behind (IsShapedChild d) ts t w.shapes (h.shape, total_fits d c t h is.fits);
   clean = behind (λ (u : Tree d). clean_of d u ≡ true) ts t w.clean h.clean;
   marked = behind (IsMarked d) ts t w.marked h.marked;
 }
@@ -141,3 +127,19 @@ node_held d c t few count total clean w = record {
   clean = clean;
   marked = (λ h. w.clean, w.marked);
 }
+
+-- ---- A root, which says as many records under it as its children do
+
+pub counted_held : (d : ℕ) (c : ChildFields) (t : Tree d) → IsHeld d c t → IsHeld d (with_total c (told_under d (counted_node d t))) (counted_node d t)
+counted_held zero c t h = record { shape = h.shape; total = tt; clean = h.clean; marked = h.marked }
+counted_held (suc d) c t h = record { shape = record { few = h.shape.few; children = h.shape.children; each = h.shape.each }; total = refl; clean = h.clean; marked = h.marked }
+
+pub counted_opened : (img : List ℕ) (d : ℕ) (c : ChildFields) (s : Option Span) (t : Tree d) → IsOpened img d c s t → IsOpened img d (with_total c (told_under d (counted_node d t))) s (counted_node d t)
+counted_opened img zero c s t (inl leaf) = inl (record { records = leaf.records; place = leaf.place; clean = leaf.clean })
+counted_opened img zero c s t (inr p) = inr (record { fault = p.fault; refused = p.refused; unneeded = p.unneeded; is = p.is })
+counted_opened img (suc d) c s t (inl inner) =
+    inl (record { fields = inner.fields; reads = inner.reads; records = inner.records; children = inner.children; total = refl; place = inner.place; clean = inner.clean })
+counted_opened img (suc d) c s t (inr p) =
+    let is : counted_node (suc d) t ≡ passed_of (suc d) (with_total c (told_under (suc d) (counted_node (suc d) t))) =
+    subst (λ (u : Tree (suc d)). counted_node (suc d) u ≡ passed_of (suc d) (with_total c (told_under (suc d) (counted_node (suc d) u)))) (sym p.is) refl in
+    inr (record { fault = p.fault; refused = p.refused; unneeded = p.unneeded; is = is })

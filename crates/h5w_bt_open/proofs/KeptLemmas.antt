@@ -1,17 +1,13 @@
 -- Which trees a session keeps.
-use Rattle.std.proofs.Common.{◌≡◌, ℕ, zero, suc, ◌+◌, ◌-◌, ◌<◌, ◌≤◌, ◌^◌, ◌&&◌, Bool, true, false, List, [], ◌∷◌, drop, length, Result, Ok, refl, sym, ap, ap₂, subst, ◌∙◌, arith, slice_index_or}
+use Rattle.std.proofs.Common.{◌≡◌, ℕ, zero, suc, ◌+◌, ◌-◌, ◌<◌, ◌≤◌, ◌&&◌, Bool, true, false, List, [], ◌∷◌, drop, length, refl, sym, ap, ap₂, ◌∙◌, arith, slice_index_or}
 use Rattle.std.proofs.lemmas.Bool.{and_from}
 use Rattle.std.proofs.lemmas.List.Elements.{All-head}
-use Rattle.h5w_model.specs.Numbers.{range, undefined}
-use Rattle.h5w_model.specs.Trees.{BthdFields, bthd_at, bthd_len}
+use Rattle.h5w_model.specs.Trees.{capacity_of}
 use Rattle.h5w_model.specs.Tables.{key_below}
 use Rattle.h5w_model.specs.Findings.{are_rising}
-use Rattle.h5w_model.specs.declared.cell.Key.{Key}
 use Rattle.h5w_bt.specs.declared.records.Record.{Record}
-use Rattle.h5w_bt_index.specs.Sound.{IsRising}
-use Rattle.h5w_bt_index.specs.Index.{Index, IsShaped, keys_of, records}
-use Rattle.h5w_bt_open.specs.Opened.{IsStanding}
-use Rattle.h5w_bt_open.specs.Kept.{IsKept, IsKeptTree, IsOtherTree, IsTold}
+use Rattle.h5w_bt_index.specs.Sound.{IsRising, IsSound}
+use Rattle.h5w_bt_index.specs.Index.{Index, IsIndex, IsShaped, keys_of, records}
 use Rattle.h5w_bt_open.proofs.StepLemmas.{drop_here}
 
 -- ---- Keys that rise
@@ -63,27 +59,8 @@ one_left (r ∷ rs) (suc i) h = one_left rs i (omega (arith, h))
 pub rising_end : (rs : List Record) (at : ℕ) → 1 ≤ at → length rs ≤ at → are_rising (keys_of (drop (at - 1) rs)) ≡ are_rising (keys_of rs) → are_rising (keys_of rs) ≡ true
 rising_end rs at some past so_far = sym so_far ∙ one_left rs (at - 1) (omega (arith, past, some))
 
--- ---- The header
+-- ---- The tree
 
--- it says so many records, where it names a root
-abbrev pub Says : BthdFields → ℕ → Type 0
-Says h n = (h.root ≡ undefined → ⊥) → h.total ≡ n
-
-ok_same : {A E : Type 0} (a b : A) → (let x : Result A E = Ok a in x) ≡ Ok b → a ≡ b
-ok_same a b e = cc
-
-module _ (img : List ℕ) (header : ℕ) (first : Key) (bands across : ℕ) (v : Index) (h : BthdFields) (n : ℕ) (s : IsStanding img header first v) (read : bthd_at (range img header bthd_len) header ≡ Ok h) (count : n ≡ length (records v)) where
-  fields_are : s.fields ≡ h
-  fields_are = ok_same s.fields h (sym s.read ∙ read)
-
-  told_from : Says h n → IsTold s
-  told_from says = subst (λ (f : BthdFields). Says f (length (records v))) (sym fields_are) (subst (λ (k : ℕ). Says h k) count says)
-
-  told_says : IsTold s → Says h n
-  told_says told = subst (λ (k : ℕ). Says h k) (sym count) (subst (λ (f : BthdFields). Says f (length (records v))) fields_are told)
-
-  pub kept_tree : length img < 2 ^ 64 → Says h n → IsKept bands across v → IsKeptTree img header first bands across v
-  kept_tree short says kept = record { short = short; standing = s; told = told_from says; kept = kept }
-
-  pub other_tree : IsShaped v → (Says h n → IsKept bands across v → ⊥) → IsOtherTree img header first bands across
-  other_tree shaped other = record { tree = v; standing = s; shaped = shaped; other = λ told kept. other (told_says told) kept }
+-- keys rise, and totals are true
+pub kept_index : (v : Index) → IsShaped v → IsSound v.depth (capacity_of v.depth) v.root → IsRising (records v) → IsIndex v
+kept_index v shaped sound rises = record { shallow = shaped.shallow; sound = sound; rises = rises; marked = shaped.marked }

@@ -8,4 +8,5 @@ pub mod StepLemmas
 pub mod TreeLemmas
 pub mod VisitLemmas
 pub mod WalkLemmas
+pub mod NeededLemmas
 pub mod KeptLemmas

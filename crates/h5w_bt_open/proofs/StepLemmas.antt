@@ -23,13 +23,13 @@ drop_here [] i d h = absurd (omega arith)
 drop_here (x ∷ xs) zero d h = refl
 drop_here (x ∷ xs) (suc i) d h = drop_here xs i d (omega (arith, h))
 
-rest_dropped : (rs : List Record) (i : ℕ) → rest (drop i rs) ≡ drop (suc i) rs
+pub rest_dropped : (rs : List Record) (i : ℕ) → rest (drop i rs) ≡ drop (suc i) rs
 rest_dropped [] zero = refl
 rest_dropped [] (suc i) = refl
 rest_dropped (r ∷ rs) zero = refl
 rest_dropped (r ∷ rs) (suc i) = rest_dropped rs i
 
-none_left : {A : Type 0} (xs : List A) (i : ℕ) → length xs ≤ i → drop i xs ≡ []
+pub none_left : {A : Type 0} (xs : List A) (i : ℕ) → length xs ≤ i → drop i xs ≡ []
 none_left [] zero h = refl
 none_left [] (suc i) h = refl
 none_left (x ∷ xs) zero h = absurd (omega (arith, h))

@@ -24,7 +24,7 @@ use Rattle.h5w_bt_index.proofs.Grown.{total_is}
 use Rattle.h5w_bt_index.proofs.Keys.{below-trans}
 use Rattle.h5w_bt_open.specs.declared.span.Span.{Span}
 use Rattle.h5w_bt_open.specs.Spans.{high_of, low_behind, low_of, span_here}
-use Rattle.h5w_bt_open.specs.Opened.{EachOpened, IsOpened, from_key, root_pointer}
+use Rattle.h5w_bt_open.specs.Opened.{EachOpened, IsOpened, from_key, root_pointer, told_under}
 use Rattle.h5w_bt_open.specs.OpenedLaws.{OpenedIsIndex}
 
 -- ---- Keys that rise
@@ -49,10 +49,11 @@ rises (r ∷ s ∷ rs) h =
 
 -- ---- Nodes
 
--- the check found these keys under the node, which rise; where the pointer to it says how many they are, it is sound
+-- the check found these keys under the node, which rise, and its children say how many they are; where the pointer to it does, it is sound
 pub record Told (d : ℕ) (c : ChildFields) (t : Tree d) (u : Under) : Type 0 where
   pub keys : keys_of (all_records d t) ≡ u.keys
   pub rises : are_rising u.keys ≡ true
+  pub under : told_under d t ≡ length u.keys
   pub sound : c.total ≡ length u.keys → IsSound d (capacity_of d) t
 
 pub record AllTold (d : ℕ) (rs : List Record) (ts : List (Tree d)) (x : Bool × Under) : Type 0 where
@@ -75,8 +76,10 @@ leaf_told end bytes place c t rs u e few h =
     let us = then_ok (chunk_ranges end bytes (map (λ (r : RecordFields). r.address) rs)) (λ us. node_finding place true (record { ranges = us; keys = field_keys rs })) u h in
     let p = checked-passed (node_checks place true (record { ranges = us.0; keys = field_keys rs })) (node_at place (record { ranges = us.0; keys = field_keys rs })) u us.2 in
     let k : field_keys rs ≡ u.keys = ap (λ (x : Under). x.keys) p.1 in
+    let keys : keys_of t.records ≡ u.keys = sym (keys_same t.records) ∙ ap field_keys (sym e) ∙ k in
     record {
-      keys = sym (keys_same t.records) ∙ ap field_keys (sym e) ∙ k;
+      keys = keys;
+      under = sym (keys_long t.records) ∙ ap (length {A = Key}) keys;
       rises = ap are_rising (sym k) ∙ p.0.1.0;
       sound = λ total. few;
     }
@@ -156,13 +159,16 @@ visit_told img end bytes (suc d) c s t u o shape h =
           let told = each_told img end bytes d child (λ b q r y is low g. visit_told img end bytes d b q r y is low g) (low_of s) (high_of s) t.records inner.fields.children t.children under.0 inner.children shape.each shape.children visited in
           let k : under.0.1.keys ≡ u.keys = ap (λ (x : Under). x.keys) p.1 in
           let all : All (IsSound d (capacity_of d)) t.children = told.sound p.0.0 in
+          let rs : List Record = joined t.records (map (all_records d) t.children) in
+          let under : counted d t.records t.children ≡ length u.keys = counted_is d t.records t.children shape.few shape.children all ∙ sym (keys_long rs) ∙ ap (length {A = Key}) (told.keys ∙ k) in
           record {
             keys = told.keys ∙ k;
+            under = under;
             rises = ap are_rising (sym k) ∙ p.0.1.0;
             sound = λ total. record {
               few = shape.few;
               children = shape.children;
-              total = inner.total ∙ total ∙ ap (length {A = Key}) (sym k ∙ sym told.keys) ∙ keys_long (joined t.records (map (all_records d) t.children)) ∙ sym (counted_is d t.records t.children shape.few shape.children all);
+              total = inner.total ∙ total ∙ sym under;
               each = all;
             };
           }
@@ -173,14 +179,15 @@ visit_told img end bytes (suc d) c s t u o shape h =
 -- ---- The tree
 
 pub opened_is_index : OpenedIsIndex
-opened_is_index img header end bytes first v h u s shaped read some visited total =
+opened_is_index img header end bytes first v h u s shaped read some visited =
     let same : s.fields ≡ h = ok_same s.fields h (sym s.read ∙ read) in
     let p = s.root (λ (e : s.fields.root ≡ _). some (ap (λ (f : BthdFields). f.root) (sym same) ∙ e)) in
     let deep : v.depth ≡ h.depth = p.0 ∙ ap (λ (f : BthdFields). f.depth) same in
-    let opened : IsOpened img v.depth (root_pointer h) (from_key first) v.root = subst (λ (f : BthdFields). IsOpened img v.depth (root_pointer f) (from_key first) v.root) same p.1 in
+    let said : ℕ = told_under v.depth v.root in
+    let opened : IsOpened img v.depth (root_pointer h said) (from_key first) v.root = subst (λ (f : BthdFields). IsOpened img v.depth (root_pointer f said) (from_key first) v.root) same p.1 in
     let seen : eval img (node_visit end bytes v.depth h.root h.records) ≡ Ok u = ap (λ (n : ℕ). eval img (node_visit end bytes n h.root h.records)) deep ∙ visited in
-    let told = visit_told img end bytes v.depth (root_pointer h) (from_key first) v.root u opened shaped.shape seen in
+    let told = visit_told img end bytes v.depth (root_pointer h said) (from_key first) v.root u opened shaped.shape seen in
     record {
-      index = record { shallow = shaped.shallow; sound = told.sound total; rises = rises (records v) (ap are_rising told.keys ∙ told.rises); marked = shaped.marked };
+      index = record { shallow = shaped.shallow; sound = told.sound told.under; rises = rises (records v) (ap are_rising told.keys ∙ told.rises); marked = shaped.marked };
       keys = told.keys;
     }

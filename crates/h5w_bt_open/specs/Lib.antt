@@ -7,3 +7,4 @@ pub mod Opened
 pub mod Calls
 pub mod OpenedLaws
 pub mod Kept
+pub mod Needed

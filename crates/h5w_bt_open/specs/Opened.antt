@@ -1,5 +1,5 @@
 -- A tree that is opened: what its nodes are on the image, and which lookup is refused.
-use Rattle.std.specs.Prelude.{◌≡◌, ◌⊎◌, ℕ, zero, suc, ◌+◌, ◌<◌, ◌≤◌, ◌^◌, Bool, true, false, List, [], ◌∷◌, length, map, replicate, Option, Some, None, Result, Ok, Err}
+use Rattle.std.specs.Prelude.{◌≡◌, ◌⊎◌, ℕ, zero, suc, ◌+◌, ◌<◌, ◌≤◌, ◌^◌, Bool, true, false, List, [], ◌∷◌, length, map, Option, Some, None, Result, Ok, Err}
 use Rattle.std.specs.List.{All}
 use Rattle.h5w_model.specs.Numbers.{range, undefined}
 use Rattle.h5w_model.specs.Programs.{Prog, and_then, eval}
@@ -11,8 +11,9 @@ use Rattle.h5w_model.specs.declared.refusal.ReadError.{ReadError}
 use Rattle.h5w_model.specs.declared.refusal.ReadError.TheVariants.{Damaged}
 use Rattle.h5w_bt.specs.declared.records.Record.{Record}
 use Rattle.h5w_bt.specs.Parts.{record_of}
-use Rattle.h5w_bt_index.specs.Nodes.{Tree, total_of}
+use Rattle.h5w_bt_index.specs.Nodes.{Tree}
 use Rattle.h5w_bt_index.specs.Marks.{IsMarked, clean_of}
+use Rattle.h5w_bt_index.specs.Puts.{counted}
 use Rattle.h5w_bt_index.specs.Sound.{IsShape, IsShapedChild}
 use Rattle.h5w_bt_index.specs.Index.{Index, no_tree}
 use Rattle.h5w_bt_open.specs.declared.span.Span.{Span}
@@ -55,17 +56,11 @@ no_chunk = record { address = undefined; key = no_key }
 abbrev pub nowhere_below : ChildFields
 nowhere_below = record { address = undefined; records = 0; total = 0 }
 
--- A node that stands for one that was passed over: it says of itself what its parent says of that one, where it is, and how many records
--- it has; none of these has an address.
+-- A node that stands for one that was passed over, where that one is. It has two records of one key, itself or below it: so of no tree that
+-- has it do the keys rise. None of these has an address.
 abbrev pub passed_of : (d : ℕ) → ChildFields → Tree d
-passed_of zero c = record { records = replicate c.records no_chunk; place = c.address; clean = true }
-passed_of (suc d) c = record {
-  records = replicate c.records no_chunk;
-  children = replicate (c.records + 1) (passed_of d nowhere_below);
-  total = c.total;
-  place = c.address;
-  clean = true;
-}
+passed_of zero c = record { records = no_chunk ∷ no_chunk ∷ []; place = c.address; clean = true }
+passed_of (suc d) c = record { records = []; children = passed_of d nowhere_below ∷ []; total = c.total; place = c.address; clean = true }
 
 -- ---- Nodes
 
@@ -113,10 +108,15 @@ abbrev pub said : (d : ℕ) → ChildFields → ℕ
 said zero c = c.records
 said (suc d) c = c.total
 
+-- an inner node says as many records under it as the pointer to it
+abbrev pub SaysTotal : (d : ℕ) → ChildFields → Tree d → Type 0
+SaysTotal zero c t = Unit {0}
+SaysTotal (suc d) c t = t.total ≡ c.total
+
 -- it has the shape of a tree, says what the pointer to it says, and is clean with all that is under it
 pub record IsHeld (d : ℕ) (c : ChildFields) (t : Tree d) : Type 0 where
   pub shape : IsShape d (capacity_of d) t
-  pub total : total_of d t ≡ said d c
+  pub total : SaysTotal d c t
   pub clean : clean_of d t ≡ true
   pub marked : IsMarked d t
 
@@ -146,12 +146,27 @@ IsLeafIn read c needed t = IsLeaf read c t ⊎ (((f : BlockFault) × (read ≡ E
 abbrev pub from_key : Key → Option Span
 from_key first = Some (record { from = first; to = None })
 
-abbrev pub root_pointer : BthdFields → ChildFields
-root_pointer h = record { address = h.root; records = h.records; total = h.total }
+-- how many records are under a node, by what its children say
+abbrev pub told_under : (d : ℕ) → Tree d → ℕ
+told_under zero t = length t.records
+told_under (suc d) t = counted d t.records t.children
 
--- its header stands there, and names no root, or the root behind which is what stands, from this key on
+-- a node that says so itself
+abbrev pub counted_node : (d : ℕ) → Tree d → Tree d
+counted_node zero t = t
+counted_node (suc d) t = record t { total = counted d t.records t.children }
+
+-- a pointer with another number of records under the node
+abbrev pub with_total : ChildFields → ℕ → ChildFields
+with_total c total = record c { total = total }
+
+abbrev pub root_pointer : BthdFields → ℕ → ChildFields
+root_pointer h total = record { address = h.root; records = h.records; total = total }
+
+-- Its header stands there, and names no root, or the root behind which is what stands, from this key on. The root says as many records under
+-- it as its children do, and not as the header does: no reader looks at that number, nor does a check.
 pub record IsStanding (img : List ℕ) (header : ℕ) (first : Key) (v : Index) : Type 0 where
   pub fields : BthdFields
   pub read : bthd_at (range img header bthd_len) header ≡ Ok fields
   pub none : fields.root ≡ undefined → v ≡ no_tree
-  pub root : (fields.root ≡ undefined → ⊥) → (v.depth ≡ fields.depth) × IsOpened img v.depth (root_pointer fields) (from_key first) v.root
+  pub root : (fields.root ≡ undefined → ⊥) → (v.depth ≡ fields.depth) × IsOpened img v.depth (root_pointer fields (told_under v.depth v.root)) (from_key first) v.root

@@ -1,5 +1,5 @@
 -- A tree that was opened has the addresses that a reader finds on its image, and what a check of its nodes tells of it.
-use Rattle.std.specs.Prelude.{◌≡◌, ℕ, false, List, length, Ok}
+use Rattle.std.specs.Prelude.{◌≡◌, ℕ, false, List, Ok}
 use Rattle.h5w_model.specs.Numbers.{range, undefined}
 use Rattle.h5w_model.specs.Programs.{eval}
 use Rattle.h5w_model.specs.Trees.{BthdFields, bthd_at, bthd_len}
@@ -19,8 +19,7 @@ pub record IsWhole (v : Index) (u : Under) : Type 0 where
   pub index : IsIndex v
   pub keys : keys_of (records v) ≡ u.keys
 
--- So it is where a check of the nodes behind the header finds nothing, as in every valid file, and the header says how many records there
--- are, which no check tells.
+-- So it is where a check of the nodes behind the header finds nothing, as in every valid file.
 abbrev pub OpenedIsIndex : Type 0
 OpenedIsIndex = (img : List ℕ) (header end bytes : ℕ) (first : Key) (v : Index) (h : BthdFields) (u : Under) → IsStanding img header first v → IsShaped v → bthd_at (range img header bthd_len) header ≡ Ok h → (h.root ≡ undefined → ⊥)
-    → eval img (node_visit end bytes h.depth h.root h.records) ≡ Ok u → h.total ≡ length u.keys → IsWhole v u
+    → eval img (node_visit end bytes h.depth h.root h.records) ≡ Ok u → IsWhole v u

@@ -7,8 +7,7 @@ pub fn opened_finds()
     ensures { OpenedFinds }
 {}
 
-/// Where a check of its nodes finds nothing, and the header says how many records there are, the keys of a tree that was opened rise, its
-/// totals are true, and nothing was passed over.
+/// Where a check of its nodes finds nothing, the keys of a tree that was opened rise, its totals are true, and nothing was passed over.
 pub fn opened_is_index()
     ensures { OpenedIsIndex }
 {}

@@ -13,6 +13,6 @@ mod tree;
 mod walk;
 
 pub use error::OpenTreeError;
-pub use kept::{open_kept, ranges, records};
+pub use kept::{Kept, open_kept, ranges, records};
 pub use laws::{opened_finds, opened_is_index};
 pub use span::Span;

@@ -1,6 +1,6 @@
 //! The nodes of a tree that stands on an image, loaded one after another in the order in which a check visits them.
 
-ghost use Rattle.std.specs.Prelude.{◌≡◌, ◌≢◌, ℕ, suc, ◌+◌, ◌*◌, ◌<◌, ◌≤◌, ◌^◌, List, Err, IfErr, IfOk, IfSome, OnOk, false, true, length, map, replicate, is_some};
+ghost use Rattle.std.specs.Prelude.{◌≡◌, ◌≢◌, ℕ, suc, ◌+◌, ◌*◌, ◌<◌, ◌≤◌, ◌^◌, ◌∷◌, [], List, Err, IfErr, IfOk, IfSome, OnOk, false, true, length, map, is_some};
 ghost use Rattle.std.specs.List.{All};
 ghost use Rattle.h5w_model.specs.Causes.{Rose};
 ghost use Rattle.h5w_model.specs.Numbers.{range};
@@ -134,9 +134,9 @@ pub fn node_len(records: u64, depth: u64) -> u64
     10 + 24 * records + (records + 1) * pointer
 }
 
-/// So many records without an address.
-pub fn no_chunks(alloc: Global, records: u64) -> Result<Vec<Record>, OutOfMemory>
-    ensures { IfOk result (λ v. v.items ≡ replicate records no_chunk) }
+/// Two records of one key, without an address.
+pub fn no_chunks(alloc: Global) -> Result<Vec<Record>, OutOfMemory>
+    ensures { IfOk result (λ v. v.items ≡ no_chunk ∷ no_chunk ∷ []) }
 {
     let key = Key {
         i: UNDEFINED,
@@ -147,8 +147,6 @@ pub fn no_chunks(alloc: Global, records: u64) -> Result<Vec<Record>, OutOfMemory
         key,
     };
     let mut items = Vec::new(alloc);
-    for _ in 0..records {
-        items.push(none)?;
-    }
+    items.extend_from_slice(&[none, none])?;
     Ok(items)
 }

@@ -1,21 +1,22 @@
 //! The nodes of a tree, each loaded with all that is under it.
 
-ghost use Rattle.std.specs.Prelude.{◌≡◌, ◌≢◌, ℕ, suc, ◌+◌, ◌≤◌, ◌^◌, ◌++◌, ◌∷◌, [], List, OnOk, IfErr, IfOk, IfSome, true, false, length, map, drop, replicate, is_some};
+ghost use Rattle.std.specs.Prelude.{◌≡◌, ◌≢◌, ℕ, suc, ◌+◌, ◌≤◌, ◌^◌, ◌++◌, ◌∷◌, [], List, OnOk, IfErr, IfOk, IfSome, true, false, length, map, drop, is_some};
 ghost use Rattle.std.specs.List.{All};
 ghost use Rattle.h5w_model.specs.Trees.{btlf_at, btin_at, capacity_of};
 ghost use Rattle.h5w_looks.specs.Still.{IsStill};
 ghost use Rattle.h5w_bt.specs.Fields.{btin_of};
 ghost use Rattle.h5w_bt.specs.Parts.{child_of, record_of};
+ghost use Rattle.h5w_bt_index.specs.Sound.{IsShape};
 ghost use Rattle.h5w_bt_index.specs.Typed.{inner_of, leaf_of};
 ghost use Rattle.h5w_bt_open.specs.Calls.{IfDamaged, Loads};
 ghost use Rattle.h5w_bt_open.specs.Spans.{IsProper, Leads, high_of, low_of};
-ghost use Rattle.h5w_bt_open.specs.Opened.{AreWhole, EachOpened, IsChild, IsHeld, IsLeafIn, IsOpened, IsRead, IsRefused, looked_below, looked_up, nowhere_below, passed_of};
+ghost use Rattle.h5w_bt_open.specs.Opened.{AreWhole, EachOpened, IsChild, IsHeld, IsLeafIn, IsOpened, IsRead, IsRefused, counted_node, looked_below, looked_up, nowhere_below, passed_of};
 
 use crate::error::OpenTreeError;
 use crate::load::{bytes_at, leaf_in, no_chunks, node_in, node_len};
 use crate::span::{Span, high_of, low_behind, low_of, span_at};
 use h5w_bt::{Btin, Child, Record};
-use h5w_bt_index::{Inner, Leaf, Subtree};
+use h5w_bt_index::{Inner, Leaf, Subtree, count};
 use h5w_bytes::UNDEFINED;
 use h5w_image::PieceRead;
 use h5w_model::OutOfMemory;
@@ -23,9 +24,8 @@ use std::alloc::Global;
 
 /// A tree of one depth that can be read from an image.
 pub trait Load: Subtree {
-    /// What stands for a node that was passed over: it says of itself what the pointer to that one says.
+    /// What stands for a node that was passed over, where the pointer to that one says: two records of one key are under it.
     fn passed(alloc: Global, child: Child) -> Result<Self, OutOfMemory>
-        requires { child.records ≤ 84 }
         ensures { IfOk result (λ t. Self.tree t ≡ passed_of Self.depth (child_of child)) };
 
     /// The node to which a pointer leads, with all that is under it; these keys lead to it. What is refused, and to which none of them
@@ -42,6 +42,12 @@ pub trait Load: Subtree {
         ensures loads { Loads (I.view image.old) (I.view image.new) (λ img at f. IsRefused (looked_up img Self.depth (child_of child)) (Leads span) at f) result }
         ensures held { IfOk result (λ t. IsHeld Self.depth (child_of child) (Self.tree t)) }
         ensures opened { IfOk result (λ t. (img : List ℕ) → IsStill (I.view image.old) img → IsOpened img Self.depth (child_of child) span (Self.tree t)) };
+
+    /// The same tree, whose root says as many records under it as its children do.
+    fn counted(self) -> Self
+        requires shallow { Self.depth ≤ 3 }
+        requires shape { IsShape Self.depth (capacity_of Self.depth) (Self.tree self) }
+        ensures { Self.tree result ≡ counted_node Self.depth (Self.tree self) };
 }
 
 /// The leaf of these bytes, to which a pointer leads; what stands for it where it is refused, and not needed.
@@ -69,7 +75,7 @@ fn leaf_or_passed(
 
 impl Load for Leaf {
     fn passed(alloc: Global, child: Child) -> Result<Leaf, OutOfMemory> {
-        let records = no_chunks(alloc, child.records)?;
+        let records = no_chunks(alloc)?;
         Ok(Leaf {
             records,
             place: child.address,
@@ -88,23 +94,24 @@ impl Load for Leaf {
         let leaf = leaf_or_passed(alloc, &bytes, child, span.is_some())?;
         Ok(leaf)
     }
+
+    fn counted(self) -> Leaf {
+        self
+    }
 }
 
-/// What stands for the children of a node that was passed over, one more than its records.
-fn passed_below<C: Load>(alloc: Global, records: u64) -> Result<Vec<C>, OutOfMemory>
-    requires { records ≤ 84 }
-    ensures { IfOk result (λ v. map C.tree v.items ≡ replicate (records + 1) (passed_of C.depth nowhere_below)) }
+/// What stands for the one child of a node that was passed over.
+fn passed_below<C: Load>(alloc: Global) -> Result<Vec<C>, OutOfMemory>
+    ensures { IfOk result (λ v. map C.tree v.items ≡ passed_of C.depth nowhere_below ∷ []) }
 {
     let nowhere = Child {
         address: UNDEFINED,
         records: 0,
         total: 0,
     };
+    let child = C::passed(alloc, nowhere)?;
     let mut children = Vec::new(alloc);
-    for _ in 0..records + 1 {
-        let child = C::passed(alloc, nowhere)?;
-        children.push(child)?;
-    }
+    children.push(child)?;
     Ok(children)
 }
 
@@ -178,10 +185,9 @@ fn load_node<I: PieceRead, C: Load>(
 
 impl<C: Load> Load for Inner<C> {
     fn passed(alloc: Global, child: Child) -> Result<Inner<C>, OutOfMemory> {
-        let records = no_chunks(alloc, child.records)?;
-        let children = passed_below(alloc, child.records)?;
+        let children = passed_below(alloc)?;
         Ok(Inner {
-            records,
+            records: Vec::new(alloc),
             children,
             total: child.total,
             place: child.address,
@@ -210,5 +216,10 @@ impl<C: Load> Load for Inner<C> {
             Some(node) => load_node(alloc, image, child, node, span),
             None => Ok(Inner::passed(alloc, child)?),
         }
+    }
+
+    fn counted(mut self) -> Inner<C> {
+        self.total = count(self.records.len(), &self.children);
+        self
     }
 }

@@ -2,23 +2,23 @@
 
 ghost use Rattle.std.specs.Prelude.{◌≡◌, ◌≢◌, ℕ, ◌+◌, ◌<◌, ◌≤◌, ◌^◌, List, length, IfErr, IfOk, IfSome, Ok, Err, true};
 ghost use Rattle.h5w_model.specs.Numbers.{range, undefined};
-ghost use Rattle.h5w_model.specs.Trees.{bthd_at, bthd_len};
+ghost use Rattle.h5w_model.specs.Trees.{bthd_at, bthd_len, capacity_of};
 ghost use Rattle.h5w_looks.specs.Still.{IsStill};
 ghost use Rattle.h5w_bt.specs.Fields.{bthd_of};
-ghost use Rattle.h5w_bt.specs.Parts.{IsHeader};
+ghost use Rattle.h5w_bt.specs.Parts.{IsHeader, child_of};
 ghost use Rattle.h5w_bt_index.specs.Held.{header_place, view_of};
 ghost use Rattle.h5w_bt_index.specs.Index.{IsShaped, index_of};
 ghost use Rattle.h5w_bt_index.specs.Marks.{clean_of};
 ghost use Rattle.h5w_bt_open.specs.Calls.{IfDamaged, Loads};
 ghost use Rattle.h5w_bt_open.specs.Spans.{IsProper, Leads};
-ghost use Rattle.h5w_bt_open.specs.Opened.{IsOpened, IsRefused, IsStanding, from_key, looked_in, looked_up, root_pointer};
+ghost use Rattle.h5w_bt_open.specs.Opened.{IsHeld, IsOpened, IsRefused, IsStanding, from_key, looked_in, looked_up, root_pointer, told_under, with_total};
 
 use crate::error::OpenTreeError;
 use crate::load::{bytes_at, check_end};
 use crate::node::Load;
 use crate::span::Span;
 use h5w_bt::{Bthd, Child, Key};
-use h5w_bt_index::{Inner, Leaf, Root, TreeIndex};
+use h5w_bt_index::{Root, TreeIndex};
 use h5w_bytes::UNDEFINED;
 use h5w_image::PieceRead;
 use std::alloc::Global;
@@ -50,7 +50,7 @@ fn header_at<I: PieceRead>(alloc: Global, image: &mut I, at: u64) -> Result<Bthd
 }
 
 /// The keys from one on.
-fn keys_from(first: Key) -> Option<Span>
+pub fn keys_from(first: Key) -> Option<Span>
     ensures exact { result ≡ from_key first }
     ensures proper { IfSome result IsProper }
 {
@@ -58,6 +58,24 @@ fn keys_from(first: Key) -> Option<Span>
         from: first,
         to: None,
     })
+}
+
+/// The tree behind the pointer to a root, to which some keys lead. Its root says as many records under it as its children do.
+fn load_root<I: PieceRead, T: Load>(
+    alloc: Global,
+    image: &mut I,
+    child: Child,
+    span: Option<Span>,
+) -> Result<T, OpenTreeError>
+    requires shallow { T.depth ≤ 3 }
+    requires few { child.records ≤ capacity_of T.depth }
+    requires led { IfSome span IsProper }
+    ensures loads { Loads (I.view image.old) (I.view image.new) (λ img at f. IsRefused (looked_up img T.depth (child_of child)) (Leads span) at f) result }
+    ensures held { IfOk result (λ t. IsHeld T.depth (with_total (child_of child) (told_under T.depth (T.tree t))) (T.tree t)) }
+    ensures opened { IfOk result (λ t. (img : List ℕ) → IsStill (I.view image.old) img → IsOpened img T.depth (with_total (child_of child) (told_under T.depth (T.tree t))) span (T.tree t)) }
+{
+    let root = T::load(alloc, image, child, span)?;
+    Ok(root.counted())
 }
 
 /// The root that a header names, with all that is under it.
@@ -69,11 +87,11 @@ fn root_at<I: PieceRead>(
 ) -> Result<Root, OpenTreeError>
     requires form { IsHeader (bthd_of header) }
     requires led { IfSome span IsProper }
-    ensures loads { Loads (I.view image.old) (I.view image.new) (λ img a f. IsRefused (looked_up img header.depth (root_pointer (bthd_of header))) (Leads span) a f) result }
+    ensures loads { Loads (I.view image.old) (I.view image.new) (λ img a f. IsRefused (looked_up img header.depth (root_pointer (bthd_of header) header.total)) (Leads span) a f) result }
     ensures depth { IfOk result (λ r. (index_of r).depth ≡ header.depth) }
     ensures shape { IfOk result (λ r. IsShaped (index_of r)) }
     ensures clean { IfOk result (λ r. clean_of (index_of r).depth (index_of r).root ≡ true) }
-    ensures opened { IfOk result (λ r. (img : List ℕ) → IsStill (I.view image.old) img → IsOpened img (index_of r).depth (root_pointer (bthd_of header)) span (index_of r).root) }
+    ensures opened { IfOk result (λ r. (img : List ℕ) → IsStill (I.view image.old) img → IsOpened img (index_of r).depth (root_pointer (bthd_of header) (told_under (index_of r).depth (index_of r).root)) span (index_of r).root) }
 {
     let child = Child {
         address: header.root,
@@ -81,18 +99,11 @@ fn root_at<I: PieceRead>(
         total: header.total,
     };
     match header.depth {
-        0 => Ok(Root::Zero(Leaf::load(alloc, image, child, span)?)),
-        1 => Ok(Root::One(Inner::load(alloc, image, child, span)?)),
-        2 => Ok(Root::Two(Inner::load(alloc, image, child, span)?)),
-        _ => Ok(Root::Three(Inner::load(alloc, image, child, span)?)),
+        0 => Ok(Root::Zero(load_root(alloc, image, child, span)?)),
+        1 => Ok(Root::One(load_root(alloc, image, child, span)?)),
+        2 => Ok(Root::Two(load_root(alloc, image, child, span)?)),
+        _ => Ok(Root::Three(load_root(alloc, image, child, span)?)),
     }
-}
-
-/// A tree that was opened, and its header.
-#[derive(Drop)]
-pub struct OpenedTree {
-    pub tree: TreeIndex,
-    pub header: Bthd,
 }
 
 /// The tree whose header stands at `header`, for keys from `first` on: each node is read, by its own length, and what is refused is passed
@@ -104,26 +115,19 @@ pub fn open<I: PieceRead>(
     image: &mut I,
     header: u64,
     first: Key,
-) -> Result<OpenedTree, OpenTreeError>
+) -> Result<TreeIndex, OpenTreeError>
     ensures loads { Loads (I.view image.old) (I.view image.new) (λ img a f. IsRefused (looked_in img header) (Leads (from_key first)) a f) result }
-    ensures shape { IfOk result (λ o. IsShaped (view_of o.tree)) }
-    ensures clean { IfOk result (λ o. clean_of (view_of o.tree).depth (view_of o.tree).root ≡ true) }
-    ensures place { IfOk result (λ o. header_place o.tree ≡ header) }
-    ensures fits { IfOk result (λ o. header + 38 < 2 ^ 64) }
-    ensures opened { IfOk result (λ o. (img : List ℕ) → IsStill (I.view image.old) img → IsStanding img header first (view_of o.tree)) }
-    ensures read { IfOk result (λ o. (img : List ℕ) → IsStill (I.view image.old) img → bthd_at (range img header bthd_len) header ≡ Ok (bthd_of o.header)) }
+    ensures shape { IfOk result (λ t. IsShaped (view_of t)) }
+    ensures clean { IfOk result (λ t. clean_of (view_of t).depth (view_of t).root ≡ true) }
+    ensures place { IfOk result (λ t. header_place t ≡ header) }
+    ensures fits { IfOk result (λ t. header + 38 < 2 ^ 64) }
+    ensures opened { IfOk result (λ t. (img : List ℕ) → IsStill (I.view image.old) img → IsStanding img header first (view_of t)) }
 {
     let keys = keys_from(first);
     let found = header_at(alloc, image, header)?;
     if found.root == UNDEFINED {
-        return Ok(OpenedTree {
-            tree: TreeIndex::new(alloc, header),
-            header: found,
-        });
+        return Ok(TreeIndex::new(alloc, header));
     }
     let root = root_at(alloc, image, found, keys)?;
-    Ok(OpenedTree {
-        tree: TreeIndex::standing(alloc, header, root),
-        header: found,
-    })
+    Ok(TreeIndex::standing(alloc, header, root))
 }

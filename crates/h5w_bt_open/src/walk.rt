@@ -1,13 +1,16 @@
 //! What is gathered from all nodes of a tree, and tested at each.
 
-ghost use Rattle.std.specs.Prelude.{◌≡◌, ◌≤◌, ◌++◌, ◌↔◌, IsTrue, OnOk, flat_map, map};
+ghost use Rattle.std.specs.Prelude.{◌≡◌, ◌≤◌, ◌++◌, ◌↔◌, IsTrue, OnOk, map};
 ghost use Rattle.std.specs.List.{All};
 ghost use Rattle.h5w_model.specs.Trees.{capacity_of};
 ghost use Rattle.h5w_bt_index.specs.Nodes.{all_records, joined};
-ghost use Rattle.h5w_bt_index.specs.Sound.{IsShape, IsShapedChild, two_fifths};
-ghost use Rattle.h5w_bt_open.specs.Kept.{IsFullEnough, node_ranges, own_extent};
+ghost use Rattle.h5w_bt_index.specs.Sound.{IsShape, IsShapedChild, IsSound};
+ghost use Rattle.h5w_bt_open.specs.Needed.{needed_ranges, node_extent, of_each};
+ghost use Rattle.h5w_bt_open.specs.Spans.{high_of, low_of};
 
-use h5w_bt::{NODE, Record, capacity};
+use crate::load::node_len;
+use crate::span::{Span, high_of, low_behind, low_of, span_at};
+use h5w_bt::Record;
 use h5w_bt_index::{Inner, Leaf, Subtree, count};
 use h5w_bytes::UNDEFINED;
 use h5w_model::OutOfMemory;
@@ -19,27 +22,25 @@ pub trait Walk: Subtree {
     fn add_records(&self, out: &mut Vec<Record>) -> Result<(), OutOfMemory>
         ensures { OnOk result (out.new.items ≡ out.old.items ++ all_records Self.depth (Self.tree self.now)) };
 
-    /// Adds the ranges of its nodes: its own, then those of its children.
-    fn add_ranges(&self, out: &mut Vec<Extent>) -> Result<(), OutOfMemory>
-        ensures { OnOk result (out.new.items ≡ out.old.items ++ node_ranges Self.depth (Self.tree self.now)) };
-
-    /// Whether each inner node says how many records are under it, and each node but this one has two fifths of its capacity at least,
-    /// this one so many records.
-    fn is_full_enough(&self, least: u64) -> bool
+    /// Adds the ranges of its nodes to which one of these keys leads, each by its own length: its own, then those of its children.
+    fn add_ranges(&self, span: Option<Span>, out: &mut Vec<Extent>) -> Result<(), OutOfMemory>
         requires shallow { Self.depth ≤ 3 }
         requires shape { IsShape Self.depth (capacity_of Self.depth) (Self.tree self.now) }
-        ensures { IsTrue result ↔ IsFullEnough least Self.depth (Self.tree self.now) };
+        ensures { OnOk result (out.new.items ≡ out.old.items ++ needed_ranges Self.depth span (Self.tree self.now)) };
+
+    /// Whether each inner node says how many records are under it.
+    fn has_true_totals(&self) -> bool
+        requires shallow { Self.depth ≤ 3 }
+        requires shape { IsShape Self.depth (capacity_of Self.depth) (Self.tree self.now) }
+        ensures { IsTrue result ↔ IsSound Self.depth (capacity_of Self.depth) (Self.tree self.now) };
 }
 
-/// Adds the range of a node at a place, where it has one.
-fn add_range(place: u64, out: &mut Vec<Extent>) -> Result<(), OutOfMemory>
-    ensures { OnOk result (out.new.items ≡ out.old.items ++ own_extent place) }
+/// Adds the range of a node of so many bytes at a place, where it has one.
+fn add_range(place: u64, size: u64, out: &mut Vec<Extent>) -> Result<(), OutOfMemory>
+    ensures { OnOk result (out.new.items ≡ out.old.items ++ node_extent place size) }
 {
     if place != UNDEFINED {
-        out.push(Extent {
-            at: place,
-            size: NODE as u64,
-        })?;
+        out.push(Extent { at: place, size })?;
     }
     Ok(())
 }
@@ -62,25 +63,35 @@ fn add_joined<C: Walk>(
     Ok(())
 }
 
-/// Adds the ranges of the nodes under these children.
-fn add_ranges_below<C: Walk>(children: &[C], out: &mut Vec<Extent>) -> Result<(), OutOfMemory>
-    ensures { OnOk result (out.new.items ≡ out.old.items ++ flat_map (node_ranges C.depth) (map C.tree children.now)) }
+/// Adds the ranges of the nodes under these children, which are around these records; these keys lead to the node above.
+fn add_ranges_below<C: Walk>(
+    records: &[Record],
+    children: &[C],
+    span: Option<Span>,
+    out: &mut Vec<Extent>,
+) -> Result<(), OutOfMemory>
+    requires shallow { C.depth ≤ 3 }
+    requires shapes { All (IsShapedChild C.depth) (map C.tree children.now) }
+    ensures { OnOk result (out.new.items ≡ out.old.items ++ of_each (needed_ranges C.depth) (low_of span) (high_of span) records.now (map C.tree children.now)) }
 {
-    for child in children {
-        child.add_ranges(out)?;
+    let mut low = low_of(span);
+    let high = high_of(span);
+    for at in 0..children.len() {
+        let here = span_at(low, high, records, at);
+        children[at].add_ranges(here, out)?;
+        low = low_behind(low, records, at);
     }
     Ok(())
 }
 
-/// Whether each of these children, which are no root, is full enough.
-fn are_full_enough<C: Walk>(children: &[C]) -> bool
+/// Whether each inner node among these children and under them says how many records are under it.
+fn have_true_totals<C: Walk>(children: &[C]) -> bool
     requires shallow { C.depth ≤ 3 }
     requires shapes { All (IsShapedChild C.depth) (map C.tree children.now) }
-    ensures { IsTrue result ↔ All (IsFullEnough (two_fifths C.depth) C.depth) (map C.tree children.now) }
+    ensures { IsTrue result ↔ All (IsSound C.depth (capacity_of C.depth)) (map C.tree children.now) }
 {
-    let least = capacity(C::depth()) * 2 / 5;
     for child in children {
-        if !child.is_full_enough(least) {
+        if !child.has_true_totals() {
             return false;
         }
     }
@@ -93,12 +104,15 @@ impl Walk for Leaf {
         Ok(())
     }
 
-    fn add_ranges(&self, out: &mut Vec<Extent>) -> Result<(), OutOfMemory> {
-        add_range(self.place, out)
+    fn add_ranges(&self, span: Option<Span>, out: &mut Vec<Extent>) -> Result<(), OutOfMemory> {
+        if span.is_none() {
+            return Ok(());
+        }
+        add_range(self.place, 10 + 24 * self.records.len() as u64, out)
     }
 
-    fn is_full_enough(&self, least: u64) -> bool {
-        self.records.len() as u64 >= least
+    fn has_true_totals(&self) -> bool {
+        true
     }
 }
 
@@ -107,14 +121,16 @@ impl<C: Walk> Walk for Inner<C> {
         add_joined(&self.records, &self.children, out)
     }
 
-    fn add_ranges(&self, out: &mut Vec<Extent>) -> Result<(), OutOfMemory> {
-        add_range(self.place, out)?;
-        add_ranges_below(&self.children, out)
+    fn add_ranges(&self, span: Option<Span>, out: &mut Vec<Extent>) -> Result<(), OutOfMemory> {
+        if span.is_none() {
+            return Ok(());
+        }
+        let len = node_len(self.records.len() as u64, C::depth() + 1);
+        add_range(self.place, len, out)?;
+        add_ranges_below(&self.records, &self.children, span, out)
     }
 
-    fn is_full_enough(&self, least: u64) -> bool {
-        self.records.len() as u64 >= least
-            && self.total == count(self.records.len(), &self.children)
-            && are_full_enough(&self.children)
+    fn has_true_totals(&self) -> bool {
+        self.total == count(self.records.len(), &self.children) && have_true_totals(&self.children)
     }
 }

@@ -67,7 +67,7 @@ pub fn session_of(
 ) -> Result<Result<(u64, u64, Option<u8>), OpenError>, OutOfMemory> {
     let mut image = MemImage::of(alloc, bytes)?;
     let size = image.len();
-    let session = match WriterCore::open(alloc, &mut image, size, b"data", 1 << 20) {
+    let session = match h5w_session_open::open(alloc, &mut image, size, b"data", 1 << 20) {
         Ok(session) => session,
         Err(error) => return Ok(Err(error)),
     };
@@ -94,9 +94,15 @@ fn a_session_opens_a_tree_that_it_keeps(rt: HostRuntime) -> Result<(), Fail> {
     assert_eq!(rt; session_of(rt.alloc(), &grid)?, Ok((2, 2394, Some(5))));
     let no_root = unpacked(rt.alloc(), &TREE)?;
     assert_eq!(rt; session_of(rt.alloc(), &no_root)?, Ok((1, 338, Some(5))));
-    for packed in [&UNSORTED as &[u8], &WRONG_TOTAL] {
+    Ok(())
+}
+
+#[test]
+fn what_a_check_finds_of_a_tree_is_told_where_it_is_opened(rt: HostRuntime) -> Result<(), Fail> {
+    for (packed, kind) in [(&WRONG_TOTAL as &[u8], 15), (&UNSORTED, 16)] {
         let other = unpacked(rt.alloc(), packed)?;
-        assert_eq!(rt; session_of(rt.alloc(), &other)?, Err(OpenError::Index));
+        let told = OpenError::Finding { kind, at: 300 };
+        assert_eq!(rt; session_of(rt.alloc(), &other)?, Err(told));
     }
     Ok(())
 }

@@ -1,18 +1,7 @@
 //! The program `h5swmr`: it makes a source and a sink of the standard streams and a disk of the files, and runs what its words ask for.
 #![tactic(auto)]
 
-mod answer;
-mod disk;
-mod ending;
-mod make;
-mod plain;
-mod play;
-mod run;
-mod streams;
-
-use crate::disk::FileDisk;
-use crate::run::run;
-use crate::streams::{StdSink, StdSource};
+use h5w_commands::{FileDisk, StdSink, StdSource, run};
 use h5w_image::OpenGate;
 use h5w_running::Ended;
 use h5w_text::{Status, say};
@@ -49,6 +38,3 @@ fn main(rt: HostRuntime) -> ExitCode {
     };
     ExitCode::from(ended.number())
 }
-
-#[cfg(test)]
-mod tests;

@@ -253,7 +253,7 @@ full_steps w t full going idle none left =
 
 -- why a session plans nothing
 abbrev FlushCauses : Session → FlushError → Type 0
-FlushCauses s e = (flush_refusal s ≡ Some e) ⊎ (IsSpace e ⊎ ((e ≡ errors.Failed) ⊎ (e ≡ errors.OutOfMemory)))
+FlushCauses s e = (flush_refusal s ≡ Some e) ⊎ (IsSpace e ⊎ ((e ≡ errors.Deep) ⊎ ((e ≡ errors.Failed) ⊎ (e ≡ errors.OutOfMemory))))
 
 abbrev FlushRefused : Session → Result ℕ FlushError → Type 0
 FlushRefused s r = (e : FlushError) → flush_refusal s ≡ Some e → r ≡ Err e
@@ -333,11 +333,12 @@ memory_only s r refused is =
     no_refusal (flush_refusal s) r refused
     (λ e refusal answer. not_memory s.stopped (length s.pending) (refusal ∙ ap Some (error_is e errors.OutOfMemory (sym answer ∙ is))))
 
-first_cause : (s : Session) (e f : FlushError) → FlushCauses s e → e ≡ f → (IsSpace f → ⊥) → (f ≡ errors.Failed → ⊥) → (f ≡ errors.OutOfMemory → ⊥) → flush_refusal s ≡ Some f
-first_cause s e f (inl refusal) is space failed memory = refusal ∙ ap Some is
-first_cause s e f (inr (inl full)) is space failed memory = absurd (space (subst IsSpace is full))
-first_cause s e f (inr (inr (inl h))) is space failed memory = absurd (failed (sym is ∙ h))
-first_cause s e f (inr (inr (inr h))) is space failed memory = absurd (memory (sym is ∙ h))
+first_cause : (s : Session) (e f : FlushError) → FlushCauses s e → e ≡ f → (IsSpace f → ⊥) → (f ≡ errors.Deep → ⊥) → (f ≡ errors.Failed → ⊥) → (f ≡ errors.OutOfMemory → ⊥) → flush_refusal s ≡ Some f
+first_cause s e f (inl refusal) is space deep failed memory = refusal ∙ ap Some is
+first_cause s e f (inr (inl full)) is space deep failed memory = absurd (space (subst IsSpace is full))
+first_cause s e f (inr (inr (inl h))) is space deep failed memory = absurd (deep (sym is ∙ h))
+first_cause s e f (inr (inr (inr (inl h)))) is space deep failed memory = absurd (failed (sym is ∙ h))
+first_cause s e f (inr (inr (inr (inr h)))) is space deep failed memory = absurd (memory (sym is ∙ h))
 
 no_space_busy : (n : ℕ) → IsSpace (errors.Busy n) → ⊥
 no_space_busy n h = let clash = h.1 in cc
@@ -350,14 +351,14 @@ module _ (s t : Session) (m k : MemView) (attempts : ℕ) (readers : List (Optio
   pub busy_done : (n : ℕ) (e : FlushError) → FlushCauses s e → e ≡ errors.Busy n → Steps w events.Flush (replies.Busy n) (world_of t k attempts readers)
   busy_done n e causes is =
       let old = world_of s m attempts readers in
-      let busy = busy_is s.stopped (length s.pending) n (first_cause s e (errors.Busy n) causes is (λ h. no_space_busy n h) (λ h. cc) (λ h. cc)) in
+      let busy = busy_is s.stopped (length s.pending) n (first_cause s e (errors.Busy n) causes is (λ h. no_space_busy n h) (λ h. cc) (λ h. cc) (λ h. cc)) in
       subst (λ (x : WorldView). Steps x events.Flush (replies.Busy n) (world_of t k attempts readers)) view
       (subst (λ (x : WorldView). Steps old events.Flush (replies.Busy n) x) (sym (replaced s t m k attempts readers same)) (busy_steps old t n busy.0 busy.1.0 busy.1.1 left))
 
   pub stopped_done : (e : FlushError) → FlushCauses s e → e ≡ errors.Stopped → Steps w events.Flush replies.Stopped (world_of t k attempts readers)
   stopped_done e causes is =
       let old = world_of s m attempts readers in
-      let stopped = stopped_is s.stopped (length s.pending) (first_cause s e errors.Stopped causes is (λ h. no_space_stopped h) (λ h. cc) (λ h. cc)) in
+      let stopped = stopped_is s.stopped (length s.pending) (first_cause s e errors.Stopped causes is (λ h. no_space_stopped h) (λ h. cc) (λ h. cc) (λ h. cc)) in
       subst (λ (x : WorldView). Steps x events.Flush replies.Stopped (world_of t k attempts readers)) view
       (subst (λ (x : WorldView). Steps old events.Flush replies.Stopped x) (sym (replaced s t m k attempts readers same)) (stopped_steps old t stopped left))
 

@@ -203,6 +203,7 @@ impl World {
                 size,
                 limit,
             }),
+            Err(FlushError::Deep) => unreachable!(),
             Err(FlushError::Failed) => unreachable!(),
             Err(FlushError::OutOfMemory) => Err(OutOfMemory),
         }

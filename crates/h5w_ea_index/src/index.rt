@@ -5,7 +5,7 @@ ghost use Rattle.h5w_cache.specs.Plans.{HasNoRoom, IfFull};
 ghost use Rattle.h5w_cache.specs.Starts.{IsBegun, copy_pieces, in_place_pieces};
 ghost use Rattle.h5w_cache.specs.Stores.{is_changed, times};
 ghost use Rattle.h5w_array_laws.specs.Parts.{header, holder, index_block, number_of};
-ghost use Rattle.h5w_array_laws.specs.ArrayStores.{IsArray, IsCreated, IsNumbered, bytes_at_part, header_place, map_of};
+ghost use Rattle.h5w_array_laws.specs.ArrayStores.{IsArray, IsCreated, IsNumbered, bytes_at_part, header_place, map_of, place_at_part};
 ghost use Rattle.h5w_array_laws.specs.ArrayImages.{StartsArray};
 ghost use Rattle.h5w_array_laws.specs.ArrayPlans.{IsArrayPlan};
 ghost use Rattle.h5w_looks.specs.Still.{IsStill};
@@ -106,12 +106,20 @@ impl ArrayIndex {
         bytes(&self.cache, INDEX_BLOCK)
     }
 
-    /// The ranges of its blocks that have places: the header's, the index block's, and then super block by super block that of the
-    /// secondary block before those of its data blocks. Of an array that was opened they are what was read of the image, in that order.
-    pub fn ranges(&self) -> Result<Vec<Extent>, OutOfMemory>
-        ensures exact { IfOk result (λ r. r.items ≡ block_ranges self.now) }
+    /// Whether the place of its index block is 0, as of an array whose index block is not made yet.
+    pub fn has_no_block(&self) -> bool
+        ensures { result ≡ (place_at_part self.now index_block == 0) }
     {
-        ranges(self.alloc, &self.cache)
+        self.cache.place(INDEX_BLOCK) == 0
+    }
+
+    /// The ranges of its blocks on the way to chunk numbers from `first` on, of those that have places: the header's, the index block's,
+    /// and then super block by super block that of the secondary block before those of its data blocks. Of an array that was opened they
+    /// are what was read of the image, in that order, without the blocks that lead to lesser numbers alone.
+    pub fn ranges(&self, first: u64) -> Result<Vec<Extent>, OutOfMemory>
+        ensures exact { IfOk result (λ r. r.items ≡ block_ranges first self.now) }
+    {
+        ranges(self.alloc, &self.cache, first)
     }
 
     /// The address of chunk number `i`. None exactly where it has none.

@@ -4,9 +4,9 @@ ghost use Rattle.std.specs.Prelude.{◌≡◌, ◌≤◌, ◌++◌, ℕ, IfOk, O
 ghost use Rattle.h5w_cache.specs.Stores.{place_of};
 ghost use Rattle.h5w_array_laws.specs.Parts.{IsPart};
 ghost use Rattle.h5w_ea_index.specs.Loading.{copied_part};
-ghost use Rattle.h5w_ea_index.specs.Ranges.{block_ranges, range_at, range_of_part, ranges_of_data, ranges_of_super_block};
+ghost use Rattle.h5w_ea_index.specs.Ranges.{block_ranges, range_at, range_from, ranges_of_data, ranges_of_super_block};
 
-use crate::copied::{Copied, len, number};
+use crate::copied::{Copied, len, number, past};
 use crate::load::{FIRST_SECONDARY, SUPER_BLOCKS};
 use crate::slot::{HEADER, INDEX_BLOCK};
 use h5w_bytes::UNDEFINED;
@@ -33,47 +33,65 @@ fn put_range(
     Ok(())
 }
 
-/// Puts the range of a data block or a secondary block behind others, if it has a place.
-fn put_part(cache: &Cache, part: Copied, ranges: &mut Vec<Extent>) -> Result<(), OutOfMemory>
+/// Puts the range of a data block or a secondary block behind others, if it has a place and leads to a chunk number from `first` on.
+fn put_part(
+    cache: &Cache,
+    part: Copied,
+    first: u64,
+    ranges: &mut Vec<Extent>,
+) -> Result<(), OutOfMemory>
     requires { IsPart (copied_part part) }
-    ensures { OnOk result (ranges.new.items ≡ ranges.old.items ++ range_of_part cache.now (copied_part part)) }
+    ensures { OnOk result (ranges.new.items ≡ ranges.old.items ++ range_from first cache.now (copied_part part)) }
 {
+    if first >= past(part) {
+        return Ok(());
+    }
     put_range(cache, number(part), len(part), ranges)
 }
 
-/// Puts the ranges of the data blocks of a super block behind others.
-fn put_data(cache: &Cache, sblock: u32, ranges: &mut Vec<Extent>) -> Result<(), OutOfMemory>
+/// Puts the ranges of the data blocks of a super block behind others, of those that lead to a chunk number from `first` on.
+fn put_data(
+    cache: &Cache,
+    sblock: u32,
+    first: u64,
+    ranges: &mut Vec<Extent>,
+) -> Result<(), OutOfMemory>
     requires { sblock ≤ 12 }
-    ensures { OnOk result (ranges.new.items ≡ ranges.old.items ++ ranges_of_data cache.now sblock) }
+    ensures { OnOk result (ranges.new.items ≡ ranges.old.items ++ ranges_of_data first cache.now sblock) }
 {
     let (blocks, _, _) = super_block(sblock);
     let blocks = blocks as u32;
     for block in 0..blocks {
-        put_part(cache, Copied::Data { sblock, block }, ranges)?;
+        put_part(cache, Copied::Data { sblock, block }, first, ranges)?;
     }
     Ok(())
 }
 
-/// Puts the ranges of the blocks of a super block behind others.
-fn put_super_block(cache: &Cache, sblock: u32, ranges: &mut Vec<Extent>) -> Result<(), OutOfMemory>
+/// Puts the ranges of the blocks of a super block behind others, of those that lead to a chunk number from `first` on.
+fn put_super_block(
+    cache: &Cache,
+    sblock: u32,
+    first: u64,
+    ranges: &mut Vec<Extent>,
+) -> Result<(), OutOfMemory>
     requires { sblock ≤ 12 }
-    ensures { OnOk result (ranges.new.items ≡ ranges.old.items ++ ranges_of_super_block cache.now sblock) }
+    ensures { OnOk result (ranges.new.items ≡ ranges.old.items ++ ranges_of_super_block first cache.now sblock) }
 {
     if sblock >= FIRST_SECONDARY {
-        put_part(cache, Copied::Secondary { sblock }, ranges)?;
+        put_part(cache, Copied::Secondary { sblock }, first, ranges)?;
     }
-    put_data(cache, sblock, ranges)
+    put_data(cache, sblock, first, ranges)
 }
 
-/// The ranges of the blocks that have places.
-pub fn ranges(alloc: Global, cache: &Cache) -> Result<Vec<Extent>, OutOfMemory>
-    ensures { IfOk result (λ r. r.items ≡ block_ranges cache.now) }
+/// The ranges of the blocks that have places: of header and index block, and of those that lead to a chunk number from `first` on.
+pub fn ranges(alloc: Global, cache: &Cache, first: u64) -> Result<Vec<Extent>, OutOfMemory>
+    ensures { IfOk result (λ r. r.items ≡ block_ranges first cache.now) }
 {
     let mut ranges = Vec::new(alloc);
     put_range(cache, HEADER, Eahd::LEN, &mut ranges)?;
     put_range(cache, INDEX_BLOCK, Eaib::LEN, &mut ranges)?;
     for sblock in 0..SUPER_BLOCKS {
-        put_super_block(cache, sblock, &mut ranges)?;
+        put_super_block(cache, sblock, first, &mut ranges)?;
     }
     Ok(ranges)
 }

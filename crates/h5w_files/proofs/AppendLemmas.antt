@@ -16,7 +16,7 @@ use Rattle.h5w_opening.specs.declared.error.OpenError.{OpenError}
 use Rattle.h5w_opening.specs.declared.error.OpenError.TheVariants.{Cut, Flags, OutOfMemory, Read}
 use Rattle.h5w_opening.proofs.OpeningLemmas.{behind_super, opened_by, opening_gives}
 use Rattle.h5w_image.specs.View.{DiskView}
-use Rattle.h5w_session.specs.OpenAnswers.{writing_flags}
+use Rattle.h5w_session_open.specs.OpenAnswers.{writing_flags}
 use Rattle.h5w_session.specs.Sessions.{Session, cleared, rows_of}
 use Rattle.h5w_text.specs.Errors.{error_text}
 use Rattle.h5w_text.specs.Says.{Said, SaidUnlessMemory}

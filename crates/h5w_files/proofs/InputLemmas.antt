@@ -110,9 +110,9 @@ close_cause name first t numbers u (errors.Cut end size) all stored c = absurd c
 close_cause name first t numbers u errors.Layout all stored c = absurd c
 close_cause name first t numbers u (errors.ChunkBytes bytes) all stored c = absurd c
 close_cause name first t numbers u errors.NoColumns all stored c = absurd c
-close_cause name first t numbers u errors.NoIndex all stored c = absurd c
 close_cause name first t numbers u (errors.FullChunks chunks limit) all stored c = absurd c
 close_cause name first t numbers u (errors.FullSpace at size limit) all stored c = record { numbers = numbers; batches = refl; read = inr all; session = t; before = _; stored = stored; full_for = c.0; bounds = c.1 }
+close_cause name first t numbers u errors.Deep all stored c = record { numbers = numbers; batches = refl; read = inr all; session = t; before = _; stored = stored; deep_for = c }
 close_cause name first t numbers u (errors.Line n) all stored c = absurd c
 close_cause name first t numbers u (errors.Range n i x) all stored c = absurd c
 close_cause name first t numbers u (errors.Input limit) all stored c = absurd c
@@ -149,9 +149,9 @@ line_cause y name first t numbers u line number (errors.Cut end size) reads coun
 line_cause y name first t numbers u line number errors.Layout reads count stored c = absurd c
 line_cause y name first t numbers u line number (errors.ChunkBytes bytes) reads count stored c = absurd c
 line_cause y name first t numbers u line number errors.NoColumns reads count stored c = absurd c
-line_cause y name first t numbers u line number errors.NoIndex reads count stored c = absurd c
 line_cause y name first t numbers u line number (errors.FullChunks chunks limit) reads count stored c = record { number = number; values = c.0; at = record { line = line; at = record { numbers = numbers; reads = reads; number = count; batches = refl }; spelled = subst (λ k. number_line_of k line ≡ Some c.0) (same_columns first t (after_lines no_batches numbers) stored.taken) c.1 }; session = t; taken = stored.taken; refused = c.2 }
 line_cause y name first t numbers u line number (errors.FullSpace at size limit) reads count stored c = record { numbers = numbers; batches = refl; read = inl (line, reads, subst (λ k. number_line_of k line ≡ Some []) (same_columns first t (after_lines no_batches numbers) stored.taken) c.0); session = t; before = _; stored = stored; full_for = c.1.0; bounds = c.1.1 }
+line_cause y name first t numbers u line number errors.Deep reads count stored c = record { numbers = numbers; batches = refl; read = inl (line, reads, subst (λ k. number_line_of k line ≡ Some []) (same_columns first t (after_lines no_batches numbers) stored.taken) c.0); session = t; before = _; stored = stored; deep_for = c.1 }
 line_cause y name first t numbers u line number (errors.Line n) reads count stored c = (line, record { numbers = numbers; reads = reads; number = c.0 ∙ count; batches = refl }, subst (λ k. number_line_of k line ≡ None) (same_columns first t (after_lines no_batches numbers) stored.taken) c.1)
 line_cause y name first t numbers u line number (errors.Range n i x) reads count stored c = (c.0, record { line = line; at = record { numbers = numbers; reads = reads; number = c.2.0 ∙ count; batches = refl }; spelled = subst (λ k. number_line_of k line ≡ Some c.0) (same_columns first t (after_lines no_batches numbers) stored.taken) c.1 }, subst (λ (d : Described). first_outside d.int_type 0 c.0 ≡ Some (i, x)) stored.taken.dataset c.2.1)
 line_cause y name first t numbers u line number (errors.Input limit) reads count stored c = absurd c

@@ -10,7 +10,7 @@ use Rattle.h5w_looks.specs.Still.{IsStill}
 use Rattle.h5w_opening.specs.Errors.{IsOpenKind}
 use Rattle.h5w_opening.specs.declared.error.OpenError.{OpenError}
 use Rattle.h5w_opening.specs.declared.error.OpenError.TheVariants as opens
-use Rattle.h5w_session.specs.OpenAnswers.{HasBegun, IsNotOpened, IsOpenAnswer}
+use Rattle.h5w_session_open.specs.OpenAnswers.{HasBegun, IsNotOpened, IsOpenAnswer}
 use Rattle.h5w_session.specs.Openings.{opened_log}
 use Rattle.h5w_session.specs.Sessions.{Session}
 use Rattle.h5w_session.specs.Stands.{Stands}
@@ -52,7 +52,7 @@ refusal_case img size limit at (opens.Cut end n) h = inr (opens.Cut end n, refl,
 refusal_case img size limit at opens.Layout h = inr (opens.Layout, refl, h)
 refusal_case img size limit at (opens.ChunkBytes bytes most) h = inr (opens.ChunkBytes bytes most, refl, h)
 refusal_case img size limit at opens.NoColumns h = inr (opens.NoColumns, refl, h)
-refusal_case img size limit at opens.Index h = inr (opens.Index, refl, h)
+refusal_case img size limit at (opens.Finding kind place) h = inr (opens.Finding kind place, refl, h)
 refusal_case img size limit at opens.Failed h = inl (inl refl)
 refusal_case img size limit at opens.OutOfMemory h = inl (inr refl)
 
@@ -63,7 +63,7 @@ disk_failed (opens.Cut end n) h = absurd (cc)
 disk_failed opens.Layout h = absurd (cc)
 disk_failed (opens.ChunkBytes bytes most) h = absurd (cc)
 disk_failed opens.NoColumns h = absurd (cc)
-disk_failed opens.Index h = absurd (cc)
+disk_failed (opens.Finding kind place) h = absurd (cc)
 disk_failed opens.Failed h = refl
 disk_failed opens.OutOfMemory h = absurd (cc)
 

@@ -81,7 +81,7 @@ too_many s values c l (inr (inl e)) = absurd (cc)
 too_many s values c l (inr (inr e)) = absurd (cc)
 
 abbrev FlushCause : Session → FlushError → Type 0
-FlushCause s e = (flush_refusal s ≡ Some e) ⊎ (IsSpace e ⊎ ((e ≡ flush_errors.Failed) ⊎ (e ≡ flush_errors.OutOfMemory)))
+FlushCause s e = (flush_refusal s ≡ Some e) ⊎ (IsSpace e ⊎ ((e ≡ flush_errors.Deep) ⊎ ((e ≡ flush_errors.Failed) ⊎ (e ≡ flush_errors.OutOfMemory))))
 
 not_refused : (s : Session) (e : FlushError) → s.stopped ≡ false → s.pending ≡ [] → flush_refusal s ≡ Some e → ⊥
 not_refused s e running idle r = let none : ◌≡◌ {A = Option FlushError} None (Some e) = refusal_cases s.stopped (length s.pending) flush_errors.Stopped e (λ n. flush_errors.Busy n) None running (ap length idle) r in cc
@@ -90,13 +90,15 @@ pub never_stopped_flush : {v : DiskView} (name : List ℕ) (s : Session) → IsR
 never_stopped_flush name s r (inl c) = not_refused s flush_errors.Stopped r.running r.idle c
 never_stopped_flush name s r (inr (inl f)) = let e = f.1 in cc
 never_stopped_flush name s r (inr (inr (inl e))) = cc
-never_stopped_flush name s r (inr (inr (inr e))) = cc
+never_stopped_flush name s r (inr (inr (inr (inl e)))) = cc
+never_stopped_flush name s r (inr (inr (inr (inr e)))) = cc
 
 pub never_busy_flush : {v : DiskView} (name : List ℕ) (s : Session) (n : ℕ) → IsReady name s v → FlushCause s (flush_errors.Busy n) → ⊥
 never_busy_flush name s n r (inl c) = not_refused s (flush_errors.Busy n) r.running r.idle c
 never_busy_flush name s n r (inr (inl f)) = let e = f.1 in cc
 never_busy_flush name s n r (inr (inr (inl e))) = cc
-never_busy_flush name s n r (inr (inr (inr e))) = cc
+never_busy_flush name s n r (inr (inr (inr (inl e)))) = cc
+never_busy_flush name s n r (inr (inr (inr (inr e)))) = cc
 
 -- ---- A session that can go on
 
@@ -256,9 +258,9 @@ line_closes {v} {k} w l n name s t line number r spelled steps = λ first b u m 
     refused errors.Layout c = absurd c
     refused (errors.ChunkBytes bytes) c = absurd c
     refused errors.NoColumns c = absurd c
-    refused errors.NoIndex c = absurd c
     refused (errors.FullChunks chunks limit) c = absurd c
     refused (errors.FullSpace at size limit) c = (spelled, c)
+    refused errors.Deep c = (spelled, c)
     refused (errors.Line n) c = absurd c
     refused (errors.Range n i x) c = absurd c
     refused (errors.Input limit) c = absurd c
@@ -301,9 +303,9 @@ line_appends {v} {w} k faults name s t line number n values (Err (endings.Refuse
     refused errors.Layout c = absurd c
     refused (errors.ChunkBytes bytes) c = absurd c
     refused errors.NoColumns c = absurd c
-    refused errors.NoIndex c = absurd c
     refused (errors.FullChunks chunks limit) c = (values, spelled, c)
     refused (errors.FullSpace at size limit) c = absurd c
+    refused errors.Deep c = absurd c
     refused (errors.Line n) c = absurd c
     refused (errors.Range n i x) c = (values, spelled, c)
     refused (errors.Input limit) c = absurd c

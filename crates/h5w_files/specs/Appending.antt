@@ -6,7 +6,7 @@ use Rattle.h5w_model.specs.Logs.{Log, and_now, appends, plans}
 use Rattle.h5w_image.specs.View.{DiskView, IsThere, file}
 use Rattle.h5w_session.specs.Flushes.{SameBut}
 use Rattle.h5w_session.specs.Loads.{NoPlace}
-use Rattle.h5w_session.specs.Refusals.{IsFullFor, append_refusal}
+use Rattle.h5w_session.specs.Refusals.{IsDeepFor, IsFullFor, append_refusal}
 use Rattle.h5w_session.specs.Sessions.{Session, TakesRows, rows_of, stopped_of, with_values}
 use Rattle.h5w_session.specs.Stands.{Stands}
 use Rattle.h5w_session.specs.declared.refusal.AppendError.TheVariants as append_errors
@@ -69,6 +69,7 @@ AppendsBy line values s t v w (Err endings.Sink) = ⊥
 abbrev pub FlushRefused : Session → ErrorLine → Type 0
 FlushRefused s (errors.FullSpace at size limit) =
     IsFullFor s (record { at = at; size = size; limit = limit }) × ((log : Log) → Stands s log → NoPlace s log (record { at = at; size = size; limit = limit }))
+FlushRefused s errors.Deep = IsDeepFor s
 FlushRefused s errors.Memory = Unit {0}
 FlushRefused s e = ⊥
 
@@ -171,6 +172,7 @@ LineRefused line number s (errors.Line n) = (n ≡ number) × (number_line_of (c
 LineRefused line number s (errors.Range n i x) = (values : List ℤ) × (number_line_of (columns_of s) line ≡ Some values) × ValuesRefused number s values (errors.Range n i x)
 LineRefused line number s (errors.FullChunks chunks limit) = (values : List ℤ) × (number_line_of (columns_of s) line ≡ Some values) × ValuesRefused number s values (errors.FullChunks chunks limit)
 LineRefused line number s (errors.FullSpace at size limit) = (number_line_of (columns_of s) line ≡ Some []) × FlushRefused s (errors.FullSpace at size limit)
+LineRefused line number s errors.Deep = (number_line_of (columns_of s) line ≡ Some []) × FlushRefused s errors.Deep
 LineRefused line number s errors.Memory = Unit {0}
 LineRefused line number s e = ⊥
 

@@ -17,9 +17,9 @@ use Rattle.h5w_opening.specs.declared.error.OpenError.TheVariants as opens
 use Rattle.h5w_image.specs.View.{DiskView, IsThere, file}
 use Rattle.h5w_space.specs.declared.Full.{Full}
 use Rattle.h5w_session.specs.Loads.{NoPlace}
-use Rattle.h5w_session.specs.OpenAnswers.{HasBegun, IsNotOpened, IsOpenedOver}
+use Rattle.h5w_session_open.specs.OpenAnswers.{HasBegun, IsNotOpened, IsOpenedOver}
 use Rattle.h5w_session.specs.Openings.{opened_log}
-use Rattle.h5w_session.specs.Refusals.{IsFullFor, append_refusal}
+use Rattle.h5w_session.specs.Refusals.{IsDeepFor, IsFullFor, append_refusal}
 use Rattle.h5w_session.specs.Sessions.{IsNamed, Session, cleared}
 use Rattle.h5w_session.specs.Stands.{Stands}
 use Rattle.h5w_session.specs.declared.refusal.AppendError.TheVariants as appends
@@ -168,13 +168,24 @@ pub record NeedsPlace (name : List ℕ) (first : Session) (s t : SourceView) (b 
   pub full_for : IsFullFor session full
   pub bounds : (log : Log) → Stands session log → NoPlace session log full
 
+-- the file's tree has no room for a chunk of that batch
+pub record NeedsDepth (name : List ℕ) (first : Session) (s t : SourceView) (b : Batches) (v : DiskView) : Type 0 where
+  pub numbers : List (List ℤ)
+  pub batches : b ≡ after_lines no_batches numbers
+  pub read : EmptyLine (columns_of first) s numbers ⊎ ReadsAll (columns_of first) s t numbers
+  pub session : Session
+  pub before : DiskView
+  pub stored : Stored name first session b v before
+  pub deep_for : IsDeepFor session
+
 -- by the error, once these batches were closed: the first line outside the grammar, the first value outside the type, too many
--- chunks, no place; too many bytes, a source that failed; or want of memory
+-- chunks, no place, no room in the tree; too many bytes, a source that failed; or want of memory
 abbrev pub InputRefuses : List ℕ → Session → SourceView → SourceView → Batches → DiskView → ErrorLine → Type 0
 InputRefuses name first s t b v (errors.Line n) = (line : List ℕ) × AtLine (columns_of first) s b n line × (number_line_of (columns_of first) line ≡ None)
 InputRefuses name first s t b v (errors.Range n i x) = (values : List ℤ) × HasValues (columns_of first) s b n values × (first_outside first.dataset.int_type 0 values ≡ Some (i, x))
 InputRefuses name first s t b v (errors.FullChunks chunks limit) = NeedsChunks first s b chunks limit
 InputRefuses name first s t b v (errors.FullSpace at size limit) = NeedsPlace name first s t b v (record { at = at; size = size; limit = limit })
+InputRefuses name first s t b v errors.Deep = NeedsDepth name first s t b v
 InputRefuses name first s t b v (errors.Input limit) = (limit ≡ input_limit) × (numbers : List (List ℤ)) × ReadsTooMuch (columns_of first) s numbers × (b ≡ after_lines no_batches numbers)
 InputRefuses name first s t b v errors.Source = Rose s.faults t.faults × (numbers : List (List ℤ)) × ReadsWhole (columns_of first) s t numbers × (b ≡ after_lines no_batches numbers)
 InputRefuses name first s t b v errors.Memory = Unit {0}
@@ -190,7 +201,7 @@ open_line (opens.Cut end size) = errors.Cut end size
 open_line opens.Layout = errors.Layout
 open_line (opens.ChunkBytes bytes limit) = errors.ChunkBytes bytes
 open_line opens.NoColumns = errors.NoColumns
-open_line opens.Index = errors.NoIndex
+open_line (opens.Finding kind at) = errors.Finding kind at
 open_line opens.Failed = errors.Disk
 open_line opens.OutOfMemory = errors.Memory
 

@@ -17,7 +17,8 @@ use crate::putting::close;
 use h5w_batches::INPUT_LIMIT;
 use h5w_image::Disk;
 use h5w_model::ReadError;
-use h5w_session::{OpenError, WriterCore};
+use h5w_session::WriterCore;
+use h5w_session_open::OpenError;
 use h5w_text::{ErrorLine, Intake, Lines, Next, Sink, Source, Status, say, tell, write_numbers};
 use std::alloc::Global;
 
@@ -177,7 +178,7 @@ fn open_line(error: OpenError) -> ErrorLine
         OpenError::Layout => ErrorLine::Layout,
         OpenError::ChunkBytes { bytes, limit: _ } => ErrorLine::ChunkBytes(bytes),
         OpenError::NoColumns => ErrorLine::NoColumns,
-        OpenError::Index => ErrorLine::NoIndex,
+        OpenError::Finding { kind, at } => ErrorLine::Finding { kind, at },
         OpenError::Failed => ErrorLine::Disk,
         OpenError::OutOfMemory => ErrorLine::Memory,
     }
@@ -201,7 +202,7 @@ fn look_open<D: Disk>(
     ensures opens { LooksOpen file.now name.now limit (D.view disk.old) (D.view disk.new) result }
 {
     let mut image = DiskImage { disk, name: file };
-    match WriterCore::open(alloc, &mut image, size, name, limit) {
+    match h5w_session_open::open(alloc, &mut image, size, name, limit) {
         Ok(session) => Ok(session),
         Err(error) => Err(open_line(error)),
     }

@@ -100,6 +100,7 @@ fn flush<D: Disk>(session: &mut WriterCore, file: &str, disk: &mut D) -> Result<
             size: full.size,
             limit: full.limit,
         })),
+        Err(FlushError::Deep) => Err(Ending::Refused(ErrorLine::Deep)),
         Err(FlushError::OutOfMemory) => Err(Ending::Refused(ErrorLine::Memory)),
         Err(FlushError::Failed) => {
             session.failed();

@@ -205,7 +205,7 @@ named_chunks : eval (copied (image_now created_twos) first_parts) (behind_visit 
 unfolding headers.first_of numbers_in mix_line mixed finish_line finished added rounds sum_of prefix_at msgs_in header_at messages_at prefix_bytes data_in_header rows_in_header index_in_header rows_changed header_view apply first_pieces pieces value_at links_at find_link shape_tests shape_fields shape_at int_type_tests int_type_fields int_type_at fill_tests fill_fields fill_at fill_value_bytes layout_fields layout_at num le halvings width_of
 named_chunks = refl
 
-in_turn : EachSays with_none.dataset with_none.fixed first_parts.blocks first_parts.fixed (ended (image_now created_twos) first_parts) first_parts.in_place
+in_turn : EachSays with_none.dataset with_none.fixed (in_array (eaib_fields (range file_of_three 260 298))) first_parts.fixed (ended (image_now created_twos) first_parts) first_parts.in_place
 unfolding headers.first_of numbers_in mix_line mixed finish_line finished added rounds sum_of prefix_at msgs_in header_at messages_at prefix_bytes data_in_header rows_in_header index_in_header rows_changed header_view apply first_pieces pieces value_at links_at find_link shape_tests shape_fields shape_at int_type_tests int_type_fields int_type_at fill_tests fill_fields fill_at fill_value_bytes layout_fields layout_at num le halvings width_of
 in_turn = (
   record { used = block_at 260 298; among = inr (inl refl); from = lit≤ tt; to = lit≤ tt },
@@ -215,6 +215,7 @@ in_turn = (
 
 new_index : IndexFlushed (image_now created_twos) with_none no_address first_parts
 new_index = record {
+  blocks = in_array (eaib_fields (range file_of_three 260 298));
   behind = named_chunks;
   answers = λ key n.
       slot_here (copied (image_now created_twos) first_parts) (eaib_fields (range file_of_three 260 298)) key.i still_no_first still_no_second (ap length new_slots)

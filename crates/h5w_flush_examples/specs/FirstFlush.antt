@@ -1,9 +1,7 @@
 -- The first flush of a created file, as its parts: three rows in two new chunks, which an array's index block names. Its pieces are those
 -- of a log from outside.
 use Rattle.std.specs.Prelude.{◌≡◌, ℕ, false, List, [], ◌∷◌, get_or, None}
-use Rattle.h5w_model.specs.Numbers.{range, undefined}
-use Rattle.h5w_model.specs.Arrays.{eaib_fields}
-use Rattle.h5w_model.specs.Tables.{in_array}
+use Rattle.h5w_model.specs.Numbers.{undefined}
 use Rattle.h5w_model.specs.declared.cell.Key.{Key}
 use Rattle.h5w_space.specs.Space.{Space}
 use Rattle.h5w_chunks.specs.declared.grid.ChunkPlace.{ChunkPlace}
@@ -41,7 +39,6 @@ first_parts = record {
   end = 574;
   in_place = piece_of file_of_three 260 298 ∷ piece_of file_of_three 188 72 ∷ [];
   named = None;
-  blocks = in_array (eaib_fields (range file_of_three 260 298));
   address = two_addresses;
   fixed = block_at 188 72 ∷ block_at 260 298 ∷ [];
   behind = chunks_of_two;

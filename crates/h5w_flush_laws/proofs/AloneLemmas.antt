@@ -67,6 +67,7 @@ rows_alone_flush img name m old s rows more writes supers k rises small few coun
       named = tt;
       written = r;
       index = record {
+        blocks = k.index.blocks;
         behind = here.stands.stands.stands;
         answers = here.stands.answers;
         each_says = tt;

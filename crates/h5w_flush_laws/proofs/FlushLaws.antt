@@ -31,7 +31,7 @@ use Rattle.h5w_flush_laws.proofs.FlushLemmas.{with_end, says_missed, seen_missed
 use Rattle.h5w_flush_laws.proofs.HeaderLemmas.{last_image, early_image, Before, before_header}
 
 module _ (img name : List ℕ) (m : Moment) (old : Key → ℕ) (s t : Space) (f : Parts) (k : Knows img name m old s) (i : IsFlush img m old s f t) where
-  pub before : Before img name m f
+  pub before : Before img name m f i.index.blocks
   before = before_header img name m old s t f f.named f.in_place k i
 
   pub early_stage : Stage img m m.behind (early_of f) before.last before.held
@@ -79,9 +79,9 @@ module _ (img name : List ℕ) (m : Moment) (old : Key → ℕ) (s t : Space) (f
       let w : Write = commit_at (last_image img f) m.place f.rows f.named in
       let e : Described = committed m.dataset f.rows f.named in
       record {
-        blocks = f.blocks;
-        read = (says_missed w (last_image img f) f.end e f.blocks f.fixed before.says last_fits (λ u a. after_ends img name m old s t f k i u (among_left u f.fixed f.behind a)) (λ u a block. index_missed_by_header u (among_left u f.fixed f.behind a))).says;
-        answers = (seen_missed w (last_image img f) f.end m.dataset f.blocks f.behind f.address (seen img name m old s t f k i) before.stands last_fits (λ u a block. index_missed_by_header u (among_right u f.fixed f.behind a))).answers;
+        blocks = i.index.blocks;
+        read = (says_missed w (last_image img f) f.end e i.index.blocks f.fixed before.says last_fits (λ u a. after_ends img name m old s t f k i u (among_left u f.fixed f.behind a)) (λ u a block. index_missed_by_header u (among_left u f.fixed f.behind a))).says;
+        answers = (seen_missed w (last_image img f) f.end m.dataset i.index.blocks f.behind f.address (seen img name m old s t f k i) before.stands last_fits (λ u a block. index_missed_by_header u (among_right u f.fixed f.behind a))).answers;
       }
 
   -- ---- Places after it

@@ -177,15 +177,15 @@ module _ (img name : List ℕ) (m : Moment) (old : Key → ℕ) (s t : Space) (f
 
   -- what the index says
 
-  pub seen : Seen m.dataset f.blocks
+  pub seen : Seen m.dataset i.index.blocks
   seen = go f.in_place i.index.each_says i.index.said
     where
-      go : (ws : List Write) → EachSays m.dataset m.fixed f.blocks f.fixed (ended img f) ws → (ws ≡ [] → SaysInPlace (copied img f) (committed m.dataset f.rows f.named) f.blocks f.fixed) → Seen m.dataset f.blocks
+      go : (ws : List Write) → EachSays m.dataset m.fixed i.index.blocks f.fixed (ended img f) ws → (ws ≡ [] → SaysInPlace (copied img f) (committed m.dataset f.rows f.named) i.index.blocks f.fixed) → Seen m.dataset i.index.blocks
       go [] says said = record { of = committed m.dataset f.rows f.named; where_read = copied img f; read = (said refl).says; index = refl; bytes = refl }
       go (w ∷ ws) says said = record { of = m.dataset; where_read = apply w (ended img f); read = says.1.says; index = refl; bytes = refl }
 
-  pub behind_copied : BehindBy (copied img f) f.end m.dataset f.blocks f.behind f.address
-  behind_copied = record { stands = seen_behind (copied img f) f.end m.dataset f.blocks f.behind seen i.index.behind; answers = i.index.answers }
+  pub behind_copied : BehindBy (copied img f) f.end m.dataset i.index.blocks f.behind f.address
+  behind_copied = record { stands = seen_behind (copied img f) f.end m.dataset i.index.blocks f.behind seen i.index.behind; answers = i.index.answers }
 
   pub super_off : (u : Used) → Among u (f.fixed ++ f.behind) → AreApart the_superblock u
   super_off u a = (parts_of (flushed_to m f) after_apart).super u (among_right u m.root (m.header ++ (f.fixed ++ f.behind)) (among_right u m.header (f.fixed ++ f.behind) a))
@@ -193,23 +193,23 @@ module _ (img name : List ℕ) (m : Moment) (old : Key → ℕ) (s t : Space) (f
   pub supers_miss : (u : Used) → Among u (f.fixed ++ f.behind) → AllMiss f.supers u.place u.len
   supers_miss u a = end_misses m.super f.end f.supers u i.super (super_off u a)
 
-  pub behind_ended : BehindBy (ended img f) f.end m.dataset f.blocks f.behind f.address
+  pub behind_ended : BehindBy (ended img f) f.end m.dataset i.index.blocks f.behind f.address
   behind_ended = go (copied img f) f.supers behind_copied end_there (λ u a. supers_miss u (among_right u f.fixed f.behind a))
     where
-      go : (img : List ℕ) (ws : List Write) → BehindBy img f.end m.dataset f.blocks f.behind f.address → f.end ≤ length img → ((u : Used) → Among u f.behind → AllMiss ws u.place u.len)
-          → BehindBy (image img ws) f.end m.dataset f.blocks f.behind f.address
+      go : (img : List ℕ) (ws : List Write) → BehindBy img f.end m.dataset i.index.blocks f.behind f.address → f.end ≤ length img → ((u : Used) → Among u f.behind → AllMiss ws u.place u.len)
+          → BehindBy (image img ws) f.end m.dataset i.index.blocks f.behind f.address
       go img [] b fits misses = b
       go img (w ∷ ws) b fits misses =
-          go (apply w img) ws (seen_missed w img f.end m.dataset f.blocks f.behind f.address seen b fits (λ u a block. (misses u a).0)) (omega (arith, fits, image-grows img (w ∷ []))) (λ u a. (misses u a).1)
+          go (apply w img) ws (seen_missed w img f.end m.dataset i.index.blocks f.behind f.address seen b fits (λ u a block. (misses u a).0)) (omega (arith, fits, image-grows img (w ∷ []))) (λ u a. (misses u a).1)
 
-  pub said_ended : f.in_place ≡ [] → SaysInPlace (ended img f) (committed m.dataset f.rows f.named) f.blocks f.fixed
+  pub said_ended : f.in_place ≡ [] → SaysInPlace (ended img f) (committed m.dataset f.rows f.named) i.index.blocks f.fixed
   said_ended h = go (copied img f) f.supers (i.index.said h) end_there (λ u a. supers_miss u (among_left u f.fixed f.behind a))
     where
-      go : (img : List ℕ) (ws : List Write) → SaysInPlace img (committed m.dataset f.rows f.named) f.blocks f.fixed → f.end ≤ length img → ((u : Used) → Among u f.fixed → AllMiss ws u.place u.len)
-          → SaysInPlace (image img ws) (committed m.dataset f.rows f.named) f.blocks f.fixed
+      go : (img : List ℕ) (ws : List Write) → SaysInPlace img (committed m.dataset f.rows f.named) i.index.blocks f.fixed → f.end ≤ length img → ((u : Used) → Among u f.fixed → AllMiss ws u.place u.len)
+          → SaysInPlace (image img ws) (committed m.dataset f.rows f.named) i.index.blocks f.fixed
       go img [] b fits misses = b
       go img (w ∷ ws) b fits misses =
-          go (apply w img) ws (says_missed w img f.end (committed m.dataset f.rows f.named) f.blocks f.fixed b fits (λ u a. after_ends u (among_left u f.fixed f.behind a)) (λ u a block. (misses u a).0)) (omega (arith, fits, image-grows img (w ∷ []))) (λ u a. (misses u a).1)
+          go (apply w img) ws (says_missed w img f.end (committed m.dataset f.rows f.named) i.index.blocks f.fixed b fits (λ u a. after_ends u (among_left u f.fixed f.behind a)) (λ u a block. (misses u a).0)) (omega (arith, fits, image-grows img (w ∷ []))) (λ u a. (misses u a).1)
 
   -- the cells
 
@@ -222,8 +222,8 @@ module _ (img name : List ℕ) (m : Moment) (old : Key → ℕ) (s t : Space) (f
       record {
         sized = record { rows = sized.rows; cols = sized.cols; size = sized.size; bytes = sized.bytes };
         chunks =
-            table_laws.behind (copied img f) f.end e f.blocks f.behind (map f.address (needed_keys e)) (behind_of_other (copied img f) f.end m.dataset e f.blocks f.behind refl refl behind_copied.stands) i.few
-            (table_behind (copied img f) e f.blocks f.address i.few i.index.answers);
+            table_laws.behind (copied img f) f.end e i.index.blocks f.behind (map f.address (needed_keys e)) (behind_of_other (copied img f) f.end m.dataset e i.index.blocks f.behind refl refl behind_copied.stands) i.few
+            (table_behind (copied img f) e i.index.blocks f.address i.few i.index.answers);
       }
 
   pub cells_copied : HasCells (copied img f) (flushed_to m f)
@@ -246,7 +246,7 @@ module _ (img name : List ℕ) (m : Moment) (old : Key → ℕ) (s t : Space) (f
       cell_same (ended img f) m.place m.dataset f.rows f.named f.address (row_of m n) (column_of m n) sized (omega arith) (cell_of_value m.dataset n (subst (λ c. n < c) k.file.count low))
       ∙ cells_ended n (more_values m.values f.more n low) ∙ first_values m.values f.more n low
 
-  pub turning : Turning (ended img f) name (with_end f.end m) m.behind f.fixed f.behind f.blocks f.address
+  pub turning : Turning (ended img f) name (with_end f.end m) m.behind f.fixed f.behind i.index.blocks f.address
   turning = record {
     file = file_ended;
     added = i.index.added;

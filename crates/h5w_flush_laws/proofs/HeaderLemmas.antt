@@ -44,33 +44,33 @@ early_image img f =
     ∙ image-append (image img f.writes) (block_writes f.copies) (f.supers ++ f.in_place)
     ∙ image-append (copied img f) f.supers f.in_place
 
--- What holds before the header piece, and of it.
-pub record Before (img name : List ℕ) (m : Moment) (f : Parts) : Type 0 where
+-- What holds before the header piece, and of it, where the blocks in place say this.
+pub record Before (img name : List ℕ) (m : Moment) (f : Parts) (blocks : InPlace) : Type 0 where
   pub held : List Used
   pub last : Moment
   pub stage : Stage (ended img f) (with_end f.end m) m.behind f.in_place last held
   pub place : last.place ≡ m.place
   pub step : Step (last_image img f) last held (commit_at (last_image img f) m.place f.rows f.named) (flushed_to m f) f.behind
   pub lies : LiesIn (commit_at (last_image img f) m.place f.rows f.named) m.header
-  pub says : SaysInPlace (last_image img f) (committed m.dataset f.rows f.named) f.blocks f.fixed
-  pub stands : BehindBy (last_image img f) f.end m.dataset f.blocks f.behind f.address
+  pub says : SaysInPlace (last_image img f) (committed m.dataset f.rows f.named) blocks f.fixed
+  pub stands : BehindBy (last_image img f) f.end m.dataset blocks f.behind f.address
   pub layout : LayoutInChunk0 (last_image img f) m.place → LayoutInChunk0 (apply (commit_at (last_image img f) m.place f.rows f.named) (last_image img f)) m.place
   pub now : chunk_0 (apply (commit_at (last_image img f) m.place f.rows f.named) (last_image img f)) m.place ≡ (commit_at (last_image img f) m.place f.rows f.named).piece
 
 -- ---- The rows rise, and the index is named already
 
-pub grows : (img name : List ℕ) (m : Moment) (old : Key → ℕ) (s t : Space) (f : Parts) → Knows img name m old s → IsFlush img m old s (record f { named = None }) t → (held : List Used)
+pub grows : (img name : List ℕ) (m : Moment) (old : Key → ℕ) (s t : Space) (f : Parts) → Knows img name m old s → (i : IsFlush img m old s (record f { named = None }) t) → (held : List Used)
     → Stage (ended img f) (with_end f.end m) m.behind f.in_place (turned (with_end f.end m) f.fixed f.behind f.address) held
-    → SaysInPlace (last_image img f) (committed m.dataset f.rows None) f.blocks f.fixed
-    → BehindBy (last_image img f) f.end m.dataset f.blocks f.behind f.address
-    → HasCells (last_image img f) (flushed_to m (record f { named = None })) → Before img name m (record f { named = None })
+    → SaysInPlace (last_image img f) (committed m.dataset f.rows None) i.index.blocks f.fixed
+    → BehindBy (last_image img f) f.end m.dataset i.index.blocks f.behind f.address
+    → HasCells (last_image img f) (flushed_to m (record f { named = None })) → Before img name m (record f { named = None }) i.index.blocks
 grows img name m old s t f k i held stage says stands cells =
     let g : Parts = record f { named = None } in
     let last : Moment = turned (with_end f.end m) f.fixed f.behind f.address in
     let now : List ℕ = last_image img f in
     let e : Described = committed m.dataset f.rows None in
     let file : Represents now name last = plan_leads (ended img f) name (with_end f.end m) last m.behind held f.in_place (file_ended img name m old s t g k i) stage.plan in
-    let found : eval now (table_of e (needed_keys e)) ≡ Ok (map f.address (needed_keys e)) = by_blocks now e f.blocks (needed_keys e) says.says ∙ table_behind now e f.blocks f.address i.few stands.answers in
+    let found : eval now (table_of e (needed_keys e)) ≡ Ok (map f.address (needed_keys e)) = by_blocks now e i.index.blocks (needed_keys e) says.says ∙ table_behind now e i.index.blocks f.address i.few stands.answers in
     let header = growing_header now name last f.rows file i.small i.few in
     record {
       held = held;
@@ -86,20 +86,20 @@ grows img name m old s t f k i held stage says stands cells =
     }
 
 -- without a piece in place the index is as it was
-pub grows_alone : (img name : List ℕ) (m : Moment) (old : Key → ℕ) (s t : Space) (f : Parts) → Knows img name m old s → IsFlush img m old s (record f { named = None; in_place = [] }) t
-    → Before img name m (record f { named = None; in_place = [] })
+pub grows_alone : (img name : List ℕ) (m : Moment) (old : Key → ℕ) (s t : Space) (f : Parts) → Knows img name m old s → (i : IsFlush img m old s (record f { named = None; in_place = [] }) t)
+    → Before img name m (record f { named = None; in_place = [] }) i.index.blocks
 grows_alone img name m old s t f k i =
     let g : Parts = record f { named = None; in_place = [] } in
     let now : List ℕ = ended img f in
     let d : Described = m.dataset in
     let file = file_ended img name m old s t g k i in
-    let says : SaysInPlace now (committed d f.rows None) f.blocks f.fixed = said_ended img name m old s t g k i refl in
+    let says : SaysInPlace now (committed d f.rows None) i.index.blocks f.fixed = said_ended img name m old s t g k i refl in
     let stands = behind_ended img name m old s t g k i in
     let same_fixed : f.fixed ≡ m.fixed = says.looks ∙ sym file.index.fixed_are in
-    let same_blocks : f.blocks ≡ file.index.blocks = one_answer f.blocks file.index.blocks (sym says.says ∙ file.index.read) in
+    let same_blocks : i.index.blocks ≡ file.index.blocks = one_answer i.index.blocks file.index.blocks (sym says.says ∙ file.index.read) in
     let same_behind : f.behind ≡ m.behind =
     one_list f.behind m.behind (sym stands.stands.stands ∙ ap (λ (p : InPlace). eval now (behind_visit f.end (chunk_bytes d) p)) same_blocks ∙ file.index.stands) in
-    let same_table : map f.address (needed_keys d) ≡ m.table = sym (found_table now d f.address m.table (few now name (with_end f.end m) file) (record { blocks = f.blocks; read = says.says; answers = stands.answers }) file.table) in
+    let same_table : map f.address (needed_keys d) ≡ m.table = sym (found_table now d f.address m.table (few now name (with_end f.end m) file) (record { blocks = i.index.blocks; read = says.says; answers = stands.answers }) file.table) in
     let same : turned (with_end f.end m) f.fixed f.behind f.address ≡ with_end f.end m =
     ap (λ (us : List Used). record (with_end f.end m) { fixed = us; behind = f.behind; table = map f.address (needed_keys d) }) same_fixed
     ∙ ap (λ (us : List Used). record (with_end f.end m) { behind = us; table = map f.address (needed_keys d) }) same_behind
@@ -112,30 +112,30 @@ grows_alone img name m old s t f k i =
     one_list : (us vs : List Used) → ◌≡◌ {A = Result (List Used) Finding} (Ok us) (Ok vs) → us ≡ vs
     one_list us vs h = cc
 
-pub grows_turned : (img name : List ℕ) (m : Moment) (old : Key → ℕ) (s t : Space) (f : Parts) (w : Write) (ws : List Write) → Knows img name m old s → IsFlush img m old s (record f { named = None; in_place = w ∷ ws }) t
-    → Before img name m (record f { named = None; in_place = w ∷ ws })
+pub grows_turned : (img name : List ℕ) (m : Moment) (old : Key → ℕ) (s t : Space) (f : Parts) (w : Write) (ws : List Write) → Knows img name m old s → (i : IsFlush img m old s (record f { named = None; in_place = w ∷ ws }) t)
+    → Before img name m (record f { named = None; in_place = w ∷ ws }) i.index.blocks
 grows_turned img name m old s t f w ws k i =
     let g : Parts = record f { named = None; in_place = w ∷ ws } in
-    let u = turns (ended img f) name (with_end f.end m) m.behind f.fixed f.behind f.blocks f.address w ws (turning img name m old s t g k i) i.index.each_says in
-    let last = says_last m.dataset m.fixed f.blocks f.fixed (ended img f) w ws i.index.each_says in
+    let u = turns (ended img f) name (with_end f.end m) m.behind f.fixed f.behind i.index.blocks f.address w ws (turning img name m old s t g k i) i.index.each_says in
+    let last = says_last m.dataset m.fixed i.index.blocks f.fixed (ended img f) w ws i.index.each_says in
     grows img name m old s t (record f { in_place = w ∷ ws }) k i u.after u.stage (record { says = last.says; looks = last.looks }) u.stands
     (cells_over (ended img f) (flushed_to m g) (w ∷ ws) (sized img name m old s t g k i).size
     (all_chunks_missed (w ∷ ws) (flushed_to m g) (has_chunks img name m old s t g k i) (λ v a chunk. u.misses v a)) (cells_ended img name m old s t g k i))
 
 -- ---- The header names the index for the first time
 
-pub starts : (img name : List ℕ) (m : Moment) (old : Key → ℕ) (s t : Space) (f : Parts) (a : ℕ) → Knows img name m old s → IsFlush img m old s (record f { named = Some a; in_place = [] }) t
-    → Before img name m (record f { named = Some a; in_place = [] })
+pub starts : (img name : List ℕ) (m : Moment) (old : Key → ℕ) (s t : Space) (f : Parts) (a : ℕ) → Knows img name m old s → (i : IsFlush img m old s (record f { named = Some a; in_place = [] }) t)
+    → Before img name m (record f { named = Some a; in_place = [] }) i.index.blocks
 starts img name m old s t f a k i =
     let g : Parts = record f { named = Some a; in_place = [] } in
     let last : Moment = with_end f.end m in
     let now : List ℕ = ended img f in
     let e : Described = committed m.dataset f.rows (Some a) in
     let file = file_ended img name m old s t g k i in
-    let says : SaysInPlace now e f.blocks f.fixed = said_ended img name m old s t g k i refl in
+    let says : SaysInPlace now e i.index.blocks f.fixed = said_ended img name m old s t g k i refl in
     let stands = behind_ended img name m old s t g k i in
-    let index : IsIndex now f.end e f.fixed f.behind = index_as now f.end e f.blocks f.fixed f.behind says.looks says.says (λ u b. after_ends img name m old s t g k i u (among_left u f.fixed f.behind b)) stands.stands.stands in
-    let found : eval now (table_of e (needed_keys e)) ≡ Ok (map f.address (needed_keys e)) = by_blocks now e f.blocks (needed_keys e) says.says ∙ table_behind now e f.blocks f.address i.few stands.answers in
+    let index : IsIndex now f.end e f.fixed f.behind = index_as now f.end e i.index.blocks f.fixed f.behind says.looks says.says (λ u b. after_ends img name m old s t g k i u (among_left u f.fixed f.behind b)) stands.stands.stands in
+    let found : eval now (table_of e (needed_keys e)) ≡ Ok (map f.address (needed_keys e)) = by_blocks now e i.index.blocks (needed_keys e) says.says ∙ table_behind now e i.index.blocks f.address i.few stands.answers in
     let stage_rows = rows_stage img name m old s t g k i in
     let stage_copies = copies_stage img name m old s t g k i in
     let stage_end = ended_stage img name m old s t g k i in
@@ -166,8 +166,8 @@ nothing_fixed img end d fixed behind e i u a =
 
 -- ---- Each flush
 
-pub before_header : (img name : List ℕ) (m : Moment) (old : Key → ℕ) (s t : Space) (f : Parts) (named : Option ℕ) (ws : List Write) → Knows img name m old s → IsFlush img m old s (record f { named = named; in_place = ws }) t
-    → Before img name m (record f { named = named; in_place = ws })
+pub before_header : (img name : List ℕ) (m : Moment) (old : Key → ℕ) (s t : Space) (f : Parts) (named : Option ℕ) (ws : List Write) → Knows img name m old s → (i : IsFlush img m old s (record f { named = named; in_place = ws }) t)
+    → Before img name m (record f { named = named; in_place = ws }) i.index.blocks
 before_header img name m old s t f None [] k i = grows_alone img name m old s t f k i
 before_header img name m old s t f None (w ∷ ws) k i = grows_turned img name m old s t f w ws k i
 before_header img name m old s t f (Some a) [] k i = starts img name m old s t f a k i

@@ -4,7 +4,6 @@ use Rattle.h5w_model.specs.Numbers.{undefined}
 use Rattle.h5w_model.specs.Images.{apply, image}
 use Rattle.h5w_model.specs.Headers.{with_rows_bytes}
 use Rattle.h5w_model.specs.Logs.{Log, appends, plans, shows, appended, and_now}
-use Rattle.h5w_model.specs.Tables.{InPlace}
 use Rattle.h5w_model.specs.Findings.{Used}
 use Rattle.h5w_model.specs.declared.cell.Key.{Key}
 use Rattle.h5w_model.specs.declared.piece.Write.{Write}
@@ -63,8 +62,8 @@ abbrev pub EndKnown : Type 0
 EndKnown = (img name : List ℕ) (m n : Moment) (old : Key → ℕ) (s : Space) (w : Write) → Knows img name m old s → Ends img m w n → n.super.end ≤ s.end → Knows (apply w img) name n old s
 
 -- The parts of a flush whose rows all go into chunks that have addresses: the index stays. (So too where a dataset has no columns.)
-abbrev pub rows_alone : Moment → InPlace → (Key → ℕ) → ℕ → ℕ → List ℤ → List Write → List Write → Parts
-rows_alone m blocks address end rows more writes supers = record {
+abbrev pub rows_alone : Moment → (Key → ℕ) → ℕ → ℕ → List ℤ → List Write → List Write → Parts
+rows_alone m address end rows more writes supers = record {
   rows = rows;
   more = more;
   writes = writes;
@@ -74,7 +73,6 @@ rows_alone m blocks address end rows more writes supers = record {
   end = end;
   in_place = [];
   named = None;
-  blocks = blocks;
   address = address;
   fixed = m.fixed;
   behind = m.behind;
@@ -84,7 +82,7 @@ rows_alone m blocks address end rows more writes supers = record {
 abbrev pub RowsAloneFlush : Type 0
 RowsAloneFlush = (img name : List ℕ) (m : Moment) (old : Key → ℕ) (s : Space) (rows : ℕ) (more : List ℤ) (writes supers : List Write) → (k : Knows img name m old s)
     → m.dataset.shape.rows < rows → rows < 2 ^ 64 → AreFew (with_rows rows m.dataset) → length (m.values ++ more) ≡ rows * m.dataset.shape.cols → AreEnded m.super s.end supers
-    → RowsFlushed img m (rows_alone m k.index.blocks old s.end rows more writes supers) → IsFlush img m old s (rows_alone m k.index.blocks old s.end rows more writes supers) s
+    → RowsFlushed img m (rows_alone m old s.end rows more writes supers) → IsFlush img m old s (rows_alone m old s.end rows more writes supers) s
 
 -- Blocks and chunks that are written early, at places taken: nothing changes for readers, and the file is known as before.
 pub record IsEarly (img name : List ℕ) (m : Moment) (old : Key → ℕ) (bs : List (ℕ × List ℕ)) (t : Space) : Type 0 where

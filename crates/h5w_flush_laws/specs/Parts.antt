@@ -25,7 +25,7 @@ use Rattle.h5w_flush_laws.specs.Knowledge.{IsAsked, AnswersBy}
 -- The parts of a flush: how many rows there are then and the values of the new ones; the writes of these and the new chunks among
 -- them; copied and new blocks of the index; the superblock's write, where the end of the file rose, and that end; the index's blocks
 -- that are written again where they stand; the address of an index that the header names for the first time. And what the index is
--- then: what its blocks in place say, each key's address, and its ranges.
+-- then: each key's address, and its ranges.
 pub record Parts : Type 0 where
   pub rows : ℕ
   pub more : List ℤ
@@ -36,7 +36,6 @@ pub record Parts : Type 0 where
   pub end : ℕ
   pub in_place : List Write
   pub named : Option ℕ
-  pub blocks : InPlace
   pub address : Key → ℕ
   pub fixed : List Used
   pub behind : List Used
@@ -108,13 +107,15 @@ EachSays d before blocks fixed img (w ∷ ws) = LiesIn w before × SaysInPlace (
 -- The index of a flush, whatever its kind. All of it is of the index's plan, but for `kept`, which the rows' chunks give (the law
 -- RowsFlush).
 pub record IndexFlushed (img : List ℕ) (m : Moment) (old : Key → ℕ) (f : Parts) : Type 0 where
-  -- once the copies are written, what the blocks in place will name stands there
-  pub behind : eval (copied img f) (behind_visit f.end (chunk_bytes m.dataset) f.blocks) ≡ Ok f.behind
-  pub answers : AnswersBy (copied img f) m.dataset f.blocks f.address
+  -- what its blocks in place will say
+  pub blocks : InPlace
+  -- once the copies are written, what they will name stands there
+  pub behind : eval (copied img f) (behind_visit f.end (chunk_bytes m.dataset) blocks) ≡ Ok f.behind
+  pub answers : AnswersBy (copied img f) m.dataset blocks f.address
   -- after each piece in place they say so
-  pub each_says : EachSays m.dataset m.fixed f.blocks f.fixed (ended img f) f.in_place
+  pub each_says : EachSays m.dataset m.fixed blocks f.fixed (ended img f) f.in_place
   -- Without a piece in place they say so already: an index that stays, or one that the header is to name.
-  pub said : f.in_place ≡ [] → SaysInPlace (copied img f) (committed m.dataset f.rows f.named) f.blocks f.fixed
+  pub said : f.in_place ≡ [] → SaysInPlace (copied img f) (committed m.dataset f.rows f.named) blocks f.fixed
   -- the blocks in place stay, and others may come behind them, at new places
   pub added : List Used
   pub begins : f.fixed ≡ m.fixed ++ added

@@ -32,7 +32,7 @@ use Rattle.h5w_bt_index.specs.Index.{Index, address_of}
 use Rattle.h5w_bt_index.specs.Plans.{place_of as node_place}
 use Rattle.h5w_tree_index_laws.specs.TreeImages.{IsRead, behind_of, blocks_in_place, node_range}
 use Rattle.h5w_tree_index_laws.specs.TreeFlushes.{TreeStands, header_range}
-use Rattle.h5w_tree_index_laws.proofs.TreeHeaderLemmas.{header_says, in_place_by, part_range, tree_left}
+use Rattle.h5w_tree_index_laws.proofs.TreeHeaderLemmas.{header_says, names_again, part_range, tree_left}
 use Rattle.h5w_tree_index_laws.proofs.TreeRangeLemmas.{by_weight}
 use Rattle.h5w_tree_index_laws.proofs.TreeStandLemmas.{tree_is_read}
 use Rattle.h5w_index.specs.Views as views
@@ -46,7 +46,10 @@ array_begin img name m s v b =
 
 module _ (img name : List ℕ) (m : Moment) (s : Space) (p : ℕ) (v : Index) (is : IsSoundTree p v) (clean : clean_of v.depth v.root ≡ true) (stands : TreeStands p v img) (file : Represents img name m)
     (kind : m.dataset.layout.index ≡ kinds.Tree) (address : m.dataset.layout.address ≡ p) (begun : IsBegun m s) where
-  says : SaysInPlace img m.dataset (blocks_in_place v) (header_range p ∷ [])
+  abbrev blocks : InPlace
+  blocks = blocks_in_place (stands.header clean).total v
+
+  says : SaysInPlace img m.dataset blocks (header_range p ∷ [])
   says = header_says v img m.dataset p kind address is.defined (stands.header clean)
 
   reads : IsRead v img
@@ -59,13 +62,13 @@ module _ (img name : List ℕ) (m : Moment) (s : Space) (p : ℕ) (v : Index) (i
       let far = some_end us in
       let end : ℕ = max m.super.end far.0 in
       let wide = index_by_end img m.super.end end m.dataset m.fixed m.behind i (ends_later m.super.end end (m.fixed ++ m.behind) (omega arith) i.ends) in
-      let wide_blocks : wide.blocks ≡ blocks_in_place v = same_place wide.blocks (blocks_in_place v) (sym wide.read ∙ says.says) in
-      let given : eval img (behind_visit end (chunk_bytes m.dataset) (blocks_in_place v)) ≡ Ok m.behind = subst (λ (b : InPlace). eval img (behind_visit end (chunk_bytes m.dataset) b) ≡ Ok m.behind) wide_blocks wide.stands in
-      same_found m.behind us (sym given ∙ reads.visited end (chunk_bytes m.dataset) (ends_later far.0 end us (omega arith) far.1))
+      let wide_blocks : wide.blocks ≡ blocks = same_place wide.blocks blocks (sym wide.read ∙ says.says) in
+      let given : eval img (behind_visit end (chunk_bytes m.dataset) blocks) ≡ Ok m.behind = subst (λ (b : InPlace). eval img (behind_visit end (chunk_bytes m.dataset) b) ≡ Ok m.behind) wide_blocks wide.stands in
+      same_found m.behind us (sym given ∙ reads.visited (stands.header clean).total end (chunk_bytes m.dataset) (ends_later far.0 end us (omega arith) far.1))
 
   tree_begin : Begins img name m s (a_tree p v)
   tree_begin = record {
-    knows = begin_knows img name m (λ key. address_of v key) s file (record { blocks = blocks_in_place v; read = says.says; answers = λ key named. reads.found key }) begun (λ u. absurd (is.defined (sym address ∙ u)));
+    knows = begin_knows img name m (λ key. address_of v key) s file (record { blocks = blocks; read = says.says; answers = λ key named. reads.found (stands.header clean).total key }) begun (λ u. absurd (is.defined (sym address ∙ u)));
     rests = record {
       kind = kind;
       at_place = address;
@@ -115,7 +118,7 @@ tree_missed img name m old s p v w k off r =
       nodes = tree_left v img (w ∷ []) is.index stands.nodes (λ part clean n.
           let u : Used = node_range (node_place part.depth part.tree) in
           (off u (in_file img m old s (a_tree p v) u r (among_right u (header_range p ∷ []) behind (part_range bytes part v.depth v.root is.index.sound n.ends clean))), tt));
-      header = λ e. ap (in_place_by p) (range-apply_missed w img p bthd_len (off (header_range p) head) fits) ∙ stands.header e;
+      header = λ e. names_again p v img (apply w img) (range-apply_missed w img p bthd_len (off (header_range p) head) fits) (stands.header e);
     }
 
 again : (img : List ℕ) (m : Moment) (old : Key → ℕ) (s : Space) (v : IndexView) (w : Write) → StandsOn v (apply w img) → Rests img m old s v → Rests (apply w img) m old s v

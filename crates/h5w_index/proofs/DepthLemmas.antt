@@ -8,15 +8,18 @@ use Rattle.h5w_space.specs.Space.{Space}
 use Rattle.h5w_cache.specs.declared.moves.Move.{Move}
 use Rattle.h5w_bt.specs.declared.records.Record.{Record}
 use Rattle.h5w_bt_index.specs.Nodes.{address_in}
-use Rattle.h5w_bt_index.specs.Index.{Index, IsIndex, IsThere, inserted, records}
+use Rattle.h5w_bt_index.specs.Index.{Index, IsFilled, IsIndex, IsThere, inserted, no_tree, records}
+use Rattle.h5w_bt_index.specs.Plans.{news, planned as planned_tree}
 use Rattle.h5w_bt_index.proofs.Keys.{equal-is}
 use Rattle.h5w_bt_index.proofs.Laws.{inserted-records}
+use Rattle.h5w_bt_index.proofs.Placed.{planned_shares}
 use Rattle.h5w_bt_index.proofs.Records.{put-finds_other}
+use Rattle.h5w_bt_index.proofs.Shares.{filled_kept}
 use Rattle.h5w_tree_index_laws.specs.TreeDepths.{KeysWithin}
 use Rattle.h5w_tree_index_laws.proofs.TreeDepthLemmas.{deep_is_many, within_is_few}
 use Rattle.h5w_index.specs.Views.{IndexView, an_array, a_tree, HasSlot, IsSound}
 use Rattle.h5w_index.specs.Steps.{IsDeep, IsHeld, IsPlan, IsSet, IsUnset, TreeHeld, TreeSet, blank}
-use Rattle.h5w_index.specs.Depths.{AreWithin, DepthLaws}
+use Rattle.h5w_index.specs.Depths.{AreWithin, DepthLaws, IsShallowTree}
 
 -- a key that has a record once another was put is that one's, or had it before
 there_before : (x : Record) (v : Index) (key : Key) → IsIndex v → key_equal x.key key ≡ false → IsThere (inserted x v) key → IsThere v key
@@ -29,27 +32,35 @@ put_within bands across x v i low left within key there =
       | inr e ↦ within key (there_before x v key i e there)
     ]
 
-tree_held : (bands across : ℕ) (key : Key) (v w : Index) → IsIndex v → key.i < bands → key.j < across → TreeHeld key v w → KeysWithin bands across v → KeysWithin bands across w
-tree_held bands across key v w i low left h within =
-    elim h.is [
-      | inl same ↦ subst (KeysWithin bands across) (sym same) within
-      | inr more ↦ subst (KeysWithin bands across) (sym more.1) (put_within bands across (blank key) v i low left within)
-    ]
+tree_held : (bands across : ℕ) (key : Key) (v w : Index) → IsIndex v → key.i < bands → key.j < across → TreeHeld key v w → IsShallowTree bands across v → IsShallowTree bands across w
+tree_held bands across key v w i low left h within = record {
+  keys = elim h.is [
+    | inl same ↦ subst (KeysWithin bands across) (sym same) within.keys
+    | inr more ↦ subst (KeysWithin bands across) (sym more.1) (put_within bands across (blank key) v i low left within.keys)
+  ];
+  filled = filled_kept v w h.shares within.filled;
+}
 
-tree_set : (bands across : ℕ) (x : Record) (v w : Index) → IsIndex v → IsThere v x.key → TreeSet x v w → KeysWithin bands across v → KeysWithin bands across w
+tree_set : (bands across : ℕ) (x : Record) (v w : Index) → IsIndex v → IsThere v x.key → TreeSet x v w → IsShallowTree bands across v → IsShallowTree bands across w
 tree_set bands across x v w i there h within =
-    let own = within x.key there in
-    subst (KeysWithin bands across) (sym h.is) (put_within bands across x v i own.0 own.1 within)
+    let own = within.keys x.key there in
+    record {
+      keys = subst (KeysWithin bands across) (sym h.is) (put_within bands across x v i own.0 own.1 within.keys);
+      filled = filled_kept v w h.replaced.shares within.filled;
+    }
 
 too_many : (n most : ℕ) → 1114349 ≤ n → n ≤ most → most ≤ 1114348 → ⊥
 too_many n most a b c = omega (arith, a, b, c)
 
 pub depth_laws : DepthLaws
-depth_laws = record { none = λ bands across place key there. absurd (there refl); more = more; held = held; set = set; unset = unset; planned = planned; shallow = shallow }
+depth_laws = record { none = none; more = more; held = held; set = set; unset = unset; planned = planned; shallow = shallow }
   where
+    none : (bands across place : ℕ) → AreWithin bands across (a_tree place no_tree)
+    none bands across place = record { keys = λ key there. absurd (there refl); filled = omega arith }
+
     more : (bands across later : ℕ) (v : IndexView) → bands ≤ later → AreWithin bands across v → AreWithin later across v
     more bands across later (an_array v) less within = tt
-    more bands across later (a_tree p v) less within = λ key there. let own = within key there in (omega (arith, own.0, less), own.1)
+    more bands across later (a_tree p v) less within = record { keys = λ key there. let own = within.keys key there in (omega (arith, own.0, less), own.1); filled = within.filled }
 
     held : (bands across : ℕ) (key : Key) (v w : IndexView) → IsSound v → key.i < bands → key.j < across → IsHeld key v w → AreWithin bands across v → AreWithin bands across w
     held bands across key (an_array v) (an_array w) is low left h within = tt
@@ -71,13 +82,16 @@ depth_laws = record { none = λ bands across place key there. absurd (there refl
 
     planned : (bands across : ℕ) (v : IndexView) (s : Space) (ms : List Move) (copies fixed : List Write) (w : IndexView) (t : Space) → IsPlan v s ms copies fixed w t → AreWithin bands across v → AreWithin bands across w
     planned bands across (an_array v) s ms copies fixed (an_array w) t plan within = tt
-    planned bands across (a_tree p v) s ms copies fixed (a_tree q w) t plan within = λ key there. within key (λ none. there (ap (address_in key) plan.1.records ∙ none))
+    planned bands across (a_tree p v) s ms copies fixed (a_tree q w) t plan within = record {
+      keys = λ key there. within.keys key (λ none. there (ap (address_in key) plan.1.records ∙ none));
+      filled = subst IsFilled (sym plan.1.index) (filled_kept v (planned_tree (news ms) v) (planned_shares (news ms) v) within.filled);
+    }
     planned bands across (an_array v) s ms copies fixed (a_tree q w) t plan within = absurd plan
     planned bands across (a_tree p v) s ms copies fixed (an_array w) t plan within = absurd plan
 
     shallow : (bands across : ℕ) (key : Key) (v : IndexView) → IsSound v → AreWithin bands across v → bands * across ≤ 1114348 → IsDeep v key → ⊥
     shallow bands across key (an_array v) is within few deep = deep
     shallow bands across key (a_tree p v) is within few deep =
-        let many = deep_is_many v key is.index is.filled deep in
-        let most = within_is_few v bands across is.index within in
+        let many = deep_is_many v key is.index within.filled deep in
+        let most = within_is_few v bands across is.index within.keys in
         absurd (too_many (length (records v)) (bands * across) many most few)

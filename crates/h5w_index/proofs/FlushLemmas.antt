@@ -37,10 +37,9 @@ use Rattle.h5w_flush_laws.specs.Rows.{ArePlaced}
 use Rattle.h5w_bt.specs.declared.records.Record.{Record}
 use Rattle.h5w_bt.specs.Parts.{record_of}
 use Rattle.h5w_bt_index.specs.Marks.{clean_of}
-use Rattle.h5w_bt_index.specs.Index.{Index, IsFilled, IsIndex}
-use Rattle.h5w_bt_index.proofs.Placed.{placed_clean, planned_index, planned_shares}
-use Rattle.h5w_bt_index.proofs.Shares.{filled_kept}
-use Rattle.h5w_bt_index.specs.Plans.{IsTreePlan, header_of, header_writes, news, planned, written}
+use Rattle.h5w_bt_index.specs.Index.{Index, IsIndex}
+use Rattle.h5w_bt_index.proofs.Placed.{placed_clean, planned_index}
+use Rattle.h5w_bt_index.specs.Plans.{IsTreePlan, header_of, header_writes, news, written}
 use Rattle.h5w_tree_index_laws.specs.TreeFlushes.{IsTreePart, TreeRests, header_range}
 use Rattle.h5w_tree_index_laws.proofs.TreeHeaderLemmas.{header_long}
 use Rattle.h5w_tree_index_laws.proofs.TreePlanLemmas.{moves_taken}
@@ -116,7 +115,6 @@ tree_told p v s ms cs fs w t is plan =
     record {
       sound = record {
         index = subst IsIndex (sym plan.index) (planned_index (news ms) v is.index);
-        filled = subst IsFilled (sym plan.index) (filled_kept v (planned (news ms) v) (planned_shares (news ms) v) is.filled);
         defined = is.defined;
       };
       clean = subst (λ (u : Index). clean_of u.depth u.root ≡ true) (sym plan.index) (placed_clean v.depth (news ms) v.root);
@@ -163,7 +161,6 @@ tree_part img name m old s b t p q v w ms chunks copies fixed k first x =
       defined = sound.defined;
       stay = x.stay;
       index = sound.index;
-      filled = sound.filled;
       stands = x.stands;
       live = λ u a. first.stays_live (extent_of u) (k.live u (inr (among_right u m.root (m.header ++ (m.fixed ++ m.behind)) (among_right u m.header (m.fixed ++ m.behind) a))));
       behind = record { among = x.behind.among; counts = x.behind.counts };
@@ -199,7 +196,7 @@ tree_rests img m old s p v r = record {
   rests = record {
     kind = r.kind;
     at_place = r.at_place;
-    sound = record { index = r.index; filled = r.filled; defined = r.defined };
+    sound = record { index = r.index; defined = r.defined };
     stands = r.stands;
     stays = tt;
     fixed = r.fixed;

@@ -17,7 +17,6 @@ use Rattle.h5w_bt.specs.declared.records.Record.{Record}
 use Rattle.h5w_bt_index.specs.Marks.{clean_of}
 use Rattle.h5w_bt_index.specs.Index.{Index, IsIndex, address_of, inserted}
 use Rattle.h5w_bt_index.proofs.Laws.{held-map, index_shaped, inserted-clean, inserted-shares}
-use Rattle.h5w_bt_index.proofs.Shares.{filled_kept}
 use Rattle.h5w_bt_index.proofs.Replaced.{inserted_changed, inserted_there}
 use Rattle.h5w_tree_index_laws.specs.TreeImages as trees
 use Rattle.h5w_tree_index_laws.proofs.TreeInsertLemmas.{inserted_behind}
@@ -25,7 +24,7 @@ use Rattle.h5w_tree_index_laws.proofs.TreeMapLemmas as maps
 use Rattle.h5w_tree_index_laws.proofs.TreeStandLemmas.{never_first}
 use Rattle.h5w_index.specs.Views.{IndexView, an_array, a_tree, IsSoundTree}
 use Rattle.h5w_index.specs.Steps.{ArrayHeld, ArraySet, ArrayUnset, TreeHeld, TreeSet, blank}
-use Rattle.h5w_index.specs.Told.{HeldTells, HeldTold, IsLike, KeepsMarks, LikeLaws, SameBlocks, SameRanges, SetTells, SetTold, UnsetTells, UnsetTold}
+use Rattle.h5w_index.specs.Told.{HeldTells, HeldTold, IsLike, KeepsMarks, LikeLaws, SameBlocks, SameRanges, SameShares, SetTells, SetTold, UnsetTells, UnsetTold}
 use Rattle.h5w_index.proofs.ArrayBehindLemmas as by_map
 
 -- ---- Likeness
@@ -38,6 +37,7 @@ array_like v w is places standing stands marks = record {
   fixed = λ i. block_at (places 846 i) 72 ∷ block_at (places 845 i) 298 ∷ [];
   blocks = places;
   marks = marks;
+  shares = tt;
   sound = is;
   takes = λ key h. h;
   one = λ key other. refl;
@@ -53,6 +53,7 @@ tree_itself p v is = record {
   fixed = refl;
   blocks = λ f. refl;
   marks = λ part c. c;
+  shares = λ share half h. h;
   sound = is;
   takes = λ key h. h;
   one = λ key other. refl;
@@ -74,7 +75,8 @@ tree_like p v x is j =
       fixed = refl;
       blocks = (maps.inserted_renews x v is.index j).nodes;
       marks = λ part c. inserted-clean part x v (index_shaped v is.index) c;
-      sound = record { index = j; filled = filled_kept v w (inserted-shares x v (index_shaped v is.index)) is.filled; defined = is.defined };
+      shares = inserted-shares x v (index_shaped v is.index);
+      sound = record { index = j; defined = is.defined };
       takes = λ key h. h;
       one = λ key other. refl;
       slots = λ key h. inserted_there x v key is.index h;
@@ -113,6 +115,18 @@ marks_onward (an_array u) (a_tree q v) w a b = absurd a
 marks_onward (a_tree p u) (an_array v) w a b = absurd a
 marks_onward (a_tree p u) (a_tree q v) (an_array w) a b = absurd b
 
+shares_itself : (v : IndexView) → SameShares v v
+shares_itself (an_array v) = tt
+shares_itself (a_tree p v) = λ share half h. h
+
+shares_onward : (u v w : IndexView) → SameShares u v → SameShares v w → SameShares u w
+shares_onward (an_array u) (an_array v) (an_array w) a b = tt
+shares_onward (a_tree p u) (a_tree q v) (a_tree r w) a b = λ share half h. b share half (a share half h)
+shares_onward (an_array u) (an_array v) (a_tree r w) a b = absurd b
+shares_onward (an_array u) (a_tree q v) w a b = absurd a
+shares_onward (a_tree p u) (an_array v) w a b = absurd a
+shares_onward (a_tree p u) (a_tree q v) (an_array w) a b = absurd b
+
 pub like_laws : LikeLaws
 like_laws = record {
   itself = λ v is. record {
@@ -121,6 +135,7 @@ like_laws = record {
     fixed = refl;
     blocks = blocks_itself v;
     marks = marks_itself v;
+    shares = shares_itself v;
     sound = is;
     takes = λ key h. h;
     one = λ key other. refl;
@@ -134,6 +149,7 @@ like_laws = record {
     fixed = b.fixed ∙ a.fixed;
     blocks = blocks_onward u v w a.blocks b.blocks;
     marks = marks_onward u v w a.marks b.marks;
+    shares = shares_onward u v w a.shares b.shares;
     sound = b.sound;
     takes = λ key h. b.takes key (a.takes key h);
     one = λ key other. b.one key other ∙ a.one key other;

@@ -4,15 +4,20 @@ use Rattle.h5w_model.specs.declared.cell.Key.{Key}
 use Rattle.h5w_model.specs.declared.piece.Write.{Write}
 use Rattle.h5w_space.specs.Space.{Space}
 use Rattle.h5w_cache.specs.declared.moves.Move.{Move}
-use Rattle.h5w_bt_index.specs.Index.{no_tree}
+use Rattle.h5w_bt_index.specs.Index.{Index, IsFilled, no_tree}
 use Rattle.h5w_tree_index_laws.specs.TreeDepths.{KeysWithin}
 use Rattle.h5w_index.specs.Views.{IndexView, an_array, a_tree, HasSlot, IsSound}
 use Rattle.h5w_index.specs.Steps.{IsDeep, IsHeld, IsPlan, IsSet, IsUnset}
 
--- places are held in a tree for keys of the first so many bands alone, of which so many stand side by side
+-- Only keys of the first so many bands, each of so many chunks, have records; and each node but the root has two fifths of its capacity.
+pub record IsShallowTree (bands across : ℕ) (v : Index) : Type 0 where
+  pub keys : KeysWithin bands across v
+  pub filled : IsFilled v
+
+-- It is such a tree, as each that was made here for such keys. A valid file may have others.
 abbrev pub AreWithin : ℕ → ℕ → IndexView → Type 0
 AreWithin bands across (an_array v) = Unit {0}
-AreWithin bands across (a_tree place v) = KeysWithin bands across v
+AreWithin bands across (a_tree place v) = IsShallowTree bands across v
 
 -- It is so of a tree without records, and of more bands; each call for such a key leaves it so. Where the keys are at most 1,114,348, as
 -- where a dataset has chunks within the limit, no place is refused for want of depth.

@@ -22,7 +22,7 @@ use Rattle.h5w_flush_laws.specs.Parts.{Parts, AreEnded, IsFlush, block_ranges, b
 use Rattle.h5w_flush_laws.specs.Rows.{ArePlaced}
 use Rattle.h5w_bt_index.specs.Plans.{news, written}
 use Rattle.h5w_tree_index_laws.specs.TreeImages.{AreSame}
-use Rattle.h5w_index.specs.Views.{IndexView, an_array, a_tree, IsClean, IsSound, StandsOn, Stays, address_in, behind_of, blocks_in_place, fixed_of, header_place, kind_of}
+use Rattle.h5w_index.specs.Views.{IndexView, an_array, a_tree, IsClean, IsSound, StandsOn, Stays, address_in, behind_of, fixed_of, header_place, kind_of}
 use Rattle.h5w_index.specs.Steps.{IsPlan}
 use Rattle.h5w_index.specs.Told.{SameMap}
 
@@ -38,7 +38,6 @@ index_parts bytes w rows more writes chunks copies supers last fixed = record {
   end = last;
   in_place = fixed;
   named = None;
-  blocks = blocks_in_place w;
   address = λ key. address_in w key;
   fixed = fixed_of w;
   behind = behind_of bytes w;

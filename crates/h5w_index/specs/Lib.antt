@@ -6,3 +6,4 @@ pub mod Marks
 pub mod Placing
 pub mod Depths
 pub mod Flushes
+pub mod Blocks

@@ -6,7 +6,7 @@ use Rattle.h5w_space.specs.Space.{Space}
 use Rattle.h5w_cache.specs.Stores.{is_changed, place_of}
 use Rattle.h5w_visits.specs.Ranges.{chunk_at}
 use Rattle.h5w_array_laws.specs.Among.{AreAmong}
-use Rattle.h5w_bt_index.specs.Index.{IsClean}
+use Rattle.h5w_bt_index.specs.Index.{IsClean, KeepsShares}
 use Rattle.h5w_bt_index.specs.Marks.{Part}
 use Rattle.h5w_tree_index_laws.specs.TreeImages.{AreSame, SameNodes}
 use Rattle.h5w_index.specs.Views.{IndexView, an_array, a_tree, HasSlot, IsSound, StandsOn, Stays, TakesKey, address_in, behind_of, fixed_of, header_place, is_key, kind_of}
@@ -26,14 +26,22 @@ KeepsMarks (a_tree p v) (a_tree q w) = (part : Part) → IsClean part w → IsCl
 KeepsMarks (an_array v) (a_tree q w) = ⊥
 KeepsMarks (a_tree p v) (an_array w) = ⊥
 
--- It is as it was, but for the map: its kind, where its blocks are, which of them changed, the keys for which places are held, and what
--- stands.
+-- whatever share of their capacity the nodes of a tree have, all but the root, they keep
+abbrev pub SameShares : IndexView → IndexView → Type 0
+SameShares (an_array v) (an_array w) = Unit {0}
+SameShares (a_tree p v) (a_tree q w) = KeepsShares v w
+SameShares (an_array v) (a_tree q w) = ⊥
+SameShares (a_tree p v) (an_array w) = ⊥
+
+-- It is as it was, but for the map: its kind, where its blocks are, which of them changed, the shares of its nodes, the keys for which
+-- places are held, and what stands.
 pub record IsLike (v w : IndexView) : Type 0 where
   pub kind : kind_of w ≡ kind_of v
   pub place : header_place w ≡ header_place v
   pub fixed : fixed_of w ≡ fixed_of v
   pub blocks : SameBlocks v w
   pub marks : KeepsMarks v w
+  pub shares : SameShares v w
   pub sound : IsSound w
   pub takes : (key : Key) → TakesKey v key → TakesKey w key
   pub one : (key other : Key) → is_key w key other ≡ is_key v key other

@@ -1,7 +1,7 @@
 -- The index of a session, whichever its kind.
 use Rattle.std.specs.Prelude.{◌≡◌, ◌≢◌, ℕ, ◌<◌, ◌==◌, Bool, true, List, [], ◌∷◌}
 use Rattle.h5w_model.specs.Numbers.{undefined}
-use Rattle.h5w_model.specs.Tables.{InPlace, key_equal}
+use Rattle.h5w_model.specs.Tables.{key_equal}
 use Rattle.h5w_model.specs.Findings.{Used}
 use Rattle.h5w_model.specs.declared.cell.Key.{Key}
 use Rattle.h5w_model.specs.declared.cell.IndexKind.{IndexKind}
@@ -14,7 +14,7 @@ use Rattle.h5w_array_laws.specs.ArrayStores as arrays
 use Rattle.h5w_array_laws.specs.ArrayImages.{StandsArray}
 use Rattle.h5w_ea_index.specs.Reach as reach
 use Rattle.h5w_bt_index.specs.Marks.{clean_of}
-use Rattle.h5w_bt_index.specs.Index.{Index, IsFilled, IsIndex, IsThere, address_of}
+use Rattle.h5w_bt_index.specs.Index.{Index, IsIndex, IsThere, address_of}
 use Rattle.h5w_tree_index_laws.specs.TreeImages as trees
 use Rattle.h5w_tree_index_laws.specs.TreeFlushes.{TreeStands, header_range}
 
@@ -71,11 +71,6 @@ abbrev pub fixed_of : IndexView → List Used
 fixed_of (an_array v) = arrays.fixed_of v
 fixed_of (a_tree place v) = header_range place ∷ []
 
--- what those say
-abbrev pub blocks_in_place : IndexView → InPlace
-blocks_in_place (an_array v) = arrays.blocks_in_place v
-blocks_in_place (a_tree place v) = trees.blocks_in_place v
-
 -- those behind the blocks in place, with chunks of so many bytes
 abbrev pub behind_of : ℕ → IndexView → List Used
 behind_of bytes (an_array v) = arrays.behind_of bytes v
@@ -85,7 +80,6 @@ behind_of bytes (a_tree place v) = trees.behind_of bytes v
 
 pub record IsSoundTree (place : ℕ) (v : Index) : Type 0 where
   pub index : IsIndex v
-  pub filled : IsFilled v
   pub defined : place ≢ undefined
 
 abbrev pub IsSound : IndexView → Type 0

@@ -5,7 +5,7 @@ ghost use Rattle.h5w_cache.specs.Plans.{IfFull};
 ghost use Rattle.h5w_array_laws.specs.ArrayStores.{IsArray, IsCreated};
 ghost use Rattle.h5w_array_laws.specs.ArrayImages.{StartsArray};
 ghost use Rattle.h5w_bt_index.specs.Held as trees;
-ghost use Rattle.h5w_bt_index.specs.Index.{IsFilled, IsIndex, KeepsShares, no_tree};
+ghost use Rattle.h5w_bt_index.specs.Index.{IsIndex, KeepsShares, no_tree};
 ghost use Rattle.h5w_index.specs.Held.{view_of};
 ghost use Rattle.h5w_index.specs.Views.{HasSlot, IsClean, IsReached, IsSound, TakesKey, a_tree, address_in, an_array};
 ghost use Rattle.h5w_index.specs.Steps.{HasNoPlace, IsBegun, IsDeep, IsHeld, IsPlan, IsSet, IsUnset, copy_pieces, found, in_place_pieces, moves_of, next_of};

@@ -4,6 +4,7 @@
 #![tactic(auto)]
 
 mod begun;
+mod blocks;
 mod index;
 mod laws;
 

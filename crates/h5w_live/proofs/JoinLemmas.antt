@@ -16,18 +16,18 @@ use Rattle.h5w_shared.specs.Turns.{StartsWith}
 use Rattle.h5w_live_laws.specs.Laws.{IsStray}
 use Rattle.h5w_live_laws.specs.Polls.{TellPolls}
 use Rattle.h5w_live_laws.proofs.PollLemmas.{poll_laws}
-use Rattle.h5w_live.specs.Ends.{EndWith, ReadersEnd}
-use Rattle.h5w_live.specs.Reading.{Polled}
+use Rattle.h5w_live_reading.specs.Ends.{EndWith, ReadersEnd}
+use Rattle.h5w_live_reading.specs.Reading.{Polled}
 use Rattle.h5w_live.specs.Reports.{AreWhole, HasPutAll, IsCause, IsShut, Joined, Ran, Reports, TellSeats, TellsNone, before_close, run_of}
 use Rattle.h5w_live.specs.Writing.{HasClosed, HasFlushed}
-use Rattle.h5w_live.specs.declared.actors.AllEnded.{AllEnded}
-use Rattle.h5w_live.specs.declared.actors.Cut.{Cut}
-use Rattle.h5w_live.specs.declared.actors.Cut.TheVariants as cuts
+use Rattle.h5w_live_reading.specs.declared.actors.AllEnded.{AllEnded}
+use Rattle.h5w_live_reading.specs.declared.actors.Cut.{Cut}
+use Rattle.h5w_live_reading.specs.declared.actors.Cut.TheVariants as cuts
 use Rattle.h5w_live.specs.declared.report.LiveError.{LiveError}
 use Rattle.h5w_live.specs.declared.report.LiveError.TheVariants as lives
 use Rattle.h5w_live.specs.declared.threads.Written.{Written}
 use Rattle.h5w_live.proofs.EndLemmas.{first_is}
-use Rattle.h5w_live.proofs.PartLemmas.{reader_agrees, tells_seat}
+use Rattle.h5w_live.proofs.ReaderLemmas.{reader_agrees, tells_seat}
 use Rattle.h5w_live.proofs.ReportLemmas.{all_whole, is_shut}
 use Rattle.h5w_live.proofs.RowLemmas.{few_values}
 use Rattle.h5w_live.proofs.RunLemmas.{is_run, restful}

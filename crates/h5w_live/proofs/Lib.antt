@@ -1,14 +1,11 @@
 pub mod RowLemmas
-pub mod CallLemmas
-pub mod ReadingLemmas
 pub mod WritingLemmas
 pub mod FlushedLemmas
 pub mod BatchLemmas
 pub mod EndLemmas
 pub mod WriterLemmas
 pub mod RunLemmas
-pub mod PartLemmas
-pub mod ActorLemmas
+pub mod ReaderLemmas
 pub mod ReportLemmas
+pub mod MeetLemmas
 pub mod JoinLemmas
-pub mod Sent

@@ -17,11 +17,11 @@ use Rattle.h5w_session.specs.Sessions.{Session}
 use Rattle.h5w_session.specs.declared.refusal.AppendError.TheVariants as appends
 use Rattle.h5w_shared.specs.Seats.{ImageId, SeatView}
 use Rattle.h5w_shared.specs.Turns.{StartsWith}
-use Rattle.h5w_live.specs.Ends.{ReadersEnd}
-use Rattle.h5w_live.specs.Reading.{Polled}
+use Rattle.h5w_live_reading.specs.Ends.{ReadersEnd}
+use Rattle.h5w_live_reading.specs.Reading.{Polled}
 use Rattle.h5w_live.specs.Writing.{Explains, HasFlushed, IsFullAt, first_refused}
-use Rattle.h5w_live.specs.declared.actors.AllEnded.{AllEnded}
-use Rattle.h5w_live.specs.declared.actors.Cut.{Cut}
+use Rattle.h5w_live_reading.specs.declared.actors.AllEnded.{AllEnded}
+use Rattle.h5w_live_reading.specs.declared.actors.Cut.{Cut}
 use Rattle.h5w_live.specs.declared.report.LiveError.{LiveError}
 use Rattle.h5w_live.specs.declared.report.LiveError.TheVariants as lives
 use Rattle.h5w_live.specs.declared.report.LiveReport.{LiveReport}

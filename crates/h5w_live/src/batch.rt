@@ -8,6 +8,7 @@ ghost use Rattle.h5w_space.specs.declared.Full.{Full};
 ghost use Rattle.h5w_creation_laws.specs.CreatedFiles.{CreatedFile};
 ghost use Rattle.h5w_session.specs.Flushes.{SameBut};
 ghost use Rattle.h5w_session.specs.Loads.{NoPlace};
+ghost use Rattle.h5w_session.specs.Past.{IsNew};
 ghost use Rattle.h5w_session.specs.Refusals.{IsFullFor, append_refusal, flush_refusal};
 ghost use Rattle.h5w_session.specs.Sessions.{AreRows, TakesRows, with_values};
 ghost use Rattle.h5w_session.specs.Stands.{Stands};
@@ -65,6 +66,7 @@ fn plan<R: Wait>(
     requires image { seat.old.image ≡ image.now }
     requires waits { 0 < session.old.waits }
     requires taken { flush_refusal session.old ≡ None }
+    requires created { (log : Log) × Stands session.old log × IsNew log }
     ensures flushed { OnOk result (TakesRows session.old session.new) }
     ensures some { OnOk result (1 ≤ length session.new.pending) }
     ensures stands { OnOk result ((log : Log) → Stands session.old log → Stands session.new (and_now (plans (length session.new.pending)) log)) }
@@ -83,6 +85,7 @@ fn plan<R: Wait>(
         Err(FlushError::Space(full)) => Err(Halt::Space(full)),
         Err(FlushError::Failed) => Err(Halt::Failed),
         Err(FlushError::OutOfMemory) => Err(Halt::OutOfMemory),
+        Err(FlushError::Deep) => unreachable!(),
         Err(_) => unreachable!(),
     }
 }

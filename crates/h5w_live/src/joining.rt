@@ -10,13 +10,13 @@ ghost use Rattle.h5w_live.specs.declared.writing.Halt.TheVariants as halts;
 ghost use Rattle.h5w_live.specs.Reports.{AreWhole, IsCause, IsShut, Joined, Ran, Reports, TellSeats, TellsNone, before_close, run_of};
 ghost use Rattle.h5w_live.specs.Writing.{Explains, HasClosed, HasFlushed, first_refused};
 
-use crate::actors::{AllEnded, Cut};
 use crate::lists::{FlushLines, PollLines};
 use crate::report::{LiveError, LiveReport, Loss, lost};
 use crate::threads::Written;
 use crate::writer::close;
 use crate::writing::Halt;
 use h5w_image::{ImageError, Journal};
+use h5w_live_reading::{AllEnded, Cut};
 use h5w_model::{FlushLine, PollLine};
 use h5w_session::WriterCore;
 use h5w_shared::{Note, SharedImage, WriterSeat};

@@ -5,13 +5,10 @@
 //! ended, the writer's seat takes in a note of each reader's, so that what each reader has seen begins what the writer wrote.
 #![tactic(auto)]
 
-mod actors;
 mod batch;
-mod call;
 mod creating;
 mod joining;
 mod lists;
-mod reading;
 mod report;
 mod running;
 mod seated;

@@ -3,6 +3,7 @@ ghost use Rattle.std.specs.Prelude.{◌≡◌, ◌≢◌, ◌⊎◌, ◌<◌, �
 ghost use Rattle.h5w_model.specs.Logs.{Log, and_now, appends, plans};
 ghost use Rattle.h5w_session.specs.Refusals.{IsFullFor, IsSpace, append_refusal, flush_refusal};
 ghost use Rattle.h5w_session.specs.Loads.{NoPlace};
+ghost use Rattle.h5w_session.specs.Past.{IsNew};
 ghost use Rattle.h5w_session.specs.Sessions.{AreRows, TakesRows, rows_of, with_values};
 ghost use Rattle.h5w_session.specs.Stands.{Stands};
 ghost use Rattle.h5w_session.specs.Flushes.{SameBut};
@@ -52,9 +53,10 @@ pub fn flush<R: Wait>(
     ensures some { 0 < session.old.waits → IfOk result (λ pieces. 1 ≤ pieces) }
     ensures stands { IfOk result (λ pieces. (log : Log) → Stands session.old log → Stands session.new (and_now (plans pieces) log)) }
     ensures refused { (e : FlushError) → flush_refusal session.old ≡ Some e → result ≡ Err e }
-    ensures causes { IfErr result (λ e. (flush_refusal session.old ≡ Some e) ⊎ (IsSpace e ⊎ ((e ≡ FlushError.Failed) ⊎ (e ≡ FlushError.OutOfMemory)))) }
+    ensures causes { IfErr result (λ e. (flush_refusal session.old ≡ Some e) ⊎ (IsSpace e ⊎ ((e ≡ FlushError.Deep) ⊎ ((e ≡ FlushError.Failed) ⊎ (e ≡ FlushError.OutOfMemory))))) }
     ensures full { (full : Full) → result ≡ Err (FlushError.Space full) → IsFullFor session.old full }
     ensures bounds { (full : Full) → result ≡ Err (FlushError.Space full) → (log : Log) → Stands session.old log → NoPlace session.old log full }
+    ensures shallow { (log : Log) → Stands session.old log → IsNew log → result ≢ Err FlushError.Deep }
     ensures kept { OnErr result (SameBut session.old session.new) }
     ensures left { OnErr result ((log : Log) → Stands session.old log → Stands session.new log) }
     ensures seat { StaysSeated seat.old seat.new }

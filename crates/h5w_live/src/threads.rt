@@ -4,14 +4,14 @@ ghost use Rattle.h5w_model.specs.declared.piece.Write.{Write};
 ghost use Rattle.h5w_reader.specs.Readers.{reader_rules};
 ghost use Rattle.h5w_creation_laws.specs.CreatedFiles.{CreatedFile};
 ghost use Rattle.h5w_shared.specs.Seats.{SeatView};
-ghost use Rattle.h5w_live.specs.Ends.{ReadersEnd};
+ghost use Rattle.h5w_live_reading.specs.Ends.{ReadersEnd};
 ghost use Rattle.h5w_live.specs.Reports.{HasPutAll};
 ghost use Rattle.h5w_live.specs.Writing.{AreBatches, HasFlushed};
 
-use crate::actors::{AllEnded, Cut, read_all};
 use crate::writer::put_all;
 use crate::writing::Halt;
 use h5w_image::Gate;
+use h5w_live_reading::{AllEnded, Cut, read_all};
 use h5w_model::{FlushLine, OutOfMemory, Values};
 use h5w_session::WriterCore;
 use h5w_shared::{ReaderSeat, SharedImage, WriterSeat};

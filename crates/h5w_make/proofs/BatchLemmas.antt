@@ -165,12 +165,14 @@ place_there bs s t m values h taken is stands =
     let one : load cutting log ≤ 346000 = batch_load bs s m values h taken in
     let before : spent_in cutting log h.log.events ≡ spent cutting h.log = spent_in-events cutting h.log (appends values ∷ h.log.events) h.log.events in
     let loads : spent cutting h.log ≤ length bs * 700000 = subst (λ (c : Cutting). spent c h.log ≤ length bs * 700000) (cut_alike bs s m h) h.loads in
-    let limit : t.places.limit ≡ 2 ^ 40 = ap (λ (x : Session). x.places.limit) is ∙ h.limit in (
+    let limit : t.places.limit ≡ 2 ^ 40 = ap (λ (x : Session). x.places.limit) is ∙ h.limit in
+    let made : IsNew log = is_new log (ap (and_now (appends values)) h.is) in (
       log,
       stands h.log h.stands,
+      made,
       λ full none.
           let size : full.size ≤ load cutting log = subst (λ (c : Cutting). full.size ≤ load c log) cut none.size_bound in
-          let new : first_end_of log ≡ 1024 = new_end log (is_new log (ap (and_now (appends values)) h.is)) in
+          let new : first_end_of log ≡ 1024 = new_end log made in
           let place : full.at ≤ first_end_of log + spent cutting log + load cutting log = subst (λ (c : Cutting). full.at ≤ first_end_of log + spent c log + load c log) cut none.at_bound in
           omega (arith, none.limit, none.past, size, place, new, one, before, loads, limit, taken.batches),
     )
@@ -382,10 +384,11 @@ close_taken bs s m h =
 
 -- ---- What is not refused
 
--- a flush of rows for which there are places, over an image that does not fail, wants memory
-pub only_memory : (s : Session) (e : FlushError) → flush_refusal s ≡ None → (flush_refusal s ≡ Some e) ⊎ (IsSpace e ⊎ ((e ≡ flushes.Failed) ⊎ (e ≡ flushes.OutOfMemory)))
-    → ((full : Full) → e ≡ flushes.Space full → ⊥) → (e ≡ flushes.Failed → ⊥) → e ≡ flushes.OutOfMemory
-only_memory s e none (inl is) space failed = absurd (none_some e (sym none ∙ is))
-only_memory s e none (inr (inl full)) space failed = absurd (space full.0 full.1)
-only_memory s e none (inr (inr (inl is))) space failed = absurd (failed is)
-only_memory s e none (inr (inr (inr is))) space failed = is
+-- a flush of rows for which there are places, and room in the index, over an image that does not fail, wants memory
+pub only_memory : (s : Session) (e : FlushError) → flush_refusal s ≡ None → (flush_refusal s ≡ Some e) ⊎ (IsSpace e ⊎ ((e ≡ flushes.Deep) ⊎ ((e ≡ flushes.Failed) ⊎ (e ≡ flushes.OutOfMemory))))
+    → ((full : Full) → e ≡ flushes.Space full → ⊥) → (e ≡ flushes.Deep → ⊥) → (e ≡ flushes.Failed → ⊥) → e ≡ flushes.OutOfMemory
+only_memory s e none (inl is) space deep failed = absurd (none_some e (sym none ∙ is))
+only_memory s e none (inr (inl full)) space deep failed = absurd (space full.0 full.1)
+only_memory s e none (inr (inr (inl is))) space deep failed = absurd (deep is)
+only_memory s e none (inr (inr (inr (inl is)))) space deep failed = absurd (failed is)
+only_memory s e none (inr (inr (inr (inr is)))) space deep failed = is

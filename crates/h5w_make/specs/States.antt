@@ -9,6 +9,7 @@ use Rattle.h5w_space.specs.declared.Full.{Full}
 use Rattle.h5w_session.specs.Loads.{NoPlace}
 use Rattle.h5w_creation_laws.specs.CreatedFiles.{described_of}
 use Rattle.h5w_session.specs.Creations.{log_of}
+use Rattle.h5w_session.specs.Past.{IsNew}
 use Rattle.h5w_session.specs.Sessions.{Session, cutting_of, with_rows}
 use Rattle.h5w_session.specs.Stands.{Stands}
 use Rattle.h5w_make.specs.Commands.{AreBatches, AreClosed, data_name, new_file, values_of}
@@ -56,9 +57,9 @@ pub record IsClosed (bs : List (List ℤ)) (s : Session) (m : MemView) : Type 0 
 abbrev pub TakesBatch : Session → MemView → List ℤ → Type 0
 TakesBatch s m values = (bs : List (List ℤ)) × IsTaken bs values × IsAfter bs s m
 
--- for the rows that wait the file has places
+-- the session made its file, which has places for the rows that wait
 abbrev pub HasPlace : Session → Type 0
-HasPlace s = (log : Log) × Stands s log × ((full : Full) → NoPlace s log full → ⊥)
+HasPlace s = (log : Log) × Stands s log × IsNew log × ((full : Full) → NoPlace s log full → ⊥)
 
 -- these pieces became visible
 pub record ShowsAll (ws : List Write) (old new : MemView) : Type 0 where

@@ -1,5 +1,5 @@
 -- Why a file is not opened, beside why it is not found.
-use Rattle.std.specs.Prelude.{Option, Some, None}
+use Rattle.std.specs.Prelude.{◌≡◌, ◌⊎◌, Option, Some, None}
 use Rattle.h5w_image.specs.declared.fault.ImageError.{ImageError}
 use Rattle.h5w_image.specs.declared.fault.ImageError.TheVariants as image_errors
 use Rattle.h5w_found.specs.Ran.{Errors}
@@ -7,7 +7,7 @@ use Rattle.h5w_found.specs.Errors.{IsOfBytes}
 use Rattle.h5w_found.specs.declared.error.FindError.{FindError}
 use Rattle.h5w_found.specs.declared.error.FindError.TheVariants as find_errors
 use Rattle.h5w_opening.specs.declared.error.OpenError.{OpenError}
-use Rattle.h5w_opening.specs.declared.error.OpenError.TheVariants.{Read, Flags, Cut, Layout, ChunkBytes, NoColumns, Index, Failed, OutOfMemory}
+use Rattle.h5w_opening.specs.declared.error.OpenError.TheVariants.{Read, Flags, Cut, Layout, ChunkBytes, NoColumns, Finding, Failed, OutOfMemory}
 
 -- a refusal of reading is one of opening; a failed image and want of memory stay what they are
 abbrev pub open_error : FindError → OpenError
@@ -30,11 +30,13 @@ refusal_of (Cut end size) = Some (Cut end size)
 refusal_of Layout = Some Layout
 refusal_of (ChunkBytes bytes limit) = Some (ChunkBytes bytes limit)
 refusal_of NoColumns = Some NoColumns
-refusal_of Index = Some Index
+refusal_of (Finding kind at) = Some (Finding kind at)
 
--- A refusal of reading is one of the file's bytes: an open tells flags by Flags, compares no two looks, and has seen no rows before.
+-- A refusal of reading is one of the file's bytes: an open tells flags by Flags, compares no two looks, and has seen no rows before. A
+-- finding is one of a tree.
 abbrev pub IsOpenKind : OpenError → Type 0
 IsOpenKind (Read e) = IsOfBytes e
+IsOpenKind (Finding kind at) = (kind ≡ 15) ⊎ (kind ≡ 16)
 IsOpenKind e = Unit {0}
 
 abbrev pub open_errors : Errors OpenError OpenError

@@ -3,7 +3,7 @@ use h5w_image::ImageError;
 use h5w_model::{OutOfMemory, ReadError};
 use thiserror::Error;
 
-/// Why a file is not opened for appending. Flags and Cut are tried right after the superblock; Layout, ChunkBytes, NoColumns and Index in
+/// Why a file is not opened for appending. Flags and Cut are tried right after the superblock; Layout, ChunkBytes, NoColumns and Finding in
 /// this order after all of Read.
 #[derive(Clone, Copy, Debug, PartialEq, Eq, Error)]
 pub enum OpenError {
@@ -24,9 +24,10 @@ pub enum OpenError {
     ChunkBytes { bytes: u64, limit: u64 },
     #[error("no columns")]
     NoColumns,
-    /// The index is a tree that no session keeps, or an array whose header names no index block: no rows are appended to such a file.
-    #[error("index")]
-    Index,
+    /// A check of the file finds that the index, a tree whose header stands at `at`, is no map of its keys. Kind 15: a node does not say how
+    /// many records are under it. Kind 16: each node does, and keys do not rise.
+    #[error("finding {kind} at {at}")]
+    Finding { kind: u8, at: u64 },
     /// The image's count of faults rose in this call.
     #[error("image failed")]
     Failed,

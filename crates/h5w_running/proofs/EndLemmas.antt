@@ -100,9 +100,9 @@ good a s t (Err (Error (errors.Cut end size))) text comes h source image = absur
 good a s t (Err (Error errors.Layout)) text comes h source image = absurd comes.0.2
 good a s t (Err (Error (errors.ChunkBytes bytes))) text comes h source image = absurd comes.0.2
 good a s t (Err (Error errors.NoColumns)) text comes h source image = absurd comes.0.2
-good a s t (Err (Error errors.NoIndex)) text comes h source image = absurd comes.0.2
 good a s t (Err (Error (errors.FullChunks chunks limit))) text comes h source image = let why = comes.0 in absurd (not_first a why.0 _ h why.1 why.2.1)
 good a s t (Err (Error (errors.FullSpace at size limit))) text comes h source image = inr (inl refl)
+good a s t (Err (Error errors.Deep)) text comes h source image = absurd comes.0.2
 good a s t (Err (Error (errors.Line number))) text comes h source image = absurd (not_line number t h.has comes.0)
 good a s t (Err (Error (errors.Range batch index value))) text comes h source image = let why = comes.0 in absurd (not_first a why.0 _ h why.1 why.2)
 good a s t (Err (Error (errors.Input limit))) text comes h source image = absurd (not_long limit t h.has comes.0)

@@ -1,5 +1,5 @@
 -- What the code of a flush shows, in its own words.
-use Rattle.std.proofs.Common.{◌≡◌, ℕ, ◌+◌, ◌*◌, ◌^◌, ◌<◌, ◌≤◌, List, [], ◌∷◌, ◌++◌, length, Option, Some, None, IsSome, Result, Err, refl, ap, sym, ◌∙◌, subst, arith, length-append}
+use Rattle.std.proofs.Common.{◌≡◌, ℕ, ◌+◌, ◌*◌, ◌^◌, ◌<◌, ◌≤◌, List, [], ◌∷◌, ◌++◌, length, Option, Some, None, IsSome, Result, Err, refl, ap, sym, ◌∙◌, subst, arith, inl, inr, length-append}
 use Rattle.std.proofs.lemmas.Nat.{mul-le}
 use Rattle.h5w_model.specs.Logs.{div_up}
 use Rattle.h5w_model.specs.Tables.{chunks_across}
@@ -20,15 +20,16 @@ use Rattle.h5w_model.proofs.HeaderLemmas.{messages_at-ok}
 use Rattle.h5w_header_laws.proofs.CommitLaws.{rows_place_is, rows_there}
 use Rattle.h5w_visits.specs.Ranges as ranges
 use Rattle.h5w_index.specs.Views.{IndexView, TakesKey}
-use Rattle.h5w_index.specs.Depths.{AreWithin}
+use Rattle.h5w_index.specs.Blocks.{has_no_block}
 use Rattle.h5w_index.specs.Steps.{IsPlan}
 use Rattle.h5w_index.specs.Told.{HeldTold}
 use Rattle.h5w_index.specs.Placing.{IsPartly, IsPlacing}
 use Rattle.h5w_index.proofs.PlacingLemmas.{placing_laws}
-use Rattle.h5w_session.specs.Sessions.{ArePieces, IsSession, IsWritable, Session, most_bands, option_list, rows_of, with_rows, IsNamed}
+use Rattle.h5w_session.specs.Sessions.{ArePieces, IsRoomy, IsSession, IsWritable, Session, most_bands, option_list, rows_of, with_rows, IsWhole}
 use Rattle.h5w_session.specs.Flushes.{ArePlanned, IsFlushed, SameBut, flushed_of, header_piece}
 use Rattle.h5w_session.specs.declared.refusal.FlushError.{FlushError}
 use Rattle.h5w_session.specs.declared.refusal.FlushError.TheVariants as errors
+use Rattle.h5w_session.proofs.HeaderAlone.{never, same_block}
 use Rattle.h5w_session.proofs.FlushedLemmas.{bands_few, chunks_few, fits_same, flushed_is, flushed_pieces, shown_flushed, takes_keys}
 
 -- the rows have a place in the header
@@ -61,7 +62,7 @@ values_few v most is some few =
 
 -- the calls, of a session v, up to row `to`; r, b and e are the superblock, the header and the cells that wait then
 pub record Carried (v : Session) (to : ℕ) (t : Space) (w : IndexView) (ws : List Write) (r : Super) (b e : List ℕ) : Type 0 where
-  pub there : IsNamed v.dataset
+  pub there : IsWhole v
   pub some : 0 < v.waits
   pub to_is : to ≡ rows_of v
   pub small : to < 2 ^ 52
@@ -75,7 +76,7 @@ pub record Carried (v : Session) (to : ℕ) (t : Space) (w : IndexView) (ws : Li
   pub places_are : places ≡ v.places
   pub placing : IsPlacing v.dataset to v.index places chunks added named between
   pub all : length chunks ≡ touched v.dataset v.dataset.shape.rows to
-  pub within : AreWithin (most_bands v.dataset) (chunks_across v.dataset) named
+  pub roomy : IsRoomy v.dataset v.index → IsRoomy v.dataset named
   pub cells : List ℕ
   pub cells_are : cells ≡ v.waiting
   pub rows : List Write
@@ -130,6 +131,7 @@ module _ (v : Session) (to : ℕ) (t : Space) (w : IndexView) (ws : List Write) 
         supers = x.supers;
         ended = subst (λ (n : ℕ). AreEnded v.root n x.supers) x.end_is x.ended;
         unraised = subst (λ (n : ℕ). n ≡ v.root.end → x.supers ≡ []) x.end_is x.unraised;
+        roomy = x.roomy;
       }
 
   carried_small : t.end < 2 ^ 64
@@ -155,17 +157,17 @@ module _ (v : Session) (to : ℕ) (t : Space) (w : IndexView) (ws : List Write) 
 
   pub carried_is : IsSession carried
   unfolding carried_planned
-  carried_is = subst IsSession (sym carried_after) (flushed_is v is x.there t w ws carried_planned carried_small x.within carried_joined x.header_short)
+  carried_is = subst IsSession (sym carried_after) (flushed_is v is x.there t w ws carried_planned carried_small carried_joined x.header_short)
 
   pub carried_pieces : ArePieces t.end ws
   unfolding carried_planned
-  carried_pieces = flushed_pieces v is x.there t w ws carried_planned carried_small x.within carried_joined x.header_short
+  carried_pieces = flushed_pieces v is x.there t w ws carried_planned carried_small carried_joined x.header_short
 
   pub carried_flushed : (s : Session) → v ≡ s → IsFlushed s carried
   unfolding carried_planned
   carried_flushed s e' =
       subst (λ (u : Session). IsFlushed u carried) e'
-      (subst (λ (u : Session). IsFlushed v u) (sym carried_after) (shown_flushed v is x.there t w ws carried_planned carried_small x.within carried_joined x.header_short))
+      (subst (λ (u : Session). IsFlushed v u) (sym carried_after) (shown_flushed v is x.there t w ws carried_planned carried_small carried_joined x.header_short))
 
 -- ---- A refused flush
 
@@ -173,8 +175,8 @@ module _ (v : Session) (to : ℕ) (u : IndexView) (to_is : to ≡ rows_of v) (p 
   partly_now : IsPartly v.dataset (rows_of v) v.index [] u
   partly_now = subst (λ (n : ℕ). IsPartly v.dataset n v.index [] u) to_is p
 
-  pub refused_is : IsSession v → AreWithin (most_bands v.dataset) (chunks_across v.dataset) u → IsSession (record v { index = u })
-  refused_is is within =
+  pub refused_is : IsSession v → IsSession (record v { index = u })
+  refused_is is =
       let kept : HeldTold v.index u = placing_laws.kept v.dataset to v.index u p in
       record {
         some_columns = is.some_columns;
@@ -185,19 +187,19 @@ module _ (v : Session) (to : ℕ) (u : IndexView) (to_is : to ≡ rows_of v) (p 
         kind = is.kind ∙ sym kept.like.kind;
         sound = kept.like.sound;
         fits = fits_same v.dataset v.index u kept.like.kind is.fits;
-        held = within;
         header = is.header;
         addressed = is.addressed;
         header_ends = is.header_ends;
         small = is.small;
         limit = is.limit;
         inside = placing_laws.carried v.dataset v.places.end v.places.end v.index u kept.map (omega arith) is.inside;
-        tops = λ named. subst (λ us. ranges.AllEndBy v.places.end us) (sym kept.like.fixed) (is.tops named);
+        tops = λ whole. subst (λ us. ranges.AllEndBy v.places.end us) (sym kept.like.fixed) (is.tops (record { named = whole.named; made = sym (same_block v.index u kept.like.fixed) ∙ whole.made }));
+        head = λ named lacking. is.head named (sym (same_block v.index u kept.like.fixed) ∙ lacking);
       }
 
-  pub refused_same : IsNamed v.dataset → (s : Session) → v ≡ s → SameBut s (record v { index = u })
-  refused_same there s e =
-      let own : SameBut v (record v { index = u }) = record { session = refl; held = partly_now; unnamed = λ none. absurd (there none) } in
+  pub refused_same : IsWhole v → (IsRoomy v.dataset v.index → IsRoomy v.dataset u) → (s : Session) → v ≡ s → SameBut s (record v { index = u })
+  refused_same there roomy s e =
+      let own : SameBut v (record v { index = u }) = record { session = refl; held = partly_now; unmade = λ lacks. elim lacks [ inl none ↦ absurd (there.named none) | inr lacking ↦ never (has_no_block v.index) lacking there.made ]; roomy = roomy } in
       subst (λ (t : Session). SameBut t (record v { index = u })) e own
 
 pub same_error : {T U E : Type 0} (e x : E) → ◌≡◌ {A = Result T E} (Err e) (Err x) → ◌≡◌ {A = Result U E} (Err e) (Err x)

@@ -1,6 +1,6 @@
 -- A session that creates its file: it stands for the log without events, and each of its pieces brings it nearer to a file.
-use Rattle.std.proofs.Common.{◌≡◌, ◌≢◌, ℕ, ◌+◌, ◌*◌, ◌/◌, ◌<◌, ◌≤◌, Bool, true, false, List, [], ◌∷◌, ◌++◌, length, ℤ, refl, sym, ap, ◌∙◌, subst, inl, inr, arith, length-append, append_assoc}
-use Rattle.std.proofs.lemmas.Bool.{le-ltb}
+use Rattle.std.proofs.Common.{◌≡◌, ◌≢◌, ℕ, ◌+◌, ◌*◌, ◌/◌, ◌<◌, ◌≤◌, ◌==◌, Bool, true, false, List, [], ◌∷◌, ◌++◌, length, ℤ, refl, sym, ap, ◌∙◌, subst, inl, inr, arith, length-append, append_assoc}
+use Rattle.std.proofs.lemmas.Bool.{le-ltb, ne_eqb}
 use Rattle.std.proofs.lemmas.List.{nil_from_length}
 use Rattle.std.proofs.lemmas.Nat.{div-mul-add}
 use Rattle.std.specs.List.Sorted.{IsPermutation}
@@ -31,14 +31,17 @@ use Rattle.h5w_header_laws.proofs.SpelledLemmas.{spelled_stands}
 use Rattle.h5w_array_laws.proofs.CreatedLemmas.{created_starts}
 use Rattle.h5w_index.specs.Views.{IndexView, IsClean, address_in}
 use Rattle.h5w_index.specs.Flushes.{Begins}
+use Rattle.h5w_index.specs.Blocks.{has_no_block}
 use Rattle.h5w_index.specs.Placing.{IsOwn}
+use Rattle.h5w_session.specs.Past.{IsMadeHere}
+use Rattle.h5w_index.proofs.DepthLemmas.{depth_laws}
 use Rattle.h5w_index.proofs.MarkLemmas.{mark_laws}
 use Rattle.h5w_creation_laws.specs.CreatedFiles.{CreatedFile, IsCreatable, block_place, created_blocks, created_log, created_moment, created_writes, described_of, end_of, header_block, header_place, index_blocks, index_place, root_block, super_block, super_of}
 use Rattle.h5w_creation_laws.specs.CreationLaws.{WritesEndBy}
 use Rattle.h5w_creation_laws.proofs.CreatedLaws.{created_new, created_sizes}
 use Rattle.h5w_creation.specs.Made.{IsNewIndex}
 use Rattle.h5w_creation.proofs.MadeLemmas.{created_rests}
-use Rattle.h5w_session.specs.Sessions.{Session, AfterPiece, AllEndBy, Freed, rows_of}
+use Rattle.h5w_session.specs.Sessions.{IsRoomy, Session, AfterPiece, AllEndBy, Freed, most_bands, rows_of}
 use Rattle.h5w_session.specs.Creations.{IsIndexOf, IsLimit, created, log_of, places_to}
 use Rattle.h5w_session.specs.Stands.{Creating, Running, Stands}
 use Rattle.h5w_session.proofs.PastLemmas.{one_each, past_begins, past_same, some_blocks}
@@ -161,6 +164,23 @@ own_of f v is index =
     let small = (created_sizes f is).end in
     new_own f.index (index_place f) (block_place f) v (omega (arith, small)) (omega (arith, small)) index.new
 
+-- its index block stands somewhere
+new_made : (k : IndexKind) (at block : ℕ) (v : IndexView) → 0 < block → IsNewIndex k at block v → has_no_block v ≡ false
+new_made Array at block v some new =
+    subst (λ (u : IndexView). has_no_block u ≡ false) (sym new.1) (ap (λ p. p == 0) new.2.index_at ∙ ne_eqb block 0 (λ none. absurd (omega (arith, some, none))))
+new_made Tree at block v some new = subst (λ (u : IndexView). has_no_block u ≡ false) (sym new) refl
+
+pub made_here : (f : CreatedFile) (v : IndexView) → IsCreatable f → IsIndexOf f v → IsMadeHere v
+made_here f v is index = (own_of f v is index, new_made f.index (index_place f) (block_place f) v (omega arith) index.new)
+
+-- it has room for each chunk
+new_roomy : (k : IndexKind) (at block : ℕ) (v : IndexView) (d : Described) → IsNewIndex k at block v → IsRoomy d v
+new_roomy Array at block v d new = subst (IsRoomy d) (sym new.1) tt
+new_roomy Tree at block v d new = subst (IsRoomy d) (sym new) (depth_laws.none (most_bands d) (chunks_across d) at)
+
+pub roomy_of : (f : CreatedFile) (v : IndexView) → IsIndexOf f v → IsRoomy (described_of f) v
+roomy_of f v index = new_roomy f.index (index_place f) (block_place f) v (described_of f) index.new
+
 -- writes as they are told there end by the same place
 pub writes_end : (end : ℕ) (ws : List Write) → WritesEndBy end ws → AllEndBy end ws
 writes_end end [] all = tt
@@ -199,7 +219,7 @@ file_made f most v ws stop keep w es t is limit index freed pieces none_appended
       committed = goes_rows f.name next m [] goes;
       columns = refl;
       past = past_begins f (settled (creating f most v ws stop keep) t) next m is refl pieces refl refl refl (record { low = omega (arith, limit.low, kept.1); high = omega (arith, limit.high, kept.1) }) kept.0
-          (writes_end (end_of f) (created_writes f) (created_sizes f is).within) here (no_chunks f is) (own_of f v is index);
+          (writes_end (end_of f) (created_writes f) (created_sizes f is).within) here (no_chunks f is) (made_here f v is index) (roomy_of f v index);
     }
 
 creating_last : (f : CreatedFile) (s : Session) (w : Write) (log : Log) (t : Space) → Freed s.keeps s.places t → Creating f s (w ∷ []) log → Running (settled s t) [] (and_now (shows w) log)
@@ -283,7 +303,7 @@ keep_stands s log st = record {
       appended = r.appended;
       committed = r.committed;
       columns = r.columns;
-      past = past_same s (record s { keeps = true }) st.left log r.after (record { name = refl; place = refl; dataset = refl; address = λ named. refl; limit = refl; own = λ o. o; reach = λ first img h. h }) refl r.past;
+      past = past_same s (record s { keeps = true }) st.left log r.after (record { name = refl; place = refl; dataset = refl; address = λ named. refl; limit = refl; own = λ o. o; reach = λ first img h. h; roomy = λ o. o }) refl r.past;
     })
   ];
   prefixed = st.prefixed;

@@ -14,14 +14,17 @@ use Rattle.h5w_index.proofs.PlacingLemmas.{placing_laws}
 use Rattle.h5w_session.specs.Sessions.{AllEndBy, IsNamed, IsSession, Session, TakesRows, cutting_of, row_bytes, rows_of, with_rows}
 use Rattle.h5w_session.specs.Loads.{NoPlace}
 use Rattle.h5w_session.specs.Flushes.{IsFlushed, SameBut, header_piece}
-use Rattle.h5w_session.specs.Refusals.{IsFullFor, flush_refusal}
+use Rattle.h5w_session.specs.Past.{IsNew}
+use Rattle.h5w_session.specs.Refusals.{IsDeepFor, IsFullFor, flush_refusal}
 use Rattle.h5w_session.specs.Stands.{Stands}
 use Rattle.h5w_session.specs.Starts.{HasFlushed, IsStartFlushed, naming_piece}
 use Rattle.h5w_session.specs.declared.refusal.FlushError.{FlushError}
 use Rattle.h5w_session.specs.declared.refusal.FlushError.TheVariants as flushes
 use Rattle.h5w_session.proofs.FlushLemmas.{told_of}
 use Rattle.h5w_session.proofs.FlushStands.{refused_stands}
+use Rattle.h5w_session.proofs.HeaderAlone.{made_there}
 use Rattle.h5w_session.proofs.IndexLemmas.{header_defined}
+use Rattle.h5w_session.proofs.LawLemmas.{roomy_index}
 use Rattle.h5w_session.proofs.StartLoads.{any_bound, any_carries, full_no_place}
 
 -- ---- Where a flush is not refused at once
@@ -71,8 +74,8 @@ takes_rows old new x =
       place = ap (λ (s : Session). s.place) x.session;
       dataset = dataset ∙ ap (λ (d : Described). with_index d.layout.address (with_rows (rows_of old) old.dataset)) (sym dataset);
       address = λ named. ap (λ (d : Described). d.layout.address) dataset;
-      named = λ some none. x.there (sym (ap (λ (d : Described). d.layout.address) dataset) ∙ none);
-      made = λ some none. absurd (x.there none);
+      named = λ some none. x.there.named (sym (ap (λ (d : Described). d.layout.address) dataset) ∙ none);
+      made = λ some none. absurd (x.there.named none);
       waiting = ap (λ (s : Session). s.waiting) x.session;
       waits = ap (λ (s : Session). s.waits) x.session;
       committed = ap (λ (s : Session). s.committed) x.session;
@@ -85,8 +88,10 @@ takes_rows old new x =
 started_pieces : (old new : Session) → IsStartFlushed old new → 1 ≤ length new.pending
 started_pieces old new x =
     let p = x.planned in
-    let supers = p.supers ++ naming_piece old x.at ∷ [] in
-    omega (arith, ap length x.pending, length-append p.rows (p.copies ++ (p.fixed ++ supers)), length-append p.copies (p.fixed ++ supers), length-append p.fixed supers, length-append p.supers (naming_piece old x.at ∷ []))
+    let j = x.pending in
+    let last = j.behind ++ naming_piece old x.naming ∷ [] in
+    let front = j.front ++ (p.supers ++ last) in
+    omega (arith, ap length j.all, length-append p.rows (p.copies ++ front), length-append p.copies front, length-append j.front (p.supers ++ last), length-append p.supers last, length-append j.behind (naming_piece old x.naming ∷ []))
 
 starts_rows : (old new : Session) → IsStartFlushed old new → TakesRows old new
 starts_rows old new x =
@@ -101,7 +106,7 @@ starts_rows old new x =
       root = root ∙ ap (λ n. record (old.root) { end = n }) (sym (ap (λ (r : Super). r.end) root));
       place = ap (λ (s : Session). s.place) x.session;
       dataset = dataset ∙ ap (λ (d : Described). with_index d.layout.address (with_rows (rows_of old) old.dataset)) (sym dataset);
-      address = λ named. absurd (named x.absent);
+      address = λ named. address ∙ made_there old.dataset.layout.address old.places x.at x.made x.first x.start.made named;
       named = λ some none. header_defined new.index told.sound (at_place ∙ sym address ∙ none);
       made = λ some none. address ∙ sym at_place;
       waiting = ap (λ (s : Session). s.waiting) x.session;
@@ -165,7 +170,7 @@ pub told_same : (old new : Session) (r : Result ℕ FlushError) → IsSession ol
 told_same old new (Ok n) is same = tt
 told_same old new (Err e) is same =
     let none = placing_laws.none old.dataset (rows_of old) old.index old.places old.places is.sound refl refl refl refl in
-    let own : SameBut old old = record { session = refl; held = none.partly; unnamed = λ unnamed. refl } in
+    let own : SameBut old old = record { session = refl; held = none.partly; unmade = λ unmade. refl; roomy = λ r. r } in
     subst (λ (s : Session). SameBut old s) (sym same) own
 
 pub told_left : (old new : Session) (r : Result ℕ FlushError) → IsIdle old → OnErr r (SameBut old new) → OnErr r ((log : Log) → Stands old log → Stands new log)
@@ -186,6 +191,10 @@ told_bound old new (Err e) i x count = tt
 pub told_bounds : (s : Session) (r : Result ℕ FlushError) → IsIdle s → 0 < s.waits → ((full : Full) → r ≡ Err (flushes.Space full) → IsFullFor s full)
     → (full : Full) → r ≡ Err (flushes.Space full) → (log : Log) → Stands s log → NoPlace s log full
 told_bounds s r i waits told full is log stands = full_no_place s log i.running i.idle stands waits full (told full is)
+
+-- a file that a session created has an index with room
+pub told_shallow : (s : Session) (r : Result ℕ FlushError) → (r ≡ Err flushes.Deep → IsDeepFor s) → (log : Log) → Stands s log → IsNew log → r ≡ Err flushes.Deep → ⊥
+told_shallow s r told log stands new is = (told is).1.cramped (roomy_index s log stands new)
 
 pub some_waits : (n : ℕ) → (n ≡ 0 → ⊥) → 0 < n
 some_waits zero some = absurd (some refl)

@@ -47,7 +47,7 @@ use Rattle.h5w_session.specs.Flushes.{ArePlanned, IsFlushed, flushed_of, header_
 use Rattle.h5w_session.specs.Past.{Past}
 use Rattle.h5w_session.specs.Stands.{Running}
 use Rattle.h5w_types.proofs.RunLemmas.{first_has_cell}
-use Rattle.h5w_session.proofs.IndexLemmas.{kept_named}
+use Rattle.h5w_session.proofs.IndexLemmas.{kept_whole}
 use Rattle.h5w_session.proofs.CreatingLemmas.{no_cells}
 
 -- ---- Values
@@ -97,7 +97,7 @@ module _ (old new : Session) (log : Log) (x : IsFlushed old new) (r : Running ol
 
   -- the file's index is the session's
   pub index_now : Rests (image_now log) r.after r.address old.places old.index
-  index_now = kept_named (image_now log) r.after r.address old.places old.index (subst IsNamed (sym r.keeps.dataset) x.there) r.index
+  index_now = kept_whole (image_now log) r.after r.address old.places old.index (subst IsNamed (sym r.keeps.dataset) x.there.named) x.there.made r.index
 
   same_map : r.address ≡ map_before
   same_map = λ i key. index_now.map key i

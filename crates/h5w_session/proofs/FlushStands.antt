@@ -1,5 +1,5 @@
 -- What a flush makes of a session that stands over a log.
-use Rattle.std.proofs.Common.{◌≡◌, ℕ, ◌*◌, Bool, false, List, [], ◌∷◌, ◌++◌, length, ℤ, refl, sym, ap, ◌∙◌, subst, inl, inr, arith, append-nil}
+use Rattle.std.proofs.Common.{◌≡◌, ◌⊎◌, ℕ, ◌*◌, Bool, true, false, List, [], ◌∷◌, ◌++◌, length, ℤ, refl, sym, ap, ◌∙◌, subst, inl, inr, arith, append-nil}
 use Rattle.std.specs.Prelude.{if◌then◌else◌}
 use Rattle.std.proofs.lemmas.Bool.{le-leb}
 use Rattle.h5w_model.specs.Logs.{Log, load, plans, appended, appended_in, flushed_in, and_now}
@@ -14,7 +14,9 @@ use Rattle.h5w_index.specs.Placing.{IsPartly}
 use Rattle.h5w_index.proofs.PartLemmas.{rests_held}
 use Rattle.h5w_index.proofs.PlacingLemmas.{placing_laws}
 use Rattle.h5w_index.proofs.RaisedLemmas.{raised_more, raised_none}
-use Rattle.h5w_session.specs.Indexes.{IsKeptIndex}
+use Rattle.h5w_index.specs.Blocks.{has_no_block}
+use Rattle.h5w_session.specs.Indexes.{IsKeptIndex, Lacks, an_index, a_block}
+use Rattle.h5w_session.proofs.HeaderAlone.{same_block}
 use Rattle.h5w_session.specs.Flushes.{IsFlushed, SameBut, flushed_of}
 use Rattle.h5w_session.specs.Past.{Past}
 use Rattle.h5w_session.specs.Stands.{Running, Stands}
@@ -96,10 +98,14 @@ nothing_stands s log running idle none st =
 -- ---- A flush is refused
 
 -- places that are held leave what the index is for the file; where the file has none yet, it stays
-held_kept : (img : List ℕ) (m : Moment) (address : Key → ℕ) (s : Space) (d : Described) (to : ℕ) (v w : IndexView) → IsPartly d to v [] w → (m.dataset.layout.address ≡ undefined → w ≡ v) → IsKeptIndex img m address s v
-    → IsKeptIndex img m address s w
+held_kept : (img : List ℕ) (m : Moment) (address : Key → ℕ) (s : Space) (d : Described) (to : ℕ) (v w : IndexView) → IsPartly d to v [] w → ((m.dataset.layout.address ≡ undefined) ⊎ (has_no_block v ≡ true) → w ≡ v)
+    → IsKeptIndex img m address s v → IsKeptIndex img m address s w
 held_kept img m address s d to v w held still (inl i) = inl (rests_held img m address s v w (placing_laws.kept d to v w held) i)
-held_kept img m address s d to v w held still (inr none) = subst (λ (u : IndexView). IsKeptIndex img m address s u) (sym (still none.unnamed)) (inr none)
+held_kept img m address s d to v w held still (inr none) = subst (λ (u : IndexView). IsKeptIndex img m address s u) (sym (still (lacking none.lacks))) (inr none)
+  where
+    lacking : Lacks img m.dataset v → (m.dataset.layout.address ≡ undefined) ⊎ (has_no_block v ≡ true)
+    lacking (an_index unnamed) = inl unnamed
+    lacking (a_block alone no_block) = inr no_block
 
 refused_running : (old new : Session) (log : Log) → SameBut old new → Running old [] log → Running (record old { index = new.index }) [] log
 refused_running old new log b r = record {
@@ -110,7 +116,7 @@ refused_running old new log b r = record {
   keeps = record { root = r.keeps.root; place = r.keeps.place; dataset = r.keeps.dataset; header = r.keeps.header };
   index =
       held_kept (image_now log) r.after r.address old.places old.dataset (rows_of old) old.index new.index b.held
-      (λ none. b.unnamed (ap (λ (d : Described). d.layout.address) (sym r.keeps.dataset) ∙ none)) r.index;
+      (λ none. b.unmade (subst (λ (d : Described). (d.layout.address ≡ undefined) ⊎ (has_no_block old.index ≡ true)) r.keeps.dataset none)) r.index;
   marks = b.held.marks r.marks;
   more = r.more;
   waiting = r.waiting;
@@ -119,7 +125,7 @@ refused_running old new log b r = record {
   appended = r.appended;
   committed = r.committed;
   columns = r.columns;
-  past = past_same old (record old { index = new.index }) [] log r.after (record { name = refl; place = refl; dataset = refl; address = λ named. refl; limit = refl; own = b.held.own; reach = λ first img reached more key low there. b.held.reach key there (reached more key low (λ e. there ((placing_laws.kept old.dataset (rows_of old) old.index new.index b.held).map key ∙ e))) }) refl r.past;
+  past = past_same old (record old { index = new.index }) [] log r.after (record { name = refl; place = refl; dataset = refl; address = λ named. refl; limit = refl; own = λ o. (b.held.own o.0, same_block old.index new.index (placing_laws.kept old.dataset (rows_of old) old.index new.index b.held).like.fixed ∙ o.1); reach = λ first img reached more key low there. b.held.reach key there (reached more key low (λ e. there ((placing_laws.kept old.dataset (rows_of old) old.index new.index b.held).map key ∙ e))); roomy = b.roomy }) refl r.past;
 }
 
 pub refused_stands : (old new : Session) (log : Log) → SameBut old new → old.stopped ≡ false → old.pending ≡ [] → Stands old log → Stands new log

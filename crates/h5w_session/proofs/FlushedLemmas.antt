@@ -20,15 +20,16 @@ use Rattle.h5w_space.specs.Space.{Space}
 use Rattle.h5w_chunks.specs.Grids.{chunk_len}
 use Rattle.h5w_chunks.specs.declared.grid.ChunkPlace.{ChunkPlace}
 use Rattle.h5w_flush_laws.specs.Parts.{AreEnded}
-use Rattle.h5w_index.specs.Views.{IndexView, IsSound, TakesKey, an_array, a_tree, fixed_of, kind_of}
-use Rattle.h5w_index.specs.Depths.{AreWithin}
-use Rattle.h5w_index.specs.Flushes.{IsWhole, PlanTold}
+use Rattle.h5w_index.specs.Views.{IndexView, IsSound, TakesKey, an_array, a_tree, fixed_of, header_place, kind_of}
+use Rattle.h5w_index.specs.Blocks.{has_no_block}
+use Rattle.h5w_index.specs.Flushes.{PlanTold}
+use Rattle.h5w_index.specs.Flushes as index
 use Rattle.h5w_index.specs.Placing.{AreInside, Fits}
-use Rattle.h5w_index.proofs.DepthLemmas.{depth_laws}
 use Rattle.h5w_index.proofs.PlacingLemmas.{placing_laws}
-use Rattle.h5w_session.specs.Sessions.{ArePieces, IsSession, Session, bands_of, chunk_limit, most_bands, rows_of, with_rows, IsNamed}
+use Rattle.h5w_session.specs.Sessions.{ArePieces, IsSession, Session, bands_of, chunk_limit, most_bands, rows_of, with_rows, IsWhole}
 use Rattle.h5w_session.specs.Flushes.{ArePlanned, IsFlushed, flushed_of, header_piece}
 use Rattle.h5w_session.proofs.FlushLemmas.{told_of}
+use Rattle.h5w_session.proofs.HeaderAlone.{never, same_block}
 use Rattle.h5w_session.proofs.PastLemmas.{ends_joined}
 use Rattle.h5w_session.proofs.PieceLemmas.{blocks_sized, blocks_within, rows_within}
 use Rattle.h5w_session.proofs.TakingLemmas.{limit_top}
@@ -92,11 +93,11 @@ fixed_short (a_tree p v) u (inl head) = let e : bthd_len ≡ u.len = ap (λ (x :
 fixed_short (a_tree p v) u (inr none) = absurd none
 
 -- writes of whole blocks in place
-whole_pieces : (end : ℕ) (v : IndexView) (ws : List Write) → ranges.AllEndBy end (fixed_of v) → All (IsWhole (fixed_of v)) ws → ArePieces end ws
+whole_pieces : (end : ℕ) (v : IndexView) (ws : List Write) → ranges.AllEndBy end (fixed_of v) → All (index.IsWhole (fixed_of v)) ws → ArePieces end ws
 whole_pieces end v [] tops all = record { sized = tt; within = tt }
 whole_pieces end v (w ∷ ws) tops all =
-    let own : IsWhole (fixed_of v) w = All-head (IsWhole (fixed_of v)) w ws all in
-    let rest : ArePieces end ws = whole_pieces end v ws tops (All-tail (IsWhole (fixed_of v)) w ws all) in
+    let own : index.IsWhole (fixed_of v) w = All-head (index.IsWhole (fixed_of v)) w ws all in
+    let rest : ArePieces end ws = whole_pieces end v ws tops (All-tail (index.IsWhole (fixed_of v)) w ws all) in
     let short = fixed_short v own.used own.among in
     record {
       sized = ((omega (arith, own.long, short.0), omega (arith, own.long, short.1)), rest.sized);
@@ -139,9 +140,6 @@ module _ (s : Session) (is : IsSession s) (v : IndexView) (before : Space) (b : 
   pub fits_then : Fits s.dataset w
   fits_then = fits_same s.dataset v w same_kind x.fits
 
-  pub held_then : (bands across : ℕ) → AreWithin bands across x.named → AreWithin bands across w
-  held_then bands across within = depth_laws.planned bands across x.named x.between x.moves x.copies x.fixed w t x.plan within
-
   -- each chunk that rows may still go into ends in the file then, where it has an address
   pub inside_then : AreInside (with_rows (rows_of s) s.dataset) t.end w
   inside_then =
@@ -155,6 +153,13 @@ module _ (s : Session) (is : IsSession s) (v : IndexView) (before : Space) (b : 
   tops_then =
       let less : before.end ≤ t.end = omega (arith, x.placing.raised.rises, told.rises) in
       subst (λ (us : List Used). ranges.AllEndBy t.end us) (sym (told.stay ∙ x.placing.partly.like.fixed)) (ends_later before.end t.end (fixed_of v) less b.tops)
+
+  pub told_place : header_place w ≡ header_place v
+  told_place = told.place ∙ x.placing.partly.like.place
+
+  -- and lack the index block where they did
+  pub same_blocks : has_no_block w ≡ has_no_block v
+  same_blocks = same_block v w (told.stay ∙ x.placing.partly.like.fixed)
 
   -- its pieces but for the header's
   pub rows_pieces : ArePieces t.end x.rows
@@ -175,11 +180,11 @@ module _ (s : Session) (is : IsSession s) (v : IndexView) (before : Space) (b : 
 
 -- ---- Where the layout names the index
 
-pub before_is : (s : Session) → IsSession s → IsNamed s.dataset → IsBefore s s.index s.places
+pub before_is : (s : Session) → IsSession s → IsWhole s → IsBefore s s.index s.places
 before_is s is there = record { kind = is.kind; rises = omega arith; limit = refl; inside = is.inside; tops = is.tops there }
 
-module _ (s : Session) (is : IsSession s) (there : IsNamed s.dataset) (t : Space) (w : IndexView) (ws : List Write) (x : ArePlanned s s.index s.places w t) (small : t.end < 2 ^ 64)
-    (within : AreWithin (most_bands s.dataset) (chunks_across s.dataset) x.named) (pending : ws ≡ x.rows ++ (x.copies ++ (x.supers ++ (x.fixed ++ header_piece s ∷ [])))) (header_short : length s.header ≤ 512) where
+module _ (s : Session) (is : IsSession s) (there : IsWhole s) (t : Space) (w : IndexView) (ws : List Write) (x : ArePlanned s s.index s.places w t) (small : t.end < 2 ^ 64)
+    (pending : ws ≡ x.rows ++ (x.copies ++ (x.supers ++ (x.fixed ++ header_piece s ∷ [])))) (header_short : length s.header ≤ 512) where
   abbrev after : Session
   after = flushed_of s t ws w
 
@@ -201,14 +206,14 @@ module _ (s : Session) (is : IsSession s) (there : IsNamed s.dataset) (t : Space
         kind = kind_then s is s.index s.places before w t x;
         sound = sound_then s is s.index s.places before w t x;
         fits = fits_then s is s.index s.places before w t x;
-        held = held_then s is s.index s.places before w t x (most_bands d) (chunks_across d) within;
         header = writable_again s.header rows is.header;
-        addressed = λ none. absurd (there none);
+        addressed = λ none. absurd (there.named none);
         header_ends = omega (arith, written_length s.header rows is.header, is.header_ends, far);
         small = small;
         limit = limit_then s is s.index s.places before w t x;
         inside = inside_then s is s.index s.places before w t x;
-        tops = λ named. tops_then s is s.index s.places before w t x;
+        tops = λ whole. tops_then s is s.index s.places before w t x;
+        head = λ named lacking. never (has_no_block w) lacking (same_blocks s is s.index s.places before w t x ∙ there.made);
       }
 
   pub flushed_pieces : ArePieces t.end ws

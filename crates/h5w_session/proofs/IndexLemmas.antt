@@ -1,5 +1,5 @@
 -- What the index of a session is for its file, as calls leave it.
-use Rattle.std.proofs.Common.{◌≡◌, ℕ, Bool, true, false, List, [], ◌++◌, sym, ◌∙◌, subst, inl, inr, refl}
+use Rattle.std.proofs.Common.{◌≡◌, ◌⊎◌, ℕ, Bool, true, false, List, [], ◌++◌, sym, ◌∙◌, subst, inl, inr, refl}
 use Rattle.std.proofs.lemmas.List.Elements.{All-nil}
 use Rattle.h5w_model.specs.Images.{apply}
 use Rattle.h5w_model.specs.Numbers.{undefined}
@@ -17,7 +17,10 @@ use Rattle.h5w_index.specs.Flushes.{Rests}
 use Rattle.h5w_index.proofs.FlushLemmas.{rests_forgotten, rests_freed}
 use Rattle.h5w_index.proofs.BeginLemmas.{rests_missed}
 use Rattle.h5w_session.specs.Sessions.{Freed, IsNamed}
-use Rattle.h5w_session.specs.Indexes.{IsKeptIndex, IsStarting}
+use Rattle.h5w_block_laws.proofs.AloneLemmas.{alone_missed}
+use Rattle.h5w_index.specs.Blocks.{has_no_block}
+use Rattle.h5w_session.specs.Indexes.{IsKeptIndex, IsStarting, Lacks, an_index, a_block}
+use Rattle.h5w_session.proofs.HeaderAlone.{never, rests_whole}
 
 -- ---- What was retired becomes free or is forgotten, and the superblock is written again
 
@@ -38,24 +41,33 @@ freed_kept keeps img m address s t v freed (inr none) = inr none
 pub missed_kept : (img name : List ℕ) (m : Moment) (address : Key → ℕ) (s : Space) (v : IndexView) (w : Write) → Knows img name m address s → MissesEach w (m.fixed ++ m.behind) → IsKeptIndex img m address s v
     → IsKeptIndex (apply w img) m address s v
 missed_kept img name m address s v w knows off (inl i) = inl (rests_missed img name m address s v w knows off i)
-missed_kept img name m address s v w knows off (inr none) = inr none
+missed_kept img name m address s v w knows off (inr none) = inr (record { kind = none.kind; lacks = go none.lacks; sound = none.sound; blank = none.blank; map = none.map })
+  where
+    go : Lacks img m.dataset v → Lacks (apply w img) m.dataset v
+    go (an_index unnamed) = an_index unnamed
+    go (a_block alone lacking) = a_block (alone_missed img name m w knows.file alone off) lacking
 
 -- with another superblock
 pub super_kept : (img : List ℕ) (m : Moment) (root : Super) (address : Key → ℕ) (s : Space) (v : IndexView) → IsKeptIndex img m address s v → IsKeptIndex img (record m { super = root }) address s v
 super_kept img m root address s v (inl i) = inl (record { kind = i.kind; at_place = i.at_place; sound = i.sound; stands = i.stands; stays = i.stays; fixed = i.fixed; behind = i.behind; map = i.map })
-super_kept img m root address s v (inr none) = inr (record { kind = none.kind; unnamed = none.unnamed; sound = none.sound; blank = none.blank; map = none.map })
+super_kept img m root address s v (inr none) = inr (record { kind = none.kind; lacks = none.lacks; sound = none.sound; blank = none.blank; map = none.map })
 
--- a file whose layout names its index has it
-pub kept_named : (img : List ℕ) (m : Moment) (address : Key → ℕ) (s : Space) (v : IndexView) → IsNamed m.dataset → IsKeptIndex img m address s v → Rests img m address s v
-kept_named img m address s v named (inl i) = i
-kept_named img m address s v named (inr none) = absurd (named none.unnamed)
+-- a file whose layout names its index has it, if that has an index block
+pub kept_whole : (img : List ℕ) (m : Moment) (address : Key → ℕ) (s : Space) (v : IndexView) → IsNamed m.dataset → has_no_block v ≡ false → IsKeptIndex img m address s v → Rests img m address s v
+kept_whole img m address s v named made (inl i) = i
+kept_whole img m address s v named made (inr none) = go none.lacks
+  where
+    go : Lacks img m.dataset v → Rests img m address s v
+    go (an_index unnamed) = absurd (named unnamed)
+    go (a_block alone lacking) = never (has_no_block v) lacking made
 
 -- an index stands somewhere
 pub header_defined : (v : IndexView) → IsSound v → header_place v ≡ undefined → ⊥
 header_defined (an_array v) sound none = (sound.in_place header tt refl).1 none
 header_defined (a_tree place v) sound none = sound.defined none
 
--- a file whose layout names none has none
-pub kept_starting : (img : List ℕ) (m : Moment) (address : Key → ℕ) (s : Space) (v : IndexView) → m.dataset.layout.address ≡ undefined → IsKeptIndex img m address s v → IsStarting m address v
-kept_starting img m address s v none (inl i) = absurd (header_defined v i.sound (sym i.at_place ∙ none))
-kept_starting img m address s v none (inr starts) = starts
+-- a file lacks its index where the layout names none, or where that which is kept has no index block
+pub kept_starting : (img name : List ℕ) (m : Moment) (address : Key → ℕ) (s : Space) (v : IndexView) → Knows img name m address s → (m.dataset.layout.address ≡ undefined) ⊎ (has_no_block v ≡ true) → IsKeptIndex img m address s v → IsStarting img m address v
+kept_starting img name m address s v knows (inl none) (inl i) = absurd (header_defined v i.sound (sym i.at_place ∙ none))
+kept_starting img name m address s v knows (inr lacking) (inl i) = never (has_no_block v) lacking (rests_whole img name m address s v knows i)
+kept_starting img name m address s v knows unmade (inr starts) = starts

@@ -31,13 +31,13 @@ use Rattle.h5w_creation_laws.proofs.CreatedLaws.{created_sizes}
 use Rattle.h5w_session.specs.Laws.{IsDatasetOf, RoomStays, SaysNumbers, ShownLaws, StandingLaws}
 use Rattle.h5w_session.specs.Loads.{end_in, first_end_of}
 use Rattle.h5w_session.specs.Past.{HasCreated, HasOpened, IsNew, Past, most_of}
-use Rattle.h5w_session.specs.Sessions.{Session, chunk_limit, with_rows, IsNamed}
+use Rattle.h5w_session.specs.Sessions.{IsRoomy, Session, chunk_limit, with_rows, IsNamed}
 use Rattle.h5w_session.specs.Stands.{Creating, Stands}
 use Rattle.h5w_session.proofs.BeginLemmas.{beginning, new_image, since_first}
-use Rattle.h5w_session.proofs.CreatingLemmas.{committed_told, own_of, rows_told, shown_so_far, some_length}
+use Rattle.h5w_session.proofs.CreatingLemmas.{committed_told, own_of, roomy_of, rows_told, shown_so_far, some_length}
 use Rattle.h5w_session.proofs.PastLemmas.{ends_front, ends_later, ends_take, image_ends, new_end, new_named, some_blocks}
 use Rattle.h5w_session.proofs.StandLemmas.{freed_keeps, goes_rows, left_running, resting}
-use Rattle.h5w_session.proofs.IndexLemmas.{kept_named}
+use Rattle.h5w_session.proofs.IndexLemmas.{kept_whole}
 use Rattle.h5w_session.proofs.RestLemmas.{array_rests, at_rest}
 
 -- ---- How a log began
@@ -273,7 +273,15 @@ own_index : (s : Session) (log : Log) → Stands s log → IsNew log → IsOwn s
 own_index s log st new =
     elim st.phase [
       | inl c ↦ own_of c.0 s.index c.1.is c.1.index
-      | inr r ↦ r.past.own new
+      | inr r ↦ (r.past.own new).0
+    ]
+
+-- and has room for each chunk
+pub roomy_index : (s : Session) (log : Log) → Stands s log → IsNew log → IsRoomy s.dataset s.index
+roomy_index s log st new =
+    elim st.phase [
+      | inl c ↦ subst (λ (d : Described). IsRoomy d s.index) (sym (ap (λ (t : Session). t.dataset) c.1.session)) (roomy_of c.0 s.index c.1.index)
+      | inr r ↦ r.past.roomy new
     ]
 
 named_index : (s : Session) (log : Log) → Stands s log → IsNew log → IsNamed s.dataset
@@ -287,8 +295,10 @@ named_index s log st new none = elim st.phase [
 says_numbers : (s : Session) (log : Log) → Stands s log → IsNew log → s.stopped ≡ false → s.pending ≡ [] → s.waits ≡ 0 → (v : Store) → s.index ≡ an_array v → SaysNumbers s v (image_now log)
 says_numbers s log st new running idle none v e =
     let r = at_rest s log st running idle in
-    let own : IsOwnArray v = subst IsOwn e (r.past.own new) in
-    let rest = array_rests s log r none (new_named s [] log r.after new r.past) v e in
+    let own : IsOwnArray v = subst IsOwn e (r.past.own new).0 in
+    let named : IsNamed r.after.dataset = subst IsNamed (sym r.keeps.dataset) (new_named s [] log r.after new r.past) in
+    let now = kept_whole (image_now log) r.after r.address s.places s.index named (r.past.own new).1 r.index in
+    let rest = array_rests s log r now none v e in
     record {
       address = rest.address;
       map = rest.map;

@@ -29,15 +29,7 @@ pub mod NextLemmas
 pub mod PieceBounds
 pub mod ReachedLemmas
 pub mod LoadLemmas
+pub mod HeaderAlone
 pub mod StartLoads
 pub mod FlushCalls
 pub mod OpenedLemmas
-mod OpenRangeLemmas
-mod SaidLemmas
-mod SessionOver
-mod UndamagedLemmas
-mod UndamagedTreeLemmas
-mod OverFile
-pub mod LeftLemmas
-mod OpenStepLemmas
-mod OpenAnswerLemmas

@@ -19,15 +19,17 @@ use Rattle.h5w_flush_laws.specs.Parts.{AreEnded}
 use Rattle.h5w_index.specs.Views.{IndexView}
 use Rattle.h5w_index.specs.Marks.{IsMarked, IsRaised}
 use Rattle.h5w_index.specs.Placing.{IsFullPart, IsOwn, most_of}
+use Rattle.h5w_index.proofs.DepthLemmas.{depth_laws}
 use Rattle.h5w_index.proofs.MarkLemmas.{plan_bounds}
 use Rattle.h5w_index.proofs.PlacingLemmas.{own_laws, placing_laws}
 use Rattle.h5w_index.proofs.RaisedLemmas.{raised_more, raised_on}
 use Rattle.h5w_session.specs.Flushes.{ArePlanned, IsFlushed, flushed_of, header_piece, touched_by}
 use Rattle.h5w_session.specs.Loads.{NoPlace, first_end_of}
-use Rattle.h5w_session.specs.Past.{IsCounted, Past}
-use Rattle.h5w_session.specs.Sessions.{Session, AllEndBy, AreReached, cutting_of, rows_of, with_rows}
+use Rattle.h5w_session.specs.Past.{IsCounted, IsMadeHere, Past}
+use Rattle.h5w_session.specs.Sessions.{IsRoomy, Session, AllEndBy, AreReached, cutting_of, most_bands, rows_of, with_rows}
 use Rattle.h5w_session.specs.Stands.{Running, Stands}
-use Rattle.h5w_session.proofs.FlushLemmas.{after_flush}
+use Rattle.h5w_session.proofs.FlushLemmas.{after_flush, told_of}
+use Rattle.h5w_session.proofs.HeaderAlone.{same_block}
 use Rattle.h5w_session.proofs.FlushStands.{flush_stands, idle_running}
 use Rattle.h5w_session.proofs.LawLemmas.{standing_laws}
 use Rattle.h5w_session.proofs.NextLemmas.{next_addressed}
@@ -109,6 +111,10 @@ module _ (s : Session) (v : IndexView) (before : Space) (w : IndexView) (t : Spa
   pub planned_own : IsOwn v → IsOwn w
   planned_own own = own_laws.planned x.named x.between x.moves x.copies x.fixed w t x.placing.partly.like.sound x.plan (x.placing.partly.own own)
 
+  -- an index that had room has it still
+  pub planned_roomy : IsRoomy s.dataset v → IsRoomy s.dataset w
+  planned_roomy roomy = depth_laws.planned (most_bands s.dataset) (chunks_across s.dataset) x.named x.between x.moves x.copies x.fixed w t x.plan (x.roomy roomy)
+
   module _ (marks : IsMarked s.dataset s.dataset.shape.rows (rows_of s) v) where
     pub planned_raised : IsRaised before t (most_of s.dataset (rows_of s))
     planned_raised = placing_laws.raised s.dataset (rows_of s) v x.named w before x.between t x.chunks x.added x.moves x.copies x.fixed x.all marks x.placing x.plan
@@ -135,8 +141,8 @@ module _ (s : Session) (v : IndexView) (before : Space) (w : IndexView) (t : Spa
 
 -- ---- A flush into a file whose index is there
 
-like_flushed : (old new : Session) → new ≡ flushed_of old new.places new.pending new.index → new.places.limit ≡ old.places.limit → (IsOwn old.index → IsOwn new.index) → AreReached new → IsLike old new
-like_flushed old new e limit own reached =
+like_flushed : (old new : Session) → new ≡ flushed_of old new.places new.pending new.index → new.places.limit ≡ old.places.limit → (IsMadeHere old.index → IsMadeHere new.index) → AreReached new → (IsRoomy old.dataset old.index → IsRoomy old.dataset new.index) → IsLike old new
+like_flushed old new e limit own reached roomy =
     let same : new.dataset ≡ with_rows (rows_of old) old.dataset = ap (λ (t : Session). t.dataset) e in
     record {
       name = ap (λ (t : Session). t.name) e;
@@ -146,6 +152,7 @@ like_flushed old new e limit own reached =
       limit = limit;
       own = own;
       reach = λ first img before more. reached;
+      roomy = λ before. subst (λ (d : Described). IsRoomy d new.index) (sym same) (roomy before);
     }
 
 module _ (old new : Session) (log : Log) (x : IsFlushed old new) (running : old.stopped ≡ false) (idle : old.pending ≡ []) (st : Stands old log) (r : Running old [] log) where
@@ -168,7 +175,7 @@ module _ (old new : Session) (log : Log) (x : IsFlushed old new) (running : old.
   -- what it keeps of the past
   past_flushed : AllEndBy new.places.end new.pending → Past new new.pending (and_now (plans (length new.pending)) log) (after_flush old new log x r)
   past_flushed within =
-      past_planned old new (length new.pending) new.pending log r.after (after_flush old new log x r) (like_flushed old new x.session flush_raised.limit (planned_own old old.index old.places new.index new.places x.planned) (any_reached old new (inl x))) flush_raised
+      past_planned old new (length new.pending) new.pending log r.after (after_flush old new log x r) (like_flushed old new x.session flush_raised.limit (λ o. (planned_own old old.index old.places new.index new.places x.planned o.0, same_block old.index new.index ((told_of old old.index old.places new.index new.places x.planned).stay ∙ x.planned.placing.partly.like.fixed) ∙ o.1)) (any_reached old new (inl x)) (planned_roomy old old.index old.places new.index new.places x.planned)) flush_raised
       within (λ new_log. next_addressed old new log x r new_log) r.past
 
 -- the pieces of a flush, and what is left of the relation to the log

@@ -78,6 +78,7 @@ module _ (s : Session) (img : List ℕ) (rows columns : ℕ) (values : List ℤ)
         grew = omega (arith, b.end, end);
         fits = omega (arith, b.end, end);
         ends = tt;
+        roomy = λ new. not_new new;
       }
 
   running : Running s [] log

@@ -21,15 +21,14 @@ use Rattle.h5w_steps.proofs.FoundLemmas.{moment_shows}
 use Rattle.h5w_steps.proofs.GoesLemmas.{image_last, image_pushed}
 use Rattle.h5w_steps.proofs.StepRepresents.{step_represents}
 use Rattle.h5w_index.specs.Marks.{IsRaised}
-use Rattle.h5w_index.specs.Placing.{IsOwn}
 use Rattle.h5w_index.proofs.ReachLemmas.{reach_laws}
 use Rattle.h5w_creation_laws.specs.CreatedFiles.{CreatedFile, IsCreatable, block_write, created_blocks, created_writes, described_of, end_of, header_block, header_place, index_blocks, index_place, root_block, super_block}
 use Rattle.h5w_creation_laws.proofs.CreatedLaws.{created_sizes}
 use Rattle.h5w_session.specs.Creations.{IsLimit, log_of}
 use Rattle.h5w_session.specs.Loads.{first_end_of}
-use Rattle.h5w_session.specs.Past.{AllAddressed, HasCreated, HasOpened, IsCounted, IsNew, Past, most_of}
+use Rattle.h5w_session.specs.Past.{AllAddressed, HasCreated, HasOpened, IsCounted, IsMadeHere, IsNew, Past, most_of}
 use Rattle.h5w_session.specs.Reaches.{ReachedFrom}
-use Rattle.h5w_session.specs.Sessions.{Session, AllEndBy, cutting_of, with_rows, IsNamed}
+use Rattle.h5w_session.specs.Sessions.{IsRoomy, Session, AllEndBy, cutting_of, with_rows, IsNamed}
 use Rattle.h5w_session.proofs.AddressedLemmas.{shown_addressed, step_addressed}
 use Rattle.h5w_header_laws.specs.Files.{with_index}
 use Rattle.h5w_session.proofs.StateLemmas.{up_some}
@@ -65,18 +64,19 @@ spent_in-events c log other (shows w ∷ es) = spent_in-events c log other es
 -- ---- How the log began
 
 -- Another session with the same name, place, limit and dataset, but for its rows and an index address that was not there, whose index is one
--- as it is made here where it was before, and whose chunks are looked for where they were before.
+-- as it is made here where it was before, and has room where it had before, and whose chunks are looked for where they were before.
 pub record IsLike (s t : Session) : Type 0 where
   pub name : t.name ≡ s.name
   pub place : t.place ≡ s.place
   pub dataset : t.dataset ≡ with_index t.dataset.layout.address (with_rows t.dataset.shape.rows s.dataset)
   pub address : IsNamed s.dataset → t.dataset.layout.address ≡ s.dataset.layout.address
   pub limit : t.places.limit ≡ s.places.limit
-  pub own : IsOwn s.index → IsOwn t.index
+  pub own : IsMadeHere s.index → IsMadeHere t.index
   pub reach : (first : ℕ) (img : List ℕ) → ReachedFrom first img s → ReachedFrom first img t
+  pub roomy : IsRoomy s.dataset s.index → IsRoomy t.dataset t.index
 
 pub like_itself : (s : Session) → IsLike s s
-like_itself s = record { name = refl; place = refl; dataset = refl; address = λ named. refl; limit = refl; own = λ o. o; reach = λ first img h. h }
+like_itself s = record { name = refl; place = refl; dataset = refl; address = λ named. refl; limit = refl; own = λ o. o; reach = λ first img h. h; roomy = λ o. o }
 
 -- where the layout names the index the rows alone are others
 like_named : (s t : Session) → IsLike s t → IsNamed s.dataset → t.dataset ≡ with_rows t.dataset.shape.rows s.dataset
@@ -212,6 +212,7 @@ past_values s t vs log m like end past =
           grew_alike s t log like (and_now e log) s.places.end (omega (arith, past.grew, more)) end;
       fits = fits_alike s t log like s.places.end past.fits end;
       ends = ends_alike s t log like (hist log.events ++ []) past.ends;
+      roomy = λ new. like.roomy (past.roomy (new_before e log new));
     }
 
 -- a flush is planned, and all needed chunks of the file after it have addresses
@@ -234,6 +235,7 @@ past_planned s t k ws log m n like raised within next past =
           grew_alike s t log like (and_now e log) t.places.end (omega (arith, past.grew, raised.bound, more)) refl;
       fits = fits;
       ends = ends_joined (most_of t log) (hist log.events) ws (ends_alike s t log like (hist log.events) (ends_front (most_of s log) (hist log.events) [] past.ends)) (ends_later t.places.end (most_of t log) ws fits within);
+      roomy = λ new. like.roomy (past.roomy (new_before e log new));
     }
 
 -- Pieces are planned that bring no rows and take no place, as the superblock with other flags.
@@ -250,6 +252,7 @@ past_more s t ws log m n like end fits same past = record {
   grew = grew_alike s t log like log s.places.end past.grew end;
   fits = fits_alike s t log like s.places.end past.fits end;
   ends = ends_joined (most_of t log) (hist log.events) ws (ends_alike s t log like (hist log.events) (ends_front (most_of s log) (hist log.events) [] past.ends)) (ends_later t.places.limit (most_of t log) ws (omega arith) fits);
+  roomy = λ new. like.roomy (past.roomy new);
 }
 
 -- a session of which nothing else is told by places, name and dataset
@@ -266,6 +269,7 @@ past_same s t ws log m like end past = record {
   grew = grew_alike s t log like log s.places.end past.grew end;
   fits = fits_alike s t log like s.places.end past.fits end;
   ends = ends_alike s t log like (hist log.events ++ ws) past.ends;
+  roomy = λ new. like.roomy (past.roomy new);
 }
 
 -- ---- A piece becomes visible
@@ -314,6 +318,7 @@ past_shown s t w ws log n like end r past =
           grew_alike s t log like next s.places.end (omega (arith, past.grew, more)) end;
       fits = fits_alike s t log like s.places.end past.fits end;
       ends = subst (AllEndBy (most_of t log)) (sym (append_assoc (hist log.events) (w ∷ []) ws)) (ends_alike s t log like (hist log.events ++ (w ∷ ws)) past.ends);
+      roomy = λ new. like.roomy (past.roomy (new_before e log new));
     }
 
 -- ---- A new file
@@ -342,8 +347,8 @@ pub new_end : (log : Log) → IsNew log → first_end_of log ≡ 1024
 new_end log is = ap first_end_of is.log_is
 
 pub past_begins : (f : CreatedFile) (s : Session) (log : Log) (m : Moment) → IsCreatable f → log ≡ log_of f log.events → hist log.events ≡ created_writes f → s.name ≡ f.name → s.place ≡ header_place f → s.dataset ≡ described_of f
-    → IsLimit s.places.limit → s.places.end ≡ end_of f → AllEndBy (end_of f) (created_writes f) → Represents (image_now log) s.name m → needed m.dataset ≡ 0 → IsOwn s.index → Past s [] log m
-past_begins f s log m is log_is pieces name place dataset limit end fits here none own =
+    → IsLimit s.places.limit → s.places.end ≡ end_of f → AllEndBy (end_of f) (created_writes f) → Represents (image_now log) s.name m → needed m.dataset ≡ 0 → IsMadeHere s.index → IsRoomy s.dataset s.index → Past s [] log m
+past_begins f s log m is log_is pieces name place dataset limit end fits here none own roomy =
     let small : end_of f ≤ 1024 = (created_sizes f is).end in
     let first : log.first ≡ length (created_blocks f) = ap (λ (l : Log). l.first) log_is in
     let count : length (hist log.events) ≡ length (created_blocks f) = ap length pieces ∙ one_each f in
@@ -367,12 +372,13 @@ past_begins f s log m is log_is pieces name place dataset limit end fits here no
           shown_addressed (image_now log) s.name m r here nothing (subst (λ (i : List ℕ). Shows format_limits i s.name r) (image_last log p now) seen);
       next = λ new. nothing;
       own = λ new. own;
-      reach = λ more key low there. reach_laws.own s.index key own there;
+      reach = λ more key low there. reach_laws.own s.index key own.0 there;
       grew = omega (arith, end, small, began);
       fits = omega (arith, small, end, limit.low);
       ends =
           let later : AllEndBy (most_of s log) (created_writes f) = ends_later (end_of f) (most_of s log) (created_writes f) (omega (arith, small, limit.low)) fits in
           subst (AllEndBy (most_of s log)) (sym (append-nil (hist log.events) ∙ pieces)) later;
+      roomy = λ new. roomy;
     }
 
 -- ---- Bounds

@@ -28,7 +28,6 @@ use Rattle.h5w_index.specs.Marks.{IsMarked}
 use Rattle.h5w_session.specs.Sessions.{Session, IsNamed, rows_of}
 use Rattle.h5w_session.specs.Stands.{Running, Stands}
 use Rattle.h5w_session.proofs.StandLemmas.{left_running}
-use Rattle.h5w_session.proofs.IndexLemmas.{kept_named}
 
 -- where nothing was dropped and nothing is pending
 pub at_rest : (s : Session) (log : Log) → (st : Stands s log) → s.stopped ≡ false → s.pending ≡ [] → Running s [] log
@@ -73,10 +72,9 @@ pub record ArrayRests (s : Session) (v : Store) (img : List ℕ) : Type 0 where
   pub there : (k : Part) → IsPart k → IsSome (block_at_part v k) → At img (place_at_part v k) (bytes_at_part v k)
   pub six : numbers_in (range img s.dataset.layout.address eahd_len) 6 12 ≡ numbers_in (bytes_at_part v header) 6 12
 
-pub array_rests : (s : Session) (log : Log) → Running s [] log → s.waits ≡ 0 → IsNamed s.dataset → (v : Store) → s.index ≡ an_array v → ArrayRests s v (image_now log)
-array_rests s log r none named v e =
+pub array_rests : (s : Session) (log : Log) → (r : Running s [] log) → Rests (image_now log) r.after r.address s.places s.index → s.waits ≡ 0 → (v : Store) → s.index ≡ an_array v → ArrayRests s v (image_now log)
+array_rests s log r now none v e =
     let img = image_now log in
-    let now = kept_named img r.after r.address s.places s.index (subst IsNamed (sym r.keeps.dataset) named) r.index in
     let of_array : Rests img r.after r.address s.places (an_array v) = subst (λ (w : IndexView). Rests img r.after r.address s.places w) e now in
     let is : IsArray v = of_array.sound in
     let all : rows_of s ≡ s.dataset.shape.rows = omega (arith, none) in

@@ -16,15 +16,15 @@ use Rattle.h5w_array_laws.specs.Parts.{index_block}
 use Rattle.h5w_array_laws.specs.ArrayStores.{header_place, place_at_part}
 use Rattle.h5w_array_laws.proofs.CreatedLemmas.{created_starts}
 use Rattle.h5w_index.specs.Views.{IndexView, address_in, fixed_of, kind_of}
+use Rattle.h5w_index.specs.Views.{header_place as index_header}
 use Rattle.h5w_index.specs.Placing.{Fits}
-use Rattle.h5w_index.specs.Depths.{AreWithin}
-use Rattle.h5w_index.proofs.DepthLemmas.{depth_laws}
 use Rattle.h5w_creation_laws.specs.CreatedFiles.{CreatedFile, IsCreatable, block_place, created_writes, described_of, end_of, index_len, index_place}
 use Rattle.h5w_creation_laws.proofs.CreatedLaws.{created_sizes}
 use Rattle.h5w_creation.specs.Made.{IsNewIndex}
 use Rattle.h5w_session.specs.Sessions.{ArePieces, IsSession, IsWritable}
 use Rattle.h5w_session.specs.Creations.{IsIndexOf, IsLimit, created}
 use Rattle.h5w_session.proofs.CreatingLemmas.{no_chunks, writes_end}
+use Rattle.h5w_session.proofs.HeaderAlone.{head_ends}
 use Rattle.h5w_session.proofs.StateLemmas.{up_some}
 
 writable : (f : CreatedFile) → IsCreatable f → IsWritable (spelled_header (described_of f))
@@ -37,36 +37,36 @@ writable f is =
     record { some = omega (arith, z.header); list = _; space = _; read = read.alone; first = refl; long = omega (arith, shape, rank) }
 
 -- what is true of an index without chunks
-pub record IsEmptyIndex (kind : IndexKind) (end : ℕ) (v : IndexView) : Type 0 where
+pub record IsEmptyIndex (kind : IndexKind) (at end : ℕ) (v : IndexView) : Type 0 where
   pub is_kind : kind ≡ kind_of v
-  pub held : (bands across : ℕ) → AreWithin bands across v
   pub map : (key : Key) → address_in v key ≡ undefined
   pub tops : RangesEndBy end (fixed_of v)
+  pub place : at ≡ index_header v
 
-pub empty_index : (k : IndexKind) (at block : ℕ) (v : IndexView) (end : ℕ) → (k ≡ Array → block ≡ at + eahd_len) → at + index_len k ≤ end → at < undefined → block < undefined → IsNewIndex k at block v → IsEmptyIndex k end v
+pub empty_index : (k : IndexKind) (at block : ℕ) (v : IndexView) (end : ℕ) → (k ≡ Array → block ≡ at + eahd_len) → at + index_len k ≤ end → at < undefined → block < undefined → IsNewIndex k at block v → IsEmptyIndex k at end v
 empty_index Array at block v end behind ends low high new =
     let c = new.2 in
     let starts = created_starts at block new.0 c low high in
     let next : block ≡ at + eahd_len = behind refl in
-    subst (IsEmptyIndex Array end) (sym new.1) (record {
+    subst (IsEmptyIndex Array at end) (sym new.1) (record {
       is_kind = refl;
-      held = λ bands across. tt;
       map = λ key. starts.map key.i;
       tops =
           let head = block_at (header_place new.0) eahd_len in
           let body = block_at (place_at_part new.0 index_block) eaib_len in
           ends_cons end head (body ∷ []) (omega (arith, c.header_at, ends)) (ends_cons end body [] (omega (arith, c.index_at, next, ends)) (ends_nil end));
+      place = sym c.header_at;
     })
 empty_index Tree at block v end behind ends low high new =
-    subst (IsEmptyIndex Tree end) (sym new) (record {
+    subst (IsEmptyIndex Tree at end) (sym new) (record {
       is_kind = refl;
-      held = λ bands across. depth_laws.none bands across at;
       map = λ key. refl;
       tops = ends_cons end (block_at at bthd_len) [] (omega (arith, ends)) (ends_nil end);
+      place = refl;
     })
 
 -- the index of a new file
-pub new_index : (f : CreatedFile) (v : IndexView) → IsCreatable f → IsIndexOf f v → IsEmptyIndex f.index (end_of f) v
+pub new_index : (f : CreatedFile) (v : IndexView) → IsCreatable f → IsIndexOf f v → IsEmptyIndex f.index (index_place f) (end_of f) v
 new_index f v is index =
     let small = (created_sizes f is).end in
     empty_index f.index (index_place f) (block_place f) v (end_of f) (λ e. refl) (omega arith) (omega (arith, small)) (omega (arith, small)) index.new
@@ -92,14 +92,14 @@ created_is f most v is limit index =
       kind = empty.is_kind;
       sound = index.sound;
       fits = new_fits f f.index (index_place f) (block_place f) v is refl index.new;
-      held = empty.held _ _;
       header = writable f is;
       addressed = λ none. absurd (omega (arith, none, z.end));
       header_ends = omega (arith, z.header);
       small = omega (arith, z.end);
       limit = limit.high;
       inside = λ key from named. absurd (named (empty.map key));
-      tops = λ named. empty.tops;
+      tops = λ whole. empty.tops;
+      head = λ named lacking. subst (λ n. n + eahd_len ≤ end_of f) (sym empty.place) (head_ends v (end_of f) lacking empty.tops);
     }
 
 pub created_pieces : (f : CreatedFile) → IsCreatable f → ArePieces (end_of f) (created_writes f)

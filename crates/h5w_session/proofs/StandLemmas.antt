@@ -109,7 +109,7 @@ values_running s values log some rows fit r =
       appended = sym (append_assoc r.after.values r.more values) ∙ ap (λ (vs : List ℤ). vs ++ values) r.appended ∙ append_assoc log.values (appended_in log.events) values;
       committed = r.committed;
       columns = r.columns;
-      past = past_values s (with_values s values) values log r.after (record { name = refl; place = refl; dataset = refl; address = λ named. refl; limit = refl; own = λ o. o; reach = λ first img h. h }) refl r.past;
+      past = past_values s (with_values s values) values log r.after (record { name = refl; place = refl; dataset = refl; address = λ named. refl; limit = refl; own = λ o. o; reach = λ first img h. h; roomy = λ o. o }) refl r.past;
     }
 
 pub values_stand : (s : Session) (values : List ℤ) (log : Log) → 1 ≤ s.dataset.shape.cols → AreRows s values → s.pending ≡ [] → Accepted s values → Stands s log → Stands (with_values s values) (and_now (appends values) log)
@@ -160,7 +160,7 @@ stop_stands s log st =
           appended = r.appended;
           committed = r.committed;
           columns = r.columns;
-          past = past_same s (stopped_of s) st.left log r.after (record { name = refl; place = refl; dataset = refl; address = λ named. refl; limit = refl; own = λ o. o; reach = λ first img h. h }) refl r.past;
+          past = past_same s (stopped_of s) st.left log r.after (record { name = refl; place = refl; dataset = refl; address = λ named. refl; limit = refl; own = λ o. o; reach = λ first img h. h; roomy = λ o. o }) refl r.past;
         })
       ];
       prefixed = st.prefixed;
@@ -222,7 +222,7 @@ last_running s w log t freed r =
       appended = r.appended;
       committed = goes_rows s.name next r.after r.after.behind (resting s.name next r.after r.after.behind runs) ∙ ap (λ (d : Described). d.shape.rows) r.keeps.dataset;
       columns = r.columns;
-      past = past_shown s (settled s t) w [] log r.after (record { name = refl; place = refl; dataset = refl; address = λ named. refl; limit = (freed_keeps s.keeps s.places t freed).1; own = λ o. o; reach = λ first img h. h }) (freed_keeps s.keeps s.places t freed).0 r.runs r.past;
+      past = past_shown s (settled s t) w [] log r.after (record { name = refl; place = refl; dataset = refl; address = λ named. refl; limit = (freed_keeps s.keeps s.places t freed).1; own = λ o. o; reach = λ first img h. h; roomy = λ o. o }) (freed_keeps s.keeps s.places t freed).0 r.runs r.past;
     }
 
 picks : (b : Bool) (x y : List ℤ) → b ≡ true → (if b then x else y) ≡ x
@@ -250,7 +250,7 @@ more_running s w x xs log r =
       appended = r.appended;
       committed = ap (λ (vs : List ℤ). length vs / log.columns) (later ∙ sym now) ∙ r.committed;
       columns = r.columns;
-      past = past_shown s (with_pending s (x ∷ xs)) w (x ∷ xs) log r.after (record { name = refl; place = refl; dataset = refl; address = λ named. refl; limit = refl; own = λ o. o; reach = λ first img h. h }) refl r.runs r.past;
+      past = past_shown s (with_pending s (x ∷ xs)) w (x ∷ xs) log r.after (record { name = refl; place = refl; dataset = refl; address = λ named. refl; limit = refl; own = λ o. o; reach = λ first img h. h; roomy = λ o. o }) refl r.runs r.past;
     }
 
 -- ---- A close
@@ -321,7 +321,7 @@ flagged_running s log flags stop reads swmr r =
       appended = r.appended;
       committed = r.committed;
       columns = r.columns;
-      past = past_more s (flagged flags stop s) (flagged flags stop s).pending log m n (record { name = refl; place = refl; dataset = refl; address = λ named. refl; limit = refl; own = λ o. o; reach = λ first img h. h }) refl (omega (arith, length-super_bytes root, r.past.limit_low), tt) refl r.past;
+      past = past_more s (flagged flags stop s) (flagged flags stop s).pending log m n (record { name = refl; place = refl; dataset = refl; address = λ named. refl; limit = refl; own = λ o. o; reach = λ first img h. h; roomy = λ o. o }) refl (omega (arith, length-super_bytes root, r.past.limit_low), tt) refl r.past;
     }
 
 -- the superblock is written with other flags

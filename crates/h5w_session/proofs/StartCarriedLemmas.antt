@@ -1,10 +1,11 @@
 -- What the code of a first flush makes of a session.
-use Rattle.std.proofs.Common.{◌≡◌, ℕ, ◌^◌, ◌<◌, ◌≤◌, List, [], ◌∷◌, ◌++◌, length, Some, ap, sym, ◌∙◌, subst, arith, inl, inr}
+use Rattle.std.proofs.Common.{◌≡◌, ◌≢◌, ℕ, ◌+◌, ◌^◌, ◌<◌, ◌≤◌, true, List, [], ◌∷◌, ◌++◌, length, Option, ap, sym, ◌∙◌, subst, arith, inl, inr, length-append}
+use Rattle.h5w_model.specs.Arrays.{eahd_len}
 use Rattle.h5w_model.specs.Numbers.{undefined}
+use Rattle.h5w_model.specs.declared.cell.IndexKind.TheVariants.{Tree}
 use Rattle.h5w_model.specs.Headers.{with_rows_bytes}
 use Rattle.h5w_model.specs.Logs.{div_up}
 use Rattle.h5w_model.specs.Messages.{IsIntType}
-use Rattle.h5w_model.specs.Tables.{chunks_across}
 use Rattle.h5w_model.specs.declared.cell.Key.{Key}
 use Rattle.h5w_model.specs.declared.piece.Write.{Write}
 use Rattle.h5w_model.specs.declared.root.Super.{Super}
@@ -17,14 +18,14 @@ use Rattle.h5w_chunks.specs.Shares.{new_writes, touched}
 use Rattle.h5w_chunks.specs.declared.grid.ChunkPlace.{ChunkPlace}
 use Rattle.h5w_header_laws.specs.Files.{with_index}
 use Rattle.h5w_flush_laws.specs.Parts.{AreEnded}
-use Rattle.h5w_index.specs.Views.{IndexView, TakesKey, kind_of}
-use Rattle.h5w_index.specs.Depths.{AreWithin}
+use Rattle.h5w_index.specs.Blocks.{has_no_block}
+use Rattle.h5w_index.specs.Views.{IndexView, TakesKey, an_array, a_tree, kind_of}
 use Rattle.h5w_index.specs.Steps.{IsPlan}
 use Rattle.h5w_index.specs.Placing.{AreInside, Fits, IsFullPart, IsPlacing}
-use Rattle.h5w_session.specs.Sessions.{ArePieces, IsSession, Session, most_bands, rows_of, with_rows}
+use Rattle.h5w_session.specs.Sessions.{ArePieces, IsRoomy, IsSession, IsUnmade, Session, rows_of, with_rows}
 use Rattle.h5w_session.specs.Flushes.{ArePlanned}
 use Rattle.h5w_session.specs.Refusals.{IsStartFull, IsUnfilled, IsUnplaced}
-use Rattle.h5w_session.specs.Starts.{IsStartFlushed, IsStartedAt, naming_piece, started_of}
+use Rattle.h5w_session.specs.Starts.{AreJoined, IsNaming, IsStartFlushed, IsStartedAt, naming_piece, started_of}
 use Rattle.h5w_session.proofs.StartingLemmas.{made_fits, made_inside, made_takes, shown_started, started_is, started_pieces}
 
 -- ---- What the places of such a flush ask for
@@ -36,20 +37,36 @@ pub record AsksOfMade (v : Session) (to : ℕ) (made : IndexView) (first : Space
   pub inside : AreInside v.dataset first.end made
   pub limit : first.limit ≤ 2 ^ 40
 
-pub asks_of_made : (v : Session) (to : ℕ) (places : Space) (at : ℕ) (made : IndexView) (first : Space) → IsSession v → to ≡ rows_of v → places ≡ v.places → v.dataset.layout.index ≡ kind_of made → IsStartedAt places at made first
+pub asks_of_made : (v : Session) (to : ℕ) (places : Space) (at : ℕ) (made : IndexView) (first : Space) → IsSession v → to ≡ rows_of v → places ≡ v.places → v.dataset.layout.index ≡ kind_of made → IsStartedAt v.dataset.layout.address places at made first
     → AsksOfMade v to made first
 asks_of_made v to places at made first is e places_are kind start = record {
   fits = made_fits v is made kind;
   takes = subst (λ (n : ℕ). (key : Key) → key.i < div_up n v.dataset.layout.chunk_rows → TakesKey made key) (sym e) (made_takes v is made kind);
-  inside = made_inside v.dataset first.end places at made first start;
+  inside = made_inside v.dataset first.end v.dataset.layout.address places at made first start;
   limit = subst (λ (n : ℕ). n ≤ 2 ^ 40) (sym (start.raised.limit ∙ ap (λ (s : Space). s.limit) places_are)) is.limit;
 }
+
+-- what the places of the index's blocks in place ask for
+pub record AsksOfStart (v : Session) (places : Space) : Type 0 where
+  pub head : v.dataset.layout.address ≢ undefined → v.dataset.layout.address + eahd_len ≤ places.end
+  pub tree : v.dataset.layout.index ≡ Tree → v.dataset.layout.address ≡ undefined
+
+pub asks_of_start : (v : Session) (places : Space) → IsSession v → IsUnmade v → places ≡ v.places → AsksOfStart v places
+asks_of_start v places is (inl none) places_are = record { head = λ named. absurd (named none); tree = λ tree. none }
+asks_of_start v places is (inr lacking) places_are = record {
+  head = λ named. subst (λ (s : Space). v.dataset.layout.address + eahd_len ≤ s.end) (sym places_are) (is.head named lacking);
+  tree = λ tree. absurd (no_tree v.index (sym is.kind ∙ tree) lacking);
+}
+  where
+    no_tree : (w : IndexView) → kind_of w ≡ Tree → has_no_block w ≡ true → ⊥
+    no_tree (an_array w) kind none = absurd cc
+    no_tree (a_tree p w) kind none = absurd cc
 
 -- ---- What its calls make
 
 -- the calls, of a session v, up to row `to`; r, b and e are the superblock, the header and the cells that wait then
 pub record StartCarried (v : Session) (to : ℕ) (t : Space) (w : IndexView) (ws : List Write) (r : Super) (b e : List ℕ) (at : ℕ) : Type 0 where
-  pub absent : v.dataset.layout.address ≡ undefined
+  pub unmade : IsUnmade v
   pub some : 0 < v.waits
   pub to_is : to ≡ rows_of v
   pub small : to < 2 ^ 52
@@ -60,14 +77,14 @@ pub record StartCarried (v : Session) (to : ℕ) (t : Space) (w : IndexView) (ws
   pub first : Space
   pub made : IndexView
   pub kind : v.dataset.layout.index ≡ kind_of made
-  pub start : IsStartedAt places at made first
+  pub start : IsStartedAt v.dataset.layout.address places at made first
   pub chunks : List ChunkPlace
   pub added : List Key
   pub between : Space
   pub named : IndexView
   pub placing : IsPlacing v.dataset to made first chunks added named between
   pub all : length chunks ≡ touched v.dataset v.dataset.shape.rows to
-  pub within : AreWithin (most_bands v.dataset) (chunks_across v.dataset) named
+  pub roomy : IsRoomy v.dataset made → IsRoomy v.dataset named
   pub cells : List ℕ
   pub cells_are : cells ≡ v.waiting
   pub rows : List Write
@@ -84,16 +101,18 @@ pub record StartCarried (v : Session) (to : ℕ) (t : Space) (w : IndexView) (ws
   pub ended : AreEnded v.root end supers
   pub unraised : end ≡ v.root.end → supers ≡ []
   pub root : r ≡ record (v.root) { end = end }
-  pub header : b ≡ with_rows_bytes v.header to (Some at)
+  pub naming : Option ℕ
+  pub names : IsNaming v.dataset.layout.address at naming
+  pub header : b ≡ with_rows_bytes v.header to naming
   pub piece : List ℕ
   pub piece_is : piece ≡ b
-  pub items : ws ≡ rows ++ (copies ++ (fixed ++ (supers ++ record { at = v.place; piece = piece } ∷ [])))
+  pub items : AreJoined naming rows copies fixed supers (record { at = v.place; piece = piece }) ws
   pub header_short : length v.header ≤ 512
   pub none_waits : e ≡ []
 
 module _ (v : Session) (to : ℕ) (t : Space) (w : IndexView) (ws : List Write) (r : Super) (b e : List ℕ) (at : ℕ) (x : StartCarried v to t w ws r b e at) (is : IsSession v) where
-  start_now : IsStartedAt v.places at x.made x.first
-  start_now = subst (λ (s : Space). IsStartedAt s at x.made x.first) x.places_are x.start
+  start_now : IsStartedAt v.dataset.layout.address v.places at x.made x.first
+  start_now = subst (λ (s : Space). IsStartedAt v.dataset.layout.address s at x.made x.first) x.places_are x.start
 
   carried_planned : ArePlanned v x.made x.first w t
   carried_planned =
@@ -123,51 +142,66 @@ module _ (v : Session) (to : ℕ) (t : Space) (w : IndexView) (ws : List Write) 
         supers = x.supers;
         ended = subst (λ (n : ℕ). AreEnded v.root n x.supers) x.end_is x.ended;
         unraised = subst (λ (n : ℕ). n ≡ v.root.end → x.supers ≡ []) x.end_is x.unraised;
+        roomy = x.roomy;
       }
 
   carried_small : t.end < 2 ^ 64
   carried_small = omega (arith, x.end_is, x.end_small)
 
-  carried_joined : ws ≡ x.rows ++ (x.copies ++ (x.fixed ++ (x.supers ++ naming_piece v at ∷ [])))
+  carried_joined : AreJoined x.naming x.rows x.copies x.fixed x.supers (naming_piece v x.naming) ws
   carried_joined =
-      let rows = rows_of v in
-      let last : ◌≡◌ {A = Write} (record { at = v.place; piece = x.piece }) (record { at = v.place; piece = with_rows_bytes v.header rows (Some at) }) =
-      ap (λ (p : List ℕ). let h : Write = record { at = v.place; piece = p } in h) (x.piece_is ∙ x.header ∙ ap (λ (n : ℕ). with_rows_bytes v.header n (Some at)) x.to_is) in
-      x.items ∙ ap (λ (h : Write). x.rows ++ (x.copies ++ (x.fixed ++ (x.supers ++ h ∷ [])))) last
+      let last : ◌≡◌ {A = Write} (record { at = v.place; piece = x.piece }) (naming_piece v x.naming) =
+      ap (λ (p : List ℕ). let h : Write = record { at = v.place; piece = p } in h) (x.piece_is ∙ x.header ∙ ap (λ (n : ℕ). with_rows_bytes v.header n x.naming) x.to_is) in
+      subst (λ (h : Write). AreJoined x.naming x.rows x.copies x.fixed x.supers h ws) last x.items
 
   abbrev carried : Session
   carried = record v { root = r; header = b; dataset = with_index at (with_rows to v.dataset); places = t; waiting = e; waits = 0; pending = ws; index = w }
 
-  carried_after : carried ≡ started_of v at t ws w
+  carried_after : carried ≡ started_of v at x.naming t ws w
   carried_after =
       let rows = rows_of v in
       let put : Super → List ℕ → ℕ → List ℕ → Session = λ s h n c. record v { root = s; header = h; dataset = with_index at (with_rows n v.dataset); places = t; waiting = c; waits = 0; pending = ws; index = w } in
       let root : r ≡ record (v.root) { end = t.end } = x.root ∙ ap (λ (n : ℕ). record (v.root) { end = n }) x.end_is in
-      let header : b ≡ with_rows_bytes v.header rows (Some at) = x.header ∙ ap (λ (n : ℕ). with_rows_bytes v.header n (Some at)) x.to_is in
+      let header : b ≡ with_rows_bytes v.header rows x.naming = x.header ∙ ap (λ (n : ℕ). with_rows_bytes v.header n x.naming) x.to_is in
       λ k. put (root k) (header k) (x.to_is k) (x.none_waits k)
 
   pub start_carried_is : IsSession carried
   unfolding carried_planned
-  start_carried_is = subst IsSession (sym carried_after) (started_is v is at x.made x.first x.kind start_now x.absent t w ws carried_planned carried_small x.within carried_joined x.header_short)
+  start_carried_is = subst IsSession (sym carried_after) (started_is v is at x.made x.first x.kind start_now x.unmade x.naming x.names t w ws carried_planned carried_small carried_joined x.header_short)
 
   pub start_carried_pieces : ArePieces t.end ws
   unfolding carried_planned
-  start_carried_pieces = started_pieces v is at x.made x.first x.kind start_now x.absent t w ws carried_planned carried_small x.within carried_joined x.header_short
+  start_carried_pieces = started_pieces v is at x.made x.first x.kind start_now x.unmade x.naming x.names t w ws carried_planned carried_small carried_joined x.header_short
 
   pub start_carried_flushed : (s : Session) → v ≡ s → IsStartFlushed s carried
   unfolding carried_planned
   start_carried_flushed s e' =
       subst (λ (u : Session). IsStartFlushed u carried) e'
-      (subst (λ (u : Session). IsStartFlushed v u) (sym carried_after) (shown_started v is at x.made x.first x.kind start_now x.absent t w ws carried_planned carried_small x.within carried_joined x.header_short))
+      (subst (λ (u : Session). IsStartFlushed v u) (sym carried_after) (shown_started v is at x.made x.first x.kind start_now x.unmade x.naming x.names t w ws carried_planned carried_small carried_joined x.header_short))
+
+-- how many pieces such a flush has
+pub lengths_first : (naming : Option ℕ) (a b c d : List Write) (h : Write) (ws : List Write) → AreJoined naming a b c d h ws → length ws ≡ length a + length b + length c + length d + 1
+lengths_first naming a b c d h ws j =
+    omega (
+      arith,
+      ap length j.all,
+      ap length j.cut,
+      length-append j.front j.behind,
+      length-append a (b ++ (j.front ++ (d ++ (j.behind ++ h ∷ [])))),
+      length-append b (j.front ++ (d ++ (j.behind ++ h ∷ []))),
+      length-append j.front (d ++ (j.behind ++ h ∷ [])),
+      length-append d (j.behind ++ h ∷ []),
+      length-append j.behind (h ∷ []),
+    )
 
 -- ---- A file that has no place
 
-pub start_unplaced : (v : Session) (places : Space) (full : Full) → places ≡ v.places → IsUnplaced v.dataset.layout.index places full → (s : Session) → v ≡ s → IsStartFull s full
+pub start_unplaced : (v : Session) (places : Space) (full : Full) → places ≡ v.places → IsUnplaced v.dataset.layout.index v.dataset.layout.address places full → (s : Session) → v ≡ s → IsStartFull s full
 start_unplaced v places full places_are none s e =
-    let now : IsUnplaced v.dataset.layout.index v.places full = subst (λ (t : Space). IsUnplaced v.dataset.layout.index t full) places_are none in
+    let now : IsUnplaced v.dataset.layout.index v.dataset.layout.address v.places full = subst (λ (t : Space). IsUnplaced v.dataset.layout.index v.dataset.layout.address t full) places_are none in
     subst (λ (u : Session). IsStartFull u full) e (inl now)
 
-pub start_unfilled : (v : Session) (to : ℕ) (places : Space) (at : ℕ) (made : IndexView) (first : Space) (full : Full) → to ≡ rows_of v → places ≡ v.places → v.dataset.layout.index ≡ kind_of made → IsStartedAt places at made first
+pub start_unfilled : (v : Session) (to : ℕ) (places : Space) (at : ℕ) (made : IndexView) (first : Space) (full : Full) → to ≡ rows_of v → places ≡ v.places → v.dataset.layout.index ≡ kind_of made → IsStartedAt v.dataset.layout.address places at made first
     → IsFullPart v.dataset to made first full → (s : Session) → v ≡ s → IsStartFull s full
 start_unfilled v to places at made first full to_is places_are kind start part s e =
     let now : IsUnfilled v full = record {
@@ -175,7 +209,7 @@ start_unfilled v to places at made first full to_is places_are kind start part s
       first = first;
       made = made;
       kind = kind;
-      start = subst (λ (t : Space). IsStartedAt t at made first) places_are start;
+      start = subst (λ (t : Space). IsStartedAt v.dataset.layout.address t at made first) places_are start;
       none = subst (λ (n : ℕ). IsFullPart v.dataset n made first full) to_is part;
     } in
     subst (λ (u : Session). IsStartFull u full) e (inr now)

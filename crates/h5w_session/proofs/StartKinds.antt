@@ -1,6 +1,6 @@
 -- A first flush by its calls, whichever the kind of its index: its pieces lead to a file whose index rests.
-use Rattle.std.proofs.Common.{◌≡◌, ◌≢◌, ℕ, ◌*◌, ◌^◌, ◌<◌, ◌==◌, true, false, List, [], ◌∷◌, ◌++◌, length, map, refl, sym, ap, ◌∙◌, subst, sum_by, arith}
-use Rattle.std.specs.Prelude.{Some, ℤ}
+use Rattle.std.proofs.Common.{◌≡◌, ◌≢◌, ℕ, ◌*◌, ◌^◌, ◌<◌, ◌==◌, true, false, List, [], ◌∷◌, ◌++◌, length, map, refl, sym, ap, ◌∙◌, subst, sum_by, arith, append-nil}
+use Rattle.std.specs.Prelude.{Option, Some, None, IsSome, ℤ}
 use Rattle.std.specs.List.{All, slice_get}
 use Rattle.std.proofs.lemmas.Bool.{ne_eqb}
 use Rattle.std.proofs.lemmas.List.Elements.{All-cons, All-head, All-map, All-nil, All-tail}
@@ -35,12 +35,17 @@ use Rattle.h5w_array_laws.specs.ArrayStores as arrays
 use Rattle.h5w_flush_laws.specs.Spaces.{Taken}
 use Rattle.h5w_flush_laws.specs.Knowledge.{Knows}
 use Rattle.h5w_flush_laws.specs.Parts.{AreEnded, Parts, committed, pieces_of}
-use Rattle.h5w_flush_laws.specs.Rows.{IsOutside, IsPlaced, new_chunks}
+use Rattle.h5w_flush_laws.specs.Rows.{ArePlaced, IsOutside, IsPlaced, new_chunks}
 use Rattle.h5w_flush_laws.proofs.SpaceLemmas.{taken_laws}
 use Rattle.h5w_array_flushes.specs.ArrayFlushes.{chunks_for}
 use Rattle.h5w_starting_laws.specs.Starting as starts
 use Rattle.h5w_starting_laws.specs.Starting.{no_chunk, StartKnows}
-use Rattle.h5w_starting_laws.specs.StartCalls.{AreStartCalls}
+use Rattle.h5w_starting_laws.specs.StartCalls.{ArePending, AreStartCalls, IsMade, NamesChunks}
+use Rattle.h5w_starting_laws.specs.StartFlushes as starts_parts
+use Rattle.h5w_block_laws.specs.HeaderAlone.{IsHeaderAlone}
+use Rattle.h5w_block_laws.specs.BlockFlushes.{block_parts_for}
+use Rattle.h5w_block_laws.specs.BlockCalls.{AreBlockCalls, AreOrdered}
+use Rattle.h5w_block_laws.proofs.BlockCallLemmas.{block_pending}
 use Rattle.h5w_starting_laws.proofs.StartLemmas.{blank_map, created_blank}
 use Rattle.h5w_starting_laws.proofs.StartPieceLemmas.{named_changed}
 use Rattle.h5w_starting_laws.proofs.StartCallLemmas.{start_pending, two_taken}
@@ -55,7 +60,7 @@ use Rattle.h5w_tree_starting_laws.specs.TreeStartCalls.{AreTreeStartCalls}
 use Rattle.h5w_tree_starting_laws.proofs.TreeStartCallLemmas.{tree_start_calls}
 use Rattle.h5w_tree_starting_laws.proofs.TreeLeadLemmas.{tree_start_leads, tree_start_runs}
 use Rattle.h5w_session.specs.Indexes.{IsBlank}
-use Rattle.h5w_session.specs.Starts.{IsArrayMade, IsMadeAt, IsTreeMade}
+use Rattle.h5w_session.specs.Starts.{AreJoined, IsArrayMade, IsMadeAt, IsNaming, IsTreeMade, TookTops, TookTwo, both, block_alone}
 
 -- ---- An index without chunks
 
@@ -65,24 +70,25 @@ blank_none (an_array v) blank key = blank.map key.i
 blank_none (a_tree place v) blank key = ap (λ (u : Index). address_in (a_tree place u) key) blank
 
 -- an index that was just made is blank
-pub made_blank : (s : Space) (at : ℕ) (v : IndexView) (t : Space) → IsMadeAt s at v t → IsBlank v
-made_blank s at (an_array v) t made =
-    let m : IsArrayMade s at v t = made in
+pub made_blank : (address : ℕ) (s : Space) (at : ℕ) (v : IndexView) (t : Space) → IsMadeAt address s at v t → IsBlank v
+made_blank address s at (an_array v) t made =
+    let m : IsArrayMade address s at v t = made in
     created_blank at m.block v m.is_made.created (let e = m.is_made.header_ends in omega (arith, e)) (let e = m.is_made.block_ends in omega (arith, e))
-made_blank s at (a_tree place v) t made = made.empty
+made_blank address s at (a_tree place v) t made = made.empty
 
-pub made_none : (s : Space) (at : ℕ) (v : IndexView) (t : Space) → IsMadeAt s at v t → (key : Key) → address_in v key ≡ undefined
-made_none s at v t made key = blank_none v (made_blank s at v t made) key
+pub made_none : (address : ℕ) (s : Space) (at : ℕ) (v : IndexView) (t : Space) → IsMadeAt address s at v t → (key : Key) → address_in v key ≡ undefined
+made_none address s at v t made key = blank_none v (made_blank address s at v t made) key
 
 -- ---- The calls
 
 -- What the calls of a first flush show, over a file that is known and the places before it: the index that is made, that index once each
 -- chunk has its address, and once its blocks are planned.
-pub record AreFirstCalls (img : List ℕ) (m : Moment) (base first b : Space) (at : ℕ) (u v : IndexView) (ms : List Move) (w : IndexView) (t : Space) (rows : ℕ) (more : List ℤ) (writes : List Write) (places : List ChunkPlace)
+pub record AreFirstCalls (img : List ℕ) (m : Moment) (base first b : Space) (at : ℕ) (naming : Option ℕ) (u v : IndexView) (ms : List Move) (w : IndexView) (t : Space) (rows : ℕ) (more : List ℤ) (writes : List Write) (places : List ChunkPlace)
     (added : List Key) (cs fixed supers ws : List Write) : Type 0 where
   pub kind : m.dataset.layout.index ≡ kind_of u
-  pub unnamed : m.dataset.layout.address ≡ undefined
-  pub made : IsMadeAt base at u first
+  pub alone : m.dataset.layout.address ≢ undefined → IsHeaderAlone img m.dataset
+  pub made : IsMadeAt m.dataset.layout.address base at u first
+  pub names : IsNaming m.dataset.layout.address (header_place w) naming
   pub rises : m.dataset.shape.rows < rows
   pub small : rows < 2 ^ 64
   pub few : AreFew (with_rows rows m.dataset)
@@ -98,24 +104,31 @@ pub record AreFirstCalls (img : List ℕ) (m : Moment) (base first b : Space) (a
   pub fit : (k : ℕ) (n : ℤ) → slice_get more k ≡ Some n → FitsType m.dataset n
   pub plan : IsPlan v b ms cs fixed w t
   pub ended : AreEnded m.super t.end supers
-  pub pieces : ws ≡ writes ++ (cs ++ (fixed ++ (supers ++ commit_at img m.place rows (Some (header_place w)) ∷ [])))
+  pub pieces : AreJoined naming writes cs fixed supers (commit_at img m.place rows naming) ws
 
 -- The file once all pieces of such a flush are shown: it has the new rows, its header names the index, and its ranges are the index's.
-abbrev pub first_named : Moment → IndexView → ℕ → List ℤ → ℕ → Moment
-first_named m w rows more last = record m {
+abbrev pub first_named : Moment → Option ℕ → IndexView → ℕ → List ℤ → ℕ → Moment
+first_named m naming w rows more last = record m {
   super = record (m.super) { end = last };
-  dataset = committed m.dataset rows (Some (header_place w));
+  dataset = committed m.dataset rows naming;
   fixed = fixed_of w;
   behind = behind_of (chunk_bytes m.dataset) w;
-  table = map (λ key. address_in w key) (needed_keys (committed m.dataset rows (Some (header_place w))));
+  table = map (λ key. address_in w key) (needed_keys (committed m.dataset rows naming));
   values = m.values ++ more;
 }
 
 -- Its pieces are safe steps to that file, whose index rests, and chunk 0 of whose header is what the last of them writes.
-pub record AreFirstPending (name : List ℕ) (log : Log) (m : Moment) (w : IndexView) (t : Space) (rows : ℕ) (more : List ℤ) (ws : List Write) : Type 0 where
-  pub runs : Runs name (and_now (plans (length ws)) log) ws (first_named m w rows more t.end) (behind_of (chunk_bytes m.dataset) w)
-  pub begins : Begins (image (image_now log) ws) name (first_named m w rows more t.end) t w
-  pub header : chunk_0 (image (image_now log) ws) m.place ≡ with_rows_bytes (chunk_0 (image_now log) m.place) rows (Some (header_place w))
+pub record AreFirstPending (name : List ℕ) (log : Log) (m : Moment) (naming : Option ℕ) (w : IndexView) (t : Space) (rows : ℕ) (more : List ℤ) (ws : List Write) : Type 0 where
+  pub runs : Runs name (and_now (plans (length ws)) log) ws (first_named m naming w rows more t.end) (behind_of (chunk_bytes m.dataset) w)
+  pub begins : Begins (image (image_now log) ws) name (first_named m naming w rows more t.end) t w
+  pub header : chunk_0 (image (image_now log) ws) m.place ≡ with_rows_bytes (chunk_0 (image_now log) m.place) rows naming
+
+-- where the dataset header is to name the index all its blocks in place come before the superblock
+all_before : (naming : Option ℕ) (n : ℕ) (writes cs fixed supers : List Write) (header : Write) (ws : List Write) → naming ≡ Some n → AreJoined naming writes cs fixed supers header ws → ws ≡ writes ++ (cs ++ (fixed ++ (supers ++ header ∷ [])))
+all_before naming n writes cs fixed supers header ws is j =
+    let none : j.behind ≡ [] = j.unnamed (subst (λ (o : Option ℕ). IsSome o) (sym is) refl) in
+    let front : j.front ≡ fixed = sym (append-nil j.front) ∙ ap (λ (vs : List Write). j.front ++ vs) (sym none) ∙ j.cut in
+    j.all ∙ ap (λ (vs : List Write). writes ++ (cs ++ (j.front ++ (supers ++ (vs ++ header ∷ []))))) none ∙ ap (λ (vs : List Write). writes ++ (cs ++ (vs ++ (supers ++ header ∷ [])))) front
 
 first_of : (places : List ChunkPlace) → 0 < length places → (p : ChunkPlace) × (slice_get places 0 ≡ Some p)
 first_of [] some = absurd (omega (arith, some))
@@ -130,13 +143,13 @@ none_is k (x ∷ xs) off =
     let is : x.i ≢ k = All-head (λ (j : ℕ). j ≢ k) x.i (map (λ (key : Key). key.i) xs) off in
     All-cons (λ (other : Key). (k == other.i) ≡ false) x xs (ne_eqb k x.i (λ e. is (sym e))) (none_is k xs (All-tail (λ (j : ℕ). j ≢ k) x.i (map (λ (key : Key). key.i) xs) off))
 
-module _ (name : List ℕ) (log : Log) (m : Moment) (base first b t : Space) (at : ℕ) (u v w : Store) (ms : List Move) (rows : ℕ) (more : List ℤ) (writes : List Write) (places : List ChunkPlace) (added : List Key)
-    (cs fixed supers ws : List Write) (c : AreFirstCalls (image_now log) m base first b at (an_array u) (an_array v) ms (an_array w) t rows more writes places added cs fixed supers ws) where
-  array_made : IsArrayMade base at u first
+module _ (name : List ℕ) (log : Log) (m : Moment) (base first b t : Space) (at : ℕ) (naming : Option ℕ) (u v w : Store) (ms : List Move) (rows : ℕ) (more : List ℤ) (writes : List Write) (places : List ChunkPlace) (added : List Key)
+    (cs fixed supers ws : List Write) (c : AreFirstCalls (image_now log) m base first b at naming (an_array u) (an_array v) ms (an_array w) t rows more writes places added cs fixed supers ws) where
+  array_made : IsArrayMade m.dataset.layout.address base at u first
   array_made = c.made
 
   array_blank : starts.IsBlank u
-  array_blank = made_blank base at (an_array u) first c.made
+  array_blank = made_blank m.dataset.layout.address base at (an_array u) first c.made
 
   array_none : ◌≡◌ {A = Key → ℕ} (λ key. address_in (an_array u) key) no_chunk
   array_none = blank_map u array_blank
@@ -144,10 +157,11 @@ module _ (name : List ℕ) (log : Log) (m : Moment) (base first b t : Space) (at
   array_chunks : new_chunks m.dataset (λ key. address_in (an_array u) key) m.dataset.shape.rows 0 places ≡ chunks_for m no_chunk places
   array_chunks = ap (λ (f : Key → ℕ). new_chunks m.dataset f m.dataset.shape.rows 0 places) array_none
 
-  array_taken : Taken base (block_at at eahd_len ∷ block_at array_made.block eaib_len ∷ chunks_for m no_chunk places) b
-  array_taken =
-      subst (λ (us : List Used). Taken base (block_at at eahd_len ∷ block_at array_made.block eaib_len ∷ us) b) array_chunks
-      (taken_laws.joined base first b (block_at at eahd_len ∷ block_at array_made.block eaib_len ∷ []) (new_chunks m.dataset (λ key. address_in (an_array u) key) m.dataset.shape.rows 0 places) (two_taken base array_made.two.between first at array_made.block array_made.two.first array_made.two.second) c.placing.taken)
+  -- the places of the blocks in place that were taken, and those of the chunks
+  taken_with : (tops : List Used) → Taken base tops first → Taken base (tops ++ chunks_for m no_chunk places) b
+  taken_with tops taken =
+      subst (λ (us : List Used). Taken base (tops ++ us) b) array_chunks
+      (taken_laws.joined base first b tops (new_chunks m.dataset (λ key. address_in (an_array u) key) m.dataset.shape.rows 0 places) taken c.placing.taken)
 
   -- some chunk got an address, and so the index block is changed
   array_changed : is_changed v (number_of index_block) ≡ true
@@ -158,39 +172,33 @@ module _ (name : List ℕ) (log : Log) (m : Moment) (base first b t : Space) (at
       (All-map (λ (j : ℕ). (j < 131060) × (is_changed v (number_of (holder j)) ≡ true)) (λ (key : Key). key.i) added c.placing.partly.slots)
       (λ k off. c.placing.partly.rest (record { i = k; j = 0 }) (none_is k added off)) (array_blank.map (touched_key m.dataset m.dataset.shape.rows 0).i) (λ e. placed.defined (sym placed.named ∙ e))
 
-  array_calls : AreStartCalls m base b at array_made.block u v ms w t rows more writes places cs fixed supers
-  array_calls = record {
-    rises = c.rises;
-    small = c.small;
-    few = c.few;
-    count = c.count;
-    taken = array_taken;
-    made = array_made.is_made;
-    names = record {
-      array = c.placing.partly.like.sound;
-      standing = c.placing.partly.like.stays;
-      places = c.placing.partly.like.blocks;
-      changed = array_changed;
-      behind = subst (λ (us : List Used). AreAmong (arrays.behind_of (chunk_bytes m.dataset) v) (us ++ arrays.behind_of (chunk_bytes m.dataset) u)) array_chunks c.placing.behind;
-    };
-    placed = λ copies. record {
-      written = c.written;
-      all = c.all;
-      placed = λ k p here. subst (λ (f : Key → ℕ). IsPlaced m.dataset f (λ key. address_in (an_array w) key) m.dataset.shape.rows k p) array_none (c.placed k p here);
-      others = λ key asked outside. c.others key outside ∙ array_blank.map key.i;
-      chunks = refl;
-      typed = c.typed;
-      filled = c.filled;
-      fit = c.fit;
-    };
-    plan = c.plan;
-    ended = c.ended;
+  names_chunks : NamesChunks (chunk_bytes m.dataset) u (chunks_for m no_chunk places) v
+  names_chunks = record {
+    array = c.placing.partly.like.sound;
+    standing = c.placing.partly.like.stays;
+    places = c.placing.partly.like.blocks;
+    changed = array_changed;
+    behind = subst (λ (us : List Used). AreAmong (arrays.behind_of (chunk_bytes m.dataset) v) (us ++ arrays.behind_of (chunk_bytes m.dataset) u)) array_chunks c.placing.behind;
   }
 
-  array_pending : Knows (image_now log) name m no_chunk base → Runs name log [] m m.behind → m.values ++ more ≡ appended log → AreFirstPending name log m (an_array w) t rows more ws
-  array_pending knows runs values =
-      let known : StartKnows (image_now log) name m base u = record { knows = knows; unnamed = record { kind = c.kind; address = c.unnamed }; blank = array_blank } in
-      let p = start_pending name log m base b t at array_made.block u u v w ms rows more writes places cs fixed supers ws runs known array_calls values c.pieces in
+  -- the chunks are placed in whatever parts of a flush have them, these rows and this map
+  array_placed : (f : Parts) → f.rows ≡ rows → f.more ≡ more → f.writes ≡ writes → f.address ≡ (λ key. address_in (an_array w) key) → f.chunks ≡ chunks_for m no_chunk places → ArePlaced m no_chunk f places
+  array_placed f is_rows is_more is_writes is_map is_chunks = record {
+    written = subst (λ (n : ℕ). RowsWritten m.dataset (cells_of m.dataset f.more) m.dataset.shape.rows n places f.writes) (sym is_rows)
+        (subst (λ (vs : List ℤ). RowsWritten m.dataset (cells_of m.dataset vs) m.dataset.shape.rows rows places f.writes) (sym is_more)
+        (subst (λ (ws : List Write). RowsWritten m.dataset (cells_of m.dataset more) m.dataset.shape.rows rows places ws) (sym is_writes) c.written));
+    all = subst (λ (n : ℕ). length places ≡ touched m.dataset m.dataset.shape.rows n) (sym is_rows) c.all;
+    placed = λ k p here. subst (λ (g : Key → ℕ). IsPlaced m.dataset no_chunk g m.dataset.shape.rows k p) (sym is_map)
+        (subst (λ (g : Key → ℕ). IsPlaced m.dataset g (λ key. address_in (an_array w) key) m.dataset.shape.rows k p) array_none (c.placed k p here));
+    others = λ key asked outside. ap (λ (g : Key → ℕ). g key) is_map ∙ c.others key (subst (λ (n : ℕ). IsOutside m.dataset m.dataset.shape.rows n key) is_rows outside) ∙ array_blank.map key.i;
+    chunks = is_chunks;
+    typed = c.typed;
+    filled = c.filled;
+    fit = λ k n here. c.fit k n (subst (λ (vs : List ℤ). slice_get vs k ≡ Some n) is_more here);
+  }
+
+  as_index : (o : Option ℕ) → ArePending name log m o w t rows more ws → AreFirstPending name log m o (an_array w) t rows more ws
+  as_index o p =
       let r = p.begins.rests in
       record {
         runs = p.runs;
@@ -201,15 +209,74 @@ module _ (name : List ℕ) (log : Log) (m : Moment) (base first b t : Space) (at
         header = p.header;
       }
 
+  -- where the layout names none, the dataset header names it
+  array_named : m.dataset.layout.address ≡ undefined → TookTwo base at array_made.block first → Knows (image_now log) name m no_chunk base → Runs name log [] m m.behind → m.values ++ more ≡ appended log
+      → AreFirstPending name log m naming (an_array w) t rows more ws
+  array_named none two knows runs values =
+      let is : naming ≡ Some (arrays.header_place w) = c.names.unnamed none in
+      let known : StartKnows (image_now log) name m base u = record { knows = knows; unnamed = record { kind = c.kind; address = none }; blank = array_blank } in
+      let calls : AreStartCalls m base b at array_made.block u v ms w t rows more writes places cs fixed supers = record {
+        rises = c.rises;
+        small = c.small;
+        few = c.few;
+        count = c.count;
+        taken = taken_with (block_at at eahd_len ∷ block_at array_made.block eaib_len ∷ []) (two_taken base two.between first at array_made.block two.first two.second);
+        made = array_made.is_made;
+        names = names_chunks;
+        placed = λ copies. array_placed (starts_parts.parts_for m w rows more writes places copies supers t.end) refl refl refl refl refl;
+        plan = c.plan;
+        ended = c.ended;
+      } in
+      let pieces = all_before naming (arrays.header_place w) writes cs fixed supers (commit_at (image_now log) m.place rows naming) ws is c.pieces in
+      let named_pieces : ws ≡ writes ++ (cs ++ (fixed ++ (supers ++ commit_at (image_now log) m.place rows (Some (arrays.header_place w)) ∷ []))) =
+      pieces ∙ ap (λ (o : Option ℕ). writes ++ (cs ++ (fixed ++ (supers ++ commit_at (image_now log) m.place rows o ∷ [])))) is in
+      let p = start_pending name log m base b t at array_made.block u u v w ms rows more writes places cs fixed supers ws runs known calls values named_pieces in
+      subst (λ (o : Option ℕ). AreFirstPending name log m o (an_array w) t rows more ws) (sym is) (as_index (Some (arrays.header_place w)) p)
+
+  -- else its header, which is there, names its index block
+  array_block : m.dataset.layout.address ≢ undefined → at ≡ m.dataset.layout.address → Took base first (extent array_made.block eaib_len) → Knows (image_now log) name m no_chunk base → Runs name log [] m m.behind
+      → m.values ++ more ≡ appended log → AreFirstPending name log m naming (an_array w) t rows more ws
+  array_block named there took knows runs values =
+      let is : naming ≡ None = c.names.named named in
+      let calls : AreBlockCalls m base b array_made.block u v ms w t rows more writes places cs fixed supers = record {
+        rises = c.rises;
+        small = c.small;
+        few = c.few;
+        count = c.count;
+        taken = taken_with (block_at array_made.block eaib_len ∷ []) (taken_laws.one base first (block_at array_made.block eaib_len) (omega arith) took);
+        made = subst (λ (n : ℕ). IsMade n array_made.block u) there array_made.is_made;
+        names = names_chunks;
+        placed = λ copies. array_placed (block_parts_for m w rows more writes places copies supers t.end) refl refl refl refl refl;
+        plan = c.plan;
+        ended = c.ended;
+      } in
+      let j = c.pieces in
+      let ordered : AreOrdered (image_now log) m rows writes cs fixed supers ws = record {
+        front = j.front;
+        behind = j.behind;
+        cut = j.cut;
+        one = j.named is;
+        all = j.all ∙ ap (λ (o : Option ℕ). writes ++ (cs ++ (j.front ++ (supers ++ (j.behind ++ commit_at (image_now log) m.place rows o ∷ []))))) is;
+      } in
+      let p = block_pending name log m base b t array_made.block u v w ms rows more writes places cs fixed supers ws runs (record { knows = knows; alone = c.alone named }) calls values ordered in
+      subst (λ (o : Option ℕ). AreFirstPending name log m o (an_array w) t rows more ws) (sym is) (as_index None p)
+
+  array_pending : Knows (image_now log) name m no_chunk base → Runs name log [] m m.behind → m.values ++ more ≡ appended log → AreFirstPending name log m naming (an_array w) t rows more ws
+  array_pending knows runs values = go array_made.tops
+    where
+      go : TookTops m.dataset.layout.address base at array_made.block first → AreFirstPending name log m naming (an_array w) t rows more ws
+      go (both none two) = array_named none two knows runs values
+      go (block_alone named there took) = array_block named there took knows runs values
+
 -- ---- Of a tree
 
-module _ (name : List ℕ) (log : Log) (m : Moment) (base first b t : Space) (at p : ℕ) (v w : Index) (ms : List Move) (rows : ℕ) (more : List ℤ) (writes : List Write) (places : List ChunkPlace) (added : List Key)
-    (cs fixed supers ws : List Write) (c : AreFirstCalls (image_now log) m base first b at (a_tree p no_tree) (a_tree p v) ms (a_tree p w) t rows more writes places added cs fixed supers ws) where
-  tree_made : IsTreeMade base at p no_tree first
+module _ (name : List ℕ) (log : Log) (m : Moment) (base first b t : Space) (at p : ℕ) (naming : Option ℕ) (v w : Index) (ms : List Move) (rows : ℕ) (more : List ℤ) (writes : List Write) (places : List ChunkPlace) (added : List Key)
+    (cs fixed supers ws : List Write) (c : AreFirstCalls (image_now log) m base first b at naming (a_tree p no_tree) (a_tree p v) ms (a_tree p w) t rows more writes places added cs fixed supers ws) where
+  tree_made : IsTreeMade m.dataset.layout.address base at p no_tree first
   tree_made = c.made
 
   tree_none : ◌≡◌ {A = Key → ℕ} (λ key. address_in (a_tree p no_tree) key) no_chunk
-  tree_none = λ i key. made_none base at (a_tree p no_tree) first c.made key i
+  tree_none = λ i key. made_none m.dataset.layout.address base at (a_tree p no_tree) first c.made key i
 
   tree_calls : AreTreeStartCalls m base first b p v ms w t rows more writes places added cs fixed supers
   tree_calls = record {
@@ -225,7 +292,7 @@ module _ (name : List ℕ) (log : Log) (m : Moment) (base first b t : Space) (at
       written = c.written;
       all = c.all;
       placed = λ k q here. subst (λ (f : Key → ℕ). IsPlaced m.dataset f (λ key. address_in (a_tree p w) key) m.dataset.shape.rows k q) tree_none (c.placed k q here);
-      others = λ key asked outside. c.others key outside ∙ made_none base at (a_tree p no_tree) first c.made key;
+      others = λ key asked outside. c.others key outside ∙ made_none m.dataset.layout.address base at (a_tree p no_tree) first c.made key;
       chunks = refl;
       typed = c.typed;
       filled = c.filled;
@@ -235,23 +302,26 @@ module _ (name : List ℕ) (log : Log) (m : Moment) (base first b t : Space) (at
     ended = c.ended;
   }
 
-  tree_pending : Knows (image_now log) name m no_chunk base → Runs name log [] m m.behind → m.values ++ more ≡ appended log → AreFirstPending name log m (a_tree p w) t rows more ws
+  tree_pending : Knows (image_now log) name m no_chunk base → Runs name log [] m m.behind → m.values ++ more ≡ appended log → AreFirstPending name log m naming (a_tree p w) t rows more ws
   tree_pending knows runs values =
       let now : List ℕ = image_now log in
-      let known : TreeStartKnows now name m base = record { knows = knows; unnamed = record { kind = c.kind; address = c.unnamed } } in
+      let known : TreeStartKnows now name m base = record { knows = knows; unnamed = record { kind = c.kind; address = tree_made.unnamed } } in
+      let is : naming ≡ Some p = c.names.unnamed tree_made.unnamed in
+      let pieces : ws ≡ writes ++ (cs ++ (fixed ++ (supers ++ commit_at now m.place rows (Some p) ∷ []))) =
+      all_before naming p writes cs fixed supers (commit_at now m.place rows naming) ws is c.pieces ∙ ap (λ (o : Option ℕ). writes ++ (cs ++ (fixed ++ (supers ++ commit_at now m.place rows o ∷ [])))) is in
       let calls = tree_start_calls now m base first b t p v w ms rows more writes places added cs fixed supers tree_calls in
       let f : Parts = tree_starts.parts_for m p w rows more writes places calls.copies supers t.end in
-      let same : pieces_of now m f ≡ ws = calls.pieces ∙ sym c.pieces in
+      let same : pieces_of now m f ≡ ws = calls.pieces ∙ sym pieces in
       let over = tree_start_runs name log m base b t p v w ms rows more writes places calls.copies fixed supers runs known calls.start values in
       let leads = tree_start_leads now name m base b t p v w ms rows more writes places calls.copies fixed supers known calls.start in
-      let after : Moment = first_named m (a_tree p w) rows more t.end in
+      let after : Moment = first_named m (Some p) (a_tree p w) rows more t.end in
       let r = leads.rests in
       let begins : Begins (image now (pieces_of now m f)) name after t (a_tree p w) = record {
         knows = leads.knows;
         rests = record {
           kind = r.kind;
           at_place = r.at_place;
-          sound = record { index = r.index; filled = r.filled; defined = r.defined };
+          sound = record { index = r.index; defined = r.defined };
           stands = r.stands;
           stays = tt;
           fixed = r.fixed;
@@ -259,38 +329,38 @@ module _ (name : List ℕ) (log : Log) (m : Moment) (base first b t : Space) (at
           map = r.map;
         };
       } in
-      record {
+      subst (λ (o : Option ℕ). AreFirstPending name log m o (a_tree p w) t rows more ws) (sym is) (record {
         runs = subst (λ (xs : List Write). Runs name (and_now (plans (length xs)) log) xs after (behind_of (chunk_bytes m.dataset) (a_tree p w))) same over.runs;
         begins = subst (λ (xs : List Write). Begins (image now xs) name after t (a_tree p w)) same begins;
         header = subst (λ (xs : List Write). chunk_0 (image now xs) m.place ≡ with_rows_bytes (chunk_0 now m.place) rows (Some p)) same leads.header;
-      }
+      })
 
 -- the header of a tree stays where it was made
-tree_first : (name : List ℕ) (log : Log) (m : Moment) (base first b t : Space) (at p q r : ℕ) (u v w : Index) (ms : List Move) (rows : ℕ) (more : List ℤ) (writes : List Write) (places : List ChunkPlace) (added : List Key)
+tree_first : (name : List ℕ) (log : Log) (m : Moment) (base first b t : Space) (at p q r : ℕ) (naming : Option ℕ) (u v w : Index) (ms : List Move) (rows : ℕ) (more : List ℤ) (writes : List Write) (places : List ChunkPlace) (added : List Key)
     (cs fixed supers ws : List Write) → Knows (image_now log) name m no_chunk base → Runs name log [] m m.behind → m.values ++ more ≡ appended log
-    → AreFirstCalls (image_now log) m base first b at (a_tree p u) (a_tree q v) ms (a_tree r w) t rows more writes places added cs fixed supers ws → AreFirstPending name log m (a_tree r w) t rows more ws
-tree_first name log m base first b t at p q r u v w ms rows more writes places added cs fixed supers ws knows runs values c =
-    let made : IsTreeMade base at p u first = c.made in
+    → AreFirstCalls (image_now log) m base first b at naming (a_tree p u) (a_tree q v) ms (a_tree r w) t rows more writes places added cs fixed supers ws → AreFirstPending name log m naming (a_tree r w) t rows more ws
+tree_first name log m base first b t at p q r naming u v w ms rows more writes places added cs fixed supers ws knows runs values c =
+    let made : IsTreeMade m.dataset.layout.address base at p u first = c.made in
     let here : q ≡ p = c.placing.partly.like.place in
     let there : r ≡ p = c.plan.0 ∙ here in
-    let Calls : Index → ℕ → ℕ → Type 0 = λ x y z. AreFirstCalls (image_now log) m base first b at (a_tree p x) (a_tree y v) ms (a_tree z w) t rows more writes places added cs fixed supers ws in
+    let Calls : Index → ℕ → ℕ → Type 0 = λ x y z. AreFirstCalls (image_now log) m base first b at naming (a_tree p x) (a_tree y v) ms (a_tree z w) t rows more writes places added cs fixed supers ws in
     let one : Calls no_tree q r = subst (λ (x : Index). Calls x q r) made.empty c in
     let two : Calls no_tree p r = subst (λ (y : ℕ). Calls no_tree y r) here one in
     let three : Calls no_tree p p = subst (λ (z : ℕ). Calls no_tree p z) there two in
-    subst (λ (z : ℕ). AreFirstPending name log m (a_tree z w) t rows more ws) (sym there)
-    (tree_pending name log m base first b t at p v w ms rows more writes places added cs fixed supers ws three knows runs values)
+    subst (λ (z : ℕ). AreFirstPending name log m naming (a_tree z w) t rows more ws) (sym there)
+    (tree_pending name log m base first b t at p naming v w ms rows more writes places added cs fixed supers ws three knows runs values)
 
 -- ---- Of either
 
 -- A session whose log has come to such a file plans that flush, of all values that were appended.
-pub first_pending : (name : List ℕ) (log : Log) (m : Moment) (base first b t : Space) (at : ℕ) (u v w : IndexView) (ms : List Move) (rows : ℕ) (more : List ℤ) (writes : List Write) (places : List ChunkPlace) (added : List Key)
+pub first_pending : (name : List ℕ) (log : Log) (m : Moment) (base first b t : Space) (at : ℕ) (naming : Option ℕ) (u v w : IndexView) (ms : List Move) (rows : ℕ) (more : List ℤ) (writes : List Write) (places : List ChunkPlace) (added : List Key)
     (cs fixed supers ws : List Write) → Knows (image_now log) name m no_chunk base → Runs name log [] m m.behind → m.values ++ more ≡ appended log
-    → AreFirstCalls (image_now log) m base first b at u v ms w t rows more writes places added cs fixed supers ws → AreFirstPending name log m w t rows more ws
-first_pending name log m base first b t at (an_array u) (an_array v) (an_array w) ms rows more writes places added cs fixed supers ws knows runs values c =
-    array_pending name log m base first b t at u v w ms rows more writes places added cs fixed supers ws c knows runs values
-first_pending name log m base first b t at (a_tree p u) (a_tree q v) (a_tree r w) ms rows more writes places added cs fixed supers ws knows runs values c =
-    tree_first name log m base first b t at p q r u v w ms rows more writes places added cs fixed supers ws knows runs values c
-first_pending name log m base first b t at (an_array u) (an_array v) (a_tree r w) ms rows more writes places added cs fixed supers ws knows runs values c = absurd c.plan
-first_pending name log m base first b t at (a_tree p u) (a_tree q v) (an_array w) ms rows more writes places added cs fixed supers ws knows runs values c = absurd c.plan
-first_pending name log m base first b t at (an_array u) (a_tree q v) w ms rows more writes places added cs fixed supers ws knows runs values c = absurd c.placing.partly.like.blocks
-first_pending name log m base first b t at (a_tree p u) (an_array v) w ms rows more writes places added cs fixed supers ws knows runs values c = absurd c.placing.partly.like.blocks
+    → AreFirstCalls (image_now log) m base first b at naming u v ms w t rows more writes places added cs fixed supers ws → AreFirstPending name log m naming w t rows more ws
+first_pending name log m base first b t at naming (an_array u) (an_array v) (an_array w) ms rows more writes places added cs fixed supers ws knows runs values c =
+    array_pending name log m base first b t at naming u v w ms rows more writes places added cs fixed supers ws c knows runs values
+first_pending name log m base first b t at naming (a_tree p u) (a_tree q v) (a_tree r w) ms rows more writes places added cs fixed supers ws knows runs values c =
+    tree_first name log m base first b t at p q r naming u v w ms rows more writes places added cs fixed supers ws knows runs values c
+first_pending name log m base first b t at naming (an_array u) (an_array v) (a_tree r w) ms rows more writes places added cs fixed supers ws knows runs values c = absurd c.plan
+first_pending name log m base first b t at naming (a_tree p u) (a_tree q v) (an_array w) ms rows more writes places added cs fixed supers ws knows runs values c = absurd c.plan
+first_pending name log m base first b t at naming (an_array u) (a_tree q v) w ms rows more writes places added cs fixed supers ws knows runs values c = absurd c.placing.partly.like.blocks
+first_pending name log m base first b t at naming (a_tree p u) (an_array v) w ms rows more writes places added cs fixed supers ws knows runs values c = absurd c.placing.partly.like.blocks

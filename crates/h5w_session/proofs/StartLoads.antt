@@ -1,8 +1,11 @@
 -- By how much a first flush raises the end of the file, and the session after it stands over the log; and where there is no place for it.
-use Rattle.std.proofs.Common.{◌≡◌, ℕ, ◌+◌, ◌<◌, ◌≤◌, false, [], ◌∷◌, ◌++◌, length, refl, sym, ap, ◌∙◌, subst, inl, inr, arith, length-append}
+use Rattle.std.proofs.Common.{◌≡◌, ◌⊎◌, ℕ, ◌+◌, ◌<◌, ◌≤◌, true, false, [], ◌∷◌, ◌++◌, length, refl, sym, ap, ◌∙◌, subst, inl, inr, arith, length-append}
 use Rattle.h5w_model.specs.Arrays.{eahd_len, eaib_len}
 use Rattle.h5w_model.specs.Trees.{bthd_len}
 use Rattle.h5w_model.specs.Datasets.{Described}
+use Rattle.h5w_model.specs.Findings.{the_superblock}
+use Rattle.h5w_model.specs.Numbers.{undefined}
+use Rattle.h5w_model.specs.Tables.{chunks_across}
 use Rattle.h5w_model.specs.Logs.{Log, and_now, load, plans}
 use Rattle.h5w_model.specs.declared.cell.IndexKind.{IndexKind}
 use Rattle.h5w_model.specs.declared.cell.IndexKind.TheVariants.{Array, Tree}
@@ -13,41 +16,51 @@ use Rattle.h5w_steps.specs.Logs.{image_now}
 use Rattle.h5w_bt_index.specs.Index.{Index}
 use Rattle.h5w_index.specs.Views.{IndexView, IsClean, an_array, a_tree, kind_of}
 use Rattle.h5w_index.specs.Marks.{IsMarked, IsRaised}
-use Rattle.h5w_index.specs.Placing.{IsOwn, most_of}
+use Rattle.h5w_index.specs.Blocks.{has_no_block}
+use Rattle.h5w_index.specs.Placing.{most_of}
+use Rattle.h5w_index.proofs.DepthLemmas.{depth_laws}
 use Rattle.h5w_index.proofs.MarkLemmas.{mark_laws}
 use Rattle.h5w_index.proofs.RaisedLemmas.{raised_more, raised_none, raised_on}
 use Rattle.h5w_creation_laws.specs.CreatedFiles.{index_len}
 use Rattle.h5w_creation_laws.proofs.SizeLemmas.{index_lens}
-use Rattle.h5w_session.specs.Sessions.{AllEndBy, Session, cutting_of, rows_of, with_rows}
+use Rattle.h5w_session.specs.Sessions.{AllEndBy, IsRoomy, IsUnmade, Session, cutting_of, most_bands, rows_of, with_rows}
 use Rattle.h5w_session.specs.Loads.{NoPlace}
-use Rattle.h5w_session.specs.Past.{Past}
+use Rattle.h5w_session.specs.Past.{IsMadeHere, IsNew, Past}
 use Rattle.h5w_session.specs.Refusals.{IsFullFor, IsUnfilled, IsUnplaced, no_block, no_header}
 use Rattle.h5w_session.specs.Stands.{Running, Stands}
 use Rattle.h5w_session.specs.Starts.{HasFlushed, IsMadeAt, IsStartFlushed, StartRunning, naming_piece, started_of}
 use Rattle.h5w_session.proofs.FlushStands.{idle_running}
+use Rattle.h5w_session.proofs.FlushLemmas.{told_of}
+use Rattle.h5w_session.proofs.HeaderAlone.{made_there, made_whole, never, same_block}
 use Rattle.h5w_session.proofs.IndexLemmas.{kept_starting}
-use Rattle.h5w_session.proofs.LoadLemmas.{at_most, flush_bound, flush_carries, load_is, part_no_place, planned_few, planned_own, planned_raised, refused_bound}
+use Rattle.h5w_session.proofs.LoadLemmas.{at_most, flush_bound, flush_carries, load_is, part_no_place, planned_few, planned_own, planned_raised, planned_roomy, refused_bound}
 use Rattle.h5w_session.proofs.PastLemmas.{IsLike, new_named, past_planned}
 use Rattle.h5w_session.proofs.ReachedLemmas.{any_reached}
 use Rattle.h5w_session.proofs.StartedLemmas.{after_start, start_running}
 
-like_started : (old new : Session) (x : IsStartFlushed old new) → new.places.limit ≡ old.places.limit → (IsOwn old.index → IsOwn new.index) → IsLike old new
-like_started old new x limit own =
+like_started : (old new : Session) (x : IsStartFlushed old new) → new.places.limit ≡ old.places.limit → (IsMadeHere old.index → IsMadeHere new.index) → (IsRoomy old.dataset old.index → IsRoomy old.dataset new.index) → IsLike old new
+like_started old new x limit own roomy =
     let same : new.dataset ≡ with_index x.at (with_rows (rows_of old) old.dataset) = ap (λ (t : Session). t.dataset) x.session in
     record {
       name = ap (λ (t : Session). t.name) x.session;
       place = ap (λ (t : Session). t.place) x.session;
       dataset = same ∙ ap (λ (d : Described). with_index d.layout.address (with_rows d.shape.rows old.dataset)) (sym same);
-      address = λ named. absurd (named x.absent);
+      address = λ named. ap (λ (d : Described). d.layout.address) same ∙ made_there old.dataset.layout.address old.places x.at x.made x.first x.start.made named;
       limit = limit;
       own = own;
       reach = λ first img before more. any_reached old new (inr x);
+      roomy = λ before. subst (λ (d : Described). IsRoomy d new.index) (sym same) (roomy before);
     }
 
 -- an index that was just made is clean
-made_clean : (s : Space) (at : ℕ) (v : IndexView) (t : Space) → IsMadeAt s at v t → IsClean v
-made_clean s at (an_array v) t made = made.is_made.created.changed
-made_clean s at (a_tree place v) t made = subst (λ (w : Index). IsClean (a_tree place w)) (sym made.empty) refl
+made_clean : (address : ℕ) (s : Space) (at : ℕ) (v : IndexView) (t : Space) → IsMadeAt address s at v t → IsClean v
+made_clean address s at (an_array v) t made = made.is_made.created.changed
+made_clean address s at (a_tree place v) t made = subst (λ (w : Index). IsClean (a_tree place w)) (sym made.empty) refl
+
+-- and has room
+made_roomy : (d : Described) (address : ℕ) (s : Space) (at : ℕ) (v : IndexView) (t : Space) → IsMadeAt address s at v t → IsRoomy d v
+made_roomy d address s at (an_array v) t made = tt
+made_roomy d address s at (a_tree place v) t made = subst (λ (w : Index). IsRoomy d (a_tree place w)) (sym made.empty) (depth_laws.none (most_bands d) (chunks_across d) place)
 
 -- the order of the last pieces does not tell
 few_total : (total a b c e n m : ℕ) → total ≡ a + (b + (e + (c + 1))) → a + (b + (c + (e + 1))) ≤ n → m ≡ n → total ≤ m
@@ -55,7 +68,7 @@ few_total total a b c e n m is few same = omega (arith, is, few, same)
 
 module _ (old new : Session) (log : Log) (x : IsStartFlushed old new) (running : old.stopped ≡ false) (idle : old.pending ≡ []) (st : Stands old log) (r : Running old [] log) where
   marks : IsMarked old.dataset old.dataset.shape.rows (rows_of old) x.made
-  marks = mark_laws.clean old.dataset old.dataset.shape.rows (rows_of old) x.made (made_clean old.places x.at x.made x.first x.start.made)
+  marks = mark_laws.clean old.dataset old.dataset.shape.rows (rows_of old) x.made (made_clean old.dataset.layout.address old.places x.at x.made x.first x.start.made)
 
   start_raised : IsRaised old.places new.places (load (cutting_of old) log)
   start_raised =
@@ -69,10 +82,20 @@ module _ (old new : Session) (log : Log) (x : IsStartFlushed old new) (running :
   pieces_few : length new.pending ≤ load (cutting_of old) log
   pieces_few =
       let p = x.planned in
-      let header = naming_piece old x.at ∷ [] in
+      let j = x.pending in
+      let last = j.behind ++ naming_piece old x.naming ∷ [] in
       let total : length new.pending ≡ length p.rows + (length p.copies + (length p.fixed + (length p.supers + 1))) =
-      ap length x.pending ∙ length-append p.rows (p.copies ++ (p.fixed ++ (p.supers ++ header)))
-      ∙ ap (λ (k : ℕ). length p.rows + k) (length-append p.copies (p.fixed ++ (p.supers ++ header)) ∙ ap (λ (k : ℕ). length p.copies + k) (length-append p.fixed (p.supers ++ header) ∙ ap (λ (k : ℕ). length p.fixed + k) (length-append p.supers header))) in
+      omega (
+        arith,
+        ap length j.all,
+        length-append p.rows (p.copies ++ (j.front ++ (p.supers ++ last))),
+        length-append p.copies (j.front ++ (p.supers ++ last)),
+        length-append j.front (p.supers ++ last),
+        length-append p.supers last,
+        length-append j.behind (naming_piece old x.naming ∷ []),
+        ap length j.cut,
+        length-append j.front j.behind,
+      ) in
       few_total (length new.pending) (length p.rows) (length p.copies) (length p.supers) (length p.fixed) (1000 + most_of old.dataset (rows_of old)) (load (cutting_of old) log) total
       (planned_few old x.made x.first new.index new.places p marks log r) (load_is old log running idle st)
 
@@ -84,7 +107,8 @@ module _ (old new : Session) (log : Log) (x : IsStartFlushed old new) (running :
     runs = r.runs;
     knows = r.knows;
     keeps = r.keeps;
-    index = kept_starting (image_now log) r.after r.address old.places old.index (ap (λ (d : Described). d.layout.address) r.keeps.dataset ∙ x.absent) r.index;
+    index =
+        kept_starting (image_now log) old.name r.after r.address old.places old.index r.knows (subst (λ (d : Described). (d.layout.address ≡ undefined) ⊎ (has_no_block old.index ≡ true)) (sym r.keeps.dataset) x.unmade) r.index;
     more = r.more;
     waiting = r.waiting;
     fit = r.fit;
@@ -94,14 +118,25 @@ module _ (old new : Session) (log : Log) (x : IsStartFlushed old new) (running :
     columns = r.columns;
   }
 
+  -- a file that the session created has its index
+  not_new : IsNew log → IsUnmade old → ⊥
+  not_new new_log (inl none) = new_named old [] log r.after new_log r.past none
+  not_new new_log (inr lacking) = never (has_no_block old.index) lacking (r.past.own new_log).1
+
   carries : AllEndBy new.places.end new.pending → Stands new (and_now (plans (length new.pending)) log)
   carries within =
       let next = and_now (plans (length new.pending)) log in
       let m = after_start old new log x before in
-      let s = started_of old x.at new.places new.pending new.index in
-      let own : IsOwn new.index = planned_own old x.made x.first new.index new.places x.planned x.start.own in
+      let s = started_of old x.at x.naming new.places new.pending new.index in
+      let address = old.dataset.layout.address in
+      let blocks = (told_of old x.made x.first new.index new.places x.planned).stay ∙ x.planned.placing.partly.like.fixed in
+      let own : IsMadeHere new.index = (
+        planned_own old x.made x.first new.index new.places x.planned x.start.own,
+        same_block x.made new.index blocks ∙ made_whole address old.places x.at x.made x.first x.start.made (r.knows.live the_superblock (inl refl)),
+      ) in
+      let roomy : IsRoomy old.dataset new.index = planned_roomy old x.made x.first new.index new.places x.planned (made_roomy old.dataset old.dataset.layout.address old.places x.at x.made x.first x.start.made) in
       let past : Past new new.pending next m =
-      past_planned old new (length new.pending) new.pending log r.after m (like_started old new x start_raised.limit (λ o. own)) start_raised within (λ new_log. absurd (new_named old [] log r.after new_log r.past x.absent)) r.past in
+      past_planned old new (length new.pending) new.pending log r.after m (like_started old new x start_raised.limit (λ o. own) (λ o. roomy)) start_raised within (λ new_log. absurd (not_new new_log x.unmade)) r.past in
       let running : Running s new.pending next = start_running old new log x before (subst (λ (t : Session). Past t new.pending next m) x.session past) in
       let goes = running.runs.goes in
       subst (λ (t : Session). Stands t next) (sym x.session) (record { left = new.pending; dropped = inl refl; phase = inr running; prefixed = goes.prefixed; still = goes.still })
@@ -123,11 +158,11 @@ module _ (s : Session) (log : Log) (running : s.stopped ≡ false) (idle : s.pen
   low : (n : ℕ) → n ≤ 1000 → n ≤ load (cutting_of s) log
   low n few = at_most n (1000 + most_of s.dataset (rows_of s)) (load (cutting_of s) log) (omega (arith, few)) (load_is s log running idle st)
 
-  unplaced : (k : IndexKind) → IsUnplaced k s.places full → NoPlace s log full
+  unplaced : (k : IndexKind) → IsUnplaced k s.dataset.layout.address s.places full → NoPlace s log full
   unplaced Array (no_block refused) =
       let r = idle_running s log running idle st in
       refused_bound s log s.places 0 eaib_len full waits r.past.grew (raised_none s.places s.places refl refl) (low 0 (omega arith)) refused (omega arith) (low eaib_len (omega arith))
-  unplaced Array (no_header block a took raised refused) =
+  unplaced Array (no_header block a none took raised refused) =
       let r = idle_running s log running idle st in
       refused_bound s log a eaib_len eahd_len full waits r.past.grew raised (low eaib_len (omega arith)) refused (omega arith) (low eahd_len (omega arith))
   unplaced Tree refused =
@@ -138,7 +173,7 @@ module _ (s : Session) (log : Log) (running : s.stopped ≡ false) (idle : s.pen
   unfilled x =
       let d = s.dataset in
       let few : index_len (kind_of x.made) ≤ 370 = index_lens (kind_of x.made) in
-      part_no_place s log running idle st waits full x.made (mark_laws.clean d d.shape.rows (rows_of s) x.made (made_clean s.places x.at x.made x.first x.start.made)) x.first (index_len (kind_of x.made)) (omega (arith, few)) x.start.raised
+      part_no_place s log running idle st waits full x.made (mark_laws.clean d d.shape.rows (rows_of s) x.made (made_clean s.dataset.layout.address s.places x.at x.made x.first x.start.made)) x.first (index_len (kind_of x.made)) (omega (arith, few)) x.start.raised
       x.none
 
   pub full_no_place : IsFullFor s full → NoPlace s log full

@@ -1,12 +1,13 @@
 -- A first flush that was planned: the session after it stands over the log with that plan, as one whose index is there.
-use Rattle.std.proofs.Common.{◌≡◌, ℕ, zero, suc, ◌+◌, ◌*◌, ◌/◌, ◌-◌, ◌<◌, Bool, List, [], ◌∷◌, ◌++◌, length, Some, None, refl, sym, ap, ◌∙◌, subst, arith, length-append, append-nil, inl}
-use Rattle.std.specs.Prelude.{if◌then◌else◌}
+use Rattle.std.proofs.Common.{◌≡◌, ◌≢◌, ℕ, zero, suc, ◌+◌, ◌*◌, ◌/◌, ◌-◌, ◌<◌, Bool, List, [], ◌∷◌, ◌++◌, length, Some, None, refl, sym, ap, ◌∙◌, subst, arith, length-append, append-nil, inl}
+use Rattle.std.specs.Prelude.{if◌then◌else◌, unwrap_or}
 use Rattle.std.specs.List.{slice_get}
 use Rattle.std.proofs.lemmas.Bool.{le-ltb}
 use Rattle.std.proofs.Math.Nat.{div-zero}
 use Rattle.h5w_model.specs.Images.{image}
 use Rattle.h5w_model.specs.Headers.{with_rows_bytes}
 use Rattle.h5w_model.specs.Lawful.{first_outside}
+use Rattle.h5w_model.specs.Numbers.{undefined}
 use Rattle.h5w_model.specs.Messages.{IsIntType}
 use Rattle.h5w_model.specs.Tables.{chunks_across, format_limits, limit_of, needed}
 use Rattle.h5w_model.specs.Logs.{Log, plans, flushed_in, flushed_rows, appended_in, and_now, div_up}
@@ -35,8 +36,11 @@ use Rattle.h5w_index.proofs.MarkLemmas.{mark_laws}
 use Rattle.h5w_session.specs.Sessions.{Session, rows_of, with_rows}
 use Rattle.h5w_session.specs.Past.{Past}
 use Rattle.h5w_session.specs.Stands.{Running}
-use Rattle.h5w_session.specs.Starts.{IsStartFlushed, StartRunning, naming_piece, started_of}
+use Rattle.h5w_session.specs.Starts.{AreJoined, IsMadeAt, IsNaming, IsStartFlushed, StartRunning, naming_piece, started_of}
+use Rattle.h5w_block_laws.specs.HeaderAlone.{IsHeaderAlone}
+use Rattle.h5w_session.specs.Indexes.{Lacks, an_index, a_block}
 use Rattle.h5w_session.proofs.CreatingLemmas.{no_cells}
+use Rattle.h5w_session.proofs.HeaderAlone.{named_at}
 use Rattle.h5w_session.proofs.FlushLemmas.{each_fits, others_then, placed_then, told_of}
 use Rattle.h5w_session.proofs.StartKinds.{AreFirstCalls, AreFirstPending, blank_none, first_named, first_pending}
 
@@ -97,18 +101,23 @@ module _ (old new : Session) (log : Log) (x : IsStartFlushed old new) (r : Start
   at_place : header_place new.index ≡ x.at
   at_place = told.place ∙ x.planned.placing.partly.like.place ∙ x.start.at_place
 
-  same_header : commit_at (image_now log) r.after.place (rows_of old) (Some (header_place new.index)) ≡ naming_piece old x.at
+  same_header : commit_at (image_now log) r.after.place (rows_of old) x.naming ≡ naming_piece old x.naming
   same_header =
-      ap (λ (p : ℕ). commit_at (image_now log) p (rows_of old) (Some (header_place new.index))) r.keeps.place
-      ∙ ap (λ (b : List ℕ). record { at = old.place; piece = with_rows_bytes b (rows_of old) (Some (header_place new.index)) }) r.keeps.header
-      ∙ ap (λ (n : ℕ). record { at = old.place; piece = with_rows_bytes old.header (rows_of old) (Some n) }) at_place
+      ap (λ (p : ℕ). commit_at (image_now log) p (rows_of old) x.naming) r.keeps.place
+      ∙ ap (λ (b : List ℕ). record { at = old.place; piece = with_rows_bytes b (rows_of old) x.naming }) r.keeps.header
 
-  calls : AreFirstCalls (image_now log) r.after old.places x.first x.planned.between x.at x.made x.planned.named x.planned.moves new.index new.places (rows_of old) r.more x.planned.rows x.planned.chunks x.planned.added
+  -- where the layout names an index, it is the header of an array alone
+  alone_there : Lacks (image_now log) r.after.dataset old.index → r.after.dataset.layout.address ≢ undefined → IsHeaderAlone (image_now log) r.after.dataset
+  alone_there (an_index none) named = absurd (named none)
+  alone_there (a_block alone lacking) named = alone
+
+  calls : AreFirstCalls (image_now log) r.after old.places x.first x.planned.between x.at x.naming x.made x.planned.named x.planned.moves new.index new.places (rows_of old) r.more x.planned.rows x.planned.chunks x.planned.added
       x.planned.copies x.planned.fixed x.planned.supers new.pending
   calls = record {
     kind = ap (λ (d : Described). d.layout.index) r.keeps.dataset ∙ x.kind;
-    unnamed = r.index.unnamed;
-    made = x.start.made;
+    alone = alone_there r.index.lacks;
+    made = subst (λ (d : Described). IsMadeAt d.layout.address old.places x.at x.made x.first) data_set x.start.made;
+    names = subst (λ (n : ℕ). IsNaming r.after.dataset.layout.address n x.naming) (sym at_place) (subst (λ (d : Described). IsNaming d.layout.address x.at x.naming) data_set x.names);
     rises = subst (λ (d : Described). d.shape.rows < rows_of old) data_set (let some = x.planned.some in omega arith);
     small = x.planned.small;
     few = few_after;
@@ -126,29 +135,31 @@ module _ (old new : Session) (log : Log) (x : IsStartFlushed old new) (r : Start
     fit = each_fits r.after.dataset 0 r.more (subst (λ (d : Described). first_outside d.int_type 0 r.more ≡ None) data_set r.fit);
     plan = x.planned.plan;
     ended = subst (λ (s : Super). AreEnded s new.places.end x.planned.supers) (sym r.keeps.root) x.planned.ended;
-    pieces = x.pending ∙ ap (λ (w : Write). x.planned.rows ++ (x.planned.copies ++ (x.planned.fixed ++ (x.planned.supers ++ w ∷ [])))) (sym same_header);
+    pieces = subst (λ (w : Write). AreJoined x.naming x.planned.rows x.planned.copies x.planned.fixed x.planned.supers w new.pending) (sym same_header) x.pending;
   }
 
-  pending_are : AreFirstPending old.name log r.after new.index new.places (rows_of old) r.more new.pending
+  pending_are : AreFirstPending old.name log r.after x.naming new.index new.places (rows_of old) r.more new.pending
   pending_are =
-      first_pending old.name log r.after old.places x.first x.planned.between new.places x.at x.made x.planned.named new.index x.planned.moves (rows_of old) r.more x.planned.rows x.planned.chunks x.planned.added
+      first_pending old.name log r.after old.places x.first x.planned.between new.places x.at x.naming x.made x.planned.named new.index x.planned.moves (rows_of old) r.more x.planned.rows x.planned.chunks x.planned.added
       x.planned.copies x.planned.fixed x.planned.supers new.pending known r.runs r.appended calls
 
   -- ---- The session after it
 
   abbrev pub after_start : Moment
-  after_start = first_named r.after new.index (rows_of old) r.more new.places.end
+  after_start = first_named r.after x.naming new.index (rows_of old) r.more new.places.end
 
   some_pieces : 0 < length new.pending
   some_pieces =
-      let supers = x.planned.supers ++ naming_piece old x.at ∷ [] in
+      let j = x.pending in
+      let last = j.behind ++ naming_piece old x.naming ∷ [] in
       omega (
         arith,
-        ap length x.pending,
-        length-append x.planned.rows (x.planned.copies ++ (x.planned.fixed ++ supers)),
-        length-append x.planned.copies (x.planned.fixed ++ supers),
-        length-append x.planned.fixed supers,
-        length-append x.planned.supers (naming_piece old x.at ∷ []),
+        ap length j.all,
+        length-append x.planned.rows (x.planned.copies ++ (j.front ++ (x.planned.supers ++ last))),
+        length-append x.planned.copies (j.front ++ (x.planned.supers ++ last)),
+        length-append j.front (x.planned.supers ++ last),
+        length-append x.planned.supers last,
+        length-append j.behind (naming_piece old x.naming ∷ []),
       )
 
   committed_then : flushed_rows (and_now (plans (length new.pending)) log) ≡ old.committed
@@ -156,8 +167,11 @@ module _ (old new : Session) (log : Log) (x : IsStartFlushed old new) (r : Start
       let chosen : Bool → ℕ = λ b. length (if b then log.values ++ appended_in log.events else flushed_in 0 log.values log.events) / log.columns in
       ap chosen (lt-leb-false (length new.pending) 0 some_pieces) ∙ r.committed
 
-  pub start_running : Past (started_of old x.at new.places new.pending new.index) new.pending (and_now (plans (length new.pending)) log) after_start
-      → Running (started_of old x.at new.places new.pending new.index) new.pending (and_now (plans (length new.pending)) log)
+  address_then : unwrap_or x.naming r.after.dataset.layout.address ≡ x.at
+  address_then = subst (λ (d : Described). unwrap_or x.naming d.layout.address ≡ x.at) data_set (named_at old.dataset.layout.address old.places x.at x.made x.first x.naming x.start.made x.names)
+
+  pub start_running : Past (started_of old x.at x.naming new.places new.pending new.index) new.pending (and_now (plans (length new.pending)) log) after_start
+      → Running (started_of old x.at x.naming new.places new.pending new.index) new.pending (and_now (plans (length new.pending)) log)
   start_running past = record {
     after = after_start;
     address = λ key. address_in new.index key;
@@ -166,7 +180,7 @@ module _ (old new : Session) (log : Log) (x : IsStartFlushed old new) (r : Start
     keeps = record {
       root = ap (λ (s : Super). record s { end = new.places.end }) r.keeps.root;
       place = r.keeps.place;
-      dataset = ap (λ (n : ℕ). with_index n (with_rows (rows_of old) r.after.dataset)) at_place ∙ ap (λ (d : Described). with_index x.at (with_rows (rows_of old) d)) r.keeps.dataset;
+      dataset = ap (λ (n : ℕ). with_index n (with_rows (rows_of old) r.after.dataset)) address_then ∙ ap (λ (d : Described). with_index x.at (with_rows (rows_of old) d)) r.keeps.dataset;
       header =
           ap (λ (p : ℕ). chunk_0 (image (image_now log) new.pending) p) (sym r.keeps.place)
           ∙ pending_are.header

@@ -213,14 +213,14 @@ values_is s values is rows by =
       kind = is.kind;
       sound = is.sound;
       fits = is.fits;
-      held = is.held;
       header = is.header;
       addressed = is.addressed;
       header_ends = is.header_ends;
       small = is.small;
       limit = is.limit;
       inside = is.inside;
-      tops = is.tops;
+      tops = λ whole. is.tops (record { named = whole.named; made = whole.made });
+      head = is.head;
     }
 
 -- the same as fields tell it

@@ -28,7 +28,6 @@ use Rattle.h5w_cache.specs.declared.plan.PlanError.TheVariants as plan
 use Rattle.h5w_index.specs.Steps.{IsDeep, found}
 use Rattle.h5w_index.specs.Views.{IndexView, IsSound, an_array, a_tree, address_in, is_key}
 use Rattle.h5w_index.specs.Placing.{Fits, IsPlacing, next_key}
-use Rattle.h5w_index.specs.Depths.{AreWithin}
 use Rattle.h5w_index.specs.Marks.{IsTouched}
 use Rattle.h5w_index.proofs.DepthLemmas.{depth_laws}
 use Rattle.h5w_bt_index.specs.declared.error.InsertError.{InsertError}
@@ -36,8 +35,8 @@ use Rattle.h5w_bt_index.specs.declared.error.InsertError.TheVariants as inserts
 use Rattle.h5w_bt_index.proofs.Keys.{equal-is}
 use Rattle.h5w_flush_laws.proofs.NewChunkLemmas.{one_number}
 use Rattle.h5w_space.specs.Space.{Space}
-use Rattle.h5w_session.specs.Refusals.{IsSpace, plan_fault}
-use Rattle.h5w_session.specs.Sessions.{most_bands}
+use Rattle.h5w_session.specs.Refusals.{IsSpace, insert_fault, plan_fault}
+use Rattle.h5w_session.specs.Sessions.{IsRoomy, most_bands}
 use Rattle.h5w_session.specs.declared.refusal.FlushError.{FlushError}
 use Rattle.h5w_session.specs.declared.refusal.FlushError.TheVariants as flushes
 
@@ -50,10 +49,6 @@ on_err (Err e) p = p
 pub map_ok : {T E P Q : Type 0} (r : Result T E) → (P → Q) → OnOk r P → OnOk r Q
 map_ok (Ok x) f p = f p
 map_ok (Err e) f p = tt
-
--- a key that is too much was so
-pub deep_so : {T P : Type 0} (r : Result T InsertError) → IfErr r (λ (e : InsertError). e ≡ inserts.Deep → P) → r ≡ Err inserts.Deep → P
-deep_so {T} {P} r told is = subst (λ (x : Result T InsertError). IfErr x (λ (e : InsertError). e ≡ inserts.Deep → P)) is told refl
 
 pub found_some : (a x : ℕ) → found a ≡ Some x → (a ≡ x) × (a ≢ undefined)
 found_some a x is =
@@ -133,13 +128,14 @@ limit_top Array = omega arith
 limit_top Tree = omega arith
 
 -- the chunks of the most bands are few
-pub most_few : (d : Described) → most_bands d * chunks_across d ≤ 1000000
+most_few : (d : Described) → most_bands d * chunks_across d ≤ 1000000
 most_few d =
     let parts = div-add-mod' (limit_of format_limits d.layout.index) (chunks_across d) in
     omega (arith, parts, limit_top d.layout.index)
 
-pub not_deep : (bands across : ℕ) (key : Key) (v : IndexView) → IsSound v → AreWithin bands across v → bands * across ≤ 1000000 → IsDeep v key → ⊥
-not_deep bands across key v sound within few deep = depth_laws.shallow bands across key v sound within (omega arith) deep
+-- no key is too much for an index that has room
+pub not_deep : (d : Described) (key : Key) (v : IndexView) → IsSound v → IsRoomy d v → IsDeep v key → ⊥
+not_deep d key v sound roomy deep = depth_laws.shallow (most_bands d) (chunks_across d) key v sound roomy (let few = most_few d in omega (arith, few)) deep
 
 -- the next chunk of the loop
 pub record IsNext (d : Described) (to : ℕ) (key : Key) (chunks : List ChunkPlace) : Type 0 where
@@ -194,9 +190,48 @@ full_of (plan.Full f) full P is told = let same : f ≡ full = cc in subst P sam
 full_of plan.OutOfMemory full P is told = absurd cc
 
 -- a plan is refused for want of a place or of memory
-pub plan_causes : {T : Type 0} (e : PlanError) (r : Result T FlushError) → r ≡ Err (plan_fault e) → IfErr r (λ f. IsSpace f ⊎ ((f ≡ flushes.Failed) ⊎ (f ≡ flushes.OutOfMemory)))
+pub plan_causes : {T : Type 0} (e : PlanError) (r : Result T FlushError) → r ≡ Err (plan_fault e) → IfErr r (λ f. IsSpace f ⊎ ((f ≡ flushes.Deep) ⊎ ((f ≡ flushes.Failed) ⊎ (f ≡ flushes.OutOfMemory))))
 plan_causes (plan.Full full) r is = rw is (inl (full, refl))
-plan_causes plan.OutOfMemory r is = rw is (inr (inr refl))
+plan_causes plan.OutOfMemory r is = rw is (inr (inr (inr refl)))
+
+pub plan_not_deep : {T : Type 0} (e : PlanError) → ◌≡◌ {A = Result T FlushError} (Err (plan_fault e)) (Err flushes.Deep) → ⊥
+plan_not_deep (plan.Full full) is = cc
+plan_not_deep plan.OutOfMemory is = cc
+
+-- where the index has room there are no other causes
+pub shallow_causes : {T : Type 0} (e : FlushError) (r : Result T FlushError) → r ≡ Err e → IsSpace e ⊎ ((e ≡ flushes.Deep) ⊎ ((e ≡ flushes.Failed) ⊎ (e ≡ flushes.OutOfMemory))) → (e ≡ flushes.Deep → ⊥)
+    → IfErr r (λ f. IsSpace f ⊎ ((f ≡ flushes.Failed) ⊎ (f ≡ flushes.OutOfMemory)))
+shallow_causes e r is (inl space) shallow = rw is (inl space)
+shallow_causes e r is (inr (inl deep)) shallow = absurd (shallow deep)
+shallow_causes e r is (inr (inr others)) shallow = rw is (inr others)
+
+-- and with them alone it is refused for no want of room there
+pub causes_shallow : {T : Type 0} (r : Result T FlushError) → IfErr r (λ f. IsSpace f ⊎ ((f ≡ flushes.Failed) ⊎ (f ≡ flushes.OutOfMemory))) → r ≡ Err flushes.Deep → ⊥
+causes_shallow {T} r causes is = go (subst (λ (x : Result T FlushError). IfErr x (λ f. IsSpace f ⊎ ((f ≡ flushes.Failed) ⊎ (f ≡ flushes.OutOfMemory)))) is causes)
+  where
+    go : IsSpace flushes.Deep ⊎ ((flushes.Deep ≡ flushes.Failed) ⊎ (flushes.Deep ≡ flushes.OutOfMemory)) → ⊥
+    go (inl space) = let clash : flushes.Deep ≡ flushes.Space space.0 = space.1 in cc
+    go (inr (inl failed)) = cc
+    go (inr (inr memory)) = cc
+
+pub causes_wider : {T : Type 0} (r : Result T FlushError) → IfErr r (λ f. IsSpace f ⊎ ((f ≡ flushes.Failed) ⊎ (f ≡ flushes.OutOfMemory)))
+    → IfErr r (λ f. IsSpace f ⊎ ((f ≡ flushes.Deep) ⊎ ((f ≡ flushes.Failed) ⊎ (f ≡ flushes.OutOfMemory))))
+causes_wider (Ok x) causes = tt
+causes_wider (Err e) (inl space) = inl space
+causes_wider (Err e) (inr others) = inr (inr others)
+
+-- a place in the index is refused for want of room there, or of memory
+pub insert_causes : {T : Type 0} (e : InsertError) (r : Result T FlushError) → r ≡ Err (insert_fault e) → IfErr r (λ f. IsSpace f ⊎ ((f ≡ flushes.Deep) ⊎ (f ≡ flushes.OutOfMemory)))
+insert_causes inserts.Deep r is = rw is (inr (inl refl))
+insert_causes inserts.OutOfMemory r is = rw is (inr (inr refl))
+
+pub insert_not_full : {T : Type 0} (e : InsertError) (full : Full) → ◌≡◌ {A = Result T FlushError} (Err (insert_fault e)) (Err (flushes.Space full)) → ⊥
+insert_not_full inserts.Deep full is = cc
+insert_not_full inserts.OutOfMemory full is = cc
+
+pub insert_deep : {T P : Type 0} (e : InsertError) → ◌≡◌ {A = Result T FlushError} (Err (insert_fault e)) (Err flushes.Deep) → (e ≡ inserts.Deep → P) → P
+insert_deep inserts.Deep is told = told refl
+insert_deep inserts.OutOfMemory is told = absurd cc
 
 -- the fill of a grid has the size of a value
 pub filled_cell : (g : Grid) → IsGrid g → length (fill_cell (dataset_of g)) ≡ g.int_type.size

@@ -2,7 +2,6 @@
 use Rattle.std.specs.Prelude.{◌≡◌, ℕ, ◌*◌, ◌^◌, ◌<◌, ◌≤◌, List, [], ◌∷◌, ◌++◌, length, nat_lt, None}
 use Rattle.h5w_model.specs.Headers.{with_rows_bytes}
 use Rattle.h5w_model.specs.Datasets.{Described}
-use Rattle.h5w_model.specs.Numbers.{undefined}
 use Rattle.h5w_model.specs.Messages.{IsIntType}
 use Rattle.h5w_model.specs.Tables.{needed}
 use Rattle.h5w_model.specs.declared.cell.Key.{Key}
@@ -17,7 +16,7 @@ use Rattle.h5w_flush_laws.specs.Parts.{AreEnded}
 use Rattle.h5w_index.specs.Views.{IndexView, address_in}
 use Rattle.h5w_index.specs.Steps.{IsPlan}
 use Rattle.h5w_index.specs.Placing.{Fits, IsPartly, IsPlacing}
-use Rattle.h5w_session.specs.Sessions.{IsNamed, Session, chunk_limit, rows_of, with_rows}
+use Rattle.h5w_session.specs.Sessions.{IsRoomy, IsUnmade, IsWhole, Session, chunk_limit, rows_of, with_rows}
 
 -- how many chunks the rows that wait go into
 abbrev pub touched_by : Session → ℕ
@@ -78,19 +77,23 @@ pub record ArePlanned (s : Session) (v : IndexView) (before : Space) (w : IndexV
   pub supers : List Write
   pub ended : AreEnded s.root t.end supers
   pub unraised : t.end ≡ s.root.end → supers ≡ []
+  -- the index that names the chunks has room where it had before
+  pub roomy : IsRoomy s.dataset v → IsRoomy s.dataset named
 
 -- A flush of rows that wait: what each of its calls does, in their order.
 pub record IsFlushed (old new : Session) : Type 0 where
-  -- the layout names the index
-  pub there : IsNamed old.dataset
+  -- the index is there
+  pub there : IsWhole old
   pub planned : ArePlanned old old.index old.places new.index new.places
   -- all pieces, the header's last
   pub pending : new.pending ≡ planned.rows ++ (planned.copies ++ (planned.supers ++ (planned.fixed ++ header_piece old ∷ [])))
   pub session : new ≡ flushed_of old new.places new.pending new.index
 
 -- A flush that was refused changes nothing but that places are held in the index for chunks of the rows that wait: what is held will be
--- written again, as the next flush does in any case. Where the layout names no index, that which is kept stays as it is.
+-- written again, as the next flush does in any case. Where something of the index is not there, that which is kept stays as it is. The index has
+-- room where it had before.
 pub record SameBut (old new : Session) : Type 0 where
   pub session : new ≡ record old { index = new.index }
   pub held : IsPartly old.dataset (rows_of old) old.index [] new.index
-  pub unnamed : old.dataset.layout.address ≡ undefined → new.index ≡ old.index
+  pub unmade : IsUnmade old → new.index ≡ old.index
+  pub roomy : IsRoomy old.dataset old.index → IsRoomy old.dataset new.index

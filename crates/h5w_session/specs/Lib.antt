@@ -21,10 +21,6 @@ pub mod Reaches
 pub mod Past
 pub mod Stands
 pub mod Openings
-pub mod OpenRanges
-pub mod OpenAnswers
-pub mod OpenSteps
-pub mod OpenLaws
 pub mod Flushes
 pub mod Starts
 pub mod Room

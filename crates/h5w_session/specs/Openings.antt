@@ -9,10 +9,31 @@ use Rattle.h5w_model.specs.declared.root.Super.{Super}
 use Rattle.h5w_flush_laws.specs.Knowledge.{Knows}
 use Rattle.h5w_steps.specs.Moments.{Moment, Represents}
 use Rattle.h5w_index.specs.Views.{IsClean, address_in}
+use Rattle.h5w_chunks.specs.Grids.{dataset_of}
+use Rattle.h5w_index.specs.Held.{view_of}
 use Rattle.h5w_session.specs.Indexes.{IsKeptIndex}
 use Rattle.h5w_session.specs.Past.{IsCounted}
 use Rattle.h5w_session.specs.Sessions.{Session}
+use Rattle.h5w_session.specs.declared.over.FileParts.{FileParts}
 use Rattle.h5w_session.specs.Stands.{Keeps, Stands}
+
+-- what a session over a file that is there begins with: the superblock is pending, and nothing happened yet
+abbrev pub session_over : FileParts → List ℕ → ℕ → Session
+session_over file name limit = record {
+  name = name;
+  root = file.root;
+  place = file.place;
+  header = file.header;
+  dataset = dataset_of file.grid;
+  places = record { end = file.root.end; limit = limit; free = []; retired = []; spare = 0 };
+  committed = file.grid.shape.rows;
+  waiting = [];
+  waits = 0;
+  pending = record { at = 0; piece = super_bytes file.root } ∷ [];
+  stopped = false;
+  keeps = false;
+  index = view_of file.index;
+}
 
 -- the log of a session that opened a file with these values, to which nothing happened yet
 abbrev pub opened_log : List ℕ → ℕ → List ℤ → Log

@@ -1,5 +1,5 @@
 -- What a session keeps of the positions of its log, and of the bounds of its file.
-use Rattle.std.specs.Prelude.{◌≡◌, ◌≢◌, ◌⊎◌, ℕ, ◌+◌, ◌*◌, ◌^◌, ◌<◌, ◌≤◌, max, List, ◌++◌, length, get_or, take}
+use Rattle.std.specs.Prelude.{◌≡◌, ◌≢◌, ◌⊎◌, ℕ, ◌+◌, ◌*◌, ◌^◌, ◌<◌, ◌≤◌, max, List, ◌++◌, length, get_or, take, false}
 use Rattle.h5w_model.specs.Numbers.{undefined}
 use Rattle.h5w_model.specs.Logs.{Log, hist, rows_in, spent}
 use Rattle.h5w_model.specs.Prefixed.{IsPosition, image_at}
@@ -9,12 +9,14 @@ use Rattle.h5w_model.specs.Tables.{Reading, Reads, Shows, chunks_across, format_
 use Rattle.h5w_chunks.specs.Grids.{fill_cell}
 use Rattle.h5w_model.specs.declared.piece.Write.{Write}
 use Rattle.h5w_steps.specs.Moments.{Moment, reading_of}
+use Rattle.h5w_index.specs.Blocks.{has_no_block}
 use Rattle.h5w_index.specs.Placing.{IsOwn}
+use Rattle.h5w_index.specs.Views.{IndexView}
 use Rattle.h5w_creation_laws.specs.CreatedFiles.{CreatedFile, IsCreatable, created_writes, described_of, header_place}
 use Rattle.h5w_session.specs.Creations.{log_of}
 use Rattle.h5w_session.specs.Loads.{first_end_of}
 use Rattle.h5w_session.specs.Reaches.{ReachedFrom}
-use Rattle.h5w_session.specs.Sessions.{Session, AllEndBy, cutting_of, with_rows}
+use Rattle.h5w_session.specs.Sessions.{IsRoomy, Session, AllEndBy, cutting_of, with_rows}
 
 -- each needed chunk of what an image shows has an address
 abbrev pub AllAddressed : Reading → Type 0
@@ -60,6 +62,10 @@ pub record IsCounted (d : Described) : Type 0 where
   pub columns : 0 < d.shape.cols
   pub across : 0 < chunks_across d
 
+-- an index as it is made here
+abbrev pub IsMadeHere : IndexView → Type 0
+IsMadeHere v = IsOwn v × (has_no_block v ≡ false)
+
 -- How the log began; in a file that the session created, at each position each needed chunk has an address, and so it has at the moment
 -- to which the pieces left lead, and its index is one as it is made here; and the file's end and all pieces are bounded.
 pub record Past (s : Session) (left : List Write) (log : Log) (after : Moment) : Type 0 where
@@ -69,7 +75,7 @@ pub record Past (s : Session) (left : List Write) (log : Log) (after : Moment) :
   pub limit_high : s.places.limit ≤ 2 ^ 40
   pub addressed : IsNew log → (p : ℕ) (r : Reading) → IsPosition log p → Shows format_limits (image_at log p) s.name r → AllAddressed r
   pub next : IsNew log → AllAddressed (reading_of after)
-  pub own : IsNew log → IsOwn s.index
+  pub own : IsNew log → IsMadeHere s.index
   -- once the session brought rows, or where it was so before, readers look for each chunk that the rows need and that has an address
   pub reach : ReachedFrom (rows_in log log.values) log.start s
   -- the file grew by no more than what its plans were bound to
@@ -77,3 +83,5 @@ pub record Past (s : Session) (left : List Write) (log : Log) (after : Moment) :
   -- the end and all pieces are within the limit, or within the file that it began with
   pub fits : s.places.end ≤ most_of s log
   pub ends : AllEndBy (most_of s log) (hist log.events ++ left)
+  -- the index of a file that the session created has room for each of its chunks
+  pub roomy : IsNew log → IsRoomy s.dataset s.index

@@ -1,11 +1,13 @@
 -- Why a session's calls are refused.
-use Rattle.std.specs.Prelude.{◌≡◌, ◌⊎◌, ℕ, ◌/◌, List, length, ℤ, nat_lt, if◌then◌else◌, Option, Some, None}
+use Rattle.std.specs.Prelude.{◌≡◌, ◌⊎◌, ℕ, ◌/◌, ◌<◌, List, length, ℤ, nat_lt, if◌then◌else◌, Option, Some, None}
+use Rattle.h5w_model.specs.Datasets.{Described}
 use Rattle.h5w_model.specs.Lawful.{first_outside}
 use Rattle.h5w_model.specs.Arrays.{eahd_len, eaib_len}
 use Rattle.h5w_model.specs.Trees.{bthd_len}
 use Rattle.h5w_model.specs.Numbers.{undefined}
 use Rattle.h5w_model.specs.declared.cell.IndexKind.{IndexKind}
 use Rattle.h5w_model.specs.declared.cell.IndexKind.TheVariants.{Array, Tree}
+use Rattle.h5w_model.specs.declared.cell.Key.{Key}
 use Rattle.h5w_space.specs.Space.{Space, extent}
 use Rattle.h5w_space.specs.declared.Full.{Full}
 use Rattle.h5w_cache.specs.Plans.{IsRefused, Took}
@@ -13,10 +15,15 @@ use Rattle.h5w_cache.specs.declared.plan.PlanError.{PlanError}
 use Rattle.h5w_cache.specs.declared.plan.PlanError.TheVariants as plan
 use Rattle.h5w_image.specs.declared.fault.ImageError.{ImageError}
 use Rattle.h5w_image.specs.declared.fault.ImageError.TheVariants as image
-use Rattle.h5w_index.specs.Views.{IndexView, kind_of}
+use Rattle.h5w_chunks.specs.Shares.{touched}
+use Rattle.h5w_chunks.specs.declared.grid.ChunkPlace.{ChunkPlace}
+use Rattle.h5w_bt_index.specs.declared.error.InsertError.{InsertError}
+use Rattle.h5w_bt_index.specs.declared.error.InsertError.TheVariants as inserts
+use Rattle.h5w_index.specs.Views.{IndexView, address_in, kind_of}
 use Rattle.h5w_index.specs.Marks.{IsRaised}
-use Rattle.h5w_index.specs.Placing.{IsFullPart}
-use Rattle.h5w_session.specs.Sessions.{IsNamed, Session, chunk_limit, chunks_with, rows_of}
+use Rattle.h5w_index.specs.Placing.{IsFullPart, IsPlacing, next_key}
+use Rattle.h5w_index.specs.Steps.{IsDeep}
+use Rattle.h5w_session.specs.Sessions.{IsRoomy, IsUnmade, IsWhole, Session, chunk_limit, chunks_with, rows_of}
 use Rattle.h5w_session.specs.Starts.{IsStartedAt}
 use Rattle.h5w_session.specs.declared.refusal.AppendError.{AppendError}
 use Rattle.h5w_session.specs.declared.refusal.AppendError.TheVariants as appends
@@ -64,15 +71,15 @@ flush_refusal s =
 abbrev pub IsSpace : FlushError → Type 0
 IsSpace e = (full : Full) × (e ≡ flushes.Space full)
 
--- there is no place for an array's index block, or else none for its header
-pub data IsArrayUnplaced (s : Space) (full : Full) : Type 0 where
-  no_block : IsRefused s eaib_len full → IsArrayUnplaced s full
-  no_header : (block : ℕ) (a : Space) → Took s a (extent block eaib_len) → IsRaised s a eaib_len → IsRefused a eahd_len full → IsArrayUnplaced s full
+-- there is no place for an array's index block, or else none for its header, where the layout names none
+pub data IsArrayUnplaced (address : ℕ) (s : Space) (full : Full) : Type 0 where
+  no_block : IsRefused s eaib_len full → IsArrayUnplaced address s full
+  no_header : (block : ℕ) (a : Space) → address ≡ undefined → Took s a (extent block eaib_len) → IsRaised s a eaib_len → IsRefused a eahd_len full → IsArrayUnplaced address s full
 
 -- there is no place for the blocks in place of an index that is made: of a tree it is the header's
-abbrev pub IsUnplaced : IndexKind → Space → Full → Type 0
-IsUnplaced Array s full = IsArrayUnplaced s full
-IsUnplaced Tree s full = IsRefused s bthd_len full
+abbrev pub IsUnplaced : IndexKind → ℕ → Space → Full → Type 0
+IsUnplaced Array address s full = IsArrayUnplaced address s full
+IsUnplaced Tree address s full = IsRefused s bthd_len full
 
 -- over the index that is made there is none for the first new chunk, or else for the first block in turn
 pub record IsUnfilled (s : Session) (full : Full) : Type 0 where
@@ -80,21 +87,42 @@ pub record IsUnfilled (s : Session) (full : Full) : Type 0 where
   pub first : Space
   pub made : IndexView
   pub kind : s.dataset.layout.index ≡ kind_of made
-  pub start : IsStartedAt s.places at made first
+  pub start : IsStartedAt s.dataset.layout.address s.places at made first
   pub none : IsFullPart s.dataset (rows_of s) made first full
 
--- the file has no index yet
+-- the file lacks its index, or its index block
 abbrev pub IsStartFull : Session → Full → Type 0
-IsStartFull s full = IsUnplaced s.dataset.layout.index s.places full ⊎ IsUnfilled s full
+IsStartFull s full = IsUnplaced s.dataset.layout.index s.dataset.layout.address s.places full ⊎ IsUnfilled s full
 
 -- so it is for the rows that wait
 abbrev pub IsFullFor : Session → Full → Type 0
-IsFullFor s full = (IsNamed s.dataset × IsFullPart s.dataset (rows_of s) s.index s.places full) ⊎ ((s.dataset.layout.address ≡ undefined) × IsStartFull s full)
+IsFullFor s full = (IsWhole s × IsFullPart s.dataset (rows_of s) s.index s.places full) ⊎ (IsUnmade s × IsStartFull s full)
 
--- what is answered where the image made no room, and where the index has no plan
+-- Behind chunks that have their places, the next has none yet, and the index as it is then, with places held for those before it, has no
+-- room for its key. So it is in no index that has room for each chunk that the dataset can have.
+pub record IsDeepPart (d : Described) (to : ℕ) (v : IndexView) (s : Space) : Type 0 where
+  pub chunks : List ChunkPlace
+  pub added : List Key
+  pub w : IndexView
+  pub t : Space
+  pub placing : IsPlacing d to v s chunks added w t
+  pub inside : length chunks < touched d d.shape.rows to
+  pub absent : address_in v (next_key d chunks) ≡ undefined
+  pub deep : IsDeep w (next_key d chunks)
+  pub cramped : IsRoomy d v → ⊥
+
+-- So it is for the rows that wait: in a tree of depth 3 that is there each node on the way to the first new chunk that has no record is full.
+abbrev pub IsDeepFor : Session → Type 0
+IsDeepFor s = IsWhole s × IsDeepPart s.dataset (rows_of s) s.index s.places
+
+-- what is answered where the image made no room, where a chunk's key has none in the index, and where the index has no plan
 abbrev pub flush_fault : ImageError → FlushError
 flush_fault image.Failed = flushes.Failed
 flush_fault image.OutOfMemory = flushes.OutOfMemory
+
+abbrev pub insert_fault : InsertError → FlushError
+insert_fault inserts.Deep = flushes.Deep
+insert_fault inserts.OutOfMemory = flushes.OutOfMemory
 
 abbrev pub plan_fault : PlanError → FlushError
 plan_fault (plan.Full full) = flushes.Space full

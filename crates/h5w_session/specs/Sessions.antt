@@ -1,7 +1,8 @@
 -- A session: what its values are, and what each call makes of it.
-use Rattle.std.specs.Prelude.{◌≡◌, ◌≢◌, ◌==◌, ◌^◌, ℕ, ◌+◌, ◌-◌, ◌*◌, ◌/◌, ◌%◌, ◌<◌, ◌≤◌, Bool, true, false, List, [], ◌∷◌, ◌++◌, length, ℤ, Option, None, Some, Ok, find}
+use Rattle.std.specs.Prelude.{◌≡◌, ◌≢◌, ◌⊎◌, ◌==◌, ◌^◌, ℕ, ◌+◌, ◌-◌, ◌*◌, ◌/◌, ◌%◌, ◌<◌, ◌≤◌, Bool, true, false, List, [], ◌∷◌, ◌++◌, length, ℤ, Option, None, Some, Ok, find}
 use Rattle.h5w_model.specs.Images.{AllSized}
 use Rattle.h5w_model.specs.Superblock.{super_bytes}
+use Rattle.h5w_model.specs.Arrays.{eahd_len}
 use Rattle.h5w_model.specs.Logs.{Cutting, div_up}
 use Rattle.h5w_model.specs.Datasets.{Described, dataspace_kind, layout_kind}
 use Rattle.h5w_model.specs.Tables.{chunks_across, format_limits, limit_of, needed}
@@ -16,6 +17,7 @@ use Rattle.h5w_space.specs.Space.{Space, Commits}
 use Rattle.h5w_visits.specs.Ranges.{AllEndBy as RangesEndBy}
 use Rattle.h5w_chunks.specs.Grids.{cells_of}
 use Rattle.h5w_index.specs.Views.{IndexView, IsReached, IsSound, address_in, fixed_of, header_place, kind_of}
+use Rattle.h5w_index.specs.Blocks.{has_no_block}
 use Rattle.h5w_index.specs.Placing.{AreInside, Fits}
 use Rattle.h5w_index.specs.Depths.{AreWithin}
 
@@ -63,6 +65,10 @@ chunks_with s more = needed (with_rows (rows_of s + more) s.dataset)
 abbrev pub most_bands : Described → ℕ
 most_bands d = limit_of format_limits d.layout.index / chunks_across d
 
+-- the index has room for each chunk that the dataset can have: places are held in it for such chunks alone
+abbrev pub IsRoomy : Described → IndexView → Type 0
+IsRoomy d v = AreWithin (most_bands d) (chunks_across d) v
+
 -- the most chunks of the dataset's index
 abbrev pub chunk_limit : Session → ℕ
 chunk_limit s = limit_of format_limits s.dataset.layout.index
@@ -96,6 +102,15 @@ pub record HasAddress (b : List ℕ) : Type 0 where
 abbrev pub IsNamed : Described → Type 0
 IsNamed d = d.layout.address ≢ undefined
 
+-- the index is there: the layout names it, and it is no array that lacks its index block
+pub record IsWhole (s : Session) : Type 0 where
+  pub named : IsNamed s.dataset
+  pub made : has_no_block s.index ≡ false
+
+-- something of it is not: the layout names none, or it is an array that lacks its index block
+abbrev pub IsUnmade : Session → Type 0
+IsUnmade s = (s.dataset.layout.address ≡ undefined) ⊎ (has_no_block s.index ≡ true)
+
 -- how many bands of rows the chunks of the rows have
 abbrev pub bands_of : Session → ℕ
 bands_of s = div_up (rows_of s) s.dataset.layout.chunk_rows
@@ -115,17 +130,16 @@ pub record IsSession (s : Session) : Type 0 where
   pub kind : s.dataset.layout.index ≡ kind_of s.index
   pub sound : IsSound s.index
   pub fits : Fits s.dataset s.index
-  -- its places are for chunks that the dataset can have
-  pub held : AreWithin (most_bands s.dataset) (chunks_across s.dataset) s.index
   pub header : IsWritable s.header
   -- where the layout names no index yet its address can be written with the rows
   pub addressed : s.dataset.layout.address ≡ undefined → HasAddress s.header
   pub header_ends : s.place + length s.header ≤ s.places.end
   pub small : s.places.end < 2 ^ 64
   pub limit : s.places.limit ≤ 2 ^ 40
-  -- the chunks that rows may still go into stand in the file, and so do the blocks in place, where there are any
+  -- the chunks that rows may still go into stand in the file, and so do the blocks in place, as far as they are there
   pub inside : AreInside s.dataset s.places.end s.index
-  pub tops : IsNamed s.dataset → RangesEndBy s.places.end (fixed_of s.index)
+  pub tops : IsWhole s → RangesEndBy s.places.end (fixed_of s.index)
+  pub head : IsNamed s.dataset → has_no_block s.index ≡ true → s.dataset.layout.address + eahd_len ≤ s.places.end
 
 -- each write ends by a place
 abbrev pub AllEndBy : ℕ → List Write → Type 0

@@ -1,5 +1,5 @@
--- A session over a file whose index is not there yet, and its first flush.
-use Rattle.std.specs.Prelude.{◌≡◌, ◌⊎◌, ℕ, ◌+◌, ◌*◌, ◌^◌, ◌<◌, List, [], ◌∷◌, ◌++◌, length, Some, None, ℤ}
+-- A session over a file whose index is not there yet, or is the header of an array alone, and its first flush.
+use Rattle.std.specs.Prelude.{◌≡◌, ◌≢◌, ◌⊎◌, ℕ, ◌+◌, ◌*◌, ◌^◌, ◌<◌, List, [], ◌∷◌, ◌++◌, length, min, Option, Some, None, IsSome, ℤ}
 use Rattle.h5w_model.specs.Headers.{with_rows_bytes}
 use Rattle.h5w_model.specs.Numbers.{undefined}
 use Rattle.h5w_model.specs.Lawful.{first_outside}
@@ -24,7 +24,7 @@ use Rattle.h5w_index.specs.Views.{IndexView, IsSound, an_array, a_tree, fixed_of
 use Rattle.h5w_index.specs.Marks.{IsRaised}
 use Rattle.h5w_index.specs.Placing.{IsOwn}
 use Rattle.h5w_creation_laws.specs.CreatedFiles.{index_len}
-use Rattle.h5w_session.specs.Sessions.{Session, rows_of, with_rows}
+use Rattle.h5w_session.specs.Sessions.{IsUnmade, Session, rows_of, with_rows}
 use Rattle.h5w_session.specs.Indexes.{IsStarting}
 use Rattle.h5w_session.specs.Flushes.{ArePlanned, IsFlushed}
 use Rattle.h5w_session.specs.Stands.{Keeps}
@@ -36,7 +36,7 @@ pub record StartRunning (s : Session) (log : Log) : Type 0 where
   pub runs : Runs s.name log [] after after.behind
   pub knows : Knows (image_now log) s.name after address s.places
   pub keeps : Keeps s (image_now log) after
-  pub index : IsStarting after address s.index
+  pub index : IsStarting (image_now log) after address s.index
   pub more : List ℤ
   pub waiting : s.waiting ≡ cells_of s.dataset more
   pub fit : first_outside s.dataset.int_type 0 more ≡ None
@@ -51,41 +51,64 @@ pub record TookTwo (s : Space) (at block : ℕ) (t : Space) : Type 0 where
   pub first : Took s between (extent block eaib_len)
   pub second : Took between t (extent at eahd_len)
 
--- an array is made over two places that were taken: that of its index block, and then its header's
-pub record IsArrayMade (s : Space) (at : ℕ) (v : Store) (t : Space) : Type 0 where
+-- so they are where the layout names no array; else its header stands where the layout says, and the place for an index block is taken alone
+pub data TookTops (address : ℕ) (s : Space) (at block : ℕ) (t : Space) : Type 0 where
+  both : address ≡ undefined → TookTwo s at block t → TookTops address s at block t
+  block_alone : address ≢ undefined → at ≡ address → Took s t (extent block eaib_len) → TookTops address s at block t
+
+-- an array is made, whose index block and whose header stand there
+pub record IsArrayMade (address : ℕ) (s : Space) (at : ℕ) (v : Store) (t : Space) : Type 0 where
   pub block : ℕ
-  pub two : TookTwo s at block t
+  pub tops : TookTops address s at block t
   pub is_made : IsMade at block v
 
 -- a tree is made over a place that was taken, its header's
-pub record IsTreeMade (s : Space) (at place : ℕ) (v : Index) (t : Space) : Type 0 where
+pub record IsTreeMade (address : ℕ) (s : Space) (at place : ℕ) (v : Index) (t : Space) : Type 0 where
+  pub unnamed : address ≡ undefined
   pub place_is : place ≡ at
   pub empty : v ≡ no_tree
   pub header : Took s t (extent at bthd_len)
   pub ends : at + bthd_len < 2 ^ 64
 
-abbrev pub IsMadeAt : Space → ℕ → IndexView → Space → Type 0
-IsMadeAt s at (an_array v) t = IsArrayMade s at v t
-IsMadeAt s at (a_tree place v) t = IsTreeMade s at place v t
+abbrev pub IsMadeAt : ℕ → Space → ℕ → IndexView → Space → Type 0
+IsMadeAt address s at (an_array v) t = IsArrayMade address s at v t
+IsMadeAt address s at (a_tree place v) t = IsTreeMade address s at place v t
 
--- An index without chunks is made, for whose blocks in place places are taken; this is its header's.
-pub record IsStartedAt (s : Space) (at : ℕ) (v : IndexView) (t : Space) : Type 0 where
-  pub made : IsMadeAt s at v t
+-- An index without chunks is made, for whose blocks in place that are not there places are taken; this is its header's. The layout says that
+-- its header stands at an address, or at none.
+pub record IsStartedAt (address : ℕ) (s : Space) (at : ℕ) (v : IndexView) (t : Space) : Type 0 where
+  pub made : IsMadeAt address s at v t
   pub sound : IsSound v
   pub own : IsOwn v
   pub at_place : header_place v ≡ at
   pub raised : IsRaised s t (index_len (kind_of v))
   pub inside : AllEndBy t.end (fixed_of v)
 
--- the piece by which the dataset header says all rows, and where the index is
-abbrev pub naming_piece : Session → ℕ → Write
-naming_piece s at = record { at = s.place; piece = with_rows_bytes s.header (rows_of s) (Some at) }
+-- Who names what is made: where the layout names no index, the dataset header names it; else the array's header names the index block, and is
+-- the last block in place, which is written when the file has its end.
+pub record IsNaming (address at : ℕ) (naming : Option ℕ) : Type 0 where
+  pub unnamed : address ≡ undefined → naming ≡ Some at
+  pub named : address ≢ undefined → naming ≡ None
+
+-- the piece by which the dataset header says all rows, and where the index is, if it is to
+abbrev pub naming_piece : Session → Option ℕ → Write
+naming_piece s naming = record { at = s.place; piece = with_rows_bytes s.header (rows_of s) naming }
+
+-- All pieces of a first flush, the dataset header's last: the blocks in place come before the superblock, but for the last of them where the
+-- array's header is there.
+pub record AreJoined (naming : Option ℕ) (rows copies fixed supers : List Write) (header : Write) (ws : List Write) : Type 0 where
+  pub front : List Write
+  pub behind : List Write
+  pub cut : front ++ behind ≡ fixed
+  pub unnamed : IsSome naming → behind ≡ []
+  pub named : naming ≡ None → length behind ≡ min 1 (length fixed)
+  pub all : ws ≡ rows ++ (copies ++ (front ++ (supers ++ (behind ++ header ∷ []))))
 
 -- the session after such a flush
-abbrev pub started_of : Session → ℕ → Space → List Write → IndexView → Session
-started_of s at t ws v = record s {
+abbrev pub started_of : Session → ℕ → Option ℕ → Space → List Write → IndexView → Session
+started_of s at naming t ws v = record s {
   root = record (s.root) { end = t.end };
-  header = (naming_piece s at).piece;
+  header = (naming_piece s naming).piece;
   dataset = with_index at (with_rows (rows_of s) s.dataset);
   places = t;
   waiting = [];
@@ -96,18 +119,20 @@ started_of s at t ws v = record s {
 
 -- A first flush of rows that wait: what each of its calls does, in their order.
 pub record IsStartFlushed (old new : Session) : Type 0 where
-  -- the layout names no index
-  pub absent : old.dataset.layout.address ≡ undefined
+  -- something of the index is not there
+  pub unmade : IsUnmade old
   -- the place of the index's header, the places once those of its blocks in place are taken, and the index that is made there
   pub at : ℕ
   pub first : Space
   pub made : IndexView
   pub kind : old.dataset.layout.index ≡ kind_of made
-  pub start : IsStartedAt old.places at made first
+  pub start : IsStartedAt old.dataset.layout.address old.places at made first
   pub planned : ArePlanned old made first new.index new.places
-  -- all pieces, the header's last; the index's blocks come before the superblock
-  pub pending : new.pending ≡ planned.rows ++ (planned.copies ++ (planned.fixed ++ (planned.supers ++ naming_piece old at ∷ [])))
-  pub session : new ≡ started_of old at new.places new.pending new.index
+  pub naming : Option ℕ
+  pub names : IsNaming old.dataset.layout.address at naming
+  -- all pieces, the header's last; the index's blocks come before the superblock, but for a header that is there
+  pub pending : AreJoined naming planned.rows planned.copies planned.fixed planned.supers (naming_piece old naming) new.pending
+  pub session : new ≡ started_of old at naming new.places new.pending new.index
 
 -- a flush of rows that wait, into a file whose index is there or is made with it
 abbrev pub HasFlushed : Session → Session → Type 0

@@ -1,5 +1,5 @@
 //! The flush of a session: all memory and all places are taken before anything changes.
-ghost use Rattle.std.specs.Prelude.{◌≡◌, ◌⊎◌, ℕ, ◌+◌, ◌*◌, ◌-◌, ◌^◌, ◌<◌, ◌≤◌, [], ◌∷◌, ◌++◌, List, length, IfOk, IfErr, IfNone, IfSome, IsOk, IsSome, MatchOption, OnOk, OnErr, if◌then◌else◌, None, Some, Ok, Err, vec_len, vec_capacity};
+ghost use Rattle.std.specs.Prelude.{◌≡◌, ◌≢◌, ◌⊎◌, ℕ, ◌+◌, ◌*◌, ◌-◌, ◌^◌, ◌<◌, ◌≤◌, [], ◌∷◌, ◌++◌, List, length, IfOk, IfErr, IfNone, IfSome, IsOk, IsSome, MatchOption, OnOk, OnErr, IsTrue, IsFalse, if◌then◌else◌, None, Some, Ok, Err, vec_len, vec_capacity};
 ghost use Rattle.h5w_model.specs.Causes.{Rose};
 ghost use Rattle.h5w_model.specs.Headers.{index_in_header, messages_at, rows_in_header, with_rows_bytes};
 ghost use Rattle.h5w_model.specs.Logs.{Log, and_now, div_up, load, plans};
@@ -23,12 +23,13 @@ ghost use Rattle.h5w_image.specs.View.{Same};
 ghost use Rattle.h5w_space.specs.declared.Full.{Full};
 ghost use Rattle.h5w_session.specs.Flushes.{IsFlushed, SameBut, first_key, first_place, touched_by};
 ghost use Rattle.h5w_session.specs.Loads.{NoPlace};
-ghost use Rattle.h5w_session.specs.Starts.{HasFlushed, IsStartFlushed, IsStartedAt, TookTwo};
+ghost use Rattle.h5w_session.specs.Starts.{AreJoined, HasFlushed, IsNaming, IsStartFlushed, IsStartedAt, TookTops, TookTwo};
 ghost use Rattle.h5w_model.specs.Arrays.{eahd_len, eaib_len};
 ghost use Rattle.h5w_model.specs.Numbers.{undefined};
-ghost use Rattle.h5w_session.specs.Refusals.{IsArrayUnplaced, IsFullFor, IsSpace, IsStartFull, IsUnplaced, flush_refusal};
+ghost use Rattle.h5w_session.specs.Refusals.{IsArrayUnplaced, IsDeepFor, IsDeepPart, IsFullFor, IsSpace, IsStartFull, IsUnplaced, flush_refusal};
 ghost use Rattle.h5w_session.specs.Room.{HasRoomFor, chunk_pieces, most_pieces, own_pieces};
-ghost use Rattle.h5w_session.specs.Sessions.{AllEndBy, AreReached, IsNamed, TakesRows, cutting_of, most_bands, option_list, rows_of};
+ghost use Rattle.h5w_session.specs.Past.{IsNew};
+ghost use Rattle.h5w_session.specs.Sessions.{AllEndBy, AreReached, IsRoomy, IsSession, IsUnmade, IsWhole, TakesRows, cutting_of, most_bands, option_list, rows_of};
 ghost use Rattle.h5w_session.specs.Stands.{Stands};
 ghost use Rattle.h5w_session.specs.declared.refusal.FlushError.{FlushError};
 
@@ -204,14 +205,13 @@ fn prepare<W: PieceWrite>(
     requires sound { IsSound (view_of index.old) }
     requires fits { Fits (dataset_of grid.now) (view_of index.old) }
     requires takes { (key : Key) → key.i < div_up to grid.now.layout.chunk.0 → TakesKey (view_of index.old) key }
-    requires within { AreWithin (most_bands (dataset_of grid.now)) (chunks_across (dataset_of grid.now)) (view_of index.old) }
     requires inside { AreInside (dataset_of grid.now) taking.old.places.end (view_of index.old) }
     requires small { taking.old.places.end < 2 ^ 64 }
     requires limit { taking.old.places.limit ≤ 2 ^ 40 }
     requires no_chunks { taking.old.chunks.items ≡ [] }
     requires none_added { taking.old.added.items ≡ [] }
     ensures sound { IsSound (view_of index.new) }
-    ensures within { AreWithin (most_bands (dataset_of grid.now)) (chunks_across (dataset_of grid.now)) (view_of index.new) }
+    ensures roomy { IsRoomy (dataset_of grid.now) (view_of index.old) → IsRoomy (dataset_of grid.now) (view_of index.new) }
     ensures placed { OnOk result (IsPlacing (dataset_of grid.now) to (view_of index.old) taking.old.places taking.new.chunks.items taking.new.added.items (view_of index.new) taking.new.places) }
     ensures all { OnOk result (length taking.new.chunks.items ≡ touched (dataset_of grid.now) grid.now.shape.rows to) }
     ensures exact { IfOk result (λ p. p.writes.items ≡ new_writes (dataset_of grid.now) cells.now grid.now.shape.rows to taking.new.chunks.items) }
@@ -222,9 +222,10 @@ fn prepare<W: PieceWrite>(
     ensures end { IfOk result (λ p. (next_of p.begun).end ≤ (W.view image.new).end) }
     ensures partly { OnErr result (IsPartly (dataset_of grid.now) to (view_of index.old) taking.new.added.items (view_of index.new)) }
     ensures full { (full : Full) → result ≡ Err (FlushError.Space full) → IsFullPart (dataset_of grid.now) to (view_of index.old) taking.old.places full }
+    ensures deep { result ≡ Err FlushError.Deep → IsDeepPart (dataset_of grid.now) to (view_of index.old) taking.old.places }
     ensures image { Same (W.view image.old) (W.view image.new) }
     ensures fault { result ≡ Err FlushError.Failed → Rose (W.view image.old).faults (W.view image.new).faults }
-    ensures causes { IfErr result (λ e. IsSpace e ⊎ ((e ≡ FlushError.Failed) ⊎ (e ≡ FlushError.OutOfMemory))) }
+    ensures causes { IfErr result (λ e. IsSpace e ⊎ ((e ≡ FlushError.Deep) ⊎ ((e ≡ FlushError.Failed) ⊎ (e ≡ FlushError.OutOfMemory)))) }
 {
     place_chunks(grid, to, taking, index)?;
     let begun = index.begin(&taking.places)?;
@@ -364,6 +365,81 @@ fn join_start(
     pieces
 }
 
+/// Pieces that end with the superblock, the last block in place, and the header.
+fn join_behind(
+    mut pieces: Vec<Write>,
+    mut copies: Vec<Write>,
+    mut front: Vec<Write>,
+    superblock: Option<Write>,
+    top: Write,
+    header: Write,
+) -> Vec<Write>
+    requires { vec_len pieces + (vec_len copies + vec_len front + 3) ≤ vec_capacity pieces }
+    ensures items { result.items ≡ pieces.items ++ (copies.items ++ (front.items ++ (option_list superblock ++ top ∷ header ∷ []))) }
+    ensures room { 1 ≤ vec_capacity result }
+{
+    pieces.append(&mut copies).unwrap();
+    pieces.append(&mut front).unwrap();
+    if let Some(block) = superblock {
+        pieces.push_reserved(block);
+    }
+    pieces.push_reserved(top);
+    pieces.push_reserved(header);
+    pieces
+}
+
+/// All pieces of a flush that makes an array's index block: the rows, copies, the index block, the superblock, the array's header, and last the
+/// dataset header.
+fn join_block(
+    mut pieces: Vec<Write>,
+    plan: Plan,
+    superblock: Option<Write>,
+    header: Write,
+) -> Vec<Write>
+    requires { vec_len pieces + (vec_len plan.copies + vec_len plan.in_place + 2) ≤ vec_capacity pieces }
+    ensures joined { AreJoined None pieces.items plan.copies.items plan.in_place.items (option_list superblock) header result.items }
+    ensures room { 1 ≤ vec_capacity result }
+{
+    let Plan {
+        mut copies,
+        mut in_place,
+        ..
+    } = plan;
+    match in_place.pop() {
+        Some(top) => join_behind(pieces, copies, in_place, superblock, top, header),
+        None => {
+            pieces.append(&mut copies).unwrap();
+            end_with(pieces, superblock, header)
+        }
+    }
+}
+
+/// All pieces of a first flush, where the dataset header is to name the index, or else the array's header its index block.
+fn join_first(
+    pieces: Vec<Write>,
+    plan: Plan,
+    superblock: Option<Write>,
+    header: Write,
+    naming: Option<u64>,
+) -> Vec<Write>
+    requires { vec_len pieces + (vec_len plan.copies + vec_len plan.in_place + 2) ≤ vec_capacity pieces }
+    ensures joined { AreJoined naming pieces.items plan.copies.items plan.in_place.items (option_list superblock) header result.items }
+    ensures room { 1 ≤ vec_capacity result }
+{
+    match naming {
+        Some(_) => join_start(pieces, plan, superblock, header),
+        None => join_block(pieces, plan, superblock, header),
+    }
+}
+
+/// The address that the dataset header is to name: that of an index that the layout does not name yet.
+fn naming(address: u64, at: u64) -> Option<u64>
+    ensures names { IsNaming address at result }
+    ensures unnamed { IsSome result → address ≡ undefined }
+{
+    if address == UNDEFINED { Some(at) } else { None }
+}
+
 /// Takes a place for an array's index block, and then one for its header: the header's, and the index block's.
 fn take_two(places: &mut Places) -> Result<(u64, u64), Full>
     requires small { places.old.end < 2 ^ 64 }
@@ -372,24 +448,59 @@ fn take_two(places: &mut Places) -> Result<(u64, u64), Full>
     ensures raised { OnOk result (IsRaised places.old places.new (eahd_len + eaib_len)) }
     ensures header { IfOk result (λ x. x.0 + eahd_len ≤ places.new.end) }
     ensures block { IfOk result (λ x. x.1 + eaib_len ≤ places.new.end) }
-    ensures full { IfErr result (λ full. IsArrayUnplaced places.old full) }
+    ensures full { IfErr result (λ full. IsArrayUnplaced undefined places.old full) }
 {
     let block = places.take(INDEX_BLOCK)?;
     let header = places.take(ARRAY_HEADER)?;
     Ok((header, block))
 }
 
-/// An array without chunks, for whose blocks places are taken, and the place of its header.
-fn start_array(alloc: Global, places: &mut Places) -> Result<(Index, u64), FlushError>
+/// Takes a place for the index block of an array whose header is there.
+fn take_block(header: u64, places: &mut Places) -> Result<(u64, u64), Full>
     requires small { places.old.end < 2 ^ 64 }
     requires limit { places.old.limit ≤ 2 ^ 40 }
-    ensures started { IfOk result (λ x. IsStartedAt places.old x.1 (view_of x.0) places.new) }
+    requires named { header ≢ undefined }
+    requires head { header + eahd_len ≤ places.old.end }
+    ensures taken { IfOk result (λ x. TookTops header places.old x.0 x.1 places.new) }
+    ensures raised { OnOk result (IsRaised places.old places.new (eahd_len + eaib_len)) }
+    ensures header { IfOk result (λ x. x.0 + eahd_len ≤ places.new.end) }
+    ensures block { IfOk result (λ x. x.1 + eaib_len ≤ places.new.end) }
+    ensures full { IfErr result (λ full. IsArrayUnplaced header places.old full) }
+{
+    let block = places.take(INDEX_BLOCK)?;
+    Ok((header, block))
+}
+
+/// Takes the places of an array's blocks in place that are not there; the layout has its header at an address, or names none.
+fn take_tops(address: u64, places: &mut Places) -> Result<(u64, u64), Full>
+    requires small { places.old.end < 2 ^ 64 }
+    requires limit { places.old.limit ≤ 2 ^ 40 }
+    requires head { address ≢ undefined → address + eahd_len ≤ places.old.end }
+    ensures taken { IfOk result (λ x. TookTops address places.old x.0 x.1 places.new) }
+    ensures raised { OnOk result (IsRaised places.old places.new (eahd_len + eaib_len)) }
+    ensures header { IfOk result (λ x. x.0 + eahd_len ≤ places.new.end) }
+    ensures block { IfOk result (λ x. x.1 + eaib_len ≤ places.new.end) }
+    ensures full { IfErr result (λ full. IsArrayUnplaced address places.old full) }
+{
+    if address == UNDEFINED {
+        take_two(places)
+    } else {
+        take_block(address, places)
+    }
+}
+
+/// An array without chunks, for whose blocks places are taken as far as they are not there, and the place of its header.
+fn start_array(alloc: Global, address: u64, places: &mut Places) -> Result<(Index, u64), FlushError>
+    requires small { places.old.end < 2 ^ 64 }
+    requires limit { places.old.limit ≤ 2 ^ 40 }
+    requires head { address ≢ undefined → address + eahd_len ≤ places.old.end }
+    ensures started { IfOk result (λ x. IsStartedAt address places.old x.1 (view_of x.0) places.new) }
     ensures kind { IfOk result (λ x. kind_of (view_of x.0) ≡ Array) }
     ensures within { IfOk result (λ x. (bands across : ℕ) → AreWithin bands across (view_of x.0)) }
-    ensures full { (full : Full) → result ≡ Err (FlushError.Space full) → IsUnplaced Array places.old full }
+    ensures full { (full : Full) → result ≡ Err (FlushError.Space full) → IsUnplaced Array address places.old full }
     ensures causes { IfErr result (λ e. IsSpace e ⊎ (e ≡ FlushError.OutOfMemory)) }
 {
-    let (header, block) = take_two(places)?;
+    let (header, block) = take_tops(address, places)?;
     let index = Index::new_array(alloc, header, block)?;
     Ok((index, header))
 }
@@ -398,47 +509,52 @@ fn start_array(alloc: Global, places: &mut Places) -> Result<(Index, u64), Flush
 fn start_tree(alloc: Global, places: &mut Places) -> Result<(Index, u64), Full>
     requires small { places.old.end < 2 ^ 64 }
     requires limit { places.old.limit ≤ 2 ^ 40 }
-    ensures started { IfOk result (λ x. IsStartedAt places.old x.1 (view_of x.0) places.new) }
+    ensures started { IfOk result (λ x. IsStartedAt undefined places.old x.1 (view_of x.0) places.new) }
     ensures kind { IfOk result (λ x. kind_of (view_of x.0) ≡ Tree) }
     ensures within { IfOk result (λ x. (bands across : ℕ) → AreWithin bands across (view_of x.0)) }
-    ensures full { IfErr result (λ full. IsUnplaced Tree places.old full) }
+    ensures full { IfErr result (λ full. IsUnplaced Tree undefined places.old full) }
 {
     let header = places.take(TREE_HEADER)?;
     Ok((Index::new_tree(alloc, header), header))
 }
 
-/// An index without chunks, for whose blocks in place places are taken, and the place of its header.
+/// An index without chunks, for whose blocks in place places are taken as far as they are not there, and the place of its header, which the
+/// layout has at an address, or names none.
 fn start_index(
     alloc: Global,
     kind: IndexKind,
+    address: u64,
     places: &mut Places,
 ) -> Result<(Index, u64), FlushError>
     requires small { places.old.end < 2 ^ 64 }
     requires limit { places.old.limit ≤ 2 ^ 40 }
-    ensures started { IfOk result (λ x. IsStartedAt places.old x.1 (view_of x.0) places.new) }
+    requires head { address ≢ undefined → address + eahd_len ≤ places.old.end }
+    requires tree { kind ≡ Tree → address ≡ undefined }
+    ensures started { IfOk result (λ x. IsStartedAt address places.old x.1 (view_of x.0) places.new) }
     ensures kind { IfOk result (λ x. kind ≡ kind_of (view_of x.0)) }
     ensures within { IfOk result (λ x. (bands across : ℕ) → AreWithin bands across (view_of x.0)) }
-    ensures full { (full : Full) → result ≡ Err (FlushError.Space full) → IsUnplaced kind places.old full }
+    ensures full { (full : Full) → result ≡ Err (FlushError.Space full) → IsUnplaced kind address places.old full }
     ensures causes { IfErr result (λ e. IsSpace e ⊎ (e ≡ FlushError.OutOfMemory)) }
 {
     match kind {
-        IndexKind::Array => start_array(alloc, places),
+        IndexKind::Array => start_array(alloc, address, places),
         IndexKind::Tree => Ok(start_tree(alloc, places)?),
     }
 }
 
 impl WriterCore {
     /// Plans the pieces that make the rows that wait visible, which are pending then, and answers how many they are: none exactly where
-    /// no row waits. Where the file has no place for a new chunk the first such chunk by its key is told, or else the first block of the
-    /// index in turn; or want of memory. All memory and all places are taken here, so that nothing after it fails. Room is reserved in
+    /// no row waits. Where the file has no place for a new chunk, or the index no room for its key, the first such chunk by its key is told;
+    /// or else the first block of the index in turn that has no place; or want of memory. All memory and all places are taken here, so that nothing after it fails. Room is reserved in
     /// the image for these pieces and one more, up to the file's new end.
     ///
     /// The pieces are, in this order: those of the rows, chunk after chunk; the copies of the index's changed blocks; the superblock, only if
     /// the end of the file is another; the changed blocks in place; and the dataset header. A first flush plans the superblock after the blocks
-    /// in place.
+    /// in place, but for an array's header that is there already.
     ///
     /// Where the layout names no index yet one is made: the places of its blocks in place, of an array those of its index block and then of its
-    /// header, are the first that are taken and that a full file tells, and the dataset header names it with the rows.
+    /// header, are the first that are taken and that a full file tells, and the dataset header names it with the rows. Where the layout names an
+    /// array that has no index block yet, the place of that alone is the first, and the array's header, which stays where it is, names it.
     ///
     /// A refused flush leaves no more than places held in the index, which the next flush writes in any case.
     pub fn flush<W: PieceWrite>(&mut self, image: &mut W) -> Result<u64, FlushError>
@@ -452,8 +568,11 @@ impl WriterCore {
         ensures stands { IfOk result (λ pieces. (log : Log) → Stands self.old log → Stands self.new (and_now (plans pieces) log)) }
         ensures bound { IfOk result (λ pieces. (log : Log) → Stands self.old log → pieces ≤ load (cutting_of self.old) log) }
         ensures refused { (e : FlushError) → flush_refusal self.old ≡ Some e → result ≡ Err e }
-        ensures causes { IfErr result (λ e. (flush_refusal self.old ≡ Some e) ⊎ (IsSpace e ⊎ ((e ≡ FlushError.Failed) ⊎ (e ≡ FlushError.OutOfMemory)))) }
+        ensures causes { IfErr result (λ e. (flush_refusal self.old ≡ Some e) ⊎ (IsSpace e ⊎ ((e ≡ FlushError.Deep) ⊎ ((e ≡ FlushError.Failed) ⊎ (e ≡ FlushError.OutOfMemory))))) }
         ensures full { (full : Full) → result ≡ Err (FlushError.Space full) → IsFullFor self.old full }
+        ensures deep { result ≡ Err FlushError.Deep → IsDeepFor self.old }
+        // never in a file that a session created
+        ensures shallow { (log : Log) → Stands self.old log → IsNew log → result ≢ Err FlushError.Deep }
         ensures bounds { (full : Full) → result ≡ Err (FlushError.Space full) → (log : Log) → Stands self.old log → NoPlace self.old log full }
         ensures fault { result ≡ Err FlushError.Failed → Rose (W.view image.old).faults (W.view image.new).faults }
         ensures kept { OnErr result (SameBut self.old self.new) }
@@ -491,18 +610,31 @@ impl WriterCore {
         ensures ends { OnOk result (AllEndBy self.new.places.end self.new.pending) }
         ensures kept { OnErr result (SameBut self.old self.new) }
         ensures full { (full : Full) → result ≡ Err (FlushError.Space full) → IsFullFor self.old full }
-        ensures causes { IfErr result (λ e. IsSpace e ⊎ ((e ≡ FlushError.Failed) ⊎ (e ≡ FlushError.OutOfMemory))) }
+        ensures deep { result ≡ Err FlushError.Deep → IsDeepFor self.old }
+        ensures causes { IfErr result (λ e. IsSpace e ⊎ ((e ≡ FlushError.Deep) ⊎ ((e ≡ FlushError.Failed) ⊎ (e ≡ FlushError.OutOfMemory)))) }
         ensures fault { result ≡ Err FlushError.Failed → Rose (W.view image.old).faults (W.view image.new).faults }
         ensures image { Same (W.view image.old) (W.view image.new) }
         ensures room { OnOk result (HasRoomFor self.new (W.view image.new)) }
     {
-        if self.grid.layout.address == UNDEFINED {
+        if self.is_unmade() {
             return self.flush_starting(image);
         }
         match self.chunk_alone() {
             Some(place) => self.flush_chunk(place, image),
             None => self.flush_taking(image),
         }
+    }
+
+    /// Whether something of the index is not there: the layout names none, or it is an array without an index block.
+    fn is_unmade(&self) -> bool
+        ensures yes { IsTrue result → IsUnmade self.now }
+        ensures no { IsFalse result → IsWhole self.now }
+        ensures session { IsSession self.now }
+    {
+        if self.grid.layout.address == UNDEFINED {
+            return true;
+        }
+        self.index.has_no_block()
     }
 
     /// The chunk that has its place, where readers look for it, and that all rows that wait go into; where no block of the index changed.
@@ -527,7 +659,7 @@ impl WriterCore {
         place: ChunkPlace,
         image: &mut W,
     ) -> Result<u64, FlushError>
-        requires there { IsNamed self.old.dataset }
+        requires there { IsWhole self.old }
         requires waits { 0 < self.old.waits }
         requires placing { IsPlacing self.old.dataset (rows_of self.old) self.old.index self.old.places (place ∷ []) [] self.old.index self.old.places }
         requires all { touched_by self.old ≡ 1 }
@@ -562,10 +694,10 @@ impl WriterCore {
         Ok(self.plan.len() as u64)
     }
 
-    /// Plans the pieces that make the rows that wait visible, into a file whose index is not there yet: it is made at new places, and the
-    /// dataset header names it. A refused flush drops it.
+    /// Plans the pieces that make the rows that wait visible, into a file whose index is not there yet, or is the header of an array alone. What
+    /// is not there is made at new places; the dataset header names the index, or the array's header its index block. A refused flush drops it.
     fn flush_starting<W: PieceWrite>(&mut self, image: &mut W) -> Result<u64, FlushError>
-        requires absent { self.old.dataset.layout.address ≡ undefined }
+        requires unmade { IsUnmade self.old }
         requires waits { 0 < self.old.waits }
         ensures flushed { OnOk result (IsStartFlushed self.old self.new) }
         ensures pieces { IfOk result (λ pieces. pieces ≡ length self.new.pending) }
@@ -580,7 +712,8 @@ impl WriterCore {
         let to = self.rows();
         let alloc = *self.plan.allocator();
         let mut taking = Taking::new(alloc, self.places.copy()?);
-        let (mut index, at) = start_index(alloc, self.grid.layout.index, &mut taking.places)?;
+        let (kind, address) = (self.grid.layout.index, self.grid.layout.address);
+        let (mut index, at) = start_index(alloc, kind, address, &mut taking.places)?;
         let prepared = prepare(
             &self.grid,
             &self.waiting,
@@ -592,12 +725,13 @@ impl WriterCore {
         let Prepared { writes, begun } = prepared;
         let plan = index.finish(&mut taking.places, begun);
         let superblock = raise(&mut self.root, taking.places.end());
-        let piece = raise_rows(&mut self.header, to, Some(at));
+        let naming = naming(address, at);
+        let piece = raise_rows(&mut self.header, to, naming);
         let header = Write {
             at: self.place,
             piece,
         };
-        self.plan = join_start(writes, plan, superblock, header);
+        self.plan = join_first(writes, plan, superblock, header, naming);
         self.shown = 0;
         self.grid.shape.rows = to;
         self.grid.layout.address = at;
@@ -611,14 +745,15 @@ impl WriterCore {
 
     /// Plans the pieces that make the rows that wait visible, and takes all places that they need.
     fn flush_taking<W: PieceWrite>(&mut self, image: &mut W) -> Result<u64, FlushError>
-        requires there { IsNamed self.old.dataset }
+        requires there { IsWhole self.old }
         requires waits { 0 < self.old.waits }
         ensures flushed { OnOk result (IsFlushed self.old self.new) }
         ensures pieces { IfOk result (λ pieces. pieces ≡ length self.new.pending) }
         ensures ends { OnOk result (AllEndBy self.new.places.end self.new.pending) }
         ensures kept { OnErr result (SameBut self.old self.new) }
         ensures full { (full : Full) → result ≡ Err (FlushError.Space full) → IsFullPart self.old.dataset (rows_of self.old) self.old.index self.old.places full }
-        ensures causes { IfErr result (λ e. IsSpace e ⊎ ((e ≡ FlushError.Failed) ⊎ (e ≡ FlushError.OutOfMemory))) }
+        ensures deep { result ≡ Err FlushError.Deep → IsDeepPart self.old.dataset (rows_of self.old) self.old.index self.old.places }
+        ensures causes { IfErr result (λ e. IsSpace e ⊎ ((e ≡ FlushError.Deep) ⊎ ((e ≡ FlushError.Failed) ⊎ (e ≡ FlushError.OutOfMemory)))) }
         ensures fault { result ≡ Err FlushError.Failed → Rose (W.view image.old).faults (W.view image.new).faults }
         ensures image { Same (W.view image.old) (W.view image.new) }
         ensures room { OnOk result (HasRoomFor self.new (W.view image.new)) }

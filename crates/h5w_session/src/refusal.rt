@@ -1,5 +1,6 @@
 use h5w_cache::PlanError;
 use h5w_image::ImageError;
+use h5w_index::InsertError;
 use h5w_model::OutOfMemory;
 use h5w_space::Full;
 use thiserror::Error;
@@ -36,13 +37,18 @@ pub enum FlushError {
     /// So many pieces are pending.
     #[error("{pending} pieces are pending")]
     Busy { pending: u64 },
-    /// The first new chunk that has no place in the file, or else the first block of the index.
+    /// The first new chunk that has no place in the file, or else the first block of the index. A chunk before it by its key that is too
+    /// much for the index makes it Deep.
     #[error("{0}")]
     Space(Full),
+    /// A tree of depth 3 has no room on the way to the first new chunk that has no record. A chunk before it by its key that has no place in
+    /// the file makes it Space. It is so only in a file that was made by somebody else.
+    #[error("the tree is full")]
+    Deep,
     /// The image's count of faults rose in this call.
     #[error("image failed")]
     Failed,
-    /// It may come in place of Space and Failed, and of no other refusal.
+    /// It may come in place of Space, Deep and Failed, and of no other refusal.
     #[error("out of memory")]
     OutOfMemory,
 }
@@ -93,6 +99,20 @@ impl From<ImageError> for FlushError {
         match e {
             ImageError::Failed => FlushError::Failed,
             ImageError::OutOfMemory => FlushError::OutOfMemory,
+        }
+    }
+}
+
+impl From<InsertError> for FlushError {
+    ghost use Rattle.h5w_session.specs.Refusals.{insert_fault};
+    ghost use Rattle.std.specs.Prelude.{◌≡◌};
+
+    ghost from_gives = { λ e r. r ≡ insert_fault e };
+
+    fn from(e: InsertError) -> FlushError {
+        match e {
+            InsertError::Deep => FlushError::Deep,
+            InsertError::OutOfMemory => FlushError::OutOfMemory,
         }
     }
 }

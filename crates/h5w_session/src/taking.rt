@@ -15,16 +15,16 @@ ghost use Rattle.h5w_index.specs.Depths.{AreWithin};
 ghost use Rattle.h5w_index.specs.Held.{view_of};
 ghost use Rattle.h5w_index.specs.Marks.{IsTouched};
 ghost use Rattle.h5w_index.specs.Placing.{AreInside, Fits, IsChunkFull, IsPartly, IsPlacing, next_key};
-ghost use Rattle.h5w_index.specs.Steps.{IsDeep, IsHeld};
+ghost use Rattle.h5w_index.specs.Steps.{IsDeep};
 ghost use Rattle.h5w_index.specs.Views.{HasSlot, IndexView, IsReached, IsSound, TakesKey, address_in};
 ghost use Rattle.h5w_session.specs.Flushes.{first_key, first_place};
-ghost use Rattle.h5w_session.specs.Refusals.{IsSpace};
-ghost use Rattle.h5w_session.specs.Sessions.{most_bands};
+ghost use Rattle.h5w_session.specs.Refusals.{IsDeepPart, IsSpace};
+ghost use Rattle.h5w_session.specs.Sessions.{IsRoomy, most_bands};
 ghost use Rattle.h5w_session.specs.declared.refusal.FlushError.{FlushError};
 
 use crate::refusal::FlushError;
 use h5w_chunks::{ChunkPlace, Grid};
-use h5w_index::{Index, InsertError, Key};
+use h5w_index::{Index, Key};
 use h5w_model::OutOfMemory;
 use h5w_space::Places;
 use std::alloc::Global;
@@ -64,22 +64,6 @@ fn keep<T: Copy + Drop>(items: &mut Vec<T>, item: T) -> Result<(), OutOfMemory>
     Ok(())
 }
 
-/// Holds a place in the index for a chunk that is not too much for it.
-fn hold(index: &mut Index, key: Key) -> Result<(), OutOfMemory>
-    requires sound { IsSound (view_of index.old) }
-    requires takes { TakesKey (view_of index.old) key }
-    requires shallow { IsDeep (view_of index.old) key → ⊥ }
-    ensures sound { IsSound (view_of index.new) }
-    ensures held { IsHeld key (view_of index.old) (view_of index.new) }
-    ensures slot { OnOk result (HasSlot (view_of index.new) key) }
-{
-    match index.hold(key) {
-        Ok(()) => Ok(()),
-        Err(InsertError::OutOfMemory) => Err(OutOfMemory),
-        Err(InsertError::Deep) => unreachable!(),
-    }
-}
-
 /// Gives a chunk that has none a new place, by which the index names it from now on. After a refusal the index names no more chunks than
 /// before.
 fn place_new(
@@ -91,7 +75,6 @@ fn place_new(
     requires grid { IsGrid grid.now }
     requires sound { IsSound (view_of index.old) }
     requires takes { TakesKey (view_of index.old) key }
-    requires shallow { IsDeep (view_of index.old) key → ⊥ }
     requires absent { address_in (view_of index.old) key ≡ undefined }
     requires small { taking.old.places.end < 2 ^ 64 }
     requires limit { taking.old.places.limit ≤ 2 ^ 40 }
@@ -105,9 +88,10 @@ fn place_new(
         → IsTouched (dataset_of grid.now) grid.now.shape.rows to key → IsPartly (dataset_of grid.now) to v taking.new.added.items (view_of index.new)) }
     ensures within { (bands across : ℕ) → key.i < bands → key.j < across → AreWithin bands across (view_of index.old) → AreWithin bands across (view_of index.new) }
     ensures full { (full : Full) → result ≡ Err (FlushError.Space full) → IsRefused taking.old.places (chunk_len (dataset_of grid.now)) full }
-    ensures causes { IfErr result (λ e. IsSpace e ⊎ (e ≡ FlushError.OutOfMemory)) }
+    ensures deep { result ≡ Err FlushError.Deep → IsDeep (view_of index.old) key }
+    ensures causes { IfErr result (λ e. IsSpace e ⊎ ((e ≡ FlushError.Deep) ⊎ (e ≡ FlushError.OutOfMemory))) }
 {
-    hold(index, key)?;
+    index.hold(key)?;
     let address = taking.places.take(grid.chunk_len())?;
     let place = ChunkPlace {
         address,
@@ -130,7 +114,6 @@ fn place_chunk(
     requires grid { IsGrid grid.now }
     requires sound { IsSound (view_of index.old) }
     requires takes { TakesKey (view_of index.old) key }
-    requires shallow { IsDeep (view_of index.old) key → ⊥ }
     requires row { key.i * grid.now.layout.chunk.0 < 2 ^ 64 }
     requires small { taking.old.places.end < 2 ^ 64 }
     requires limit { taking.old.places.limit ≤ 2 ^ 40 }
@@ -145,7 +128,8 @@ fn place_chunk(
     ensures within { (bands across : ℕ) → key.i < bands → key.j < across → AreWithin bands across (view_of index.old) → AreWithin bands across (view_of index.new) }
     ensures full { (full : Full) → result ≡ Err (FlushError.Space full)
         → (address_in (view_of index.old) key ≡ undefined) × IsRefused taking.old.places (chunk_len (dataset_of grid.now)) full }
-    ensures causes { IfErr result (λ e. IsSpace e ⊎ (e ≡ FlushError.OutOfMemory)) }
+    ensures deep { result ≡ Err FlushError.Deep → (address_in (view_of index.old) key ≡ undefined) × IsDeep (view_of index.old) key }
+    ensures causes { IfErr result (λ e. IsSpace e ⊎ ((e ≡ FlushError.Deep) ⊎ (e ≡ FlushError.OutOfMemory))) }
 {
     if let Some(address) = index.get(key) {
         index.reach(key);
@@ -170,7 +154,6 @@ pub fn place_chunks(
     requires sound { IsSound (view_of index.old) }
     requires fits { Fits (dataset_of grid.now) (view_of index.old) }
     requires takes { (key : Key) → key.i < div_up to grid.now.layout.chunk.0 → TakesKey (view_of index.old) key }
-    requires within { AreWithin (most_bands (dataset_of grid.now)) (chunks_across (dataset_of grid.now)) (view_of index.old) }
     requires inside { AreInside (dataset_of grid.now) taking.old.places.end (view_of index.old) }
     requires small { taking.old.places.end < 2 ^ 64 }
     requires limit { taking.old.places.limit ≤ 2 ^ 40 }
@@ -180,9 +163,10 @@ pub fn place_chunks(
     ensures placed { OnOk result (IsPlacing (dataset_of grid.now) to (view_of index.old) taking.old.places taking.new.chunks.items taking.new.added.items (view_of index.new) taking.new.places) }
     ensures all { OnOk result (length taking.new.chunks.items ≡ touched (dataset_of grid.now) grid.now.shape.rows to) }
     ensures partly { OnErr result (IsPartly (dataset_of grid.now) to (view_of index.old) taking.new.added.items (view_of index.new)) }
-    ensures within { AreWithin (most_bands (dataset_of grid.now)) (chunks_across (dataset_of grid.now)) (view_of index.new) }
+    ensures roomy { IsRoomy (dataset_of grid.now) (view_of index.old) → IsRoomy (dataset_of grid.now) (view_of index.new) }
     ensures full { (full : Full) → result ≡ Err (FlushError.Space full) → IsChunkFull (dataset_of grid.now) to (view_of index.old) taking.old.places full }
-    ensures causes { IfErr result (λ e. IsSpace e ⊎ (e ≡ FlushError.OutOfMemory)) }
+    ensures deep { result ≡ Err FlushError.Deep → IsDeepPart (dataset_of grid.now) to (view_of index.old) taking.old.places }
+    ensures causes { IfErr result (λ e. IsSpace e ⊎ ((e ≡ FlushError.Deep) ⊎ (e ≡ FlushError.OutOfMemory))) }
 {
     let from = grid.shape.rows;
     for k in 0..grid.touched(from, to) {

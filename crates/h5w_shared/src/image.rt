@@ -39,8 +39,9 @@ impl SharedImage {
         SharedImage::at_ticket(alloc, image, 0)
     }
 
-    /// The same, where this is the ticket that is drawn and served next. Tests begin at the last one.
-    pub(crate) fn at_ticket(
+    /// The same, where this is the ticket that is drawn and served next, as if so many turns had been taken before. It
+    /// is for tests of the limit: at 2^63 no seat is given a turn.
+    pub fn at_ticket(
         alloc: Global,
         image: MemImage,
         ticket: u64,

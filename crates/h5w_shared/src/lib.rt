@@ -16,6 +16,3 @@ pub use laws::{readers_call, through_seats, writers_log};
 pub use seats::{Note, ReaderSeat, WriterSeat};
 pub use through::{Reading, Writing};
 pub use worn::Worn;
-
-#[cfg(test)]
-mod tests;

@@ -1,2 +1,3 @@
 pub mod UnnamedLemmas
 pub mod CallLemmas
+pub mod AloneLemmas

@@ -207,12 +207,13 @@ named_chunk : eval (copied opened_file fourth_row) (behind_visit 618 8 (in_array
 unfolding headers.first_of numbers_in mix_line mixed finish_line finished added rounds sum_of prefix_at msgs_in header_at messages_at prefix_bytes data_in_header rows_in_header index_in_header rows_changed header_view apply first_pieces pieces value_at links_at find_link shape_tests shape_fields shape_at int_type_tests int_type_fields int_type_at fill_tests fill_fields fill_at fill_value_bytes layout_fields layout_at num le halvings width_of
 named_chunk = refl
 
-says : SaysInPlace (copied opened_file fourth_row) (committed open_to_write.dataset 4 (Some 546)) fourth_row.blocks fourth_row.fixed
+says : SaysInPlace (copied opened_file fourth_row) (committed open_to_write.dataset 4 (Some 546)) (in_array (eaib_fields (range named_file 248 298))) fourth_row.fixed
 unfolding headers.first_of numbers_in mix_line mixed finish_line finished added rounds sum_of prefix_at msgs_in header_at messages_at prefix_bytes data_in_header rows_in_header index_in_header rows_changed header_view apply first_pieces pieces value_at links_at find_link shape_tests shape_fields shape_at int_type_tests int_type_fields int_type_at fill_tests fill_fields fill_at fill_value_bytes layout_fields layout_at num le halvings width_of
 says = record { says = refl; looks = refl }
 
 new_array : IndexFlushed opened_file open_to_write no_chunk fourth_row
 new_array = record {
+  blocks = in_array (eaib_fields (range named_file 248 298));
   behind = named_chunk;
   answers = λ key n.
       slot_here (copied opened_file fourth_row) (eaib_fields (range named_file 248 298)) key.i no_first no_second (ap length new_slots)

@@ -1,3 +1,5 @@
 pub mod Bytes
 pub mod UnnamedFlush
 pub mod ArrayCalls
+pub mod AloneBytes
+pub mod AloneFlush

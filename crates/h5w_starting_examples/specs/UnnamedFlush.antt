@@ -2,8 +2,6 @@
 use Rattle.std.specs.Prelude.{◌≡◌, ℕ, false, List, [], ◌∷◌, get_or, Some, pos}
 use Rattle.h5w_model.specs.Numbers.{range, undefined}
 use Rattle.h5w_model.specs.Images.{apply, image}
-use Rattle.h5w_model.specs.Arrays.{eaib_fields}
-use Rattle.h5w_model.specs.Tables.{in_array}
 use Rattle.h5w_model.specs.Findings.{Valid}
 use Rattle.h5w_model.specs.declared.cell.Key.{Key}
 use Rattle.h5w_model.specs.declared.piece.Write.{Write}
@@ -76,7 +74,6 @@ fourth_row = record {
   end = 618;
   in_place = [];
   named = Some 546;
-  blocks = in_array (eaib_fields (range named_file 248 298));
   address = second_chunk;
   fixed = block_at 546 72 ∷ block_at 248 298 ∷ [];
   behind = chunk_at 240 8 ∷ [];

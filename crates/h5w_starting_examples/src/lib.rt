@@ -1,7 +1,8 @@
-//! The first flush into a file of another maker whose array is not there yet, so that the premises of its laws are known to hold of
-//! something.
+//! The first flush into a file of another maker whose array is not there yet, or is a header alone, so that the premises of its laws are
+//! known to hold of something.
 #![tactic(auto)]
 
+ghost use Rattle.h5w_starting_examples.specs.AloneFlush.{BlockStarts, IsAloneFile};
 ghost use Rattle.h5w_starting_examples.specs.ArrayCalls.{ArrayStarts};
 ghost use Rattle.h5w_starting_examples.specs.UnnamedFlush.{IsUnnamedFlush};
 
@@ -14,4 +15,14 @@ pub fn unnamed_flush()
 /// The calls of an array give what its first flush asks, of this file.
 pub fn array_starts()
     ensures { ArrayStarts }
+{}
+
+/// The file of three rows without chunks whose array is a header alone is known.
+pub fn alone_file()
+    ensures { IsAloneFile }
+{}
+
+/// The calls of an array give what the first flush of that file asks.
+pub fn block_starts()
+    ensures { BlockStarts }
 {}

@@ -29,7 +29,7 @@ use Rattle.h5w_flush_laws.proofs.SpaceLemmas.{taken_laws}
 use Rattle.h5w_array_flushes.specs.ArrayFlushes.{chunks_for}
 use Rattle.h5w_starting_laws.specs.Starting.{no_chunk, IsBlank, StartKnows}
 use Rattle.h5w_starting_laws.specs.StartFlushes.{HasStartingPart, parts_for}
-use Rattle.h5w_starting_laws.specs.StartCalls.{AreStartCalls, CallsStart, StartCalls, TwoTaken, StartPending, first_named}
+use Rattle.h5w_starting_laws.specs.StartCalls.{AreStartCalls, CallsStart, StartCalls, TwoTaken, StartPending, first_shown}
 use Rattle.h5w_starting_laws.proofs.StartLeadLemmas.{start_leads, start_runs}
 use Rattle.h5w_starting_laws.proofs.TakenLemmas.{taken_again}
 use Rattle.h5w_starting_laws.proofs.StartLemmas.{blank_standing, created_blank}
@@ -107,7 +107,7 @@ start_pending name log m base b t at place blank u v w ms rows more writes place
     let same : pieces_of now m f ≡ ws = calls.pieces ∙ sym are in
     let over = start_runs name log m base b t u v w ms rows more writes places calls.copies fixed supers runs calls.knows calls.start values in
     let leads = start_leads now name m base b t u v w ms rows more writes places calls.copies fixed supers calls.knows calls.start in
-    let after : Moment = first_named m w rows more t.end in
+    let after : Moment = first_shown m (Some (header_place w)) w rows more t.end in
     record {
       runs = subst (λ (xs : List Write). Runs name (and_now (plans (length xs)) log) xs after (behind_of (chunk_bytes m.dataset) w)) same over.runs;
       begins = subst (λ (xs : List Write). Begins (image now xs) name after t w) same leads.begins;

@@ -37,10 +37,10 @@ pub of_unnamed : {A : Type 0} (d : Described) (f : Prog (Result InPlace ReadErro
 of_unnamed d f e =
     ap (λ c. f (cond c (ret (Ok nowhere)) (elim d.layout.index as (λ _. Prog (Result InPlace ReadError)) [ Array ↦ array_in_place d.layout.address | Tree ↦ tree_in_place d.layout.address ]))) (eq-eqb d.layout.address undefined e)
 
-one_answer : (p q : InPlace) → ◌≡◌ {A = Result InPlace ReadError} (Ok p) (Ok q) → p ≡ q
+pub one_answer : (p q : InPlace) → ◌≡◌ {A = Result InPlace ReadError} (Ok p) (Ok q) → p ≡ q
 one_answer p q h = cc
 
-one_list : (us vs : List Used) → ◌≡◌ {A = Result (List Used) Finding} (Ok us) (Ok vs) → us ≡ vs
+pub one_list : (us vs : List Used) → ◌≡◌ {A = Result (List Used) Finding} (Ok us) (Ok vs) → us ≡ vs
 one_list us vs h = cc
 
 pub unnamed_nowhere : UnnamedNowhere

@@ -73,28 +73,32 @@ start_part m u v w s t ms chunks cs fixed a standing places changed behind plan 
 
 -- ---- What is written
 
-pub first_writes : (m : Moment) (u v w : Store) (s t : Space) (ms : List Move) (chunks : List Used) (copies : List (ℕ × List ℕ)) (fixed : List Write) → IsStartingPart m u v s ms w t chunks copies fixed → block_writes (first_blocks w) ≡ fixed
-first_writes m u v w s t ms chunks copies fixed x = both ∙ sym (go (top_numbers v s ms (block_writes copies) fixed w t x.plan.plan x.plan.before))
-  where
-    two : List Write
-    two = record { at = place_at_part w index_block; piece = bytes_at_part w index_block } ∷ record { at = header_place w; piece = bytes_at_part w header } ∷ []
+abbrev pub two_pieces : Store → List Write
+two_pieces w = record { at = place_at_part w index_block; piece = bytes_at_part w index_block } ∷ record { at = header_place w; piece = bytes_at_part w header } ∷ []
 
+-- the plan writes index block and header, each one piece
+pub two_writes : (m : Moment) (u v w : Store) (s t : Space) (ms : List Move) (chunks : List Used) (copies : List (ℕ × List ℕ)) (fixed : List Write) → IsStartingPart m u v s ms w t chunks copies fixed → fixed ≡ two_pieces w
+two_writes m u v w s t ms chunks copies fixed x = go (top_numbers v s ms (block_writes copies) fixed w t x.plan.plan x.plan.before)
+  where
+    go : (numbers (drop x.plan.plan.writes.split ms) ≡ []) ⊎ (numbers (drop x.plan.plan.writes.split ms) ≡ 845 ∷ 846 ∷ []) → fixed ≡ two_pieces w
+    go (inl e) =
+        let none : times 845 v.changed ≡ 0 = sym (times_behind v s ms (block_writes copies) fixed w t x.plan.plan x.plan.before index_block tt refl) ∙ ap (times 845) e in
+        absurd (omega (arith, none, is_marked v 845 x.changed))
+    go (inr e) = writes_two v s ms (block_writes copies) fixed w t x.plan.plan x.plan.before e
+
+pub first_writes : (m : Moment) (u v w : Store) (s t : Space) (ms : List Move) (chunks : List Used) (copies : List (ℕ × List ℕ)) (fixed : List Write) → IsStartingPart m u v s ms w t chunks copies fixed → block_writes (first_blocks w) ≡ fixed
+first_writes m u v w s t ms chunks copies fixed x = both ∙ sym (two_writes m u v w s t ms chunks copies fixed x)
+  where
     one_index : pieces (place_at_part w index_block) (bytes_at_part w index_block) ≡ record { at = place_at_part w index_block; piece = bytes_at_part w index_block } ∷ []
     one_index = let long = index_length w x.plan.after in one_piece (place_at_part w index_block) (bytes_at_part w index_block) (omega (arith, long)) (omega (arith, long))
 
     one_header : pieces (header_place w) (bytes_at_part w header) ≡ record { at = header_place w; piece = bytes_at_part w header } ∷ []
     one_header = let long = header_length w x.plan.after in one_piece (header_place w) (bytes_at_part w header) (omega (arith, long)) (omega (arith, long))
 
-    both : block_writes (first_blocks w) ≡ two
+    both : block_writes (first_blocks w) ≡ two_pieces w
     both =
         ap (λ (ws : List Write). ws ++ (pieces (header_place w) (bytes_at_part w header) ++ [])) one_index
         ∙ ap (λ (ws : List Write). record { at = place_at_part w index_block; piece = bytes_at_part w index_block } ∷ (ws ++ [])) one_header
-
-    go : (numbers (drop x.plan.plan.writes.split ms) ≡ []) ⊎ (numbers (drop x.plan.plan.writes.split ms) ≡ 845 ∷ 846 ∷ []) → fixed ≡ two
-    go (inl e) =
-        let none : times 845 v.changed ≡ 0 = sym (times_behind v s ms (block_writes copies) fixed w t x.plan.plan x.plan.before index_block tt refl) ∙ ap (times 845) e in
-        absurd (omega (arith, none, is_marked v 845 x.changed))
-    go (inr e) = writes_two v s ms (block_writes copies) fixed w t x.plan.plan x.plan.before e
 
 -- the copies and those two
 pub copy_writes : (m : Moment) (u v w : Store) (s t : Space) (ms : List Move) (chunks : List Used) (copies : List (ℕ × List ℕ)) (fixed : List Write) → IsStartingPart m u v s ms w t chunks copies fixed

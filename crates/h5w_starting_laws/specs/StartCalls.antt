@@ -1,6 +1,6 @@
 -- A first flush by what its calls give: two places are taken, an array is made there, the chunks get their places and the array names them,
 -- and its changed blocks are planned.
-use Rattle.std.specs.Prelude.{◌≡◌, ℕ, ◌+◌, ◌*◌, ◌^◌, ◌<◌, true, List, [], ◌∷◌, ◌++◌, length, map, Some, ℤ}
+use Rattle.std.specs.Prelude.{◌≡◌, ℕ, ◌+◌, ◌*◌, ◌^◌, ◌<◌, true, List, [], ◌∷◌, ◌++◌, length, map, Option, Some, ℤ}
 use Rattle.h5w_model.specs.Images.{image}
 use Rattle.h5w_model.specs.Headers.{with_rows_bytes}
 use Rattle.h5w_model.specs.Tables.{needed_keys}
@@ -82,27 +82,28 @@ StartCalls = (img name : List ℕ) (m : Moment) (base b t : Space) (at place : �
     → StartKnows img name m base blank → AreStartCalls m base b at place u v ms w t rows more writes places cs fixed supers
     → CallsStart img name m base b u v ms w t rows more writes places cs fixed supers
 
--- The file once all pieces of such a flush are shown: it has the new rows, its header names the array, and its ranges are the array's.
-abbrev pub first_named : Moment → Store → ℕ → List ℤ → ℕ → Moment
-first_named m w rows more last = record m {
+-- The file once all pieces of such a flush are shown: it has the new rows, its ranges are the array's, and where its header named none it names
+-- this array.
+abbrev pub first_shown : Moment → Option ℕ → Store → ℕ → List ℤ → ℕ → Moment
+first_shown m named w rows more last = record m {
   super = record (m.super) { end = last };
-  dataset = committed m.dataset rows (Some (header_place w));
+  dataset = committed m.dataset rows named;
   fixed = fixed_of w;
   behind = behind_of (chunk_bytes m.dataset) w;
-  table = map (λ key. map_of w key.i) (needed_keys (committed m.dataset rows (Some (header_place w))));
+  table = map (λ key. map_of w key.i) (needed_keys (committed m.dataset rows named));
   values = m.values ++ more;
 }
 
 -- These pieces are pending, of a flush that was planned just now: they are safe steps to that file, whose array will rest, and chunk 0 of
 -- whose header is what the last of them writes.
-pub record ArePending (name : List ℕ) (log : Log) (m : Moment) (w : Store) (t : Space) (rows : ℕ) (more : List ℤ) (ws : List Write) : Type 0 where
-  pub runs : Runs name (and_now (plans (length ws)) log) ws (first_named m w rows more t.end) (behind_of (chunk_bytes m.dataset) w)
-  pub begins : Begins (image (image_now log) ws) name (first_named m w rows more t.end) t w
-  pub header : chunk_0 (image (image_now log) ws) m.place ≡ with_rows_bytes (chunk_0 (image_now log) m.place) rows (Some (header_place w))
+pub record ArePending (name : List ℕ) (log : Log) (m : Moment) (named : Option ℕ) (w : Store) (t : Space) (rows : ℕ) (more : List ℤ) (ws : List Write) : Type 0 where
+  pub runs : Runs name (and_now (plans (length ws)) log) ws (first_shown m named w rows more t.end) (behind_of (chunk_bytes m.dataset) w)
+  pub begins : Begins (image (image_now log) ws) name (first_shown m named w rows more t.end) t w
+  pub header : chunk_0 (image (image_now log) ws) m.place ≡ with_rows_bytes (chunk_0 (image_now log) m.place) rows named
 
 -- A session whose log has come to such a file plans that flush, of all values that were appended.
 abbrev pub StartPending : Type 0
 StartPending = (name : List ℕ) (log : Log) (m : Moment) (base b t : Space) (at place : ℕ) (blank u v w : Store) (ms : List Move) (rows : ℕ) (more : List ℤ) (writes : List Write) (places : List ChunkPlace)
     (cs fixed supers ws : List Write) → Runs name log [] m m.behind → StartKnows (image_now log) name m base blank → AreStartCalls m base b at place u v ms w t rows more writes places cs fixed supers
     → m.values ++ more ≡ appended log
-    → ws ≡ writes ++ (cs ++ (fixed ++ (supers ++ commit_at (image_now log) m.place rows (Some (header_place w)) ∷ []))) → ArePending name log m w t rows more ws
+    → ws ≡ writes ++ (cs ++ (fixed ++ (supers ++ commit_at (image_now log) m.place rows (Some (header_place w)) ∷ []))) → ArePending name log m (Some (header_place w)) w t rows more ws

@@ -1,5 +1,5 @@
 -- The first flush of a file whose array is not there yet: the array's blocks are all new, and the header names it.
-use Rattle.std.specs.Prelude.{◌≡◌, ◌≢◌, ℕ, ◌*◌, ◌^◌, ◌<◌, true, List, [], ◌∷◌, ◌++◌, length, Some, ℤ}
+use Rattle.std.specs.Prelude.{◌≡◌, ◌≢◌, ℕ, ◌*◌, ◌^◌, ◌<◌, true, List, [], ◌∷◌, ◌++◌, length, Option, Some, ℤ}
 use Rattle.std.specs.List.{All}
 use Rattle.h5w_model.specs.Numbers.{undefined}
 use Rattle.h5w_model.specs.Images.{image}
@@ -20,7 +20,7 @@ use Rattle.h5w_steps.specs.Logs.{image_now}
 use Rattle.h5w_steps.specs.Sessions.{Runs}
 use Rattle.h5w_array_laws.specs.Among.{AreAmong}
 use Rattle.h5w_array_laws.specs.Parts.{index_block, header, holder, number_of}
-use Rattle.h5w_array_laws.specs.ArrayStores.{IsArray, place_at_part, bytes_at_part, header_place, map_of, fixed_of, blocks_in_place, behind_of}
+use Rattle.h5w_array_laws.specs.ArrayStores.{IsArray, place_at_part, bytes_at_part, header_place, map_of, fixed_of, behind_of}
 use Rattle.h5w_array_laws.specs.ArrayImages.{IsPlanned}
 use Rattle.h5w_array_laws.specs.ArrayPlans.{fresh, IsArrayPlan}
 use Rattle.h5w_flush_laws.specs.Spaces.{Taken}
@@ -35,24 +35,27 @@ use Rattle.h5w_starting_laws.specs.Starting.{no_chunk, StartKnows}
 abbrev pub first_blocks : Store → List (ℕ × List ℕ)
 first_blocks w = (place_at_part w index_block, bytes_at_part w index_block) ∷ (header_place w, bytes_at_part w header) ∷ []
 
--- The parts of a flush whose index is an array that the header names with it; this is its store once all is planned. No block is written
--- again where it stands: none is there yet.
-abbrev pub starting_parts : ℕ → Store → ℕ → List ℤ → List Write → List Used → List (ℕ × List ℕ) → List Write → ℕ → Parts
-starting_parts bytes w rows more writes chunks copies supers last = record {
+-- The parts of the first flush of an array that is made with it; this is its store once all is planned. Behind the copies these blocks come at
+-- new places; then these are written where they stand, and the header may name the array.
+abbrev pub first_parts : ℕ → Store → ℕ → List ℤ → List Write → List Used → List (ℕ × List ℕ) → List (ℕ × List ℕ) → List Write → ℕ → List Write → Option ℕ → Parts
+first_parts bytes w rows more writes chunks copies first supers last in_place named = record {
   rows = rows;
   more = more;
   writes = writes;
   chunks = chunks;
-  copies = copies ++ first_blocks w;
+  copies = copies ++ first;
   supers = supers;
   end = last;
-  in_place = [];
-  named = Some (header_place w);
-  blocks = blocks_in_place w;
+  in_place = in_place;
+  named = named;
   address = λ key. map_of w key.i;
   fixed = fixed_of w;
   behind = behind_of bytes w;
 }
+
+-- Those where the header names it. No block is written again where it stands: none is there yet.
+abbrev pub starting_parts : ℕ → Store → ℕ → List ℤ → List Write → List Used → List (ℕ × List ℕ) → List Write → ℕ → Parts
+starting_parts bytes w rows more writes chunks copies supers last = first_parts bytes w rows more writes chunks copies (first_blocks w) supers last [] (Some (header_place w))
 
 -- What a session shows of its array: `u` is its store at rest, `v` that when the chunks of the new rows have their addresses, and the plan
 -- of that. The index block is changed: some chunk got an address.
@@ -125,7 +128,7 @@ pub record IsStarted (img name : List ℕ) (m : Moment) (t : Space) (w : Store) 
   pub safe : Flush img m m.behind (pieces_of img m f) (flushed_to m f) f.behind
   pub begins : Begins (image img (pieces_of img m f)) name (flushed_to m f) t w
   pub freed : (v : Space) → Commits t v → Begins (image img (pieces_of img m f)) name (flushed_to m f) v w
-  pub header : chunk_0 (image img (pieces_of img m f)) m.place ≡ with_rows_bytes (chunk_0 img m.place) f.rows (Some (header_place w))
+  pub header : chunk_0 (image img (pieces_of img m f)) m.place ≡ with_rows_bytes (chunk_0 img m.place) f.rows f.named
 
 abbrev pub StartLeads : Type 0
 StartLeads = (img name : List ℕ) (m : Moment) (base b t : Space) (u v w : Store) (ms : List Move) (rows : ℕ) (more : List ℤ) (writes : List Write) (places : List ChunkPlace) (copies : List (ℕ × List ℕ))

@@ -3,7 +3,7 @@ use Rattle.std.specs.Prelude.{ℕ, List, [], ◌∷◌, ◌++◌, codes}
 use Rattle.h5w_text.specs.Replies.{spaced, spaced_value}
 use Rattle.h5w_text.specs.Refusals.{refusal_words}
 use Rattle.h5w_text.specs.declared.error.ErrorLine.{ErrorLine}
-use Rattle.h5w_text.specs.declared.error.ErrorLine.TheVariants.{Usage, Missing, Exists, Read, Finding, Overlap, Cut, Layout, ChunkBytes, NoColumns, NoIndex, FullChunks, FullSpace, Line, Range, Input, Disk, Source, Memory}
+use Rattle.h5w_text.specs.declared.error.ErrorLine.TheVariants.{Usage, Missing, Exists, Read, Finding, Overlap, Cut, Layout, ChunkBytes, NoColumns, FullChunks, FullSpace, Deep, Line, Range, Input, Disk, Source, Memory}
 
 -- the text of an error, without the byte 0a that ends it
 abbrev pub error_words : ErrorLine → List ℕ
@@ -17,9 +17,9 @@ error_words (Cut end size) = codes "error cut" ++ spaced end ++ spaced size
 error_words Layout = codes "error writer layout"
 error_words (ChunkBytes bytes) = codes "error writer chunk" ++ spaced bytes
 error_words NoColumns = codes "error writer columns"
-error_words NoIndex = codes "error writer index"
 error_words (FullChunks chunks limit) = codes "error full chunks" ++ spaced chunks ++ spaced limit
 error_words (FullSpace at size limit) = codes "error full space" ++ spaced at ++ spaced size ++ spaced limit
+error_words Deep = codes "error deep"
 error_words (Line line) = codes "error line" ++ spaced line
 error_words (Range line index value) = codes "error range" ++ spaced line ++ spaced index ++ spaced_value value
 error_words (Input limit) = codes "error input" ++ spaced limit

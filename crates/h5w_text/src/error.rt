@@ -41,8 +41,6 @@ pub enum ErrorLine {
     ChunkBytes(u64),
     /// The dataset to write has no columns.
     NoColumns,
-    /// The dataset to write has no index to which rows are appended.
-    NoIndex,
     /// Rows need more chunks than an index has.
     FullChunks {
         chunks: u64,
@@ -54,6 +52,8 @@ pub enum ErrorLine {
         size: u64,
         limit: u64,
     },
+    /// The tree has no room for one more chunk on the way to it.
+    Deep,
     /// This line is outside the grammar.
     Line(u64),
     /// A value outside the type, by its line and its index there.
@@ -102,11 +102,10 @@ impl ErrorLine {
             ErrorLine::Finding { .. } | ErrorLine::Overlap { .. } | ErrorLine::Cut { .. } => {
                 Status::Damaged
             }
-            ErrorLine::Layout
-            | ErrorLine::ChunkBytes(_)
-            | ErrorLine::NoColumns
-            | ErrorLine::NoIndex => Status::Format,
-            ErrorLine::FullChunks { .. } | ErrorLine::FullSpace { .. } => Status::Limit,
+            ErrorLine::Layout | ErrorLine::ChunkBytes(_) | ErrorLine::NoColumns => Status::Format,
+            ErrorLine::FullChunks { .. } | ErrorLine::FullSpace { .. } | ErrorLine::Deep => {
+                Status::Limit
+            }
             ErrorLine::Line(_) | ErrorLine::Range { .. } | ErrorLine::Input { .. } => Status::Input,
             ErrorLine::Disk => Status::Disk,
             ErrorLine::Source => Status::Source,
@@ -136,13 +135,13 @@ fn words(out: &mut Vec<u8>, error: &ErrorLine) -> Result<(), OutOfMemory>
         ErrorLine::Layout => text(out, b"error writer layout"),
         ErrorLine::ChunkBytes(bytes) => with_numbers(out, b"error writer chunk", &[*bytes]),
         ErrorLine::NoColumns => text(out, b"error writer columns"),
-        ErrorLine::NoIndex => text(out, b"error writer index"),
         ErrorLine::FullChunks { chunks, limit } => {
             with_numbers(out, b"error full chunks", &[*chunks, *limit])
         }
         ErrorLine::FullSpace { at, size, limit } => {
             with_numbers(out, b"error full space", &[*at, *size, *limit])
         }
+        ErrorLine::Deep => text(out, b"error deep"),
         ErrorLine::Line(line) => with_numbers(out, b"error line", &[*line]),
         ErrorLine::Range {
             line,

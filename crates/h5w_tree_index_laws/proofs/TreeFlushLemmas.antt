@@ -6,7 +6,7 @@ use Rattle.std.proofs.lemmas.List.{length-map}
 use Rattle.std.proofs.lemmas.List.Elements.{All-cons, All-nil}
 use Rattle.std.proofs.lemmas.List.Sums.{sum_by-append}
 use Rattle.h5w_model.specs.Numbers.{range}
-use Rattle.h5w_model.specs.Images.{AllMiss, Apart, Holds, image}
+use Rattle.h5w_model.specs.Images.{AllMiss, Apart, Holds, apply, image}
 use Rattle.h5w_model.specs.Trees.{bthd_bytes, bthd_len, node_size}
 use Rattle.h5w_model.specs.Datasets.{Described}
 use Rattle.h5w_model.specs.Findings.{Used, chunk_bytes}
@@ -25,7 +25,7 @@ use Rattle.h5w_steps.specs.Counts.{count_at}
 use Rattle.h5w_steps.proofs.MomentLemmas.{in_fixed, in_behind}
 use Rattle.h5w_flush_laws.specs.Spaces.{Taken, extent_of}
 use Rattle.h5w_flush_laws.specs.Knowledge.{IsAsked, Knows}
-use Rattle.h5w_flush_laws.specs.Parts.{AllUnseen, AreEnded, EachSays, IndexFlushed, SaysInPlace, block_ranges, block_writes, committed}
+use Rattle.h5w_flush_laws.specs.Parts.{AllUnseen, AreEnded, EachSays, IndexFlushed, Parts, SaysInPlace, block_ranges, block_writes, committed}
 use Rattle.h5w_flush_laws.proofs.PartLemmas.{count_append}
 use Rattle.h5w_flush_laws.proofs.SpaceLemmas.{meet_nowhere}
 use Rattle.h5w_flush_laws.proofs.EarlyLemmas.{blocks_miss}
@@ -34,10 +34,10 @@ use Rattle.h5w_bt_index.specs.Marks.{Part, clean_of}
 use Rattle.h5w_bt_index.specs.Index.{Index, IsClean, IsIndex, address_of, no_tree}
 use Rattle.h5w_bt_index.specs.Plans.{AreNodeMoves, changes, header_of, header_writes, news, place_of, placed, planned, written}
 use Rattle.h5w_tree_index_laws.specs.TreeImages.{AllStand, AreAmong, IsRead, StandsTree, behind_of, blocks_in_place}
-use Rattle.h5w_tree_index_laws.specs.TreeFlushes.{AreChunks, IsTreePart, TreeFlushed, header_range, tree_parts}
+use Rattle.h5w_tree_index_laws.specs.TreeFlushes.{AreChunks, HeaderNames, IsTreePart, TreeFlushed, header_range, tree_parts}
 use Rattle.h5w_bt_index.proofs.NodeBytes.{take_whole}
 use Rattle.h5w_bt_index.proofs.Placed.{planned_index}
-use Rattle.h5w_tree_index_laws.proofs.TreeHeaderLemmas.{header_says, header_long, header_written, in_place_by, part_range, tree_left}
+use Rattle.h5w_tree_index_laws.proofs.TreeHeaderLemmas.{header_says, header_long, header_written, names_again, part_range, tree_left}
 use Rattle.h5w_tree_index_laws.proofs.TreePlanLemmas.{Ends, blocks_hold, moves_taken, placed_stands, takes}
 use Rattle.h5w_tree_index_laws.specs.TreeImages.{node_range}
 use Rattle.h5w_tree_index_laws.specs.TreeFlushes.{fresh}
@@ -226,17 +226,26 @@ module _ (img name : List ℕ) (m : Moment) (old : Key → ℕ) (s b c t : Space
       below : (n : ℕ) → n + node_size < 2 ^ 64 → n < 2 ^ 64
       below n h = omega (arith, h)
 
-  each_says : EachSays m.dataset m.fixed (blocks_in_place w) (header_range place ∷ []) ended_at fixed
-  each_says = subst (λ (ws : List Write). EachSays m.dataset m.fixed (blocks_in_place w) (header_range place ∷ []) ended_at ws) (sym x.plan.in_place) (go (cases_Bool (clean_of v.depth v.root)))
-    where
-      go : (clean_of v.depth v.root ≡ true) ⊎ (clean_of v.depth v.root ≡ false) → EachSays m.dataset m.fixed (blocks_in_place w) (header_range place ∷ []) ended_at (header_writes place v w)
-      go (inl e) = subst (λ (ws : List Write). EachSays m.dataset m.fixed (blocks_in_place w) (header_range place ∷ []) ended_at ws) (sym (cond-true (clean_of v.depth v.root) _ _ e)) tt
-      go (inr e) =
-          subst (λ (ws : List Write). EachSays m.dataset m.fixed (blocks_in_place w) (header_range place ∷ []) ended_at ws) (sym (cond-false (clean_of v.depth v.root) _ _ e)) (
-            lies (bthd_bytes (header_of w)) (header_long (header_of w)),
-            header_says w _ m.dataset place x.kind x.at_place x.defined (header_written w ended_at place after (root_low e)),
-            tt,
-          )
+  -- what the header says, with this total, after each piece: it is written where some node changed, and else stays
+  abbrev says_each : ℕ → List Write → Type 0
+  says_each total ws = EachSays m.dataset m.fixed (blocks_in_place total w) (header_range place ∷ []) ended_at ws
+
+  clean_says : clean_of v.depth v.root ≡ true → (total : ℕ) → says_each total fixed
+  clean_says e total = subst (says_each total) (sym (x.plan.in_place ∙ cond-true (clean_of v.depth v.root) _ _ e)) tt
+
+  header_piece : clean_of v.depth v.root ≡ false → fixed ≡ record { at = place; piece = bthd_bytes (header_of w) } ∷ []
+  header_piece e = x.plan.in_place ∙ cond-false (clean_of v.depth v.root) _ _ e
+
+  changed_names : clean_of v.depth v.root ≡ false → HeaderNames place w (apply (record { at = place; piece = bthd_bytes (header_of w) }) ended_at)
+  changed_names e = header_written w ended_at place after (root_low e)
+
+  changed_says : (e : clean_of v.depth v.root ≡ false) → says_each (changed_names e).total fixed
+  changed_says e =
+      subst (says_each (changed_names e).total) (sym (header_piece e)) (
+        lies (bthd_bytes (header_of w)) (header_long (header_of w)),
+        header_says w _ m.dataset place x.kind x.at_place x.defined (changed_names e),
+        tt,
+      )
 
   header_in : Among (header_range place) (m.fixed ++ m.behind)
   header_in = among_left (header_range place) m.fixed m.behind (subst (λ (us : List Used). Among (header_range place) us) (sym x.stay) (inl refl))
@@ -249,28 +258,34 @@ module _ (img name : List ℕ) (m : Moment) (old : Key → ℕ) (s b c t : Space
       range-image_missed (image img writes) (block_writes copies) place bthd_len (copies_miss (header_range place) header_in (omega arith)) (omega (arith, header_inside, image-grows img writes))
       ∙ range-image_missed img writes place bthd_len (unseen_miss m writes (header_range place) unseen (in_file (header_range place) header_in) refl) header_inside
 
-  said : (d : Described) → d.layout.index ≡ a_tree → d.layout.address ≡ place → fixed ≡ [] → SaysInPlace copied_at d (blocks_in_place w) (header_range place ∷ [])
-  said d kind at_place none = go (cases_Bool (clean_of v.depth v.root))
-    where
-      some : (e : clean_of v.depth v.root ≡ false) → fixed ≡ record { at = place; piece = bthd_bytes (header_of w) } ∷ []
-      some e = x.plan.in_place ∙ cond-false (clean_of v.depth v.root) _ _ e
+  -- the header as it is said to be where no piece writes it
+  abbrev said_by : Described → ℕ → Type 0
+  said_by d total = SaysInPlace copied_at d (blocks_in_place total w) (header_range place ∷ [])
 
+  clean_names : clean_of v.depth v.root ≡ true → HeaderNames place v copied_at
+  clean_names e = names_again place v img copied_at header_stays (x.stands.header e)
+
+  clean_said : (e : clean_of v.depth v.root ≡ true) (d : Described) → d.layout.index ≡ a_tree → d.layout.address ≡ place → said_by d (clean_names e).total
+  clean_said e d kind at_place =
+      subst (λ (u : Index). SaysInPlace copied_at d (blocks_in_place (clean_names e).total u) (header_range place ∷ [])) (sym (same_tree e)) (header_says v copied_at d place kind at_place x.defined (clean_names e))
+
+  changed_said : clean_of v.depth v.root ≡ false → fixed ≡ [] → ⊥
+  changed_said e none = never (record { at = place; piece = bthd_bytes (header_of w) }) [] (sym none ∙ header_piece e)
+    where
       never : (y : Write) (ys : List Write) → ◌≡◌ {A = List Write} [] (y ∷ ys) → ⊥
       never y ys e = cc
 
-      go : (clean_of v.depth v.root ≡ true) ⊎ (clean_of v.depth v.root ≡ false) → SaysInPlace copied_at d (blocks_in_place w) (header_range place ∷ [])
-      go (inl e) =
-          subst (λ (u : Index). SaysInPlace copied_at d (blocks_in_place u) (header_range place ∷ [])) (sym (same_tree e))
-          (header_says v copied_at d place kind at_place x.defined (ap (in_place_by place) header_stays ∙ x.stands.header e))
-      go (inr e) = absurd (never (record { at = place; piece = bthd_bytes (header_of w) }) [] (sym none ∙ some e))
+  abbrev parts_of : ℕ → List ℤ → Parts
+  parts_of rows more = tree_parts (chunk_bytes m.dataset) place w rows more writes chunks copies supers last fixed
 
-  index_flushed : (rows : ℕ) (more : List ℤ) → IndexFlushed img m old (tree_parts (chunk_bytes m.dataset) place w rows more writes chunks copies supers last fixed)
-  index_flushed rows more =
+  flushed_with : (rows : ℕ) (more : List ℤ) (total : ℕ) → says_each total fixed → (fixed ≡ [] → said_by (committed m.dataset rows None) total) → IndexFlushed img m old (parts_of rows more)
+  flushed_with rows more total each_says said =
       record {
-        behind = read.visited last (chunk_bytes m.dataset) ends_by;
-        answers = λ key n. read.found key;
+        blocks = blocks_in_place total w;
+        behind = read.visited total last (chunk_bytes m.dataset) ends_by;
+        answers = λ key n. read.found total key;
         each_says = each_says;
-        said = λ none. said (committed m.dataset rows None) x.kind x.at_place none;
+        said = said;
         added = [];
         begins = sym x.stay ∙ sym (append-nil m.fixed);
         added_fresh = λ u a. absurd a;
@@ -303,6 +318,12 @@ module _ (img name : List ℕ) (m : Moment) (old : Key → ℕ) (s b c t : Space
         where
           all_in : (whole total fw bw c r fm bm fr bv : ℕ) → whole ≡ fw + bw → total ≡ c + r + (fm + bm) → bw ≤ fr + bv → bv ≤ c + bm → fm ≡ fw → fr ≡ r → whole ≤ total
           all_in whole total fw bw c r fm bm fr bv h1 h2 h3 h4 h5 h6 = omega (arith, h1, h2, h3, h4, h5, h6)
+
+  index_flushed : (rows : ℕ) (more : List ℤ) → IndexFlushed img m old (parts_of rows more)
+  index_flushed rows more = elim (cases_Bool (clean_of v.depth v.root)) [
+    | inl e ↦ flushed_with rows more (clean_names e).total (clean_says e (clean_names e).total) (λ none. clean_said e (committed m.dataset rows None) x.kind x.at_place)
+    | inr e ↦ flushed_with rows more (changed_names e).total (changed_says e) (λ none. absurd (changed_said e none))
+  ]
 
 pub tree_flushed : TreeFlushed
 tree_flushed img name m old s b c t place v w ms rows more writes chunks copies supers last fixed k taken end ended unseen are kept_by x =

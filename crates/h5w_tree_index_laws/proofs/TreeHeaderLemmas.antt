@@ -30,13 +30,13 @@ use Rattle.h5w_flush_laws.specs.Parts.{SaysInPlace}
 use Rattle.h5w_bt.proofs.Spelling.{bthd_at-bthd_body, bthd_body, bthd_bytes-is}
 use Rattle.h5w_bt.specs.declared.records.Record.{Record}
 use Rattle.h5w_bt.specs.Parts.{record_of}
-use Rattle.h5w_bt_index.specs.Nodes.{Tree, records_of}
+use Rattle.h5w_bt_index.specs.Nodes.{Tree, records_of, total_of}
 use Rattle.h5w_bt_index.specs.Sound.{IsSound}
 use Rattle.h5w_bt_index.specs.Marks.{IsCleanPart, Part, Some_of}
 use Rattle.h5w_bt_index.specs.Index.{Index, IsClean, IsIndex}
 use Rattle.h5w_bt_index.specs.Plans.{header_of, node_of, place_of}
 use Rattle.h5w_tree_index_laws.specs.TreeImages.{StandsNode, StandsTree, around, blocks_in_place, chunk_of, chunks_of, own_range, ranges_under}
-use Rattle.h5w_tree_index_laws.specs.TreeFlushes.{header_range}
+use Rattle.h5w_tree_index_laws.specs.TreeFlushes.{HeaderNames, header_range}
 use Rattle.h5w_bt_index.proofs.Bounds.{room_small, total_fits}
 use Rattle.h5w_tree_index_laws.specs.TreeImages.{node_range}
 use Rattle.h5w_tree_index_laws.proofs.TreeStandLemmas.{PartStands, placed_differs}
@@ -79,29 +79,35 @@ in_place_is d place kind e n =
 abbrev pub in_place_by : ℕ → List ℕ → Result InPlace ReadError
 in_place_by place b = then_also (refused_as (Damaged place) (bthd_at b place)) (λ (t : BthdFields). in_place_ok (cond (eqb t.root undefined) nowhere (in_tree t)))
 
--- where they say this tree, it is this tree
-pub header_gives : (v : Index) (b : List ℕ) (place : ℕ) → bthd_at b place ≡ Ok (header_of v) → in_place_by place b ≡ Ok (blocks_in_place v)
-header_gives v b place reads =
-    then_from (refused_as (Damaged place) (bthd_at b place)) (λ (t : BthdFields). in_place_ok (cond (eqb t.root undefined) nowhere (in_tree t))) (header_of v) (blocks_in_place v)
-    (refused_from (Damaged place) (bthd_at b place) (header_of v) reads) refl
+-- where they say this tree, whatever its total, it is this tree
+pub header_gives : (v : Index) (total : ℕ) (b : List ℕ) (place : ℕ) → bthd_at b place ≡ Ok (record (header_of v) { total = total }) → in_place_by place b ≡ Ok (blocks_in_place total v)
+header_gives v total b place reads =
+    let header : BthdFields = record (header_of v) { total = total } in
+    then_from (refused_as (Damaged place) (bthd_at b place)) (λ (t : BthdFields). in_place_ok (cond (eqb t.root undefined) nowhere (in_tree t))) header (blocks_in_place total v)
+    (refused_from (Damaged place) (bthd_at b place) header reads) refl
+
+-- so it is where the same bytes stand
+pub names_again : (place : ℕ) (v : Index) (img other : List ℕ) → range other place bthd_len ≡ range img place bthd_len → HeaderNames place v img → HeaderNames place v other
+names_again place v img other same n = record { total = n.total; finds = ap (in_place_by place) same ∙ n.finds }
 
 -- where a reader finds this tree by the header at its place, the block in place says it
-pub header_says : (v : Index) (img : List ℕ) (d : Described) (place : ℕ) → d.layout.index ≡ a_tree → d.layout.address ≡ place → place ≢ undefined → in_place_by place (range img place bthd_len) ≡ Ok (blocks_in_place v)
-    → SaysInPlace img d (blocks_in_place v) (header_range place ∷ [])
-header_says v img d place kind e n found =
+pub header_says : (v : Index) (img : List ℕ) (d : Described) (place : ℕ) → d.layout.index ≡ a_tree → d.layout.address ≡ place → place ≢ undefined → (names : HeaderNames place v img)
+    → SaysInPlace img d (blocks_in_place names.total v) (header_range place ∷ [])
+header_says v img d place kind e n names =
     let is : in_place d ≡ tree_in_place place = in_place_is d place kind e n in
     record {
-      says = ap (eval img) is ∙ found;
+      says = ap (eval img) is ∙ names.finds;
       looks = sym (ap (λ p. blocks_of (visits img p)) is);
     }
 
 -- the header once it is written
 pub header_written : (v : Index) (img : List ℕ) (place : ℕ) → IsIndex v → place_of v.depth v.root < 2 ^ 64
-    → in_place_by place (range (apply (record { at = place; piece = bthd_bytes (header_of v) }) img) place bthd_len) ≡ Ok (blocks_in_place v)
+    → HeaderNames place v (apply (record { at = place; piece = bthd_bytes (header_of v) }) img)
 header_written v img place i low =
     let w : Write = record { at = place; piece = bthd_bytes (header_of v) } in
     let there : range (apply w img) place (length (bthd_bytes (header_of v))) ≡ bthd_bytes (header_of v) = At-apply w img in
-    header_gives v (range (apply w img) place bthd_len) place (ap (λ b. bthd_at b place) (ap (range (apply w img) place) (sym (header_long (header_of v))) ∙ there) ∙ header_reads v place i low)
+    let reads : bthd_at (range (apply w img) place bthd_len) place ≡ Ok (header_of v) = ap (λ b. bthd_at b place) (ap (range (apply w img) place) (sym (header_long (header_of v))) ∙ there) ∙ header_reads v place i low in
+    record { total = total_of v.depth v.root; finds = header_gives v (total_of v.depth v.root) (range (apply w img) place bthd_len) place reads }
 
 -- ---- Nodes that writes miss
 

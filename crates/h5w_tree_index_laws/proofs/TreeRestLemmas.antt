@@ -25,14 +25,13 @@ use Rattle.h5w_flush_laws.proofs.FlushLemmas.{after_apart, supers_miss}
 use Rattle.h5w_flush_laws.proofs.FlushLaws.{final_image, index_missed_by_header, live_after}
 use Rattle.h5w_bt_index.specs.Nodes.{Tree}
 use Rattle.h5w_bt_index.specs.Marks.{IsCleanPart, Part, Some_of, clean_of}
-use Rattle.h5w_bt_index.specs.Index.{Index, IsClean, IsFilled, IsIndex, no_tree}
+use Rattle.h5w_bt_index.specs.Index.{Index, IsClean, IsIndex, no_tree}
 use Rattle.h5w_bt_index.specs.Plans.{header_of, header_writes, news, place_of, planned}
-use Rattle.h5w_bt_index.proofs.Placed.{placed_clean, planned_shares}
-use Rattle.h5w_bt_index.proofs.Shares.{filled_kept}
-use Rattle.h5w_tree_index_laws.specs.TreeImages.{AllStand, StandsNode, StandsTree, behind_of, blocks_in_place, node_range}
-use Rattle.h5w_tree_index_laws.specs.TreeFlushes.{AreChunks, IsTreePart, TreeBegins, TreeRestsThen, TreeStands, header_range, tree_parts}
+use Rattle.h5w_bt_index.proofs.Placed.{placed_clean}
+use Rattle.h5w_tree_index_laws.specs.TreeImages.{AllStand, StandsNode, StandsTree, behind_of, node_range}
+use Rattle.h5w_tree_index_laws.specs.TreeFlushes.{AreChunks, HeaderNames, IsTreePart, TreeBegins, TreeRestsThen, TreeStands, header_range, tree_parts}
 use Rattle.h5w_tree_index_laws.proofs.TreeFlushLemmas.{all_stand, after, copies_stand, header_stays, root_low, same_tree}
-use Rattle.h5w_tree_index_laws.proofs.TreeHeaderLemmas.{header_gives, header_long, header_written, in_place_by, part_range, tree_left}
+use Rattle.h5w_tree_index_laws.proofs.TreeHeaderLemmas.{header_gives, header_long, header_written, names_again, part_range, tree_left}
 
 -- ---- Nodes
 
@@ -56,7 +55,7 @@ header_misses place piece u long (inl h) = inl (omega (arith, h, long))
 header_misses place piece u long (inr h) = inr (omega (arith, h))
 
 pub tree_begins : TreeBegins
-tree_begins img place h = record { nodes = λ p clean. inl refl; header = λ e. header_gives no_tree (range img place bthd_len) place h }
+tree_begins img place h = record { nodes = λ p clean. inl refl; header = λ e. record { total = 0; finds = header_gives no_tree 0 (range img place bthd_len) place h } }
 
 module _ (img name : List ℕ) (m : Moment) (old : Key → ℕ) (s b t : Space) (place : ℕ) (v w : Index) (ms : List Move) (rows : ℕ) (more : List ℤ) (writes : List Write) (chunks : List Used) (copies : List (ℕ × List ℕ))
     (supers fixed : List Write) (last : ℕ) (k : Knows img name m old s) (are : AreChunks chunks) (i : IsFlush img m old s (tree_parts (chunk_bytes m.dataset) place w rows more writes chunks copies supers last fixed) t)
@@ -75,9 +74,6 @@ module _ (img name : List ℕ) (m : Moment) (old : Key → ℕ) (s b t : Space) 
 
   is_index : IsIndex w
   is_index = after img name m old s b i.between t place v w ms writes chunks copies supers last fixed k i.taken i.end i.super i.written.unseen are i.index.kept x
-
-  is_filled : IsFilled w
-  is_filled = subst IsFilled (sym x.plan.index) (filled_kept v (planned (news ms) v) (planned_shares (news ms) v) x.filled)
 
   is_clean : clean_of w.depth w.root ≡ true
   is_clean = subst (λ (u : Index). clean_of u.depth u.root ≡ true) (sym x.plan.index) (placed_clean v.depth (news ms) v.root)
@@ -139,14 +135,14 @@ module _ (img name : List ℕ) (m : Moment) (old : Key → ℕ) (s b t : Space) 
   header_end = omega (arith, k.file.index.ends (header_range place) header_before, k.ended, k.covered, image-grows img writes, image-grows (image img writes) (block_writes copies))
 
   abbrev found_on : List ℕ → Type 0
-  found_on y = in_place_by place (range y place bthd_len) ≡ Ok (blocks_in_place w)
+  found_on y = HeaderNames place w y
 
   header_ended : clean_of v.depth v.root ≡ true → found_on ended_at
   header_ended e =
-      ap (in_place_by place)
+      names_again place w img ended_at
       (range-image_missed copied_at supers place bthd_len (supers_miss img name m old s t f k i (header_range place) header_among) header_end
       ∙ header_stays img name m old s b i.between t place v w ms writes chunks copies supers last fixed k i.taken i.end i.super i.written.unseen are i.index.kept x)
-      ∙ subst (λ (u : Index). in_place_by place (range img place bthd_len) ≡ Ok (blocks_in_place u)) (sym (unchanged e)) (x.stands.header e)
+      (subst (λ (u : Index). HeaderNames place u img) (sym (unchanged e)) (x.stands.header e))
 
   header_last : found_on last_at
   header_last = subst (λ (ws : List Write). found_on (image ended_at ws)) (sym x.plan.in_place) (go (cases_Bool (clean_of v.depth v.root)))
@@ -159,10 +155,10 @@ module _ (img name : List ℕ) (m : Moment) (old : Key → ℕ) (s b t : Space) 
 
   header_all : found_on (image last_at (commit_at last_at m.place rows None ∷ []))
   header_all =
-      ap (in_place_by place)
+      names_again place w last_at (image last_at (commit_at last_at m.place rows None ∷ []))
       (range-image_missed last_at (commit_at last_at m.place rows None ∷ []) place bthd_len (index_missed_by_header img name m old s t f k i (header_range place) header_among, tt)
       (omega (arith, header_end, image-grows copied_at supers, image-grows ended_at fixed)))
-      ∙ header_last
+      header_last
 
   all_stands : TreeStands place w (image img (pieces_of img m f))
   all_stands = subst (λ (y : List ℕ). TreeStands place w y) (sym (final_image img name m old s t f k i)) (record { nodes = nodes_all; header = λ e. header_all })
@@ -180,7 +176,6 @@ tree_rests_then img name m old s b t place v w ms rows more writes chunks copies
   at_place = x.at_place;
   defined = x.defined;
   index = is_index img name m old s b t place v w ms rows more writes chunks copies supers fixed last k are i x;
-  filled = is_filled img name m old s b t place v w ms rows more writes chunks copies supers fixed last k are i x;
   clean = is_clean img name m old s b t place v w ms rows more writes chunks copies supers fixed last k are i x;
   stands = all_stands img name m old s b t place v w ms rows more writes chunks copies supers fixed last k are i x;
   live = all_live img name m old s b t place v w ms rows more writes chunks copies supers fixed last k are i x;

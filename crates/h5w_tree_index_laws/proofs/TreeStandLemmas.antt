@@ -5,7 +5,7 @@ use Rattle.std.proofs.lemmas.Bool.{cond-false, eqb-true}
 use Rattle.std.proofs.lemmas.List.Elements.{All-cons, All-head, All-nil, All-tail}
 use Rattle.h5w_model.specs.Numbers.{undefined}
 use Rattle.h5w_model.specs.Programs.{ret, eval}
-use Rattle.h5w_model.specs.Trees.{node_size}
+use Rattle.h5w_model.specs.Trees.{BthdFields, node_size}
 use Rattle.h5w_model.specs.Tables.{in_tree, address_behind}
 use Rattle.h5w_model.specs.Findings.{Finding, Used, Under, node_visit}
 use Rattle.h5w_laws.proofs.ResultLemmas.{and_then_from}
@@ -52,7 +52,7 @@ nodes_stand img (suc d) t m e all = (
 -- ---- The index
 
 pub none_read : (img : List ℕ) → IsRead no_tree img
-none_read img = record { visited = λ end bytes h. refl; found = λ key. refl }
+none_read img = record { visited = λ total end bytes h. refl; found = λ total key. refl }
 
 abbrev ranges_ok : List Used → Result (List Used) Finding
 ranges_ok us = Ok us
@@ -72,12 +72,13 @@ pub good_read : (v : Index) (img : List ℕ) → IsIndex v → AllStand img v.de
 good_read v img i s =
     let place : ℕ = place_of v.depth v.root in
     let g : Good img v.depth v.root = record { sound = i.sound; rises = i.rises; stands = s } in
-    let blocks : blocks_in_place v ≡ in_tree (header_of v) = cond-false (eqb place undefined) _ _ (placed_differs place (node_place img v.depth v.root s)) in
+    let header : ℕ → BthdFields = λ total. record (header_of v) { total = total } in
+    let blocks : (total : ℕ) → blocks_in_place total v ≡ in_tree (header total) = λ total. cond-false (eqb place undefined) _ _ (placed_differs place (node_place img v.depth v.root s)) in
     record {
-      visited = λ end bytes h. ap (λ b. eval img (behind_visit end bytes b)) blocks
+      visited = λ total end bytes h. ap (λ b. eval img (behind_visit end bytes b)) (blocks total)
           ∙ and_then_from img (node_visit end bytes v.depth place (length (records_of v.depth v.root))) (λ (u : Under). ret (ranges_ok u.ranges)) (node_under bytes v.depth v.root) (behind_of bytes v)
           (visit_finds img end bytes v.depth v.root g h) refl;
-      found = λ key. ap (λ b. eval img (address_behind b key)) blocks ∙ lookup_gives img v.depth v.root key g;
+      found = λ total key. ap (λ b. eval img (address_behind b key)) (blocks total) ∙ lookup_gives img v.depth v.root key g;
     }
 
 -- a tree whose root has a place has records

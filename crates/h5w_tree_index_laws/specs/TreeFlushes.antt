@@ -22,15 +22,20 @@ use Rattle.h5w_flush_laws.specs.Knowledge.{IsAsked, Knows}
 use Rattle.h5w_flush_laws.specs.Parts.{Parts, AllUnseen, AreEnded, IndexFlushed, IsFlush, block_ranges, block_writes, flushed_to, pieces_of}
 use Rattle.h5w_flush_laws.specs.Rows.{ArePlaced, new_chunks}
 use Rattle.h5w_bt_index.specs.Marks.{clean_of}
-use Rattle.h5w_bt_index.specs.Index.{Index, IsFilled, IsIndex, address_of, no_tree}
+use Rattle.h5w_bt_index.specs.Index.{Index, IsIndex, address_of, no_tree}
 use Rattle.h5w_bt_index.specs.Plans.{IsTreePlan, news, written}
 use Rattle.h5w_tree_index_laws.specs.TreeImages.{AreAmong, StandsTree, behind_of, blocks_in_place, node_range}
 
--- The nodes that did not change stand, and where none changed, what a reader finds by the header at its place is this tree: the header of a
--- tree without records names no root, whatever else it says.
+-- What a reader finds by the header at its place is this tree, whatever total the header says: no reader looks at that, and the first flush
+-- of a change writes the true one. The header of a tree without records names no root, whatever else it says.
+pub record HeaderNames (at_place : ℕ) (v : Index) (img : List ℕ) : Type 0 where
+  pub total : ℕ
+  pub finds : eval img (tree_in_place at_place) ≡ Ok (blocks_in_place total v)
+
+-- The nodes that did not change stand, and where none changed, the header names this tree.
 pub record TreeStands (at_place : ℕ) (v : Index) (img : List ℕ) : Type 0 where
   pub nodes : StandsTree v img
-  pub header : clean_of v.depth v.root ≡ true → eval img (tree_in_place at_place) ≡ Ok (blocks_in_place v)
+  pub header : clean_of v.depth v.root ≡ true → HeaderNames at_place v img
 
 -- the range of the header
 abbrev pub header_range : ℕ → Used
@@ -48,7 +53,6 @@ tree_parts bytes place w rows more writes chunks copies supers last fixed = reco
   end = last;
   in_place = fixed;
   named = None;
-  blocks = blocks_in_place w;
   address = λ key. address_of w key;
   fixed = header_range place ∷ [];
   behind = behind_of bytes w;
@@ -69,7 +73,6 @@ pub record IsTreePart (img : List ℕ) (m : Moment) (place : ℕ) (v : Index) (s
   pub defined : place ≢ undefined
   pub stay : m.fixed ≡ header_range place ∷ []
   pub index : IsIndex v
-  pub filled : IsFilled v
   pub stands : TreeStands place v img
   -- what the file uses is live in the places that the plan begins with
   pub live : (u : Used) → Among u (m.fixed ++ m.behind) → IsLive s (extent_of u)
@@ -124,7 +127,6 @@ pub record TreeRests (img : List ℕ) (m : Moment) (old : Key → ℕ) (s : Spac
   pub at_place : m.dataset.layout.address ≡ place
   pub defined : place ≢ undefined
   pub index : IsIndex v
-  pub filled : IsFilled v
   pub clean : clean_of v.depth v.root ≡ true
   pub stands : TreeStands place v img
   pub live : AllLive s (m.fixed ++ m.behind)

@@ -73,16 +73,16 @@ ranges_under bytes (suc d) t = own_range t.place ++ around bytes t.records (map 
 abbrev pub behind_of : ℕ → Index → List Used
 behind_of bytes v = ranges_under bytes v.depth v.root
 
--- what the header says: no chunk has an address where the root has no place
-abbrev pub blocks_in_place : Index → InPlace
-blocks_in_place v = if place_of v.depth v.root == undefined then nowhere else in_tree (header_of v)
+-- what the header says, with this total: no chunk has an address where the root has no place
+abbrev pub blocks_in_place : ℕ → Index → InPlace
+blocks_in_place total v = if place_of v.depth v.root == undefined then nowhere else in_tree (record (header_of v) { total = total })
 
 -- ---- Laws
 
--- Where all nodes stand, a check behind the header finds the tree's ranges, and each key its address.
+-- Where all nodes stand, a check behind the header finds the tree's ranges, and each key its address, whatever total the header says.
 pub record IsRead (v : Index) (img : List ℕ) : Type 0 where
-  pub visited : (end bytes : ℕ) → AllEndBy end (behind_of bytes v) → eval img (behind_visit end bytes (blocks_in_place v)) ≡ Ok (behind_of bytes v)
-  pub found : (key : Key) → eval img (address_behind (blocks_in_place v) key) ≡ Ok (address_of v key)
+  pub visited : (total end bytes : ℕ) → AllEndBy end (behind_of bytes v) → eval img (behind_visit end bytes (blocks_in_place total v)) ≡ Ok (behind_of bytes v)
+  pub found : (total : ℕ) (key : Key) → eval img (address_behind (blocks_in_place total v) key) ≡ Ok (address_of v key)
 
 -- a tree that stands, unchanged, is read
 abbrev pub TreeIsRead : Type 0

@@ -3,3 +3,4 @@ pub mod PassedLemmas
 pub mod OpenedStandLemmas
 pub mod KeptLemmas
 pub mod OpenedEndLemmas
+pub mod NeededEndLemmas

@@ -21,7 +21,7 @@ use Rattle.h5w_bt_index.specs.Index.{Index, IsIndex}
 use Rattle.h5w_bt_open.specs.declared.span.Span.{Span}
 use Rattle.h5w_bt_open.specs.Spans.{high_of, low_behind, low_of, span_here}
 use Rattle.h5w_bt_open.specs.Kept.{node_ranges, ranges_of}
-use Rattle.h5w_bt_open.specs.Opened.{EachOpened, IsOpened, IsStanding, from_key, root_pointer}
+use Rattle.h5w_bt_open.specs.Opened.{EachOpened, IsOpened, IsStanding, from_key, root_pointer, told_under}
 use Rattle.h5w_tree_open_laws.specs.OpenedEnds.{OpenedEnds}
 use Rattle.h5w_tree_open_laws.proofs.PointerLemmas.{node_ends, ok_same, tree_visits}
 
@@ -109,7 +109,7 @@ module _ (img : List ℕ) (header end bytes : ℕ) (first : Key) (v : Index) (us
       let visit = tree_visits img end bytes header f us s.read e visited in
       let p = s.root differs in
       let seen : eval img (node_visit end bytes v.depth f.root f.records) ≡ Ok visit.0 = ap (λ (n : ℕ). eval img (node_visit end bytes n f.root f.records)) p.0 ∙ visit.1 in
-      under_ends img end bytes v.depth (root_pointer f) (from_key first) v.root visit.0 p.1 index.sound seen
+      under_ends img end bytes v.depth (root_pointer f (told_under v.depth v.root)) (from_key first) v.root visit.0 p.1 index.sound seen
 
   all_end : All (Ends end) (ranges_of v)
   all_end = elim (cases_Bool (eqb f.root undefined)) [

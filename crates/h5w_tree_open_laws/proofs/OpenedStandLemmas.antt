@@ -22,15 +22,14 @@ use Rattle.h5w_space.specs.declared.Extent.{Extent}
 use Rattle.h5w_bt.specs.declared.records.Record.{Record}
 use Rattle.h5w_bt.specs.Parts.{record_of}
 use Rattle.h5w_bt_index.specs.Nodes.{Tree, all_records, records_of, total_of}
-use Rattle.h5w_bt_index.specs.Sound.{AtLeast, IsRising, IsShape, IsShapedChild, two_fifths}
+use Rattle.h5w_bt_index.specs.Sound.{IsRising, IsShape, IsShapedChild}
 use Rattle.h5w_bt_index.specs.Index.{Index, no_tree}
 use Rattle.h5w_bt_index.specs.Plans.{header_of, node_of, place_of, pointer_of}
-use Rattle.h5w_bt_index.proofs.Grown.{total_is}
 use Rattle.h5w_bt_index.proofs.Joined.{joined-each_rises}
 use Rattle.h5w_bt_index.proofs.Laws.{index_shaped}
 use Rattle.h5w_bt_open.specs.declared.span.Span.{Span}
 use Rattle.h5w_bt_open.specs.Spans.{high_of, low_behind, low_of, rest, span_here}
-use Rattle.h5w_bt_open.specs.Opened.{EachOpened, IsInner, IsLeaf, IsOpened, from_key, passed_of, root_pointer, said}
+use Rattle.h5w_bt_open.specs.Opened.{EachOpened, IsInner, IsLeaf, IsOpened, from_key, root_pointer, said, told_under}
 use Rattle.h5w_bt_open.specs.Kept.{IsKeptTree, node_ranges, own_extent, ranges_of}
 use Rattle.h5w_bt_open.proofs.HeldLemmas.{leaf_count}
 use Rattle.h5w_tree_index_laws.specs.TreeFlushes.{TreeStands}
@@ -47,7 +46,7 @@ use Rattle.h5w_tree_open_laws.proofs.PointerLemmas.{Says, node_says}
 abbrev pub AllEnd : ℕ → List Extent → Type 0
 AllEnd end rs = All (λ (r : Extent). r.at + r.size ≤ end) rs
 
-both_parts : {A : Type 0} (P : A → Type 0) (xs ys : List A) → All P (xs ++ ys) → All P xs × All P ys
+pub both_parts : {A : Type 0} (P : A → Type 0) (xs ys : List A) → All P (xs ++ ys) → All P xs × All P ys
 both_parts P [] ys h = (All-nil P, h)
 both_parts P (x ∷ xs) ys h = let p = both_parts P xs ys (All-tail P x (xs ++ ys) h) in (All-cons P x xs (All-head P x (xs ++ ys) h) p.0, p.1)
 
@@ -137,23 +136,20 @@ inner_as_read img end d c s t small ends inner below =
     }
 
 -- what is known of a node below another, by its place among all
-pub record IsFine (end d least : ℕ) (t : Tree d) : Type 0 where
+pub record IsFine (end d : ℕ) (t : Tree d) : Type 0 where
   pub shape : IsShape d (capacity_of d) t
-  pub share : AtLeast two_fifths d least t
   pub rises : IsRising (all_records d t)
   pub ends : AllEnd end (node_ranges d t)
 
 -- the same of each below another
 pub record AreFine (end d : ℕ) (ts : List (Tree d)) : Type 0 where
   pub shapes : All (IsShapedChild d) ts
-  pub shares : All (AtLeast two_fifths d (two_fifths d)) ts
   pub rise : All IsRising (map (all_records d) ts)
   pub ends : All (λ (t : Tree d). AllEnd end (node_ranges d t)) ts
 
-first_fine : (end d : ℕ) (t : Tree d) (ts : List (Tree d)) → AreFine end d (t ∷ ts) → IsFine end d (two_fifths d) t
+first_fine : (end d : ℕ) (t : Tree d) (ts : List (Tree d)) → AreFine end d (t ∷ ts) → IsFine end d t
 first_fine end d t ts h = record {
   shape = (All-head (IsShapedChild d) t ts h.shapes).0;
-  share = All-head (AtLeast two_fifths d (two_fifths d)) t ts h.shares;
   rises = All-head IsRising (all_records d t) (map (all_records d) ts) h.rise;
   ends = All-head (λ (u : Tree d). AllEnd end (node_ranges d u)) t ts h.ends;
 }
@@ -161,17 +157,12 @@ first_fine end d t ts h = record {
 others_fine : (end d : ℕ) (t : Tree d) (ts : List (Tree d)) → AreFine end d (t ∷ ts) → AreFine end d ts
 others_fine end d t ts h = record {
   shapes = All-tail (IsShapedChild d) t ts h.shapes;
-  shares = All-tail (AtLeast two_fifths d (two_fifths d)) t ts h.shares;
   rise = All-tail IsRising (all_records d t) (map (all_records d) ts) h.rise;
   ends = All-tail (λ (u : Tree d). AllEnd end (node_ranges d u)) t ts h.ends;
 }
 
--- no node that stands for another is among those that are fine
-never : (end d : ℕ) (c : ChildFields) (s : Option Span) (t : Tree d) → d ≤ 3 → IsFine end d (two_fifths d) t → s ≡ None → t ≡ passed_of d c → ⊥
-never end d c s t low h none is = never_passed d c t low h.share h.rises is
-
-module _ (img : List ℕ) (end d : ℕ) (low : d ≤ 3)
-    (reads : (c : ChildFields) (s : Option Span) (t : Tree d) → IsOpened img d c s t → IsFine end d (two_fifths d) t → IsAsRead img d c t) where
+module _ (img : List ℕ) (end d : ℕ)
+    (reads : (c : ChildFields) (s : Option Span) (t : Tree d) → IsOpened img d c s t → IsFine end d t → IsAsRead img d c t) where
   each_read : (from to : Option Key) (rs : List Record) (cs : List ChildFields) (ts : List (Tree d)) → EachOpened (IsOpened img d) from to rs cs ts → AreFine end d ts → All (Says d) cs → AreAsRead img d cs ts
   each_read from to rs [] [] e fine says = record { stand = All-nil (AllStand img d); pointers = refl }
   each_read from to rs [] (t ∷ ts) e fine says = absurd e
@@ -184,28 +175,27 @@ module _ (img : List ℕ) (end d : ℕ) (low : d ≤ 3)
         pointers = ap₂ (λ (p : ChildFields) (l : List ChildFields). p ∷ l) (pointer_is img d c t (All-head (Says d) c cs says) own) others.pointers;
       }
 
-below_fine : (end d least : ℕ) (t : Tree (suc d)) → IsFine end (suc d) least t → AreFine end d t.children
-below_fine end d least t h = record {
+below_fine : (end d : ℕ) (t : Tree (suc d)) → IsFine end (suc d) t → AreFine end d t.children
+below_fine end d t h = record {
   shapes = h.shape.each;
-  shares = h.share.1;
   rise = joined-each_rises t.records (map (all_records d) t.children) (length-map t.children (all_records d) ∙ h.shape.children) h.rises;
   ends = each_part (λ (r : Extent). r.at + r.size ≤ end) (node_ranges d) t.children (both_parts (λ (r : Extent). r.at + r.size ≤ end) (own_extent t.place) (flat_map (node_ranges d) t.children) h.ends).1;
 }
 
-pub opened_read : (img : List ℕ) (end d least : ℕ) (c : ChildFields) (s : Option Span) (t : Tree d) → end < 2 ^ 64 → length img < 2 ^ 64 → d ≤ 3 → IsOpened img d c s t → IsFine end d least t → (s ≡ None → t ≡ passed_of d c → ⊥) → IsAsRead img d c t
-opened_read img end zero least c s t small short low (inl leaf) h apart =
+-- no node of a tree that is fine stands for another
+pub opened_read : (img : List ℕ) (end d : ℕ) (c : ChildFields) (s : Option Span) (t : Tree d) → end < 2 ^ 64 → length img < 2 ^ 64 → IsOpened img d c s t → IsFine end d t → IsAsRead img d c t
+opened_read img end zero c s t small short (inl leaf) h =
     let some : c.address ≡ undefined → ⊥ = leaf_somewhere img c (map record_of t.records) short leaf.records in
     leaf_as_read img end c t small (own_ends end c.address some (subst (λ (p : ℕ). AllEnd end (own_extent p)) leaf.place h.ends)) leaf
-opened_read img end zero least c s t small short low (inr passed) h apart = absurd (apart passed.unneeded passed.is)
-opened_read img end (suc d) least c s t small short low (inl inner) h apart =
+opened_read img end zero c s t small short (inr passed) h = absurd (never_passed zero c t h.rises passed.is)
+opened_read img end (suc d) c s t small short (inl inner) h =
     let some : c.address ≡ undefined → ⊥ = node_somewhere img d c inner.fields short inner.reads in
     let own = (both_parts (λ (r : Extent). r.at + r.size ≤ end) (own_extent t.place) (flat_map (node_ranges d) t.children) h.ends).0 in
     let says = node_says (range img c.address (btin_len c.records (suc d))) c.address c.records d inner.fields inner.reads in
-    let below : d ≤ 3 = omega (arith, low) in
     inner_as_read img end d c s t small (own_ends end c.address some (subst (λ (p : ℕ). AllEnd end (own_extent p)) inner.place own)) inner
-    (each_read img end d below (λ b q u is fine. opened_read img end d (two_fifths d) b q u small short below is fine (never end d b q u below fine)) (low_of s) (high_of s) t.records inner.fields.children t.children inner.children
-    (below_fine end d least t h) says.1)
-opened_read img end (suc d) least c s t small short low (inr passed) h apart = absurd (apart passed.unneeded passed.is)
+    (each_read img end d (λ b q u is fine. opened_read img end d b q u small short is fine) (low_of s) (high_of s) t.records inner.fields.children t.children inner.children
+    (below_fine end d t h) says.1)
+opened_read img end (suc d) c s t small short (inr passed) h = absurd (never_passed (suc d) c t h.rises passed.is)
 
 -- ---- The tree
 
@@ -219,29 +209,28 @@ header_ok f = Ok f
 none_stands : (img : List ℕ) (header : ℕ) (f : BthdFields) → bthd_at (range img header bthd_len) header ≡ Ok f → f.root ≡ undefined → TreeStands header no_tree img
 none_stands img header f read e = record {
   nodes = λ p clean. inl refl;
-  header = λ clean.
-      then_from (refused_as (Damaged header) (bthd_at (range img header bthd_len) header)) (λ (t : BthdFields). in_place_ok (cond (eqb t.root undefined) nowhere (in_tree t))) f nowhere
-      (refused_from (Damaged header) (bthd_at (range img header bthd_len) header) f read) (ap in_place_ok (cond-true (eqb f.root undefined) nowhere (in_tree f) (eq-eqb f.root undefined e)));
+  header = λ clean. record {
+    total = f.total;
+    finds = then_from (refused_as (Damaged header) (bthd_at (range img header bthd_len) header)) (λ (t : BthdFields). in_place_ok (cond (eqb t.root undefined) nowhere (in_tree t))) f nowhere
+        (refused_from (Damaged header) (bthd_at (range img header bthd_len) header) f read) (ap in_place_ok (cond-true (eqb f.root undefined) nowhere (in_tree f) (eq-eqb f.root undefined e)));
+  };
 }
 
-module _ (img : List ℕ) (header end : ℕ) (first : Key) (bands across : ℕ) (v : Index) (k : IsKeptTree img header first bands across v) (ends : AllEnd end (ranges_of v)) (small : end < 2 ^ 64) where
+module _ (img : List ℕ) (header end : ℕ) (first : Key) (v : Index) (k : IsKeptTree img header first v) (ends : AllEnd end (ranges_of v)) (small : end < 2 ^ 64) where
   abbrev f : BthdFields
   f = k.standing.fields
-
-  led : from_key first ≡ None → ⊥
-  led e = cc
 
   some_stands : (f.root ≡ undefined → ⊥) → TreeStands header v img
   some_stands some =
       let p = k.standing.root some in
-      let shaped = index_shaped v k.kept.index in
-      let fine : IsFine end v.depth 0 v.root = record { shape = shaped.shape; share = k.kept.filled; rises = k.kept.index.rises; ends = ends } in
-      let read = opened_read img end v.depth 0 (root_pointer f) (from_key first) v.root small k.short shaped.shallow p.1 fine (λ none is. led none) in
-      let count : total_of v.depth v.root ≡ f.total = total_is v.depth (capacity_of v.depth) v.root k.kept.index.sound ∙ sym (k.told some) in
-      let is : header_of v ≡ f = λ i. record { depth = p.0 i; root = read.place i; records = read.records i; total = count i } in
+      let shaped = index_shaped v k.kept in
+      let fine : IsFine end v.depth v.root = record { shape = shaped.shape; rises = k.kept.rises; ends = ends } in
+      let read = opened_read img end v.depth (root_pointer f (told_under v.depth v.root)) (from_key first) v.root small k.short p.1 fine in
+      let named : BthdFields = record (header_of v) { total = f.total } in
+      let is : named ≡ f = λ i. record { depth = p.0 i; root = read.place i; records = read.records i; total = f.total } in
       record {
         nodes = tree_stands img v read.stands;
-        header = λ clean. header_gives v (range img header bthd_len) header (k.standing.read ∙ ap header_ok (sym is));
+        header = λ clean. record { total = f.total; finds = header_gives v f.total (range img header bthd_len) header (k.standing.read ∙ ap header_ok (sym is)) };
       }
 
   stands_either : TreeStands header v img
@@ -251,4 +240,4 @@ module _ (img : List ℕ) (header end : ℕ) (first : Key) (bands across : ℕ) 
   ]
 
 pub opened_stands : OpenedStands
-opened_stands img header end first bands across v k ends small = stands_either img header end first bands across v k ends small
+opened_stands img header end first v k ends small = stands_either img header end first v k ends small

@@ -11,8 +11,7 @@ pub fn opened_stands()
     ensures { OpenedStands }
 {}
 
-/// Where a check finds nothing, a tree is kept whose header says how many records there are, whose nodes have their shares, and whose keys
-/// are those of the grid.
+/// Where a check finds nothing, the tree is kept.
 pub fn opened_is_kept()
     ensures { OpenedIsKept }
 {}

@@ -23,12 +23,12 @@ use Rattle.h5w_flush_laws.proofs.FlushLaws.{final_image, flush_safe, index_misse
 use Rattle.h5w_flush_laws.proofs.SessionLaws.{session_laws}
 use Rattle.h5w_starting_laws.specs.Starting.{no_chunk}
 use Rattle.h5w_bt_index.specs.Marks.{Part, clean_of}
-use Rattle.h5w_bt_index.specs.Index.{Index, IsClean, IsFilled, IsIndex, address_of}
+use Rattle.h5w_bt_index.specs.Nodes.{total_of}
+use Rattle.h5w_bt_index.specs.Index.{Index, IsClean, IsIndex, address_of}
 use Rattle.h5w_bt_index.specs.Plans.{header_of, news, place_of, planned}
-use Rattle.h5w_bt_index.proofs.Placed.{placed_clean, planned_shares}
-use Rattle.h5w_bt_index.proofs.Shares.{filled_kept}
+use Rattle.h5w_bt_index.proofs.Placed.{placed_clean}
 use Rattle.h5w_tree_index_laws.specs.TreeImages.{StandsTree, behind_of, node_range}
-use Rattle.h5w_tree_index_laws.specs.TreeFlushes.{TreeRests, TreeStands, header_range}
+use Rattle.h5w_tree_index_laws.specs.TreeFlushes.{HeaderNames, TreeRests, TreeStands, header_range}
 use Rattle.h5w_tree_index_laws.proofs.TreeHeaderLemmas.{header_gives, header_long, header_reads, part_range, tree_left}
 use Rattle.h5w_tree_index_laws.proofs.TreeRestLemmas.{tree_stands}
 use Rattle.h5w_tree_starting_laws.specs.TreeStarting.{IsTreeStart, IsTreeStarted, TreeStartKnows, TreeStartLeads, TreeStartRuns, parts_for}
@@ -90,13 +90,17 @@ module _ (img name : List ℕ) (m : Moment) (base b t : Space) (place : ℕ) (v 
       header_left last (commit_at last m.place rows (Some place) ∷ []) (index_missed_by_header img name m no_chunk base t f r.knows i head (inl refl), tt)
       (header_left now supers (supers_miss img name m no_chunk base t f r.knows i head (inl refl)) (header_at img name m base b t place v w ms rows more writes places copies fixed supers r x))
 
-  header_read : (other : List ℕ) → At other place spelled → bthd_at (range other place bthd_len) place ≡ Ok (header_of w)
-  header_read other at =
+  header_names : (other : List ℕ) → At other place spelled → HeaderNames place w other
+  header_names other at =
       let there : range other place bthd_len ≡ spelled = ap (range other place) (sym (header_long (header_of w))) ∙ at in
-      ap (λ (l : List ℕ). bthd_at l place) there ∙ header_reads w place is_index (root_low img name m base b t place v w ms rows more writes places copies fixed supers r x)
+      record {
+        total = total_of w.depth w.root;
+        finds = header_gives w (total_of w.depth w.root) (range other place bthd_len) place
+            (ap (λ (l : List ℕ). bthd_at l place) there ∙ header_reads w place is_index (root_low img name m base b t place v w ms rows more writes places copies fixed supers r x));
+      }
 
   all_stands : TreeStands place w (image img (pieces_of img m f))
-  all_stands = subst (λ (y : List ℕ). TreeStands place w y) (sym (final_image img name m no_chunk base t f r.knows i)) (record { nodes = nodes_all; header = λ e. header_gives w (range (image last (commit_at last m.place rows (Some place) ∷ [])) place bthd_len) place (header_read (image last (commit_at last m.place rows (Some place) ∷ [])) header_all) })
+  all_stands = subst (λ (y : List ℕ). TreeStands place w y) (sym (final_image img name m no_chunk base t f r.knows i)) (record { nodes = nodes_all; header = λ e. header_names (image last (commit_at last m.place rows (Some place) ∷ [])) header_all })
 
   -- ---- It rests
 
@@ -113,7 +117,6 @@ module _ (img name : List ℕ) (m : Moment) (base b t : Space) (place : ℕ) (v 
     at_place = refl;
     defined = defined img name m base b t place v w ms rows more writes places copies fixed supers r x;
     index = is_index;
-    filled = subst IsFilled (sym x.plan.index) (filled_kept v (planned (news ms) v) (planned_shares (news ms) v) x.filled);
     clean = subst (λ (u : Index). clean_of u.depth u.root ≡ true) (sym x.plan.index) (placed_clean v.depth (news ms) v.root);
     stands = all_stands;
     live = all_live;

@@ -23,8 +23,9 @@ use Rattle.h5w_flush_laws.specs.Parts.{block_writes, pieces_of}
 use Rattle.h5w_flush_laws.proofs.SpaceLemmas.{taken_laws}
 use Rattle.h5w_starting_laws.specs.Starting.{no_chunk}
 use Rattle.h5w_bt_index.specs.Marks.{Part, clean_of}
-use Rattle.h5w_bt_index.specs.Index.{Index, address_of}
+use Rattle.h5w_bt_index.specs.Index.{Index, address_of, no_tree}
 use Rattle.h5w_bt_index.specs.Plans.{IsTreePlan, header_of, header_writes, news, written}
+use Rattle.h5w_bt_index.proofs.Shares.{filled_kept}
 use Rattle.h5w_tree_index_laws.specs.TreeImages.{behind_of, blank}
 use Rattle.h5w_tree_index_laws.specs.TreeFlushes.{chunks_for, header_range}
 use Rattle.h5w_tree_index_laws.proofs.TreeHeaderLemmas.{header_long}
@@ -119,7 +120,7 @@ module _ (img : List ℕ) (m : Moment) (base a b t : Space) (place : ℕ) (v w :
       ends = c.ends;
       placed = c.placed copies;
       index = sound.index;
-      filled = sound.filled;
+      filled = filled_kept no_tree v c.placing.partly.like.shares (omega arith);
       unwritten = unwritten;
       changed = changed;
       behind = record { among = among.among; counts = among.counts };

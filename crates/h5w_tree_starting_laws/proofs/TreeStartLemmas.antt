@@ -27,11 +27,12 @@ use Rattle.h5w_flush_laws.proofs.RowsLaws.{rows_flush}
 use Rattle.h5w_starting_laws.specs.Starting.{IsNowhere, no_chunk}
 use Rattle.h5w_starting_laws.proofs.StartLemmas.{unnamed_nowhere}
 use Rattle.h5w_starting_laws.proofs.TakenLemmas.{taken_again, taken_right}
+use Rattle.h5w_bt_index.specs.Nodes.{total_of}
 use Rattle.h5w_bt_index.specs.Index.{Index, IsIndex}
 use Rattle.h5w_bt_index.specs.Plans.{changes, header_of, news, place_of, placed, planned}
 use Rattle.h5w_bt_index.proofs.Placed.{planned_index}
-use Rattle.h5w_tree_index_laws.specs.TreeImages.{AllStand, AreAmong, IsRead, behind_of, node_range}
-use Rattle.h5w_tree_index_laws.specs.TreeFlushes.{chunks_for, fresh, header_range}
+use Rattle.h5w_tree_index_laws.specs.TreeImages.{AllStand, AreAmong, IsRead, behind_of, blocks_in_place, node_range}
+use Rattle.h5w_tree_index_laws.specs.TreeFlushes.{HeaderNames, chunks_for, fresh, header_range}
 use Rattle.h5w_tree_index_laws.proofs.TreeFlushLemmas.{moves_end, same_news, take_them}
 use Rattle.h5w_tree_index_laws.proofs.TreeHeaderLemmas.{header_gives, header_long, header_reads, header_says}
 use Rattle.h5w_tree_index_laws.proofs.TreeLaws.{copies_are}
@@ -186,8 +187,11 @@ module _ (img name : List ℕ) (m : Moment) (base b t : Space) (place : ℕ) (v 
   header_there : range now place bthd_len ≡ bthd_bytes (header_of w)
   header_there = ap (range now place) (sym (header_long (header_of w))) ∙ header_at
 
-  header_now : bthd_at (range now place bthd_len) place ≡ Ok (header_of w)
-  header_now = ap (λ (l : List ℕ). bthd_at l place) header_there ∙ header_reads w place after root_low
+  header_now : HeaderNames place w now
+  header_now = record {
+    total = total_of w.depth w.root;
+    finds = header_gives w (total_of w.depth w.root) (range now place bthd_len) place (ap (λ (l : List ℕ). bthd_at l place) header_there ∙ header_reads w place after root_low);
+  }
 
   -- ---- Its ranges once it is planned
 
@@ -217,7 +221,7 @@ module _ (img name : List ℕ) (m : Moment) (base b t : Space) (place : ℕ) (v 
       let some = taken_right base b (head ∷ []) chunks x.taken in
       let part = rows_flush img name m no_chunk base some.0 f places r.knows some.1 x.rises x.few x.count x.placed in
       let d : Described = committed m.dataset rows (Some place) in
-      let says = header_says w now d place r.unnamed.kind refl defined (header_gives w (range now place bthd_len) place header_now) in
+      let says = header_says w now d place r.unnamed.kind refl defined header_now in
       record {
         rises = x.rises;
         small = x.small;
@@ -226,8 +230,9 @@ module _ (img name : List ℕ) (m : Moment) (base b t : Space) (place : ℕ) (v 
         named = (r.unnamed.address, let ends = x.ends in omega (arith, ends));
         written = part.flushed;
         index = record {
-          behind = read.visited t.end bytes ends_by;
-          answers = λ key n. read.found key;
+          blocks = blocks_in_place header_now.total w;
+          behind = read.visited header_now.total t.end bytes ends_by;
+          answers = λ key n. read.found header_now.total key;
           each_says = tt;
           said = λ none. says;
           added = head ∷ [];

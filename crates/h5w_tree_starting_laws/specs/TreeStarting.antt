@@ -28,7 +28,7 @@ use Rattle.h5w_bt.specs.declared.records.Record.{Record}
 use Rattle.h5w_bt_index.specs.Marks.{Part, clean_of}
 use Rattle.h5w_bt_index.specs.Index.{Index, IsClean, IsFilled, IsIndex, address_of, inserted, no_tree}
 use Rattle.h5w_bt_index.specs.Plans.{IsTreePlan, header_of, news, written}
-use Rattle.h5w_tree_index_laws.specs.TreeImages.{AreAmong, SameNodes, behind_of, blank, blocks_in_place}
+use Rattle.h5w_tree_index_laws.specs.TreeImages.{AreAmong, SameNodes, behind_of, blank}
 use Rattle.h5w_tree_index_laws.specs.TreeFlushes.{TreeRests, chunks_for, header_range}
 
 -- the dataset's index is a tree that its layout does not name yet
@@ -59,7 +59,6 @@ starting_parts bytes place w rows more writes chunks copies supers last = record
   end = last;
   in_place = [];
   named = Some place;
-  blocks = blocks_in_place w;
   address = λ key. address_of w key;
   fixed = header_range place ∷ [];
   behind = behind_of bytes w;

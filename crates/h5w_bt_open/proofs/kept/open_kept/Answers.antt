@@ -1,25 +1,42 @@
-use Rattle.std.proofs.Common.{◌≡◌, length, ap, arith}
+use Rattle.std.proofs.Common.{◌≡◌, ◌∙◌, List, sym, subst}
 use Rattle.std.proofs.lemmas.Bool.{both_ways}
+use Rattle.h5w_model.specs.Trees.{capacity_of}
 use Rattle.h5w_bt.specs.declared.records.Record.{Record}
-use Rattle.h5w_bt.specs.Fields.{bthd_of}
 use Rattle.h5w_bt_index.specs.Held.{view_of}
-use Rattle.h5w_bt_index.specs.Index.{records}
-use Rattle.h5w_bt_open.proofs.KeptLemmas.{kept_tree, other_tree}
+use Rattle.h5w_bt_index.specs.Sound.{IsRising, IsSound}
+use Rattle.h5w_bt_index.specs.Index.{Index, records}
+use Rattle.h5w_bt_open.proofs.KeptLemmas.{kept_index}
 use Rattle.h5w_bt_open.proofs.kept.open_kept.Goals as goal
-use Rattle.h5w_bt_open.proofs.kept.open_kept.Goals.{else-is_told-via-then-is_told+else-is_kept, else-is_told-via-else-is_told}
 
-pub returns-then-is_kept-clause-exact : goal.returns-then-is_kept-clause-exact
-returns-then-is_kept-clause-exact g c = λ img still.
-    let count : c.len.result ≡ length (records (view_of c.in_ok-tree.field-0.tree)) = omega (arith, c.len.ensures, c.in_ok-all.all.ok, ap (length {A = Record}) c.in_ok-all.ensures) in
-    kept_tree img c.args.header c.args.first c.args.bands c.args.across (view_of c.in_ok-tree.field-0.tree) (bthd_of c.in_ok-tree.field-0.header) c.len.result (c.in_ok-tree.ensures.opened img still) (c.in_ok-tree.ensures.read img still) count
-    still.short (c.is_told.ensures.0 c.if-is_told.true) (c.is_kept.ensures.0 c.if-is_kept.true)
+abbrev SoundIndex : Index → Type 0
+SoundIndex v = IsSound v.depth (capacity_of v.depth) v.root
 
-pub returns-else-is_told-clause-exact : goal.returns-else-is_told-clause-exact
-returns-else-is_told-clause-exact g c = λ img still.
-    let count : c.len.result ≡ length (records (view_of c.in_ok-tree.field-0.tree)) = omega (arith, c.len.ensures, c.in_ok-all.all.ok, ap (length {A = Record}) c.in_ok-all.ensures) in
-    other_tree img c.args.header c.args.first c.args.bands c.args.across (view_of c.in_ok-tree.field-0.tree) (bthd_of c.in_ok-tree.field-0.header) c.len.result (c.in_ok-tree.ensures.opened img still) (c.in_ok-tree.ensures.read img still) count
-    c.in_ok-tree.ensures.shape
-    (λ says kept. elim c.else-is_told.branch [
-      | else-is_told-via-then-is_told+else-is_kept w ↦ both_ways w.is_kept.result w.if-is_kept.false (w.is_kept.ensures.1 kept)
-      | else-is_told-via-else-is_told w ↦ both_ways c.is_told.result w.if-is_told.false (c.is_told.ensures.1 says)
-    ])
+pub returns-then-not-has_true_totals-clause-exact : goal.returns-then-not-has_true_totals-clause-exact
+returns-then-not-has_true_totals-clause-exact g c = λ img still. record {
+  tree = view_of c.in_ok-tree.tree;
+  standing = c.in_ok-tree.ensures.opened img still;
+  shaped = c.in_ok-tree.ensures.shape;
+  wrong = λ sound. both_ways c.has_true_totals.result c.if-not-has_true_totals.true (c.has_true_totals.ensures.1 (subst SoundIndex (sym c.root.ensures) sound));
+}
+
+pub returns-then-is_rising-clause-kept : goal.returns-then-is_rising-clause-kept
+returns-then-is_rising-clause-kept g c =
+    kept_index (view_of c.in_ok-tree.tree) c.in_ok-tree.ensures.shape (subst SoundIndex c.root.ensures (c.has_true_totals.ensures.0 c.if-not-has_true_totals.false))
+    (subst (λ (rs : List Record). IsRising rs) (c.deref.ensures.value ∙ c.in_ok-all.ensures) (c.is_rising.ensures.0 c.if-is_rising.true))
+
+pub returns-then-is_rising-clause-exact : goal.returns-then-is_rising-clause-exact
+returns-then-is_rising-clause-exact g c = λ img still. record {
+  short = still.short;
+  standing = c.in_ok-tree.ensures.opened img still;
+  kept = kept_index (view_of c.in_ok-tree.tree) c.in_ok-tree.ensures.shape (subst SoundIndex c.root.ensures (c.has_true_totals.ensures.0 c.if-not-has_true_totals.false))
+      (subst (λ (rs : List Record). IsRising rs) (c.deref.ensures.value ∙ c.in_ok-all.ensures) (c.is_rising.ensures.0 c.if-is_rising.true));
+}
+
+pub returns-else-is_rising-clause-exact : goal.returns-else-is_rising-clause-exact
+returns-else-is_rising-clause-exact g c = λ img still. record {
+  tree = view_of c.in_ok-tree.tree;
+  standing = c.in_ok-tree.ensures.opened img still;
+  shaped = c.in_ok-tree.ensures.shape;
+  sound = subst SoundIndex c.root.ensures (c.has_true_totals.ensures.0 c.if-not-has_true_totals.false);
+  unordered = λ rises. both_ways c.is_rising.result c.if-is_rising.false (c.is_rising.ensures.1 (subst (λ (rs : List Record). IsRising rs) (sym (c.deref.ensures.value ∙ c.in_ok-all.ensures)) rises));
+}

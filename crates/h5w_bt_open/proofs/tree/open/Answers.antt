@@ -9,7 +9,7 @@ use Rattle.h5w_bt_index.specs.Index.{Index, index_of}
 use Rattle.h5w_bt_index.specs.Marks.{clean_of}
 use Rattle.h5w_bt_open.specs.declared.span.Span.{Span}
 use Rattle.h5w_bt_open.specs.Spans.{IsKey, IsProper, Leads}
-use Rattle.h5w_bt_open.specs.Opened.{IsOpened, IsRefused, IsStanding, from_key, looked_in, looked_up, root_pointer}
+use Rattle.h5w_bt_open.specs.Opened.{IsOpened, IsRefused, IsStanding, from_key, looked_in, looked_up, root_pointer, told_under}
 use Rattle.h5w_bt_open.proofs.CallLemmas.{loads_within, looks_alone}
 use Rattle.h5w_bt_open.proofs.TreeLemmas.{root_refused, stands_empty, stands_root, top_refused}
 use Rattle.h5w_bt_open.proofs.tree.open.Goals as goal
@@ -31,10 +31,10 @@ returns-then-found-clause-opened g c = λ img still.
 pub returns-in_err-root-clause-loads : goal.returns-in_err-root-clause-loads
 returns-in_err-root-clause-loads g c =
     let is : c.from_residual-in_err-root.result ≡ Err c.in_err-root.field-0.0 = search rules in
-    rw is (loads_within (λ img a f. IsRefused (looked_up img c.in_ok-found.found.depth (root_pointer (bthd_of c.in_ok-found.found))) (Leads c.keys_from-keys.result) a f) (λ img a f. IsRefused (looked_in img c.args.header) (Leads (from_key c.args.first)) a f)
+    rw is (loads_within (λ img a f. IsRefused (looked_up img c.in_ok-found.found.depth (root_pointer (bthd_of c.in_ok-found.found) c.in_ok-found.found.total)) (Leads c.keys_from-keys.result) a f) (λ img a f. IsRefused (looked_in img c.args.header) (Leads (from_key c.args.first)) a f)
     c.in_err-root.field-0.0 c.in_ok-found.ensures.loads.looked
     (λ img still a f h. root_refused img c.args.header c.args.first (bthd_of c.in_ok-found.found) a f (c.in_ok-found.ensures.stands img still) (λ u. c.if-found.false u)
-    (subst (λ (o : Option Span). IsRefused (looked_up img c.in_ok-found.found.depth (root_pointer (bthd_of c.in_ok-found.found))) (Leads o) a f) c.keys_from-keys.ensures.exact h)) c.in_err-root.ensures.loads)
+    (subst (λ (o : Option Span). IsRefused (looked_up img c.in_ok-found.found.depth (root_pointer (bthd_of c.in_ok-found.found) c.in_ok-found.found.total)) (Leads o) a f) c.keys_from-keys.ensures.exact h)) c.in_err-root.ensures.loads)
 
 pub returns-clause-loads : goal.returns-clause-loads
 returns-clause-loads g c = looks_alone (λ img a f. IsRefused (looked_in img c.args.header) (Leads (from_key c.args.first)) a f) _ (looked_twice c.in_ok-found.ensures.loads.looked c.root_at.ensures.loads.looked)
@@ -44,4 +44,4 @@ returns-clause-opened g c = λ img still.
     let r = index_of c.in_ok-root.root in
     subst (λ (v : Index). IsStanding img c.args.header c.args.first v) (sym c.standing.ensures.tree)
     (stands_root img c.args.header c.args.first (bthd_of c.in_ok-found.found) r (c.in_ok-found.ensures.stands img still) (λ u. c.if-found.false u) c.in_ok-root.ensures.depth
-    (subst (λ (o : Option Span). IsOpened img (index_of c.in_ok-root.root).depth (root_pointer (bthd_of c.in_ok-found.found)) o (index_of c.in_ok-root.root).root) c.keys_from-keys.ensures.exact (c.in_ok-root.ensures.opened img (still_on img c.in_ok-found.ensures.loads.looked still))))
+    (subst (λ (o : Option Span). IsOpened img (index_of c.in_ok-root.root).depth (root_pointer (bthd_of c.in_ok-found.found) (told_under (index_of c.in_ok-root.root).depth (index_of c.in_ok-root.root).root)) o (index_of c.in_ok-root.root).root) c.keys_from-keys.ensures.exact (c.in_ok-root.ensures.opened img (still_on img c.in_ok-found.ensures.loads.looked still))))

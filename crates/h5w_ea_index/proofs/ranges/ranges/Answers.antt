@@ -11,9 +11,9 @@ loop-sblock-init c =
     let second : List Extent = range_of_part c.args.cache.now index_block in
     c.in_ok-put_range-2.ensures
     ∙ ap (λ (x : List Extent). x ++ second) (c.in_ok-put_range.ensures ∙ ap (λ (x : List Extent). x ++ top) c.new-ranges.ensures.items)
-    ∙ none_below (ranges_of_super_block c.args.cache.now) (top ++ second)
+    ∙ none_below (ranges_of_super_block c.args.first c.args.cache.now) (top ++ second)
 
 pub loop-sblock-preserved : goal.loop-sblock-preserved
 loop-sblock-preserved c =
     let start : List Extent = range_of_part c.args.cache.now header ++ range_of_part c.args.cache.now index_block in
-    next_below (ranges_of_super_block c.args.cache.now) c.loop-sblock.sblock start c.loop-sblock.ranges.items c.put_super_block.new.ranges.items c.loop-sblock.invariant c.in_ok-put_super_block.ensures
+    next_below (ranges_of_super_block c.args.first c.args.cache.now) c.loop-sblock.sblock start c.loop-sblock.ranges.items c.put_super_block.new.ranges.items c.loop-sblock.invariant c.in_ok-put_super_block.ensures

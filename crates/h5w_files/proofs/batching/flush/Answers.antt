@@ -14,6 +14,12 @@ returns-in-Err-Space-clause-unput g c =
     let fact = unput_of {v = g.D.Disk.view c.args.disk.now} {w = g.D.Disk.view c.flush.new.image.disk.now} _ _ c.args.file.now c.flush.new.image.name.now c.in-Err-Space.ensures.image in
     search (rules, same, fact)
 
+pub returns-in-Err-Deep-clause-unput : goal.returns-in-Err-Deep-clause-unput
+returns-in-Err-Deep-clause-unput g c =
+    let same = reference_of c.in-Err-Deep.ensures.image _ _ _ _ refl refl in
+    let fact = unput_of {v = g.D.Disk.view c.args.disk.now} {w = g.D.Disk.view c.flush.new.image.disk.now} _ _ c.args.file.now c.flush.new.image.name.now c.in-Err-Deep.ensures.image in
+    search (rules, same, fact)
+
 pub returns-in-Err-OutOfMemory-clause-unput : goal.returns-in-Err-OutOfMemory-clause-unput
 returns-in-Err-OutOfMemory-clause-unput g c =
     let same = reference_of c.in-Err-OutOfMemory.ensures.image _ _ _ _ refl refl in
@@ -38,3 +44,8 @@ returns-in-Err-Space-clause-flushes g c =
     let h = c.in-Err-Space.ensures in
     let is = ap Err c.in-Err-Space.field-0-is in
     (record { same = h.kept; stands = h.left }, (h.full c.in-Err-Space.full is, λ log stands. h.bounds c.in-Err-Space.full is log stands))
+
+pub returns-in-Err-Deep-clause-flushes : goal.returns-in-Err-Deep-clause-flushes
+returns-in-Err-Deep-clause-flushes g c =
+    let h = c.in-Err-Deep.ensures in
+    (record { same = h.kept; stands = h.left }, h.deep (ap Err c.in-Err-Deep.field-0-is))

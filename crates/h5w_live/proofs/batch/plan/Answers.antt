@@ -1,8 +1,13 @@
-use Rattle.std.proofs.Common.{rules, ◌≡◌, subst}
+use Rattle.std.proofs.Common.{rules, ◌≡◌, ◌∙◌, Err, ap, subst}
 use Rattle.h5w_space.specs.declared.Full.{Full}
 use Rattle.h5w_session.specs.Loads.{NoPlace}
 use Rattle.h5w_session.specs.Refusals.{IsFullFor}
 use Rattle.h5w_live.proofs.batch.plan.Goals as goal
+
+pub unreachable-requires : goal.unreachable-requires
+unreachable-requires g c =
+    let made = c.requires.created in
+    c.flush.ensures.shallow made.0 made.1 made.2 (c.in-Err-Deep.is ∙ ap Err c.in-Err-Deep.field-0-is)
 
 pub returns-in-Err-Space-clause-full : goal.returns-in-Err-Space-clause-full
 returns-in-Err-Space-clause-full g c = λ full same.

@@ -16,6 +16,12 @@ plan-requires-clause-taken g c =
     let h = c.requires.flushed in
     flush_taken h.0 h.1 h.2 c.args.session.now c.args.seat.now h.3 h.4 c.take.new.session c.args.values.now c.in-Ok.ensures.added
 
+pub plan-requires-clause-created : goal.plan-requires-clause-created
+plan-requires-clause-created g c =
+    let h = c.requires.flushed in
+    let w = taken_writes h.0 h.1 h.2 c.args.session.now c.args.seat.now h.3 c.args.values.now c.take.new.session c.take.new.seat h.4 c.in-Ok.ensures.added c.in-Ok.ensures.stands c.take.ensures.seat in
+    (w.log, w.stands, record { file = h.0; is = w.is; log_is = w.new })
+
 pub returns-in-Err-clause-range : goal.returns-in-Err-clause-range
 returns-in-Err-clause-range g c = λ f most done lines h index value same.
     let halt : c.in-Err.halt ≡ halts.OutOfRange index value = cc in

@@ -2,7 +2,8 @@ use Rattle.std.proofs.Common.{◌≡◌, rules, refl, ◌∙◌, subst}
 use Rattle.std.specs.Prelude.{◌++◌, ◌∷◌, []}
 use Rattle.h5w_shared.specs.Seats.{NoteView, SeatView}
 use Rattle.h5w_shared.specs.Turns.{StartsWith}
-use Rattle.h5w_live.proofs.ActorLemmas.{all_front, meets_done, meets_first, meets_next}
+use Rattle.h5w_live_reading.proofs.ActorLemmas.{all_front}
+use Rattle.h5w_live.proofs.MeetLemmas.{meets_done, meets_first, meets_next}
 use Rattle.h5w_live.proofs.joining.meet_all.Goals as goal
 
 pub loop-note-init : goal.loop-note-init

@@ -1,6 +1,6 @@
 use Rattle.std.proofs.Common.{◌≡◌, All, vec_len}
 use Rattle.h5w_shared.specs.Seats.{NoteView}
-use Rattle.h5w_live.proofs.ActorLemmas.{Meeting}
+use Rattle.h5w_live.proofs.MeetLemmas.{Meeting}
 use Rattle.h5w_live.proofs.joining.meet_all.Given as goal
 
 abbrev pub invariant-loop-note : goal.invariant-loop-note

@@ -2,7 +2,7 @@ use denote.Exit.{yes}
 use denote.Param.Send.{IsSync, arg_send, given_sync, param_send}
 use Rattle.std.proofs.Crossing.{Vec-send}
 use Rattle.h5w_shared.proofs.Sent.{reader_is_sent}
-use Rattle.h5w_live.proofs.Sent.{given, readers_sent}
+use Rattle.h5w_live_reading.proofs.Sent.{given, readers_sent}
 use Rattle.h5w_live.proofs.threads.run.Goals as goal
 use Rattle.h5w_live.proofs.threads.run.Lts as lts
 

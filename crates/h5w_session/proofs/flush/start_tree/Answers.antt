@@ -1,4 +1,5 @@
-use Rattle.std.proofs.Common.{◌≡◌, Err, rules, arith}
+use Rattle.std.proofs.Common.{◌≡◌, Err, refl, rules, arith}
+use Rattle.h5w_model.specs.Numbers.{undefined}
 use Rattle.h5w_cache.specs.Plans.{Took}
 use Rattle.h5w_space.specs.Space.{extent}
 use Rattle.h5w_index.specs.Held.{view_of}
@@ -31,7 +32,7 @@ returns-clause-started c =
       live = c.in_ok-header.ensures.live;
       stays_live = c.in_ok-header.ensures.stays_live;
     } in
-    (tree_begun s t at (view_of c.new_tree.result) c.new_tree.ensures.tree c.new_tree.ensures.sound took c.requires.small c.requires.limit).started
+    (tree_begun undefined s t at (view_of c.new_tree.result) refl c.new_tree.ensures.tree c.new_tree.ensures.sound took c.requires.small c.requires.limit).started
 
 pub returns-clause-kind : goal.returns-clause-kind
 returns-clause-kind c =
@@ -45,7 +46,7 @@ returns-clause-kind c =
       live = c.in_ok-header.ensures.live;
       stays_live = c.in_ok-header.ensures.stays_live;
     } in
-    (tree_begun s t at (view_of c.new_tree.result) c.new_tree.ensures.tree c.new_tree.ensures.sound took c.requires.small c.requires.limit).is_kind
+    (tree_begun undefined s t at (view_of c.new_tree.result) refl c.new_tree.ensures.tree c.new_tree.ensures.sound took c.requires.small c.requires.limit).is_kind
 
 pub returns-clause-within : goal.returns-clause-within
 returns-clause-within c =
@@ -59,4 +60,4 @@ returns-clause-within c =
       live = c.in_ok-header.ensures.live;
       stays_live = c.in_ok-header.ensures.stays_live;
     } in
-    (tree_begun s t at (view_of c.new_tree.result) c.new_tree.ensures.tree c.new_tree.ensures.sound took c.requires.small c.requires.limit).within
+    (tree_begun undefined s t at (view_of c.new_tree.result) refl c.new_tree.ensures.tree c.new_tree.ensures.sound took c.requires.small c.requires.limit).within

@@ -58,3 +58,6 @@ returns-clause-placed c = map_ok c.place_new.result (λ f to v s fits within num
 
 pub returns-clause-full : goal.returns-clause-full
 returns-clause-full c full is = (found_none (address_in (view_of c.args.index.now) c.args.key) (sym c.get.ensures ∙ c.in_default.is), c.place_new.ensures.full full is)
+
+pub returns-clause-deep : goal.returns-clause-deep
+returns-clause-deep c is = (found_none (address_in (view_of c.args.index.now) c.args.key) (sym c.get.ensures ∙ c.in_default.is), c.place_new.ensures.deep is)

@@ -6,9 +6,10 @@ use Rattle.h5w_chunks.specs.declared.grid.ChunkPlace.{ChunkPlace}
 use Rattle.h5w_chunks.proofs.Geometry.{is_cut}
 use Rattle.h5w_index.specs.Held.{view_of}
 use Rattle.h5w_index.specs.Placing.{IsPlacing}
+use Rattle.h5w_index.specs.Steps.{IsDeep}
 use Rattle.h5w_index.proofs.PlacingLemmas.{placing_laws}
 use Rattle.h5w_session.specs.Sessions.{most_bands}
-use Rattle.h5w_session.proofs.TakingLemmas.{absent_before, most_few, next_in, not_deep, on_err}
+use Rattle.h5w_session.proofs.TakingLemmas.{absent_before, next_in, not_deep, on_err}
 use Rattle.h5w_session.proofs.taking.place_chunks.Goals as goal
 
 pub place_chunk-requires-clause-sound : goal.place_chunk-requires-clause-sound
@@ -21,12 +22,6 @@ place_chunk-requires-clause-takes c =
     let key = c.touched_key-key.result in
     let next = next_in d c.args.to c.loop-k.k c.touched-k-end.result key c.loop-k.taking.chunks.items (is_cut c.args.grid.now c.requires.grid) c.touched-k-end.ensures c.loop-k-test.true inv.count c.touched_key-key.ensures.exact in
     inv.placing.partly.like.takes key (c.requires.takes key next.row)
-
-pub place_chunk-requires-clause-shallow : goal.place_chunk-requires-clause-shallow
-place_chunk-requires-clause-shallow c deep =
-    let inv = c.loop-k.invariant in
-    let d = dataset_of c.args.grid.now in
-    not_deep (most_bands d) (chunks_across d) c.touched_key-key.result (view_of c.loop-k.index) inv.placing.partly.like.sound inv.within (most_few d) deep
 
 pub place_chunk-requires-clause-row : goal.place_chunk-requires-clause-row
 place_chunk-requires-clause-row c =
@@ -55,7 +50,7 @@ loop-k-init c =
           subst (λ (ps : List ChunkPlace). IsPlacing d c.args.to v s ps added v s) (sym c.requires.no_chunks)
           (subst (λ (ks : List Key). IsPlacing d c.args.to v s [] ks v s) (sym c.requires.none_added) (placing_laws.none d c.args.to v s s c.requires.sound refl refl refl refl));
       count = ap length c.requires.no_chunks;
-      within = c.requires.within;
+      roomy = λ r. r;
     }
 
 pub loop-k-preserved : goal.loop-k-preserved
@@ -69,7 +64,7 @@ loop-k-preserved c =
     record {
       placing = c.in_ok-place_chunk.ensures.placed c.args.to v s c.requires.fits c.requires.inside next.number next.inside inv.placing;
       count = omega (arith, inv.count, c.in_ok-place_chunk.ensures.count);
-      within = c.place_chunk.ensures.within (most_bands d) (chunks_across d) (omega (arith, next.row, c.requires.few)) next.column inv.within;
+      roomy = λ r. c.place_chunk.ensures.within (most_bands d) (chunks_across d) (omega (arith, next.row, c.requires.few)) next.column (inv.roomy r);
     }
 
 pub returns-in_err-place_chunk-clause-partly : goal.returns-in_err-place_chunk-clause-partly
@@ -80,13 +75,13 @@ returns-in_err-place_chunk-clause-partly c =
     let next = next_in d c.args.to c.loop-k.k c.touched-k-end.result key c.loop-k.taking.chunks.items (is_cut c.args.grid.now c.requires.grid) c.touched-k-end.ensures c.loop-k-test.true inv.count c.touched_key-key.ensures.exact in
     on_err c.from_residual.result (c.in_err-place_chunk.ensures.partly c.args.to (view_of c.args.index.now) inv.placing.partly next.touched_is)
 
-pub returns-in_err-place_chunk-clause-within : goal.returns-in_err-place_chunk-clause-within
-returns-in_err-place_chunk-clause-within c =
+pub returns-in_err-place_chunk-clause-roomy : goal.returns-in_err-place_chunk-clause-roomy
+returns-in_err-place_chunk-clause-roomy c r =
     let d = dataset_of c.args.grid.now in
     let inv = c.loop-k.invariant in
     let key = c.touched_key-key.result in
     let next = next_in d c.args.to c.loop-k.k c.touched-k-end.result key c.loop-k.taking.chunks.items (is_cut c.args.grid.now c.requires.grid) c.touched-k-end.ensures c.loop-k-test.true inv.count c.touched_key-key.ensures.exact in
-    c.place_chunk.ensures.within (most_bands d) (chunks_across d) (omega (arith, next.row, c.requires.few)) next.column inv.within
+    c.place_chunk.ensures.within (most_bands d) (chunks_across d) (omega (arith, next.row, c.requires.few)) next.column (inv.roomy r)
 
 pub returns-in_err-place_chunk-clause-full : goal.returns-in_err-place_chunk-clause-full
 returns-in_err-place_chunk-clause-full c full is =
@@ -111,6 +106,32 @@ returns-in_err-place_chunk-clause-full c full is =
       inside = next.inside;
       absent = absent_before d c.args.to v w s t chunks added key c.requires.fits inv.placing next.number told.0;
       refused = told.1;
+    }
+
+pub returns-in_err-place_chunk-clause-deep : goal.returns-in_err-place_chunk-clause-deep
+returns-in_err-place_chunk-clause-deep c is =
+    let d = dataset_of c.args.grid.now in
+    let inv = c.loop-k.invariant in
+    let v = view_of c.args.index.now in
+    let w = view_of c.loop-k.index in
+    let s = c.args.taking.now.places in
+    let t = c.loop-k.taking.places in
+    let chunks = c.loop-k.taking.chunks.items in
+    let added = c.loop-k.taking.added.items in
+    let key = c.touched_key-key.result in
+    let next = next_in d c.args.to c.loop-k.k c.touched-k-end.result key chunks (is_cut c.args.grid.now c.requires.grid) c.touched-k-end.ensures c.loop-k-test.true inv.count c.touched_key-key.ensures.exact in
+    let same : c.place_chunk.result ≡ c.from_residual.result = search rules in
+    let told = c.place_chunk.ensures.deep (same ∙ is) in
+    record {
+      chunks = chunks;
+      added = added;
+      w = w;
+      t = t;
+      placing = inv.placing;
+      inside = next.inside;
+      absent = absent_before d c.args.to v w s t chunks added key c.requires.fits inv.placing next.number told.0;
+      deep = subst (IsDeep w) next.number told.1;
+      cramped = λ r. not_deep d key w inv.placing.partly.like.sound (inv.roomy r) told.1;
     }
 
 pub returns-clause-sound : goal.returns-clause-sound

@@ -1,4 +1,4 @@
-use Rattle.std.proofs.Common.{◌≡◌, ◌≢◌, ℕ, ◌^◌, ◌<◌, ◌∷◌, [], ◌++◌, false, List, sym, subst, arith, refl}
+use Rattle.std.proofs.Common.{rules, Err, ◌∙◌, ◌≡◌, ◌≢◌, ℕ, ◌^◌, ◌<◌, ◌∷◌, [], ◌++◌, false, List, sym, subst, arith, refl}
 use Rattle.h5w_model.specs.Numbers.{undefined}
 use Rattle.h5w_model.specs.declared.cell.Key.{Key}
 use Rattle.h5w_space.specs.Space.{extent}
@@ -12,7 +12,8 @@ use Rattle.h5w_index.specs.Placing.{IsPartly, IsPlacing}
 use Rattle.h5w_index.proofs.DepthLemmas.{depth_laws}
 use Rattle.h5w_index.proofs.PlacingLemmas.{placing_laws}
 use Rattle.h5w_index.proofs.RaisedLemmas.{raised_one}
-use Rattle.h5w_session.proofs.TakingLemmas.{on_err, sizes_of}
+use Rattle.h5w_session.specs.Refusals.{insert_fault}
+use Rattle.h5w_session.proofs.TakingLemmas.{insert_causes, insert_deep, insert_not_full, on_err, sizes_of}
 use Rattle.h5w_session.proofs.taking.place_new.Goals as goal
 
 pub set-requires-clause-defined : goal.set-requires-clause-defined
@@ -26,44 +27,59 @@ set-requires-clause-defined c e =
 pub returns-in_err-hold-clause-partly : goal.returns-in_err-hold-clause-partly
 returns-in_err-hold-clause-partly c =
     on_err c.from_residual.result (λ to v x touches.
-    placing_laws.held (dataset_of c.args.grid.now) to c.args.key v (view_of c.args.index.now) (view_of c.hold.new.index) c.args.taking.now.added.items touches c.hold.ensures.held x)
+    placing_laws.held (dataset_of c.args.grid.now) to c.args.key v (view_of c.args.index.now) (view_of c.hold.new.self) c.args.taking.now.added.items touches c.hold.ensures.held x)
+
+pub returns-in_err-hold-clause-full : goal.returns-in_err-hold-clause-full
+returns-in_err-hold-clause-full c full is =
+    let told : c.from_residual.result ≡ Err (insert_fault c.in_err-hold.field-0.0) = search rules in
+    absurd (insert_not_full c.in_err-hold.field-0.0 full (sym told ∙ is))
+
+pub returns-in_err-hold-clause-deep : goal.returns-in_err-hold-clause-deep
+returns-in_err-hold-clause-deep c is =
+    let told : c.from_residual.result ≡ Err (insert_fault c.in_err-hold.field-0.0) = search rules in
+    insert_deep c.in_err-hold.field-0.0 (sym told ∙ is) c.in_err-hold.ensures.deep
+
+pub returns-in_err-hold-clause-causes : goal.returns-in_err-hold-clause-causes
+returns-in_err-hold-clause-causes c =
+    let told : c.from_residual.result ≡ Err (insert_fault c.in_err-hold.field-0.0) = search rules in
+    insert_causes c.in_err-hold.field-0.0 c.from_residual.result told
 
 pub returns-in_err-address-clause-partly : goal.returns-in_err-address-clause-partly
 returns-in_err-address-clause-partly c =
     on_err c.from_residual-in_err-address.result (λ to v x touches.
-    placing_laws.held (dataset_of c.args.grid.now) to c.args.key v (view_of c.args.index.now) (view_of c.hold.new.index) c.args.taking.now.added.items touches c.hold.ensures.held x)
+    placing_laws.held (dataset_of c.args.grid.now) to c.args.key v (view_of c.args.index.now) (view_of c.hold.new.self) c.args.taking.now.added.items touches c.hold.ensures.held x)
 
 pub returns-in_err-keep-clause-partly : goal.returns-in_err-keep-clause-partly
 returns-in_err-keep-clause-partly c =
     on_err c.from_residual-in_err-keep.result (λ to v x touches.
-    placing_laws.held (dataset_of c.args.grid.now) to c.args.key v (view_of c.args.index.now) (view_of c.hold.new.index) c.args.taking.now.added.items touches c.hold.ensures.held x)
+    placing_laws.held (dataset_of c.args.grid.now) to c.args.key v (view_of c.args.index.now) (view_of c.hold.new.self) c.args.taking.now.added.items touches c.hold.ensures.held x)
 
 pub returns-in_err-keep-2-clause-partly : goal.returns-in_err-keep-2-clause-partly
 returns-in_err-keep-2-clause-partly c =
     on_err c.from_residual-in_err-keep-2.result (λ to v x touches.
-    subst (λ (ks : List Key). IsPartly (dataset_of c.args.grid.now) to v ks (view_of c.hold.new.index)) (sym c.in_err-keep-2.ensures.kept)
-    (placing_laws.held (dataset_of c.args.grid.now) to c.args.key v (view_of c.args.index.now) (view_of c.hold.new.index) c.args.taking.now.added.items touches c.hold.ensures.held x))
+    subst (λ (ks : List Key). IsPartly (dataset_of c.args.grid.now) to v ks (view_of c.hold.new.self)) (sym c.in_err-keep-2.ensures.kept)
+    (placing_laws.held (dataset_of c.args.grid.now) to c.args.key v (view_of c.args.index.now) (view_of c.hold.new.self) c.args.taking.now.added.items touches c.hold.ensures.held x))
 
 pub returns-in_err-hold-clause-within : goal.returns-in_err-hold-clause-within
 returns-in_err-hold-clause-within c bands across row column x =
-    depth_laws.held bands across c.args.key (view_of c.args.index.now) (view_of c.hold.new.index) c.requires.sound row column c.hold.ensures.held x
+    depth_laws.held bands across c.args.key (view_of c.args.index.now) (view_of c.hold.new.self) c.requires.sound row column c.hold.ensures.held x
 
 pub returns-in_err-address-clause-within : goal.returns-in_err-address-clause-within
 returns-in_err-address-clause-within c bands across row column x =
-    depth_laws.held bands across c.args.key (view_of c.args.index.now) (view_of c.hold.new.index) c.requires.sound row column c.hold.ensures.held x
+    depth_laws.held bands across c.args.key (view_of c.args.index.now) (view_of c.hold.new.self) c.requires.sound row column c.hold.ensures.held x
 
 pub returns-in_err-keep-clause-within : goal.returns-in_err-keep-clause-within
 returns-in_err-keep-clause-within c bands across row column x =
-    depth_laws.held bands across c.args.key (view_of c.args.index.now) (view_of c.hold.new.index) c.requires.sound row column c.hold.ensures.held x
+    depth_laws.held bands across c.args.key (view_of c.args.index.now) (view_of c.hold.new.self) c.requires.sound row column c.hold.ensures.held x
 
 pub returns-in_err-keep-2-clause-within : goal.returns-in_err-keep-2-clause-within
 returns-in_err-keep-2-clause-within c bands across row column x =
-    depth_laws.held bands across c.args.key (view_of c.args.index.now) (view_of c.hold.new.index) c.requires.sound row column c.hold.ensures.held x
+    depth_laws.held bands across c.args.key (view_of c.args.index.now) (view_of c.hold.new.self) c.requires.sound row column c.hold.ensures.held x
 
 pub returns-clause-within : goal.returns-clause-within
 returns-clause-within c bands across row column x =
     let w = view_of c.args.index.now in
-    let h = view_of c.hold.new.index in
+    let h = view_of c.hold.new.self in
     let u = view_of c.set.new.self in
     depth_laws.set bands across c.args.key c.in_ok-address.address h u c.hold.ensures.sound c.in_ok-hold.ensures.slot c.set.ensures.set
     (depth_laws.held bands across c.args.key w h c.requires.sound row column c.hold.ensures.held x)
@@ -73,7 +89,7 @@ returns-clause-placed c to v s fits number inside x =
     let d = dataset_of c.args.grid.now in
     let key = c.args.key in
     let w = view_of c.args.index.now in
-    let h = view_of c.hold.new.index in
+    let h = view_of c.hold.new.self in
     let u = view_of c.set.new.self in
     let t = c.args.taking.now.places in
     let next = c.take.new.self in

@@ -57,7 +57,7 @@ returns-in-Some-clause-opened g c =
 
 pub returns-clause-held : goal.returns-clause-held
 returns-clause-held g c =
-    subst (IsHeld (suc g.C.Subtree.depth) (child_of c.args.child)) (sym c.in_ok-passed-in-None.ensures) (passed_held (suc g.C.Subtree.depth) (child_of c.args.child) c.requires.shallow c.requires.few)
+    subst (IsHeld (suc g.C.Subtree.depth) (child_of c.args.child)) (sym c.in_ok-passed-in-None.ensures) (passed_held (suc g.C.Subtree.depth) (child_of c.args.child) c.requires.shallow)
 
 pub returns-clause-opened : goal.returns-clause-opened
 returns-clause-opened g c = λ img still.

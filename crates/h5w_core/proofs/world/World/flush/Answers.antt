@@ -1,10 +1,15 @@
-use Rattle.std.proofs.Common.{◌≡◌, None, Ok, Err, refl, ap, subst}
+use Rattle.std.proofs.Common.{◌≡◌, ◌∙◌, None, Ok, Err, refl, ap, subst}
 use Rattle.h5w_session.specs.Refusals.{flush_refusal}
 use Rattle.h5w_core.specs.Worlds.{WorldView}
 use Rattle.h5w_core.proofs.FlushLemmas.{LeavesSession, busy_done, flush_done, full_done, full_told, memory_only, stopped_done}
 use Rattle.h5w_core.proofs.HoldLemmas.{answered, flush_hold, held_stands, holds_more, planned_stands}
 use Rattle.h5w_core.proofs.world.World.flush.Goals as goal
 use Rattle.h5w_core.proofs.world.World.flush.Goals.{in-Ok, in-Err-Stopped, in-Err-Busy, in-Err-Space, in-Err-OutOfMemory}
+
+pub unreachable-requires : goal.unreachable-requires
+unreachable-requires c =
+    let one = c.self.invariant.fits in
+    c.flush.ensures.shallow one.log one.stands.stands one.stands.new (c.in-Err-Deep.is ∙ ap Err c.in-Err-Deep.field-0-is)
 
 pub returns-clause-steps : goal.returns-clause-steps
 returns-clause-steps c =

@@ -26,7 +26,7 @@ invariant_of-self c =
     let begun = is.begun in
     let w : Write = record { at = 0; piece = super_bytes root } in
     let one : ArePieces i.places.end (w ∷ []) = record { sized = ((omega (arith, size), omega (arith, size)), tt); within = (omega (arith, size, begun), tt) } in (
-      record { some_columns = is.some_columns; cells = is.cells; few = is.few; version = is.version; begun = is.begun; kind = is.kind; sound = is.sound; fits = is.fits; held = is.held; header = is.header; addressed = is.addressed; header_ends = is.header_ends; small = is.small; limit = is.limit; inside = is.inside; tops = is.tops },
+      record { some_columns = is.some_columns; cells = is.cells; few = is.few; version = is.version; begun = is.begun; kind = is.kind; sound = is.sound; fits = is.fits; header = is.header; addressed = is.addressed; header_ends = is.header_ends; small = is.small; limit = is.limit; inside = is.inside; tops = λ whole. is.tops (record { named = whole.named; made = whole.made }); head = is.head },
       c.self.invariant.1,
       subst (λ (ws : List Write). ArePieces i.places.end ws) (sym (planned c)) one,
       omega arith,

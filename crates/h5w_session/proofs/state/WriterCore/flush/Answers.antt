@@ -1,6 +1,6 @@
 use Rattle.std.proofs.Common.{◌≡◌, ◌<◌, ◌∙◌, ap, subst, sym, arith}
 use Rattle.h5w_session.specs.Sessions.{IsSession, Session}
-use Rattle.h5w_session.proofs.FlushCalls.{is_idle, some_waits, takes_none, told_bound, told_bounds, told_left, told_rows, told_some, told_stands}
+use Rattle.h5w_session.proofs.FlushCalls.{is_idle, some_waits, takes_none, told_bound, told_bounds, told_left, told_rows, told_shallow, told_some, told_stands}
 use Rattle.h5w_session.proofs.FlushStands.{nothing_stands}
 use Rattle.h5w_session.proofs.ReachedLemmas.{told_reached}
 use Rattle.h5w_session.proofs.state.WriterCore.flush.Goals as goal
@@ -50,6 +50,9 @@ returns-clause-bound g c =
     let s = c.args.self.now in
     let i = is_idle s c.ready.result c.ready.ensures c.in_ok-ready.was in
     told_bound s c.flush_rows.new.self c.flush_rows.result i c.flush_rows.ensures.flushed c.flush_rows.ensures.pieces
+
+pub returns-clause-shallow : goal.returns-clause-shallow
+returns-clause-shallow g c = told_shallow c.args.self.now c.flush_rows.result c.flush_rows.ensures.deep
 
 pub returns-clause-bounds : goal.returns-clause-bounds
 returns-clause-bounds g c =

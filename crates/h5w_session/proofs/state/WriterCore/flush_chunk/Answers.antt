@@ -6,7 +6,7 @@ use Rattle.h5w_index.specs.Held.{view_of}
 use Rattle.h5w_index.specs.Placing.{IsPlacing}
 use Rattle.h5w_index.specs.Steps.{IsPlan}
 use Rattle.h5w_index.proofs.PlacingLemmas.{placing_laws}
-use Rattle.h5w_session.specs.Sessions.{IsSession, Session, option_list, rows_of, IsNamed}
+use Rattle.h5w_session.specs.Sessions.{IsSession, Session, option_list, rows_of, IsWhole}
 use Rattle.h5w_session.specs.Flushes.{touched_by}
 use Rattle.h5w_session.proofs.CarriedLemmas.{Carried, carried_flushed, carried_is, carried_pieces, has_rows, lengths_joined, one_at_most, refused_same, same_space, space_not, space_not_memory}
 use Rattle.h5w_session.proofs.TakingLemmas.{filled_cell, on_err}
@@ -96,7 +96,7 @@ invariant_of-self-2 g c =
     subst (λ (s : Session). IsPlacing s.dataset (rows_of s) s.index s.places (c.args.place ∷ []) [] s.index s.places) back c.requires.placing in
     let all : touched_by v ≡ 1 = subst (λ (s : Session). touched_by s ≡ 1) back c.requires.all in
     let x : Carried v to t w ws r b e = record {
-      there = subst (λ (u : Session). IsNamed u.dataset) (sym c.self.view_is) c.requires.there;
+      there = subst IsWhole (sym c.self.view_is) c.requires.there;
       some = subst (λ (u : Session). 0 < u.waits) back c.requires.waits;
       to_is = to_is;
       small = c.rows-to.ensures.bound;
@@ -110,7 +110,7 @@ invariant_of-self-2 g c =
       places_are = refl;
       placing = subst (λ (n : ℕ). IsPlacing v.dataset n v.index v.places (c.args.place ∷ []) [] v.index v.places) (sym to_is) placing;
       all = sym (subst (λ (n : ℕ). touched v.dataset v.dataset.shape.rows n ≡ 1) (sym to_is) all);
-      within = is.held;
+      roomy = λ r. r;
       cells = c.deref.result.now;
       cells_are = c.deref.ensures.value;
       rows = c.in_ok-writes.writes.items;
@@ -179,7 +179,7 @@ returns-clause-flushed g c =
     subst (λ (s : Session). IsPlacing s.dataset (rows_of s) s.index s.places (c.args.place ∷ []) [] s.index s.places) back c.requires.placing in
     let all : touched_by v ≡ 1 = subst (λ (s : Session). touched_by s ≡ 1) back c.requires.all in
     let x : Carried v to t w ws r b e = record {
-      there = subst (λ (u : Session). IsNamed u.dataset) (sym c.self.view_is) c.requires.there;
+      there = subst IsWhole (sym c.self.view_is) c.requires.there;
       some = subst (λ (u : Session). 0 < u.waits) back c.requires.waits;
       to_is = to_is;
       small = c.rows-to.ensures.bound;
@@ -193,7 +193,7 @@ returns-clause-flushed g c =
       places_are = refl;
       placing = subst (λ (n : ℕ). IsPlacing v.dataset n v.index v.places (c.args.place ∷ []) [] v.index v.places) (sym to_is) placing;
       all = sym (subst (λ (n : ℕ). touched v.dataset v.dataset.shape.rows n ≡ 1) (sym to_is) all);
-      within = is.held;
+      roomy = λ r. r;
       cells = c.deref.result.now;
       cells_are = c.deref.ensures.value;
       rows = c.in_ok-writes.writes.items;
@@ -251,7 +251,7 @@ returns-clause-ends g c =
     subst (λ (s : Session). IsPlacing s.dataset (rows_of s) s.index s.places (c.args.place ∷ []) [] s.index s.places) back c.requires.placing in
     let all : touched_by v ≡ 1 = subst (λ (s : Session). touched_by s ≡ 1) back c.requires.all in
     let x : Carried v to t w ws r b e = record {
-      there = subst (λ (u : Session). IsNamed u.dataset) (sym c.self.view_is) c.requires.there;
+      there = subst IsWhole (sym c.self.view_is) c.requires.there;
       some = subst (λ (u : Session). 0 < u.waits) back c.requires.waits;
       to_is = to_is;
       small = c.rows-to.ensures.bound;
@@ -265,7 +265,7 @@ returns-clause-ends g c =
       places_are = refl;
       placing = subst (λ (n : ℕ). IsPlacing v.dataset n v.index v.places (c.args.place ∷ []) [] v.index v.places) (sym to_is) placing;
       all = sym (subst (λ (n : ℕ). touched v.dataset v.dataset.shape.rows n ≡ 1) (sym to_is) all);
-      within = is.held;
+      roomy = λ r. r;
       cells = c.deref.result.now;
       cells_are = c.deref.ensures.value;
       rows = c.in_ok-writes.writes.items;
@@ -311,8 +311,8 @@ returns-in_err-writes-clause-kept g c =
     } in
     let is : IsSession v = c.self.invariant.0 in
     let none = placing_laws.none v.dataset (rows_of v) v.index v.places v.places is.sound refl refl refl refl in
-    let there : IsNamed v.dataset = subst (λ (s : Session). IsNamed s.dataset) (sym c.self.view_is) c.requires.there in
-    on_err c.from_residual.result (refused_same v (rows_of v) v.index refl none.partly there c.args.self.now c.self.view_is)
+    let there : IsWhole v = subst IsWhole (sym c.self.view_is) c.requires.there in
+    on_err c.from_residual.result (refused_same v (rows_of v) v.index refl none.partly there (λ r. r) c.args.self.now c.self.view_is)
 
 pub returns-in_err-writes-clause-full : goal.returns-in_err-writes-clause-full
 returns-in_err-writes-clause-full g c full is =

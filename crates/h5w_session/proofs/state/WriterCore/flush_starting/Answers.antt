@@ -1,13 +1,12 @@
 use Rattle.std.proofs.Common.{◌≡◌, ◌<◌, ◌-◌, ◌*◌, ◌^◌, ◌∙◌, ℕ, Err, length, drop, ap, sym, subst, arith, rules}
-use Rattle.h5w_model.specs.Numbers.{undefined}
 use Rattle.h5w_model.specs.Tables.{chunks_across}
 use Rattle.h5w_model.proofs.IntegerLemmas.{int_size_bounds}
 use Rattle.h5w_chunks.specs.Grids.{dataset_of}
 use Rattle.h5w_index.specs.Held.{view_of}
-use Rattle.h5w_session.specs.Sessions.{IsSession, Session, most_bands, option_list, rows_of}
-use Rattle.h5w_session.proofs.CarriedLemmas.{asks_for, has_rows, lengths_joined, one_at_most, same_error, values_few}
-use Rattle.h5w_session.proofs.StartCarriedLemmas.{AsksOfMade, StartCarried, asks_of_made, start_carried_flushed, start_carried_is, start_carried_pieces, start_unfilled, start_unplaced}
-use Rattle.h5w_session.proofs.TakingLemmas.{filled_cell}
+use Rattle.h5w_session.specs.Sessions.{IsSession, IsUnmade, Session, most_bands, option_list, rows_of}
+use Rattle.h5w_session.proofs.CarriedLemmas.{asks_for, has_rows, one_at_most, same_error, values_few}
+use Rattle.h5w_session.proofs.StartCarriedLemmas.{AsksOfMade, StartCarried, asks_of_made, asks_of_start, lengths_first, start_carried_flushed, start_carried_is, start_carried_pieces, start_unfilled, start_unplaced}
+use Rattle.h5w_session.proofs.TakingLemmas.{filled_cell, shallow_causes}
 use Rattle.h5w_session.proofs.WritableLemmas.{has_address}
 use Rattle.h5w_session.proofs.state.WriterCore.flush_starting.Goals as goal
 
@@ -32,6 +31,46 @@ returns-in_err-index-clause-full g c full told =
     let e = c.in_err-index.field-0.0 in
     let is : c.from_residual-in_err-index.result ≡ Err e = search rules in
     start_unplaced v c.new-taking.result.places full (c.new-taking.ensures.places ∙ c.in_ok-copy.ensures) (c.in_err-index.ensures.full full (same_error e _ (sym is ∙ told))) c.args.self.now c.self.view_is
+
+pub start_index-requires-clause-head : goal.start_index-requires-clause-head
+start_index-requires-clause-head g c =
+    let i = c.self.inside in
+    let v : Session = record {
+      name = i.name;
+      root = i.root;
+      place = i.place;
+      header = i.header;
+      dataset = dataset_of i.grid;
+      places = i.places;
+      committed = i.committed;
+      waiting = i.waiting.items;
+      waits = i.waits;
+      pending = drop i.shown i.plan.items;
+      stopped = i.stopped;
+      keeps = i.keeps;
+      index = view_of i.index;
+    } in
+    (asks_of_start v c.new-taking.result.places c.self.invariant.0 (subst IsUnmade (sym c.self.view_is) c.requires.unmade) (c.new-taking.ensures.places ∙ c.in_ok-copy.ensures)).head
+
+pub start_index-requires-clause-tree : goal.start_index-requires-clause-tree
+start_index-requires-clause-tree g c =
+    let i = c.self.inside in
+    let v : Session = record {
+      name = i.name;
+      root = i.root;
+      place = i.place;
+      header = i.header;
+      dataset = dataset_of i.grid;
+      places = i.places;
+      committed = i.committed;
+      waiting = i.waiting.items;
+      waits = i.waits;
+      pending = drop i.shown i.plan.items;
+      stopped = i.stopped;
+      keeps = i.keeps;
+      index = view_of i.index;
+    } in
+    (asks_of_start v c.new-taking.result.places c.self.invariant.0 (subst IsUnmade (sym c.self.view_is) c.requires.unmade) (c.new-taking.ensures.places ∙ c.in_ok-copy.ensures)).tree
 
 pub prepare-requires-clause-few : goal.prepare-requires-clause-few
 prepare-requires-clause-few g c =
@@ -156,8 +195,12 @@ prepare-requires-clause-limit g c =
     asks_of_made v to c.new-taking.result.places c.in_ok-index.at (view_of c.in_ok-index.index) c.start_index.new.places is to_is (c.new-taking.ensures.places ∙ c.in_ok-copy.ensures) c.in_ok-index.ensures.kind c.in_ok-index.ensures.started in
     asks.limit
 
-pub prepare-requires-clause-within : goal.prepare-requires-clause-within
-prepare-requires-clause-within g c = c.in_ok-index.ensures.within (most_bands (dataset_of c.self.inside.grid)) (chunks_across (dataset_of c.self.inside.grid))
+pub returns-in_err-prepared-clause-causes : goal.returns-in_err-prepared-clause-causes
+returns-in_err-prepared-clause-causes g c =
+    let d = dataset_of c.self.inside.grid in
+    let e = c.in_err-prepared.field-0.0 in
+    let is : c.from_residual-in_err-prepared.result ≡ Err e = search rules in
+    shallow_causes e c.from_residual-in_err-prepared.result is c.in_err-prepared.ensures.causes (λ deep. (c.in_err-prepared.ensures.deep (ap Err deep)).cramped (c.in_ok-index.ensures.within (most_bands d) (chunks_across d)))
 
 pub prepare-requires-clause-room : goal.prepare-requires-clause-room
 prepare-requires-clause-room g c =
@@ -213,7 +256,7 @@ pub raise_rows-piece-requires-clause-rows : goal.raise_rows-piece-requires-claus
 raise_rows-piece-requires-clause-rows g c = has_rows c.self.inside.header c.self.invariant.0.header
 
 pub raise_rows-piece-requires-clause-index : goal.raise_rows-piece-requires-clause-index
-raise_rows-piece-requires-clause-index g c some = has_address c.self.inside.header (c.self.invariant.0.addressed (subst (λ (u : Session). u.dataset.layout.address ≡ undefined) (sym c.self.view_is) c.requires.absent))
+raise_rows-piece-requires-clause-index g c some = has_address c.self.inside.header (c.self.invariant.0.addressed (c.naming-naming.ensures.unnamed some))
 
 pub invariant_of-self : goal.invariant_of-self
 invariant_of-self g c =
@@ -238,13 +281,13 @@ invariant_of-self g c =
     let to_is : to ≡ rows_of v = c.rows-to.ensures.value ∙ ap rows_of (sym c.self.view_is) in
     let t = c.finish-plan.new.places in
     let w = view_of c.finish-plan.new.self in
-    let ws = c.join_start.result.items in
+    let ws = c.join_first.result.items in
     let r = c.raise-superblock.new.root in
     let b = c.raise_rows-piece.new.header in
     let e = c.clear.new.self.items in
     let at = c.in_ok-index.at in
     let x : StartCarried v to t w ws r b e at = record {
-      absent = subst (λ (u : Session). u.dataset.layout.address ≡ undefined) (sym c.self.view_is) c.requires.absent;
+      unmade = subst IsUnmade (sym c.self.view_is) c.requires.unmade;
       some = subst (λ (u : Session). 0 < u.waits) (sym c.self.view_is) c.requires.waits;
       to_is = to_is;
       small = c.rows-to.ensures.bound;
@@ -262,7 +305,7 @@ invariant_of-self g c =
       named = view_of c.prepare.new.index;
       placing = c.in_ok-prepared.ensures.placed;
       all = c.in_ok-prepared.ensures.all;
-      within = c.prepare.ensures.within;
+      roomy = c.prepare.ensures.roomy;
       cells = c.deref.result.now;
       cells_are = c.deref.ensures.value;
       rows = c.in_ok-prepared.prepared.writes.items;
@@ -279,10 +322,12 @@ invariant_of-self g c =
       ended = c.raise-superblock.ensures.ended;
       unraised = c.raise-superblock.ensures.unraised;
       root = c.raise-superblock.ensures.root;
+      naming = c.naming-naming.result;
+      names = c.naming-naming.ensures.names;
       header = c.raise_rows-piece.ensures.header;
       piece = c.raise_rows-piece.result;
       piece_is = c.raise_rows-piece.ensures.piece;
-      items = c.join_start.ensures.items;
+      items = c.join_first.ensures.joined;
       header_short = c.raise_rows-piece.ensures.short;
       none_waits = c.clear.ensures.items;
     } in
@@ -296,7 +341,7 @@ invariant_of-self g c =
       },
       start_carried_pieces v to t w ws r b e at x is,
       omega arith,
-      c.join_start.ensures.room,
+      c.join_first.ensures.room,
     )
 
 pub returns-clause-flushed : goal.returns-clause-flushed
@@ -322,13 +367,13 @@ returns-clause-flushed g c =
     let to_is : to ≡ rows_of v = c.rows-to.ensures.value ∙ ap rows_of (sym c.self.view_is) in
     let t = c.finish-plan.new.places in
     let w = view_of c.finish-plan.new.self in
-    let ws = c.join_start.result.items in
+    let ws = c.join_first.result.items in
     let r = c.raise-superblock.new.root in
     let b = c.raise_rows-piece.new.header in
     let e = c.clear.new.self.items in
     let at = c.in_ok-index.at in
     let x : StartCarried v to t w ws r b e at = record {
-      absent = subst (λ (u : Session). u.dataset.layout.address ≡ undefined) (sym c.self.view_is) c.requires.absent;
+      unmade = subst IsUnmade (sym c.self.view_is) c.requires.unmade;
       some = subst (λ (u : Session). 0 < u.waits) (sym c.self.view_is) c.requires.waits;
       to_is = to_is;
       small = c.rows-to.ensures.bound;
@@ -346,7 +391,7 @@ returns-clause-flushed g c =
       named = view_of c.prepare.new.index;
       placing = c.in_ok-prepared.ensures.placed;
       all = c.in_ok-prepared.ensures.all;
-      within = c.prepare.ensures.within;
+      roomy = c.prepare.ensures.roomy;
       cells = c.deref.result.now;
       cells_are = c.deref.ensures.value;
       rows = c.in_ok-prepared.prepared.writes.items;
@@ -363,10 +408,12 @@ returns-clause-flushed g c =
       ended = c.raise-superblock.ensures.ended;
       unraised = c.raise-superblock.ensures.unraised;
       root = c.raise-superblock.ensures.root;
+      naming = c.naming-naming.result;
+      names = c.naming-naming.ensures.names;
       header = c.raise_rows-piece.ensures.header;
       piece = c.raise_rows-piece.result;
       piece_is = c.raise_rows-piece.ensures.piece;
-      items = c.join_start.ensures.items;
+      items = c.join_first.ensures.joined;
       header_short = c.raise_rows-piece.ensures.short;
       none_waits = c.clear.ensures.items;
     } in
@@ -395,13 +442,13 @@ returns-clause-ends g c =
     let to_is : to ≡ rows_of v = c.rows-to.ensures.value ∙ ap rows_of (sym c.self.view_is) in
     let t = c.finish-plan.new.places in
     let w = view_of c.finish-plan.new.self in
-    let ws = c.join_start.result.items in
+    let ws = c.join_first.result.items in
     let r = c.raise-superblock.new.root in
     let b = c.raise_rows-piece.new.header in
     let e = c.clear.new.self.items in
     let at = c.in_ok-index.at in
     let x : StartCarried v to t w ws r b e at = record {
-      absent = subst (λ (u : Session). u.dataset.layout.address ≡ undefined) (sym c.self.view_is) c.requires.absent;
+      unmade = subst IsUnmade (sym c.self.view_is) c.requires.unmade;
       some = subst (λ (u : Session). 0 < u.waits) (sym c.self.view_is) c.requires.waits;
       to_is = to_is;
       small = c.rows-to.ensures.bound;
@@ -419,7 +466,7 @@ returns-clause-ends g c =
       named = view_of c.prepare.new.index;
       placing = c.in_ok-prepared.ensures.placed;
       all = c.in_ok-prepared.ensures.all;
-      within = c.prepare.ensures.within;
+      roomy = c.prepare.ensures.roomy;
       cells = c.deref.result.now;
       cells_are = c.deref.ensures.value;
       rows = c.in_ok-prepared.prepared.writes.items;
@@ -436,10 +483,12 @@ returns-clause-ends g c =
       ended = c.raise-superblock.ensures.ended;
       unraised = c.raise-superblock.ensures.unraised;
       root = c.raise-superblock.ensures.root;
+      naming = c.naming-naming.result;
+      names = c.naming-naming.ensures.names;
       header = c.raise_rows-piece.ensures.header;
       piece = c.raise_rows-piece.result;
       piece_is = c.raise_rows-piece.ensures.piece;
-      items = c.join_start.ensures.items;
+      items = c.join_first.ensures.joined;
       header_short = c.raise_rows-piece.ensures.short;
       none_waits = c.clear.ensures.items;
     } in
@@ -451,7 +500,7 @@ returns-clause-room g c =
     let copies = c.finish-plan.result.copies.items in
     let fixed = c.finish-plan.result.in_place.items in
     let supers = option_list c.raise-superblock.result in
-    let long = ap length c.join_start.ensures.items ∙ lengths_joined rows copies fixed supers (record { at = c.self.inside.place; piece = c.raise_rows-piece.result }) in
+    let long = lengths_first c.naming-naming.result rows copies fixed supers (record { at = c.self.inside.place; piece = c.raise_rows-piece.result }) c.join_first.result.items c.join_first.ensures.joined in
     record {
       pieces = omega (arith, long, one_at_most c.raise-superblock.result, c.finish-plan.ensures.copies, c.finish-plan.ensures.in_place, c.in_ok-prepared.ensures.pieces, c.in_ok-prepared.prepared.writes.ok);
       end = omega (arith, c.finish-plan.ensures.end, c.in_ok-prepared.ensures.end);

@@ -8,7 +8,8 @@ use Rattle.h5w_space.specs.Space.{Space}
 use Rattle.h5w_index.specs.Held.{view_of}
 use Rattle.h5w_index.specs.Placing.{IsFullPart, IsPartly}
 use Rattle.h5w_index.specs.Views.{HasSlot}
-use Rattle.h5w_session.specs.Sessions.{IsSession, Session, most_bands, option_list, rows_of, IsNamed}
+use Rattle.h5w_session.specs.Refusals.{IsDeepPart}
+use Rattle.h5w_session.specs.Sessions.{IsRoomy, IsSession, Session, most_bands, option_list, rows_of, IsWhole}
 use Rattle.h5w_session.proofs.CarriedLemmas.{Carried, asks_for, carried_flushed, carried_is, carried_pieces, has_rows, lengths_joined, one_at_most, refused_is, refused_same, same_error, values_few}
 use Rattle.h5w_session.proofs.TakingLemmas.{filled_cell}
 use Rattle.h5w_session.proofs.state.WriterCore.flush_taking.Goals as goal
@@ -58,9 +59,6 @@ prepare-requires-clause-takes g c =
     let to = c.rows-to.result in
     let to_is : to ≡ rows_of v = c.rows-to.ensures.value ∙ ap rows_of (sym c.self.view_is) in
     (asks_for v to is to_is).takes
-
-pub prepare-requires-clause-within : goal.prepare-requires-clause-within
-prepare-requires-clause-within g c = c.self.invariant.0.held
 
 pub prepare-requires-clause-room : goal.prepare-requires-clause-room
 prepare-requires-clause-room g c =
@@ -117,7 +115,7 @@ invariant_of-self g c =
     let b = c.raise_rows-piece.new.header in
     let e = c.clear.new.self.items in
     let x : Carried v to t w ws r b e = record {
-      there = subst (λ (u : Session). IsNamed u.dataset) (sym c.self.view_is) c.requires.there;
+      there = subst IsWhole (sym c.self.view_is) c.requires.there;
       some = subst (λ (u : Session). 0 < u.waits) (sym c.self.view_is) c.requires.waits;
       to_is = c.rows-to.ensures.value ∙ ap rows_of (sym c.self.view_is);
       small = c.rows-to.ensures.bound;
@@ -131,7 +129,7 @@ invariant_of-self g c =
       places_are = c.new-taking.ensures.places ∙ c.in_ok-copy.ensures;
       placing = c.in-Ok.ensures.placed;
       all = c.in-Ok.ensures.all;
-      within = c.prepare.ensures.within;
+      roomy = c.prepare.ensures.roomy;
       cells = c.deref.result.now;
       cells_are = c.deref.ensures.value;
       rows = c.in-Ok.prepared.writes.items;
@@ -195,8 +193,7 @@ invariant_of-self-in-Err-1 g c =
     let to_is : to ≡ rows_of v = c.rows-to.ensures.value ∙ ap rows_of (sym c.self.view_is) in
     let p : IsPartly v.dataset to v.index [] u =
     c.unset.ensures.taken_back v.dataset to v.index (subst (λ (ks : List Key). IsPartly v.dataset to v.index ks (view_of c.prepare.new.index)) (sym c.deref-in-Err.ensures.value) c.in-Err.ensures.partly) in
-    let within = c.unset.ensures.within (most_bands v.dataset) (chunks_across v.dataset) c.prepare.ensures.within in
-    (refused_is v to u to_is p is within, c.self.invariant.1, c.self.invariant.2, c.self.invariant.3, c.self.invariant.4)
+    (refused_is v to u to_is p is, c.self.invariant.1, c.self.invariant.2, c.self.invariant.3, c.self.invariant.4)
 
 pub returns-in-Ok-clause-flushed : goal.returns-in-Ok-clause-flushed
 returns-in-Ok-clause-flushed g c =
@@ -225,7 +222,7 @@ returns-in-Ok-clause-flushed g c =
     let b = c.raise_rows-piece.new.header in
     let e = c.clear.new.self.items in
     let x : Carried v to t w ws r b e = record {
-      there = subst (λ (u : Session). IsNamed u.dataset) (sym c.self.view_is) c.requires.there;
+      there = subst IsWhole (sym c.self.view_is) c.requires.there;
       some = subst (λ (u : Session). 0 < u.waits) (sym c.self.view_is) c.requires.waits;
       to_is = c.rows-to.ensures.value ∙ ap rows_of (sym c.self.view_is);
       small = c.rows-to.ensures.bound;
@@ -239,7 +236,7 @@ returns-in-Ok-clause-flushed g c =
       places_are = c.new-taking.ensures.places ∙ c.in_ok-copy.ensures;
       placing = c.in-Ok.ensures.placed;
       all = c.in-Ok.ensures.all;
-      within = c.prepare.ensures.within;
+      roomy = c.prepare.ensures.roomy;
       cells = c.deref.result.now;
       cells_are = c.deref.ensures.value;
       rows = c.in-Ok.prepared.writes.items;
@@ -292,7 +289,7 @@ returns-in-Ok-clause-ends g c =
     let b = c.raise_rows-piece.new.header in
     let e = c.clear.new.self.items in
     let x : Carried v to t w ws r b e = record {
-      there = subst (λ (u : Session). IsNamed u.dataset) (sym c.self.view_is) c.requires.there;
+      there = subst IsWhole (sym c.self.view_is) c.requires.there;
       some = subst (λ (u : Session). 0 < u.waits) (sym c.self.view_is) c.requires.waits;
       to_is = c.rows-to.ensures.value ∙ ap rows_of (sym c.self.view_is);
       small = c.rows-to.ensures.bound;
@@ -306,7 +303,7 @@ returns-in-Ok-clause-ends g c =
       places_are = c.new-taking.ensures.places ∙ c.in_ok-copy.ensures;
       placing = c.in-Ok.ensures.placed;
       all = c.in-Ok.ensures.all;
-      within = c.prepare.ensures.within;
+      roomy = c.prepare.ensures.roomy;
       cells = c.deref.result.now;
       cells_are = c.deref.ensures.value;
       rows = c.in-Ok.prepared.writes.items;
@@ -367,8 +364,9 @@ returns-in-Err-clause-kept g c =
     let to_is : to ≡ rows_of v = c.rows-to.ensures.value ∙ ap rows_of (sym c.self.view_is) in
     let p : IsPartly v.dataset to v.index [] u =
     c.unset.ensures.taken_back v.dataset to v.index (subst (λ (ks : List Key). IsPartly v.dataset to v.index ks (view_of c.prepare.new.index)) (sym c.deref-in-Err.ensures.value) c.in-Err.ensures.partly) in
-    let there : IsNamed v.dataset = subst (λ (s : Session). IsNamed s.dataset) (sym c.self.view_is) c.requires.there in
-    refused_same v to u to_is p there c.args.self.now c.self.view_is
+    let there : IsWhole v = subst IsWhole (sym c.self.view_is) c.requires.there in
+    let roomy : IsRoomy v.dataset v.index → IsRoomy v.dataset u = λ r. c.unset.ensures.within (most_bands v.dataset) (chunks_across v.dataset) (c.prepare.ensures.roomy r) in
+    refused_same v to u to_is p there roomy c.args.self.now c.self.view_is
 
 pub returns-in-Err-clause-full : goal.returns-in-Err-clause-full
 returns-in-Err-clause-full g c full told =
@@ -394,3 +392,28 @@ returns-in-Err-clause-full g c full told =
     let part = c.in-Err.ensures.full full (same_error c.in-Err.e _ told) in
     let now : IsFullPart v.dataset to v.index v.places full = subst (λ (s : Space). IsFullPart v.dataset to v.index s full) places_are part in
     subst (λ (s : Session). IsFullPart s.dataset (rows_of s) s.index s.places full) c.self.view_is (subst (λ (n : ℕ). IsFullPart v.dataset n v.index v.places full) to_is now)
+
+pub returns-in-Err-clause-deep : goal.returns-in-Err-clause-deep
+returns-in-Err-clause-deep g c told =
+    let i = c.self.inside in
+    let v : Session = record {
+      name = i.name;
+      root = i.root;
+      place = i.place;
+      header = i.header;
+      dataset = dataset_of i.grid;
+      places = i.places;
+      committed = i.committed;
+      waiting = i.waiting.items;
+      waits = i.waits;
+      pending = drop i.shown i.plan.items;
+      stopped = i.stopped;
+      keeps = i.keeps;
+      index = view_of i.index;
+    } in
+    let to = c.rows-to.result in
+    let to_is : to ≡ rows_of v = c.rows-to.ensures.value ∙ ap rows_of (sym c.self.view_is) in
+    let places_are = c.new-taking.ensures.places ∙ c.in_ok-copy.ensures in
+    let part = c.in-Err.ensures.deep (same_error c.in-Err.e _ told) in
+    let now : IsDeepPart v.dataset to v.index v.places = subst (λ (s : Space). IsDeepPart v.dataset to v.index s) places_are part in
+    subst (λ (s : Session). IsDeepPart s.dataset (rows_of s) s.index s.places) c.self.view_is (subst (λ (n : ℕ). IsDeepPart v.dataset n v.index v.places) to_is now)

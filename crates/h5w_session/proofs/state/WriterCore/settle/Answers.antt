@@ -19,14 +19,14 @@ invariant_of-self c =
         kind = is.kind;
         sound = is.sound;
         fits = is.fits;
-        held = is.held;
         header = is.header;
         addressed = is.addressed;
         header_ends = omega (arith, is.header_ends, end);
         small = omega (arith, is.small, end);
         limit = omega (arith, is.limit, limit);
         inside = λ k from named. omega (arith, is.inside k from named, end);
-        tops = λ named u among. omega (arith, is.tops named u among, end);
+        tops = λ whole u among. omega (arith, is.tops (record { named = whole.named; made = whole.made }) u among, end);
+        head = λ named lacking. omega (arith, is.head named lacking, end);
       },
       c.self.invariant.1,
       subst (λ (n : ℕ). ArePieces n i.plan.items) (sym end) c.self.invariant.2,

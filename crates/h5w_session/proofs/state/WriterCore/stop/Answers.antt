@@ -1,9 +1,21 @@
-use Rattle.std.proofs.Common.{sym, subst}
-use Rattle.h5w_session.specs.Sessions.{Session}
+use Rattle.std.proofs.Common.{List, arith, sym, subst}
+use Rattle.h5w_model.specs.declared.piece.Write.{Write}
+use Rattle.h5w_session.specs.Sessions.{ArePieces, Session}
 use Rattle.h5w_session.specs.Stands.{Stands}
 use Rattle.h5w_session.proofs.StateLemmas.{stopped_is}
 use Rattle.h5w_session.proofs.StandLemmas.{stop_stands}
 use Rattle.h5w_session.proofs.state.WriterCore.stop.Goals as goal
+
+pub invariant_of-self : goal.invariant_of-self
+invariant_of-self c =
+    let i = c.self.inside in
+    let is = c.self.invariant.0 in (
+      record { some_columns = is.some_columns; cells = is.cells; few = is.few; version = is.version; begun = is.begun; kind = is.kind; sound = is.sound; fits = is.fits; header = is.header; addressed = is.addressed; header_ends = is.header_ends; small = is.small; limit = is.limit; inside = is.inside; tops = λ whole. is.tops (record { named = whole.named; made = whole.made }); head = is.head },
+      c.self.invariant.1,
+      subst (λ (ws : List Write). ArePieces i.places.end ws) (sym c.clear.ensures.items) (record { sized = tt; within = tt }),
+      omega arith,
+      omega (arith, c.clear.ensures.capacity, c.self.invariant.4),
+    )
 
 pub returns-clause-stands : goal.returns-clause-stands
 returns-clause-stands c log stands =

@@ -1,0 +1,4 @@
+pub mod AloneLemmas
+pub mod BlockFlushLemmas
+pub mod BlockLeadLemmas
+pub mod BlockCallLemmas

@@ -1,0 +1,3 @@
+pub mod HeaderAlone
+pub mod BlockFlushes
+pub mod BlockCalls

@@ -1,0 +1,28 @@
+//! Trials of the whole program in memory, of files that change between looks, and of its edge to the system. There are only tests
+//! here, so that no crate is proved once more for them.
+#![tactic(auto)]
+
+#[cfg(test)]
+mod appends;
+#[cfg(test)]
+mod changing;
+#[cfg(test)]
+mod edges;
+#[cfg(test)]
+mod files;
+#[cfg(test)]
+mod halves;
+#[cfg(test)]
+mod lives;
+#[cfg(test)]
+mod new_files;
+#[cfg(test)]
+mod rows;
+#[cfg(test)]
+mod steps;
+#[cfg(test)]
+mod torn;
+#[cfg(test)]
+mod trees;
+#[cfg(test)]
+mod types;

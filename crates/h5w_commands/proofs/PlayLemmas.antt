@@ -1,0 +1,375 @@
+-- A script under way: its first lines were answered.
+use Rattle.std.proofs.Common.{ℕ, ◌+◌, ◌≤◌, ◌<◌, ◌≡◌, ◌⊎◌, List, [], ◌∷◌, ◌++◌, length, map, take, Option, Some, None, Result, Ok, Err, sym, refl, ap, ◌∙◌, subst, inl, inr, arith, append_assoc, append-nil, length-append}
+use Rattle.std.specs.Prelude.{IfErr, IfSome, OnOk, flat_map, option_map}
+use Rattle.std.proofs.lemmas.List.{map-append, flat_map_more}
+use Rattle.std.proofs.Math.Seq.{take-append-add}
+use Rattle.h5w_model.specs.Causes.{Rose}
+use Rattle.h5w_model.specs.Lawful.{Line, Rules, ScriptState, Allowed, Lawful, at_first, next_state}
+use Rattle.h5w_model.specs.declared.reply.Reply.{Reply}
+use Rattle.h5w_text.specs.Streams.{SourceView, SinkView, Gave, GaveSome, Grows}
+use Rattle.h5w_text.specs.Bytes.{Lacks}
+use Rattle.h5w_text.specs.Lines.{lines_of, whole_lines_of}
+use Rattle.h5w_text.specs.LinesAhead.{Ended, Given, GivenUp, IntakeView, IsLine, IsOver, IsWhole, Passed, LinesAhead, lines_left, lines_ahead}
+use Rattle.h5w_text.specs.Replies.{reply_text}
+use Rattle.h5w_text.specs.Errors.{error_text}
+use Rattle.h5w_text.specs.declared.error.ErrorLine.TheVariants as errors
+use Rattle.h5w_text.specs.declared.line.TextLine as text_lines
+use Rattle.h5w_text.specs.declared.line.LineError.{LineError}
+use Rattle.h5w_text.specs.declared.line.LineError.TheVariants.{Failed, Input, OutOfMemory}
+use Rattle.h5w_text.proofs.LineLemmas.{lines_more, lines_done, passed_nothing, passed_twice, whole_cut, whole_lacks}
+use Rattle.h5w_core.specs.Worlds.{WorldView, HaveOneLog, rules_of}
+use Rattle.h5w_commands.specs.Answers.{Answers, play_line_of}
+use Rattle.h5w_commands.specs.Endings.{Answered, EndsAt, Runs, ending_of}
+use Rattle.h5w_commands.specs.Plays.{Begun, Finished, HasFirst, Replied, Stopped}
+use Rattle.h5w_batches.specs.Inputs.{SameSource, input_limit, outside}
+use Rattle.h5w_commands.specs.declared.ending.Ending.{Ending}
+use Rattle.h5w_commands.specs.declared.ending.Ending.TheVariants as endings
+use Rattle.h5w_text.specs.declared.status.Status.TheVariants as statuses
+
+-- ---- What sinks were given
+
+pub grows_nothing : (o : Option (List ℕ)) → Grows [] o o
+grows_nothing None = inl refl
+grows_nothing (Some l) = inr (ap Some (sym (append-nil l)))
+
+then_cases : (xs ys : List ℕ) (o : Option (List ℕ)) → option_map (λ front. front ++ ys) (option_map (λ front. front ++ xs) o) ≡ option_map (λ front. front ++ (xs ++ ys)) o
+then_cases xs ys None = refl
+then_cases xs ys (Some l) = ap Some (append_assoc l xs ys)
+
+grows_both : (xs ys : List ℕ) (o p q : Option (List ℕ)) → Grows xs o p → Grows ys p q → Grows (xs ++ ys) o q
+grows_both xs ys o p q g (inl none) = inl none
+grows_both xs ys o p q (inl none) (inr e) = inl (e ∙ ap (option_map (λ front. front ++ ys)) none)
+grows_both xs ys o p q (inr d) (inr e) = inr (e ∙ ap (option_map (λ front. front ++ ys)) d ∙ then_cases xs ys o)
+
+pub gave_both : {k l m : SinkView} (xs ys : List ℕ) → Gave xs k l → Gave ys l m → Gave (xs ++ ys) k m
+gave_both {k} {l} {m} xs ys p q = record {
+  written = grows_both xs ys k.written l.written m.written p.written q.written;
+  faults = omega arith;
+  through = q.through ∙ p.through;
+}
+
+pub gave_nothing : (k : SinkView) → Gave [] k k
+gave_nothing k = record { written = grows_nothing k.written; faults = omega arith; through = refl }
+
+pub gave_then_some : {k l m : SinkView} (xs ys : List ℕ) → Gave xs k l → GaveSome ys l m → GaveSome (xs ++ ys) k m
+gave_then_some {k} {l} {m} xs ys p q = (length xs + q.0, subst (λ (bytes : List ℕ). Gave bytes k m) (sym (take-append-add xs ys q.0)) (gave_both xs (take q.0 ys) p q.1))
+
+pub rose_before : (a b c : ℕ) → a ≤ b → Rose b c → Rose a c
+rose_before a b c h r = omega arith
+
+-- ---- First lines
+
+-- replies that may be given to some lines, with their text, lead to a state
+pub record SoFar (g : Rules) (lines : List (List ℕ)) (text : List ℕ) (state : ScriptState) : Type 0 where
+  pub script : List Line
+  pub replies : List Reply
+  pub spelled : map (play_line_of g) lines ≡ map Some script
+  pub lawful : (ls : List Line) (rs : List Reply) → Lawful g state ls rs → Lawful g at_first (script ++ ls) (replies ++ rs)
+  pub is : text ≡ flat_map reply_text replies
+
+nothing_so_far : (g : Rules) → SoFar g [] [] at_first
+nothing_so_far g = record { script = []; replies = []; spelled = refl; lawful = λ ls rs h. h; is = refl }
+
+pub replied_nothing : (g : Rules) → Replied g [] []
+replied_nothing g = record { script = []; replies = []; spelled = refl; lawful = tt; is = refl }
+
+lawful_behind : (g : Rules) (script ls : List Line) (replies rs : List Reply) (l : Line) (r : Reply) → Lawful g at_first (script ++ (l ∷ ls)) (replies ++ (r ∷ rs)) → Lawful g at_first ((script ++ l ∷ []) ++ ls) ((replies ++ r ∷ []) ++ rs)
+lawful_behind g script ls replies rs l r h =
+    subst (λ (x : List Line). Lawful g at_first x ((replies ++ r ∷ []) ++ rs)) (sym (append_assoc script (l ∷ []) ls))
+    (subst (λ (y : List Reply). Lawful g at_first (script ++ (l ∷ ls)) y) (sym (append_assoc replies (r ∷ []) rs)) h)
+
+more_so_far : (g : Rules) (lines : List (List ℕ)) (text : List ℕ) (state : ScriptState) (line : List ℕ) (l : Line) (r : Reply)
+    → SoFar g lines text state → play_line_of g line ≡ Some l → Allowed g state l r → SoFar g (lines ++ line ∷ []) (text ++ reply_text r) (next_state g state l r)
+more_so_far g lines text state line l r x spelled allowed = record {
+  script = x.script ++ l ∷ [];
+  replies = x.replies ++ r ∷ [];
+  spelled = map-append (play_line_of g) lines (line ∷ []) ∙ ap (λ ls. ls ++ play_line_of g line ∷ []) x.spelled ∙ ap (λ o. map Some x.script ++ o ∷ []) spelled ∙ sym (map-append Some x.script (l ∷ []));
+  lawful = λ ls rs h. lawful_behind g x.script ls x.replies rs l r (x.lawful (l ∷ ls) (r ∷ rs) (allowed, h));
+  is = ap (λ t. t ++ reply_text r) x.is ∙ flat_map_more reply_text [] x.replies r;
+}
+
+replied_of : (g : Rules) (lines : List (List ℕ)) (text : List ℕ) (state : ScriptState) → SoFar g lines text state → Replied g lines text
+replied_of g lines text state x = record {
+  script = x.script;
+  replies = x.replies;
+  spelled = x.spelled;
+  lawful = subst (λ (ls : List Line). Lawful g at_first ls x.replies) (append-nil x.script)
+      (subst (λ (rs : List Reply). Lawful g at_first (x.script ++ []) rs) (append-nil x.replies) (x.lawful [] [] tt));
+  is = x.is;
+}
+
+-- so many first lines of the input were answered
+pub record Going (v w : LinesAhead) (begun world : WorldView) (number : ℕ) (k l : SinkView) : Type 0 where
+  pub lines : List (List ℕ)
+  pub text : List ℕ
+  pub state : ScriptState
+  pub so_far : SoFar (rules_of begun) lines text state
+  pub count : number ≡ length lines
+  pub room : w.room + number ≤ v.room
+  pub taken : List ℕ
+  pub passed : Passed taken v w
+  pub first : lines_left v ≡ option_map (λ ls. lines ++ ls) (lines_left w)
+  pub rules : rules_of world ≡ rules_of begun
+  pub fits : HaveOneLog world state
+  pub gave : Gave text k l
+
+all_left : (o : Option (List ℕ)) → option_map lines_of o ≡ option_map (λ ls. [] ++ ls) (option_map lines_of o)
+all_left None = refl
+all_left (Some ls) = refl
+
+-- before the first line
+pub going_first : (v : LinesAhead) (world : WorldView) (l : SinkView) → HaveOneLog world at_first → Going v v world world 0 l l
+going_first v world l fits = record {
+  lines = [];
+  text = [];
+  state = at_first;
+  so_far = nothing_so_far (rules_of world);
+  count = refl;
+  room = omega arith;
+  taken = [];
+  passed = passed_nothing v;
+  first = all_left v.left;
+  rules = refl;
+  fits = fits;
+  gave = gave_nothing l;
+}
+
+abbrev Stepped : WorldView → WorldView → WorldView → ScriptState → Line → Reply → Type 0
+Stepped begun old new s l r = Allowed (rules_of begun) s l r × HaveOneLog new (next_state (rules_of begun) s l r)
+
+stepped : (begun old new : WorldView) (s : ScriptState) (l : Line) (r : Reply) → rules_of old ≡ rules_of begun → HaveOneLog old s → Answers old l r new → Stepped begun old new s l r
+stepped begun old new s l r e fits a =
+    subst (λ (g : Rules). Allowed g s l r × HaveOneLog new (next_state g s l r)) e (a.lawful s fits)
+
+-- after one more line, whose bytes were passed over
+pub going_more : {v u w : LinesAhead} {begun old new : WorldView} {number : ℕ} {k l m : SinkView} (line bytes : List ℕ) → Going v u begun old number k l → Given line u w → Passed bytes u w → Answered line old new l m → Going v w begun new (number + 1) k m
+going_more {v} {u} {w} {begun} {old} {new} {number} {k} {l} {m} line bytes x given passed a =
+    let s = stepped begun old new x.state a.line a.reply x.rules x.fits a.answers in record {
+      lines = x.lines ++ line ∷ [];
+      text = x.text ++ reply_text a.reply;
+      state = next_state (rules_of begun) x.state a.line a.reply;
+      so_far = more_so_far (rules_of begun) x.lines x.text x.state line a.line a.reply x.so_far (subst (λ (g : Rules). play_line_of g line ≡ Some a.line) x.rules a.spelled) s.0;
+      count = omega (arith, x.count, length-append x.lines (line ∷ []));
+      room = omega (arith, x.room, given.room);
+      taken = x.taken ++ bytes;
+      passed = passed_twice x.taken bytes x.passed passed;
+      first = lines_more (lines_left v) x.lines line u w x.first given;
+      rules = a.answers.rules ∙ x.rules;
+      fits = s.1;
+      gave = gave_both x.text (reply_text a.reply) x.gave a.gave;
+    }
+
+-- so many first lines were answered, and they are the whole lines of what was taken
+pub record GoingWhole (v w : LinesAhead) (begun world : WorldView) (number : ℕ) (k l : SinkView) : Type 0 where
+  pub going : Going v w begun world number k l
+  pub whole : (rest : List ℕ) → whole_lines_of (going.taken ++ rest) ≡ going.lines ++ whole_lines_of rest
+
+pub whole_first : (v : LinesAhead) (world : WorldView) (l : SinkView) → HaveOneLog world at_first → GoingWhole v v world world 0 l l
+unfolding going_first
+whole_first v world l fits = record { going = going_first v world l fits; whole = λ rest. refl }
+
+one_whole : (taken line rest : List ℕ) (lines : List (List ℕ)) → Lacks 10 line → ((more : List ℕ) → whole_lines_of (taken ++ more) ≡ lines ++ whole_lines_of more)
+    → whole_lines_of ((taken ++ (line ++ 10 ∷ [])) ++ rest) ≡ (lines ++ line ∷ []) ++ whole_lines_of rest
+one_whole taken line rest lines lacks whole =
+    ap whole_lines_of (append_assoc taken (line ++ 10 ∷ []) rest ∙ ap (λ l. taken ++ l) (append_assoc line (10 ∷ []) rest)) ∙ whole (line ++ 10 ∷ rest)
+    ∙ ap (λ ls. lines ++ ls) (whole_cut [] line rest lacks) ∙ sym (append_assoc lines (line ∷ []) (whole_lines_of rest))
+
+pub whole_more : {v u w : LinesAhead} {begun old new : WorldView} {number : ℕ} {k l m : SinkView} (line : List ℕ) → GoingWhole v u begun old number k l → Given line u w → IsWhole line u w → Answered line old new l m → GoingWhole v w begun new (number + 1) k m
+unfolding going_more
+whole_more line x given is a = record {
+  going = going_more line (line ++ 10 ∷ []) x.going given is.passed a;
+  whole = λ rest. one_whole x.going.taken line rest x.going.lines is.lacks x.whole;
+}
+
+-- bytes without an end behind what was taken
+none_more : (taken front : List ℕ) (lines : List (List ℕ)) → Lacks 10 front → ((more : List ℕ) → whole_lines_of (taken ++ more) ≡ lines ++ whole_lines_of more) → lines ≡ whole_lines_of (taken ++ front)
+none_more taken front lines lacks whole = sym (whole front ∙ ap (λ ls. lines ++ ls) (whole_lacks [] front lacks) ∙ append-nil lines)
+
+first_cases : (a b : Option (List ℕ)) (taken : List ℕ) (lines : List (List ℕ)) → length taken ≤ input_limit → a ≡ option_map (λ rest. taken ++ rest) b
+    → option_map lines_of a ≡ option_map (λ ls. lines ++ ls) (option_map lines_of b) → IfSome a (HasFirst lines)
+first_cases None b taken lines bound cut e = tt
+first_cases (Some a) None taken lines bound cut e = absurd (cc)
+first_cases (Some a) (Some b) taken lines bound cut e = record { taken = taken; rest = b; is = cc; bound = bound; lines_are = cc }
+
+-- the bytes of a line that was given, behind those that were taken before
+more_first : {v u w : LinesAhead} (taken line : List ℕ) (lines : List (List ℕ)) → v.room ≡ input_limit → Passed taken v u → Given line u w → lines_left v ≡ option_map (λ ls. lines ++ ls) (lines_left w)
+    → IfSome v.left (HasFirst lines)
+more_first {v} {u} {w} taken line lines room passed given first = elim given.passed [
+  | inl p ↦ (let both = passed_twice taken line passed p in first_cases v.left w.left (taken ++ line) lines (omega (arith, both.room, room)) both.left first)
+  | inr p ↦ (let both = passed_twice taken (line ++ 10 ∷ []) passed p in first_cases v.left w.left (taken ++ (line ++ 10 ∷ [])) lines (omega (arith, both.room, room)) both.left first)
+]
+
+begun_of : {v w : LinesAhead} {begun world : WorldView} {number : ℕ} {k l : SinkView} (x : Going v w begun world number k l) (last text : List ℕ) → v.room ≡ input_limit → text ≡ x.text ++ last
+    → Begun (rules_of begun) (outside v) last text
+begun_of {v} {w} {begun} x last text room e = record {
+  lines = x.lines;
+  first = first_cases v.left w.left x.taken x.lines (omega (arith, x.passed.room, room)) x.passed.left x.first;
+  answers = x.text;
+  replied = replied_of (rules_of begun) x.lines x.text x.state x.so_far;
+  is = e;
+}
+
+-- ---- Endings
+
+abbrev Long : ℕ → List (List ℕ) → List ℕ → Type 0
+Long all lines input = (all < length input) × (whole_lines_of (take all input) ≡ lines)
+
+first_of_long : (taken b : List ℕ) (room all : ℕ) → all ≡ room + length taken → take all (taken ++ b) ≡ taken ++ take room b
+first_of_long taken b room all e = let f : all ≡ length taken + room = omega (arith, e) in ap (λ n. take n (taken ++ b)) f ∙ take-append-add taken b room
+
+too_long : (taken : List ℕ) (lines : List (List ℕ)) (a b : Option (List ℕ)) (room all : ℕ) → ((more : List ℕ) → whole_lines_of (taken ++ more) ≡ lines ++ whole_lines_of more) → a ≡ option_map (λ rest. taken ++ rest) b → all ≡ room + length taken
+    → IfSome b (λ left. (room < length left) × Lacks 10 (take room left)) → IfSome a (Long all lines)
+too_long taken lines a None room all whole e f over = subst (λ (o : Option (List ℕ)). IfSome o (Long all lines)) (sym e) tt
+too_long taken lines a (Some b) room all whole e f over = subst (λ (o : Option (List ℕ)). IfSome o (Long all lines)) (sym e) (
+  omega (arith, length-append taken b, over.0),
+  ap whole_lines_of (first_of_long taken b room all f) ∙ sym (none_more taken (take room b) lines over.1 whole),
+)
+
+all_of_left : (a : Option (List ℕ)) (held : List ℕ) → held ≡ [] → option_map (λ rest. held ++ rest) a ≡ a
+all_of_left None held e = refl
+all_of_left (Some a) held e = ap (λ h. Some (h ++ a)) e
+
+-- the source failed behind whole lines
+stopped_of : {v u : LinesAhead} {begun world : WorldView} {number : ℕ} {k l : SinkView} (t : SourceView) (j : IntakeView) (last : List ℕ) (x : GoingWhole v u begun world number k l) → v.room ≡ input_limit → GivenUp u (lines_ahead t j) j.held
+    → Stopped (rules_of begun) (outside v) t last (x.going.text ++ last)
+stopped_of {v} {u} {begun} t j last x room up = let both = passed_twice x.going.taken up.front x.going.passed up.passed in record {
+  taken = x.going.taken ++ up.front;
+  bound = omega (arith, both.room, room);
+  read = both.left ∙ ap (option_map (λ rest. (x.going.taken ++ up.front) ++ rest)) (all_of_left t.left j.held up.none);
+  answers = x.going.text;
+  replied = subst (λ (ls : List (List ℕ)). Replied (rules_of begun) ls x.going.text) (none_more x.going.taken up.front x.going.lines up.lacks x.whole) (replied_of (rules_of begun) x.going.lines x.going.text x.going.state x.going.so_far);
+  is = refl;
+}
+
+-- the next line is not there
+pub ended_at_source : {v u : LinesAhead} {begun world : WorldView} {number : ℕ} {k l : SinkView} (t : SourceView) (j : IntakeView) (e : LineError) → GoingWhole v u begun world number k l → v.room ≡ input_limit → (e ≡ Failed → Rose u.faults t.faults)
+    → (e ≡ Failed → GivenUp u (lines_ahead t j) j.held) → ((limit : ℕ) → e ≡ Input limit → IsOver u) → Runs {A = Unit {0}} (rules_of begun) (Err (ending_of e)) (outside v) t k l
+ended_at_source {v} {u} t j Failed x room rose up over = record {
+  text = x.going.text;
+  begun = begun_of x.going [] x.going.text room (sym (append-nil x.going.text));
+  writes = (rose_before v.faults u.faults t.faults x.going.passed.stays.faults (rose refl), stopped_of t j (error_text errors.Source) x room (up refl));
+  gave = x.going.gave;
+}
+ended_at_source {v} {u} {begun} t j (Input limit) x room rose up over = record {
+  text = x.going.text;
+  begun = begun_of x.going [] x.going.text room (sym (append-nil x.going.text));
+  writes = inr (record {
+    lines = x.going.lines;
+    long = too_long x.going.taken x.going.lines v.left u.left u.room input_limit x.whole x.going.passed.left (sym room ∙ x.going.passed.room) (over limit refl);
+    answers = x.going.text;
+    replied = replied_of (rules_of begun) x.going.lines x.going.text x.going.state x.going.so_far;
+    is = refl;
+  });
+  gave = x.going.gave;
+}
+ended_at_source t j OutOfMemory x room rose up over = record {
+  text = x.going.text;
+  begun = begun_of x.going [] x.going.text room (sym (append-nil x.going.text));
+  writes = begun_of x.going (error_text errors.Memory) (x.going.text ++ error_text errors.Memory) room refl;
+  gave = x.going.gave;
+}
+
+-- the next line is given no reply, or its reply is not written
+pub ended_at_line : {v u w : LinesAhead} {begun world : WorldView} {number : ℕ} {k l : SinkView} (t : SourceView) (m : SinkView) (line : List ℕ) (e : Ending) → v.room ≡ input_limit → Going v u begun world number k l → Given line u w → EndsAt line (number + 1) world l m e
+    → Runs {A = Unit {0}} (rules_of begun) (Err e) (outside v) t k m
+ended_at_line {v} {u} {w} {begun} {world} {number} {k} {l} t m line (endings.Line n) room x given h = record {
+  text = x.text;
+  begun = begun_of x [] x.text room (sym (append-nil x.text));
+  writes = inl (record {
+    lines = x.lines;
+    line = line;
+    first = more_first x.taken line (x.lines ++ line ∷ []) room x.passed given (lines_more (lines_left v) x.lines line u w x.first given);
+    outside = subst (λ (g : Rules). play_line_of g line ≡ None) x.rules h.1;
+    answers = x.text;
+    replied = replied_of (rules_of begun) x.lines x.text x.state x.so_far;
+    is = ap (λ i. x.text ++ error_text (errors.Line i)) (h.0 ∙ ap (λ i. i + 1) x.count);
+  });
+  gave = subst (λ (s : SinkView). Gave x.text k s) (sym h.2) x.gave;
+}
+ended_at_line t m line endings.Input room x given h = absurd h
+ended_at_line t m line endings.Source room x given h = absurd h
+ended_at_line {v} {u} {w} {begun} {world} {number} {k} {l} t m line endings.Sink room x given h =
+    let s = stepped begun world h.new x.state h.line h.reply x.rules x.fits h.answers in record {
+      rose = rose_before k.faults l.faults m.faults x.gave.faults h.rose;
+      status = statuses.Sink;
+      text = x.text ++ reply_text h.reply;
+      writes = record {
+        lines = x.lines ++ line ∷ [];
+        first = more_first x.taken line (x.lines ++ line ∷ []) room x.passed given (lines_more (lines_left v) x.lines line u w x.first given);
+        answers = x.text ++ reply_text h.reply;
+        replied = replied_of (rules_of begun) (x.lines ++ line ∷ []) (x.text ++ reply_text h.reply) (next_state (rules_of begun) x.state h.line h.reply)
+            (more_so_far (rules_of begun) x.lines x.text x.state line h.line h.reply x.so_far (subst (λ (g : Rules). play_line_of g line ≡ Some h.line) x.rules h.spelled) s.0);
+        is = sym (append-nil (x.text ++ reply_text h.reply));
+      };
+      gave = gave_then_some x.text (reply_text h.reply) x.gave h.gave;
+    }
+ended_at_line {k = k} t m line endings.Memory room x given h = record {
+  text = x.text;
+  begun = begun_of x [] x.text room (sym (append-nil x.text));
+  writes = begun_of x (error_text errors.Memory) (x.text ++ error_text errors.Memory) room refl;
+  gave = subst (λ (s : SinkView). Gave x.text k s) (sym h) x.gave;
+}
+
+all_cases : (a : Option (List ℕ)) (lines : List (List ℕ)) → IfSome (option_map lines_of a) (λ ls. ls ≡ lines) → IfSome a (λ input. lines_of input ≡ lines)
+all_cases None lines h = tt
+all_cases (Some a) lines h = h
+
+empty_behind : (held rest : List ℕ) → held ++ rest ≡ [] → rest ≡ []
+empty_behind [] rest e = e
+empty_behind (b ∷ held) rest e = absurd (cc)
+
+none_behind : (a : Option (List ℕ)) (held : List ℕ) → IfSome (option_map (λ rest. held ++ rest) a) (λ rest. rest ≡ []) → IfSome a (λ rest. rest ≡ [])
+none_behind None held h = tt
+none_behind (Some a) held h = empty_behind held a h
+
+-- where nothing is left all that there was was taken
+all_taken : (a b : Option (List ℕ)) (taken : List ℕ) → a ≡ option_map (λ rest. taken ++ rest) b → IfSome b (λ rest. rest ≡ []) → length taken ≤ input_limit → IfSome a (λ input. length input ≤ input_limit)
+all_taken None b taken e none bound = tt
+all_taken (Some a) None taken e none bound = absurd (cc)
+all_taken (Some a) (Some b) taken e none bound =
+    let is : a ≡ taken ++ b = cc in
+    let same : length a ≡ length taken = ap length is ∙ ap (λ rest. length (taken ++ rest)) none ∙ ap length (append-nil taken) in
+    omega (arith, same, bound)
+
+-- no line is left
+pub ended_whole : {v u : LinesAhead} {begun world : WorldView} {number : ℕ} {k l : SinkView} (t : SourceView) (j : IntakeView) → v.room ≡ input_limit → Going v u begun world number k l → Ended u (lines_ahead t j) → Finished (rules_of begun) statuses.Done (outside v) t k l
+ended_whole {v} {u} {begun} t j room x e = record {
+  text = x.text;
+  writes = record {
+    bound = all_taken v.left u.left x.taken x.passed.left e.before (omega (arith, x.passed.room, room));
+    lines = x.lines;
+    all = all_cases v.left x.lines (lines_done (lines_left v) x.lines u (lines_ahead t j) x.first e);
+    read = none_behind t.left j.held e.now;
+    replied = replied_of (rules_of begun) x.lines x.text x.state x.so_far;
+  };
+  gave = x.gave;
+}
+
+-- the last line was answered
+last_more : {v u w : LinesAhead} {begun old new : WorldView} {number : ℕ} {k l m : SinkView} (line : List ℕ) → Going v u begun old number k l → Given line u w → Passed line u w ⊎ Passed (line ++ 10 ∷ []) u w → Answered line old new l m → Going v w begun new (number + 1) k m
+last_more line x given (inl p) a = going_more line line x given p a
+last_more line x given (inr p) a = going_more line (line ++ 10 ∷ []) x given p a
+
+-- the last line, which no end follows, is answered, or the script ends at it
+pub ended_at_last : {v u : LinesAhead} {begun old : WorldView} {number : ℕ} {k l : SinkView} (new : WorldView) (t : SourceView) (j : IntakeView) (m : SinkView) (line : text_lines.TextLine) (r : Result (Unit {0}) Ending) → v.room ≡ input_limit → Going v u begun old number k l
+    → (bytes : List ℕ) × IsLine line bytes × Given bytes u (lines_ahead t j) × IfSome (lines_ahead t j).left (λ left. left ≡ [])
+    → OnOk r ((bytes : List ℕ) → IsLine line bytes → Answered bytes old new l m) → IfErr r (λ e. (bytes : List ℕ) → IsLine line bytes → EndsAt bytes (number + 1) old l m e) → Runs (rules_of begun) r (outside v) t k m
+ended_at_last new t j m line (Ok a) room x given answered ended =
+    ended_whole t j room (last_more given.0 x given.2 given.2.passed (answered given.0 given.1)) (record { before = given.3; now = given.3 })
+ended_at_last new t j m line (Err e) room x given answered ended = ended_at_line t m given.0 e room x given.2 (ended given.0 given.1)
+
+-- ---- The lines of a source
+
+-- nothing is held at first
+starts : (s : SourceView) (i : IntakeView) → i.held ≡ [] → outside (lines_ahead s i) ≡ s
+starts s i e = ap (λ o. record s { left = o }) (all_of_left s.left i.held e)
+
+-- from the lines to the source, which is given back
+pub runs_of : (g : Rules) (r : Result (Unit {0}) Ending) (a s b t : SourceView) (i : IntakeView) (k l : SinkView) → Runs g r (outside (lines_ahead a i)) b k l → i.held ≡ [] → a ≡ s → b ≡ t → Runs g r s t k l
+runs_of g r a s b t i k l h none same given =
+    subst (λ (x : SourceView). Runs g r x t k l) same
+    (subst (λ (y : SourceView). Runs g r a y k l) given
+    (subst (λ (x : SourceView). Runs g r x b k l) (starts a i none) h))
+
+pub same_source_of : {a s b t : SourceView} → SameSource a b → a ≡ s → b ≡ t → SameSource s t
+same_source_of {a} {s} {b} {t} h same given = subst (λ (x : SourceView). SameSource x t) same (subst (λ (y : SourceView). SameSource a y) given h)

@@ -1,0 +1,45 @@
+use Rattle.std.proofs.Common.{rules}
+use Rattle.h5w_commands.proofs.CompleteLemmas.{does_whole}
+use Rattle.h5w_commands.proofs.plain.plain.Goals as goal
+
+pub returns-in-Play-clause-does : goal.returns-in-Play-clause-does
+returns-in-Play-clause-does g c = search rules
+
+pub returns-in-New-clause-does : goal.returns-in-New-clause-does
+returns-in-New-clause-does g c = search rules
+
+pub returns-in-Check-clause-does : goal.returns-in-Check-clause-does
+returns-in-Check-clause-does g c = search rules
+
+pub returns-in-Poll-clause-does : goal.returns-in-Poll-clause-does
+returns-in-Poll-clause-does g c = search rules
+
+pub returns-in-Clear-clause-does : goal.returns-in-Clear-clause-does
+returns-in-Clear-clause-does g c = search rules
+
+pub returns-in-Make-clause-does : goal.returns-in-Make-clause-does
+returns-in-Make-clause-does g c = search rules
+
+pub returns-in-Append-clause-does : goal.returns-in-Append-clause-does
+returns-in-Append-clause-does g c = search rules
+
+pub returns-in-Play-clause-completes : goal.returns-in-Play-clause-completes
+returns-in-Play-clause-completes g c = does_whole _ _ _ _ _ _ _ _ (returns-in-Play-clause-does g c)
+
+pub returns-in-New-clause-completes : goal.returns-in-New-clause-completes
+returns-in-New-clause-completes g c = does_whole _ _ _ _ _ _ _ _ (returns-in-New-clause-does g c)
+
+pub returns-in-Check-clause-completes : goal.returns-in-Check-clause-completes
+returns-in-Check-clause-completes g c = does_whole _ _ _ _ _ _ _ _ (returns-in-Check-clause-does g c)
+
+pub returns-in-Poll-clause-completes : goal.returns-in-Poll-clause-completes
+returns-in-Poll-clause-completes g c = does_whole _ _ _ _ _ _ _ _ (returns-in-Poll-clause-does g c)
+
+pub returns-in-Clear-clause-completes : goal.returns-in-Clear-clause-completes
+returns-in-Clear-clause-completes g c = does_whole _ _ _ _ _ _ _ _ (returns-in-Clear-clause-does g c)
+
+pub returns-in-Make-clause-completes : goal.returns-in-Make-clause-completes
+returns-in-Make-clause-completes g c = does_whole _ _ _ _ _ _ _ _ (returns-in-Make-clause-does g c)
+
+pub returns-in-Append-clause-completes : goal.returns-in-Append-clause-completes
+returns-in-Append-clause-completes g c = does_whole _ _ _ _ _ _ _ _ (returns-in-Append-clause-does g c)

@@ -1,0 +1,33 @@
+use Rattle.std.proofs.Common.{refl}
+use Rattle.h5w_text.specs.Errors.{error_text}
+use Rattle.h5w_text.specs.declared.error.ErrorLine.TheVariants as errors
+use Rattle.h5w_core.specs.Worlds.{rules_for}
+use Rattle.h5w_batches.specs.Inputs.{input_limit}
+use Rattle.h5w_commands.specs.declared.ending.Ending.TheVariants as endings
+use Rattle.h5w_text.specs.declared.status.Status.TheVariants as statuses
+use Rattle.h5w_commands.proofs.TellLemmas.{ends, runs_at}
+use Rattle.h5w_commands.proofs.play.play.Goals as goal
+
+pub returns-in-Err-Line-clause-plays : goal.returns-in-Err-Line-clause-plays
+returns-in-Err-Line-clause-plays g c =
+    ends (rules_for c.args.options.now c.args.attempts) statuses.Input c.tell.result (error_text (errors.Line c.in-Err-Line.number)) (g.S.Source.view c.args.source.now) (g.S.Source.view c.played.new.source)
+    (g.K.Sink.view c.args.sink.now) (g.K.Sink.view c.played.new.sink) (g.K.Sink.view c.tell.new.sink) (λ e. cc)
+    (runs_at (rules_for c.args.options.now c.args.attempts) (rules_for c.args.options.now c.args.attempts) c.in-Err-Line.field-0 (endings.Line c.in-Err-Line.number) _ _ _ _ refl c.in-Err-Line.field-0-is c.in-Err-Line.ensures.runs) c.tell.ensures
+
+pub returns-in-Err-Input-clause-plays : goal.returns-in-Err-Input-clause-plays
+returns-in-Err-Input-clause-plays g c =
+    ends (rules_for c.args.options.now c.args.attempts) statuses.Input c.tell-in-Err-Input.result (error_text (errors.Input input_limit)) (g.S.Source.view c.args.source.now) (g.S.Source.view c.played.new.source)
+    (g.K.Sink.view c.args.sink.now) (g.K.Sink.view c.played.new.sink) (g.K.Sink.view c.tell-in-Err-Input.new.sink) (λ e. cc)
+    (runs_at (rules_for c.args.options.now c.args.attempts) (rules_for c.args.options.now c.args.attempts) c.in-Err-Input.field-0 endings.Input _ _ _ _ refl c.in-Err-Input.field-0-is c.in-Err-Input.ensures.runs) c.tell-in-Err-Input.ensures
+
+pub returns-in-Err-Source-clause-plays : goal.returns-in-Err-Source-clause-plays
+returns-in-Err-Source-clause-plays g c =
+    ends (rules_for c.args.options.now c.args.attempts) statuses.Source c.tell-in-Err-Source.result (error_text errors.Source) (g.S.Source.view c.args.source.now) (g.S.Source.view c.played.new.source)
+    (g.K.Sink.view c.args.sink.now) (g.K.Sink.view c.played.new.sink) (g.K.Sink.view c.tell-in-Err-Source.new.sink) (λ e. cc)
+    (runs_at (rules_for c.args.options.now c.args.attempts) (rules_for c.args.options.now c.args.attempts) c.in-Err-Source.field-0 endings.Source _ _ _ _ refl c.in-Err-Source.field-0-is c.in-Err-Source.ensures.runs) c.tell-in-Err-Source.ensures
+
+pub returns-in-Err-Memory-clause-plays : goal.returns-in-Err-Memory-clause-plays
+returns-in-Err-Memory-clause-plays g c =
+    ends (rules_for c.args.options.now c.args.attempts) statuses.Memory c.tell-in-Err-Memory.result (error_text errors.Memory) (g.S.Source.view c.args.source.now) (g.S.Source.view c.played.new.source)
+    (g.K.Sink.view c.args.sink.now) (g.K.Sink.view c.played.new.sink) (g.K.Sink.view c.tell-in-Err-Memory.new.sink) (λ e. cc)
+    (runs_at (rules_for c.args.options.now c.args.attempts) (rules_for c.args.options.now c.args.attempts) c.in-Err-Memory.field-0 endings.Memory _ _ _ _ refl c.in-Err-Memory.field-0-is c.in-Err-Memory.ensures.runs) c.tell-in-Err-Memory.ensures

@@ -1,0 +1,78 @@
+-- What a run of the program leaves, by its words.
+use Rattle.std.specs.Prelude.{◌≡◌, Option, Some, None}
+use Rattle.h5w_image.specs.View.{DiskView}
+use Rattle.h5w_reader.specs.Readers.{reader_rules}
+use Rattle.h5w_text.specs.Streams.{SourceView, SinkView}
+use Rattle.h5w_text.specs.Errors.{error_text}
+use Rattle.h5w_text.specs.Says.{SaidUnlessMemory}
+use Rattle.h5w_text.specs.declared.error.ErrorLine.TheVariants as errors
+use Rattle.h5w_text.specs.declared.status.Status.{Status}
+use Rattle.h5w_text.specs.declared.status.Status.TheVariants as statuses
+use Rattle.h5w_files.specs.Ends.{EndsWell}
+use Rattle.h5w_files.specs.Appends.{AppendEnds}
+use Rattle.h5w_files.specs.Creates.{CreateEnds, end_of}
+use Rattle.h5w_files.specs.Checks.{CheckEnds, check_of}
+use Rattle.h5w_files.specs.Polls.{PollEnds, poll_of}
+use Rattle.h5w_files.specs.Clears.{ClearEnds, flags_of}
+use Rattle.h5w_session.specs.Creations.{new_file}
+use Rattle.h5w_core.specs.Worlds.{rules_for}
+use Rattle.h5w_words.specs.declared.job.Job.{Job}
+use Rattle.h5w_words.specs.declared.job.Job.TheVariants.{Play, New, Check, Poll, Clear, Make, Append, Live}
+use Rattle.h5w_running.specs.Runs.{asked_by}
+use Rattle.h5w_running.specs.Ends.{LiveEnds, LiveEndsWell}
+use Rattle.h5w_running.specs.declared.ended.Ended.{Ended}
+use Rattle.h5w_running.specs.declared.ended.Ended.TheVariants as ends
+use Rattle.h5w_commands.specs.Plays.{Completes, Plays}
+use Rattle.h5w_commands.specs.Makes.{MakeEnds, MakeEndsWell}
+use Rattle.h5w_commands.specs.Appending.{AppendEndsWell}
+
+-- the job waits for nobody
+abbrev pub IsPlain : Job → Type 0
+IsPlain (Live options readers polls attempts) = ⊥
+IsPlain job = Unit {0}
+
+-- What a job that waits for nobody leaves of source, sink and disk. A script leaves the disk as it is, of the commands on files an append alone reads, and the
+-- making of a file in memory leaves both.
+abbrev pub Does : Job → Status → SourceView → SourceView → SinkView → SinkView → DiskView → DiskView → Type 0
+Does (Play options attempts) status s t k l v w = Plays (rules_for options attempts) status s t k l × (w ≡ v)
+Does (New file options) status s t k l v w = (t ≡ s) × CreateEnds file options v w status k l
+Does (Check file name) status s t k l v w = (t ≡ s) × CheckEnds file name v w status k l
+Does (Poll file name times attempts values) status s t k l v w = (t ≡ s) × PollEnds file name times attempts values v w status k l
+Does (Clear file) status s t k l v w = (t ≡ s) × ClearEnds file v w status k l
+Does (Make count seed) status s t k l v w = (t ≡ s) × (w ≡ v) × MakeEnds count seed status k l
+Does (Append file name limit keeps) status s t k l v w = AppendEnds file name limit keeps s t v w status k l
+Does (Live options readers polls attempts) status s t k l v w = ⊥
+
+-- the words are outside the command set: nothing is read, no file is looked at, and that is said
+pub record Refuses (status : Status) (s t : SourceView) (k l : SinkView) (v w : DiskView) : Type 0 where
+  pub unread : t ≡ s
+  pub disk : w ≡ v
+  pub told : SaidUnlessMemory (error_text errors.Usage) statuses.Usage status k l
+
+-- it ended with a status
+abbrev pub EndsWith : (Status → Type 0) → Ended → Type 0
+EndsWith Leaves (ends.With status) = Leaves status
+EndsWith Leaves (ends.Image worn) = ⊥
+
+-- What a run leaves, by the job of its words. One in threads leaves the disk as it is.
+abbrev pub Ran : Option Job → Ended → SourceView → SourceView → SinkView → SinkView → DiskView → DiskView → Type 0
+Ran None ended s t k l v w = EndsWith (λ status. Refuses status s t k l v w) ended
+Ran (Some (Live options readers polls attempts)) ended s t k l v w = LiveEnds (asked_by options readers polls attempts) ended s t k l × (w ≡ v)
+Ran (Some job) ended s t k l v w = EndsWith (λ status. Does job status s t k l v w) ended
+
+-- a job is done, or memory is wanted, where nothing else stands in its way; the file of an append may have no place
+abbrev pub DoesWhole : Job → Status → SourceView → SourceView → SinkView → SinkView → DiskView → DiskView → Type 0
+DoesWhole (Play options attempts) status s t k l v w = Completes (rules_for options attempts) status s t k l
+DoesWhole (New file options) status s t k l v w = EndsWell (end_of (new_file options)) file v w status k l
+DoesWhole (Check file name) status s t k l v w = EndsWell (check_of name) file v w status k l
+DoesWhole (Poll file name times attempts values) status s t k l v w = EndsWell (poll_of (reader_rules name attempts) values) file v w status k l
+DoesWhole (Clear file) status s t k l v w = EndsWell flags_of file v w status k l
+DoesWhole (Make count seed) status s t k l v w = MakeEndsWell status k l
+DoesWhole (Append file name limit keeps) status s t k l v w = AppendEndsWell file name status s t k l v w
+DoesWhole (Live options readers polls attempts) status s t k l v w = ⊥
+
+-- the same of the job that words of the command set have
+abbrev pub RanWhole : Option Job → Ended → SourceView → SourceView → SinkView → SinkView → DiskView → DiskView → Type 0
+RanWhole None ended s t k l v w = Unit {0}
+RanWhole (Some (Live options readers polls attempts)) ended s t k l v w = LiveEndsWell (asked_by options readers polls attempts) ended s t k l
+RanWhole (Some job) ended s t k l v w = EndsWith (λ status. DoesWhole job status s t k l v w) ended

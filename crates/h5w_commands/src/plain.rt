@@ -1,0 +1,68 @@
+//! The commands that wait for nobody.
+ghost use Rattle.h5w_batches.specs.Inputs.{SameSource};
+ghost use Rattle.h5w_commands.specs.Runs.{Does, DoesWhole, IsPlain};
+ghost use Rattle.h5w_words.specs.Limits.{IsWithinLimits};
+
+use crate::make::make;
+use crate::play::play;
+use h5w_files::{append, check, clear, create, poll};
+use h5w_image::Disk;
+use h5w_text::{Sink, Source, Status};
+use h5w_words::Job;
+use std::alloc::Global;
+
+/// Does a job that waits for nobody, and answers the status with which it ends: input comes from the source, text goes to the sink, files
+/// are those of the disk. Whatever these answer, it returns.
+pub fn plain<S: Source, K: Sink, D: Disk>(
+    alloc: Global,
+    job: &Job,
+    source: &mut S,
+    sink: &mut K,
+    disk: &mut D,
+) -> Status
+    requires limits { IsWithinLimits job.now }
+    requires waits { IsPlain job.now }
+    ensures does { Does job.now result (S.view source.old) (S.view source.new) (K.view sink.old) (K.view sink.new) (D.view disk.old) (D.view disk.new) }
+    ensures completes { DoesWhole job.now result (S.view source.old) (S.view source.new) (K.view sink.old) (K.view sink.new) (D.view disk.old) (D.view disk.new) }
+    ensures source { SameSource (S.view source.old) (S.view source.new) }
+{
+    match job {
+        Job::Play { options, attempts } => play(alloc, options, *attempts, source, sink),
+        Job::New { file, options } => create(alloc, file.as_str(), options, sink, disk),
+        Job::Check { file, name } => check(alloc, file.as_str(), name.as_slice(), sink, disk),
+        Job::Poll {
+            file,
+            name,
+            times,
+            attempts,
+            values,
+        } => poll(
+            alloc,
+            file.as_str(),
+            name.as_slice(),
+            *times,
+            *attempts,
+            *values,
+            sink,
+            disk,
+        ),
+        Job::Clear { file } => clear(alloc, file.as_str(), sink, disk),
+        Job::Make { count, seed } => make(alloc, *count, *seed, sink),
+        Job::Append {
+            file,
+            name,
+            limit,
+            keeps,
+        } => append(
+            alloc,
+            file.as_str(),
+            name.as_slice(),
+            *limit,
+            *keeps,
+            source,
+            sink,
+            disk,
+        ),
+        Job::Live { .. } => unreachable!(),
+    }
+}

@@ -1,0 +1,47 @@
+//! The whole program, over what it is handed.
+ghost use Rattle.std.specs.Prelude.{map, string_bytes};
+ghost use Rattle.h5w_words.specs.Commands.{job_of};
+ghost use Rattle.h5w_batches.specs.Inputs.{SameSource};
+ghost use Rattle.h5w_commands.specs.Runs.{Ran, RanWhole};
+
+use crate::plain::plain;
+use h5w_image::{Disk, Gate};
+use h5w_running::{Ended, run_live};
+use h5w_text::{Sink, Source, Status, say};
+use h5w_words::{Job, WordsError, read_words};
+use std::alloc::Global;
+use std::sync::Wait;
+use std::thread::Threads;
+
+/// Does the job that the words ask for, the first of which is the program's name, and answers how it ended. Input comes from the source,
+/// text goes to the sink, files are those of the disk, and threads pass the gate at each of their turns. To words outside the command set
+/// it says `error usage`.
+pub fn run<R: Threads + Wait + Sync, S: Source, K: Sink, D: Disk, G: Gate>(
+    rt: &R,
+    alloc: Global,
+    words: &[String],
+    source: &mut S,
+    sink: &mut K,
+    disk: &mut D,
+    gate: &G,
+) -> Ended
+    ensures ran { Ran (job_of (map string_bytes words.now)) result (S.view source.old) (S.view source.new) (K.view sink.old) (K.view sink.new) (D.view disk.old) (D.view disk.new) }
+    ensures completes { RanWhole (job_of (map string_bytes words.now)) result (S.view source.old) (S.view source.new) (K.view sink.old) (K.view sink.new) (D.view disk.old) (D.view disk.new) }
+    ensures source { SameSource (S.view source.old) (S.view source.new) }
+{
+    match read_words(alloc, words) {
+        Ok(
+            Job::Live {
+                options,
+                readers,
+                polls,
+                attempts,
+            },
+        ) => run_live(
+            rt, alloc, &options, readers, polls, attempts, source, sink, gate,
+        ),
+        Ok(job) => Ended::With(plain(alloc, &job, source, sink, disk)),
+        Err(WordsError::Usage) => Ended::With(say(b"error usage\n", Status::Usage, sink)),
+        Err(WordsError::OutOfMemory) => Ended::With(say(b"error memory\n", Status::Memory, sink)),
+    }
+}

@@ -1,0 +1,119 @@
+-- What comes of readers, one behind another.
+use Rattle.std.proofs.Common.{◌≡◌, ℕ, zero, suc, ◌+◌, ◌*◌, ◌<◌, List, [], ◌∷◌, ◌++◌, length, take, Result, Ok, Err, sym, refl, ap, ◌∙◌, subst, arith, length-append}
+use Rattle.std.specs.Prelude.{All, IfOk, drop, get_or}
+use Rattle.h5w_model.specs.Unfinished.{ReaderRules}
+use Rattle.h5w_model.specs.declared.piece.Write.{Write}
+use Rattle.h5w_model.specs.declared.report.PollLine.{PollLine}
+use Rattle.h5w_shared.specs.Seats.{ImageId, NoteView, SeatView}
+use Rattle.h5w_live_reading.specs.Ends.{EndWith, EndsWith, ReaderEnds, ReadersEnd, StraysWith}
+use Rattle.h5w_live_reading.specs.Reading.{Polled}
+use Rattle.h5w_live_reading.specs.declared.actors.AllEnded.{AllEnded}
+use Rattle.h5w_live_reading.specs.declared.actors.Cut.{Cut}
+use Rattle.h5w_live_reading.specs.declared.actors.Cut.TheVariants as cuts
+use Rattle.h5w_live_reading.specs.declared.actors.Ended.{Ended}
+use Rattle.h5w_live_reading.proofs.PartLemmas.{parts_more}
+
+get_front : {A : Type 0} (xs : List A) (x d : A) (k : ℕ) → k < length xs → get_or (xs ++ x ∷ []) k d ≡ get_or xs k d
+get_front [] x d k less = absurd (omega (arith, less))
+get_front (y ∷ ys) x d zero less = refl
+get_front (y ∷ ys) x d (suc k) less = get_front ys x d k (omega (arith, less))
+
+get_last : {A : Type 0} (xs : List A) (x d : A) (k : ℕ) → length xs ≡ k → get_or (xs ++ x ∷ []) k d ≡ x
+get_last [] x d zero count = refl
+get_last [] x d (suc k) count = absurd (omega (arith, count))
+get_last (y ∷ ys) x d zero count = absurd (omega (arith, count))
+get_last (y ∷ ys) x d (suc k) count = get_last ys x d k (omega (arith, count))
+
+-- no reader
+pub end_none : (g : ReaderRules) (i : ImageId) (calls : ℕ) (seen : List Write) (notes : List NoteView) (lines : List PollLine) → notes ≡ [] → lines ≡ [] → EndWith g i calls 0 seen notes lines
+end_none g i calls seen notes lines none empty = record {
+  notes_count = ap length none;
+  lines_count = omega (arith, ap length empty);
+  each = λ k d less. absurd (omega (arith, less));
+}
+
+-- one reader more
+pub end_more : (g : ReaderRules) (i : ImageId) (calls readers : ℕ) (seen : List Write) (notes : List NoteView) (lines more : List PollLine) (note : NoteView) → EndWith g i calls readers seen notes lines
+    → length more ≡ calls → EndsWith g i (readers + 1) seen note more → EndWith g i calls (readers + 1) seen (notes ++ note ∷ []) (lines ++ more)
+end_more g i calls readers seen notes lines more note h count ends = record {
+  notes_count = omega (arith, h.notes_count, length-append notes (note ∷ []));
+  lines_count = omega (arith, h.lines_count, length-append lines more, count);
+  each = λ k d less.
+      parts_more (λ j ls. EndsWith g i (j + 1) seen (get_or (notes ++ note ∷ []) j d) ls) calls readers lines more h.lines_count count
+      (λ j below. subst (λ (n : NoteView). EndsWith g i (j + 1) seen n (take calls (drop (j * calls) lines))) (sym (get_front notes note d j (omega (arith, below, h.notes_count)))) (h.each j d below))
+      (subst (λ (n : NoteView). EndsWith g i (readers + 1) seen n more) (sym (get_last notes note d readers h.notes_count)) ends)
+      k less;
+}
+
+-- ---- Outcomes
+
+ok_is : {A E : Type 0} (a b : A) → ◌≡◌ {A = Result A E} (Ok a) (Ok b) → a ≡ b
+ok_is a b e = cc
+
+err_is : {A E : Type 0} (a b : E) → ◌≡◌ {A = Result A E} (Err a) (Err b) → a ≡ b
+err_is a b e = cc
+
+pub ends_ok : (g : ReaderRules) (i : ImageId) (calls reader : ℕ) (seen : List Write) (e : Ended) → length e.lines.items ≡ calls → e.note.image ≡ i → Polled g i.start reader seen e.note.seen e.lines.items
+    → ReaderEnds g i calls reader seen (Ok e)
+ends_ok g i calls reader seen e count image polled = record {
+  count = count;
+  ends = record { image = image; polled = polled };
+  stray = λ note same. absurd cc;
+}
+
+pub ends_err : (g : ReaderRules) (i : ImageId) (calls reader : ℕ) (seen : List Write) (e : Cut) → ((note : NoteView) → e ≡ cuts.Stray note → StraysWith g i seen note) → ReaderEnds g i calls reader seen (Err e)
+ends_err g i calls reader seen e h = record { count = tt; ends = tt; stray = λ note same. h note (err_is e (cuts.Stray note) same) }
+
+pub all_ok : (g : ReaderRules) (i : ImageId) (calls readers : ℕ) (seen : List Write) (e : AllEnded) → EndWith g i calls readers seen e.notes.items e.lines.items → ReadersEnd g i calls readers seen (Ok e)
+all_ok g i calls readers seen e h = record { end = h; stray = λ note same. absurd cc }
+
+pub all_err : (g : ReaderRules) (i : ImageId) (calls readers : ℕ) (seen : List Write) (e : Cut) → ((note : NoteView) → e ≡ cuts.Stray note → StraysWith g i seen note) → ReadersEnd g i calls readers seen (Err e)
+all_err g i calls readers seen e h = record { end = tt; stray = λ note same. h note (err_is e (cuts.Stray note) same) }
+
+-- memory was wanting
+pub all_lost : (g : ReaderRules) (i : ImageId) (calls readers : ℕ) (seen : List Write) → ReadersEnd g i calls readers seen (Err cuts.OutOfMemory)
+all_lost g i calls readers seen = all_err g i calls readers seen cuts.OutOfMemory (λ note same. absurd cc)
+
+-- what came of the readers before is handed on
+pub err_before : (g : ReaderRules) (i : ImageId) (calls readers : ℕ) (seen : List Write) (before : Result AllEnded Cut) (e : Cut) → before ≡ Err e → ReadersEnd g i calls readers seen before
+    → ReadersEnd g i calls (readers + 1) seen (Err e)
+err_before g i calls readers seen before e is h = all_err g i calls (readers + 1) seen e (λ note same. h.stray note (is ∙ ap Err same))
+
+pub err_last : (g : ReaderRules) (i : ImageId) (calls readers : ℕ) (seen : List Write) (last : Result Ended Cut) (e : Cut) → last ≡ Err e → ReaderEnds g i calls (readers + 1) seen last
+    → ReadersEnd g i calls (readers + 1) seen (Err e)
+err_last g i calls readers seen last e is h = all_err g i calls (readers + 1) seen e (λ note same. h.stray note (is ∙ ap Err same))
+
+pub ok_both : (g : ReaderRules) (i : ImageId) (calls readers : ℕ) (seen : List Write) (before : Result AllEnded Cut) (last : Result Ended Cut) (all : AllEnded) (one : Ended) (new : AllEnded) → before ≡ Ok all → last ≡ Ok one
+    → new.lines.items ≡ all.lines.items ++ one.lines.items → new.notes.items ≡ all.notes.items ++ one.note ∷ [] → ReadersEnd g i calls readers seen before → ReaderEnds g i calls (readers + 1) seen last
+    → ReadersEnd g i calls (readers + 1) seen (Ok new)
+ok_both g i calls readers seen before last all one new before_is last_is lines notes h k =
+    let first : EndWith g i calls readers seen all.notes.items all.lines.items =
+    subst (λ (x : Result AllEnded Cut). IfOk x (λ (e : AllEnded). EndWith g i calls readers seen e.notes.items e.lines.items)) before_is h.end in
+    let count : length one.lines.items ≡ calls = subst (λ (x : Result Ended Cut). IfOk x (λ (e : Ended). length e.lines.items ≡ calls)) last_is k.count in
+    let ends : EndsWith g i (readers + 1) seen one.note one.lines.items = subst (λ (x : Result Ended Cut). IfOk x (λ (e : Ended). EndsWith g i (readers + 1) seen e.note e.lines.items)) last_is k.ends in
+    all_ok g i calls (readers + 1) seen new
+    (subst (λ (ns : List NoteView). EndWith g i calls (readers + 1) seen ns new.lines.items) (sym notes)
+    (subst (λ (ls : List PollLine). EndWith g i calls (readers + 1) seen (all.notes.items ++ one.note ∷ []) ls) (sym lines)
+    (end_more g i calls readers seen all.notes.items all.lines.items one.lines.items one.note first count ends)))
+
+-- ---- Seats
+
+pub all_front : {A : Type 0} (P : A → Type 0) (all front : List A) (x : A) → all ≡ front ++ x ∷ [] → All P all → All P front
+all_front P all front x is h = λ k d less.
+    subst P (ap (λ (ys : List _). get_or ys k d) is ∙ get_front front x d k less) (h k d (omega (arith, less, ap length is, length-append front (x ∷ []))))
+
+pub all_last : {A : Type 0} (P : A → Type 0) (all front : List A) (x : A) → all ≡ front ++ x ∷ [] → All P all → P x
+all_last P all front x is h =
+    subst P (ap (λ (ys : List _). get_or ys (length front) x) is ∙ get_last front x x (length front) refl) (h (length front) x (omega (arith, ap length is, length-append front (x ∷ []))))
+
+-- what comes of the readers that have these seats, of which the last is this one
+pub read_more : (g : ReaderRules) (i : ImageId) (calls : ℕ) (all front : List SeatView) (x : SeatView) (n m reader : ℕ) (seen : List Write) (before : Result AllEnded Cut) (last : Result Ended Cut) (r : Result AllEnded Cut)
+    → all ≡ front ++ x ∷ [] → All (λ (s : SeatView). s.seen ≡ seen) all → n ≡ m + 1 → reader ≡ m + 1 → ReaderEnds g i calls reader x.seen last
+    → ((seen : List Write) → All (λ (s : SeatView). s.seen ≡ seen) front → ReadersEnd g i calls m seen before)
+    → ((g : ReaderRules) (i : ImageId) (calls readers : ℕ) (seen : List Write) → ReadersEnd g i calls readers seen before → ReaderEnds g i calls (readers + 1) seen last → ReadersEnd g i calls (readers + 1) seen r)
+    → ReadersEnd g i calls n seen r
+read_more g i calls all front x n m reader seen before last r is h count number one rest both =
+    let P : SeatView → Type 0 = λ (s : SeatView). s.seen ≡ seen in
+    subst (λ k. ReadersEnd g i calls k seen r) (sym count)
+    (both g i calls m seen (rest seen (all_front P all front x is h))
+    (subst (λ (ws : List Write). ReaderEnds g i calls (m + 1) ws last) (all_last P all front x is h) (subst (λ k. ReaderEnds g i calls k x.seen last) number one)))

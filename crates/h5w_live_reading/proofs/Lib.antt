@@ -1,0 +1,5 @@
+pub mod CallLemmas
+pub mod ReadingLemmas
+pub mod PartLemmas
+pub mod ActorLemmas
+pub mod Sent

@@ -1,0 +1,149 @@
+//! The readers of a run: each makes its calls through a seat of its own, in a thread of its own.
+ghost use Rattle.std.specs.Prelude.{◌≡◌, ℕ, ◌+◌, ◌<◌, ◌≤◌, All, List, [], vec_len};
+ghost use Rattle.std.specs.Thread.{IsSync};
+ghost use Rattle.h5w_model.specs.Unfinished.{ReaderRules};
+ghost use Rattle.h5w_model.specs.declared.piece.Write.{Write};
+ghost use Rattle.h5w_reader.specs.Readers.{reader_rules};
+ghost use Rattle.h5w_shared.specs.Seats.{ImageId, SeatView};
+ghost use Rattle.h5w_live_reading.specs.Ends.{ReaderEnds, ReadersEnd};
+
+use crate::reading::{Stop, polls};
+use h5w_image::Gate;
+use h5w_model::PollLine;
+use h5w_shared::{Note, ReaderSeat, SharedImage, Worn};
+use std::alloc::Global;
+use std::sync::Wait;
+use std::thread::{Threads, join};
+
+/// The lines of a reader's calls, and a note of what its seat had seen in the end.
+#[derive(Drop)]
+pub struct Ended {
+    pub lines: Vec<PollLine>,
+    pub note: Note,
+}
+
+/// The lines of the first readers, reader after reader, and their notes.
+#[derive(Drop)]
+pub struct AllEnded {
+    pub lines: Vec<PollLine>,
+    pub notes: Vec<Note>,
+}
+
+/// Why a reader ended before its last call.
+#[derive(Drop)]
+pub enum Cut {
+    /// Its seat was shown the ticket word at 2^63.
+    Failed(Worn),
+    OutOfMemory,
+    /// A call was refused as none is over the log of a writer. The note is of what its seat had seen then.
+    Stray(Note),
+}
+
+/// All calls of one reader.
+fn read<R: Wait, G: Gate>(
+    rt: &R,
+    alloc: Global,
+    image: &SharedImage,
+    mut seat: ReaderSeat,
+    name: &[u8],
+    attempts: u32,
+    reader: u32,
+    calls: u32,
+    gate: &G,
+) -> Result<Ended, Cut>
+    requires image { seat.image ≡ image.now }
+    ensures { ReaderEnds (reader_rules name.now attempts) image.now calls reader seat.seen result }
+{
+    match polls(
+        rt, alloc, image, &mut seat, name, attempts, reader, calls, gate,
+    ) {
+        Ok(lines) => Ok(Ended {
+            lines,
+            note: seat.note(image),
+        }),
+        Err(Stop::Stray) => Err(Cut::Stray(seat.note(image))),
+        Err(Stop::OutOfMemory) => Err(Cut::OutOfMemory),
+        Err(Stop::Failed) => match seat.worn() {
+            Ok(worn) => Err(Cut::Failed(worn)),
+            Err(_) => unreachable!(),
+        },
+    }
+}
+
+/// The number of the reader behind so many.
+fn number(before: usize) -> u32
+    requires { before < 16 }
+    ensures { result ≡ before + 1 }
+{
+    before as u32 + 1
+}
+
+/// None of no readers.
+fn none(alloc: Global) -> AllEnded
+    ensures lines { result.lines.items ≡ [] }
+    ensures notes { result.notes.items ≡ [] }
+{
+    AllEnded {
+        lines: Vec::new(alloc),
+        notes: Vec::new(alloc),
+    }
+}
+
+/// What came of some readers, and of the one behind them.
+fn and_one(before: Result<AllEnded, Cut>, last: Result<Ended, Cut>) -> Result<AllEnded, Cut>
+    ensures { (g : ReaderRules) (i : ImageId) (calls readers : ℕ) (seen : List Write) → ReadersEnd g i calls readers seen before
+        → ReaderEnds g i calls (readers + 1) seen last → ReadersEnd g i calls (readers + 1) seen result }
+{
+    let mut all = match before {
+        Ok(all) => all,
+        Err(cut) => return Err(cut),
+    };
+    let mut one = match last {
+        Ok(one) => one,
+        Err(cut) => return Err(cut),
+    };
+    if all.lines.append(&mut one.lines).is_err() {
+        return Err(Cut::OutOfMemory);
+    }
+    if all.notes.push(one.note).is_err() {
+        return Err(Cut::OutOfMemory);
+    }
+    Ok(all)
+}
+
+/// All calls of the readers that have these seats, each in a thread of its own where one can be made. They are numbered from 1 on.
+pub fn read_all<R: Threads + Wait + Sync, G: Gate>(
+    rt: &R,
+    alloc: Global,
+    image: &SharedImage,
+    mut seats: Vec<ReaderSeat>,
+    name: &[u8],
+    attempts: u32,
+    calls: u32,
+    gate: &G,
+) -> Result<AllEnded, Cut>
+    requires images { All (λ (s : SeatView). s.image ≡ image.now) seats.items }
+    requires few { vec_len seats ≤ 16 }
+    ensures { (seen : List Write) → All (λ (s : SeatView). s.seen ≡ seen) seats.items
+        → ReadersEnd (reader_rules name.now attempts) image.now calls (vec_len seats) seen result }
+{
+    let Some(seat) = seats.pop() else {
+        return Ok(none(alloc));
+    };
+    let reader = number(seats.len());
+    let (last, before) = join(
+        rt,
+        move || -> Result<Ended, Cut>
+            requires { seat.image ≡ image.now }
+            ensures { ReaderEnds (reader_rules name.entry.now attempts) image.entry.now calls reader seat.seen result }
+        { read(rt, alloc, image, seat, name, attempts, reader, calls, gate) },
+        move || -> Result<AllEnded, Cut>
+            requires sync { IsSync R.row × IsSync G.row }
+            requires images { All (λ (s : SeatView). s.image ≡ image.now) seats.items }
+            requires few { vec_len seats ≤ 16 }
+            ensures { (seen : List Write) → All (λ (s : SeatView). s.seen ≡ seen) seats.items
+                → ReadersEnd (reader_rules name.entry.now attempts) image.entry.now calls (vec_len seats) seen result }
+        { read_all(rt, alloc, image, seats, name, attempts, calls, gate) },
+    );
+    and_one(before, last)
+}

@@ -1,6 +1,0 @@
-use Rattle.std.proofs.Common.{ap, sym, ◌∙◌}
-use Rattle.h5w_model.specs.Superblock.{super_at}
-use Rattle.h5w_session.proofs.opening.super_piece.Goals as goal
-
-pub returns-clause-reads : goal.returns-clause-reads
-returns-clause-reads c = ap super_at (sym c.encode.ensures.spelled) ∙ c.encode.ensures.reads_back

@@ -1,0 +1,9 @@
+mod OpenRangeLemmas
+mod SaidLemmas
+mod SessionOver
+mod UndamagedLemmas
+mod UndamagedTreeLemmas
+mod OverFile
+pub mod LeftLemmas
+mod OpenStepLemmas
+mod OpenAnswerLemmas

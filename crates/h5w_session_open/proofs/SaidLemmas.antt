@@ -1,0 +1,131 @@
+-- What the messages of a dataset header say of the dataset.
+use Rattle.std.proofs.Common.{◌≡◌, ◌⊎◌, ℕ, ◌+◌, ◌*◌, ◌^◌, ◌≤◌, Bool, true, false, cond, ◌&&◌, ◌||◌, not, List, length, Option, Some, None, Result, Ok, refl, sym, ap, ◌∙◌, subst, inl, inr, arith}
+use Rattle.std.specs.Prelude.{IfSome, IsTrue, ◌==◌, nat_le, if◌then◌else◌}
+use Rattle.std.proofs.lemmas.Bool.{cases_Bool, ltb-true, leb-true, eqb-true}
+use Rattle.h5w_model.specs.Numbers.{range, field}
+use Rattle.h5w_model.specs.Logs.{div_up}
+use Rattle.h5w_model.specs.Messages.{FillFields, IntTypeFields, LayoutFields, ShapeFields, IsIntType, IsLayout, IsShape, byte, chunk_cols_at, chunk_size, fill_at, fill_fields, fill_size, fill_tests, int_type_at, int_type_fields, int_type_tests, is_int_size, is_shape, layout_at, layout_fields, layout_tests, shape_at, shape_fields, shape_tests}
+use Rattle.h5w_model.specs.Datasets.{Described, FoundMessage, body_of, described, fill_value_kind}
+use Rattle.h5w_model.specs.Tables.{chunks_across}
+use Rattle.h5w_model.specs.declared.cell.IndexKind.TheVariants.{Array, Tree}
+use Rattle.h5w_model.specs.declared.refusal.Unsupported.{Unsupported}
+use Rattle.h5w_model.proofs.CheckedLemmas.{checked-passed}
+use Rattle.h5w_laws.proofs.LoweringLemmas.{length_range}
+use Rattle.h5w_header_laws.proofs.DescribedLemmas.{parts_of}
+use Rattle.h5w_session_open.specs.OpenSteps.{IsCut}
+
+-- ---- The shape
+
+two_of : (a b : Bool) → (a || b) ≡ true → (a ≡ true) ⊎ (b ≡ true)
+two_of true b h = inl refl
+two_of false b h = inr h
+
+by_rank : (rank rows cols : ℕ) → (rank ≡ 1) ⊎ (rank ≡ 2) → is_shape (record { rank = rank; rows = rows; cols = if rank == 1 then 1 else cols; growing = rank == 2 }) ≡ true
+by_rank rank rows cols (inl e) = subst (λ n. is_shape (record { rank = n; rows = rows; cols = if n == 1 then 1 else cols; growing = n == 2 }) ≡ true) (sym e) refl
+by_rank rank rows cols (inr e) = subst (λ n. is_shape (record { rank = n; rows = rows; cols = if n == 1 then 1 else cols; growing = n == 2 }) ≡ true) (sym e) refl
+
+as_true : (b : Bool) → b ≡ true → IsTrue b
+as_true b e = e
+
+shaped_by : (space : List ℕ) (s : ShapeFields) → shape_at space ≡ Ok s → IsShape s
+unfolding shape_at shape_tests shape_fields
+shaped_by space s h =
+    let shape = checked-passed (shape_tests space) (shape_fields space) s h in
+    let ranked = two_of (byte space 1 == 1) (byte space 1 == 2) shape.0.1.1.0 in
+    let rank : (byte space 1 ≡ 1) ⊎ (byte space 1 ≡ 2) = elim ranked [ inl t ↦ inl (eqb-true (byte space 1) 1 t) | inr t ↦ inr (eqb-true (byte space 1) 2 t) ] in
+    as_true (is_shape s) (subst (λ (x : ShapeFields). is_shape x ≡ true) shape.1 (by_rank (byte space 1) (field space 4 8) (field space 12 8) rank))
+
+-- ---- The type
+
+typed_by : (datatype : List ℕ) (t : IntTypeFields) → int_type_at datatype ≡ Ok t → IsIntType t
+unfolding int_type_at int_type_tests int_type_fields
+typed_by datatype t h =
+    let type = checked-passed (int_type_tests datatype) (int_type_fields datatype) t h in
+    as_true (is_int_size t.size) (subst (λ (x : IntTypeFields). is_int_size x.size ≡ true) type.1 type.0.1.1.1.0)
+
+-- ---- The layout
+
+lined : (rank n : ℕ) → rank ≡ 1 → cond (rank == 1) 1 n ≡ 1
+lined rank n e = subst (λ r. cond (r == 1) 1 n ≡ 1) (sym e) refl
+
+laid_by : (layout : List ℕ) (s : ShapeFields) (t : IntTypeFields) (l : LayoutFields) → layout_at layout s t ≡ Ok l → IsLayout l s t
+unfolding layout_at layout_fields
+laid_by layout s t l g =
+    let laid = checked-passed (layout_tests layout s t) (layout_fields layout s) l g in
+    subst (λ (x : LayoutFields). IsLayout x s t) laid.1
+    (record {
+      rows = ltb-true 0 (chunk_size layout 0) laid.0.1.1.1.1.1.0;
+      cols = ltb-true 0 (chunk_cols_at layout s) laid.0.1.1.1.1.1.1.0;
+      line = λ e. lined s.rank (chunk_size layout 1) e;
+      small = ltb-true (chunk_size layout 0 * chunk_cols_at layout s * t.size) (2 ^ 32) laid.0.1.1.1.1.1.1.1.1.0;
+      index = refl;
+    })
+
+-- ---- The fill
+
+filled_when : (n : ℕ) (t : IntTypeFields) (b : List ℕ) (c : Bool) → (n == 0) ≡ c → ((n == 0) || (n == t.size)) ≡ true → ((n == 0) || nat_le (6 + n) (length b)) ≡ true
+    → IfSome (cond c None (Some (range b 6 n))) (λ (x : List ℕ). length x ≡ t.size)
+filled_when n t b true e h g = tt
+filled_when n t b false e h g =
+    let size : n ≡ t.size = eqb-true n t.size (ap (λ c. c || (n == t.size)) (sym e) ∙ h) in
+    let room : 6 + n ≤ length b = leb-true (6 + n) (length b) (ap (λ c. c || nat_le (6 + n) (length b)) (sym e) ∙ g) in
+    omega (arith, length_range b 6 n, size, room)
+
+filled_by : (b : List ℕ) (t : IntTypeFields) (f : FillFields) → fill_at b t ≡ Ok f → IfSome f.value (λ (x : List ℕ). length x ≡ t.size)
+unfolding fill_at fill_tests fill_fields
+filled_by b t f h =
+    let fill = checked-passed (fill_tests b t) (fill_fields b) f h in
+    subst (λ (x : FillFields). IfSome x.value (λ (y : List ℕ). length y ≡ t.size)) fill.1 (filled_when (fill_size b) t b (fill_size b == 0) refl fill.0.1.1.1.0 fill.0.1.1.1.1.0)
+
+fill_said : (o : Option (List ℕ)) (t : IntTypeFields) (f : FillFields) → ◌≡◌ {A = Result FillFields Unsupported} (elim o as (λ _. Result FillFields Unsupported) [ Some b ↦ fill_at b t | None ↦ Ok (record { value = None }) ]) (Ok f)
+    → IfSome f.value (λ (x : List ℕ). length x ≡ t.size)
+fill_said (Some b) t f h = filled_by b t f h
+fill_said None t f h = let e : record { value = None } ≡ f = cc in subst (λ (x : FillFields). IfSome x.value (λ (y : List ℕ). length y ≡ t.size)) e tt
+
+-- ---- All of it
+
+pub said : (ms : List FoundMessage) (d : Described) → described ms ≡ Ok d → IsCut d
+said ms d h =
+    let p = parts_of ms d h in
+    record {
+      shaped = shaped_by p.space d.shape p.shape;
+      typed = typed_by p.datatype d.int_type p.int_type;
+      chunked = laid_by p.layout d.shape d.int_type d.layout p.laid;
+      filled = fill_said (body_of fill_value_kind ms) d.int_type d.fill p.fill;
+    }
+
+-- ---- Arrays
+
+not_growing : (growing : Bool) → cond growing Tree Array ≡ Array → growing ≡ false
+not_growing false h = refl
+not_growing true h = absurd cc
+
+flat_shape : (s : ShapeFields) → s.growing ≡ false → is_shape s ≡ true → (s.rank ≡ 1) × (s.cols ≡ 1)
+flat_shape s flat h = go (cases_Bool (s.rank == 1)) (cases_Bool (s.cols == 1))
+  where
+    here : (((s.rank == 1) && (s.cols == 1) && true) || ((s.rank == 2) && false)) ≡ true
+    here = ap (λ g. ((s.rank == 1) && (s.cols == 1) && not g) || ((s.rank == 2) && g)) (sym flat) ∙ h
+
+    never : (a b c : Bool) → (a ≡ false) ⊎ (b ≡ false) → ((a && b && true) || (c && false)) ≡ true → ⊥
+    never true true c (inl e) g = cc
+    never true true c (inr e) g = cc
+    never true false true e g = cc
+    never true false false e g = cc
+    never false b true e g = cc
+    never false b false e g = cc
+
+    go : ((s.rank == 1) ≡ true) ⊎ ((s.rank == 1) ≡ false) → ((s.cols == 1) ≡ true) ⊎ ((s.cols == 1) ≡ false) → (s.rank ≡ 1) × (s.cols ≡ 1)
+    go (inl t) (inl u) = (eqb-true s.rank 1 t, eqb-true s.cols 1 u)
+    go (inl t) (inr u) = absurd (never (s.rank == 1) (s.cols == 1) (s.rank == 2) (inr u) here)
+    go (inr t) u = absurd (never (s.rank == 1) (s.cols == 1) (s.rank == 2) (inl t) here)
+
+pub is_true : (b : Bool) → IsTrue b → b ≡ true
+is_true b t = t
+
+-- a dataset whose index is an array has one column, and one chunk for each band of rows
+pub one_column : (d : Described) → IsCut d → d.layout.index ≡ Array → (d.shape.cols ≡ 1) × (d.layout.chunk_cols ≡ 1) × (chunks_across d ≡ 1)
+one_column d c kind =
+    let flat = not_growing d.shape.growing (sym c.chunked.index ∙ kind) in
+    let shape = flat_shape d.shape flat (is_true (is_shape d.shape) c.shaped) in
+    let cols : d.layout.chunk_cols ≡ 1 = c.chunked.line shape.0 in
+    (shape.1, cols, ap (λ n. div_up n d.layout.chunk_cols) shape.1 ∙ ap (λ n. div_up 1 n) cols)

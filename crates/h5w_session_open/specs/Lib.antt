@@ -1,0 +1,4 @@
+pub mod OpenRanges
+pub mod OpenAnswers
+pub mod OpenSteps
+pub mod OpenLaws
