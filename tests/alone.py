@@ -1,9 +1,7 @@
 """A file whose extensible array is its header alone, which names no index block: no chunk has an address, and all of its rows are fill. It
 follows from the format's description alone. Trials of the built program that appends to it."""
-import struct
-
-from appending import in_folder, of, read, steps
 from new_files import dataset_header, new_file, root_header, superblock
+from program import named, of, read, steps
 from trees import UNDEFINED, sealed
 
 KIND = "i32le"
@@ -19,7 +17,7 @@ def alone_file(rows):
 
 
 def made_behind(folder):
-    """An index block is made behind the header, which stays where it is; then the file is as one that was made with both."""
+    """An index block is made behind the header. That stays where it is, and the file is then as one that was made with both."""
     with open(f"{folder}/f", "wb") as file:
         file.write(alone_file(0))
     found = steps(
@@ -51,5 +49,4 @@ def behind_fill(folder):
 
 
 def trials():
-    for find in (made_behind, behind_fill):
-        yield f"append to a header alone: {find.__doc__.split(':')[0].split(',')[0].split('.')[0].lower()}", lambda it=find: in_folder(it)
+    yield from named("append to a header alone", made_behind, behind_fill)

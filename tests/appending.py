@@ -4,41 +4,9 @@ import resource
 import select
 import signal
 import subprocess
-import tempfile
 
 from new_files import new_file
-
-TOP = os.path.dirname(os.path.dirname(os.path.realpath(__file__)))
-PROGRAM = f"{TOP}/crates/h5w_cli/out/h5w_cli"
-SECONDS = 20
-
-
-def of(what, seen, wanted):
-    return [] if seen == wanted else [f"{what}: {seen!r}, wanted {wanted!r}"]
-
-
-def read(path):
-    with open(path, "rb") as file:
-        return file.read()
-
-
-def run(folder, words, text=b"", **how):
-    ran = subprocess.run([PROGRAM, *words], input=text, capture_output=True, timeout=SECONDS, cwd=folder, **how)
-    return ran.returncode, ran.stdout, ran.stderr
-
-
-def steps(folder, *table):
-    """Commands on the same files, one after another: the words, the input, and the status and the text that are wanted."""
-    found = []
-    for words, text, status, wanted in table:
-        found += of(words, run(folder, words.split(" "), text), (status, wanted, b""))
-    return found
-
-
-def in_folder(find):
-    with tempfile.TemporaryDirectory(prefix="h5swmr-append-") as folder:
-        return find(folder)
-
+from program import PROGRAM, SECONDS, named, of, read, run, steps
 
 NEW = "new f --type i32le --chunk 2"
 
@@ -178,11 +146,11 @@ WORDS = ["append", "append f g", "append f --budget 65536", "append f --limit 10
 
 
 def other_words(folder):
+    """Other words: usage, and the file stays."""
     steps(folder, (NEW, b"", 0, b"new end 558\n"))
     found = steps(folder, *((it, b"1\n", 2, b"error usage\n") for it in WORDS))
     return found + of("the file", read(f"{folder}/f"), new_file("i32le", 2))
 
 
 def trials():
-    for find in (begins, used_again, two_dimensions, damaged, full_device, told_at_once, unwritten, other_words):
-        yield f"append: {find.__doc__.split(':')[0].split('.')[0].lower() if find.__doc__ else 'other words'}", lambda it=find: in_folder(it)
+    yield from named("append", begins, used_again, two_dimensions, damaged, full_device, told_at_once, unwritten, other_words)

@@ -2,8 +2,8 @@
 has more than one record. It follows from the format's description alone. Trials of the built program that appends to it."""
 import struct
 
-from appending import in_folder, of, read, steps
 from new_files import dataset_header, root_header, superblock
+from program import in_folder, of, read, steps
 from trees import sealed
 
 NODE = 2048

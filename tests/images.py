@@ -1,12 +1,9 @@
 """Files byte by byte, and what the program is to say of each. They were made by other programs, by hand, or by libhdf5; what is wanted follows
 from the format's description. In tests/files/*.txt a file has a name behind `#`, its bytes in hexadecimal digits, of which `XX*N` is the byte `XX`
 so often, and behind `=` the status and the line. Behind `rows N:` stand the values: all, or with `..` the first or the last of them."""
-import os
 import tempfile
 
-from appending import of, run
-
-TOP = os.path.dirname(os.path.dirname(os.path.realpath(__file__)))
+from program import TOP, of, run
 
 # What is asked of the files of each list, and how they came to be.
 LISTS = {

@@ -6,8 +6,8 @@ import subprocess
 import tempfile
 import threading
 
-from appending import PROGRAM, of, read, run, steps
 from new_files import array_blocks, dataset_header, root_header, superblock
+from program import PROGRAM, of, read, run, steps
 from trees import lookup3, message, sealed
 
 # where other programs want all processors a turn may be long

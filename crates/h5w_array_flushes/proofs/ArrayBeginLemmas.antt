@@ -21,7 +21,7 @@ use Rattle.h5w_array_laws.proofs.FileLemmas.{file_tells}
 use Rattle.h5w_array_laws.proofs.FoundLemmas.{address_found}
 use Rattle.h5w_array_laws.proofs.StandLemmas.{standing_says}
 use Rattle.h5w_flush_laws.specs.Flushes.{IsBegun}
-use Rattle.h5w_flush_laws.specs.Knowledge.{IsMap, Knows}
+use Rattle.h5w_flush_laws.specs.Knowledge.{IsMap, KnownHeld}
 use Rattle.h5w_flush_laws.proofs.KnownLaws.{begin_knows}
 use Rattle.h5w_array_flushes.specs.ArrayBegins.{ArrayBegins}
 use Rattle.h5w_array_flushes.proofs.ArrayFlushLemmas.{In, data_visited, second_visited, own_there, in_flat}
@@ -86,8 +86,8 @@ module _ (img name : List ℕ) (m : Moment) (s : Space) (v : Store) (a : IsArray
     answers = λ key named. address_found v img a clean behind_stands key (named kind);
   }
 
-  knows : Knows img name m (λ key. map_of v key.i) s
-  knows = begin_knows img name m (λ key. map_of v key.i) s file map_is begun (λ u. absurd ((a.in_place header tt refl).1 (sym address ∙ u)))
+  known : KnownHeld img name m (λ key. map_of v key.i) s m.behind
+  known = begin_knows img name m (λ key. map_of v key.i) s file map_is begun (λ u. absurd ((a.in_place header tt refl).1 (sym address ∙ u)))
 
   -- ---- The places
 
@@ -172,7 +172,7 @@ module _ (img name : List ℕ) (m : Moment) (s : Space) (v : Store) (a : IsArray
   standing = record {
     live = λ n placed.
         let p = part_of v n a placed.kept in
-        subst (IsLive s) (sym (range_is n placed p)) (knows.live (block_of_part v p.part) (in_used (block_of_part v p.part) (in_both p.part p.is_part (placed_part n placed p))));
+        subst (IsLive s) (sym (range_is n placed p)) (known.knows.live (block_of_part v p.part) (in_used (block_of_part v p.part) (in_both p.part p.is_part (placed_part n placed p))));
     some = λ n placed.
         let p = part_of v n a placed.kept in
         let e = ap (λ (x : Extent). x.size) (range_is n placed p) in
@@ -190,8 +190,10 @@ module _ (img name : List ℕ) (m : Moment) (s : Space) (v : Store) (a : IsArray
 pub array_begins : ArrayBegins
 array_begins img name m s v a clean stands file kind address begun =
     let told = file_tells v img name m a clean stands file kind address in
+    let k = known img name m s v a clean stands file kind address begun in
     record {
-      knows = knows img name m s v a clean stands file kind address begun;
+      knows = k.knows;
+      held = k.is;
       rests = record {
         kind = kind;
         at = address;

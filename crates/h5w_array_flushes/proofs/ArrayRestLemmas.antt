@@ -21,7 +21,7 @@ use Rattle.h5w_array_laws.specs.ArrayPlans.{IsArrayPlan}
 use Rattle.h5w_array_laws.specs.ArrayWrites.{MissArray, MissBehind}
 use Rattle.h5w_array_laws.proofs.WriteLemmas.{writes_leave, in_place_stands}
 use Rattle.h5w_array_laws.proofs.ArrayPlanLemmas.{plans_array}
-use Rattle.h5w_flush_laws.specs.Knowledge.{Knows}
+use Rattle.h5w_flush_laws.specs.Knowledge.{HeldMissed, Knows}
 use Rattle.h5w_flush_laws.specs.Parts.{IsFlush, block_writes, pieces_of}
 use Rattle.h5w_flush_laws.proofs.SpaceLemmas.{committed_live}
 use Rattle.h5w_flush_laws.proofs.FlushLemmas.{end_misses, supers_miss}
@@ -31,7 +31,7 @@ use Rattle.h5w_array_flushes.proofs.ArrayFlushLemmas.{placed_range, stands_copie
 
 module _ (img name : List ℕ) (m : Moment) (old : Key → ℕ) (s b t : Space) (v w : Store) (ms : List Move) (rows : ℕ) (more : List ℤ) (writes : List Write) (chunks : List Used) (copies : List (ℕ × List ℕ))
     (supers fixed : List Write) (last : ℕ) (k : Knows img name m old s) (are : AreChunks chunks) (i : IsFlush img m old s (array_parts (chunk_bytes m.dataset) w rows more writes chunks copies supers last fixed) t)
-    (x : IsArrayPart img m v b ms w t chunks copies fixed) where
+    (missed : HeldMissed k.held writes) (x : IsArrayPart img m v b ms w t chunks copies fixed) where
   planned : IsArrayPlan v b ms (block_writes copies) fixed w t
   planned = plans_array v b ms (block_writes copies) fixed w t x.plan.before x.plan.plan x.plan.keeps
 
@@ -48,7 +48,7 @@ module _ (img name : List ℕ) (m : Moment) (old : Key → ℕ) (s b t : Space) 
 
   supers_miss_after : MissBehind w supers
   supers_miss_after n placed low =
-      supers_miss img name m old s t (array_parts (chunk_bytes m.dataset) w rows more writes chunks copies supers last fixed) k i (block_at (place_of w n) (length (bytes_in w.blocks n)))
+      supers_miss img name m old s t (array_parts (chunk_bytes m.dataset) w rows more writes chunks copies supers last fixed) k i missed (block_at (place_of w n) (length (bytes_in w.blocks n)))
       (placed_range (chunk_bytes m.dataset) w n x.plan.after placed)
 
   before_fixed : StandsArray v (image (image (image img writes) (block_writes copies)) supers)
@@ -66,23 +66,23 @@ module _ (img name : List ℕ) (m : Moment) (old : Key → ℕ) (s b t : Space) 
 
   header_piece_misses : MissArray w (commit_at (image (image (image (image img writes) (block_writes copies)) supers) fixed) m.place rows None ∷ [])
   header_piece_misses n placed = (
-    index_missed_by_header img name m old s t (array_parts (chunk_bytes m.dataset) w rows more writes chunks copies supers last fixed) k i (block_at (place_of w n) (length (bytes_in w.blocks n)))
+    index_missed_by_header img name m old s t (array_parts (chunk_bytes m.dataset) w rows more writes chunks copies supers last fixed) k i missed (block_at (place_of w n) (length (bytes_in w.blocks n)))
         (placed_range (chunk_bytes m.dataset) w n x.plan.after placed),
     tt,
   )
 
   all_stands : StandsArray w (image img (pieces_of img m (array_parts (chunk_bytes m.dataset) w rows more writes chunks copies supers last fixed)))
   all_stands =
-      subst (λ (y : List ℕ). StandsArray w y) (sym (final_image img name m old s t (array_parts (chunk_bytes m.dataset) w rows more writes chunks copies supers last fixed) k i))
+      subst (λ (y : List ℕ). StandsArray w y) (sym (final_image img name m old s t (array_parts (chunk_bytes m.dataset) w rows more writes chunks copies supers last fixed) k i missed))
       (writes_leave.array w (image (image (image (image img writes) (block_writes copies)) supers) fixed) (commit_at (image (image (image (image img writes) (block_writes copies)) supers) fixed) m.place rows None ∷ []) x.plan.after header_piece_misses before_header)
 
 pub array_rests_then : ArrayRestsThen
-array_rests_then img name m old s b t v w ms rows more writes chunks copies supers fixed last k are i x = record {
+array_rests_then img name m old s b t v w ms rows more writes chunks copies supers fixed last k are i missed x = record {
   kind = x.kind;
-  at = at img name m old s b t v w ms rows more writes chunks copies supers fixed last k are i x;
+  at = at img name m old s b t v w ms rows more writes chunks copies supers fixed last k are i missed x;
   array = x.plan.after;
-  clean = (planned img name m old s b t v w ms rows more writes chunks copies supers fixed last k are i x).clean;
-  stands = all_stands img name m old s b t v w ms rows more writes chunks copies supers fixed last k are i x;
+  clean = (planned img name m old s b t v w ms rows more writes chunks copies supers fixed last k are i missed x).clean;
+  stands = all_stands img name m old s b t v w ms rows more writes chunks copies supers fixed last k are i missed x;
   standing = x.plan.keeps.standing x.plan.standing;
   fixed = refl;
   behind = refl;
@@ -94,8 +94,8 @@ pub standing_freed : (v : Store) (t u : Space) → Commits t u → Standing v t 
 standing_freed v t u c standing = record { live = λ n placed. committed_live t u c (range_of v n) (standing.live n placed); some = standing.some; apart = standing.apart }
 
 pub array_rests_again : ArrayRestsAgain
-array_rests_again img name m old s b t u v w ms rows more writes chunks copies supers fixed last k are i x c =
-    let then = array_rests_then img name m old s b t v w ms rows more writes chunks copies supers fixed last k are i x in
+array_rests_again img name m old s b t u v w ms rows more writes chunks copies supers fixed last k are i missed x c =
+    let then = array_rests_then img name m old s b t v w ms rows more writes chunks copies supers fixed last k are i missed x in
     record {
       kind = then.kind;
       at = then.at;

@@ -10,9 +10,10 @@ use Rattle.h5w_flush_laws.specs.Flushes.{IsBegun}
 use Rattle.h5w_flush_laws.specs.Knowledge.{Knows}
 use Rattle.h5w_array_flushes.specs.ArrayFlushes.{ArrayRests}
 
--- it knows its file by the array's map, and the array rests
+-- it knows its file by the array's map, of which readers hold no more than what it has, and the array rests
 pub record Begins (img name : List ℕ) (m : Moment) (s : Space) (v : Store) : Type 0 where
   pub knows : Knows img name m (λ key. map_of v key.i) s
+  pub held : knows.held ≡ m.behind
   pub rests : ArrayRests img m (λ key. map_of v key.i) s v
 
 -- ---- Laws

@@ -20,7 +20,7 @@ use Rattle.h5w_array_laws.specs.ArrayStores.{IsArray, header_place, map_of, fixe
 use Rattle.h5w_array_laws.specs.ArrayImages.{StandsArray, IsPlanned}
 use Rattle.h5w_array_laws.specs.ArrayPlans.{fresh}
 use Rattle.h5w_flush_laws.specs.Spaces.{Taken, LetGo}
-use Rattle.h5w_flush_laws.specs.Knowledge.{IsAsked, Knows}
+use Rattle.h5w_flush_laws.specs.Knowledge.{HeldMissed, IsAsked, Knows}
 use Rattle.h5w_flush_laws.specs.Parts.{Parts, AllUnseen, AreEnded, IndexFlushed, IsFlush, flushed_to, pieces_of, block_ranges, block_writes}
 use Rattle.h5w_flush_laws.specs.Rows.{ArePlaced, new_chunks}
 
@@ -86,7 +86,7 @@ chunks_for m old places = new_chunks m.dataset old m.dataset.shape.rows 0 places
 abbrev pub ArrayIsFlush : Type 0
 ArrayIsFlush = (img name : List ℕ) (m : Moment) (old : Key → ℕ) (s b t : Space) (v w : Store) (ms : List Move) (rows : ℕ) (more : List ℤ) (writes : List Write) (places : List ChunkPlace) (copies : List (ℕ × List ℕ))
     (supers fixed : List Write) → Knows img name m old s → Taken s (chunks_for m old places) b → m.dataset.shape.rows < rows → rows < 2 ^ 64 → AreFew (with_rows rows m.dataset)
-    → length (m.values ++ more) ≡ rows * m.dataset.shape.cols → ArePlaced m old (array_parts (chunk_bytes m.dataset) w rows more writes (chunks_for m old places) copies supers t.end fixed) places
+    → length (m.values ++ more) ≡ rows * m.dataset.shape.cols → ArePlaced img m old (array_parts (chunk_bytes m.dataset) w rows more writes (chunks_for m old places) copies supers t.end fixed) places
     → AreEnded m.super t.end supers → IsArrayPart img m v b ms w t (chunks_for m old places) copies fixed
     → IsFlush img m old s (array_parts (chunk_bytes m.dataset) w rows more writes (chunks_for m old places) copies supers t.end fixed) t
 
@@ -106,15 +106,15 @@ pub record ArrayRests (img : List ℕ) (m : Moment) (old : Key → ℕ) (s : Spa
 -- So it does again once all pieces of such a flush are shown, with the places as the flush left them: what was let go is not free yet.
 abbrev pub ArrayRestsThen : Type 0
 ArrayRestsThen = (img name : List ℕ) (m : Moment) (old : Key → ℕ) (s b t : Space) (v w : Store) (ms : List Move) (rows : ℕ) (more : List ℤ) (writes : List Write) (chunks : List Used) (copies : List (ℕ × List ℕ))
-    (supers fixed : List Write) (last : ℕ) → Knows img name m old s → AreChunks chunks
-    → IsFlush img m old s (array_parts (chunk_bytes m.dataset) w rows more writes chunks copies supers last fixed) t → IsArrayPart img m v b ms w t chunks copies fixed
+    (supers fixed : List Write) (last : ℕ) → (k : Knows img name m old s) → AreChunks chunks
+    → IsFlush img m old s (array_parts (chunk_bytes m.dataset) w rows more writes chunks copies supers last fixed) t → HeldMissed k.held writes → IsArrayPart img m v b ms w t chunks copies fixed
     → ArrayRests (image img (pieces_of img m (array_parts (chunk_bytes m.dataset) w rows more writes chunks copies supers last fixed)))
     (flushed_to m (array_parts (chunk_bytes m.dataset) w rows more writes chunks copies supers last fixed)) (λ key. map_of w key.i) t w
 
 -- and where what was let go is free
 abbrev pub ArrayRestsAgain : Type 0
 ArrayRestsAgain = (img name : List ℕ) (m : Moment) (old : Key → ℕ) (s b t u : Space) (v w : Store) (ms : List Move) (rows : ℕ) (more : List ℤ) (writes : List Write) (chunks : List Used) (copies : List (ℕ × List ℕ))
-    (supers fixed : List Write) (last : ℕ) → Knows img name m old s → AreChunks chunks
-    → IsFlush img m old s (array_parts (chunk_bytes m.dataset) w rows more writes chunks copies supers last fixed) t → IsArrayPart img m v b ms w t chunks copies fixed → Commits t u
+    (supers fixed : List Write) (last : ℕ) → (k : Knows img name m old s) → AreChunks chunks
+    → IsFlush img m old s (array_parts (chunk_bytes m.dataset) w rows more writes chunks copies supers last fixed) t → HeldMissed k.held writes → IsArrayPart img m v b ms w t chunks copies fixed → Commits t u
     → ArrayRests (image img (pieces_of img m (array_parts (chunk_bytes m.dataset) w rows more writes chunks copies supers last fixed)))
     (flushed_to m (array_parts (chunk_bytes m.dataset) w rows more writes chunks copies supers last fixed)) (λ key. map_of w key.i) u w

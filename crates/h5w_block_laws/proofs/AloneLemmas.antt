@@ -1,6 +1,6 @@
 -- What a session knows of a file whose array is a header alone.
 use Rattle.std.proofs.Common.{◌≡◌, ℕ, List, [], ◌∷◌, ◌++◌, Result, Ok, Err, refl, sym, ◌∙◌, ap, subst, inl}
-use Rattle.std.specs.Prelude.{◌==◌, cond}
+use Rattle.std.specs.Prelude.{cond}
 use Rattle.std.proofs.lemmas.Bool.{eq-eqb}
 use Rattle.h5w_model.specs.Numbers.{range, undefined}
 use Rattle.h5w_model.specs.Images.{apply}
@@ -24,7 +24,7 @@ use Rattle.h5w_flush_laws.proofs.FlushLaws.{freed_known}
 use Rattle.h5w_flush_laws.proofs.KnownLaws.{begin_knows, end_known}
 use Rattle.h5w_starting_laws.specs.Starting.{no_chunk}
 use Rattle.h5w_starting_laws.proofs.StartLemmas.{one_answer, one_list}
-use Rattle.h5w_block_laws.specs.HeaderAlone.{IsAlone, IsHeaderAlone, AloneBegins, AloneEnds, AloneFreed, AloneNowhere}
+use Rattle.h5w_block_laws.specs.HeaderAlone.{IsHeaderAlone, AloneBegins, AloneEnds, AloneFreed, AloneNowhere}
 
 -- whatever is asked of the program that reads the blocks in place: it ends with the header
 ends_there : {A : Type 0} (img : List ℕ) (place : ℕ) (a : EahdFields) (f : Prog (Result InPlace ReadError) → A) → eahd_at (range img place eahd_len) place ≡ Ok a → a.block ≡ undefined
@@ -47,10 +47,9 @@ alone_nowhere img name m r x =
     }
 
 pub alone_begins : AloneBegins
-alone_begins img name m s r x begun = record {
-  knows = begin_knows img name m no_chunk s r (alone_nowhere img name m r x).map begun (λ none. absurd (x.named none));
-  alone = x;
-}
+alone_begins img name m s r x begun =
+    let known = begin_knows img name m no_chunk s r (alone_nowhere img name m r x).map begun (λ none. absurd (x.named none)) in
+    (record { knows = known.knows; alone = x }, known.is)
 
 -- a write that misses its ranges leaves it
 pub alone_missed : (img name : List ℕ) (m : Moment) (w : Write) → Represents img name m → IsHeaderAlone img m.dataset → MissesEach w (m.fixed ++ m.behind) → IsHeaderAlone (apply w img) m.dataset
@@ -64,10 +63,10 @@ alone_missed img name m w r x off =
 pub alone_ends : AloneEnds
 alone_ends img name m n s w x e fits =
     let off : MissesEach w (m.fixed ++ m.behind) = λ u a. ends_missed img m n w x.knows.file.apart e u (among_right u m.root (m.header ++ (m.fixed ++ m.behind)) (among_right u m.header (m.fixed ++ m.behind) a)) in
-    record {
-      knows = end_known img name m n no_chunk s w x.knows e fits;
-      alone = subst (λ (y : Moment). IsHeaderAlone (apply w img) y.dataset) (sym e.is) (alone_missed img name m w x.knows.file x.alone off);
-    }
+    let known = end_known img name m n no_chunk s w x.knows e fits in
+    (record { knows = known.knows; alone = subst (λ (y : Moment). IsHeaderAlone (apply w img) y.dataset) (sym e.is) (alone_missed img name m w x.knows.file x.alone off) }, known.is)
 
 pub alone_freed : AloneFreed
-alone_freed img name m s t x c = record { knows = freed_known img name m no_chunk s t c x.knows; alone = x.alone }
+alone_freed img name m s t x c =
+    let known = freed_known img name m no_chunk s t c x.knows in
+    (record { knows = known.knows; alone = x.alone }, known.is)

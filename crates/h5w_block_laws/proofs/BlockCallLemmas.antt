@@ -8,7 +8,6 @@ use Rattle.h5w_model.specs.Images.{image}
 use Rattle.h5w_model.specs.Logs.{plans, and_now}
 use Rattle.h5w_model.specs.declared.piece.Write.{Write}
 use Rattle.h5w_visits.specs.Ranges.{Among, AreApart, Disjoint, block_at}
-use Rattle.h5w_visits.proofs.RangeLemmas.{among_left, among_right}
 use Rattle.h5w_space.specs.Space.{Space, IsLive}
 use Rattle.h5w_cache.specs.Stores.{Store}
 use Rattle.h5w_cache.specs.StoreLaws.{Standing}
@@ -20,12 +19,11 @@ use Rattle.h5w_steps.specs.Logs.{image_now}
 use Rattle.h5w_steps.specs.Sessions.{Runs}
 use Rattle.h5w_steps.proofs.MomentLemmas.{in_fixed}
 use Rattle.h5w_steps.proofs.PartLemmas.{apart_sym, disjoint_apart}
-use Rattle.h5w_array_laws.specs.Parts.{index_block}
-use Rattle.h5w_array_laws.specs.ArrayStores.{place_at_part, header_place, fixed_of, behind_of}
+use Rattle.h5w_array_laws.specs.ArrayStores.{header_place, fixed_of, behind_of}
 use Rattle.h5w_array_laws.specs.ArrayImages.{StartsArray}
 use Rattle.h5w_array_laws.proofs.CreatedLemmas.{created_starts}
 use Rattle.h5w_flush_laws.specs.Spaces.{AllLive, Taken, extent_of}
-use Rattle.h5w_flush_laws.specs.Parts.{Parts, block_writes, pieces_of}
+use Rattle.h5w_flush_laws.specs.Parts.{Parts, pieces_of}
 use Rattle.h5w_flush_laws.proofs.SpaceLemmas.{taken_disjoint}
 use Rattle.h5w_array_flushes.specs.ArrayBegins.{Begins}
 use Rattle.h5w_array_flushes.specs.ArrayFlushes.{chunks_for}
@@ -50,7 +48,7 @@ one_last (a ∷ []) (b ∷ []) x y h e = (cc, cc)
 one_last (a ∷ c ∷ front) (b ∷ []) x y h e = absurd (let n = ap length h in omega (arith, n, length-append front (b ∷ [])))
 
 module _ (img name : List ℕ) (m : Moment) (base b t : Space) (place : ℕ) (u v w : Store) (ms : List Move) (rows : ℕ) (more : List ℤ) (writes : List Write) (places : List ChunkPlace) (cs fixed supers : List Write)
-    (k : AloneKnows img name m base) (c : AreBlockCalls m base b place u v ms w t rows more writes places cs fixed supers) where
+    (k : AloneKnows img name m base) (c : AreBlockCalls img m base b place u v ms w t rows more writes places cs fixed supers) where
   abbrev at : ℕ
   at = m.dataset.layout.address
 
@@ -129,12 +127,12 @@ pub block_calls : BlockCalls
 block_calls img name m base b t place u v w ms rows more writes places cs fixed supers k c = calls img name m base b t place u v w ms rows more writes places cs fixed supers k c
 
 pub block_pending : BlockPending
-block_pending name log m base b t place u v w ms rows more writes places cs fixed supers ws runs k c values are =
+block_pending name log m base b t place u v w ms rows more writes places cs fixed supers ws k runs c values are =
     let now : List ℕ = image_now log in
     let x = block_calls now name m base b t place u v w ms rows more writes places cs fixed supers k c in
     let f : Parts = block_parts_for m w rows more writes places x.copies supers t.end in
     let same : pieces_of now m f ≡ ws = x.pieces ws are in
-    let over = block_runs name log m base b t u v w ms rows more writes places x.copies fixed supers runs k x.start values in
+    let over = block_runs name log m base b t u v w ms rows more writes places x.copies fixed supers k runs x.start values in
     let leads = block_leads now name m base b t u v w ms rows more writes places x.copies fixed supers k x.start in
     let after : Moment = first_shown m None w rows more t.end in
     record {

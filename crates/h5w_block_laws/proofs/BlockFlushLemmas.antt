@@ -1,18 +1,16 @@
 -- The first flush of a file whose array is a header alone is a flush.
-use Rattle.std.proofs.Common.{◌≡◌, ℕ, List, [], ◌∷◌, ◌++◌, length, None, refl, sym, ◌∙◌, ap, subst, inl, arith, append-nil, append_assoc}
+use Rattle.std.proofs.Common.{◌≡◌, ℕ, List, [], ◌∷◌, ◌++◌, length, None, refl, sym, ◌∙◌, ap, subst, inl, arith, append_assoc}
 use Rattle.std.specs.Prelude.{ℤ}
 use Rattle.std.proofs.lemmas.Grind.{flat_map-append}
 use Rattle.h5w_model.specs.Images.{At, AllMiss, apply, image, pieces}
-use Rattle.h5w_model.specs.Images as images
 use Rattle.h5w_model.specs.Arrays.{eahd_len, eaib_len}
-use Rattle.h5w_model.specs.Findings.{Used, chunk_bytes, the_superblock}
+use Rattle.h5w_model.specs.Findings.{Used, the_superblock}
 use Rattle.h5w_model.specs.declared.piece.Write.{Write}
 use Rattle.h5w_model.proofs.ImageLemmas.{At-apply, At-apply_missed, At-image_missed, image-push}
 use Rattle.h5w_visits.specs.Ranges.{Among, AreApart, Disjoint, block_at}
 use Rattle.h5w_space.specs.Space.{Space}
-use Rattle.h5w_cache.specs.Stores.{Store, place_of}
-use Rattle.h5w_cache.specs.Plans.{bytes_in}
-use Rattle.h5w_cache.specs.StoreLaws.{IsPlaced, Standing}
+use Rattle.h5w_cache.specs.Stores.{Store}
+use Rattle.h5w_cache.specs.StoreLaws.{Standing}
 use Rattle.h5w_cache.specs.declared.moves.Move.{Move}
 use Rattle.h5w_chunks.specs.declared.grid.ChunkPlace.{ChunkPlace}
 use Rattle.h5w_header_laws.specs.Files.{commit_at}
@@ -28,15 +26,15 @@ use Rattle.h5w_array_laws.proofs.FixedLemmas.{one_piece}
 use Rattle.h5w_array_laws.proofs.PlanLemmas.{two_apart}
 use Rattle.h5w_array_laws.proofs.StandLemmas.{header_length, header_placed, header_stands, index_length, index_placed, says_array}
 use Rattle.h5w_array_laws.proofs.WriteLemmas.{writes_leave}
+use Rattle.h5w_flush_laws.specs.Knowledge.{HeldMissed}
 use Rattle.h5w_flush_laws.specs.Spaces.{Taken}
-use Rattle.h5w_flush_laws.specs.Parts.{Parts, IsFlush, block_ranges, block_writes, copied, ended, pieces_of}
+use Rattle.h5w_flush_laws.specs.Parts.{Parts, IsFlush, block_ranges, block_writes, copied, ended}
 use Rattle.h5w_flush_laws.proofs.FlushLemmas.{end_misses}
 use Rattle.h5w_flush_laws.proofs.SpaceLemmas.{taken_disjoint}
 use Rattle.h5w_array_flushes.specs.ArrayFlushes.{chunks_for}
 use Rattle.h5w_starting_laws.specs.Starting.{no_chunk}
-use Rattle.h5w_starting_laws.specs.StartFlushes.{IsStartingPart}
 use Rattle.h5w_starting_laws.proofs.FirstLemmas as first
-use Rattle.h5w_starting_laws.proofs.FirstLemmas.{ShowsFirst, header_of, second_of}
+use Rattle.h5w_starting_laws.proofs.FirstLemmas.{RisesTo, ShowsFirst, header_of, second_of}
 use Rattle.h5w_starting_laws.proofs.StartPieceLemmas.{two_writes}
 use Rattle.h5w_block_laws.specs.HeaderAlone.{AloneKnows, IsAlone}
 use Rattle.h5w_block_laws.specs.BlockFlushes.{new_block, block_piece, top_piece, block_parts_for, IsBlockStart, BlockIsFlush, BlockPieces}
@@ -67,7 +65,7 @@ block_pieces img m s t u v w ms rows more writes chunks copies fixed supers last
 -- ---- The flush
 
 module _ (img name : List ℕ) (m : Moment) (base b t : Space) (u v w : Store) (ms : List Move) (rows : ℕ) (more : List ℤ) (writes : List Write) (places : List ChunkPlace) (copies : List (ℕ × List ℕ)) (fixed supers : List Write)
-    (r : AloneKnows img name m base) (x : IsBlockStart m base b u v ms w t rows more writes places copies fixed supers) where
+    (r : AloneKnows img name m base) (x : IsBlockStart img m base b u v ms w t rows more writes places copies fixed supers) where
   abbrev f : Parts
   f = block_parts_for m w rows more writes places copies supers t.end
 
@@ -167,10 +165,16 @@ module _ (img name : List ℕ) (m : Moment) (base b t : Space) (u v w : Store) (
     named = tt;
   }
 
+  rising : RisesTo img m t rows more f places supers
+  rising = record { rises = x.rises; small = x.small; few = x.few; count = x.count; placed = x.placed; ended = x.ended }
+
   is_flush : IsFlush img m no_chunk base (block_parts_for m w rows more writes places copies supers t.end) t
   is_flush =
-      first.first_is_flush img name m base b t u v w ms rows more writes places copies (new_block w) fixed supers (top_piece w ∷ []) None (top ∷ []) r.knows x.blank x.part taken
-      (record { rises = x.rises; small = x.small; few = x.few; count = x.count; placed = x.placed; ended = x.ended }) shows
+      first.first_is_flush img name m base b t u v w ms rows more writes places copies (new_block w) fixed supers (top_piece w ∷ []) None (top ∷ []) r.knows x.blank x.part taken rising shows
+
+  pub block_missed : HeldMissed r.knows.held writes
+  block_missed =
+      first.first_missed img name m base b t u v w ms rows more writes places copies (new_block w) fixed supers (top_piece w ∷ []) None (top ∷ []) r.knows x.blank x.part taken rising shows
 
 pub block_is_flush : BlockIsFlush
 block_is_flush img name m base b t u v w ms rows more writes places copies fixed supers r x = is_flush img name m base b t u v w ms rows more writes places copies fixed supers r x

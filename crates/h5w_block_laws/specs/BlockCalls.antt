@@ -26,7 +26,7 @@ use Rattle.h5w_block_laws.specs.HeaderAlone.{AloneKnows}
 use Rattle.h5w_block_laws.specs.BlockFlushes.{IsBlockStart, block_parts_for}
 
 -- the calls of such a flush
-pub record AreBlockCalls (m : Moment) (base b : Space) (place : ℕ) (u v : Store) (ms : List Move) (w : Store) (t : Space) (rows : ℕ) (more : List ℤ) (writes : List Write) (places : List ChunkPlace)
+pub record AreBlockCalls (img : List ℕ) (m : Moment) (base b : Space) (place : ℕ) (u v : Store) (ms : List Move) (w : Store) (t : Space) (rows : ℕ) (more : List ℤ) (writes : List Write) (places : List ChunkPlace)
     (cs fixed supers : List Write) : Type 0 where
   pub rises : m.dataset.shape.rows < rows
   pub small : rows < 2 ^ 64
@@ -36,7 +36,7 @@ pub record AreBlockCalls (m : Moment) (base b : Space) (place : ℕ) (u v : Stor
   pub taken : Taken base (block_at place eaib_len ∷ chunks_for m no_chunk places) b
   pub made : IsMade m.dataset.layout.address place u
   pub names : NamesChunks (chunk_bytes m.dataset) u (chunks_for m no_chunk places) v
-  pub placed : (copies : List (ℕ × List ℕ)) → ArePlaced m no_chunk (block_parts_for m w rows more writes places copies supers t.end) places
+  pub placed : (copies : List (ℕ × List ℕ)) → ArePlaced img m no_chunk (block_parts_for m w rows more writes places copies supers t.end) places
   pub plan : IsArrayPlan v b ms cs fixed w t
   pub ended : AreEnded m.super t.end supers
 
@@ -56,16 +56,16 @@ pub record CallsBlock (img name : List ℕ) (m : Moment) (base b : Space) (u v :
     (cs fixed supers : List Write) : Type 0 where
   pub copies : List (ℕ × List ℕ)
   pub blocks : cs ≡ block_writes copies
-  pub start : IsBlockStart m base b u v ms w t rows more writes places copies fixed supers
+  pub start : IsBlockStart img m base b u v ms w t rows more writes places copies fixed supers
   pub pieces : (ws : List Write) → AreOrdered img m rows writes cs fixed supers ws → pieces_of img m (block_parts_for m w rows more writes places copies supers t.end) ≡ ws
 
 abbrev pub BlockCalls : Type 0
 BlockCalls = (img name : List ℕ) (m : Moment) (base b t : Space) (place : ℕ) (u v w : Store) (ms : List Move) (rows : ℕ) (more : List ℤ) (writes : List Write) (places : List ChunkPlace) (cs fixed supers : List Write)
-    → AloneKnows img name m base → AreBlockCalls m base b place u v ms w t rows more writes places cs fixed supers
+    → AloneKnows img name m base → AreBlockCalls img m base b place u v ms w t rows more writes places cs fixed supers
     → CallsBlock img name m base b u v ms w t rows more writes places cs fixed supers
 
 -- A session whose log has come to such a file plans that flush, of all values that were appended: the dataset header names what it named.
 abbrev pub BlockPending : Type 0
 BlockPending = (name : List ℕ) (log : Log) (m : Moment) (base b t : Space) (place : ℕ) (u v w : Store) (ms : List Move) (rows : ℕ) (more : List ℤ) (writes : List Write) (places : List ChunkPlace)
-    (cs fixed supers ws : List Write) → Runs name log [] m m.behind → AloneKnows (image_now log) name m base → AreBlockCalls m base b place u v ms w t rows more writes places cs fixed supers
+    (cs fixed supers ws : List Write) → (k : AloneKnows (image_now log) name m base) → Runs name log [] m k.knows.held → AreBlockCalls (image_now log) m base b place u v ms w t rows more writes places cs fixed supers
     → m.values ++ more ≡ appended log → AreOrdered (image_now log) m rows writes cs fixed supers ws → ArePending name log m None w t rows more ws

@@ -46,7 +46,7 @@ block_parts_for m w rows more writes places copies supers last = block_parts (ch
 
 -- What a session shows of such a flush, over the places as they were before any were taken for it: `u` is an array without chunks, whose header
 -- is at the place of the file's.
-pub record IsBlockStart (m : Moment) (base b : Space) (u v : Store) (ms : List Move) (w : Store) (t : Space) (rows : ℕ) (more : List ℤ) (writes : List Write) (places : List ChunkPlace) (copies : List (ℕ × List ℕ))
+pub record IsBlockStart (img : List ℕ) (m : Moment) (base b : Space) (u v : Store) (ms : List Move) (w : Store) (t : Space) (rows : ℕ) (more : List ℤ) (writes : List Write) (places : List ChunkPlace) (copies : List (ℕ × List ℕ))
     (fixed supers : List Write) : Type 0 where
   pub rises : m.dataset.shape.rows < rows
   pub small : rows < 2 ^ 64
@@ -56,7 +56,7 @@ pub record IsBlockStart (m : Moment) (base b : Space) (u v : Store) (ms : List M
   pub at : header_place u ≡ m.dataset.layout.address
   -- the places of the index block and of the new chunks, in whatever order they were taken
   pub taken : Taken base (block_at (place_at_part u index_block) eaib_len ∷ chunks_for m no_chunk places) b
-  pub placed : ArePlaced m no_chunk (block_parts_for m w rows more writes places copies supers t.end) places
+  pub placed : ArePlaced img m no_chunk (block_parts_for m w rows more writes places copies supers t.end) places
   pub part : IsStartingPart m u v b ms w t (chunks_for m no_chunk places) copies fixed
   pub ended : AreEnded m.super t.end supers
 
@@ -75,17 +75,17 @@ BlockPieces = (img : List ℕ) (m : Moment) (s t : Space) (u v w : Store) (ms : 
 -- It is a flush.
 abbrev pub BlockIsFlush : Type 0
 BlockIsFlush = (img name : List ℕ) (m : Moment) (base b t : Space) (u v w : Store) (ms : List Move) (rows : ℕ) (more : List ℤ) (writes : List Write) (places : List ChunkPlace) (copies : List (ℕ × List ℕ))
-    (fixed supers : List Write) → AloneKnows img name m base → IsBlockStart m base b u v ms w t rows more writes places copies fixed supers
+    (fixed supers : List Write) → AloneKnows img name m base → IsBlockStart img m base b u v ms w t rows more writes places copies fixed supers
     → IsFlush img m no_chunk base (block_parts_for m w rows more writes places copies supers t.end) t
 
 -- Its pieces are safe steps. Once all are shown the array rests, as one that was always whole: so each later flush is that of such an array.
 abbrev pub BlockLeads : Type 0
 BlockLeads = (img name : List ℕ) (m : Moment) (base b t : Space) (u v w : Store) (ms : List Move) (rows : ℕ) (more : List ℤ) (writes : List Write) (places : List ChunkPlace) (copies : List (ℕ × List ℕ))
-    (fixed supers : List Write) → AloneKnows img name m base → IsBlockStart m base b u v ms w t rows more writes places copies fixed supers
-    → IsStarted img name m t w (block_parts_for m w rows more writes places copies supers t.end)
+    (fixed supers : List Write) → (k : AloneKnows img name m base) → IsBlockStart img m base b u v ms w t rows more writes places copies fixed supers
+    → IsStarted img name m k.knows.held t w (block_parts_for m w rows more writes places copies supers t.end)
 
 -- The same over a session's log: a flush is planned of all values that were appended.
 abbrev pub BlockRuns : Type 0
 BlockRuns = (name : List ℕ) (log : Log) (m : Moment) (base b t : Space) (u v w : Store) (ms : List Move) (rows : ℕ) (more : List ℤ) (writes : List Write) (places : List ChunkPlace) (copies : List (ℕ × List ℕ))
-    (fixed supers : List Write) → Runs name log [] m m.behind → AloneKnows (image_now log) name m base → IsBlockStart m base b u v ms w t rows more writes places copies fixed supers
+    (fixed supers : List Write) → (k : AloneKnows (image_now log) name m base) → Runs name log [] m k.knows.held → IsBlockStart (image_now log) m base b u v ms w t rows more writes places copies fixed supers
     → m.values ++ more ≡ appended log → IsStartedOver name log m t w (block_parts_for m w rows more writes places copies supers t.end)

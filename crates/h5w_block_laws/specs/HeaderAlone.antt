@@ -38,14 +38,14 @@ pub record IsAlone (img : List ℕ) (m : Moment) : Type 0 where
 abbrev pub AloneNowhere : Type 0
 AloneNowhere = (img name : List ℕ) (m : Moment) → Represents img name m → IsHeaderAlone img m.dataset → IsAlone img m
 
--- A session begins with such a file: the places begin at its end.
+-- A session begins with such a file: the places begin at its end, and readers hold no more than what it has.
 abbrev pub AloneBegins : Type 0
-AloneBegins = (img name : List ℕ) (m : Moment) (s : Space) → Represents img name m → IsHeaderAlone img m.dataset → IsBegun m s → AloneKnows img name m s
+AloneBegins = (img name : List ℕ) (m : Moment) (s : Space) → Represents img name m → IsHeaderAlone img m.dataset → IsBegun m s → (x : AloneKnows img name m s) × (x.knows.held ≡ m.behind)
 
 -- The superblock with other flags leaves that known.
 abbrev pub AloneEnds : Type 0
-AloneEnds = (img name : List ℕ) (m n : Moment) (s : Space) (w : Write) → AloneKnows img name m s → Ends img m w n → n.super.end ≤ s.end → AloneKnows (apply w img) name n s
+AloneEnds = (img name : List ℕ) (m n : Moment) (s : Space) (w : Write) → (k : AloneKnows img name m s) → Ends img m w n → n.super.end ≤ s.end → (x : AloneKnows (apply w img) name n s) × (x.knows.held ≡ k.knows.held)
 
 -- So do places where what was let go is free.
 abbrev pub AloneFreed : Type 0
-AloneFreed = (img name : List ℕ) (m : Moment) (s t : Space) → AloneKnows img name m s → Commits s t → AloneKnows img name m t
+AloneFreed = (img name : List ℕ) (m : Moment) (s t : Space) → (k : AloneKnows img name m s) → Commits s t → (x : AloneKnows img name m t) × (x.knows.held ≡ k.knows.held)

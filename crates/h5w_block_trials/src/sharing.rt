@@ -72,7 +72,7 @@ fn a_reader_sees_what_a_note_told(rt: HostRuntime) -> Result<(), Fail> {
     let history = writer.history(&rt, &image)?;
     assert_eq!(rt; history.len(), 1);
     let first = history.get(0).ok_or("no piece")?;
-    assert_eq!(rt; first.piece.as_slice(), [7, 8].as_slice());
+    assert_eq!(rt; first.piece, [7, 8].as_slice());
     Ok(())
 }
 

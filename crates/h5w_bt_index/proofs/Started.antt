@@ -5,7 +5,6 @@ use Rattle.std.proofs.lemmas.List.Elements.{All-cons, All-nil}
 use Rattle.h5w_model.specs.Trees.{node_size}
 use Rattle.h5w_model.specs.declared.piece.Write.{Write}
 use Rattle.h5w_space.specs.Space.{Space}
-use Rattle.h5w_cache.specs.Plans.{AreRetired}
 use Rattle.h5w_cache.specs.declared.moves.Move.{Move}
 use Rattle.h5w_bt_index.specs.Index.{Index}
 use Rattle.h5w_bt_index.specs.Plans.{AreNodeMoves, IsBegun, IsTreePlan, Start, news, planned}
@@ -16,17 +15,17 @@ pub moves_end : (s : Space) (ms : List Move) (t : Space) → AreNodeMoves s ms t
 moves_end s [] t h = All-nil (λ (p : ℕ). p + node_size < 2 ^ 64)
 moves_end s (m ∷ ms) t h = All-cons (λ (p : ℕ). p + node_size < 2 ^ 64) m.new (news ms) (h.1).ends (moves_end h.0 ms t h.2)
 
-pub planned_by : (place : ℕ) (v : Index) (s : Space) (b : Start) (ms : List Move) (cs fs : List Write) (w : Index) (t : Space) → IsBegun place v s b → ms ≡ b.moves → cs ≡ b.copies → fs ≡ b.in_place
-    → AreRetired b.next b.moves t → w ≡ planned (news b.moves) v → IsTreePlan place v s ms cs fs w t
-planned_by place v s b ms cs fs w t begun em ec ef retired is =
+pub planned_by : (place : ℕ) (v : Index) (s : Space) (b : Start) (ms : List Move) (cs fs : List Write) (w : Index) (t : Space) → IsBegun place v s b t → ms ≡ b.moves → cs ≡ b.copies → fs ≡ b.in_place
+    → w ≡ planned (news b.moves) v → IsTreePlan place v s ms cs fs w t
+planned_by place v s b ms cs fs w t begun em ec ef is =
     let P : List Move → List Write → List Write → Index → Type 0 = λ a c f u. IsTreePlan place v s a c f u t in
     subst (λ (u : Index). P ms cs fs u) (sym is)
     (subst (λ (a : List Move). P a cs fs (planned (news b.moves) v)) (sym em)
     (subst (λ (c : List Write). P b.moves c fs (planned (news b.moves) v)) (sym ec)
     (subst (λ (f : List Write). P b.moves b.copies f (planned (news b.moves) v)) (sym ef) (record {
-      roomy = b.next;
+      roomy = begun.roomy;
       taken = begun.taken;
-      retired = retired;
+      retired = begun.retired;
       index = λ i. planned (news b.moves) v;
       copies = begun.copies;
       in_place = begun.in_place;

@@ -133,12 +133,18 @@ pub record HasNoPlace (n : ℕ) (s : Space) (e : Full) : Type 0 where
   pub inside : length taken < n
   pub refused : IsRefused t node_size e
 
--- What contracts see of a plan that is begun: the moves of the changed nodes, the writes, and the places before any is retired.
+-- The places of some nodes were taken, and none that a node had is retired.
+pub record TookSome (s t : Space) : Type 0 where
+  pub moves : List Move
+  pub taken : Space
+  pub took : AreNodeMoves s moves taken
+  pub roomy : t ≡ record taken { spare = t.spare }
+
+-- What contracts see of a plan that is begun: the moves of the changed nodes, and the writes.
 pub record Start : Type 0 where
   pub moves : List Move
   pub copies : List Write
   pub in_place : List Write
-  pub next : Space
 
 -- the moves are those of the changed nodes, in their order, and the places after them have room for as many retirements
 pub record AreTaken (v : Index) (s : Space) (ms : List Move) (t : Space) : Type 0 where
@@ -147,12 +153,21 @@ pub record AreTaken (v : Index) (s : Space) (ms : List Move) (t : Space) : Type 
   pub moves : AreNodeMoves s ms taken
   pub roomy : t ≡ record taken { spare = max taken.spare (length ms) }
 
--- It was begun of this tree, whose header stands at a place, and of these places.
-pub record IsBegun (header : ℕ) (v : Index) (s : Space) (b : Start) : Type 0 where
-  pub taken : AreTaken v s b.moves b.next
+-- It was begun of this tree, whose header stands at a place, on places s, which are t then: the changed nodes have their places, in their
+-- order, and those that they leave are retired.
+pub record IsBegun (header : ℕ) (v : Index) (s : Space) (b : Start) (t : Space) : Type 0 where
+  pub roomy : Space
+  pub taken : AreTaken v s b.moves roomy
+  pub retired : AreRetired roomy b.moves t
   pub copies : b.copies ≡ writes_of (written v.depth (news b.moves) v.root)
   pub in_place : b.in_place ≡ header_writes header v (planned (news b.moves) v)
   pub reads : AllRead v.depth (news b.moves) v.root
+
+-- It was begun of this tree, on some places.
+pub record WasBegun (header : ℕ) (v : Index) (b : Start) : Type 0 where
+  pub from : Space
+  pub to : Space
+  pub begun : IsBegun header v from b to
 
 -- The changed nodes got new places, in their order, and are written there; the places that they leave are retired, where they are
 -- live; the header names the root.

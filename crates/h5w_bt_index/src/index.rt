@@ -7,7 +7,7 @@ ghost use Rattle.h5w_cache.specs.Plans.{IfFull};
 ghost use Rattle.h5w_bt.specs.Fields.{bthd_of};
 ghost use Rattle.h5w_bt.specs.Parts.{IsHeader};
 ghost use Rattle.h5w_bt_index.specs.Held.{header_place, view_of};
-ghost use Rattle.h5w_bt_index.specs.Plans.{HasNoPlace, IsBegun, IsTreePlan, changes, header_of};
+ghost use Rattle.h5w_bt_index.specs.Plans.{HasNoPlace, IsBegun, IsTreePlan, TookSome, WasBegun, changes, header_of};
 ghost use Rattle.h5w_bt_index.specs.Marks.{Part, clean_of};
 ghost use Rattle.h5w_space.specs.Space.{Space};
 ghost use Rattle.h5w_bt_index.specs.Nodes.{address_in, records_of, total_of};
@@ -285,24 +285,31 @@ impl TreeIndex {
         self.root.is_clean()
     }
 
-    /// Begins the plan of all changed nodes: takes all memory and places that [`TreeIndex::finish`] needs, and changes nothing.
-    pub fn begin(&self, places: &Places) -> Result<Begun, PlanError>
+    /// Begins the plan of all changed nodes: takes all memory that [`TreeIndex::finish`] needs, and settles the places. The nodes take new
+    /// ones, and those that they had are retired, where they are live.
+    ///
+    /// The tree does not change. After a refusal the places are of no use: some are taken.
+    pub fn begin(&self, places: &mut Places) -> Result<Begun, PlanError>
         requires { IsShaped (view_of self.now) }
-        ensures begun { IfOk result (λ b. IsBegun (header_place self.now) (view_of self.now) places.now b) }
+        ensures begun { IfOk result (λ b. IsBegun (header_place self.now) (view_of self.now) places.old b places.new) }
         // the first node in turn that has no place
-        ensures full { IfErr result (λ e. IfFull e (HasNoPlace (changes (view_of self.now).depth (view_of self.now).root) places.now)) }
+        ensures full { IfErr result (λ e. IfFull e (HasNoPlace (changes (view_of self.now).depth (view_of self.now).root) places.old)) }
+        // some nodes have their places then, and none is retired
+        ensures left { OnErr result (TookSome places.old places.new) }
     {
         begin(&self.root, self.header, self.alloc, places)
     }
 
-    /// The writes of all changed nodes and of the header, of a plan that was begun of this tree and these places: nodes at new places,
-    /// children before their parent, the header where it stands. All is clean from then on.
+    /// The writes of all changed nodes and of the header, of a plan that was begun of this tree: nodes at new places, children before their
+    /// parent, the header where it stands. All is clean from then on.
     ///
     /// It cannot fail.
-    pub fn finish(&mut self, places: &mut Places, begun: Begun) -> Plan
+    pub fn finish(&mut self, begun: Begun) -> Plan
         requires shape { IsShaped (view_of self.old) }
-        requires begun { IsBegun (header_place self.old) (view_of self.old) places.old begun }
-        ensures planned { IsTreePlan (header_place self.old) (view_of self.old) places.old result.moves.items result.copies.items result.in_place.items (view_of self.new) places.new }
+        requires begun { WasBegun (header_place self.old) (view_of self.old) begun }
+        // on whichever places it was begun
+        ensures planned { (s t : Space) → IsBegun (header_place self.old) (view_of self.old) s begun t
+            → IsTreePlan (header_place self.old) (view_of self.old) s result.moves.items result.copies.items result.in_place.items (view_of self.new) t }
         ensures shape { IsShaped (view_of self.new) }
         ensures index { IsIndex (view_of self.old) → IsIndex (view_of self.new) }
         ensures shares { KeepsShares (view_of self.old) (view_of self.new) }
@@ -311,29 +318,8 @@ impl TreeIndex {
         ensures moves { result.moves.items ≡ begun.moves }
         ensures copies { result.copies.items ≡ begun.copies }
         ensures in_place { result.in_place.items ≡ begun.in_place }
-        ensures end { places.new.end ≡ begun.next.end }
     {
-        finish(&mut self.root, places, begun)
-    }
-
-    /// The writes of all changed nodes and of the header: nodes at new places, children before their parent, the header where it
-    /// stands. All is clean from then on.
-    ///
-    /// A refused plan changes nothing.
-    pub fn plan(&mut self, places: &mut Places) -> Result<Plan, PlanError>
-        requires { IsShaped (view_of self.old) }
-        ensures planned { IfOk result (λ p. IsTreePlan (header_place self.old) (view_of self.old) places.old p.moves.items p.copies.items p.in_place.items (view_of self.new) places.new) }
-        ensures shape { IsShaped (view_of self.new) }
-        ensures index { IsIndex (view_of self.old) → IsIndex (view_of self.new) }
-        ensures shares { KeepsShares (view_of self.old) (view_of self.new) }
-        ensures place { header_place self.new ≡ header_place self.old }
-        // the first node in turn that has no place
-        ensures full { IfErr result (λ e. IfFull e (HasNoPlace (changes (view_of self.old).depth (view_of self.old).root) places.old)) }
-        ensures kept { OnErr result (view_of self.new ≡ view_of self.old) }
-        ensures places { OnErr result (places.new ≡ places.old) }
-    {
-        let begun = self.begin(places)?;
-        Ok(self.finish(places, begun))
+        finish(&mut self.root, begun)
     }
 
     /// A copy.

@@ -2,10 +2,10 @@
 
 ghost use Rattle.std.specs.Prelude.{◌≡◌, ℕ, ◌+◌, ◌<◌, ◌≤◌, ◌^◌, [], length, IfErr, IfOk, OnErr, OnOk, vec_capacity};
 ghost use Rattle.std.specs.List.{All};
-ghost use Rattle.h5w_cache.specs.Plans.{AreRetired, IfFull, IsRefused};
+ghost use Rattle.h5w_cache.specs.Plans.{IfFull, IsRefused};
 ghost use Rattle.h5w_bt.specs.Fields.{bthd_of};
 ghost use Rattle.h5w_bt_index.specs.Index.{IsShaped, index_of};
-ghost use Rattle.h5w_bt_index.specs.Plans.{AllRead, AreNodeMoves, AreTaken, HasNoPlace, IsBegun, IsNodeMove, changes, header_writes, news, olds, planned, stood, writes_of, written};
+ghost use Rattle.h5w_bt_index.specs.Plans.{AllRead, AreNodeMoves, AreTaken, HasNoPlace, IsBegun, IsNodeMove, TookSome, changes, header_writes, news, olds, planned, stood, writes_of, written};
 
 use crate::bytes::put_header;
 use crate::root::Root;
@@ -16,13 +16,12 @@ use h5w_space::{Full, Places};
 use std::alloc::Global;
 use std::marker::Model;
 
-/// A plan that is begun: its moves and its writes, and the places after them. Nothing has changed yet.
+/// A plan that is begun: its moves and its writes. It has its places, and no node has changed yet.
 #[derive(Drop)]
 pub struct Begun {
     plan: Plan,
     /// The places that the changed nodes get, in the order in which they are written.
     new: Vec<u64>,
-    next: Places,
 }
 
 impl Model for Begun {
@@ -35,7 +34,6 @@ impl Model for Begun {
       moves = b.plan.moves.items;
       copies = b.plan.copies.items;
       in_place = b.plan.in_place.items;
-      next = b.next;
     } };
 
     ghost invariant = { λ b. b.new.items ≡ news b.plan.moves.items };
@@ -54,13 +52,6 @@ impl Begun {
         ensures { result ≡ length self.now.in_place }
     {
         self.plan.in_place.len()
-    }
-
-    /// The first byte after the file, once the plan is finished.
-    pub fn end(&self) -> u64
-        ensures { result ≡ self.now.next.end }
-    {
-        self.next.end()
     }
 }
 
@@ -88,26 +79,27 @@ fn move_all(stood: &[u64], moves: &mut Vec<Move>, places: &mut Places) -> Result
     ensures old { OnOk result (olds moves.new.items ≡ stood.now) }
     ensures moves { OnOk result (AreNodeMoves places.old moves.new.items places.new) }
     ensures full { IfErr result (HasNoPlace (length stood.now) places.old) }
+    ensures left { OnErr result (TookSome places.old places.new) }
 {
     for old in stood {
-        let step = move_from(*old, places)?;
-        moves.push_reserved(step);
+        let node_move = move_from(*old, places)?;
+        moves.push_reserved(node_move);
     }
     Ok(())
 }
 
-/// The moves of the changed nodes, and the places after them.
-fn moves_of(root: &Root, alloc: Global, places: &Places) -> Result<(Vec<Move>, Places), PlanError>
-    ensures taken { IfOk result (λ r. AreTaken (index_of root.now) places.now r.0.items r.1) }
-    ensures full { IfErr result (λ e. IfFull e (HasNoPlace (changes (index_of root.now).depth (index_of root.now).root) places.now)) }
+/// The moves of the changed nodes, whose places are taken; there is room to retire those that they leave.
+fn moves_of(root: &Root, alloc: Global, places: &mut Places) -> Result<Vec<Move>, PlanError>
+    ensures taken { IfOk result (λ v. AreTaken (index_of root.now) places.old v.items places.new) }
+    ensures full { IfErr result (λ e. IfFull e (HasNoPlace (changes (index_of root.now).depth (index_of root.now).root) places.old)) }
+    ensures left { OnErr result (TookSome places.old places.new) }
 {
     let mut stood = Vec::new(alloc);
     root.stood(&mut stood)?;
     let mut moves = Vec::with_capacity(alloc, stood.len())?;
-    let mut next = places.copy()?;
-    move_all(&stood, &mut moves, &mut next).map_err(PlanError::Full)?;
-    next.reserve(moves.len() as u64)?;
-    Ok((moves, next))
+    move_all(&stood, &mut moves, places).map_err(PlanError::Full)?;
+    places.reserve(moves.len() as u64)?;
+    Ok(moves)
 }
 
 /// The places that nodes get.
@@ -115,8 +107,8 @@ fn news(moves: &Vec<Move>) -> Result<Vec<u64>, OutOfMemory>
     ensures { IfOk result (λ v. v.items ≡ news moves.now.items) }
 {
     let mut places = Vec::with_capacity(*moves.allocator(), moves.len())?;
-    for step in moves {
-        places.push(step.new)?;
+    for node_move in moves {
+        places.push(node_move.new)?;
     }
     Ok(places)
 }
@@ -155,35 +147,39 @@ fn writes_at(
     Ok((copies, in_place))
 }
 
-/// All that a plan of the changed nodes needs.
-pub fn begin(root: &Root, place: u64, alloc: Global, places: &Places) -> Result<Begun, PlanError>
+/// All that a plan of the changed nodes needs, on these places.
+pub fn begin(
+    root: &Root,
+    place: u64,
+    alloc: Global,
+    places: &mut Places,
+) -> Result<Begun, PlanError>
     requires { IsShaped (index_of root.now) }
-    ensures begun { IfOk result (λ b. IsBegun place (index_of root.now) places.now b) }
-    ensures full { IfErr result (λ e. IfFull e (HasNoPlace (changes (index_of root.now).depth (index_of root.now).root) places.now)) }
+    ensures begun { IfOk result (λ b. IsBegun place (index_of root.now) places.old b places.new) }
+    ensures full { IfErr result (λ e. IfFull e (HasNoPlace (changes (index_of root.now).depth (index_of root.now).root) places.old)) }
+    ensures left { OnErr result (TookSome places.old places.new) }
 {
-    let (moves, next) = moves_of(root, alloc, places)?;
+    let moves = moves_of(root, alloc, places)?;
     let new = news(&moves)?;
     let (copies, in_place) = writes_at(root, place, &new)?;
+    retire_all(&moves, places);
     let plan = Plan {
         moves,
         copies,
         in_place,
     };
-    Ok(Begun { plan, new, next })
+    Ok(Begun { plan, new })
 }
 
-/// The plan that was begun of this tree and these places; all nodes are clean from then on.
-pub fn finish(root: &mut Root, places: &mut Places, begun: Begun) -> Plan
-    requires taken { AreTaken (index_of root.old) places.old begun.moves begun.next }
+/// The plan that was begun of this tree; all nodes are clean from then on.
+pub fn finish(root: &mut Root, begun: Begun) -> Plan
+    requires old { olds begun.moves ≡ stood (index_of root.old).depth (index_of root.old).root }
     ensures moves { result.moves.items ≡ begun.moves }
     ensures copies { result.copies.items ≡ begun.copies }
     ensures in_place { result.in_place.items ≡ begun.in_place }
-    ensures retired { AreRetired begun.next begun.moves places.new }
     ensures planned { index_of root.new ≡ planned (news begun.moves) (index_of root.old) }
 {
-    let Begun { plan, new, next } = begun;
-    *places = next;
-    retire_all(&plan.moves, places);
+    let Begun { plan, new } = begun;
     root.settle(&new);
     plan
 }

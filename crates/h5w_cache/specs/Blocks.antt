@@ -1,9 +1,11 @@
 -- One block as it is kept: its bytes with addresses of other blocks in them, and where those stand.
-use Rattle.std.specs.Prelude.{ℕ, ◌+◌, ◌-◌, ◌≤◌, ◌==◌, Bool, List, [], ◌∷◌, ◌++◌, take, drop, if◌then◌else◌}
+use Rattle.std.specs.Prelude.{ℕ, ◌+◌, ◌-◌, ◌≤◌, ◌==◌, Bool, true, false, List, [], ◌∷◌, ◌++◌, take, drop, if◌then◌else◌}
 use Rattle.std.specs.List.{All}
 use Rattle.h5w_model.specs.Numbers.{le, undefined}
 use Rattle.h5w_model.specs.Checksum.{sealed_block}
 use Rattle.h5w_cache.specs.declared.block.Link.{Link}
+use Rattle.h5w_cache.specs.declared.block.Placement.{Placement}
+use Rattle.h5w_cache.specs.declared.block.Placement.TheVariants.{Copied, InPlace}
 
 -- what contracts see of a block
 pub record BlockView : Type 0 where
@@ -16,6 +18,11 @@ pub record BlockView : Type 0 where
   pub in_place : Bool
   -- so many bytes from the front end in their sum
   pub sealed : ℕ
+
+-- a block in place stays at the place that it has, and a copied one gets a new place each time
+abbrev pub stays_by : Placement → Bool
+stays_by InPlace = true
+stays_by Copied = false
 
 -- each link lies in n bytes
 abbrev pub AreInside : List Link → ℕ → Type 0

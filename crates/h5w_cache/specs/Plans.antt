@@ -160,6 +160,13 @@ pub record AreTaken (blocks : List (Option BlockView)) (places : List ℕ) (s : 
   pub moves : AreMoves blocks places s ms taken
   pub roomy : t ≡ record taken { spare = max taken.spare (length ms) }
 
+-- the places of some blocks were taken, and none that a block had is retired
+pub record TookSome (blocks : List (Option BlockView)) (places : List ℕ) (s t : Space) : Type 0 where
+  pub moves : List Move
+  pub taken : Space
+  pub took : AreMoves blocks places s moves taken
+  pub roomy : t ≡ record taken { spare = t.spare }
+
 -- the store with blocks at their new places, which name each other's, and all clean
 abbrev pub settled : List Move → Store → Store
 settled ms v = record { blocks = respelled (place_in (moved ms v.places)) ms v.blocks; places = moved ms v.places; changed = [] }

@@ -1,9 +1,9 @@
--- A plan that is begun: it has all places and memory that it needs, and nothing has changed yet.
+-- A plan that is begun: it has all places and memory that it needs, and nothing has changed yet but the places.
 use Rattle.std.specs.Prelude.{◌≡◌, ℕ, ◌≤◌, List, [], length, take, drop, vec_capacity, Option}
 use Rattle.std.specs.List.{sum_by}
 use Rattle.h5w_space.specs.Space.{Space}
 use Rattle.h5w_cache.specs.Blocks.{BlockView}
-use Rattle.h5w_cache.specs.Plans.{AreTaken, IsOrder, IsSplit, numbers, piece_count}
+use Rattle.h5w_cache.specs.Plans.{AreRetired, AreTaken, IsOrder, IsSplit, numbers, piece_count}
 use Rattle.h5w_cache.specs.declared.moves.Move.{Move}
 use Rattle.h5w_cache.specs.declared.plan.Plan.{Plan}
 
@@ -13,8 +13,6 @@ pub record Start : Type 0 where
   pub moves : List Move
   -- how many of them stand before the first in place
   pub split : ℕ
-  -- the places after them, before any is retired
-  pub next : Space
 
 -- how many pieces the blocks before the first in place will have, and those from it on
 abbrev pub copy_pieces : Start → ℕ
@@ -33,8 +31,17 @@ pub record HasRooms (plan : Plan) (split copied fixed : ℕ) : Type 0 where
   pub room_copies : copied ≤ vec_capacity plan.copies
   pub room_in_place : fixed ≤ vec_capacity plan.in_place
 
--- it was begun of this store and these places: the changed blocks have their places, in turn
-pub record IsBegun (blocks : List (Option BlockView)) (places changed : List ℕ) (s : Space) (b : Start) : Type 0 where
+-- it was begun of this store on places s, which are t then: the changed blocks have their places, in turn, and those that they
+-- leave are retired
+pub record IsBegun (blocks : List (Option BlockView)) (places changed : List ℕ) (s : Space) (b : Start) (t : Space) : Type 0 where
   pub order : IsOrder blocks changed (numbers b.moves)
-  pub taken : AreTaken blocks places s b.moves b.next
+  pub roomy : Space
+  pub taken : AreTaken blocks places s b.moves roomy
+  pub retired : AreRetired roomy b.moves t
   pub split : IsSplit b.moves b.split
+
+-- it was begun of this store, on some places
+pub record WasBegun (blocks : List (Option BlockView)) (places changed : List ℕ) (b : Start) : Type 0 where
+  pub from : Space
+  pub to : Space
+  pub begun : IsBegun blocks places changed from b to

@@ -1,6 +1,6 @@
 ghost use Rattle.std.specs.Prelude.{◌≡◌, ℕ, ◌+◌, ◌-◌, ◌<◌, ◌≤◌, ◌^◌, IfOk, length, slice_index_or};
 ghost use Rattle.h5w_model.specs.Numbers.{undefined};
-ghost use Rattle.h5w_cache.specs.Blocks.{AreInside, linked, numbered, patched, sealed_front, spelled, with_number};
+ghost use Rattle.h5w_cache.specs.Blocks.{AreInside, linked, numbered, patched, sealed_front, spelled, stays_by, with_number};
 
 use h5w_bytes::{UNDEFINED, put};
 use h5w_model::OutOfMemory;
@@ -15,6 +15,27 @@ pub struct Link {
     pub offset: usize,
     /// The number under which the other block is kept, if it is.
     pub child: u32,
+}
+
+/// Where a block is written once it changed.
+#[derive(Clone, Copy)]
+pub enum Placement {
+    /// At the place that it has.
+    InPlace,
+    /// At a new place each time.
+    Copied,
+}
+
+impl Placement {
+    /// Whether the block stays at the place that it has.
+    fn stays(self) -> bool
+        ensures { result ≡ stays_by self }
+    {
+        match self {
+            Placement::InPlace => true,
+            Placement::Copied => false,
+        }
+    }
 }
 
 /// A block as it is written.
@@ -88,18 +109,24 @@ fn spell(bytes: &mut [u8], places: &[u64], links: &[Link], sealed: usize)
 
 impl Block {
     /// A block of these bytes, of which the first `sealed` end in their sum once it is written. It is written in
-    /// its turn, in place or at a new place each time, with the places of the blocks that it links to.
-    pub fn new(bytes: Vec<u8>, links: Vec<Link>, turn: u64, in_place: bool, sealed: usize) -> Block
+    /// its turn, in place or as a copy, with the places of the blocks that it links to.
+    pub fn new(
+        bytes: Vec<u8>,
+        links: Vec<Link>,
+        turn: u64,
+        placement: Placement,
+        sealed: usize,
+    ) -> Block
         requires inside { AreInside links.items (length bytes.items) }
         requires low { 4 ≤ sealed }
         requires high { sealed ≤ length bytes.items }
-        ensures { result ≡ record { bytes = bytes.items; links = links.items; turn = turn; in_place = in_place; sealed = sealed } }
+        ensures { result ≡ record { bytes = bytes.items; links = links.items; turn = turn; in_place = stays_by placement; sealed = sealed } }
     {
         Block {
             bytes,
             links,
             turn,
-            in_place,
+            in_place: placement.stays(),
             sealed,
         }
     }

@@ -9,7 +9,7 @@ mod settle;
 mod store;
 mod write;
 
-pub use block::{Block, Link, copied};
+pub use block::{Block, Link, Placement, copied};
 pub use moves::{Move, retire_all, take_place};
 pub use plan::{Begun, Plan, PlanError};
 pub use store::Cache;

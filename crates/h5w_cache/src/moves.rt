@@ -6,7 +6,7 @@ ghost use Rattle.std.specs.List.Sorted.{IsNonDecreasingBy, IsPermutation};
 ghost use Rattle.h5w_model.specs.Numbers.{undefined};
 ghost use Rattle.h5w_space.specs.Space.{IsLive, extent};
 ghost use Rattle.h5w_cache.specs.Stores.{place_in};
-ghost use Rattle.h5w_cache.specs.Plans.{AreMoves, AreRetired, IsFull, IsMove, IsRefused, IsSplit, Placed, Retires, Took, block_in, numbers, stays, turn_in};
+ghost use Rattle.h5w_cache.specs.Plans.{AreMoves, AreRetired, IsFull, IsMove, IsRefused, IsSplit, Placed, Retires, Took, TookSome, block_in, numbers, stays, turn_in};
 
 use crate::block::{Block, copied, place_at};
 use h5w_bytes::UNDEFINED;
@@ -113,21 +113,23 @@ pub fn move_all(
     ensures numbers { OnOk result (numbers moves.new.items ≡ order.now) }
     ensures moves { OnOk result (AreMoves blocks.now stood.now places.old moves.new.items places.new) }
     ensures full { IfErr result (λ e. IsFull blocks.now stood.now order.now places.old e) }
+    ensures left { OnErr result (TookSome blocks.now stood.now places.old places.new) }
 {
     for number in order {
-        let step = move_of(blocks, stood, *number, places)?;
-        moves.push_reserved(step);
+        let block_move = move_of(blocks, stood, *number, places)?;
+        moves.push_reserved(block_move);
     }
     Ok(())
 }
 
 /// Retires the place that a block left, where it is live.
-fn retire(step: &Move, places: &mut Places)
+fn retire(block_move: &Move, places: &mut Places)
     requires { 1 ≤ places.old.spare }
-    ensures { Retires places.old step.now places.new }
+    ensures { Retires places.old block_move.now places.new }
 {
-    if step.old != UNDEFINED && step.old != step.new && places.live(step.old, step.len) {
-        places.retire(step.old, step.len);
+    let Move { old, new, len, .. } = *block_move;
+    if old != UNDEFINED && old != new && places.live(old, len) {
+        places.retire(old, len);
     }
 }
 
@@ -136,8 +138,8 @@ pub fn retire_all(moves: &[Move], places: &mut Places)
     requires { length moves.now ≤ places.old.spare }
     ensures { AreRetired places.old moves.now places.new }
 {
-    for step in moves {
-        retire(step, places);
+    for block_move in moves {
+        retire(block_move, places);
     }
 }
 
@@ -145,8 +147,8 @@ pub fn retire_all(moves: &[Move], places: &mut Places)
 pub fn copies(moves: &[Move]) -> usize
     ensures { IsSplit moves.now result }
 {
-    for (i, step) in moves.iter().enumerate() {
-        if step.in_place {
+    for (i, block_move) in moves.iter().enumerate() {
+        if block_move.in_place {
             return i;
         }
     }

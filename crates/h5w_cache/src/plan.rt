@@ -1,14 +1,14 @@
 //! A plan: the writes of all changed blocks.
 
-ghost use Rattle.std.specs.Prelude.{◌≡◌, ℕ, ◌+◌, ◌<◌, ◌≤◌, ◌++◌, [], length, take, drop, IfOk, IfErr, IsSome, vec_len, vec_capacity};
+ghost use Rattle.std.specs.Prelude.{◌≡◌, ℕ, ◌+◌, ◌<◌, ◌≤◌, ◌++◌, [], length, take, drop, IfOk, IfErr, IsSome, OnErr, vec_len, vec_capacity};
 ghost use Rattle.std.specs.List.{All, sum_by};
-ghost use Rattle.h5w_cache.specs.Plans.{AreTaken, HasNoRoom, IfFull, IsFull, IsSplit, IsWritten, block_in, bytes_in, cleaned, moved, numbers, piece_count, respelled, writes_of};
+ghost use Rattle.h5w_cache.specs.Plans.{AreTaken, HasNoRoom, IfFull, IsFull, IsSplit, IsWritten, TookSome, block_in, bytes_in, cleaned, moved, numbers, piece_count, respelled, writes_of};
 ghost use Rattle.h5w_cache.specs.Starts.{HasRooms, IsBegun, copy_pieces, in_place_pieces};
 ghost use Rattle.h5w_cache.specs.Stores.{place_in};
 ghost use Rattle.h5w_cache.specs.declared.moves.Move.{Move};
 
 use crate::block::Block;
-use crate::moves::{Move, copies, in_turn, move_all};
+use crate::moves::{Move, copies, in_turn, move_all, retire_all};
 use crate::settle::{clean, settle, spell_all};
 use crate::write::{put_all, room_for};
 use h5w_model::{OutOfMemory, Write};
@@ -60,11 +60,10 @@ impl From<AllocError> for PlanError {
     }
 }
 
-/// A plan that is begun: its moves, with room for their writes, and the places after them. Nothing has changed yet.
+/// A plan that is begun: its moves, with room for their writes. It has its places, and no block has changed yet.
 #[derive(Drop)]
 pub struct Begun {
     plan: Plan,
-    next: Places,
     /// How many blocks stand before the first in place.
     split: usize,
     copies: usize,
@@ -79,7 +78,6 @@ impl Model for Begun {
     ghost view = { λ b. record {
       moves = b.plan.moves.items;
       split = b.split;
-      next = b.next;
     } };
 
     ghost invariant = { λ b. HasRooms b.plan b.split b.copies b.in_place };
@@ -100,47 +98,41 @@ impl Begun {
         self.in_place
     }
 
-    /// The first byte after the file, once the plan is finished.
-    pub fn end(&self) -> u64
-        ensures { result ≡ self.now.next.end }
+    /// The blocks that will be written, with the places that they will have.
+    fn moves(&self) -> &[Move]
+        ensures { result.now ≡ self.now.moves }
     {
-        self.next.end()
+        &self.plan.moves
     }
 }
 
-/// The plan without writes, the places after it, and how many blocks stand before the first in place.
-pub fn parts(begun: Begun) -> (Plan, Places, usize)
+/// The plan without writes, and how many blocks stand before the first in place.
+pub fn parts(begun: Begun) -> (Plan, usize)
     ensures moves { result.0.moves.items ≡ begun.moves }
-    ensures next { result.1 ≡ begun.next }
-    ensures split { result.2 ≡ begun.split }
-    ensures rooms { HasRooms result.0 result.2 (copy_pieces begun) (in_place_pieces begun) }
+    ensures split { result.1 ≡ begun.split }
+    ensures rooms { HasRooms result.0 result.1 (copy_pieces begun) (in_place_pieces begun) }
 {
-    let Begun {
-        plan,
-        next,
-        split,
-        ..
-    } = begun;
-    (plan, next, split)
+    let Begun { plan, split, .. } = begun;
+    (plan, split)
 }
 
-/// The moves of blocks in this order, and the places after them.
+/// The moves of blocks in this order, whose places are taken; there is room to retire those that they leave.
 fn moves_of(
     blocks: &[Option<Block>],
     stood: &[u64],
     order: &Vec<u32>,
-    places: &Places,
-) -> Result<(Vec<Move>, Places), PlanError>
+    places: &mut Places,
+) -> Result<Vec<Move>, PlanError>
     requires kept { All (λ n. IsSome (block_in blocks.now n)) order.now.items }
-    ensures numbers { IfOk result (λ v. numbers v.0.items ≡ order.now.items) }
-    ensures moves { IfOk result (λ v. AreTaken blocks.now stood.now places.now v.0.items v.1) }
-    ensures full { IfErr result (λ e. IfFull e (IsFull blocks.now stood.now order.now.items places.now)) }
+    ensures numbers { IfOk result (λ v. numbers v.items ≡ order.now.items) }
+    ensures moves { IfOk result (λ v. AreTaken blocks.now stood.now places.old v.items places.new) }
+    ensures full { IfErr result (λ e. IfFull e (IsFull blocks.now stood.now order.now.items places.old)) }
+    ensures left { OnErr result (TookSome blocks.now stood.now places.old places.new) }
 {
     let mut moves = Vec::with_capacity(*order.allocator(), order.len())?;
-    let mut next = places.copy()?;
-    move_all(blocks, stood, order, &mut moves, &mut next).map_err(PlanError::Full)?;
-    next.reserve(moves.len() as u64)?;
-    Ok((moves, next))
+    move_all(blocks, stood, order, &mut moves, places).map_err(PlanError::Full)?;
+    places.reserve(moves.len() as u64)?;
+    Ok(moves)
 }
 
 /// How many pieces the blocks before the first in place have, and from it on, each with room for their writes.
@@ -160,10 +152,9 @@ fn rooms(
 }
 
 /// The plan of these moves, begun.
-fn with_rooms(moves: Vec<Move>, next: Places) -> Result<Begun, OutOfMemory>
+fn with_rooms(moves: Vec<Move>) -> Result<Begun, OutOfMemory>
     ensures moves { IfOk result (λ b. b.moves ≡ moves.items) }
     ensures split { IfOk result (λ b. IsSplit moves.items b.split) }
-    ensures next { IfOk result (λ b. b.next ≡ next) }
 {
     let split = copies(&moves);
     let ((copies, copy_writes), (in_place, in_place_writes)) = rooms(&moves, split)?;
@@ -174,27 +165,29 @@ fn with_rooms(moves: Vec<Move>, next: Places) -> Result<Begun, OutOfMemory>
     };
     Ok(Begun {
         plan,
-        next,
         split,
         copies,
         in_place,
     })
 }
 
-/// All that a plan of the changed blocks needs.
+/// All that a plan of the changed blocks needs, on these places.
 pub fn begin(
     blocks: &[Option<Block>],
     stood: &[u64],
     changed: &Vec<u32>,
-    places: &Places,
+    places: &mut Places,
 ) -> Result<Begun, PlanError>
     requires kept { All (λ n. IsSome (block_in blocks.now n)) changed.now.items }
-    ensures begun { IfOk result (λ b. IsBegun blocks.now stood.now changed.now.items places.now b) }
-    ensures full { IfErr result (λ e. IfFull e (HasNoRoom blocks.now stood.now changed.now.items places.now)) }
+    ensures begun { IfOk result (λ b. IsBegun blocks.now stood.now changed.now.items places.old b places.new) }
+    ensures full { IfErr result (λ e. IfFull e (HasNoRoom blocks.now stood.now changed.now.items places.old)) }
+    ensures left { OnErr result (TookSome blocks.now stood.now places.old places.new) }
 {
     let order = in_turn(blocks, changed)?;
-    let (moves, next) = moves_of(blocks, stood, &order, places)?;
-    Ok(with_rooms(moves, next)?)
+    let moves = moves_of(blocks, stood, &order, places)?;
+    let begun = with_rooms(moves)?;
+    retire_all(begun.moves(), places);
+    Ok(begun)
 }
 
 /// Blocks at their new places name each other's places, and are clean.

@@ -16,8 +16,8 @@ pub fn settle(places: &mut [u64], moves: &[Move])
     requires { All (λ (m : Move). m.number < length places.old) moves.now }
     ensures { places.new ≡ moved moves.now places.old }
 {
-    for step in moves {
-        places[step.number as usize] = step.new;
+    for block_move in moves {
+        places[block_move.number as usize] = block_move.new;
     }
 }
 
@@ -26,8 +26,8 @@ pub fn clean(marks: &mut [bool], moves: &[Move])
     requires { All (λ (m : Move). m.number < length marks.old) moves.now }
     ensures { marks.new ≡ cleaned moves.now marks.old }
 {
-    for step in moves {
-        marks[step.number as usize] = false;
+    for block_move in moves {
+        marks[block_move.number as usize] = false;
     }
 }
 
@@ -47,7 +47,7 @@ pub fn spell_all(blocks: &mut [Option<Block>], places: &[u64], moves: &[Move])
     ensures spelled { blocks.new ≡ respelled (λ n. slice_index_or places.now n undefined) moves.now blocks.old }
     ensures lengths { (n : ℕ) → length (bytes_in blocks.new n) ≡ length (bytes_in blocks.old n) }
 {
-    for step in moves {
-        spell(&mut blocks[step.number as usize], places);
+    for block_move in moves {
+        spell(&mut blocks[block_move.number as usize], places);
     }
 }

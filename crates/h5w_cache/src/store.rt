@@ -1,13 +1,13 @@
 ghost use Rattle.std.specs.Prelude.{◌≡◌, ℕ, ◌+◌, ◌-◌, ◌<◌, ◌≤◌, ◌++◌, ◌==◌, length, replicate, true, false, IfErr, IfOk, OnOk, OnErr, IfNone, IfSome, IsSome, IsTrue, slice_index_or, vec_len, vec_capacity};
 ghost use Rattle.std.specs.Option.{option_copied, option_map};
+ghost use Rattle.h5w_space.specs.Space.{Space};
 ghost use Rattle.h5w_cache.specs.Blocks.{numbered, with_number};
-ghost use Rattle.h5w_cache.specs.Plans.{HasNoRoom, IfFull, IsPlan};
-ghost use Rattle.h5w_cache.specs.Starts.{IsBegun, copy_pieces, in_place_pieces};
+ghost use Rattle.h5w_cache.specs.Plans.{HasNoRoom, IfFull, IsPlan, TookSome};
+ghost use Rattle.h5w_cache.specs.Starts.{IsBegun, WasBegun, copy_pieces, in_place_pieces};
 ghost use Rattle.h5w_cache.specs.StoreLaws.{KeepsStore};
 ghost use Rattle.h5w_cache.specs.Stores.{FitsAddresses, block_of, changed_to, grown, is_changed, kept_under, marked, no_blocks, place_of, times};
 
 use crate::block::{Block, copied, place_at};
-use crate::moves::retire_all;
 use crate::plan::{Begun, Plan, PlanError, begin, carry_out, parts};
 use h5w_bytes::UNDEFINED;
 use h5w_model::OutOfMemory;
@@ -153,16 +153,6 @@ impl Cache {
         place_at(&self.places, number)
     }
 
-    /// Whether the block under a number changed since it was written.
-    pub fn is_changed(&self, number: u32) -> bool
-        ensures { result ≡ is_changed self.now number }
-    {
-        match self.marks.get(number as usize) {
-            Some(mark) => *mark,
-            None => false,
-        }
-    }
-
     /// Whether no block changed since it was written.
     pub fn is_clean(&self) -> bool
         ensures { result ≡ (length self.now.changed == 0) }
@@ -215,35 +205,39 @@ impl Cache {
         self.blocks[number as usize] = Some(block);
     }
 
-    /// Begins the plan of all changed blocks: takes all memory and places that [`Cache::finish`] needs, and changes nothing.
-    pub fn begin(&self, places: &Places) -> Result<Begun, PlanError>
-        ensures begun { IfOk result (λ b. IsBegun self.now.blocks self.now.places self.now.changed places.now b) }
+    /// Begins the plan of all changed blocks: takes all memory that [`Cache::finish`] needs, and settles the places. A block in place stays
+    /// at the place that it has; each other one takes a place, and the place that it had is retired, where it is live.
+    ///
+    /// The store does not change. After a refusal the places are of no use: some are taken.
+    pub fn begin(&self, places: &mut Places) -> Result<Begun, PlanError>
+        ensures begun { IfOk result (λ b. IsBegun self.now.blocks self.now.places self.now.changed places.old b places.new) }
         // the first block in turn that has no room
-        ensures full { IfErr result (λ e. IfFull e (HasNoRoom self.now.blocks self.now.places self.now.changed places.now)) }
+        ensures full { IfErr result (λ e. IfFull e (HasNoRoom self.now.blocks self.now.places self.now.changed places.old)) }
+        // some blocks have their places then, and none is retired
+        ensures left { OnErr result (TookSome self.now.blocks self.now.places places.old places.new) }
         // no block is listed twice
         ensures once { (n : ℕ) → times n self.now.changed ≤ 1 }
     {
         begin(&self.blocks, &self.places, &self.changed, places)
     }
 
-    /// The writes of all changed blocks, by rising turn, of a plan that was begun of this store and these places; they
-    /// are clean from then on. A block in place stays at the place that it has; each other one takes a place, and the
-    /// place that it had is retired, where it is live.
+    /// The writes of all changed blocks, by rising turn, of a plan that was begun of this store; they are clean from then on, each at the
+    /// place that the plan has for it.
     ///
     /// It cannot fail.
-    pub fn finish(&mut self, places: &mut Places, begun: Begun) -> Plan
-        requires { IsBegun self.old.blocks self.old.places self.old.changed places.old begun }
-        ensures planned { IsPlan self.old places.old result.moves.items result.copies.items result.in_place.items self.new places.new }
-        ensures keeps { KeepsStore self.old places.old result.moves.items (result.copies.items ++ result.in_place.items) self.new places.new }
+    pub fn finish(&mut self, begun: Begun) -> Plan
+        requires { WasBegun self.old.blocks self.old.places self.old.changed begun }
+        // on whichever places it was begun
+        ensures planned { (s t : Space) → IsBegun self.old.blocks self.old.places self.old.changed s begun t
+            → IsPlan self.old s result.moves.items result.copies.items result.in_place.items self.new t }
+        ensures keeps { (s t : Space) → IsBegun self.old.blocks self.old.places self.old.changed s begun t
+            → KeepsStore self.old s result.moves.items (result.copies.items ++ result.in_place.items) self.new t }
         // as it was begun
         ensures moves { result.moves.items ≡ begun.moves }
         ensures copies { length result.copies.items ≡ copy_pieces begun }
         ensures in_place { length result.in_place.items ≡ in_place_pieces begun }
-        ensures end { places.new.end ≡ begun.next.end }
     {
-        let (mut plan, next, split) = parts(begun);
-        *places = next;
-        retire_all(&plan.moves, places);
+        let (mut plan, split) = parts(begun);
         carry_out(
             &mut self.blocks,
             &mut self.places,
@@ -267,8 +261,10 @@ impl Cache {
         ensures kept { OnErr result (self.new ≡ self.old) }
         ensures places { OnErr result (places.new ≡ places.old) }
     {
-        let begun = self.begin(places)?;
-        Ok(self.finish(places, begun))
+        let mut next = places.copy()?;
+        let begun = self.begin(&mut next)?;
+        *places = next;
+        Ok(self.finish(begun))
     }
 
     /// A copy, with as much room.

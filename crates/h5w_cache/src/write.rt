@@ -27,15 +27,15 @@ pub fn put_pieces(place: u64, bytes: &[u8], out: &mut Vec<Write>)
 }
 
 /// Adds the writes of a block at its place.
-fn put_block(blocks: &[Option<Block>], step: &Move, out: &mut Vec<Write>)
-    requires written { IsWritten blocks.now step.now }
-    requires room { vec_len out.old + piece_count step.now ≤ vec_capacity out.old }
-    ensures items { out.new.items ≡ out.old.items ++ pieces step.now.new (bytes_in blocks.now step.now.number) }
-    ensures len { vec_len out.new ≡ vec_len out.old + piece_count step.now }
+fn put_block(blocks: &[Option<Block>], block_move: &Move, out: &mut Vec<Write>)
+    requires written { IsWritten blocks.now block_move.now }
+    requires room { vec_len out.old + piece_count block_move.now ≤ vec_capacity out.old }
+    ensures items { out.new.items ≡ out.old.items ++ pieces block_move.now.new (bytes_in blocks.now block_move.now.number) }
+    ensures len { vec_len out.new ≡ vec_len out.old + piece_count block_move.now }
     ensures capacity { vec_capacity out.new ≡ vec_capacity out.old }
 {
-    let block = blocks[step.number as usize].as_ref().unwrap();
-    put_pieces(step.new, block.bytes(), out);
+    let block = blocks[block_move.number as usize].as_ref().unwrap();
+    put_pieces(block_move.new, block.bytes(), out);
 }
 
 /// Adds the writes of blocks at their places.
@@ -45,8 +45,8 @@ pub fn put_all(blocks: &[Option<Block>], moves: &[Move], out: &mut Vec<Write>)
     ensures items { out.new.items ≡ out.old.items ++ writes_of blocks.now moves.now }
     ensures len { vec_len out.new ≡ vec_len out.old + sum_by piece_count moves.now }
 {
-    for step in moves {
-        put_block(blocks, step, out);
+    for block_move in moves {
+        put_block(blocks, block_move, out);
     }
 }
 
@@ -55,8 +55,8 @@ fn count(moves: &[Move]) -> Option<usize>
     ensures { IfSome result (λ n. n ≡ sum_by piece_count moves.now) }
 {
     let mut count = 0usize;
-    for step in moves {
-        let pieces = step.len.checked_add(511)? / 512;
+    for block_move in moves {
+        let pieces = block_move.len.checked_add(511)? / 512;
         count = count.checked_add(pieces as usize)?;
     }
     Some(count)

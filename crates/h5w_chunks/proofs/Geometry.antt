@@ -1,5 +1,5 @@
 -- Rows and columns in bands and chunks: what the numbers say.
-use Rattle.std.proofs.Common.{◌≡◌, ℕ, nat_lt, suc, ◌+◌, ◌-◌, ◌*◌, ◌/◌, ◌%◌, ◌^◌, ◌<◌, ◌≤◌, ◌⊎◌, max, min, length, replicate, Option, Some, None, IfSome, sym, ap, ◌∙◌, subst, inl, inr, arith}
+use Rattle.std.proofs.Common.{◌≡◌, ℕ, nat_lt, suc, ◌+◌, ◌-◌, ◌*◌, ◌/◌, ◌%◌, ◌<◌, ◌≤◌, ◌⊎◌, max, min, length, replicate, Option, Some, None, IfSome, sym, ap, ◌∙◌, subst, inl, inr, arith}
 use Rattle.std.proofs.lemmas.Nat.{div-mul-add, mod-mul-add, mul-add-lt, mul-le}
 use Rattle.std.proofs.Math.Nat.{div-lt_iff_lt-mul, le-div_iff_mul-le}
 use Rattle.std.proofs.lemmas.Bool.{cases_lt, cond-true, cond-false, lt-ltb, le-ltb}
@@ -14,20 +14,11 @@ use Rattle.h5w_model.specs.Integers.{cell_bytes}
 use Rattle.h5w_model.specs.declared.cell.Key.{Key}
 use Rattle.h5w_model.specs.declared.cell.Cell.{Cell}
 use Rattle.h5w_model.proofs.IntegerLemmas.{int_size_bounds}
-use Rattle.h5w_chunks.specs.Grids.{IsGrid, dataset_of, fill_cell, key_of}
+use Rattle.h5w_chunks.specs.Grids.{IsCut, IsGrid, dataset_of, key_of}
 use Rattle.h5w_chunks.specs.Shares.{chunk_number, touched, touched_key}
 use Rattle.h5w_chunks.specs.declared.grid.Grid.{Grid}
 
 -- ---- A grid's numbers
-
--- what the writes of rows rest on
-pub record IsCut (d : Described) : Type 0 where
-  pub rows : 0 < d.layout.chunk_rows
-  pub cols : 0 < d.layout.chunk_cols
-  pub some : 0 < d.int_type.size
-  pub few : d.int_type.size ≤ 8
-  pub small : d.layout.chunk_rows * d.layout.chunk_cols * d.int_type.size < 2 ^ 32
-  pub fill : length (fill_cell d) ≡ d.int_type.size
 
 fill_length : (value : Option Cell) (size : ℕ) → IfSome value (λ (c : Cell). (c.size ≡ size) × (length (cell_bytes c) ≡ size)) → length (unwrap_or (option_map cell_bytes value) (replicate size 0)) ≡ size
 fill_length None size filled = length-replicate size 0

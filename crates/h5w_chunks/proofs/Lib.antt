@@ -3,4 +3,5 @@ pub mod BlockLemmas
 pub mod Loops
 pub mod RowLaws
 pub mod WriteLaws
+pub mod EarlyLemmas
 pub mod Examples

@@ -1,16 +1,12 @@
 -- What loops have put so far, and what is left to put.
-use Rattle.std.proofs.Common.{◌≡◌, ℕ, zero, suc, ◌+◌, ◌-◌, ◌*◌, ◌/◌, ◌<◌, ◌≤◌, min, List, [], ◌∷◌, ◌++◌, length, take, drop, get_or, replicate, Option, Some, ℤ, pos, sym, refl, ap, ◌∙◌, subst, inl, inr, arith, length-append, length-drop}
+use Rattle.std.proofs.Common.{◌≡◌, ℕ, zero, suc, ◌+◌, ◌-◌, ◌*◌, ◌/◌, ◌<◌, min, List, [], ◌∷◌, ◌++◌, length, take, drop, replicate, sym, refl, ap, ◌∙◌, subst, inl, inr, arith, length-append, length-drop}
 use Rattle.std.proofs.lemmas.List.{append_assoc, append-nil, length-take, replicate-append-replicate, take_all, drop_all, drop-drop, nil_from_length}
 use Rattle.std.proofs.Math.Seq.{take-add, take-append_seam, drop-append_seam}
-use Rattle.std.specs.Option.{option_map, unwrap_or}
 use Rattle.std.proofs.lemmas.Bool.{cases_lt}
 use Rattle.h5w_model.specs.Numbers.{range}
 use Rattle.h5w_model.specs.Images.{first_pieces, pieces}
-use Rattle.h5w_model.specs.Integers.{cell_bytes_of, cell_of}
-use Rattle.h5w_model.specs.Datasets.{Described}
-use Rattle.h5w_model.specs.declared.cell.Cell.{Cell}
 use Rattle.h5w_model.specs.declared.piece.Write.{Write}
-use Rattle.h5w_chunks.specs.Grids.{cells_of, copies}
+use Rattle.h5w_chunks.specs.Grids.{copies}
 use Rattle.h5w_chunks.specs.Shares.{padded_rows, row_blocks, writes_of}
 
 -- ---- Pieces that are put one after another

@@ -10,12 +10,12 @@ use Rattle.h5w_model.specs.Images.{AllMiss, Apart, At, image, pieces}
 use Rattle.h5w_model.specs.Datasets.{Described}
 use Rattle.h5w_model.specs.declared.piece.Write.{Write}
 use Rattle.h5w_model.proofs.ImageLemmas.{At-front, At-part, At-pieces, At-rest, length-range, pieces-miss}
-use Rattle.h5w_chunks.specs.Grids.{chunk_len, copies, fill_cell, row_len}
+use Rattle.h5w_chunks.specs.Grids.{IsCut, chunk_len, copies, fill_cell, row_len}
 use Rattle.h5w_chunks.specs.Shares.{new_chunk, own_row, padded_rows, row_blocks, share_blocks, share_rows, writes_of}
 use Rattle.h5w_chunks.specs.Rows.{IsShare}
 use Rattle.h5w_chunks.specs.declared.grid.ChunkPlace.{ChunkPlace}
 use Rattle.h5w_chunks.specs.declared.share.Share.{Share}
-use Rattle.h5w_chunks.proofs.Geometry.{IsCut, cell_fits}
+use Rattle.h5w_chunks.proofs.Geometry.{cell_fits}
 use Rattle.h5w_chunks.proofs.Loops.{no_copies, run_rows}
 use Rattle.h5w_chunks.proofs.BlockLemmas.{AllLong, BlocksIn, copy_there, length-copies, length-padded_rows, padded_row_there, range-range, row_blocks_in, row_blocks_miss, row_there, writes_of-one}
 

@@ -13,12 +13,12 @@ use Rattle.h5w_model.specs.Datasets.{Described}
 use Rattle.h5w_model.specs.Tables.{cell_offset, chunks_across}
 use Rattle.h5w_model.specs.declared.piece.Write.{Write}
 use Rattle.h5w_model.proofs.ImageLemmas.{AllMiss-append, AllSized-append, At-image_missed, Apart-part, image-append, length-range}
-use Rattle.h5w_chunks.specs.Grids.{cell_in, chunk_len, fill_cell}
+use Rattle.h5w_chunks.specs.Grids.{IsCut, cell_in, chunk_len, fill_cell}
 use Rattle.h5w_chunks.specs.Shares.{chunk_number, first_column, first_row, new_writes, share_blocks, share_of, touched, writes_from, writes_of}
 use Rattle.h5w_chunks.specs.Rows.{AllWithin, ChunksApart, IsChunkOf, IsOther, IsShare, RowsWritten, place_in}
 use Rattle.h5w_chunks.specs.declared.grid.ChunkPlace.{ChunkPlace}
 use Rattle.h5w_chunks.specs.declared.share.Share.{Share}
-use Rattle.h5w_chunks.proofs.Geometry.{IsCut, cell_fits, cell_number, cells_fit, div_grows, first_is, lt_up, number_parts, other_rows, own_rows, quotient_lt, quotient_of, row_is, share_numbers}
+use Rattle.h5w_chunks.proofs.Geometry.{cell_fits, cell_number, cells_fit, div_grows, first_is, lt_up, number_parts, other_rows, own_rows, quotient_lt, quotient_of, row_is, share_numbers}
 use Rattle.h5w_chunks.proofs.BlockLemmas.{BlocksIn, blocks_miss, writes_of-sized}
 use Rattle.h5w_chunks.proofs.RowLaws.{IsForeign, blocks_in, filled_there, foreign_missed, own_there}
 

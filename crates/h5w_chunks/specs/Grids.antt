@@ -1,5 +1,5 @@
 -- A dataset's grid of chunks, and the cells that chunks are made of.
-use Rattle.std.specs.Prelude.{ℕ, zero, suc, ◌+◌, ◌-◌, ◌*◌, ◌/◌, ◌≡◌, List, [], ◌++◌, length, replicate, unwrap_or, IfSome, Some, ℤ}
+use Rattle.std.specs.Prelude.{ℕ, zero, suc, ◌+◌, ◌-◌, ◌*◌, ◌/◌, ◌^◌, ◌<◌, ◌≤◌, ◌≡◌, List, [], ◌++◌, length, replicate, unwrap_or, IfSome, Some, ℤ}
 use Rattle.h5w_model.specs.Numbers.{range}
 use Rattle.h5w_model.specs.Datasets.{Described}
 use Rattle.h5w_model.specs.Messages.{IsIntType, IsLayout, IsShape}
@@ -37,6 +37,15 @@ chunk_len d = d.layout.chunk_rows * row_len d
 -- the bytes of the fill, zeros where no value is set
 abbrev pub fill_cell : Described → List ℕ
 fill_cell d = unwrap_or d.fill.value (replicate d.int_type.size 0)
+
+-- what the writes of rows rest on
+pub record IsCut (d : Described) : Type 0 where
+  pub rows : 0 < d.layout.chunk_rows
+  pub cols : 0 < d.layout.chunk_cols
+  pub some : 0 < d.int_type.size
+  pub few : d.int_type.size ≤ 8
+  pub small : d.layout.chunk_rows * d.layout.chunk_cols * d.int_type.size < 2 ^ 32
+  pub fill : length (fill_cell d) ≡ d.int_type.size
 
 -- some bytes, n times
 unfoldable pub copies : ℕ → List ℕ → List ℕ

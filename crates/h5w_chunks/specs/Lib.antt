@@ -9,3 +9,4 @@ pub use Rattle.h5w_layout.specs.Layouts
 pub mod Grids
 pub mod Shares
 pub mod Rows
+pub mod Early

@@ -5,10 +5,12 @@
 #![tactic(auto)]
 
 mod cells;
+mod early;
 mod grid;
 mod rows;
 mod share;
 
+pub use early::{early_joins, rows_stand};
 pub use grid::{ChunkPlace, Grid};
 pub use h5w_layout::{Fill, IndexKind, Layout};
 pub use h5w_model::{Cell, Key, OutOfMemory, PIECE, Piece, Write};

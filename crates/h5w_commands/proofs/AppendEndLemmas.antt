@@ -18,7 +18,7 @@ use Rattle.h5w_text.specs.declared.error.ErrorLine.{ErrorLine}
 use Rattle.h5w_text.specs.declared.error.ErrorLine.TheVariants as errors
 use Rattle.h5w_text.specs.declared.status.Status.{Status}
 use Rattle.h5w_text.specs.declared.status.Status.TheVariants as statuses
-use Rattle.h5w_files.specs.Appends.{AppendEnds, AppendsNone, AppendsSome, AppendsTo, AppendsUpTo, InputRefuses, IsFree, IsOpenOver, NotOpened, Unopened}
+use Rattle.h5w_appending.specs.Appends.{AppendEnds, AppendsNone, AppendsSome, AppendsTo, AppendsUpTo, InputRefuses, IsFree, IsOpenOver, NotOpened, Unopened}
 use Rattle.h5w_batches.specs.Batches.{Batches}
 use Rattle.h5w_batches.specs.Inputs.{AreFirst, AreWithin, input_limit}
 use Rattle.h5w_files.specs.Ends.{EndsBehind, status_by}

@@ -14,7 +14,7 @@ use Rattle.h5w_words.specs.declared.job.WordsError.{WordsError}
 use Rattle.h5w_words.specs.declared.job.Job.{Job}
 use Rattle.h5w_words.specs.declared.job.Job.TheVariants.{Play, New, Check, Poll, Clear, Make, Append, Live}
 use Rattle.h5w_image.specs.View.{DiskView}
-use Rattle.h5w_files.proofs.CreateLemmas.{creates_wanted}
+use Rattle.h5w_appending.proofs.CreateLemmas.{creates_wanted}
 use Rattle.h5w_files.proofs.CheckLemmas.{checks_nothing}
 use Rattle.h5w_files.proofs.ClearLemmas.{clears_wanted}
 use Rattle.h5w_files.proofs.PollEndLemmas.{polls_nothing}

@@ -6,11 +6,11 @@ pub use Rattle.h5w_text.specs.Scripts
 pub use Rattle.h5w_text.specs.Replies
 pub use Rattle.h5w_text.specs.Errors
 pub use Rattle.h5w_files.specs.Ends
-pub use Rattle.h5w_files.specs.Creates
+pub use Rattle.h5w_appending.specs.Creates
 pub use Rattle.h5w_files.specs.Checks
 pub use Rattle.h5w_files.specs.Polls
 pub use Rattle.h5w_files.specs.Clears
-pub use Rattle.h5w_files.specs.Appends
+pub use Rattle.h5w_appending.specs.Appends
 pub use Rattle.h5w_words.specs.Commands
 pub use Rattle.h5w_words.specs.Limits
 pub use Rattle.h5w_core.specs.Worlds

@@ -9,8 +9,8 @@ use Rattle.h5w_text.specs.declared.error.ErrorLine.TheVariants as errors
 use Rattle.h5w_text.specs.declared.status.Status.{Status}
 use Rattle.h5w_text.specs.declared.status.Status.TheVariants as statuses
 use Rattle.h5w_files.specs.Ends.{EndsWell}
-use Rattle.h5w_files.specs.Appends.{AppendEnds}
-use Rattle.h5w_files.specs.Creates.{CreateEnds, end_of}
+use Rattle.h5w_appending.specs.Appends.{AppendEnds}
+use Rattle.h5w_appending.specs.Creates.{CreateEnds, end_of}
 use Rattle.h5w_files.specs.Checks.{CheckEnds, check_of}
 use Rattle.h5w_files.specs.Polls.{PollEnds, poll_of}
 use Rattle.h5w_files.specs.Clears.{ClearEnds, flags_of}

@@ -5,7 +5,8 @@ ghost use Rattle.h5w_words.specs.Limits.{IsWithinLimits};
 
 use crate::make::make;
 use crate::play::play;
-use h5w_files::{append, check, clear, create, poll};
+use h5w_appending::{append, create};
+use h5w_files::{check, clear, poll};
 use h5w_image::Disk;
 use h5w_text::{Sink, Source, Status};
 use h5w_words::Job;

@@ -160,7 +160,7 @@ represents_by img f h size front e =
     let more = index_lens f.index in
     record {
       super = super_stands img f (omega arith) (omega arith) front.1.1.0;
-      root = root_stands img f h.name_bound (omega arith) front.1.0;
+      root = record { own = (created_moment f).root; others = []; is = refl; checked = root_stands img f h.name_bound (omega arith) front.1.0; ends = λ u a. absurd a };
       header = (header_there img f h front.0).header ∙ ap (λ (n : ℕ). Ok (described_of f, block_at (header_place f) n ∷ [])) (header_long f h);
       index = index_there img f e;
       apart = ranges_apart f;
@@ -180,6 +180,7 @@ created_new f h =
       blocks = all;
       size = size;
       represents = represents_by img f h size front e;
+      root = root_stands img f h.name_bound (omega arith) front.1.0;
       map = record { blocks = e.blocks; read = e.read; answers = λ key named. e.answers key };
       layout = (header_there img f h front.0).layout;
     }

@@ -4,4 +4,5 @@ pub mod RootLemmas
 pub mod IndexLemmas
 pub mod CreatedLaws
 pub mod LogLaws
+pub mod BornLemmas
 pub mod ExampleLemmas

@@ -4,6 +4,7 @@ use Rattle.std.specs.Prelude.{map, ℤ}
 use Rattle.std.proofs.lemmas.List.{length-map}
 use Rattle.h5w_model.specs.Images.{apply, image}
 use Rattle.h5w_model.specs.Logs.{Log, Happening, appends, plans, shows, hist, shown, appended_in, appended, flushed_in, flushed, and_now}
+use Rattle.h5w_model.specs.Findings.{Used}
 use Rattle.h5w_model.specs.Prefixed.{ReadsNow, EachReads, PrefixedEach, Still}
 use Rattle.h5w_model.specs.declared.cell.IndexKind.{IndexKind}
 use Rattle.h5w_model.specs.declared.cell.IndexKind.TheVariants.{Array, Tree}
@@ -12,9 +13,10 @@ use Rattle.h5w_model.proofs.ImageLemmas.{length-apply}
 use Rattle.h5w_space.specs.Space.{Space}
 use Rattle.h5w_steps.specs.Moments.{Represents}
 use Rattle.h5w_steps.specs.Logs.{Goes, image_now}
+use Rattle.h5w_steps.specs.Sessions.{Runs}
 use Rattle.h5w_steps.proofs.GoesLemmas.{begin_goes, reads_now}
 use Rattle.h5w_steps.proofs.SessionLaws.{goes_runs}
-use Rattle.h5w_flush_laws.specs.Knowledge.{Knows}
+use Rattle.h5w_flush_laws.specs.Knowledge.{KnownHeld}
 use Rattle.h5w_flush_laws.specs.Flushes.{IsBegun, Rests, shown_also}
 use Rattle.h5w_creation_laws.specs.CreatedFiles.{CreatedFile, IsCreatable, end_of, super_block, root_block, header_block, index_blocks, block_write, created_blocks, created_writes, created_moment, created_log, no_address}
 use Rattle.h5w_creation_laws.specs.CreationLaws.{WritesEndBy, IsShown, CreationLaws}
@@ -106,10 +108,10 @@ still_unseen f done pending parts some = λ k low high.
 -- ---- Once all are shown
 
 -- all pieces but the superblock
-abbrev before_super : IndexKind → CreatedFile → List Write
+abbrev pub before_super : IndexKind → CreatedFile → List Write
 before_super k f = map block_write (index_blocks k f ++ header_block f ∷ root_block f ∷ [])
 
-super_last : (k : IndexKind) (f : CreatedFile) → map block_write (index_blocks k f ++ header_block f ∷ root_block f ∷ super_block f ∷ []) ≡ before_super k f ++ block_write (super_block f) ∷ []
+pub super_last : (k : IndexKind) (f : CreatedFile) → map block_write (index_blocks k f ++ header_block f ∷ root_block f ∷ super_block f ∷ []) ≡ before_super k f ++ block_write (super_block f) ∷ []
 super_last Array f = refl
 super_last Tree f = refl
 
@@ -124,7 +126,7 @@ some_pending : (w : Write) → (let ws : List Write = w ∷ [] in ws) ≢ []
 some_pending w = λ e. cc
 
 pub created_rests : (f : CreatedFile) (s : Space) → IsCreatable f → IsBegun (created_moment f) s
-    → Rests f.name (shown_also (created_writes f) (created_log f)) (created_moment f) no_address s
+    → (r : Rests f.name (shown_also (created_writes f) (created_log f)) (created_moment f) no_address s) × (r.knows.held ≡ (created_moment f).behind)
 created_rests f s h begun =
     let ws = created_writes f in
     let log = shown_also ws (created_log f) in
@@ -145,10 +147,9 @@ created_rests f s h begun =
     let prefixed : PrefixedEach f.name log =
     subst (λ (l : Log). PrefixedEach f.name l) (sym (last_shown f)) (prefixed_last f.name w before low (subst (λ (l : Log). ReadsNow f.name l) (last_shown f) reads)) in
     let goes : Goes f.name log m [] = begin_goes f.name log m (sym all) file none some (sym columns) prefixed in
-    record {
-      runs = goes_runs f.name log m [] goes (λ k. ap (λ (vs : List ℤ). flushed_in k vs log.events) values ∙ here.flushed k);
-      knows = subst (λ (img : List ℕ). Knows img f.name m no_address s) (sym now) (created_known f s h begun);
-    }
+    let runs : Runs f.name log [] m m.behind = goes_runs f.name log m [] goes (λ k. ap (λ (vs : List ℤ). flushed_in k vs log.events) values ∙ here.flushed k) in
+    let known = subst (λ (img : List ℕ). KnownHeld img f.name m no_address s m.behind) (sym now) (created_known f s h begun) in
+    (record { knows = known.knows; runs = subst (λ (us : List Used). Runs f.name log [] m us) (sym known.is) runs }, known.is)
 
 pub creation_laws : CreationLaws
 creation_laws = record { shown = is_shown; more = λ f done w. sym (more_also done w (created_log f)); fits = fits_shown; prefixed = prefixed_unseen; still = still_unseen; rests = created_rests }

@@ -1,9 +1,11 @@
 -- The laws of a created file.
-use Rattle.std.specs.Prelude.{◌≡◌, ◌≢◌, ℕ, ◌+◌, ◌≤◌, List, [], ◌∷◌, ◌++◌, length, Some, IfSome, ℤ}
+use Rattle.std.specs.Prelude.{◌≡◌, ◌≢◌, ℕ, ◌+◌, ◌≤◌, List, [], ◌∷◌, ◌++◌, length, Some, IfSome, Ok, ℤ}
 use Rattle.h5w_model.specs.Images.{image, Holds, AllSized}
+use Rattle.h5w_model.specs.Programs.{eval}
 use Rattle.h5w_model.specs.Messages.{IntTypeFields, IsIntType}
 use Rattle.h5w_model.specs.Integers.{cell_bytes_of, fill_value}
 use Rattle.h5w_model.specs.Logs.{Log, shows, hist, shown, appended, flushed_in, and_now}
+use Rattle.h5w_model.specs.Findings.{checked_root}
 use Rattle.h5w_model.specs.Prefixed.{PrefixedEach, Still}
 use Rattle.h5w_model.specs.declared.cell.IndexKind.TheVariants.{Array}
 use Rattle.h5w_model.specs.declared.piece.Write.{Write}
@@ -14,11 +16,11 @@ use Rattle.h5w_header_laws.specs.Files.{LayoutInChunk0}
 use Rattle.h5w_header_laws.specs.Spelled.{IsSpellable}
 use Rattle.h5w_steps.specs.Moments.{Represents}
 use Rattle.h5w_steps.specs.Logs.{image_now}
-use Rattle.h5w_flush_laws.specs.Knowledge.{IsMap, Knows}
+use Rattle.h5w_flush_laws.specs.Knowledge.{IsMap, KnownHeld}
 use Rattle.h5w_flush_laws.specs.Flushes.{IsBegun, Rests, shown_also}
 use Rattle.h5w_array_laws.specs.ArrayStores.{IsCreated}
 use Rattle.h5w_array_laws.specs.ArrayImages.{StandsArray, StartsArray, SaysArray}
-use Rattle.h5w_creation_laws.specs.CreatedFiles.{CreatedFile, IsCreatable, fill_given, root_len, header_place, header_len, index_place, block_place, end_of, described_of, super_block, root_block, header_block, created_blocks, created_writes, created_moment, created_log, no_address}
+use Rattle.h5w_creation_laws.specs.CreatedFiles.{CreatedFile, IsCreatable, fill_given, root_len, header_place, header_len, index_place, block_place, end_of, described_of, super_of, super_block, root_block, header_block, created_blocks, created_writes, created_moment, created_log, no_address}
 
 -- ---- Sizes
 
@@ -56,15 +58,17 @@ pub record IsNewFile (f : CreatedFile) (img : List ℕ) : Type 0 where
   pub blocks : Holds img (created_blocks f)
   pub size : length img ≡ end_of f
   pub represents : Represents img f.name (created_moment f)
+  pub root : eval img (checked_root f.name (super_of f)) ≡ Ok (header_place f, (created_moment f).root)
   pub map : IsMap img (described_of f) no_address
   pub layout : LayoutInChunk0 img (header_place f)
 
 abbrev pub CreatedStands : Type 0
 CreatedStands = (f : CreatedFile) → IsCreatable f → IsNewFile f (image [] (created_writes f))
 
--- a session whose places begin at its end knows it
+-- a session whose places begin at its end knows it, and readers hold no more than what it has
 abbrev pub CreatedKnown : Type 0
-CreatedKnown = (f : CreatedFile) (s : Space) → IsCreatable f → IsBegun (created_moment f) s → Knows (image [] (created_writes f)) f.name (created_moment f) no_address s
+CreatedKnown = (f : CreatedFile) (s : Space) → IsCreatable f → IsBegun (created_moment f) s
+    → KnownHeld (image [] (created_writes f)) f.name (created_moment f) no_address s (created_moment f).behind
 
 -- An array's blocks are those of a store that keeps the header and the index block at their places, as they were written.
 pub record HasArray (f : CreatedFile) (v : Store) (img : List ℕ) : Type 0 where
@@ -99,4 +103,4 @@ pub record CreationLaws : Type 0 where
   pub prefixed : (f : CreatedFile) (done pending : List Write) → done ++ pending ≡ created_writes f → pending ≢ [] → PrefixedEach f.name (shown_also done (created_log f))
   pub still : (f : CreatedFile) (done pending : List Write) → done ++ pending ≡ created_writes f → pending ≢ [] → Still f.name (shown_also done (created_log f))
   pub rests : (f : CreatedFile) (s : Space) → IsCreatable f → IsBegun (created_moment f) s
-      → Rests f.name (shown_also (created_writes f) (created_log f)) (created_moment f) no_address s
+      → (r : Rests f.name (shown_also (created_writes f) (created_log f)) (created_moment f) no_address s) × (r.knows.held ≡ (created_moment f).behind)

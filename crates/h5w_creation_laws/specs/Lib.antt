@@ -1,3 +1,4 @@
 pub mod CreatedFiles
 pub mod CreationLaws
+pub mod Born
 pub mod CreatedExamples

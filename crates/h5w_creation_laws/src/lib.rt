@@ -4,10 +4,12 @@
 //! is the clause of a function without parameters; its statement is a definition in specs/. Nothing here runs.
 #![tactic(auto)]
 
+mod birth;
 mod examples;
 mod files;
 mod logs;
 
+pub use birth::{born, created_born};
 pub use examples::as_outside;
 pub use files::{
     created_array, created_known, created_places, created_sizes, created_stands, fill_given,

@@ -9,7 +9,7 @@ ghost use Rattle.h5w_ea_index.specs.Opened.{IsBlockOf, past, refusal_of};
 
 use crate::fresh::{data_block, data_number, links_to, secondary_block, secondary_number};
 use crate::slot::INDEX_BLOCK;
-use h5w_cache::{Block, Link};
+use h5w_cache::{Block, Link, Placement};
 use h5w_ea::{Eadb, Easb, super_block};
 use h5w_model::{BlockFault, OutOfMemory};
 use std::alloc::Global;
@@ -154,7 +154,7 @@ pub fn block(alloc: Global, part: Copied, bytes: Vec<u8>) -> Result<Block, OutOf
     let links = links(alloc, part)?;
     let turn = u64::from(number(part));
     let sealed = bytes.len();
-    Ok(Block::new(bytes, links, turn, false, sealed))
+    Ok(Block::new(bytes, links, turn, Placement::Copied, sealed))
 }
 
 /// One that names nothing, of the array whose header stands at a place.

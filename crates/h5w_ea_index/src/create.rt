@@ -10,7 +10,7 @@ ghost use Rattle.h5w_ea_index.specs.Created.{IsBare, Keeps, links_to};
 
 use crate::slot::{HEADER, INDEX_BLOCK};
 use h5w_bytes::UNDEFINED;
-use h5w_cache::{Block, Cache, Link};
+use h5w_cache::{Block, Cache, Link, Placement};
 use h5w_ea::{Eahd, Eaib};
 use h5w_model::OutOfMemory;
 use std::alloc::Global;
@@ -68,7 +68,7 @@ fn header_block(alloc: Global, place: u64) -> Result<Block, OutOfMemory>
     let bytes = header_bytes(alloc, &made)?;
     let links = links(alloc, 60, &[INDEX_BLOCK])?;
     let turn = u64::from(HEADER);
-    Ok(Block::new(bytes, links, turn, true, Eahd::LEN))
+    Ok(Block::new(bytes, links, turn, Placement::InPlace, Eahd::LEN))
 }
 
 /// The index block of an array without chunks, whose header stands at a place.
@@ -84,7 +84,7 @@ fn index_block(alloc: Global, header: u64) -> Result<Block, OutOfMemory>
     let bytes = index_bytes(alloc, &made)?;
     let links = links(alloc, 46, &NAMED)?;
     let turn = u64::from(INDEX_BLOCK);
-    Ok(Block::new(bytes, links, turn, true, Eaib::LEN))
+    Ok(Block::new(bytes, links, turn, Placement::InPlace, Eaib::LEN))
 }
 
 /// A store with room for so many numbers.

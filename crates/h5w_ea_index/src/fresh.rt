@@ -9,7 +9,7 @@ ghost use Rattle.h5w_array_laws.specs.Parts.{IsPart, data_of, links_from, second
 ghost use Rattle.h5w_ea_index.specs.Fresh.{IsFresh};
 
 use h5w_bytes::UNDEFINED;
-use h5w_cache::{Block, Link};
+use h5w_cache::{Block, Link, Placement};
 use h5w_ea::{Eadb, Easb, Slots, super_block};
 use h5w_model::OutOfMemory;
 use std::alloc::Global;
@@ -84,7 +84,7 @@ pub fn data_block(alloc: Global, header: u64, sblock: u32, block: u32) -> Result
     };
     let bytes = data_bytes(alloc, &made, len)?;
     let turn = u64::from(data_number(sblock, block));
-    Ok(Block::new(bytes, Vec::new(alloc), turn, false, len))
+    Ok(Block::new(bytes, Vec::new(alloc), turn, Placement::Copied, len))
 }
 
 /// Links to the data blocks of a super block, whose addresses stand one after another.
@@ -120,5 +120,5 @@ pub fn secondary_block(alloc: Global, header: u64, sblock: u32) -> Result<Block,
     let bytes = secondary_bytes(alloc, &made, len)?;
     let links = links_to(alloc, sblock, blocks as u32)?;
     let turn = u64::from(secondary_number(sblock));
-    Ok(Block::new(bytes, links, turn, false, len))
+    Ok(Block::new(bytes, links, turn, Placement::Copied, len))
 }

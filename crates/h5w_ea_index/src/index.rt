@@ -1,8 +1,8 @@
 ghost use Rattle.std.specs.Prelude.{◌≡◌, ◌≢◌, ◌↔◌, ℕ, ◌+◌, ◌<◌, ◌≤◌, ◌^◌, IsTrue, IfErr, IfOk, OnErr, OnOk, length, max, ◌==◌, List, []};
 ghost use Rattle.h5w_space.specs.Space.{Space};
 ghost use Rattle.h5w_model.specs.Numbers.{undefined};
-ghost use Rattle.h5w_cache.specs.Plans.{HasNoRoom, IfFull};
-ghost use Rattle.h5w_cache.specs.Starts.{IsBegun, copy_pieces, in_place_pieces};
+ghost use Rattle.h5w_cache.specs.Plans.{HasNoRoom, IfFull, TookSome};
+ghost use Rattle.h5w_cache.specs.Starts.{IsBegun, WasBegun, copy_pieces, in_place_pieces};
 ghost use Rattle.h5w_cache.specs.Stores.{is_changed, times};
 ghost use Rattle.h5w_array_laws.specs.Parts.{header, holder, index_block, number_of};
 ghost use Rattle.h5w_array_laws.specs.ArrayStores.{IsArray, IsCreated, IsNumbered, bytes_at_part, header_place, map_of, place_at_part};
@@ -214,11 +214,16 @@ impl ArrayIndex {
         self.cache.is_clean()
     }
 
-    /// Begins the plan of all changed blocks: takes all memory and places that [`ArrayIndex::finish`] needs, and changes nothing.
-    pub fn begin(&self, places: &Places) -> Result<Begun, PlanError>
-        ensures begun { IfOk result (λ b. IsBegun self.now.blocks self.now.places self.now.changed places.now b) }
+    /// Begins the plan of all changed blocks: takes all memory that [`ArrayIndex::finish`] needs, and settles the places. Data blocks and
+    /// secondary blocks take new ones, and those that they had are retired, where they are live.
+    ///
+    /// The array does not change. After a refusal the places are of no use: some are taken.
+    pub fn begin(&self, places: &mut Places) -> Result<Begun, PlanError>
+        ensures begun { IfOk result (λ b. IsBegun self.now.blocks self.now.places self.now.changed places.old b places.new) }
         // the first block in turn that has no room
-        ensures full { IfErr result (λ e. IfFull e (HasNoRoom self.now.blocks self.now.places self.now.changed places.now)) }
+        ensures full { IfErr result (λ e. IfFull e (HasNoRoom self.now.blocks self.now.places self.now.changed places.old)) }
+        // some blocks have their places then, and none is retired
+        ensures left { OnErr result (TookSome self.now.blocks self.now.places places.old places.new) }
         // no block is listed twice
         ensures once { (n : ℕ) → times n self.now.changed ≤ 1 }
         ensures array { IsArray self.now }
@@ -226,39 +231,23 @@ impl ArrayIndex {
         self.cache.begin(places)
     }
 
-    /// The writes of all changed blocks, those in place last, of a plan that was begun of this array and these places: data blocks and
-    /// secondary blocks at new places, the index block and the header where they stand. All are clean from then on.
+    /// The writes of all changed blocks, those in place last, of a plan that was begun of this array: data blocks and secondary blocks at
+    /// new places, the index block and the header where they stand. All are clean from then on.
     ///
     /// It cannot fail.
-    pub fn finish(&mut self, places: &mut Places, begun: Begun) -> Plan
-        requires { IsBegun self.old.blocks self.old.places self.old.changed places.old begun }
-        ensures planned { IsArrayPlan self.old places.old result.moves.items result.copies.items result.in_place.items self.new places.new }
+    pub fn finish(&mut self, begun: Begun) -> Plan
+        requires { WasBegun self.old.blocks self.old.places self.old.changed begun }
+        // on whichever places it was begun
+        ensures planned { (s t : Space) → IsBegun self.old.blocks self.old.places self.old.changed s begun t
+            → IsArrayPlan self.old s result.moves.items result.copies.items result.in_place.items self.new t }
         ensures array { IsArray self.new }
         ensures numbered { IsNumbered self.old → IsNumbered self.new }
         // as it was begun
         ensures moves { result.moves.items ≡ begun.moves }
         ensures copies { length result.copies.items ≡ copy_pieces begun }
         ensures in_place { length result.in_place.items ≡ in_place_pieces begun }
-        ensures end { places.new.end ≡ begun.next.end }
     {
-        finish(&mut self.cache, places, begun)
-    }
-
-    /// The writes of all changed blocks, those in place last: data blocks and secondary blocks at new places, the index block and the
-    /// header where they stand. All are clean from then on.
-    ///
-    /// A refused plan changes nothing.
-    pub fn plan(&mut self, places: &mut Places) -> Result<Plan, PlanError>
-        ensures planned { IfOk result (λ p. IsArrayPlan self.old places.old p.moves.items p.copies.items p.in_place.items self.new places.new) }
-        ensures array { IsArray self.new }
-        ensures numbered { IsNumbered self.old → IsNumbered self.new }
-        // the first block in turn that has no room
-        ensures full { IfErr result (λ e. IfFull e (HasNoRoom self.old.blocks self.old.places self.old.changed places.old)) }
-        ensures kept { OnErr result (self.new ≡ self.old) }
-        ensures places { OnErr result (places.new ≡ places.old) }
-    {
-        let begun = self.begin(places)?;
-        Ok(self.finish(places, begun))
+        finish(&mut self.cache, begun)
     }
 
     /// A copy.

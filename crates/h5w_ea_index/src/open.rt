@@ -13,7 +13,7 @@ use crate::error::OpenArrayError;
 use crate::load::{bytes_at, check_end, load_all};
 use crate::slot::{HEADER, INDEX_BLOCK};
 use h5w_bytes::UNDEFINED;
-use h5w_cache::{Block, Cache};
+use h5w_cache::{Block, Cache, Placement};
 use h5w_ea::{Eahd, Eaib};
 use h5w_image::PieceRead;
 use std::alloc::Global;
@@ -61,7 +61,7 @@ fn header_at<I: PieceRead>(
     check_end(at, Eahd::LEN)?;
     let links = links(alloc, 60, &[INDEX_BLOCK])?;
     let turn = u64::from(HEADER);
-    let block = Block::new(bytes, links, turn, true, Eahd::LEN);
+    let block = Block::new(bytes, links, turn, Placement::InPlace, Eahd::LEN);
     Ok((block, place))
 }
 
@@ -81,7 +81,7 @@ fn index_block_at<I: PieceRead>(
     check_end(at, Eaib::LEN)?;
     let links = links(alloc, 46, &NAMED)?;
     let turn = u64::from(INDEX_BLOCK);
-    Ok(Block::new(bytes, links, turn, true, Eaib::LEN))
+    Ok(Block::new(bytes, links, turn, Placement::InPlace, Eaib::LEN))
 }
 
 /// The array whose header stands at `header`. None where the header names no index block.

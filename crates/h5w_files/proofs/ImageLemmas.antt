@@ -1,10 +1,10 @@
 -- A put into a file as a write of the image that it is, and looks at it.
-use Rattle.std.proofs.Common.{◌≡◌, ℕ, List, [], ◌∷◌, ◌++◌, length, Option, Some, None, refl, ap, ap₂, ◌∙◌, arith}
+use Rattle.std.proofs.Common.{◌≡◌, ℕ, List, [], ◌∷◌, ◌++◌, length, Option, Some, None, refl, sym, ap, ap₂, ◌∙◌, arith}
 use Rattle.std.specs.Prelude.{IfSome, IsSome, option_map}
 use Rattle.std.specs.Option.{unwrap_or}
 use Rattle.h5w_model.specs.Images.{apply, image}
 use Rattle.h5w_model.specs.declared.piece.Write.{Write}
-use Rattle.h5w_image.specs.View.{DiskState, DiskView, IsThere, Leaves, Looked, Wrote, file, put}
+use Rattle.h5w_image.specs.View.{DiskState, DiskView, ImageView, IsThere, Leaves, Looked, Wrote, file, put}
 use Rattle.h5w_image.proofs.Names.{get-insert_same}
 use Rattle.h5w_files.specs.Images.{LeavesFiles, file_image, told_bytes}
 
@@ -53,3 +53,6 @@ looked_files {u} {w} r q name other looked =
 
 pub leaves_on : {u v w : DiskView} → LeavesFiles u.told u v → LeavesFiles v.told v w → LeavesFiles u.told u w
 leaves_on p q = record { told = q.told ∙ p.told; faults = omega (arith, p.faults, q.faults); through = q.through ∙ p.through }
+
+pub reference_looked : {v w : ImageView} → Looked v w → (r q : ℕ) (xs ys : List ℕ) → v.through ≡ r ∷ xs → w.through ≡ q ∷ ys → q ≡ r
+reference_looked same r q xs ys e f = let both : q ∷ ys ≡ r ∷ xs = sym f ∙ same.through ∙ e in cc

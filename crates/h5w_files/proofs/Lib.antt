@@ -8,12 +8,3 @@ pub mod PollLemmas
 pub mod OnceLemmas
 pub mod TimesLemmas
 pub mod PollEndLemmas
-pub mod PutLemmas
-pub mod CreateLemmas
-pub mod BatchLemmas
-pub mod StoreLemmas
-pub mod StepLemmas
-pub mod InputLemmas
-pub mod ShutLemmas
-pub mod AppendLemmas
-pub mod OpenLemmas

@@ -18,11 +18,11 @@ use Rattle.h5w_model.specs.declared.piece.Write.{Write}
 use Rattle.h5w_space.specs.Space.{Apart}
 use Rattle.h5w_space.specs.declared.Extent.{Extent}
 use Rattle.h5w_chunks.specs.Runs.{run_bytes}
-use Rattle.h5w_chunks.specs.Grids.{FitsType, cells_of, copies}
+use Rattle.h5w_chunks.specs.Grids.{FitsType, IsCut, cells_of, copies}
 use Rattle.h5w_chunks.specs.Shares.{new_writes, padded_rows, row_blocks, writes_from, writes_of}
-use Rattle.h5w_chunks.specs.Rows.{RowsWritten}
+use Rattle.h5w_chunks.specs.Rows.{ChunksApart, RowsWritten}
 use Rattle.h5w_chunks.specs.declared.grid.ChunkPlace.{ChunkPlace}
-use Rattle.h5w_chunks.proofs.Geometry.{IsCut}
+use Rattle.h5w_chunks.proofs.EarlyLemmas.{rows_stand}
 use Rattle.h5w_chunks.proofs.WriteLaws.{rows_written}
 use Rattle.h5w_examples.specs.Files.{created_file, file_of_three}
 use Rattle.h5w_examples.specs.Readings.{data_name, piece_of, described_by}
@@ -37,6 +37,7 @@ use Rattle.h5w_flush_laws.specs.Knowledge.{IsMap, Knows}
 use Rattle.h5w_flush_laws.specs.Parts.{AreEnded, EachSays, IndexFlushed, IsFlush, copied, ended, pieces_of}
 use Rattle.h5w_flush_laws.specs.Rows.{IsPlaced, ArePlaced, RowsPart}
 use Rattle.h5w_flush_laws.proofs.KnownLaws.{begin_knows}
+use Rattle.h5w_flush_laws.proofs.ChunkPlaceLemmas.{places_apart}
 use Rattle.h5w_flush_laws.proofs.RowsLaws.{rows_flush}
 use Rattle.h5w_flush_examples.specs.FirstFlush.{places_to, no_address, two_addresses, two_places, first_parts, IsFirstFlush}
 use Rattle.h5w_flush_examples.proofs.SlotLemmas.{slot_here}
@@ -81,8 +82,8 @@ no_map = record {
 
 known_created : Knows (image_now created_twos) data_name with_none no_address (places_to 558)
 known_created =
-    begin_knows (image_now created_twos) data_name with_none no_address (places_to 558) goes_created.now no_map
-    (record { end = refl; none_free = refl; none_retired = refl }) (λ e. absurd (omega (arith, e)))
+    (begin_knows (image_now created_twos) data_name with_none no_address (places_to 558) goes_created.now no_map
+    (record { end = refl; none_free = refl; none_retired = refl }) (λ e. absurd (omega (arith, e)))).knows
 
 -- ---- The new rows
 
@@ -152,18 +153,6 @@ past_two (suc (suc i)) h = later i
     later (suc zero) = refl
     later (suc (suc i)) = refl
 
-placed : ArePlaced with_none no_address first_parts two_places
-placed = record {
-  written = written;
-  all = refl;
-  placed = each_placed;
-  others = λ key asked outside. elim outside [ inl low ↦ absurd (omega (arith, low)) | inr high ↦ past_two key.i high ];
-  chunks = refl;
-  typed = refl;
-  filled = refl;
-  fit = each_fits;
-}
-
 chunks_taken : Taken (places_to 558) chunks_of_two (places_to 574)
 chunks_taken = record {
   apart = disjoint_by chunks_of_two refl refl;
@@ -184,7 +173,22 @@ chunks_taken = record {
     inside u (inr (inl e)) = subst (λ (y : Used). y.place + y.len ≤ 574) e (lit≤ tt)
     inside u (inr (inr a)) = absurd a
 
-rows_part : RowsPart (image_now created_twos) with_none no_address first_parts
+chunks_apart : ChunksApart (described_by 2 0 188) two_places
+chunks_apart = places_apart (image_now created_twos) data_name with_none no_address (places_to 558) (places_to 574) 3 two_places known_created chunks_taken (lit≤ tt) refl refl (λ k p found. (each_placed k p found).kept)
+
+placed : ArePlaced (image_now created_twos) with_none no_address first_parts two_places
+placed = record {
+  written = rows_stand (image_now created_twos) (described_by 2 0 188) (cells_of (described_by 2 0 188) values_of_three) 0 3 two_places first_parts.writes written chunks_apart;
+  all = refl;
+  placed = each_placed;
+  others = λ key asked outside. elim outside [ inl low ↦ absurd (omega (arith, low)) | inr high ↦ past_two key.i high ];
+  chunks = refl;
+  typed = refl;
+  filled = refl;
+  fit = each_fits;
+}
+
+rows_part : RowsPart (image_now created_twos) with_none known_created.held no_address first_parts
 rows_part = rows_flush (image_now created_twos) data_name with_none no_address (places_to 558) (places_to 574) first_parts two_places known_created chunks_taken (lit≤ tt) refl refl placed
 
 -- ---- The index

@@ -14,12 +14,14 @@ use Rattle.h5w_header_laws.proofs.FileLaws.{layout_missed}
 use Rattle.h5w_steps.specs.Moments.{Moment, all_used, Represents, HasCells, chunk_of, cell_place}
 use Rattle.h5w_steps.specs.Steps.{unseen}
 use Rattle.h5w_steps.specs.Plans.{Plan, UnseenRange}
-use Rattle.h5w_steps.proofs.MomentLemmas.{inside, cells_missed, in_header, in_behind}
+use Rattle.h5w_steps.proofs.MomentLemmas.{inside, cells_missed, in_header}
 use Rattle.h5w_steps.proofs.StepRepresents.{unseen_represents, blocks_missed}
 use Rattle.h5w_steps.proofs.PlanLaws.{plans_join, free_place, EachMisses}
-use Rattle.h5w_flush_laws.specs.Spaces.{AllLive, Taken}
+use Rattle.h5w_flush_laws.specs.Spaces.{AllLive, Taken, extent_of}
+use Rattle.h5w_flush_laws.specs.Knowledge.{HeldMissed, Holding}
 use Rattle.h5w_flush_laws.specs.Parts.{AllUnseen, block_writes, block_ranges}
-use Rattle.h5w_flush_laws.proofs.SpaceLemmas.{taken_apart}
+use Rattle.h5w_steps.proofs.PartLemmas.{disjoint_some}
+use Rattle.h5w_flush_laws.proofs.SpaceLemmas.{meet_nowhere, taken_apart}
 
 -- ---- The header stays
 
@@ -74,21 +76,22 @@ unseen_range m held place bytes r =
     (λ u a b. pieces-miss place bytes u.place u.len (r.off_blocks u a b), λ u a b. pieces-miss place bytes u.place u.len (r.off_held u a b), λ k low d. pieces-miss place bytes (cell_place m k) m.dataset.int_type.size (r.off_cells k low d))
 
 -- at such pieces a file stays, also for readers that hold what stands behind its blocks in place
-pub unseen_stage : (img name : List ℕ) (m : Moment) (ws : List Write) → Represents img name m → AllUnseen m ws → Stage img m m.behind ws m m.behind
-unseen_stage img name m [] r u = record { plan = (refl, refl); header = kept_itself img m.place }
-unseen_stage img name m (w ∷ ws) r u =
-    let next = unseen_stage (apply w img) name m ws (unseen_represents img name m w r u.0) u.1 in
+pub unseen_stage : (img name : List ℕ) (m : Moment) (held : List Used) (ws : List Write) → Represents img name m → AllUnseen m ws → HeldMissed held ws → Stage img m held ws m held
+unseen_stage img name m held [] r u h = record { plan = (refl, refl); header = kept_itself img m.place }
+unseen_stage img name m held (w ∷ ws) r u h =
+    let next = unseen_stage (apply w img) name m held ws (unseen_represents img name m w r u.0) u.1 (λ x a b. (h x a b).1) in
     record {
-      plan = (m, m.behind, unseen u.0 (blocks_missed w m.behind (all_used m) (in_behind m) u.0.off_blocks) refl refl, refl, next.plan);
+      plan = (m, held, unseen u.0 (λ x a b. (h x a b).0) refl refl, refl, next.plan);
       header = kept_on img (apply w img) (image (apply w img) ws) m.place (header_kept img name m w r (blocks_missed w m.header (all_used m) (in_header m) u.0.off_blocks)) next.header;
     }
 
 -- ---- Blocks at new places
 
-pub fresh_unseen : (img name : List ℕ) (m : Moment) (s t : Space) (us : List Used) → Represents img name m → AllLive s (all_used m) → Taken s us t → (u : Used) → Among u us → UnseenRange m m.behind u.place u.len
-fresh_unseen img name m s t us r live taken u a =
+pub fresh_unseen : (img name : List ℕ) (m : Moment) (held : List Used) (s t : Space) (us : List Used) → Represents img name m → AllLive s (all_used m) → Holding m s held → Taken s us t → (u : Used) → Among u us
+    → UnseenRange m held u.place u.len
+fresh_unseen img name m held s t us r live holding taken u a =
     let off = taken_apart s t us (all_used m) taken live r.apart u in
-    free_place img name m m.behind u.place u.len r (λ v b. off v a b) (λ v b. off v a (in_behind m v b))
+    free_place img name m held u.place u.len r (λ v b. off v a b) (λ v b. meet_nowhere u v (disjoint_some us taken.apart u a) (holding.some v b) (taken.off_live u (extent_of v) a (holding.live v b)))
 
 pub blocks_unseen : (m : Moment) (held : List Used) (bs : List (ℕ × List ℕ)) → ((u : Used) → Among u (block_ranges bs) → UnseenRange m held u.place u.len) → AllUnseen m (block_writes bs)
 blocks_unseen m held [] h = tt
@@ -121,6 +124,10 @@ pub blocks_miss : (bs : List (ℕ × List ℕ)) (place n : ℕ) → ((u : Used) 
 blocks_miss [] place n h = tt
 blocks_miss (b ∷ bs) place n h =
     AllMiss-append (pieces b.0 b.1) (block_writes bs) place n (pieces-miss b.0 b.1 place n (h (block_at b.0 (length b.1)) (inl refl))) (blocks_miss bs place n (λ u a. h u (inr a)))
+
+-- the blocks miss what is held
+pub blocks_off_held : (m : Moment) (held : List Used) (bs : List (ℕ × List ℕ)) → ((u : Used) → Among u (block_ranges bs) → UnseenRange m held u.place u.len) → HeldMissed held (block_writes bs)
+blocks_off_held m held bs h u a block = blocks_miss bs u.place u.len (λ v b. (h v b).off_held u a block)
 
 -- ---- Cells
 

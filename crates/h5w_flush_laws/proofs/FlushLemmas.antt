@@ -1,5 +1,5 @@
 -- A flush up to its header piece.
-use Rattle.std.proofs.Common.{◌≡◌, ◌⊎◌, ℕ, ◌+◌, ◌<◌, ◌≤◌, List, [], ◌∷◌, ◌++◌, length, get_or, Ok, refl, sym, ◌∙◌, ap, subst, inl, inr, arith}
+use Rattle.std.proofs.Common.{◌≡◌, ◌⊎◌, ℕ, ◌+◌, ◌<◌, ◌≤◌, true, false, List, [], ◌∷◌, ◌++◌, length, get_or, Ok, refl, sym, ◌∙◌, ap, subst, inl, inr, arith}
 use Rattle.std.specs.Prelude.{map}
 use Rattle.h5w_model.specs.Numbers.{range, undefined}
 use Rattle.h5w_model.specs.Images.{apply, image, AllMiss}
@@ -23,16 +23,19 @@ use Rattle.h5w_visits.proofs.NeededLaws.{table_laws}
 use Rattle.h5w_space.specs.Space.{Space}
 use Rattle.h5w_steps.specs.Moments.{Moment, all_used, Represents, HasCells, row_of, column_of}
 use Rattle.h5w_steps.specs.Steps.{Ends, ends}
+use Rattle.h5w_steps.specs.Plans.{UnseenRange}
 use Rattle.h5w_steps.proofs.PartLemmas.{apart_sym, disjoint_part, disjoint_some}
 use Rattle.h5w_steps.proofs.MomentLemmas.{super_parts, few, header_of, in_behind, parts_of}
 use Rattle.h5w_steps.proofs.StepRepresents.{ends_missed}
 use Rattle.h5w_steps.proofs.PlanLaws.{plan_leads}
-use Rattle.h5w_flush_laws.specs.Knowledge.{Knows}
+use Rattle.h5w_flush_laws.specs.Knowledge.{HeldMissed, Knows}
+use Rattle.h5w_flush_laws.proofs.SpaceLemmas.{meet_nowhere}
+use Rattle.h5w_flush_laws.specs.Spaces.{extent_of}
 use Rattle.h5w_flush_laws.specs.Parts.{Parts, fresh_of, block_writes, block_ranges, committed, flushed_to, copied, ended, AreEnded, SaysInPlace, EachSays, IsFlush}
 use Rattle.h5w_flush_laws.proofs.SpaceLemmas.{taken_disjoint}
 use Rattle.h5w_flush_laws.proofs.KeyLemmas.{table_behind, stay_defined, needed_asked, found_table}
-use Rattle.h5w_flush_laws.proofs.PartLemmas.{parts_among, parts_count, fresh_off, apart_kinds, own_off}
-use Rattle.h5w_flush_laws.proofs.EarlyLemmas.{Stage, header_kept, kept_itself, unseen_stage, fresh_unseen, blocks_unseen, blocks_are, blocks_whole, blocks_miss, cells_over}
+use Rattle.h5w_flush_laws.proofs.PartLemmas.{parts_among, parts_count, apart_kinds}
+use Rattle.h5w_flush_laws.proofs.EarlyLemmas.{Stage, header_kept, kept_itself, unseen_stage, fresh_unseen, blocks_unseen, blocks_are, blocks_whole, blocks_miss, blocks_off_held, cells_over}
 use Rattle.h5w_flush_laws.proofs.IndexLemmas.{behind_of_other, BehindBy, behind_by_missed, turned, Turning}
 use Rattle.h5w_flush_laws.proofs.CellLemmas.{HasChunks, all_chunks_missed, cell_of_value, cell_same, more_values, first_values}
 
@@ -73,9 +76,9 @@ seen_missed w img end d blocks behind f s b fits misses =
 abbrev pub with_end : ℕ → Moment → Moment
 with_end e m = record m { super = record (m.super) { end = e } }
 
-pub end_stage : (img name : List ℕ) (m : Moment) (e : ℕ) (ws : List Write) → Represents img name m → AreEnded m.super e ws → m.super.end ≤ e → e ≤ length img → Stage img m m.behind ws (with_end e m) m.behind
-end_stage img name m e [] r same rises fits = record { plan = (ap (λ n. with_end n m) same, refl); header = kept_itself img m.place }
-end_stage img name m e (w ∷ ws) r is rises fits = subst (λ (vs : List Write). Stage img m m.behind (w ∷ vs) (with_end e m) m.behind) (sym is.1) one
+pub end_stage : (img name : List ℕ) (m : Moment) (held : List Used) (e : ℕ) (ws : List Write) → Represents img name m → AreEnded m.super e ws → m.super.end ≤ e → e ≤ length img → Stage img m held ws (with_end e m) held
+end_stage img name m held e [] r same rises fits = record { plan = (ap (λ n. with_end n m) same, refl); header = kept_itself img m.place }
+end_stage img name m held e (w ∷ ws) r is rises fits = subst (λ (vs : List Write). Stage img m held (w ∷ vs) (with_end e m) held) (sym is.1) one
   where
     safe : Ends img m w (with_end e m)
     safe = record {
@@ -89,9 +92,9 @@ end_stage img name m e (w ∷ ws) r is rises fits = subst (λ (vs : List Write).
       there = fits;
     }
 
-    one : Stage img m m.behind (w ∷ []) (with_end e m) m.behind
+    one : Stage img m held (w ∷ []) (with_end e m) held
     one = record {
-      plan = (with_end e m, m.behind, ends safe refl, refl, (refl, refl));
+      plan = (with_end e m, held, ends safe refl, refl, (refl, refl));
       header = header_kept img name m w r (λ u a b. ends_missed img m (with_end e m) w r.apart safe u (among_right u m.root (m.header ++ (m.fixed ++ m.behind)) (among_left u m.header (m.fixed ++ m.behind) a)));
     }
 
@@ -107,7 +110,7 @@ end_misses s e (w ∷ ws) u is apart =
 
 -- ---- What holds before the blocks in place are written
 
-module _ (img name : List ℕ) (m : Moment) (old : Key → ℕ) (s t : Space) (f : Parts) (k : Knows img name m old s) (i : IsFlush img m old s f t) where
+module _ (img name : List ℕ) (m : Moment) (old : Key → ℕ) (s t : Space) (f : Parts) (k : Knows img name m old s) (i : IsFlush img m old s f t) (missed : HeldMissed k.held f.writes) where
   pub all_apart : Disjoint (fresh_of f ++ all_used m)
   all_apart = taken_disjoint s i.between (fresh_of f) (all_used m) i.taken k.live k.file.apart
 
@@ -122,19 +125,20 @@ module _ (img name : List ℕ) (m : Moment) (old : Key → ℕ) (s t : Space) (f
   pub copies_range : (u : Used) → Among u (block_ranges f.copies) → Among u (fresh_of f)
   copies_range u a = among_right u f.chunks (block_ranges f.copies) a
 
-  pub rows_stage : Stage img m m.behind f.writes m m.behind
-  rows_stage = unseen_stage img name m f.writes k.file i.written.unseen
+  pub rows_stage : Stage img m k.held f.writes m k.held
+  rows_stage = unseen_stage img name m k.held f.writes k.file i.written.unseen missed
 
   pub file_rows : Represents (image img f.writes) name m
-  file_rows = plan_leads img name m m m.behind m.behind f.writes k.file rows_stage.plan
+  file_rows = plan_leads img name m m k.held k.held f.writes k.file rows_stage.plan
 
-  pub copies_stage : Stage (image img f.writes) m m.behind (block_writes f.copies) m m.behind
-  copies_stage =
-      unseen_stage (image img f.writes) name m (block_writes f.copies) file_rows
-      (blocks_unseen m m.behind f.copies (λ u a. fresh_unseen img name m s i.between (fresh_of f) k.file k.live i.taken u (copies_range u a)))
+  copies_fresh : (u : Used) → Among u (block_ranges f.copies) → UnseenRange m k.held u.place u.len
+  copies_fresh u a = fresh_unseen img name m k.held s i.between (fresh_of f) k.file k.live k.holding i.taken u (copies_range u a)
+
+  pub copies_stage : Stage (image img f.writes) m k.held (block_writes f.copies) m k.held
+  copies_stage = unseen_stage (image img f.writes) name m k.held (block_writes f.copies) file_rows (blocks_unseen m k.held f.copies copies_fresh) (blocks_off_held m k.held f.copies copies_fresh)
 
   pub file_copied : Represents (copied img f) name m
-  file_copied = plan_leads (image img f.writes) name m m m.behind m.behind (block_writes f.copies) file_rows copies_stage.plan
+  file_copied = plan_leads (image img f.writes) name m m k.held k.held (block_writes f.copies) file_rows copies_stage.plan
 
   -- the new end is in the image
 
@@ -157,11 +161,11 @@ module _ (img name : List ℕ) (m : Moment) (old : Key → ℕ) (s t : Space) (f
 
   -- the superblock
 
-  pub ended_stage : Stage (copied img f) m m.behind f.supers (with_end f.end m) m.behind
-  ended_stage = end_stage (copied img f) name m f.end f.supers file_copied i.super end_rises end_there
+  pub ended_stage : Stage (copied img f) m k.held f.supers (with_end f.end m) k.held
+  ended_stage = end_stage (copied img f) name m k.held f.end f.supers file_copied i.super end_rises end_there
 
   pub file_ended : Represents (ended img f) name (with_end f.end m)
-  file_ended = plan_leads (copied img f) name m (with_end f.end m) m.behind m.behind f.supers file_copied ended_stage.plan
+  file_ended = plan_leads (copied img f) name m (with_end f.end m) k.held k.held f.supers file_copied ended_stage.plan
 
   pub end_there_too : f.end ≤ length (ended img f)
   end_there_too = omega (arith, end_there, image-grows (copied img f) f.supers)
@@ -246,23 +250,37 @@ module _ (img name : List ℕ) (m : Moment) (old : Key → ℕ) (s t : Space) (f
       cell_same (ended img f) m.place m.dataset f.rows f.named f.address (row_of m n) (column_of m n) sized (omega arith) (cell_of_value m.dataset n (subst (λ c. n < c) k.file.count low))
       ∙ cells_ended n (more_values m.values f.more n low) ∙ first_values m.values f.more n low
 
-  pub turning : Turning (ended img f) name (with_end f.end m) m.behind f.fixed f.behind i.index.blocks f.address
+  pub turning : Turning (ended img f) name (with_end f.end m) k.held f.fixed f.behind i.index.blocks f.address
   turning = record {
     file = file_ended;
     added = i.index.added;
     begins = i.index.begins;
     stands = behind_ended;
     off = λ u v a b. off u v a (among_split v m.fixed i.index.added (subst (λ (us : List Used). Among v us) i.index.begins b));
-    clear = λ u v a block b chunk. apart_kinds (fresh_of f ++ all_used m) u v all_apart (among_right u (fresh_of f) (all_used m) (in_behind m u a)) (after_among v (in_behind (flushed_to m f) v b)) block chunk;
+    clear = λ u v a block b chunk. clear u v a block chunk (among_split v (fresh_of f) (m.fixed ++ m.behind) (i.index.known v (among_right v f.fixed f.behind b)));
     ends = λ u a. after_ends u (among_left u f.fixed f.behind a);
     apart = after_apart;
     addresses = λ n low. stays n (found_table img m.dataset old m.table few_now k.index k.file.table) low;
     cells = cells_turned;
   }
     where
-      off : (u v : Used) → Among u m.behind → Among v m.fixed ⊎ Among v i.index.added → AreApart u v
-      off u v a (inl b) = own_off m k.file.apart u v a b
-      off u v a (inr b) = apart_sym v u (fresh_off m (fresh_of f) all_apart v u (i.index.added_fresh v b) (in_behind m u a))
+      held_fresh : (x u : Used) → Among x (fresh_of f) → Among u k.held → AreApart x u
+      held_fresh x u a b = meet_nowhere x u (disjoint_some (fresh_of f) i.taken.apart x a) (k.holding.some u b) (i.taken.off_live x (extent_of u) a (k.holding.live u b))
+
+      held_fixed : (u v : Used) → Among u k.held → Among v m.fixed → AreApart u v
+      held_fixed u v a b = k.holding.off_front u v a (inr (among_right v m.header m.fixed b))
+
+      off : (u v : Used) → Among u k.held → Among v m.fixed ⊎ Among v i.index.added → AreApart u v
+      off u v a (inl b) = held_fixed u v a b
+      off u v a (inr b) = apart_sym v u (held_fresh v u (i.index.added_fresh v b) a)
+
+      old_clear : (u v : Used) → Among u k.held → u.chunk ≡ false → v.chunk ≡ true → Among v m.fixed ⊎ Among v m.behind → AreApart u v
+      old_clear u v a block chunk (inl b) = held_fixed u v a b
+      old_clear u v a block chunk (inr b) = k.holding.clear u v a block b chunk
+
+      clear : (u v : Used) → Among u k.held → u.chunk ≡ false → v.chunk ≡ true → Among v (fresh_of f) ⊎ Among v (m.fixed ++ m.behind) → AreApart u v
+      clear u v a block chunk (inl b) = apart_sym v u (held_fresh v u b a)
+      clear u v a block chunk (inr b) = old_clear u v a block chunk (among_split v m.fixed m.behind b)
 
       few_now : AreFew m.dataset
       few_now = few img name m k.file

@@ -11,9 +11,11 @@ pub mod KnownLaws
 pub mod SessionLaws
 pub mod ValueLemmas
 pub mod NewChunkLemmas
+pub mod ChunkPlaceLemmas
 pub mod RowsLaws
 pub mod CopyLemmas
 pub mod AloneLemmas
 pub mod OnceArrays
 pub mod OnceTrees
 pub mod OnceLaws
+pub mod EarlyRowsLemmas

@@ -4,7 +4,6 @@ use Rattle.std.specs.Prelude.{◌==◌, nat_lt, if◌then◌else◌, slice_get}
 use Rattle.std.proofs.Math.Nat.{mod-lt, mul-le-mul_right, mul-le-mul_left, mul_assoc}
 use Rattle.std.proofs.lemmas.Bool.{cond-true, lt-ltb, ltb-false, eq-eqb, eqb-true}
 use Rattle.h5w_model.specs.Numbers.{undefined}
-use Rattle.h5w_model.specs.Images.{Apart, AllMiss}
 use Rattle.h5w_model.specs.Logs.{div_up}
 use Rattle.h5w_model.specs.Datasets.{Described}
 use Rattle.h5w_model.specs.Tables.{bands, chunks_across, needed, limit_of, format_limits}
@@ -16,7 +15,6 @@ use Rattle.h5w_chunks.specs.Shares.{touched, touched_key}
 use Rattle.h5w_chunks.specs.Rows.{AllWithin, IsChunkOf}
 use Rattle.h5w_chunks.specs.declared.grid.ChunkPlace.{ChunkPlace}
 use Rattle.h5w_chunks.proofs.Geometry.{number_parts, quotient_lt, row_is}
-use Rattle.h5w_model.proofs.ImageLemmas.{Apart-part}
 use Rattle.h5w_visits.specs.Ranges.{Among, AreApart, Disjoint, chunk_at}
 use Rattle.h5w_visits.specs.Indexes.{IsNamed}
 use Rattle.h5w_visits.specs.Needed.{AreFew}
@@ -198,18 +196,8 @@ pub new_chunks_more : NewChunksMore
 new_chunks_more d old from places p =
     more_from d old from 0 places p ∙ ap (λ k. new_chunks d old from 0 places ++ one_new d old from p k) (let e : 0 + length places ≡ length places = omega arith in e)
 
--- ---- Writes within chunks
-
 pub same_len : (d : Described) → chunk_len d ≡ chunk_bytes d
 same_len d = sym (mul_assoc d.layout.chunk_rows d.layout.chunk_cols d.int_type.size)
-
--- what is apart from each of the chunks is missed by writes within them
-pub within_miss : (d : Described) (places : List ChunkPlace) (ws : List Write) (place n : ℕ) → AllWithin d places ws → ((k : ℕ) (p : ChunkPlace) → slice_get places k ≡ Some p → Apart p.address (chunk_len d) place n) → AllMiss ws place n
-within_miss d places [] place n within apart = tt
-within_miss d places (w ∷ ws) place n within apart = (
-  Apart-part within.0.1.address (chunk_len d) place n w.at (length w.piece) place n within.0.3 within.0.4 (omega arith) (omega arith) (apart within.0.0 within.0.1 within.0.2),
-  within_miss d places ws place n within.1 apart,
-)
 
 -- ---- The rows of the dataset do not matter
 

@@ -3,7 +3,7 @@ use Rattle.std.proofs.Common.{◌≡◌, ◌≢◌, ◌⊎◌, ℕ, suc, ◌+◌
 use Rattle.std.specs.Prelude.{ℤ, pos, slice_get}
 use Rattle.std.proofs.lemmas.Bool.{cases_lt, cases_Bool}
 use Rattle.std.proofs.lemmas.Bool.Decides.{eqb_tells}
-use Rattle.std.proofs.lemmas.Option.{slice_get-get_or, slice_get_within}
+use Rattle.std.proofs.lemmas.Option.{slice_get-get_or}
 use Rattle.h5w_model.specs.Numbers.{undefined}
 use Rattle.h5w_model.specs.Images.{image, Apart, AllMiss, At}
 use Rattle.h5w_model.specs.Integers.{cell_bytes_of}
@@ -16,34 +16,31 @@ use Rattle.h5w_model.specs.declared.cell.Key.{Key}
 use Rattle.h5w_model.proofs.ImageLemmas.{Apart-part, At-fits}
 use Rattle.h5w_model.proofs.IntegerLemmas.{length-cell_bytes_of, value_at-cell_bytes_of}
 use Rattle.h5w_chunks.specs.Grids.{chunk_len, fill_cell}
-use Rattle.h5w_chunks.specs.Shares.{touched, touched_key, chunk_number}
-use Rattle.h5w_chunks.specs.Rows.{ChunksApart, IsChunkOf, IsOther, place_in}
+use Rattle.h5w_chunks.specs.Shares.{touched_key, chunk_number}
+use Rattle.h5w_chunks.specs.Rows.{IsChunkOf, IsOther, place_in}
 use Rattle.h5w_chunks.specs.declared.grid.ChunkPlace.{ChunkPlace}
+use Rattle.h5w_chunks.proofs.EarlyLemmas.{within_miss}
 use Rattle.h5w_chunks.proofs.Geometry.{number_parts, quotient_of, row_is, div_grows}
-use Rattle.h5w_visits.specs.Ranges.{Among, AreApart, Disjoint, chunk_at}
+use Rattle.h5w_visits.specs.Ranges.{Among, AreApart, chunk_at}
 use Rattle.h5w_visits.specs.Indexes.{IsNamed}
 use Rattle.h5w_visits.specs.Headers.{IsSized}
 use Rattle.h5w_visits.specs.Needed.{AreFew}
-use Rattle.h5w_visits.proofs.NeededLaws.{one_address}
 use Rattle.h5w_space.specs.Space.{Space}
 use Rattle.h5w_header_laws.specs.Files.{with_rows}
 use Rattle.h5w_steps.specs.Moments.{Moment, all_used, Represents, HasCells, row_of, column_of, chunk_of, cell_place}
-use Rattle.h5w_steps.proofs.PartLemmas.{apart_sym, disjoint_two}
 use Rattle.h5w_steps.proofs.MomentLemmas.{nested, cell_within, few, header_of, in_behind}
 use Rattle.h5w_steps.proofs.PlanLaws.{plan_leads}
 use Rattle.h5w_flush_laws.specs.Spaces.{Taken}
-use Rattle.h5w_flush_laws.specs.Knowledge.{IsAsked, IsOnce, Knows}
+use Rattle.h5w_flush_laws.specs.Knowledge.{HeldMissed, IsAsked, IsOnce, Knows}
 use Rattle.h5w_flush_laws.specs.Parts.{Parts, AllUnseen, committed, flushed_to}
 use Rattle.h5w_flush_laws.specs.Rows.{new_chunks, ArePlaced, RowsFlush}
-use Rattle.h5w_flush_laws.proofs.SpaceLemmas.{taken_disjoint}
+use Rattle.h5w_flush_laws.proofs.ChunkPlaceLemmas as chunk_places
 use Rattle.h5w_flush_laws.proofs.KeyLemmas.{key_at, found_table}
-use Rattle.h5w_flush_laws.proofs.PartLemmas.{fresh_off}
 use Rattle.h5w_flush_laws.proofs.EarlyLemmas.{unseen_each, unseen_stage}
-use Rattle.h5w_flush_laws.proofs.KnownLaws.{answers_of}
 use Rattle.h5w_flush_laws.proofs.OnceLaws.{file_once}
 use Rattle.h5w_flush_laws.proofs.CellLemmas.{IsCell, below_up, cell_of_value, chunk_by, cell_by, first_values}
 use Rattle.h5w_flush_laws.proofs.ValueLemmas.{fill_read, cell_there, cell_absent, cell_of}
-use Rattle.h5w_flush_laws.proofs.NewChunkLemmas.{touched_parts, one_number, number_of, has_number, few_named, new_member, new_from, new_apart, same_len, within_miss}
+use Rattle.h5w_flush_laws.proofs.NewChunkLemmas.{number_of, has_number, few_named, new_from, same_len}
 
 -- ---- Numbers
 
@@ -87,7 +84,7 @@ pub record OwnCell (img : List ℕ) (d : Described) (more : List ℤ) (from row 
   pub there : At img (place_in d p row column) bytes
 
 module _ (img name : List ℕ) (m : Moment) (old : Key → ℕ) (s t : Space) (f : Parts) (places : List ChunkPlace) (k : Knows img name m old s) (taken : Taken s f.chunks t) (rises : m.dataset.shape.rows < f.rows)
-    (small : AreFew (with_rows f.rows m.dataset)) (count : length (m.values ++ f.more) ≡ f.rows * m.dataset.shape.cols) (a : ArePlaced m old f places) where
+    (small : AreFew (with_rows f.rows m.dataset)) (count : length (m.values ++ f.more) ≡ f.rows * m.dataset.shape.cols) (a : ArePlaced img m old f places) where
   sized : IsSized m.dataset
   sized = (header_of img name m k.file).sized
 
@@ -97,95 +94,28 @@ module _ (img name : List ℕ) (m : Moment) (old : Key → ℕ) (s t : Space) (f
   few_now : AreFew m.dataset
   few_now = few img name m k.file
 
-  all_apart : Disjoint (f.chunks ++ all_used m)
-  all_apart = taken_disjoint s t f.chunks (all_used m) taken k.live k.file.apart
+  taken_new : Taken s (new_chunks m.dataset old m.dataset.shape.rows 0 places) t
+  taken_new = subst (λ (us : List Used). Taken s us t) a.chunks taken
 
-  new_disjoint : Disjoint (new_chunks m.dataset old m.dataset.shape.rows 0 places)
-  new_disjoint = subst (λ (us : List Used). Disjoint us) a.chunks taken.apart
+  keeps : (n : ℕ) (p : ChunkPlace) → slice_get places n ≡ Some p → StaysDefined (old (touched_key m.dataset m.dataset.shape.rows n)) p.address
+  keeps n p found = (a.placed n p found).kept
 
   -- ---- The touched chunks
 
-  number_low : (n : ℕ) (p : ChunkPlace) → slice_get places n ≡ Some p → n < touched m.dataset m.dataset.shape.rows f.rows
-  number_low n p found = omega (arith, slice_get_within places n p found, a.all)
-
   number_asked : (n : ℕ) (p : ChunkPlace) → slice_get places n ≡ Some p → IsAsked m.dataset (touched_key m.dataset m.dataset.shape.rows n)
-  number_asked n p found =
-      let parts = touched_parts m.dataset m.dataset.shape.rows f.rows n rises (number_low n p found) in
-      record { named = few_named (with_rows f.rows m.dataset) small (touched_key m.dataset m.dataset.shape.rows n) (omega (arith, parts.band)) parts.column; across = parts.column }
+  number_asked = chunk_places.number_asked img name m old s t f.rows places k taken_new rises small a.all keeps
 
-  -- a chunk that has an address is one of the file
   old_chunk : (key : Key) → IsNamed m.dataset key → old key ≢ undefined → Among (chunk_at (old key) (chunk_bytes m.dataset)) m.behind
-  old_chunk key n defined =
-      let known = k.file.index.answered key n in
-      let same : known.address ≡ old key = one_address known.address (old key) (sym known.is ∙ answers_of img m.super.end m.dataset m.fixed m.behind old k.file.index k.index key n) in
-      subst (λ x. x ≢ undefined → Among (chunk_at x (chunk_bytes m.dataset)) m.behind) same known.chunk defined
+  old_chunk = chunk_places.old_chunk img name m old s t f.rows places k taken_new rises small a.all keeps
 
-  place_new : (n : ℕ) (p : ChunkPlace) → slice_get places n ≡ Some p → old (touched_key m.dataset m.dataset.shape.rows n) ≡ undefined → Among (chunk_at p.address (chunk_bytes m.dataset)) f.chunks
-  place_new n p found e =
-      subst (λ (us : List Used). Among (chunk_at p.address (chunk_bytes m.dataset)) us) (sym a.chunks)
-      (new_member m.dataset old m.dataset.shape.rows 0 places n p found (ap (λ j. old (touched_key m.dataset m.dataset.shape.rows j)) (let h : 0 + n ≡ n = omega arith in h) ∙ e))
-
-  place_old : (n : ℕ) (p : ChunkPlace) → slice_get places n ≡ Some p → old (touched_key m.dataset m.dataset.shape.rows n) ≢ undefined → Among (chunk_at p.address (chunk_bytes m.dataset)) m.behind
-  place_old n p found defined =
-      subst (λ x. Among (chunk_at x (chunk_bytes m.dataset)) m.behind) (sym ((a.placed n p found).kept defined))
-      (old_chunk (touched_key m.dataset m.dataset.shape.rows n) (number_asked n p found).named defined)
-
-  -- it is apart from another range of the file
+  -- each is apart from another range of the file
   place_off : (n : ℕ) (p : ChunkPlace) → slice_get places n ≡ Some p → (v : Used) → Among v (all_used m)
       → (old (touched_key m.dataset m.dataset.shape.rows n) ≢ undefined → chunk_at p.address (chunk_bytes m.dataset) ≢ v) → AreApart (chunk_at p.address (chunk_bytes m.dataset)) v
-  place_off n p found v b differ = go (eqb_tells (old (touched_key m.dataset m.dataset.shape.rows n)) undefined)
-    where
-      u : Used
-      u = chunk_at p.address (chunk_bytes m.dataset)
+  place_off = chunk_places.place_off img name m old s t f.rows places k taken_new rises small a.all keeps
 
-      key : Key
-      key = touched_key m.dataset m.dataset.shape.rows n
-
-      go : ((eqb (old key) undefined ≡ true) × (old key ≡ undefined)) ⊎ ((eqb (old key) undefined ≡ false) × (old key ≢ undefined)) → AreApart u v
-      go (inl e) = fresh_off m f.chunks all_apart u v (place_new n p found e.1) b
-      go (inr e) = disjoint_two (all_used m) u v k.file.apart (in_behind m u (place_old n p found e.1)) b (differ e.1)
-
-  -- no two of them meet
-  places_apart : ChunksApart m.dataset places
-  places_apart j n p q other first second =
-      subst (λ c. Apart p.address c q.address c) (sym (same_len m.dataset)) (go (eqb_tells (old (touched_key m.dataset m.dataset.shape.rows j)) undefined) (eqb_tells (old (touched_key m.dataset m.dataset.shape.rows n)) undefined))
-    where
-      u : Used
-      u = chunk_at p.address (chunk_bytes m.dataset)
-
-      v : Used
-      v = chunk_at q.address (chunk_bytes m.dataset)
-
-      x : Key
-      x = touched_key m.dataset m.dataset.shape.rows j
-
-      y : Key
-      y = touched_key m.dataset m.dataset.shape.rows n
-
-      zero_less : (i : ℕ) → 0 + i ≡ i
-      zero_less i = omega arith
-
-      absent : (i : ℕ) → old (touched_key m.dataset m.dataset.shape.rows i) ≡ undefined → old (touched_key m.dataset m.dataset.shape.rows (0 + i)) ≡ undefined
-      absent i e = ap (λ h. old (touched_key m.dataset m.dataset.shape.rows h)) (zero_less i) ∙ e
-
-      both_new : (j < n) ⊎ (n ≤ j) → old x ≡ undefined → old y ≡ undefined → AreApart u v
-      both_new (inl less) e g = new_apart m.dataset old m.dataset.shape.rows 0 places j n p q new_disjoint less first second (absent j e) (absent n g)
-      both_new (inr more) e g = apart_sym v u (new_apart m.dataset old m.dataset.shape.rows 0 places n j q p new_disjoint (strictly more) second first (absent n g) (absent j e))
-        where
-          strictly : n ≤ j → n < j
-          strictly h = elim (cases_lt n j) [ inl less ↦ less | inr same ↦ absurd (other (omega (arith, h, same))) ]
-
-      one_chunk : old x ≢ undefined → old y ≢ undefined → u ≡ v → ⊥
-      one_chunk e g same =
-          let address : p.address ≡ q.address = ap (λ (r : Used). r.place) same in
-          let together : old y ≡ old x = sym ((a.placed n q second).kept g) ∙ sym address ∙ (a.placed j p first).kept e in
-          other (one_number m.dataset m.dataset.shape.rows j n (omega (arith, (number_asked j p first).across)) (sym (once x y (number_asked j p first) (number_asked n q second) e together)))
-
-      go : ((eqb (old x) undefined ≡ true) × (old x ≡ undefined)) ⊎ ((eqb (old x) undefined ≡ false) × (old x ≢ undefined)) → ((eqb (old y) undefined ≡ true) × (old y ≡ undefined)) ⊎ ((eqb (old y) undefined ≡ false) × (old y ≢ undefined)) → AreApart u v
-      go (inl e) (inl g) = both_new (cases_lt j n) e.1 g.1
-      go (inl e) (inr g) = fresh_off m f.chunks all_apart u v (place_new j p first e.1) (in_behind m v (place_old n q second g.1))
-      go (inr e) (inl g) = apart_sym v u (fresh_off m f.chunks all_apart v u (place_new n q second g.1) (in_behind m u (place_old j p first e.1)))
-      go (inr e) (inr g) = disjoint_two (all_used m) u v k.file.apart (in_behind m u (place_old j p first e.1)) (in_behind m v (place_old n q second g.1)) (one_chunk e.1 g.1)
+  -- and from what readers may hold
+  place_off_held : (n : ℕ) (p : ChunkPlace) → slice_get places n ≡ Some p → (v : Used) → Among v k.held → v.chunk ≡ false → AreApart (chunk_at p.address (chunk_bytes m.dataset)) v
+  place_off_held = chunk_places.place_off_held img name m old s t f.rows places k taken_new rises small a.all keeps
 
   has_place : (key : Key) → key.j < chunks_across m.dataset → m.dataset.shape.rows / m.dataset.layout.chunk_rows ≤ key.i → key.i < div_up f.rows m.dataset.layout.chunk_rows
       → HasPlace m.dataset old f.address m.dataset.shape.rows places key
@@ -240,6 +170,10 @@ module _ (img name : List ℕ) (m : Moment) (old : Key → ℕ) (s t : Space) (f
     where
       never : ◌≡◌ {A = Bool} true false → ⊥
       never e = cc
+
+  rows_miss_held : HeldMissed k.held f.writes
+  rows_miss_held u b block =
+      within_miss m.dataset places f.writes u.place u.len a.written.within (λ n p found. subst (λ c. Apart p.address c u.place u.len) (sym (same_len m.dataset)) (place_off_held n p found u b block))
 
   -- a value's row and column, and the key of its chunk
   is_cell : (n : ℕ) → n < length m.values → IsCell m.dataset (row_of m n) (column_of m n)
@@ -300,7 +234,7 @@ module _ (img name : List ℕ) (m : Moment) (old : Key → ℕ) (s t : Space) (f
       in_touched h band (inl stored) =
           let same : h.place.address ≡ chunk_of m n = h.kept known ∙ sym (chunk_is n low) in
           subst (λ x. AllMiss f.writes (x + cell_offset m.dataset (row_of m n) (column_of m n)) m.dataset.int_type.size) same
-          (a.written.missed (row_of m n) (column_of m n) h.place places_apart (chunk_of_place (row_of m n) (column_of m n) (is_cell n low).in_columns band h) (inl (is_cell n low).in_rows) stored)
+          (a.written.missed (row_of m n) (column_of m n) h.place (chunk_of_place (row_of m n) (column_of m n) (is_cell n low).in_columns band h) (inl (is_cell n low).in_rows) stored)
       in_touched h band (inr new) =
           let past = h.whole new known in
           let parts = row_is (row_of m n) m.dataset.layout.chunk_rows sized.rows in
@@ -322,7 +256,7 @@ module _ (img name : List ℕ) (m : Moment) (old : Key → ℕ) (s t : Space) (f
   rows_unseen = unseen_each m m.behind f.writes (rows_miss_blocks, λ u b block. rows_miss_blocks u (in_behind m u b) block, rows_miss_cells)
 
   file_rows : Represents (image img f.writes) name m
-  file_rows = plan_leads img name m m m.behind m.behind f.writes k.file (unseen_stage img name m f.writes k.file rows_unseen).plan
+  file_rows = plan_leads img name m m k.held k.held f.writes k.file (unseen_stage img name m k.held f.writes k.file rows_unseen rows_miss_held).plan
 
   -- ---- The cells of new rows
 
@@ -344,7 +278,7 @@ module _ (img name : List ℕ) (m : Moment) (old : Key → ℕ) (s t : Space) (f
         is = is;
         bytes = own.bytes;
         spelled = own.spelled;
-        there = subst (λ (b : List ℕ). At (image img f.writes) (place_in m.dataset p row column) b) own.there (a.written.stands img row column p places_apart c low high inside);
+        there = subst (λ (b : List ℕ). At (image img f.writes) (place_in m.dataset p row column) b) own.there (a.written.stands row column p c low high inside);
       }
 
   -- the cell of a new row is read as its value
@@ -383,7 +317,7 @@ module _ (img name : List ℕ) (m : Moment) (old : Key → ℕ) (s t : Space) (f
           → (h.place.stored ≡ true) ⊎ (h.place.stored ≡ false) → cell_by (image img f.writes) m.dataset (f.address key) (row_of m n) (column_of m n) ≡ slice_get m.values n
       filled h e band (inl stored) = absurd (h.stored stored e)
       filled h e band (inr new) =
-          let there = a.written.filled img (row_of m n) (column_of m n) h.place places_apart (chunk_of_place (row_of m n) (column_of m n) (is_cell n low).in_columns band h) (inl (is_cell n low).in_rows) new in
+          let there = a.written.filled (row_of m n) (column_of m n) h.place (chunk_of_place (row_of m n) (column_of m n) (is_cell n low).in_columns band h) (inl (is_cell n low).in_rows) new in
           ap (λ x. cell_by (image img f.writes) m.dataset x (row_of m n) (column_of m n)) h.named
           ∙ cell_there (image img f.writes) m.dataset h.place.address (row_of m n) (column_of m n) (fill_cell m.dataset) h.defined there a.filled
           ∙ ap Some (fill_read m.dataset a.typed)
@@ -482,7 +416,7 @@ module _ (img name : List ℕ) (m : Moment) (old : Key → ℕ) (s t : Space) (f
               omega (arith, fits, offset, whole, long)
 
           other : IsOther m.dataset m.dataset.shape.rows f.rows last_row last_column → p.address + chunk_bytes m.dataset ≤ length (image img f.writes)
-          other o = reaches (fill_cell m.dataset) (a.written.filled img last_row last_column p places_apart is_chunk o new) a.filled
+          other o = reaches (fill_cell m.dataset) (a.written.filled last_row last_column p is_chunk o new) a.filled
 
           own : m.dataset.shape.rows ≤ last_row → last_row < f.rows → last_column < m.dataset.shape.cols → p.address + chunk_bytes m.dataset ≤ length (image img f.writes)
           own low high inside =
@@ -503,5 +437,6 @@ rows_flush img name m old s t f places k taken rises small count a = record {
     whole = new_whole img name m old s t f places k taken rises small count a;
     cells = all_cells img name m old s t f places k taken rises small count a;
   };
+  off_held = rows_miss_held img name m old s t f places k taken rises small count a;
   kept = stays img name m old s t f places k taken rises small count a;
 }

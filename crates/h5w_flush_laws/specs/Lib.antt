@@ -4,3 +4,4 @@ pub mod Parts
 pub mod Rows
 pub mod Flushes
 pub mod Copies
+pub mod EarlyRows

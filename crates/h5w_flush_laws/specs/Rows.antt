@@ -12,13 +12,14 @@ use Rattle.h5w_visits.specs.Ranges.{chunk_at}
 use Rattle.h5w_visits.specs.Needed.{AreFew}
 use Rattle.h5w_chunks.specs.Grids.{FitsType, cells_of, fill_cell}
 use Rattle.h5w_chunks.specs.Shares.{touched, touched_key}
-use Rattle.h5w_chunks.specs.Rows.{RowsWritten}
+use Rattle.h5w_chunks.specs.Rows.{ChunksApart, RowsWritten}
+use Rattle.h5w_chunks.specs.Early.{RowsStand}
 use Rattle.h5w_chunks.specs.declared.grid.ChunkPlace.{ChunkPlace}
 use Rattle.h5w_space.specs.Space.{Space}
 use Rattle.h5w_header_laws.specs.Files.{with_rows}
 use Rattle.h5w_steps.specs.Moments.{Moment}
 use Rattle.h5w_flush_laws.specs.Spaces.{Taken}
-use Rattle.h5w_flush_laws.specs.Knowledge.{Knows, IsAsked}
+use Rattle.h5w_flush_laws.specs.Knowledge.{HeldMissed, Knows, IsAsked}
 use Rattle.h5w_flush_laws.specs.Parts.{Parts, RowsFlushed}
 
 -- the ranges of the new chunks: of the touched chunks from chunk k on, those whose keys had no address
@@ -42,8 +43,8 @@ IsOutside d from to key = (key.i < from / d.layout.chunk_rows) ⊎ (div_up to d.
 
 -- What a session shows of the new rows of a flush: its loop over the touched chunks places each of them (ArrayIndex::get, Places::take,
 -- `set`), and Grid::new_bytes writes them.
-pub record ArePlaced (m : Moment) (old : Key → ℕ) (f : Parts) (places : List ChunkPlace) : Type 0 where
-  pub written : RowsWritten m.dataset (cells_of m.dataset f.more) m.dataset.shape.rows f.rows places f.writes
+pub record ArePlaced (img : List ℕ) (m : Moment) (old : Key → ℕ) (f : Parts) (places : List ChunkPlace) : Type 0 where
+  pub written : RowsStand img m.dataset (cells_of m.dataset f.more) m.dataset.shape.rows f.rows places f.writes
   pub all : length places ≡ touched m.dataset m.dataset.shape.rows f.rows
   pub placed : (k : ℕ) (p : ChunkPlace) → slice_get places k ≡ Some p → IsPlaced m.dataset old f.address m.dataset.shape.rows k p
   pub others : (key : Key) → IsAsked m.dataset key → IsOutside m.dataset m.dataset.shape.rows f.rows key → f.address key ≡ old key
@@ -55,14 +56,21 @@ pub record ArePlaced (m : Moment) (old : Key → ℕ) (f : Parts) (places : List
 -- ---- Laws
 
 -- New rows in chunks are what a flush asks of them, and the map keeps what was defined.
-pub record RowsPart (img : List ℕ) (m : Moment) (old : Key → ℕ) (f : Parts) : Type 0 where
+pub record RowsPart (img : List ℕ) (m : Moment) (held : List Used) (old : Key → ℕ) (f : Parts) : Type 0 where
   pub flushed : RowsFlushed img m f
+  pub off_held : HeldMissed held f.writes
   pub kept : (key : Key) → IsAsked m.dataset key → StaysDefined (old key) (f.address key)
 
 abbrev pub RowsFlush : Type 0
-RowsFlush = (img name : List ℕ) (m : Moment) (old : Key → ℕ) (s t : Space) (f : Parts) (places : List ChunkPlace) → Knows img name m old s → Taken s f.chunks t
-    → m.dataset.shape.rows < f.rows → AreFew (with_rows f.rows m.dataset) → length (m.values ++ f.more) ≡ f.rows * m.dataset.shape.cols → ArePlaced m old f places
-    → RowsPart img m old f
+RowsFlush = (img name : List ℕ) (m : Moment) (old : Key → ℕ) (s t : Space) (f : Parts) (places : List ChunkPlace) → (k : Knows img name m old s) → Taken s f.chunks t
+    → m.dataset.shape.rows < f.rows → AreFew (with_rows f.rows m.dataset) → length (m.values ++ f.more) ≡ f.rows * m.dataset.shape.cols → ArePlaced img m old f places
+    → RowsPart img m k.held old f
+
+-- No two of the chunks that rows go into meet: those that have an address keep it, and the new ones were taken.
+abbrev pub PlacesApart : Type 0
+PlacesApart = (img name : List ℕ) (m : Moment) (old : Key → ℕ) (s t : Space) (rows : ℕ) (places : List ChunkPlace) → Knows img name m old s → Taken s (new_chunks m.dataset old m.dataset.shape.rows 0 places) t
+    → m.dataset.shape.rows < rows → AreFew (with_rows rows m.dataset) → length places ≡ touched m.dataset m.dataset.shape.rows rows
+    → ((k : ℕ) (p : ChunkPlace) → slice_get places k ≡ Some p → StaysDefined (old (touched_key m.dataset m.dataset.shape.rows k)) p.address) → ChunksApart m.dataset places
 
 -- One more place: so a loop over the touched chunks tells its new chunks.
 abbrev pub NewChunksMore : Type 0

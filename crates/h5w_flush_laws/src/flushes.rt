@@ -1,7 +1,7 @@
 //! A flush, and a session over its log.
 
 ghost use Rattle.h5w_flush_laws.specs.Knowledge.{FileOnce};
-ghost use Rattle.h5w_flush_laws.specs.Flushes.{BeginKnows, EarlyBlocks, EndKnown, FlushSafe, FreedKnown, KnowsAgain, KnowsThen, RowsAloneFlush, SessionLaws};
+ghost use Rattle.h5w_flush_laws.specs.Flushes.{BeginKnows, EarlyBlocks, EndKnown, FlushSafe, FreedKnown, KnowsAgain, KnowsThen, RowsAloneFlush, SessionLaws, UnseenKnown};
 
 /// In a file no two keys have one chunk, whatever the index and whoever made it.
 pub fn file_once()
@@ -51,4 +51,9 @@ pub fn rows_alone_flush()
 /// What a session does to its log from one rest to the next, and what a stop leaves.
 pub fn session_laws()
     ensures { SessionLaws }
+{}
+
+/// Writes that no reader reaches leave the file known.
+pub fn unseen_known()
+    ensures { UnseenKnown }
 {}

@@ -10,7 +10,7 @@ mod spaces;
 
 pub use flushes::{
     begin_knows, early_blocks, end_known, file_once, flush_safe, freed_known, knows_again,
-    knows_then, rows_alone_flush, session_laws,
+    knows_then, rows_alone_flush, session_laws, unseen_known,
 };
-pub use rows::{new_chunks_more, rows_anywhere, rows_flush};
+pub use rows::{early_rows, new_chunks_more, places_apart, rows_anywhere, rows_flush};
 pub use spaces::{committed_live, copy_laws, move_laws, taken_laws};

@@ -53,15 +53,17 @@ fn write(at: u64, bytes: &[u8]) -> Write
 fn a_journal_lists_its_writes(rt: HostRuntime) -> Result<(), Fail> {
     let mut journal = Journal::new(rt.alloc());
     journal.reserve(2)?;
-    journal.push(write(48, &[1, 2, 3]))?;
-    journal.push(write(0, &[4]))?;
-    assert_eq!(rt; journal.len(), 2);
-    assert_eq!(rt;
-        journal.get(0).ok_or("first")?.piece.as_slice(),
-        [1, 2, 3].as_slice()
-    );
-    assert_eq!(rt; journal.get(1).ok_or("second")?.at, 0);
-    assert!(rt; journal.get(2).is_none());
+    journal.push(&write(48, &[1, 2, 3]))?;
+    journal.push(&write(0, &[4]))?;
+    journal.push(&write(7, &[5, 6]))?;
+    let copy = journal.copy(rt.alloc())?;
+    assert_eq!(rt; copy.len(), 3);
+    let first = copy.get(0).ok_or("first")?;
+    assert_eq!(rt; first.at, 48);
+    assert_eq!(rt; first.piece, [1, 2, 3].as_slice());
+    assert_eq!(rt; copy.get(1).ok_or("second")?.piece, [4].as_slice());
+    assert_eq!(rt; copy.get(2).ok_or("third")?.piece, [5, 6].as_slice());
+    assert!(rt; copy.get(3).is_none());
     Ok(())
 }
 

@@ -16,7 +16,7 @@ pub use disk::Disk;
 pub use fault::{Failed, ImageError, MakeError};
 pub use gate::{Gate, OpenGate};
 pub use h5w_model::{OutOfMemory, PIECE, Piece, Write};
-pub use journal::Journal;
+pub use journal::{Journal, WriteRef};
 pub use mem_disk::MemDisk;
 pub use mem_image::MemImage;
 pub use traits::{PieceRead, PieceWrite};

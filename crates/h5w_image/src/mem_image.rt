@@ -147,11 +147,7 @@ impl PieceWrite for MemImage {
         call(&self.failing, &mut self.calls, &mut self.faults)?;
         self.pieces -= 1;
         put(&mut self.bytes, w.at as usize, w.piece.as_slice());
-        let copy = Write {
-            at: w.at,
-            piece: Piece::of(w.piece.as_slice()),
-        };
-        self.journal.push(copy).unwrap();
+        self.journal.push(w).unwrap();
         Ok(())
     }
 }

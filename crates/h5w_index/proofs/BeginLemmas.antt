@@ -24,7 +24,7 @@ use Rattle.h5w_array_flushes.specs.ArrayBegins as arrays
 use Rattle.h5w_array_flushes.proofs.ArrayFlushLemmas.{placed_range}
 use Rattle.h5w_array_flushes.proofs.ArrayBeginLemmas.{array_begins}
 use Rattle.h5w_flush_laws.specs.Flushes.{IsBegun}
-use Rattle.h5w_flush_laws.specs.Knowledge.{Knows}
+use Rattle.h5w_flush_laws.specs.Knowledge.{KnownHeld, Knows}
 use Rattle.h5w_flush_laws.specs.Parts.{SaysInPlace}
 use Rattle.h5w_flush_laws.proofs.KnownLaws.{begin_knows}
 use Rattle.h5w_bt_index.specs.Marks.{clean_of}
@@ -42,7 +42,7 @@ use Rattle.h5w_index.specs.Flushes.{Begins, IndexBegins, Rests, RestsMissed}
 array_begin : (img name : List ℕ) (m : Moment) (s : Space) (v : Store) → arrays.Begins img name m s v → Begins img name m s (an_array v)
 array_begin img name m s v b =
     let r = b.rests in
-    record { knows = b.knows; rests = record { kind = r.kind; at_place = r.at; sound = r.array; stands = r.stands; stays = r.standing; fixed = r.fixed; behind = λ f. ap (sum_by f) (sym r.behind); map = r.map } }
+    record { knows = b.knows; held = b.held; rests = record { kind = r.kind; at_place = r.at; sound = r.array; stands = r.stands; stays = r.standing; fixed = r.fixed; behind = λ f. ap (sum_by f) (sym r.behind); map = r.map } }
 
 module _ (img name : List ℕ) (m : Moment) (s : Space) (p : ℕ) (v : Index) (is : IsSoundTree p v) (clean : clean_of v.depth v.root ≡ true) (stands : TreeStands p v img) (file : Represents img name m)
     (kind : m.dataset.layout.index ≡ kinds.Tree) (address : m.dataset.layout.address ≡ p) (begun : IsBegun m s) where
@@ -66,9 +66,13 @@ module _ (img name : List ℕ) (m : Moment) (s : Space) (p : ℕ) (v : Index) (i
       let given : eval img (behind_visit end (chunk_bytes m.dataset) blocks) ≡ Ok m.behind = subst (λ (b : InPlace). eval img (behind_visit end (chunk_bytes m.dataset) b) ≡ Ok m.behind) wide_blocks wide.stands in
       same_found m.behind us (sym given ∙ reads.visited (stands.header clean).total end (chunk_bytes m.dataset) (ends_later far.0 end us (omega arith) far.1))
 
+  known : KnownHeld img name m (λ key. address_of v key) s m.behind
+  known = begin_knows img name m (λ key. address_of v key) s file (record { blocks = blocks; read = says.says; answers = λ key named. reads.found (stands.header clean).total key }) begun (λ u. absurd (is.defined (sym address ∙ u)))
+
   tree_begin : Begins img name m s (a_tree p v)
   tree_begin = record {
-    knows = begin_knows img name m (λ key. address_of v key) s file (record { blocks = blocks; read = says.says; answers = λ key named. reads.found (stands.header clean).total key }) begun (λ u. absurd (is.defined (sym address ∙ u)));
+    knows = known.knows;
+    held = known.is;
     rests = record {
       kind = kind;
       at_place = address;

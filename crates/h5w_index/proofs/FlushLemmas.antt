@@ -178,7 +178,7 @@ index_is_flush img name m old s b t (a_tree p v) (a_tree q w) ms rows more write
     let chunks : List Used = chunks_for m old places in
     subst (λ r. IsFlush img m old s (index_parts (chunk_bytes m.dataset) (a_tree r w) rows more writes chunks copies supers t.end fixed) t) (sym e)
     (tree_is_flush img name m old s b t p v w ms rows more writes places copies supers fixed k first rises small few count
-    (subst (λ r. ArePlaced m old (index_parts (chunk_bytes m.dataset) (a_tree r w) rows more writes chunks copies supers t.end fixed) places) e placed)
+    (subst (λ r. ArePlaced img m old (index_parts (chunk_bytes m.dataset) (a_tree r w) rows more writes chunks copies supers t.end fixed) places) e placed)
     ended (tree_part img name m old s b t p q v w ms chunks copies fixed k first x))
 index_is_flush img name m old s b t (an_array v) (a_tree q w) ms rows more writes places copies supers fixed k first rises small few count placed ended x = absurd x.plan
 index_is_flush img name m old s b t (a_tree p v) (an_array w) ms rows more writes places copies supers fixed k first rises small few count placed ended x = absurd x.plan
@@ -207,15 +207,15 @@ tree_rests img m old s p v r = record {
 }
 
 pub index_rests_then : IndexRestsThen
-index_rests_then img name m old s b t (an_array v) (an_array w) ms rows more writes chunks copies supers fixed last k first are i x =
-    array_rests _ _ _ t w (array_rests_then img name m old s b t v w ms rows more writes chunks copies supers fixed last k are i (array_part img m b t v w ms chunks copies fixed x))
-index_rests_then img name m old s b t (a_tree p v) (a_tree q w) ms rows more writes chunks copies supers fixed last k first are i x =
+index_rests_then img name m old s b t (an_array v) (an_array w) ms rows more writes chunks copies supers fixed last k first are i missed x =
+    array_rests _ _ _ t w (array_rests_then img name m old s b t v w ms rows more writes chunks copies supers fixed last k are i missed (array_part img m b t v w ms chunks copies fixed x))
+index_rests_then img name m old s b t (a_tree p v) (a_tree q w) ms rows more writes chunks copies supers fixed last k first are i missed x =
     let e : q ≡ p = x.plan.0 in
     let parts : ℕ → _ = λ r. index_parts (chunk_bytes m.dataset) (a_tree r w) rows more writes chunks copies supers last fixed in
     subst (λ r. RestsClean (image img (pieces_of img m (parts r))) (flushed_to m (parts r)) (λ key. address_in (a_tree r w) key) t (a_tree r w)) (sym e)
-    (tree_rests _ _ _ t p w (tree_rests_then img name m old s b t p v w ms rows more writes chunks copies supers fixed last k are (subst (λ r. IsFlush img m old s (parts r) t) e i) (tree_part img name m old s b t p q v w ms chunks copies fixed k first x)))
-index_rests_then img name m old s b t (an_array v) (a_tree q w) ms rows more writes chunks copies supers fixed last k first are i x = absurd x.plan
-index_rests_then img name m old s b t (a_tree p v) (an_array w) ms rows more writes chunks copies supers fixed last k first are i x = absurd x.plan
+    (tree_rests _ _ _ t p w (tree_rests_then img name m old s b t p v w ms rows more writes chunks copies supers fixed last k are (subst (λ r. IsFlush img m old s (parts r) t) e i) missed (tree_part img name m old s b t p q v w ms chunks copies fixed k first x)))
+index_rests_then img name m old s b t (an_array v) (a_tree q w) ms rows more writes chunks copies supers fixed last k first are i missed x = absurd x.plan
+index_rests_then img name m old s b t (a_tree p v) (an_array w) ms rows more writes chunks copies supers fixed last k first are i missed x = absurd x.plan
 
 pub rests_freed : RestsFreed
 rests_freed img m old s t (an_array v) c r = record { kind = r.kind; at_place = r.at_place; sound = r.sound; stands = r.stands; stays = standing_freed v s t c r.stays; fixed = r.fixed; behind = r.behind; map = r.map }

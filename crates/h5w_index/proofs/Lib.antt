@@ -6,8 +6,11 @@ pub mod ArrayBoundLemmas
 pub mod TreeBoundLemmas
 pub mod FlushLemmas
 pub mod BeginLemmas
+pub mod BegunLemmas
 pub mod MarkLemmas
 pub mod ReachLemmas
+pub mod PartlyLemmas
+pub mod NamingLemmas
 pub mod PlacingLemmas
 pub mod DepthLemmas
 pub mod PartLemmas

@@ -10,7 +10,7 @@ use Rattle.h5w_flush_laws.specs.Spaces.{Taken}
 use Rattle.h5w_flush_laws.specs.Rows.{new_chunks}
 use Rattle.h5w_index.specs.Views.{IndexView, an_array, a_tree, Stays, address_in, behind_of}
 use Rattle.h5w_index.specs.Placing.{IndexPart, RestsHeld}
-use Rattle.h5w_index.proofs.PlacingLemmas.{same_among}
+use Rattle.h5w_index.proofs.NamingLemmas.{same_among}
 use Rattle.h5w_index.proofs.ToldLemmas.{same_ranges}
 
 -- the blocks' places stay live where others are taken

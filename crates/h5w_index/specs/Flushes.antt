@@ -16,7 +16,7 @@ use Rattle.h5w_array_laws.specs.Among.{AreAmong}
 use Rattle.h5w_array_laws.specs.ArrayPlans as arrays
 use Rattle.h5w_array_flushes.specs.ArrayFlushes.{AreChunks, chunks_for}
 use Rattle.h5w_flush_laws.specs.Spaces.{Taken}
-use Rattle.h5w_flush_laws.specs.Knowledge.{Knows}
+use Rattle.h5w_flush_laws.specs.Knowledge.{HeldMissed, Knows}
 use Rattle.h5w_flush_laws.specs.Flushes.{IsBegun}
 use Rattle.h5w_flush_laws.specs.Parts.{Parts, AreEnded, IsFlush, block_ranges, block_writes, flushed_to, pieces_of}
 use Rattle.h5w_flush_laws.specs.Rows.{ArePlaced}
@@ -111,7 +111,7 @@ PlanTells = (v : IndexView) (s : Space) (ms : List Move) (copies fixed : List Wr
 abbrev pub IndexIsFlush : Type 0
 IndexIsFlush = (img name : List ℕ) (m : Moment) (old : Key → ℕ) (s b t : Space) (v w : IndexView) (ms : List Move) (rows : ℕ) (more : List ℤ) (writes : List Write) (places : List ChunkPlace) (copies : List (ℕ × List ℕ))
     (supers fixed : List Write) → Knows img name m old s → Taken s (chunks_for m old places) b → m.dataset.shape.rows < rows → rows < 2 ^ 64 → AreFew (with_rows rows m.dataset)
-    → length (m.values ++ more) ≡ rows * m.dataset.shape.cols → ArePlaced m old (index_parts (chunk_bytes m.dataset) w rows more writes (chunks_for m old places) copies supers t.end fixed) places
+    → length (m.values ++ more) ≡ rows * m.dataset.shape.cols → ArePlaced img m old (index_parts (chunk_bytes m.dataset) w rows more writes (chunks_for m old places) copies supers t.end fixed) places
     → AreEnded m.super t.end supers → IsIndexPart img m v b ms w t (chunks_for m old places) copies fixed
     → IsFlush img m old s (index_parts (chunk_bytes m.dataset) w rows more writes (chunks_for m old places) copies supers t.end fixed) t
 
@@ -123,8 +123,8 @@ pub record RestsClean (img : List ℕ) (m : Moment) (old : Key → ℕ) (s : Spa
 -- Once all pieces of such a flush are shown the index rests, with the places as the flush left them: what was let go is not free yet.
 abbrev pub IndexRestsThen : Type 0
 IndexRestsThen = (img name : List ℕ) (m : Moment) (old : Key → ℕ) (s b t : Space) (v w : IndexView) (ms : List Move) (rows : ℕ) (more : List ℤ) (writes : List Write) (chunks : List Used) (copies : List (ℕ × List ℕ))
-    (supers fixed : List Write) (last : ℕ) → Knows img name m old s → Taken s chunks b → AreChunks chunks
-    → IsFlush img m old s (index_parts (chunk_bytes m.dataset) w rows more writes chunks copies supers last fixed) t → IsIndexPart img m v b ms w t chunks copies fixed
+    (supers fixed : List Write) (last : ℕ) → (k : Knows img name m old s) → Taken s chunks b → AreChunks chunks
+    → IsFlush img m old s (index_parts (chunk_bytes m.dataset) w rows more writes chunks copies supers last fixed) t → HeldMissed k.held writes → IsIndexPart img m v b ms w t chunks copies fixed
     → RestsClean (image img (pieces_of img m (index_parts (chunk_bytes m.dataset) w rows more writes chunks copies supers last fixed)))
     (flushed_to m (index_parts (chunk_bytes m.dataset) w rows more writes chunks copies supers last fixed)) (λ key. address_in w key) t w
 
@@ -136,9 +136,10 @@ RestsFreed = (img : List ℕ) (m : Moment) (old : Key → ℕ) (s t : Space) (v 
 abbrev pub RestsForgotten : Type 0
 RestsForgotten = (img : List ℕ) (m : Moment) (old : Key → ℕ) (s : Space) (v : IndexView) → Rests img m old s v → Rests img m old (record s { retired = [] }) v
 
--- A session knows its file by the index's map, and the index rests.
+-- A session knows its file by the index's map, of which readers hold no more than what it has, and the index rests.
 pub record Begins (img name : List ℕ) (m : Moment) (s : Space) (v : IndexView) : Type 0 where
   pub knows : Knows img name m (λ key. address_in v key) s
+  pub held : knows.held ≡ m.behind
   pub rests : Rests img m (λ key. address_in v key) s v
 
 -- So it is where a session begins with an index that stands, unchanged, at the place that the dataset of a file names, and the places

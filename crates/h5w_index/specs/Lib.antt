@@ -4,6 +4,7 @@ pub mod Held
 pub mod Told
 pub mod Marks
 pub mod Placing
+pub mod Naming
 pub mod Depths
 pub mod Flushes
 pub mod Blocks

@@ -5,6 +5,7 @@ use Rattle.h5w_model.specs.declared.cell.Key.{Key}
 use Rattle.h5w_model.specs.declared.piece.Write.{Write}
 use Rattle.h5w_space.specs.Space.{Space}
 use Rattle.h5w_space.specs.declared.Full.{Full}
+use Rattle.h5w_cache.specs.Plans as block_plans
 use Rattle.h5w_cache.specs.Plans.{HasNoRoom}
 use Rattle.h5w_cache.specs.Stores.{Store, times}
 use Rattle.h5w_cache.specs.Starts as stores
@@ -103,21 +104,28 @@ abbrev pub in_place_pieces : Begun → ℕ
 in_place_pieces (Array b) = stores.in_place_pieces b
 in_place_pieces (Tree b) = length b.in_place
 
--- the places after it, before any is retired
-abbrev pub next_of : Begun → Space
-next_of (Array b) = b.next
-next_of (Tree b) = b.next
-
 abbrev pub moves_of : Begun → List Move
 moves_of (Array b) = b.moves
 moves_of (Tree b) = b.moves
 
--- it was begun of this index and these places
-abbrev pub IsBegun : IndexView → Space → Begun → Type 0
-IsBegun (an_array v) s (Array b) = stores.IsBegun v.blocks v.places v.changed s b
-IsBegun (a_tree p v) s (Tree b) = nodes.IsBegun p v s b
-IsBegun (an_array v) s (Tree b) = ⊥
-IsBegun (a_tree p v) s (Array b) = ⊥
+-- it was begun of this index, on places that are others then: the copies have their places, and those that their blocks had are retired
+abbrev pub IsBegun : IndexView → Space → Begun → Space → Type 0
+IsBegun (an_array v) s (Array b) t = stores.IsBegun v.blocks v.places v.changed s b t
+IsBegun (a_tree p v) s (Tree b) t = nodes.IsBegun p v s b t
+IsBegun (an_array v) s (Tree b) t = ⊥
+IsBegun (a_tree p v) s (Array b) t = ⊥
+
+-- it was begun of this index, on some places
+abbrev pub WasBegun : IndexView → Begun → Type 0
+WasBegun (an_array v) (Array b) = stores.WasBegun v.blocks v.places v.changed b
+WasBegun (a_tree p v) (Tree b) = nodes.WasBegun p v b
+WasBegun (an_array v) (Tree b) = ⊥
+WasBegun (a_tree p v) (Array b) = ⊥
+
+-- the places of some blocks were taken, and none that a block had is retired
+abbrev pub TookSome : IndexView → Space → Space → Type 0
+TookSome (an_array v) s t = block_plans.TookSome v.blocks v.places s t
+TookSome (a_tree p v) s t = nodes.TookSome s t
 
 -- the first block of an array in turn that has no place; none is listed twice
 pub record ArrayNoPlace (v : Store) (s : Space) (e : Full) : Type 0 where

@@ -1,7 +1,7 @@
 ghost use Rattle.std.specs.Prelude.{◌≡◌};
-ghost use Rattle.h5w_index.specs.Steps.{copy_pieces, in_place_pieces, next_of};
+ghost use Rattle.h5w_index.specs.Steps.{copy_pieces, in_place_pieces};
 
-/// The plan of an index that is begun: it has all places and memory that it needs, and nothing has changed yet.
+/// The plan of an index that is begun: it has all places and memory that it needs, and no block has changed yet.
 #[derive(Drop)]
 pub enum Begun {
     Array(h5w_cache::Begun),
@@ -26,16 +26,6 @@ impl Begun {
         match self {
             Begun::Array(begun) => begun.in_place(),
             Begun::Tree(begun) => begun.in_place(),
-        }
-    }
-
-    /// The first byte after the file, once the plan is finished.
-    pub fn end(&self) -> u64
-        ensures { result ≡ (next_of self.now).end }
-    {
-        match self {
-            Begun::Array(begun) => begun.end(),
-            Begun::Tree(begun) => begun.end(),
         }
     }
 }

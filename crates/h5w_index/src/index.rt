@@ -8,7 +8,7 @@ ghost use Rattle.h5w_bt_index.specs.Held as trees;
 ghost use Rattle.h5w_bt_index.specs.Index.{IsIndex, KeepsShares, no_tree};
 ghost use Rattle.h5w_index.specs.Held.{view_of};
 ghost use Rattle.h5w_index.specs.Views.{HasSlot, IsClean, IsReached, IsSound, TakesKey, a_tree, address_in, an_array};
-ghost use Rattle.h5w_index.specs.Steps.{HasNoPlace, IsBegun, IsDeep, IsHeld, IsPlan, IsSet, IsUnset, copy_pieces, found, in_place_pieces, moves_of, next_of};
+ghost use Rattle.h5w_index.specs.Steps.{HasNoPlace, IsBegun, IsDeep, IsHeld, IsPlan, IsSet, IsUnset, TookSome, WasBegun, copy_pieces, found, in_place_pieces, moves_of};
 
 use crate::begun::Begun;
 use h5w_bt_index::{InsertError, Key, TreeIndex};
@@ -156,13 +156,18 @@ impl Index {
         }
     }
 
-    /// Begins the plan of all that changed: takes all memory and places that [`Index::finish`] needs, and changes nothing.
+    /// Begins the plan of all that changed: takes all memory that [`Index::finish`] needs, and settles the places. Copies take new ones, and
+    /// those that their blocks had are retired, where they are live.
+    ///
+    /// The index does not change. After a refusal the places are of no use: some are taken.
     #[tactic(auto, using(h5w_bt_index::proofs::Laws::index_shaped))]
-    pub fn begin(&self, places: &Places) -> Result<Begun, PlanError>
+    pub fn begin(&self, places: &mut Places) -> Result<Begun, PlanError>
         requires { IsSound (view_of self.now) }
-        ensures begun { IfOk result (λ b. IsBegun (view_of self.now) places.now b) }
+        ensures begun { IfOk result (λ b. IsBegun (view_of self.now) places.old b places.new) }
         // the first block in turn that has no place
-        ensures full { IfErr result (λ e. IfFull e (HasNoPlace (view_of self.now) places.now)) }
+        ensures full { IfErr result (λ e. IfFull e (HasNoPlace (view_of self.now) places.old)) }
+        // some blocks have their places then, and none is retired
+        ensures left { OnErr result (TookSome (view_of self.now) places.old places.new) }
     {
         match self {
             Index::Array(index) => Ok(Begun::Array(index.begin(places)?)),
@@ -170,41 +175,32 @@ impl Index {
         }
     }
 
-    /// The writes of all that changed, of a plan that was begun of this index and these places: copies at new places, then the blocks in
-    /// place where they stand. All is clean from then on.
+    /// The writes of all that changed, of a plan that was begun of this index: copies at new places, then the blocks in place where they
+    /// stand. All is clean from then on.
     ///
     /// It cannot fail.
     #[tactic(auto, using(h5w_bt_index::proofs::Laws::index_shaped))]
-    pub fn finish(&mut self, places: &mut Places, begun: Begun) -> Plan
+    pub fn finish(&mut self, begun: Begun) -> Plan
         requires sound { IsSound (view_of self.old) }
-        requires begun { IsBegun (view_of self.old) places.old begun }
+        requires begun { WasBegun (view_of self.old) begun }
         ensures sound { IsSound (view_of self.new) }
-        ensures planned { IsPlan (view_of self.old) places.old result.moves.items result.copies.items result.in_place.items (view_of self.new) places.new }
+        // on whichever places it was begun
+        ensures planned { (s t : Space) → IsBegun (view_of self.old) s begun t
+            → IsPlan (view_of self.old) s result.moves.items result.copies.items result.in_place.items (view_of self.new) t }
         // as it was begun
         ensures moves { result.moves.items ≡ moves_of begun }
         ensures copies { length result.copies.items ≡ copy_pieces begun }
         ensures in_place { length result.in_place.items ≡ in_place_pieces begun }
-        ensures end { places.new.end ≡ (next_of begun).end }
     {
         match self {
             Index::Array(index) => match begun {
-                Begun::Array(begun) => index.finish(places, begun),
+                Begun::Array(begun) => index.finish(begun),
                 Begun::Tree(_) => unreachable!(),
             },
             Index::Tree(index) => match begun {
-                Begun::Tree(begun) => index.finish(places, begun),
+                Begun::Tree(begun) => index.finish(begun),
                 Begun::Array(_) => unreachable!(),
             },
-        }
-    }
-
-    /// A copy.
-    pub fn copy(&self) -> Result<Index, OutOfMemory>
-        ensures { IfOk result (λ i. view_of i ≡ view_of self.now) }
-    {
-        match self {
-            Index::Array(index) => Ok(Index::Array(index.copy()?)),
-            Index::Tree(index) => Ok(Index::Tree(index.copy()?)),
         }
     }
 }

@@ -4,6 +4,7 @@
 ghost use Rattle.h5w_index.specs.Flushes.{IndexBegins, IndexIsFlush, IndexRestsThen, PlanTells, RestsForgotten, RestsFreed, RestsMissed};
 ghost use Rattle.h5w_index.specs.Depths.{DepthLaws};
 ghost use Rattle.h5w_index.specs.Marks.{FullBounds, MarkLaws, PlanBounds};
+ghost use Rattle.h5w_index.specs.Naming.{NamingLaws};
 ghost use Rattle.h5w_index.specs.Placing.{IndexPart, OwnLaws, PlacingLaws, ReachLaws, RestsHeld};
 ghost use Rattle.h5w_index.specs.Told.{HeldTells, LikeLaws, SameRanges, SetTells, UnsetTells};
 
@@ -51,6 +52,11 @@ pub fn full_bounds()
 /// as before; all of it raises the file by the load of these rows at most, and what has no place is bounded by that too.
 pub fn placing_laws()
     ensures { PlacingLaws }
+{}
+
+/// Places that were taken one after another, for chunks that are named later, one by one: with their names the chunks are placed.
+pub fn naming_laws()
+    ensures { NamingLaws }
 {}
 
 /// Where places are held for the keys of a dataset's chunks alone, and these are few, no place is refused for want of depth.

@@ -15,7 +15,8 @@ fn image_of_one(rt: &HostRuntime) -> Result<MemImage, Fail> {
     array.hold(2)?;
     array.set(2, 77);
     let mut places = Places::new(rt.alloc(), 2000, 1 << 30);
-    array.plan(&mut places)?;
+    let begun = array.begin(&mut places)?;
+    array.finish(begun);
     let mut bytes = vec![in rt.alloc(); 0; 1000]?;
     bytes.extend_from_slice(array.header())?;
     bytes.extend_from_slice(array.index_block())?;
@@ -39,7 +40,8 @@ fn tree_image_of_one(rt: &HostRuntime) -> Result<MemImage, Fail> {
     let mut tree = TreeIndex::new(rt.alloc(), 0);
     tree.insert(Key { i: 2, j: 1 }, 77)?;
     let mut places = Places::new(rt.alloc(), 38, 1 << 30);
-    let plan = tree.plan(&mut places)?;
+    let begun = tree.begin(&mut places)?;
+    let plan = tree.finish(begun);
     let mut bytes = Vec::new(rt.alloc());
     for write in &plan.in_place {
         bytes.extend_from_slice(write.piece.as_slice())?;

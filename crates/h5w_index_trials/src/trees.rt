@@ -89,7 +89,8 @@ fn falling_keys_divide_the_leaf_too(rt: HostRuntime) -> Result<(), Fail> {
 fn a_divided_leaf_is_planned_as_three_nodes(rt: HostRuntime) -> Result<(), Fail> {
     let mut tree = rising(rt.alloc(), 85)?;
     let mut places = Places::new(rt.alloc(), 2000, 1 << 30);
-    let plan = tree.plan(&mut places)?;
+    let begun = tree.begin(&mut places)?;
+    let plan = tree.finish(begun);
     // two leaves and the root, of four pieces each, and the header
     assert_eq!(rt;
         (plan.copies.len(), plan.in_place.len(), places.end()),
@@ -99,7 +100,8 @@ fn a_divided_leaf_is_planned_as_three_nodes(rt: HostRuntime) -> Result<(), Fail>
         (tree.header().root, tree.copy()?.header().root),
         (6096, 6096)
     );
-    let again = tree.plan(&mut places)?;
+    let begun = tree.begin(&mut places)?;
+    let again = tree.finish(begun);
     assert_eq!(rt; (again.copies.len(), again.in_place.len()), (0, 0));
     Ok(())
 }

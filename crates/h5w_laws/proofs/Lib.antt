@@ -18,3 +18,9 @@ pub mod PlaceLemmas
 pub mod ApartLemmas
 pub mod EndLemmas
 pub mod RangeLemmas
+pub mod TileLemmas
+pub mod NumberLemmas
+pub mod FitLemmas
+pub mod LinkLemmas
+pub mod OneNameLemmas
+pub mod SeveralLemmas

@@ -104,13 +104,13 @@ walk_begun img header tracked zero visited done ms h e = begun_zero img header t
 walk_begun img header tracked (suc more) visited done ms h e = begun_suc img more header tracked (walk_begun img header tracked more) visited ms done h e
 
 -- a header's first range is its chunk 0, which is not empty
-record HasFirst (h : HeaderFields) : Type 0 where
+pub record HasFirst (h : HeaderFields) : Type 0 where
   first : Range
   rest : List Range
   are : h.ranges ≡ first ∷ rest
   some : 0 < first.len
 
-root_first : (img : List ℕ) (place : ℕ) (h : HeaderFields) → eval img (root_header place) ≡ Ok h → HasFirst h
+pub root_first : (img : List ℕ) (place : ℕ) (h : HeaderFields) → eval img (root_header place) ≡ Ok h → HasFirst h
 root_first img place h e =
     let w = root_walked img place h e in
     let b = begins (range img place (w.0.total)) w.0 w.2 in
@@ -122,13 +122,13 @@ root_first img place h e =
 -- ---- What the check collects
 
 -- a range within an end that is not empty, and apart from the superblock
-record IsBehind (end : ℕ) (us : List Used) : Type 0 where
+pub record IsBehind (end : ℕ) (us : List Used) : Type 0 where
   first : Used
   rest : List Used
   are : us ≡ first ∷ rest
   some : 0 < first.len
 
-first_used : (end : ℕ) (h : HeaderFields) (us : List Used) → HasFirst h → header_ranges end h.ranges ≡ Ok us → IsBehind end us
+pub first_used : (end : ℕ) (h : HeaderFields) (us : List Used) → HasFirst h → header_ranges end h.ranges ≡ Ok us → IsBehind end us
 first_used end h us f e =
     let r = f.first in
     let own : Used = record { place = r.place; len = r.len; chunk = false } in
@@ -166,7 +166,7 @@ root_ranges img name s root h =
     refused_header place (Ok x) h e = cc
     refused_header place (Err f) h e = cc
 
-dataset_ranges : (img : List ℕ) (s : Super) (place : ℕ) (d : Described × List Used) → eval img (checked_dataset format_limits s place) ≡ Ok d → AllEnd s.end d.1
+pub dataset_ranges : (img : List ℕ) (s : Super) (place : ℕ) (d : Described × List Used) → eval img (checked_dataset format_limits s place) ≡ Ok d → AllEnd s.end d.1
 dataset_ranges img s place d h =
     let b = header_view (range img place 512) in
     let r = eval img (dataset_messages place b) in
@@ -187,7 +187,7 @@ of_super s = Ok s
 same_super : (s t : Super) → of_super s ≡ of_super t → s ≡ t
 same_super s t h = cc
 
-super_ends : (size : ℕ) (b : List ℕ) (s : Super) → checked_super size b ≡ Ok s → s.end ≤ size
+pub super_ends : (size : ℕ) (b : List ℕ) (s : Super) → checked_super size b ≡ Ok s → s.end ≤ size
 super_ends size b s h =
     let later : Super → Result Super Finding = λ t. cond (nat_lt size t.end) (Err (found cut_off 0)) (of_super t) in
     let read = then_ok (refused_as super_finding (super_at b)) (λ t. cond (not (is_swmr t.flags)) (Err (found half_flagged 0)) (later t)) s h in
@@ -212,7 +212,7 @@ verdict_ok s d us sm h = go (overlap_of (by_place us)) refl h
     go (Some f) e g = cc
 
 -- the superblock ends by the end-of-file address, since a range that is not empty does so and is apart from it
-super_within : (end : ℕ) (us rest : List Used) → IsBehind end us → AllEnd end us → AllApart (the_superblock ∷ us ++ rest) → 48 ≤ end
+pub super_within : (end : ℕ) (us rest : List Used) → IsBehind end us → AllEnd end us → AllApart (the_superblock ∷ us ++ rest) → 48 ≤ end
 super_within end us rest b ends apart =
     let within : AllEnd end (b.first ∷ b.rest) = subst (AllEnd end) b.are ends in
     let off : AllApart (the_superblock ∷ (b.first ∷ b.rest) ++ rest) = subst (λ (vs : List Used). AllApart (the_superblock ∷ vs ++ rest)) b.are apart in

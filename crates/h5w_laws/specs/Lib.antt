@@ -5,3 +5,6 @@ pub mod Held
 pub mod Relations
 pub mod Places
 pub mod Ranges
+pub mod Tiles
+pub mod ChunkNumbers
+pub mod Several

@@ -4,12 +4,16 @@
 #![tactic(auto)]
 
 mod answers;
+mod chunks;
 mod held;
 mod logs;
 mod programs;
 mod relations;
+mod several;
+mod tiles;
 
 pub use answers::{one_answer, one_verdict, unstored_steps};
+pub use chunks::{numbers_chunks, places_chunks};
 pub use held::{still_gives_held, valid_ranges, valid_shows};
 pub use logs::{each_gives_prefixed, event_laws, flushed_laws, position_laws};
 pub use programs::{
@@ -18,3 +22,8 @@ pub use programs::{
     takes_both, takes_in_turn,
 };
 pub use relations::{array_slots, dataset_headers, header_messages, header_places, index_places};
+pub use several::{
+    all_ranges, each_valid, finds_all, link_order, one_name, one_verdict_of_all, ranges_fit,
+    same_links,
+};
+pub use tiles::tile_laws;

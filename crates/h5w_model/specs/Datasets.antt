@@ -141,6 +141,28 @@ abbrev pub linked : List ℕ → List FoundMessage → Result ℕ ReadError
 linked name ms = refused_as Link
     (then_also (links_at (map (λ m. record { kind = m.kind; flags = m.flags; at = m.place; body = m.body }) ms)) (λ ls. find_link ls name))
 
+-- ---- Several names
+
+-- the addresses that the links of these names give, or the refusal of the first name that is refused
+abbrev pub all_linked : List (List ℕ) → List FoundMessage → Result (List ℕ) ReadError
+all_linked [] ms = Ok []
+all_linked (name ∷ names) ms = then_also (linked name ms) (λ at. then_also (all_linked names ms) (λ rest. Ok (at ∷ rest)))
+
+-- the number of the first of some addresses that is this one, counted from a number on
+abbrev pub number_of : ℕ → ℕ → List ℕ → Option ℕ
+number_of at number [] = None
+number_of at number (a ∷ rest) = if a == at then Some number else number_of at (number + 1) rest
+
+-- of addresses behind others the first that is one of those before it: the number of the first of these, and its own, from 1 on
+abbrev pub same_behind : List ℕ → List ℕ → Option (ℕ × ℕ)
+same_behind before [] = None
+same_behind before (at ∷ rest) =
+    elim (number_of at 1 before) [ Some first ↦ Some (first, length before + 1) | None ↦ same_behind (before ++ at ∷ []) rest ]
+
+-- two names whose links give one address, the least second, and with it the least first; both numbers count from 1
+abbrev pub same_link : List ℕ → Option (ℕ × ℕ)
+same_link places = same_behind [] places
+
 -- ---- The dataset header
 
 -- the kinds of messages that say what a dataset is, and of a filter pipeline

@@ -1,5 +1,6 @@
 -- What a whole file is checked for: the findings in the order in which they are tried, and what a valid file has.
-use Rattle.std.specs.Prelude.{◌≡◌, ℕ, zero, suc, ◌+◌, ◌-◌, ◌*◌, Bool, true, false, not, ◌&&◌, List, [], ◌∷◌, ◌++◌, length, map, count_by, sum_by, nat_le, nat_lt, ◌==◌, if◌then◌else◌, Option, Some, None, Result, Ok, Err}
+use Rattle.std.specs.Prelude.{◌≡◌, ℕ, zero, suc, ◌+◌, ◌-◌, ◌*◌, Bool, true, false, not, ◌&&◌, List, [], ◌∷◌, ◌++◌, length, map, flat_map, count_by, sum_by, nat_le, nat_lt, ◌==◌, if◌then◌else◌, Option, Some, None, Result, Ok, Err}
+use Rattle.std.specs.List.{list_any}
 use Rattle.h5w_model.specs.Numbers.{undefined}
 use Rattle.h5w_model.specs.Checked.{checked}
 use Rattle.h5w_model.specs.Programs.{Prog, ret, whole, counted, eval, bind, and_then}
@@ -7,8 +8,8 @@ use Rattle.h5w_model.specs.Superblock.{super_at}
 use Rattle.h5w_model.specs.Headers.{header_view}
 use Rattle.h5w_model.specs.Arrays.{eahd_at, eaib_at, easb_at, eadb_at, eahd_len, eaib_len, slots_len, super_block_of}
 use Rattle.h5w_model.specs.Trees.{RecordFields, ChildFields, bthd_at, btlf_at, btin_at, bthd_len, btlf_len, btin_len, node_size}
-use Rattle.h5w_model.specs.Datasets.{Described, Range, is_swmr, root_header, linked, dataset_messages, described, then_also, refused_as}
-use Rattle.h5w_model.specs.Tables.{Limits, limit_of, needed, format_limits, key_below, super_block_of_first}
+use Rattle.h5w_model.specs.Datasets.{FoundMessage, Described, Range, is_swmr, root_header, linked, dataset_messages, described, then_also, refused_as}
+use Rattle.h5w_model.specs.Tables.{Limits, limit_of, needed, format_limits, key_below, super_block_of_first, each_of}
 use Rattle.h5w_model.specs.declared.root.Super.{Super}
 use Rattle.h5w_model.specs.declared.cell.Key.{Key}
 use Rattle.h5w_model.specs.declared.cell.IndexKind.TheVariants.{Array, Tree}
@@ -94,6 +95,10 @@ block_past_end = 18
 -- the rows need more chunks than the limit
 abbrev pub too_many_chunks : ℕ
 too_many_chunks = 20
+
+-- two names lead to one dataset header
+abbrev pub same_header : ℕ
+same_header = 21
 
 -- ---- Findings
 
@@ -367,3 +372,78 @@ Valid img name s = eval img (check format_limits name (length img)) ≡ Ok s
 -- the first finding that applies
 abbrev pub Finds : List ℕ → List ℕ → Finding → Type 0
 Finds img name f = eval img (check format_limits name (length img)) ≡ Err f
+
+-- ---- Several datasets of one file
+
+-- what a valid file has of several datasets: the rows of each; of all together, chunks with an address, and blocks that are no
+-- chunks; the end-of-file address, and the bytes below it in no range
+pub record AllSummary : Type 0 where
+  pub rows : List ℕ
+  pub chunks : ℕ
+  pub blocks : ℕ
+  pub end : ℕ
+  pub lost : ℕ
+
+-- a dataset of a file: where its header stands, what that says, and the ranges of header and index in the order of visit
+pub record Part : Type 0 where
+  pub place : ℕ
+  pub dataset : Described
+  pub ranges : List Used
+
+-- The places to which the links of these names lead, link after link. A place to which a name before it led is a finding there,
+-- before the next name is looked for.
+abbrev pub checked_links : ℕ → List ℕ → List (List ℕ) → List FoundMessage → Result (List ℕ) Finding
+checked_links root before [] ms = Ok []
+checked_links root before (name ∷ names) ms =
+    then_also (refused_as (λ e. found no_link root) (linked name ms)) (λ at.
+    if list_any (λ a. a == at) before then Err (found same_header at)
+    else then_also (checked_links root (before ++ at ∷ []) names ms) (λ rest. Ok (at ∷ rest)))
+
+-- the dataset headers' places and the root header's ranges
+abbrev pub checked_names : List (List ℕ) → Super → Prog (Result (List ℕ × List Used) Finding)
+checked_names names s =
+    bind (root_header s.root) (λ r. ret (
+    then_also (refused_as (λ e. found bad_root s.root) r) (λ h.
+    then_also (header_ranges s.end h.ranges) (λ us.
+    then_also (checked_links s.root [] names h.messages) (λ places. Ok (places, us))))))
+
+-- the dataset whose header stands at a place: the header, and then the index
+abbrev pub checked_part : Limits → Super → ℕ → Prog (Result Part Finding)
+checked_part limits s at =
+    and_then (checked_dataset limits s at) (λ d.
+    and_then (index_visit s.end d.0) (λ us.
+    ret (Ok (record { place = at; dataset = d.0; ranges = d.1 ++ us }))))
+
+-- all ranges of a file: superblock, root header, and those of one dataset after another
+abbrev pub ranges_of_all : List Used → List Part → List Used
+ranges_of_all root parts = the_superblock ∷ root ++ flat_map (λ p. p.ranges) parts
+
+abbrev pub all_summary : Super → List Part → List Used → AllSummary
+all_summary s parts us = record {
+  rows = map (λ p. p.dataset.shape.rows) parts;
+  chunks = count_by (λ u. u.chunk) us;
+  blocks = count_by (λ u. not u.chunk) us;
+  end = s.end;
+  lost = s.end - sum_by (λ u. u.len) us;
+}
+
+-- the verdict, once all ranges of all datasets are known
+abbrev pub all_verdict : Super → List Part → List Used → Result AllSummary Finding
+all_verdict s parts us = elim (overlap_of (by_place us)) [ None ↦ Ok (all_summary s parts us) | Some f ↦ Err f ]
+
+-- the check of an image of some size for the datasets of these names: all links, then one dataset after another
+abbrev pub check_all : Limits → List (List ℕ) → ℕ → Prog (Result AllSummary Finding)
+check_all limits names size =
+    whole 0 48 (λ b.
+    and_then (ret (checked_super size b)) (λ s.
+    and_then (checked_names names s) (λ root.
+    and_then (each_of (checked_part limits s) root.0) (λ parts.
+    ret (all_verdict s parts (ranges_of_all root.1 parts))))))
+
+-- no finding applies to the datasets of these names, and the file has this
+abbrev pub AllValid : List ℕ → List (List ℕ) → AllSummary → Type 0
+AllValid img names s = eval img (check_all format_limits names (length img)) ≡ Ok s
+
+-- the first finding that applies
+abbrev pub AllFinds : List ℕ → List (List ℕ) → Finding → Type 0
+AllFinds img names f = eval img (check_all format_limits names (length img)) ≡ Err f

@@ -8,6 +8,7 @@ pub mod Programs
 pub mod Blocks
 pub mod Trees
 pub mod Logs
+pub mod Several
 pub mod Messages
 pub mod Integers
 pub mod Arrays
@@ -16,6 +17,7 @@ pub mod Links
 pub mod Datasets
 pub mod Tables
 pub mod Findings
+pub mod Tiles
 pub mod Prefixed
 pub mod Lawful
 pub mod Causes

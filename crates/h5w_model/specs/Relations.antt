@@ -1,13 +1,15 @@
 -- What programs of looks say of an image, in the standard's own words: relations between bytes and what they mean.
-use Rattle.std.specs.Prelude.{◌≡◌, ◌≢◌, ◌⊎◌, ℕ, zero, suc, ◌-◌, ◌≤◌, Bool, true, false, IsTrue, List, [], ◌∷◌, ◌++◌, length, take, get_or, slice_get, Some, IfSome, Ok}
-use Rattle.std.specs.List.{All}
+use Rattle.std.specs.Prelude.{◌≡◌, ◌≢◌, ◌⊎◌, ℕ, zero, suc, ◌+◌, ◌-◌, ◌<◌, ◌≤◌, Bool, true, false, IsTrue, List, [], ◌∷◌, ◌++◌, length, map, take, get_or, slice_get, Some, IfSome, Ok}
+use Rattle.std.specs.List.{All, AllByRecursion}
 use Rattle.h5w_model.specs.Numbers.{range, undefined}
 use Rattle.h5w_model.specs.Superblock.{super_at}
 use Rattle.h5w_model.specs.Headers.{prefix_at, messages_at, block_at, continuation_kind}
 use Rattle.h5w_model.specs.Arrays.{EahdFields, EaibFields, SlotsFields, eahd_at, eaib_at, easb_at, eadb_at, eahd_len, eaib_len, slots_len, super_block_of, place_of}
 use Rattle.h5w_model.specs.Trees.{RecordFields, ChildFields, BthdFields, BtinFields, bthd_at, btlf_at, btin_at, bthd_len, btlf_len, btin_len}
-use Rattle.h5w_model.specs.Datasets.{FoundMessage, Described, found_at, block_place, block_len, is_swmr, linked, described}
-use Rattle.h5w_model.specs.Tables.{Limits, Reading, super_block_of_first, key_below, limit_of, needed, needed_keys}
+use Rattle.h5w_model.specs.Programs.{eval}
+use Rattle.h5w_model.specs.Datasets.{FoundMessage, HeaderFields, Described, found_at, block_place, block_len, is_swmr, linked, described, root_header}
+use Rattle.h5w_model.specs.Tables.{Limits, Reading, super_block_of_first, key_below, limit_of, bands, chunks_across, needed, needed_keys, chunk_number}
+use Rattle.h5w_model.specs.Findings.{Used, Part, AllSummary, checked_super, header_ranges, checked_part, ranges_of_all, all_summary}
 use Rattle.h5w_model.specs.declared.message.Msg.{Msg}
 use Rattle.h5w_model.specs.declared.message.Prefix.{Prefix}
 use Rattle.h5w_model.specs.declared.root.Super.{Super}
@@ -156,3 +158,64 @@ pub record HasReading (limits : Limits) (img name : List ℕ) (r : Reading) : Ty
   pub within : needed r.dataset ≤ limit_of limits r.dataset.layout.index
   pub listed : length r.table ≡ length (needed_keys r.dataset)
   pub chunks : (k : ℕ) (key : Key) → slice_get (needed_keys r.dataset) k ≡ Some key → HasChunk img r.dataset key (get_or r.table k undefined)
+
+-- ---- The chunks of a dataset by their places in the grid
+
+-- by the kind of index: in an array the chunk of a number, in a tree that of a place
+abbrev pub PlacedChunk : List ℕ → IndexKind → ℕ → ℕ → ℕ → ℕ → ℕ → Type 0
+PlacedChunk img Array address number i j x = ArraySlot img address number x
+PlacedChunk img Tree address number i j x = TreeChunk img address (record { i = i; j = j }) x
+
+-- the chunk of a band of rows and a place in it has the address x; without an index it is undefined
+abbrev pub HasChunkAt : List ℕ → Described → ℕ → ℕ → ℕ → Type 0
+HasChunkAt img d i j x =
+    (d.layout.address ≡ undefined) × (x ≡ undefined)
+    ⊎ (d.layout.address ≢ undefined) × PlacedChunk img d.layout.index d.layout.address (chunk_number d i j) i j x
+
+-- each chunk of the grid has the address that is listed at its number
+abbrev pub HasGrid : List ℕ → Described → List ℕ → Type 0
+HasGrid img d table = (i j : ℕ) → i < bands d → j < chunks_across d → HasChunkAt img d i j (get_or table (chunk_number d i j) undefined)
+
+-- ---- Several datasets of one file
+
+-- each of one list and what has the same number in another belong together, and there are as many of both
+abbrev pub AllPaired : {A B : Type 0} → (A → B → Type 0) → List A → List B → Type 0
+AllPaired P [] [] = Unit {0}
+AllPaired P [] (y ∷ ys) = ⊥
+AllPaired P (x ∷ xs) [] = ⊥
+AllPaired P (x ∷ xs) (y ∷ ys) = P x y × AllPaired P xs ys
+
+-- the link of a name leads to this dataset, of whose header and index there is no finding
+pub record IsPart (limits : Limits) (img : List ℕ) (s : Super) (messages : List FoundMessage) (name : List ℕ) (p : Part) : Type 0 where
+  pub link : linked name messages ≡ Ok p.place
+  pub visited : eval img (checked_part limits s p.place) ≡ Ok p
+
+-- no number is there twice
+abbrev pub AllDiffer : List ℕ → Type 0
+AllDiffer [] = Unit {0}
+AllDiffer (a ∷ rest) = AllByRecursion (λ (b : ℕ). a ≢ b) rest × AllDiffer rest
+
+-- of two ranges the one that begins first, and of two at one place the first of the two, ends by where the other begins
+pub record IsFit (u v : Used) : Type 0 where
+  pub onward : u.place ≤ v.place → u.place + u.len ≤ v.place
+  pub back : v.place < u.place → v.place + v.len ≤ u.place
+
+-- each range with each one behind it
+abbrev pub AllFit : List Used → Type 0
+AllFit [] = Unit {0}
+AllFit (u ∷ us) = AllByRecursion (IsFit u) us × AllFit us
+
+-- No kind of finding applies to a file for these names: superblock and root header have none, each name's link leads to a
+-- dataset that has none, no two to one header, and no two ranges overlap. And the file has this.
+pub record HasAll (limits : Limits) (img : List ℕ) (names : List (List ℕ)) (t : AllSummary) : Type 0 where
+  pub superblock : Super
+  pub found : checked_super (length img) (range img 0 48) ≡ Ok superblock
+  pub root : HeaderFields
+  pub read : eval img (root_header (superblock.root)) ≡ Ok root
+  pub root_ranges : List Used
+  pub within : header_ranges superblock.end root.ranges ≡ Ok root_ranges
+  pub parts : List Part
+  pub linked_to : AllPaired (IsPart limits img superblock root.messages) names parts
+  pub differ : AllDiffer (map (λ p. p.place) parts)
+  pub fit : AllFit (ranges_of_all root_ranges parts)
+  pub has : t ≡ all_summary superblock parts (ranges_of_all root_ranges parts)

@@ -166,6 +166,18 @@ needed d = bands d * chunks_across d
 abbrev pub needed_keys : Described → List Key
 needed_keys d = flat_map (λ row. map (λ column. record { i = row; j = column }) (range_with_len 0 (chunks_across d))) (range_with_len 0 (bands d))
 
+-- the number of the chunk of a band of rows and a place in it: along the bands, and in each over the chunks side by side
+abbrev pub chunk_number : Described → ℕ → ℕ → ℕ
+chunk_number d i j = i * chunks_across d + j
+
+-- how many keys of an index stand side by side: an extensible array counts its chunks one by one, a tree has them by both dimensions
+abbrev pub keys_across : Described → ℕ
+keys_across d = elim d.layout.index [ Array ↦ 1 | Tree ↦ chunks_across d ]
+
+-- the key by which the index has the chunk of a number
+abbrev pub index_key : Described → ℕ → Key
+index_key d n = record { i = n / keys_across d; j = n % keys_across d }
+
 -- the addresses of some chunks; without keys nothing is looked at
 abbrev pub table_of : Described → List Key → Prog (Result (List ℕ) ReadError)
 table_of d [] = ret (Ok [])

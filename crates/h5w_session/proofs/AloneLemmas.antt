@@ -8,7 +8,8 @@ use Rattle.h5w_model.specs.Tables.{chunks_across}
 use Rattle.h5w_model.specs.declared.cell.Key.{Key}
 use Rattle.h5w_chunks.specs.declared.grid.ChunkPlace.{ChunkPlace}
 use Rattle.h5w_chunks.specs.Shares.{share_of, touched, touched_key}
-use Rattle.h5w_chunks.proofs.Geometry.{IsCut, lt_up, up_lt}
+use Rattle.h5w_chunks.specs.Grids.{IsCut}
+use Rattle.h5w_chunks.proofs.Geometry.{lt_up, up_lt}
 use Rattle.h5w_flush_laws.proofs.NewChunkLemmas.{touched_is}
 use Rattle.h5w_index.specs.Placing.{IsPlacing}
 use Rattle.h5w_session.specs.Sessions.{Session, rows_of}

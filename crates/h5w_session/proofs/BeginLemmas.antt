@@ -40,7 +40,7 @@ beginning f is =
     let short : root_len f ≤ 512 = let bound = is.name_bound in omega arith in
     record {
       shows = moment_shows img f.name m c.represents;
-      root = ap (λ (a : ℕ). visits img (root_header a)) (root_at img f.name m c.represents) ∙ root_alone img f.name (super_of f) (header_place f) (root_len f) c.represents.root short;
+      root = ap (λ (a : ℕ). visits img (root_header a)) (root_at img f.name m c.represents) ∙ root_alone img f.name (super_of f) (header_place f) (root_len f) c.root short;
       header = h.named ∙ ap visits_of (behind_first _ _ [] h.continued h.ranges);
     }
 

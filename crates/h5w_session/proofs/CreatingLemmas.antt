@@ -206,8 +206,10 @@ file_made f most v ws stop keep w es t is limit index freed pieces none_appended
     record {
       after = m;
       address = λ key. address_in v key;
+      held = [];
       runs = goes_runs f.name next m [] goes (λ k. none_flushed (k + 1));
       knows = begins.knows;
+      holds = begins.held;
       keeps = record { root = refl; place = refl; dataset = refl; header = subst (λ (x : List ℕ). chunk_0 x (header_place f) ≡ spelled_header (described_of f)) img (header_kept f is) };
       index = inl begins.rests;
       marks = mark_laws.clean (described_of f) 0 0 v (new_clean f.index (index_place f) (block_place f) v index.new);
@@ -291,8 +293,10 @@ keep_stands s log st = record {
     | inr r ↦ inr (record {
       after = r.after;
       address = r.address;
+      held = r.held;
       runs = r.runs;
       knows = r.knows;
+      holds = r.holds;
       keeps = record { root = r.keeps.root; place = r.keeps.place; dataset = r.keeps.dataset; header = r.keeps.header };
       index = r.index;
       marks = r.marks;

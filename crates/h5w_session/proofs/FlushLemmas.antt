@@ -10,7 +10,7 @@ use Rattle.h5w_model.specs.Messages.{IsIntType}
 use Rattle.h5w_model.specs.Tables.{format_limits, limit_of, needed}
 use Rattle.h5w_model.specs.Logs.{Log, plans, flushed_in, flushed_rows, appended_in, and_now}
 use Rattle.h5w_model.specs.Datasets.{Described}
-use Rattle.h5w_model.specs.Findings.{chunk_bytes}
+use Rattle.h5w_model.specs.Findings.{Used, chunk_bytes}
 use Rattle.h5w_model.specs.declared.cell.Key.{Key}
 use Rattle.h5w_model.specs.declared.piece.Write.{Write}
 use Rattle.h5w_model.specs.declared.root.Super.{Super}
@@ -18,7 +18,9 @@ use Rattle.h5w_visits.specs.Needed.{AreFew}
 use Rattle.h5w_chunks.specs.Grids.{FitsType, cells_of, fill_cell}
 use Rattle.h5w_chunks.specs.Shares.{touched}
 use Rattle.h5w_chunks.specs.Rows.{RowsWritten}
+use Rattle.h5w_chunks.specs.Early.{RowsStand}
 use Rattle.h5w_chunks.specs.declared.grid.ChunkPlace.{ChunkPlace}
+use Rattle.h5w_chunks.proofs.EarlyLemmas.{rows_stand}
 use Rattle.h5w_header_laws.specs.Files.{chunk_0, commit_at}
 use Rattle.h5w_space.specs.Space.{Space}
 use Rattle.h5w_steps.specs.Moments.{Moment}
@@ -26,11 +28,13 @@ use Rattle.h5w_steps.specs.Logs.{image_now}
 use Rattle.h5w_steps.specs.Sessions.{Runs}
 use Rattle.h5w_steps.proofs.SessionLaws.{lt-leb-false}
 use Rattle.h5w_flush_laws.specs.Spaces.{Taken}
-use Rattle.h5w_flush_laws.specs.Knowledge.{Knows}
+use Rattle.h5w_flush_laws.specs.Knowledge.{HeldMissed, KnownHeld}
 use Rattle.h5w_flush_laws.specs.Parts.{Parts, AreEnded, block_writes, flushed_to, pieces_of, IsFlush}
 use Rattle.h5w_flush_laws.specs.Rows.{ArePlaced, IsOutside, IsPlaced, new_chunks}
 use Rattle.h5w_flush_laws.specs.Flushes.{IsKnownThen, Rests as FileRests}
+use Rattle.h5w_flush_laws.proofs.ChunkPlaceLemmas.{places_apart}
 use Rattle.h5w_flush_laws.proofs.FlushLaws.{knows_then}
+use Rattle.h5w_flush_laws.proofs.RowsLaws.{rows_flush}
 use Rattle.h5w_flush_laws.proofs.SessionLaws.{session_laws}
 use Rattle.h5w_array_flushes.specs.ArrayFlushes.{chunks_for}
 use Rattle.h5w_array_flushes.proofs.ArrayLaws.{new_are}
@@ -102,8 +106,8 @@ module _ (old new : Session) (log : Log) (x : IsFlushed old new) (r : Running ol
   same_map : r.address ≡ map_before
   same_map = λ i key. index_now.map key i
 
-  known : Knows (image_now log) old.name r.after map_before old.places
-  known = subst (λ (f : Key → ℕ). Knows (image_now log) old.name r.after f old.places) same_map r.knows
+  known : KnownHeld (image_now log) old.name r.after map_before old.places r.held
+  known = subst (λ (f : Key → ℕ). KnownHeld (image_now log) old.name r.after f old.places r.held) same_map (record { knows = r.knows; is = r.holds })
 
   rests_now : Rests (image_now log) r.after map_before old.places old.index
   rests_now = subst (λ (f : Key → ℕ). Rests (image_now log) r.after f old.places old.index) same_map index_now
@@ -114,16 +118,32 @@ module _ (old new : Session) (log : Log) (x : IsFlushed old new) (r : Running ol
   taken : Taken old.places (chunks_for r.after map_before x.planned.chunks) x.planned.between
   taken = subst (λ (d : Described). Taken old.places (new_chunks d map_before d.shape.rows 0 x.planned.chunks) x.planned.between) data_set x.planned.placing.taken
 
-  rows_there : RowsWritten r.after.dataset (cells_of r.after.dataset r.more) r.after.dataset.shape.rows (rows_of old) x.planned.chunks x.planned.rows
-  rows_there =
-      subst (λ (d : Described). RowsWritten d (cells_of d r.more) d.shape.rows (rows_of old) x.planned.chunks x.planned.rows) data_set
-      (subst (λ (b : List ℕ). RowsWritten old.dataset b old.dataset.shape.rows (rows_of old) x.planned.chunks x.planned.rows) r.waiting x.planned.written)
+  few_after : AreFew (with_rows (rows_of old) r.after.dataset)
+  few_after =
+      subst (λ (d : Described). AreFew (with_rows (rows_of old) d)) data_set
+      (le-ltb (limit_of format_limits old.dataset.layout.index) (needed (with_rows (rows_of old) old.dataset)) x.planned.few)
 
-  placed : ArePlaced r.after map_before (parts r.after old new x r.more) x.planned.chunks
+  rises : r.after.dataset.shape.rows < rows_of old
+  rises = subst (λ (d : Described). d.shape.rows < rows_of old) data_set (let some = x.planned.some in omega arith)
+
+  all_touched : length x.planned.chunks ≡ touched r.after.dataset r.after.dataset.shape.rows (rows_of old)
+  all_touched = subst (λ (d : Described). length x.planned.chunks ≡ touched d d.shape.rows (rows_of old)) data_set x.planned.all
+
+  each_placed : (k : ℕ) (p : ChunkPlace) → slice_get x.planned.chunks k ≡ Some p → IsPlaced r.after.dataset map_before (λ key. address_in new.index key) r.after.dataset.shape.rows k p
+  each_placed k p at = subst (λ (d : Described). IsPlaced d map_before (λ key. address_in new.index key) d.shape.rows k p) data_set (placed_then old old.index old.places new.index new.places x.planned k p at)
+
+  rows_there : RowsStand (image_now log) r.after.dataset (cells_of r.after.dataset r.more) r.after.dataset.shape.rows (rows_of old) x.planned.chunks x.planned.rows
+  rows_there =
+      rows_stand (image_now log) r.after.dataset (cells_of r.after.dataset r.more) r.after.dataset.shape.rows (rows_of old) x.planned.chunks x.planned.rows
+      (subst (λ (d : Described). RowsWritten d (cells_of d r.more) d.shape.rows (rows_of old) x.planned.chunks x.planned.rows) data_set
+      (subst (λ (b : List ℕ). RowsWritten old.dataset b old.dataset.shape.rows (rows_of old) x.planned.chunks x.planned.rows) r.waiting x.planned.written))
+      (places_apart (image_now log) old.name r.after map_before old.places x.planned.between (rows_of old) x.planned.chunks known.knows taken rises few_after all_touched (λ k p at. (each_placed k p at).kept))
+
+  placed : ArePlaced (image_now log) r.after map_before (parts r.after old new x r.more) x.planned.chunks
   placed = record {
     written = rows_there;
-    all = subst (λ (d : Described). length x.planned.chunks ≡ touched d d.shape.rows (rows_of old)) data_set x.planned.all;
-    placed = λ k p at. subst (λ (d : Described). IsPlaced d map_before (λ key. address_in new.index key) d.shape.rows k p) data_set (placed_then old old.index old.places new.index new.places x.planned k p at);
+    all = all_touched;
+    placed = each_placed;
     others = λ key asked outside.
         let before : IsOutside old.dataset old.dataset.shape.rows (rows_of old) key = subst (λ (d : Described). IsOutside d d.shape.rows (rows_of old) key) r.keeps.dataset outside in
         others_then old old.index old.places new.index new.places x.planned key before;
@@ -141,11 +161,6 @@ module _ (old new : Session) (log : Log) (x : IsFlushed old new) (r : Running ol
       (subst (λ (ws : List Write). IsPlan x.planned.named x.planned.between x.planned.moves ws x.planned.fixed new.index new.places) told.copied.writes x.planned.plan)
       told.copied.are
 
-  few_after : AreFew (with_rows (rows_of old) r.after.dataset)
-  few_after =
-      subst (λ (d : Described). AreFew (with_rows (rows_of old) d)) data_set
-      (le-ltb (limit_of format_limits old.dataset.layout.index) (needed (with_rows (rows_of old) old.dataset)) x.planned.few)
-
   count_after : length (r.after.values ++ r.more) ≡ rows_of old * r.after.dataset.shape.cols
   count_after =
       let cols = old.dataset.shape.cols in
@@ -154,13 +169,14 @@ module _ (old new : Session) (log : Log) (x : IsFlushed old new) (r : Running ol
       let split : (rows + old.waits) * cols ≡ rows * cols + old.waits * cols = omega arith in
       subst (λ (d : Described). length (r.after.values ++ r.more) ≡ rows_of old * d.shape.cols) data_set (length-append r.after.values r.more ∙ omega (arith, file, r.count, split))
 
-  rises : r.after.dataset.shape.rows < rows_of old
-  rises = subst (λ (d : Described). d.shape.rows < rows_of old) data_set (let some = x.planned.some in omega arith)
-
   is_flush : IsFlush (image_now log) r.after map_before old.places (parts r.after old new x r.more) new.places
   is_flush =
       index_is_flush (image_now log) old.name r.after map_before old.places x.planned.between new.places x.planned.named new.index x.planned.moves (rows_of old) r.more x.planned.rows x.planned.chunks told.copied.placed
-      x.planned.supers x.planned.fixed known taken rises x.planned.small few_after count_after placed (subst (λ (s : Super). AreEnded s new.places.end x.planned.supers) (sym r.keeps.root) x.planned.ended) part
+      x.planned.supers x.planned.fixed known.knows taken rises x.planned.small few_after count_after placed (subst (λ (s : Super). AreEnded s new.places.end x.planned.supers) (sym r.keeps.root) x.planned.ended) part
+
+  missed : HeldMissed known.knows.held x.planned.rows
+  missed =
+      (rows_flush (image_now log) old.name r.after map_before old.places x.planned.between (parts r.after old new x r.more) x.planned.chunks known.knows taken rises few_after count_after placed).off_held
 
   -- ---- Its pieces, and the file after them
 
@@ -184,7 +200,7 @@ module _ (old new : Session) (log : Log) (x : IsFlushed old new) (r : Running ol
       ∙ sym x.pending
 
   then : IsKnownThen (image_now log) old.name r.after new.places (parts r.after old new x r.more)
-  then = knows_then (image_now log) old.name r.after map_before old.places new.places (parts r.after old new x r.more) known is_flush
+  then = knows_then (image_now log) old.name r.after map_before old.places new.places (parts r.after old new x r.more) known.knows is_flush missed
 
   header_then : chunk_0 (image (image_now log) (pieces_of (image_now log) r.after (parts r.after old new x r.more))) old.place ≡ (header_piece old).piece
   header_then =
@@ -196,7 +212,7 @@ module _ (old new : Session) (log : Log) (x : IsFlushed old new) (r : Running ol
   rests_then : RestsClean (image (image_now log) (pieces_of (image_now log) r.after (parts r.after old new x r.more))) (flushed_to r.after (parts r.after old new x r.more)) (λ key. address_in new.index key) new.places new.index
   rests_then =
       index_rests_then (image_now log) old.name r.after map_before old.places x.planned.between new.places x.planned.named new.index x.planned.moves (rows_of old) r.more x.planned.rows
-      (chunks_for r.after map_before x.planned.chunks) told.copied.placed x.planned.supers x.planned.fixed new.places.end known taken (new_are r.after.dataset map_before r.after.dataset.shape.rows 0 x.planned.chunks) is_flush part
+      (chunks_for r.after map_before x.planned.chunks) told.copied.placed x.planned.supers x.planned.fixed new.places.end known.knows taken (new_are r.after.dataset map_before r.after.dataset.shape.rows 0 x.planned.chunks) is_flush missed part
 
   -- ---- The session after it
 
@@ -205,9 +221,13 @@ module _ (old new : Session) (log : Log) (x : IsFlushed old new) (r : Running ol
 
   runs_then : Runs old.name (and_now (plans (length new.pending)) log) new.pending after_flush after_flush.behind
   runs_then =
-      let rests : FileRests old.name log r.after map_before old.places = record { runs = r.runs; knows = known } in
+      let rests : FileRests old.name log r.after map_before old.places = record { knows = known.knows; runs = subst (λ (us : List Used). Runs old.name log [] r.after us) (sym known.is) r.runs } in
       subst (λ (ws : List Write). Runs old.name (and_now (plans (length ws)) log) ws after_flush after_flush.behind) all_pieces
-      (session_laws.plans_flush old.name log r.after map_before old.places new.places (parts r.after old new x r.more) rests is_flush r.appended)
+      (session_laws.plans_flush old.name log r.after map_before old.places new.places (parts r.after old new x r.more) rests is_flush missed r.appended)
+
+  known_then : KnownHeld (image (image_now log) new.pending) old.name after_flush (λ key. address_in new.index key) new.places after_flush.behind
+  known_then =
+      subst (λ (ws : List Write). KnownHeld (image (image_now log) ws) old.name after_flush (λ key. address_in new.index key) new.places after_flush.behind) all_pieces (record { knows = then.knows; is = then.held })
 
   some_pieces : 0 < length new.pending
   some_pieces =
@@ -231,8 +251,10 @@ module _ (old new : Session) (log : Log) (x : IsFlushed old new) (r : Running ol
   flush_running past = record {
     after = after_flush;
     address = λ key. address_in new.index key;
+    held = after_flush.behind;
     runs = runs_then;
-    knows = subst (λ (ws : List Write). Knows (image (image_now log) ws) old.name after_flush (λ key. address_in new.index key) new.places) all_pieces then.knows;
+    knows = known_then.knows;
+    holds = known_then.is;
     keeps = record {
       root = ap (λ (s : Super). record s { end = new.places.end }) r.keeps.root;
       place = r.keeps.place;

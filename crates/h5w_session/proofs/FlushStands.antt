@@ -64,17 +64,19 @@ nothing_running : (s : Session) (log : Log) → s.waits ≡ 0 → Running s [] l
 nothing_running s log none r =
     let next = and_now (plans 0) log in
     let m = r.after in
-    let goes = resting s.name log m m.behind r.runs in
+    let goes = resting s.name log m r.held r.runs in
     let chosen : Bool → ℕ → List ℤ = λ b k. if b then log.values ++ appended_in log.events else flushed_in k log.values log.events in
     let more : r.more ≡ [] = none_long r.more (r.count ∙ ap (λ (n : ℕ). n * s.dataset.shape.cols) none ∙ omega arith) in
     let all : m.values ≡ appended log = sym (append-nil m.values) ∙ ap (λ (vs : List ℤ). m.values ++ vs) (sym more) ∙ r.appended in
     let each : (k : ℕ) → flushed_in k next.values next.events ≡ m.values = λ k. ap (λ b. chosen b k) (le-leb 0 k (omega arith)) ∙ sym all in
-    let later : Goes s.name next m m.behind = event_goes s.name (plans 0) log m m.behind refl (sym (each 0)) goes in
+    let later : Goes s.name next m r.held = event_goes s.name (plans 0) log m r.held refl (sym (each 0)) goes in
     record {
       after = m;
       address = r.address;
-      runs = goes_runs s.name next m m.behind later each;
+      held = r.held;
+      runs = goes_runs s.name next m r.held later each;
       knows = r.knows;
+      holds = r.holds;
       keeps = r.keeps;
       index = r.index;
       marks = r.marks;
@@ -83,7 +85,7 @@ nothing_running s log none r =
       fit = r.fit;
       count = r.count;
       appended = r.appended;
-      committed = goes_rows s.name next m m.behind later ∙ sym (goes_rows s.name log m m.behind goes) ∙ r.committed;
+      committed = goes_rows s.name next m r.held later ∙ sym (goes_rows s.name log m r.held goes) ∙ r.committed;
       columns = r.columns;
       past = past_planned s s 0 [] log m m (like_itself s) (raised_more s.places s.places 0 (load (cutting_of s) log) (omega arith) (raised_none s.places s.places refl refl)) tt r.past.next r.past;
     }
@@ -111,8 +113,10 @@ refused_running : (old new : Session) (log : Log) → SameBut old new → Runnin
 refused_running old new log b r = record {
   after = r.after;
   address = r.address;
+  held = r.held;
   runs = r.runs;
   knows = r.knows;
+  holds = r.holds;
   keeps = record { root = r.keeps.root; place = r.keeps.place; dataset = r.keeps.dataset; header = r.keeps.header };
   index =
       held_kept (image_now log) r.after r.address old.places old.dataset (rows_of old) old.index new.index b.held

@@ -85,13 +85,13 @@ stands_held s log st = still_gives_held s.name log (stands_prefixed s log st) st
 reads_all : (s : Session) (log : Log) → Stands s log → s.stopped ≡ false → s.pending ≡ [] → ReadsNow s.name log
 reads_all s log st running idle =
     let r = at_rest s log st running idle in
-    let g = resting s.name log r.after r.after.behind r.runs in
+    let g = resting s.name log r.after r.held r.runs in
     reads_now s.name log r.after g.now g.values g.some_columns g.columns
 
 all_planned : (s : Session) (log : Log) → Stands s log → s.stopped ≡ false → s.pending ≡ [] → rows_in log (flushed log) ≡ s.dataset.shape.rows
 all_planned s log st running idle =
     let r = at_rest s log st running idle in
-    goes_rows s.name log r.after r.after.behind (resting s.name log r.after r.after.behind r.runs) ∙ ap (λ (d : Described). d.shape.rows) r.keeps.dataset
+    goes_rows s.name log r.after r.held (resting s.name log r.after r.held r.runs) ∙ ap (λ (d : Described). d.shape.rows) r.keeps.dataset
 
 last_reads : (name : List ℕ) (log : Log) (es : List Happening) → EachReads name log es → log.first ≤ shown es → ReadsNow name (record log { events = es })
 last_reads name log [] each begun = each begun
@@ -218,7 +218,7 @@ moment_within limits img name m few r =
     let header = dataset_ok img m.super m.place (d, m.header) r.header in
     let table = ap (eval img) (cond-false (nat_lt (limit_of limits d.layout.index) (needed d)) (ret (Err (read_errors.TooManyChunks (needed d) (limit_of limits d.layout.index)))) (table_of d (needed_keys d)) (le-ltb (limit_of limits d.layout.index) (needed d) few)) ∙ r.table in
     and_then_from img (dataset_place name) (λ at. and_then (dataset at) (λ d. and_then (needed_table limits d) (λ t. ret (Ok (record { place = at; dataset = d; table = t }))))) m.place shown
-    (place_ok img name m.super (m.place, m.root) r.super r.root)
+    (place_ok img name m.super (m.place, r.root.own) r.super r.root.checked)
     (and_then_from img (dataset m.place) (λ d. and_then (needed_table limits d) (λ t. ret (Ok (record { place = m.place; dataset = d; table = t })))) d shown header.0
     (and_then_from img (needed_table limits d) (λ t. ret (Ok (record { place = m.place; dataset = d; table = t }))) m.table shown table refl))
 

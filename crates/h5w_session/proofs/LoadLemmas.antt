@@ -12,8 +12,8 @@ use Rattle.h5w_space.specs.Space.{Space}
 use Rattle.h5w_space.specs.declared.Full.{Full}
 use Rattle.h5w_cache.specs.Plans.{IsRefused}
 use Rattle.h5w_types.proofs.RunLemmas.{length-run_bytes}
-use Rattle.h5w_chunks.specs.Grids.{chunk_len}
-use Rattle.h5w_chunks.proofs.Geometry.{IsCut, lt_up}
+use Rattle.h5w_chunks.specs.Grids.{IsCut, chunk_len}
+use Rattle.h5w_chunks.proofs.Geometry.{lt_up}
 use Rattle.h5w_header_laws.specs.Files.{with_index}
 use Rattle.h5w_flush_laws.specs.Parts.{AreEnded}
 use Rattle.h5w_index.specs.Views.{IndexView}
@@ -21,7 +21,8 @@ use Rattle.h5w_index.specs.Marks.{IsMarked, IsRaised}
 use Rattle.h5w_index.specs.Placing.{IsFullPart, IsOwn, most_of}
 use Rattle.h5w_index.proofs.DepthLemmas.{depth_laws}
 use Rattle.h5w_index.proofs.MarkLemmas.{plan_bounds}
-use Rattle.h5w_index.proofs.PlacingLemmas.{own_laws, placing_laws}
+use Rattle.h5w_index.proofs.PartlyLemmas.{own_laws}
+use Rattle.h5w_index.proofs.PlacingLemmas.{placing_laws}
 use Rattle.h5w_index.proofs.RaisedLemmas.{raised_more, raised_on}
 use Rattle.h5w_session.specs.Flushes.{ArePlanned, IsFlushed, flushed_of, header_piece, touched_by}
 use Rattle.h5w_session.specs.Loads.{NoPlace, first_end_of}

@@ -85,8 +85,10 @@ module _ (s : Session) (img : List ℕ) (rows columns : ℕ) (values : List ℤ)
   running = record {
     after = m;
     address = λ key. address_in s.index key;
+    held = m.behind;
     runs = goes_runs s.name log m m.behind goes (λ k. sym same);
     knows = b.knows;
+    holds = b.held;
     keeps = b.keeps;
     index = b.index;
     marks = mark_laws.clean s.dataset s.dataset.shape.rows (rows_of s) s.index b.clean;

@@ -5,7 +5,7 @@ use Rattle.std.proofs.lemmas.List.{append_assoc, append-nil, length-map, length-
 use Rattle.std.specs.Prelude.{IfSome, replicate}
 use Rattle.std.specs.Option.{unwrap_or}
 use Rattle.h5w_model.proofs.IntegerLemmas.{int_size_bounds}
-use Rattle.h5w_model.specs.Findings.{Valid}
+use Rattle.h5w_model.specs.Findings.{Used, Valid}
 use Rattle.h5w_model.specs.Images.{apply, image}
 use Rattle.h5w_model.specs.Logs.{Log, Cutting, Happening, appends, plans, shows, hist, rows_in, shown, load, spent, spent_in, and_now}
 use Rattle.h5w_model.specs.Datasets.{Described}
@@ -281,15 +281,15 @@ now_addressed s ws log m new past now begun here =
     let at : IsPosition log p = record { begun = begun; reached = omega (arith, length_hist log.events) } in
     past.addressed new p (reading_of now) at (subst (λ (img : List ℕ). Shows format_limits img s.name (reading_of now)) (sym (image_last log p (omega arith))) (moment_shows (image_now log) s.name now here))
 
-between_addressed : (s : Session) (w : Write) (ws : List Write) (log : Log) (n : Moment) → IsNew log → (r : Runs s.name log (w ∷ ws) n n.behind) → Past s (w ∷ ws) log n → AllAddressed (reading_of r.flush.0)
-between_addressed s w [] log n new r past = subst (λ (x : Moment). AllAddressed (reading_of x)) r.flush.4.0 (past.next new)
-between_addressed s w (x ∷ xs) log n new r past =
+between_addressed : (s : Session) (w : Write) (ws : List Write) (log : Log) (n : Moment) (held : List Used) → IsNew log → (r : Runs s.name log (w ∷ ws) n held) → Past s (w ∷ ws) log n → AllAddressed (reading_of r.flush.0)
+between_addressed s w [] log n held new r past = subst (λ (x : Moment). AllAddressed (reading_of x)) r.flush.4.0 (past.next new)
+between_addressed s w (x ∷ xs) log n held new r past =
     let g = r.goes in
     step_addressed (image_now log) s.name r.before r.held w r.flush.0 r.flush.1 g.now (omega (arith, g.columns, g.some_columns)) r.flush.2 (r.flush.3 (λ e. cc)) (now_addressed s (w ∷ x ∷ xs) log n new past r.before g.begun g.now)
 
-pub past_shown : (s t : Session) (w : Write) (ws : List Write) (log : Log) (n : Moment) → IsLike s t → t.places.end ≡ s.places.end → Runs s.name log (w ∷ ws) n n.behind → Past s (w ∷ ws) log n
+pub past_shown : (s t : Session) (w : Write) (ws : List Write) (log : Log) (n : Moment) (held : List Used) → IsLike s t → t.places.end ≡ s.places.end → Runs s.name log (w ∷ ws) n held → Past s (w ∷ ws) log n
     → Past t ws (and_now (shows w) log) n
-past_shown s t w ws log n like end r past =
+past_shown s t w ws log n held like end r past =
     let e = shows w in
     let next = and_now e log in
     let g = r.goes in
@@ -299,7 +299,7 @@ past_shown s t w ws log n like end r past =
     elim (cases_lt (shown log.events) p) [
       | inl last ↦
           let img : image_at next p ≡ image_now next = image_last next p (omega (arith, last)) in
-          shown_addressed (image_now next) s.name between x here (between_addressed s w ws log n new r past) (subst (λ (i : List ℕ). Shows format_limits i s.name x) img seen)
+          shown_addressed (image_now next) s.name between x here (between_addressed s w ws log n held new r past) (subst (λ (i : List ℕ). Shows format_limits i s.name x) img seen)
       | inr early ↦
           past.addressed new p x (record { begun = at.begun; reached = omega (arith, early, length_hist log.events) })
           (subst (λ (i : List ℕ). Shows format_limits i s.name x) (image_earlier (shows w) log p early) seen)

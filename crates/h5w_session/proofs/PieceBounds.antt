@@ -5,13 +5,12 @@ use Rattle.std.proofs.lemmas.Nat.{mul-le}
 use Rattle.h5w_model.specs.Images.{pieces}
 use Rattle.h5w_model.specs.Datasets.{Described}
 use Rattle.h5w_model.proofs.ImageLemmas.{length-pieces}
-use Rattle.h5w_chunks.specs.Grids.{chunk_len, row_len}
+use Rattle.h5w_chunks.specs.Grids.{IsCut, chunk_len, row_len}
 use Rattle.h5w_chunks.specs.Shares.{new_chunk, new_writes, own_row, row_blocks, share_blocks, share_of, share_rows, touched, writes_from, writes_of}
 use Rattle.h5w_chunks.specs.Rows.{IsShare}
 use Rattle.h5w_chunks.specs.declared.grid.ChunkPlace.{ChunkPlace}
 use Rattle.h5w_chunks.specs.declared.share.Share.{Share}
 use Rattle.h5w_chunks.proofs.BlockLemmas.{AllLong, AllLong-first, AllLong-next}
-use Rattle.h5w_chunks.proofs.Geometry.{IsCut}
 use Rattle.h5w_chunks.proofs.RowLaws.{length-new_chunk, length-share_rows, own_long}
 use Rattle.h5w_chunks.proofs.WriteLaws.{is_share}
 

@@ -8,13 +8,13 @@ use Rattle.h5w_model.specs.Images.{pieces}
 use Rattle.h5w_model.specs.Datasets.{Described}
 use Rattle.h5w_model.specs.Tables.{chunks_across}
 use Rattle.h5w_model.proofs.ImageLemmas.{length-pieces}
-use Rattle.h5w_chunks.specs.Grids.{chunk_len, row_len}
+use Rattle.h5w_chunks.specs.Grids.{IsCut, chunk_len, row_len}
 use Rattle.h5w_chunks.specs.Rows.{IsShare}
 use Rattle.h5w_chunks.specs.Shares.{new_chunk, new_writes, own_row, row_blocks, share_blocks, share_of, share_rows, touched, touched_key, writes_from, writes_of}
 use Rattle.h5w_chunks.specs.declared.grid.ChunkPlace.{ChunkPlace}
 use Rattle.h5w_chunks.specs.declared.share.Share.{Share}
 use Rattle.h5w_chunks.proofs.BlockLemmas.{AllLong, AllLong-first, AllLong-next}
-use Rattle.h5w_chunks.proofs.Geometry.{IsCut, share_numbers}
+use Rattle.h5w_chunks.proofs.Geometry.{share_numbers}
 use Rattle.h5w_chunks.proofs.RowLaws.{length-new_chunk, length-share_rows, own_long}
 use Rattle.h5w_chunks.proofs.WriteLaws.{is_share}
 use Rattle.h5w_session.specs.Room.{chunk_pieces, most_pieces, own_pieces, pieces_in}

@@ -30,7 +30,7 @@ use Rattle.h5w_steps.proofs.GoesLemmas.{image_pushed}
 use Rattle.h5w_steps.proofs.SessionLaws.{piece_runs}
 use Rattle.h5w_steps.proofs.StepRepresents.{ends_missed}
 use Rattle.h5w_flush_laws.specs.Flushes.{Rests}
-use Rattle.h5w_flush_laws.specs.Knowledge.{Knows}
+use Rattle.h5w_flush_laws.specs.Knowledge.{KnownHeld}
 use Rattle.h5w_flush_laws.specs.Spaces.{extent_of}
 use Rattle.h5w_flush_laws.proofs.EarlyLemmas.{header_kept}
 use Rattle.h5w_flush_laws.proofs.KnownLaws.{end_known}
@@ -90,15 +90,17 @@ none_outside t i (v ∷ vs) ws first second =
 
 values_running : (s : Session) (values : List ℤ) (log : Log) → 1 ≤ s.dataset.shape.cols → AreRows s values → first_outside s.dataset.int_type 0 values ≡ None → Running s [] log → Running (with_values s values) [] (and_now (appends values) log)
 values_running s values log some rows fit r =
-    let rests : Rests s.name log r.after r.address s.places = record { runs = r.runs; knows = r.knows } in
+    let rests : Rests s.name log r.after r.address s.places = record { knows = r.knows; runs = subst (λ (us : List Used). Runs s.name log [] r.after us) (sym r.holds) r.runs } in
     let next = session_laws.appends_values s.name log r.after r.address s.places values rests in
     let count = rows_are s values some rows in
     let split : (s.waits + length values / s.dataset.shape.cols) * s.dataset.shape.cols ≡ s.waits * s.dataset.shape.cols + length values / s.dataset.shape.cols * s.dataset.shape.cols = omega arith in
     record {
       after = r.after;
       address = r.address;
+      held = next.knows.held;
       runs = next.runs;
       knows = next.knows;
+      holds = refl;
       keeps = record { root = r.keeps.root; place = r.keeps.place; dataset = r.keeps.dataset; header = r.keeps.header };
       index = r.index;
       marks = mark_laws.more s.dataset s.dataset.shape.rows (s.dataset.shape.rows + s.waits) (s.dataset.shape.rows + (s.waits + length values / s.dataset.shape.cols)) s.index (omega arith) r.marks;
@@ -148,8 +150,10 @@ stop_stands s log st =
         | inr r ↦ inr (record {
           after = r.after;
           address = r.address;
+          held = r.held;
           runs = r.runs;
           knows = r.knows;
+          holds = r.holds;
           keeps = record { root = r.keeps.root; place = r.keeps.place; dataset = r.keeps.dataset; header = r.keeps.header };
           index = r.index;
           marks = r.marks;
@@ -184,11 +188,27 @@ goes_rows name log m held g =
     ap (λ (n : ℕ). n / log.columns) (len ∙ omega arith) ∙ div-mul-add rows log.columns 0 g.some_columns
 
 -- what is known stays known where what was retired becomes free, or is forgotten
-pub freed_or_kept : (keeps : Bool) (img name : List ℕ) (m : Moment) (address : Key → ℕ) (s t : Space) → Freed keeps s t → Knows img name m address s → Knows img name m address t
-freed_or_kept true img name m address s t freed k =
-    subst (λ (x : Space). Knows img name m address x) (sym freed)
-    (record { file = k.file; index = k.index; live = λ u among. forgotten_live s (extent_of u) (k.live u among); ended = k.ended; covered = k.covered; layout = k.layout })
-freed_or_kept false img name m address s t freed k = freed_known img name m address s t freed k
+pub freed_or_kept : (keeps : Bool) (img name : List ℕ) (m : Moment) (address : Key → ℕ) (s t : Space) (held : List Used) → Freed keeps s t → KnownHeld img name m address s held → KnownHeld img name m address t held
+freed_or_kept true img name m address s t held freed known =
+    let k = known.knows in
+    let h = k.holding in
+    subst (λ (x : Space). KnownHeld img name m address x held) (sym freed)
+    (record {
+      knows = record {
+        file = k.file;
+        index = k.index;
+        live = λ u among. forgotten_live s (extent_of u) (k.live u among);
+        ended = k.ended;
+        covered = k.covered;
+        held = k.held;
+        holding = record { reaches = h.reaches; off_front = h.off_front; clear = h.clear; some = h.some; live = λ u among. forgotten_live s (extent_of u) (h.live u among) };
+        layout = k.layout;
+      };
+      is = known.is;
+    })
+freed_or_kept false img name m address s t held freed known =
+    let free = freed_known img name m address s t freed known.knows in
+    record { knows = free.knows; is = free.is ∙ known.is }
 
 -- the end and the limit stay there
 pub freed_keeps : (keeps : Bool) (s t : Space) → Freed keeps s t → (t.end ≡ s.end) × (t.limit ≡ s.limit)
@@ -205,13 +225,17 @@ with_pending s ws = record s { pending = ws }
 pub last_running : (s : Session) (w : Write) (log : Log) (t : Space) → Freed s.keeps s.places t → Running s (w ∷ []) log → Running (settled s t) [] (and_now (shows w) log)
 last_running s w log t freed r =
     let next = and_now (shows w) log in
-    let runs = piece_runs s.name log w [] r.after r.after.behind r.runs in
+    let runs = piece_runs s.name log w [] r.after r.held r.runs in
     let img : image (image_now log) (w ∷ []) ≡ image_now next = image_shown log w [] in
+    let now = subst (λ (x : List ℕ). KnownHeld x s.name r.after r.address s.places r.held) img (record { knows = r.knows; is = r.holds }) in
+    let known = freed_or_kept s.keeps (image_now next) s.name r.after r.address s.places t r.held freed now in
     record {
       after = r.after;
       address = r.address;
+      held = r.held;
       runs = runs;
-      knows = freed_or_kept s.keeps (image_now next) s.name r.after r.address s.places t freed (subst (λ (x : List ℕ). Knows x s.name r.after r.address s.places) img r.knows);
+      knows = known.knows;
+      holds = known.is;
       keeps = record { root = r.keeps.root; place = r.keeps.place; dataset = r.keeps.dataset; header = subst (λ (x : List ℕ). chunk_0 x s.place ≡ s.header) img r.keeps.header };
       index = freed_kept s.keeps (image_now next) r.after r.address s.places t s.index freed (subst (λ (x : List ℕ). IsKeptIndex x r.after r.address s.places s.index) img r.index);
       marks = r.marks;
@@ -220,9 +244,9 @@ last_running s w log t freed r =
       fit = r.fit;
       count = r.count;
       appended = r.appended;
-      committed = goes_rows s.name next r.after r.after.behind (resting s.name next r.after r.after.behind runs) ∙ ap (λ (d : Described). d.shape.rows) r.keeps.dataset;
+      committed = goes_rows s.name next r.after r.held (resting s.name next r.after r.held runs) ∙ ap (λ (d : Described). d.shape.rows) r.keeps.dataset;
       columns = r.columns;
-      past = past_shown s (settled s t) w [] log r.after (record { name = refl; place = refl; dataset = refl; address = λ named. refl; limit = (freed_keeps s.keeps s.places t freed).1; own = λ o. o; reach = λ first img h. h; roomy = λ o. o }) (freed_keeps s.keeps s.places t freed).0 r.runs r.past;
+      past = past_shown s (settled s t) w [] log r.after r.held (record { name = refl; place = refl; dataset = refl; address = λ named. refl; limit = (freed_keeps s.keeps s.places t freed).1; own = λ o. o; reach = λ first img h. h; roomy = λ o. o }) (freed_keeps s.keeps s.places t freed).0 r.runs r.past;
     }
 
 picks : (b : Bool) (x y : List ℤ) → b ≡ true → (if b then x else y) ≡ x
@@ -232,14 +256,17 @@ pub more_running : (s : Session) (w x : Write) (xs : List Write) (log : Log) →
 more_running s w x xs log r =
     let next = and_now (shows w) log in
     let img : image (image_now log) (w ∷ x ∷ xs) ≡ image (image_now next) (x ∷ xs) = image_shown log w (x ∷ xs) in
+    let known = subst (λ (y : List ℕ). KnownHeld y s.name r.after r.address s.places r.held) img (record { knows = r.knows; is = r.holds }) in
     let count = length (w ∷ x ∷ xs) in
     let now : flushed log ≡ r.runs.before.values = r.runs.flushed 0 ∙ picks (nat_lt 0 count) r.runs.before.values r.after.values (lt-ltb 0 count (omega arith)) in
     let later : flushed next ≡ r.runs.before.values = r.runs.flushed 1 ∙ picks (nat_lt 1 count) r.runs.before.values r.after.values (lt-ltb 1 count (omega arith)) in
     record {
       after = r.after;
       address = r.address;
-      runs = piece_runs s.name log w (x ∷ xs) r.after r.after.behind r.runs;
-      knows = subst (λ (y : List ℕ). Knows y s.name r.after r.address s.places) img r.knows;
+      held = r.held;
+      runs = piece_runs s.name log w (x ∷ xs) r.after r.held r.runs;
+      knows = known.knows;
+      holds = known.is;
       keeps = record { root = r.keeps.root; place = r.keeps.place; dataset = r.keeps.dataset; header = subst (λ (y : List ℕ). chunk_0 y s.place ≡ s.header) img r.keeps.header };
       index = subst (λ (y : List ℕ). IsKeptIndex y r.after r.address s.places s.index) img r.index;
       marks = r.marks;
@@ -250,7 +277,7 @@ more_running s w x xs log r =
       appended = r.appended;
       committed = ap (λ (vs : List ℤ). length vs / log.columns) (later ∙ sym now) ∙ r.committed;
       columns = r.columns;
-      past = past_shown s (with_pending s (x ∷ xs)) w (x ∷ xs) log r.after (record { name = refl; place = refl; dataset = refl; address = λ named. refl; limit = refl; own = λ o. o; reach = λ first img h. h; roomy = λ o. o }) refl r.runs r.past;
+      past = past_shown s (with_pending s (x ∷ xs)) w (x ∷ xs) log r.after r.held (record { name = refl; place = refl; dataset = refl; address = λ named. refl; limit = refl; own = λ o. o; reach = λ first img h. h; roomy = λ o. o }) refl r.runs r.past;
     }
 
 -- ---- A close
@@ -295,17 +322,20 @@ flagged_running s log flags stop reads swmr r =
     let index = missed_kept img s.name m r.address s.places s.index w r.knows index_off r.index in
     let kept = header_kept img s.name m w r.knows.file header_off in
     let place : m.place ≡ s.place = r.keeps.place in
+    let known = end_known img s.name m n r.address s.places w r.knows raised (omega (arith, end, r.knows.ended)) in
     record {
       after = n;
       address = r.address;
+      held = r.held;
       runs = record {
         before = m;
-        held = m.behind;
-        goes = resting s.name log m m.behind r.runs;
-        flush = (n, m.behind, ends raised refl, (λ more. refl), (refl, refl));
+        held = r.held;
+        goes = resting s.name log m r.held r.runs;
+        flush = (n, r.held, ends raised refl, (λ more. refl), (refl, refl));
         flushed = λ k. r.runs.flushed k ∙ either (nat_lt k 0) r.runs.before.values m.values (ap (λ (x : Moment). x.values) (sym r.runs.flush.0)) ∙ same_either (nat_lt k 1) m.values;
       };
-      knows = end_known img s.name m n r.address s.places w r.knows raised (omega (arith, end, r.knows.ended));
+      knows = known.knows;
+      holds = known.is ∙ r.holds;
       keeps = record {
         root = refl;
         place = place;

@@ -23,8 +23,10 @@ use Rattle.h5w_cache.specs.Stores.{Store, is_changed}
 use Rattle.h5w_cache.specs.declared.moves.Move.{Move}
 use Rattle.h5w_chunks.specs.Grids.{FitsType, cells_of, fill_cell}
 use Rattle.h5w_chunks.specs.Shares.{touched, touched_key}
-use Rattle.h5w_chunks.specs.Rows.{RowsWritten}
+use Rattle.h5w_chunks.specs.Rows.{ChunksApart, RowsWritten}
+use Rattle.h5w_chunks.specs.Early.{RowsStand}
 use Rattle.h5w_chunks.specs.declared.grid.ChunkPlace.{ChunkPlace}
+use Rattle.h5w_chunks.proofs.EarlyLemmas.{rows_stand}
 use Rattle.h5w_header_laws.specs.Files.{chunk_0, commit_at, with_rows}
 use Rattle.h5w_steps.specs.Moments.{Moment}
 use Rattle.h5w_steps.specs.Logs.{image_now}
@@ -36,6 +38,7 @@ use Rattle.h5w_flush_laws.specs.Spaces.{Taken}
 use Rattle.h5w_flush_laws.specs.Knowledge.{Knows}
 use Rattle.h5w_flush_laws.specs.Parts.{AreEnded, Parts, committed, pieces_of}
 use Rattle.h5w_flush_laws.specs.Rows.{ArePlaced, IsOutside, IsPlaced, new_chunks}
+use Rattle.h5w_flush_laws.proofs.ChunkPlaceLemmas.{places_apart}
 use Rattle.h5w_flush_laws.proofs.SpaceLemmas.{taken_laws}
 use Rattle.h5w_array_flushes.specs.ArrayFlushes.{chunks_for}
 use Rattle.h5w_starting_laws.specs.Starting as starts
@@ -49,6 +52,7 @@ use Rattle.h5w_block_laws.proofs.BlockCallLemmas.{block_pending}
 use Rattle.h5w_starting_laws.proofs.StartLemmas.{blank_map, created_blank}
 use Rattle.h5w_starting_laws.proofs.StartPieceLemmas.{named_changed}
 use Rattle.h5w_starting_laws.proofs.StartCallLemmas.{start_pending, two_taken}
+use Rattle.h5w_starting_laws.proofs.TakenLemmas.{taken_right}
 use Rattle.h5w_bt_index.specs.Index.{Index, no_tree}
 use Rattle.h5w_index.specs.Views.{IndexView, an_array, a_tree, address_in, behind_of, fixed_of, header_place, kind_of}
 use Rattle.h5w_index.specs.Steps.{IsPlan}
@@ -134,6 +138,16 @@ first_of : (places : List ChunkPlace) → 0 < length places → (p : ChunkPlace)
 first_of [] some = absurd (omega (arith, some))
 first_of (p ∷ ps) some = (p, refl)
 
+-- No two of the chunks meet: places of blocks were taken, and then theirs.
+first_apart : (img name : List ℕ) (m : Moment) (base first b : Space) (u : IndexView) (rows : ℕ) (places : List ChunkPlace) (tops : List Used) → Knows img name m no_chunk base → Taken base tops first
+    → ◌≡◌ {A = Key → ℕ} (λ key. address_in u key) no_chunk → Taken first (new_chunks m.dataset (λ key. address_in u key) m.dataset.shape.rows 0 places) b → m.dataset.shape.rows < rows → AreFew (with_rows rows m.dataset)
+    → length places ≡ touched m.dataset m.dataset.shape.rows rows → ChunksApart m.dataset places
+first_apart img name m base first b u rows places tops knows top none taken rises few all =
+    let chunks : List Used = chunks_for m no_chunk places in
+    let now : Taken first chunks b = subst (λ (f : Key → ℕ). Taken first (new_chunks m.dataset f m.dataset.shape.rows 0 places) b) none taken in
+    let own = taken_right base b tops chunks (taken_laws.joined base first b tops chunks top now) in
+    places_apart img name m no_chunk base own.0 rows places knows own.1 rises few all (λ k p here e. absurd (e refl))
+
 -- ---- Of an array
 
 -- none of the keys has this number
@@ -181,12 +195,17 @@ module _ (name : List ℕ) (log : Log) (m : Moment) (base first b t : Space) (at
     behind = subst (λ (us : List Used). AreAmong (arrays.behind_of (chunk_bytes m.dataset) v) (us ++ arrays.behind_of (chunk_bytes m.dataset) u)) array_chunks c.placing.behind;
   }
 
+  array_stand : Knows (image_now log) name m no_chunk base → (tops : List Used) → Taken base tops first → RowsStand (image_now log) m.dataset (cells_of m.dataset more) m.dataset.shape.rows rows places writes
+  array_stand knows tops taken =
+      rows_stand (image_now log) m.dataset (cells_of m.dataset more) m.dataset.shape.rows rows places writes c.written
+      (first_apart (image_now log) name m base first b (an_array u) rows places tops knows taken array_none c.placing.taken c.rises c.few c.all)
+
   -- the chunks are placed in whatever parts of a flush have them, these rows and this map
-  array_placed : (f : Parts) → f.rows ≡ rows → f.more ≡ more → f.writes ≡ writes → f.address ≡ (λ key. address_in (an_array w) key) → f.chunks ≡ chunks_for m no_chunk places → ArePlaced m no_chunk f places
-  array_placed f is_rows is_more is_writes is_map is_chunks = record {
-    written = subst (λ (n : ℕ). RowsWritten m.dataset (cells_of m.dataset f.more) m.dataset.shape.rows n places f.writes) (sym is_rows)
-        (subst (λ (vs : List ℤ). RowsWritten m.dataset (cells_of m.dataset vs) m.dataset.shape.rows rows places f.writes) (sym is_more)
-        (subst (λ (ws : List Write). RowsWritten m.dataset (cells_of m.dataset more) m.dataset.shape.rows rows places ws) (sym is_writes) c.written));
+  array_placed : RowsStand (image_now log) m.dataset (cells_of m.dataset more) m.dataset.shape.rows rows places writes → (f : Parts) → f.rows ≡ rows → f.more ≡ more → f.writes ≡ writes → f.address ≡ (λ key. address_in (an_array w) key) → f.chunks ≡ chunks_for m no_chunk places → ArePlaced (image_now log) m no_chunk f places
+  array_placed stand f is_rows is_more is_writes is_map is_chunks = record {
+    written = subst (λ (n : ℕ). RowsStand (image_now log) m.dataset (cells_of m.dataset f.more) m.dataset.shape.rows n places f.writes) (sym is_rows)
+        (subst (λ (vs : List ℤ). RowsStand (image_now log) m.dataset (cells_of m.dataset vs) m.dataset.shape.rows rows places f.writes) (sym is_more)
+        (subst (λ (ws : List Write). RowsStand (image_now log) m.dataset (cells_of m.dataset more) m.dataset.shape.rows rows places ws) (sym is_writes) stand));
     all = subst (λ (n : ℕ). length places ≡ touched m.dataset m.dataset.shape.rows n) (sym is_rows) c.all;
     placed = λ k p here. subst (λ (g : Key → ℕ). IsPlaced m.dataset no_chunk g m.dataset.shape.rows k p) (sym is_map)
         (subst (λ (g : Key → ℕ). IsPlaced m.dataset g (λ key. address_in (an_array w) key) m.dataset.shape.rows k p) array_none (c.placed k p here));
@@ -204,49 +223,56 @@ module _ (name : List ℕ) (log : Log) (m : Moment) (base first b t : Space) (at
         runs = p.runs;
         begins = record {
           knows = p.begins.knows;
+          held = p.begins.held;
           rests = record { kind = r.kind; at_place = r.at; sound = r.array; stands = r.stands; stays = r.standing; fixed = r.fixed; behind = λ f. ap (sum_by f) (sym r.behind); map = r.map };
         };
         header = p.header;
       }
 
   -- where the layout names none, the dataset header names it
-  array_named : m.dataset.layout.address ≡ undefined → TookTwo base at array_made.block first → Knows (image_now log) name m no_chunk base → Runs name log [] m m.behind → m.values ++ more ≡ appended log
+  array_named : m.dataset.layout.address ≡ undefined → TookTwo base at array_made.block first → (k : Knows (image_now log) name m no_chunk base) → Runs name log [] m k.held → m.values ++ more ≡ appended log
       → AreFirstPending name log m naming (an_array w) t rows more ws
   array_named none two knows runs values =
       let is : naming ≡ Some (arrays.header_place w) = c.names.unnamed none in
       let known : StartKnows (image_now log) name m base u = record { knows = knows; unnamed = record { kind = c.kind; address = none }; blank = array_blank } in
-      let calls : AreStartCalls m base b at array_made.block u v ms w t rows more writes places cs fixed supers = record {
+      let tops : List Used = block_at at eahd_len ∷ block_at array_made.block eaib_len ∷ [] in
+      let top : Taken base tops first = two_taken base two.between first at array_made.block two.first two.second in
+      let stand = array_stand knows tops top in
+      let calls : AreStartCalls (image_now log) m base b at array_made.block u v ms w t rows more writes places cs fixed supers = record {
         rises = c.rises;
         small = c.small;
         few = c.few;
         count = c.count;
-        taken = taken_with (block_at at eahd_len ∷ block_at array_made.block eaib_len ∷ []) (two_taken base two.between first at array_made.block two.first two.second);
+        taken = taken_with tops top;
         made = array_made.is_made;
         names = names_chunks;
-        placed = λ copies. array_placed (starts_parts.parts_for m w rows more writes places copies supers t.end) refl refl refl refl refl;
+        placed = λ copies. array_placed stand (starts_parts.parts_for m w rows more writes places copies supers t.end) refl refl refl refl refl;
         plan = c.plan;
         ended = c.ended;
       } in
       let pieces = all_before naming (arrays.header_place w) writes cs fixed supers (commit_at (image_now log) m.place rows naming) ws is c.pieces in
       let named_pieces : ws ≡ writes ++ (cs ++ (fixed ++ (supers ++ commit_at (image_now log) m.place rows (Some (arrays.header_place w)) ∷ []))) =
       pieces ∙ ap (λ (o : Option ℕ). writes ++ (cs ++ (fixed ++ (supers ++ commit_at (image_now log) m.place rows o ∷ [])))) is in
-      let p = start_pending name log m base b t at array_made.block u u v w ms rows more writes places cs fixed supers ws runs known calls values named_pieces in
+      let p = start_pending name log m base b t at array_made.block u u v w ms rows more writes places cs fixed supers ws known runs calls values named_pieces in
       subst (λ (o : Option ℕ). AreFirstPending name log m o (an_array w) t rows more ws) (sym is) (as_index (Some (arrays.header_place w)) p)
 
   -- else its header, which is there, names its index block
-  array_block : m.dataset.layout.address ≢ undefined → at ≡ m.dataset.layout.address → Took base first (extent array_made.block eaib_len) → Knows (image_now log) name m no_chunk base → Runs name log [] m m.behind
+  array_block : m.dataset.layout.address ≢ undefined → at ≡ m.dataset.layout.address → Took base first (extent array_made.block eaib_len) → (k : Knows (image_now log) name m no_chunk base) → Runs name log [] m k.held
       → m.values ++ more ≡ appended log → AreFirstPending name log m naming (an_array w) t rows more ws
   array_block named there took knows runs values =
       let is : naming ≡ None = c.names.named named in
-      let calls : AreBlockCalls m base b array_made.block u v ms w t rows more writes places cs fixed supers = record {
+      let tops : List Used = block_at array_made.block eaib_len ∷ [] in
+      let top : Taken base tops first = taken_laws.one base first (block_at array_made.block eaib_len) (omega arith) took in
+      let stand = array_stand knows tops top in
+      let calls : AreBlockCalls (image_now log) m base b array_made.block u v ms w t rows more writes places cs fixed supers = record {
         rises = c.rises;
         small = c.small;
         few = c.few;
         count = c.count;
-        taken = taken_with (block_at array_made.block eaib_len ∷ []) (taken_laws.one base first (block_at array_made.block eaib_len) (omega arith) took);
+        taken = taken_with tops top;
         made = subst (λ (n : ℕ). IsMade n array_made.block u) there array_made.is_made;
         names = names_chunks;
-        placed = λ copies. array_placed (block_parts_for m w rows more writes places copies supers t.end) refl refl refl refl refl;
+        placed = λ copies. array_placed stand (block_parts_for m w rows more writes places copies supers t.end) refl refl refl refl refl;
         plan = c.plan;
         ended = c.ended;
       } in
@@ -258,10 +284,10 @@ module _ (name : List ℕ) (log : Log) (m : Moment) (base first b t : Space) (at
         one = j.named is;
         all = j.all ∙ ap (λ (o : Option ℕ). writes ++ (cs ++ (j.front ++ (supers ++ (j.behind ++ commit_at (image_now log) m.place rows o ∷ []))))) is;
       } in
-      let p = block_pending name log m base b t array_made.block u v w ms rows more writes places cs fixed supers ws runs (record { knows = knows; alone = c.alone named }) calls values ordered in
+      let p = block_pending name log m base b t array_made.block u v w ms rows more writes places cs fixed supers ws (record { knows = knows; alone = c.alone named }) runs calls values ordered in
       subst (λ (o : Option ℕ). AreFirstPending name log m o (an_array w) t rows more ws) (sym is) (as_index None p)
 
-  array_pending : Knows (image_now log) name m no_chunk base → Runs name log [] m m.behind → m.values ++ more ≡ appended log → AreFirstPending name log m naming (an_array w) t rows more ws
+  array_pending : (k : Knows (image_now log) name m no_chunk base) → Runs name log [] m k.held → m.values ++ more ≡ appended log → AreFirstPending name log m naming (an_array w) t rows more ws
   array_pending knows runs values = go array_made.tops
     where
       go : TookTops m.dataset.layout.address base at array_made.block first → AreFirstPending name log m naming (an_array w) t rows more ws
@@ -278,8 +304,14 @@ module _ (name : List ℕ) (log : Log) (m : Moment) (base first b t : Space) (at
   tree_none : ◌≡◌ {A = Key → ℕ} (λ key. address_in (a_tree p no_tree) key) no_chunk
   tree_none = λ i key. made_none m.dataset.layout.address base at (a_tree p no_tree) first c.made key i
 
-  tree_calls : AreTreeStartCalls m base first b p v ms w t rows more writes places added cs fixed supers
-  tree_calls = record {
+  tree_stand : Knows (image_now log) name m no_chunk base → RowsStand (image_now log) m.dataset (cells_of m.dataset more) m.dataset.shape.rows rows places writes
+  tree_stand knows =
+      let top : Taken base (block_at at bthd_len ∷ []) first = taken_laws.one base first (block_at at bthd_len) (omega arith) tree_made.header in
+      rows_stand (image_now log) m.dataset (cells_of m.dataset more) m.dataset.shape.rows rows places writes c.written
+      (first_apart (image_now log) name m base first b (a_tree p no_tree) rows places (block_at at bthd_len ∷ []) knows top tree_none c.placing.taken c.rises c.few c.all)
+
+  tree_calls : Knows (image_now log) name m no_chunk base → AreTreeStartCalls (image_now log) m base first b p v ms w t rows more writes places added cs fixed supers
+  tree_calls knows = record {
     rises = c.rises;
     small = c.small;
     few = c.few;
@@ -289,7 +321,7 @@ module _ (name : List ℕ) (log : Log) (m : Moment) (base first b t : Space) (at
     some = c.some;
     placing = c.placing;
     placed = λ copies. record {
-      written = c.written;
+      written = tree_stand knows;
       all = c.all;
       placed = λ k q here. subst (λ (f : Key → ℕ). IsPlaced m.dataset f (λ key. address_in (a_tree p w) key) m.dataset.shape.rows k q) tree_none (c.placed k q here);
       others = λ key asked outside. c.others key outside ∙ made_none m.dataset.layout.address base at (a_tree p no_tree) first c.made key;
@@ -302,22 +334,23 @@ module _ (name : List ℕ) (log : Log) (m : Moment) (base first b t : Space) (at
     ended = c.ended;
   }
 
-  tree_pending : Knows (image_now log) name m no_chunk base → Runs name log [] m m.behind → m.values ++ more ≡ appended log → AreFirstPending name log m naming (a_tree p w) t rows more ws
+  tree_pending : (k : Knows (image_now log) name m no_chunk base) → Runs name log [] m k.held → m.values ++ more ≡ appended log → AreFirstPending name log m naming (a_tree p w) t rows more ws
   tree_pending knows runs values =
       let now : List ℕ = image_now log in
       let known : TreeStartKnows now name m base = record { knows = knows; unnamed = record { kind = c.kind; address = tree_made.unnamed } } in
       let is : naming ≡ Some p = c.names.unnamed tree_made.unnamed in
       let pieces : ws ≡ writes ++ (cs ++ (fixed ++ (supers ++ commit_at now m.place rows (Some p) ∷ []))) =
       all_before naming p writes cs fixed supers (commit_at now m.place rows naming) ws is c.pieces ∙ ap (λ (o : Option ℕ). writes ++ (cs ++ (fixed ++ (supers ++ commit_at now m.place rows o ∷ [])))) is in
-      let calls = tree_start_calls now m base first b t p v w ms rows more writes places added cs fixed supers tree_calls in
+      let calls = tree_start_calls now m base first b t p v w ms rows more writes places added cs fixed supers (tree_calls knows) in
       let f : Parts = tree_starts.parts_for m p w rows more writes places calls.copies supers t.end in
       let same : pieces_of now m f ≡ ws = calls.pieces ∙ sym pieces in
-      let over = tree_start_runs name log m base b t p v w ms rows more writes places calls.copies fixed supers runs known calls.start values in
+      let over = tree_start_runs name log m base b t p v w ms rows more writes places calls.copies fixed supers known runs calls.start values in
       let leads = tree_start_leads now name m base b t p v w ms rows more writes places calls.copies fixed supers known calls.start in
       let after : Moment = first_named m (Some p) (a_tree p w) rows more t.end in
       let r = leads.rests in
       let begins : Begins (image now (pieces_of now m f)) name after t (a_tree p w) = record {
         knows = leads.knows;
+        held = leads.held;
         rests = record {
           kind = r.kind;
           at_place = r.at_place;
@@ -337,7 +370,7 @@ module _ (name : List ℕ) (log : Log) (m : Moment) (base first b t : Space) (at
 
 -- the header of a tree stays where it was made
 tree_first : (name : List ℕ) (log : Log) (m : Moment) (base first b t : Space) (at p q r : ℕ) (naming : Option ℕ) (u v w : Index) (ms : List Move) (rows : ℕ) (more : List ℤ) (writes : List Write) (places : List ChunkPlace) (added : List Key)
-    (cs fixed supers ws : List Write) → Knows (image_now log) name m no_chunk base → Runs name log [] m m.behind → m.values ++ more ≡ appended log
+    (cs fixed supers ws : List Write) → (k : Knows (image_now log) name m no_chunk base) → Runs name log [] m k.held → m.values ++ more ≡ appended log
     → AreFirstCalls (image_now log) m base first b at naming (a_tree p u) (a_tree q v) ms (a_tree r w) t rows more writes places added cs fixed supers ws → AreFirstPending name log m naming (a_tree r w) t rows more ws
 tree_first name log m base first b t at p q r naming u v w ms rows more writes places added cs fixed supers ws knows runs values c =
     let made : IsTreeMade m.dataset.layout.address base at p u first = c.made in
@@ -354,7 +387,7 @@ tree_first name log m base first b t at p q r naming u v w ms rows more writes p
 
 -- A session whose log has come to such a file plans that flush, of all values that were appended.
 pub first_pending : (name : List ℕ) (log : Log) (m : Moment) (base first b t : Space) (at : ℕ) (naming : Option ℕ) (u v w : IndexView) (ms : List Move) (rows : ℕ) (more : List ℤ) (writes : List Write) (places : List ChunkPlace) (added : List Key)
-    (cs fixed supers ws : List Write) → Knows (image_now log) name m no_chunk base → Runs name log [] m m.behind → m.values ++ more ≡ appended log
+    (cs fixed supers ws : List Write) → (k : Knows (image_now log) name m no_chunk base) → Runs name log [] m k.held → m.values ++ more ≡ appended log
     → AreFirstCalls (image_now log) m base first b at naming u v ms w t rows more writes places added cs fixed supers ws → AreFirstPending name log m naming w t rows more ws
 first_pending name log m base first b t at naming (an_array u) (an_array v) (an_array w) ms rows more writes places added cs fixed supers ws knows runs values c =
     array_pending name log m base first b t at naming u v w ms rows more writes places added cs fixed supers ws c knows runs values

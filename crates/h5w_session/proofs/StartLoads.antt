@@ -104,8 +104,10 @@ module _ (old new : Session) (log : Log) (x : IsStartFlushed old new) (running :
   before = record {
     after = r.after;
     address = r.address;
+    held = r.held;
     runs = r.runs;
     knows = r.knows;
+    holds = r.holds;
     keeps = r.keeps;
     index =
         kept_starting (image_now log) old.name r.after r.address old.places old.index r.knows (subst (λ (d : Described). (d.layout.address ≡ undefined) ⊎ (has_no_block old.index ≡ true)) (sym r.keeps.dataset) x.unmade) r.index;

@@ -12,6 +12,7 @@ use Rattle.h5w_model.specs.Messages.{IsIntType}
 use Rattle.h5w_model.specs.Tables.{chunks_across, format_limits, limit_of, needed}
 use Rattle.h5w_model.specs.Logs.{Log, plans, flushed_in, flushed_rows, appended_in, and_now, div_up}
 use Rattle.h5w_model.specs.Datasets.{Described}
+use Rattle.h5w_model.specs.Findings.{Used}
 use Rattle.h5w_model.specs.declared.cell.Key.{Key}
 use Rattle.h5w_model.specs.declared.piece.Write.{Write}
 use Rattle.h5w_model.specs.declared.root.Super.{Super}
@@ -24,8 +25,9 @@ use Rattle.h5w_chunks.proofs.Geometry.{up_lt}
 use Rattle.h5w_header_laws.specs.Files.{chunk_0, commit_at, with_index}
 use Rattle.h5w_steps.specs.Moments.{Moment}
 use Rattle.h5w_steps.specs.Logs.{image_now}
+use Rattle.h5w_steps.specs.Sessions.{Runs}
 use Rattle.h5w_steps.proofs.SessionLaws.{lt-leb-false}
-use Rattle.h5w_flush_laws.specs.Knowledge.{Knows}
+use Rattle.h5w_flush_laws.specs.Knowledge.{KnownHeld}
 use Rattle.h5w_flush_laws.specs.Parts.{AreEnded}
 use Rattle.h5w_flush_laws.specs.Rows.{IsOutside, IsPlaced}
 use Rattle.h5w_starting_laws.specs.Starting.{no_chunk}
@@ -63,8 +65,11 @@ module _ (old new : Session) (log : Log) (x : IsStartFlushed old new) (r : Start
   none_then : r.address ≡ no_chunk
   none_then = λ i key. (r.index.map key ∙ blank_none old.index r.index.blank key) i
 
-  known : Knows (image_now log) old.name r.after no_chunk old.places
-  known = subst (λ (f : Key → ℕ). Knows (image_now log) old.name r.after f old.places) none_then r.knows
+  known : KnownHeld (image_now log) old.name r.after no_chunk old.places r.held
+  known = subst (λ (f : Key → ℕ). KnownHeld (image_now log) old.name r.after f old.places r.held) none_then (record { knows = r.knows; is = r.holds })
+
+  known_runs : Runs old.name log [] r.after known.knows.held
+  known_runs = subst (λ (us : List Used). Runs old.name log [] r.after us) (sym known.is) r.runs
 
   abbrev told : PlanTold x.planned.named x.planned.between x.planned.moves x.planned.copies x.planned.fixed new.index new.places
   told = told_of old x.made x.first new.index new.places x.planned
@@ -141,7 +146,7 @@ module _ (old new : Session) (log : Log) (x : IsStartFlushed old new) (r : Start
   pending_are : AreFirstPending old.name log r.after x.naming new.index new.places (rows_of old) r.more new.pending
   pending_are =
       first_pending old.name log r.after old.places x.first x.planned.between new.places x.at x.naming x.made x.planned.named new.index x.planned.moves (rows_of old) r.more x.planned.rows x.planned.chunks x.planned.added
-      x.planned.copies x.planned.fixed x.planned.supers new.pending known r.runs r.appended calls
+      x.planned.copies x.planned.fixed x.planned.supers new.pending known.knows known_runs r.appended calls
 
   -- ---- The session after it
 
@@ -175,8 +180,10 @@ module _ (old new : Session) (log : Log) (x : IsStartFlushed old new) (r : Start
   start_running past = record {
     after = after_start;
     address = λ key. address_in new.index key;
+    held = after_start.behind;
     runs = pending_are.runs;
     knows = pending_are.begins.knows;
+    holds = pending_are.begins.held;
     keeps = record {
       root = ap (λ (s : Super). record s { end = new.places.end }) r.keeps.root;
       place = r.keeps.place;

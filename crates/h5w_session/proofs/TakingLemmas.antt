@@ -16,11 +16,11 @@ use Rattle.h5w_model.specs.declared.cell.Key.{Key}
 use Rattle.h5w_model.specs.declared.cell.IndexKind.{IndexKind}
 use Rattle.h5w_model.specs.declared.cell.IndexKind.TheVariants.{Array, Tree}
 use Rattle.h5w_model.proofs.IntegerLemmas.{int_size_bounds}
-use Rattle.h5w_chunks.specs.Grids.{IsGrid, chunk_len, dataset_of, fill_cell}
+use Rattle.h5w_chunks.specs.Grids.{IsCut, IsGrid, chunk_len, dataset_of, fill_cell}
 use Rattle.h5w_chunks.specs.Shares.{touched, touched_key}
 use Rattle.h5w_chunks.specs.declared.grid.ChunkPlace.{ChunkPlace}
 use Rattle.h5w_chunks.specs.declared.grid.Grid.{Grid}
-use Rattle.h5w_chunks.proofs.Geometry.{IsCut, lt_up, share_numbers}
+use Rattle.h5w_chunks.proofs.Geometry.{lt_up, share_numbers}
 use Rattle.h5w_space.specs.declared.Full.{Full}
 use Rattle.h5w_cache.specs.Plans.{IfFull}
 use Rattle.h5w_cache.specs.declared.plan.PlanError.{PlanError}

@@ -14,7 +14,8 @@ use Rattle.h5w_chunks.specs.Rows.{RowsWritten}
 use Rattle.h5w_chunks.specs.declared.grid.ChunkPlace.{ChunkPlace}
 use Rattle.h5w_flush_laws.specs.Parts.{AreEnded}
 use Rattle.h5w_index.specs.Views.{IndexView, address_in}
-use Rattle.h5w_index.specs.Steps.{IsPlan}
+use Rattle.h5w_index.specs.Steps.{IsBegun, IsPlan}
+use Rattle.h5w_index.specs.declared.begun.Begun.{Begun}
 use Rattle.h5w_index.specs.Placing.{Fits, IsPartly, IsPlacing}
 use Rattle.h5w_session.specs.Sessions.{IsRoomy, IsUnmade, IsWhole, Session, chunk_limit, rows_of, with_rows}
 
@@ -48,6 +49,12 @@ flushed_of s t ws v = record s {
   pending = ws;
   index = v;
 }
+
+-- The chunks have their places over an index and places, and then the plan of the index that names them is begun.
+pub record IsPrepared (d : Described) (to : ℕ) (v : IndexView) (before : Space) (chunks : List ChunkPlace) (added : List Key) (named : IndexView) (b : Begun) (t : Space) : Type 0 where
+  pub between : Space
+  pub placing : IsPlacing d to v before chunks added named between
+  pub begun : IsBegun named between b t
 
 -- What a flush shows of the chunks that the rows that wait go into, over an index and places: each chunk in the order of its key, with its
 -- place; the places once the new ones are taken; the index once it names them; the writes of the rows; and the plan of the index's

@@ -39,9 +39,11 @@ session_over file name limit = record {
 abbrev pub opened_log : List ℕ → ℕ → List ℤ → Log
 opened_log img columns values = record { start = img; columns = columns; values = values; first = 0; events = [] }
 
--- The session has what the file has, its places begin where the file ends, no rows wait, and nothing is pending.
+-- The session has what the file has, of which readers hold no more, its places begin where the file ends, no rows wait, and nothing is
+-- pending.
 pub record IsOver (s : Session) (img : List ℕ) (m : Moment) : Type 0 where
   pub knows : Knows img s.name m (λ key. address_in s.index key) s.places
+  pub held : knows.held ≡ m.behind
   pub keeps : Keeps s img m
   pub index : IsKeptIndex img m (λ key. address_in s.index key) s.places s.index
   pub clean : IsClean s.index

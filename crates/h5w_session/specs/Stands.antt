@@ -3,6 +3,7 @@ use Rattle.std.specs.Prelude.{◌≡◌, ◌≢◌, ◌⊎◌, ℕ, ◌*◌, tru
 use Rattle.h5w_model.specs.Images.{image}
 use Rattle.h5w_model.specs.Lawful.{first_outside}
 use Rattle.h5w_model.specs.Logs.{Log, hist, appended, appended_in, flushed_in, flushed_rows}
+use Rattle.h5w_model.specs.Findings.{Used}
 use Rattle.h5w_model.specs.Prefixed.{PrefixedEach, Still}
 use Rattle.h5w_model.specs.declared.cell.Key.{Key}
 use Rattle.h5w_model.specs.declared.piece.Write.{Write}
@@ -42,8 +43,11 @@ pub record Creating (f : CreatedFile) (s : Session) (left : List Write) (log : L
 pub record Running (s : Session) (left : List Write) (log : Log) : Type 0 where
   pub after : Moment
   pub address : Key → ℕ
-  pub runs : Runs s.name log left after after.behind
+  -- what readers may hold then
+  pub held : List Used
+  pub runs : Runs s.name log left after held
   pub knows : Knows (image (image_now log) left) s.name after address s.places
+  pub holds : knows.held ≡ held
   pub keeps : Keeps s (image (image_now log) left) after
   pub index : IsKeptIndex (image (image_now log) left) after address s.places s.index
   pub marks : IsMarked s.dataset s.dataset.shape.rows (rows_of s) s.index

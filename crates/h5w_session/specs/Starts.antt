@@ -6,6 +6,7 @@ use Rattle.h5w_model.specs.Lawful.{first_outside}
 use Rattle.h5w_model.specs.Logs.{Log, appended, flushed_rows}
 use Rattle.h5w_model.specs.Arrays.{eahd_len, eaib_len}
 use Rattle.h5w_model.specs.Trees.{bthd_len}
+use Rattle.h5w_model.specs.Findings.{Used}
 use Rattle.h5w_model.specs.declared.cell.Key.{Key}
 use Rattle.h5w_model.specs.declared.piece.Write.{Write}
 use Rattle.h5w_visits.specs.Ranges.{AllEndBy}
@@ -33,8 +34,10 @@ use Rattle.h5w_session.specs.Stands.{Keeps}
 pub record StartRunning (s : Session) (log : Log) : Type 0 where
   pub after : Moment
   pub address : Key → ℕ
-  pub runs : Runs s.name log [] after after.behind
+  pub held : List Used
+  pub runs : Runs s.name log [] after held
   pub knows : Knows (image_now log) s.name after address s.places
+  pub holds : knows.held ≡ held
   pub keeps : Keeps s (image_now log) after
   pub index : IsStarting (image_now log) after address s.index
   pub more : List ℤ

@@ -11,7 +11,7 @@ ghost use Rattle.h5w_index.specs.Depths.{AreWithin};
 ghost use Rattle.h5w_index.specs.Held.{view_of};
 ghost use Rattle.h5w_index.specs.Marks.{IsRaised};
 ghost use Rattle.h5w_index.specs.Placing.{AreInside, Fits, IsFullPart, IsPartly, IsPlacing};
-ghost use Rattle.h5w_index.specs.Steps.{IsBegun, IsPlan, copy_pieces, in_place_pieces, next_of};
+ghost use Rattle.h5w_index.specs.Steps.{IsPlan, copy_pieces, in_place_pieces};
 ghost use Rattle.h5w_index.specs.Views.{IsClean, IsReached, IsSound, TakesKey, an_array, a_tree, kind_of};
 ghost use Rattle.std.specs.List.{slice_get};
 ghost use Rattle.h5w_chunks.specs.Grids.{IsGrid, chunk_len, dataset_of};
@@ -21,7 +21,7 @@ ghost use Rattle.h5w_chunks.specs.Shares.{new_writes, share_of, touched};
 ghost use Rattle.h5w_flush_laws.specs.Parts.{AreEnded};
 ghost use Rattle.h5w_image.specs.View.{Same};
 ghost use Rattle.h5w_space.specs.declared.Full.{Full};
-ghost use Rattle.h5w_session.specs.Flushes.{IsFlushed, SameBut, first_key, first_place, touched_by};
+ghost use Rattle.h5w_session.specs.Flushes.{IsFlushed, IsPrepared, SameBut, first_key, first_place, touched_by};
 ghost use Rattle.h5w_session.specs.Loads.{NoPlace};
 ghost use Rattle.h5w_session.specs.Starts.{AreJoined, HasFlushed, IsNaming, IsStartFlushed, IsStartedAt, TookTops, TookTwo};
 ghost use Rattle.h5w_model.specs.Arrays.{eahd_len, eaib_len};
@@ -69,16 +69,17 @@ fn pieces_after(begun: &Begun) -> Option<usize>
     begun.copies().checked_add(begun.in_place())?.checked_add(2)
 }
 
-/// Makes room for all pieces of a flush, and one more in the image.
+/// Makes room for all pieces of a flush, and in the image for one more, up to this end.
 fn make_room<W: PieceWrite>(
     writes: &mut Vec<Write>,
     begun: &Begun,
+    end: u64,
     image: &mut W,
 ) -> Result<(), FlushError>
     ensures writes { writes.new.items ≡ writes.old.items }
     ensures room { OnOk result (vec_len writes.new + (copy_pieces begun.now + in_place_pieces begun.now + 2) ≤ vec_capacity writes.new) }
     ensures pieces { OnOk result (vec_len writes.new + (copy_pieces begun.now + in_place_pieces begun.now + 2) + 1 ≤ (W.view image.new).pieces) }
-    ensures end { OnOk result ((next_of begun.now).end ≤ (W.view image.new).end) }
+    ensures end { OnOk result (end ≤ (W.view image.new).end) }
     ensures image { Same (W.view image.old) (W.view image.new) }
     ensures fault { result ≡ Err FlushError.Failed → Rose (W.view image.old).faults (W.view image.new).faults }
     ensures causes { IfErr result (λ e. (e ≡ FlushError.Failed) ⊎ (e ≡ FlushError.OutOfMemory)) }
@@ -87,7 +88,7 @@ fn make_room<W: PieceWrite>(
     let all = writes.len().checked_add(after).ok_or(OutOfMemory)?;
     let pieces = (all as u64).checked_add(1).ok_or(OutOfMemory)?;
     writes.reserve(after).map_err(OutOfMemory::from)?;
-    image.reserve(pieces, begun.end())?;
+    image.reserve(pieces, end)?;
     Ok(())
 }
 
@@ -212,14 +213,13 @@ fn prepare<W: PieceWrite>(
     requires none_added { taking.old.added.items ≡ [] }
     ensures sound { IsSound (view_of index.new) }
     ensures roomy { IsRoomy (dataset_of grid.now) (view_of index.old) → IsRoomy (dataset_of grid.now) (view_of index.new) }
-    ensures placed { OnOk result (IsPlacing (dataset_of grid.now) to (view_of index.old) taking.old.places taking.new.chunks.items taking.new.added.items (view_of index.new) taking.new.places) }
+    ensures prepared { IfOk result (λ p. IsPrepared (dataset_of grid.now) to (view_of index.old) taking.old.places taking.new.chunks.items taking.new.added.items (view_of index.new) p.begun taking.new.places) }
     ensures all { OnOk result (length taking.new.chunks.items ≡ touched (dataset_of grid.now) grid.now.shape.rows to) }
     ensures exact { IfOk result (λ p. p.writes.items ≡ new_writes (dataset_of grid.now) cells.now grid.now.shape.rows to taking.new.chunks.items) }
     ensures does { IfOk result (λ p. RowsWritten (dataset_of grid.now) cells.now grid.now.shape.rows to taking.new.chunks.items p.writes.items) }
-    ensures begun { IfOk result (λ p. IsBegun (view_of index.new) taking.new.places p.begun) }
     ensures room { IfOk result (λ p. vec_len p.writes + (copy_pieces p.begun + in_place_pieces p.begun + 2) ≤ vec_capacity p.writes) }
     ensures pieces { IfOk result (λ p. vec_len p.writes + (copy_pieces p.begun + in_place_pieces p.begun + 2) + 1 ≤ (W.view image.new).pieces) }
-    ensures end { IfOk result (λ p. (next_of p.begun).end ≤ (W.view image.new).end) }
+    ensures end { OnOk result (taking.new.places.end ≤ (W.view image.new).end) }
     ensures partly { OnErr result (IsPartly (dataset_of grid.now) to (view_of index.old) taking.new.added.items (view_of index.new)) }
     ensures full { (full : Full) → result ≡ Err (FlushError.Space full) → IsFullPart (dataset_of grid.now) to (view_of index.old) taking.old.places full }
     ensures deep { result ≡ Err FlushError.Deep → IsDeepPart (dataset_of grid.now) to (view_of index.old) taking.old.places }
@@ -228,10 +228,10 @@ fn prepare<W: PieceWrite>(
     ensures causes { IfErr result (λ e. IsSpace e ⊎ ((e ≡ FlushError.Deep) ⊎ ((e ≡ FlushError.Failed) ⊎ (e ≡ FlushError.OutOfMemory)))) }
 {
     place_chunks(grid, to, taking, index)?;
-    let begun = index.begin(&taking.places)?;
+    let begun = index.begin(&mut taking.places)?;
     let after = pieces_after(&begun).ok_or(OutOfMemory)?;
     let mut writes = put_rows(grid, cells, to, taking, after)?;
-    make_room(&mut writes, &begun, image)?;
+    make_room(&mut writes, &begun, taking.places.end(), image)?;
     Ok(Prepared { writes, begun })
 }
 
@@ -723,7 +723,7 @@ impl WriterCore {
             image,
         )?;
         let Prepared { writes, begun } = prepared;
-        let plan = index.finish(&mut taking.places, begun);
+        let plan = index.finish(begun);
         let superblock = raise(&mut self.root, taking.places.end());
         let naming = naming(address, at);
         let piece = raise_rows(&mut self.header, to, naming);
@@ -770,7 +770,7 @@ impl WriterCore {
         ) {
             Ok(prepared) => {
                 let Prepared { writes, begun } = prepared;
-                let plan = self.index.finish(&mut taking.places, begun);
+                let plan = self.index.finish(begun);
                 let superblock = raise(&mut self.root, taking.places.end());
                 let piece = raise_rows(&mut self.header, to, None);
                 let header = Write {

@@ -93,8 +93,8 @@ module _ (img name : List ℕ) (m : Moment) (file : Represents img name m) where
   abbrev s : Super
   s = m.super
 
-  rooted : RootParts img name s m.place m.root
-  rooted = root_parts img name s m.place m.root file.root
+  rooted : RootParts img name s m.place file.root.own
+  rooted = root_parts img name s m.place file.root.own file.root.checked
 
   sized : DatasetParts img format_limits s m.place m.dataset m.header
   sized = dataset_parts img format_limits s m.place m.dataset m.header file.header

@@ -26,7 +26,7 @@ use Rattle.h5w_space.specs.declared.Extent.{Extent}
 use Rattle.h5w_array_laws.specs.ArrayStores.{IsCreated}
 use Rattle.h5w_array_laws.proofs.CreatedLemmas.{created_starts}
 use Rattle.h5w_flush_laws.specs.Flushes.{IsBegun}
-use Rattle.h5w_flush_laws.specs.Knowledge.{Knows}
+use Rattle.h5w_flush_laws.specs.Knowledge.{KnownHeld}
 use Rattle.h5w_flush_laws.proofs.KnownLaws.{begin_knows}
 use Rattle.h5w_bt_index.specs.Marks.{clean_of}
 use Rattle.h5w_bt_index.specs.Index.{Index, no_tree}
@@ -148,8 +148,8 @@ module _ (img name : List ℕ) (size : ℕ) (o : Opened) (m : Moment) (is : eval
   pub found : Parts img size name o
   found = parts img size name o is
 
-  rooted : RootParts img name m.super m.place m.root
-  rooted = root_parts img name m.super m.place m.root file.root
+  rooted : RootParts img name m.super m.place file.root.own
+  rooted = root_parts img name m.super m.place file.root.own file.root.checked
 
   pub checked : DatasetParts img format_limits m.super m.place m.dataset m.header
   checked = dataset_parts img format_limits m.super m.place m.dataset m.header file.header
@@ -187,11 +187,12 @@ module _ (img name : List ℕ) (size : ℕ) (o : Opened) (m : Moment) (is : eval
   -- ---- The session over it
 
   -- what is known of the file, and of the index that is kept, is all that is asked
-  over : (v : IndexView) (limit : ℕ) → Knows img name m (λ key. address_in v key) (session_over o (chunk_0 img o.place) v name limit).places
+  over : (v : IndexView) (limit : ℕ) → KnownHeld img name m (λ key. address_in v key) (session_over o (chunk_0 img o.place) v name limit).places m.behind
       → IsKeptIndex img m (λ key. address_in v key) (session_over o (chunk_0 img o.place) v name limit).places v → IsClean v → 0 < o.header.dataset.shape.cols → 1024 ≤ limit → limit ≤ 2 ^ 40
       → IsOver (session_over o (chunk_0 img o.place) v name limit) img m
-  over v limit knows index clean some enough most = record {
-    knows = knows;
+  over v limit known index clean some enough most = record {
+    knows = known.knows;
+    held = known.is;
     keeps = record { root = super_same; place = place_same; dataset = dataset_same; header = refl };
     index = index;
     clean = clean;
@@ -239,7 +240,7 @@ module _ (img name : List ℕ) (size : ℕ) (o : Opened) (m : Moment) (is : eval
     begins = index_begins img name m s.places v same.sound same.clean (stands v x same below) file same.kind same.at_place (begun_places limit)
 
     pub is_over : 0 < o.header.dataset.shape.cols → 1024 ≤ limit → limit ≤ 2 ^ 40 → IsOver s img m
-    is_over some enough most = over v limit begins.knows (inl begins.rests) same.clean some enough most
+    is_over some enough most = over v limit (record { knows = begins.knows; is = begins.held }) (inl begins.rests) same.clean some enough most
 
   -- ---- The session over a file whose index is not there yet
 
@@ -252,10 +253,10 @@ module _ (img name : List ℕ) (size : ℕ) (o : Opened) (m : Moment) (is : eval
       sym (ap chosen at) ∙ here
 
   -- a blank index is kept, and no chunk of the file has an address
-  blank_over : (v : IndexView) (limit : ℕ) → IsUnmade m.dataset.layout.index v → Lacks img m.dataset v → Knows img name m no_chunk (session_over o (chunk_0 img o.place) v name limit).places → 0 < o.header.dataset.shape.cols → 1024 ≤ limit
+  blank_over : (v : IndexView) (limit : ℕ) → IsUnmade m.dataset.layout.index v → Lacks img m.dataset v → KnownHeld img name m no_chunk (session_over o (chunk_0 img o.place) v name limit).places m.behind → 0 < o.header.dataset.shape.cols → 1024 ≤ limit
       → limit ≤ 2 ^ 40 → IsOver (session_over o (chunk_0 img o.place) v name limit) img m
   blank_over v limit blank lacks knows some enough most =
-      let known = subst (λ (f : Key → ℕ). Knows img name m f (session_over o (chunk_0 img o.place) v name limit).places) (λ i key. sym (blank_none v blank.blank key) i) knows in
+      let known = subst (λ (f : Key → ℕ). KnownHeld img name m f (session_over o (chunk_0 img o.place) v name limit).places m.behind) (λ i key. sym (blank_none v blank.blank key) i) knows in
       over v limit known (inr (record { kind = blank.kind; lacks = lacks; sound = blank.sound; blank = blank.blank; map = λ key. refl })) blank.clean some enough most
 
   module _ (v : IndexView) (absent : o.header.dataset.layout.address ≡ undefined) (made : IsBlankOf o.header.dataset.layout.index v) (inside : o.header.in_chunk_0 ≡ true) (limit : ℕ) where
@@ -268,7 +269,7 @@ module _ (img name : List ℕ) (size : ℕ) (o : Opened) (m : Moment) (is : eval
     unnamed : m.dataset.layout.address ≡ undefined
     unnamed = ap (λ (d : Described). d.layout.address) dataset_same ∙ absent
 
-    known : Knows img name m no_chunk begun.places
+    known : KnownHeld img name m no_chunk begun.places m.behind
     known = begin_knows img name m no_chunk begun.places file (unnamed_nowhere img name m file unnamed).map (begun_places limit) (λ e. layout_here inside)
 
     pub is_begun : 0 < o.header.dataset.shape.cols → 1024 ≤ limit → limit ≤ 2 ^ 40 → IsOver begun img m
@@ -285,8 +286,8 @@ module _ (img name : List ℕ) (size : ℕ) (o : Opened) (m : Moment) (is : eval
 
     pub is_bare : 0 < o.header.dataset.shape.cols → 1024 ≤ limit → limit ≤ 2 ^ 40 → IsOver (session_over o (chunk_0 img o.place) v name limit) img m
     is_bare =
-        blank_over v limit bare_blank (a_block alone (lacking o.header.dataset.layout.address v made))
-        (alone_begins img name m (session_over o (chunk_0 img o.place) v name limit).places file alone (begun_places limit)).knows
+        let begun = alone_begins img name m (session_over o (chunk_0 img o.place) v name limit).places file alone (begun_places limit) in
+        blank_over v limit bare_blank (a_block alone (lacking o.header.dataset.layout.address v made)) (record { knows = begun.0.knows; is = begun.1 })
 
 -- ---- The flags
 

@@ -1,7 +1,6 @@
 -- What a call in a turn may put back.
-use Rattle.std.proofs.Common.{◌≡◌, ℕ, zero, suc, ◌+◌, ◌<◌, ◌≤◌, arith, length, Some, None, Bool, true, false, true≢false, List, [], ◌∷◌, ◌++◌, sym, refl, ap, ◌∙◌, subst, inl}
-use Rattle.std.specs.Prelude.{if◌then◌else◌, slice_get, take}
-use Rattle.std.proofs.lemmas.Option.{slice_get_within}
+use Rattle.std.proofs.Common.{◌≡◌, ℕ, Bool, true, false, true≢false, [], ◌∷◌, sym, refl, ap, ◌∙◌, subst, inl}
+use Rattle.std.specs.Prelude.{if◌then◌else◌}
 use Rattle.h5w_model.specs.declared.piece.Write.{Write}
 use Rattle.h5w_model.specs.Images.{apply}
 use Rattle.h5w_model.proofs.ImageLemmas.{image-append}
@@ -28,25 +27,6 @@ returns_written p q x y w turn writes is =
       begun = turn.found.begun;
       same = inl (writes, (w ∷ [], refl));
     })
-
-take_more : (xs : List Write) (k : ℕ) (x : Write) → slice_get xs k ≡ Some x → take (k + 1) xs ≡ take k xs ++ x ∷ []
-take_more [] k x e = absurd cc
-take_more (y ∷ xs) zero x e = let same : y ≡ x = cc e in ap (λ (z : Write). z ∷ []) same
-take_more (y ∷ xs) (suc k) x e =
-    let n : suc k + 1 ≡ suc (k + 1) = omega arith in ap (λ (m : ℕ). take m (y ∷ xs)) n ∙ ap (λ (zs : List Write). y ∷ zs) (take_more xs k x e)
-
--- a copy of the first k pieces, and one more
-pub copied_more : (xs ys zs : List Write) (k : ℕ) (x y : Write) → ys ≡ take k xs → slice_get xs k ≡ Some x → zs ≡ ys ++ y ∷ [] → y.at ≡ x.at → y.piece ≡ x.piece
-    → (zs ≡ take (k + 1) xs) × (k + 1 ≤ length xs)
-copied_more xs ys zs k x y before at last place bytes =
-    let same : y ≡ x = λ i. record { at = place i; piece = bytes i } in
-    let within = slice_get_within xs k x at in
-    (last ∙ (ap (λ l. l ++ y ∷ []) before ∙ (ap (λ (z : Write). take k xs ++ z ∷ []) same ∙ sym (take_more xs k x at))), omega arith)
-
-pub nothing_past : (xs : List Write) (k : ℕ) → slice_get xs k ≡ None → k < length xs → ⊥
-nothing_past [] k e lt = omega arith
-nothing_past (x ∷ xs) zero e lt = cc e
-nothing_past (x ∷ xs) (suc k) e lt = nothing_past xs k e (omega arith)
 
 -- a seat that is not worn after some tries was not worn before
 pub awake_before : (p l : Place) → Keeps p l → l.worn ≡ false → p.worn ≡ false

@@ -8,7 +8,7 @@ ghost use Rattle.h5w_shared.specs.Places.{AtRest, Came, IsAt, Refused};
 use crate::place::Place;
 use crate::table::Shelf;
 use h5w_image::{Failed, ImageError, Journal, PieceRead, PieceWrite};
-use h5w_model::{OutOfMemory, Piece, Write};
+use h5w_model::{Piece, Write};
 use std::alloc::Global;
 use std::sync::Wait;
 
@@ -91,23 +91,8 @@ impl Place {
         ensures memory { result ≡ Err ImageError.OutOfMemory → (x : MemView) × Came self.old self.new x × FoundStore self.old.seat.me.0 x }
     {
         let store = self.turn(rt, shelf, false)?;
-        let copy = copied(alloc, store.journal());
+        let copy = store.journal().copy(alloc);
         self.end(shelf, store);
         Ok(copy?)
     }
-}
-
-/// A copy of a list of pieces.
-fn copied(alloc: Global, journal: &Journal) -> Result<Journal, OutOfMemory>
-    ensures { IfOk result (λ j. j.writes ≡ journal.now.writes) }
-{
-    let mut copy = Journal::new(alloc);
-    copy.reserve(journal.len())?;
-    for k in 0..journal.len() {
-        if let Some(w) = journal.get(k) {
-            let piece = Piece::of(w.piece.as_slice());
-            copy.push(Write { at: w.at, piece })?;
-        }
-    }
-    Ok(copy)
 }

@@ -21,11 +21,12 @@ use Rattle.h5w_space.specs.Space.{Space}
 use Rattle.h5w_cache.specs.Stores.{Store}
 use Rattle.h5w_cache.specs.declared.moves.Move.{Move}
 use Rattle.h5w_chunks.specs.Runs.{run_bytes}
-use Rattle.h5w_chunks.specs.Grids.{FitsType, cells_of, copies}
+use Rattle.h5w_chunks.specs.Grids.{FitsType, IsCut, cells_of, copies}
 use Rattle.h5w_chunks.specs.Shares.{new_writes, padded_rows, row_blocks, writes_from, writes_of}
 use Rattle.h5w_chunks.specs.Rows.{RowsWritten}
+use Rattle.h5w_chunks.specs.Early.{RowsStand}
 use Rattle.h5w_chunks.specs.declared.grid.ChunkPlace.{ChunkPlace}
-use Rattle.h5w_chunks.proofs.Geometry.{IsCut}
+use Rattle.h5w_chunks.proofs.EarlyLemmas.{rows_stand}
 use Rattle.h5w_chunks.proofs.WriteLaws.{rows_written}
 use Rattle.h5w_examples.proofs.CellLemmas.{each_cell}
 use Rattle.h5w_examples.specs.Readings.{data_name, described_by, summary_as}
@@ -39,6 +40,7 @@ use Rattle.h5w_flush_laws.specs.Parts.{AreEnded}
 use Rattle.h5w_flush_laws.specs.Rows.{IsPlaced, ArePlaced}
 use Rattle.h5w_flush_examples.specs.FirstFlush.{places_to}
 use Rattle.h5w_starting_laws.specs.Starting.{no_chunk, IsBlank}
+use Rattle.h5w_starting_laws.specs.StartFlushes.{IsStarted}
 use Rattle.h5w_starting_laws.proofs.StartLemmas.{created_blank}
 use Rattle.h5w_block_laws.specs.HeaderAlone.{AloneKnows, IsHeaderAlone}
 use Rattle.h5w_block_laws.specs.BlockFlushes.{block_parts_for}
@@ -48,7 +50,7 @@ use Rattle.h5w_block_laws.proofs.BlockCallLemmas.{block_calls}
 use Rattle.h5w_block_laws.proofs.BlockLeadLemmas.{block_leads}
 use Rattle.h5w_starting_examples.specs.AloneBytes.{alone_file}
 use Rattle.h5w_starting_examples.specs.AloneFlush.{alone_found, alone_opened, alone_piece, alone_to_write, seven, seven_place, seven_writes, AreAloneCalls, BlockIt, BlockStarts, IsAloneFile}
-use Rattle.h5w_starting_examples.proofs.UnnamedLemmas.{each_fits, taken_from}
+use Rattle.h5w_starting_examples.proofs.UnnamedLemmas.{each_fits, one_apart, taken_from}
 
 -- ---- The file
 
@@ -64,7 +66,7 @@ is_file : Represents alone_file data_name alone_found
 unfolding headers.first_of numbers_in mix_line mixed finish_line finished added rounds sum_of prefix_at msgs_in header_at messages_at prefix_bytes data_in_header rows_in_header index_in_header rows_changed header_view apply first_pieces pieces value_at links_at find_link shape_tests shape_fields shape_at int_type_tests int_type_fields int_type_at fill_tests fill_fields fill_at fill_value_bytes layout_fields layout_at num le halvings width_of
 is_file = record {
   super = refl;
-  root = refl;
+  root = record { own = alone_found.root; others = []; is = refl; checked = refl; ends = λ u a. absurd a };
   header = refl;
   index = header_index;
   apart = disjoint_by (all_used alone_found) refl refl;
@@ -81,17 +83,18 @@ is_alone : IsHeaderAlone alone_file (described_by 2 3 240)
 unfolding headers.first_of numbers_in mix_line mixed finish_line finished added rounds sum_of prefix_at msgs_in header_at messages_at prefix_bytes data_in_header rows_in_header index_in_header rows_changed header_view apply first_pieces pieces value_at links_at find_link shape_tests shape_fields shape_at int_type_tests int_type_fields int_type_at fill_tests fill_fields fill_at fill_value_bytes layout_fields layout_at num le halvings width_of
 is_alone = record { kind = refl; named = λ e. absurd (omega (arith, e)); fields = record { numbers = 0 ∷ 0 ∷ 0 ∷ 0 ∷ 0 ∷ 0 ∷ []; block = undefined }; read = refl; none = refl }
 
-known : AloneKnows alone_opened data_name alone_to_write (places_to 312)
+known : (x : AloneKnows alone_opened data_name alone_to_write (places_to 312)) × (x.knows.held ≡ alone_to_write.behind)
 known =
-    alone_ends alone_file data_name alone_found alone_to_write (places_to 312) alone_piece
-    (alone_begins alone_file data_name alone_found (places_to 312) is_file is_alone (record { end = refl; none_free = refl; none_retired = refl })) opens (lit≤ tt)
+    let begun = alone_begins alone_file data_name alone_found (places_to 312) is_file is_alone (record { end = refl; none_free = refl; none_retired = refl }) in
+    let ended = alone_ends alone_file data_name alone_found alone_to_write (places_to 312) alone_piece begun.0 opens (lit≤ tt) in
+    (ended.0, ended.1 ∙ begun.1)
 
 is_valid : Valid alone_file data_name (summary_as 3 0 4 312)
 unfolding headers.first_of numbers_in mix_line mixed finish_line finished added rounds sum_of prefix_at msgs_in header_at messages_at prefix_bytes data_in_header rows_in_header index_in_header rows_changed header_view apply first_pieces pieces value_at links_at find_link shape_tests shape_fields shape_at int_type_tests int_type_fields int_type_at fill_tests fill_fields fill_at fill_value_bytes layout_fields layout_at num le halvings width_of
 is_valid = refl
 
 pub alone_is_file : IsAloneFile
-alone_is_file = record { valid = is_valid; file = is_file; opens = opens; known = known }
+alone_is_file = record { valid = is_valid; file = is_file; opens = opens; known = known.0 }
 
 -- ---- The fourth row
 
@@ -110,6 +113,9 @@ written : RowsWritten (described_by 2 3 240) (cells_of (described_by 2 3 240) se
 written =
     subst (λ (ws : List Write). RowsWritten (described_by 2 3 240) (cells_of (described_by 2 3 240) seven) 3 4 seven_place ws) are_writes
     (rows_written (described_by 2 3 240) (cells_of (described_by 2 3 240) seven) 3 4 seven_place cut (lit≤ tt) cells_length refl)
+
+row_stands : RowsStand alone_opened (described_by 2 3 240) (cells_of (described_by 2 3 240) seven) 3 4 seven_place seven_writes
+row_stands = rows_stand alone_opened (described_by 2 3 240) (cells_of (described_by 2 3 240) seven) 3 4 seven_place seven_writes written (one_apart (described_by 2 3 240) (record { address = 610; stored = false }))
 
 taken : Taken (places_to 312) (block_at 312 298 ∷ chunk_at 610 8 ∷ []) (places_to 618)
 taken = taken_from 312 618 (block_at 312 298 ∷ chunk_at 610 8 ∷ []) (disjoint_by (block_at 312 298 ∷ chunk_at 610 8 ∷ []) refl refl) inside (lit≤ tt) (chunk_at 610 8) (inr (inl refl)) refl
@@ -142,9 +148,9 @@ module _ (u h v w : Store) (ms : List Move) (cs fixed supers : List Write) (t : 
       some_place p q e = cc
   each_placed (suc k) p found = absurd cc
 
-  all_placed : (copies : List (ℕ × List ℕ)) → ArePlaced alone_to_write no_chunk (block_parts_for alone_to_write w 4 seven seven_writes seven_place copies supers t.end) seven_place
+  all_placed : (copies : List (ℕ × List ℕ)) → ArePlaced alone_opened alone_to_write no_chunk (block_parts_for alone_to_write w 4 seven seven_writes seven_place copies supers t.end) seven_place
   all_placed copies = record {
-    written = written;
+    written = row_stands;
     all = refl;
     placed = each_placed;
     others = λ key asked outside. none_else key.i (λ e. elim outside [ inl low ↦ absurd (omega (arith, low, e)) | inr high ↦ absurd (omega (arith, high, e)) ]);
@@ -154,7 +160,7 @@ module _ (u h v w : Store) (ms : List Move) (cs fixed supers : List Write) (t : 
     fit = each_fits;
   }
 
-  are : AreBlockCalls alone_to_write (places_to 312) (places_to 618) 312 u v ms w t 4 seven seven_writes seven_place cs fixed supers
+  are : AreBlockCalls alone_opened alone_to_write (places_to 312) (places_to 618) 312 u v ms w t 4 seven seven_writes seven_place cs fixed supers
   are = record {
     rises = lit≤ tt;
     small = lit≤ tt;
@@ -176,10 +182,12 @@ module _ (u h v w : Store) (ms : List Move) (cs fixed supers : List Write) (t : 
 
   block_it : BlockIt u v ms cs fixed supers w t
   block_it =
-      let calls = block_calls alone_opened data_name alone_to_write (places_to 312) (places_to 618) t 312 u v w ms 4 seven seven_writes seven_place cs fixed supers known are in
+      let calls = block_calls alone_opened data_name alone_to_write (places_to 312) (places_to 618) t 312 u v w ms 4 seven seven_writes seven_place cs fixed supers known.0 are in
       record {
         calls = calls;
-        started = block_leads alone_opened data_name alone_to_write (places_to 312) (places_to 618) t u v w ms 4 seven seven_writes seven_place calls.copies fixed supers known calls.start;
+        started =
+            subst (λ (us : List Used). IsStarted alone_opened data_name alone_to_write us t w (block_parts_for alone_to_write w 4 seven seven_writes seven_place calls.copies supers t.end)) known.1
+            (block_leads alone_opened data_name alone_to_write (places_to 312) (places_to 618) t u v w ms 4 seven seven_writes seven_place calls.copies fixed supers known.0 calls.start);
       }
 
 pub block_starts : BlockStarts

@@ -19,14 +19,14 @@ use Rattle.h5w_flush_laws.specs.Parts.{AreEnded}
 use Rattle.h5w_flush_laws.specs.Rows.{IsPlaced, ArePlaced}
 use Rattle.h5w_flush_examples.specs.FirstFlush.{places_to}
 use Rattle.h5w_starting_laws.specs.Starting.{no_chunk, StartKnows}
-use Rattle.h5w_starting_laws.specs.StartFlushes.{parts_for}
+use Rattle.h5w_starting_laws.specs.StartFlushes.{IsStarted, parts_for}
 use Rattle.h5w_starting_laws.specs.StartCalls.{AreStartCalls}
 use Rattle.h5w_starting_laws.proofs.StartLemmas.{created_blank}
 use Rattle.h5w_starting_laws.proofs.StartCallLemmas.{start_calls}
 use Rattle.h5w_starting_laws.proofs.StartLeadLemmas.{start_leads}
 use Rattle.h5w_starting_examples.specs.UnnamedFlush.{open_to_write, opened_file, fourth_row, new_place}
 use Rattle.h5w_starting_examples.specs.ArrayCalls.{AreCalls, StartIt, ArrayStarts}
-use Rattle.h5w_starting_examples.proofs.UnnamedLemmas.{known, written, each_fits, taken_from}
+use Rattle.h5w_starting_examples.proofs.UnnamedLemmas.{known, row_stands, each_fits, taken_from}
 
 abbrev with_chunk : List Used
 with_chunk = block_at 546 72 ∷ block_at 248 298 ∷ chunk_at 240 8 ∷ []
@@ -42,7 +42,7 @@ chunk_taken_too = taken_from 240 618 with_chunk (disjoint_by with_chunk refl ref
 
 module _ (u h v w : Store) (ms : List Move) (cs fixed supers : List Write) (t : Space) (c : AreCalls u h v ms cs fixed w t) (ended : AreEnded open_to_write.super t.end supers) where
   knows : StartKnows opened_file data_name open_to_write (places_to 240) u
-  knows = record { knows = known; unnamed = record { kind = refl; address = refl }; blank = created_blank 546 248 u c.made (lit≤ tt) (lit≤ tt) }
+  knows = record { knows = known.knows; unnamed = record { kind = refl; address = refl }; blank = created_blank 546 248 u c.made (lit≤ tt) (lit≤ tt) }
 
   named_there : map_of w 1 ≡ 240
   named_there = c.plan.map 1 ∙ c.named.map 1
@@ -63,9 +63,9 @@ module _ (u h v w : Store) (ms : List Move) (cs fixed supers : List Write) (t : 
       some_place p q e = cc
   each_placed (suc k) p found = absurd cc
 
-  all_placed : (copies : List (ℕ × List ℕ)) → ArePlaced open_to_write no_chunk (parts_for open_to_write w 4 fourth_row.more fourth_row.writes new_place copies supers t.end) new_place
+  all_placed : (copies : List (ℕ × List ℕ)) → ArePlaced opened_file open_to_write no_chunk (parts_for open_to_write w 4 fourth_row.more fourth_row.writes new_place copies supers t.end) new_place
   all_placed copies = record {
-    written = written;
+    written = row_stands;
     all = refl;
     placed = each_placed;
     others = λ key asked outside. none_else key.i (λ e. elim outside [ inl low ↦ absurd (omega (arith, low, e)) | inr high ↦ absurd (omega (arith, high, e)) ]);
@@ -75,7 +75,7 @@ module _ (u h v w : Store) (ms : List Move) (cs fixed supers : List Write) (t : 
     fit = each_fits;
   }
 
-  are : AreStartCalls open_to_write (places_to 240) (places_to 618) 546 248 u v ms w t 4 fourth_row.more fourth_row.writes new_place cs fixed supers
+  are : AreStartCalls opened_file open_to_write (places_to 240) (places_to 618) 546 248 u v ms w t 4 fourth_row.more fourth_row.writes new_place cs fixed supers
   are = record {
     rises = lit≤ tt;
     small = lit≤ tt;
@@ -97,10 +97,13 @@ module _ (u h v w : Store) (ms : List Move) (cs fixed supers : List Write) (t : 
 
   start_it : StartIt u v ms cs fixed supers w t
   start_it =
-      let calls = start_calls opened_file data_name open_to_write (places_to 240) (places_to 618) t 546 248 u u v w ms 4 fourth_row.more fourth_row.writes new_place cs fixed supers knows are in
+      let k : StartKnows opened_file data_name open_to_write (places_to 240) u = record { knows = known.knows; unnamed = knows.unnamed; blank = knows.blank } in
+      let calls = start_calls opened_file data_name open_to_write (places_to 240) (places_to 618) t 546 248 u u v w ms 4 fourth_row.more fourth_row.writes new_place cs fixed supers k are in
       record {
         calls = calls;
-        started = start_leads opened_file data_name open_to_write (places_to 240) (places_to 618) t u v w ms 4 fourth_row.more fourth_row.writes new_place calls.copies fixed supers calls.knows calls.start;
+        started =
+            subst (λ (us : List Used). IsStarted opened_file data_name open_to_write us t w (parts_for open_to_write w 4 fourth_row.more fourth_row.writes new_place calls.copies supers t.end)) known.is
+            (start_leads opened_file data_name open_to_write (places_to 240) (places_to 618) t u v w ms 4 fourth_row.more fourth_row.writes new_place calls.copies fixed supers k calls.start);
       }
 
 pub array_starts : ArrayStarts

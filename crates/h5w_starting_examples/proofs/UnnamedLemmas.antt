@@ -14,17 +14,18 @@ use Rattle.h5w_model.specs.Messages.{shape_tests, shape_fields, shape_at, int_ty
 use Rattle.h5w_model.specs.Numbers.{num, le, halvings, width_of, range, undefined}
 use Rattle.h5w_model.specs.Programs.{eval}
 use Rattle.h5w_model.specs.Tables.{in_array, cell}
-use Rattle.h5w_model.specs.Datasets.{FoundMessage, HeaderFields, dataset_messages, first_of, layout_kind}
+use Rattle.h5w_model.specs.Datasets.{Described, FoundMessage, HeaderFields, dataset_messages, first_of, layout_kind}
 use Rattle.h5w_model.specs.Findings.{Used, Valid}
 use Rattle.h5w_model.specs.declared.refusal.ReadError.{ReadError}
 use Rattle.h5w_model.specs.declared.piece.Write.{Write}
 use Rattle.h5w_space.specs.Space.{Apart}
 use Rattle.h5w_chunks.specs.Runs.{run_bytes}
-use Rattle.h5w_chunks.specs.Grids.{FitsType, cells_of, copies}
+use Rattle.h5w_chunks.specs.Grids.{FitsType, IsCut, cells_of, copies}
 use Rattle.h5w_chunks.specs.Shares.{new_writes, padded_rows, row_blocks, writes_from, writes_of}
-use Rattle.h5w_chunks.specs.Rows.{RowsWritten}
+use Rattle.h5w_chunks.specs.Rows.{ChunksApart, RowsWritten}
+use Rattle.h5w_chunks.specs.Early.{RowsStand}
 use Rattle.h5w_chunks.specs.declared.grid.ChunkPlace.{ChunkPlace}
-use Rattle.h5w_chunks.proofs.Geometry.{IsCut}
+use Rattle.h5w_chunks.proofs.EarlyLemmas.{rows_stand}
 use Rattle.h5w_chunks.proofs.WriteLaws.{rows_written}
 use Rattle.h5w_examples.proofs.CellLemmas.{each_cell}
 use Rattle.h5w_examples.specs.Readings.{data_name, piece_of, described_by, summary_as}
@@ -36,7 +37,7 @@ use Rattle.h5w_steps.specs.Moments.{Represents, reading_of, all_used}
 use Rattle.h5w_steps.specs.Steps.{Ends}
 use Rattle.h5w_step_examples.proofs.Decisions.{disjoint_by, all_among_by}
 use Rattle.h5w_flush_laws.specs.Spaces.{extent_of, Taken}
-use Rattle.h5w_flush_laws.specs.Knowledge.{Knows}
+use Rattle.h5w_flush_laws.specs.Knowledge.{KnownHeld}
 use Rattle.h5w_flush_laws.specs.Parts.{AreEnded, IndexFlushed, IsFlush, SaysInPlace, committed, copied, fresh_of, pieces_of}
 use Rattle.h5w_flush_laws.specs.Rows.{IsPlaced, ArePlaced, RowsPart}
 use Rattle.h5w_flush_laws.proofs.KnownLaws.{begin_knows, end_known}
@@ -58,7 +59,7 @@ is_file : Represents unnamed_file data_name found
 unfolding headers.first_of numbers_in mix_line mixed finish_line finished added rounds sum_of prefix_at msgs_in header_at messages_at prefix_bytes data_in_header rows_in_header index_in_header rows_changed header_view apply first_pieces pieces value_at links_at find_link shape_tests shape_fields shape_at int_type_tests int_type_fields int_type_at fill_tests fill_fields fill_at fill_value_bytes layout_fields layout_at num le halvings width_of
 is_file = record {
   super = refl;
-  root = refl;
+  root = record { own = found.root; others = []; is = refl; checked = refl; ends = λ u a. absurd a };
   header = refl;
   index = no_index;
   apart = disjoint_by (all_used found) refl refl;
@@ -87,11 +88,12 @@ layout_in h y read first = it y.in_chunk_0 (sym (ap (option_map (λ (z : FoundMe
     it : (b : Bool) → ◌≡◌ {A = Option Bool} (Some b) (Some true) → b ≡ true
     it b e = cc
 
-pub known : Knows opened_file data_name open_to_write no_chunk (places_to 240)
+pub known : KnownHeld opened_file data_name open_to_write no_chunk (places_to 240) open_to_write.behind
 known =
-    end_known unnamed_file data_name found open_to_write no_chunk (places_to 240) opening_piece
-    (begin_knows unnamed_file data_name found no_chunk (places_to 240) is_file (unnamed_nowhere unnamed_file data_name found is_file refl).map (record { end = refl; none_free = refl; none_retired = refl }) (λ e. layout_in))
-    opens (lit≤ tt)
+    let begun =
+    begin_knows unnamed_file data_name found no_chunk (places_to 240) is_file (unnamed_nowhere unnamed_file data_name found is_file refl).map (record { end = refl; none_free = refl; none_retired = refl }) (λ e. layout_in) in
+    let ended = end_known unnamed_file data_name found open_to_write no_chunk (places_to 240) opening_piece begun.knows opens (lit≤ tt) in
+    record { knows = ended.knows; is = ended.is ∙ begun.is }
 
 -- ---- The fourth row
 
@@ -107,10 +109,20 @@ cells_length : length (cells_of (described_by 2 3 undefined) fourth_row.more) �
 unfolding run_bytes cell_bytes_of le
 cells_length = refl
 
-pub written : RowsWritten (described_by 2 3 undefined) (cells_of (described_by 2 3 undefined) fourth_row.more) 3 4 new_place fourth_row.writes
+-- one chunk alone meets none
+pub one_apart : (d : Described) (p : ChunkPlace) → ChunksApart d (p ∷ [])
+one_apart d p zero zero x y other first second = absurd (other refl)
+one_apart d p zero (suc k) x y other first second = absurd cc
+one_apart d p (suc j) k x y other first second = absurd cc
+
+written : RowsWritten (described_by 2 3 undefined) (cells_of (described_by 2 3 undefined) fourth_row.more) 3 4 new_place fourth_row.writes
 written =
     subst (λ (ws : List Write). RowsWritten (described_by 2 3 undefined) (cells_of (described_by 2 3 undefined) fourth_row.more) 3 4 new_place ws) are_writes
     (rows_written (described_by 2 3 undefined) (cells_of (described_by 2 3 undefined) fourth_row.more) 3 4 new_place cut (lit≤ tt) cells_length refl)
+
+pub row_stands : RowsStand opened_file (described_by 2 3 undefined) (cells_of (described_by 2 3 undefined) fourth_row.more) 3 4 new_place fourth_row.writes
+row_stands =
+    rows_stand opened_file (described_by 2 3 undefined) (cells_of (described_by 2 3 undefined) fourth_row.more) 3 4 new_place fourth_row.writes written (one_apart (described_by 2 3 undefined) (record { address = 240; stored = false }))
 
 each_placed : (k : ℕ) (p : ChunkPlace) → slice_get new_place k ≡ Some p → IsPlaced (described_by 2 3 undefined) no_chunk second_chunk 3 k p
 each_placed zero p found = subst (λ (q : ChunkPlace). IsPlaced (described_by 2 3 undefined) no_chunk second_chunk 3 zero q) (some_place (record { address = 240; stored = false }) p found) (record {
@@ -144,9 +156,9 @@ elsewhere (suc (suc i)) h = later i
     later (suc zero) = refl
     later (suc (suc i)) = refl
 
-placed : ArePlaced open_to_write no_chunk fourth_row new_place
+placed : ArePlaced opened_file open_to_write no_chunk fourth_row new_place
 placed = record {
-  written = written;
+  written = row_stands;
   all = refl;
   placed = each_placed;
   others = λ key asked outside. elsewhere key.i (elim outside [ inl low ↦ inl low | inr high ↦ inr high ]);
@@ -186,8 +198,8 @@ all_taken = taken_from 240 618 all_new (disjoint_by all_new refl refl) inside (l
     inside u (inr (inr (inl e))) = subst (λ (y : Used). (240 ≤ y.place) × (y.place + y.len ≤ 618)) e (lit≤ tt, lit≤ tt)
     inside u (inr (inr (inr a))) = absurd a
 
-rows_part : RowsPart opened_file open_to_write no_chunk fourth_row
-rows_part = rows_flush opened_file data_name open_to_write no_chunk (places_to 240) (places_to 248) fourth_row new_place known chunk_taken (lit≤ tt) refl refl placed
+rows_part : RowsPart opened_file open_to_write known.knows.held no_chunk fourth_row
+rows_part = rows_flush opened_file data_name open_to_write no_chunk (places_to 240) (places_to 248) fourth_row new_place known.knows chunk_taken (lit≤ tt) refl refl placed
 
 -- ---- The array
 
@@ -275,7 +287,7 @@ unnamed_flush = record {
   valid = is_valid;
   file = is_file;
   opens = opens;
-  known = known;
+  known = known.knows;
   flush = is_flush;
   leads = refl;
   pieces = are_pieces;

@@ -80,7 +80,7 @@ pub record AreAloneCalls (u h v : Store) (ms : List Move) (cs fixed : List Write
 -- they are such a flush of this file, and lead to the file with the fourth row
 pub record BlockIt (u v : Store) (ms : List Move) (cs fixed supers : List Write) (w : Store) (t : Space) : Type 0 where
   pub calls : CallsBlock alone_opened data_name alone_to_write (places_to 312) (places_to 618) u v ms w t 4 seven seven_writes seven_place cs fixed supers
-  pub started : IsStarted alone_opened data_name alone_to_write t w (block_parts_for alone_to_write w 4 seven seven_writes seven_place calls.copies supers t.end)
+  pub started : IsStarted alone_opened data_name alone_to_write alone_to_write.behind t w (block_parts_for alone_to_write w 4 seven seven_writes seven_place calls.copies supers t.end)
 
 abbrev pub BlockStarts : Type 0
 BlockStarts = (u h v w : Store) (ms : List Move) (cs fixed supers : List Write) (t : Space) → AreAloneCalls u h v ms cs fixed w t → AreEnded alone_to_write.super t.end supers → BlockIt u v ms cs fixed supers w t

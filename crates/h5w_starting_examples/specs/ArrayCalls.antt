@@ -28,7 +28,7 @@ pub record AreCalls (u h v : Store) (ms : List Move) (cs fixed : List Write) (w 
 -- they start the array of this file, and lead to the file with the fourth row
 pub record StartIt (u v : Store) (ms : List Move) (cs fixed supers : List Write) (w : Store) (t : Space) : Type 0 where
   pub calls : CallsStart opened_file data_name open_to_write (places_to 240) (places_to 618) u v ms w t 4 fourth_row.more fourth_row.writes new_place cs fixed supers
-  pub started : IsStarted opened_file data_name open_to_write t w (parts_for open_to_write w 4 fourth_row.more fourth_row.writes new_place calls.copies supers t.end)
+  pub started : IsStarted opened_file data_name open_to_write open_to_write.behind t w (parts_for open_to_write w 4 fourth_row.more fourth_row.writes new_place calls.copies supers t.end)
 
 abbrev pub ArrayStarts : Type 0
 ArrayStarts = (u h v w : Store) (ms : List Move) (cs fixed supers : List Write) (t : Space) → AreCalls u h v ms cs fixed w t → AreEnded open_to_write.super t.end supers → StartIt u v ms cs fixed supers w t

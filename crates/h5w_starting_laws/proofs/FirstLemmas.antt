@@ -33,10 +33,10 @@ use Rattle.h5w_array_laws.proofs.StandLemmas.{header_placed, header_stands}
 use Rattle.h5w_array_laws.proofs.StoreLemmas.{no_move, changed_moved, clean_before, listed_before, stands_after}
 use Rattle.h5w_array_laws.proofs.VisitedLemmas.{visited}
 use Rattle.h5w_array_laws.proofs.WriteLemmas.{which_part}
-use Rattle.h5w_flush_laws.specs.Knowledge.{Knows}
+use Rattle.h5w_flush_laws.specs.Knowledge.{HeldMissed, Knows}
 use Rattle.h5w_flush_laws.specs.Spaces.{AllLive, Taken}
 use Rattle.h5w_flush_laws.specs.Parts.{AreEnded, EachSays, IsFlush, Parts, SaysInPlace, block_ranges, block_writes, committed, copied, ended, fresh_of}
-use Rattle.h5w_flush_laws.specs.Rows.{ArePlaced}
+use Rattle.h5w_flush_laws.specs.Rows.{ArePlaced, RowsPart}
 use Rattle.h5w_flush_laws.proofs.PartLemmas.{count_append}
 use Rattle.h5w_flush_laws.proofs.SpaceLemmas.{taken_laws}
 use Rattle.h5w_flush_laws.proofs.RowsLaws.{rows_flush}
@@ -160,17 +160,17 @@ pub record ShowsFirst (img : List ℕ) (m : Moment) (w : Store) (first : List (�
   pub named : IfSome f.named (λ a. (m.dataset.layout.address ≡ undefined) × (a < 2 ^ 64))
 
 -- its new rows
-pub record RisesTo (m : Moment) (t : Space) (rows : ℕ) (more : List ℤ) (f : Parts) (places : List ChunkPlace) (supers : List Write) : Type 0 where
+pub record RisesTo (img : List ℕ) (m : Moment) (t : Space) (rows : ℕ) (more : List ℤ) (f : Parts) (places : List ChunkPlace) (supers : List Write) : Type 0 where
   pub rises : m.dataset.shape.rows < rows
   pub small : rows < 2 ^ 64
   pub few : AreFew (with_rows rows m.dataset)
   pub count : length (m.values ++ more) ≡ rows * m.dataset.shape.cols
-  pub placed : ArePlaced m no_chunk f places
+  pub placed : ArePlaced img m no_chunk f places
   pub ended : AreEnded m.super t.end supers
 
 module _ (img name : List ℕ) (m : Moment) (base b t : Space) (u v w : Store) (ms : List Move) (rows : ℕ) (more : List ℤ) (writes : List Write) (places : List ChunkPlace) (copies first : List (ℕ × List ℕ)) (fixed supers in_place : List Write) (naming : Option ℕ)
     (tops : List Used) (k : Knows img name m no_chunk base) (blank : IsBlank u) (x : IsStartingPart m u v b ms w t (chunks_for m no_chunk places) copies fixed) (taken : Taken base (tops ++ chunks_for m no_chunk places) b)
-    (rising : RisesTo m t rows more (first_parts (chunk_bytes m.dataset) w rows more writes (chunks_for m no_chunk places) copies first supers t.end in_place naming) places supers)
+    (rising : RisesTo img m t rows more (first_parts (chunk_bytes m.dataset) w rows more writes (chunks_for m no_chunk places) copies first supers t.end in_place naming) places supers)
     (shows : ShowsFirst img m w first tops (first_parts (chunk_bytes m.dataset) w rows more writes (chunks_for m no_chunk places) copies first supers t.end in_place naming)) where
   abbrev chunks : List Used
   chunks = chunks_for m no_chunk places
@@ -256,10 +256,16 @@ module _ (img name : List ℕ) (m : Moment) (base b t : Space) (u v w : Store) (
   ends : AllEndBy t.end (behind_of sizes w)
   ends = ends_by m b t u v w ms chunks copies fixed blank x (λ l a. taken.live l (among_right l tops chunks a))
 
+  rows_part : RowsPart img m k.held no_chunk f
+  rows_part =
+      let some = taken_right base b tops chunks taken in
+      rows_flush img name m no_chunk base some.0 f places k some.1 rising.rises rising.few rising.count rising.placed
+
+  pub first_missed : HeldMissed k.held writes
+  first_missed = rows_part.off_held
+
   pub first_is_flush : IsFlush img m no_chunk base f t
   first_is_flush =
-      let some = taken_right base b tops chunks taken in
-      let rows_part = rows_flush img name m no_chunk base some.0 f places k some.1 rising.rises rising.few rising.count rising.placed in
       record {
         rises = rising.rises;
         small = rising.small;

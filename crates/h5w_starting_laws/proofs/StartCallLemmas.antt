@@ -52,7 +52,7 @@ two_taken base a s at place first second =
     back u (inr (inr a)) = absurd a
 
 module _ (img name : List ℕ) (m : Moment) (base b t : Space) (at place : ℕ) (blank u v w : Store) (ms : List Move) (rows : ℕ) (more : List ℤ) (writes : List Write) (places : List ChunkPlace) (cs fixed supers : List Write)
-    (k : StartKnows img name m base blank) (c : AreStartCalls m base b at place u v ms w t rows more writes places cs fixed supers) where
+    (k : StartKnows img name m base blank) (c : AreStartCalls img m base b at place u v ms w t rows more writes places cs fixed supers) where
   abbrev chunks : List Used
   chunks = chunks_for m no_chunk places
 
@@ -80,7 +80,7 @@ module _ (img name : List ℕ) (m : Moment) (base b t : Space) (at place : ℕ) 
   calls_start = record {
     copies = has.copies;
     blocks = has.writes;
-    knows = record { knows = k.knows; unnamed = k.unnamed; blank = made_blank };
+    blank = made_blank;
     start = record {
       rises = c.rises;
       small = c.small;
@@ -100,13 +100,14 @@ pub start_calls : StartCalls
 start_calls img name m base b t at place blank u v w ms rows more writes places cs fixed supers k c = calls_start img name m base b t at place blank u v w ms rows more writes places cs fixed supers k c
 
 pub start_pending : StartPending
-start_pending name log m base b t at place blank u v w ms rows more writes places cs fixed supers ws runs k c values are =
+start_pending name log m base b t at place blank u v w ms rows more writes places cs fixed supers ws k runs c values are =
     let now : List ℕ = image_now log in
     let calls = start_calls now name m base b t at place blank u v w ms rows more writes places cs fixed supers k c in
     let f : Parts = parts_for m w rows more writes places calls.copies supers t.end in
     let same : pieces_of now m f ≡ ws = calls.pieces ∙ sym are in
-    let over = start_runs name log m base b t u v w ms rows more writes places calls.copies fixed supers runs calls.knows calls.start values in
-    let leads = start_leads now name m base b t u v w ms rows more writes places calls.copies fixed supers calls.knows calls.start in
+    let known : StartKnows now name m base u = record { knows = k.knows; unnamed = k.unnamed; blank = calls.blank } in
+    let over = start_runs name log m base b t u v w ms rows more writes places calls.copies fixed supers known runs calls.start values in
+    let leads = start_leads now name m base b t u v w ms rows more writes places calls.copies fixed supers known calls.start in
     let after : Moment = first_shown m (Some (header_place w)) w rows more t.end in
     record {
       runs = subst (λ (xs : List Write). Runs name (and_now (plans (length xs)) log) xs after (behind_of (chunk_bytes m.dataset) w)) same over.runs;

@@ -4,9 +4,9 @@ use Rattle.std.specs.Prelude.{Some, ℤ}
 use Rattle.h5w_model.specs.Images.{image}
 use Rattle.h5w_model.specs.Arrays.{eahd_len, eaib_len}
 use Rattle.h5w_model.specs.Datasets.{Described}
-use Rattle.h5w_model.specs.Findings.{Used, chunk_bytes}
+use Rattle.h5w_model.specs.Findings.{Used}
 use Rattle.h5w_model.specs.declared.piece.Write.{Write}
-use Rattle.h5w_visits.specs.Ranges.{Among, AllAmong, block_at}
+use Rattle.h5w_visits.specs.Ranges.{AllAmong, block_at}
 use Rattle.h5w_space.specs.Space.{Space}
 use Rattle.h5w_cache.specs.Stores.{Store, times}
 use Rattle.h5w_cache.specs.declared.moves.Move.{Move}
@@ -18,18 +18,19 @@ use Rattle.h5w_array_laws.specs.ArrayStores.{place_at_part, bytes_at_part, heade
 use Rattle.h5w_array_laws.specs.ArrayImages.{StandsArray, SaysArray}
 use Rattle.h5w_array_laws.specs.ArrayPlans.{IsArrayPlan}
 use Rattle.h5w_array_laws.proofs.StandLemmas.{header_length, index_length, standing_says}
+use Rattle.h5w_flush_laws.specs.Knowledge.{HeldMissed}
 use Rattle.h5w_flush_laws.specs.Spaces.{Taken}
 use Rattle.h5w_flush_laws.specs.Parts.{Parts, IsFlush, block_ranges, block_writes, committed, copied}
 use Rattle.h5w_array_flushes.specs.ArrayFlushes.{chunks_for}
 use Rattle.h5w_starting_laws.specs.Starting.{no_chunk, IsNowhere, StartKnows}
 use Rattle.h5w_starting_laws.specs.StartFlushes.{first_blocks, parts_for, IsStart, StartIsFlush}
 use Rattle.h5w_starting_laws.proofs.FirstLemmas as first
-use Rattle.h5w_starting_laws.proofs.FirstLemmas.{ShowsFirst}
+use Rattle.h5w_starting_laws.proofs.FirstLemmas.{RisesTo, ShowsFirst}
 use Rattle.h5w_starting_laws.proofs.StartLemmas.{unnamed_nowhere}
 use Rattle.h5w_starting_laws.proofs.StartPieceLemmas.{copy_writes}
 
 module _ (img name : List ℕ) (m : Moment) (base b t : Space) (u v w : Store) (ms : List Move) (rows : ℕ) (more : List ℤ) (writes : List Write) (places : List ChunkPlace) (copies : List (ℕ × List ℕ)) (fixed supers : List Write)
-    (r : StartKnows img name m base u) (x : IsStart m base b u v ms w t rows more writes places copies fixed supers) where
+    (r : StartKnows img name m base u) (x : IsStart img m base b u v ms w t rows more writes places copies fixed supers) where
   abbrev f : Parts
   f = parts_for m w rows more writes places copies supers t.end
 
@@ -97,10 +98,16 @@ module _ (img name : List ℕ) (m : Moment) (base b t : Space) (u v w : Store) (
   taken : Taken base (fixed_of w ++ chunks) b
   taken = subst (λ (us : List Used). Taken base (us ++ chunks) b) (sym same_after) x.taken
 
+  rising : RisesTo img m t rows more f places supers
+  rising = record { rises = x.rises; small = x.small; few = x.few; count = x.count; placed = x.placed; ended = x.ended }
+
   is_flush : IsFlush img m no_chunk base (parts_for m w rows more writes places copies supers t.end) t
   is_flush =
-      first.first_is_flush img name m base b t u v w ms rows more writes places copies (first_blocks w) fixed supers [] (Some (header_place w)) (fixed_of w) r.knows r.blank x.part taken
-      (record { rises = x.rises; small = x.small; few = x.few; count = x.count; placed = x.placed; ended = x.ended }) shows
+      first.first_is_flush img name m base b t u v w ms rows more writes places copies (first_blocks w) fixed supers [] (Some (header_place w)) (fixed_of w) r.knows r.blank x.part taken rising shows
+
+  pub start_missed : HeldMissed r.knows.held writes
+  start_missed =
+      first.first_missed img name m base b t u v w ms rows more writes places copies (first_blocks w) fixed supers [] (Some (header_place w)) (fixed_of w) r.knows r.blank x.part taken rising shows
 
 pub start_is_flush : StartIsFlush
 start_is_flush img name m base b t u v w ms rows more writes places copies fixed supers r x = is_flush img name m base b t u v w ms rows more writes places copies fixed supers r x

@@ -24,7 +24,7 @@ use Rattle.h5w_array_laws.proofs.StandLemmas.{header_length, index_length}
 use Rattle.h5w_array_laws.proofs.WriteLemmas.{which_part}
 use Rattle.h5w_array_laws.proofs.CreatedLemmas.{created_starts}
 use Rattle.h5w_flush_laws.specs.Spaces.{extent_of, AllLive, Taken}
-use Rattle.h5w_flush_laws.specs.Knowledge.{Knows}
+use Rattle.h5w_flush_laws.specs.Knowledge.{KnownHeld}
 use Rattle.h5w_flush_laws.proofs.SpaceLemmas.{have_no_byte, apart_back, committed_live}
 use Rattle.h5w_flush_laws.proofs.KnownLaws.{begin_knows, end_known}
 use Rattle.h5w_flush_laws.proofs.FlushLaws.{freed_known}
@@ -110,31 +110,28 @@ blank_standing s v a blank off live = record {
 -- ---- What is known
 
 pub start_begins : StartBegins
-start_begins img name m s v r unnamed layout begun blank = record {
-  knows = begin_knows img name m no_chunk s r (unnamed_nowhere img name m r unnamed.address).map begun (λ e. layout);
-  unnamed = unnamed;
-  blank = blank;
-}
+start_begins img name m s v r unnamed layout begun blank =
+    let k = begin_knows img name m no_chunk s r (unnamed_nowhere img name m r unnamed.address).map begun (λ e. layout) in
+    (record { knows = k.knows; unnamed = unnamed; blank = blank }, k.is)
 
 pub blank_map : BlankMap
 blank_map v blank = λ j key. blank.map key.i j
 
 pub start_of : StartOf
-start_of img name m address s v k unnamed blank same = record {
-  knows = subst (λ (f : Key → ℕ). Knows img name m f s) (λ j key. (same key ∙ blank.map key.i) j) k;
-  unnamed = unnamed;
-  blank = blank;
-}
+start_of img name m address s v k unnamed blank same =
+    let here : KnownHeld img name m address s k.held = record { knows = k; is = refl } in
+    let known = subst (λ (f : Key → ℕ). KnownHeld img name m f s k.held) (λ j key. (same key ∙ blank.map key.i) j) here in
+    (record { knows = known.knows; unnamed = unnamed; blank = blank }, known.is)
 
 pub start_ends : StartEnds
-start_ends img name m n s v w r e fits = record {
-  knows = end_known img name m n no_chunk s w r.knows e fits;
-  unnamed = subst (λ (x : Moment). IsUnnamed x.dataset) (sym e.is) r.unnamed;
-  blank = r.blank;
-}
+start_ends img name m n s v w r e fits =
+    let known = end_known img name m n no_chunk s w r.knows e fits in
+    (record { knows = known.knows; unnamed = subst (λ (x : Moment). IsUnnamed x.dataset) (sym e.is) r.unnamed; blank = r.blank }, known.is)
 
 pub start_freed : StartFreed
-start_freed img name m s t v r c = record { knows = freed_known img name m no_chunk s t c r.knows; unnamed = r.unnamed; blank = r.blank }
+start_freed img name m s t v r c =
+    let known = freed_known img name m no_chunk s t c r.knows in
+    (record { knows = known.knows; unnamed = r.unnamed; blank = r.blank }, known.is)
 
 pub same_fixed : (v u : Store) → ((n : ℕ) → place_of u n ≡ place_of v n) → fixed_of u ≡ fixed_of v
 same_fixed v u places =
@@ -154,28 +151,33 @@ start_takes img name m base s at place v u r taken created fits fits_too =
     let blank = created_blank at place u created low lower in
     let here : Taken base (fixed_of u) s =
     subst (λ p. Taken base (block_at p eahd_len ∷ block_at (place_at_part u index_block) eaib_len ∷ []) s) (sym created.header_at)
-    (subst (λ p. Taken base (block_at at eahd_len ∷ block_at p eaib_len ∷ []) s) (sym created.index_at) taken) in
-    record {
-      start = record { knows = r.knows; unnamed = r.unnamed; blank = blank };
-      taken = here;
-      array = array;
-      standing = blank_standing s u array blank here.apart here.live;
-    }
+    (subst (λ p. Taken base (block_at at eahd_len ∷ block_at p eaib_len ∷ []) s) (sym created.index_at) taken) in (
+      record {
+        start = record { knows = r.knows; unnamed = r.unnamed; blank = blank };
+        taken = here;
+        array = array;
+        standing = blank_standing s u array blank here.apart here.live;
+      },
+      refl,
+    )
 
-rests_freed : (img name : List ℕ) (m : Moment) (base s t : Space) (v : Store) → StartRests img name m base s v → Commits s t → StartRests img name m base t v
-rests_freed img name m base s t v r c = record {
-  start = r.start;
-  taken = record {
-    apart = r.taken.apart;
-    off_live = r.taken.off_live;
-    live = λ u a. committed_live s t c (extent_of u) (r.taken.live u a);
-    stays_live = λ x live. committed_live s t c x (r.taken.stays_live x live);
-    rises = omega (arith, r.taken.rises, c.end);
-    end = ends r.taken.end;
-  };
-  array = r.array;
-  standing = standing_freed v s t c r.standing;
-}
+rests_freed : (img name : List ℕ) (m : Moment) (base s t : Space) (v : Store) → (r : StartRests img name m base s v) → Commits s t → (x : StartRests img name m base t v) × (x.start.knows.held ≡ r.start.knows.held)
+rests_freed img name m base s t v r c = (
+  record {
+    start = r.start;
+    taken = record {
+      apart = r.taken.apart;
+      off_live = r.taken.off_live;
+      live = λ u a. committed_live s t c (extent_of u) (r.taken.live u a);
+      stays_live = λ x live. committed_live s t c x (r.taken.stays_live x live);
+      rises = omega (arith, r.taken.rises, c.end);
+      end = ends r.taken.end;
+    };
+    array = r.array;
+    standing = standing_freed v s t c r.standing;
+  },
+  refl,
+)
   where
     ends : (s.end ≡ base.end) ⊎ ((u : Used) × Among u (fixed_of v) × (u.place + u.len ≡ s.end)) → (t.end ≡ base.end) ⊎ ((u : Used) × Among u (fixed_of v) × (u.place + u.len ≡ t.end))
     ends (inl e) = inl (c.end ∙ e)
@@ -183,12 +185,17 @@ rests_freed img name m base s t v r c = record {
 
 pub rests_stay : RestsStay
 rests_stay = record {
-  ends = λ img name m n base s v w r e fits. record { start = start_ends img name m n base v w r.start e fits; taken = r.taken; array = r.array; standing = r.standing };
-  held = λ img name m base s v u r array map places behind standing. record {
-    start = record { knows = r.start.knows; unnamed = r.start.unnamed; blank = blank_held v u r.start.blank map places behind };
-    taken = subst (λ (us : List Used). Taken base us s) (sym (same_fixed v u places)) r.taken;
-    array = array;
-    standing = standing r.standing;
-  };
+  ends = λ img name m n base s v w r e fits.
+      let start = start_ends img name m n base v w r.start e fits in
+      (record { start = start.0; taken = r.taken; array = r.array; standing = r.standing }, start.1);
+  held = λ img name m base s v u r array map places behind standing. (
+    record {
+      start = record { knows = r.start.knows; unnamed = r.start.unnamed; blank = blank_held v u r.start.blank map places behind };
+      taken = subst (λ (us : List Used). Taken base us s) (sym (same_fixed v u places)) r.taken;
+      array = array;
+      standing = standing r.standing;
+    },
+    refl,
+  );
   freed = rests_freed;
 }

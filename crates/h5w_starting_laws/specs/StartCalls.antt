@@ -29,7 +29,7 @@ use Rattle.h5w_flush_laws.specs.Parts.{AreEnded, block_writes, committed, pieces
 use Rattle.h5w_flush_laws.specs.Rows.{ArePlaced}
 use Rattle.h5w_array_flushes.specs.ArrayFlushes.{chunks_for}
 use Rattle.h5w_array_flushes.specs.ArrayBegins.{Begins}
-use Rattle.h5w_starting_laws.specs.Starting.{no_chunk, StartKnows}
+use Rattle.h5w_starting_laws.specs.Starting.{no_chunk, IsBlank, StartKnows}
 use Rattle.h5w_starting_laws.specs.StartFlushes.{IsStart, parts_for}
 
 -- an array is made, its header at `at` and its index block at `place`
@@ -47,7 +47,7 @@ pub record NamesChunks (bytes : ℕ) (u : Store) (chunks : List Used) (v : Store
   pub behind : AreAmong (behind_of bytes v) (chunks ++ behind_of bytes u)
 
 -- the calls of such a flush
-pub record AreStartCalls (m : Moment) (base b : Space) (at place : ℕ) (u v : Store) (ms : List Move) (w : Store) (t : Space) (rows : ℕ) (more : List ℤ) (writes : List Write) (places : List ChunkPlace)
+pub record AreStartCalls (img : List ℕ) (m : Moment) (base b : Space) (at place : ℕ) (u v : Store) (ms : List Move) (w : Store) (t : Space) (rows : ℕ) (more : List ℤ) (writes : List Write) (places : List ChunkPlace)
     (cs fixed supers : List Write) : Type 0 where
   pub rises : m.dataset.shape.rows < rows
   pub small : rows < 2 ^ 64
@@ -57,7 +57,7 @@ pub record AreStartCalls (m : Moment) (base b : Space) (at place : ℕ) (u v : S
   pub taken : Taken base (block_at at eahd_len ∷ block_at place eaib_len ∷ chunks_for m no_chunk places) b
   pub made : IsMade at place u
   pub names : NamesChunks (chunk_bytes m.dataset) u (chunks_for m no_chunk places) v
-  pub placed : (copies : List (ℕ × List ℕ)) → ArePlaced m no_chunk (parts_for m w rows more writes places copies supers t.end) places
+  pub placed : (copies : List (ℕ × List ℕ)) → ArePlaced img m no_chunk (parts_for m w rows more writes places copies supers t.end) places
   pub plan : IsArrayPlan v b ms cs fixed w t
   pub ended : AreEnded m.super t.end supers
 
@@ -72,14 +72,14 @@ pub record CallsStart (img name : List ℕ) (m : Moment) (base b : Space) (u v :
     (cs fixed supers : List Write) : Type 0 where
   pub copies : List (ℕ × List ℕ)
   pub blocks : cs ≡ block_writes copies
-  pub knows : StartKnows img name m base u
-  pub start : IsStart m base b u v ms w t rows more writes places copies fixed supers
+  pub blank : IsBlank u
+  pub start : IsStart img m base b u v ms w t rows more writes places copies fixed supers
   pub pieces : pieces_of img m (parts_for m w rows more writes places copies supers t.end)
       ≡ writes ++ (cs ++ (fixed ++ (supers ++ commit_at img m.place rows (Some (header_place w)) ∷ [])))
 
 abbrev pub StartCalls : Type 0
 StartCalls = (img name : List ℕ) (m : Moment) (base b t : Space) (at place : ℕ) (blank u v w : Store) (ms : List Move) (rows : ℕ) (more : List ℤ) (writes : List Write) (places : List ChunkPlace) (cs fixed supers : List Write)
-    → StartKnows img name m base blank → AreStartCalls m base b at place u v ms w t rows more writes places cs fixed supers
+    → StartKnows img name m base blank → AreStartCalls img m base b at place u v ms w t rows more writes places cs fixed supers
     → CallsStart img name m base b u v ms w t rows more writes places cs fixed supers
 
 -- The file once all pieces of such a flush are shown: it has the new rows, its ranges are the array's, and where its header named none it names
@@ -104,6 +104,6 @@ pub record ArePending (name : List ℕ) (log : Log) (m : Moment) (named : Option
 -- A session whose log has come to such a file plans that flush, of all values that were appended.
 abbrev pub StartPending : Type 0
 StartPending = (name : List ℕ) (log : Log) (m : Moment) (base b t : Space) (at place : ℕ) (blank u v w : Store) (ms : List Move) (rows : ℕ) (more : List ℤ) (writes : List Write) (places : List ChunkPlace)
-    (cs fixed supers ws : List Write) → Runs name log [] m m.behind → StartKnows (image_now log) name m base blank → AreStartCalls m base b at place u v ms w t rows more writes places cs fixed supers
+    (cs fixed supers ws : List Write) → (k : StartKnows (image_now log) name m base blank) → Runs name log [] m k.knows.held → AreStartCalls (image_now log) m base b at place u v ms w t rows more writes places cs fixed supers
     → m.values ++ more ≡ appended log
     → ws ≡ writes ++ (cs ++ (fixed ++ (supers ++ commit_at (image_now log) m.place rows (Some (header_place w)) ∷ []))) → ArePending name log m (Some (header_place w)) w t rows more ws

@@ -73,7 +73,7 @@ parts_for m w rows more writes places copies supers last = starting_parts (chunk
 
 -- What a session shows of such a flush, over the places as they were before any were taken for it. Rows that were there before and had no
 -- chunk have the fill, which a new chunk has in them.
-pub record IsStart (m : Moment) (base b : Space) (u v : Store) (ms : List Move) (w : Store) (t : Space) (rows : ℕ) (more : List ℤ) (writes : List Write) (places : List ChunkPlace) (copies : List (ℕ × List ℕ))
+pub record IsStart (img : List ℕ) (m : Moment) (base b : Space) (u v : Store) (ms : List Move) (w : Store) (t : Space) (rows : ℕ) (more : List ℤ) (writes : List Write) (places : List ChunkPlace) (copies : List (ℕ × List ℕ))
     (fixed supers : List Write) : Type 0 where
   pub rises : m.dataset.shape.rows < rows
   pub small : rows < 2 ^ 64
@@ -81,7 +81,7 @@ pub record IsStart (m : Moment) (base b : Space) (u v : Store) (ms : List Move) 
   pub count : length (m.values ++ more) ≡ rows * m.dataset.shape.cols
   -- the places of the array's two blocks and of the new chunks, in whatever order they were taken
   pub taken : Taken base (fixed_of u ++ chunks_for m no_chunk places) b
-  pub placed : ArePlaced m no_chunk (parts_for m w rows more writes places copies supers t.end) places
+  pub placed : ArePlaced img m no_chunk (parts_for m w rows more writes places copies supers t.end) places
   pub part : IsStartingPart m u v b ms w t (chunks_for m no_chunk places) copies fixed
   pub ended : AreEnded m.super t.end supers
 
@@ -118,22 +118,22 @@ StartPieces = (img : List ℕ) (m : Moment) (s t : Space) (u v w : Store) (ms : 
 -- It is a flush.
 abbrev pub StartIsFlush : Type 0
 StartIsFlush = (img name : List ℕ) (m : Moment) (base b t : Space) (u v w : Store) (ms : List Move) (rows : ℕ) (more : List ℤ) (writes : List Write) (places : List ChunkPlace) (copies : List (ℕ × List ℕ))
-    (fixed supers : List Write) → StartKnows img name m base u → IsStart m base b u v ms w t rows more writes places copies fixed supers
+    (fixed supers : List Write) → StartKnows img name m base u → IsStart img m base b u v ms w t rows more writes places copies fixed supers
     → IsFlush img m no_chunk base (parts_for m w rows more writes places copies supers t.end) t
 
 -- Its pieces are safe steps. Once all are shown, the session knows the file by its array, which rests, with the places as the flush left
 -- them and where what was let go is free: so each later flush is that of an array that is there. And chunk 0 of the header is what its
 -- piece wrote.
-pub record IsStarted (img name : List ℕ) (m : Moment) (t : Space) (w : Store) (f : Parts) : Type 0 where
-  pub safe : Flush img m m.behind (pieces_of img m f) (flushed_to m f) f.behind
+pub record IsStarted (img name : List ℕ) (m : Moment) (held : List Used) (t : Space) (w : Store) (f : Parts) : Type 0 where
+  pub safe : Flush img m held (pieces_of img m f) (flushed_to m f) f.behind
   pub begins : Begins (image img (pieces_of img m f)) name (flushed_to m f) t w
   pub freed : (v : Space) → Commits t v → Begins (image img (pieces_of img m f)) name (flushed_to m f) v w
   pub header : chunk_0 (image img (pieces_of img m f)) m.place ≡ with_rows_bytes (chunk_0 img m.place) f.rows f.named
 
 abbrev pub StartLeads : Type 0
 StartLeads = (img name : List ℕ) (m : Moment) (base b t : Space) (u v w : Store) (ms : List Move) (rows : ℕ) (more : List ℤ) (writes : List Write) (places : List ChunkPlace) (copies : List (ℕ × List ℕ))
-    (fixed supers : List Write) → StartKnows img name m base u → IsStart m base b u v ms w t rows more writes places copies fixed supers
-    → IsStarted img name m t w (parts_for m w rows more writes places copies supers t.end)
+    (fixed supers : List Write) → (k : StartKnows img name m base u) → IsStart img m base b u v ms w t rows more writes places copies fixed supers
+    → IsStarted img name m k.knows.held t w (parts_for m w rows more writes places copies supers t.end)
 
 -- The same over a session's log: a flush is planned of all values that were appended. After any of its pieces the log is that of a run with
 -- the others pending (the laws of a session say so); after all of them the session rests, and so does its array.
@@ -144,5 +144,5 @@ pub record IsStartedOver (name : List ℕ) (log : Log) (m : Moment) (t : Space) 
 
 abbrev pub StartRuns : Type 0
 StartRuns = (name : List ℕ) (log : Log) (m : Moment) (base b t : Space) (u v w : Store) (ms : List Move) (rows : ℕ) (more : List ℤ) (writes : List Write) (places : List ChunkPlace) (copies : List (ℕ × List ℕ))
-    (fixed supers : List Write) → Runs name log [] m m.behind → StartKnows (image_now log) name m base u → IsStart m base b u v ms w t rows more writes places copies fixed supers
+    (fixed supers : List Write) → (k : StartKnows (image_now log) name m base u) → Runs name log [] m k.knows.held → IsStart (image_now log) m base b u v ms w t rows more writes places copies fixed supers
     → m.values ++ more ≡ appended log → IsStartedOver name log m t w (parts_for m w rows more writes places copies supers t.end)

@@ -70,21 +70,23 @@ CreatedBlank = (at place : ℕ) (v : Store) → IsCreated at place v → at < un
 abbrev pub BlankMap : Type 0
 BlankMap = (v : Store) → IsBlank v → ◌≡◌ {A = Key → ℕ} (λ key. map_of v key.i) no_chunk
 
--- A session begins with such a file: the places begin at its end.
+-- A session begins with such a file: the places begin at its end, and readers hold no more than what it has.
 abbrev pub StartBegins : Type 0
-StartBegins = (img name : List ℕ) (m : Moment) (s : Space) (v : Store) → Represents img name m → IsUnnamed m.dataset → LayoutInChunk0 img m.place → IsBegun m s → IsBlank v → StartKnows img name m s v
+StartBegins = (img name : List ℕ) (m : Moment) (s : Space) (v : Store) → Represents img name m → IsUnnamed m.dataset → LayoutInChunk0 img m.place → IsBegun m s → IsBlank v
+    → (x : StartKnows img name m s v) × (x.knows.held ≡ m.behind)
 
 -- A file that is known by the map of a blank array is known so.
 abbrev pub StartOf : Type 0
-StartOf = (img name : List ℕ) (m : Moment) (address : Key → ℕ) (s : Space) (v : Store) → Knows img name m address s → IsUnnamed m.dataset → IsBlank v → ((key : Key) → address key ≡ map_of v key.i) → StartKnows img name m s v
+StartOf = (img name : List ℕ) (m : Moment) (address : Key → ℕ) (s : Space) (v : Store) → (k : Knows img name m address s) → IsUnnamed m.dataset → IsBlank v → ((key : Key) → address key ≡ map_of v key.i)
+    → (x : StartKnows img name m s v) × (x.knows.held ≡ k.held)
 
 -- The superblock with other flags leaves that known.
 abbrev pub StartEnds : Type 0
-StartEnds = (img name : List ℕ) (m n : Moment) (s : Space) (v : Store) (w : Write) → StartKnows img name m s v → Ends img m w n → n.super.end ≤ s.end → StartKnows (apply w img) name n s v
+StartEnds = (img name : List ℕ) (m n : Moment) (s : Space) (v : Store) (w : Write) → (k : StartKnows img name m s v) → Ends img m w n → n.super.end ≤ s.end → (x : StartKnows (apply w img) name n s v) × (x.knows.held ≡ k.knows.held)
 
 -- So do places where what was let go is free.
 abbrev pub StartFreed : Type 0
-StartFreed = (img name : List ℕ) (m : Moment) (s t : Space) (v : Store) → StartKnows img name m s v → Commits s t → StartKnows img name m t v
+StartFreed = (img name : List ℕ) (m : Moment) (s t : Space) (v : Store) → (k : StartKnows img name m s v) → Commits s t → (x : StartKnows img name m t v) × (x.knows.held ≡ k.knows.held)
 
 -- A change of a blank array that leaves its map, its places and its ranges leaves it blank, as where blocks are held and then memory runs out.
 abbrev pub BlankHeld : Type 0
@@ -92,15 +94,17 @@ BlankHeld = (v u : Store) → IsBlank v → ((i : ℕ) → map_of u i ≡ map_of
 
 -- Two places are taken, and an array is made there.
 abbrev pub StartTakes : Type 0
-StartTakes = (img name : List ℕ) (m : Moment) (base s : Space) (at place : ℕ) (v u : Store) → StartKnows img name m base v → Taken base (block_at at eahd_len ∷ block_at place eaib_len ∷ []) s
-    → IsCreated at place u → at + eahd_len < 2 ^ 64 → place + eaib_len < 2 ^ 64 → StartRests img name m base s u
+StartTakes = (img name : List ℕ) (m : Moment) (base s : Space) (at place : ℕ) (v u : Store) → (k : StartKnows img name m base v) → Taken base (block_at at eahd_len ∷ block_at place eaib_len ∷ []) s
+    → IsCreated at place u → at + eahd_len < 2 ^ 64 → place + eaib_len < 2 ^ 64 → (x : StartRests img name m base s u) × (x.start.knows.held ≡ k.knows.held)
 
 -- Where they were taken before the flush, the superblock with other flags, an array that is held and places that are free leave that known.
 pub record RestsStay : Type 0 where
-  pub ends : (img name : List ℕ) (m n : Moment) (base s : Space) (v : Store) (w : Write) → StartRests img name m base s v → Ends img m w n → n.super.end ≤ base.end → StartRests (apply w img) name n base s v
-  pub held : (img name : List ℕ) (m : Moment) (base s : Space) (v u : Store) → StartRests img name m base s v → IsArray u → ((i : ℕ) → map_of u i ≡ map_of v i)
-      → ((n : ℕ) → place_of u n ≡ place_of v n) → ((bytes : ℕ) → behind_of bytes u ≡ behind_of bytes v) → (Standing v s → Standing u s) → StartRests img name m base s u
-  pub freed : (img name : List ℕ) (m : Moment) (base s t : Space) (v : Store) → StartRests img name m base s v → Commits s t → StartRests img name m base t v
+  pub ends : (img name : List ℕ) (m n : Moment) (base s : Space) (v : Store) (w : Write) → (r : StartRests img name m base s v) → Ends img m w n → n.super.end ≤ base.end
+      → (x : StartRests (apply w img) name n base s v) × (x.start.knows.held ≡ r.start.knows.held)
+  pub held : (img name : List ℕ) (m : Moment) (base s : Space) (v u : Store) → (r : StartRests img name m base s v) → IsArray u → ((i : ℕ) → map_of u i ≡ map_of v i)
+      → ((n : ℕ) → place_of u n ≡ place_of v n) → ((bytes : ℕ) → behind_of bytes u ≡ behind_of bytes v) → (Standing v s → Standing u s)
+      → (x : StartRests img name m base s u) × (x.start.knows.held ≡ r.start.knows.held)
+  pub freed : (img name : List ℕ) (m : Moment) (base s t : Space) (v : Store) → (r : StartRests img name m base s v) → Commits s t → (x : StartRests img name m base t v) × (x.start.knows.held ≡ r.start.knows.held)
 
 -- Places that were taken together are taken in any order.
 abbrev pub TakenAgain : Type 0

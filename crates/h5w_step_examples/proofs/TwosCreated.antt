@@ -31,7 +31,7 @@ represents_created : Represents (image_now created_twos) data_name with_none
 unfolding headers.first_of numbers_in mix_line mixed finish_line finished added rounds sum_of prefix_at msgs_in header_at messages_at prefix_bytes data_in_header rows_in_header index_in_header rows_changed header_view apply first_pieces pieces value_at links_at find_link shape_tests shape_fields shape_at int_type_tests int_type_fields int_type_at fill_tests fill_fields fill_at fill_value_bytes layout_fields layout_at num le halvings width_of
 represents_created = record {
   super = refl;
-  root = refl;
+  root = record { own = with_none.root; others = []; is = refl; checked = refl; ends = λ u a. absurd a };
   header = refl;
   index = index_created;
   apart = disjoint_by (all_used with_none) refl refl;

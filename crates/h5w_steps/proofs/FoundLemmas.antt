@@ -1,5 +1,5 @@
 -- A file at a moment is valid and reads as its values; and a valid file is one at a moment.
-use Rattle.std.proofs.Common.{◌≡◌, ℕ, ◌*◌, ◌/◌, ◌%◌, ◌<◌, List, ◌∷◌, ◌++◌, length, Option, Some, None, Result, Ok, Err, refl, sym, ◌∙◌, ap, subst, arith, append_assoc}
+use Rattle.std.proofs.Common.{◌≡◌, ℕ, ◌*◌, ◌/◌, ◌%◌, ◌<◌, ◌⊎◌, List, [], ◌∷◌, ◌++◌, length, Option, Some, None, Result, Ok, Err, refl, sym, ◌∙◌, ap, subst, inl, inr, arith, append_assoc, append-nil}
 use Rattle.std.specs.Prelude.{nat_lt, ℤ, slice_get}
 use Rattle.std.proofs.lemmas.Bool.{cond-false}
 use Rattle.h5w_model.specs.Numbers.{range}
@@ -12,23 +12,24 @@ use Rattle.h5w_model.specs.declared.refusal.ReadError.TheVariants as read_errors
 use Rattle.h5w_laws.proofs.AnswerLemmas.{same_ok}
 use Rattle.h5w_laws.proofs.ResultLemmas.{and_then_ok, and_then_from}
 use Rattle.h5w_laws.proofs.ValidLemmas.{place_ok, dataset_ok}
-use Rattle.h5w_visits.specs.Ranges.{AllSome, Disjoint}
+use Rattle.h5w_visits.specs.Ranges.{Among, AllSome, Disjoint}
 use Rattle.h5w_visits.specs.Indexes.{IsIndex}
-use Rattle.h5w_visits.proofs.RangeLemmas.{some_cons, some_joined}
+use Rattle.h5w_visits.proofs.RangeLemmas.{among_left, among_right, among_split, some_cons, some_joined}
 use Rattle.h5w_visits.proofs.OverlapLemmas.{overlap_laws}
 use Rattle.h5w_visits.proofs.HeaderLaws.{root_tells, header_tells}
 use Rattle.h5w_visits.proofs.IndexLaws.{checked_index}
 use Rattle.h5w_visits.proofs.NeededLaws.{table_laws}
-use Rattle.h5w_steps.specs.Moments.{Moment, Represents, reading_of, all_used}
+use Rattle.h5w_steps.specs.Moments.{Moment, HasRoot, Represents, reading_of, all_used}
 use Rattle.h5w_steps.specs.Logs.{MomentFound}
 use Rattle.h5w_steps.specs.Sessions.{Opens}
+use Rattle.h5w_steps.proofs.PartLemmas.{disjoint_right}
 
 -- ---- From a moment
 
 -- a file but for its values
 pub record Bare (img name : List ℕ) (m : Moment) : Type 0 where
   pub super : checked_super (length img) (range img 0 48) ≡ Ok m.super
-  pub root : eval img (checked_root name m.super) ≡ Ok (m.place, m.root)
+  pub root : HasRoot img name m.super m.place m.root
   pub header : eval img (checked_dataset format_limits m.super m.place) ≡ Ok (m.dataset, m.header)
   pub index : IsIndex img m.super.end m.dataset m.fixed m.behind
   pub apart : Disjoint (all_used m)
@@ -44,7 +45,7 @@ bare_shows img name m r =
     let header = dataset_ok img m.super m.place (d, m.header) r.header in
     let table = ap (eval img) (cond-false (nat_lt (limit_of format_limits d.layout.index) (needed d)) (ret (Err (read_errors.TooManyChunks (needed d) (limit_of format_limits d.layout.index)))) (table_of d (needed_keys d)) header.1) ∙ r.table in
     and_then_from img (dataset_place name) (λ at. and_then (dataset at) (λ d. and_then (needed_table format_limits d) (λ t. ret (Ok (record { place = at; dataset = d; table = t }))))) m.place shown
-    (place_ok img name m.super (m.place, m.root) r.super r.root)
+    (place_ok img name m.super (m.place, r.root.own) r.super r.root.checked)
     (and_then_from img (dataset m.place) (λ d. and_then (needed_table format_limits d) (λ t. ret (Ok (record { place = m.place; dataset = d; table = t })))) d shown header.0
     (and_then_from img (needed_table format_limits d) (λ t. ret (Ok (record { place = m.place; dataset = d; table = t }))) m.table shown table refl))
 
@@ -54,17 +55,39 @@ moment_shows img name m r = bare_shows img name m (bare_of img name m r)
 abbrev pub verdict_of : Super → Described → List Used → Option Finding → Result Summary Finding
 verdict_of s d us o = elim o [ None ↦ Ok (summary s d us) | Some f ↦ Err f ]
 
+-- ranges that do not meet, without some among them
+pub disjoint_drop : (us vs ws : List Used) → Disjoint ((us ++ vs) ++ ws) → Disjoint (us ++ ws)
+disjoint_drop [] vs ws d = disjoint_right vs ws d
+disjoint_drop (x ∷ us) vs ws d = (d.0, λ v a. d.1 v (go v (among_split v us ws a)), disjoint_drop us vs ws d.2)
+  where
+    go : (v : Used) → Among v us ⊎ Among v ws → Among v ((us ++ vs) ++ ws)
+    go v (inl a) = among_left v (us ++ vs) ws (among_left v us vs a)
+    go v (inr a) = among_right v (us ++ vs) ws a
+
 -- the ranges as the check lists them
 pub listed : (m : Moment) → the_superblock ∷ m.root ++ m.header ++ (m.fixed ++ m.behind) ≡ all_used m
 listed m = ap (λ (us : List Used). the_superblock ∷ us) (append_assoc m.root m.header (m.fixed ++ m.behind))
 
-pub moment_valid : (img name : List ℕ) (m : Moment) → Represents img name m → Valid img name (summary m.super m.dataset (the_superblock ∷ m.root ++ m.header ++ (m.fixed ++ m.behind)))
+-- those of the dataset alone
+abbrev pub own_used : Moment → List Used → List Used
+own_used m root = the_superblock ∷ root ++ m.header ++ (m.fixed ++ m.behind)
+
+own_apart : (img name : List ℕ) (m : Moment) → (r : Represents img name m) → Disjoint (own_used m r.root.own)
+own_apart img name m r =
+    let h = r.root in
+    let rest : List Used = m.header ++ (m.fixed ++ m.behind) in
+    let all : Disjoint (the_superblock ∷ ((h.own ++ h.others) ++ rest)) = subst (λ (us : List Used). Disjoint (the_superblock ∷ (us ++ rest))) h.is r.apart in
+    let joined : the_superblock ∷ h.own ++ m.header ++ (m.fixed ++ m.behind) ≡ the_superblock ∷ (h.own ++ rest) = ap (λ (us : List Used). the_superblock ∷ us) (append_assoc h.own m.header (m.fixed ++ m.behind)) in
+    subst (λ (us : List Used). Disjoint us) (sym joined) (disjoint_drop (the_superblock ∷ h.own) h.others rest all)
+
+pub moment_valid : (img name : List ℕ) (m : Moment) → (r : Represents img name m) → Valid img name (summary m.super m.dataset (own_used m r.root.own))
 moment_valid img name m r =
     let s : Super = m.super in
     let d : Described = m.dataset in
-    let us : List Used = the_superblock ∷ m.root ++ m.header ++ (m.fixed ++ m.behind) in
+    let own : List Used = r.root.own in
+    let us : List Used = own_used m own in
     let sm : Summary = summary s d us in
-    let none : overlap_of (by_place us) ≡ None = overlap_laws.none us (subst (λ (xs : List Used). Disjoint xs) (sym (listed m)) r.apart) in
+    let none : overlap_of (by_place us) ≡ None = overlap_laws.none us (own_apart img name m r) in
     and_then_from img (ret (checked_super (length img) (range img 0 48))) (λ s.
     and_then (checked_root name s) (λ root.
     and_then (checked_dataset format_limits s root.0) (λ d.
@@ -73,11 +96,11 @@ moment_valid img name m r =
     (and_then_from img (checked_root name s) (λ root.
     and_then (checked_dataset format_limits s root.0) (λ d.
     and_then (index_visit s.end d.0) (λ us.
-    ret (verdict s d.0 (the_superblock ∷ root.1 ++ d.1 ++ us))))) (m.place, m.root) sm r.root
+    ret (verdict s d.0 (the_superblock ∷ root.1 ++ d.1 ++ us))))) (m.place, own) sm r.root.checked
     (and_then_from img (checked_dataset format_limits s m.place) (λ d.
     and_then (index_visit s.end d.0) (λ us.
-    ret (verdict s d.0 (the_superblock ∷ m.root ++ d.1 ++ us)))) (d, m.header) sm r.header
-    (and_then_from img (index_visit s.end d) (λ us. ret (verdict s d (the_superblock ∷ m.root ++ m.header ++ us))) (m.fixed ++ m.behind) sm r.index.checked
+    ret (verdict s d.0 (the_superblock ∷ own ++ d.1 ++ us)))) (d, m.header) sm r.header
+    (and_then_from img (index_visit s.end d) (λ us. ret (verdict s d (the_superblock ∷ own ++ m.header ++ us))) (m.fixed ++ m.behind) sm r.index.checked
     (ap (verdict_of s d us) none))))
 
 pub moment_reads : (img name : List ℕ) (m : Moment) → Represents img name m → Reads img name m.dataset.shape.rows m.dataset.shape.cols m.values
@@ -85,7 +108,7 @@ moment_reads img name m r = record { shown = reading_of m; shows = moment_shows 
 
 pub moment_found : MomentFound
 moment_found img name m r =
-    record { summary = summary m.super m.dataset (the_superblock ∷ m.root ++ m.header ++ (m.fixed ++ m.behind)); valid = moment_valid img name m r; reads = moment_reads img name m r }
+    record { summary = summary m.super m.dataset (own_used m r.root.own); valid = moment_valid img name m r; reads = moment_reads img name m r }
 
 -- whatever the image shows is what is known of it
 pub shown_is : (img name : List ℕ) (m : Moment) (r : Reading) → Represents img name m → Shows format_limits img name r → r ≡ reading_of m
@@ -157,7 +180,7 @@ bare_opened img name values o =
     (some_joined o.root (o.header ++ (c.fixed ++ c.behind)) root.some (some_joined o.header (c.fixed ++ c.behind) header.some (c.index.some header.sized.bytes))) in
     let all : the_superblock ∷ o.root ++ o.header ++ o.ranges ≡ all_used m = ap (λ (us : List Used). the_superblock ∷ o.root ++ o.header ++ us) c.parts ∙ listed m in
     let none : overlap_of (by_place (all_used m)) ≡ None = subst (λ (us : List Used). overlap_of (by_place us) ≡ None) all o.none in
-    (m, record { super = o.of_super; root = o.of_root; header = o.of_header; index = c.index; apart = overlap_laws.apart (all_used m) some none; table = table.1.found }, refl)
+    (m, record { super = o.of_super; root = record { own = o.root; others = []; is = sym (append-nil o.root); checked = o.of_root; ends = λ u a. absurd a }; header = o.of_header; index = c.index; apart = overlap_laws.apart (all_used m) some none; table = table.1.found }, refl)
 
 -- what an image reads as, told of what it shows
 abbrev pub ReadsAs : List ℕ → ℕ → ℕ → List ℤ → Reading → Type 0

@@ -18,13 +18,13 @@ use Rattle.h5w_model.proofs.ImageLemmas.{image-push, Apart-part, Apart-sym}
 use Rattle.h5w_laws.proofs.AnswerLemmas.{same_ok}
 use Rattle.h5w_laws.proofs.LogLemmas.{length_hist, image_earlier}
 use Rattle.h5w_laws.proofs.EventLemmas.{event_laws}
-use Rattle.h5w_visits.specs.Ranges.{Among, AllAmong, AllEndBy, AllWithin, AreApart, Disjoint, MissesBlocks}
-use Rattle.h5w_visits.proofs.RangeLemmas.{among_left, among_right, among_split, ends_right, ends_joined, ends_later, within_more}
-use Rattle.h5w_steps.specs.Moments.{Moment, Represents, reading_of, front_of, all_used}
+use Rattle.h5w_visits.specs.Ranges.{Among, AllAmong, AllEndBy, AllWithin, AreApart, AllSome, Disjoint, MissesBlocks}
+use Rattle.h5w_visits.proofs.RangeLemmas.{among_left, among_right, among_split, ends_right, ends_joined, ends_later, some_joined, within_more}
+use Rattle.h5w_steps.specs.Moments.{Moment, Represents, reading_of, front_of, moved_of, all_used}
 use Rattle.h5w_steps.specs.Steps.{Step, unseen, ends, switches, commits, OffAll, Clear, HeldBehind}
 use Rattle.h5w_steps.specs.Logs.{image_now, IsPast, Goes, PieceGoes, EventGoes, BeginGoes}
-use Rattle.h5w_steps.proofs.PartLemmas.{apart_sym, disjoint_two}
-use Rattle.h5w_steps.proofs.MomentLemmas.{lies_missed, Parts, parts_of}
+use Rattle.h5w_steps.proofs.PartLemmas.{apart_sym, disjoint_some, disjoint_two}
+use Rattle.h5w_steps.proofs.MomentLemmas.{in_behind, lies_missed, Parts, parts_of}
 use Rattle.h5w_steps.proofs.StepRepresents.{chunk_lies, step_represents}
 use Rattle.h5w_steps.proofs.StepStays.{step_follows, step_stays}
 use Rattle.h5w_steps.proofs.FoundLemmas.{moment_found, shown_is}
@@ -44,6 +44,7 @@ pub record Holds (m : Moment) (held : List Used) : Type 0 where
   pub reaches : AllAmong m.behind held
   pub off_front : OffAll held (front_of m)
   pub ends : AllEndBy m.super.end held
+  pub some : AllSome held
   pub clear : Clear held m
 
 -- what stands behind the blocks in place is off what stands before
@@ -81,6 +82,7 @@ holds_behind img name m r = record {
   reaches = λ u a. a;
   off_front = behind_front m r.apart;
   ends = ends_right m.super.end m.fixed m.behind r.index.ends;
+  some = λ u a. disjoint_some (all_used m) r.apart u (in_behind m u a);
   clear = behind_clear m r.apart;
 }
 
@@ -125,7 +127,7 @@ step_holds img name m held w n after r h (unseen u off is same) =
     subst (λ (us : List Used). Holds n us) (sym same) (subst (λ (x : Moment). Holds x held) (sym is) h)
 step_holds img name m held w n after r h (ends e same) =
     subst (λ (us : List Used). Holds n us) (sym same) (subst (λ (x : Moment). Holds x held) (sym e.is)
-    (record { reaches = h.reaches; off_front = h.off_front; ends = ends_later m.super.end n.super.end held e.rises h.ends; clear = h.clear }))
+    (record { reaches = h.reaches; off_front = h.off_front; ends = ends_later m.super.end n.super.end held e.rises h.ends; some = h.some; clear = h.clear }))
 step_holds img name m held w n after r h (switches s off clear same) =
     let next = step_represents img name m held w n after r (switches s off clear same) in
     let own = holds_behind (apply w img) name n next in
@@ -134,6 +136,7 @@ step_holds img name m held w n after r h (switches s off clear same) =
       reaches = λ u a. among_left u n.behind held a;
       off_front = off_joined n.behind held (front_of n) own.off_front (off_next m n held s.is h.off_front off);
       ends = ends_joined n.super.end n.behind held own.ends (subst (λ e. AllEndBy e held) end h.ends);
+      some = some_joined n.behind held own.some h.some;
       clear = clear_joined n.behind held n own.clear clear;
     })
 step_holds img name m held w n after r h (commits c same) =
@@ -142,7 +145,11 @@ step_holds img name m held w n after r h (commits c same) =
 
 -- ---- A piece meets nothing that is held
 
-pub step_misses : (img : List ℕ) (m : Moment) (held : List Used) (w : Write) (n : Moment) (after : List Used) → OffAll held (front_of m) → Step img m held w n after → MissesBlocks w held
+pub moved_front : (m : Moment) (u : Used) → Among u (moved_of m) → Among u (front_of m)
+moved_front m u (inl e) = inl e
+moved_front m u (inr a) = inr (among_right u m.root (m.header ++ m.fixed) a)
+
+pub step_misses : (img : List ℕ) (m : Moment) (held : List Used) (w : Write) (n : Moment) (after : List Used) → OffAll held (moved_of m) → Step img m held w n after → MissesBlocks w held
 step_misses img m held w n after off (unseen s misses is same) u a block = misses u a block
 step_misses img m held w n after off (ends e same) u a block =
     let place = e.place in
@@ -150,9 +157,9 @@ step_misses img m held w n after off (ends e same) u a block =
     Apart-part 0 48 u.place u.len w.at (length w.piece) u.place u.len (omega arith) (omega (arith, place, len)) (omega arith) (omega arith)
     (Apart-sym u.place u.len 0 48 (off u the_superblock a (inl refl)))
 step_misses img m held w n after off (switches s other clear same) u a block =
-    lies_missed w m.fixed held s.inside (λ x y b c. apart_sym y x (off y x c (inr (among_right x m.root (m.header ++ m.fixed) (among_right x m.header m.fixed b))))) u a
+    lies_missed w m.fixed held s.inside (λ x y b c. apart_sym y x (off y x c (inr (among_right x m.header m.fixed b)))) u a
 step_misses img m held w n after off (commits c same) u a block =
-    lies_missed w m.header held (chunk_lies m w c.inside) (λ x y b d. apart_sym y x (off y x d (inr (among_right x m.root (m.header ++ m.fixed) (among_left x m.header m.fixed b))))) u a
+    lies_missed w m.header held (chunk_lies m w c.inside) (λ x y b d. apart_sym y x (off y x d (inr (among_left x m.header m.fixed b)))) u a
 
 pub misses_within : (w : Write) (us : List Used) (vs : List Visit) → AllWithin us vs → MissesBlocks w us → MissesAll w vs
 misses_within w us [] h off = tt
@@ -256,7 +263,7 @@ still_now name log m held w n after g s =
     let img : List ℕ = image_now log in
     let here : image_at new k ≡ img = image_earlier (shows w) log k (omega arith) ∙ image_last log k (omega arith) in
     let there : image_at new (k + 1) ≡ apply w img = image_last new (k + 1) (omega arith) ∙ image_pushed log w in
-    let off = step_misses img m held w n after g.off_front s in
+    let off = step_misses img m held w n after (λ u v a b. g.off_front u v a (moved_front m v b)) s in
     record {
       steps = λ r t shows_r shows_t.
           let is_r : r ≡ reading_of m = shown_is img name m r g.now (subst (λ (i : List ℕ). Shows format_limits i name r) here shows_r) in
@@ -283,7 +290,7 @@ piece_goes name log m held w n after g s values =
     let begun = g.begun in
     let pushed = image_pushed log w in
     let next : Represents (image_now new) name n = subst (λ (i : List ℕ). Represents i name n) (sym pushed) (step_represents img name m held w n after g.now s) in
-    let h = step_holds img name m held w n after g.now (record { reaches = g.reaches; off_front = g.off_front; ends = g.ends; clear = g.clear }) s in
+    let h = step_holds img name m held w n after g.now (record { reaches = g.reaches; off_front = g.off_front; ends = g.ends; some = g.some; clear = g.clear }) s in
     let f = step_follows img name m held w n after g.now s in
     let columns : n.dataset.shape.cols ≡ log.columns = ap (λ d. d.shape.cols) f.described.rows_alone ∙ g.columns in
     let on = step_onward img m held w n after s in
@@ -303,6 +310,7 @@ piece_goes name log m held w n after g s values =
           ];
       off_front = h.off_front;
       ends = h.ends;
+      some = h.some;
       clear = h.clear;
       prefixed = event_laws.prefixed name (shows w) log g.prefixed (λ low. reads_now name new n next values g.some_columns columns);
       still = event_laws.still_piece name w log g.still (λ low. still_now name log m held w n after g s);
@@ -332,6 +340,7 @@ event_goes name e log m held same values g =
           moved_past new p m held r (image_at log p) earlier past.rows past.reached;
       off_front = g.off_front;
       ends = g.ends;
+      some = g.some;
       clear = g.clear;
       prefixed = event_laws.prefixed name e log g.prefixed (λ low. reads_now name new m now values g.some_columns g.columns);
       still = event_laws.still name e log same g.still;
@@ -350,6 +359,7 @@ begin_goes name log m first now values some columns prefixed =
       past = λ p r low high shows_r. past_now log p name m m.behind r (image_last log p (omega (arith, low, first))) now h.reaches shows_r;
       off_front = h.off_front;
       ends = h.ends;
+      some = h.some;
       clear = h.clear;
       prefixed = prefixed;
       still = λ k low high. absurd (omega (arith, low, high, first, length_hist log.events));

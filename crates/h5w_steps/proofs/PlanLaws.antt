@@ -99,8 +99,12 @@ all_end img name m r long u a = first a
     third (inl b) = (header_of img name m r).ends u b
     third (inr b) = r.index.ends u b
 
+    in_root : Among u r.root.own ⊎ Among u r.root.others → u.place + u.len ≤ m.super.end
+    in_root (inl b) = (root_tells img name m.super m.place r.root.own r.root.checked).ends u b
+    in_root (inr b) = r.root.ends u b
+
     second : Among u m.root ⊎ Among u (m.header ++ (m.fixed ++ m.behind)) → u.place + u.len ≤ m.super.end
-    second (inl b) = (root_tells img name m.super m.place m.root r.root).ends u b
+    second (inl b) = in_root (among_split u r.root.own r.root.others (subst (λ (us : List Used). Among u us) r.root.is b))
     second (inr b) = third (among_split u m.header (m.fixed ++ m.behind) b)
 
     first : (the_superblock ≡ u) ⊎ Among u (m.root ++ (m.header ++ (m.fixed ++ m.behind))) → u.place + u.len ≤ m.super.end

@@ -4,6 +4,8 @@ use Rattle.std.proofs.lemmas.Bool.{leb-true}
 use Rattle.h5w_model.specs.Numbers.{range}
 use Rattle.h5w_model.specs.Images.{apply, Misses}
 use Rattle.h5w_model.specs.Superblock.{super_at, super_tests, super_fields}
+use Rattle.h5w_model.specs.Programs.{visits, Same}
+use Rattle.h5w_model.specs.Datasets.{root_header}
 use Rattle.h5w_model.specs.Tables.{format_limits}
 use Rattle.h5w_model.specs.Findings.{Used, the_superblock, checked_super}
 use Rattle.h5w_model.specs.declared.root.Super.{Super}
@@ -15,7 +17,7 @@ use Rattle.h5w_visits.proofs.RangeLemmas.{among_left, among_right, among_split, 
 use Rattle.h5w_visits.proofs.HeaderLaws.{root_tells, root_missed, header_tells, header_missed}
 use Rattle.h5w_visits.proofs.IndexLaws.{index_missed, index_by_end}
 use Rattle.h5w_visits.proofs.NeededLaws.{table_laws}
-use Rattle.h5w_steps.specs.Moments.{Moment, Represents, HasCells, all_used}
+use Rattle.h5w_steps.specs.Moments.{Moment, Represents, HasCells, HasRoot, all_used}
 use Rattle.h5w_steps.specs.Steps.{Unseen, Ends, LiesIn, Switches, InChunk0, Commits, Step, unseen, ends, switches, commits}
 use Rattle.h5w_steps.proofs.PartLemmas.{apart_sym, disjoint_left, disjoint_right}
 use Rattle.h5w_steps.proofs.MomentLemmas.{super_parts, super_from, inside, header_of, few, table_of_file, cells_missed, lies_missed, all_missed, in_root, in_header, in_index, Parts, parts_of}
@@ -47,6 +49,17 @@ super_long img s h =
     let p = checked-passed (super_tests b) (super_fields b) s (super_parts (length img) b s h).read in
     omega (arith, leb-true 48 (length b) p.0.1.0, length-range img 0 48)
 
+-- the root header, with what stands behind it
+pub record RootLeft (w : Write) (img name : List ℕ) (s : Super) (place : ℕ) (us : List Used) : Type 0 where
+  pub there : HasRoot (apply w img) name s place us
+  pub same : Same img (apply w img) (visits img (root_header s.root))
+
+pub root_left : (w : Write) (img name : List ℕ) (s : Super) (place : ℕ) (us : List Used) → HasRoot img name s place us → s.end ≤ length img → MissesBlocks w us → RootLeft w img name s place us
+root_left w img name s place us h inside off =
+    let own : MissesBlocks w h.own = λ u a b. off u (subst (λ (xs : List Used). Among u xs) (sym h.is) (among_left u h.own h.others a)) b in
+    let left = root_missed w img name s place h.own h.checked inside own in
+    record { there = record { own = h.own; others = h.others; is = h.is; checked = left.left; ends = h.ends }; same = left.same }
+
 -- the image of a file, after a write that leaves all that a reader reaches
 pub unseen_represents : (img name : List ℕ) (m : Moment) (w : Write) → Represents img name m → Unseen m w → Represents (apply w img) name m
 unseen_represents img name m w r u =
@@ -58,7 +71,7 @@ unseen_represents img name m w r u =
     let index = blocks_missed w (m.fixed ++ m.behind) (all_used m) (in_index m) u.off_blocks in
     record {
       super = super_left w img s r.super (super_long img s r.super) (u.off_blocks the_superblock (inl refl) refl);
-      root = (root_missed w img name s m.place m.root r.root in_image (blocks_missed w m.root (all_used m) (in_root m) u.off_blocks)).left;
+      root = (root_left w img name s m.place m.root r.root in_image (blocks_missed w m.root (all_used m) (in_root m) u.off_blocks)).there;
       header = (header_missed w img format_limits s m.place m.dataset m.header r.header in_image (blocks_missed w m.header (all_used m) (in_header m) u.off_blocks)).left;
       index = (index_missed w img s.end m.dataset m.fixed m.behind r.index in_image index).left;
       apart = r.apart;
@@ -86,8 +99,8 @@ ends_represents img name m n w r e =
     let off_header : MissesBlocks w m.header = λ u a b. off u (among_right u m.root (m.header ++ (m.fixed ++ m.behind)) (among_left u m.header (m.fixed ++ m.behind) a)) in
     let off_index : MissesEach w (m.fixed ++ m.behind) = λ u a. off u (among_right u m.root (m.header ++ (m.fixed ++ m.behind)) (among_right u m.header (m.fixed ++ m.behind) a)) in
     let header = header_of img name m r in
-    let root = root_missed w img name s m.place m.root r.root in_image off_root in
-    let root_there = root_tells new name s m.place m.root root.left in
+    let root = (root_left w img name s m.place m.root r.root in_image off_root).there in
+    let root_there = root_tells new name s m.place root.own root.checked in
     let head = header_missed w img format_limits s m.place m.dataset m.header r.header in_image off_header in
     let head_there = header_tells new format_limits s m.place m.dataset m.header head.left in
     let index = index_missed w img s.end m.dataset m.fixed m.behind r.index in_image (each_blocks w (m.fixed ++ m.behind) off_index) in
@@ -97,7 +110,13 @@ ends_represents img name m n w r e =
     let longer = apply-grows w img in
     subst (λ (x : Moment). Represents new name x) (sym e.is) (record {
       super = super_from (length new) (range new 0 48) t (record { read = ap super_at there ∙ e.reads; swmr = e.swmr; inside = omega (arith, end_in, longer) });
-      root = root_there.by_end t e.root (ends_later s.end t.end m.root e.rises root_there.ends);
+      root = record {
+        own = root.own;
+        others = root.others;
+        is = root.is;
+        checked = root_there.by_end t e.root (ends_later s.end t.end root.own e.rises root_there.ends);
+        ends = ends_later s.end t.end root.others e.rises root.ends;
+      };
       header = head_there.by_end t (ends_later s.end t.end m.header e.rises head_there.ends);
       index = index_by_end new s.end t.end m.dataset m.fixed m.behind index.left (ends_later s.end t.end (m.fixed ++ m.behind) e.rises index.left.ends);
       apart = r.apart;
@@ -134,7 +153,7 @@ switches_represents img name m n w r s =
     let off_header : MissesBlocks w m.header = λ u a b. off u (inr (among_right u m.root m.header a)) in
     subst (λ (x : Moment). Represents new name x) (sym s.is) (record {
       super = super_left w img m.super r.super (super_long img m.super r.super) (off the_superblock (inl refl));
-      root = (root_missed w img name m.super m.place m.root r.root in_image off_root).left;
+      root = (root_left w img name m.super m.place m.root r.root in_image off_root).there;
       header = (header_missed w img format_limits m.super m.place m.dataset m.header r.header in_image off_header).left;
       index = s.index;
       apart = subst (λ (x : Moment). Disjoint (all_used x)) s.is s.apart;
@@ -183,7 +202,7 @@ commits_represents img name m n w r c =
     let values : n.values ≡ m.values ++ c.more = ap (λ (x : Moment). x.values) c.is in
     subst (λ (x : Moment). Represents new name x) (sym c.is) (record {
       super = super_left w img m.super r.super (super_long img m.super r.super) (off the_superblock (inl refl));
-      root = (root_missed w img name m.super m.place m.root r.root in_image off_root).left;
+      root = (root_left w img name m.super m.place m.root r.root in_image off_root).there;
       header = c.header;
       index = c.index;
       apart = subst (λ (x : Moment). Disjoint (all_used x)) c.is c.apart;

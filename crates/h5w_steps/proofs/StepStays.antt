@@ -21,12 +21,12 @@ use Rattle.h5w_laws.proofs.StaysLemmas.{defined_itself, described_itself, header
 use Rattle.h5w_visits.specs.Ranges.{AllEndBy, MissesBlocks, block_at, visits_of}
 use Rattle.h5w_visits.specs.Headers.{HeaderChecked}
 use Rattle.h5w_visits.proofs.RangeLemmas.{among_left, among_right, ends_left, missed_stay}
-use Rattle.h5w_visits.proofs.HeaderLaws.{root_missed, header_missed}
+use Rattle.h5w_visits.proofs.HeaderLaws.{header_missed}
 use Rattle.h5w_visits.proofs.IndexLaws.{place_same}
 use Rattle.h5w_steps.specs.Moments.{Moment, Represents, reading_of, all_used}
 use Rattle.h5w_steps.specs.Steps.{Step, unseen, ends, switches, commits}
 use Rattle.h5w_steps.proofs.MomentLemmas.{nested, inside, root_at, header_of, in_root, in_header, in_fixed}
-use Rattle.h5w_steps.proofs.StepRepresents.{blocks_missed, ends_missed, fixed_missed, header_off, chunk_lies, continued_missed, step_represents}
+use Rattle.h5w_steps.proofs.StepRepresents.{root_left, blocks_missed, ends_missed, fixed_missed, header_off, chunk_lies, continued_missed, step_represents}
 
 -- ---- Cells by row and column
 
@@ -100,7 +100,7 @@ pub record Follows (img : List ℕ) (m : Moment) (w : Write) (n : Moment) : Type
 
 pub stay_root : (w : Write) (img name : List ℕ) (m : Moment) → Represents img name m → MissesBlocks w m.root → Same img (apply w img) (visits img (root_header (root_address img)))
 stay_root w img name m r off =
-    let left = root_missed w img name m.super m.place m.root r.root (inside img name m r) off in
+    let left = root_left w img name m.super m.place m.root r.root (inside img name m r) off in
     subst (λ a. Same img (apply w img) (visits img (root_header a))) (sym (root_at img name m r)) left.same
 
 pub stay_continued : (w : Write) (img name : List ℕ) (m : Moment) → Represents img name m → MissesBlocks w (behind_first m.header) → Same img (apply w img) (continuation_blocks img (reading_of m))

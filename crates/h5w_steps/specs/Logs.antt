@@ -6,7 +6,7 @@ use Rattle.h5w_model.specs.Tables.{Reading, Shows, Reads, format_limits}
 use Rattle.h5w_model.specs.Findings.{Used, Summary, Valid}
 use Rattle.h5w_model.specs.Prefixed.{image_at, PrefixedEach, Still}
 use Rattle.h5w_model.specs.declared.piece.Write.{Write}
-use Rattle.h5w_visits.specs.Ranges.{AllAmong, AllEndBy}
+use Rattle.h5w_visits.specs.Ranges.{AllAmong, AllEndBy, AllSome}
 use Rattle.h5w_steps.specs.Moments.{Moment, front_of, Represents}
 use Rattle.h5w_steps.specs.Steps.{OffAll, Clear, HeldBehind, Step}
 
@@ -30,6 +30,7 @@ pub record Goes (name : List ℕ) (log : Log) (m : Moment) (held : List Used) : 
   pub past : (p : ℕ) (r : Reading) → log.first ≤ p → p ≤ shown log.events → Shows format_limits (image_at log p) name r → IsPast log p m held r
   pub off_front : OffAll held (front_of m)
   pub ends : AllEndBy m.super.end held
+  pub some : AllSome held
   pub clear : Clear held m
   pub prefixed : PrefixedEach name log
   pub still : Still name log

@@ -9,7 +9,7 @@ use Rattle.h5w_model.specs.Tables.{Reading, chunk_address, cell_offset, cell, ta
 use Rattle.h5w_model.specs.Findings.{Used, the_superblock, checked_super, checked_root, checked_dataset}
 use Rattle.h5w_model.specs.declared.root.Super.{Super}
 use Rattle.h5w_model.specs.declared.piece.Write.{Write}
-use Rattle.h5w_visits.specs.Ranges.{Disjoint}
+use Rattle.h5w_visits.specs.Ranges.{AllEndBy, Disjoint}
 use Rattle.h5w_visits.specs.Indexes.{IsIndex}
 
 -- A file: its superblock, the dataset header's place and what it says, the ranges of the root header, of the dataset
@@ -29,9 +29,13 @@ pub record Moment : Type 0 where
 abbrev pub reading_of : Moment → Reading
 reading_of m = record { place = m.place; dataset = m.dataset; table = m.table }
 
--- the ranges that are written again where they stand
+-- the ranges that stay where they stand
 abbrev pub front_of : Moment → List Used
 front_of m = the_superblock ∷ (m.root ++ (m.header ++ m.fixed))
+
+-- those of them that are written again where they stand: the superblock, the header and the index's blocks in place
+abbrev pub moved_of : Moment → List Used
+moved_of m = the_superblock ∷ (m.header ++ m.fixed)
 
 abbrev pub all_used : Moment → List Used
 all_used m = the_superblock ∷ (m.root ++ (m.header ++ (m.fixed ++ m.behind)))
@@ -54,10 +58,18 @@ cell_place m k = chunk_of m k + cell_offset m.dataset (row_of m k) (column_of m 
 abbrev pub HasCells : List ℕ → Moment → Type 0
 HasCells img m = (k : ℕ) → k < length m.values → cell img (reading_of m) (row_of m k) (column_of m k) ≡ slice_get m.values k
 
+-- The root header has the first of these ranges; behind them stand those of other datasets, which this one has nothing to do with.
+pub record HasRoot (img name : List ℕ) (s : Super) (place : ℕ) (us : List Used) : Type 0 where
+  pub own : List Used
+  pub others : List Used
+  pub is : us ≡ own ++ others
+  pub checked : eval img (checked_root name s) ≡ Ok (place, own)
+  pub ends : AllEndBy s.end others
+
 -- the image is this file
 pub record Represents (img name : List ℕ) (m : Moment) : Type 0 where
   pub super : checked_super (length img) (range img 0 48) ≡ Ok m.super
-  pub root : eval img (checked_root name m.super) ≡ Ok (m.place, m.root)
+  pub root : HasRoot img name m.super m.place m.root
   pub header : eval img (checked_dataset format_limits m.super m.place) ≡ Ok (m.dataset, m.header)
   pub index : IsIndex img m.super.end m.dataset m.fixed m.behind
   pub apart : Disjoint (all_used m)

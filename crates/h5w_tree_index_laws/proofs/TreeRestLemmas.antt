@@ -19,7 +19,7 @@ use Rattle.h5w_header_laws.specs.Files.{commit_at}
 use Rattle.h5w_steps.specs.Moments.{Moment, all_used}
 use Rattle.h5w_steps.proofs.MomentLemmas.{in_behind, in_fixed, parts_of}
 use Rattle.h5w_flush_laws.specs.Spaces.{AllLive}
-use Rattle.h5w_flush_laws.specs.Knowledge.{Knows}
+use Rattle.h5w_flush_laws.specs.Knowledge.{HeldMissed, Knows}
 use Rattle.h5w_flush_laws.specs.Parts.{IsFlush, Parts, block_writes, flushed_to, pieces_of}
 use Rattle.h5w_flush_laws.proofs.FlushLemmas.{after_apart, supers_miss}
 use Rattle.h5w_flush_laws.proofs.FlushLaws.{final_image, index_missed_by_header, live_after}
@@ -59,7 +59,7 @@ tree_begins img place h = record { nodes = λ p clean. inl refl; header = λ e. 
 
 module _ (img name : List ℕ) (m : Moment) (old : Key → ℕ) (s b t : Space) (place : ℕ) (v w : Index) (ms : List Move) (rows : ℕ) (more : List ℤ) (writes : List Write) (chunks : List Used) (copies : List (ℕ × List ℕ))
     (supers fixed : List Write) (last : ℕ) (k : Knows img name m old s) (are : AreChunks chunks) (i : IsFlush img m old s (tree_parts (chunk_bytes m.dataset) place w rows more writes chunks copies supers last fixed) t)
-    (x : IsTreePart img m place v b ms w t chunks copies fixed) where
+    (missed : HeldMissed k.held writes) (x : IsTreePart img m place v b ms w t chunks copies fixed) where
   abbrev bytes : ℕ
   bytes = chunk_bytes m.dataset
 
@@ -99,11 +99,11 @@ module _ (img name : List ℕ) (m : Moment) (old : Key → ℕ) (s b t : Space) 
   nodes_ended : StandsTree w ended_at
   nodes_ended =
       tree_left w copied_at supers is_index nodes_copied
-      (λ p clean n. supers_miss img name m old s t f k i (node_range (place_of p.depth p.tree)) (among_right (node_range (place_of p.depth p.tree)) (header_range place ∷ []) (behind_of bytes w) (node_in p clean n.ends)))
+      (λ p clean n. supers_miss img name m old s t f k i missed (node_range (place_of p.depth p.tree)) (among_right (node_range (place_of p.depth p.tree)) (header_range place ∷ []) (behind_of bytes w) (node_in p clean n.ends)))
 
   -- the header's write meets no node
   off_header : (u : Used) → Among u (behind_of bytes w) → AreApart (header_range place) u
-  off_header u a = (parts_of (flushed_to m f) (after_apart img name m old s t f k i)).fixed (header_range place) u (inl refl) a
+  off_header u a = (parts_of (flushed_to m f) (after_apart img name m old s t f k i missed)).fixed (header_range place) u (inl refl) a
 
   fixed_miss : (u : Used) → Among u (behind_of bytes w) → AllMiss fixed u.place u.len
   fixed_miss u a = subst (λ (ws : List Write). AllMiss ws u.place u.len) (sym x.plan.in_place) (go (cases_Bool (clean_of v.depth v.root)))
@@ -121,7 +121,7 @@ module _ (img name : List ℕ) (m : Moment) (old : Key → ℕ) (s b t : Space) 
   nodes_all : StandsTree w (image last_at (commit_at last_at m.place rows None ∷ []))
   nodes_all =
       tree_left w last_at (commit_at last_at m.place rows None ∷ []) is_index nodes_last
-      (λ p clean n. (index_missed_by_header img name m old s t f k i (node_range (place_of p.depth p.tree)) (among_right (node_range (place_of p.depth p.tree)) (header_range place ∷ []) (behind_of bytes w) (node_in p clean n.ends)), tt))
+      (λ p clean n. (index_missed_by_header img name m old s t f k i missed (node_range (place_of p.depth p.tree)) (among_right (node_range (place_of p.depth p.tree)) (header_range place ∷ []) (behind_of bytes w) (node_in p clean n.ends)), tt))
 
   -- ---- The header
 
@@ -140,7 +140,7 @@ module _ (img name : List ℕ) (m : Moment) (old : Key → ℕ) (s b t : Space) 
   header_ended : clean_of v.depth v.root ≡ true → found_on ended_at
   header_ended e =
       names_again place w img ended_at
-      (range-image_missed copied_at supers place bthd_len (supers_miss img name m old s t f k i (header_range place) header_among) header_end
+      (range-image_missed copied_at supers place bthd_len (supers_miss img name m old s t f k i missed (header_range place) header_among) header_end
       ∙ header_stays img name m old s b i.between t place v w ms writes chunks copies supers last fixed k i.taken i.end i.super i.written.unseen are i.index.kept x)
       (subst (λ (u : Index). HeaderNames place u img) (sym (unchanged e)) (x.stands.header e))
 
@@ -156,29 +156,29 @@ module _ (img name : List ℕ) (m : Moment) (old : Key → ℕ) (s b t : Space) 
   header_all : found_on (image last_at (commit_at last_at m.place rows None ∷ []))
   header_all =
       names_again place w last_at (image last_at (commit_at last_at m.place rows None ∷ []))
-      (range-image_missed last_at (commit_at last_at m.place rows None ∷ []) place bthd_len (index_missed_by_header img name m old s t f k i (header_range place) header_among, tt)
+      (range-image_missed last_at (commit_at last_at m.place rows None ∷ []) place bthd_len (index_missed_by_header img name m old s t f k i missed (header_range place) header_among, tt)
       (omega (arith, header_end, image-grows copied_at supers, image-grows ended_at fixed)))
       header_last
 
   all_stands : TreeStands place w (image img (pieces_of img m f))
-  all_stands = subst (λ (y : List ℕ). TreeStands place w y) (sym (final_image img name m old s t f k i)) (record { nodes = nodes_all; header = λ e. header_all })
+  all_stands = subst (λ (y : List ℕ). TreeStands place w y) (sym (final_image img name m old s t f k i missed)) (record { nodes = nodes_all; header = λ e. header_all })
 
   all_live : AllLive t ((header_range place ∷ []) ++ behind_of bytes w)
-  all_live u a = live_after img name m old s t f k i u (in_index u a)
+  all_live u a = live_after img name m old s t f k i missed u (in_index u a)
     where
       in_index : (u : Used) → Among u ((header_range place ∷ []) ++ behind_of bytes w) → Among u (all_used (flushed_to m f))
       in_index u (inl e) = in_fixed (flushed_to m f) u (inl e)
       in_index u (inr a) = in_behind (flushed_to m f) u a
 
 pub tree_rests_then : TreeRestsThen
-tree_rests_then img name m old s b t place v w ms rows more writes chunks copies supers fixed last k are i x = record {
+tree_rests_then img name m old s b t place v w ms rows more writes chunks copies supers fixed last k are i missed x = record {
   kind = x.kind;
   at_place = x.at_place;
   defined = x.defined;
-  index = is_index img name m old s b t place v w ms rows more writes chunks copies supers fixed last k are i x;
-  clean = is_clean img name m old s b t place v w ms rows more writes chunks copies supers fixed last k are i x;
-  stands = all_stands img name m old s b t place v w ms rows more writes chunks copies supers fixed last k are i x;
-  live = all_live img name m old s b t place v w ms rows more writes chunks copies supers fixed last k are i x;
+  index = is_index img name m old s b t place v w ms rows more writes chunks copies supers fixed last k are i missed x;
+  clean = is_clean img name m old s b t place v w ms rows more writes chunks copies supers fixed last k are i missed x;
+  stands = all_stands img name m old s b t place v w ms rows more writes chunks copies supers fixed last k are i missed x;
+  live = all_live img name m old s b t place v w ms rows more writes chunks copies supers fixed last k are i missed x;
   fixed = refl;
   behind = refl;
   map = λ key. refl;

@@ -18,7 +18,7 @@ use Rattle.h5w_space.specs.Space.{Space, IsLive}
 use Rattle.h5w_cache.specs.declared.moves.Move.{Move}
 use Rattle.h5w_steps.specs.Moments.{Moment}
 use Rattle.h5w_flush_laws.specs.Spaces.{AllLive, LetGo, Taken, extent_of}
-use Rattle.h5w_flush_laws.specs.Knowledge.{IsAsked, Knows}
+use Rattle.h5w_flush_laws.specs.Knowledge.{HeldMissed, IsAsked, Knows}
 use Rattle.h5w_flush_laws.specs.Parts.{Parts, AllUnseen, AreEnded, IndexFlushed, IsFlush, block_ranges, block_writes, flushed_to, pieces_of}
 use Rattle.h5w_flush_laws.specs.Rows.{ArePlaced, new_chunks}
 use Rattle.h5w_bt_index.specs.Marks.{clean_of}
@@ -116,7 +116,7 @@ chunks_for m old places = new_chunks m.dataset old m.dataset.shape.rows 0 places
 abbrev pub TreeIsFlush : Type 0
 TreeIsFlush = (img name : List ℕ) (m : Moment) (old : Key → ℕ) (s b t : Space) (place : ℕ) (v w : Index) (ms : List Move) (rows : ℕ) (more : List ℤ) (writes : List Write) (places : List ChunkPlace)
     (copies : List (ℕ × List ℕ)) (supers fixed : List Write) → Knows img name m old s → Taken s (chunks_for m old places) b → m.dataset.shape.rows < rows → rows < 2 ^ 64 → AreFew (with_rows rows m.dataset)
-    → length (m.values ++ more) ≡ rows * m.dataset.shape.cols → ArePlaced m old (tree_parts (chunk_bytes m.dataset) place w rows more writes (chunks_for m old places) copies supers t.end fixed) places
+    → length (m.values ++ more) ≡ rows * m.dataset.shape.cols → ArePlaced img m old (tree_parts (chunk_bytes m.dataset) place w rows more writes (chunks_for m old places) copies supers t.end fixed) places
     → AreEnded m.super t.end supers → IsTreePart img m place v b ms w t (chunks_for m old places) copies fixed
     → IsFlush img m old s (tree_parts (chunk_bytes m.dataset) place w rows more writes (chunks_for m old places) copies supers t.end fixed) t
 
@@ -137,7 +137,7 @@ pub record TreeRests (img : List ℕ) (m : Moment) (old : Key → ℕ) (s : Spac
 -- So it does again once all pieces of such a flush are shown, with the places as the flush left them: what was let go is not free yet.
 abbrev pub TreeRestsThen : Type 0
 TreeRestsThen = (img name : List ℕ) (m : Moment) (old : Key → ℕ) (s b t : Space) (place : ℕ) (v w : Index) (ms : List Move) (rows : ℕ) (more : List ℤ) (writes : List Write) (chunks : List Used)
-    (copies : List (ℕ × List ℕ)) (supers fixed : List Write) (last : ℕ) → Knows img name m old s → AreChunks chunks
-    → IsFlush img m old s (tree_parts (chunk_bytes m.dataset) place w rows more writes chunks copies supers last fixed) t → IsTreePart img m place v b ms w t chunks copies fixed
+    (copies : List (ℕ × List ℕ)) (supers fixed : List Write) (last : ℕ) → (k : Knows img name m old s) → AreChunks chunks
+    → IsFlush img m old s (tree_parts (chunk_bytes m.dataset) place w rows more writes chunks copies supers last fixed) t → HeldMissed k.held writes → IsTreePart img m place v b ms w t chunks copies fixed
     → TreeRests (image img (pieces_of img m (tree_parts (chunk_bytes m.dataset) place w rows more writes chunks copies supers last fixed)))
     (flushed_to m (tree_parts (chunk_bytes m.dataset) place w rows more writes chunks copies supers last fixed)) (λ key. address_of w key) t place w

@@ -15,6 +15,7 @@ use Rattle.h5w_header_laws.specs.Files.{commit_at}
 use Rattle.h5w_steps.specs.Moments.{Moment, all_used}
 use Rattle.h5w_steps.specs.Logs.{image_now}
 use Rattle.h5w_steps.proofs.MomentLemmas.{in_behind, in_fixed}
+use Rattle.h5w_flush_laws.specs.Knowledge.{HeldMissed}
 use Rattle.h5w_flush_laws.specs.Spaces.{AllLive}
 use Rattle.h5w_flush_laws.specs.Parts.{IsFlush, Parts, block_writes, flushed_to, pieces_of}
 use Rattle.h5w_flush_laws.specs.Flushes.{Rests}
@@ -32,10 +33,10 @@ use Rattle.h5w_tree_index_laws.specs.TreeFlushes.{HeaderNames, TreeRests, TreeSt
 use Rattle.h5w_tree_index_laws.proofs.TreeHeaderLemmas.{header_gives, header_long, header_reads, part_range, tree_left}
 use Rattle.h5w_tree_index_laws.proofs.TreeRestLemmas.{tree_stands}
 use Rattle.h5w_tree_starting_laws.specs.TreeStarting.{IsTreeStart, IsTreeStarted, TreeStartKnows, TreeStartLeads, TreeStartRuns, parts_for}
-use Rattle.h5w_tree_starting_laws.proofs.TreeStartLemmas.{after, all_stand, defined, header_at, root_low, tree_start_is_flush}
+use Rattle.h5w_tree_starting_laws.proofs.TreeStartLemmas.{after, all_stand, defined, header_at, root_low, start_missed, tree_start_is_flush}
 
 module _ (img name : List ℕ) (m : Moment) (base b t : Space) (place : ℕ) (v w : Index) (ms : List Move) (rows : ℕ) (more : List ℤ) (writes : List Write) (places : List ChunkPlace) (copies : List (ℕ × List ℕ))
-    (fixed supers : List Write) (r : TreeStartKnows img name m base) (x : IsTreeStart m base b place v ms w t rows more writes places copies fixed supers) where
+    (fixed supers : List Write) (r : TreeStartKnows img name m base) (x : IsTreeStart img m base b place v ms w t rows more writes places copies fixed supers) where
   abbrev f : Parts
   f = parts_for m place w rows more writes places copies supers t.end
 
@@ -50,6 +51,9 @@ module _ (img name : List ℕ) (m : Moment) (base b t : Space) (place : ℕ) (v 
 
   i : IsFlush img m no_chunk base f t
   i = tree_start_is_flush img name m base b t place v w ms rows more writes places copies fixed supers r x
+
+  missed : HeldMissed r.knows.held writes
+  missed = start_missed img name m base b t place v w ms rows more writes places copies fixed supers r x
 
   is_index : IsIndex w
   is_index = after img name m base b t place v w ms rows more writes places copies fixed supers r x
@@ -72,12 +76,12 @@ module _ (img name : List ℕ) (m : Moment) (base b t : Space) (place : ℕ) (v 
   node_in p clean low = inr (part_range bytes p w.depth w.root is_index.sound low clean)
 
   nodes_last : StandsTree w last
-  nodes_last = tree_left w now supers is_index nodes_now (λ p clean n. supers_miss img name m no_chunk base t f r.knows i (node_at p) (node_in p clean n.ends))
+  nodes_last = tree_left w now supers is_index nodes_now (λ p clean n. supers_miss img name m no_chunk base t f r.knows i missed (node_at p) (node_in p clean n.ends))
 
   nodes_all : StandsTree w (image last (commit_at last m.place rows (Some place) ∷ []))
   nodes_all =
       tree_left w last (commit_at last m.place rows (Some place) ∷ []) is_index nodes_last
-      (λ p clean n. (index_missed_by_header img name m no_chunk base t f r.knows i (node_at p) (node_in p clean n.ends), tt))
+      (λ p clean n. (index_missed_by_header img name m no_chunk base t f r.knows i missed (node_at p) (node_in p clean n.ends), tt))
 
   -- ---- Its header
 
@@ -87,8 +91,8 @@ module _ (img name : List ℕ) (m : Moment) (base b t : Space) (place : ℕ) (v 
 
   header_all : At (image last (commit_at last m.place rows (Some place) ∷ [])) place spelled
   header_all =
-      header_left last (commit_at last m.place rows (Some place) ∷ []) (index_missed_by_header img name m no_chunk base t f r.knows i head (inl refl), tt)
-      (header_left now supers (supers_miss img name m no_chunk base t f r.knows i head (inl refl)) (header_at img name m base b t place v w ms rows more writes places copies fixed supers r x))
+      header_left last (commit_at last m.place rows (Some place) ∷ []) (index_missed_by_header img name m no_chunk base t f r.knows i missed head (inl refl), tt)
+      (header_left now supers (supers_miss img name m no_chunk base t f r.knows i missed head (inl refl)) (header_at img name m base b t place v w ms rows more writes places copies fixed supers r x))
 
   header_names : (other : List ℕ) → At other place spelled → HeaderNames place w other
   header_names other at =
@@ -100,12 +104,12 @@ module _ (img name : List ℕ) (m : Moment) (base b t : Space) (place : ℕ) (v 
       }
 
   all_stands : TreeStands place w (image img (pieces_of img m f))
-  all_stands = subst (λ (y : List ℕ). TreeStands place w y) (sym (final_image img name m no_chunk base t f r.knows i)) (record { nodes = nodes_all; header = λ e. header_names (image last (commit_at last m.place rows (Some place) ∷ [])) header_all })
+  all_stands = subst (λ (y : List ℕ). TreeStands place w y) (sym (final_image img name m no_chunk base t f r.knows i missed)) (record { nodes = nodes_all; header = λ e. header_names (image last (commit_at last m.place rows (Some place) ∷ [])) header_all })
 
   -- ---- It rests
 
   all_live : AllLive t ((head ∷ []) ++ behind_of bytes w)
-  all_live u a = live_after img name m no_chunk base t f r.knows i u (used u a)
+  all_live u a = live_after img name m no_chunk base t f r.knows i missed u (used u a)
     where
       used : (u : Used) → Among u ((head ∷ []) ++ behind_of bytes w) → Among u (all_used (flushed_to m f))
       used u (inl e) = in_fixed (flushed_to m f) u (inl e)
@@ -125,20 +129,21 @@ module _ (img name : List ℕ) (m : Moment) (base b t : Space) (place : ℕ) (v 
     map = λ key. refl;
   }
 
-  started : IsTreeStarted img name m t place w f
+  started : IsTreeStarted img name m r.knows.held t place w f
   started =
-      let known = knows_then img name m no_chunk base t f r.knows i in
-      record { safe = flush_safe img name m no_chunk base t f r.knows i; knows = known.knows; rests = rests; header = known.header }
+      let known = knows_then img name m no_chunk base t f r.knows i missed in
+      record { safe = flush_safe img name m no_chunk base t f r.knows i missed; knows = known.knows; held = known.held; rests = rests; header = known.header }
 
 pub tree_start_leads : TreeStartLeads
 tree_start_leads img name m base b t place v w ms rows more writes places copies fixed supers r x = started img name m base b t place v w ms rows more writes places copies fixed supers r x
 
 pub tree_start_runs : TreeStartRuns
-tree_start_runs name log m base b t place v w ms rows more writes places copies fixed supers runs r x values =
+tree_start_runs name log m base b t place v w ms rows more writes places copies fixed supers r runs x values =
     let f : Parts = parts_for m place w rows more writes places copies supers t.end in
     let i = tree_start_is_flush (image_now log) name m base b t place v w ms rows more writes places copies fixed supers r x in
+    let missed = start_missed (image_now log) name m base b t place v w ms rows more writes places copies fixed supers r x in
     let begun : Rests name log m no_chunk base = record { runs = runs; knows = r.knows } in
     record {
-      runs = session_laws.plans_flush name log m no_chunk base t f begun i values;
-      rests = λ later c. session_laws.rests_again name log m no_chunk base t later f begun i values c;
+      runs = session_laws.plans_flush name log m no_chunk base t f begun i missed values;
+      rests = λ later c. session_laws.rests_again name log m no_chunk base t later f begun i missed values c;
     }

@@ -65,7 +65,7 @@ last_in a b c d e =
     ∙ ap (λ (x : List Write). a ++ x) (append_assoc b (c ++ d) e ∙ ap (λ (x : List Write). b ++ x) (append_assoc c d e))
 
 module _ (img : List ℕ) (m : Moment) (base a b t : Space) (place : ℕ) (v w : Index) (ms : List Move) (rows : ℕ) (more : List ℤ) (writes : List Write) (places : List ChunkPlace) (added : List Key) (cs fixed supers : List Write)
-    (c : AreTreeStartCalls m base a b place v ms w t rows more writes places added cs fixed supers) where
+    (c : AreTreeStartCalls img m base a b place v ms w t rows more writes places added cs fixed supers) where
   abbrev chunks : List Used
   chunks = chunks_for m no_chunk places
 

@@ -18,8 +18,10 @@ use Rattle.h5w_chunks.specs.declared.grid.ChunkPlace.{ChunkPlace}
 use Rattle.h5w_steps.specs.Moments.{Moment}
 use Rattle.h5w_steps.specs.Counts.{count_at}
 use Rattle.h5w_steps.proofs.PartLemmas.{disjoint_right}
+use Rattle.h5w_flush_laws.specs.Knowledge.{HeldMissed}
 use Rattle.h5w_flush_laws.specs.Spaces.{LetGo, Taken}
 use Rattle.h5w_flush_laws.specs.Parts.{IsFlush, Parts, block_ranges, block_writes, committed, fresh_of}
+use Rattle.h5w_flush_laws.specs.Rows.{RowsPart}
 use Rattle.h5w_flush_laws.proofs.KnownLaws.{begin_knows}
 use Rattle.h5w_flush_laws.proofs.PartLemmas.{count_append}
 use Rattle.h5w_flush_laws.proofs.SpaceLemmas.{taken_laws}
@@ -43,10 +45,12 @@ use Rattle.h5w_tree_starting_laws.specs.TreeStarting.{IsTreeStart, TreeStartBegi
 use Rattle.h5w_tree_starting_laws.proofs.UnwrittenLemmas.{no_blank, retired_none, unwritten_undefined, AllUndefined}
 
 pub tree_start_begins : TreeStartBegins
-tree_start_begins img name m s r unnamed layout begun = record { knows = begin_knows img name m no_chunk s r (unnamed_nowhere img name m r unnamed.address).map begun (λ e. layout); unnamed = unnamed }
+tree_start_begins img name m s r unnamed layout begun =
+    let known = begin_knows img name m no_chunk s r (unnamed_nowhere img name m r unnamed.address).map begun (λ e. layout) in
+    (record { knows = known.knows; unnamed = unnamed }, known.is)
 
 module _ (img name : List ℕ) (m : Moment) (base b t : Space) (place : ℕ) (v w : Index) (ms : List Move) (rows : ℕ) (more : List ℤ) (writes : List Write) (places : List ChunkPlace) (copies : List (ℕ × List ℕ))
-    (fixed supers : List Write) (r : TreeStartKnows img name m base) (x : IsTreeStart m base b place v ms w t rows more writes places copies fixed supers) where
+    (fixed supers : List Write) (r : TreeStartKnows img name m base) (x : IsTreeStart img m base b place v ms w t rows more writes places copies fixed supers) where
   abbrev f : Parts
   f = parts_for m place w rows more writes places copies supers t.end
 
@@ -216,10 +220,16 @@ module _ (img name : List ℕ) (m : Moment) (base b t : Space) (place : ℕ) (v 
 
   -- ---- The flush
 
+  part : RowsPart img m r.knows.held no_chunk f
+  part =
+      let some = taken_right base b (head ∷ []) chunks x.taken in
+      rows_flush img name m no_chunk base some.0 f places r.knows some.1 x.rises x.few x.count x.placed
+
+  pub start_missed : HeldMissed r.knows.held writes
+  start_missed = part.off_held
+
   is_flush : IsFlush img m no_chunk base f t
   is_flush =
-      let some = taken_right base b (head ∷ []) chunks x.taken in
-      let part = rows_flush img name m no_chunk base some.0 f places r.knows some.1 x.rises x.few x.count x.placed in
       let d : Described = committed m.dataset rows (Some place) in
       let says = header_says w now d place r.unnamed.kind refl defined header_now in
       record {

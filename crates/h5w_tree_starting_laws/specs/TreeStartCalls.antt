@@ -20,7 +20,7 @@ use Rattle.h5w_index.specs.Steps.{IsPlan}
 use Rattle.h5w_index.specs.Placing.{IsPlacing}
 use Rattle.h5w_tree_starting_laws.specs.TreeStarting.{IsTreeStart, parts_for}
 
-pub record AreTreeStartCalls (m : Moment) (base a b : Space) (place : ℕ) (v : Index) (ms : List Move) (w : Index) (t : Space) (rows : ℕ) (more : List ℤ) (writes : List Write) (places : List ChunkPlace) (added : List Key)
+pub record AreTreeStartCalls (img : List ℕ) (m : Moment) (base a b : Space) (place : ℕ) (v : Index) (ms : List Move) (w : Index) (t : Space) (rows : ℕ) (more : List ℤ) (writes : List Write) (places : List ChunkPlace) (added : List Key)
     (cs fixed supers : List Write) : Type 0 where
   pub rises : m.dataset.shape.rows < rows
   pub small : rows < 2 ^ 64
@@ -30,7 +30,7 @@ pub record AreTreeStartCalls (m : Moment) (base a b : Space) (place : ℕ) (v : 
   pub ends : place + bthd_len < 2 ^ 64
   pub some : 0 < length places
   pub placing : IsPlacing m.dataset rows (a_tree place no_tree) a places added (a_tree place v) b
-  pub placed : (copies : List (ℕ × List ℕ)) → ArePlaced m no_chunk (parts_for m place w rows more writes places copies supers t.end) places
+  pub placed : (copies : List (ℕ × List ℕ)) → ArePlaced img m no_chunk (parts_for m place w rows more writes places copies supers t.end) places
   pub plan : IsPlan (a_tree place v) b ms cs fixed (a_tree place w) t
   pub ended : AreEnded m.super t.end supers
 
@@ -39,10 +39,10 @@ pub record CallsStartTree (img : List ℕ) (m : Moment) (base b : Space) (place 
     (cs fixed supers : List Write) : Type 0 where
   pub copies : List (ℕ × List ℕ)
   pub blocks : cs ≡ block_writes copies
-  pub start : IsTreeStart m base b place v ms w t rows more writes places copies fixed supers
+  pub start : IsTreeStart img m base b place v ms w t rows more writes places copies fixed supers
   pub pieces : pieces_of img m (parts_for m place w rows more writes places copies supers t.end) ≡ writes ++ (cs ++ (fixed ++ (supers ++ commit_at img m.place rows (Some place) ∷ [])))
 
 abbrev pub TreeStartCalls : Type 0
 TreeStartCalls = (img : List ℕ) (m : Moment) (base a b t : Space) (place : ℕ) (v w : Index) (ms : List Move) (rows : ℕ) (more : List ℤ) (writes : List Write) (places : List ChunkPlace) (added : List Key)
-    (cs fixed supers : List Write) → AreTreeStartCalls m base a b place v ms w t rows more writes places added cs fixed supers
+    (cs fixed supers : List Write) → AreTreeStartCalls img m base a b place v ms w t rows more writes places added cs fixed supers
     → CallsStartTree img m base b place v ms w t rows more writes places cs fixed supers

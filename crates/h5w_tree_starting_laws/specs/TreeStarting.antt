@@ -70,7 +70,7 @@ parts_for m place w rows more writes places copies supers last = starting_parts 
 
 -- What a session shows of such a flush, over the places as they were before any were taken for it: `v` is the tree when the chunks of the
 -- new rows have their addresses, some of which it got.
-pub record IsTreeStart (m : Moment) (base b : Space) (place : ℕ) (v : Index) (ms : List Move) (w : Index) (t : Space) (rows : ℕ) (more : List ℤ) (writes : List Write) (places : List ChunkPlace) (copies : List (ℕ × List ℕ))
+pub record IsTreeStart (img : List ℕ) (m : Moment) (base b : Space) (place : ℕ) (v : Index) (ms : List Move) (w : Index) (t : Space) (rows : ℕ) (more : List ℤ) (writes : List Write) (places : List ChunkPlace) (copies : List (ℕ × List ℕ))
     (fixed supers : List Write) : Type 0 where
   pub rises : m.dataset.shape.rows < rows
   pub small : rows < 2 ^ 64
@@ -79,7 +79,7 @@ pub record IsTreeStart (m : Moment) (base b : Space) (place : ℕ) (v : Index) (
   -- the places of the header and of the new chunks
   pub taken : Taken base (header_range place ∷ chunks_for m no_chunk places) b
   pub ends : place + bthd_len < 2 ^ 64
-  pub placed : ArePlaced m no_chunk (parts_for m place w rows more writes places copies supers t.end) places
+  pub placed : ArePlaced img m no_chunk (parts_for m place w rows more writes places copies supers t.end) places
   pub index : IsIndex v
   pub filled : IsFilled v
   pub unwritten : IsUnwritten v
@@ -92,9 +92,10 @@ pub record IsTreeStart (m : Moment) (base b : Space) (place : ℕ) (v : Index) (
 
 -- ---- Laws
 
--- A session begins with such a file: the places begin at its end.
+-- A session begins with such a file: the places begin at its end, and readers hold no more than what it has.
 abbrev pub TreeStartBegins : Type 0
-TreeStartBegins = (img name : List ℕ) (m : Moment) (s : Space) → Represents img name m → IsUnnamedTree m.dataset → LayoutInChunk0 img m.place → IsBegun m s → TreeStartKnows img name m s
+TreeStartBegins = (img name : List ℕ) (m : Moment) (s : Space) → Represents img name m → IsUnnamedTree m.dataset → LayoutInChunk0 img m.place → IsBegun m s
+    → (x : TreeStartKnows img name m s) × (x.knows.held ≡ m.behind)
 
 -- A tree without records is unwritten, and so is one with a record more, or with another.
 pub record UnwrittenLaws : Type 0 where
@@ -104,21 +105,22 @@ pub record UnwrittenLaws : Type 0 where
 -- It is a flush.
 abbrev pub TreeStartIsFlush : Type 0
 TreeStartIsFlush = (img name : List ℕ) (m : Moment) (base b t : Space) (place : ℕ) (v w : Index) (ms : List Move) (rows : ℕ) (more : List ℤ) (writes : List Write) (places : List ChunkPlace) (copies : List (ℕ × List ℕ))
-    (fixed supers : List Write) → TreeStartKnows img name m base → IsTreeStart m base b place v ms w t rows more writes places copies fixed supers
+    (fixed supers : List Write) → TreeStartKnows img name m base → IsTreeStart img m base b place v ms w t rows more writes places copies fixed supers
     → IsFlush img m no_chunk base (parts_for m place w rows more writes places copies supers t.end) t
 
 -- Its pieces are safe steps. Once all are shown, the session knows the file by its tree, which rests, with the places as the flush left
 -- them: so each later flush is that of a tree that is there. And chunk 0 of the header is what its piece wrote.
-pub record IsTreeStarted (img name : List ℕ) (m : Moment) (t : Space) (place : ℕ) (w : Index) (f : Parts) : Type 0 where
-  pub safe : Flush img m m.behind (pieces_of img m f) (flushed_to m f) f.behind
+pub record IsTreeStarted (img name : List ℕ) (m : Moment) (before : List Used) (t : Space) (place : ℕ) (w : Index) (f : Parts) : Type 0 where
+  pub safe : Flush img m before (pieces_of img m f) (flushed_to m f) f.behind
   pub knows : Knows (image img (pieces_of img m f)) name (flushed_to m f) (λ key. address_of w key) t
+  pub held : knows.held ≡ f.behind
   pub rests : TreeRests (image img (pieces_of img m f)) (flushed_to m f) (λ key. address_of w key) t place w
   pub header : chunk_0 (image img (pieces_of img m f)) m.place ≡ with_rows_bytes (chunk_0 img m.place) f.rows (Some place)
 
 abbrev pub TreeStartLeads : Type 0
 TreeStartLeads = (img name : List ℕ) (m : Moment) (base b t : Space) (place : ℕ) (v w : Index) (ms : List Move) (rows : ℕ) (more : List ℤ) (writes : List Write) (places : List ChunkPlace) (copies : List (ℕ × List ℕ))
-    (fixed supers : List Write) → TreeStartKnows img name m base → IsTreeStart m base b place v ms w t rows more writes places copies fixed supers
-    → IsTreeStarted img name m t place w (parts_for m place w rows more writes places copies supers t.end)
+    (fixed supers : List Write) → (k : TreeStartKnows img name m base) → IsTreeStart img m base b place v ms w t rows more writes places copies fixed supers
+    → IsTreeStarted img name m k.knows.held t place w (parts_for m place w rows more writes places copies supers t.end)
 
 -- The same over a session's log: a flush is planned of all values that were appended; after all its pieces the session rests.
 pub record IsTreeStartedOver (name : List ℕ) (log : Log) (m : Moment) (t : Space) (w : Index) (f : Parts) : Type 0 where
@@ -127,5 +129,5 @@ pub record IsTreeStartedOver (name : List ℕ) (log : Log) (m : Moment) (t : Spa
 
 abbrev pub TreeStartRuns : Type 0
 TreeStartRuns = (name : List ℕ) (log : Log) (m : Moment) (base b t : Space) (place : ℕ) (v w : Index) (ms : List Move) (rows : ℕ) (more : List ℤ) (writes : List Write) (places : List ChunkPlace) (copies : List (ℕ × List ℕ))
-    (fixed supers : List Write) → Runs name log [] m m.behind → TreeStartKnows (image_now log) name m base → IsTreeStart m base b place v ms w t rows more writes places copies fixed supers
+    (fixed supers : List Write) → (k : TreeStartKnows (image_now log) name m base) → Runs name log [] m k.knows.held → IsTreeStart (image_now log) m base b place v ms w t rows more writes places copies fixed supers
     → m.values ++ more ≡ appended log → IsTreeStartedOver name log m t w (parts_for m place w rows more writes places copies supers t.end)

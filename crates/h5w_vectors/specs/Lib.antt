@@ -4,3 +4,4 @@ pub mod ShapeFiles
 pub mod IndexFiles
 pub mod HeaderFiles
 pub mod DamagedFiles
+pub mod NamedFiles

@@ -3,7 +3,7 @@ use Rattle.std.specs.Prelude.{◌≡◌, ℕ, true, false, List, map, Option, So
 use Rattle.h5w_model.specs.Messages.{IntTypeFields}
 use Rattle.h5w_model.specs.Datasets.{Described}
 use Rattle.h5w_model.specs.Tables.{Reading, Shows, Fails, format_limits, cells}
-use Rattle.h5w_model.specs.Findings.{Finding, Summary, Valid, Finds}
+use Rattle.h5w_model.specs.Findings.{Finding, Summary, AllSummary, Valid, Finds}
 use Rattle.h5w_model.specs.declared.cell.IndexKind.TheVariants.{Array, Tree}
 use Rattle.h5w_model.specs.declared.refusal.ReadError.{ReadError}
 
@@ -27,6 +27,12 @@ pub record IsFoundFile (file : List ℕ) (r : Reading) (values : List ℤ) (f : 
 pub record IsRefusedFile (file : List ℕ) (e : ReadError) (f : Finding) : Type 0 where
   pub fails : Fails format_limits file data_name e
   pub finds : Finds file data_name f
+
+-- the file shows a reading of a name, whose cells, row by row, are these values, and it is valid for that name
+pub record IsValidFor (file name : List ℕ) (r : Reading) (values : List ℤ) (s : Summary) : Type 0 where
+  pub shows : Shows format_limits file name r
+  pub cells : cells file r ≡ map Some values
+  pub valid : Valid file name s
 
 -- integers of some bytes
 abbrev pub signed_byte : IntTypeFields
@@ -62,3 +68,7 @@ grid rows columns chunk_rows chunk_columns type fill address = record {
 -- rows, chunks, blocks, end and lost bytes
 abbrev pub summary_as : ℕ → ℕ → ℕ → ℕ → ℕ → Summary
 summary_as rows chunks blocks end lost = record { rows = rows; chunks = chunks; blocks = blocks; end = end; lost = lost }
+
+-- the same of several datasets, with the rows of each
+abbrev pub all_summary_as : List ℕ → ℕ → ℕ → ℕ → ℕ → AllSummary
+all_summary_as rows chunks blocks end lost = record { rows = rows; chunks = chunks; blocks = blocks; end = end; lost = lost }

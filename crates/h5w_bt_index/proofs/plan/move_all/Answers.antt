@@ -13,9 +13,9 @@ pub loop-old-preserved : goal.loop-old-preserved
 loop-old-preserved c =
     let all = c.push_reserved.ensures.items in
     record {
-      old = olds-more c.loop-old.moves.items c.push_reserved.new.self.items c.in_ok-step.step c.args.stood.now c.loop-old.old-index c.loop-old-test.true all c.loop-old.invariant.old c.in_ok-step.ensures.old;
+      old = olds-more c.loop-old.moves.items c.push_reserved.new.self.items c.in_ok-node_move.node_move c.args.stood.now c.loop-old.old-index c.loop-old-test.true all c.loop-old.invariant.old c.in_ok-node_move.ensures.old;
       moves = subst (λ l. AreNodeMoves c.args.places.now l c.move_from.new.places) (sym all)
-          (Chain-push IsNodeMove c.args.places.now c.loop-old.moves.items c.in_ok-step.step c.loop-old.places c.move_from.new.places c.loop-old.invariant.moves c.in_ok-step.ensures.ok);
+          (Chain-push IsNodeMove c.args.places.now c.loop-old.moves.items c.in_ok-node_move.node_move c.loop-old.places c.move_from.new.places c.loop-old.invariant.moves c.in_ok-node_move.ensures.ok);
       count = omega (arith, c.loop-old.invariant.count, c.push_reserved.ensures.len, c.loop-old.moves.ok, c.push_reserved.new.self.ok);
       capacity = c.push_reserved.ensures.capacity ∙ c.loop-old.invariant.capacity;
     }

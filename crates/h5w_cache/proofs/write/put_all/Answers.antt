@@ -9,5 +9,5 @@ none = record { number = 0; old = 0; new = 0; len = 0; in_place = false }
 
 pub put_block-requires-clause-room : goal.put_block-requires-clause-room
 put_block-requires-clause-room c =
-    let inside = sum_by_more_le piece_count c.args.moves.now c.loop-step.step-index none c.loop-step-test.true in
-    omega (arith, inside, c.loop-step.invariant.count, c.loop-step.invariant.capacity, c.requires.room)
+    let inside = sum_by_more_le piece_count c.args.moves.now c.loop-block_move.block_move-index none c.loop-block_move-test.true in
+    omega (arith, inside, c.loop-block_move.invariant.count, c.loop-block_move.invariant.capacity, c.requires.room)

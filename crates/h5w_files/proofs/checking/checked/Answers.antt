@@ -4,7 +4,7 @@ use Rattle.h5w_image.proofs.DiskLemmas.{there_when_sized}
 use Rattle.h5w_text.specs.declared.error.ErrorLine.{ErrorLine}
 use Rattle.h5w_files.specs.Checks.{ChecksTo}
 use Rattle.h5w_files.proofs.CheckLemmas.{checks_refused, checks_valid}
-use Rattle.h5w_files.proofs.StoreLemmas.{reference_looked}
+use Rattle.h5w_files.proofs.ImageLemmas.{reference_looked}
 use Rattle.h5w_files.proofs.checking.checked.Goals as goal
 
 pub returns-in-Ok : goal.returns-in-Ok

@@ -2,7 +2,7 @@ use Rattle.std.proofs.Common.{◌≡◌, ◌<◌, ◌^◌, refl, rules}
 use Rattle.h5w_reader.specs.Cores.{reader}
 use Rattle.h5w_reader.specs.Readers.{new_reader, reader_rules}
 use Rattle.h5w_files.proofs.PollEndLemmas.{polls_calls, polls_failed, polls_missing, polls_wanting}
-use Rattle.h5w_files.proofs.StoreLemmas.{reference_looked}
+use Rattle.h5w_files.proofs.ImageLemmas.{reference_looked}
 use Rattle.h5w_files.proofs.polling.polled.Goals as goal
 
 pub returns-in-Ok-None : goal.returns-in-Ok-None

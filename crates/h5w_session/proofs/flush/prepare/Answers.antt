@@ -50,3 +50,6 @@ returns-in_err-begun-clause-full g c full is =
       all = c.in_ok-place_chunks.ensures.all;
       refused = full_of c.in_err-begun.field-0.0 full (λ (f : Full). HasNoPlace held between f) (sym told ∙ is) c.in_err-begun.ensures.full;
     })
+
+pub returns-clause-prepared : goal.returns-clause-prepared
+returns-clause-prepared g c = record { between = c.place_chunks.new.taking.places; placing = c.in_ok-place_chunks.ensures.placed; begun = c.in_ok-begun.ensures.begun }

@@ -6,6 +6,7 @@ use Rattle.h5w_index.specs.Held.{view_of}
 use Rattle.h5w_session.specs.Sessions.{IsSession, IsUnmade, Session, most_bands, option_list, rows_of}
 use Rattle.h5w_session.proofs.CarriedLemmas.{asks_for, has_rows, one_at_most, same_error, values_few}
 use Rattle.h5w_session.proofs.StartCarriedLemmas.{AsksOfMade, StartCarried, asks_of_made, asks_of_start, lengths_first, start_carried_flushed, start_carried_is, start_carried_pieces, start_unfilled, start_unplaced}
+use Rattle.h5w_index.proofs.BegunLemmas.{was_begun}
 use Rattle.h5w_session.proofs.TakingLemmas.{filled_cell, shallow_causes}
 use Rattle.h5w_session.proofs.WritableLemmas.{has_address}
 use Rattle.h5w_session.proofs.state.WriterCore.flush_starting.Goals as goal
@@ -279,7 +280,7 @@ invariant_of-self g c =
     let is : IsSession v = c.self.invariant.0 in
     let to = c.rows-to.result in
     let to_is : to ≡ rows_of v = c.rows-to.ensures.value ∙ ap rows_of (sym c.self.view_is) in
-    let t = c.finish-plan.new.places in
+    let t = c.prepare.new.taking.places in
     let w = view_of c.finish-plan.new.self in
     let ws = c.join_first.result.items in
     let r = c.raise-superblock.new.root in
@@ -301,9 +302,9 @@ invariant_of-self g c =
       start = c.in_ok-index.ensures.started;
       chunks = c.prepare.new.taking.chunks.items;
       added = c.prepare.new.taking.added.items;
-      between = c.prepare.new.taking.places;
+      between = c.in_ok-prepared.ensures.prepared.between;
       named = view_of c.prepare.new.index;
-      placing = c.in_ok-prepared.ensures.placed;
+      placing = c.in_ok-prepared.ensures.prepared.placing;
       all = c.in_ok-prepared.ensures.all;
       roomy = c.prepare.ensures.roomy;
       cells = c.deref.result.now;
@@ -314,7 +315,7 @@ invariant_of-self g c =
       moves = c.finish-plan.result.moves.items;
       copies = c.finish-plan.result.copies.items;
       fixed = c.finish-plan.result.in_place.items;
-      plan = c.finish-plan.ensures.planned;
+      plan = c.finish-plan.ensures.planned c.in_ok-prepared.ensures.prepared.between c.prepare.new.taking.places c.in_ok-prepared.ensures.prepared.begun;
       supers = option_list c.raise-superblock.result;
       end = c.end.result;
       end_is = c.end.ensures;
@@ -365,7 +366,7 @@ returns-clause-flushed g c =
     let is : IsSession v = c.self.invariant.0 in
     let to = c.rows-to.result in
     let to_is : to ≡ rows_of v = c.rows-to.ensures.value ∙ ap rows_of (sym c.self.view_is) in
-    let t = c.finish-plan.new.places in
+    let t = c.prepare.new.taking.places in
     let w = view_of c.finish-plan.new.self in
     let ws = c.join_first.result.items in
     let r = c.raise-superblock.new.root in
@@ -387,9 +388,9 @@ returns-clause-flushed g c =
       start = c.in_ok-index.ensures.started;
       chunks = c.prepare.new.taking.chunks.items;
       added = c.prepare.new.taking.added.items;
-      between = c.prepare.new.taking.places;
+      between = c.in_ok-prepared.ensures.prepared.between;
       named = view_of c.prepare.new.index;
-      placing = c.in_ok-prepared.ensures.placed;
+      placing = c.in_ok-prepared.ensures.prepared.placing;
       all = c.in_ok-prepared.ensures.all;
       roomy = c.prepare.ensures.roomy;
       cells = c.deref.result.now;
@@ -400,7 +401,7 @@ returns-clause-flushed g c =
       moves = c.finish-plan.result.moves.items;
       copies = c.finish-plan.result.copies.items;
       fixed = c.finish-plan.result.in_place.items;
-      plan = c.finish-plan.ensures.planned;
+      plan = c.finish-plan.ensures.planned c.in_ok-prepared.ensures.prepared.between c.prepare.new.taking.places c.in_ok-prepared.ensures.prepared.begun;
       supers = option_list c.raise-superblock.result;
       end = c.end.result;
       end_is = c.end.ensures;
@@ -440,7 +441,7 @@ returns-clause-ends g c =
     let is : IsSession v = c.self.invariant.0 in
     let to = c.rows-to.result in
     let to_is : to ≡ rows_of v = c.rows-to.ensures.value ∙ ap rows_of (sym c.self.view_is) in
-    let t = c.finish-plan.new.places in
+    let t = c.prepare.new.taking.places in
     let w = view_of c.finish-plan.new.self in
     let ws = c.join_first.result.items in
     let r = c.raise-superblock.new.root in
@@ -462,9 +463,9 @@ returns-clause-ends g c =
       start = c.in_ok-index.ensures.started;
       chunks = c.prepare.new.taking.chunks.items;
       added = c.prepare.new.taking.added.items;
-      between = c.prepare.new.taking.places;
+      between = c.in_ok-prepared.ensures.prepared.between;
       named = view_of c.prepare.new.index;
-      placing = c.in_ok-prepared.ensures.placed;
+      placing = c.in_ok-prepared.ensures.prepared.placing;
       all = c.in_ok-prepared.ensures.all;
       roomy = c.prepare.ensures.roomy;
       cells = c.deref.result.now;
@@ -475,7 +476,7 @@ returns-clause-ends g c =
       moves = c.finish-plan.result.moves.items;
       copies = c.finish-plan.result.copies.items;
       fixed = c.finish-plan.result.in_place.items;
-      plan = c.finish-plan.ensures.planned;
+      plan = c.finish-plan.ensures.planned c.in_ok-prepared.ensures.prepared.between c.prepare.new.taking.places c.in_ok-prepared.ensures.prepared.begun;
       supers = option_list c.raise-superblock.result;
       end = c.end.result;
       end_is = c.end.ensures;
@@ -503,5 +504,8 @@ returns-clause-room g c =
     let long = lengths_first c.naming-naming.result rows copies fixed supers (record { at = c.self.inside.place; piece = c.raise_rows-piece.result }) c.join_first.result.items c.join_first.ensures.joined in
     record {
       pieces = omega (arith, long, one_at_most c.raise-superblock.result, c.finish-plan.ensures.copies, c.finish-plan.ensures.in_place, c.in_ok-prepared.ensures.pieces, c.in_ok-prepared.prepared.writes.ok);
-      end = omega (arith, c.finish-plan.ensures.end, c.in_ok-prepared.ensures.end);
+      end = omega (arith, c.in_ok-prepared.ensures.end);
     }
+
+pub finish-plan-requires-clause-begun : goal.finish-plan-requires-clause-begun
+finish-plan-requires-clause-begun g c = let p = c.in_ok-prepared.ensures.prepared in was_begun (view_of c.prepare.new.index) p.between c.in_ok-prepared.prepared.begun c.prepare.new.taking.places p.begun

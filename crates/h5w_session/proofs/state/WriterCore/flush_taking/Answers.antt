@@ -11,6 +11,7 @@ use Rattle.h5w_index.specs.Views.{HasSlot}
 use Rattle.h5w_session.specs.Refusals.{IsDeepPart}
 use Rattle.h5w_session.specs.Sessions.{IsRoomy, IsSession, Session, most_bands, option_list, rows_of, IsWhole}
 use Rattle.h5w_session.proofs.CarriedLemmas.{Carried, asks_for, carried_flushed, carried_is, carried_pieces, has_rows, lengths_joined, one_at_most, refused_is, refused_same, same_error, values_few}
+use Rattle.h5w_index.proofs.BegunLemmas.{was_begun}
 use Rattle.h5w_session.proofs.TakingLemmas.{filled_cell}
 use Rattle.h5w_session.proofs.state.WriterCore.flush_taking.Goals as goal
 
@@ -108,7 +109,7 @@ invariant_of-self g c =
     } in
     let is : IsSession v = c.self.invariant.0 in
     let to = c.rows-to.result in
-    let t = c.finish-plan.new.places in
+    let t = c.prepare.new.taking.places in
     let w = view_of c.finish-plan.new.self in
     let ws = c.join.result.items in
     let r = c.raise-superblock.new.root in
@@ -123,11 +124,11 @@ invariant_of-self g c =
       filled = filled_cell i.grid c.self.invariant.1;
       chunks = c.prepare.new.taking.chunks.items;
       added = c.prepare.new.taking.added.items;
-      between = c.prepare.new.taking.places;
+      between = c.in-Ok.ensures.prepared.between;
       named = view_of c.prepare.new.index;
       places = c.new-taking.result.places;
       places_are = c.new-taking.ensures.places ∙ c.in_ok-copy.ensures;
-      placing = c.in-Ok.ensures.placed;
+      placing = c.in-Ok.ensures.prepared.placing;
       all = c.in-Ok.ensures.all;
       roomy = c.prepare.ensures.roomy;
       cells = c.deref.result.now;
@@ -138,7 +139,7 @@ invariant_of-self g c =
       moves = c.finish-plan.result.moves.items;
       copies = c.finish-plan.result.copies.items;
       fixed = c.finish-plan.result.in_place.items;
-      plan = c.finish-plan.ensures.planned;
+      plan = c.finish-plan.ensures.planned c.in-Ok.ensures.prepared.between c.prepare.new.taking.places c.in-Ok.ensures.prepared.begun;
       supers = option_list c.raise-superblock.result;
       end = c.end.result;
       end_is = c.end.ensures;
@@ -215,7 +216,7 @@ returns-in-Ok-clause-flushed g c =
     } in
     let is : IsSession v = c.self.invariant.0 in
     let to = c.rows-to.result in
-    let t = c.finish-plan.new.places in
+    let t = c.prepare.new.taking.places in
     let w = view_of c.finish-plan.new.self in
     let ws = c.join.result.items in
     let r = c.raise-superblock.new.root in
@@ -230,11 +231,11 @@ returns-in-Ok-clause-flushed g c =
       filled = filled_cell i.grid c.self.invariant.1;
       chunks = c.prepare.new.taking.chunks.items;
       added = c.prepare.new.taking.added.items;
-      between = c.prepare.new.taking.places;
+      between = c.in-Ok.ensures.prepared.between;
       named = view_of c.prepare.new.index;
       places = c.new-taking.result.places;
       places_are = c.new-taking.ensures.places ∙ c.in_ok-copy.ensures;
-      placing = c.in-Ok.ensures.placed;
+      placing = c.in-Ok.ensures.prepared.placing;
       all = c.in-Ok.ensures.all;
       roomy = c.prepare.ensures.roomy;
       cells = c.deref.result.now;
@@ -245,7 +246,7 @@ returns-in-Ok-clause-flushed g c =
       moves = c.finish-plan.result.moves.items;
       copies = c.finish-plan.result.copies.items;
       fixed = c.finish-plan.result.in_place.items;
-      plan = c.finish-plan.ensures.planned;
+      plan = c.finish-plan.ensures.planned c.in-Ok.ensures.prepared.between c.prepare.new.taking.places c.in-Ok.ensures.prepared.begun;
       supers = option_list c.raise-superblock.result;
       end = c.end.result;
       end_is = c.end.ensures;
@@ -282,7 +283,7 @@ returns-in-Ok-clause-ends g c =
     } in
     let is : IsSession v = c.self.invariant.0 in
     let to = c.rows-to.result in
-    let t = c.finish-plan.new.places in
+    let t = c.prepare.new.taking.places in
     let w = view_of c.finish-plan.new.self in
     let ws = c.join.result.items in
     let r = c.raise-superblock.new.root in
@@ -297,11 +298,11 @@ returns-in-Ok-clause-ends g c =
       filled = filled_cell i.grid c.self.invariant.1;
       chunks = c.prepare.new.taking.chunks.items;
       added = c.prepare.new.taking.added.items;
-      between = c.prepare.new.taking.places;
+      between = c.in-Ok.ensures.prepared.between;
       named = view_of c.prepare.new.index;
       places = c.new-taking.result.places;
       places_are = c.new-taking.ensures.places ∙ c.in_ok-copy.ensures;
-      placing = c.in-Ok.ensures.placed;
+      placing = c.in-Ok.ensures.prepared.placing;
       all = c.in-Ok.ensures.all;
       roomy = c.prepare.ensures.roomy;
       cells = c.deref.result.now;
@@ -312,7 +313,7 @@ returns-in-Ok-clause-ends g c =
       moves = c.finish-plan.result.moves.items;
       copies = c.finish-plan.result.copies.items;
       fixed = c.finish-plan.result.in_place.items;
-      plan = c.finish-plan.ensures.planned;
+      plan = c.finish-plan.ensures.planned c.in-Ok.ensures.prepared.between c.prepare.new.taking.places c.in-Ok.ensures.prepared.begun;
       supers = option_list c.raise-superblock.result;
       end = c.end.result;
       end_is = c.end.ensures;
@@ -338,7 +339,7 @@ returns-in-Ok-clause-room g c =
     let long = ap length c.join.ensures.items ∙ lengths_joined rows copies supers fixed (record { at = c.self.inside.place; piece = c.raise_rows-piece.result }) in
     record {
       pieces = omega (arith, long, one_at_most c.raise-superblock.result, c.finish-plan.ensures.copies, c.finish-plan.ensures.in_place, c.in-Ok.ensures.pieces, c.in-Ok.prepared.writes.ok);
-      end = omega (arith, c.finish-plan.ensures.end, c.in-Ok.ensures.end);
+      end = omega (arith, c.in-Ok.ensures.end);
     }
 
 pub returns-in-Err-clause-kept : goal.returns-in-Err-clause-kept
@@ -417,3 +418,6 @@ returns-in-Err-clause-deep g c told =
     let part = c.in-Err.ensures.deep (same_error c.in-Err.e _ told) in
     let now : IsDeepPart v.dataset to v.index v.places = subst (λ (s : Space). IsDeepPart v.dataset to v.index s) places_are part in
     subst (λ (s : Session). IsDeepPart s.dataset (rows_of s) s.index s.places) c.self.view_is (subst (λ (n : ℕ). IsDeepPart v.dataset n v.index v.places) to_is now)
+
+pub finish-plan-requires-clause-begun : goal.finish-plan-requires-clause-begun
+finish-plan-requires-clause-begun g c = let p = c.in-Ok.ensures.prepared in was_begun (view_of c.prepare.new.index) p.between c.in-Ok.prepared.begun c.prepare.new.taking.places p.begun

@@ -1,0 +1,279 @@
+-- The input of an append, to its end or to a refusal.
+use Rattle.std.proofs.Common.{◌≡◌, ℕ, ◌+◌, ◌≤◌, List, [], ◌∷◌, ◌++◌, length, ℤ, Option, Some, None, Result, Ok, Err, refl, sym, ap, ◌∙◌, subst, inl, inr, arith, append-nil}
+use Rattle.std.specs.Prelude.{IfSome}
+use Rattle.h5w_model.specs.Causes.{Rose}
+use Rattle.h5w_model.specs.Datasets.{Described}
+use Rattle.h5w_model.specs.Lawful.{first_outside}
+use Rattle.h5w_model.specs.declared.piece.Write.{Write}
+use Rattle.h5w_image.specs.View.{DiskView}
+use Rattle.h5w_session.specs.Sessions.{Session}
+use Rattle.h5w_text.specs.LinesAhead.{Given, GivenUp, IntakeView, IsOver, IsWhole, LinesAhead, Stays, lines_ahead}
+use Rattle.h5w_text.specs.Scripts.{number_line_of}
+use Rattle.h5w_text.specs.Streams.{SourceView, SinkView}
+use Rattle.h5w_text.specs.declared.error.ErrorLine.{ErrorLine}
+use Rattle.h5w_text.specs.declared.error.ErrorLine.TheVariants as errors
+use Rattle.h5w_text.specs.declared.line.LineError.{LineError}
+use Rattle.h5w_text.specs.declared.line.LineError.TheVariants as line_errors
+use Rattle.h5w_batches.specs.Batches.{Batches, after_line, after_lines, close_batch, no_batches}
+use Rattle.h5w_batches.specs.Inputs.{AreFirst, ReadsAll, ReadsTooMuch, ReadsWhole, SameSource, Spell, input_limit, outside}
+use Rattle.h5w_batches.specs.Reads.{error_of}
+use Rattle.h5w_files.specs.Images.{LeavesFiles}
+use Rattle.h5w_appending.specs.Taken.{AreTaken, ReadsFirst, ReadsLine, of_all, of_first}
+use Rattle.h5w_appending.specs.Appends.{HasTaken, InputRefuses, Stored, columns_of}
+use Rattle.h5w_appending.specs.Appending.{Closes, FlushRefused, HalfTold, IsBegun, IsReady, PutsAll, PutsBy, ReadyUnlessDisk, LineRefused, Steps, StepsOn, TakesInput, TakesInputFrom, TakesInputOn, TakesLine, Told, ending_of}
+use Rattle.h5w_appending.specs.Puts.{writes_of}
+use Rattle.h5w_appending.specs.declared.batching.Ending.{Ending}
+use Rattle.h5w_appending.specs.declared.batching.Ending.TheVariants as endings
+use Rattle.h5w_batches.proofs.RowLemmas.{lines-append}
+use Rattle.h5w_batches.proofs.LineLemmas.{GoingWhole, first_all, first_none, first_read, reads_too_much, reads_whole, spell_count, spell_more, starts, whole_first, whole_more}
+use Rattle.h5w_appending.proofs.PutLemmas.{length-writes, puts_there}
+use Rattle.h5w_batches.proofs.InputLemmas.{rose_before}
+use Rattle.h5w_files.proofs.SinkLemmas.{gave_nothing}
+use Rattle.h5w_appending.proofs.StoreLemmas.{broke_puts, stored_none, stored_puts}
+
+-- ---- A loop over the lines
+
+-- what the session has done behind so many first lines, whatever it had done before
+abbrev pub DoneOn : ℕ → List ℕ → Session → Session → List (List ℤ) → DiskView → DiskView → SinkView → SinkView → Type 0
+DoneOn n name s t numbers v w k l = (first : Session) (u : DiskView) (m : SinkView) → u.faults ≡ n → Told name first s no_batches u v m k → Told name first t (after_lines no_batches numbers) u w m l
+
+-- so many lines were read and taken
+pub record Taking (n : ℕ) (name : List ℕ) (s t : Session) (x y : LinesAhead) (number : ℕ) (v w : DiskView) (k l : SinkView) : Type 0 where
+  pub numbers : List (List ℤ)
+  pub going : GoingWhole (columns_of s) x y number numbers
+  pub done : DoneOn n name s t numbers v w k l
+  pub ready : IsReady name t w
+  pub columns : columns_of t ≡ columns_of s
+
+pub taking_first : {v : DiskView} {k : SinkView} (n : ℕ) (name : List ℕ) (s : Session) (x : LinesAhead) → IsReady name s v → Taking n name s s x x 0 v v k k
+taking_first n name s x ready = record { numbers = []; going = whole_first (columns_of s) x; done = λ first u m counted told. told; ready = ready; columns = refl }
+
+some_same : (a b : List ℤ) (o : Option (List ℤ)) → o ≡ Some a → o ≡ Some b → a ≡ b
+some_same a b o e f = let same : Some a ≡ Some b = sym e ∙ f in cc
+
+same_columns : (first s : Session) (b : Batches) → HasTaken first s b → columns_of s ≡ columns_of first
+same_columns first s b h = ap (λ (d : Described). d.shape.cols) h.dataset
+
+-- one more line
+next_batches : (name : List ℕ) (first t r : Session) (line : List ℕ) (values : List ℤ) (numbers : List (List ℤ)) (next : Batches) (u w : DiskView) (m l : SinkView) → number_line_of (columns_of first) line ≡ Some values
+    → TakesLine line first (after_lines no_batches numbers) next → Told name first r next u w m l → Told name first r (after_lines no_batches (numbers ++ values ∷ [])) u w m l
+next_batches name first t r line values numbers next u w m l spelled takes told =
+    let same : takes.values ≡ values = some_same takes.values values (number_line_of (columns_of first) line) takes.spelled spelled in
+    subst (λ (b : Batches). Told name first r b u w m l) (takes.next_is ∙ ap (after_line (after_lines no_batches numbers)) same ∙ sym (lines-append no_batches numbers values)) told
+
+pub done_more : {v w z : DiskView} {k l o : SinkView} (n : ℕ) (name : List ℕ) (s t r : Session) (line : List ℕ) (number : ℕ) (values : List ℤ) (numbers : List (List ℤ)) → columns_of t ≡ columns_of s → DoneOn n name s t numbers v w k l
+    → number_line_of (columns_of t) line ≡ Some values → StepsOn n name t r (TakesLine line) (LineRefused line number t) w z l o (Ok tt) → DoneOn n name s r (numbers ++ values ∷ []) v z k o
+done_more {v} {w} {z} {k} {l} {o} n name s t r line number values numbers columns done spelled step = λ first u m counted told.
+    let before = done first u m counted told in
+    let h = step first (after_lines no_batches numbers) u m counted before in
+    let is = subst (λ c. number_line_of c line ≡ Some values) (same_columns first t (after_lines no_batches numbers) before.stored.taken) spelled in
+    next_batches name first t r line values numbers h.0 u z m o is h.1 h.2
+
+pub taking_more : {v w z : DiskView} {k l o : SinkView} {x y e : LinesAhead} {number : ℕ} (n : ℕ) (name : List ℕ) (s t r : Session) (line : List ℕ) (values : List ℤ) → (h : Taking n name s t x y number v w k l) → Given line y e
+    → IsWhole line y e → number_line_of (columns_of t) line ≡ Some values → StepsOn n name t r (TakesLine line) (LineRefused line (number + 1) t) w z l o (Ok tt) → IsReady name r z → columns_of r ≡ columns_of t
+    → Taking n name s r x e (number + 1) v z k o
+taking_more {number = number} n name s t r line values h given whole spelled step ready columns = record {
+  numbers = h.numbers ++ values ∷ [];
+  going = whole_more line values h.going given whole (subst (λ c. number_line_of c line ≡ Some values) h.columns spelled);
+  done = done_more n name s t r line (number + 1) values h.numbers h.columns h.done spelled step;
+  ready = ready;
+  columns = columns ∙ h.columns;
+}
+
+-- ---- The first lines
+
+reads_first : {columns : ℕ} {x y : LinesAhead} {number : ℕ} {numbers : List (List ℤ)} → x.room ≡ input_limit → GoingWhole columns x y number numbers → ReadsFirst columns (outside x) numbers
+reads_first room h = record { lines = h.going.lines; spell = h.going.spell; first = first_read room h }
+
+-- with one more line
+reads_more : (columns : ℕ) (x : LinesAhead) (lines : List (List ℕ)) (numbers : List (List ℤ)) (line : List ℕ) (values : List ℤ) → Spell columns lines numbers → number_line_of columns line ≡ Some values → IfSome x.left (AreFirst (lines ++ line ∷ []))
+    → ReadsFirst columns (outside x) (numbers ++ values ∷ [])
+reads_more columns x lines numbers line values spell spelled first = record { lines = lines ++ line ∷ []; spell = spell_more columns lines numbers line values spell spelled; first = first }
+
+reads_line : (columns : ℕ) (x : LinesAhead) (lines : List (List ℕ)) (numbers : List (List ℤ)) (line : List ℕ) → Spell columns lines numbers → IfSome x.left (AreFirst (lines ++ line ∷ [])) → ReadsLine columns (outside x) numbers line
+reads_line columns x lines numbers line spell first = record { lines = lines; spell = spell; count = spell_count columns lines numbers spell; first = first }
+
+all_first : {columns : ℕ} {x y : SourceView} {numbers : List (List ℤ)} → ReadsAll columns x y numbers → ReadsFirst columns x numbers
+all_first {x = x} h = record { lines = h.lines; spell = h.spell; first = first_all h.lines x.left h.all }
+
+-- ---- Its end
+
+close_cause : {x y : SourceView} {v : DiskView} (name : List ℕ) (first t : Session) (numbers : List (List ℤ)) (u : DiskView) (e : ErrorLine) → ReadsAll (columns_of first) x y numbers → Stored name first t (after_lines no_batches numbers) u v → FlushRefused t e
+    → InputRefuses name first x y (after_lines no_batches numbers) u e
+close_cause name first t numbers u errors.Usage all stored c = absurd c
+close_cause name first t numbers u errors.Missing all stored c = absurd c
+close_cause name first t numbers u errors.Exists all stored c = absurd c
+close_cause name first t numbers u (errors.Read e) all stored c = absurd c
+close_cause name first t numbers u (errors.Finding kind at) all stored c = absurd c
+close_cause name first t numbers u (errors.Overlap at len other other_len) all stored c = absurd c
+close_cause name first t numbers u (errors.Cut end size) all stored c = absurd c
+close_cause name first t numbers u errors.Layout all stored c = absurd c
+close_cause name first t numbers u (errors.ChunkBytes bytes) all stored c = absurd c
+close_cause name first t numbers u errors.NoColumns all stored c = absurd c
+close_cause name first t numbers u (errors.FullChunks chunks limit) all stored c = absurd c
+close_cause name first t numbers u (errors.FullSpace at size limit) all stored c = record { numbers = numbers; batches = refl; read = inr all; session = t; before = _; stored = stored; full_for = c.0; bounds = c.1 }
+close_cause name first t numbers u errors.Deep all stored c = record { numbers = numbers; batches = refl; read = inr all; session = t; before = _; stored = stored; deep_for = c }
+close_cause name first t numbers u (errors.Line n) all stored c = absurd c
+close_cause name first t numbers u (errors.Range n i x) all stored c = absurd c
+close_cause name first t numbers u (errors.Input limit) all stored c = absurd c
+close_cause name first t numbers u errors.Disk all stored c = absurd c
+close_cause name first t numbers u errors.Source all stored c = absurd c
+close_cause name first t numbers u errors.Memory all stored c = tt
+
+-- the end of the input closes the last batch
+pub taken_end : {v w : DiskView} {k l : SinkView} {x y : SourceView} (z : DiskView) (o : SinkView) (n : ℕ) (name : List ℕ) (s t q : Session) (numbers : List (List ℤ)) (r : Result (Unit {0}) Ending) → ReadsAll (columns_of s) x y numbers → DoneOn n name s t numbers v w k l
+    → StepsOn n name t q Closes (FlushRefused t) w z l o r → TakesInputOn n name s q x y v z k o r
+taken_end {v} {w} {k} {l} {x} {y} z o n name s t q numbers r read done step = λ first u m counted told.
+    let before = done first u m counted told in
+    let read_of = subst (λ c. ReadsAll c x y numbers) (same_columns first s no_batches told.stored.taken) read in
+    cases first u m before read_of r (step first (after_lines no_batches numbers) u m counted before)
+  where
+    cases : (first : Session) (u : DiskView) (m : SinkView) → Told name first t (after_lines no_batches numbers) u w m l → ReadsAll (columns_of first) x y numbers → (r : Result (Unit {0}) Ending)
+        → Steps name first q (after_lines no_batches numbers) (Closes first (after_lines no_batches numbers)) (FlushRefused t) u z m o r → TakesInput name first q x y u z m o r
+    cases first u m before read (Ok a) h = (numbers, read, subst (λ (b : Batches). Told name first q b u z m o) h.1 h.2)
+    cases first u m before read (Err (endings.Refused e)) h = (after_lines no_batches numbers, of_first numbers (all_first read), close_cause name first t numbers u e read before.stored h.1, h.0)
+    cases first u m before read (Err endings.Disk) h = (after_lines no_batches numbers, of_first numbers (all_first read), h)
+    cases first u m before read (Err endings.Sink) h = (close_batch (after_lines no_batches numbers), of_all numbers read, subst (λ (b : Batches). HalfTold name first q b u z m o) h.1 h.2)
+
+-- ---- A line at which it ends
+
+line_cause : {x : SourceView} {v : DiskView} (y : SourceView) (name : List ℕ) (first t : Session) (numbers : List (List ℤ)) (u : DiskView) (line : List ℕ) (number : ℕ) (z : ErrorLine) → ReadsLine (columns_of first) x numbers line → number ≡ length numbers + 1
+    → Stored name first t (after_lines no_batches numbers) u v → LineRefused line number t z → InputRefuses name first x y (after_lines no_batches numbers) u z
+line_cause y name first t numbers u line number errors.Usage reads count stored c = absurd c
+line_cause y name first t numbers u line number errors.Missing reads count stored c = absurd c
+line_cause y name first t numbers u line number errors.Exists reads count stored c = absurd c
+line_cause y name first t numbers u line number (errors.Read e) reads count stored c = absurd c
+line_cause y name first t numbers u line number (errors.Finding kind at) reads count stored c = absurd c
+line_cause y name first t numbers u line number (errors.Overlap at len other other_len) reads count stored c = absurd c
+line_cause y name first t numbers u line number (errors.Cut end size) reads count stored c = absurd c
+line_cause y name first t numbers u line number errors.Layout reads count stored c = absurd c
+line_cause y name first t numbers u line number (errors.ChunkBytes bytes) reads count stored c = absurd c
+line_cause y name first t numbers u line number errors.NoColumns reads count stored c = absurd c
+line_cause y name first t numbers u line number (errors.FullChunks chunks limit) reads count stored c = record { number = number; values = c.0; at = record { line = line; at = record { numbers = numbers; reads = reads; number = count; batches = refl }; spelled = subst (λ k. number_line_of k line ≡ Some c.0) (same_columns first t (after_lines no_batches numbers) stored.taken) c.1 }; session = t; taken = stored.taken; refused = c.2 }
+line_cause y name first t numbers u line number (errors.FullSpace at size limit) reads count stored c = record { numbers = numbers; batches = refl; read = inl (line, reads, subst (λ k. number_line_of k line ≡ Some []) (same_columns first t (after_lines no_batches numbers) stored.taken) c.0); session = t; before = _; stored = stored; full_for = c.1.0; bounds = c.1.1 }
+line_cause y name first t numbers u line number errors.Deep reads count stored c = record { numbers = numbers; batches = refl; read = inl (line, reads, subst (λ k. number_line_of k line ≡ Some []) (same_columns first t (after_lines no_batches numbers) stored.taken) c.0); session = t; before = _; stored = stored; deep_for = c.1 }
+line_cause y name first t numbers u line number (errors.Line n) reads count stored c = (line, record { numbers = numbers; reads = reads; number = c.0 ∙ count; batches = refl }, subst (λ k. number_line_of k line ≡ None) (same_columns first t (after_lines no_batches numbers) stored.taken) c.1)
+line_cause y name first t numbers u line number (errors.Range n i x) reads count stored c = (c.0, record { line = line; at = record { numbers = numbers; reads = reads; number = c.2.0 ∙ count; batches = refl }; spelled = subst (λ k. number_line_of k line ≡ Some c.0) (same_columns first t (after_lines no_batches numbers) stored.taken) c.1 }, subst (λ (d : Described). first_outside d.int_type 0 c.0 ≡ Some (i, x)) stored.taken.dataset c.2.1)
+line_cause y name first t numbers u line number (errors.Input limit) reads count stored c = absurd c
+line_cause y name first t numbers u line number errors.Disk reads count stored c = absurd c
+line_cause y name first t numbers u line number errors.Source reads count stored c = absurd c
+line_cause y name first t numbers u line number errors.Memory reads count stored c = tt
+
+-- the line is refused, or a disk or a sink failed at it
+pub taken_line : {v w : DiskView} {k l : SinkView} {x y : LinesAhead} {number : ℕ} (z : DiskView) (o : SinkView) (t : SourceView) (n : ℕ) (name : List ℕ) (s q r : Session) (line : List ℕ) (ending : Ending) → x.room ≡ input_limit → (h : Taking n name s q x y number v w k l)
+    → IfSome x.left (AreFirst (h.going.going.lines ++ line ∷ [])) → StepsOn n name q r (TakesLine line) (LineRefused line (number + 1) q) w z l o (Err ending) → TakesInputOn n name s r (outside x) t v z k o (Err ending)
+taken_line {v} {w} {k} {l} {x} {y} {number} z o t n name s q r line ending room h behind step = λ first u m counted told.
+    let before = h.done first u m counted told in
+    cases first u m before (same_columns first s no_batches told.stored.taken) ending (step first (after_lines no_batches h.numbers) u m counted before)
+  where
+    cases : (first : Session) (u : DiskView) (m : SinkView) → Told name first q (after_lines no_batches h.numbers) u w m l → columns_of s ≡ columns_of first → (ending : Ending)
+        → Steps name first r (after_lines no_batches h.numbers) (TakesLine line first (after_lines no_batches h.numbers)) (LineRefused line (number + 1) q) u z m o (Err ending) → TakesInput name first r (outside x) t u z m o (Err ending)
+    cases first u m before same (endings.Refused a) g =
+        let spell = h.going.going.spell in
+        let same_count = spell_count (columns_of s) h.going.going.lines h.numbers spell in
+        let count : number + 1 ≡ length h.numbers + 1 = omega (arith, h.going.going.count, same_count) in (
+          after_lines no_batches h.numbers,
+          of_first h.numbers (subst (λ c. ReadsFirst c (outside x) h.numbers) same (reads_first room h.going)),
+          line_cause t name first q h.numbers u line (number + 1) a (subst (λ c. ReadsLine c (outside x) h.numbers line) same (reads_line (columns_of s) x h.going.going.lines h.numbers line spell behind)) count before.stored g.1,
+          g.0,
+        )
+    cases first u m before same endings.Disk g =
+        (after_lines no_batches h.numbers, of_first h.numbers (subst (λ c. ReadsFirst c (outside x) h.numbers) same (reads_first room h.going)), g)
+    cases first u m before same endings.Sink g =
+        let takes = g.1 in
+        let values = takes.values in
+        let is = subst (λ c. number_line_of c line ≡ Some values) (sym same) takes.spelled in
+        let next : g.0 ≡ after_lines no_batches (h.numbers ++ values ∷ []) = takes.next_is ∙ sym (lines-append no_batches h.numbers values) in (
+          after_lines no_batches (h.numbers ++ values ∷ []),
+          of_first (h.numbers ++ values ∷ []) (subst (λ c. ReadsFirst c (outside x) (h.numbers ++ values ∷ [])) same (reads_more (columns_of s) x h.going.going.lines h.numbers line values h.going.going.spell is behind)),
+          subst (λ (b : Batches). HalfTold name first r b u z m o) next g.2,
+        )
+
+-- ---- The next line is not there
+
+pub taken_source : {v w : DiskView} {k l : SinkView} {x y : LinesAhead} {number : ℕ} (t : SourceView) (j : IntakeView) (n : ℕ) (name : List ℕ) (s q : Session) (e : LineError) → x.room ≡ input_limit → x.limit ≡ input_limit → (h : Taking n name s q x y number v w k l)
+    → Stays y (lines_ahead t j) → (e ≡ line_errors.Failed → Rose y.faults t.faults) → (e ≡ line_errors.Failed → GivenUp y (lines_ahead t j) j.held) → ((limit : ℕ) → e ≡ line_errors.Input limit → (limit ≡ y.limit) × IsOver y)
+    → TakesInputOn n name s q (outside x) t v w k l (Err (ending_of (error_of e)))
+taken_source {v} {w} {k} {l} {x} {y} t j n name s q line_errors.Failed room limited h stays rose up over = λ first u m counted told.
+    let same = same_columns first s no_batches told.stored.taken in (
+      after_lines no_batches h.numbers,
+      of_first h.numbers (subst (λ c. ReadsFirst c (outside x) h.numbers) same (reads_first room h.going)),
+      (rose_before x.faults y.faults t.faults h.going.going.passed.stays.faults (rose refl), h.numbers, subst (λ c. ReadsWhole c (outside x) t h.numbers) same (reads_whole t j room h.going (up refl)), refl),
+      h.done first u m counted told,
+    )
+taken_source {v} {w} {k} {l} {x} {y} t j n name s q (line_errors.Input limit) room limited h stays rose up over = λ first u m counted told.
+    let same = same_columns first s no_batches told.stored.taken in
+    let o = over limit refl in (
+      after_lines no_batches h.numbers,
+      of_first h.numbers (subst (λ c. ReadsFirst c (outside x) h.numbers) same (reads_first room h.going)),
+      (o.0 ∙ h.going.going.passed.stays.limit ∙ limited, h.numbers, subst (λ c. ReadsTooMuch c (outside x) h.numbers) same (reads_too_much room h.going o.1), refl),
+      h.done first u m counted told,
+    )
+taken_source {v} {w} {k} {l} {x} {y} t j n name s q line_errors.OutOfMemory room limited h stays rose up over = λ first u m counted told.
+    let same = same_columns first s no_batches told.stored.taken in (
+      after_lines no_batches h.numbers,
+      of_first h.numbers (subst (λ c. ReadsFirst c (outside x) h.numbers) same (reads_first room h.going)),
+      tt,
+      h.done first u m counted told,
+    )
+
+-- ---- From the lines to the source, which is given back
+
+pub input_of : (n : ℕ) (name : List ℕ) (q r : Session) (a s b t : SourceView) (i : IntakeView) (v w : DiskView) (k l : SinkView) (z : Result (Unit {0}) Ending) → TakesInputOn n name q r (outside (lines_ahead a i)) b v w k l z → i.held ≡ [] → a ≡ s → b ≡ t
+    → TakesInputOn n name q r s t v w k l z
+input_of n name q r a s b t i v w k l z h none same given =
+    subst (λ (x : SourceView). TakesInputOn n name q r x t v w k l z) same
+    (subst (λ (y : SourceView). TakesInputOn n name q r a y v w k l z) given
+    (subst (λ (x : SourceView). TakesInputOn n name q r x b v w k l z) (starts a i none) h))
+
+pub same_source_of : {a s b t : SourceView} → SameSource a b → a ≡ s → b ≡ t → SameSource s t
+same_source_of {a} {s} {b} {t} h same given = subst (λ (x : SourceView). SameSource x t) same (subst (λ (y : SourceView). SameSource a y) given h)
+
+pub ready_source : {w : DiskView} (name : List ℕ) (t : Session) (e : LineError) → IsReady name t w → ReadyUnlessDisk name t w (Err (ending_of (error_of e)))
+ready_source name t line_errors.Failed ready = ready
+ready_source name t (line_errors.Input limit) ready = ready
+ready_source name t line_errors.OutOfMemory ready = ready
+
+-- ---- The beginning
+
+nothing_read : (columns : ℕ) (x y : SourceView) → AreTaken columns x y no_batches
+nothing_read columns x y = of_first [] (record { lines = []; spell = refl; first = first_none x.left })
+
+begun_end : {v w : DiskView} (n : ℕ) (name : List ℕ) (s t : Session) → PutsAll n name s t v w → IsBegun name s v → (1 ≤ w.pieces) × (t.places.end ≤ w.end name)
+begun_end {v} {w} n name s t q begun =
+    let ps = q.puts in
+    let count : length s.pending ≡ length (writes_of ps.puts) = ap length ps.pieces ∙ ap (λ (ws : List Write). length (writes_of ps.puts ++ ws)) q.all ∙ ap length (append-nil (writes_of ps.puts)) in
+    let puts = length-writes ps.puts in
+    let one = begun.one in
+    let room = begun.room in
+    let left = ps.room in
+    let end = ps.end in
+    let low = begun.end in
+    let ends = ps.ends in
+    (omega (arith, count, puts, one, room, left), omega (arith, end, low, ends))
+
+pub ready_begun : {v w : DiskView} (n : ℕ) (name : List ℕ) (s t : Session) → 1 ≤ s.dataset.shape.cols → PutsAll n name s t v w → IsBegun name s v → IsReady name t w
+ready_begun n name s t columns q begun =
+    let both = begun_end n name s t q begun in
+    record {
+      there = puts_there name q.puts.puts q.puts.disk begun.there;
+      running = ap (λ (y : Session). y.stopped) q.puts.session ∙ begun.running;
+      columns = subst (λ n. 1 ≤ n) (sym (ap (λ (y : Session). y.dataset.shape.cols) q.puts.session)) columns;
+      idle = q.all;
+      room = both.0;
+      end = both.1;
+    }
+
+pub told_begun : {u v w : DiskView} (k : SinkView) (n : ℕ) (name : List ℕ) (s t : Session) → u.faults ≡ n → LeavesFiles u.told u v → PutsAll n name s t v w → IsBegun name s v → Told name s t no_batches u w k k
+told_begun k n name s t counted p q begun =
+    record { stored = stored_puts name s s t no_batches (q.before ∙ sym counted) q.puts (stored_none name s p begun.waits); gave = gave_nothing k }
+
+pub begun_ended : {v : DiskView} (w : DiskView) (k : SinkView) (x : SourceView) (n : ℕ) (name : List ℕ) (s t : Session) (e : Ending) → PutsBy n name s t v w (Err e) → IsBegun name s v → TakesInputFrom n name s t x x v w k k (Err e)
+begun_ended w k x n name s t (endings.Refused e) h begun = absurd h
+begun_ended w k x n name s t endings.Disk h begun = λ u counted p.
+    (no_batches, nothing_read (columns_of s) x x, record { broke = broke_puts n name s s t no_batches counted h (stored_none name s p begun.waits); gave = gave_nothing k })
+begun_ended w k x n name s t endings.Sink h begun = absurd h
+
+-- memory for the last line was wanting
+pub last_wanting : {u w : DiskView} {k l : SinkView} {x y : SourceView} (name : List ℕ) (first t : Session) → TakesInput name first t x y u w k l (Ok tt) → TakesInput name first t x y u w k l (Err (endings.Refused errors.Memory))
+last_wanting name first t h = (close_batch (after_lines no_batches h.0), of_all h.0 h.1, tt, h.2)

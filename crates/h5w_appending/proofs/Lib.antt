@@ -1,0 +1,9 @@
+pub mod PutLemmas
+pub mod CreateLemmas
+pub mod BatchLemmas
+pub mod StoreLemmas
+pub mod StepLemmas
+pub mod InputLemmas
+pub mod ShutLemmas
+pub mod AppendLemmas
+pub mod OpenLemmas

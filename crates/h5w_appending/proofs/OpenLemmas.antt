@@ -1,0 +1,151 @@
+-- A file that is opened to append to it.
+use Rattle.std.proofs.Common.{◌≡◌, ◌⊎◌, ℕ, ◌+◌, ◌<◌, ◌≤◌, ◌^◌, Bool, false, List, length, ℤ, Option, Some, None, Result, Ok, Err, refl, sym, ap, ◌∙◌, subst, inl, inr, arith}
+use Rattle.std.specs.Prelude.{IfSome, IsSome, option_map}
+use Rattle.h5w_model.specs.Causes.{Rose}
+use Rattle.h5w_model.specs.Findings.{Summary, Valid}
+use Rattle.h5w_model.specs.Logs.{Log}
+use Rattle.h5w_model.specs.Tables.{Reads}
+use Rattle.h5w_image.specs.View.{DiskState, DiskView, IsThere, Leaves, Looked, file}
+use Rattle.h5w_looks.specs.Still.{IsStill}
+use Rattle.h5w_opening.specs.Errors.{IsOpenKind}
+use Rattle.h5w_opening.specs.declared.error.OpenError.{OpenError}
+use Rattle.h5w_opening.specs.declared.error.OpenError.TheVariants as opens
+use Rattle.h5w_session_open.specs.OpenAnswers.{HasBegun, IsNotOpened, IsOpenAnswer}
+use Rattle.h5w_session.specs.Openings.{opened_log}
+use Rattle.h5w_session.specs.Sessions.{Session}
+use Rattle.h5w_session.specs.Stands.{Stands}
+use Rattle.h5w_text.specs.declared.error.ErrorLine.{ErrorLine}
+use Rattle.h5w_text.specs.declared.error.ErrorLine.TheVariants as errors
+use Rattle.h5w_files.specs.Images.{LeavesFiles, file_image, told_bytes}
+use Rattle.h5w_appending.specs.Appends.{IsFree, IsOpenOver, NotOpened, Unopened, open_line}
+use Rattle.h5w_appending.specs.Appending.{HasSize, IsBegun}
+use Rattle.h5w_files.proofs.ClearLemmas.{any_told, leaves_files, none_of}
+use Rattle.h5w_files.proofs.ImageLemmas.{leaves_on, looked_files}
+
+-- the bytes of a file have its size
+sized_bytes : (t : Option DiskState) (name : List ℕ) (size : ℕ) (img : List ℕ) → IfSome t (λ d. Some size ≡ option_map length (file d name)) → told_bytes t name ≡ Some img → size ≡ length img
+sized_bytes None name size img h e = absurd (cc)
+sized_bytes (Some d) name size img h e = inner (file d name) h e
+  where
+    inner : (o : Option (List ℕ)) → Some size ≡ option_map length o → o ≡ Some img → size ≡ length img
+    inner None h e = absurd (cc)
+    inner (Some b) h e = let is : b ≡ img = cc in let count : size ≡ length b = cc in count ∙ ap length is
+
+still : (r : ℕ) (v : DiskView) (name : List ℕ) (size : ℕ) (img : List ℕ) → size < 2 ^ 64 → HasSize v name size → told_bytes v.told name ≡ Some img → IsStill (file_image r name v) img
+still r v name size img small sized told = let count = sized_bytes v.told name size img sized told in record { told = told; alone = refl; short = omega (arith, count, small) }
+
+pub opened_over : {v : DiskView} (r : ℕ) (name at : List ℕ) (limit size : ℕ) (s : Session) → IsThere v name → size < 2 ^ 64 → HasSize v name size → HasBegun at limit s → ((img : List ℕ) → IsStill (file_image r name v) img → IsOpenAnswer img size at limit (Ok s))
+    → ((img : List ℕ) (rows columns : ℕ) (values : List ℤ) (sm : Summary) → IsStill (file_image r name v) img → Valid img at sm → Reads img at rows columns values → Stands s (opened_log img columns values)) → IsOpenOver name at limit false v s
+opened_over {v} r name at limit size s there small sized begun exact stands = record {
+  there = there;
+  opened = s;
+  begun = begun;
+  is = λ i. record s { keeps = begun.frees i };
+  exact = λ img told. subst (λ n. IsOpenAnswer img n at limit (Ok s)) (sized_bytes v.told name size img sized told) (exact img (still r v name size img small sized told));
+  stands = λ img rows columns values sm told valid reads. stands img rows columns values sm (still r v name size img small sized told) valid reads;
+}
+
+refusal_case : (img : List ℕ) (size limit : ℕ) (at : List ℕ) (e : OpenError) → IsOpenAnswer img size at limit (Err e) → IsFree (open_line e) ⊎ ((x : OpenError) × (open_line x ≡ open_line e) × IsNotOpened img size at x)
+refusal_case img size limit at (opens.Read e) h = inr (opens.Read e, refl, h)
+refusal_case img size limit at (opens.Flags flags) h = inr (opens.Flags flags, refl, h)
+refusal_case img size limit at (opens.Cut end n) h = inr (opens.Cut end n, refl, h)
+refusal_case img size limit at opens.Layout h = inr (opens.Layout, refl, h)
+refusal_case img size limit at (opens.ChunkBytes bytes most) h = inr (opens.ChunkBytes bytes most, refl, h)
+refusal_case img size limit at opens.NoColumns h = inr (opens.NoColumns, refl, h)
+refusal_case img size limit at (opens.Finding kind place) h = inr (opens.Finding kind place, refl, h)
+refusal_case img size limit at opens.Failed h = inl (inl refl)
+refusal_case img size limit at opens.OutOfMemory h = inl (inr refl)
+
+disk_failed : (e : OpenError) → open_line e ≡ errors.Disk → e ≡ opens.Failed
+disk_failed (opens.Read e) h = absurd (cc)
+disk_failed (opens.Flags flags) h = absurd (cc)
+disk_failed (opens.Cut end n) h = absurd (cc)
+disk_failed opens.Layout h = absurd (cc)
+disk_failed (opens.ChunkBytes bytes most) h = absurd (cc)
+disk_failed opens.NoColumns h = absurd (cc)
+disk_failed (opens.Finding kind place) h = absurd (cc)
+disk_failed opens.Failed h = refl
+disk_failed opens.OutOfMemory h = absurd (cc)
+
+there_cases : (t : Option DiskState) (name at : List ℕ) (e : ErrorLine) (size : ℕ) → IfSome t (λ d. Some size ≡ option_map length (file d name))
+    → ((img : List ℕ) → told_bytes t name ≡ Some img → IsFree e ⊎ ((x : OpenError) × (open_line x ≡ e) × IsNotOpened img (length img) at x)) → IfSome t (λ d. IsFree e ⊎ NotOpened at (file d name) e)
+there_cases None name at e size h f = tt
+there_cases (Some d) name at e size h f = inner (file d name) h f
+  where
+    inner : (o : Option (List ℕ)) → Some size ≡ option_map length o → ((img : List ℕ) → o ≡ Some img → IsFree e ⊎ ((x : OpenError) × (open_line x ≡ e) × IsNotOpened img (length img) at x)) → IsFree e ⊎ NotOpened at o e
+    inner None h f = absurd (cc)
+    inner (Some img) h f = f img refl
+
+pub unopened_over : {S : Type 0} {v w : DiskView} (r q : ℕ) (name other at : List ℕ) (limit size : ℕ) (x : OpenError) (e : ErrorLine) → size < 2 ^ 64 → HasSize v name size → e ≡ open_line x → Looked (file_image r name v) (file_image q other w)
+    → ((img : List ℕ) → IsStill (file_image r name v) img → IsOpenAnswer img size at limit (Err x)) → (◌≡◌ {A = Result S OpenError} (Err x) (Err opens.Failed) → Rose v.faults w.faults) → IsOpenKind x → Unopened name at v w e
+unopened_over {S} {v} {w} r q name other at limit size x e small sized is looked exact cause kind = record {
+  disk = looked_files r q name other looked;
+  exact = there_cases v.told name at e size sized (λ img told. subst (λ (y : ErrorLine). IsFree y ⊎ ((z : OpenError) × (open_line z ≡ y) × IsNotOpened img (length img) at z)) (sym is)
+      (refusal_case img (length img) limit at x (subst (λ n. IsOpenAnswer img n at limit (Err x)) (sized_bytes v.told name size img sized told) (exact img (still r v name size img small sized told)))));
+  kinds = inr (x, sym is, kind);
+  cause = λ h. cause (ap Err (disk_failed x (sym is ∙ h)));
+}
+
+-- ---- Before it is opened
+
+pub open_missing : {v w : DiskView} (name at : List ℕ) → Leaves 0 v.told v w → IfSome v.told (λ d. None ≡ option_map length (file d name)) → Unopened name at v w errors.Missing
+open_missing {v} name at p none = record { disk = leaves_files 0 v.told p; exact = told v.told none; kinds = inl refl; cause = λ h. cc }
+  where
+    told : (t : Option DiskState) → IfSome t (λ d. None ≡ option_map length (file d name)) → IfSome t (λ d. IsFree errors.Missing ⊎ NotOpened at (file d name) errors.Missing)
+    told None h = tt
+    told (Some d) h = inr (subst (λ (o : Option (List ℕ)). NotOpened at o errors.Missing) (sym (none_of (file d name) h)) refl)
+
+pub open_failed : {v w : DiskView} (name at : List ℕ) → Leaves 0 v.told v w → Rose v.faults w.faults → Unopened name at v w errors.Disk
+open_failed {v} name at p rose = record { disk = leaves_files 0 v.told p; exact = any_told v.told (λ d. inl (inl refl)); kinds = inr (opens.Failed, refl, tt); cause = λ h. rose }
+
+-- ---- From one state to another
+
+pub opened_before : {u v : DiskView} (name at : List ℕ) (limit : ℕ) (s : Session) → LeavesFiles u.told u v → IsOpenOver name at limit false v s → IsOpenOver name at limit false u s
+opened_before {u} {v} name at limit s p h = record {
+  there = subst (λ t. IfSome t (λ d. IsSome (file d name))) p.told h.there;
+  opened = h.opened;
+  begun = h.begun;
+  is = h.is;
+  exact = λ img told. h.exact img (ap (λ t. told_bytes t name) p.told ∙ told);
+  stands = λ img rows columns values sm told valid reads. h.stands img rows columns values sm (ap (λ t. told_bytes t name) p.told ∙ told) valid reads;
+}
+
+pub unopened_before : {u v w : DiskView} (name at : List ℕ) (e : ErrorLine) → LeavesFiles u.told u v → Unopened name at v w e → Unopened name at u w e
+unopened_before {u} {v} {w} name at e p h = record {
+  disk = leaves_on p h.disk;
+  exact = subst (λ (t : Option DiskState). IfSome t (λ d. IsFree e ⊎ NotOpened at (file d name) e)) p.told h.exact;
+  kinds = h.kinds;
+  cause = λ f. let rose = h.cause f in omega (arith, rose, p.faults);
+}
+
+-- room was refused
+pub open_wanting : {v w : DiskView} (name at : List ℕ) → LeavesFiles v.told v w → Unopened name at v w errors.Memory
+open_wanting {v} name at p = record { disk = p; exact = any_told v.told (λ d. inl (inr refl)); kinds = inr (opens.OutOfMemory, refl, tt); cause = λ h. cc }
+
+-- what is retired stays so
+pub opened_keeping : {v : DiskView} (name at : List ℕ) (limit : ℕ) (keeps : Bool) (s t : Session) → t ≡ record s { keeps = keeps } → ((log : Log) → Stands s log → Stands t log) → IsOpenOver name at limit false v s → IsOpenOver name at limit keeps v t
+opened_keeping name at limit keeps s t is stands h = record {
+  there = h.there;
+  opened = h.opened;
+  begun = h.begun;
+  is = is ∙ ap (λ (x : Session). record x { keeps = keeps }) h.is;
+  exact = h.exact;
+  stands = λ img rows columns values sm told valid reads. stands (opened_log img columns values) (h.stands img rows columns values sm told valid reads);
+}
+
+pub left_first : {u v : DiskView} → Leaves 0 u.told u v → LeavesFiles u.told u v
+left_first {u} p = leaves_files 0 u.told p
+
+pub left_on : {u v x w : DiskView} → Leaves 0 u.told u v → LeavesFiles v.told v x → Leaves 0 x.told x w → LeavesFiles u.told u w
+left_on {u} {v} {x} p q r = leaves_on (leaves_on (leaves_files 0 u.told p) q) (leaves_files 0 x.told r)
+
+pub there_on : {v w : DiskView} (name : List ℕ) → LeavesFiles v.told v w → IsThere v name → IsThere w name
+there_on name p there = subst (λ t. IfSome t (λ d. IsSome (file d name))) (sym p.told) there
+
+pub begun_ready : {w : DiskView} (name at : List ℕ) (limit n : ℕ) (keeps : Bool) (s t : Session) → HasBegun at limit s → t ≡ record s { keeps = keeps } → IsThere w name → n ≡ length s.pending → n + 1 ≤ w.pieces → s.places.end ≤ w.end name → IsBegun name t w
+begun_ready {w} name at limit n keeps s t begun is there count room end =
+    let one : length s.pending ≡ 1 = ap length begun.pending in
+    subst (λ (x : Session). IsBegun name x w) (sym is) (record { there = there; running = begun.running; one = one; waits = begun.waits; room = omega (arith, one, count, room); end = end })
+
+pub opened_begun : {v : DiskView} {name at : List ℕ} {limit : ℕ} {s : Session} → IsOpenOver name at limit false v s → HasBegun at limit s
+opened_begun {v} {name} {at} {limit} {s} h = subst (λ (x : Session). HasBegun at limit x) ((λ i. record (h.opened) { keeps = h.begun.frees i }) ∙ sym h.is) h.begun

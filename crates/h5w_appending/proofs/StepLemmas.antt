@@ -1,0 +1,336 @@
+-- The steps of an append: batches that are closed, and lines that are taken.
+use Rattle.std.proofs.Common.{◌≡◌, ◌≢◌, ◌⊎◌, ℕ, ◌+◌, ◌*◌, ◌≤◌, Bool, true, false, List, [], ◌∷◌, ◌++◌, length, ℤ, Option, Some, None, Result, Ok, Err, refl, sym, ap, ◌∙◌, subst, inl, inr, arith, append-nil}
+use Rattle.std.specs.Prelude.{IfSome, IsSome, nat_lt, if◌then◌else◌}
+use Rattle.h5w_model.specs.Causes.{Rose}
+use Rattle.h5w_model.specs.Datasets.{Described}
+use Rattle.h5w_model.specs.Lawful.{first_outside}
+use Rattle.h5w_model.specs.declared.piece.Write.{Write}
+use Rattle.h5w_image.specs.View.{DiskView, IsThere, file}
+use Rattle.h5w_session.specs.Refusals.{append_refusal, flush_refusal, IsSpace}
+use Rattle.h5w_session.specs.Sessions.{Session, rows_of}
+use Rattle.h5w_session.specs.declared.refusal.AppendError.{AppendError}
+use Rattle.h5w_session.specs.declared.refusal.AppendError.TheVariants as append_errors
+use Rattle.h5w_session.specs.declared.refusal.FlushError.{FlushError}
+use Rattle.h5w_session.specs.declared.refusal.FlushError.TheVariants as flush_errors
+use Rattle.h5w_text.specs.Scripts.{number_line_of}
+use Rattle.h5w_text.specs.Streams.{SinkView, Gave, GaveSome}
+use Rattle.h5w_text.specs.declared.error.ErrorLine.{ErrorLine}
+use Rattle.h5w_text.specs.declared.error.ErrorLine.TheVariants as errors
+use Rattle.h5w_batches.specs.Batches.{Batches, after_line, close_batch}
+use Rattle.h5w_appending.specs.Appends.{HasTaken, columns_of, last_line_of, lines_of}
+use Rattle.h5w_appending.specs.Appending.{AppendsAll, AppendsBy, Closes, FlushRefused, FlushesBy, Halted, HasNone, IsReady, LineRefused, Planned, PutsAll, PutsBy, PutsHalted, Steps, StepsOn, TakesLine, Told, Unflushed, Unput, ValuesRefused}
+use Rattle.h5w_files.specs.Polls.{count_text}
+use Rattle.h5w_appending.specs.Puts.{writes_of}
+use Rattle.h5w_appending.specs.declared.batching.Ending.{Ending}
+use Rattle.h5w_appending.specs.declared.batching.Ending.TheVariants as endings
+use Rattle.h5w_appending.proofs.BatchLemmas.{batch_lines, batch_rows, nothing_closes, some_batch}
+use Rattle.h5w_appending.proofs.PutLemmas.{length-writes, puts_there}
+use Rattle.h5w_files.proofs.SinkLemmas.{gave_both}
+use Rattle.h5w_appending.proofs.StoreLemmas.{broke_batch, broke_before, stored_batch, stored_same, stored_unflushed, stored_values}
+
+-- ---- Refusals that a session gives which is ready
+
+some_is : {A : Type 0} (a b : A) → Some a ≡ Some b → a ≡ b
+some_is a b e = cc
+
+refusal_cases : {E : Type 0} (stopped : Bool) (pending : ℕ) (x e : E) (y : ℕ → E) (o : Option E) → stopped ≡ false → pending ≡ 0
+    → (if stopped then Some x else if nat_lt 0 pending then Some (y pending) else o) ≡ Some e → o ≡ Some e
+refusal_cases true pending x e y o running idle h = absurd (cc)
+refusal_cases false pending x e y o running idle h = subst (λ n. (if nat_lt 0 n then Some (y n) else o) ≡ Some e) idle h
+
+values_cases : (f : Option (ℕ × ℤ)) (b : Bool) (chunks limit : ℕ) (e : AppendError)
+    → (elim f [ Some x ↦ Some (append_errors.OutOfRange x.0 x.1) | None ↦ (if b then Some (append_errors.Chunks chunks limit) else None) ]) ≡ Some e
+    → ((x : ℕ × ℤ) × (e ≡ append_errors.OutOfRange x.0 x.1)) ⊎ (e ≡ append_errors.Chunks chunks limit)
+values_cases (Some x) b chunks limit e h = let is : append_errors.OutOfRange x.0 x.1 ≡ e = cc in inl (x, sym is)
+values_cases None true chunks limit e h = let is : append_errors.Chunks chunks limit ≡ e = cc in inr (sym is)
+values_cases None false chunks limit e h = absurd (cc)
+
+abbrev CauseOf : Session → List ℤ → AppendError → Type 0
+CauseOf s values e = (append_refusal s values ≡ Some e) ⊎ ((e ≡ append_errors.Failed) ⊎ (e ≡ append_errors.OutOfMemory))
+
+never : (s : Session) (values : List ℤ) (e : AppendError) → s.stopped ≡ false → s.pending ≡ [] → CauseOf s values e → ((i : ℕ) (x : ℤ) → e ≡ append_errors.OutOfRange i x → ⊥) → ((c l : ℕ) → e ≡ append_errors.Chunks c l → ⊥) → (e ≡ append_errors.Failed → ⊥)
+    → (e ≡ append_errors.OutOfMemory → ⊥) → ⊥
+never s values e running idle (inr (inl f)) no_range no_chunks no_fault no_memory = no_fault f
+never s values e running idle (inr (inr m)) no_range no_chunks no_fault no_memory = no_memory m
+never s values e running idle (inl r) no_range no_chunks no_fault no_memory =
+    let h = refusal_cases s.stopped (length s.pending) append_errors.Stopped e (λ n. append_errors.Busy n) _ running (ap length idle) r in
+    elim (values_cases (first_outside s.dataset.int_type 0 values) _ _ _ e h) [ inl x ↦ no_range x.0.0 x.0.1 x.1 | inr c ↦ no_chunks _ _ c ]
+
+pub never_stopped : {v : DiskView} (name : List ℕ) (s : Session) (values : List ℤ) → IsReady name s v → CauseOf s values append_errors.Stopped → ⊥
+never_stopped name s values r c = never s values append_errors.Stopped r.running r.idle c (λ i x e. cc) (λ a l e. cc) (λ e. cc) (λ e. cc)
+
+pub never_busy : {v : DiskView} (name : List ℕ) (s : Session) (values : List ℤ) (n : ℕ) → IsReady name s v → CauseOf s values (append_errors.Busy n) → ⊥
+never_busy name s values n r c = never s values (append_errors.Busy n) r.running r.idle c (λ i x e. cc) (λ a l e. cc) (λ e. cc) (λ e. cc)
+
+outside_case : (f : Option (ℕ × ℤ)) (b : Bool) (chunks limit i : ℕ) (x : ℤ)
+    → (elim f [ Some y ↦ Some (append_errors.OutOfRange y.0 y.1) | None ↦ (if b then Some (append_errors.Chunks chunks limit) else None) ]) ≡ Some (append_errors.OutOfRange i x) → f ≡ Some (i, x)
+outside_case (Some y) b chunks limit i x h = let first : y.0 ≡ i = cc in let second : y.1 ≡ x = cc in (λ j. Some (first j, second j))
+outside_case None true chunks limit i x h = absurd (cc)
+outside_case None false chunks limit i x h = absurd (cc)
+
+pub out_of_range : {v : DiskView} (name : List ℕ) (s : Session) (values : List ℤ) (i : ℕ) (x : ℤ) → IsReady name s v → CauseOf s values (append_errors.OutOfRange i x) → first_outside s.dataset.int_type 0 values ≡ Some (i, x)
+out_of_range name s values i x ready (inl r) =
+    outside_case (first_outside s.dataset.int_type 0 values) _ _ _ i x
+    (refusal_cases s.stopped (length s.pending) append_errors.Stopped (append_errors.OutOfRange i x) (λ n. append_errors.Busy n) _ ready.running (ap length ready.idle) r)
+out_of_range name s values i x ready (inr (inl e)) = absurd (cc)
+out_of_range name s values i x ready (inr (inr e)) = absurd (cc)
+
+pub too_many : (s : Session) (values : List ℤ) (c l : ℕ) → CauseOf s values (append_errors.Chunks c l) → append_refusal s values ≡ Some (append_errors.Chunks c l)
+too_many s values c l (inl r) = r
+too_many s values c l (inr (inl e)) = absurd (cc)
+too_many s values c l (inr (inr e)) = absurd (cc)
+
+abbrev FlushCause : Session → FlushError → Type 0
+FlushCause s e = (flush_refusal s ≡ Some e) ⊎ (IsSpace e ⊎ ((e ≡ flush_errors.Deep) ⊎ ((e ≡ flush_errors.Failed) ⊎ (e ≡ flush_errors.OutOfMemory))))
+
+not_refused : (s : Session) (e : FlushError) → s.stopped ≡ false → s.pending ≡ [] → flush_refusal s ≡ Some e → ⊥
+not_refused s e running idle r = let none : ◌≡◌ {A = Option FlushError} None (Some e) = refusal_cases s.stopped (length s.pending) flush_errors.Stopped e (λ n. flush_errors.Busy n) None running (ap length idle) r in cc
+
+pub never_stopped_flush : {v : DiskView} (name : List ℕ) (s : Session) → IsReady name s v → FlushCause s flush_errors.Stopped → ⊥
+never_stopped_flush name s r (inl c) = not_refused s flush_errors.Stopped r.running r.idle c
+never_stopped_flush name s r (inr (inl f)) = let e = f.1 in cc
+never_stopped_flush name s r (inr (inr (inl e))) = cc
+never_stopped_flush name s r (inr (inr (inr (inl e)))) = cc
+never_stopped_flush name s r (inr (inr (inr (inr e)))) = cc
+
+pub never_busy_flush : {v : DiskView} (name : List ℕ) (s : Session) (n : ℕ) → IsReady name s v → FlushCause s (flush_errors.Busy n) → ⊥
+never_busy_flush name s n r (inl c) = not_refused s (flush_errors.Busy n) r.running r.idle c
+never_busy_flush name s n r (inr (inl f)) = let e = f.1 in cc
+never_busy_flush name s n r (inr (inr (inl e))) = cc
+never_busy_flush name s n r (inr (inr (inr (inl e)))) = cc
+never_busy_flush name s n r (inr (inr (inr (inr e)))) = cc
+
+-- ---- A session that can go on
+
+there_unput : {v w : DiskView} (name : List ℕ) → Unput name v w → IsThere v name → IsThere w name
+there_unput name p there = subst (λ t. IfSome t (λ d. IsSome (file d name))) (sym p.disk.told) there
+
+pub ready_unput : {v w : DiskView} (name : List ℕ) (s : Session) → Unput name v w → IsReady name s v → IsReady name s w
+ready_unput name s p r = record {
+  there = there_unput name p r.there;
+  running = r.running;
+  columns = r.columns;
+  idle = r.idle;
+  room = omega (arith, r.room, p.room);
+  end = omega (arith, r.end, p.end);
+}
+
+pub ready_values : {v w : DiskView} (name : List ℕ) (s t : Session) (values : List ℤ) → Unput name v w → AppendsAll s t values → IsReady name s v → IsReady name t w
+ready_values {v} {w} name s t values p a r = subst (λ (x : Session). IsReady name x w) (sym a.session) (let q = ready_unput name s p r in record { there = q.there; running = q.running; columns = q.columns; idle = q.idle; room = q.room; end = q.end })
+
+pub ready_unflushed : {v w : DiskView} (name : List ℕ) (s t : Session) → Unput name v w → Unflushed s t → IsReady name s v → IsReady name t w
+ready_unflushed {v} {w} name s t p a r =
+    let q = ready_unput name s p r in
+    let same = a.same.session in
+    let end : t.places.end ≡ s.places.end = ap (λ (x : Session). x.places.end) same in
+    record {
+      there = q.there;
+      running = ap (λ (x : Session). x.stopped) same ∙ q.running;
+      columns = subst (λ n. 1 ≤ n) (sym (ap (λ (x : Session). x.dataset.shape.cols) same)) q.columns;
+      idle = ap (λ (x : Session). x.pending) same ∙ q.idle;
+      room = q.room;
+      end = let low = q.end in omega (arith, end, low);
+    }
+
+pub ready_batch : {v x w : DiskView} (n : ℕ) (name : List ℕ) (s t r : Session) → Unput name v x → Planned name s t x → PutsAll n name t r x w → IsReady name s v → IsReady name r w
+ready_batch {v} {x} {w} n name s t r p plan q ready =
+    let ps = q.puts in
+    let same = ps.session in
+    let count : length t.pending ≡ length (writes_of ps.puts) = ap length ps.pieces ∙ ap (λ (ws : List Write). length (writes_of ps.puts ++ ws)) q.all ∙ ap length (append-nil (writes_of ps.puts)) in
+    let puts = length-writes ps.puts in
+    let end = ps.end in
+    let low = plan.end in
+    let ends = ps.ends in
+    let had = plan.room in
+    let left = ps.room in
+    record {
+      there = puts_there name ps.puts ps.disk (there_unput name p ready.there);
+      running = ap (λ (y : Session). y.stopped) same ∙ plan.rows.stopped ∙ ready.running;
+      columns = subst (λ n. 1 ≤ n) (sym (ap (λ (y : Session). y.dataset.shape.cols) same ∙ ap (λ (d : Described). d.shape.cols) plan.rows.dataset)) ready.columns;
+      idle = q.all;
+      room = omega (arith, count, puts, had, left);
+      end = omega (arith, end, low, ends);
+    }
+
+-- ---- Batches
+
+columns_same : (first s : Session) (b : Batches) → HasTaken first s b → s.dataset.shape.cols ≡ columns_of first
+columns_same first s b h = ap (λ (d : Described). d.shape.cols) h.dataset
+
+some_columns : {v : DiskView} (name : List ℕ) (first s : Session) (b : Batches) → HasTaken first s b → IsReady name s v → 1 ≤ columns_of first
+some_columns name first s b h r = subst (λ n. 1 ≤ n) (columns_same first s b h) r.columns
+
+pub told_unput : {u v w : DiskView} {k l : SinkView} (name : List ℕ) (first s : Session) (b : Batches) → Unput name v w → Told name first s b u v k l → Told name first s b u w k l
+told_unput name first s b p t = record { stored = stored_same name first s b p t.stored; gave = t.gave }
+
+nothing_put : (v : DiskView) (name : List ℕ) → Unput name v v
+nothing_put v name = record { disk = record { told = refl; faults = omega arith; through = refl }; room = omega arith; end = omega arith }
+
+-- the line of a batch
+batch_line : (name : List ℕ) (first s : Session) (b : Batches) (bytes : List ℕ) → 1 ≤ columns_of first → 1 ≤ s.waits → HasTaken first s b → bytes ≡ count_text (rows_of s) → last_line_of first (close_batch b).closed ≡ bytes
+batch_line name first s b bytes some waits h is =
+    ap count_text (batch_rows (columns_of first) first.dataset.shape.rows s.waits b some waits h.waits ∙ ap (λ n. n + s.waits) (sym h.rows)) ∙ sym is
+
+-- it stands behind those before it
+batch_text : (name : List ℕ) (first s : Session) (b : Batches) (bytes : List ℕ) → 1 ≤ columns_of first → 1 ≤ s.waits → HasTaken first s b → bytes ≡ count_text (rows_of s)
+    → lines_of first (close_batch b).closed ≡ lines_of first b.closed ++ bytes
+batch_text name first s b bytes some waits h is =
+    batch_lines (columns_of first) first.dataset.shape.rows s.waits b some waits h.waits
+    ∙ ap (λ (t : List ℕ). lines_of first b.closed ++ t) (ap count_text (ap (λ n. n + s.waits) (sym h.rows)) ∙ sym is)
+
+-- its flush was refused
+pub close_refused : {v w : DiskView} {k : SinkView} (n : ℕ) (name : List ℕ) (s t : Session) (e : ErrorLine) → Unput name v w → Unflushed s t → FlushRefused s e → StepsOn n name s t Closes (FlushRefused s) v w k k (Err (endings.Refused e))
+close_refused n name s t e p a cause = λ first b u m counted told. (record { stored = stored_unflushed name first s t b a p told.stored; gave = told.gave }, cause)
+
+-- memory for its line was wanting
+pub close_wanting : {v : DiskView} {k : SinkView} (n : ℕ) (name : List ℕ) (s : Session) → StepsOn n name s s Closes (FlushRefused s) v v k k (Err (endings.Refused errors.Memory))
+close_wanting n name s = λ first b u m counted told. (told, tt)
+
+-- the image failed
+pub close_failed : {v w : DiskView} {k : SinkView} (n : ℕ) (name : List ℕ) (s c t : Session) → Unput name v w → Unflushed s c → Halted c t → Rose v.faults w.faults → StepsOn n name s t Closes (FlushRefused s) v w k k (Err endings.Disk)
+close_failed {v} {w} n name s c t p a halted rose =
+    λ first b u m counted told. record { broke = broke_before name first c t b halted p rose (stored_unflushed name first s c b a (nothing_put v name) told.stored); gave = told.gave }
+
+-- no row waits
+pub close_none : {v w : DiskView} {k : SinkView} (n : ℕ) (name : List ℕ) (s t : Session) → Unput name v w → HasNone s t → StepsOn n name s t Closes (FlushRefused s) v w k k (Ok tt)
+close_none {v} {w} {k} n name s t p none = λ first b u m counted told.
+    let same : close_batch b ≡ b = nothing_closes b (columns_of first) s.waits none.0 told.stored.taken.waits in (
+      close_batch b,
+      refl,
+      subst (λ (x : Session). Told name first x (close_batch b) u w m k) (sym none.1) (subst (λ (x : Batches). Told name first s x u w m k) (sym same) (told_unput name first s b p told)),
+    )
+
+-- the disk failed at a piece
+pub close_broke : {v x w : DiskView} {k : SinkView} (n : ℕ) (name : List ℕ) (s t r : Session) → IsReady name s v → Unput name v x → Planned name s t x → PutsHalted n name t r x w → StepsOn n name s r Closes (FlushRefused s) v w k k (Err endings.Disk)
+close_broke n name s t r ready p plan q =
+    λ first b u m counted told. record { broke = broke_batch n name first s t r b counted (some_columns name first s b told.stored.taken ready) ready.idle p plan q told.stored; gave = told.gave }
+
+-- all was put, and its line was written
+pub close_whole : {v x w : DiskView} {k l : SinkView} (n : ℕ) (name : List ℕ) (s t r : Session) (bytes : List ℕ) → IsReady name s v → Unput name v x → Planned name s t x → PutsAll n name t r x w → bytes ≡ count_text (rows_of s)
+    → Gave bytes k l → StepsOn n name s r Closes (FlushRefused s) v w k l (Ok tt)
+close_whole {v} {x} {w} {k} {l} n name s t r bytes ready p plan q is gave = λ first b u m counted told.
+    let some = some_columns name first s b told.stored.taken ready in (
+      close_batch b,
+      refl,
+      record {
+        stored = stored_batch n name first s t r b counted some ready.idle p plan q told.stored;
+        gave = subst (λ (y : List ℕ). Gave y m l) (sym (batch_text name first s b bytes some plan.waits told.stored.taken is)) (gave_both (lines_of first b.closed) bytes told.gave gave);
+      },
+    )
+
+-- and the sink failed at its line
+pub close_half : {v x w : DiskView} {k l : SinkView} (n : ℕ) (name : List ℕ) (s t r : Session) (bytes : List ℕ) → IsReady name s v → Unput name v x → Planned name s t x → PutsAll n name t r x w → bytes ≡ count_text (rows_of s)
+    → Rose k.faults l.faults → GaveSome bytes k l → StepsOn n name s r Closes (FlushRefused s) v w k l (Err endings.Sink)
+close_half {v} {x} {w} {k} {l} n name s t r bytes ready p plan q is rose gave = λ first b u m counted told.
+    let some = some_columns name first s b told.stored.taken ready in (
+      close_batch b,
+      refl,
+      record {
+        stored = stored_batch n name first s t r b counted some ready.idle p plan q told.stored;
+        stops = record {
+          before = b.closed;
+          last = b.waiting;
+          closed = ap (λ (x : List (List ℤ)). b.closed ++ x) (some_batch (columns_of first) s.waits b.waiting some plan.waits told.stored.taken.waits);
+          waiting = refl;
+          middle = k;
+          gave = told.gave;
+          rose = rose;
+          some = subst (λ (y : List ℕ). GaveSome y k l) (sym (batch_line name first s b bytes some plan.waits told.stored.taken is)) gave;
+        };
+      },
+    )
+
+-- ---- Lines
+
+-- a line that closes a batch has no values
+pub line_closes : {v : DiskView} {k : SinkView} (w : DiskView) (l : SinkView) (n : ℕ) (name : List ℕ) (s t : Session) (line : List ℕ) (number : ℕ) (r : Result (Unit {0}) Ending) → number_line_of (columns_of s) line ≡ Some [] → StepsOn n name s t Closes (FlushRefused s) v w k l r
+    → StepsOn n name s t (TakesLine line) (LineRefused line number s) v w k l r
+line_closes {v} {k} w l n name s t line number r spelled steps = λ first b u m counted told. cases first b u m (subst (λ c. number_line_of c line ≡ Some []) (columns_same first s b told.stored.taken) spelled) r (steps first b u m counted told)
+  where
+    refused : (e : ErrorLine) → FlushRefused s e → LineRefused line number s e
+    refused errors.Usage c = absurd c
+    refused errors.Missing c = absurd c
+    refused errors.Exists c = absurd c
+    refused (errors.Read e) c = absurd c
+    refused (errors.Finding kind at) c = absurd c
+    refused (errors.Overlap at len other other_len) c = absurd c
+    refused (errors.Cut end size) c = absurd c
+    refused errors.Layout c = absurd c
+    refused (errors.ChunkBytes bytes) c = absurd c
+    refused errors.NoColumns c = absurd c
+    refused (errors.FullChunks chunks limit) c = absurd c
+    refused (errors.FullSpace at size limit) c = (spelled, c)
+    refused errors.Deep c = (spelled, c)
+    refused (errors.Line n) c = absurd c
+    refused (errors.Range n i x) c = absurd c
+    refused (errors.Input limit) c = absurd c
+    refused errors.Disk c = absurd c
+    refused errors.Source c = absurd c
+    refused errors.Memory c = tt
+
+    cases : (first : Session) (b : Batches) (u : DiskView) (m : SinkView) → number_line_of (columns_of first) line ≡ Some [] → (r : Result (Unit {0}) Ending) → Steps name first t b (Closes first b) (FlushRefused s) u w m l r
+        → Steps name first t b (TakesLine line first b) (LineRefused line number s) u w m l r
+    cases first b u m is (Ok a) h = (h.0, record { values = []; spelled = is; next_is = h.1 }, h.2)
+    cases first b u m is (Err (endings.Refused e)) h = (h.0, refused e h.1)
+    cases first b u m is (Err endings.Disk) h = h
+    cases first b u m is (Err endings.Sink) h = (h.0, record { values = []; spelled = is; next_is = h.1 }, h.2)
+
+nonempty_line : (b : Batches) (values : List ℤ) → 1 ≤ length values → after_line b values ≡ record b { waiting = b.waiting ++ values }
+nonempty_line b [] h = absurd (omega (arith, h))
+nonempty_line b (x ∷ xs) h = refl
+
+-- its values are appended, or refused
+pub line_appends : {v w : DiskView} (k : SinkView) (faults : ℕ) (name : List ℕ) (s t : Session) (line : List ℕ) (number n : ℕ) (values : List ℤ) (r : Result (Unit {0}) Ending) → IsReady name s v → Unput name v w → number_line_of (columns_of s) line ≡ Some values
+    → 1 ≤ length values → length values ≡ n * s.dataset.shape.cols → AppendsBy number values s t v w r → StepsOn faults name s t (TakesLine line) (LineRefused line number s) v w k k r
+line_appends {v} {w} k faults name s t line number n values (Ok a) ready p spelled some rows h = λ first b u m counted told.
+    let taken = told.stored.taken in
+    let after = nonempty_line b values some in (
+      after_line b values,
+      record { values = values; spelled = subst (λ c. number_line_of c line ≡ Some values) (columns_same first s b taken) spelled; next_is = refl },
+      subst (λ (x : Batches). Told name first t x u w m k) (sym after) (record { stored = stored_values name first s t b values n (some_columns name first s b taken ready) rows h p told.stored; gave = told.gave }),
+    )
+line_appends {v} {w} k faults name s t line number n values (Err (endings.Refused e)) ready p spelled some rows h = λ first b u m counted told.
+    (subst (λ (x : Session). Told name first x b u w m k) (sym h.0) (told_unput name first s b p told), refused e h.1)
+  where
+    refused : (e : ErrorLine) → ValuesRefused number s values e → LineRefused line number s e
+    refused errors.Usage c = absurd c
+    refused errors.Missing c = absurd c
+    refused errors.Exists c = absurd c
+    refused (errors.Read e) c = absurd c
+    refused (errors.Finding kind at) c = absurd c
+    refused (errors.Overlap at len other other_len) c = absurd c
+    refused (errors.Cut end size) c = absurd c
+    refused errors.Layout c = absurd c
+    refused (errors.ChunkBytes bytes) c = absurd c
+    refused errors.NoColumns c = absurd c
+    refused (errors.FullChunks chunks limit) c = (values, spelled, c)
+    refused (errors.FullSpace at size limit) c = absurd c
+    refused errors.Deep c = absurd c
+    refused (errors.Line n) c = absurd c
+    refused (errors.Range n i x) c = (values, spelled, c)
+    refused (errors.Input limit) c = absurd c
+    refused errors.Disk c = absurd c
+    refused errors.Source c = absurd c
+    refused errors.Memory c = tt
+line_appends k faults name s t line number n values (Err endings.Disk) ready p spelled some rows h = λ first b u m counted told. record { broke = broke_before name first s t b h.0 p h.1 told.stored; gave = told.gave }
+line_appends k faults name s t line number n values (Err endings.Sink) ready p spelled some rows h = absurd h
+
+-- ---- By results
+
+pub flush_ended : {v w : DiskView} (k : SinkView) (n : ℕ) (name : List ℕ) (s t : Session) (e : Ending) → Unput name v w → FlushesBy name s t v w (Err e) → StepsOn n name s t Closes (FlushRefused s) v w k k (Err e)
+flush_ended k n name s t (endings.Refused e) p h = close_refused n name s t e p h.0 h.1
+flush_ended k n name s t endings.Disk p h = close_failed n name s h.0 t p h.1 h.2 h.3
+flush_ended k n name s t endings.Sink p h = absurd h
+
+pub none_planned : {x : DiskView} (name : List ℕ) (s t : Session) → HasNone s t ⊎ Planned name s t x → length t.pending ≡ 0 → HasNone s t
+none_planned name s t (inl h) e = h
+none_planned name s t (inr p) e = let some = p.some in absurd (omega (arith, some, e))
+
+pub some_planned : {v x : DiskView} (name : List ℕ) (s t : Session) → IsReady name s v → HasNone s t ⊎ Planned name s t x → length t.pending ≢ 0 → Planned name s t x
+some_planned name s t ready (inl h) some = absurd (some (ap (λ (y : Session). length y.pending) h.1 ∙ ap length ready.idle))
+some_planned name s t ready (inr p) some = p
+
+pub puts_ended : {v x : DiskView} (w : DiskView) (k : SinkView) (n : ℕ) (name : List ℕ) (s t r : Session) (e : Ending) → IsReady name s v → Unput name v x → Planned name s t x → PutsBy n name t r x w (Err e) → StepsOn n name s r Closes (FlushRefused s) v w k k (Err e)
+puts_ended w k n name s t r (endings.Refused e) ready p plan h = absurd h
+puts_ended w k n name s t r endings.Disk ready p plan h = close_broke n name s t r ready p plan h
+puts_ended w k n name s t r endings.Sink ready p plan h = absurd h

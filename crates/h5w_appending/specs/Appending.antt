@@ -1,0 +1,272 @@
+-- What the calls of an append do, one by one.
+use Rattle.std.specs.Prelude.{◌≡◌, ◌⊎◌, ℕ, ◌+◌, ◌≤◌, false, Bool, List, [], length, Option, Some, None, IfSome, OnOk, Result, Ok, Err, ℤ, option_map}
+use Rattle.h5w_model.specs.Causes.{Rose}
+use Rattle.h5w_model.specs.Lawful.{first_outside}
+use Rattle.h5w_model.specs.Logs.{Log, and_now, appends, plans}
+use Rattle.h5w_image.specs.View.{DiskView, IsThere, file}
+use Rattle.h5w_session.specs.Flushes.{SameBut}
+use Rattle.h5w_session.specs.Loads.{NoPlace}
+use Rattle.h5w_session.specs.Refusals.{IsDeepFor, IsFullFor, append_refusal}
+use Rattle.h5w_session.specs.Sessions.{Session, TakesRows, rows_of, stopped_of, with_values}
+use Rattle.h5w_session.specs.Stands.{Stands}
+use Rattle.h5w_session.specs.declared.refusal.AppendError.TheVariants as append_errors
+use Rattle.h5w_text.specs.Scripts.{number_line_of}
+use Rattle.h5w_text.specs.Streams.{SourceView, SinkView, Gave}
+use Rattle.h5w_text.specs.declared.error.ErrorLine.{ErrorLine}
+use Rattle.h5w_text.specs.declared.error.ErrorLine.TheVariants as errors
+use Rattle.h5w_files.specs.Images.{LeavesFiles}
+use Rattle.h5w_batches.specs.Batches.{Batches, after_lines, close_batch, no_batches}
+use Rattle.h5w_batches.specs.Inputs.{ReadsAll}
+use Rattle.h5w_batches.specs.Reads.{Takes}
+use Rattle.h5w_batches.specs.declared.error.BatchError.{BatchError}
+use Rattle.h5w_batches.specs.declared.error.BatchError.TheVariants as batch_errors
+use Rattle.h5w_appending.specs.Taken.{AreTaken, closed_text, rows_after}
+use Rattle.h5w_appending.specs.Appends.{Broke, ClosedUp, InputRefuses, IsOpenOver, StopsAtLine, Stored, Unopened, columns_of, lines_of}
+use Rattle.h5w_appending.specs.Puts.{AllAre, PutsPieces, counts_of}
+use Rattle.h5w_appending.specs.declared.batching.Ending.{Ending}
+use Rattle.h5w_appending.specs.declared.batching.Ending.TheVariants as endings
+
+-- The session runs and has nothing pending, and the file has room for the piece that closes it.
+pub record IsReady (name : List ℕ) (s : Session) (v : DiskView) : Type 0 where
+  pub there : IsThere v name
+  pub running : s.stopped ≡ false
+  pub columns : 1 ≤ s.dataset.shape.cols
+  pub idle : s.pending ≡ []
+  pub room : 1 ≤ v.pieces
+  pub end : s.places.end ≤ v.end name
+
+-- nothing was put, and what room there was is there
+pub record Unput (name : List ℕ) (v w : DiskView) : Type 0 where
+  pub disk : LeavesFiles v.told v w
+  pub room : v.pieces ≤ w.pieces
+  pub end : v.end name ≤ w.end name
+
+-- ---- The session's calls
+
+-- why values are not appended
+abbrev pub ValuesRefused : ℕ → Session → List ℤ → ErrorLine → Type 0
+ValuesRefused line s values (errors.Range n i x) = (n ≡ line) × (first_outside s.dataset.int_type 0 values ≡ Some (i, x))
+ValuesRefused line s values (errors.FullChunks chunks limit) = append_refusal s values ≡ Some (append_errors.Chunks chunks limit)
+ValuesRefused line s values errors.Memory = Unit {0}
+ValuesRefused line s values e = ⊥
+
+-- the session was stopped
+pub record Halted (s t : Session) : Type 0 where
+  pub session : t ≡ stopped_of s
+  pub stands : (log : Log) → Stands s log → Stands t log
+
+pub record AppendsAll (s t : Session) (values : List ℤ) : Type 0 where
+  pub session : t ≡ with_values s values
+  pub stands : (log : Log) → Stands s log → Stands t (and_now (appends values) log)
+
+abbrev pub AppendsBy : ℕ → List ℤ → Session → Session → DiskView → DiskView → Result (Unit {0}) Ending → Type 0
+AppendsBy line values s t v w (Ok a) = AppendsAll s t values
+AppendsBy line values s t v w (Err (endings.Refused e)) = (t ≡ s) × ValuesRefused line s values e
+AppendsBy line values s t v w (Err endings.Disk) = Halted s t × Rose v.faults w.faults
+AppendsBy line values s t v w (Err endings.Sink) = ⊥
+
+-- why a batch is not flushed
+abbrev pub FlushRefused : Session → ErrorLine → Type 0
+FlushRefused s (errors.FullSpace at size limit) =
+    IsFullFor s (record { at = at; size = size; limit = limit }) × ((log : Log) → Stands s log → NoPlace s log (record { at = at; size = size; limit = limit }))
+FlushRefused s errors.Deep = IsDeepFor s
+FlushRefused s errors.Memory = Unit {0}
+FlushRefused s e = ⊥
+
+-- no row waited, and nothing is another
+abbrev pub HasNone : Session → Session → Type 0
+HasNone s t = (s.waits ≡ 0) × (t ≡ s)
+
+-- the pieces of the rows that waited are pending, and there is room for them and one more
+pub record Planned (name : List ℕ) (s t : Session) (w : DiskView) : Type 0 where
+  pub waits : 1 ≤ s.waits
+  pub rows : TakesRows s t
+  pub some : 1 ≤ length t.pending
+  pub stands : (log : Log) → Stands s log → Stands t (and_now (plans (length t.pending)) log)
+  pub room : length t.pending + 1 ≤ w.pieces
+  pub end : t.places.end ≤ w.end name
+
+-- the session as it was, but for blocks of the index that are held
+pub record Unflushed (s t : Session) : Type 0 where
+  pub same : SameBut s t
+  pub stands : (log : Log) → Stands s log → Stands t log
+
+abbrev pub FlushesBy : List ℕ → Session → Session → DiskView → DiskView → Result (Unit {0}) Ending → Type 0
+FlushesBy name s t v w (Ok a) = HasNone s t ⊎ Planned name s t w
+FlushesBy name s t v w (Err (endings.Refused e)) = Unflushed s t × FlushRefused s e
+FlushesBy name s t v w (Err endings.Disk) = (middle : Session) × Unflushed s middle × Halted middle t × Rose v.faults w.faults
+FlushesBy name s t v w (Err endings.Sink) = ⊥
+
+-- All pending pieces were put, and the disk failed so often and no more.
+pub record PutsAll (faults : ℕ) (name : List ℕ) (s t : Session) (v w : DiskView) : Type 0 where
+  pub puts : PutsPieces name s t v w
+  pub all : t.pending ≡ []
+  pub before : v.faults ≡ faults
+  pub calm : w.faults ≡ faults
+
+-- The disk failed once more than so often, before all of them were put, and the session was stopped.
+pub record PutsHalted (faults : ℕ) (name : List ℕ) (s t : Session) (v w : DiskView) : Type 0 where
+  pub middle : Session
+  pub puts : PutsPieces name s middle v w
+  pub since : AllAre faults (counts_of puts.puts)
+  pub left : 1 ≤ length s.pending → 1 ≤ length middle.pending
+  pub rose : faults ≤ v.faults → Rose faults w.faults
+  pub halted : Halted middle t
+
+abbrev pub PutsBy : ℕ → List ℕ → Session → Session → DiskView → DiskView → Result (Unit {0}) Ending → Type 0
+PutsBy faults name s t v w (Ok a) = PutsAll faults name s t v w
+PutsBy faults name s t v w (Err (endings.Refused e)) = ⊥
+PutsBy faults name s t v w (Err endings.Disk) = PutsHalted faults name s t v w
+PutsBy faults name s t v w (Err endings.Sink) = ⊥
+
+-- ---- Batches
+
+-- the session can go on, but where the disk failed
+abbrev pub ReadyUnlessDisk : List ℕ → Session → DiskView → Result (Unit {0}) Ending → Type 0
+ReadyUnlessDisk name t w (Ok a) = IsReady name t w
+ReadyUnlessDisk name t w (Err (endings.Refused e)) = IsReady name t w
+ReadyUnlessDisk name t w (Err endings.Disk) = Unit {0}
+ReadyUnlessDisk name t w (Err endings.Sink) = IsReady name t w
+
+-- these batches were stored, and their lines were written
+pub record Told (name : List ℕ) (first t : Session) (b : Batches) (u w : DiskView) (k l : SinkView) : Type 0 where
+  pub stored : Stored name first t b u w
+  pub gave : Gave (lines_of first b.closed) k l
+
+-- they were stored, and the sink failed at the line of the last
+pub record HalfTold (name : List ℕ) (first t : Session) (b : Batches) (u w : DiskView) (k l : SinkView) : Type 0 where
+  pub stored : Stored name first t b u w
+  pub stops : StopsAtLine first b k l
+
+-- the disk failed behind them, and their lines were written
+pub record BrokeTold (name : List ℕ) (first : Session) (b : Batches) (u w : DiskView) (k l : SinkView) : Type 0 where
+  pub broke : Broke name first b u w
+  pub gave : Gave (lines_of first b.closed) k l
+
+-- A step that leads from some batches to others, by its result; a refusal has its cause.
+abbrev pub Steps : List ℕ → Session → Session → Batches → (Batches → Type 0) → (ErrorLine → Type 0) → DiskView → DiskView → SinkView → SinkView → Result (Unit {0}) Ending → Type 0
+Steps name first t b Next Cause u w k l (Ok a) = (next : Batches) × Next next × Told name first t next u w k l
+Steps name first t b Next Cause u w k l (Err (endings.Refused e)) = Told name first t b u w k l × Cause e
+Steps name first t b Next Cause u w k l (Err endings.Disk) = BrokeTold name first b u w k l
+Steps name first t b Next Cause u w k l (Err endings.Sink) = (next : Batches) × Next next × HalfTold name first t next u w k l
+
+-- for each session that began with the first, whatever was stored before, of a disk that had failed so often
+abbrev pub StepsOn : ℕ → List ℕ → Session → Session → (Session → Batches → Batches → Type 0) → (ErrorLine → Type 0) → DiskView → DiskView → SinkView → SinkView → Result (Unit {0}) Ending → Type 0
+StepsOn faults name s t Next Cause v w k l r =
+    (first : Session) (b : Batches) (u : DiskView) (m : SinkView) → u.faults ≡ faults → Told name first s b u v m k → Steps name first t b (Next first b) Cause u w m l r
+
+abbrev pub Closes : Session → Batches → Batches → Type 0
+Closes first b next = next ≡ close_batch b
+
+-- the batches behind a line
+abbrev pub TakesLine : List ℕ → Session → Batches → Batches → Type 0
+TakesLine line first b next = Takes (columns_of first) line b next
+
+-- there are values
+abbrev pub HasSome : Option (List ℤ) → Type 0
+HasSome o = (values : List ℤ) × (o ≡ Some values)
+
+-- why a line is refused
+abbrev pub LineRefused : List ℕ → ℕ → Session → ErrorLine → Type 0
+LineRefused line number s (errors.Line n) = (n ≡ number) × (number_line_of (columns_of s) line ≡ None)
+LineRefused line number s (errors.Range n i x) = (values : List ℤ) × (number_line_of (columns_of s) line ≡ Some values) × ValuesRefused number s values (errors.Range n i x)
+LineRefused line number s (errors.FullChunks chunks limit) = (values : List ℤ) × (number_line_of (columns_of s) line ≡ Some values) × ValuesRefused number s values (errors.FullChunks chunks limit)
+LineRefused line number s (errors.FullSpace at size limit) = (number_line_of (columns_of s) line ≡ Some []) × FlushRefused s (errors.FullSpace at size limit)
+LineRefused line number s errors.Deep = (number_line_of (columns_of s) line ≡ Some []) × FlushRefused s errors.Deep
+LineRefused line number s errors.Memory = Unit {0}
+LineRefused line number s e = ⊥
+
+-- ---- An input
+
+-- The lines of an input are appended by a session that has stored nothing yet, by their result.
+abbrev pub TakesInput : List ℕ → Session → Session → SourceView → SourceView → DiskView → DiskView → SinkView → SinkView → Result (Unit {0}) Ending → Type 0
+TakesInput name first t x y u w k l (Ok a) = (numbers : List (List ℤ)) × ReadsAll (columns_of first) x y numbers × Told name first t (close_batch (after_lines no_batches numbers)) u w k l
+TakesInput name first t x y u w k l (Err (endings.Refused e)) = (b : Batches) × AreTaken (columns_of first) x y b × InputRefuses name first x y b u e × Told name first t b u w k l
+TakesInput name first t x y u w k l (Err endings.Disk) = (b : Batches) × AreTaken (columns_of first) x y b × BrokeTold name first b u w k l
+TakesInput name first t x y u w k l (Err endings.Sink) = (b : Batches) × AreTaken (columns_of first) x y b × HalfTold name first t b u w k l
+
+-- whatever was stored before, of a disk that had failed so often
+abbrev pub TakesInputOn : ℕ → List ℕ → Session → Session → SourceView → SourceView → DiskView → DiskView → SinkView → SinkView → Result (Unit {0}) Ending → Type 0
+TakesInputOn faults name s t x y v w k l r =
+    (first : Session) (u : DiskView) (m : SinkView) → u.faults ≡ faults → Told name first s no_batches u v m k → TakesInput name first t x y u w m l r
+
+-- of a session that has just begun, from each state of the disk on in which the file was as it is, and the disk had failed so often
+abbrev pub TakesInputFrom : ℕ → List ℕ → Session → Session → SourceView → SourceView → DiskView → DiskView → SinkView → SinkView → Result (Unit {0}) Ending → Type 0
+TakesInputFrom faults name s t x y v w k l r = (u : DiskView) → u.faults ≡ faults → LeavesFiles u.told u v → TakesInput name s t x y u w k l r
+
+-- the end of an append whose input was not read
+abbrev pub ending_of : BatchError → Ending
+ending_of (batch_errors.Line n) = endings.Refused (errors.Line n)
+ending_of (batch_errors.Input limit) = endings.Refused (errors.Input limit)
+ending_of batch_errors.Source = endings.Refused errors.Source
+ending_of batch_errors.OutOfMemory = endings.Refused errors.Memory
+
+-- ---- A file
+
+-- The session has just opened the file, which has room for the pending piece and the one that closes it.
+pub record IsBegun (name : List ℕ) (s : Session) (v : DiskView) : Type 0 where
+  pub there : IsThere v name
+  pub running : s.stopped ≡ false
+  pub one : length s.pending ≡ 1
+  pub waits : s.waits ≡ 0
+  pub room : 2 ≤ v.pieces
+  pub end : s.places.end ≤ v.end name
+
+-- the session was closed, or the disk failed more often than so
+abbrev pub ClosesBy : ℕ → List ℕ → Session → DiskView → DiskView → Result (Unit {0}) Ending → Type 0
+ClosesBy faults name s v w (Ok a) = (first : Session) (b : Batches) (u : DiskView) → u.faults ≡ faults → Stored name first s b u v → ClosedUp name first b u w
+ClosesBy faults name s v w (Err endings.Disk) = (first : Session) (b : Batches) (u : DiskView) → u.faults ≡ faults → Stored name first s b u v → Broke name first b u w
+ClosesBy faults name s v w (Err e) = ⊥
+
+-- What is left of an append once the session of so many rows was closed, by the result of it all.
+abbrev pub Settles : List ℕ → ℕ → Session → SourceView → SourceView → DiskView → DiskView → SinkView → SinkView → Result (Unit {0}) Ending → Type 0
+Settles name rows first x y u w k l (Ok a) = (numbers : List (List ℤ)) × ReadsAll (columns_of first) x y numbers × ClosedUp name first (close_batch (after_lines no_batches numbers)) u w
+    × Gave (lines_of first (close_batch (after_lines no_batches numbers)).closed) k l × (rows ≡ rows_after (columns_of first) first.dataset.shape.rows (close_batch (after_lines no_batches numbers)).closed)
+Settles name rows first x y u w k l (Err (endings.Refused e)) = (b : Batches) × AreTaken (columns_of first) x y b × InputRefuses name first x y b u e × ClosedUp name first b u w × Gave (lines_of first b.closed) k l
+Settles name rows first x y u w k l (Err endings.Disk) = (b : Batches) × AreTaken (columns_of first) x y b × BrokeTold name first b u w k l
+Settles name rows first x y u w k l (Err endings.Sink) =
+    (b : Batches) × AreTaken (columns_of first) x y b × (ClosedUp name first b u w ⊎ Broke name first b u w) × StopsAtLine first b k l
+
+-- whatever was taken, of a disk that had failed so often
+abbrev pub SettlesOn : ℕ → List ℕ → Session → DiskView → DiskView → Result (Unit {0}) Ending → Result (Unit {0}) Ending → Type 0
+SettlesOn faults name s v w taken r =
+    (first : Session) (x y : SourceView) (u : DiskView) (k l : SinkView) → u.faults ≡ faults → TakesInput name first s x y u v k l taken → Settles name (rows_of s) first x y u w k l r
+
+-- ---- The open
+
+-- a file of this size is looked at
+abbrev pub HasSize : DiskView → List ℕ → ℕ → Type 0
+HasSize v name size = IfSome v.told (λ d. Some size ≡ option_map length (file d name))
+
+-- what the look of an open gives
+abbrev pub LooksOpen : List ℕ → List ℕ → ℕ → DiskView → DiskView → Result Session ErrorLine → Type 0
+LooksOpen name at limit v w (Ok s) = IsOpenOver name at limit false v s
+LooksOpen name at limit v w (Err e) = Unopened name at v w e
+
+-- what an open gives
+abbrev pub OpensBy : List ℕ → List ℕ → ℕ → Bool → DiskView → DiskView → Result Session ErrorLine → Type 0
+OpensBy name at limit keeps v w (Ok s) = IsOpenOver name at limit keeps v s × IsBegun name s w × LeavesFiles v.told v w
+OpensBy name at limit keeps v w (Err e) = Unopened name at v w e
+
+-- ---- The whole append
+
+-- The session that began over the file took its input and was closed, or the disk failed. The text is the last line of all.
+pub record Finishes (name at : List ℕ) (limit : ℕ) (keeps : Bool) (x y : SourceView) (v w : DiskView) (k l : SinkView) (text : List ℕ) (result : Result (Unit {0}) Ending) : Type 0 where
+  pub first : Session
+  pub opened : IsOpenOver name at limit keeps v first
+  pub rows : ℕ
+  pub settles : Settles name rows first x y v w k l result
+  pub line : OnOk result (text ≡ closed_text rows)
+
+-- The file was not opened: nothing was read and nothing written.
+pub record BeginsNone (name at : List ℕ) (x y : SourceView) (v w : DiskView) (k l : SinkView) (e : ErrorLine) : Type 0 where
+  pub unopened : Unopened name at v w e
+  pub unread : y ≡ x
+  pub unwritten : l ≡ k
+
+-- either, by the result of it all
+abbrev pub FinishesBy : List ℕ → List ℕ → ℕ → Bool → SourceView → SourceView → DiskView → DiskView → SinkView → SinkView → List ℕ → Result (Unit {0}) Ending → Type 0
+FinishesBy name at limit keeps x y v w k l text (Ok a) = Finishes name at limit keeps x y v w k l text (Ok a)
+FinishesBy name at limit keeps x y v w k l text (Err (endings.Refused e)) = BeginsNone name at x y v w k l e ⊎ Finishes name at limit keeps x y v w k l text (Err (endings.Refused e))
+FinishesBy name at limit keeps x y v w k l text (Err endings.Disk) = Finishes name at limit keeps x y v w k l text (Err endings.Disk)
+FinishesBy name at limit keeps x y v w k l text (Err endings.Sink) = Finishes name at limit keeps x y v w k l text (Err endings.Sink)

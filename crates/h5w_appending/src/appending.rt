@@ -1,0 +1,306 @@
+//! The command that appends to a file.
+ghost use Rattle.std.specs.Prelude.{◌≡◌, ◌≤◌, ◌+◌, ◌^◌, length, false, Ok, OnOk};
+ghost use Rattle.h5w_model.specs.Logs.{Log};
+ghost use Rattle.h5w_image.specs.View.{IsThere};
+ghost use Rattle.h5w_session.specs.Sessions.{rows_of};
+ghost use Rattle.h5w_session.specs.Stands.{Stands};
+ghost use Rattle.h5w_text.specs.LinesAhead.{lines_ahead};
+ghost use Rattle.h5w_files.specs.Images.{LeavesFiles};
+ghost use Rattle.h5w_batches.specs.Inputs.{SameSource, input_limit, outside};
+ghost use Rattle.h5w_appending.specs.Taken.{closed_text};
+ghost use Rattle.h5w_appending.specs.Appends.{AppendEnds, columns_of, open_line};
+ghost use Rattle.h5w_appending.specs.Appending.{ClosesBy, FinishesBy, HasSize, IsBegun, IsReady, LooksOpen, OpensBy, ReadyUnlessDisk, SettlesOn, TakesInputFrom, TakesInputOn};
+
+use crate::batching::{Ending, close_batch, put_all, take_line};
+use crate::putting::close;
+use h5w_batches::INPUT_LIMIT;
+use h5w_files::DiskImage;
+use h5w_image::Disk;
+use h5w_model::ReadError;
+use h5w_session::WriterCore;
+use h5w_session_open::OpenError;
+use h5w_text::{ErrorLine, Intake, Lines, Next, Sink, Source, Status, say, tell, write_numbers};
+use std::alloc::Global;
+
+/// Appends the lines of an input, one after another, to its end, which closes the last batch.
+fn take_lines<S: Source, K: Sink, D: Disk>(
+    alloc: Global,
+    columns: u64,
+    session: &mut WriterCore,
+    lines: &mut Lines<'_, S>,
+    file: &str,
+    faults: u64,
+    text: &mut Vec<u8>,
+    sink: &mut K,
+    disk: &mut D,
+) -> Result<(), Ending>
+    requires ready { IsReady file.now session.old (D.view disk.old) }
+    requires columns { columns ≡ columns_of session.old }
+    requires room { length lines.old.intake.now.held + lines.old.intake.now.more ≡ input_limit }
+    requires limit { lines.old.intake.now.limit ≡ input_limit }
+    ensures ready { ReadyUnlessDisk file.now session.new (D.view disk.new) result }
+    ensures takes { TakesInputOn faults file.now session.old session.new (outside (lines_ahead (S.view lines.old.source.now) lines.old.intake.now)) (S.view lines.new.source.now) (D.view disk.old) (D.view disk.new) (K.view sink.old) (K.view sink.new) result }
+    ensures source { SameSource (S.view lines.old.source.now) (S.view lines.new.source.now) }
+    ensures same_reference { lines.new.source.ghost_name ≡ lines.old.source.ghost_name }
+    ensures same_intake { lines.new.intake.ghost_name ≡ lines.old.intake.ghost_name }
+{
+    let mut number = 0;
+    loop {
+        match lines.next()? {
+            Next::Line(line) => {
+                number += 1;
+                take_line(
+                    alloc, columns, session, &line, number, file, faults, text, sink, disk,
+                )?;
+            }
+            Next::Last(line) => {
+                take_line(
+                    alloc,
+                    columns,
+                    session,
+                    &line,
+                    number + 1,
+                    file,
+                    faults,
+                    text,
+                    sink,
+                    disk,
+                )?;
+                return close_batch(session, file, faults, text, sink, disk);
+            }
+            Next::End => return close_batch(session, file, faults, text, sink, disk),
+        }
+    }
+}
+
+/// Appends the lines of the source, one after another.
+fn take_source<S: Source, K: Sink, D: Disk>(
+    alloc: Global,
+    columns: u64,
+    session: &mut WriterCore,
+    file: &str,
+    faults: u64,
+    text: &mut Vec<u8>,
+    source: &mut S,
+    sink: &mut K,
+    disk: &mut D,
+) -> Result<(), Ending>
+    requires ready { IsReady file.now session.old (D.view disk.old) }
+    requires columns { columns ≡ columns_of session.old }
+    ensures ready { ReadyUnlessDisk file.now session.new (D.view disk.new) result }
+    ensures takes { TakesInputOn faults file.now session.old session.new (S.view source.old) (S.view source.new) (D.view disk.old) (D.view disk.new) (K.view sink.old) (K.view sink.new) result }
+    ensures source { SameSource (S.view source.old) (S.view source.new) }
+{
+    let mut intake = Intake::new(alloc, INPUT_LIMIT);
+    let mut lines = Lines::new(alloc, source, &mut intake);
+    take_lines(
+        alloc, columns, session, &mut lines, file, faults, text, sink, disk,
+    )
+}
+
+/// Says in the file that it is written, and appends the lines of the source. `text` gets the last line of all.
+fn take_all<S: Source, K: Sink, D: Disk>(
+    alloc: Global,
+    session: &mut WriterCore,
+    file: &str,
+    faults: u64,
+    text: &mut Vec<u8>,
+    source: &mut S,
+    sink: &mut K,
+    disk: &mut D,
+) -> Result<(), Ending>
+    requires begun { IsBegun file.now session.old (D.view disk.old) }
+    ensures ready { ReadyUnlessDisk file.now session.new (D.view disk.new) result }
+    ensures takes { TakesInputFrom faults file.now session.old session.new (S.view source.old) (S.view source.new) (D.view disk.old) (D.view disk.new) (K.view sink.old) (K.view sink.new) result }
+    ensures text { OnOk result (text.new.items ≡ closed_text (rows_of session.new)) }
+    ensures source { SameSource (S.view source.old) (S.view source.new) }
+{
+    let columns = session.columns();
+    put_all(session, file, faults, disk)?;
+    take_source(
+        alloc, columns, session, file, faults, text, source, sink, disk,
+    )?;
+    text.clear();
+    match write_numbers(text, b"closed", &[session.rows()]) {
+        Ok(()) => Ok(()),
+        Err(_) => Err(Ending::Refused(ErrorLine::Memory)),
+    }
+}
+
+/// Closes the session, and puts its last piece into the file.
+fn shut<D: Disk>(
+    session: &mut WriterCore,
+    file: &str,
+    faults: u64,
+    disk: &mut D,
+) -> Result<(), Ending>
+    requires { IsReady file.now session.old (D.view disk.old) }
+    ensures { ClosesBy faults file.now session.old (D.view disk.old) (D.view disk.new) result }
+{
+    close(session);
+    put_all(session, file, faults, disk)
+}
+
+/// Closes the session behind what was taken of the input, unless the disk failed.
+fn settle<D: Disk>(
+    taken: Result<(), Ending>,
+    session: &mut WriterCore,
+    file: &str,
+    faults: u64,
+    disk: &mut D,
+) -> Result<(), Ending>
+    requires { ReadyUnlessDisk file.now session.old (D.view disk.old) taken }
+    ensures taken { OnOk result (taken ≡ Ok tt) }
+    ensures settles { SettlesOn faults file.now session.old (D.view disk.old) (D.view disk.new) taken result }
+{
+    match taken {
+        Ok(()) => shut(session, file, faults, disk),
+        Err(Ending::Refused(error)) => match shut(session, file, faults, disk) {
+            Ok(()) => Err(Ending::Refused(error)),
+            Err(ending) => Err(ending),
+        },
+        Err(Ending::Disk) => Err(Ending::Disk),
+        Err(Ending::Sink) => match shut(session, file, faults, disk) {
+            Ok(()) => Err(Ending::Sink),
+            Err(_) => Err(Ending::Sink),
+        },
+    }
+}
+
+/// The line of a refusal to open a file.
+fn open_line(error: OpenError) -> ErrorLine
+    ensures { result ≡ open_line error }
+{
+    match error {
+        OpenError::Read(refusal) => ErrorLine::Read(refusal),
+        OpenError::Flags { flags } => ErrorLine::Read(ReadError::NotSwmr { flags }),
+        OpenError::Cut { end, size } => ErrorLine::Cut { end, size },
+        OpenError::Layout => ErrorLine::Layout,
+        OpenError::ChunkBytes { bytes, limit: _ } => ErrorLine::ChunkBytes(bytes),
+        OpenError::NoColumns => ErrorLine::NoColumns,
+        OpenError::Finding { kind, at } => ErrorLine::Finding { kind, at },
+        OpenError::Failed => ErrorLine::Disk,
+        OpenError::OutOfMemory => ErrorLine::Memory,
+    }
+}
+
+/// Looks at a file of this size, and opens it.
+fn look_open<D: Disk>(
+    alloc: Global,
+    file: &str,
+    size: u64,
+    name: &[u8],
+    limit: u64,
+    disk: &mut D,
+) -> Result<WriterCore, ErrorLine>
+    requires there { IsThere (D.view disk.old) file.now }
+    requires sized { HasSize (D.view disk.old) file.now size }
+    requires name { length name.now ≤ 512 }
+    requires low { 1024 ≤ limit }
+    requires high { limit ≤ 2 ^ 40 }
+    ensures disk { LeavesFiles (D.view disk.old).told (D.view disk.old) (D.view disk.new) }
+    ensures opens { LooksOpen file.now name.now limit (D.view disk.old) (D.view disk.new) result }
+{
+    let mut image = DiskImage { disk, name: file };
+    match h5w_session_open::open(alloc, &mut image, size, name, limit) {
+        Ok(session) => Ok(session),
+        Err(error) => Err(open_line(error)),
+    }
+}
+
+/// What is retired stays retired, where that is asked for.
+fn retire(session: &mut WriterCore, keeps: bool)
+    requires { session.old.keeps ≡ false }
+    ensures session { session.new ≡ record session.old { keeps = keeps } }
+    ensures stands { (log : Log) → Stands session.old log → Stands session.new log }
+{
+    if keeps {
+        session.keep_retired();
+    }
+}
+
+/// Opens the file, with room for the pending piece and the one that closes the session.
+fn open<D: Disk>(
+    alloc: Global,
+    file: &str,
+    name: &[u8],
+    limit: u64,
+    keeps: bool,
+    disk: &mut D,
+) -> Result<WriterCore, ErrorLine>
+    requires name { length name.now ≤ 512 }
+    requires low { 1024 ≤ limit }
+    requires high { limit ≤ 2 ^ 40 }
+    ensures { OpensBy file.now name.now limit keeps (D.view disk.old) (D.view disk.new) result }
+{
+    let size = match disk.size(file) {
+        Ok(Some(size)) => size,
+        Ok(None) => return Err(ErrorLine::Missing),
+        Err(_) => return Err(ErrorLine::Disk),
+    };
+    let mut session = look_open(alloc, file, size, name, limit, disk)?;
+    match disk.reserve(file, session.pending() + 1, session.end()) {
+        Ok(()) => {}
+        Err(_) => return Err(ErrorLine::Memory),
+    }
+    retire(&mut session, keeps);
+    Ok(session)
+}
+
+/// Opens the file, appends the lines of the source, and closes the session. `text` gets the last line of all.
+fn append_all<S: Source, K: Sink, D: Disk>(
+    alloc: Global,
+    file: &str,
+    name: &[u8],
+    limit: u64,
+    keeps: bool,
+    text: &mut Vec<u8>,
+    source: &mut S,
+    sink: &mut K,
+    disk: &mut D,
+) -> Result<(), Ending>
+    requires name { length name.now ≤ 512 }
+    requires low { 1024 ≤ limit }
+    requires high { limit ≤ 2 ^ 40 }
+    ensures finishes { FinishesBy file.now name.now limit keeps (S.view source.old) (S.view source.new) (D.view disk.old) (D.view disk.new) (K.view sink.old) (K.view sink.new) text.new.items result }
+    ensures source { SameSource (S.view source.old) (S.view source.new) }
+{
+    let faults = disk.faults();
+    let mut session = match open(alloc, file, name, limit, keeps, disk) {
+        Ok(session) => session,
+        Err(error) => return Err(Ending::Refused(error)),
+    };
+    let taken = take_all(alloc, &mut session, file, faults, text, source, sink, disk);
+    settle(taken, &mut session, file, faults, disk)
+}
+
+/// Appends the numbers of the source to the dataset that the root group's link of `name` leads to in the file of the name `file`, which
+/// grows to `limit` bytes at most: each line has the values of rows, and an empty line and the end of the input close a batch. A batch
+/// becomes visible at once, and how many rows the file has then is written. Where `keeps` is set no place that is let go is used again.
+/// After a refusal what was not closed is dropped, and nobody writes the file.
+pub fn append<S: Source, K: Sink, D: Disk>(
+    alloc: Global,
+    file: &str,
+    name: &[u8],
+    limit: u64,
+    keeps: bool,
+    source: &mut S,
+    sink: &mut K,
+    disk: &mut D,
+) -> Status
+    requires name { length name.now ≤ 512 }
+    requires low { 1024 ≤ limit }
+    requires high { limit ≤ 2 ^ 40 }
+    ensures appends { AppendEnds file.now name.now limit keeps (S.view source.old) (S.view source.new) (D.view disk.old) (D.view disk.new) result (K.view sink.old) (K.view sink.new) }
+    ensures source { SameSource (S.view source.old) (S.view source.new) }
+{
+    let mut text = Vec::new(alloc);
+    match append_all(
+        alloc, file, name, limit, keeps, &mut text, source, sink, disk,
+    ) {
+        Ok(()) => say(&text, Status::Done, sink),
+        Err(Ending::Refused(error)) => tell(alloc, &error, sink),
+        Err(Ending::Disk) => say(b"error disk\n", Status::Disk, sink),
+        Err(Ending::Sink) => Status::Sink,
+    }
+}

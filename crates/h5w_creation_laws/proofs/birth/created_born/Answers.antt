@@ -1,0 +1,5 @@
+use Rattle.h5w_creation_laws.proofs.birth.created_born.Goals as goal
+use Rattle.h5w_creation_laws.proofs.BornLemmas as lemmas
+
+pub returns : goal.returns
+returns c = lemmas.created_born

@@ -1,5 +1,0 @@
-use Rattle.h5w_files.proofs.ShutLemmas.{shut_by}
-use Rattle.h5w_files.proofs.appending.shut.Goals as goal
-
-pub returns : goal.returns
-returns g c = shut_by _ _ c.args.faults c.args.file.now c.args.session.now c.close.new.session c.put_all.new.session c.put_all.result c.requires.idle c.close.ensures.closed c.close.ensures.reads c.close.ensures.stands c.put_all.ensures

@@ -1,0 +1,351 @@
+-- Chunks are named by the index, whenever their places were taken; and their places.
+use Rattle.std.proofs.Common.{◌≡◌, ◌≢◌, ◌⊎◌, ℕ, ◌+◌, ◌*◌, ◌<◌, ◌≤◌, true, false, List, [], ◌∷◌, ◌++◌, length, Option, Some, None, refl, sym, ap, ◌∙◌, subst, inl, inr, arith, length-append, append-nil, eq-eqb}
+use Rattle.std.specs.Prelude.{if◌then◌else◌}
+use Rattle.std.specs.List.{slice_get}
+use Rattle.std.proofs.lemmas.Bool.{cond-false, cond-true, ne_eqb}
+use Rattle.std.proofs.lemmas.Option.{slice_get_within}
+use Rattle.h5w_model.specs.Numbers.{undefined}
+use Rattle.h5w_model.specs.Datasets.{Described}
+use Rattle.h5w_model.specs.Findings.{Used, chunk_bytes}
+use Rattle.h5w_model.specs.declared.cell.Key.{Key}
+use Rattle.h5w_visits.specs.Ranges.{Among, chunk_at}
+use Rattle.h5w_visits.proofs.RangeLemmas.{among_left, among_right, among_split}
+use Rattle.h5w_space.specs.Space.{Space, extent}
+use Rattle.h5w_space.specs.declared.Extent.{Extent}
+use Rattle.h5w_cache.specs.Plans.{Took}
+use Rattle.h5w_chunks.specs.Grids.{chunk_len}
+use Rattle.h5w_chunks.specs.Shares.{touched, touched_key}
+use Rattle.h5w_chunks.specs.declared.grid.ChunkPlace.{ChunkPlace}
+use Rattle.h5w_array_laws.specs.Among.{AreAmong}
+use Rattle.h5w_array_laws.proofs.AmongLemmas.{part_itself, part_joined, part_onward}
+use Rattle.h5w_flush_laws.specs.Spaces.{Taken}
+use Rattle.h5w_flush_laws.specs.Rows.{IsPlaced, new_chunks}
+use Rattle.h5w_flush_laws.proofs.NewChunkLemmas.{new_chunks_more, same_len}
+use Rattle.h5w_flush_laws.proofs.PartLemmas.{count_append}
+use Rattle.h5w_flush_laws.proofs.SpaceLemmas.{taken_laws}
+use Rattle.h5w_tree_index_laws.specs.TreeImages.{AreSame}
+use Rattle.h5w_tree_index_laws.proofs.TreeRangeLemmas.{by_weight}
+use Rattle.h5w_index.specs.Views.{IndexView, HasSlot, IsReached, IsSound, address_in, behind_of, is_key}
+use Rattle.h5w_index.specs.Steps.{IsHeld, IsSet}
+use Rattle.h5w_index.specs.Told.{HeldTold, SetTold}
+use Rattle.h5w_index.specs.Marks.{IsRaised, IsTouched}
+use Rattle.h5w_index.specs.Placing.{Fits, IsCopy, IsPlacing, TakesEach, next_key}
+use Rattle.h5w_index.specs.Naming.{AreNamed, AreTaken, NamingLaws}
+use Rattle.h5w_index.proofs.PartlyLemmas.{apart_keys, get_pushed, own_key, partly_held, partly_none, partly_set}
+use Rattle.h5w_index.proofs.RaisedLemmas.{raised_next, raised_none, raised_on, raised_one, raised_still}
+use Rattle.h5w_index.proofs.ReachLemmas.{reach_laws}
+use Rattle.h5w_index.proofs.ToldLemmas.{held_tells, same_ranges, set_tells}
+
+-- ---- Ranges
+
+-- one range in front of others, and between them
+turn : (c : Used) (us vs : List Used) → AreAmong (c ∷ (us ++ vs)) ((us ++ c ∷ []) ++ vs)
+turn c us vs = record { among = there; counts = λ q. omega (arith, count_append q us vs, count_append q (us ++ c ∷ []) vs, count_append q us (c ∷ [])) }
+  where
+    there : (u : Used) → (c ≡ u) ⊎ Among u (us ++ vs) → Among u ((us ++ c ∷ []) ++ vs)
+    there u (inl e) = among_left u (us ++ c ∷ []) vs (among_right u us (c ∷ []) (inl e))
+    there u (inr a) = elim (among_split u us vs a) [
+      | inl b ↦ among_left u (us ++ c ∷ []) vs (among_left u us (c ∷ []) b)
+      | inr b ↦ among_right u (us ++ c ∷ []) vs b
+    ]
+
+-- the same ranges are among each other
+pub same_among : (us vs : List Used) → AreSame us vs → AreAmong us vs
+same_among us vs same = let a = by_weight us vs (λ f. let e = same f in omega (arith, e)) in record { among = a.among; counts = a.counts }
+
+pushed_long : (chunks : List ChunkPlace) (p : ChunkPlace) → length (chunks ++ p ∷ []) ≡ length chunks + 1
+pushed_long chunks p = length-append chunks (p ∷ []) ∙ omega arith
+
+-- the ranges of new chunks with one chunk more, which had an address or had none
+no_range : (d : Described) (old : Key → ℕ) (chunks : List ChunkPlace) (p : ChunkPlace) → old (next_key d chunks) ≢ undefined → new_chunks d old d.shape.rows 0 (chunks ++ p ∷ []) ≡ new_chunks d old d.shape.rows 0 chunks
+no_range d old chunks p there =
+    new_chunks_more d old d.shape.rows chunks p
+    ∙ ap (λ b. new_chunks d old d.shape.rows 0 chunks ++ (if b then chunk_at p.address (chunk_bytes d) ∷ [] else [])) (ne_eqb (old (next_key d chunks)) undefined there)
+    ∙ append-nil (new_chunks d old d.shape.rows 0 chunks)
+
+one_range : (d : Described) (old : Key → ℕ) (chunks : List ChunkPlace) (p : ChunkPlace) → old (next_key d chunks) ≡ undefined
+    → new_chunks d old d.shape.rows 0 (chunks ++ p ∷ []) ≡ new_chunks d old d.shape.rows 0 chunks ++ chunk_at p.address (chunk_bytes d) ∷ []
+one_range d old chunks p none =
+    new_chunks_more d old d.shape.rows chunks p
+    ∙ ap (λ b. new_chunks d old d.shape.rows 0 chunks ++ (if b then chunk_at p.address (chunk_bytes d) ∷ [] else [])) (eq-eqb (old (next_key d chunks)) undefined none)
+
+-- ---- The places
+
+pub taken_none : (d : Described) (old : Key → ℕ) (s t : Space) → IsCopy s t → AreTaken d old s [] t
+taken_none d old s t c = record {
+  taken = taken_laws.none_taken s t c.end c.free c.retired;
+  raised = subst (λ n. IsRaised s t n) (let e : 0 ≡ 0 * chunk_bytes d = omega arith in e) (raised_none s t c.end c.limit);
+  inside = λ k p at. absurd (let clash : ◌≡◌ {A = Option ChunkPlace} None (Some p) = at in cc);
+  first = t;
+  copied = c;
+  ranges = [];
+  each = refl;
+}
+
+-- the next chunk has an address
+pub taken_stored : (d : Described) (old : Key → ℕ) (s t : Space) (chunks : List ChunkPlace) (p : ChunkPlace) → old (next_key d chunks) ≢ undefined → p.address + chunk_len d ≤ t.end → AreTaken d old s chunks t → AreTaken d old s (chunks ++ p ∷ []) t
+taken_stored d old s t chunks p there ends x = record {
+  taken = subst (λ (us : List Used). Taken s us t) (sym (no_range d old chunks p there)) x.taken;
+  raised = subst (λ n. IsRaised s t (n * chunk_bytes d)) (sym (pushed_long chunks p)) (raised_still s t (length chunks) (chunk_bytes d) x.raised);
+  inside = λ k q at.
+      elim (get_pushed chunks p k q at) [
+        | inl before ↦ x.inside k q before
+        | inr last ↦ subst (λ (c : ChunkPlace). c.address + chunk_len d ≤ t.end) last.1 ends
+      ];
+  first = x.first;
+  copied = x.copied;
+  ranges = x.ranges;
+  each = x.each;
+}
+
+takes_also : (s t n : Space) (rs : List Extent) (r : Extent) → TakesEach s rs t → Took t n r → TakesEach s (rs ++ r ∷ []) n
+takes_also s t n [] r e took = (n, subst (λ (u : Space). Took u n r) e took, refl)
+takes_also s t n (q ∷ rs) r e took = (e.0, e.1, takes_also e.0 t n rs r e.2 took)
+
+-- it has none, and gets a place
+pub taken_new : (d : Described) (old : Key → ℕ) (s t next : Space) (chunks : List ChunkPlace) (p : ChunkPlace) → 0 < chunk_len d → old (next_key d chunks) ≡ undefined → Took t next (extent p.address (chunk_len d))
+    → AreTaken d old s chunks t → AreTaken d old s (chunks ++ p ∷ []) next
+taken_new d old s t next chunks p some none took x =
+    let bytes : ℕ = chunk_bytes d in
+    let c : Used = chunk_at p.address bytes in
+    let took_bytes : Took t next (extent p.address bytes) = subst (λ n. Took t next (extent p.address n)) (same_len d) took in
+    let long : 0 < bytes = subst (λ n. 0 < n) (same_len d) some in
+    let end = (raised_one t next p.address bytes took_bytes.takes).rises in
+    record {
+      taken = subst (λ (us : List Used). Taken s us next) (sym (one_range d old chunks p none))
+          (taken_laws.joined s t next (new_chunks d old d.shape.rows 0 chunks) (c ∷ []) x.taken (taken_laws.one t next c long took_bytes));
+      raised = subst (λ n. IsRaised s next (n * bytes)) (sym (pushed_long chunks p)) (raised_next s t next (length chunks) p.address bytes x.raised took_bytes.takes);
+      inside = λ k q at.
+          elim (get_pushed chunks p k q at) [
+            | inl before ↦ omega (arith, x.inside k q before, end)
+            | inr last ↦ subst (λ (c : ChunkPlace). c.address + chunk_len d ≤ next.end) last.1 took.live.within
+          ];
+      first = x.first;
+      copied = x.copied;
+      ranges = x.ranges ++ extent p.address (chunk_len d) ∷ [];
+      each = takes_also x.first t next x.ranges (extent p.address (chunk_len d)) x.each took;
+    }
+
+-- places are taken alike whatever room there is
+took_roomy : (n : ℕ) (s t : Space) (r : Extent) → Took s t r → Took (record s { spare = n }) (record t { spare = n }) r
+took_roomy n s t r k = record {
+  takes = record {
+    by = elim k.takes.by [
+      | inl f ↦ inl (record { free = f.free; end = f.end })
+      | inr e ↦ inr (record { none = e.none; place = e.place; end = e.end; fits = e.fits; free = e.free })
+    ];
+    limit = k.takes.limit;
+    retired = k.takes.retired;
+    spare = refl;
+  };
+  off_live = λ x l. k.off_live x (record { within = l.within; off_free = l.off_free; off_retired = l.off_retired });
+  off_retired = k.off_retired;
+  live = record { within = k.live.within; off_free = k.live.off_free; off_retired = k.live.off_retired };
+  stays_live = λ x l.
+      let m = k.stays_live x (record { within = l.within; off_free = l.off_free; off_retired = l.off_retired }) in
+      record { within = m.within; off_free = m.off_free; off_retired = m.off_retired };
+}
+
+takes_roomy : (n : ℕ) (s t : Space) (rs : List Extent) → TakesEach s rs t → TakesEach (record s { spare = n }) rs (record t { spare = n })
+takes_roomy n s t [] e = ap (λ (x : Space). let y : Space = record x { spare = n } in y) e
+takes_roomy n s t (r ∷ rs) e = (record (e.0) { spare = n }, took_roomy n s e.0 r e.1, takes_roomy n e.0 t rs e.2)
+
+copy_is : (t u : Space) → IsCopy t u → ◌≡◌ {A = Space} (record t { spare = u.spare }) u
+copy_is t u c = λ i. let y : Space = record { end = sym c.end i; limit = sym c.limit i; free = sym c.free i; retired = sym c.retired i; spare = u.spare } in y
+
+-- so they may be taken on copies, again and again
+pub taken_copy : (d : Described) (old : Key → ℕ) (s t u : Space) (chunks : List ChunkPlace) → IsCopy t u → AreTaken d old s chunks t → AreTaken d old s chunks u
+taken_copy d old s t u chunks c x = record {
+  taken = subst (λ (us : List Used). Taken s us u) (append-nil (new_chunks d old d.shape.rows 0 chunks)) (taken_laws.joined s t u (new_chunks d old d.shape.rows 0 chunks) [] x.taken (taken_laws.none_taken t u c.end c.free c.retired));
+  raised = subst (λ n. IsRaised s u n) (let e : length chunks * chunk_bytes d + 0 ≡ length chunks * chunk_bytes d = omega arith in e) (raised_on s t u (length chunks * chunk_bytes d) 0 x.raised (raised_none t u c.end c.limit));
+  inside = λ k p at. omega (arith, x.inside k p at, c.end);
+  first = record (x.first) { spare = u.spare };
+  copied = record { end = x.copied.end; free = x.copied.free; retired = x.copied.retired; limit = x.copied.limit };
+  ranges = x.ranges;
+  each = subst (λ (y : Space). TakesEach (record (x.first) { spare = u.spare }) x.ranges y) (copy_is t u c) (takes_roomy u.spare x.first t x.ranges x.each);
+}
+
+-- ---- The index
+
+pub named_none : (d : Described) (to : ℕ) (v : IndexView) → IsSound v → AreNamed d to v [] [] v
+named_none d to v is = record {
+  partly = partly_none d to v is;
+  placed = λ k p at. absurd (let clash : ◌≡◌ {A = Option ChunkPlace} None (Some p) = at in cc);
+  others = λ key outside. refl;
+  behind = part_itself (behind_of (chunk_bytes d) v);
+  reached = λ k p at. absurd (let clash : ◌≡◌ {A = Option ChunkPlace} None (Some p) = at in cc);
+}
+
+-- the next chunk was named as it is
+pub named_before : (d : Described) (to : ℕ) (v w : IndexView) (chunks : List ChunkPlace) (added : List Key) → Fits d v → AreNamed d to v chunks added w → address_in w (next_key d chunks) ≡ address_in v (next_key d chunks)
+named_before d to v w chunks added fits x = x.others (next_key d chunks) (λ k low. apart_keys d v d.shape.rows k (length chunks) fits (λ e. absurd (omega (arith, e, low))))
+
+-- The next chunk has an address.
+module _ (d : Described) (to : ℕ) (v w : IndexView) (chunks : List ChunkPlace) (added : List Key) (p : ChunkPlace) (fits : Fits d v) (named : address_in w (next_key d chunks) ≡ p.address) (defined : p.address ≢ undefined)
+    (whole : p.stored ≡ false → d.shape.rows ≤ (next_key d chunks).i * d.layout.chunk_rows) (looked : IsReached w (next_key d chunks)) (x : AreNamed d to v chunks added w) where
+  before_there : address_in v (next_key d chunks) ≡ p.address
+  before_there = sym (named_before d to v w chunks added fits x) ∙ named
+
+  is_there : address_in v (next_key d chunks) ≢ undefined
+  is_there e = defined (sym before_there ∙ e)
+
+  last_there : IsPlaced d (address_in v) (address_in w) d.shape.rows (length chunks) p
+  last_there = record {
+    named = named;
+    defined = defined;
+    kept = λ was. sym before_there;
+    stored = λ stored. is_there;
+    whole = λ fresh was. whole fresh;
+  }
+
+  pub named_stored : AreNamed d to v (chunks ++ p ∷ []) added w
+  named_stored = record {
+    partly = x.partly;
+    placed = λ k q at.
+        elim (get_pushed chunks p k q at) [
+          | inl before ↦ x.placed k q before
+          | inr last ↦ subst (λ (c : ChunkPlace). IsPlaced d (address_in v) (address_in w) d.shape.rows k c) last.1 (subst (λ n. IsPlaced d (address_in v) (address_in w) d.shape.rows n p) (sym last.0) last_there)
+        ];
+    others = λ key outside. x.others key (λ k low. outside k (omega (arith, low, pushed_long chunks p)));
+    behind = subst (λ (us : List Used). AreAmong (behind_of (chunk_bytes d) w) (us ++ behind_of (chunk_bytes d) v)) (sym (no_range d (address_in v) chunks p is_there)) x.behind;
+    reached = λ k q at.
+        elim (get_pushed chunks p k q at) [
+          | inl before ↦ x.reached k q before
+          | inr last ↦ subst (λ n. IsReached w (touched_key d d.shape.rows n)) (sym last.0) looked
+        ];
+  }
+
+-- The next chunk has none: a place is held for it in the index, which names it.
+module _ (d : Described) (to : ℕ) (v w h u : IndexView) (chunks : List ChunkPlace) (added : List Key) (p : ChunkPlace) (fits : Fits d v) (low : length chunks < touched d d.shape.rows to)
+    (none : address_in w (next_key d chunks) ≡ undefined) (fresh : p.stored ≡ false) (defined : p.address ≢ undefined) (held : IsHeld (next_key d chunks) w h) (slot : HasSlot h (next_key d chunks))
+    (set : IsSet (next_key d chunks) p.address h u) (x : AreNamed d to v chunks added w) where
+  abbrev key : Key
+  key = next_key d chunks
+
+  abbrev bytes : ℕ
+  bytes = chunk_bytes d
+
+  abbrev new_ranges : List Used
+  new_ranges = new_chunks d (address_in v) d.shape.rows 0 chunks
+
+  touches : IsTouched d d.shape.rows to key
+  touches = record { number = length chunks; inside = low; is = refl }
+
+  held_told : HeldTold w h
+  held_told = held_tells key w h x.partly.like.sound held
+
+  set_told : SetTold key p.address h u
+  set_told = set_tells key p.address h u held_told.like.sound slot defined set
+
+  was_none : address_in v key ≡ undefined
+  was_none = sym (named_before d to v w chunks added fits x) ∙ none
+
+  map_there : address_in u key ≡ p.address
+  map_there = set_told.map key ∙ cond-true (is_key h key key) p.address (address_in h key) (own_key h key)
+
+  -- whether a key is this one is as it was
+  same_is : (other : Key) → is_key h key other ≡ is_key v key other
+  same_is other = held_told.like.one key other ∙ x.partly.like.one key other
+
+  map_others : (other : Key) → is_key v key other ≡ false → address_in u other ≡ address_in w other
+  map_others other e = set_told.map other ∙ cond-false (is_key h key other) p.address (address_in h other) (same_is other ∙ e) ∙ held_told.map other
+
+  new_there : IsPlaced d (address_in v) (address_in u) d.shape.rows (length chunks) p
+  new_there = record {
+    named = map_there;
+    defined = defined;
+    kept = λ was. absurd (was was_none);
+    stored = λ stored e. let clash : false ≡ true = sym fresh ∙ stored in cc;
+    whole = λ e was. absurd (was was_none);
+  }
+
+  old_there : (k : ℕ) (q : ChunkPlace) → slice_get chunks k ≡ Some q → IsPlaced d (address_in v) (address_in u) d.shape.rows k q
+  old_there k q at =
+      let o = x.placed k q at in
+      let below = slice_get_within chunks k q at in
+      record {
+        named = map_others (touched_key d d.shape.rows k) (apart_keys d v d.shape.rows (length chunks) k fits (λ e. absurd (omega (arith, e, below)))) ∙ o.named;
+        defined = o.defined;
+        kept = o.kept;
+        stored = o.stored;
+        whole = o.whole;
+      }
+
+  ranges_now : AreAmong (behind_of bytes u) ((new_ranges ++ chunk_at p.address bytes ∷ []) ++ behind_of bytes v)
+  ranges_now =
+      let c : Used = chunk_at p.address bytes in
+      let before : List Used = new_ranges ++ behind_of bytes v in
+      let held_same : AreAmong (behind_of bytes h) (behind_of bytes w) = same_among (behind_of bytes h) (behind_of bytes w) (same_ranges w h bytes x.partly.like.sound held_told.like held_told.map) in
+      let all : AreAmong (behind_of bytes h) before = part_onward (behind_of bytes h) (behind_of bytes w) before held_same x.behind in
+      let both : AreAmong (c ∷ behind_of bytes h) (c ∷ before) = part_joined (c ∷ []) (behind_of bytes h) (c ∷ []) before (part_itself (c ∷ [])) all in
+      part_onward (behind_of bytes u) (c ∷ before) ((new_ranges ++ c ∷ []) ++ behind_of bytes v) (part_onward (behind_of bytes u) (c ∷ behind_of bytes h) (c ∷ before) (set_told.behind bytes) both) (turn c new_ranges (behind_of bytes v))
+
+  pub named_new : AreNamed d to v (chunks ++ p ∷ []) (added ++ key ∷ []) u
+  named_new = record {
+    partly = partly_set d to key p.address v h u added touches slot defined was_none set (partly_held d to key v w h added touches held x.partly);
+    placed = λ k q at.
+        elim (get_pushed chunks p k q at) [
+          | inl before ↦ old_there k q before
+          | inr last ↦ subst (λ (c : ChunkPlace). IsPlaced d (address_in v) (address_in u) d.shape.rows k c) last.1 (subst (λ n. IsPlaced d (address_in v) (address_in u) d.shape.rows n p) (sym last.0) new_there)
+        ];
+    others = λ other outside. map_others other (outside (length chunks) (omega (arith, pushed_long chunks p))) ∙ x.others other (λ k below. outside k (omega (arith, below, pushed_long chunks p)));
+    behind = subst (λ (us : List Used). AreAmong (behind_of bytes u) (us ++ behind_of bytes v)) (sym (one_range d (address_in v) chunks p was_none)) ranges_now;
+    reached = λ k q at.
+        elim (get_pushed chunks p k q at) [
+          | inl before ↦ reach_laws.set key (touched_key d d.shape.rows k) p.address h u set (reach_laws.held key (touched_key d d.shape.rows k) w h held (x.reached k q before))
+          | inr last ↦ subst (λ n. IsReached u (touched_key d d.shape.rows n)) (sym last.0) (reach_laws.new key p.address h u set)
+        ];
+  }
+
+-- a place is held for one of the chunks, and nothing else
+pub named_held : (d : Described) (to : ℕ) (key : Key) (v w u : IndexView) (chunks : List ChunkPlace) (added : List Key) → IsTouched d d.shape.rows to key → IsHeld key w u → AreNamed d to v chunks added w → AreNamed d to v chunks added u
+named_held d to key v w u chunks added touches held x =
+    let told = held_tells key w u x.partly.like.sound held in
+    let bytes : ℕ = chunk_bytes d in
+    record {
+      partly = partly_held d to key v w u added touches held x.partly;
+      placed = λ k q at. let o = x.placed k q at in record { named = told.map (touched_key d d.shape.rows k) ∙ o.named; defined = o.defined; kept = o.kept; stored = o.stored; whole = o.whole };
+      others = λ other outside. told.map other ∙ x.others other outside;
+      behind = part_onward (behind_of bytes u) (behind_of bytes w) (new_chunks d (address_in v) d.shape.rows 0 chunks ++ behind_of bytes v)
+          (same_among (behind_of bytes u) (behind_of bytes w) (same_ranges w u bytes x.partly.like.sound told.like told.map)) x.behind;
+      reached = λ k q at. reach_laws.held key (touched_key d d.shape.rows k) w u held (x.reached k q at);
+    }
+
+-- ---- Both
+
+pub placing : (d : Described) (to : ℕ) (v w : IndexView) (s t : Space) (chunks : List ChunkPlace) (added : List Key) → AreNamed d to v chunks added w → AreTaken d (address_in v) s chunks t → IsPlacing d to v s chunks added w t
+placing d to v w s t chunks added n x = record {
+  partly = n.partly;
+  placed = n.placed;
+  others = n.others;
+  behind = n.behind;
+  taken = x.taken;
+  raised = x.raised;
+  inside = x.inside;
+  reached = n.reached;
+  first = x.first;
+  copied = x.copied;
+  ranges = x.ranges;
+  each = x.each;
+}
+
+pub named_of : (d : Described) (to : ℕ) (v w : IndexView) (s t : Space) (chunks : List ChunkPlace) (added : List Key) → IsPlacing d to v s chunks added w t → AreNamed d to v chunks added w
+named_of d to v w s t chunks added x = record { partly = x.partly; placed = x.placed; others = x.others; behind = x.behind; reached = x.reached }
+
+pub taken_of : (d : Described) (to : ℕ) (v w : IndexView) (s t : Space) (chunks : List ChunkPlace) (added : List Key) → IsPlacing d to v s chunks added w t → AreTaken d (address_in v) s chunks t
+taken_of d to v w s t chunks added x = record { taken = x.taken; raised = x.raised; inside = x.inside; first = x.first; copied = x.copied; ranges = x.ranges; each = x.each }
+
+pub naming_laws : NamingLaws
+naming_laws = record {
+  taken_none = taken_none;
+  taken_stored = taken_stored;
+  taken_new = taken_new;
+  taken_copy = taken_copy;
+  named_none = named_none;
+  named_stored = named_stored;
+  named_new = named_new;
+  named_held = named_held;
+  placing = placing;
+  named = named_of;
+  taken = taken_of;
+}

@@ -1,0 +1,10 @@
+pub mod BesideLemmas
+pub mod HeldLemmas
+pub mod SettledLemmas
+pub mod SeenLemmas
+pub mod DueLemmas
+pub mod OtherLemmas
+pub mod TurnLemmas
+pub mod FoldLemmas
+pub mod RunLemmas
+pub mod TakeLemmas

@@ -1,0 +1,5 @@
+use Rattle.h5w_several_laws.proofs.logs.settled_goes.Goals as goal
+use Rattle.h5w_several_laws.proofs.SettledLemmas as lemmas
+
+pub returns : goal.returns
+returns c = lemmas.settled_goes
