@@ -33,7 +33,7 @@ def record(writer, frames):
 
 
 def main(file, count="20"):
-    words = ["--type", "u16le", "--chunk", "64", "--columns", str(PIXELS), "--width", str(PIXELS)]
+    words = ["--type", "u16le", "--chunk", "64", "--columns", str(PIXELS), "--width", str(PIXELS), "--fixed"]
     subprocess.run([H5SWMR, "new", file, *words], check=True)
     # (HDF5's own library reads beside it, and wants the places of old blocks unused)
     writer = subprocess.Popen([H5SWMR, "append", file, "--no-reuse"], stdin=subprocess.PIPE, stdout=subprocess.PIPE, text=True)

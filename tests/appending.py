@@ -5,7 +5,7 @@ import select
 import signal
 import subprocess
 
-from new_files import new_file
+from new_files import dataset_header, new_file
 from program import PROGRAM, SECONDS, named, of, read, run, steps
 
 NEW = "new f --type i32le --chunk 2"
@@ -63,13 +63,30 @@ def two_dimensions(folder):
     return found
 
 
+def fixed_columns(folder):
+    """Rows of three fixed columns in chunks of two by two: bands that go on, and blocks of an array behind its first four chunks."""
+    found = steps(
+        folder,
+        ("new f --type i16le --chunk 2 --columns 3 --width 2 --fixed", b"", 0, b"new end 575\n"),
+        ("append f", b"1 2 3 4 5 6\n\n7 8 9\n10 11 12\n\n13 14 15\n", 0, b"rows 2\nrows 4\nrows 5\nclosed 5\n"),
+        ("check f", b"", 0, b"valid rows 5 chunks 6 blocks 6 end 773 lost 0\n"),
+        ("append f", b"1 2\n", 8, b"error line 1\n"),
+        ("append f --no-reuse", b"16 17 18\n19 20 21\n", 0, b"rows 7\nclosed 7\n"),
+        ("check f", b"", 0, b"valid rows 7 chunks 8 blocks 6 end 939 lost 150\n"),
+        ("poll f --values", b"", 0, b"rows 7\n1 2 3\n4 5 6\n7 8 9\n10 11 12\n13 14 15\n16 17 18\n19 20 21\n"),
+        ("clear f --upgrade", b"", 0, b"clear 0 0\n"),
+    )
+    return found + of("the dataset header", read(f"{folder}/f")[106:205], dataset_header("i16le", 2, None, 205, (3, 2, "fixed"), 7))
+
+
 def damaged(folder):
-    """A file that is cut, one whose header is changed, one that another writer has open: nothing is written."""
+    """A file that is cut, one whose header is changed, one that another writer has open, an older one: nothing is written."""
     steps(folder, (NEW, b"", 0, b"new end 558\n"), ("append f", b"1 2 3\n", 0, b"rows 3\nclosed 3\n"))
     whole, found = read(f"{folder}/f"), []
     changed = whole[:300] + bytes([whole[300] ^ 1]) + whole[301:]
     table = [(whole[:300], 5, b"error cut 574 300\n"), (whole[:30], 5, b"error damaged 0 cut 48 30\n"), (whole[:7], 4, b"error nothdf5\n"), (b"", 4, b"error nothdf5\n")]
     table += [(new_file("i32le", 2, flags=it), 6, b"error flags %d\n" % it) for it in (1, 4, 5)]
+    table += [(new_file("i32le", 2, flags=it, version=2), 4, b"error writer version 2\n") for it in (0, 5)]
     for content, status, wanted in table:
         with open(f"{folder}/g", "wb") as file:
             file.write(content)
@@ -153,4 +170,4 @@ def other_words(folder):
 
 
 def trials():
-    yield from named("append", begins, used_again, two_dimensions, damaged, full_device, told_at_once, unwritten, other_words)
+    yield from named("append", begins, used_again, two_dimensions, fixed_columns, damaged, full_device, told_at_once, unwritten, other_words)

@@ -8,6 +8,8 @@ import subprocess
 import h5py
 import numpy
 
+from new_files import column_words, in_words, maximums_of
+
 TOP = os.path.dirname(os.path.dirname(os.path.realpath(__file__)))
 PROGRAM = f"{TOP}/h5swmr"
 SECONDS = 60
@@ -31,6 +33,11 @@ def table(values, columns):
 
 def shape_of(rows, columns):
     return (rows,) if columns is None else (rows, columns[0])
+
+
+def listed(shape, columns):
+    """The dimensions as h5ls writes them: behind each its maximum, where that is another."""
+    return ("{" + ", ".join(str(it) if most == it else f"{it}/{most or 'Inf'}" for it, most in zip(shape, maximums_of(columns))) + "}").split()
 
 
 def values_of(kind, count):
@@ -61,8 +68,7 @@ def of(what, seen, wanted):
 
 def made(file, kind, chunk, fill=None, columns=None):
     words = [PROGRAM, "new", file, "--type", kind, "--chunk", str(chunk)] + (["--fill", str(fill)] if fill is not None else [])
-    words += ["--columns", str(columns[0]), "--width", str(columns[1])] if columns else []
-    return of("new", run(words).split(" ")[:2], ["new", "end"])
+    return of("new", run(words + column_words(columns)).split(" ")[:2], ["new", "end"])
 
 
 def appended(file, batches, before=0, columns=None):
@@ -88,7 +94,7 @@ def still(file, kind, wanted, folder, stored=True, columns=None):
     """What other tools read otherwise than these values, some of which are stored in a chunk."""
     rows = table(wanted, columns)
     found = of("h5dump", dumped(file), wanted)
-    found += of("h5ls", run(["h5ls", file]).split(), ["data", "Dataset", *("{" + ", ".join(f"{it}/Inf" for it in shape_of(len(rows), columns)) + "}").split()])
+    found += of("h5ls", run(["h5ls", file]).split(), ["data", "Dataset", *listed(shape_of(len(rows), columns), columns)])
     for how in ({}, {"libver": "latest", "swmr": True}):
         with h5py.File(file, "r", **how) as opened:
             found += of(f"h5py {how}", [opened["data"].dtype.str, opened["data"][:].tolist()], [numpy_type(kind).str, rows])
@@ -133,12 +139,14 @@ def resized(file, values, columns=None):
         data[len(data) - len(rows) :] = rows
 
 
-def of_h5py(file, kind, chunk, values, fill=None, attributes=0, columns=None):
-    """h5py makes a file whose dimensions grow, one or two of them."""
+def of_h5py(file, kind, chunk, values, fill=None, attributes=0, columns=None, version=3):
+    """h5py makes a file whose rows grow, and their columns too where they are not fixed. Its superblock has version 2 where it is made as a
+    library of before SWMR makes it, and the dataset later."""
     rows, sides = table(values, columns), (chunk,) if columns is None else (chunk, columns[1])
-    with h5py.File(file, "w", libver="latest") as opened:
-        grows = (None,) * len(sides)
-        data = opened.create_dataset("data", shape=shape_of(0, columns), maxshape=grows, chunks=sides, dtype=numpy_type(kind), fillvalue=fill, track_times=True)
+    if version == 2:
+        h5py.File(file, "w", libver=("v108", "v108")).close()
+    with h5py.File(file, "r+" if version == 2 else "w", libver="latest") as opened:
+        data = opened.create_dataset("data", shape=shape_of(0, columns), maxshape=maximums_of(columns), chunks=sides, dtype=numpy_type(kind), fillvalue=fill, track_times=True)
         for it in range(attributes):
             data.attrs[f"attribute {it}"] = "of the other program"
         data.resize(len(rows), axis=0)
@@ -170,6 +178,51 @@ def in_turn(folder, kind, chunk, ours_first, attributes=0, columns=None):
         with h5py.File(file, "r") as opened:
             found += of("attributes", [opened["data"].attrs[it] for it in opened["data"].attrs], ["of the other program"] * attributes)
     return found
+
+
+def begun_by_h5py(folder, kind, chunk, columns, rows):
+    """A file of h5py's with so many rows, to which both append in turn, we first."""
+    count = wide(columns)
+    file, values = f"{folder}/f.h5", values_of(kind, (rows + 3 * chunk + 4) * count)
+    of_h5py(file, kind, chunk, values[: rows * count], None, 0, columns)
+    found, there = [], rows
+    for turn, more in enumerate((0, 1, chunk, 2 * chunk + 3)):
+        part = values[there * count : (there + more) * count]
+        if turn % 2 == 1:
+            found += appended(file, [part], there, columns)
+        elif part:
+            resized(file, part, columns)
+        there += more
+        found += read_by_us(file, values[: there * count], columns) + still(file, kind, values[: there * count], folder, there > 0, columns)
+    return found
+
+
+def bytes_of(file):
+    with open(file, "rb") as opened:
+        return opened.read()
+
+
+def upgraded(folder, kind, chunk, columns=None):
+    """A file of h5py's whose superblock has version 2: it is read and checked as any other, and refused to who writes it. Then it gets
+    version 3, all else as it was, and both append."""
+    count = wide(columns)
+    file, values = f"{folder}/f.h5", values_of(kind, (3 * chunk + 5) * count)
+    cuts = [it * count for it in (chunk + 1, 2 * chunk + 3, 3 * chunk + 5)]
+    of_h5py(file, kind, chunk, values[: cuts[0]], None, 0, columns, 2)
+    found, before = read_by_us(file, values[: cuts[0]], columns), bytes_of(file)
+    found += of("h5dump", dumped(file), values[: cuts[0]]) + of("the version", before[8], 2)
+    for words in (["append", file], ["clear", file], ["append", file, "--no-reuse"]):
+        found += of(words, run([PROGRAM, *words], "1\n"), "status 4: error writer version 2\n")
+    found += of("the file is as it was", bytes_of(file) == before, True)
+    for wanted in ("upgrade 2 3\n", "clear 0 0\n"):
+        found += of("clear --upgrade", run([PROGRAM, "clear", file, "--upgrade"]), wanted)
+    after = bytes_of(file)
+    found += of("the bytes that are not as they were", sorted({it for it, (one, other) in enumerate(zip(before, after)) if one != other} - {44, 45, 46, 47}), [8])
+    found += of("the version and the flags", (len(after), after[8], after[11]), (len(before), 3, 0))
+    found += still(file, kind, values[: cuts[0]], folder, True, columns) + appended(file, [values[cuts[0] : cuts[1]]], cuts[0] // count, columns)
+    found += read_by_us(file, values[: cuts[1]], columns) + still(file, kind, values[: cuts[1]], folder, True, columns)
+    resized(file, values[cuts[1] :], columns)
+    return found + read_by_us(file, values, columns) + still(file, kind, values, folder, True, columns)
 
 
 def without_chunks(folder, kind, chunk, rows, fill, columns=None):
@@ -327,6 +380,27 @@ def watch(folder, kind, chunk):
         return found + [f"{type(error).__name__}: {error}"]
 
 
+# Files with fixed columns: the type, the rows of a chunk, the columns, and how many rows h5py writes, up to 5,000 chunks.
+FIXED = [
+    ("i8", 1, (1, 1, "fixed"), 0),
+    ("i8", 3, (2, 1, "fixed"), 7),
+    ("i16le", 2, (3, 2, "fixed"), 5),
+    ("u64le", 4, (4, 2, "fixed"), 100),
+    ("i32be", 1, (5, 2, "fixed"), 300),
+    ("i16le", 1, (5, 1, "fixed"), 1000),
+    ("u64le", 7, (3, 3, "fixed"), 1000),
+    ("i32be", 2, (4, 3, "fixed"), 33),
+]
+
+
+# Files of columns that are read while they are written: the type, the rows of a chunk, those of each batch, the columns.
+LIVE = [
+    (kind, chunk, batches, columns + fixed)
+    for kind, chunk, batches, columns in (("i32le", 1, [1] * 40, (2, 1)), ("u16be", 3, [5, 1, 1, 40, 200], (3, 2)), ("i64le", 2, [170, 1, 1, 1, 300, 1], (5, 4)))
+    for fixed in ((), ("fixed",))
+]
+
+
 def trials(kinds):
     """Each trial by its name: what it finds is not as it should be, in a folder of its own."""
     for at, kind in enumerate(kinds):
@@ -346,6 +420,16 @@ def trials(kinds):
         yield f"{words}: h5py's file, and both append", lambda it, k=kind, c=chunk, n=at % 3, m=columns: in_turn(it, k, c, False, n, m)
         for rows in (2 * chunk + 1,) if at % 4 else (0,):
             yield f"{words}: h5py's file of {rows} rows without chunks, and both append", lambda it, k=kind, c=chunk, n=rows, f=fill, m=columns: without_chunks(it, k, c, n, f, m)
+    for kind, chunk, columns, rows in FIXED:
+        words = f"{kind} of {in_words(columns)} in chunks of {chunk} by {columns[1]}"
+        yield f"{words}: h5py's file of {rows} rows, and both append", lambda it, k=kind, c=chunk, n=rows, m=columns: begun_by_h5py(it, k, c, m, n)
+        yield f"{words}: our file, and both append", lambda it, k=kind, c=chunk, m=columns: in_turn(it, k, c, True, 0, m)
+        yield f"{words}: h5py's file of {chunk} rows without chunks, and both append", lambda it, k=kind, c=chunk, m=columns: without_chunks(it, k, c, c, 7, m)
+        for counts in ([], [3, 2], [chunk, 4 * chunk - 1, 1]):
+            yield f"{words}: {counts} rows appended", lambda it, k=kind, c=chunk, n=counts, m=columns: stands_still(it, k, c, n, None, m)
+    for kind, chunk, columns in (("i32le", 2, None), ("u16be", 3, (3, 2, "fixed")), ("i64le", 2, (3, 2))):
+        words = f"{kind} of {in_words(columns)}" if columns else kind
+        yield f"{words}: h5py's file with a superblock of version 2, which is upgraded", lambda it, k=kind, c=chunk, m=columns: upgraded(it, k, c, m)
     for order in ((0, 1, 2, 3, 4), (4, 3, 2, 1, 0), (2, 0, 4, 1, 3)):
         yield f"h5py's file, its columns written in the order {order}, and we append", lambda it, o=order: by_columns(it, "i32le", o)
     yield "5,000 chunks of one row and one column, in flushes of 1,000", lambda it: stands_still(it, "i16be", 1, [500] * 5, None, (2, 1))
@@ -354,8 +438,8 @@ def trials(kinds):
     for kind, chunk, batches in (("i32le", 1, [1] * 60), ("u16be", 3, [5, 1, 1, 40, 200] * 4), ("i64le", 1, [300, 1, 1, 1, 700, 1, 1])):
         yield f"{kind} in chunks of {chunk}: h5py watches our writer, {len(batches)} batches", lambda it, k=kind, c=chunk, b=batches: watched_by_h5py(it, k, c, b)
         yield f"{kind} in chunks of {chunk}: we watch h5py's writer, {len(batches)} batches", lambda it, k=kind, c=chunk, b=batches: watched_by_us(it, k, c, b)
-    for kind, chunk, batches, columns in (("i32le", 1, [1] * 40, (2, 1)), ("u16be", 3, [5, 1, 1, 40, 200], (3, 2)), ("i64le", 2, [170, 1, 1, 1, 300, 1], (5, 4))):
-        words = f"{kind} of {columns[0]} columns in chunks of {chunk} by {columns[1]}"
+    for kind, chunk, batches, columns in LIVE:
+        words = f"{kind} of {in_words(columns)} in chunks of {chunk} by {columns[1]}"
         yield f"{words}: h5py watches our writer, {len(batches)} batches", lambda it, k=kind, c=chunk, b=batches, m=columns: watched_by_h5py(it, k, c, b, m)
         yield f"{words}: we watch h5py's writer, {len(batches)} batches", lambda it, k=kind, c=chunk, b=batches, m=columns: watched_by_us(it, k, c, b, m)
     yield "writers that were stopped", lambda it: stopped(it, "i32le", 4)

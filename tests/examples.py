@@ -9,12 +9,12 @@ PYTHON = "/usr/bin/python3"
 
 def detector(folder):
     """A detector takes 23 frames: h5py finds each batch beside it, and the program and the other tools all frames in the end."""
-    file = f"{folder}/f.h5"
+    file, columns = f"{folder}/f.h5", (10, 10, "fixed")
     frames = [1000 if pixel == at % 10 else pixel for at in range(23) for pixel in range(10)]
     lines = [f"{rows} frames, the spot of the newest is at pixel {(rows - 1) % 10}" for rows in (5, 10, 15, 20, 23)]
     told = run([PYTHON, f"{TOP}/examples/detector.py", file, "23"]).split("\n")
     found = of("detector.py", told, [told[0], *lines, "closed 23", ""]) + of("its first line", told[0].split(" ")[:2], ["new", "end"])
-    return found + read_by_us(file, frames, (10, 10)) + still(file, "u16le", frames, folder, True, (10, 10))
+    return found + read_by_us(file, frames, columns) + still(file, "u16le", frames, folder, True, columns)
 
 
 def viewer(folder):

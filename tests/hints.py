@@ -79,6 +79,8 @@ ODD = [
     (["new", "file/f", *NEW], b"file is a file, and not a folder"),
     (["new", "none/f", *NEW], b"there is no folder none"),
     (["new", "none/none/f", *NEW, "--columns", "3", "--width", "2"], b"there is no folder none/none"),
+    (["new", "--columns=3", "--width", "2", "--fixed", "none/f", *NEW], b"there is no folder none"),
+    (["clear", "--upgrade", "folder"], b"folder is a folder, and not a file"),
 ]
 # The same where nothing may be written or read.
 LOCKED = [

@@ -1,6 +1,6 @@
 """Files byte by byte, and what the program is to say of each. They were made by other programs, by hand, or by libhdf5; what is wanted follows
 from the format's description. In tests/files/*.txt a file has a name behind `#`, its bytes in hexadecimal digits, of which `XX*N` is the byte `XX`
-so often, and behind `=` the status and the line. Behind `rows N:` stand the values: all, or with `..` the first or the last of them."""
+so often, and behind `=` the status and the line. Behind `rows N:` stand the values: all, or with `..` the first of them, the last, or both."""
 import tempfile
 
 from program import TOP, of, run
@@ -32,7 +32,8 @@ def told(status, text, wanted):
     values = values[0].split() if status == 0 and line.startswith("rows ") else []
     few = wanted.partition(": ")[2].split()
     if ".." in few:
-        values = few[:1] + values[1 - len(few) :] if few[0] == ".." else values[: len(few) - 1] + few[-1:]
+        first = few.index("..")
+        values = values[:first] + [".."] + values[len(values) - (len(few) - 1 - first) :]
     return f"{status} {line}" + (f": {' '.join(values)}" if values else "")
 
 

@@ -12,11 +12,11 @@ SECONDS = 60
 
 
 class Told:
-    """What a run may tell of these batches: rows of so many columns behind the pieces of the creation, and so many calls of each reader."""
+    """What a run may tell of these batches: rows of so many columns behind so many pieces of the creation, and so many calls of each reader."""
 
-    def __init__(self, batches, columns, calls, attempts):
+    def __init__(self, batches, columns, calls, attempts, first=5):
         self.batches, self.columns, self.calls, self.attempts = [it for it in batches if it], columns, calls, attempts
-        self.first, self.flushes, self.sums = 5 if columns == 1 else 4, [], [0]
+        self.first, self.flushes, self.sums = first, [], [0]
         values = [value for batch in batches for value in batch]
         for at in range(0, len(values), columns):
             self.sums.append(self.sums[-1] + sum(values[at : at + columns]))
@@ -72,7 +72,8 @@ def text_of(batches):
 
 
 def live(words, batches, columns=1, readers=1, calls=1, attempts=8):
-    """A run of these batches."""
+    """A run of these batches. Rows of columns that are not fixed have a tree, which is a block less at first."""
+    first = 5 if columns == 1 or "--fixed" in words else 4
     words = ["live", *words.split(" "), "--readers", str(readers), "--polls", str(calls), "--attempts", str(attempts)]
     words += ["--columns", str(columns), "--width", "2"] if columns > 1 else []
     try:
@@ -82,19 +83,19 @@ def live(words, batches, columns=1, readers=1, calls=1, attempts=8):
     if (ran.returncode, ran.stderr) != (0, b""):
         return [f"{words}: status {ran.returncode}, {ran.stdout[-200:]!r}, {ran.stderr!r}"]
     try:
-        Told(batches, columns, calls, attempts).take(ran.stdout, readers)
+        Told(batches, columns, calls, attempts, first).take(ran.stdout, readers)
     except (IndexError, ValueError) as error:
         return [f"{words}: {error}"]
     return []
 
 
-def of_each_type(columns):
+def of_each_type(columns, *options):
     """The least and the greatest value of each type, among others, in three flushes."""
     found = []
     for kind, (size, _, signed) in TYPES.items():
         least, greatest = -(2 ** (8 * size - 1)) * signed, 2 ** (8 * size - signed) - 1
         batches = [[greatest, least, 1] * 2, [least] * columns, [greatest] * columns * 3]
-        found += live(f"--type {kind} --chunk 2", batches, columns, readers=2, calls=3)
+        found += live(" ".join([f"--type {kind} --chunk 2", *options]), batches, columns, readers=2, calls=3)
     return found
 
 
@@ -120,10 +121,12 @@ def trials():
     table = {
         "each type": lambda: of_each_type(1),
         "each type, in rows of three columns": lambda: of_each_type(3),
+        "each type, in rows of three fixed columns": lambda: of_each_type(3, "--fixed"),
         "empty batches": lambda: live("--type i32le --chunk 2", [[], [1, 2, 3], [], [], [4], []], readers=2, calls=3),
         "10,000 calls": lambda: live("--type i32le --chunk 2", small, calls=10_000),
         "16 readers": lambda: live("--type i64be --chunk 64", many, readers=16, calls=5),
         "16 readers of rows of three columns": lambda: live("--type i16le --chunk 64", [it * 2 for it in many[:20]], 3, readers=16, calls=5),
+        "16 readers of rows of three fixed columns": lambda: live("--type i16le --chunk 64 --fixed", [it * 2 for it in many[:20]], 3, readers=16, calls=5),
         "one attempt a call": lambda: live("--type i32le --chunk 64", many, readers=4, calls=20, attempts=1),
         "10,000 values in a line": lambda: live("--type u16be --chunk 4096", [range(10_000)] * 3, readers=2, calls=3),
         "wrong texts are found wrong": sees_differences,

@@ -6,6 +6,7 @@ import subprocess
 import tempfile
 
 from appends import SECONDS, TOP, made, of, text_of
+from new_files import in_words
 
 PROGRAM = f"{TOP}/crates/h5w_cli/out/h5w_cli"
 
@@ -39,7 +40,7 @@ ssize_t pwrite(int file, const void *bytes, size_t count, off_t at) {
 COPIED = {it.hex() for it in (b"EADB", b"EASB", b"BTLF", b"BTIN")}
 
 # The columns of a dataset and of a chunk if it has two dimensions, and the rows of each batch in chunks of one row.
-CASES = [(None, [1] * 60), (None, [5, 1, 1, 30, 1]), ((3, 2), [1] * 60), ((3, 2), [100, 1, 1, 40])]
+CASES = [(None, [1] * 60), (None, [5, 1, 1, 30, 1]), ((3, 2), [1] * 60), ((3, 2), [100, 1, 1, 40]), ((3, 2, "fixed"), [1] * 60)]
 
 
 def written(folder, shim, words, columns, batches):
@@ -85,5 +86,5 @@ def trials():
             file.write(SHIM)
         subprocess.run(["cc", "-shared", "-fPIC", "-o", library, source], check=True, timeout=SECONDS)
         for columns, batches in CASES:
-            shape = f"{columns[0]} columns" if columns else "one dimension"
+            shape = in_words(columns) if columns else "one dimension"
             yield f"places that an append leaves, {shape}, {len(batches)} batches", lambda it, c=columns, b=batches: placed(library, c, b, it)

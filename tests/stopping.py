@@ -11,6 +11,7 @@ from dataclasses import dataclass
 import h5py
 
 from appends import SECONDS, TOP, appended, lines_of, made, of, of_h5py, resized, table, text_of, wide
+from new_files import in_words
 
 # (./h5swmr looks at all sources first, and here the program runs thousands of times)
 PROGRAM = f"{TOP}/crates/h5w_cli/out/h5w_cli"
@@ -96,7 +97,7 @@ class Case:
 
 def cases():
     """Arrays and trees, whose blocks are in place or are copied, and whose index is there or is made by the append."""
-    for columns in (None, (3, 2)):
+    for columns in (None, (3, 2), (3, 2, "fixed")):
         for chunk in (1, 2, 64):
             yield Case("our file", chunk, columns, 0, [chunk + 1, 1, chunk])
             yield Case("our file", chunk, columns, 3 * chunk, [2 * chunk + 1, 1])

@@ -1,6 +1,6 @@
 -- What an append leaves of its file, and how it ends.
 use Rattle.std.proofs.Common.{◌≡◌, ◌⊎◌, ℕ, ◌/◌, ◌%◌, Bool, true, false, if◌then◌else◌, nat_lt, List, [], ◌∷◌, ◌++◌, length, ℤ, Result, Ok, Err, refl, sym, ap, ◌∙◌, subst, inl, inr, arith, tests}
-use Rattle.std.specs.Prelude.{OnOk}
+use Rattle.std.specs.Prelude.{◌==◌, OnOk}
 use Rattle.h5w_model.specs.Datasets.{refused_as, super_refusal, then_also}
 use Rattle.h5w_model.specs.Images.{apply, image}
 use Rattle.h5w_model.specs.Numbers.{range}
@@ -13,7 +13,7 @@ use Rattle.h5w_model.proofs.ImageLemmas.{At-apply, image-push}
 use Rattle.h5w_model.proofs.SuperLemmas.{length-super_bytes}
 use Rattle.h5w_opening.specs.Openings.{DatasetHeaderFields, Opened, closed_super, dataset_found, is_open, looked_for, place_found}
 use Rattle.h5w_opening.specs.declared.error.OpenError.{OpenError}
-use Rattle.h5w_opening.specs.declared.error.OpenError.TheVariants.{Cut, Flags, OutOfMemory, Read}
+use Rattle.h5w_opening.specs.declared.error.OpenError.TheVariants.{Cut, Flags, OutOfMemory, Read, Version}
 use Rattle.h5w_opening.proofs.OpeningLemmas.{behind_super, opened_by, opening_gives}
 use Rattle.h5w_image.specs.View.{DiskView}
 use Rattle.h5w_session_open.specs.OpenAnswers.{writing_flags}
@@ -55,15 +55,16 @@ behind_root s (Ok place) f o h = inner (f place) h
 abbrev ClosedBy : List ℕ → List ℕ → ℕ → Super → Opened → Type 0
 ClosedBy img name size s o = (s ≡ o.root) × (is_open o.root.flags ≡ false)
 
-closed_cases : (img name : List ℕ) (size : ℕ) (s : Super) (o : Opened) (a b : Bool) → is_open s.flags ≡ a → then_also (if a then Err (Flags s.flags) else if b then Err (Cut s.end size) else Ok s) (behind_super name img) ≡ Ok o → ClosedBy img name size s o
-closed_cases img name size s o true b is h = absurd (cc)
-closed_cases img name size s o false true is h = absurd (cc)
-closed_cases img name size s o false false is h = let root = behind_root s (place_found name s.root img) (λ place. dataset_found place img) o h in (sym root, ap (λ (r : Super). is_open r.flags) root ∙ is)
+closed_cases : (img name : List ℕ) (size : ℕ) (s : Super) (o : Opened) (n : ℕ) (older a b : Bool) → is_open s.flags ≡ a → then_also (if older then Err (Version n) else if a then Err (Flags s.flags) else if b then Err (Cut s.end size) else Ok s) (behind_super name img) ≡ Ok o → ClosedBy img name size s o
+closed_cases img name size s o n true a b is h = absurd (cc)
+closed_cases img name size s o n false true b is h = absurd (cc)
+closed_cases img name size s o n false false true is h = absurd (cc)
+closed_cases img name size s o n false false false is h = let root = behind_root s (place_found name s.root img) (λ place. dataset_found place img) o h in (sym root, ap (λ (r : Super). is_open r.flags) root ∙ is)
 
 super_cases : (img name : List ℕ) (size : ℕ) (r : Result Super SuperError) (o : Opened) → then_also (then_also (refused_as Read (refused_as super_refusal r)) (closed_super size)) (behind_super name img) ≡ Ok o
     → (r ≡ Ok o.root) × (is_open o.root.flags ≡ false)
 super_cases img name size (Err e) o h = absurd (cc)
-super_cases img name size (Ok s) o h = let c = closed_cases img name size s o (is_open s.flags) (nat_lt size s.end) refl h in (ap Ok c.0, c.1)
+super_cases img name size (Ok s) o h = let c = closed_cases img name size s o 2 (s.version == 2) (is_open s.flags) (nat_lt size s.end) refl h in (ap Ok c.0, c.1)
 
 open_super : (img name : List ℕ) (size : ℕ) (o : Opened) → eval img (looked_for size name) ≡ Ok o → (super_at (range img 0 48) ≡ Ok o.root) × (is_open o.root.flags ≡ false)
 open_super img name size o is = super_cases img name size (super_at (range img 0 48)) o (sym (opening_gives img name size) ∙ is)

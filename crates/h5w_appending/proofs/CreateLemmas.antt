@@ -87,7 +87,7 @@ new_superblock f is =
     let small = (created_sizes f is).end in
     let there = At-apply last (image [] (created_writes f)) in
     ap (λ (img : List ℕ). super_at (range img 0 48)) (image-push [] (created_writes f) last)
-    ∙ ap super_at (ap (λ n. range (apply last (image [] (created_writes f))) 0 n) (sym (length-super_bytes closed)) ∙ there) ∙ super_at-super_bytes closed refl (omega (arith, small)) (omega arith)
+    ∙ ap super_at (ap (λ n. range (apply last (image [] (created_writes f))) 0 n) (sym (length-super_bytes closed)) ∙ there) ∙ super_at-super_bytes closed (inr refl) (omega (arith, small)) (omega arith)
 
 module _ (f : CreatedFile) where
   shown_here : IsShown f (new_pieces f) (new_log f)

@@ -107,6 +107,7 @@ close_cause name first t numbers u (errors.Read e) all stored c = absurd c
 close_cause name first t numbers u (errors.Finding kind at) all stored c = absurd c
 close_cause name first t numbers u (errors.Overlap at len other other_len) all stored c = absurd c
 close_cause name first t numbers u (errors.Cut end size) all stored c = absurd c
+close_cause name first t numbers u (errors.WriterVersion version) all stored c = absurd c
 close_cause name first t numbers u errors.Layout all stored c = absurd c
 close_cause name first t numbers u (errors.ChunkBytes bytes) all stored c = absurd c
 close_cause name first t numbers u errors.NoColumns all stored c = absurd c
@@ -146,6 +147,7 @@ line_cause y name first t numbers u line number (errors.Read e) reads count stor
 line_cause y name first t numbers u line number (errors.Finding kind at) reads count stored c = absurd c
 line_cause y name first t numbers u line number (errors.Overlap at len other other_len) reads count stored c = absurd c
 line_cause y name first t numbers u line number (errors.Cut end size) reads count stored c = absurd c
+line_cause y name first t numbers u line number (errors.WriterVersion version) reads count stored c = absurd c
 line_cause y name first t numbers u line number errors.Layout reads count stored c = absurd c
 line_cause y name first t numbers u line number (errors.ChunkBytes bytes) reads count stored c = absurd c
 line_cause y name first t numbers u line number errors.NoColumns reads count stored c = absurd c

@@ -47,6 +47,7 @@ opened_over {v} r name at limit size s there small sized begun exact stands = re
 
 refusal_case : (img : List ℕ) (size limit : ℕ) (at : List ℕ) (e : OpenError) → IsOpenAnswer img size at limit (Err e) → IsFree (open_line e) ⊎ ((x : OpenError) × (open_line x ≡ open_line e) × IsNotOpened img size at x)
 refusal_case img size limit at (opens.Read e) h = inr (opens.Read e, refl, h)
+refusal_case img size limit at (opens.Version version) h = inr (opens.Version version, refl, h)
 refusal_case img size limit at (opens.Flags flags) h = inr (opens.Flags flags, refl, h)
 refusal_case img size limit at (opens.Cut end n) h = inr (opens.Cut end n, refl, h)
 refusal_case img size limit at opens.Layout h = inr (opens.Layout, refl, h)
@@ -58,6 +59,7 @@ refusal_case img size limit at opens.OutOfMemory h = inl (inr refl)
 
 disk_failed : (e : OpenError) → open_line e ≡ errors.Disk → e ≡ opens.Failed
 disk_failed (opens.Read e) h = absurd (cc)
+disk_failed (opens.Version version) h = absurd (cc)
 disk_failed (opens.Flags flags) h = absurd (cc)
 disk_failed (opens.Cut end n) h = absurd (cc)
 disk_failed opens.Layout h = absurd (cc)

@@ -255,6 +255,7 @@ line_closes {v} {k} w l n name s t line number r spelled steps = λ first b u m 
     refused (errors.Finding kind at) c = absurd c
     refused (errors.Overlap at len other other_len) c = absurd c
     refused (errors.Cut end size) c = absurd c
+    refused (errors.WriterVersion version) c = absurd c
     refused errors.Layout c = absurd c
     refused (errors.ChunkBytes bytes) c = absurd c
     refused errors.NoColumns c = absurd c
@@ -300,6 +301,7 @@ line_appends {v} {w} k faults name s t line number n values (Err (endings.Refuse
     refused (errors.Finding kind at) c = absurd c
     refused (errors.Overlap at len other other_len) c = absurd c
     refused (errors.Cut end size) c = absurd c
+    refused (errors.WriterVersion version) c = absurd c
     refused errors.Layout c = absurd c
     refused (errors.ChunkBytes bytes) c = absurd c
     refused errors.NoColumns c = absurd c

@@ -196,6 +196,7 @@ InputRefuses name first s t b v e = ⊥
 -- the line of a refusal to open a file
 abbrev pub open_line : OpenError → ErrorLine
 open_line (opens.Read e) = errors.Read e
+open_line (opens.Version version) = errors.WriterVersion version
 open_line (opens.Flags flags) = errors.Read (reads.NotSwmr flags)
 open_line (opens.Cut end size) = errors.Cut end size
 open_line opens.Layout = errors.Layout

@@ -173,6 +173,7 @@ fn open_line(error: OpenError) -> ErrorLine
 {
     match error {
         OpenError::Read(refusal) => ErrorLine::Read(refusal),
+        OpenError::Version { version } => ErrorLine::WriterVersion(version),
         OpenError::Flags { flags } => ErrorLine::Read(ReadError::NotSwmr { flags }),
         OpenError::Cut { end, size } => ErrorLine::Cut { end, size },
         OpenError::Layout => ErrorLine::Layout,

@@ -22,11 +22,11 @@ const FLAGS: u8 = 4;
 
 const END: u8 = 5;
 
-/// Whether the flags say open for writing and open for SWMR writing, or neither.
-fn is_swmr(flags: u8) -> bool
-    ensures { result ≡ is_swmr flags }
+/// Whether the flags say open for writing and open for SWMR writing, or neither. In version 2 they say nothing.
+fn is_swmr(s: &Super) -> bool
+    ensures { result ≡ is_swmr s.now }
 {
-    flags % 2 == flags / 4 % 2
+    s.version == 2 || s.flags % 2 == s.flags / 4 % 2
 }
 
 /// A finding of the superblock.
@@ -46,7 +46,7 @@ fn checked(b: &[u8], size: u64) -> Result<Super, CheckError>
         Err(SuperError::Sum(_)) => return Err(found(SUM)),
         Err(_) => return Err(found(NO_SUPERBLOCK)),
     };
-    if !is_swmr(s.flags) {
+    if !is_swmr(&s) {
         return Err(found(FLAGS));
     }
     if size < s.end {

@@ -89,6 +89,17 @@ fn a_session_opens_a_closed_file(rt: HostRuntime) -> Result<(), Fail> {
 }
 
 #[test]
+fn a_file_with_an_older_superblock_is_not_opened(rt: HostRuntime) -> Result<(), Fail> {
+    // with flags of a file that is open for writing, which say nothing in version 2
+    let mut bytes = unpacked(rt.alloc(), &FILE)?;
+    change(&mut bytes, 8, &[2]);
+    change(&mut bytes, 44, &[0x70, 0x9b, 0x74, 0xd4]);
+    let refused = OpenError::Version { version: 2 };
+    assert_eq!(rt; session_of(rt.alloc(), &bytes)?, Err(refused));
+    Ok(())
+}
+
+#[test]
 fn a_session_opens_a_tree_that_it_keeps(rt: HostRuntime) -> Result<(), Fail> {
     let grid = unpacked(rt.alloc(), &GRID)?;
     assert_eq!(rt; session_of(rt.alloc(), &grid)?, Ok((2, 2394, Some(5))));

@@ -7,7 +7,6 @@ use Rattle.h5w_model.specs.Numbers.{range}
 use Rattle.h5w_model.specs.Images.{AllMiss, Apart, At, image}
 use Rattle.h5w_model.specs.Datasets.{Described}
 use Rattle.h5w_model.specs.Tables.{cell_offset, chunks_across}
-use Rattle.h5w_model.specs.declared.cell.Key.{Key}
 use Rattle.h5w_model.specs.declared.piece.Write.{Write}
 use Rattle.h5w_model.proofs.ImageLemmas.{Apart-part, At-image_missed, length-range}
 use Rattle.h5w_model.proofs.NumberLemmas.{range-append-left, range-append-right}
@@ -16,7 +15,7 @@ use Rattle.h5w_chunks.specs.Shares.{chunk_number}
 use Rattle.h5w_chunks.specs.Rows.{AllWithin, ChunksApart, IsChunkOf, IsOther, RowsWritten, place_in}
 use Rattle.h5w_chunks.specs.Early.{EarlyJoins, GoesOn, RowsStand, WrittenStand, shift_of}
 use Rattle.h5w_chunks.specs.declared.grid.ChunkPlace.{ChunkPlace}
-use Rattle.h5w_chunks.proofs.Geometry.{cell_fits, cells_fit, div_grows, key_of_number, number_parts, quotient_lt}
+use Rattle.h5w_chunks.proofs.Geometry.{band_of_number, cell_fits, cells_fit, div_grows, joined_bands, number_parts, quotient_lt}
 
 pub rows_stand : WrittenStand
 rows_stand img d cells from to places ws w apart = record {
@@ -28,9 +27,6 @@ rows_stand img d cells from to places ws w apart = record {
 }
 
 -- ---- Numbers
-
-joined_bands : (x y n c : ℕ) → (x + y) * n + c ≡ x * n + (y * n + c)
-joined_bands x y n c = grind arith
 
 -- a number counted from an earlier band
 shifted : (f m x n c : ℕ) → f ≤ m → m ≤ x → (x - f) * n + c ≡ (m - f) * n + ((x - m) * n + c)
@@ -73,7 +69,7 @@ module _ (img : List ℕ) (d : Described) (old new : List ℕ) (from mid to : �
 
   -- the band of a chunk by its number
   band_of : (base row column : ℕ) → base / R ≤ row / R → column < chunks_across d * d.layout.chunk_cols → base / R + chunk_number d base row column / chunks_across d ≡ row / R
-  band_of base row column band across = ap (λ (x : Key). x.i) (key_of_number d base row column cut band across)
+  band_of base row column band across = band_of_number d base row column cut.cols band across
 
   number_shifted : (row column : ℕ) → mid / R ≤ row / R → chunk_number d from row column ≡ shift_of d from mid + chunk_number d mid row column
   number_shifted row column band = shifted (from / R) (mid / R) (row / R) (chunks_across d) (column / d.layout.chunk_cols) bands band

@@ -9,13 +9,12 @@ use Rattle.std.specs.Int.{div_ceil}
 use Rattle.std.specs.Option.{option_map, unwrap_or}
 use Rattle.h5w_model.specs.Logs.{div_up}
 use Rattle.h5w_model.specs.Datasets.{Described}
-use Rattle.h5w_model.specs.Tables.{chunks_across}
+use Rattle.h5w_model.specs.Tables.{chunks_across, index_key}
 use Rattle.h5w_model.specs.Integers.{cell_bytes}
-use Rattle.h5w_model.specs.declared.cell.Key.{Key}
 use Rattle.h5w_model.specs.declared.cell.Cell.{Cell}
 use Rattle.h5w_model.proofs.IntegerLemmas.{int_size_bounds}
-use Rattle.h5w_chunks.specs.Grids.{IsCut, IsGrid, dataset_of, key_of}
-use Rattle.h5w_chunks.specs.Shares.{chunk_number, touched, touched_key}
+use Rattle.h5w_chunks.specs.Grids.{IsCut, IsGrid, cell_key, dataset_of}
+use Rattle.h5w_chunks.specs.Shares.{chunk_number, touched, touched_band, touched_key}
 use Rattle.h5w_chunks.specs.declared.grid.Grid.{Grid}
 
 -- ---- A grid's numbers
@@ -174,7 +173,7 @@ pub record ShareNumbers (from to rows columns cols size b j : ℕ) : Type 0 wher
   pub cells : ((max from (b * rows) - from) * columns + j * cols) * size < (to - from) * columns * size
   pub whole : (to - from) * columns ≤ (to - from) * columns * size
 
-touched_some : (d : Described) (from to k : ℕ) → k < touched d from to → (from < to) × (k < (div_up to d.layout.chunk_rows - from / d.layout.chunk_rows) * chunks_across d)
+pub touched_some : (d : Described) (from to k : ℕ) → k < touched d from to → (from < to) × (k < (div_up to d.layout.chunk_rows - from / d.layout.chunk_rows) * chunks_across d)
 touched_some d from to k known =
     elim (cases_lt from to) [
       | inl some ↦ (some, subst (λ (n : ℕ). k < n) (cond-true (nat_lt from to) ((div_up to d.layout.chunk_rows - from / d.layout.chunk_rows) * chunks_across d) 0 (lt-ltb from to some)) known)
@@ -240,13 +239,22 @@ touched_few from to rows columns cols some wide any =
     let low : from / rows < div_up to rows = lt_up (from / rows) to rows some (omega (arith, whole.0)) in
     (omega arith, mul-le (div_up to rows - from / rows) (div_up columns cols) n columns (omega arith) across)
 
--- the key of a row's and a column's chunk, back from its number
-pub key_of_number : (d : Described) (from row column : ℕ) → IsCut d → from / d.layout.chunk_rows ≤ row / d.layout.chunk_rows → column < chunks_across d * d.layout.chunk_cols
-    → touched_key d from (chunk_number d from row column) ≡ key_of d row column
-key_of_number d from row column cut band across =
+-- ---- The chunk of a row and a column, by its number among the touched ones
+
+pub joined_bands : (x y n c : ℕ) → (x + y) * n + c ≡ x * n + (y * n + c)
+joined_bands x y n c = grind arith
+
+-- its band
+pub band_of_number : (d : Described) (from row column : ℕ) → 0 < d.layout.chunk_cols → from / d.layout.chunk_rows ≤ row / d.layout.chunk_rows → column < chunks_across d * d.layout.chunk_cols
+    → touched_band d from (chunk_number d from row column) ≡ row / d.layout.chunk_rows
+band_of_number d from row column wide band across =
     let R = d.layout.chunk_rows in
-    let key : ℕ → ℕ → Key = λ i j. record { i = i; j = j } in
-    let parts = number_parts (row / R - from / R) (chunks_across d) (column / d.layout.chunk_cols) (quotient_lt column (chunks_across d) d.layout.chunk_cols cut.cols across) in
-    ap (λ (n : ℕ). key (from / R + n) (chunk_number d from row column % chunks_across d)) parts.0
-    ∙ ap (λ (n : ℕ). key n (chunk_number d from row column % chunks_across d)) (let e : from / R + (row / R - from / R) ≡ row / R = omega arith in e)
-    ∙ ap (λ (n : ℕ). key (row / R) n) parts.1
+    let parts = number_parts (row / R - from / R) (chunks_across d) (column / d.layout.chunk_cols) (quotient_lt column (chunks_across d) d.layout.chunk_cols wide across) in
+    ap (λ (n : ℕ). from / R + n) parts.0 ∙ (let e : from / R + (row / R - from / R) ≡ row / R = omega (arith, band) in e)
+
+-- its key
+pub key_of_number : (d : Described) (from row column : ℕ) → from / d.layout.chunk_rows ≤ row / d.layout.chunk_rows → touched_key d from (chunk_number d from row column) ≡ cell_key d row column
+key_of_number d from row column band =
+    let R = d.layout.chunk_rows in
+    let whole : from / R + (row / R - from / R) ≡ row / R = omega (arith, band) in
+    ap (index_key d) (sym (joined_bands (from / R) (row / R - from / R) (chunks_across d) (column / d.layout.chunk_cols)) ∙ ap (λ (n : ℕ). n * chunks_across d + column / d.layout.chunk_cols) whole)

@@ -1,4 +1,5 @@
 pub mod Geometry
+pub mod KeyLemmas
 pub mod BlockLemmas
 pub mod Loops
 pub mod RowLaws

@@ -6,7 +6,7 @@ use Rattle.h5w_model.specs.Datasets.{Described}
 use Rattle.h5w_model.specs.Tables.{chunks_across}
 use Rattle.h5w_model.specs.declared.piece.Write.{Write}
 use Rattle.h5w_chunks.specs.Grids.{IsCut, cell_in, fill_cell}
-use Rattle.h5w_chunks.specs.Shares.{touched_key}
+use Rattle.h5w_chunks.specs.Shares.{touched_band}
 use Rattle.h5w_chunks.specs.Rows.{AllWithin, ChunksApart, IsChunkOf, IsOther, RowsWritten, place_in}
 use Rattle.h5w_chunks.specs.declared.grid.ChunkPlace.{ChunkPlace}
 
@@ -31,7 +31,7 @@ shift_of d from mid = (mid / d.layout.chunk_rows - from / d.layout.chunk_rows) *
 
 -- the first row of the band of touched chunk k of the rows from `from` on
 abbrev pub band_row : Described → ℕ → ℕ → ℕ
-band_row d from k = (touched_key d from k).i * d.layout.chunk_rows
+band_row d from k = touched_band d from k * d.layout.chunk_rows
 
 -- By place q the rows from `mid` on are written into their touched chunk k, whose place among those of all rows is p. Where its band has a row
 -- before `mid` it counts as stored.

@@ -2,6 +2,7 @@
 use Rattle.std.specs.Prelude.{ℕ, zero, suc, ◌+◌, ◌-◌, ◌*◌, ◌/◌, ◌^◌, ◌<◌, ◌≤◌, ◌≡◌, List, [], ◌++◌, length, replicate, unwrap_or, IfSome, Some, ℤ}
 use Rattle.h5w_model.specs.Numbers.{range}
 use Rattle.h5w_model.specs.Datasets.{Described}
+use Rattle.h5w_model.specs.Tables.{chunk_number, index_key}
 use Rattle.h5w_model.specs.Messages.{IsIntType, IsLayout, IsShape}
 use Rattle.h5w_model.specs.Integers.{cell_bytes, cell_bytes_of}
 use Rattle.h5w_model.specs.declared.cell.Cell.{Cell}
@@ -22,9 +23,17 @@ pub record IsGrid (g : Grid) : Type 0 where
   pub chunked : IsLayout (layout_of g.layout) (shape_of g.shape) (int_type_of g.int_type)
   pub filled : IfSome g.fill.value (λ (c : Cell). (c.size ≡ g.int_type.size) × (length (cell_bytes c) ≡ g.int_type.size))
 
--- the chunk of a row and a column
+-- the chunk of a row and a column, by its place in the grid
 abbrev pub key_of : Described → ℕ → ℕ → Key
 key_of d row column = record { i = row / d.layout.chunk_rows; j = column / d.layout.chunk_cols }
+
+-- the number of this chunk
+abbrev pub grid_number : Described → ℕ → ℕ → ℕ
+grid_number d row column = chunk_number d (row / d.layout.chunk_rows) (column / d.layout.chunk_cols)
+
+-- the key by which the index has it
+abbrev pub cell_key : Described → ℕ → ℕ → Key
+cell_key d row column = index_key d (grid_number d row column)
 
 -- how many bytes a row of a chunk has
 abbrev pub row_len : Described → ℕ

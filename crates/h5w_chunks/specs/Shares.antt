@@ -4,7 +4,8 @@ use Rattle.h5w_model.specs.Numbers.{range}
 use Rattle.h5w_model.specs.Images.{pieces}
 use Rattle.h5w_model.specs.Logs.{div_up}
 use Rattle.h5w_model.specs.Datasets.{Described}
-use Rattle.h5w_model.specs.Tables.{chunks_across}
+use Rattle.h5w_model.specs.Tables.{chunks_across, index_key}
+use Rattle.h5w_model.specs.declared.cell.IndexKind.TheVariants.{Array, Tree}
 use Rattle.h5w_model.specs.declared.cell.Key.{Key}
 use Rattle.h5w_model.specs.declared.piece.Write.{Write}
 use Rattle.h5w_chunks.specs.Grids.{copies, fill_cell, row_len}
@@ -19,9 +20,17 @@ touched d from to = if nat_lt from to then (div_up to d.layout.chunk_rows - from
 abbrev pub chunk_number : Described → ℕ → ℕ → ℕ → ℕ
 chunk_number d from row column = (row / d.layout.chunk_rows - from / d.layout.chunk_rows) * chunks_across d + column / d.layout.chunk_cols
 
+-- the first line of keys of a band: in an array each chunk is a line of its own
+abbrev pub first_line : Described → ℕ → ℕ
+first_line d band = elim d.layout.index [ Array ↦ band * chunks_across d | Tree ↦ band ]
+
 -- the key of touched chunk k of rows from `from` on
 abbrev pub touched_key : Described → ℕ → ℕ → Key
-touched_key d from k = record { i = from / d.layout.chunk_rows + k / chunks_across d; j = k % chunks_across d }
+touched_key d from k = index_key d (from / d.layout.chunk_rows * chunks_across d + k)
+
+-- the band of rows of touched chunk k
+abbrev pub touched_band : Described → ℕ → ℕ → ℕ
+touched_band d from k = from / d.layout.chunk_rows + k / chunks_across d
 
 -- the first row of the rows from `from` on in the band of touched chunk k
 abbrev pub first_row : Described → ℕ → ℕ → ℕ

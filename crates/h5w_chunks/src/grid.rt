@@ -27,7 +27,7 @@ pub struct ChunkPlace {
 impl Grid {
     ghost use Rattle.h5w_chunks.specs.Grids.{IsGrid, chunk_len, dataset_of, key_of, row_len};
 
-    /// The chunk of a row and a column, and where their cell stands in it, in bytes.
+    /// The place in the grid of the chunk of a row and a column, and where their cell stands in it, in bytes.
     pub fn locate(&self, row: u64, column: u64) -> (Key, u64)
         requires { IsGrid self.now }
         ensures key { result.0 ≡ key_of (dataset_of self.now) row column }
@@ -67,7 +67,7 @@ impl Grid {
     }
 
     /// How many chunks stand side by side.
-    pub(crate) fn across(&self) -> u64
+    pub fn across(&self) -> u64
         requires { IsGrid self.now }
         ensures { result ≡ chunks_across (dataset_of self.now) }
     {

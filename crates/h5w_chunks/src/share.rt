@@ -1,8 +1,9 @@
 //! The shares that chunks have in new rows.
 ghost use Rattle.std.specs.Prelude.{◌≡◌, ◌-◌, ◌*◌, ◌/◌, ◌^◌, ◌<◌, ◌≤◌, ℕ};
-ghost use Rattle.h5w_model.specs.Tables.{chunks_across};
+ghost use Rattle.h5w_model.specs.Logs.{div_up};
 
 use crate::grid::Grid;
+use h5w_layout::IndexKind;
 use h5w_model::Key;
 
 /// What a chunk has of some new rows.
@@ -19,8 +20,8 @@ pub struct Share {
 }
 
 impl Grid {
-    ghost use Rattle.h5w_chunks.specs.Grids.{IsGrid, dataset_of, key_of};
-    ghost use Rattle.h5w_chunks.specs.Shares.{chunk_number, share_of, touched, touched_key};
+    ghost use Rattle.h5w_chunks.specs.Grids.{IsGrid, cell_key, dataset_of};
+    ghost use Rattle.h5w_chunks.specs.Shares.{chunk_number, first_line, share_of, touched, touched_band, touched_key};
 
     /// How many chunks the rows `from` up to but not including `to` touch.
     pub fn touched(&self, from: u64, to: u64) -> u64
@@ -36,20 +37,37 @@ impl Grid {
         }
     }
 
-    /// The key of touched chunk `k` of the rows from `from` up to but not including `to`: they are numbered in
-    /// rising order of keys.
+    /// The key by which the index has touched chunk `k` of the rows from `from` up to but not including `to`: they are
+    /// numbered in rising order of keys. An array counts all chunks, so their number must be one of 64 bits.
     pub fn touched_key(&self, from: u64, to: u64, k: u64) -> Key
         requires grid { IsGrid self.now }
         requires known { k < touched (dataset_of self.now) from to }
+        requires lines { first_line (dataset_of self.now) (div_up to self.now.layout.chunk.0) < 2 ^ 64 }
         ensures exact { result ≡ touched_key (dataset_of self.now) from k }
-        ensures cells { (row column : ℕ) → from / self.now.layout.chunk.0 ≤ row / self.now.layout.chunk.0 → column < chunks_across (dataset_of self.now) * self.now.layout.chunk.1
-            → k ≡ chunk_number (dataset_of self.now) from row column → result ≡ key_of (dataset_of self.now) row column }
+        ensures cells { (row column : ℕ) → from / self.now.layout.chunk.0 ≤ row / self.now.layout.chunk.0 → k ≡ chunk_number (dataset_of self.now) from row column
+            → result ≡ cell_key (dataset_of self.now) row column }
     {
+        let band = from / self.layout.chunk.0;
         let across = self.across();
-        Key {
-            i: from / self.layout.chunk.0 + k / across,
-            j: k % across,
+        match self.layout.index {
+            IndexKind::Array => Key {
+                i: band * across + k,
+                j: 0,
+            },
+            IndexKind::Tree => Key {
+                i: band + k / across,
+                j: k % across,
+            },
         }
+    }
+
+    /// The band of rows of touched chunk `k` of the rows from `from` up to but not including `to`.
+    pub fn touched_band(&self, from: u64, to: u64, k: u64) -> u64
+        requires grid { IsGrid self.now }
+        requires known { k < touched (dataset_of self.now) from to }
+        ensures { result ≡ touched_band (dataset_of self.now) from k }
+    {
+        from / self.layout.chunk.0 + k / self.across()
     }
 
     /// The share of touched chunk `k` in the rows `from` up to but not including `to`.

@@ -11,6 +11,8 @@ mod edges;
 #[cfg(test)]
 mod files;
 #[cfg(test)]
+mod fixed;
+#[cfg(test)]
 mod halves;
 #[cfg(test)]
 mod lives;

@@ -2,6 +2,7 @@
 
 use crate::appends::APPEND_ROWS;
 use crate::files::FILE_ROWS;
+use crate::fixed::FIXED_ROWS;
 use crate::lives::LIVE_ROWS;
 use crate::new_files::NEW_ROWS;
 use crate::rows::ROWS;
@@ -279,6 +280,9 @@ fn rows_are_answered(rt: HostRuntime) -> Result<(), Fail> {
         check_row(&rt, row)?;
     }
     for row in TREE_ROWS.split('#').skip(1) {
+        check_row(&rt, row)?;
+    }
+    for row in FIXED_ROWS.split('#').skip(1) {
         check_row(&rt, row)?;
     }
     for row in APPEND_ROWS.split('#').skip(1) {

@@ -84,6 +84,7 @@ input_ends t first b h same source (errors.Read e) r = absurd r
 input_ends t first b h same source (errors.Finding kind at) r = absurd r
 input_ends t first b h same source (errors.Overlap at len other other_len) r = absurd r
 input_ends t first b h same source (errors.Cut end size) r = absurd r
+input_ends t first b h same source (errors.WriterVersion version) r = absurd r
 input_ends t first b h same source errors.Layout r = absurd r
 input_ends t first b h same source (errors.ChunkBytes bytes) r = absurd r
 input_ends t first b h same source errors.NoColumns r = absurd r

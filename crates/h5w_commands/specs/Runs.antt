@@ -13,7 +13,7 @@ use Rattle.h5w_appending.specs.Appends.{AppendEnds}
 use Rattle.h5w_appending.specs.Creates.{CreateEnds, end_of}
 use Rattle.h5w_files.specs.Checks.{CheckEnds, check_of}
 use Rattle.h5w_files.specs.Polls.{PollEnds, poll_of}
-use Rattle.h5w_files.specs.Clears.{ClearEnds, flags_of}
+use Rattle.h5w_files.specs.Clears.{ClearEnds, clears_of}
 use Rattle.h5w_session.specs.Creations.{new_file}
 use Rattle.h5w_core.specs.Worlds.{rules_for}
 use Rattle.h5w_words.specs.declared.job.Job.{Job}
@@ -38,7 +38,7 @@ Does (Play options attempts) status s t k l v w = Plays (rules_for options attem
 Does (New file options) status s t k l v w = (t ≡ s) × CreateEnds file options v w status k l
 Does (Check file name) status s t k l v w = (t ≡ s) × CheckEnds file name v w status k l
 Does (Poll file name times attempts values) status s t k l v w = (t ≡ s) × PollEnds file name times attempts values v w status k l
-Does (Clear file) status s t k l v w = (t ≡ s) × ClearEnds file v w status k l
+Does (Clear file upgrade) status s t k l v w = (t ≡ s) × ClearEnds file upgrade v w status k l
 Does (Make count seed) status s t k l v w = (t ≡ s) × (w ≡ v) × MakeEnds count seed status k l
 Does (Append file name limit keeps) status s t k l v w = AppendEnds file name limit keeps s t v w status k l
 Does (Live options readers polls attempts) status s t k l v w = ⊥
@@ -66,7 +66,7 @@ DoesWhole (Play options attempts) status s t k l v w = Completes (rules_for opti
 DoesWhole (New file options) status s t k l v w = EndsWell (end_of (new_file options)) file v w status k l
 DoesWhole (Check file name) status s t k l v w = EndsWell (check_of name) file v w status k l
 DoesWhole (Poll file name times attempts values) status s t k l v w = EndsWell (poll_of (reader_rules name attempts) values) file v w status k l
-DoesWhole (Clear file) status s t k l v w = EndsWell flags_of file v w status k l
+DoesWhole (Clear file upgrade) status s t k l v w = EndsWell (clears_of upgrade) file v w status k l
 DoesWhole (Make count seed) status s t k l v w = MakeEndsWell status k l
 DoesWhole (Append file name limit keeps) status s t k l v w = AppendEndsWell file name status s t k l v w
 DoesWhole (Live options readers polls attempts) status s t k l v w = ⊥

@@ -47,7 +47,7 @@ pub fn plain<S: Source, K: Sink, D: Disk>(
             sink,
             disk,
         ),
-        Job::Clear { file } => clear(alloc, file.as_str(), sink, disk),
+        Job::Clear { file, upgrade } => clear(alloc, file.as_str(), *upgrade, sink, disk),
         Job::Make { count, seed } => make(alloc, *count, *seed, sink),
         Job::Append {
             file,

@@ -43,7 +43,7 @@ abbrev pub rules_for : Options → ℕ → Rules
 rules_for options attempts = record {
   cutting = cutting_by options;
   int_type = int_type_of options.int_type;
-  chunk_limit = limit_of format_limits (index_in options.columns);
+  chunk_limit = limit_of format_limits (index_in options.columns options.fixed);
   space_limit = options.limit;
   attempts = attempts;
 }

@@ -15,7 +15,9 @@ created_by name f = record {
   fill = fill_of f.fill;
   chunk_rows = f.chunk.0;
   chunk_cols = f.chunk.1;
+  rank = f.rank;
   columns = f.columns;
+  growing = f.growing;
   index = f.index;
 }
 

@@ -18,9 +18,13 @@ pub struct Form {
     pub fill: Fill,
     /// The rows and the columns of a chunk, 1 to 65,536 each, of 16,777,216 bytes at most.
     pub chunk: (u64, u64),
-    /// The columns of a row, 1 to 65,536.
+    /// How many dimensions, 1 or 2.
+    pub rank: u8,
+    /// The columns of a row, 1 to 65,536. In one dimension a row has one, and so has a chunk.
     pub columns: u64,
-    /// An array has one dimension, whose chunks and rows have one column; a tree has two.
+    /// The second dimension is there and has no maximum.
+    pub growing: bool,
+    /// A tree where the second dimension grows, else an array.
     pub index: IndexKind,
 }
 
@@ -65,30 +69,36 @@ fn fill_len(form: &Form) -> u64
     }
 }
 
+/// How many bytes the type and the parameters of an index have.
+fn parameters_len(index: IndexKind) -> u64
+    ensures exact { result ≡ length (index_bytes index) }
+    ensures bound { result ≤ 7 }
+{
+    match index {
+        IndexKind::Array => 6,
+        IndexKind::Tree => 7,
+    }
+}
+
 /// How many bytes the data of the layout message have.
 fn layout_len(form: &Form) -> u64
     requires form { IsForm form.now }
-    ensures exact { result ≡ 5 + (files.rank_of form.now.index + 1) * layout_width form.now.chunk.0 form.now.chunk.1 form.now.int_type.size + length (index_bytes form.now.index) + 8 }
+    ensures exact { result ≡ 5 + (form.now.rank + 1) * layout_width form.now.chunk.0 form.now.chunk.1 form.now.int_type.size + length (index_bytes form.now.index) + 8 }
     ensures low { 8 ≤ result }
     ensures bound { result ≤ 44 }
 {
     let (rows, cols) = form.chunk;
     let width = width_of(rows.max(cols.max(u64::from(form.int_type.size)))) as u64;
-    match form.index {
-        IndexKind::Array => 2 * width + 19,
-        IndexKind::Tree => 3 * width + 20,
-    }
+    5 + (u64::from(form.rank) + 1) * width + parameters_len(form.index) + 8
 }
 
 /// How many bytes the data of the dataspace message have.
-fn shape_len(index: IndexKind) -> u64
-    ensures exact { result ≡ 4 + 16 * files.rank_of index }
+fn shape_len(form: &Form) -> u64
+    requires form { IsForm form.now }
+    ensures exact { result ≡ 4 + 16 * form.now.rank }
     ensures bound { result ≤ 36 }
 {
-    match index {
-        IndexKind::Array => 20,
-        IndexKind::Tree => 36,
-    }
+    4 + 16 * u64::from(form.rank)
 }
 
 /// How many bytes the blocks in place of an index have.
@@ -115,7 +125,7 @@ pub fn sites_of(name: &[u8], form: &Form) -> Sites
 {
     let header = ROOT_PLACE + ROOT_LEN + name.len() as u64;
     let layout = layout_len(form);
-    let index = header + (shape_len(form.index) + fill_len(form) + layout + 39);
+    let index = header + (shape_len(form) + fill_len(form) + layout + 39);
     Sites {
         header,
         index,
@@ -133,16 +143,12 @@ pub fn grid_of(name: &[u8], form: &Form, sites: &Sites) -> Grid
     ensures dataset { dataset_of result ≡ files.described_of (created_by name.now form.now) }
     ensures grid { IsGrid result }
 {
-    let (rank, growing) = match form.index {
-        IndexKind::Array => (1, false),
-        IndexKind::Tree => (2, true),
-    };
     Grid {
         shape: Shape {
-            rank,
+            rank: form.rank,
             rows: 0,
             cols: form.columns,
-            growing,
+            growing: form.growing,
         },
         int_type: form.int_type,
         fill: form.fill,

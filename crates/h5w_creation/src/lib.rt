@@ -1,6 +1,7 @@
 //! A new file: its blocks one behind the other, as bytes, and the pieces in the order in which they become visible (HDF5 File Format
 //! Specification 3.0, "Format Signature and Superblock", "Data Object Header Prefix (Version 2)", "The Extensible Array Index" and
-//! "Version 2 B-trees"; docs/FORMAT.md, "A new file"). One dimension that grows is indexed by an extensible array, two by a version 2 B-tree.
+//! "Version 2 B-trees"; docs/FORMAT.md, "A new file"). Two dimensions that grow are indexed by a version 2 B-tree; one dimension, and two of
+//! which the second is fixed, by an extensible array.
 #![tactic(auto)]
 
 mod file;

@@ -1,6 +1,6 @@
 -- Once the pieces of a creation are shown, the image is the file without rows and chunks.
 use Rattle.std.proofs.Common.{◌≡◌, ℕ, ◌+◌, ◌-◌, ◌*◌, ◌/◌, ◌<◌, ◌≤◌, false, List, [], ◌∷◌, ◌++◌, length, Ok, refl, ap, sym, ◌∙◌, ◌⊎◌, subst, inl, inr, arith}
-use Rattle.std.specs.Prelude.{map, flat_map, nat_lt}
+use Rattle.std.specs.Prelude.{map, nat_lt}
 use Rattle.std.specs.List.{All, range_with_len}
 use Rattle.std.proofs.Math.Nat.{div-lt_iff_lt-mul}
 use Rattle.std.proofs.lemmas.Bool.{le-ltb, cases_eq}
@@ -12,7 +12,7 @@ use Rattle.h5w_model.specs.Superblock.{super_bytes}
 use Rattle.h5w_model.specs.Arrays.{eahd_len, eaib_len, eahd_bytes, eaib_bytes}
 use Rattle.h5w_model.specs.Trees.{bthd_bytes}
 use Rattle.h5w_model.specs.Logs.{div_up}
-use Rattle.h5w_model.specs.Tables.{table_of, needed_keys, needed, chunks_across, limit_of, format_limits}
+use Rattle.h5w_model.specs.Tables.{table_of, index_key, needed_keys, needed, chunks_across, limit_of, format_limits}
 use Rattle.h5w_model.specs.Findings.{Used, checked_super, chunk_bytes}
 use Rattle.h5w_model.specs.declared.cell.Key.{Key}
 use Rattle.h5w_model.specs.declared.cell.IndexKind.{IndexKind}
@@ -122,15 +122,15 @@ no_bands d h =
     let below : (0 + d - 1) / d < 1 = (div-lt_iff_lt-mul {k = d} {x = 0 + d - 1} {y = 1} h).1 (omega arith) in
     omega arith
 
-abbrev keys_of : CreatedFile → ℕ → List Key
-keys_of f n = flat_map (λ row. map (λ column. record { i = row; j = column }) (range_with_len 0 (chunks_across (described_of f)))) (range_with_len 0 n)
+no_chunk : (f : CreatedFile) → IsCreatable f → needed (described_of f) ≡ 0
+no_chunk f h = ap (λ (n : ℕ). n * chunks_across (described_of f)) (no_bands f.chunk_rows h.some_rows) ∙ omega arith
 
 no_keys : (f : CreatedFile) → IsCreatable f → needed_keys (described_of f) ≡ []
-no_keys f h = ap (λ (n : ℕ). keys_of f n) (no_bands f.chunk_rows h.some_rows)
+no_keys f h = ap (λ (n : ℕ). map (index_key (described_of f)) (range_with_len 0 n)) (no_chunk f h)
 
 none_needed : (f : CreatedFile) → IsCreatable f → nat_lt (limit_of format_limits f.index) (needed (described_of f)) ≡ false
 none_needed f h =
-    let none : needed (described_of f) ≡ 0 = ap (λ (n : ℕ). n * chunks_across (described_of f)) (no_bands f.chunk_rows h.some_rows) ∙ omega arith in
+    let none = no_chunk f h in
     le-ltb (limit_of format_limits f.index) (needed (described_of f)) (omega arith)
 
 -- ---- The file
@@ -138,7 +138,7 @@ none_needed f h =
 super_stands : (img : List ℕ) (f : CreatedFile) → end_of f ≤ 1024 → end_of f ≤ length img → At img 0 (super_block f).1 → checked_super (length img) (range img 0 48) ≡ Ok (super_of f)
 super_stands img f low size stands =
     ap (λ (b : List ℕ). checked_super (length img) b) (look_at img 0 48 (super_bytes (super_of f)) stands (length-super_bytes (super_of f)))
-    ∙ rw (super_at-super_bytes (super_of f) refl (omega arith) (omega arith), le-ltb (length img) (end_of f) size) refl
+    ∙ rw (super_at-super_bytes (super_of f) (inr refl) (omega arith) (omega arith), le-ltb (length img) (end_of f) size) refl
 
 no_cell : (k : ℕ) (P : Type 0) → k < 0 → P
 no_cell k P h = absurd (omega arith)

@@ -1,4 +1,4 @@
--- The bytes of two created files.
+-- The bytes of three created files.
 use Rattle.std.proofs.Common.{◌≡◌, [], ◌∷◌, refl, arith}
 use Rattle.h5w_model.specs.Checksum.{mix_line, mixed, finish_line, finished, added, rounds, sum_of}
 use Rattle.h5w_model.specs.Headers.{prefix_bytes, header_bytes}
@@ -8,8 +8,8 @@ use Rattle.h5w_model.specs.Numbers.{num, le, halvings, width_of}
 use Rattle.h5w_model.specs.Arrays.{number_bytes}
 use Rattle.h5w_examples.specs.Files.{created_file}
 use Rattle.h5w_examples.specs.Readings.{piece_of, described_as}
-use Rattle.h5w_creation_laws.specs.CreatedFiles.{IsCreatable, end_of, described_of, created_writes}
-use Rattle.h5w_creation_laws.specs.CreatedExamples.{twos, grid, grid_file, AreAsOutside}
+use Rattle.h5w_creation_laws.specs.CreatedFiles.{IsCreatable, end_of, described_of, header_block, created_writes}
+use Rattle.h5w_creation_laws.specs.CreatedExamples.{twos, grid, grid_file, fixed, fixed_bytes, AreAsOutside}
 
 twos_sound : IsCreatable twos
 twos_sound = record {
@@ -24,7 +24,9 @@ twos_sound = record {
   some_columns = omega arith;
   columns_bound = omega arith;
   small = omega arith;
-  line = λ e. (refl, refl);
+  shaped = refl;
+  line = λ e. refl;
+  indexed = refl;
 }
 
 grid_sound : IsCreatable grid
@@ -41,7 +43,27 @@ grid_sound = record {
   some_columns = omega arith;
   columns_bound = omega arith;
   small = omega arith;
-  line = λ e. absurd cc;
+  shaped = refl;
+  line = λ e. absurd (omega (arith, e));
+  indexed = refl;
+}
+
+fixed_sound : IsCreatable fixed
+fixed_sound = record {
+  named = omega arith;
+  name_bound = omega arith;
+  int_type = refl;
+  fill = tt;
+  some_rows = omega arith;
+  rows_bound = omega arith;
+  some_cols = omega arith;
+  cols_bound = omega arith;
+  some_columns = omega arith;
+  columns_bound = omega arith;
+  small = omega arith;
+  shaped = refl;
+  line = λ e. absurd (omega (arith, e));
+  indexed = refl;
 }
 
 twos_described : described_of twos ≡ described_as 0 188
@@ -56,6 +78,10 @@ grid_end : end_of grid ≡ 250
 unfolding halvings width_of cell_bytes_of le
 grid_end = refl
 
+fixed_end : end_of fixed ≡ 575
+unfolding halvings width_of
+fixed_end = refl
+
 twos_pieces : created_writes twos
     ≡ piece_of created_file 260 298 ∷ piece_of created_file 188 72 ∷ piece_of created_file 106 82 ∷ piece_of created_file 48 58 ∷ piece_of created_file 0 48 ∷ []
 unfolding mix_line mixed finish_line finished added rounds sum_of prefix_bytes header_bytes shape_bytes int_type_bytes fill_value_bytes layout_bytes num le halvings width_of number_bytes
@@ -64,6 +90,10 @@ twos_pieces = refl
 grid_pieces : created_writes grid ≡ piece_of grid_file 212 38 ∷ piece_of grid_file 106 106 ∷ piece_of grid_file 48 58 ∷ piece_of grid_file 0 48 ∷ []
 unfolding mix_line mixed finish_line finished added rounds sum_of prefix_bytes header_bytes shape_bytes int_type_bytes fill_value_bytes layout_bytes num le halvings width_of cell_bytes_of
 grid_pieces = refl
+
+fixed_header : header_block fixed ≡ (106, fixed_bytes)
+unfolding mix_line mixed finish_line finished added rounds sum_of prefix_bytes header_bytes shape_bytes int_type_bytes fill_value_bytes layout_bytes num le halvings width_of
+fixed_header = refl
 
 pub as_outside : AreAsOutside
 as_outside = record {
@@ -74,4 +104,7 @@ as_outside = record {
   grid_sound = grid_sound;
   grid_end = grid_end;
   grid_pieces = grid_pieces;
+  fixed_sound = fixed_sound;
+  fixed_end = fixed_end;
+  fixed_header = fixed_header;
 }

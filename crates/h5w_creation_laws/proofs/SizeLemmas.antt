@@ -1,12 +1,12 @@
 -- How long the blocks of a created file are.
-use Rattle.std.proofs.Common.{◌≡◌, ℕ, ◌+◌, ◌-◌, ◌≤◌, List, [], ◌∷◌, ◌++◌, length, length-append, Option, Some, None, refl, ap, sym, ◌∙◌, subst, arith}
+use Rattle.std.proofs.Common.{◌≡◌, ℕ, ◌+◌, ◌-◌, ◌≤◌, List, [], ◌∷◌, ◌++◌, length, length-append, Option, Some, None, refl, ap, sym, ◌∙◌, inl, inr, subst, arith}
 use Rattle.std.specs.Prelude.{IfSome, map}
-use Rattle.std.proofs.lemmas.Bool.{le-leb, eq-eqb}
+use Rattle.std.proofs.lemmas.Bool.{le-leb}
 use Rattle.h5w_model.specs.Numbers.{le}
 use Rattle.h5w_model.specs.Images.{AllSized}
 use Rattle.h5w_model.specs.Headers.{msgs_bytes, prefix_bytes}
 use Rattle.h5w_model.specs.Links.{link_info_bytes, group_info_bytes, link_bytes, link_info_kind, link_message_kind}
-use Rattle.h5w_model.specs.Messages.{IsShape, IsLayout, index_of, shape_bytes, int_type_bytes, fill_bytes, fill_value_bytes, layout_bytes}
+use Rattle.h5w_model.specs.Messages.{IsLayout, shape_bytes, int_type_bytes, fill_bytes, fill_value_bytes, layout_bytes}
 use Rattle.h5w_model.specs.Integers.{fill_cell_value}
 use Rattle.h5w_model.specs.Trees.{bthd_bytes, bthd_len}
 use Rattle.h5w_model.specs.declared.cell.IndexKind.{IndexKind}
@@ -17,13 +17,13 @@ use Rattle.h5w_model.proofs.IntegerLemmas.{int_size_bounds, length-cell_bytes_of
 use Rattle.h5w_model.proofs.SuperLemmas.{length-super_bytes}
 use Rattle.h5w_model.proofs.HeaderLemmas.{length-msg_bytes, length-header_bytes}
 use Rattle.h5w_model.proofs.HeaderRoundTrip.{prefix_bytes-small}
-use Rattle.h5w_model.proofs.MessageLemmas.{length-shape_bytes, length-int_type_bytes, fill_value_length, fill_none_bytes}
+use Rattle.h5w_model.proofs.MessageLemmas.{shape_rank, length-shape_bytes, length-int_type_bytes, fill_value_length, fill_none_bytes}
 use Rattle.h5w_model.proofs.LayoutLemmas.{length-layout_bytes, layout_length_bound}
 use Rattle.h5w_bt.proofs.Spelling.{bthd_body, bthd_bytes-is}
 use Rattle.h5w_array_laws.proofs.CreatedLemmas.{header_size, index_size}
 use Rattle.h5w_header_laws.specs.Spelled.{message, IsSpellable}
 use Rattle.h5w_header_laws.proofs.SpelledLemmas.{spelled_read}
-use Rattle.h5w_creation_laws.specs.CreatedFiles.{CreatedFile, IsCreatable, rank_of, is_wide, fill_len, layout_len, header_len, root_len, header_place, index_place, block_place, index_len, root_messages, shape_of, layout_of, described_of, super_of, empty_tree, super_block, root_block, header_block, index_blocks, block_write}
+use Rattle.h5w_creation_laws.specs.CreatedFiles.{CreatedFile, IsCreatable, fill_len, layout_len, header_len, root_len, header_place, index_place, block_place, index_len, root_messages, shape_of, layout_of, described_of, super_of, empty_tree, super_block, root_block, header_block, index_blocks, block_write}
 use Rattle.h5w_creation_laws.specs.CreationLaws.{FillGiven}
 
 -- ---- The root header
@@ -59,24 +59,8 @@ root_long f short =
 
 -- ---- The dataset header
 
-shape_sound : (k : IndexKind) (cols : ℕ) → (k ≡ Array → cols ≡ 1) → IsShape (record { rank = rank_of k; rows = 0; cols = cols; growing = is_wide k })
-shape_sound Array cols h = rw (eq-eqb cols 1 (h refl)) refl
-shape_sound Tree cols h = refl
-
-index_sound : (k : IndexKind) (cols : ℕ) → k ≡ index_of (record { rank = rank_of k; rows = 0; cols = cols; growing = is_wide k })
-index_sound Array cols = refl
-index_sound Tree cols = refl
-
-line_sound : (k : IndexKind) (cols : ℕ) → (k ≡ Array → cols ≡ 1) → rank_of k ≡ 1 → cols ≡ 1
-line_sound Array cols h e = h refl
-line_sound Tree cols h e = absurd (omega (arith, e))
-
-pub ranks : (k : IndexKind) → rank_of k ≤ 2
-ranks Array = omega arith
-ranks Tree = omega arith
-
-shaped : (f : CreatedFile) → IsCreatable f → IsShape (shape_of f)
-shaped f h = shape_sound f.index f.columns (λ e. (h.line e).1)
+pub few_dimensions : (f : CreatedFile) → IsCreatable f → f.rank ≤ 2
+few_dimensions f h = elim (shape_rank (shape_of f) h.shaped) [ inl e ↦ omega (arith, e) | inr e ↦ omega (arith, e) ]
 
 laid : (f : CreatedFile) → IsCreatable f → IsLayout (layout_of f) (shape_of f) f.int_type
 laid f h =
@@ -86,9 +70,9 @@ laid f h =
     record {
       rows = omega arith;
       cols = omega arith;
-      line = line_sound f.index f.chunk_cols (λ e. (h.line e).0);
+      line = h.line;
       small = omega arith;
-      index = index_sound f.index f.columns;
+      index = h.indexed;
     }
 
 fill_long : (value : Option (List ℕ)) → length (fill_value_bytes value) ≡ fill_len value
@@ -100,12 +84,12 @@ fill_short None size high h = omega arith
 fill_short (Some bytes) size high h = omega (arith, high, h)
 
 layout_long : (f : CreatedFile) → IsCreatable f → length (layout_bytes (layout_of f) (shape_of f) f.int_type) ≡ layout_len f
-layout_long f h = length-layout_bytes (layout_of f) (shape_of f) f.int_type (shaped f h) h.int_type (laid f h)
+layout_long f h = length-layout_bytes (layout_of f) (shape_of f) f.int_type h.shaped h.int_type (laid f h)
 
 pub header_short : (f : CreatedFile) → IsCreatable f → header_len f ≤ 145
 header_short f h =
     let size = int_size_bounds f.int_type.size h.int_type in
-    omega (arith, ranks f.index, fill_short f.fill.value f.int_type.size size.1 h.fill, sym (layout_long f h), layout_length_bound (layout_of f) (shape_of f) f.int_type (shaped f h) h.int_type (laid f h))
+    omega (arith, few_dimensions f h, fill_short f.fill.value f.int_type.size size.1 h.fill, sym (layout_long f h), layout_length_bound (layout_of f) (shape_of f) f.int_type h.shaped h.int_type (laid f h))
 
 pub index_low : (f : CreatedFile) → IsCreatable f → index_place f ≤ 311
 index_low f h = omega (arith, header_short f h, h.name_bound)
@@ -114,7 +98,7 @@ pub spellable : (f : CreatedFile) → IsCreatable f → IsSpellable (described_o
 spellable f h =
     let columns = h.columns_bound in
     record {
-      shape = shaped f h;
+      shape = h.shaped;
       rows = omega arith;
       cols = omega arith;
       int_type = h.int_type;
@@ -128,7 +112,7 @@ pub header_long : (f : CreatedFile) → IsCreatable f → length (header_block f
 header_long f h =
     (spelled_read (described_of f) (spellable f h)).long
     ∙ (let e : 27 + (length (shape_bytes (shape_of f)) + (length (int_type_bytes f.int_type) + (length (fill_bytes f.fill) + length (layout_bytes (layout_of f) (shape_of f) f.int_type)))) ≡ header_len f =
-    omega (arith, length-shape_bytes (shape_of f) (shaped f h), length-int_type_bytes f.int_type, fill_long f.fill.value, layout_long f h) in e)
+    omega (arith, length-shape_bytes (shape_of f) h.shaped, length-int_type_bytes f.int_type, fill_long f.fill.value, layout_long f h) in e)
 
 -- ---- The index
 

@@ -1,9 +1,10 @@
--- Two created files beside the bytes that independent programs made of them: by an array, and by a tree with a fill.
+-- Three created files beside the bytes that independent programs made of them: of one dimension, of two that grow with a fill, and of
+-- two with fixed columns.
 use Rattle.std.specs.Prelude.{◌≡◌, ℕ, true, false, List, [], ◌∷◌, Some, None, pos, codes}
 use Rattle.h5w_model.specs.declared.cell.IndexKind.TheVariants.{Array, Tree}
 use Rattle.h5w_examples.specs.Files.{created_file}
 use Rattle.h5w_examples.specs.Readings.{data_name, piece_of, described_as}
-use Rattle.h5w_creation_laws.specs.CreatedFiles.{CreatedFile, IsCreatable, fill_given, end_of, described_of, created_writes}
+use Rattle.h5w_creation_laws.specs.CreatedFiles.{CreatedFile, IsCreatable, fill_given, end_of, described_of, header_block, created_writes}
 
 -- 32-bit integers in chunks of two rows
 abbrev pub twos : CreatedFile
@@ -13,7 +14,9 @@ twos = record {
   fill = fill_given None (record { size = 4; big = false; signed = true });
   chunk_rows = 2;
   chunk_cols = 1;
+  rank = 1;
   columns = 1;
+  growing = false;
   index = Array;
 }
 
@@ -25,7 +28,9 @@ grid = record {
   fill = fill_given (Some (pos 258)) (record { size = 2; big = true; signed = true });
   chunk_rows = 2;
   chunk_cols = 2;
+  rank = 2;
   columns = 3;
+  growing = true;
   index = Tree;
 }
 
@@ -48,9 +53,35 @@ grid_file =
     0 ∷ 0 ∷ 100 ∷ 40 ∷ 255 ∷ 255 ∷ 255 ∷ 255 ∷ 255 ∷ 255 ∷ 255 ∷ 255 ∷ 0 ∷ 0 ∷ 0 ∷ 0 ∷
     0 ∷ 0 ∷ 0 ∷ 0 ∷ 0 ∷ 0 ∷ 88 ∷ 126 ∷ 196 ∷ 158 ∷ []
 
+-- 32-bit integers in three fixed columns and chunks of two rows and two columns
+abbrev pub fixed : CreatedFile
+fixed = record {
+  name = data_name;
+  int_type = record { size = 4; big = false; signed = true };
+  fill = fill_given None (record { size = 4; big = false; signed = true });
+  chunk_rows = 2;
+  chunk_cols = 2;
+  rank = 2;
+  columns = 3;
+  growing = false;
+  index = Array;
+}
+
+-- its dataset header
+abbrev pub fixed_bytes : List ℕ
+fixed_bytes =
+    79 ∷ 72 ∷ 68 ∷ 82 ∷ 2 ∷ 0 ∷ 88 ∷ 1 ∷ 36 ∷ 0 ∷ 0 ∷ 2 ∷ 2 ∷ 1 ∷ 1 ∷ 0 ∷
+    0 ∷ 0 ∷ 0 ∷ 0 ∷ 0 ∷ 0 ∷ 0 ∷ 3 ∷ 0 ∷ 0 ∷ 0 ∷ 0 ∷ 0 ∷ 0 ∷ 0 ∷ 255 ∷
+    255 ∷ 255 ∷ 255 ∷ 255 ∷ 255 ∷ 255 ∷ 255 ∷ 3 ∷ 0 ∷ 0 ∷ 0 ∷ 0 ∷ 0 ∷ 0 ∷ 0 ∷ 3 ∷
+    12 ∷ 0 ∷ 0 ∷ 48 ∷ 8 ∷ 0 ∷ 0 ∷ 4 ∷ 0 ∷ 0 ∷ 0 ∷ 0 ∷ 0 ∷ 32 ∷ 0 ∷ 5 ∷
+    2 ∷ 0 ∷ 0 ∷ 3 ∷ 11 ∷ 8 ∷ 22 ∷ 0 ∷ 0 ∷ 4 ∷ 2 ∷ 0 ∷ 3 ∷ 1 ∷ 2 ∷ 2 ∷
+    4 ∷ 4 ∷ 32 ∷ 4 ∷ 4 ∷ 16 ∷ 10 ∷ 205 ∷ 0 ∷ 0 ∷ 0 ∷ 0 ∷ 0 ∷ 0 ∷ 0 ∷ 203 ∷
+    128 ∷ 196 ∷ 230 ∷ []
+
 -- ---- Laws
 
--- Both can be created; these are their pieces, from the index to the superblock, and the array's dataset is the one that is known.
+-- They can be created. Of the first two these are the pieces, from the index to the superblock, and the first dataset is the one that is
+-- known; of the third this is the dataset header.
 pub record AreAsOutside : Type 0 where
   pub twos_sound : IsCreatable twos
   pub twos_described : described_of twos ≡ described_as 0 188
@@ -60,3 +91,6 @@ pub record AreAsOutside : Type 0 where
   pub grid_sound : IsCreatable grid
   pub grid_end : end_of grid ≡ 250
   pub grid_pieces : created_writes grid ≡ piece_of grid_file 212 38 ∷ piece_of grid_file 106 106 ∷ piece_of grid_file 48 58 ∷ piece_of grid_file 0 48 ∷ []
+  pub fixed_sound : IsCreatable fixed
+  pub fixed_end : end_of fixed ≡ 575
+  pub fixed_header : header_block fixed ≡ (106, fixed_bytes)

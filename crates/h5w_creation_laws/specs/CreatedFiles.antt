@@ -1,11 +1,11 @@
 -- A file as a session creates it: by what, where its blocks stand, their bytes, its pieces in the order in which they are written, and
 -- what the file is once all of them are shown.
-use Rattle.std.specs.Prelude.{◌≡◌, ℕ, ◌+◌, ◌-◌, ◌*◌, ◌≤◌, Bool, true, false, List, [], ◌∷◌, ◌++◌, length, map, replicate, Option, None, Some, IfSome, ℤ}
+use Rattle.std.specs.Prelude.{◌≡◌, ℕ, ◌+◌, ◌-◌, ◌*◌, ◌≤◌, Bool, List, [], ◌∷◌, ◌++◌, length, map, replicate, Option, None, Some, IfSome, ℤ}
 use Rattle.h5w_model.specs.Numbers.{undefined}
 use Rattle.h5w_model.specs.Superblock.{super_bytes}
 use Rattle.h5w_model.specs.Headers.{header_bytes}
 use Rattle.h5w_model.specs.Links.{link_info_bytes, group_info_bytes, link_bytes, link_info_kind, link_message_kind}
-use Rattle.h5w_model.specs.Messages.{ShapeFields, IntTypeFields, FillFields, LayoutFields, IsIntType, index_bytes, layout_width}
+use Rattle.h5w_model.specs.Messages.{ShapeFields, IntTypeFields, FillFields, LayoutFields, IsShape, IsIntType, index_of, index_bytes, layout_width}
 use Rattle.h5w_model.specs.Integers.{cell_bytes_of}
 use Rattle.h5w_model.specs.Arrays.{EahdFields, EaibFields, eahd_bytes, eaib_bytes, eahd_len, eaib_len}
 use Rattle.h5w_model.specs.Trees.{BthdFields, bthd_bytes, bthd_len}
@@ -22,16 +22,22 @@ use Rattle.h5w_visits.specs.Ranges.{block_at}
 use Rattle.h5w_header_laws.specs.Spelled.{message, spelled_header}
 use Rattle.h5w_steps.specs.Moments.{Moment}
 
--- By what a session creates a file: the dataset's name and integers, the fill, the rows and columns of a chunk, the dataset's columns,
--- and by what its chunks are found. An array has one dimension, whose chunks and rows have one column; a tree has two.
+-- By what a session creates a file: the dataset's name and integers, the fill, the rows and columns of a chunk, the dataset's
+-- dimensions and columns, whether the second dimension grows or is fixed, and by what its chunks are found.
 pub record CreatedFile : Type 0 where
   pub name : List ℕ
   pub int_type : IntTypeFields
   pub fill : FillFields
   pub chunk_rows : ℕ
   pub chunk_cols : ℕ
+  pub rank : ℕ
   pub columns : ℕ
+  pub growing : Bool
   pub index : IndexKind
+
+-- no rows, and dimension 0 has no maximum
+abbrev pub shape_of : CreatedFile → ShapeFields
+shape_of f = record { rank = f.rank; rows = 0; cols = f.columns; growing = f.growing }
 
 -- the bytes of a chunk
 abbrev pub chunk_len : CreatedFile → ℕ
@@ -50,7 +56,9 @@ pub record IsCreatable (f : CreatedFile) : Type 0 where
   pub some_columns : 1 ≤ f.columns
   pub columns_bound : f.columns ≤ 65536
   pub small : chunk_len f ≤ 16777216
-  pub line : f.index ≡ Array → (f.chunk_cols ≡ 1) × (f.columns ≡ 1)
+  pub shaped : IsShape (shape_of f)
+  pub line : f.rank ≡ 1 → f.chunk_cols ≡ 1
+  pub indexed : f.index ≡ index_of (shape_of f)
 
 -- the fill by its value, which is 0 where none is given
 abbrev pub fill_given : Option ℤ → IntTypeFields → FillFields
@@ -58,16 +66,6 @@ fill_given None t = record { value = None }
 fill_given (Some v) t = record { value = cell_bytes_of v t }
 
 -- ---- Where the blocks stand, one behind the other: superblock, root header, dataset header, and the index's blocks in place
-
--- the dimensions of a dataset whose chunks are found by such an index
-abbrev pub rank_of : IndexKind → ℕ
-rank_of Array = 1
-rank_of Tree = 2
-
--- dimension 1 is there, and has no maximum
-abbrev pub is_wide : IndexKind → Bool
-is_wide Array = false
-is_wide Tree = true
 
 abbrev pub root_place : ℕ
 root_place = 48
@@ -86,11 +84,11 @@ fill_len (Some bytes) = 6 + length bytes
 
 -- the data of the layout message: the sizes of a chunk and of an integer, the index's parameters and its address
 abbrev pub layout_len : CreatedFile → ℕ
-layout_len f = 5 + (rank_of f.index + 1) * layout_width f.chunk_rows f.chunk_cols f.int_type.size + length (index_bytes f.index) + 8
+layout_len f = 5 + (f.rank + 1) * layout_width f.chunk_rows f.chunk_cols f.int_type.size + length (index_bytes f.index) + 8
 
 -- the dataset header: the data of dataspace, datatype, fill value and layout, and 27 bytes
 abbrev pub header_len : CreatedFile → ℕ
-header_len f = 27 + ((4 + 16 * rank_of f.index) + (12 + (fill_len f.fill.value + layout_len f)))
+header_len f = 27 + ((4 + 16 * f.rank) + (12 + (fill_len f.fill.value + layout_len f)))
 
 -- the header of the array or of the tree
 abbrev pub index_place : CreatedFile → ℕ
@@ -121,10 +119,6 @@ group_info_kind = 0x0a
 -- link info, group info, and the link to the dataset
 abbrev pub root_messages : CreatedFile → List Msg
 root_messages f = message link_info_kind link_info_bytes ∷ message group_info_kind group_info_bytes ∷ message link_message_kind (link_bytes f.name (header_place f)) ∷ []
-
--- no rows, and dimension 0 has no maximum
-abbrev pub shape_of : CreatedFile → ShapeFields
-shape_of f = record { rank = rank_of f.index; rows = 0; cols = f.columns; growing = is_wide f.index }
 
 -- the index address is the last of its data
 abbrev pub layout_of : CreatedFile → LayoutFields

@@ -1,7 +1,8 @@
-//! The laws of a created file, for each integer type, fill, chunk size and name, and for both kinds of index: where its blocks stand and
-//! what they say (HDF5 File Format Specification 3.0, "Format Signature and Superblock", "Data Object Headers", "The Extensible Array Index"
-//! and "Version 2 B-trees"), what the file is once the pieces of its creation are shown, and the log of a session that creates it. Each law
-//! is the clause of a function without parameters; its statement is a definition in specs/. Nothing here runs.
+//! The laws of a created file, for each integer type, fill, chunk size and name, of one dimension, of two that grow, and of two with fixed
+//! columns: where its blocks stand and what they say (HDF5 File Format Specification 3.0, "Format Signature and Superblock", "Data Object
+//! Headers", "The Extensible Array Index" and "Version 2 B-trees"), what the file is once the pieces of its creation are shown, and the log
+//! of a session that creates it. Each law is the clause of a function without parameters; its statement is a definition in specs/. Nothing
+//! here runs.
 #![tactic(auto)]
 
 mod birth;

@@ -81,6 +81,7 @@ call_kind (errors.Read e) h = tt
 call_kind (errors.Finding kind at) h = absurd h
 call_kind (errors.Overlap at len other other_len) h = absurd h
 call_kind (errors.Cut end size) h = absurd h
+call_kind (errors.WriterVersion version) h = absurd h
 call_kind errors.Layout h = absurd h
 call_kind (errors.ChunkBytes bytes) h = absurd h
 call_kind errors.NoColumns h = absurd h

@@ -1,7 +1,7 @@
 -- Cells by their chunks' addresses.
 use Rattle.std.proofs.Common.{◌≡◌, ◌≢◌, ℕ, zero, suc, ◌+◌, ◌*◌, ◌/◌, ◌%◌, ◌<◌, ◌≤◌, true, List, [], ◌∷◌, ◌++◌, length, get_or, Option, Some, refl, sym, ◌∙◌, ap, arith}
 use Rattle.std.specs.Prelude.{map, if◌then◌else◌, ◌==◌, ℤ, pos, slice_get}
-use Rattle.std.proofs.Math.Nat.{mod-lt}
+use Rattle.std.proofs.Math.Nat.{mod-lt, mul-le-mul_right}
 use Rattle.std.proofs.lemmas.List.{get_or_append_left}
 use Rattle.std.proofs.lemmas.Option.{slice_get-get_or}
 use Rattle.h5w_model.specs.Numbers.{undefined}
@@ -9,17 +9,19 @@ use Rattle.h5w_model.specs.Images.{AllMiss, Misses}
 use Rattle.h5w_model.specs.Integers.{fill_value}
 use Rattle.h5w_model.specs.Logs.{div_up}
 use Rattle.h5w_model.specs.Datasets.{Described}
-use Rattle.h5w_model.specs.Tables.{chunks_across, needed_keys, cell, cell_offset, value_in}
+use Rattle.h5w_model.specs.Tables.{bands, chunks_across, needed, needed_keys, cell, cell_offset, value_in}
 use Rattle.h5w_model.specs.Findings.{Used, chunk_bytes}
 use Rattle.h5w_model.specs.declared.cell.Key.{Key}
 use Rattle.h5w_model.specs.declared.piece.Write.{Write}
+use Rattle.h5w_chunks.specs.Grids.{cell_key, grid_number}
 use Rattle.h5w_chunks.proofs.Geometry.{lt_up, quotient_lt, row_is}
+use Rattle.h5w_chunks.proofs.KeyLemmas.{next_band}
 use Rattle.h5w_visits.specs.Ranges.{Among, chunk_at}
 use Rattle.h5w_visits.specs.Headers.{IsSized}
 use Rattle.h5w_steps.specs.Moments.{Moment, MissesCells, row_of, column_of, chunk_of}
 use Rattle.h5w_steps.proofs.MomentLemmas.{InChunkOf, cell_within, chunk_missed}
 use Rattle.h5w_flush_laws.specs.Parts.{committed}
-use Rattle.h5w_flush_laws.proofs.KeyLemmas.{key_at, needed_at}
+use Rattle.h5w_flush_laws.proofs.KeyLemmas.{needed_at}
 use Rattle.h5w_flush_laws.proofs.EarlyLemmas.{AllMissCells}
 
 -- ---- A file whose table has only chunks of its index
@@ -33,7 +35,7 @@ cell_chunk_of m k h defined =
     let within = cell_within m.dataset (row_of m k) (column_of m k) h.sized in
     record {
       chunk = chunk_at (chunk_of m k) (chunk_bytes m.dataset);
-      among = h.chunks (row_of m k / m.dataset.layout.chunk_rows * chunks_across m.dataset + column_of m k / m.dataset.layout.chunk_cols) defined;
+      among = h.chunks (grid_number m.dataset (row_of m k) (column_of m k)) defined;
       is_chunk = refl;
       from = omega arith;
       to = omega (arith, within);
@@ -68,10 +70,18 @@ cell_of_value d k low = record { in_rows = quotient_lt k d.shape.rows d.shape.co
         positive zero h = absurd (omega (arith, h))
         positive (suc c) h = omega arith
 
+-- the chunk of a cell is a needed one
+pub number_needed : (d : Described) (row column : ℕ) → IsSized d → IsCell d row column → grid_number d row column < needed d
+number_needed d row column sized is =
+    let band : row / d.layout.chunk_rows + 1 ≤ bands d = omega (arith, below_up row d.shape.rows d.layout.chunk_rows sized.rows is.in_rows) in
+    let next = next_band (row / d.layout.chunk_rows) (chunks_across d) (column / d.layout.chunk_cols) (below_up column d.shape.cols d.layout.chunk_cols sized.cols is.in_columns) in
+    let all : (row / d.layout.chunk_rows + 1) * chunks_across d ≤ needed d = mul-le-mul_right (chunks_across d) band in
+    omega (arith, next, all)
+
 -- the address of a cell's chunk by a map
 pub chunk_by : (d : Described) (f : Key → ℕ) (row column : ℕ) → IsSized d → IsCell d row column
-    → get_or (map f (needed_keys d)) (row / d.layout.chunk_rows * chunks_across d + column / d.layout.chunk_cols) undefined ≡ f (key_at (row / d.layout.chunk_rows) (column / d.layout.chunk_cols))
-chunk_by d f row column sized is = needed_at f d (row / d.layout.chunk_rows) (column / d.layout.chunk_cols) (below_up row d.shape.rows d.layout.chunk_rows sized.rows is.in_rows) (below_up column d.shape.cols d.layout.chunk_cols sized.cols is.in_columns)
+    → get_or (map f (needed_keys d)) (grid_number d row column) undefined ≡ f (cell_key d row column)
+chunk_by d f row column sized is = needed_at f d (grid_number d row column) (number_needed d row column sized is)
 
 -- a cell whose chunk has an address, or none
 abbrev pub cell_by : List ℕ → Described → ℕ → ℕ → ℕ → Option ℤ

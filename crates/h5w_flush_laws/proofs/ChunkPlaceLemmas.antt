@@ -12,6 +12,7 @@ use Rattle.h5w_model.specs.declared.cell.Key.{Key}
 use Rattle.h5w_chunks.specs.Shares.{touched, touched_key}
 use Rattle.h5w_chunks.specs.Rows.{ChunksApart}
 use Rattle.h5w_chunks.specs.declared.grid.ChunkPlace.{ChunkPlace}
+use Rattle.h5w_chunks.proofs.KeyLemmas.{touched_lines, touched_number, touched_once}
 use Rattle.h5w_visits.specs.Ranges.{Among, AreApart, Disjoint, chunk_at}
 use Rattle.h5w_visits.specs.Indexes.{IsNamed}
 use Rattle.h5w_visits.specs.Needed.{AreFew}
@@ -28,7 +29,7 @@ use Rattle.h5w_flush_laws.proofs.SpaceLemmas.{meet_nowhere, taken_disjoint}
 use Rattle.h5w_flush_laws.proofs.PartLemmas.{fresh_off}
 use Rattle.h5w_flush_laws.proofs.KnownLaws.{answers_of}
 use Rattle.h5w_flush_laws.proofs.OnceLaws.{file_once}
-use Rattle.h5w_flush_laws.proofs.NewChunkLemmas.{touched_parts, one_number, few_named, new_member, new_apart, same_len}
+use Rattle.h5w_flush_laws.proofs.NewChunkLemmas.{few_named, new_member, new_apart, same_len}
 
 module _ (img name : List ℕ) (m : Moment) (old : Key → ℕ) (s t : Space) (rows : ℕ) (places : List ChunkPlace) (k : Knows img name m old s) (taken : Taken s (new_chunks m.dataset old m.dataset.shape.rows 0 places) t)
     (rises : m.dataset.shape.rows < rows) (small : AreFew (with_rows rows m.dataset)) (all : length places ≡ touched m.dataset m.dataset.shape.rows rows)
@@ -47,8 +48,8 @@ module _ (img name : List ℕ) (m : Moment) (old : Key → ℕ) (s t : Space) (r
 
   pub number_asked : (n : ℕ) (p : ChunkPlace) → slice_get places n ≡ Some p → IsAsked m.dataset (touched_key m.dataset m.dataset.shape.rows n)
   number_asked n p found =
-      let parts = touched_parts m.dataset m.dataset.shape.rows rows n rises (number_low n p found) in
-      record { named = few_named (with_rows rows m.dataset) small (touched_key m.dataset m.dataset.shape.rows n) (omega (arith, parts.band)) parts.column; across = parts.column }
+      let lines = touched_lines m.dataset m.dataset.shape.rows rows n (number_low n p found) in
+      record { named = few_named (with_rows rows m.dataset) small (touched_key m.dataset m.dataset.shape.rows n) lines.high; across = lines.side }
 
   -- a chunk that has an address is one of the file
   pub old_chunk : (key : Key) → IsNamed m.dataset key → old key ≢ undefined → Among (chunk_at (old key) (chunk_bytes m.dataset)) m.behind
@@ -131,7 +132,7 @@ module _ (img name : List ℕ) (m : Moment) (old : Key → ℕ) (s t : Space) (r
       one_chunk e g same =
           let address : p.address ≡ q.address = ap (λ (r : Used). r.place) same in
           let together : old y ≡ old x = sym (kept n q second g) ∙ sym address ∙ kept j p first e in
-          other (one_number m.dataset m.dataset.shape.rows j n (omega (arith, (number_asked j p first).across)) (sym (once x y (number_asked j p first) (number_asked n q second) e together)))
+          other (touched_once m.dataset m.dataset.shape.rows j n (touched_number m.dataset m.dataset.shape.rows rows j (number_low j p first)).some (sym (once x y (number_asked j p first) (number_asked n q second) e together)))
 
       go : ((eqb (old x) undefined ≡ true) × (old x ≡ undefined)) ⊎ ((eqb (old x) undefined ≡ false) × (old x ≢ undefined)) → ((eqb (old y) undefined ≡ true) × (old y ≡ undefined)) ⊎ ((eqb (old y) undefined ≡ false) × (old y ≢ undefined)) → AreApart u v
       go (inl e) (inl g) = both_new (cases_lt j n) e.1 g.1

@@ -1,7 +1,7 @@
 -- The chunks that new rows touch, by their numbers and keys, and the new ones among them.
 use Rattle.std.proofs.Common.{◌≡◌, ◌⊎◌, ℕ, zero, suc, ◌+◌, ◌-◌, ◌*◌, ◌/◌, ◌%◌, ◌<◌, ◌≤◌, Bool, true, false, List, [], ◌∷◌, ◌++◌, length, Option, Some, refl, sym, ◌∙◌, ap, subst, inl, inr, arith}
 use Rattle.std.specs.Prelude.{◌==◌, nat_lt, if◌then◌else◌, slice_get}
-use Rattle.std.proofs.Math.Nat.{mod-lt, mul-le-mul_right, mul-le-mul_left, mul_assoc}
+use Rattle.std.proofs.Math.Nat.{mod-lt, mul_assoc}
 use Rattle.std.proofs.lemmas.Bool.{cond-true, lt-ltb, ltb-false, eq-eqb, eqb-true}
 use Rattle.h5w_model.specs.Numbers.{undefined}
 use Rattle.h5w_model.specs.Logs.{div_up}
@@ -11,16 +11,16 @@ use Rattle.h5w_model.specs.Findings.{Used, chunk_bytes}
 use Rattle.h5w_model.specs.declared.cell.Key.{Key}
 use Rattle.h5w_model.specs.declared.piece.Write.{Write}
 use Rattle.h5w_chunks.specs.Grids.{chunk_len}
-use Rattle.h5w_chunks.specs.Shares.{touched, touched_key}
+use Rattle.h5w_chunks.specs.Shares.{first_line, touched, touched_key}
 use Rattle.h5w_chunks.specs.Rows.{AllWithin, IsChunkOf}
 use Rattle.h5w_chunks.specs.declared.grid.ChunkPlace.{ChunkPlace}
-use Rattle.h5w_chunks.proofs.Geometry.{number_parts, quotient_lt, row_is}
+use Rattle.h5w_chunks.proofs.Geometry.{quotient_lt}
+use Rattle.h5w_chunks.proofs.KeyLemmas.{array_line, some_across}
 use Rattle.h5w_visits.specs.Ranges.{Among, AreApart, Disjoint, chunk_at}
 use Rattle.h5w_visits.specs.Indexes.{IsNamed}
 use Rattle.h5w_visits.specs.Needed.{AreFew}
 use Rattle.h5w_header_laws.specs.Files.{with_rows}
 use Rattle.h5w_flush_laws.specs.Rows.{new_chunks, NewChunksMore, RowsAnywhere}
-use Rattle.h5w_flush_laws.proofs.KeyLemmas.{key_at}
 
 -- ---- Numbers and keys
 
@@ -36,56 +36,17 @@ pub record IsTouched (d : Described) (from to number : ℕ) : Type 0 where
   pub band : number / chunks_across d < touched_bands d from to
   pub column : number % chunks_across d < chunks_across d
 
-pub some_across : (k n a : ℕ) → k < n * a → 0 < a
-some_across k n zero h = absurd (omega (arith, h))
-some_across k n (suc a) h = omega arith
-
 pub touched_parts : (d : Described) (from to number : ℕ) → from < to → number < touched d from to → IsTouched d from to number
 touched_parts d from to number some low =
     let below : number < touched_bands d from to * chunks_across d = subst (λ n. number < n) (touched_is d from to some) low in
     let any = some_across number (touched_bands d from to) (chunks_across d) below in
     record { band = quotient_lt number (touched_bands d from to) (chunks_across d) any below; column = mod-lt number any }
 
--- two touched chunks of one key are one
-pub one_number : (d : Described) (from j k : ℕ) → 0 < chunks_across d → touched_key d from j ≡ touched_key d from k → j ≡ k
-one_number d from j k some e =
-    let first : from / d.layout.chunk_rows + j / chunks_across d ≡ from / d.layout.chunk_rows + k / chunks_across d = ap (λ (x : Key). x.i) e in
-    let second : j % chunks_across d ≡ k % chunks_across d = ap (λ (x : Key). x.j) e in
-    let quotient : j / chunks_across d ≡ k / chunks_across d = omega (arith, first) in
-    (row_is j (chunks_across d) some).0 ∙ ap (λ q. q * chunks_across d + j % chunks_across d) quotient ∙ ap (λ r. k / chunks_across d * chunks_across d + r) second ∙ sym (row_is k (chunks_across d) some).0
-
--- the number of a key in the touched bands
-abbrev pub number_of : Described → ℕ → Key → ℕ
-number_of d from key = (key.i - from / d.layout.chunk_rows) * chunks_across d + key.j
-
-pub record HasNumber (d : Described) (from to : ℕ) (key : Key) : Type 0 where
-  pub low : number_of d from key < touched d from to
-  pub is : touched_key d from (number_of d from key) ≡ key
-
-pub has_number : (d : Described) (from to : ℕ) (key : Key) → from < to → key.j < chunks_across d → from / d.layout.chunk_rows ≤ key.i → key.i < div_up to d.layout.chunk_rows → HasNumber d from to key
-has_number d from to key some across from_band to_band =
-    let parts = number_parts (key.i - from / d.layout.chunk_rows) (chunks_across d) key.j across in
-    let whole : from / d.layout.chunk_rows + (key.i - from / d.layout.chunk_rows) ≡ key.i = omega (arith, from_band) in
-    record {
-      low = subst (λ n. number_of d from key < n) (sym (touched_is d from to some)) (nested_below (key.i - from / d.layout.chunk_rows) key.j (touched_bands d from to) (chunks_across d) (omega (arith, from_band, to_band)) across);
-      is = ap (λ n. key_at (from / d.layout.chunk_rows + n) (number_of d from key % chunks_across d)) parts.0
-          ∙ ap (λ n. key_at n (number_of d from key % chunks_across d)) whole
-          ∙ ap (λ n. key_at key.i n) parts.1;
-    }
-  where
-    nested_below : (a b m n : ℕ) → a < m → b < n → a * n + b < m * n
-    nested_below a b m n h g =
-        let step : (a + 1) * n ≤ m * n = mul-le-mul_right n (omega (arith, h)) in
-        let one : (a + 1) * n ≡ a * n + n = grind arith in
-        omega (arith, step, one, g)
-
--- a key of the bands and columns of few chunks is one that the index is asked for
-pub few_named : (d : Described) → AreFew d → (key : Key) → key.i < bands d → key.j < chunks_across d → IsNamed d key
-few_named d few key row column is =
+-- a key in the lines of few chunks is one that the index is asked for
+pub few_named : (d : Described) → AreFew d → (key : Key) → key.i < first_line d (bands d) → IsNamed d key
+few_named d few key line is =
     let low : needed d ≤ 131060 = subst (λ kind. needed d ≤ limit_of format_limits kind) is (ltb-false (limit_of format_limits d.layout.index) (needed d) few) in
-    let some : 1 ≤ chunks_across d = omega (arith, column) in
-    let under : bands d * 1 ≤ bands d * chunks_across d = mul-le-mul_left (bands d) some in
-    omega (arith, row, under, low)
+    omega (arith, line, array_line d (bands d) is, low)
 
 -- ---- The new chunks
 

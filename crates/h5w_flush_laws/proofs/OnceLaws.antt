@@ -1,89 +1,29 @@
 -- In a file no two keys have one chunk.
-use Rattle.std.proofs.Common.{◌≡◌, ◌⊎◌, ℕ, ◌+◌, ◌-◌, ◌/◌, Bool, true, false, cond, List, Result, Ok, refl, sym, ◌∙◌, ap, subst, inl, inr, arith}
-use Rattle.std.specs.Prelude.{◌==◌, ◌||◌}
+use Rattle.std.proofs.Common.{◌≡◌, ◌⊎◌, ℕ, Bool, true, false, cond, List, Result, Ok, refl, sym, ◌∙◌, ap, subst, inl, inr, arith}
+use Rattle.std.specs.Prelude.{◌==◌}
 use Rattle.std.proofs.lemmas.Bool.Decides.{eqb_tells}
-use Rattle.h5w_model.specs.Numbers.{field, undefined}
+use Rattle.h5w_model.specs.Numbers.{undefined}
 use Rattle.h5w_model.specs.Programs.{Prog, ret, eval}
-use Rattle.h5w_model.specs.Messages.{unsupported, ShapeFields, IntTypeFields, LayoutFields, index_of, byte, chunk_size, shape_at, shape_tests, shape_fields, layout_at, layout_tests, layout_fields, int_type_at}
 use Rattle.h5w_model.specs.Arrays.{EaibFields}
 use Rattle.h5w_model.specs.Trees.{BthdFields}
-use Rattle.h5w_model.specs.Datasets.{FoundMessage, Described, described, dataspace_of, or_refuse, body_of, fill_of, is_filtered, shares_a_message, datatype_kind, layout_kind}
-use Rattle.h5w_model.specs.Tables.{InPlace, nowhere, in_array, in_tree, in_place, array_in_place, tree_in_place, chunks_across, format_limits, tree_lookup}
+use Rattle.h5w_model.specs.Datasets.{Described}
+use Rattle.h5w_model.specs.Tables.{InPlace, nowhere, in_array, in_tree, in_place, array_in_place, tree_in_place, tree_lookup}
 use Rattle.h5w_model.specs.Findings.{Used, Under, Finding, chunk_bytes, node_visit}
 use Rattle.h5w_model.specs.declared.cell.Key.{Key}
 use Rattle.h5w_model.specs.declared.cell.IndexKind.{IndexKind}
 use Rattle.h5w_model.specs.declared.cell.IndexKind.TheVariants.{Array, Tree}
 use Rattle.h5w_model.specs.declared.refusal.ReadError.{ReadError}
-use Rattle.h5w_model.proofs.CheckedLemmas.{checked-passed}
-use Rattle.h5w_laws.proofs.ResultLemmas.{fails, then_ok, and_then_ok}
+use Rattle.h5w_chunks.proofs.KeyLemmas.{array_keys}
+use Rattle.h5w_laws.proofs.ResultLemmas.{and_then_ok}
 use Rattle.h5w_visits.specs.Ranges.{Disjoint, chunk_at}
 use Rattle.h5w_visits.specs.Indexes.{behind_visit}
 use Rattle.h5w_visits.proofs.ArrayVisits.{same_ranges}
-use Rattle.h5w_visits.proofs.DescribedLemmas.{ok_described}
-use Rattle.h5w_visits.proofs.HeaderLaws.{dataset_parts}
 use Rattle.h5w_visits.proofs.IndexVisits.{tree_read}
-use Rattle.h5w_steps.specs.Moments.{Moment, Represents}
 use Rattle.h5w_steps.proofs.MomentLemmas.{parts_of}
 use Rattle.h5w_flush_laws.specs.Knowledge.{AnswersBy, FileOnce}
 use Rattle.h5w_flush_laws.proofs.KnownLaws.{answers_of}
 use Rattle.h5w_flush_laws.proofs.OnceArrays.{Sep, Always, answer, address_in, array_once, twice_never}
 use Rattle.h5w_flush_laws.proofs.OnceTrees.{node_apart}
-
--- ---- A dataset whose index is an array has one column of chunks
-
--- one dimension
-pub record IsLine (s : ShapeFields) (l : LayoutFields) : Type 0 where
-  pub cols : s.cols ≡ 1
-  pub chunk_cols : l.chunk_cols ≡ 1
-
-not_growing : (g : Bool) → cond g Tree Array ≡ Array → g ≡ false
-not_growing false h = refl
-not_growing true h = absurd cc
-
-single : (a b : Bool) → (a || b) ≡ true → b ≡ false → a ≡ true
-single true b h e = refl
-single false b h e = absurd (never (sym h ∙ e))
-  where
-    never : ◌≡◌ {A = Bool} true false → ⊥
-    never x = cc
-
-one_column : (t : Bool) (n : ℕ) → t ≡ true → cond t 1 n ≡ 1
-one_column true n e = refl
-one_column false n e = absurd cc
-
-line_by : (space layout : List ℕ) (s : ShapeFields) (t : IntTypeFields) (l : LayoutFields) → shape_at space ≡ Ok s → layout_at layout s t ≡ Ok l → l.index ≡ Array → IsLine s l
-unfolding shape_at shape_tests shape_fields layout_at layout_fields
-line_by space layout s t l h g array =
-    let shape = checked-passed (shape_tests space) (shape_fields space) s h in
-    let laid = checked-passed (layout_tests layout s t) (layout_fields layout s) l g in
-    let kind : index_of s ≡ Array = ap (λ (x : LayoutFields). x.index) laid.1 ∙ array in
-    let flat : s.growing ≡ false = not_growing s.growing kind in
-    let one : (byte space 1 == 1) ≡ true = single (byte space 1 == 1) (byte space 1 == 2) shape.0.1.1.0 (ap (λ (x : ShapeFields). x.growing) shape.1 ∙ flat) in
-    let rank : (s.rank == 1) ≡ true = ap (λ (x : ShapeFields). x.rank == 1) (sym shape.1) ∙ one in
-    record {
-      cols = ap (λ (x : ShapeFields). x.cols) (sym shape.1) ∙ one_column (byte space 1 == 1) (field space 12 8) one;
-      chunk_cols = ap (λ (x : LayoutFields). x.chunk_cols) (sym laid.1) ∙ one_column (s.rank == 1) (chunk_size layout 1) rank;
-    }
-
-line_of : (ms : List FoundMessage) (d : Described) → described ms ≡ Ok d → d.layout.index ≡ Array → IsLine d.shape d.layout
-line_of ms d h array =
-    let a = fails (is_filtered ms) _ (unsupported 2) d h in
-    let b = fails (shares_a_message ms) _ (unsupported 3) d a.1 in
-    let space = then_ok (dataspace_of ms) _ d b.1 in
-    let datatype = then_ok (or_refuse (body_of datatype_kind ms) (unsupported 4)) _ d space.2 in
-    let layout = then_ok (or_refuse (body_of layout_kind ms) (unsupported 4)) _ d datatype.2 in
-    let s = then_ok (shape_at space.0) _ d layout.2 in
-    let t = then_ok (int_type_at datatype.0) _ d s.2 in
-    let f = then_ok (fill_of ms t.0) _ d t.2 in
-    let l = then_ok (layout_at layout.0 s.0 t.0) _ d f.2 in
-    let is : record { shape = s.0; int_type = t.0; fill = f.0; layout = l.0 } ≡ d = ok_described (record { shape = s.0; int_type = t.0; fill = f.0; layout = l.0 }) d l.2 in
-    subst (λ (x : Described). IsLine x.shape x.layout) is (line_by space.0 layout.0 s.0 t.0 l.0 s.1 l.1 (ap (λ (x : Described). x.layout.index) is ∙ array))
-
-pub one_across : (img name : List ℕ) (m : Moment) → Represents img name m → m.dataset.layout.index ≡ Array → chunks_across m.dataset ≡ 1
-one_across img name m r array =
-    let p = dataset_parts img format_limits m.super m.place m.dataset m.header r.header in
-    let line = line_of p.header.messages m.dataset p.says array in
-    ap (λ c. (c + m.dataset.layout.chunk_cols - 1) / m.dataset.layout.chunk_cols) line.cols ∙ ap (λ c. (1 + c - 1) / c) line.chunk_cols
 
 -- ---- The kind of index that blocks in place are of
 
@@ -129,9 +69,9 @@ file_once img name m f r x k l a b defined same = go r.index.blocks r.index.read
     go nowhere read stands answers = absurd (defined (sym (ok_is undefined (f k) (answers k a.named))))
     go (in_array e) read stands answers =
         let kind = array_kind img m.dataset e read in
-        let across = one_across img name m r kind in
+        let one = array_keys m.dataset kind in
         let row : l.i ≡ k.i = array_once img m.super.end (chunk_bytes m.dataset) e m.behind apart stands k.i l.i (f k) (a.named kind) (b.named kind) defined (answers k a.named) (answers l b.named ∙ ap Ok same) in
-        same_parts k l row (omega (arith, a.across, b.across, across))
+        same_parts k l row (omega (arith, a.across, b.across, one))
     go (in_tree t) read stands answers = by (keys_differ l k)
       where
         ranges : Under → Result (List Used) Finding

@@ -1,26 +1,27 @@
 -- New rows in chunks as a part of a flush.
-use Rattle.std.proofs.Common.{◌≡◌, ◌≢◌, ◌⊎◌, ℕ, suc, ◌+◌, ◌-◌, ◌*◌, ◌/◌, ◌%◌, ◌<◌, ◌≤◌, Bool, true, false, eqb, List, [], ◌∷◌, ◌++◌, length, get_or, Some, refl, sym, ◌∙◌, ap, subst, inl, inr, arith, length-append}
+use Rattle.std.proofs.Common.{◌≡◌, ◌≢◌, ◌⊎◌, ℕ, suc, ◌+◌, ◌-◌, ◌*◌, ◌/◌, ◌%◌, ◌<◌, ◌≤◌, Bool, true, false, eqb, List, [], ◌∷◌, ◌++◌, length, get_or, Some, sym, ◌∙◌, ap, subst, inl, inr, arith, length-append}
 use Rattle.std.specs.Prelude.{ℤ, pos, slice_get}
 use Rattle.std.proofs.lemmas.Bool.{cases_lt, cases_Bool}
 use Rattle.std.proofs.lemmas.Bool.Decides.{eqb_tells}
-use Rattle.std.proofs.lemmas.Option.{slice_get-get_or}
+use Rattle.std.proofs.lemmas.Option.{slice_get-get_or, slice_get_within}
 use Rattle.h5w_model.specs.Numbers.{undefined}
 use Rattle.h5w_model.specs.Images.{image, Apart, AllMiss, At}
 use Rattle.h5w_model.specs.Integers.{cell_bytes_of}
 use Rattle.h5w_model.specs.Logs.{div_up}
 use Rattle.h5w_model.specs.Datasets.{Described}
-use Rattle.h5w_model.specs.Tables.{chunks_across, cell_offset}
+use Rattle.h5w_model.specs.Tables.{bands, chunks_across, keys_across, cell_offset}
 use Rattle.h5w_model.specs.Findings.{Used, chunk_bytes}
 use Rattle.h5w_model.specs.Prefixed.{StaysDefined}
 use Rattle.h5w_model.specs.declared.cell.Key.{Key}
 use Rattle.h5w_model.proofs.ImageLemmas.{Apart-part, At-fits}
 use Rattle.h5w_model.proofs.IntegerLemmas.{length-cell_bytes_of, value_at-cell_bytes_of}
-use Rattle.h5w_chunks.specs.Grids.{chunk_len, fill_cell}
-use Rattle.h5w_chunks.specs.Shares.{touched_key, chunk_number}
+use Rattle.h5w_chunks.specs.Grids.{cell_key, chunk_len, fill_cell, grid_number}
+use Rattle.h5w_chunks.specs.Shares.{first_line, touched_band, touched_key, chunk_number}
 use Rattle.h5w_chunks.specs.Rows.{IsChunkOf, IsOther, place_in}
 use Rattle.h5w_chunks.specs.declared.grid.ChunkPlace.{ChunkPlace}
 use Rattle.h5w_chunks.proofs.EarlyLemmas.{within_miss}
-use Rattle.h5w_chunks.proofs.Geometry.{number_parts, quotient_of, row_is, div_grows}
+use Rattle.h5w_chunks.proofs.Geometry.{band_of_number, number_parts, quotient_of, row_is, div_grows}
+use Rattle.h5w_chunks.proofs.KeyLemmas.{asked_is_touched, cell_before, cell_lines, cell_touched, first_line_grows, number_of}
 use Rattle.h5w_visits.specs.Ranges.{Among, AreApart, chunk_at}
 use Rattle.h5w_visits.specs.Indexes.{IsNamed}
 use Rattle.h5w_visits.specs.Headers.{IsSized}
@@ -35,12 +36,12 @@ use Rattle.h5w_flush_laws.specs.Knowledge.{HeldMissed, IsAsked, IsOnce, Knows}
 use Rattle.h5w_flush_laws.specs.Parts.{Parts, AllUnseen, committed, flushed_to}
 use Rattle.h5w_flush_laws.specs.Rows.{new_chunks, ArePlaced, RowsFlush}
 use Rattle.h5w_flush_laws.proofs.ChunkPlaceLemmas as chunk_places
-use Rattle.h5w_flush_laws.proofs.KeyLemmas.{key_at, found_table}
+use Rattle.h5w_flush_laws.proofs.KeyLemmas.{found_table}
 use Rattle.h5w_flush_laws.proofs.EarlyLemmas.{unseen_each, unseen_stage}
 use Rattle.h5w_flush_laws.proofs.OnceLaws.{file_once}
 use Rattle.h5w_flush_laws.proofs.CellLemmas.{IsCell, below_up, cell_of_value, chunk_by, cell_by, first_values}
 use Rattle.h5w_flush_laws.proofs.ValueLemmas.{fill_read, cell_there, cell_absent, cell_of}
-use Rattle.h5w_flush_laws.proofs.NewChunkLemmas.{number_of, has_number, few_named, new_from, same_len}
+use Rattle.h5w_flush_laws.proofs.NewChunkLemmas.{few_named, new_from, same_len, touched_parts}
 
 -- ---- Numbers
 
@@ -68,12 +69,11 @@ pub record HasPlace (d : Described) (old address : Key → ℕ) (from : ℕ) (pl
   pub place : ChunkPlace
   pub found : slice_get places number ≡ Some place
   pub is : touched_key d from number ≡ key
-  pub is_number : number ≡ number_of d from key
   pub named : address key ≡ place.address
   pub defined : place.address ≢ undefined
   pub kept : StaysDefined (old key) place.address
   pub stored : place.stored ≡ true → old key ≢ undefined
-  pub whole : place.stored ≡ false → old key ≢ undefined → from ≤ key.i * d.layout.chunk_rows
+  pub whole : place.stored ≡ false → old key ≢ undefined → from ≤ touched_band d from number * d.layout.chunk_rows
 
 -- the cell of a row that is new, as it stands in an image
 pub record OwnCell (img : List ℕ) (d : Described) (more : List ℤ) (from row column : ℕ) (p : ChunkPlace) : Type 0 where
@@ -117,10 +117,16 @@ module _ (img name : List ℕ) (m : Moment) (old : Key → ℕ) (s t : Space) (f
   place_off_held : (n : ℕ) (p : ChunkPlace) → slice_get places n ≡ Some p → (v : Used) → Among v k.held → v.chunk ≡ false → AreApart (chunk_at p.address (chunk_bytes m.dataset)) v
   place_off_held = chunk_places.place_off_held img name m old s t f.rows places k taken_new rises small a.all keeps
 
-  has_place : (key : Key) → key.j < chunks_across m.dataset → m.dataset.shape.rows / m.dataset.layout.chunk_rows ≤ key.i → key.i < div_up f.rows m.dataset.layout.chunk_rows
+  abbrev first : ℕ
+  first = first_line m.dataset (m.dataset.shape.rows / m.dataset.layout.chunk_rows)
+
+  abbrev last : ℕ
+  last = first_line m.dataset (div_up f.rows m.dataset.layout.chunk_rows)
+
+  has_place : (key : Key) → key.j < keys_across m.dataset → first ≤ key.i → key.i < last
       → HasPlace m.dataset old f.address m.dataset.shape.rows places key
   has_place key across low high =
-      let h = has_number m.dataset m.dataset.shape.rows f.rows key rises across low high in
+      let h = asked_is_touched m.dataset m.dataset.shape.rows f.rows key rises across low high in
       let number : ℕ = number_of m.dataset m.dataset.shape.rows key in
       let none : ChunkPlace = record { address = 0; stored = false } in
       let place : ChunkPlace = get_or places number none in
@@ -131,32 +137,31 @@ module _ (img name : List ℕ) (m : Moment) (old : Key → ℕ) (s t : Space) (f
         place = place;
         found = found;
         is = h.is;
-        is_number = refl;
         named = ap f.address (sym h.is) ∙ p.named;
         defined = p.defined;
         kept = subst (λ (x : Key). StaysDefined (old x) place.address) h.is p.kept;
         stored = subst (λ (x : Key). place.stored ≡ true → old x ≢ undefined) h.is p.stored;
-        whole = subst (λ (x : Key). place.stored ≡ false → old x ≢ undefined → m.dataset.shape.rows ≤ x.i * m.dataset.layout.chunk_rows) h.is p.whole;
+        whole = subst (λ (x : Key). place.stored ≡ false → old x ≢ undefined → m.dataset.shape.rows ≤ touched_band m.dataset m.dataset.shape.rows number * m.dataset.layout.chunk_rows) h.is p.whole;
       }
 
   -- what the map says of any key: as before, or the place of a new chunk
   classify : (key : Key) → IsAsked m.dataset key → (f.address key ≡ old key) ⊎ (HasPlace m.dataset old f.address m.dataset.shape.rows places key × (old key ≡ undefined))
-  classify key asked = before (cases_lt key.i (m.dataset.shape.rows / m.dataset.layout.chunk_rows))
+  classify key asked = before (cases_lt key.i first)
     where
       by_old : HasPlace m.dataset old f.address m.dataset.shape.rows places key → ((eqb (old key) undefined ≡ true) × (old key ≡ undefined)) ⊎ ((eqb (old key) undefined ≡ false) × (old key ≢ undefined))
           → (f.address key ≡ old key) ⊎ (HasPlace m.dataset old f.address m.dataset.shape.rows places key × (old key ≡ undefined))
       by_old h (inl e) = inr (h, e.1)
       by_old h (inr e) = inl (h.named ∙ h.kept e.1)
 
-      behind : m.dataset.shape.rows / m.dataset.layout.chunk_rows ≤ key.i → (key.i < div_up f.rows m.dataset.layout.chunk_rows) ⊎ (div_up f.rows m.dataset.layout.chunk_rows ≤ key.i)
+      behind : first ≤ key.i → (key.i < last) ⊎ (last ≤ key.i)
           → (f.address key ≡ old key) ⊎ (HasPlace m.dataset old f.address m.dataset.shape.rows places key × (old key ≡ undefined))
       behind low (inl high) = by_old (has_place key asked.across low high) (eqb_tells (old key) undefined)
       behind low (inr past) = inl (a.others key asked (inr past))
 
-      before : (key.i < m.dataset.shape.rows / m.dataset.layout.chunk_rows) ⊎ (m.dataset.shape.rows / m.dataset.layout.chunk_rows ≤ key.i)
+      before : (key.i < first) ⊎ (first ≤ key.i)
           → (f.address key ≡ old key) ⊎ (HasPlace m.dataset old f.address m.dataset.shape.rows places key × (old key ≡ undefined))
       before (inl low) = inl (a.others key asked (inl low))
-      before (inr low) = behind low (cases_lt key.i (div_up f.rows m.dataset.layout.chunk_rows))
+      before (inr low) = behind low (cases_lt key.i last)
 
   stays : (key : Key) → IsAsked m.dataset key → StaysDefined (old key) (f.address key)
   stays key asked defined = elim (classify key asked) [ inl e ↦ e | inr h ↦ absurd (defined h.1) ]
@@ -179,24 +184,52 @@ module _ (img name : List ℕ) (m : Moment) (old : Key → ℕ) (s t : Space) (f
   is_cell : (n : ℕ) → n < length m.values → IsCell m.dataset (row_of m n) (column_of m n)
   is_cell n low = cell_of_value m.dataset n (subst (λ c. n < c) k.file.count low)
 
-  asked_cell : (row column : ℕ) → IsCell m.dataset row column → IsAsked m.dataset (key_at (row / m.dataset.layout.chunk_rows) (column / m.dataset.layout.chunk_cols))
-  asked_cell row column is =
-      let band = below_up row m.dataset.shape.rows m.dataset.layout.chunk_rows sized.rows is.in_rows in
-      let across = below_up column m.dataset.shape.cols m.dataset.layout.chunk_cols sized.cols is.in_columns in
-      record { named = few_named m.dataset few_now (key_at (row / m.dataset.layout.chunk_rows) (column / m.dataset.layout.chunk_cols)) band across; across = across }
+  side : (column : ℕ) → column < m.dataset.shape.cols → column / m.dataset.layout.chunk_cols < chunks_across m.dataset
+  side column inside = below_up column m.dataset.shape.cols m.dataset.layout.chunk_cols sized.cols inside
 
-  chunk_is : (n : ℕ) → n < length m.values → chunk_of m n ≡ old (key_at (row_of m n / m.dataset.layout.chunk_rows) (column_of m n / m.dataset.layout.chunk_cols))
+  asked_cell : (row column : ℕ) → IsCell m.dataset row column → IsAsked m.dataset (cell_key m.dataset row column)
+  asked_cell row column is =
+      let lines = cell_lines m.dataset row column (side column is.in_columns) in
+      let band = below_up row m.dataset.shape.rows m.dataset.layout.chunk_rows sized.rows is.in_rows in
+      let grows = first_line_grows m.dataset (row / m.dataset.layout.chunk_rows + 1) (bands m.dataset) (omega (arith, band)) in
+      record { named = few_named m.dataset few_now (cell_key m.dataset row column) (omega (arith, lines.high, grows)); across = lines.side }
+
+  -- a cell of the bands of the new rows has a chunk among those that they touch
+  cell_has_place : (row column : ℕ) → row < f.rows → column < m.dataset.shape.cols → m.dataset.shape.rows / m.dataset.layout.chunk_rows ≤ row / m.dataset.layout.chunk_rows
+      → HasPlace m.dataset old f.address m.dataset.shape.rows places (cell_key m.dataset row column)
+  cell_has_place row column high inside band =
+      let lines = cell_lines m.dataset row column (side column inside) in
+      let up = below_up row f.rows m.dataset.layout.chunk_rows sized.rows high in
+      let begin = first_line_grows m.dataset (m.dataset.shape.rows / m.dataset.layout.chunk_rows) (row / m.dataset.layout.chunk_rows) band in
+      let end = first_line_grows m.dataset (row / m.dataset.layout.chunk_rows + 1) (div_up f.rows m.dataset.layout.chunk_rows) (omega (arith, up)) in
+      has_place (cell_key m.dataset row column) lines.side (omega (arith, lines.low, begin)) (omega (arith, lines.high, end))
+
+  chunk_is : (n : ℕ) → n < length m.values → chunk_of m n ≡ old (cell_key m.dataset (row_of m n) (column_of m n))
   chunk_is n low =
-      ap (λ (xs : List ℕ). get_or xs (row_of m n / m.dataset.layout.chunk_rows * chunks_across m.dataset + column_of m n / m.dataset.layout.chunk_cols) undefined) (found_table img m.dataset old m.table few_now k.index k.file.table)
+      ap (λ (xs : List ℕ). get_or xs (grid_number m.dataset (row_of m n) (column_of m n)) undefined) (found_table img m.dataset old m.table few_now k.index k.file.table)
       ∙ chunk_by m.dataset old (row_of m n) (column_of m n) sized (is_cell n low)
+
+  -- the number of a cell's chunk, and its band
+  number_is : (row column : ℕ) → column < m.dataset.shape.cols → m.dataset.shape.rows / m.dataset.layout.chunk_rows ≤ row / m.dataset.layout.chunk_rows
+      → (h : HasPlace m.dataset old f.address m.dataset.shape.rows places (cell_key m.dataset row column)) → h.number ≡ chunk_number m.dataset m.dataset.shape.rows row column
+  number_is row column inside band h = cell_touched m.dataset m.dataset.shape.rows row column h.number (let some = side column inside in omega (arith, some)) band h.is
+
+  in_chunks : (column : ℕ) → column < m.dataset.shape.cols → column < chunks_across m.dataset * m.dataset.layout.chunk_cols
+  in_chunks column inside = quotient_of column (chunks_across m.dataset) m.dataset.layout.chunk_cols sized.cols (side column inside)
+
+  band_is : (row column : ℕ) → column < m.dataset.shape.cols → m.dataset.shape.rows / m.dataset.layout.chunk_rows ≤ row / m.dataset.layout.chunk_rows
+      → (h : HasPlace m.dataset old f.address m.dataset.shape.rows places (cell_key m.dataset row column)) → touched_band m.dataset m.dataset.shape.rows h.number ≡ row / m.dataset.layout.chunk_rows
+  band_is row column inside band h =
+      ap (λ n. touched_band m.dataset m.dataset.shape.rows n) (number_is row column inside band h)
+      ∙ band_of_number m.dataset m.dataset.shape.rows row column sized.cols band (in_chunks column inside)
 
   -- the chunk of a cell by its place
   chunk_of_place : (row column : ℕ) → column < m.dataset.shape.cols → m.dataset.shape.rows / m.dataset.layout.chunk_rows ≤ row / m.dataset.layout.chunk_rows
-      → (h : HasPlace m.dataset old f.address m.dataset.shape.rows places (key_at (row / m.dataset.layout.chunk_rows) (column / m.dataset.layout.chunk_cols))) → IsChunkOf m.dataset m.dataset.shape.rows places row column h.place
+      → (h : HasPlace m.dataset old f.address m.dataset.shape.rows places (cell_key m.dataset row column)) → IsChunkOf m.dataset m.dataset.shape.rows places row column h.place
   chunk_of_place row column inside band h = record {
     band = band;
-    across = quotient_of column (chunks_across m.dataset) m.dataset.layout.chunk_cols sized.cols (below_up column m.dataset.shape.cols m.dataset.layout.chunk_cols sized.cols inside);
-    stands = subst (λ n. slice_get places n ≡ Some h.place) h.is_number h.found;
+    across = in_chunks column inside;
+    stands = subst (λ n. slice_get places n ≡ Some h.place) (number_is row column inside band h) h.found;
   }
 
   -- what is apart from a cell's chunk is apart from the cell
@@ -209,7 +242,7 @@ module _ (img name : List ℕ) (m : Moment) (old : Key → ℕ) (s t : Space) (f
   rows_miss_cells n low defined = go (cases_lt (row_of m n / m.dataset.layout.chunk_rows) (m.dataset.shape.rows / m.dataset.layout.chunk_rows))
     where
       key : Key
-      key = key_at (row_of m n / m.dataset.layout.chunk_rows) (column_of m n / m.dataset.layout.chunk_cols)
+      key = cell_key m.dataset (row_of m n) (column_of m n)
 
       known : old key ≢ undefined
       known e = defined (chunk_is n low ∙ e)
@@ -226,8 +259,8 @@ module _ (img name : List ℕ) (m : Moment) (old : Key → ℕ) (s t : Space) (f
       other before j q found d same =
           let together : old (touched_key m.dataset m.dataset.shape.rows j) ≡ old key = sym ((a.placed j q found).kept d) ∙ ap (λ (x : Used). x.place) same ∙ chunk_is n low in
           let one : touched_key m.dataset m.dataset.shape.rows j ≡ key = once key (touched_key m.dataset m.dataset.shape.rows j) (asked_cell (row_of m n) (column_of m n) (is_cell n low)) (number_asked j q found) known together in
-          let band : m.dataset.shape.rows / m.dataset.layout.chunk_rows + j / chunks_across m.dataset ≡ row_of m n / m.dataset.layout.chunk_rows = ap (λ (x : Key). x.i) one in
-          omega (arith, before, band)
+          let band = cell_before m.dataset m.dataset.shape.rows (row_of m n) (column_of m n) j (side (column_of m n) (is_cell n low).in_columns) one in
+          absurd (omega (arith, before, band))
 
       in_touched : (h : HasPlace m.dataset old f.address m.dataset.shape.rows places key) → m.dataset.shape.rows / m.dataset.layout.chunk_rows ≤ row_of m n / m.dataset.layout.chunk_rows → (h.place.stored ≡ true) ⊎ (h.place.stored ≡ false)
           → AllMiss f.writes (cell_place m n) m.dataset.int_type.size
@@ -237,9 +270,11 @@ module _ (img name : List ℕ) (m : Moment) (old : Key → ℕ) (s t : Space) (f
           (a.written.missed (row_of m n) (column_of m n) h.place (chunk_of_place (row_of m n) (column_of m n) (is_cell n low).in_columns band h) (inl (is_cell n low).in_rows) stored)
       in_touched h band (inr new) =
           let past = h.whole new known in
+          let own = band_is (row_of m n) (column_of m n) (is_cell n low).in_columns band h in
+          let start : m.dataset.shape.rows ≤ row_of m n / m.dataset.layout.chunk_rows * m.dataset.layout.chunk_rows = subst (λ x. m.dataset.shape.rows ≤ x * m.dataset.layout.chunk_rows) own past in
           let parts = row_is (row_of m n) m.dataset.layout.chunk_rows sized.rows in
           let inside = (is_cell n low).in_rows in
-          absurd (omega (arith, past, parts.0, inside))
+          absurd (omega (arith, start, parts.0, inside))
 
       go : (row_of m n / m.dataset.layout.chunk_rows < m.dataset.shape.rows / m.dataset.layout.chunk_rows) ⊎ (m.dataset.shape.rows / m.dataset.layout.chunk_rows ≤ row_of m n / m.dataset.layout.chunk_rows)
           → AllMiss f.writes (cell_place m n) m.dataset.int_type.size
@@ -249,8 +284,8 @@ module _ (img name : List ℕ) (m : Moment) (old : Key → ℕ) (s t : Space) (f
           (subst (λ c. Apart q.address c (chunk_of m n) (chunk_bytes m.dataset)) (sym (same_len m.dataset)) (place_off j q found u (in_behind m u among) (other before j q found))))
       go (inr band) =
           let inside = (is_cell n low).in_rows in
-          in_touched (has_place key (asked_cell (row_of m n) (column_of m n) (is_cell n low)).across band (below_up (row_of m n) f.rows m.dataset.layout.chunk_rows sized.rows (omega (arith, inside, rises)))) band
-          (cases_Bool (has_place key (asked_cell (row_of m n) (column_of m n) (is_cell n low)).across band (below_up (row_of m n) f.rows m.dataset.layout.chunk_rows sized.rows (omega (arith, inside, rises)))).place.stored)
+          let h = cell_has_place (row_of m n) (column_of m n) (omega (arith, inside, rises)) (is_cell n low).in_columns band in
+          in_touched h band (cases_Bool h.place.stored)
 
   rows_unseen : AllUnseen m f.writes
   rows_unseen = unseen_each m m.behind f.writes (rows_miss_blocks, λ u b block. rows_miss_blocks u (in_behind m u b) block, rows_miss_cells)
@@ -283,13 +318,12 @@ module _ (img name : List ℕ) (m : Moment) (old : Key → ℕ) (s t : Space) (f
 
   -- the cell of a new row is read as its value
   new_value : (n row column : ℕ) → n ≡ row * m.dataset.shape.cols + column → m.dataset.shape.rows ≤ row → row < f.rows → column < m.dataset.shape.cols
-      → cell_by (image img f.writes) m.dataset (f.address (key_at (row / m.dataset.layout.chunk_rows) (column / m.dataset.layout.chunk_cols))) row column ≡ slice_get (m.values ++ f.more) n
+      → cell_by (image img f.writes) m.dataset (f.address (cell_key m.dataset row column)) row column ≡ slice_get (m.values ++ f.more) n
   new_value n row column is low high inside =
       let cols : ℕ = m.dataset.shape.cols in
       let from : ℕ = m.dataset.shape.rows in
-      let key : Key = key_at (row / m.dataset.layout.chunk_rows) (column / m.dataset.layout.chunk_cols) in
       let band = div_grows from row m.dataset.layout.chunk_rows sized.rows low in
-      let h = has_place key (below_up column cols m.dataset.layout.chunk_cols sized.cols inside) band (below_up row f.rows m.dataset.layout.chunk_rows sized.rows high) in
+      let h = cell_has_place row column high inside band in
       let own = own_cell row column h.place low high inside (chunk_of_place row column inside band h) in
       let read = cell_there (image img f.writes) m.dataset h.place.address row column own.bytes h.defined own.there (length-cell_bytes_of own.value m.dataset.int_type own.bytes own.spelled) in
       let i : ℕ = (row - from) * cols + column in
@@ -304,11 +338,11 @@ module _ (img name : List ℕ) (m : Moment) (old : Key → ℕ) (s t : Space) (f
 
   -- the cell of a row that was there is read as before
   old_value : (n : ℕ) → n < length m.values
-      → cell_by (image img f.writes) m.dataset (f.address (key_at (row_of m n / m.dataset.layout.chunk_rows) (column_of m n / m.dataset.layout.chunk_cols))) (row_of m n) (column_of m n) ≡ slice_get m.values n
+      → cell_by (image img f.writes) m.dataset (f.address (cell_key m.dataset (row_of m n) (column_of m n))) (row_of m n) (column_of m n) ≡ slice_get m.values n
   old_value n low = go (classify key (asked_cell (row_of m n) (column_of m n) (is_cell n low)))
     where
       key : Key
-      key = key_at (row_of m n / m.dataset.layout.chunk_rows) (column_of m n / m.dataset.layout.chunk_cols)
+      key = cell_key m.dataset (row_of m n) (column_of m n)
 
       was : cell_by (image img f.writes) m.dataset (chunk_of m n) (row_of m n) (column_of m n) ≡ slice_get m.values n
       was = file_rows.cells n low
@@ -326,7 +360,7 @@ module _ (img name : List ℕ) (m : Moment) (old : Key → ℕ) (s t : Space) (f
 
       -- its band is touched, since its place has that number
       band_of : (h : HasPlace m.dataset old f.address m.dataset.shape.rows places key) → m.dataset.shape.rows / m.dataset.layout.chunk_rows ≤ row_of m n / m.dataset.layout.chunk_rows
-      band_of h = let e : m.dataset.shape.rows / m.dataset.layout.chunk_rows + h.number / chunks_across m.dataset ≡ row_of m n / m.dataset.layout.chunk_rows = ap (λ (x : Key). x.i) h.is in omega (arith, e)
+      band_of h = cell_before m.dataset m.dataset.shape.rows (row_of m n) (column_of m n) h.number (side (column_of m n) (is_cell n low).in_columns) h.is
 
       go : (f.address key ≡ old key) ⊎ (HasPlace m.dataset old f.address m.dataset.shape.rows places key × (old key ≡ undefined)) → cell_by (image img f.writes) m.dataset (f.address key) (row_of m n) (column_of m n) ≡ slice_get m.values n
       go (inl e) = ap (λ x. cell_by (image img f.writes) m.dataset x (row_of m n) (column_of m n)) (e ∙ sym (chunk_is n low)) ∙ was
@@ -348,7 +382,7 @@ module _ (img name : List ℕ) (m : Moment) (old : Key → ℕ) (s t : Space) (f
       some = let c = there.in_columns in omega (arith, c)
 
       go : (n / m.dataset.shape.cols < m.dataset.shape.rows) ⊎ (m.dataset.shape.rows ≤ n / m.dataset.shape.cols)
-          → cell_by (image img f.writes) m.dataset (f.address (key_at (n / m.dataset.shape.cols / m.dataset.layout.chunk_rows) (n % m.dataset.shape.cols / m.dataset.layout.chunk_cols))) (n / m.dataset.shape.cols) (n % m.dataset.shape.cols) ≡ slice_get (m.values ++ f.more) n
+          → cell_by (image img f.writes) m.dataset (f.address (cell_key m.dataset (n / m.dataset.shape.cols) (n % m.dataset.shape.cols))) (n / m.dataset.shape.cols) (n % m.dataset.shape.cols) ≡ slice_get (m.values ++ f.more) n
       go (inl before) =
           let was : n < length m.values = subst (λ c. n < c) (sym k.file.count) (quotient_of n m.dataset.shape.rows m.dataset.shape.cols some before) in
           old_value n was ∙ sym (first_values m.values f.more n was)
@@ -371,29 +405,32 @@ module _ (img name : List ℕ) (m : Moment) (old : Key → ℕ) (s t : Space) (f
           C : ℕ
           C = m.dataset.layout.chunk_cols
 
-          key : Key
-          key = touched_key m.dataset m.dataset.shape.rows n
+          band : ℕ
+          band = touched_band m.dataset m.dataset.shape.rows n
+
+          place : ℕ
+          place = n % chunks_across m.dataset
 
           last_row : ℕ
-          last_row = key.i * R + (R - 1)
+          last_row = band * R + (R - 1)
 
           last_column : ℕ
-          last_column = key.j * C + (C - 1)
+          last_column = place * C + (C - 1)
 
-          row_number : (last_row / R ≡ key.i) × (last_row % R ≡ R - 1)
-          row_number = number_parts key.i R (R - 1) (let some = sized.rows in omega (arith, some))
+          row_number : (last_row / R ≡ band) × (last_row % R ≡ R - 1)
+          row_number = number_parts band R (R - 1) (let some = sized.rows in omega (arith, some))
 
-          column_number : (last_column / C ≡ key.j) × (last_column % C ≡ C - 1)
-          column_number = number_parts key.j C (C - 1) (let some = sized.cols in omega (arith, some))
+          column_number : (last_column / C ≡ place) × (last_column % C ≡ C - 1)
+          column_number = number_parts place C (C - 1) (let some = sized.cols in omega (arith, some))
 
-          across : key.j < chunks_across m.dataset
-          across = (number_asked n p found).across
+          across : place < chunks_across m.dataset
+          across = (touched_parts m.dataset m.dataset.shape.rows f.rows n rises (let low = slice_get_within places n p found in let all = a.all in omega (arith, low, all))).column
 
           number : chunk_number m.dataset m.dataset.shape.rows last_row last_column ≡ n
           number =
               ap (λ x. (x - m.dataset.shape.rows / R) * chunks_across m.dataset + last_column / C) row_number.0
-              ∙ ap (λ x. (key.i - m.dataset.shape.rows / R) * chunks_across m.dataset + x) column_number.0
-              ∙ ap (λ x. x * chunks_across m.dataset + key.j) (let e : key.i - m.dataset.shape.rows / R ≡ n / chunks_across m.dataset = omega arith in e)
+              ∙ ap (λ x. (band - m.dataset.shape.rows / R) * chunks_across m.dataset + x) column_number.0
+              ∙ ap (λ x. x * chunks_across m.dataset + place) (let e : band - m.dataset.shape.rows / R ≡ n / chunks_across m.dataset = omega arith in e)
               ∙ sym (row_is n (chunks_across m.dataset) (omega (arith, across))).0
 
           is_chunk : IsChunkOf m.dataset m.dataset.shape.rows places last_row last_column p

@@ -8,7 +8,7 @@ use Rattle.h5w_model.specs.declared.cell.Key.{Key}
 use Rattle.h5w_model.specs.declared.piece.Write.{Write}
 use Rattle.h5w_visits.specs.Needed.{AreFew}
 use Rattle.h5w_chunks.specs.Grids.{FitsType, cells_of, fill_cell}
-use Rattle.h5w_chunks.specs.Shares.{touched, touched_key}
+use Rattle.h5w_chunks.specs.Shares.{touched, touched_band, touched_key}
 use Rattle.h5w_chunks.specs.Early.{RowsStand}
 use Rattle.h5w_chunks.specs.declared.grid.ChunkPlace.{ChunkPlace}
 use Rattle.h5w_space.specs.Space.{Space}
@@ -24,7 +24,7 @@ pub record IsEarlyPlace (d : Described) (old : Key → ℕ) (from k : ℕ) (p : 
   pub defined : p.address ≢ undefined
   pub kept : StaysDefined (old (touched_key d from k)) p.address
   pub stored : p.stored ≡ true → old (touched_key d from k) ≢ undefined
-  pub whole : p.stored ≡ false → old (touched_key d from k) ≢ undefined → from ≤ (touched_key d from k).i * d.layout.chunk_rows
+  pub whole : p.stored ≡ false → old (touched_key d from k) ≢ undefined → from ≤ touched_band d from k * d.layout.chunk_rows
 
 -- So many rows stand once these writes are done, in chunks that have these places.
 pub record AreEarly (img : List ℕ) (m : Moment) (old : Key → ℕ) (rows : ℕ) (more : List ℤ) (writes : List Write) (places : List ChunkPlace) : Type 0 where

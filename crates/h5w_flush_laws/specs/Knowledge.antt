@@ -4,7 +4,7 @@ use Rattle.h5w_model.specs.Numbers.{undefined}
 use Rattle.h5w_model.specs.Images.{AllMiss}
 use Rattle.h5w_model.specs.Programs.{eval}
 use Rattle.h5w_model.specs.Datasets.{Described}
-use Rattle.h5w_model.specs.Tables.{InPlace, in_place, address_behind, chunks_across}
+use Rattle.h5w_model.specs.Tables.{InPlace, in_place, address_behind, keys_across}
 use Rattle.h5w_model.specs.Findings.{Used}
 use Rattle.h5w_model.specs.declared.cell.Key.{Key}
 use Rattle.h5w_model.specs.declared.piece.Write.{Write}
@@ -16,10 +16,10 @@ use Rattle.h5w_steps.specs.Moments.{Moment, all_used, moved_of, Represents}
 use Rattle.h5w_steps.specs.Steps.{OffAll, Clear}
 use Rattle.h5w_flush_laws.specs.Spaces.{AllLive}
 
--- a key of a chunk of the dataset, one of the chunks that stand side by side
+-- a key of a chunk of the dataset, one of the keys that stand side by side
 pub record IsAsked (d : Described) (key : Key) : Type 0 where
   pub named : IsNamed d key
-  pub across : key.j < chunks_across d
+  pub across : key.j < keys_across d
 
 -- each key's address behind these blocks in place
 abbrev pub AnswersBy : List ℕ → Described → InPlace → (Key → ℕ) → Type 0

@@ -11,7 +11,7 @@ use Rattle.h5w_model.specs.declared.cell.Key.{Key}
 use Rattle.h5w_visits.specs.Ranges.{chunk_at}
 use Rattle.h5w_visits.specs.Needed.{AreFew}
 use Rattle.h5w_chunks.specs.Grids.{FitsType, cells_of, fill_cell}
-use Rattle.h5w_chunks.specs.Shares.{touched, touched_key}
+use Rattle.h5w_chunks.specs.Shares.{first_line, touched, touched_band, touched_key}
 use Rattle.h5w_chunks.specs.Rows.{ChunksApart, RowsWritten}
 use Rattle.h5w_chunks.specs.Early.{RowsStand}
 use Rattle.h5w_chunks.specs.declared.grid.ChunkPlace.{ChunkPlace}
@@ -35,11 +35,11 @@ pub record IsPlaced (d : Described) (old address : Key → ℕ) (from k : ℕ) (
   pub defined : p.address ≢ undefined
   pub kept : StaysDefined (old (touched_key d from k)) p.address
   pub stored : p.stored ≡ true → old (touched_key d from k) ≢ undefined
-  pub whole : p.stored ≡ false → old (touched_key d from k) ≢ undefined → from ≤ (touched_key d from k).i * d.layout.chunk_rows
+  pub whole : p.stored ≡ false → old (touched_key d from k) ≢ undefined → from ≤ touched_band d from k * d.layout.chunk_rows
 
 -- the bands of these rows do not have the key
 abbrev pub IsOutside : Described → ℕ → ℕ → Key → Type 0
-IsOutside d from to key = (key.i < from / d.layout.chunk_rows) ⊎ (div_up to d.layout.chunk_rows ≤ key.i)
+IsOutside d from to key = (key.i < first_line d (from / d.layout.chunk_rows)) ⊎ (first_line d (div_up to d.layout.chunk_rows) ≤ key.i)
 
 -- What a session shows of the new rows of a flush: its loop over the touched chunks places each of them (ArrayIndex::get, Places::take,
 -- `set`), and Grid::new_bytes writes them.

@@ -16,6 +16,12 @@ const GRID: [u8; 36] = [
     0xff, 0xff, 0xff, 0xff, 0xff, 0xff, 0xff, 0xff, 0xff, 0xff,
 ];
 
+/// A dataspace of 5 rows without a maximum, and of 3 columns, which are their own maximum.
+const FIXED: [u8; 36] = [
+    2, 2, 1, 1, 5, 0, 0, 0, 0, 0, 0, 0, 3, 0, 0, 0, 0, 0, 0, 0, 0xff, 0xff, 0xff, 0xff, 0xff, 0xff,
+    0xff, 0xff, 3, 0, 0, 0, 0, 0, 0, 0,
+];
+
 /// Chunks of 2 rows and 2 columns of 2 bytes, a version 2 B-tree at 204.
 const TREE: [u8; 23] = [
     4, 2, 0, 3, 1, 2, 2, 2, 5, 0, 8, 0, 0, 0x64, 0x28, 0xcc, 0, 0, 0, 0, 0, 0, 0,
@@ -29,11 +35,11 @@ fn type_of(bits: u8, size: u8) -> Result<IntType, Unsupported>
     IntType::decode(&[0x30, bits, 0, 0, size, 0, 0, 0, 0, 0, precision, 0])
 }
 
-/// The grid's shape.
-fn grid() -> Result<Shape, Unsupported>
+/// The shape of a dataspace.
+fn shape(space: &[u8]) -> Result<Shape, Unsupported>
     ensures { IfOk result (λ s. IsShape (shape_of s)) }
 {
-    Shape::decode(&GRID)
+    Shape::decode(space)
 }
 
 /// The data of a datatype message, and a byte behind them.
@@ -60,10 +66,13 @@ fn types_are_spelled(rt: HostRuntime) -> Result<(), Fail> {
 }
 
 #[test]
-fn a_grid_is_spelled(rt: HostRuntime) -> Result<(), Fail> {
-    let mut out = [0xaa; 36];
-    assert_eq!(rt; grid()?.encode(&mut out), 36);
-    assert_eq!(rt; out, GRID);
+fn grids_are_spelled(rt: HostRuntime) -> Result<(), Fail> {
+    for (space, growing) in [(GRID, true), (FIXED, false)] {
+        let shape = shape(&space)?;
+        let mut out = [0xaa; 36];
+        assert_eq!(rt; shape.encode(&mut out), 36);
+        assert_eq!(rt; (out, shape.growing), (space, growing));
+    }
     Ok(())
 }
 
@@ -135,7 +144,7 @@ fn a_fill_is_spelled(rt: HostRuntime) {
 #[test]
 #[tactic(auto, using(h5w_model::proofs::LayoutLemmas::layout_length_bound))]
 fn a_tree_is_spelled(rt: HostRuntime) -> Result<(), Fail> {
-    let (s, t) = (grid()?, type_of(8, 2)?);
+    let (s, t) = (shape(&GRID)?, type_of(8, 2)?);
     let layout = Layout::decode(&TREE, &s, &t)?;
     let mut out = [0xaa; 44];
     assert_eq!(rt; layout.encode(&s, &t, &mut out), 23);

@@ -68,14 +68,14 @@ shape_kept body s rows fits h =
               ap (λ n. n == 1) b3 ∙ t.1.1.1.1.0,
               (
                 (λ i. nat_le (4 + 16 * b1 i) (size i)) ∙ t.1.1.1.1.1.0,
-                (ap (λ n. n == unlimited) most ∙ t.1.1.1.1.1.1.0, ((λ i. (b1 i == 1) || (f28 i == unlimited)) ∙ t.1.1.1.1.1.1.1.0, tt)),
+                (ap (λ n. n == unlimited) most ∙ t.1.1.1.1.1.1.0, ((λ i. (b1 i == 1) || (f28 i == unlimited) || (f28 i == f12 i)) ∙ t.1.1.1.1.1.1.1.0, tt)),
               ),
             ),
           ),
         ),
       ),
     )
-    ∙ (λ i. Ok (record { rank = b1 i; rows = number_read body 4 rows (omega arith) fits i; cols = cond (b1 i == 1) 1 (f12 i); growing = b1 i == 2 }))
+    ∙ (λ i. Ok (record { rank = b1 i; rows = number_read body 4 rows (omega arith) fits i; cols = cond (b1 i == 1) 1 (f12 i); growing = (b1 i == 2) && (f28 i == unlimited) }))
     ∙ ap (λ (f : ShapeFields). Ok (record f { rows = rows })) c.1
 
 -- ---- The layout

@@ -57,7 +57,7 @@ described_looks name log n blocks p known limits m c =
     let table : Described → Prog (Result Reading ReadError) = λ d. and_then (needed_from limits (known_table known d) d) (told place d) in
     let few : needed d ≤ n = c.needs p m.shown m.position m.shows in
     let found : AtMost AnyOf (21 * n) (table_from addresses d (needed_keys d)) =
-    at_most_more AnyOf (21 * needed d) (21 * n) (table_from addresses d (needed_keys d)) (omega (arith, few)) (table_looks d addresses (keys_named img name place d m.steps.place m.steps.header m.steps.within)) in
+    at_most_more AnyOf (21 * needed d) (21 * n) (table_from addresses d (needed_keys d)) (omega (arith, few)) (table_looks d addresses (keys_named d m.steps.within)) in
     let within : AtMost AnyOf (21 * n) (needed_from limits addresses d) =
     cond_both (nat_lt (limit_of limits d.layout.index) (needed d)) (ret (Err (TooManyChunks (needed d) (limit_of limits d.layout.index)))) (table_from addresses d (needed_keys d))
     (λ (x : Prog (Result (List ℕ) ReadError)). AtMost AnyOf (21 * n) x) (λ t. tt) (λ t. found) in

@@ -334,8 +334,8 @@ ok_is a b h = cc
 -- a superblock that is read says where the root header stands
 pub says_root : (b : List ℕ) (s : Super) → super_of b ≡ Ok s → (super_fields b).root ≡ s.root
 says_root b s h =
-    let read = then_ok (refused_as super_refusal (super_at b)) (λ s. cond (is_swmr s.flags) (Ok s) (Err (NotSwmr s.flags))) s h in
-    let swmr = passes (is_swmr read.0.flags) (Ok read.0) (NotSwmr read.0.flags) s read.2 in
+    let read = then_ok (refused_as super_refusal (super_at b)) (λ s. cond (is_swmr s) (Ok s) (Err (NotSwmr s.flags))) s h in
+    let swmr = passes (is_swmr read.0) (Ok read.0) (NotSwmr read.0.flags) s read.2 in
     let fields = checked-passed (super_tests b) (super_fields b) read.0 (refused_ok super_refusal (super_at b) read.0 read.1) in
     ap (λ (x : Super). x.root) (fields.1 ∙ ok_is read.0 s swmr.1)
 

@@ -11,7 +11,7 @@ use Rattle.h5w_model.specs.Arrays.{EaibFields, eahd_at, eaib_at, easb_at, eadb_a
 use Rattle.h5w_model.specs.Blocks.{block_tests}
 use Rattle.h5w_model.specs.Trees.{RecordFields, ChildFields, BthdFields, BtinFields, bthd_at, bthd_tests, bthd_fields, btin_at, btin_fields, btlf_len, btin_len, capacity_of, pointer_size, node_tests, child_tests, children_in}
 use Rattle.h5w_model.specs.Datasets.{Described, then_also, refused_as}
-use Rattle.h5w_model.specs.Tables.{InPlace, nowhere, in_array, in_tree, in_place, array_in_place, tree_in_place, address_behind, array_slot, data_slot, secondary_slot, data_block, secondary_block, super_block_of_first, in_node, key_below, key_equal, tree_lookup, bands, chunks_across, needed, needed_keys}
+use Rattle.h5w_model.specs.Tables.{InPlace, nowhere, in_array, in_tree, in_place, array_in_place, tree_in_place, address_behind, array_slot, data_slot, secondary_slot, data_block, secondary_block, super_block_of_first, in_node, key_below, key_equal, tree_lookup, needed, needed_keys}
 use Rattle.h5w_model.specs.Prefixed.{IsKey}
 use Rattle.h5w_model.specs.Calls.{some_unknown, address_or, each_unknown, table_from}
 use Rattle.h5w_model.specs.declared.cell.Key.{Key}
@@ -24,6 +24,7 @@ use Rattle.h5w_model.specs.declared.refusal.ReadError.TheVariants.{Damaged}
 use Rattle.h5w_model.proofs.ArrayGeometry.{slot_place-super}
 use Rattle.h5w_model.proofs.CheckedLemmas.{AllPass, checked-passed}
 use Rattle.h5w_laws.proofs.AnswerLemmas.{result_both}
+use Rattle.h5w_laws.proofs.NumberLemmas.{needed_count}
 use Rattle.h5w_headline.proofs.CountLemmas.{AtMost, AnyOf, IsAnswered, any_answered, at_most_more, at_most_then}
 
 -- ---- The array
@@ -262,4 +263,4 @@ grid_length f across from (suc count) =
 
 pub table_looks : (d : Described) (known : List ℕ) → AllByRecursion (IsKey d.layout.index) (needed_keys d) → AtMost AnyOf (21 * needed d) (table_from known d (needed_keys d))
 table_looks d known all =
-    subst (λ n. AtMost AnyOf (21 * n) (table_from known d (needed_keys d))) (grid_length (λ row column. record { i = row; j = column }) (chunks_across d) 0 (bands d)) (keys_looks d known (needed_keys d) all)
+    subst (λ n. AtMost AnyOf (21 * n) (table_from known d (needed_keys d))) (needed_count d) (keys_looks d known (needed_keys d) all)

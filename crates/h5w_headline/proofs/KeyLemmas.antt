@@ -1,14 +1,13 @@
 -- The needed keys are keys that the index can name.
-use Rattle.std.proofs.Common.{◌≡◌, ℕ, zero, suc, ◌+◌, ◌-◌, ◌*◌, ◌/◌, ◌<◌, ◌≤◌, Bool, true, false, List, [], ◌∷◌, ◌++◌, length, map, Result, Ok, refl, sym, ◌∙◌, ap, subst, inl, inr, arith}
+use Rattle.std.proofs.Common.{◌≡◌, ℕ, zero, suc, ◌+◌, ◌*◌, ◌/◌, ◌%◌, ◌<◌, ◌≤◌, true, false, List, [], ◌∷◌, ◌++◌, length, map, Result, Ok, refl, sym, ◌∙◌, ap, subst, arith}
 use Rattle.std.specs.Prelude.{◌==◌, ◌||◌, nat_lt, slice_get, Some}
 use Rattle.std.specs.List.{AllByRecursion, range_with_len, flat_map, list_any}
-use Rattle.std.proofs.lemmas.Bool.{cond-true, cases_Bool, ltb-true, ltb-false}
+use Rattle.std.proofs.lemmas.Bool.{ltb-true, ltb-false}
 use Rattle.std.proofs.lemmas.List.FromFn.{length-map-range_with_len}
-use Rattle.h5w_model.specs.Numbers.{field}
 use Rattle.h5w_model.specs.Programs.{eval}
-use Rattle.h5w_model.specs.Messages.{byte, ShapeFields, IntTypeFields, LayoutFields, shape_tests, shape_fields, shape_at, int_type_tests, int_type_fields, int_type_at, is_int_size, chunk_size, chunk_cols_at, layout_tests, layout_fields, layout_at}
+use Rattle.h5w_model.specs.Messages.{IntTypeFields, LayoutFields, shape_at, int_type_tests, int_type_fields, int_type_at, is_int_size, chunk_size, chunk_cols_at, layout_tests, layout_fields, layout_at}
 use Rattle.h5w_model.specs.Datasets.{FoundMessage, Described, dataset, dataset_place, described, dataspace_of, or_refuse, body_of, first_of, is_shared, fill_of}
-use Rattle.h5w_model.specs.Tables.{bands, chunks_across, needed, needed_keys, limit_of, format_limits}
+use Rattle.h5w_model.specs.Tables.{chunks_across, index_key, needed, needed_keys, limit_of, format_limits}
 use Rattle.h5w_model.specs.Prefixed.{IsKey}
 use Rattle.h5w_model.specs.declared.refusal.Unsupported.{Unsupported}
 use Rattle.h5w_model.specs.declared.cell.IndexKind.{IndexKind}
@@ -16,49 +15,14 @@ use Rattle.h5w_model.specs.declared.cell.IndexKind.TheVariants.{Array, Tree}
 use Rattle.h5w_model.proofs.CheckedLemmas.{checked-passed}
 use Rattle.h5w_laws.proofs.ResultLemmas.{then_ok, fails}
 use Rattle.h5w_laws.proofs.DatasetReads.{finds_dataset}
+use Rattle.h5w_laws.proofs.ValidLemmas.{all_numbers}
 
--- ---- An array has one column
-
-kinds_differ : Tree ≡ Array → ⊥
-kinds_differ e = cc
-
--- one dimension: one column, in chunks of one
-record IsLine (s : ShapeFields) (l : LayoutFields) : Type 0 where
-  cols : s.cols ≡ 1
-  chunk : l.chunk_cols ≡ 1
-
-or_second : (x y : Bool) → (x || y) ≡ true → y ≡ false → x ≡ true
-or_second true y h g = refl
-or_second false y h g = cc
-
-line_by : (b c : List ℕ) (t : IntTypeFields) (l : LayoutFields) → (byte b 1 == 1) || (byte b 1 == 2) ≡ true → layout_fields c (shape_fields b) ≡ l → l.index ≡ Array → IsLine (shape_fields b) l
-unfolding shape_fields layout_fields
-line_by b c t l rank is array =
-    elim (cases_Bool (byte b 1 == 2)) [
-      | inl two ↦ absurd (kinds_differ (sym (cond-true (byte b 1 == 2) Tree Array two) ∙ ap (λ (x : LayoutFields). x.index) is ∙ array))
-      | inr other ↦
-          let one : (byte b 1 == 1) ≡ true = or_second (byte b 1 == 1) (byte b 1 == 2) rank other in
-          record { cols = cond-true (byte b 1 == 1) 1 (field b 12 8) one; chunk = sym (ap (λ (x : LayoutFields). x.chunk_cols) is) ∙ cond-true (byte b 1 == 1) 1 _ one }
-    ]
-
-line_of : (b c : List ℕ) (s : ShapeFields) (t : IntTypeFields) (l : LayoutFields) → shape_at b ≡ Ok s → layout_at c s t ≡ Ok l → l.index ≡ Array → IsLine s l
-unfolding shape_at layout_at shape_tests
-line_of b c s t l h g array =
-    let shape = checked-passed (shape_tests b) (shape_fields b) s h in
-    let layout = checked-passed (layout_tests c s t) (layout_fields c s) l g in
-    let rank : (byte b 1 == 1) || (byte b 1 == 2) ≡ true = shape.0.1.1.0 in
-    let is : layout_fields c (shape_fields b) ≡ l = ap (layout_fields c) shape.1 ∙ layout.1 in
-    subst (λ (x : ShapeFields). IsLine x l) shape.1 (line_by b c t l rank is array)
-
-one_across : (cols chunk : ℕ) → cols ≡ 1 → chunk ≡ 1 → (cols + chunk - 1) / chunk ≡ 1
-one_across cols chunk h g = ap (λ n. (n + chunk - 1) / chunk) h ∙ ap (λ n. (1 + n - 1) / n) g
+-- ---- What is described
 
 -- the data of its messages that say what a dataset is
 record DescribedBy (d : Described) : Type 0 where
-  space : List ℕ
   datatype : List ℕ
   layout : List ℕ
-  shape : shape_at space ≡ Ok d.shape
   int_type : int_type_at datatype ≡ Ok d.int_type
   laid : layout_at layout d.shape d.int_type ≡ Ok d.layout
 
@@ -77,16 +41,10 @@ described_by ms d h =
     let f = then_ok (fill_of ms t.0) _ d t.2 in
     let l = then_ok (layout_at layout.0 s.0 t.0) _ d f.2 in
     subst (λ (x : Described). DescribedBy x) (ok_described (record { shape = s.0; int_type = t.0; fill = f.0; layout = l.0 }) d l.2)
-    (record { space = space.0; datatype = datatype.0; layout = layout.0; shape = s.1; int_type = t.1; laid = l.1 })
+    (record { datatype = datatype.0; layout = layout.0; int_type = t.1; laid = l.1 })
 
 shown_by : (img name : List ℕ) (place : ℕ) (d : Described) → eval img (dataset_place name) ≡ Ok place → eval img (dataset place) ≡ Ok d → DescribedBy d
 shown_by img name place d h g = let has = (finds_dataset img name place d).0 (h, g) in described_by has.messages d has.says
-
-pub line_shown : (img name : List ℕ) (place : ℕ) (d : Described) → eval img (dataset_place name) ≡ Ok place → eval img (dataset place) ≡ Ok d → d.layout.index ≡ Array → chunks_across d ≡ 1
-line_shown img name place d h g array =
-    let by = shown_by img name place d h g in
-    let line = line_of by.space by.layout d.shape d.int_type d.layout by.shape by.laid array in
-    one_across d.shape.cols d.layout.chunk_cols line.cols line.chunk
 
 -- a chunk has rows and columns, and a value the size of an integer
 pub record Sound (d : Described) : Type 0 where
@@ -108,7 +66,7 @@ sound_by d by =
 pub sound_shown : (img name : List ℕ) (place : ℕ) (d : Described) → eval img (dataset_place name) ≡ Ok place → eval img (dataset place) ≡ Ok d → Sound d
 sound_shown img name place d h g = sound_by d (shown_by img name place d h g)
 
--- ---- The grid of needed chunks
+-- ---- A grid of chunks
 
 all_joined : {X : Type 0} (P : X → Type 0) (xs ys : List X) → AllByRecursion P xs → AllByRecursion P ys → AllByRecursion P (xs ++ ys)
 all_joined P [] ys h g = g
@@ -162,16 +120,14 @@ grid_get f across from (suc count) (suc t) j h g =
     step : (across t j n : ℕ) → n ≡ across → suc t * across + j ≡ n + (t * across + j)
     step across t j n e = let m : (t + 1) * across + j ≡ across + (t * across + j) = omega arith in ap (λ x. x * across + j) (let o : suc t ≡ t + 1 = omega arith in o) ∙ m ∙ ap (λ x. x + (t * across + j)) (sym e)
 
-key_named : (kind : IndexKind) (n across i j : ℕ) → n * across ≤ limit_of format_limits kind → (kind ≡ Array → across ≡ 1) → i < n → j < across → IsKey kind (record { i = i; j = j })
-key_named Array n across i j few line low column =
-    let one : across ≡ 1 = line refl in
-    let all : n * across ≡ n = ap (λ m. n * m) one ∙ (let e : n * 1 ≡ n = omega arith in e) in
-    (omega arith, omega arith)
-key_named Tree n across i j few line low column = tt
+-- ---- The needed keys
 
-pub keys_named : (img name : List ℕ) (place : ℕ) (d : Described) → eval img (dataset_place name) ≡ Ok place → eval img (dataset place) ≡ Ok d
-    → nat_lt (limit_of format_limits d.layout.index) (needed d) ≡ false → AllByRecursion (IsKey d.layout.index) (needed_keys d)
-keys_named img name place d h g within =
-    let few : bands d * chunks_across d ≤ limit_of format_limits d.layout.index = ltb-false (limit_of format_limits d.layout.index) (needed d) within in
-    grid_all (IsKey d.layout.index) (λ row column. record { i = row; j = column }) (chunks_across d) 0 (bands d) 0 (bands d) (omega arith) (omega arith)
-    (λ i j begins low column. key_named d.layout.index (bands d) (chunks_across d) i j few (line_shown img name place d h g) low column)
+key_named : (kind : IndexKind) (across n most : ℕ) → n < most → most ≤ limit_of format_limits kind
+    → IsKey kind (record { i = n / (elim kind as (λ _. ℕ) [ Array ↦ 1 | Tree ↦ across ]); j = n % (elim kind as (λ _. ℕ) [ Array ↦ 1 | Tree ↦ across ]) })
+key_named Array across n most low few = (omega arith, omega arith)
+key_named Tree across n most low few = tt
+
+pub keys_named : (d : Described) → nat_lt (limit_of format_limits d.layout.index) (needed d) ≡ false → AllByRecursion (IsKey d.layout.index) (needed_keys d)
+keys_named d within =
+    let few : needed d ≤ limit_of format_limits d.layout.index = ltb-false (limit_of format_limits d.layout.index) (needed d) within in
+    all_numbers (IsKey d.layout.index) (index_key d) (needed d) 0 (needed d) (λ n low. key_named d.layout.index (chunks_across d) n (needed d) low few) (omega arith)

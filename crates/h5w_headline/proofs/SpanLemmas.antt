@@ -238,7 +238,7 @@ table_taken name log p q cap s known ts a are call until takes =
     let is : eval (image_at log u) (table_of d (needed_keys d)) ≡ Ok i.here.shown.table =
     subst (λ (x : Described). eval (image_at log u) (table_of x (needed_keys x)) ≡ Ok i.here.shown.table) i.same i.here.steps.table in
     gives_known (image_at log u) d known (needed_keys d) (table_known (image_at log u) d known i.here.shown.table (needed_keys d) is (are u i)) ∙ is) in
-    let t = keys_taken name log p q cap s.first.shown.place s known (needed_keys d) ts a (keys_named (image_at log p) name s.first.shown.place d steps.place steps.header steps.within)
+    let t = keys_taken name log p q cap s.first.shown.place s known (needed_keys d) ts a (keys_named d steps.within)
     (λ u low high. let i = inside name log p q u s low high in (i.here.shown.table, shown u i)) call until takes in
     let i = inside name log p q t.at s t.low t.high in
     let same : t.table ≡ i.here.shown.table = same_table (eval (image_at log t.at) (table_from known d (needed_keys d))) t.table i.here.shown.table t.is (shown t.at i) in

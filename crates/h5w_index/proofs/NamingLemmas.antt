@@ -14,7 +14,7 @@ use Rattle.h5w_space.specs.Space.{Space, extent}
 use Rattle.h5w_space.specs.declared.Extent.{Extent}
 use Rattle.h5w_cache.specs.Plans.{Took}
 use Rattle.h5w_chunks.specs.Grids.{chunk_len}
-use Rattle.h5w_chunks.specs.Shares.{touched, touched_key}
+use Rattle.h5w_chunks.specs.Shares.{touched, touched_band, touched_key}
 use Rattle.h5w_chunks.specs.declared.grid.ChunkPlace.{ChunkPlace}
 use Rattle.h5w_array_laws.specs.Among.{AreAmong}
 use Rattle.h5w_array_laws.proofs.AmongLemmas.{part_itself, part_joined, part_onward}
@@ -182,7 +182,7 @@ named_before d to v w chunks added fits x = x.others (next_key d chunks) (λ k l
 
 -- The next chunk has an address.
 module _ (d : Described) (to : ℕ) (v w : IndexView) (chunks : List ChunkPlace) (added : List Key) (p : ChunkPlace) (fits : Fits d v) (named : address_in w (next_key d chunks) ≡ p.address) (defined : p.address ≢ undefined)
-    (whole : p.stored ≡ false → d.shape.rows ≤ (next_key d chunks).i * d.layout.chunk_rows) (looked : IsReached w (next_key d chunks)) (x : AreNamed d to v chunks added w) where
+    (whole : p.stored ≡ false → d.shape.rows ≤ touched_band d d.shape.rows (length chunks) * d.layout.chunk_rows) (looked : IsReached w (next_key d chunks)) (x : AreNamed d to v chunks added w) where
   before_there : address_in v (next_key d chunks) ≡ p.address
   before_there = sym (named_before d to v w chunks added fits x) ∙ named
 

@@ -1,5 +1,5 @@
 -- Chunks that may have got an address: what each call of the index does to that.
-use Rattle.std.proofs.Common.{◌≡◌, ◌≢◌, ◌⊎◌, ℕ, zero, suc, ◌+◌, ◌/◌, Bool, true, false, List, [], ◌∷◌, ◌++◌, length, Option, Some, None, refl, sym, ap, ◌∙◌, inl, inr, arith, eq-eqb}
+use Rattle.std.proofs.Common.{◌≡◌, ◌≢◌, ◌⊎◌, ℕ, zero, suc, ◌+◌, ◌*◌, ◌/◌, Bool, true, false, List, [], ◌∷◌, ◌++◌, length, Option, Some, None, refl, sym, ap, ◌∙◌, inl, inr, arith, eq-eqb}
 use Rattle.std.specs.List.{All, slice_get}
 use Rattle.std.proofs.lemmas.Bool.{cases_Bool, cond-false, cond-true, eqb-true, ne_eqb}
 use Rattle.std.proofs.lemmas.List.Elements.{All-cons, All-head, All-nil, All-push, All-tail, All-weaker}
@@ -11,11 +11,11 @@ use Rattle.h5w_model.specs.declared.piece.Write.{Write}
 use Rattle.h5w_space.specs.Space.{Space}
 use Rattle.h5w_cache.specs.declared.moves.Move.{Move}
 use Rattle.h5w_chunks.specs.Shares.{touched_key}
+use Rattle.h5w_chunks.proofs.KeyLemmas.{array_key, touched_once}
 use Rattle.h5w_array_laws.specs.ArrayStores as arrays
 use Rattle.h5w_array_laws.proofs.NumberedLemmas.{plans_numbers}
 use Rattle.h5w_bt_index.specs.Index.{address_of}
 use Rattle.h5w_bt_index.proofs.Keys.{equal-is, equal-self}
-use Rattle.h5w_flush_laws.proofs.NewChunkLemmas.{one_number}
 use Rattle.h5w_index.specs.Views.{IndexView, an_array, a_tree, HasSlot, IsReached, IsSound, address_in, is_key}
 use Rattle.h5w_index.specs.Steps.{IsHeld, IsPlan, IsSet, IsUnset}
 use Rattle.h5w_index.specs.Told.{IsLike}
@@ -64,21 +64,19 @@ not_true : (b : Bool) → (b ≡ true → ⊥) → b ≡ false
 not_true true h = absurd (h refl)
 not_true false h = refl
 
-by_one : (k a : ℕ) → a ≡ 1 → k / a ≡ k
-by_one k a e = ap (λ n. k / n) e ∙ omega arith
-
 -- two touched chunks are not one to the index
 pub apart_keys : (d : Described) (v : IndexView) (from j k : ℕ) → Fits d v → j ≢ k → is_key v (touched_key d from j) (touched_key d from k) ≡ false
-apart_keys d (an_array v) from j k one ne =
-    let first : from / d.layout.chunk_rows + k / chunks_across d ≡ from / d.layout.chunk_rows + k = ap (λ n. from / d.layout.chunk_rows + n) (by_one k (chunks_across d) one) in
-    let second : from / d.layout.chunk_rows + j / chunks_across d ≡ from / d.layout.chunk_rows + j = ap (λ n. from / d.layout.chunk_rows + n) (by_one j (chunks_across d) one) in
+apart_keys d (an_array v) from j k fits ne =
+    let base : ℕ = from / d.layout.chunk_rows * chunks_across d in
+    let first : (touched_key d from j).i ≡ base + j = ap (λ (key : Key). key.i) (array_key d (base + j) fits.kind) in
+    let second : (touched_key d from k).i ≡ base + k = ap (λ (key : Key). key.i) (array_key d (base + k) fits.kind) in
     ne_eqb (touched_key d from k).i (touched_key d from j).i (λ e. ne (omega (arith, e, first, second)))
-apart_keys d (a_tree p v) from j k some ne = not_true (key_equal (touched_key d from j) (touched_key d from k)) (λ e. ne (one_number d from j k some (equal-is (touched_key d from j) (touched_key d from k) e)))
+apart_keys d (a_tree p v) from j k fits ne = not_true (key_equal (touched_key d from j) (touched_key d from k)) (λ e. ne (touched_once d from j k fits.some (equal-is (touched_key d from j) (touched_key d from k) e)))
 
--- keys of two bands are not one
-pub bands_apart : (v : IndexView) (key other : Key) → key.i ≢ other.i → is_key v key other ≡ false
-bands_apart (an_array v) key other ne = ne_eqb other.i key.i (λ e. ne (sym e))
-bands_apart (a_tree p v) key other ne = not_true (key_equal key other) (λ e. ne (ap (λ (k : Key). k.i) (equal-is key other e)))
+-- keys of two lines are not one
+pub lines_apart : (v : IndexView) (key other : Key) → key.i ≢ other.i → is_key v key other ≡ false
+lines_apart (an_array v) key other ne = ne_eqb other.i key.i (λ e. ne (sym e))
+lines_apart (a_tree p v) key other ne = not_true (key_equal key other) (λ e. ne (ap (λ (k : Key). k.i) (equal-is key other e)))
 
 -- ---- An index that was made here
 

@@ -7,7 +7,6 @@ use Rattle.std.proofs.Math.Nat.{div-mul-le_self, div-zero}
 use Rattle.std.proofs.lemmas.List.Elements.{All-nil}
 use Rattle.h5w_model.specs.Numbers.{undefined}
 use Rattle.h5w_model.specs.Datasets.{Described}
-use Rattle.h5w_model.specs.Tables.{chunks_across}
 use Rattle.h5w_model.specs.Findings.{chunk_bytes}
 use Rattle.h5w_model.specs.declared.cell.Key.{Key}
 use Rattle.h5w_model.specs.declared.piece.Write.{Write}
@@ -16,23 +15,20 @@ use Rattle.h5w_space.specs.declared.Full.{Full}
 use Rattle.h5w_cache.specs.Plans.{Took}
 use Rattle.h5w_cache.specs.declared.moves.Move.{Move}
 use Rattle.h5w_chunks.specs.Grids.{chunk_len}
-use Rattle.h5w_chunks.specs.Shares.{touched, touched_key}
+use Rattle.h5w_chunks.specs.Shares.{first_line, touched, touched_band, touched_key}
+use Rattle.h5w_chunks.proofs.KeyLemmas.{first_line_grows, touched_lines, touched_low}
 use Rattle.h5w_chunks.specs.declared.grid.ChunkPlace.{ChunkPlace}
 use Rattle.h5w_header_laws.specs.Files.{with_rows}
-use Rattle.h5w_flush_laws.proofs.NewChunkLemmas.{same_len, touched_parts}
-use Rattle.h5w_index.specs.Views.{IndexView, an_array, a_tree, HasSlot, IsReached, IsSound, address_in, is_key}
+use Rattle.h5w_flush_laws.proofs.NewChunkLemmas.{same_len}
+use Rattle.h5w_index.specs.Views.{IndexView, HasSlot, IsReached, IsSound, address_in, is_key}
 use Rattle.h5w_index.specs.Steps.{IsHeld, IsPlan, IsSet}
 use Rattle.h5w_index.specs.Told.{SameMap}
 use Rattle.h5w_index.specs.Marks.{IsMarked, IsRaised, IsTouched}
 use Rattle.h5w_index.specs.Placing.{AllPlaced, AreInside, Fits, FullPartBound, IsFullPart, IsPlacing, PlacingLaws, most_of, next_key}
 use Rattle.h5w_index.proofs.MarkLemmas.{full_bounds, plan_bounds}
 use Rattle.h5w_index.proofs.NamingLemmas.{named_before, named_held, named_new, named_none, named_of, named_stored, placing, taken_new, taken_none, taken_of, taken_stored}
-use Rattle.h5w_index.proofs.PartlyLemmas.{bands_apart, partly_held, partly_unset, same_address}
+use Rattle.h5w_index.proofs.PartlyLemmas.{lines_apart, partly_held, partly_unset, same_address}
 use Rattle.h5w_index.proofs.RaisedLemmas.{raised_more, raised_on}
-
-pub some_fits : (d : Described) (v : IndexView) → Fits d v → 0 < chunks_across d
-some_fits d (an_array v) e = omega (arith, e)
-some_fits d (a_tree p v) some = some
 
 div_grows : (a b n : ℕ) → a ≤ b → a / n ≤ b / n
 div_grows a b zero less = omega (arith, div-zero a, div-zero b)
@@ -46,12 +42,12 @@ placing_none d to v s t is end free retired limit =
 
 -- The next chunk has its place already.
 placing_stored : (d : Described) (to : ℕ) (v w : IndexView) (s t : Space) (chunks : List ChunkPlace) (added : List Key) (p : ChunkPlace) → Fits d v → address_in w (next_key d chunks) ≡ p.address → p.address ≢ undefined
-    → (p.stored ≡ false → d.shape.rows ≤ (next_key d chunks).i * d.layout.chunk_rows) → IsReached w (next_key d chunks) → AreInside d s.end v → IsPlacing d to v s chunks added w t → IsPlacing d to v s (chunks ++ p ∷ []) added w t
+    → (p.stored ≡ false → d.shape.rows ≤ touched_band d d.shape.rows (length chunks) * d.layout.chunk_rows) → IsReached w (next_key d chunks) → AreInside d s.end v → IsPlacing d to v s chunks added w t → IsPlacing d to v s (chunks ++ p ∷ []) added w t
 placing_stored d to v w s t chunks added p fits is defined whole looked within x =
     let n = named_of d to v w s t chunks added x in
     let before : address_in v (next_key d chunks) ≡ p.address = sym (named_before d to v w chunks added fits n) ∙ is in
     let there : address_in v (next_key d chunks) ≢ undefined = λ e. defined (sym before ∙ e) in
-    let own = within (next_key d chunks) (omega arith) there in
+    let own = within (next_key d chunks) (touched_low d d.shape.rows (length chunks) fits.some) there in
     placing d to v w s t (chunks ++ p ∷ []) added (named_stored d to v w chunks added p fits is defined whole looked n)
     (taken_stored d (address_in v) s t chunks p there (omega (arith, own, before, x.raised.rises)) (taken_of d to v w s t chunks added x))
 
@@ -75,10 +71,10 @@ all_placed : (d : Described) (to : ℕ) (v w : IndexView) (s t : Space) (chunks 
 all_placed d to v w s t chunks added fits all rises x = record {
   like = x.partly.like;
   others = λ key outside. x.others key (λ k low.
-      let band = (touched_parts d d.shape.rows to k rises (omega (arith, low, all))).band in
-      bands_apart v (touched_key d d.shape.rows k) key (λ e. elim outside [
-        | inl before ↦ absurd (omega (arith, before, e))
-        | inr behind ↦ absurd (omega (arith, behind, e, band))
+      let lines = touched_lines d d.shape.rows to k (omega (arith, low, all)) in
+      lines_apart v (touched_key d d.shape.rows k) key (λ e. elim outside [
+        | inl before ↦ absurd (omega (arith, before, e, lines.low))
+        | inr behind ↦ absurd (omega (arith, behind, e, lines.high))
       ]));
 }
 
@@ -123,7 +119,7 @@ module _ (d : Described) (to : ℕ) (v w : IndexView) (s t : Space) (chunks : Li
       let named : address_in w key ≡ (p.0).address = same_address w first key (x.partly.like.one first key ∙ o.same) ∙ (x.placed o.number p.0 p.1).named in
       omega (arith, named, x.inside o.number p.0 p.1)
 
-  none_inside : (key : Key) → IsNoneOf d v (length chunks) key → d.shape.rows / d.layout.chunk_rows ≤ key.i → address_in w key ≢ undefined → address_in w key + chunk_len d ≤ t.end
+  none_inside : (key : Key) → IsNoneOf d v (length chunks) key → first_line d (d.shape.rows / d.layout.chunk_rows) ≤ key.i → address_in w key ≢ undefined → address_in w key + chunk_len d ≤ t.end
   unfolding IsNoneOf
   none_inside key none from there =
       let same : address_in w key ≡ address_in v key = x.others key none in
@@ -134,7 +130,9 @@ module _ (d : Described) (to : ℕ) (v w : IndexView) (s t : Space) (chunks : Li
   placed_inside key from there =
       elim (one_or_none d v (length chunks) key) [
         | inl o ↦ one_inside key o
-        | inr none ↦ none_inside key none (omega (arith, from, div_grows d.shape.rows to d.layout.chunk_rows rises)) there
+        | inr none ↦
+            let grows = first_line_grows d (d.shape.rows / d.layout.chunk_rows) (to / d.layout.chunk_rows) (div_grows d.shape.rows to d.layout.chunk_rows rises) in
+            none_inside key none (omega (arith, from, grows)) there
       ]
 
 carried_inside : (d : Described) (end later : ℕ) (v w : IndexView) → SameMap v w → end ≤ later → AreInside d end v → AreInside d later w

@@ -9,7 +9,7 @@ use Rattle.h5w_space.specs.Space.{Space, extent}
 use Rattle.h5w_space.specs.declared.Extent.{Extent}
 use Rattle.h5w_cache.specs.Plans.{Took}
 use Rattle.h5w_chunks.specs.Grids.{chunk_len}
-use Rattle.h5w_chunks.specs.Shares.{touched, touched_key}
+use Rattle.h5w_chunks.specs.Shares.{touched, touched_band, touched_key}
 use Rattle.h5w_chunks.specs.declared.grid.ChunkPlace.{ChunkPlace}
 use Rattle.h5w_array_laws.specs.Among.{AreAmong}
 use Rattle.h5w_flush_laws.specs.Spaces.{Taken}
@@ -55,7 +55,7 @@ pub record NamingLaws : Type 0 where
   pub named_none : (d : Described) (to : ℕ) (v : IndexView) → IsSound v → AreNamed d to v [] [] v
   -- the next is named already, and readers look for it
   pub named_stored : (d : Described) (to : ℕ) (v w : IndexView) (chunks : List ChunkPlace) (added : List Key) (p : ChunkPlace) → Fits d v → address_in w (next_key d chunks) ≡ p.address → p.address ≢ undefined
-      → (p.stored ≡ false → d.shape.rows ≤ (next_key d chunks).i * d.layout.chunk_rows) → IsReached w (next_key d chunks) → AreNamed d to v chunks added w → AreNamed d to v (chunks ++ p ∷ []) added w
+      → (p.stored ≡ false → d.shape.rows ≤ touched_band d d.shape.rows (length chunks) * d.layout.chunk_rows) → IsReached w (next_key d chunks) → AreNamed d to v chunks added w → AreNamed d to v (chunks ++ p ∷ []) added w
   -- the next is not: a place is held for it in the index, which names it
   pub named_new : (d : Described) (to : ℕ) (v w h u : IndexView) (chunks : List ChunkPlace) (added : List Key) (p : ChunkPlace) → Fits d v → length chunks < touched d d.shape.rows to
       → address_in w (next_key d chunks) ≡ undefined → p.stored ≡ false → p.address ≢ undefined → IsHeld (next_key d chunks) w h → HasSlot h (next_key d chunks)

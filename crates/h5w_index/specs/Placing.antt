@@ -14,7 +14,7 @@ use Rattle.h5w_cache.specs.Plans.{Chain, IsRefused, Took}
 use Rattle.h5w_cache.specs.Stores.{Store}
 use Rattle.h5w_cache.specs.declared.moves.Move.{Move}
 use Rattle.h5w_chunks.specs.Grids.{chunk_len}
-use Rattle.h5w_chunks.specs.Shares.{touched, touched_key}
+use Rattle.h5w_chunks.specs.Shares.{first_line, touched, touched_band, touched_key}
 use Rattle.h5w_chunks.specs.declared.grid.ChunkPlace.{ChunkPlace}
 use Rattle.h5w_array_laws.specs.Among.{AreAmong}
 use Rattle.h5w_array_laws.specs.ArrayStores.{IsHeaded, IsNumbered}
@@ -24,20 +24,20 @@ use Rattle.h5w_array_flushes.specs.ArrayFlushes.{chunks_for}
 use Rattle.h5w_flush_laws.specs.Parts.{block_writes}
 use Rattle.h5w_flush_laws.specs.Spaces.{Taken}
 use Rattle.h5w_flush_laws.specs.Rows.{IsOutside, IsPlaced, new_chunks}
-use Rattle.h5w_index.specs.Views.{IndexView, an_array, a_tree, HasSlot, IsReached, IsSound, KeepsReach, address_in, behind_of, is_key}
+use Rattle.h5w_index.specs.Views.{IndexView, an_array, a_tree, HasSlot, IsReached, IsSound, KeepsReach, address_in, behind_of, is_key, kind_of}
 use Rattle.h5w_index.specs.Steps.{HasNoPlace, IsHeld, IsPlan, IsSet, IsUnset}
 use Rattle.h5w_index.specs.Told.{HeldTold, IsLike, SameMap}
 use Rattle.h5w_index.specs.Flushes.{AreCopies, IsIndexPart, Rests}
 use Rattle.h5w_index.specs.Marks.{IsMarked, IsRaised, IsTouched}
 
--- an array is of chunks that do not stand side by side
-abbrev pub Fits : Described → IndexView → Type 0
-Fits d (an_array v) = chunks_across d ≡ 1
-Fits d (a_tree place v) = 0 < chunks_across d
+-- it is of the dataset's kind, and the dataset has columns
+pub record Fits (d : Described) (v : IndexView) : Type 0 where
+  pub kind : d.layout.index ≡ kind_of v
+  pub some : 0 < chunks_across d
 
 -- each chunk that has an address, of those from the band of the next row on, ends by a place
 abbrev pub AreInside : Described → ℕ → IndexView → Type 0
-AreInside d end v = (key : Key) → d.shape.rows / d.layout.chunk_rows ≤ key.i → address_in v key ≢ undefined → address_in v key + chunk_len d ≤ end
+AreInside d end v = (key : Key) → first_line d (d.shape.rows / d.layout.chunk_rows) ≤ key.i → address_in v key ≢ undefined → address_in v key + chunk_len d ≤ end
 
 -- an array's blocks name its header and their first slots, and the header's six numbers are true
 pub record IsOwnArray (v : Store) : Type 0 where
@@ -143,7 +143,7 @@ pub record PlacingLaws : Type 0 where
   pub none : (d : Described) (to : ℕ) (v : IndexView) (s t : Space) → IsSound v → t.end ≡ s.end → t.free ≡ s.free → t.retired ≡ s.retired → t.limit ≡ s.limit → IsPlacing d to v s [] [] v t
   -- the next has its place already, and readers look for it
   pub stored : (d : Described) (to : ℕ) (v w : IndexView) (s t : Space) (chunks : List ChunkPlace) (added : List Key) (p : ChunkPlace) → Fits d v → address_in w (next_key d chunks) ≡ p.address → p.address ≢ undefined
-      → (p.stored ≡ false → d.shape.rows ≤ (next_key d chunks).i * d.layout.chunk_rows) → IsReached w (next_key d chunks) → AreInside d s.end v → IsPlacing d to v s chunks added w t → IsPlacing d to v s (chunks ++ p ∷ []) added w t
+      → (p.stored ≡ false → d.shape.rows ≤ touched_band d d.shape.rows (length chunks) * d.layout.chunk_rows) → IsReached w (next_key d chunks) → AreInside d s.end v → IsPlacing d to v s chunks added w t → IsPlacing d to v s (chunks ++ p ∷ []) added w t
   -- a place is held for one of the chunks, and nothing else
   pub holds : (d : Described) (to : ℕ) (key : Key) (v w u : IndexView) (s t : Space) (chunks : List ChunkPlace) (added : List Key) → IsTouched d d.shape.rows to key → IsHeld key w u → IsPlacing d to v s chunks added w t
       → IsPlacing d to v s chunks added u t

@@ -221,24 +221,24 @@ small_reads img place ms h small =
 
 -- ---- The dataset
 
--- what the superblock says, open for writing and for SWMR writing, or for neither
-pub super_found : (img : List ℕ) (s : Super) → eval img superblock ≡ Ok s → (super_at (range img 0 48) ≡ Ok s) × (is_swmr (s.flags) ≡ true)
+-- what the superblock says, of version 2, or open for writing and for SWMR writing, or for neither
+pub super_found : (img : List ℕ) (s : Super) → eval img superblock ≡ Ok s → (super_at (range img 0 48) ≡ Ok s) × (is_swmr s ≡ true)
 super_found img s e =
     let r = then_ok (refused_as super_refusal (super_at (range img 0 48))) swmr s e in
-    let t = passes (is_swmr (r.0.flags)) (of_super r.0) (read_errors.NotSwmr (r.0.flags)) s r.2 in
+    let t = passes (is_swmr r.0) (of_super r.0) (read_errors.NotSwmr (r.0.flags)) s r.2 in
     let same = one_super r.0 s t.1 in
-    subst (λ (q : Super). (super_at (range img 0 48) ≡ Ok q) × (is_swmr (q.flags) ≡ true)) same (refused_ok super_refusal (super_at (range img 0 48)) r.0 r.1, t.0)
+    subst (λ (q : Super). (super_at (range img 0 48) ≡ Ok q) × (is_swmr q ≡ true)) same (refused_ok super_refusal (super_at (range img 0 48)) r.0 r.1, t.0)
   where
     of_super : Super → Result Super ReadError
     of_super q = Ok q
 
     swmr : Super → Result Super ReadError
-    swmr q = cond (is_swmr (q.flags)) (Ok q) (Err (read_errors.NotSwmr (q.flags)))
+    swmr q = cond (is_swmr q) (Ok q) (Err (read_errors.NotSwmr (q.flags)))
 
     one_super : (p q : Super) → of_super p ≡ of_super q → p ≡ q
     one_super p q h = cc
 
-pub super_reads : (img : List ℕ) (s : Super) → super_at (range img 0 48) ≡ Ok s → is_swmr (s.flags) ≡ true → eval img superblock ≡ Ok s
+pub super_reads : (img : List ℕ) (s : Super) → super_at (range img 0 48) ≡ Ok s → is_swmr s ≡ true → eval img superblock ≡ Ok s
 super_reads img s e f =
     then_from (refused_as super_refusal (super_at (range img 0 48))) swmr s s (refused_from super_refusal (super_at (range img 0 48)) s e)
     (ap (λ (t : Bool). of_test t) f)
@@ -247,7 +247,7 @@ super_reads img s e f =
     of_test t = cond t (Ok s) (Err (read_errors.NotSwmr (s.flags)))
 
     swmr : Super → Result Super ReadError
-    swmr q = cond (is_swmr (q.flags)) (Ok q) (Err (read_errors.NotSwmr (q.flags)))
+    swmr q = cond (is_swmr q) (Ok q) (Err (read_errors.NotSwmr (q.flags)))
 
 -- what the messages say, by a reader
 pub says_of : HeaderFields → Prog (Result Described ReadError)

@@ -15,7 +15,7 @@ use Rattle.h5w_model.specs.Relations.{IndexChunk, HasChunk, PlacedChunk, HasChun
 use Rattle.h5w_model.specs.declared.cell.Key.{Key}
 use Rattle.h5w_model.specs.declared.cell.IndexKind.{IndexKind}
 use Rattle.h5w_model.specs.declared.cell.IndexKind.TheVariants.{Array, Tree}
-use Rattle.h5w_laws.specs.ChunkNumbers.{placed_key, NumbersChunks, HasKeys, PlacesChunks}
+use Rattle.h5w_laws.specs.ChunkNumbers.{grid_places, placed_key, NumbersChunks, HasKeys, PlacesChunks}
 
 -- the key of a number where so many stand side by side
 abbrev key_by : ℕ → ℕ → Key
@@ -43,40 +43,58 @@ key_at row across column h =
     let b : i % across ≡ column = mod-mul-add row across column h in
     ap (λ x. let k : Key = record { i = x; j = i % across } in k) a ∙ ap (λ x. let k : Key = record { i = row; j = x } in k) b
 
-row_is : (row across from n : ℕ) → from + n ≤ across → map (λ column. let k : Key = record { i = row; j = column } in k) (range_with_len from n) ≡ keys_from across (row * across + from) n
-row_is row across from zero h = refl
-row_is row across from (suc n) h =
+-- how many keys stand side by side, by the kind of index
+abbrev across_of : IndexKind → ℕ → ℕ
+across_of kind across = elim kind as (λ _. ℕ) [ Array ↦ 1 | Tree ↦ across ]
+
+-- the key of a number is that of its place
+key_is : (kind : IndexKind) (across i j : ℕ) → j < across → key_by (across_of kind across) (i * across + j) ≡ placed_key kind (i * across + j) i j
+key_is Array across i j low =
+    let n : ℕ = i * across + j in
+    let a : n / 1 ≡ n = omega arith in
+    let b : n % 1 ≡ 0 = omega arith in
+    ap (λ x. let k : Key = record { i = x; j = n % 1 } in k) a ∙ ap (λ x. let k : Key = record { i = n; j = x } in k) b
+key_is Tree across i j low = key_at i across j low
+
+-- the keys of some places in the grid
+abbrev placed : IndexKind → ℕ → List Key → List Key
+placed kind across ks = map (λ (k : Key). placed_key kind (k.i * across + k.j) k.i k.j) ks
+
+abbrev places_in : ℕ → ℕ → ℕ → List Key
+places_in row from n = map (λ column. record { i = row; j = column }) (range_with_len from n)
+
+row_is : (kind : IndexKind) (across row from n : ℕ) → from + n ≤ across → placed kind across (places_in row from n) ≡ keys_from (across_of kind across) (row * across + from) n
+row_is kind across row from zero h = refl
+row_is kind across row from (suc n) h =
     let less : from < across = omega arith in
     let next : row * across + (from + 1) ≡ row * across + from + 1 = omega arith in
-    ap (λ (k : Key). k ∷ map (λ column. let x : Key = record { i = row; j = column } in x) (range_with_len (from + 1) n)) (sym (key_at row across from less))
-    ∙ ap (λ (ks : List Key). key_by across (row * across + from) ∷ ks) (row_is row across (from + 1) n (omega arith) ∙ ap (λ k. keys_from across k n) next)
+    ap (λ (k : Key). k ∷ placed kind across (places_in row (from + 1) n)) (sym (key_is kind across row from less))
+    ∙ ap (λ (ks : List Key). key_by (across_of kind across) (row * across + from) ∷ ks) (row_is kind across row (from + 1) n (omega arith) ∙ ap (λ k. keys_from (across_of kind across) k n) next)
 
-rows_are : (across row n : ℕ) → row_keys across (range_with_len row n) ≡ keys_from across (row * across) (n * across)
-rows_are across row zero = let e : zero * across ≡ 0 = omega arith in ap (keys_from across (row * across)) (sym e)
-rows_are across row (suc n) =
+rows_are : (kind : IndexKind) (across row n : ℕ) → placed kind across (row_keys across (range_with_len row n)) ≡ keys_from (across_of kind across) (row * across) (n * across)
+rows_are kind across row zero = let e : zero * across ≡ 0 = omega arith in ap (keys_from (across_of kind across) (row * across)) (sym e)
+rows_are kind across row (suc n) =
+    let f : Key → Key = λ k. placed_key kind (k.i * across + k.j) k.i k.j in
+    let w : ℕ = across_of kind across in
+    let rest : List Key = row_keys across (range_with_len (row + 1) n) in
     let first : row * across + 0 ≡ row * across = omega arith in
     let next : (row + 1) * across ≡ row * across + across = grind arith in
     let count : across + n * across ≡ suc n * across = grind arith in
-    ap (λ (ks : List Key). ks ++ row_keys across (range_with_len (row + 1) n)) (row_is row across 0 across (omega arith) ∙ ap (λ k. keys_from across k across) first)
-    ∙ ap (λ (ks : List Key). keys_from across (row * across) across ++ ks) (rows_are across (row + 1) n ∙ ap (λ k. keys_from across k (n * across)) next)
-    ∙ sym (map-append (key_by across) (range_with_len (row * across) across) (range_with_len (row * across + across) (n * across)))
-    ∙ ap (map (key_by across)) (sym (range_append (row * across) across (n * across)))
-    ∙ ap (keys_from across (row * across)) count
+    map-append f (places_in row 0 across) rest
+    ∙ ap (λ (ks : List Key). ks ++ map f rest) (row_is kind across row 0 across (omega arith) ∙ ap (λ k. keys_from w k across) first)
+    ∙ ap (λ (ks : List Key). keys_from w (row * across) across ++ ks) (rows_are kind across (row + 1) n ∙ ap (λ k. keys_from w k (n * across)) next)
+    ∙ sym (map-append (key_by w) (range_with_len (row * across) across) (range_with_len (row * across + across) (n * across)))
+    ∙ ap (map (key_by w)) (sym (range_append (row * across) across (n * across)))
+    ∙ ap (keys_from w (row * across)) count
 
--- where as many keys stand side by side as chunks
-keys_are : (d : Described) → needed_keys d ≡ keys_from (chunks_across d) 0 (needed d)
-keys_are d = let e : 0 * chunks_across d ≡ 0 = omega arith in rows_are (chunks_across d) 0 (bands d) ∙ ap (λ k. keys_from (chunks_across d) k (needed d)) e
-
-across_is : (kind : IndexKind) (n : ℕ) → (kind ≡ Array → n ≡ 1) → elim kind as (λ _. ℕ) [ Array ↦ 1 | Tree ↦ n ] ≡ n
-across_is Array n h = sym (h refl)
-across_is Tree n h = refl
-
-index_keys : (d : Described) → (d.layout.index ≡ Array → chunks_across d ≡ 1) → needed_keys d ≡ map (index_key d) (range_with_len 0 (needed d))
-index_keys d h = keys_are d ∙ ap (λ w. keys_from w 0 (needed d)) (sym (across_is d.layout.index (chunks_across d) h))
+keys_are : (d : Described) → map (λ (k : Key). placed_key d.layout.index (chunk_number d k.i k.j) k.i k.j) (grid_places d) ≡ needed_keys d
+keys_are d =
+    let e : 0 * chunks_across d ≡ 0 = omega arith in
+    rows_are d.layout.index (chunks_across d) 0 (bands d) ∙ ap (λ k. keys_from (across_of d.layout.index (chunks_across d)) k (needed d)) e
 
 -- ---- The numbers
 
-row_numbers : (across row from n : ℕ) → map (λ (k : Key). k.i * across + k.j) (map (λ column. let k : Key = record { i = row; j = column } in k) (range_with_len from n)) ≡ range_with_len (row * across + from) n
+row_numbers : (across row from n : ℕ) → map (λ (k : Key). k.i * across + k.j) (places_in row from n) ≡ range_with_len (row * across + from) n
 row_numbers across row from zero = refl
 row_numbers across row from (suc n) =
     let next : row * across + (from + 1) ≡ row * across + from + 1 = omega arith in
@@ -86,30 +104,20 @@ rows_numbers : (across row n : ℕ) → map (λ (k : Key). k.i * across + k.j) (
 rows_numbers across row zero = let e : zero * across ≡ 0 = omega arith in ap (range_with_len (row * across)) (sym e)
 rows_numbers across row (suc n) =
     let f : Key → ℕ = λ k. k.i * across + k.j in
-    let here : List Key = map (λ column. let k : Key = record { i = row; j = column } in k) (range_with_len 0 across) in
     let rest : List Key = row_keys across (range_with_len (row + 1) n) in
     let first : row * across + 0 ≡ row * across = omega arith in
     let next : (row + 1) * across ≡ row * across + across = grind arith in
     let count : across + n * across ≡ suc n * across = grind arith in
-    map-append f here rest
+    map-append f (places_in row 0 across) rest
     ∙ ap (λ (xs : List ℕ). xs ++ map f rest) (row_numbers across row 0 across ∙ ap (λ k. range_with_len k across) first)
     ∙ ap (λ (xs : List ℕ). range_with_len (row * across) across ++ xs) (rows_numbers across (row + 1) n ∙ ap (λ k. range_with_len k (n * across)) next)
     ∙ sym (range_append (row * across) across (n * across))
     ∙ ap (range_with_len (row * across)) count
 
-numbered : (d : Described) → map (λ (k : Key). chunk_number d k.i k.j) (needed_keys d) ≡ range_with_len 0 (needed d)
+numbered : (d : Described) → map (λ (k : Key). chunk_number d k.i k.j) (grid_places d) ≡ range_with_len 0 (needed d)
 numbered d = let e : 0 * chunks_across d ≡ 0 = omega arith in rows_numbers (chunks_across d) 0 (bands d) ∙ ap (λ k. range_with_len k (needed d)) e
 
 -- ---- A table by number
-
-key_is : (kind : IndexKind) (across i j : ℕ) → j < across
-    → key_by (elim kind as (λ _. ℕ) [ Array ↦ 1 | Tree ↦ across ]) (i * across + j) ≡ placed_key kind (i * across + j) i j
-key_is Array across i j low =
-    let n : ℕ = i * across + j in
-    let a : n / 1 ≡ n = omega arith in
-    let b : n % 1 ≡ 0 = omega arith in
-    ap (λ x. let k : Key = record { i = x; j = n % 1 } in k) a ∙ ap (λ x. let k : Key = record { i = n; j = x } in k) b
-key_is Tree across i j low = key_at i across j low
 
 number_low : (across most i j : ℕ) → i < most → j < across → i * across + j < most * across
 number_low across most i j row column =
@@ -121,38 +129,41 @@ number_low across most i j row column =
 no_key : Key
 no_key = record { i = 0; j = 0 }
 
+pub needed_count : (d : Described) → length (needed_keys d) ≡ needed d
+needed_count d = length-map-range_with_len (index_key d) 0 (needed d)
+
 table_at : (f : Key → ℕ) (none : ℕ) (d : Described) (i j : ℕ) → i < bands d → j < chunks_across d
-    → get_or (map f (map (index_key d) (range_with_len 0 (needed d)))) (chunk_number d i j) none ≡ f (placed_key d.layout.index (chunk_number d i j) i j)
+    → get_or (map f (needed_keys d)) (chunk_number d i j) none ≡ f (placed_key d.layout.index (chunk_number d i j) i j)
 table_at f none d i j row column =
     let n : ℕ = needed d in
     let at : ℕ = chunk_number d i j in
     let low : at < n = number_low (chunks_across d) (bands d) i j row column in
-    let long : length (map (index_key d) (range_with_len 0 n)) ≡ n = length-map-range_with_len (index_key d) 0 n in
-    get_or-map f (map (index_key d) (range_with_len 0 n)) at no_key none (omega (arith, long, low))
+    let long : length (needed_keys d) ≡ n = needed_count d in
+    get_or-map f (needed_keys d) at no_key none (omega (arith, long, low))
     ∙ ap f (get_or-map-range_with_len (index_key d) 0 n at at no_key low (let e : 0 + at ≡ at = omega arith in e))
     ∙ ap f (key_is d.layout.index (chunks_across d) i j column)
 
 pub numbers_chunks : NumbersChunks
-numbers_chunks = record { numbered = numbered; keys = index_keys; table = table_at }
+numbers_chunks = record { numbered = numbered; keys = keys_are; table = table_at }
 
 -- ---- By places in the grid
 
-listed : (d : Described) (k : ℕ) → k < needed d → slice_get (map (index_key d) (range_with_len 0 (needed d))) k ≡ Some (index_key d k)
+listed : (d : Described) (k : ℕ) → k < needed d → slice_get (needed_keys d) k ≡ Some (index_key d k)
 listed d k low =
     let n : ℕ = needed d in
-    let long : length (map (index_key d) (range_with_len 0 n)) ≡ n = length-map-range_with_len (index_key d) 0 n in
-    slice_get-get_or (map (index_key d) (range_with_len 0 n)) k no_key (omega (arith, long, low))
+    let long : length (needed_keys d) ≡ n = needed_count d in
+    slice_get-get_or (needed_keys d) k no_key (omega (arith, long, low))
     ∙ ap (λ (x : Key). let o : Option Key = Some x in o) (get_or-map-range_with_len (index_key d) 0 n k k no_key low (let e : 0 + k ≡ k = omega arith in e))
 
 -- what is listed is so
-is_listed : (d : Described) (k : ℕ) (key : Key) → slice_get (map (index_key d) (range_with_len 0 (needed d))) k ≡ Some key → (k < needed d) × (index_key d k ≡ key)
+is_listed : (d : Described) (k : ℕ) (key : Key) → slice_get (needed_keys d) k ≡ Some key → (k < needed d) × (index_key d k ≡ key)
 is_listed d k key there = go (cases_lt k (needed d))
   where
     go : (k < needed d) ⊎ (needed d ≤ k) → (k < needed d) × (index_key d k ≡ key)
     go (inl low) = (low, let e = sym (listed d k low) ∙ there in cc)
     go (inr high) =
-        let long : length (map (index_key d) (range_with_len 0 (needed d))) ≡ needed d = length-map-range_with_len (index_key d) 0 (needed d) in
-        let none = slice_get_past (map (index_key d) (range_with_len 0 (needed d))) k (omega (arith, long, high)) in
+        let long : length (needed_keys d) ≡ needed d = needed_count d in
+        let none = slice_get_past (needed_keys d) k (omega (arith, long, high)) in
         absurd cc
 
 to_kind : (img : List ℕ) (kind : IndexKind) (address number i j x : ℕ) → IndexChunk img kind address (placed_key kind number i j) x → PlacedChunk img kind address number i j x
@@ -184,12 +195,12 @@ some_across most (suc n) k low = omega arith
 whole_row : (k w : ℕ) → 0 < w → k / w * w + k % w ≡ k
 whole_row k w some = omega arith
 
-grid_keys : (img table : List ℕ) (d : Described) → HasKeys img d (map (index_key d) (range_with_len 0 (needed d))) table → HasGrid img d table
+grid_keys : (img table : List ℕ) (d : Described) → HasKeys img d (needed_keys d) table → HasGrid img d table
 grid_keys img table d h i j row column =
     let n : ℕ = chunk_number d i j in
     to_place img d i j (get_or table n undefined) column (h n (index_key d n) (listed d n (number_low (chunks_across d) (bands d) i j row column)))
 
-keys_grid : (img table : List ℕ) (d : Described) → HasGrid img d table → HasKeys img d (map (index_key d) (range_with_len 0 (needed d))) table
+keys_grid : (img table : List ℕ) (d : Described) → HasGrid img d table → HasKeys img d (needed_keys d) table
 keys_grid img table d h k key there =
     let l = is_listed d k key there in
     let w : ℕ = chunks_across d in
@@ -203,10 +214,4 @@ keys_grid img table d h k key there =
     (subst (λ (m : ℕ). HasChunk img d (index_key d m) (get_or table m undefined)) (whole_row k w some) here)
 
 pub places_chunks : PlacesChunks
-places_chunks = record {
-  by_number = λ img table d. (grid_keys img table d, keys_grid img table d);
-  by_key = λ img table d one. (
-    (λ h. grid_keys img table d (subst (λ (ks : List Key). HasKeys img d ks table) (index_keys d one) h)),
-    (λ h. subst (λ (ks : List Key). HasKeys img d ks table) (sym (index_keys d one)) (keys_grid img table d h)),
-  );
-}
+places_chunks img table d = (grid_keys img table d, keys_grid img table d)

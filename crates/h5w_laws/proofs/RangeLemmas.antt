@@ -190,8 +190,8 @@ same_super s t h = cc
 pub super_ends : (size : ℕ) (b : List ℕ) (s : Super) → checked_super size b ≡ Ok s → s.end ≤ size
 super_ends size b s h =
     let later : Super → Result Super Finding = λ t. cond (nat_lt size t.end) (Err (found cut_off 0)) (of_super t) in
-    let read = then_ok (refused_as super_finding (super_at b)) (λ t. cond (not (is_swmr t.flags)) (Err (found half_flagged 0)) (later t)) s h in
-    let swmr = fails (not (is_swmr read.0.flags)) (later read.0) (found half_flagged 0) s read.2 in
+    let read = then_ok (refused_as super_finding (super_at b)) (λ t. cond (not (is_swmr t)) (Err (found half_flagged 0)) (later t)) s h in
+    let swmr = fails (not (is_swmr read.0)) (later read.0) (found half_flagged 0) s read.2 in
     let enough = fails (nat_lt size read.0.end) (of_super read.0) (found cut_off 0) s swmr.1 in
     subst (λ (t : Super). t.end ≤ size) (same_super read.0 s enough.1) (ltb-false size read.0.end enough.0)
 

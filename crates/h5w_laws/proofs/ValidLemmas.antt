@@ -1,9 +1,8 @@
 -- A valid image shows a reading, and in it every key that the index can name is reached.
-use Rattle.std.proofs.Common.{◌≡◌, ℕ, zero, suc, ◌+◌, ◌*◌, ◌<◌, ◌≤◌, false, not, List, [], ◌∷◌, ◌++◌, length, map, Option, Some, None, Result, Ok, Err, refl, sym, ◌∙◌, ap, subst, inl, inr, arith}
+use Rattle.std.proofs.Common.{◌≡◌, ℕ, zero, suc, ◌+◌, ◌/◌, ◌<◌, ◌≤◌, false, not, List, [], ◌∷◌, ◌++◌, length, map, Option, Some, None, Result, Ok, Err, refl, sym, ◌∙◌, ap, subst, inl, inr, arith}
 use Rattle.std.specs.Prelude.{◌==◌, nat_lt, if◌then◌else◌}
-use Rattle.std.specs.List.{AllByRecursion, range_with_len, flat_map}
+use Rattle.std.specs.List.{AllByRecursion, range_with_len}
 use Rattle.std.proofs.lemmas.Bool.{cond_both, cond-true, cond-false, ltb-false, cases_Bool, not-false}
-use Rattle.std.proofs.Math.Nat.{mul-le-mul_left}
 use Rattle.h5w_model.specs.Numbers.{range, undefined}
 use Rattle.h5w_model.specs.Programs.{Prog, ret, whole, eval, and_then}
 use Rattle.h5w_model.specs.Superblock.{super_at}
@@ -11,7 +10,7 @@ use Rattle.h5w_model.specs.Headers.{header_view}
 use Rattle.h5w_model.specs.Arrays.{EaibFields, eahd_at, eaib_at, eahd_len, eaib_len}
 use Rattle.h5w_model.specs.Trees.{bthd_at, bthd_len}
 use Rattle.h5w_model.specs.Datasets.{Described, HeaderFields, is_swmr, super_of, super_refusal, superblock, root_header, linked, dataset_messages, dataset, dataset_place, described, then_also, refused_as}
-use Rattle.h5w_model.specs.Tables.{Reading, InPlace, nowhere, in_array, in_tree, in_place, array_in_place, tree_in_place, address_behind, each_of, limit_of, format_limits, bands, chunks_across, needed, needed_keys, table_of, needed_table}
+use Rattle.h5w_model.specs.Tables.{Reading, InPlace, nowhere, in_array, in_tree, in_place, array_in_place, tree_in_place, address_behind, each_of, limit_of, format_limits, chunks_across, index_key, needed, needed_keys, table_of, needed_table}
 use Rattle.h5w_model.specs.Findings.{Finding, found, Used, Summary, Visited, checked_super, checked_root, checked_dataset, header_ranges, index_visit, array_visit, tree_visit, index_block_visit, both, first_visits, second_visits, node_visit, chunk_ranges, chunk_bytes, super_finding, dataset_finding, verdict, summary, the_superblock, overlap_of, by_place}
 use Rattle.h5w_model.specs.Prefixed.{IsKey}
 use Rattle.h5w_model.specs.declared.root.Super.{Super}
@@ -136,12 +135,12 @@ ok_same a b h = let e : a ≡ b = cc in ap Ok e
 -- the superblock that is checked is read
 pub super_ok : (size : ℕ) (b : List ℕ) (s : Super) → checked_super size b ≡ Ok s → super_of b ≡ Ok s
 super_ok size b s h =
-    let read = then_ok (refused_as super_finding (super_at b)) (λ s. if not (is_swmr s.flags) then Err (found 4 0) else if nat_lt size s.end then Err (found 5 0) else Ok s) s h in
-    let swmr = fails (not (is_swmr read.0.flags)) (if nat_lt size read.0.end then Err (found 5 0) else Ok read.0) (found 4 0) s read.2 in
+    let read = then_ok (refused_as super_finding (super_at b)) (λ s. if not (is_swmr s) then Err (found 4 0) else if nat_lt size s.end then Err (found 5 0) else Ok s) s h in
+    let swmr = fails (not (is_swmr read.0)) (if nat_lt size read.0.end then Err (found 5 0) else Ok read.0) (found 4 0) s read.2 in
     let whole = fails (nat_lt size read.0.end) (Ok read.0) (found 5 0) s swmr.1 in
     let there : refused_as super_refusal (super_at b) ≡ Ok read.0 = ap (refused_as super_refusal) (refused_ok super_finding (super_at b) read.0 read.1) in
-    then_from (refused_as super_refusal (super_at b)) (λ s. if is_swmr s.flags then Ok s else Err (read_errors.NotSwmr s.flags)) read.0 s there
-    (cond-true (is_swmr read.0.flags) (Ok read.0) (Err (read_errors.NotSwmr read.0.flags)) (not-false (is_swmr read.0.flags) swmr.0) ∙ ok_same read.0 s whole.1)
+    then_from (refused_as super_refusal (super_at b)) (λ s. if is_swmr s then Ok s else Err (read_errors.NotSwmr s.flags)) read.0 s there
+    (cond-true (is_swmr read.0) (Ok read.0) (Err (read_errors.NotSwmr read.0.flags)) (not-false (is_swmr read.0) swmr.0) ∙ ok_same read.0 s whole.1)
 
 -- the dataset header's place that is checked is read
 pub root_ok : (img name : List ℕ) (s : Super) (root : ℕ × List Used) → eval img (checked_root name s) ≡ Ok root
@@ -187,63 +186,43 @@ dataset_ok img s place d h =
 
 -- ---- The needed keys
 
--- a key of the grid of chunks
-pub record InGrid (bands across : ℕ) (key : Key) : Type 0 where
-  row : key.i < bands
-  column : key.j < across
+-- what is so of each number below an end, through its key
+pub all_numbers : (P : Key → Type 0) (f : ℕ → Key) (end from count : ℕ) → ((n : ℕ) → n < end → P (f n)) → from + count ≤ end → AllByRecursion P (map f (range_with_len from count))
+all_numbers P f end from zero each fits = tt
+all_numbers P f end from (suc count) each fits = (each from (omega arith), all_numbers P f end (from + 1) count each (omega arith))
 
-pub grid_row : (n across row from count : ℕ) → row < n → from + count ≤ across
-    → AllByRecursion (InGrid n across) (map (λ column. record { i = row; j = column }) (range_with_len from count))
-grid_row n across row from zero lt fits = tt
-grid_row n across row from (suc count) lt fits = (record { row = lt; column = omega arith }, grid_row n across row (from + 1) count lt (omega arith))
+number_named : (kind : IndexKind) (across n most : ℕ) → n < most → most ≤ limit_of format_limits kind → kind ≡ Array → n / (elim kind as (λ _. ℕ) [ Array ↦ 1 | Tree ↦ across ]) < 131060
+number_named Array across n most low few is = omega arith
+number_named Tree across n most low few is = cc
 
-pub grid_append : (n across : ℕ) (front rest : List Key) → AllByRecursion (InGrid n across) front → AllByRecursion (InGrid n across) rest → AllByRecursion (InGrid n across) (front ++ rest)
-grid_append n across [] rest h g = g
-grid_append n across (k ∷ ks) rest h g = (h.0, grid_append n across ks rest h.1 g)
-
-pub grid_rows : (n across from count : ℕ) → from + count ≤ n
-    → AllByRecursion (InGrid n across) (flat_map (λ row. map (λ column. record { i = row; j = column }) (range_with_len 0 across)) (range_with_len from count))
-grid_rows n across from zero fits = tt
-grid_rows n across from (suc count) fits =
-    grid_append n across (map (λ column. record { i = from; j = column }) (range_with_len 0 across))
-    (flat_map (λ row. map (λ column. record { i = row; j = column }) (range_with_len 0 across)) (range_with_len (from + 1) count))
-    (grid_row n across from 0 across (omega arith) (omega arith)) (grid_rows n across (from + 1) count (omega arith))
-
-pub needed_grid : (d : Described) → AllByRecursion (InGrid (bands d) (chunks_across d)) (needed_keys d)
-needed_grid d = grid_rows (bands d) (chunks_across d) 0 (bands d) (omega arith)
+-- within the limit each needed key is one that the index reaches
+pub needed_reached : (d : Described) → nat_lt (limit_of format_limits d.layout.index) (needed d) ≡ false → AllByRecursion (Named d) (needed_keys d)
+needed_reached d within =
+    let few : needed d ≤ limit_of format_limits d.layout.index = ltb-false (limit_of format_limits d.layout.index) (needed d) within in
+    all_numbers (Named d) (index_key d) (needed d) 0 (needed d) (λ n low is. number_named d.layout.index (chunks_across d) n (needed d) low few is) (omega arith)
 
 -- a program for each key, where each answers
-pub each_answers : (img : List ℕ) (p : Key → Prog (Result ℕ ReadError)) (n across : ℕ) (ks : List Key) → AllByRecursion (InGrid n across) ks
-    → ((key : Key) → InGrid n across key → HasAnswer (eval img (p key))) → HasAnswer (eval img (each_of p ks))
-each_answers img p n across [] grid go = ([], refl)
-each_answers img p n across (k ∷ ks) grid go =
-    let first = go k grid.0 in
-    let rest = each_answers img p n across ks grid.1 go in (
+pub each_answers : (img : List ℕ) (p : Key → Prog (Result ℕ ReadError)) (P : Key → Type 0) (ks : List Key) → AllByRecursion P ks → ((key : Key) → P key → HasAnswer (eval img (p key)))
+    → HasAnswer (eval img (each_of p ks))
+each_answers img p P [] all go = ([], refl)
+each_answers img p P (k ∷ ks) all go =
+    let first = go k all.0 in
+    let rest = each_answers img p P ks all.1 go in (
       first.0 ∷ rest.0,
       and_then_from img (p k) (λ a. and_then (each_of p ks) (λ rest. ret (Ok (a ∷ rest)))) first.0 (first.0 ∷ rest.0) first.1
           (and_then_from img (each_of p ks) (λ rest. ret (Ok (first.0 ∷ rest))) rest.0 (first.0 ∷ rest.0) rest.1 refl),
     )
 
--- within the limit each needed key is one that the index reaches
-pub named_in_grid : (d : Described) (key : Key) → nat_lt (limit_of format_limits d.layout.index) (needed d) ≡ false → InGrid (bands d) (chunks_across d) key → Named d key
-named_in_grid d key within grid is =
-    let low : needed d ≤ 131060 = subst (λ kind. needed d ≤ limit_of format_limits kind) is (ltb-false (limit_of format_limits d.layout.index) (needed d) within) in
-    let some : 1 ≤ chunks_across d = omega (arith, grid.column) in
-    let under : bands d * 1 ≤ bands d * chunks_across d = mul-le-mul_left (bands d) some in
-    omega (arith, grid.row)
-
-pub table_answers : (img : List ℕ) (d : Described) (b : Behind img (in_place d) (Named d)) (ks : List Key) → AllByRecursion (InGrid (bands d) (chunks_across d)) ks
-    → nat_lt (limit_of format_limits d.layout.index) (needed d) ≡ false → HasAnswer (eval img (table_of d ks))
-table_answers img d b [] grid within = ([], refl)
-table_answers img d b (k ∷ ks) grid within =
-    let each = each_answers img (address_behind b.blocks) (bands d) (chunks_across d) (k ∷ ks) grid
-    (λ key g. let r = b.reaches key (named_in_grid d key within g) in (r.answer, r.is)) in
+pub table_answers : (img : List ℕ) (d : Described) (b : Behind img (in_place d) (Named d)) (ks : List Key) → AllByRecursion (Named d) ks → HasAnswer (eval img (table_of d ks))
+table_answers img d b [] named = ([], refl)
+table_answers img d b (k ∷ ks) named =
+    let each = each_answers img (address_behind b.blocks) (Named d) (k ∷ ks) named (λ key g. let r = b.reaches key g in (r.answer, r.is)) in
     (each.0, and_then_from img (in_place d) (λ p. each_of (address_behind p) (k ∷ ks)) b.blocks each.0 b.read each.1)
 
 pub needed_answers : (img : List ℕ) (d : Described) → Behind img (in_place d) (Named d) → nat_lt (limit_of format_limits d.layout.index) (needed d) ≡ false
     → HasAnswer (eval img (needed_table format_limits d))
 needed_answers img d b within =
-    let t = table_answers img d b (needed_keys d) (needed_grid d) within in
+    let t = table_answers img d b (needed_keys d) (needed_reached d within) in
     (t.0, ap (eval img) (cond-false (nat_lt (limit_of format_limits d.layout.index) (needed d)) (ret (Err (read_errors.TooManyChunks (needed d) (limit_of format_limits d.layout.index)))) (table_of d (needed_keys d)) within) ∙ t.1)
 
 -- ---- A valid image

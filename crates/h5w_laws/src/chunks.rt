@@ -2,7 +2,7 @@
 
 ghost use Rattle.h5w_laws.specs.ChunkNumbers.{NumbersChunks, PlacesChunks};
 
-/// The needed chunks have the numbers from 0 on, and by these their keys in the index.
+/// The chunks of the grid have the numbers from 0 on, and by these their keys in the index.
 pub fn numbers_chunks()
     ensures { NumbersChunks }
 {}

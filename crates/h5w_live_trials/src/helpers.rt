@@ -28,6 +28,7 @@ fn options(alloc: Global, columns: Option<(u64, u64)>) -> Result<Options, AllocE
         },
         chunk_rows: 2,
         columns,
+        fixed: false,
         fill: None,
         limit: 1 << 40,
     })

@@ -84,7 +84,9 @@ creatable = record {
   some_columns = omega arith;
   columns_bound = omega arith;
   small = omega arith;
-  line = λ e. (refl, refl);
+  shaped = refl;
+  line = λ e. refl;
+  indexed = refl;
 }
 
 pub is_new : (log : Log) → log ≡ log_of new_file log.events → IsNew log

@@ -20,7 +20,9 @@ new_file = record {
   fill = record { value = None };
   chunk_rows = 64;
   chunk_cols = 1;
+  rank = 1;
   columns = 1;
+  growing = false;
   index = Array;
 }
 

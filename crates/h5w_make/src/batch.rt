@@ -42,6 +42,7 @@ fn options(alloc: Global) -> Result<Options, OutOfMemory>
         },
         chunk_rows: 64,
         columns: None,
+        fixed: false,
         fill: None,
         limit: 1 << 40,
     })

@@ -1,11 +1,11 @@
 -- The messages of a dataset, as they are read and written.
-use Rattle.std.proofs.Common.{◌≡◌, ℕ, ◌+◌, ◌*◌, ◌/◌, ◌%◌, ◌^◌, ◌<◌, Bool, true, false, not, ◌&&◌, cond, List, [], ◌∷◌, ◌++◌, length, refl, ap, sym, ◌∙◌, ◌⊎◌, inl, inr, subst, arith}
-use Rattle.std.specs.Prelude.{◌==◌}
+use Rattle.std.proofs.Common.{◌≡◌, ◌≢◌, ℕ, ◌+◌, ◌*◌, ◌/◌, ◌%◌, ◌^◌, ◌<◌, Bool, true, false, not, ◌&&◌, cond, List, [], ◌∷◌, ◌++◌, length, refl, ap, sym, ◌∙◌, ◌⊎◌, inl, inr, subst, arith}
+use Rattle.std.specs.Prelude.{◌==◌, ◌||◌}
 use Rattle.std.specs.Prelude.{Ok, Option, Some, None, IfSome, nat_le, ◌≤◌}
-use Rattle.std.proofs.lemmas.Bool.{le-leb, eq-eqb, eqb-true, not-true, and_parts, or_cases, or_right, cond-false, ne_eqb, false≢true}
+use Rattle.std.proofs.lemmas.Bool.{le-leb, eq-eqb, eqb-true, eqb-false, not-true, and_parts, or_cases, or_right, cond-false, ne_eqb, false≢true}
 use Rattle.h5w_model.specs.Numbers.{num, le, field, range}
 use Rattle.h5w_model.specs.Headers.{has}
-use Rattle.h5w_model.specs.Messages.{ShapeFields, IsShape, shape_tests, shape_fields, shape_at, shape_numbers, shape_bytes, IntTypeFields, IsIntType, is_int_size, int_type_tests, int_type_fields, int_type_at, int_type_bits, int_type_bytes, fill_at, fill_tests, fill_fields, fill_bytes, fill_size, fill_value_bytes, FillFields}
+use Rattle.h5w_model.specs.Messages.{ShapeFields, IsShape, unlimited, shape_tests, shape_fields, shape_at, shape_numbers, shape_bytes, IntTypeFields, IsIntType, is_int_size, int_type_tests, int_type_fields, int_type_at, int_type_bits, int_type_bytes, fill_at, fill_tests, fill_fields, fill_bytes, fill_size, fill_value_bytes, FillFields}
 use Rattle.h5w_model.proofs.NumberLemmas.{length-le, num-le, num-one}
 use Rattle.std.proofs.lemmas.List.{length-append, take_at}
 use Rattle.h5w_model.proofs.IntegerLemmas.{int_sizes}
@@ -31,14 +31,27 @@ shape_1-read rows rest h =
     (passed _ _ _ _ (le-leb 20 (length (shape_bytes (record { rank = 1; rows = rows; cols = 1; growing = false }) ++ rest)) (omega arith))
     (λ i. Ok (record { rank = 1; rows = num-le 8 rows h i; cols = 1; growing = false })))
 
-pub shape_2-read : (rows cols : ℕ) (rest : List ℕ) → rows < 2 ^ 64 → cols < 2 ^ 64 → shape_at (shape_bytes (record { rank = 2; rows = rows; cols = cols; growing = true }) ++ rest) ≡ Ok (record { rank = 2; rows = rows; cols = cols; growing = true })
+pub growing-read : (rows cols : ℕ) (rest : List ℕ) → rows < 2 ^ 64 → cols < 2 ^ 64 → shape_at (shape_bytes (record { rank = 2; rows = rows; cols = cols; growing = true }) ++ rest) ≡ Ok (record { rank = 2; rows = rows; cols = cols; growing = true })
 unfolding shape_at shape_tests shape_fields shape_bytes num le
-shape_2-read rows cols rest h k =
+growing-read rows cols rest h k =
     passed _ _ _ _ (le-leb 4 (length (shape_bytes (record { rank = 2; rows = rows; cols = cols; growing = true }) ++ rest)) (omega arith))
     (passed _ _ _ _ (le-leb 36 (length (shape_bytes (record { rank = 2; rows = rows; cols = cols; growing = true }) ++ rest)) (omega arith))
     (λ i. Ok (record { rank = 2; rows = num-le 8 rows h i; cols = num-le 8 cols k i; growing = true })))
 
--- the two shapes
+-- a maximum that is its size is one of the two, whatever the other is
+either_end : (x u : ℕ) → ((x == u) || (x == x)) ≡ true
+either_end x u = or_right (x == u) (x == x) (eq-eqb x x refl)
+
+pub fixed-read : (rows cols : ℕ) (rest : List ℕ) → rows < 2 ^ 64 → cols < 2 ^ 64 → cols ≢ unlimited → shape_at (shape_bytes (record { rank = 2; rows = rows; cols = cols; growing = false }) ++ rest) ≡ Ok (record { rank = 2; rows = rows; cols = cols; growing = false })
+unfolding shape_at shape_tests shape_fields shape_bytes num le
+fixed-read rows cols rest h k ne =
+    let bounded : (num (le 8 cols) == unlimited) ≡ false = ap (λ n. n == unlimited) (num-le 8 cols k) ∙ ne_eqb cols unlimited ne in
+    passed _ _ _ _ (le-leb 4 (length (shape_bytes (record { rank = 2; rows = rows; cols = cols; growing = false }) ++ rest)) (omega arith))
+    (passed _ _ _ _ (le-leb 36 (length (shape_bytes (record { rank = 2; rows = rows; cols = cols; growing = false }) ++ rest)) (omega arith))
+    (passed _ _ _ _ (either_end (num (le 8 cols)) unlimited)
+    (λ i. Ok (record { rank = 2; rows = num-le 8 rows h i; cols = num-le 8 cols k i; growing = bounded i }))))
+
+-- the shapes: one dimension, and two, of which the second grows or is fixed
 pub record IsLine (s : ShapeFields) : Type 0 where
   pub rank : s.rank ≡ 1
   pub cols : s.cols ≡ 1
@@ -46,18 +59,22 @@ pub record IsLine (s : ShapeFields) : Type 0 where
 
 pub record IsGrid (s : ShapeFields) : Type 0 where
   pub rank : s.rank ≡ 2
-  pub growing : s.growing ≡ true
+  pub side : (s.growing ≡ true) ⊎ ((s.growing ≡ false) × (s.cols ≢ unlimited))
+
+side_of : (growing : Bool) (cols : ℕ) → (growing || not (cols == unlimited)) ≡ true → (growing ≡ true) ⊎ ((growing ≡ false) × (cols ≢ unlimited))
+side_of true cols h = inl refl
+side_of false cols h = inr (refl, eqb-false cols unlimited (not-true (cols == unlimited) h))
 
 pub shapes : (s : ShapeFields) → IsShape s → IsLine s ⊎ IsGrid s
 shapes s h =
-    elim (or_cases ((s.rank == 1) && (s.cols == 1) && not s.growing) ((s.rank == 2) && s.growing) h) [
+    elim (or_cases ((s.rank == 1) && (s.cols == 1) && not s.growing) ((s.rank == 2) && (s.growing || not (s.cols == unlimited))) h) [
       | inl e ↦
           let p = and_parts ((s.rank == 1) && (s.cols == 1)) (not s.growing) e in
           let q = and_parts (s.rank == 1) (s.cols == 1) p.0 in
           inl (record { rank = eqb-true s.rank 1 q.0; cols = eqb-true s.cols 1 q.1; growing = not-true s.growing p.1 })
       | inr e ↦
-          let p = and_parts (s.rank == 2) s.growing e in
-          inr (record { rank = eqb-true s.rank 2 p.0; growing = p.1 })
+          let p = and_parts (s.rank == 2) (s.growing || not (s.cols == unlimited)) e in
+          inr (record { rank = eqb-true s.rank 2 p.0; side = side_of s.growing s.cols p.1 })
     ]
 
 -- a shape is read as it was written, whatever follows
@@ -66,7 +83,10 @@ shape_at-shape_bytes s rest h rows cols =
     let P : ShapeFields → Type 0 = λ s. shape_at (shape_bytes s ++ rest) ≡ Ok s in
     elim (shapes s h) [
       | inl e ↦ subst P (λ i. record { rank = sym e.rank i; rows = s.rows; cols = sym e.cols i; growing = sym e.growing i }) (shape_1-read s.rows rest rows)
-      | inr e ↦ subst P (λ i. record { rank = sym e.rank i; rows = s.rows; cols = s.cols; growing = sym e.growing i }) (shape_2-read s.rows s.cols rest rows cols)
+      | inr e ↦ elim e.side [
+        | inl grows ↦ subst P (λ i. record { rank = sym e.rank i; rows = s.rows; cols = s.cols; growing = sym grows i }) (growing-read s.rows s.cols rest rows cols)
+        | inr fixed ↦ subst P (λ i. record { rank = sym e.rank i; rows = s.rows; cols = s.cols; growing = sym fixed.0 i }) (fixed-read s.rows s.cols rest rows cols fixed.1)
+      ]
     ]
 
 pub order_read : (n : ℕ) (big signed : Bool) → has (int_type_bits (record { size = n; big = big; signed = signed })) 1 ≡ big
@@ -116,9 +136,9 @@ pub length-int_type_bytes : (t : IntTypeFields) → length (int_type_bytes t) �
 unfolding int_type_bytes le
 length-int_type_bytes t = refl
 
-pub length-shape_numbers : (rank rows cols : ℕ) → (rank ≡ 1) ⊎ (rank ≡ 2) → length (shape_numbers rank rows cols) ≡ 2 * rank
-length-shape_numbers rank rows cols (inl e) = rw e refl
-length-shape_numbers rank rows cols (inr e) = rw e refl
+pub length-shape_numbers : (rank rows cols : ℕ) (growing : Bool) → (rank ≡ 1) ⊎ (rank ≡ 2) → length (shape_numbers rank rows cols growing) ≡ 2 * rank
+length-shape_numbers rank rows cols growing (inl e) = rw e refl
+length-shape_numbers rank rows cols growing (inr e) = rw e refl
 
 pub shape_rank : (s : ShapeFields) → IsShape s → (s.rank ≡ 1) ⊎ (s.rank ≡ 2)
 shape_rank s h = elim (shapes s h) [ inl e ↦ inl e.rank | inr e ↦ inr e.rank ]

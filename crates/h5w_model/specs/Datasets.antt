@@ -44,12 +44,12 @@ super_refusal (super_errors.Short got) = Damaged 0 (faults.Cut 48 got)
 super_refusal (super_errors.Sum sums) = Damaged 0 (faults.Sum sums)
 super_refusal e = read_errors.Super e
 
--- open for writing and open for SWMR writing stand together
-abbrev pub is_swmr : ℕ → Bool
-is_swmr flags = (flags % 2) == (flags / 4 % 2)
+-- open for writing and open for SWMR writing stand together; of version 2 the flags say nothing
+abbrev pub is_swmr : Super → Bool
+is_swmr s = (s.version == 2) || ((s.flags % 2) == (s.flags / 4 % 2))
 
 abbrev pub super_of : List ℕ → Result Super ReadError
-super_of b = then_also (refused_as super_refusal (super_at b)) (λ s. if is_swmr s.flags then Ok s else Err (NotSwmr s.flags))
+super_of b = then_also (refused_as super_refusal (super_at b)) (λ s. if is_swmr s then Ok s else Err (NotSwmr s.flags))
 
 abbrev pub superblock : Prog (Result Super ReadError)
 superblock = whole 0 48 (λ b. ret (super_of b))

@@ -137,7 +137,7 @@ super_finding e = found bad_superblock 0
 abbrev pub checked_super : ℕ → List ℕ → Result Super Finding
 checked_super size b =
     then_also (refused_as super_finding (super_at b)) (λ s.
-    if not (is_swmr s.flags) then Err (found half_flagged 0)
+    if not (is_swmr s) then Err (found half_flagged 0)
     else if nat_lt size s.end then Err (found cut_off 0) else Ok s)
 
 -- the ranges of a header; the first that passes the end-of-file address is a finding

@@ -24,13 +24,14 @@ pub record ShapeFields : Type 0 where
   pub rank : ℕ
   pub rows : ℕ  -- the size of dimension 0
   pub cols : ℕ  -- the size of dimension 1, and 1 without it
-  pub growing : Bool  -- dimension 1 has no maximum
+  pub growing : Bool  -- dimension 1 has no maximum; otherwise its size is its maximum
 
 -- the maximum of a dimension that has none
 abbrev pub unlimited : ℕ
 unlimited = undefined
 
--- version, rank, maximums are there, simple; room for sizes and maximums; no maximum in dimension 0, none in dimension 1
+-- version, rank, maximums are there, simple; room for sizes and maximums; no maximum in dimension 0; in dimension 1 none,
+-- or its size
 unfoldable pub shape_tests : List ℕ → List (Bool × Unsupported)
 shape_tests b =
     (nat_le 4 (length b), unsupported 5)
@@ -40,7 +41,7 @@ shape_tests b =
     ∷ (byte b 3 == 1, unsupported 5)
     ∷ (nat_le (4 + 16 * byte b 1) (length b), unsupported 5)
     ∷ (field b (4 + 8 * byte b 1) 8 == unlimited, unsupported 6)
-    ∷ ((byte b 1 == 1) || (field b 28 8 == unlimited), unsupported 6)
+    ∷ ((byte b 1 == 1) || (field b 28 8 == unlimited) || (field b 28 8 == field b 12 8), unsupported 6)
     ∷ []
 
 unfoldable pub shape_fields : List ℕ → ShapeFields
@@ -49,29 +50,29 @@ shape_fields b =
       rank = byte b 1;
       rows = field b 4 8;
       cols = if byte b 1 == 1 then 1 else field b 12 8;
-      growing = byte b 1 == 2;
+      growing = (byte b 1 == 2) && (field b 28 8 == unlimited);
     }
 
 -- the shape that the data of a message say, or the first refusal
 unfoldable pub shape_at : List ℕ → Result ShapeFields Unsupported
 shape_at b = checked (shape_tests b) (shape_fields b)
 
--- one dimension, or two that grow
+-- one dimension, or two of which the second grows or is below the number that stands for no maximum
 abbrev pub is_shape : ShapeFields → Bool
-is_shape s = ((s.rank == 1) && (s.cols == 1) && not s.growing) || ((s.rank == 2) && s.growing)
+is_shape s = ((s.rank == 1) && (s.cols == 1) && not s.growing) || ((s.rank == 2) && (s.growing || not (s.cols == unlimited)))
 
 -- a shape that can be read and written
 abbrev pub IsShape : ShapeFields → Type 0
 IsShape s = IsTrue (is_shape s)
 
 -- sizes and maximums
-abbrev pub shape_numbers : ℕ → ℕ → ℕ → List ℕ
-shape_numbers rank rows cols =
-    if rank == 1 then rows ∷ unlimited ∷ [] else rows ∷ cols ∷ unlimited ∷ unlimited ∷ []
+abbrev pub shape_numbers : ℕ → ℕ → ℕ → Bool → List ℕ
+shape_numbers rank rows cols growing =
+    if rank == 1 then rows ∷ unlimited ∷ [] else rows ∷ cols ∷ unlimited ∷ (if growing then unlimited else cols) ∷ []
 
 -- the one written spelling
 unfoldable pub shape_bytes : ShapeFields → List ℕ
-shape_bytes s = 2 ∷ s.rank ∷ 1 ∷ 1 ∷ flat_map (le 8) (shape_numbers s.rank s.rows s.cols)
+shape_bytes s = 2 ∷ s.rank ∷ 1 ∷ 1 ∷ flat_map (le 8) (shape_numbers s.rank s.rows s.cols s.growing)
 
 -- a fixed-point datatype ("The Datatype Message", class 0)
 pub record IntTypeFields : Type 0 where

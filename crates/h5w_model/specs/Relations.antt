@@ -8,7 +8,7 @@ use Rattle.h5w_model.specs.Arrays.{EahdFields, EaibFields, SlotsFields, eahd_at,
 use Rattle.h5w_model.specs.Trees.{RecordFields, ChildFields, BthdFields, BtinFields, bthd_at, btlf_at, btin_at, bthd_len, btlf_len, btin_len}
 use Rattle.h5w_model.specs.Programs.{eval}
 use Rattle.h5w_model.specs.Datasets.{FoundMessage, HeaderFields, Described, found_at, block_place, block_len, is_swmr, linked, described, root_header}
-use Rattle.h5w_model.specs.Tables.{Limits, Reading, super_block_of_first, key_below, limit_of, bands, chunks_across, needed, needed_keys, chunk_number}
+use Rattle.h5w_model.specs.Tables.{Limits, Reading, super_block_of_first, key_below, limit_of, bands, chunks_across, needed, chunk_number}
 use Rattle.h5w_model.specs.Findings.{Used, Part, AllSummary, checked_super, header_ranges, checked_part, ranges_of_all, all_summary}
 use Rattle.h5w_model.specs.declared.message.Msg.{Msg}
 use Rattle.h5w_model.specs.declared.message.Prefix.{Prefix}
@@ -49,12 +49,12 @@ pub record HasMessages (img : List ℕ) (place : ℕ) (messages : List FoundMess
 
 -- ---- The dataset
 
--- The superblock is open for writing and for SWMR writing, or for neither; the first link of the name in the root
+-- The superblock is of version 2, or open for writing and for SWMR writing, or for neither; the first link of the name in the root
 -- header is hard and leads to a header whose chunk 0 has at most 512 bytes, and whose messages say this.
 pub record HasDataset (img name : List ℕ) (place : ℕ) (d : Described) : Type 0 where
   pub superblock : Super
   pub found : super_at (range img 0 48) ≡ Ok superblock
-  pub flags : IsTrue (is_swmr (superblock.flags))
+  pub flags : IsTrue (is_swmr superblock)
   pub root : List FoundMessage
   pub root_header : HasMessages img (superblock.root) root
   pub link : linked name root ≡ Ok place
@@ -151,14 +151,6 @@ HasChunk img d key x =
     (d.layout.address ≡ undefined) × (x ≡ undefined)
     ⊎ (d.layout.address ≢ undefined) × IndexChunk img d.layout.index d.layout.address key x
 
--- The image has the dataset, its needed chunks are within the limits, and each of them, in the order of their keys, has the
--- address that is listed.
-pub record HasReading (limits : Limits) (img name : List ℕ) (r : Reading) : Type 0 where
-  pub dataset : HasDataset img name r.place r.dataset
-  pub within : needed r.dataset ≤ limit_of limits r.dataset.layout.index
-  pub listed : length r.table ≡ length (needed_keys r.dataset)
-  pub chunks : (k : ℕ) (key : Key) → slice_get (needed_keys r.dataset) k ≡ Some key → HasChunk img r.dataset key (get_or r.table k undefined)
-
 -- ---- The chunks of a dataset by their places in the grid
 
 -- by the kind of index: in an array the chunk of a number, in a tree that of a place
@@ -175,6 +167,14 @@ HasChunkAt img d i j x =
 -- each chunk of the grid has the address that is listed at its number
 abbrev pub HasGrid : List ℕ → Described → List ℕ → Type 0
 HasGrid img d table = (i j : ℕ) → i < bands d → j < chunks_across d → HasChunkAt img d i j (get_or table (chunk_number d i j) undefined)
+
+-- The image has the dataset, its needed chunks are within the limits, and each chunk of the grid has the address that is listed
+-- at its number.
+pub record HasReading (limits : Limits) (img name : List ℕ) (r : Reading) : Type 0 where
+  pub dataset : HasDataset img name r.place r.dataset
+  pub within : needed r.dataset ≤ limit_of limits r.dataset.layout.index
+  pub listed : length r.table ≡ needed r.dataset
+  pub chunks : HasGrid img r.dataset r.table
 
 -- ---- Several datasets of one file
 

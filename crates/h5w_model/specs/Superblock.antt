@@ -1,5 +1,5 @@
--- The superblock (HDF5 File Format Specification 3.0, "Format Signature and Superblock", version 3): 48 bytes.
-use Rattle.std.specs.Prelude.{ℕ, Bool, ◌&&◌, ◌==◌, nat_eq, nat_le, List, [], ◌∷◌, ◌++◌, length, take, Result}
+-- The superblock (HDF5 File Format Specification 3.0, "Format Signature and Superblock", versions 2 and 3): 48 bytes.
+use Rattle.std.specs.Prelude.{ℕ, Bool, ◌&&◌, ◌||◌, ◌==◌, nat_eq, nat_le, List, [], ◌∷◌, ◌++◌, length, take, Result}
 use Rattle.std.specs.List.{starts_with}
 use Rattle.h5w_model.specs.Numbers.{le, field, undefined}
 use Rattle.h5w_model.specs.Checked.{checked}
@@ -17,7 +17,7 @@ abbrev pub super_tests : List ℕ → List (Bool × SuperError)
 super_tests b =
     (starts_with nat_eq b super_signature, NotHdf5)
     ∷ (nat_le 48 (length b), Short (length b))
-    ∷ (field b 8 1 == 3, Version (field b 8 1))
+    ∷ ((field b 8 1 == 2) || (field b 8 1 == 3), Version (field b 8 1))
     ∷ ((field b 9 1 == 8) && (field b 10 1 == 8), Sizes (field b 9 1) (field b 10 1))
     ∷ (is_sealed (take 48 b), Sum (sums_of (take 48 b)))
     ∷ (field b 12 8 == 0, Base (field b 12 8))
@@ -34,4 +34,4 @@ super_at b = checked (super_tests b) (super_fields b)
 -- the one spelling of these fields: sizes of offsets and lengths 8, base address 0, no extension
 abbrev pub super_bytes : Super → List ℕ
 super_bytes s =
-    sealed_block (super_signature ++ (3 ∷ 8 ∷ 8 ∷ s.flags ∷ []) ++ le 8 0 ++ le 8 undefined ++ le 8 s.end ++ le 8 s.root)
+    sealed_block (super_signature ++ (s.version ∷ 8 ∷ 8 ∷ s.flags ∷ []) ++ le 8 0 ++ le 8 undefined ++ le 8 s.end ++ le 8 s.root)

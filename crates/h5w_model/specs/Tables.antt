@@ -1,5 +1,5 @@
 -- The chunks' addresses, and the rows that an image reads as.
-use Rattle.std.specs.Prelude.{◌≡◌, ℕ, zero, suc, ◌+◌, ◌-◌, ◌*◌, ◌/◌, ◌%◌, ◌<◌, Bool, ◌||◌, ◌&&◌, List, [], ◌∷◌, length, get_or, map, flat_map, slice_get, nat_lt, ◌==◌, if◌then◌else◌, Option, Some, None, Result, Ok, Err, ℤ}
+use Rattle.std.specs.Prelude.{◌≡◌, ℕ, zero, suc, ◌+◌, ◌-◌, ◌*◌, ◌/◌, ◌%◌, ◌<◌, Bool, ◌||◌, ◌&&◌, List, [], ◌∷◌, length, get_or, map, slice_get, nat_lt, ◌==◌, if◌then◌else◌, Option, Some, None, Result, Ok, Err, ℤ}
 use Rattle.std.specs.List.{range_with_len}
 use Rattle.h5w_model.specs.Numbers.{range, undefined}
 use Rattle.h5w_model.specs.Programs.{Prog, ret, whole, stored, eval, and_then}
@@ -162,10 +162,6 @@ chunks_across d = div_up d.shape.cols d.layout.chunk_cols
 abbrev pub needed : Described → ℕ
 needed d = bands d * chunks_across d
 
--- the needed keys, in rising order
-abbrev pub needed_keys : Described → List Key
-needed_keys d = flat_map (λ row. map (λ column. record { i = row; j = column }) (range_with_len 0 (chunks_across d))) (range_with_len 0 (bands d))
-
 -- the number of the chunk of a band of rows and a place in it: along the bands, and in each over the chunks side by side
 abbrev pub chunk_number : Described → ℕ → ℕ → ℕ
 chunk_number d i j = i * chunks_across d + j
@@ -177,6 +173,10 @@ keys_across d = elim d.layout.index [ Array ↦ 1 | Tree ↦ chunks_across d ]
 -- the key by which the index has the chunk of a number
 abbrev pub index_key : Described → ℕ → Key
 index_key d n = record { i = n / keys_across d; j = n % keys_across d }
+
+-- the keys of the needed chunks, which are numbered from 0 without a gap, in rising order
+abbrev pub needed_keys : Described → List Key
+needed_keys d = map (index_key d) (range_with_len 0 (needed d))
 
 -- the addresses of some chunks; without keys nothing is looked at
 abbrev pub table_of : Described → List Key → Prog (Result (List ℕ) ReadError)
@@ -217,7 +217,7 @@ cell_offset d row column = (row % d.layout.chunk_rows * d.layout.chunk_cols + co
 -- the address of the chunk of a row and a column
 abbrev pub chunk_address : Reading → ℕ → ℕ → ℕ
 chunk_address r row column =
-    get_or r.table (row / r.dataset.layout.chunk_rows * chunks_across r.dataset + column / r.dataset.layout.chunk_cols) undefined
+    get_or r.table (chunk_number r.dataset (row / r.dataset.layout.chunk_rows) (column / r.dataset.layout.chunk_cols)) undefined
 
 -- the value of the type at a place, where its bytes are inside the image
 abbrev pub value_in : List ℕ → Described → ℕ → Option ℤ

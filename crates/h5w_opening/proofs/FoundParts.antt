@@ -1,7 +1,7 @@
 -- What was found, part after part.
-use Rattle.std.proofs.Common.{◌≡◌, ℕ, ◌≤◌, true, false, cond, List, Result, Ok, Err, refl, sym, ◌∙◌, subst}
-use Rattle.std.specs.Prelude.{nat_lt}
-use Rattle.std.proofs.lemmas.Bool.{ltb-false}
+use Rattle.std.proofs.Common.{◌≡◌, ℕ, ◌≤◌, true, false, cond, List, Result, Ok, Err, refl, sym, ◌∙◌, subst, inl, inr}
+use Rattle.std.specs.Prelude.{nat_lt, ◌==◌}
+use Rattle.std.proofs.lemmas.Bool.{eqb-false, ltb-false}
 use Rattle.h5w_model.specs.Numbers.{range}
 use Rattle.h5w_model.specs.Programs.{eval}
 use Rattle.h5w_model.specs.Superblock.{super_at}
@@ -9,15 +9,17 @@ use Rattle.h5w_model.specs.Datasets.{Described, HeaderFields, described, super_r
 use Rattle.h5w_model.specs.Tables.{format_limits, limit_of, needed}
 use Rattle.h5w_model.specs.declared.root.Super.{Super}
 use Rattle.h5w_model.specs.declared.refusal.ReadError.TheVariants as read_errors
+use Rattle.h5w_model.proofs.SuperLemmas.{super_either}
 use Rattle.h5w_laws.proofs.ResultLemmas.{fails, refused_ok, then_ok}
 use Rattle.h5w_found.specs.Walks.{root_header_for, dataset_header_for}
 use Rattle.h5w_opening.specs.Openings.{DatasetHeaderFields, Opened, chunk_0_len, closed_super, dataset_found, in_chunk_0, is_open, known, looked_for, place_found, super_found}
 use Rattle.h5w_opening.specs.declared.error.OpenError.{OpenError}
-use Rattle.h5w_opening.specs.declared.error.OpenError.TheVariants.{Read, Flags, Cut}
+use Rattle.h5w_opening.specs.declared.error.OpenError.TheVariants.{Read, Version, Flags, Cut}
 use Rattle.h5w_opening.proofs.OpeningLemmas.{behind_place, behind_super, opened_by, opening_gives}
 
 pub record Parts (img : List ℕ) (size : ℕ) (name : List ℕ) (o : Opened) : Type 0 where
   pub super : super_at (range img 0 48) ≡ Ok o.root
+  pub version : o.root.version ≡ 3
   pub closed : is_open o.root.flags ≡ false
   pub inside : o.root.end ≤ size
   pub root : HeaderFields
@@ -49,16 +51,25 @@ same_header g h e = cc
 
 pub record SuperFound (img : List ℕ) (size : ℕ) (s : Super) : Type 0 where
   pub read : super_at (range img 0 48) ≡ Ok s
+  pub version : s.version ≡ 3
   pub closed : is_open s.flags ≡ false
   pub inside : s.end ≤ size
+
+-- of the two versions that are read the older is refused
+newer : (b : List ℕ) (s : Super) → super_at b ≡ Ok s → (s.version == 2) ≡ false → s.version ≡ 3
+newer b s read other = elim (super_either b s read) [
+  | inl two ↦ absurd (eqb-false s.version 2 other two)
+  | inr three ↦ three
+]
 
 pub super_found_by : (img : List ℕ) (size : ℕ) (s : Super) → super_found size img ≡ Ok s → SuperFound img size s
 super_found_by img size s h =
     let t = then_ok (refused_as Read (refused_as super_refusal (super_at (range img 0 48)))) (closed_super size) s h in
     let read = refused_ok super_refusal (super_at (range img 0 48)) t.0 (refused_ok Read (refused_as super_refusal (super_at (range img 0 48))) t.0 t.1) in
-    let shut = fails (is_open t.0.flags) (cond (nat_lt size t.0.end) (Err (Cut t.0.end size)) (as_super t.0)) (Flags t.0.flags) s t.2 in
+    let new = fails (t.0.version == 2) (cond (is_open t.0.flags) (Err (Flags t.0.flags)) (cond (nat_lt size t.0.end) (Err (Cut t.0.end size)) (as_super t.0))) (Version 2) s t.2 in
+    let shut = fails (is_open t.0.flags) (cond (nat_lt size t.0.end) (Err (Cut t.0.end size)) (as_super t.0)) (Flags t.0.flags) s new.1 in
     let whole = fails (nat_lt size t.0.end) (as_super t.0) (Cut t.0.end size) s shut.1 in
-    subst (λ (x : Super). SuperFound img size x) (same_super t.0 s whole.1) (record { read = read; closed = shut.0; inside = ltb-false size t.0.end whole.0 })
+    subst (λ (x : Super). SuperFound img size x) (same_super t.0 s whole.1) (record { read = read; version = newer (range img 0 48) t.0 read new.0; closed = shut.0; inside = ltb-false size t.0.end whole.0 })
 
 pub record HeaderFound (img : List ℕ) (place : ℕ) (d : DatasetHeaderFields) : Type 0 where
   pub header : HeaderFields
@@ -99,6 +110,7 @@ parts img size name o h =
     subst (λ (x : Opened). Parts img size name x) (same_opened made o w.2)
     (record {
       super = sf.read;
+      version = sf.version;
       closed = sf.closed;
       inside = sf.inside;
       root = r.0;

@@ -11,7 +11,7 @@ use Rattle.h5w_model.specs.declared.refusal.ReadError.{ReadError}
 use Rattle.h5w_model.specs.declared.refusal.ReadError.TheVariants as read_errors
 use Rattle.h5w_found.specs.Walks.{root_header_for, dataset_header_for}
 use Rattle.h5w_opening.specs.declared.error.OpenError.{OpenError}
-use Rattle.h5w_opening.specs.declared.error.OpenError.TheVariants.{Read, Flags, Cut, Layout, ChunkBytes, NoColumns}
+use Rattle.h5w_opening.specs.declared.error.OpenError.TheVariants.{Read, Version, Flags, Cut, Layout, ChunkBytes, NoColumns}
 
 -- What a dataset header says: how many bytes its chunk 0 has; the dataset; whether the first layout message stands in chunk 0.
 pub record DatasetHeaderFields : Type 0 where
@@ -29,9 +29,12 @@ pub record Opened : Type 0 where
 abbrev pub is_open : ℕ → Bool
 is_open flags = not (flags % 2 == 0) || not (flags / 4 % 2 == 0)
 
--- the superblock of a file of this size that nobody writes
+-- the superblock of a file of this size that nobody writes; one of version 2 is read and not written, whatever its flags say
 abbrev pub closed_super : ℕ → Super → Result Super OpenError
-closed_super size s = if is_open s.flags then Err (Flags s.flags) else if nat_lt size s.end then Err (Cut s.end size) else Ok s
+closed_super size s =
+    if s.version == 2 then Err (Version 2)
+    else if is_open s.flags then Err (Flags s.flags)
+    else if nat_lt size s.end then Err (Cut s.end size) else Ok s
 
 -- the first layout message stands in chunk 0
 abbrev pub in_chunk_0 : List FoundMessage → Bool

@@ -3,13 +3,16 @@ use h5w_image::ImageError;
 use h5w_model::{OutOfMemory, ReadError};
 use thiserror::Error;
 
-/// Why a file is not opened for appending. Flags and Cut are tried right after the superblock; Layout, ChunkBytes, NoColumns and Finding in
-/// this order after all of Read.
+/// Why a file is not opened for appending. Version, Flags and Cut are tried in this order right after the superblock; Layout, ChunkBytes,
+/// NoColumns and Finding in this order after all of Read.
 #[derive(Clone, Copy, Debug, PartialEq, Eq, Error)]
 pub enum OpenError {
     /// It is not read: never NotSwmr, Again, Shrunk or OutOfMemory, since two looks are never compared here, and no rows were seen before.
     #[error("refused")]
     Read(ReadError),
+    /// Its superblock is of version 2, whose flags do not say whether somebody writes the file: it is read, and not written.
+    #[error("superblock of version {version}")]
+    Version { version: u8 },
     /// It is open for writing, or was not closed: flag bit 0 or 2 is set.
     #[error("flags {flags}")]
     Flags { flags: u8 },

@@ -23,6 +23,9 @@ const LAYOUT: u8 = 0x08;
 /// The most bytes of a chunk that is written.
 const CHUNK_BYTES: u64 = 16_777_216;
 
+/// The version of a superblock that is read and not written.
+const READ_ONLY: u8 = 2;
+
 /// What the header of a dataset says.
 #[derive(Clone, Copy)]
 pub struct DatasetHeader {
@@ -49,12 +52,15 @@ fn is_open(flags: u8) -> bool
     flags % 2 != 0 || flags / 4 % 2 != 0
 }
 
-/// The superblock, where nobody writes the file and it has all its bytes.
+/// The superblock, where it is of a version that is written, nobody writes the file and it has all its bytes.
 fn closed(s: Super, size: u64) -> Result<Super, OpenError>
     ensures told { Told open_errors (closed_super size s) result }
     ensures kinds { IfErr result IsOpenKind }
     ensures closed { IfOk result (λ t. is_open t.flags ≡ false) }
 {
+    if s.version == READ_ONLY {
+        return Err(OpenError::Version { version: READ_ONLY });
+    }
     if is_open(s.flags) {
         return Err(OpenError::Flags { flags: s.flags });
     }

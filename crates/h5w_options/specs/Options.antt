@@ -1,5 +1,5 @@
 -- By what a file can be created.
-use Rattle.std.specs.Prelude.{ℕ, ◌*◌, ◌^◌, ◌≤◌, length, ℤ, Option, Some, None, IfSome, IsSome}
+use Rattle.std.specs.Prelude.{ℕ, ◌*◌, ◌^◌, ◌≤◌, Bool, false, not, IsTrue, if◌then◌else◌, length, ℤ, Option, Some, None, IfSome, IsSome}
 use Rattle.h5w_model.specs.Integers.{cell_bytes_of}
 use Rattle.h5w_model.specs.Logs.{Cutting}
 use Rattle.h5w_model.specs.declared.cell.IndexKind.{IndexKind}
@@ -22,10 +22,19 @@ abbrev pub width_in : Option (ℕ × ℕ) → ℕ
 width_in None = 1
 width_in (Some x) = x.1
 
--- rows of columns have two dimensions, whose chunks a tree finds
-abbrev pub index_in : Option (ℕ × ℕ) → IndexKind
-index_in None = Array
-index_in (Some x) = Tree
+-- rows of columns have two dimensions
+abbrev pub rank_in : Option (ℕ × ℕ) → ℕ
+rank_in None = 1
+rank_in (Some x) = 2
+
+-- of which the second has no maximum, unless it is fixed
+abbrev pub grows_in : Option (ℕ × ℕ) → Bool → Bool
+grows_in None fixed = false
+grows_in (Some x) fixed = not fixed
+
+-- a tree finds the chunks where it has none, else an array
+abbrev pub index_in : Option (ℕ × ℕ) → Bool → IndexKind
+index_in columns fixed = if grows_in columns fixed then Tree else Array
 
 -- how the rows are cut into chunks
 abbrev pub cutting_by : Options → Cutting
@@ -45,6 +54,7 @@ pub record AreOptions (o : Options) : Type 0 where
   pub some_rows : 1 ≤ o.chunk_rows
   pub chunk_bound : o.chunk_rows ≤ 65536
   pub columns : IfSome o.columns AreColumns
+  pub fixed : IsTrue o.fixed → IsSome o.columns × (width_in o.columns ≤ columns_in o.columns)
   pub small : o.chunk_rows * width_in o.columns * o.int_type.size ≤ 16777216
   pub filled : IfSome o.fill (HasValue (int_type_of o.int_type))
   pub limit_low : 1024 ≤ o.limit

@@ -10,9 +10,11 @@ pub struct Options {
     pub int_type: IntType,
     /// How many rows a chunk has, 1 to 65,536.
     pub chunk_rows: u64,
-    /// How many columns a row has, and how many of them a chunk, 1 to 65,536 each: the dataset has two dimensions then, and both may grow.
-    /// Without them it has one dimension, and a row is one value. A chunk has at most 16,777,216 bytes.
+    /// How many columns a row has, and how many of them a chunk, 1 to 65,536 each: the dataset has two dimensions then. Without them it has
+    /// one dimension, and a row is one value. A chunk has at most 16,777,216 bytes.
     pub columns: Option<(u64, u64)>,
+    /// The second dimension's size is its maximum; else it may grow. Only with columns, and a chunk no wider than the columns.
+    pub fixed: bool,
     /// The value of the type that cells have which no row was written to; without one it is 0, and the file says no fill.
     pub fill: Option<i128>,
     /// The most bytes of the file, 1,024 to 2^40.

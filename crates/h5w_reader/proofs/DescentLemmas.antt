@@ -9,7 +9,7 @@ use Rattle.h5w_model.specs.Numbers.{undefined}
 use Rattle.h5w_model.specs.Arrays.{SlotsFields, super_block_of, eadb_at, easb_at}
 use Rattle.h5w_model.specs.Datasets.{Described, then_also, refused_as}
 use Rattle.h5w_model.specs.Calls.{CallRules}
-use Rattle.h5w_model.specs.Tables.{Reading, InPlace, address_behind, chunks_across, needed, data_slot}
+use Rattle.h5w_model.specs.Tables.{Reading, InPlace, address_behind, keys_across, needed, data_slot}
 use Rattle.h5w_model.specs.declared.refusal.BlockFault.{BlockFault}
 use Rattle.h5w_model.specs.declared.refusal.BlockFault.TheVariants as faults
 use Rattle.h5w_model.specs.declared.refusal.ReadError.{ReadError}
@@ -34,15 +34,15 @@ slots_end : (at : ℕ) (known : List ℕ) (d : Described) (p : InPlace) (ks : Li
 unfolding slots_rest
 slots_end at known d p ks i done h =
     let none : needed d - i ≡ 0 = omega arith in
-    ap (λ n. lowered 16 ks (and_then (slots_from p (chunks_across d) known n i done) (answered at d))) none
+    ap (λ n. lowered 16 ks (and_then (slots_from p (keys_across d) known n i done) (answered at d))) none
 
 -- at a needed chunk
 slots_step : (at : ℕ) (known : List ℕ) (d : Described) (p : InPlace) (i : ℕ) (done : List ℕ) → i < needed d
-    → slots_left at known d p i done ≡ and_then (known_or p (chunks_across d) known i) (λ a. slots_left at known d p (i + 1) (done ++ a ∷ []))
+    → slots_left at known d p i done ≡ and_then (known_or p (keys_across d) known i) (λ a. slots_left at known d p (i + 1) (done ++ a ∷ []))
 slots_step at known d p i done h =
     let more : needed d - i ≡ suc (needed d - (i + 1)) = omega arith in
-    ap (λ n. and_then (slots_from p (chunks_across d) known n i done) (answered at d)) more
-    ∙ then_assoc (known_or p (chunks_across d) known i) (λ a. slots_from p (chunks_across d) known (needed d - (i + 1)) (i + 1) (done ++ a ∷ [])) (answered at d)
+    ap (λ n. and_then (slots_from p (keys_across d) known n i done) (answered at d)) more
+    ∙ then_assoc (known_or p (keys_across d) known i) (λ a. slots_from p (keys_across d) known (needed d - (i + 1)) (i + 1) (done ++ a ∷ [])) (answered at d)
 
 -- a chunk whose address is known, and one whose address is not
 known_is : (p : InPlace) (across : ℕ) (known : List ℕ) (i : ℕ) → get_or known i undefined ≢ undefined → known_or p across known i ≡ ret (Ok (get_or known i undefined))
@@ -55,7 +55,7 @@ known_step : (at : ℕ) (known : List ℕ) (d : Described) (p : InPlace) (i : �
     → slots_left at known d p i done ≡ slots_left at known d p (i + 1) (done ++ get_or known i undefined ∷ [])
 known_step at known d p i done h there =
     slots_step at known d p i done h
-    ∙ ap (λ (q : Prog (Result ℕ ReadError)). and_then q (λ a. slots_left at known d p (i + 1) (done ++ a ∷ []))) (known_is p (chunks_across d) known i there)
+    ∙ ap (λ (q : Prog (Result ℕ ReadError)). and_then q (λ a. slots_left at known d p (i + 1) (done ++ a ∷ []))) (known_is p (keys_across d) known i there)
 
 -- known chunks, one behind the other, which stand in a table
 slots_go : (at : ℕ) (known : List ℕ) (d : Described) (p : InPlace) (table : List ℕ) (i m : ℕ) → i + m ≤ needed d → i + m ≤ length table
@@ -125,16 +125,16 @@ slots_here at known d p xs h =
     ∙ ap (λ n. slots_left at known d p n table) count
 
 -- that chunk is looked up
-pub slots_at : (at : ℕ) (known : List ℕ) (d : Described) (p : InPlace) (ks : List Kept) (across i : ℕ) (xs : List ℕ) → across ≡ chunks_across d → i ≡ unknown_at known (length xs) → i < needed d
+pub slots_at : (at : ℕ) (known : List ℕ) (d : Described) (p : InPlace) (ks : List Kept) (across i : ℕ) (xs : List ℕ) → across ≡ keys_across d → i ≡ unknown_at known (length xs) → i < needed d
     → store_rest ks (address_behind p (key_of across i)) (after_found at known d p xs) ≡ slots_rest at known d p ks (length (needed_with known d xs)) (needed_with known d xs)
 unfolding slots_rest store_rest
 slots_at at known d p ks across i xs wide is less =
     let u : ℕ = unknown_at known (length xs) in
     let near : u < needed d = omega arith in
     ap (λ m. lowered 16 ks (and_then (address_behind p (key_of m i)) (after_found at known d p xs))) wide
-    ∙ ap (λ m. lowered 16 ks (and_then (address_behind p (key_of (chunks_across d) m)) (after_found at known d p xs))) is
-    ∙ ap (λ (q : Prog (Result ℕ ReadError)). lowered 16 ks (and_then q (after_found at known d p xs))) (sym (sought_is p (chunks_across d) known u (unknown_is known (length xs))))
-    ∙ ap (λ (f : ℕ → Prog (Result Reading ReadError)). lowered 16 ks (and_then (known_or p (chunks_across d) known u) f)) (λ i a. sym (slots_more at known d p xs a near) i)
+    ∙ ap (λ m. lowered 16 ks (and_then (address_behind p (key_of (keys_across d) m)) (after_found at known d p xs))) is
+    ∙ ap (λ (q : Prog (Result ℕ ReadError)). lowered 16 ks (and_then q (after_found at known d p xs))) (sym (sought_is p (keys_across d) known u (unknown_is known (length xs))))
+    ∙ ap (λ (f : ℕ → Prog (Result Reading ReadError)). lowered 16 ks (and_then (known_or p (keys_across d) known u) f)) (λ i a. sym (slots_more at known d p xs a near) i)
     ∙ ap (lowered 16 ks) (sym (slots_step at known d p u (with_found known xs) near))
     ∙ ap (lowered 16 ks) (sym (slots_here at known d p xs near))
 

@@ -13,6 +13,7 @@ use Rattle.h5w_model.specs.Tables.{Reading, needed, needed_keys, limit_of}
 use Rattle.h5w_model.specs.declared.refusal.ReadError.{ReadError}
 use Rattle.h5w_model.specs.declared.refusal.ReadError.TheVariants.{Shrunk, TooManyChunks}
 use Rattle.h5w_laws.proofs.AnswerLemmas.{unstored_dataset}
+use Rattle.h5w_laws.proofs.NumberLemmas.{needed_count}
 use Rattle.h5w_reader.specs.Looks.{plain, with_store}
 use Rattle.h5w_reader.specs.Slots.{answered}
 use Rattle.h5w_reader.specs.Seen.{answer_of, IsHeaderOf}
@@ -20,7 +21,6 @@ use Rattle.h5w_reader.specs.Calling.{behind_rest}
 use Rattle.h5w_reader.specs.Idle.{IsIdle}
 use Rattle.h5w_reader.proofs.UnstoredLemmas.{unstored_then}
 use Rattle.h5w_reader.proofs.TableLemmas.{lacks_none, table_if}
-use Rattle.h5w_reader.proofs.KeyLemmas.{length_keys}
 
 -- ---- Answers
 
@@ -72,7 +72,7 @@ rest_all g r all =
     let unshrunk : nat_lt rows rows ≡ false = le-ltb rows rows (omega arith) in
     let beyond : get_or r.table (length r.table) undefined ≡ undefined = get_or-eq_default r.table undefined (let h : length r.table ≤ length r.table = omega arith in h) in
     let none : some_unknown r.table (needed_keys d) ≡ false = lacks_none r.table d (length r.table) all.defined beyond (let h : needed d ≤ length r.table = omega (arith, all.count) in h) in
-    let keys : length (needed_keys d) ≡ length r.table = length_keys d ∙ all.count in
+    let keys : length (needed_keys d) ≡ length r.table = needed_count d ∙ all.count in
     ap (λ c. with_store (and_then (ret (cond c (Err (Shrunk rows rows)) (Ok d))) (λ d. and_then (needed_from g.limits (known_table (Some r) d) d) (answered g.place d)))) unshrunk
     ∙ ap (λ c. with_store (and_then (needed_from g.limits (cond c r.table []) d) (answered g.place d))) (same_itself d)
     ∙ ap (λ c. with_store (and_then (cond c (ret (Err (TooManyChunks (needed d) (limit_of g.limits d.layout.index)))) (table_if r.table d (needed_keys d) (some_unknown r.table (needed_keys d)))) (answered g.place d))) (le-ltb (limit_of g.limits d.layout.index) (needed d) all.few)

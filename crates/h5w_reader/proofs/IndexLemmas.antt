@@ -1,7 +1,9 @@
 -- The blocks in place of an index, and how many chunks are looked up in it.
-use Rattle.std.proofs.Common.{◌≡◌, ℕ, zero, suc, ◌+◌, ◌*◌, ◌/◌, ◌<◌, ◌≤◌, ◌∙◌, sym, ap, subst, arith}
+use Rattle.std.proofs.Common.{◌≡◌, ℕ, zero, suc, ◌+◌, ◌*◌, ◌/◌, ◌<◌, ◌≤◌, ◌∙◌, refl, sym, ap, subst, arith}
 use Rattle.h5w_model.specs.Datasets.{Described}
-use Rattle.h5w_model.specs.Tables.{bands, chunks_across, needed}
+use Rattle.h5w_model.specs.Tables.{bands, chunks_across, keys_across, needed}
+use Rattle.h5w_model.specs.declared.cell.IndexKind.{IndexKind}
+use Rattle.h5w_model.specs.declared.cell.IndexKind.TheVariants.{Array, Tree}
 use Rattle.h5w_model.specs.Trees.{capacity_of}
 use Rattle.h5w_ea.specs.declared.index_block.Eaib.{Eaib}
 use Rattle.h5w_bt.specs.Fields.{bthd_of}
@@ -27,9 +29,17 @@ pub index_quotient : (index : Index) (i across : ℕ) → 0 < across → IsIndex
 index_quotient index i across h is = let less = div-le_self i across in index_fewer index (i / across + 1) (i + 1) (omega arith) is
 
 -- where a chunk is needed, one stands in each band
-pub some_across : (d : Described) (i across : ℕ) → i < needed d → across ≡ chunks_across d → 0 < across
-some_across d i zero h e = let none : needed d ≡ 0 = ap (λ n. bands d * n) (sym e) ∙ mul-zero (bands d) in absurd (omega arith)
-some_across d i (suc across) h e = omega arith
+some_chunks : (d : Described) (i across : ℕ) → i < needed d → across ≡ chunks_across d → 0 < across
+some_chunks d i zero h e = let none : needed d ≡ 0 = ap (λ n. bands d * n) (sym e) ∙ mul-zero (bands d) in absurd (omega arith)
+some_chunks d i (suc across) h e = omega arith
+
+some_keys : (kind : IndexKind) (across : ℕ) → 0 < across → 0 < elim kind as (λ _. ℕ) [ Array ↦ 1 | Tree ↦ across ]
+some_keys Array across h = omega arith
+some_keys Tree across h = h
+
+-- and a key in each line
+pub some_across : (d : Described) (i across : ℕ) → i < needed d → across ≡ keys_across d → 0 < across
+some_across d i across h e = subst (λ (n : ℕ). 0 < n) (sym e) (some_keys d.layout.index (chunks_across d) (some_chunks d i (chunks_across d) h refl))
 
 -- ---- What it is
 

@@ -6,7 +6,6 @@ pub mod ViewLemmas
 pub mod OpenLemmas
 pub mod DescribedLemmas
 pub mod ChunkLemmas
-pub mod KeyLemmas
 pub mod TableLemmas
 pub mod StoreLemmas
 pub mod SizeLemmas

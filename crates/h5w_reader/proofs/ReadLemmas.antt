@@ -227,7 +227,7 @@ band_read r from to i place len done b front t size e enough is =
 
 -- ---- A span of rows
 
-pub span_line : (d : Dataset) → d.shape.growing ≡ false → IsLine (described_of d)
+pub span_line : (d : Dataset) → d.shape.rank ≡ 1 → IsLine (described_of d)
 span_line d e = record { cols = (d.line e).0; chunk_cols = (d.line e).1; chunk_rows = d.tall }
 
 pub span_touched : (k : Known) (s : Span) (i : ℕ) → s.from / s.dataset.layout.chunk.0 ≤ i → i ≤ (s.to - 1) / s.dataset.layout.chunk.0 → IsTouched (reading_with k s.dataset) s.from s.to i

@@ -1,6 +1,7 @@
 -- The addresses of needed chunks, from the index on.
-use Rattle.std.proofs.Common.{◌≡◌, ◌≢◌, ℕ, zero, suc, ◌+◌, ◌-◌, ◌<◌, ◌≤◌, Bool, true, false, cond, List, [], ◌∷◌, ◌++◌, length, take, get_or, Result, Ok, Err, ◌⊎◌, inl, inr, refl, sym, ◌∙◌, ap, append_assoc, append-nil, arith}
+use Rattle.std.proofs.Common.{◌≡◌, ◌≢◌, ℕ, zero, suc, ◌+◌, ◌-◌, ◌<◌, ◌≤◌, Bool, true, false, cond, List, [], ◌∷◌, ◌++◌, length, map, take, get_or, Result, Ok, Err, ◌⊎◌, inl, inr, refl, sym, ◌∙◌, ap, append_assoc, append-nil, arith}
 use Rattle.std.specs.Prelude.{◌==◌, nat_lt}
+use Rattle.std.specs.List.{range_with_len}
 use Rattle.std.proofs.lemmas.Bool.{lt-ltb, le-ltb, eq-eqb, ne_eqb, cases_Bool, cases_lt, eqb-true, eqb-false}
 use Rattle.h5w_model.specs.Programs.{Prog, ret, whole, bind, and_then, cut_up}
 use Rattle.h5w_model.specs.Numbers.{undefined}
@@ -8,7 +9,7 @@ use Rattle.h5w_model.specs.Arrays.{EahdFields, EaibFields, eahd_at, eaib_at, eah
 use Rattle.h5w_model.specs.Trees.{BthdFields, bthd_at, bthd_len}
 use Rattle.h5w_model.specs.Datasets.{Described, described, then_also, refused_as}
 use Rattle.h5w_model.specs.Datasets as model
-use Rattle.h5w_model.specs.Tables.{Reading, InPlace, nowhere, in_array, in_tree, in_place, array_in_place, tree_in_place, address_behind, needed, limit_of, needed_keys, chunks_across}
+use Rattle.h5w_model.specs.Tables.{Reading, InPlace, nowhere, in_array, in_tree, in_place, array_in_place, tree_in_place, address_behind, needed, limit_of, needed_keys, keys_across}
 use Rattle.h5w_model.specs.declared.cell.Key.{Key}
 use Rattle.h5w_model.specs.declared.cell.IndexKind.{IndexKind}
 use Rattle.h5w_model.specs.declared.cell.IndexKind.TheVariants.{Array, Tree}
@@ -24,8 +25,8 @@ use Rattle.h5w_reader.specs.Slots.{key_of, known_or, slots_from, answered, slots
 use Rattle.h5w_reader.specs.Attempts.{index_rest, array_rest, tree_rest, table_rest, described_rest}
 use Rattle.h5w_reader.specs.declared.dataset.Dataset.{Dataset}
 use Rattle.h5w_reader.proofs.PieceLemmas.{cut_up_is}
+use Rattle.h5w_laws.proofs.NumberLemmas.{needed_count}
 use Rattle.h5w_reader.proofs.CallLemmas.{then_assoc}
-use Rattle.h5w_reader.proofs.KeyLemmas.{keys_from, keys_are, length_keys}
 
 cases_eqb : (a b : ℕ) → (a ≡ b) ⊎ (a ≡ b → ⊥)
 cases_eqb a b = elim (cases_Bool (a == b)) [ inl t ↦ inl (eqb-true a b t) | inr f ↦ inr (eqb-false a b f) ]
@@ -44,6 +45,10 @@ unknown_behind [] (k ∷ ks) (suc full) defined first = absurd (defined 0 (omega
 unknown_behind (a ∷ known) (k ∷ ks) zero defined first = rw (eq-eqb a undefined first) (sym (lt-ltb 0 (suc (length ks)) (omega arith)))
 unknown_behind (a ∷ known) (k ∷ ks) (suc full) defined first =
     rw (ne_eqb a undefined (defined 0 (omega arith))) (unknown_behind known ks full (λ i h. defined (suc i) (omega arith)) first ∙ sym (lt_suc full (length ks)))
+
+-- the keys of n chunks, from one on, where so many keys stand side by side
+abbrev keys_from : ℕ → ℕ → ℕ → List Key
+keys_from across from n = map (key_of across) (range_with_len from n)
 
 -- an address that may be known, by the definition and chunk by chunk
 first_step : (q : InPlace) (across : ℕ) (known : List ℕ) (i a : ℕ) → get_or known i undefined ≡ a → address_or q a (key_of across i) ≡ known_or q across known i
@@ -92,9 +97,8 @@ behind_placed : (at : ℕ) (known : List ℕ) (d : Described) (p : InPlace) → 
 unfolding slots_rest
 behind_placed at known d p =
     let all : needed d ≡ needed d - 0 = omega arith in
-    let across = chunks_across d in
-    ap (λ ks. behind at known d ks p) (keys_are d)
-    ∙ ap with_store (each_is at d p across known known (needed d) 0 [] (λ j. ap (λ m. get_or known m undefined) (let z : 0 + j ≡ j = omega arith in z)))
+    let across = keys_across d in
+    ap with_store (each_is at d p across known known (needed d) 0 [] (λ j. ap (λ m. get_or known m undefined) (let z : 0 + j ≡ j = omega arith in z)))
     ∙ ap (λ m. with_store (and_then (slots_from p across known m 0 []) (answered at d))) all
 
 index_given : ℕ → List ℕ → Described → List Key → ℕ → Result EaibFields BlockFault → Prog (Result Reading ReadError)
@@ -203,10 +207,10 @@ rest_array at known d some e kind = rw (some, ne_eqb d.layout.address undefined 
 
 -- by how many of the first are known
 pub lacks_none : (known : List ℕ) (d : Described) (full : ℕ) → ((i : ℕ) → i < full → get_or known i undefined ≢ undefined) → get_or known full undefined ≡ undefined → needed d ≤ full → some_unknown known (needed_keys d) ≡ false
-lacks_none known d full defined first h = unknown_behind known (needed_keys d) full defined first ∙ ap (nat_lt full) (length_keys d) ∙ le-ltb full (needed d) h
+lacks_none known d full defined first h = unknown_behind known (needed_keys d) full defined first ∙ ap (nat_lt full) (needed_count d) ∙ le-ltb full (needed d) h
 
 pub lacks_some : (known : List ℕ) (d : Described) (full : ℕ) → ((i : ℕ) → i < full → get_or known i undefined ≢ undefined) → get_or known full undefined ≡ undefined → full < needed d → some_unknown known (needed_keys d) ≡ true
-lacks_some known d full defined first h = unknown_behind known (needed_keys d) full defined first ∙ ap (nat_lt full) (length_keys d) ∙ lt-ltb full (needed d) h
+lacks_some known d full defined first h = unknown_behind known (needed_keys d) full defined first ∙ ap (nat_lt full) (needed_count d) ∙ lt-ltb full (needed d) h
 
 -- the kind of index is that of the shape
 pub array_kind : (d : Dataset) → d.shape.growing ≡ false → d.layout.index ≡ Array
@@ -263,7 +267,7 @@ table_if known d ks lacking = cond lacking (and_then (in_place d) (λ p. each_un
 by_known : (at : ℕ) (known : List ℕ) (d : Described) → some_unknown known (needed_keys d) ≡ false → by_table at known d ≡ table_rest at known d
 by_known at known d none =
     ap (λ c. with_store (and_then (table_if known d (needed_keys d) c) (answered at d))) none
-    ∙ ap (λ n. answered at d (take n known)) (length_keys d)
+    ∙ ap (λ n. answered at d (take n known)) (needed_count d)
     ∙ sym (rest_known at known d none)
 
 by_unknown : (at : ℕ) (known : List ℕ) (d : Described) (ks : List Key) → some_unknown known ks ≡ true → by_keys at known d ks ≡ placed at known d ks (in_place d)

@@ -3,12 +3,12 @@ use Rattle.std.specs.Prelude.{ℕ, zero, suc, ◌+◌, ◌-◌, ◌/◌, ◌%◌
 use Rattle.h5w_model.specs.Programs.{Prog, ret, and_then, lowered, Kept}
 use Rattle.h5w_model.specs.Numbers.{undefined}
 use Rattle.h5w_model.specs.Datasets.{Described}
-use Rattle.h5w_model.specs.Tables.{Reading, InPlace, address_behind, chunks_across, needed}
+use Rattle.h5w_model.specs.Tables.{Reading, InPlace, address_behind, keys_across, needed}
 use Rattle.h5w_reader.specs.Unknown.{needed_with}
 use Rattle.h5w_model.specs.declared.cell.Key.{Key}
 use Rattle.h5w_model.specs.declared.refusal.ReadError.{ReadError}
 
--- the key of chunk i, where so many stand side by side
+-- the key of chunk i, where so many keys stand side by side
 abbrev pub key_of : ℕ → ℕ → Key
 key_of across i = record { i = i / across; j = i % across }
 
@@ -27,11 +27,11 @@ answered at d table = ret (Ok (record { place = at; dataset = d; table = table }
 
 -- the needed addresses from chunk i on, with these blocks kept
 unfoldable pub slots_rest : ℕ → List ℕ → Described → InPlace → List Kept → ℕ → List ℕ → Prog (Result Reading ReadError)
-slots_rest at known d p ks i done = lowered 16 ks (and_then (slots_from p (chunks_across d) known (needed d - i) i done) (answered at d))
+slots_rest at known d p ks i done = lowered 16 ks (and_then (slots_from p (keys_across d) known (needed d - i) i done) (answered at d))
 
 -- from chunk i on
 abbrev pub slots_left : ℕ → List ℕ → Described → InPlace → ℕ → List ℕ → Prog (Result Reading ReadError)
-slots_left at known d p i done = and_then (slots_from p (chunks_across d) known (needed d - i) i done) (answered at d)
+slots_left at known d p i done = and_then (slots_from p (keys_across d) known (needed d - i) i done) (answered at d)
 
 -- from the chunk on that is the first without a known address, but for those of which one was found
 abbrev pub found_left : ℕ → List ℕ → Described → InPlace → List ℕ → Prog (Result Reading ReadError)

@@ -1,4 +1,4 @@
--- What is left of a read of rows, of a dataset of one column.
+-- What is left of a read of rows, of a dataset of one dimension.
 use Rattle.std.specs.Prelude.{ℕ, zero, suc, ◌+◌, ◌-◌, ◌*◌, length, List, ◌++◌, map, nat_lt, if◌then◌else◌, Option, Some, Result, Ok, Err, ℤ}
 use Rattle.std.specs.List.{range_with_len}
 use Rattle.h5w_model.specs.Programs.{Prog, ret, whole, bind, and_then, below_end}

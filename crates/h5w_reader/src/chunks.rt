@@ -1,10 +1,11 @@
 //! The chunks that a dataset's rows need.
 ghost use Rattle.std.specs.Prelude.{◌≡◌, ◌<◌, ◌≤◌, ◌^◌, false};
 ghost use Rattle.h5w_model.specs.Logs.{div_up};
-ghost use Rattle.h5w_model.specs.Tables.{bands, chunks_across, needed};
+ghost use Rattle.h5w_model.specs.Tables.{bands, chunks_across, keys_across, needed};
 ghost use Rattle.h5w_reader.specs.Described.{described_of};
 
 use crate::dataset::Dataset;
+use h5w_layout::IndexKind;
 
 /// How many chunks an array has at most whose data blocks have no pages.
 const ARRAY: u64 = 131_060;
@@ -43,6 +44,16 @@ impl Dataset {
         div_up(self.shape.cols, self.layout.chunk.1)
     }
 
+    /// How many keys of its index stand side by side.
+    pub fn keys_across(&self) -> u64
+        ensures { result ≡ keys_across (described_of self.now) }
+    {
+        match self.layout.index {
+            IndexKind::Array => 1,
+            IndexKind::Tree => self.across() as u64,
+        }
+    }
+
     /// How many chunks its rows need.
     #[tactic(auto, using(crate::proofs::ChunkLemmas::product_fits))]
     pub fn needed(&self) -> u128
@@ -55,7 +66,7 @@ impl Dataset {
     pub fn limit(&self) -> u64
         ensures exact { result ≡ limit_of reader_limits (described_of self.now).layout.index }
         ensures few { result ≤ 1000000 }
-        ensures line { self.now.shape.growing ≡ false → result ≤ 131060 }
+        ensures array { self.now.shape.growing ≡ false → result ≤ 131060 }
     {
         if self.shape.growing { TREE } else { ARRAY }
     }

@@ -1,5 +1,5 @@
 //! What the messages of a dataset's header say.
-ghost use Rattle.std.specs.Prelude.{◌≡◌, ◌*◌, ◌^◌, ◌<◌, false};
+ghost use Rattle.std.specs.Prelude.{◌≡◌, ◌*◌, ◌^◌, ◌<◌};
 ghost use Rattle.std.specs.Option.{ForSome};
 ghost use Rattle.h5w_model.specs.Messages.{index_of, IsIntType};
 ghost use Rattle.h5w_types.specs.Fields.{shape_of, int_type_of};
@@ -20,5 +20,5 @@ pub struct Dataset {
     ghost typed: { IsIntType (int_type_of int_type) },
     ghost filled: { ForSome fill.value (λ c. c.size ≡ int_type.size) },
     ghost indexed: { layout.index ≡ index_of (shape_of shape) },
-    ghost line: { shape.growing ≡ false → (shape.cols ≡ 1) × (layout.chunk.1 ≡ 1) },
+    ghost line: { shape.rank ≡ 1 → (shape.cols ≡ 1) × (layout.chunk.1 ≡ 1) },
 }

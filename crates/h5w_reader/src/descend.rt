@@ -68,7 +68,7 @@ impl Descent {
             mut store,
         } = self;
         let needed = dataset.needed() as usize;
-        let across = dataset.across() as u64;
+        let across = dataset.keys_across();
         let mut i = unknown(known, &dataset, found.len());
         while i < needed {
             let address = match Sought::chunk(&mut store, &index, across, i) {

@@ -1,6 +1,6 @@
 //! The way from the superblock to the messages of the root header.
 ghost use Rattle.std.specs.Prelude.{◌≡◌, ◌+◌, ◌<◌, ◌≤◌, ◌^◌, min, length, Some, Ok, IfOk};
-ghost use Rattle.h5w_model.specs.Datasets.{super_of};
+ghost use Rattle.h5w_model.specs.Datasets.{is_swmr, super_of};
 
 use crate::found::FoundMessage;
 use crate::gather::{Gather, Gathered};
@@ -35,6 +35,13 @@ pub enum Opened {
     Looks(Opening),
 }
 
+/// Whether the flags say open for writing and open for SWMR writing, or neither. In version 2 they say nothing.
+fn is_swmr(s: &Super) -> bool
+    ensures { result ≡ is_swmr s.now }
+{
+    s.version == 2 || s.flags % 2 == s.flags / 4 % 2
+}
+
 /// The superblock of a file that readers may open, or its refusal.
 fn read_super(bytes: &[u8]) -> Result<Super, ReadError>
     ensures exact { result ≡ super_of bytes.now }
@@ -43,7 +50,7 @@ fn read_super(bytes: &[u8]) -> Result<Super, ReadError>
         Ok(s) => s,
         Err(error) => return Err(super_refusal(error)),
     };
-    if s.flags % 2 != s.flags / 4 % 2 {
+    if !is_swmr(&s) {
         return Err(ReadError::NotSwmr { flags: s.flags });
     }
     Ok(s)

@@ -137,7 +137,7 @@ impl Sought {
         }
     }
 
-    /// The address of chunk number `i`; so many stand side by side.
+    /// The address of chunk number `i`; so many keys stand side by side.
     pub fn chunk(store: &mut Store, index: &Index, across: u64, i: usize) -> Sought
         requires indexed { IsIndexOf (i + 1) index.now }
         requires some { 0 < across }

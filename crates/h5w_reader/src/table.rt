@@ -112,7 +112,7 @@ impl LookedUp {
         d: &Dataset,
     ) -> Result<LookedUp, OutOfMemory>
         requires few { needed (described_of d.now) ≤ 1000000 }
-        requires line { d.now.shape.growing ≡ false → needed (described_of d.now) ≤ 131060 }
+        requires array { d.now.shape.growing ≡ false → needed (described_of d.now) ≤ 131060 }
         ensures { IfOk result (λ l. looked_up (rules_of rules.now (known_of known.now)) l ≡ table_rest rules.now.place (known_table (known_of known.now) (described_of d.now)) (described_of d.now)) }
     {
         let needed = d.needed() as usize;

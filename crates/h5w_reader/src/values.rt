@@ -1,5 +1,5 @@
 //! A half-done read of rows, chunk by chunk; of a dataset of two dimensions it stands in [`crate::grid`].
-ghost use Rattle.std.specs.Prelude.{◌≡◌, ◌≢◌, ◌+◌, ◌-◌, ◌*◌, ◌/◌, ◌^◌, ◌<◌, ◌≤◌, get_or, length, ℕ, false, Some, IfOk};
+ghost use Rattle.std.specs.Prelude.{◌≡◌, ◌≢◌, ◌+◌, ◌-◌, ◌*◌, ◌/◌, ◌^◌, ◌<◌, ◌≤◌, get_or, length, ℕ, Some, IfOk};
 ghost use Rattle.h5w_model.specs.Numbers.{undefined};
 ghost use Rattle.h5w_model.specs.Calls.{first_in_band, last_in_band};
 ghost use Rattle.h5w_reader.specs.Described.{described_of};
@@ -15,7 +15,7 @@ use h5w_bytes::UNDEFINED;
 use h5w_model::{BlockFault, OutOfMemory, Piece, ReadError, Values};
 use std::alloc::Global;
 
-/// Rows of a dataset of one column.
+/// Rows of a dataset of one dimension.
 #[derive(Clone, Copy)]
 pub struct Span {
     dataset: Dataset,
@@ -23,7 +23,7 @@ pub struct Span {
     from: u64,
     /// The row behind the last.
     to: u64,
-    ghost line: { dataset.shape.growing ≡ false },
+    ghost line: { dataset.shape.rank ≡ 1 },
     ghost some: { from < to },
 }
 
@@ -206,7 +206,7 @@ impl Goes {
         let _rows = known.dataset.shape.rows;
         let dataset = known.dataset;
         let (to, band, none) = (from + count, from / dataset.layout.chunk.0, Vec::new(alloc));
-        if !dataset.shape.growing {
+        if dataset.shape.rank == 1 {
             return Span { dataset, from, to }.go_on(alloc, known, band, none);
         }
         if dataset.shape.cols == 0 {

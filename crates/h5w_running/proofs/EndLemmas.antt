@@ -97,6 +97,7 @@ good a s t (Err (Error (errors.Read r))) text comes h source image = absurd come
 good a s t (Err (Error (errors.Finding kind at))) text comes h source image = absurd comes.0.2
 good a s t (Err (Error (errors.Overlap at len other other_len))) text comes h source image = absurd comes.0.2
 good a s t (Err (Error (errors.Cut end size))) text comes h source image = absurd comes.0.2
+good a s t (Err (Error (errors.WriterVersion version))) text comes h source image = absurd comes.0.2
 good a s t (Err (Error errors.Layout)) text comes h source image = absurd comes.0.2
 good a s t (Err (Error (errors.ChunkBytes bytes))) text comes h source image = absurd comes.0.2
 good a s t (Err (Error errors.NoColumns)) text comes h source image = absurd comes.0.2

@@ -1,40 +1,17 @@
 -- What a piece leaves of the addresses of the needed chunks.
-use Rattle.std.proofs.Common.{◌≡◌, ℕ, zero, suc, ◌+◌, ◌*◌, ◌<◌, ◌≤◌, List, length, get_or, sym, ap, ◌∙◌, subst, arith, length-append}
-use Rattle.std.specs.Prelude.{map, flat_map}
-use Rattle.std.specs.List.{range_with_len}
+use Rattle.std.proofs.Common.{◌≡◌, ℕ, ◌+◌, ◌*◌, ◌<◌, ◌≤◌, List, length, get_or, sym, ap, ◌∙◌, subst, arith}
 use Rattle.std.proofs.lemmas.Nat.{mul-le}
-use Rattle.std.proofs.lemmas.List.FromFn.{length-map-range_with_len}
 use Rattle.h5w_model.specs.Numbers.{undefined}
 use Rattle.h5w_model.specs.Datasets.{Described}
-use Rattle.h5w_model.specs.Tables.{Reading, Shows, bands, chunks_across, format_limits, needed, needed_keys}
+use Rattle.h5w_model.specs.Tables.{Reading, Shows, format_limits, needed}
 use Rattle.h5w_model.specs.Findings.{Used}
-use Rattle.h5w_model.specs.declared.cell.Key.{Key}
 use Rattle.h5w_model.specs.declared.piece.Write.{Write}
+use Rattle.h5w_laws.proofs.NumberLemmas.{needed_count}
 use Rattle.h5w_steps.specs.Moments.{Moment, Represents, reading_of}
 use Rattle.h5w_steps.specs.Steps.{Step, commits, ends, switches, unseen}
 use Rattle.h5w_steps.proofs.FoundLemmas.{shown_is}
 use Rattle.h5w_steps.proofs.MomentLemmas.{one_more, table_of_file}
 use Rattle.h5w_session.specs.Past.{AllAddressed}
-
--- ---- How many needed keys there are
-
-abbrev pub key_at : ℕ → ℕ → Key
-key_at i j = record { i = i; j = j }
-
-abbrev grid_keys : ℕ → ℕ → ℕ → List Key
-grid_keys across from count = flat_map (λ row. map (λ column. record { i = row; j = column }) (range_with_len 0 across)) (range_with_len from count)
-
-length-grid : (across from count : ℕ) → length (grid_keys across from count) ≡ count * across
-length-grid across from zero = let e : 0 ≡ 0 * across = omega arith in e
-length-grid across from (suc count) =
-    let first : List Key = map (λ column. record { i = from; j = column }) (range_with_len 0 across) in
-    let one : length first ≡ across = length-map-range_with_len (λ column. let k : Key = record { i = from; j = column } in k) 0 across in
-    let rest = length-grid across (from + 1) count in
-    let sum : across + count * across ≡ suc count * across = grind arith in
-    length-append first (grid_keys across (from + 1) count) ∙ omega (arith, one, rest, sum)
-
-pub length-needed_keys : (d : Described) → length (needed_keys d) ≡ needed d
-length-needed_keys d = length-grid (chunks_across d) 0 (bands d)
 
 -- ---- A piece that brings no rows
 
@@ -51,7 +28,7 @@ step_addressed img name m held w n after r some (ends raised kept) values a = su
 step_addressed img name m held w n after r some (switches named off clear now) values a = λ k below.
     let same : n.dataset ≡ m.dataset = ap (λ (x : Moment). x.dataset) named.is in
     let inside : k < needed m.dataset = subst (λ (d : Described). k < needed d) same below in
-    let count : length m.table ≡ needed m.dataset = (table_of_file img name m r).listed ∙ length-needed_keys m.dataset in
+    let count : length m.table ≡ needed m.dataset = (table_of_file img name m r).listed ∙ needed_count m.dataset in
     let stays : get_or n.table k undefined ≡ get_or m.table k undefined = named.addresses k (omega (arith, count)) (a k inside) in
     λ e. a k inside (sym stays ∙ e)
 step_addressed img name m held w n after r some (commits committed now) values a =

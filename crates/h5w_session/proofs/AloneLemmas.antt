@@ -1,15 +1,17 @@
 -- Rows that all go into one chunk that has its place.
-use Rattle.std.proofs.Common.{◌≡◌, ℕ, ◌+◌, ◌-◌, ◌*◌, ◌/◌, ◌%◌, ◌<◌, ◌≤◌, nat_lt, [], ◌∷◌, Option, Some, None, sym, ap, ◌∙◌, subst, inl, inr, arith}
+use Rattle.std.proofs.Common.{◌≡◌, refl, ℕ, ◌+◌, ◌-◌, ◌*◌, ◌/◌, ◌%◌, ◌<◌, ◌≤◌, nat_lt, [], ◌∷◌, Option, Some, None, sym, ap, ◌∙◌, subst, inl, inr, arith}
 use Rattle.std.specs.Option.{IfNone, IfSome}
 use Rattle.std.proofs.lemmas.Bool.{cases_lt, cond-false, le-ltb}
 use Rattle.h5w_model.specs.Datasets.{Described}
 use Rattle.h5w_model.specs.Logs.{div_up}
 use Rattle.h5w_model.specs.Tables.{chunks_across}
-use Rattle.h5w_model.specs.declared.cell.Key.{Key}
+use Rattle.h5w_model.specs.declared.cell.IndexKind.{IndexKind}
+use Rattle.h5w_model.specs.declared.cell.IndexKind.TheVariants.{Array, Tree}
 use Rattle.h5w_chunks.specs.declared.grid.ChunkPlace.{ChunkPlace}
-use Rattle.h5w_chunks.specs.Shares.{share_of, touched, touched_key}
+use Rattle.h5w_chunks.specs.Shares.{share_of, touched, touched_band, touched_key}
 use Rattle.h5w_chunks.specs.Grids.{IsCut}
 use Rattle.h5w_chunks.proofs.Geometry.{lt_up, up_lt}
+use Rattle.h5w_chunks.proofs.KeyLemmas.{array_key, key_at, tree_key}
 use Rattle.h5w_flush_laws.proofs.NewChunkLemmas.{touched_is}
 use Rattle.h5w_index.specs.Placing.{IsPlacing}
 use Rattle.h5w_session.specs.Sessions.{Session, rows_of}
@@ -102,12 +104,30 @@ all_in d from to cut all =
     let first : 0 % chunks_across d * d.layout.chunk_cols ≡ 0 = ap (λ (n : ℕ). 0 % n * d.layout.chunk_cols) across ∙ omega arith in
     record { columns = omega (arith, first, narrow); narrow = narrow }
 
--- the key of that chunk
-pub alone_key : (d : Described) (from to : ℕ) → touched d from to ≡ 1 → touched_key d from 0 ≡ record { i = from / d.layout.chunk_rows; j = 0 }
-alone_key d from to all =
-    let across = one_across d from to all in
-    let key : ℕ → ℕ → Key = λ i j. record { i = i; j = j } in
-    ap (λ (n : ℕ). key (from / d.layout.chunk_rows + 0 / n) (0 % n)) across ∙ ap (λ (n : ℕ). key n 0) (let e : from / d.layout.chunk_rows + 0 ≡ from / d.layout.chunk_rows = omega arith in e)
+-- the band of that chunk
+pub alone_band : (d : Described) (from to : ℕ) → touched d from to ≡ 1 → touched_band d from 0 ≡ from / d.layout.chunk_rows
+alone_band d from to all =
+    ap (λ (n : ℕ). from / d.layout.chunk_rows + 0 / n) (one_across d from to all) ∙ (let e : from / d.layout.chunk_rows + 0 ≡ from / d.layout.chunk_rows = omega arith in e)
+
+-- and its key, by either kind of index
+pub alone_key : (d : Described) (from to : ℕ) → touched d from to ≡ 1 → touched_key d from 0 ≡ key_at (from / d.layout.chunk_rows) 0
+alone_key d from to all = by d.layout.index refl
+  where
+    across : chunks_across d ≡ 1
+    across = one_across d from to all
+
+    first : (n : ℕ) → n * 1 + 0 ≡ n
+    first n = omega arith
+
+    by : (k : IndexKind) → d.layout.index ≡ k → touched_key d from 0 ≡ key_at (from / d.layout.chunk_rows) 0
+    by Array kind =
+        array_key d (from / d.layout.chunk_rows * chunks_across d + 0) kind
+        ∙ ap (λ (n : ℕ). key_at (from / d.layout.chunk_rows * n + 0) 0) across
+        ∙ ap (λ (n : ℕ). key_at n 0) (first (from / d.layout.chunk_rows))
+    by Tree kind =
+        tree_key d from 0 kind (omega (arith, across))
+        ∙ ap (λ (n : ℕ). key_at (from / d.layout.chunk_rows + 0 / n) (0 % n)) across
+        ∙ ap (λ (n : ℕ). key_at n 0) (let e : from / d.layout.chunk_rows + 0 ≡ from / d.layout.chunk_rows = omega arith in e)
 
 -- rows that go into one chunk are of one band, and the dataset has one chunk side by side
 pub record IsAlone (d : Described) (from to : ℕ) : Type 0 where

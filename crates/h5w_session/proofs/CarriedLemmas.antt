@@ -13,7 +13,7 @@ use Rattle.h5w_space.specs.declared.Full.{Full}
 use Rattle.h5w_cache.specs.declared.moves.Move.{Move}
 use Rattle.h5w_chunks.specs.Grids.{fill_cell}
 use Rattle.h5w_chunks.specs.Rows.{RowsWritten}
-use Rattle.h5w_chunks.specs.Shares.{new_writes, touched}
+use Rattle.h5w_chunks.specs.Shares.{first_line, new_writes, touched}
 use Rattle.h5w_chunks.specs.declared.grid.ChunkPlace.{ChunkPlace}
 use Rattle.h5w_flush_laws.specs.Parts.{AreEnded}
 use Rattle.h5w_model.proofs.HeaderLemmas.{messages_at-ok}
@@ -25,12 +25,12 @@ use Rattle.h5w_index.specs.Steps.{IsPlan}
 use Rattle.h5w_index.specs.Told.{HeldTold}
 use Rattle.h5w_index.specs.Placing.{IsPartly, IsPlacing}
 use Rattle.h5w_index.proofs.PlacingLemmas.{placing_laws}
-use Rattle.h5w_session.specs.Sessions.{ArePieces, IsRoomy, IsSession, IsWritable, Session, most_bands, option_list, rows_of, with_rows, IsWhole}
+use Rattle.h5w_session.specs.Sessions.{ArePieces, IsRoomy, IsSession, IsWritable, Session, most_lines, option_list, rows_of, with_rows, IsWhole}
 use Rattle.h5w_session.specs.Flushes.{ArePlanned, IsFlushed, SameBut, flushed_of, header_piece}
 use Rattle.h5w_session.specs.declared.refusal.FlushError.{FlushError}
 use Rattle.h5w_session.specs.declared.refusal.FlushError.TheVariants as errors
 use Rattle.h5w_session.proofs.HeaderAlone.{never, same_block}
-use Rattle.h5w_session.proofs.FlushedLemmas.{bands_few, chunks_few, fits_same, flushed_is, flushed_pieces, shown_flushed, takes_keys}
+use Rattle.h5w_session.proofs.FlushedLemmas.{chunks_few, fits_same, flushed_is, flushed_pieces, lines_few, shown_flushed, takes_keys}
 
 -- the rows have a place in the header
 pub has_rows : (b : List ℕ) → IsWritable b → IsSome (rows_in_header b)
@@ -43,11 +43,11 @@ has_rows b w =
 -- of a session, up to row `to`
 pub record AsksFor (v : Session) (to : ℕ) : Type 0 where
   pub few : div_up to v.dataset.layout.chunk_rows * chunks_across v.dataset ≤ 1000000
-  pub takes : (key : Key) → key.i < div_up to v.dataset.layout.chunk_rows → TakesKey v.index key
-  pub bands : div_up to v.dataset.layout.chunk_rows ≤ most_bands v.dataset
+  pub takes : (key : Key) → key.i < first_line v.dataset (div_up to v.dataset.layout.chunk_rows) → TakesKey v.index key
+  pub lines : first_line v.dataset (div_up to v.dataset.layout.chunk_rows) ≤ most_lines v.dataset
 
 pub asks_for : (v : Session) (to : ℕ) → IsSession v → to ≡ rows_of v → AsksFor v to
-asks_for v to is e = subst (AsksFor v) (sym e) (record { few = chunks_few v is; takes = takes_keys v is; bands = bands_few v is })
+asks_for v to is e = subst (AsksFor v) (sym e) (record { few = chunks_few v is; takes = takes_keys v is; lines = lines_few v is })
 
 -- the values that wait are as many as fit in memory
 pub values_few : (v : Session) (most : ℕ) → IsSession v → 1 ≤ v.dataset.int_type.size → length v.waiting < most → v.waits * v.dataset.shape.cols < most

@@ -20,7 +20,7 @@ use Rattle.h5w_steps.specs.Moments.{Represents}
 use Rattle.h5w_steps.specs.Logs.{image_now}
 use Rattle.h5w_steps.proofs.GoesLemmas.{begin_goes, reads_now}
 use Rattle.h5w_steps.proofs.SessionLaws.{goes_runs}
-use Rattle.h5w_model.specs.Tables.{chunks_across, format_limits, limit_of, needed}
+use Rattle.h5w_model.specs.Tables.{chunks_across, format_limits, keys_across, limit_of, needed}
 use Rattle.h5w_model.specs.Logs.{div_up}
 use Rattle.h5w_model.specs.declared.cell.IndexKind.{IndexKind}
 use Rattle.h5w_model.specs.declared.cell.IndexKind.TheVariants.{Array, Tree}
@@ -41,7 +41,7 @@ use Rattle.h5w_creation_laws.specs.CreationLaws.{WritesEndBy}
 use Rattle.h5w_creation_laws.proofs.CreatedLaws.{created_new, created_sizes}
 use Rattle.h5w_creation.specs.Made.{IsNewIndex}
 use Rattle.h5w_creation.proofs.MadeLemmas.{created_rests}
-use Rattle.h5w_session.specs.Sessions.{IsRoomy, Session, AfterPiece, AllEndBy, Freed, most_bands, rows_of}
+use Rattle.h5w_session.specs.Sessions.{IsRoomy, Session, AfterPiece, AllEndBy, Freed, most_lines, rows_of}
 use Rattle.h5w_session.specs.Creations.{IsIndexOf, IsLimit, created, log_of, places_to}
 use Rattle.h5w_session.specs.Stands.{Creating, Running, Stands}
 use Rattle.h5w_session.proofs.PastLemmas.{one_each, past_begins, past_same, some_blocks}
@@ -176,7 +176,7 @@ made_here f v is index = (own_of f v is index, new_made f.index (index_place f) 
 -- it has room for each chunk
 new_roomy : (k : IndexKind) (at block : ℕ) (v : IndexView) (d : Described) → IsNewIndex k at block v → IsRoomy d v
 new_roomy Array at block v d new = subst (IsRoomy d) (sym new.1) tt
-new_roomy Tree at block v d new = subst (IsRoomy d) (sym new) (depth_laws.none (most_bands d) (chunks_across d) at)
+new_roomy Tree at block v d new = subst (IsRoomy d) (sym new) (depth_laws.none (most_lines d) (keys_across d) at)
 
 pub roomy_of : (f : CreatedFile) (v : IndexView) → IsIndexOf f v → IsRoomy (described_of f) v
 roomy_of f v index = new_roomy f.index (index_place f) (block_place f) v (described_of f) index.new

@@ -5,20 +5,20 @@ use Rattle.std.proofs.lemmas.List.Elements.{All-head, All-tail}
 use Rattle.std.proofs.lemmas.Nat.{le-div}
 use Rattle.h5w_model.specs.Arrays.{eahd_len, eaib_len}
 use Rattle.h5w_model.specs.Trees.{bthd_len}
-use Rattle.h5w_model.specs.Tables.{chunks_across, format_limits, limit_of, needed}
+use Rattle.h5w_model.specs.Tables.{chunks_across, format_limits, keys_across, limit_of, needed}
 use Rattle.h5w_model.specs.declared.root.Super.{Super}
 use Rattle.h5w_model.specs.Datasets.{Described}
 use Rattle.h5w_model.specs.Findings.{Used}
 use Rattle.h5w_model.specs.declared.cell.Key.{Key}
-use Rattle.h5w_model.specs.declared.cell.IndexKind.{IndexKind}
-use Rattle.h5w_model.specs.declared.cell.IndexKind.TheVariants.{Array, Tree}
 use Rattle.h5w_model.specs.declared.piece.Write.{Write}
 use Rattle.h5w_model.proofs.ImageLemmas.{AllSized-append}
 use Rattle.h5w_visits.specs.Ranges as ranges
 use Rattle.h5w_visits.proofs.RangeLemmas.{ends_later}
 use Rattle.h5w_space.specs.Space.{Space}
 use Rattle.h5w_chunks.specs.Grids.{chunk_len}
+use Rattle.h5w_chunks.specs.Shares.{first_line}
 use Rattle.h5w_chunks.specs.declared.grid.ChunkPlace.{ChunkPlace}
+use Rattle.h5w_chunks.proofs.KeyLemmas.{array_line, line_chunks, some_keys}
 use Rattle.h5w_flush_laws.specs.Parts.{AreEnded}
 use Rattle.h5w_index.specs.Views.{IndexView, IsSound, TakesKey, an_array, a_tree, fixed_of, header_place, kind_of}
 use Rattle.h5w_index.specs.Blocks.{has_no_block}
@@ -26,7 +26,7 @@ use Rattle.h5w_index.specs.Flushes.{PlanTold}
 use Rattle.h5w_index.specs.Flushes as index
 use Rattle.h5w_index.specs.Placing.{AreInside, Fits}
 use Rattle.h5w_index.proofs.PlacingLemmas.{placing_laws}
-use Rattle.h5w_session.specs.Sessions.{ArePieces, IsSession, Session, bands_of, chunk_limit, most_bands, rows_of, with_rows, IsWhole}
+use Rattle.h5w_session.specs.Sessions.{ArePieces, IsSession, Session, bands_of, chunk_limit, most_lines, rows_of, with_rows, IsWhole}
 use Rattle.h5w_session.specs.Flushes.{ArePlanned, IsFlushed, flushed_of, header_piece}
 use Rattle.h5w_session.proofs.FlushLemmas.{told_of}
 use Rattle.h5w_session.proofs.HeaderAlone.{never, same_block}
@@ -37,38 +37,29 @@ use Rattle.h5w_session.proofs.WritableLemmas.{writable_again, written_length}
 
 -- ---- Indexes of one kind
 
-kinds_apart : Tree ≡ Array → ⊥
-kinds_apart same = cc
-
 -- chunks stand by an index as by another of its kind
 pub fits_same : (d : Described) (v w : IndexView) → kind_of w ≡ kind_of v → Fits d v → Fits d w
-fits_same d (an_array v) (an_array w) same fits = fits
-fits_same d (a_tree p v) (a_tree q w) same fits = fits
-fits_same d (an_array v) (a_tree q w) same fits = absurd (kinds_apart same)
-fits_same d (a_tree p v) (an_array w) same fits = absurd (kinds_apart (sym same))
+fits_same d v w same fits = record { kind = fits.kind ∙ sym same; some = fits.some }
 
 -- the chunks of the rows are few
 pub chunks_few : (s : Session) → IsSession s → bands_of s * chunks_across s.dataset ≤ 1000000
 chunks_few s is = omega (arith, is.few, limit_top s.dataset.layout.index)
 
-some_across : (d : Described) (v : IndexView) → Fits d v → 0 < chunks_across d
-some_across d (an_array v) one = omega (arith, one)
-some_across d (a_tree p v) some = some
+-- and so are the lines of their bands
+pub lines_few : (s : Session) → IsSession s → first_line s.dataset (bands_of s) ≤ most_lines s.dataset
+lines_few s is =
+    le-div (first_line s.dataset (bands_of s)) (chunk_limit s) (keys_across s.dataset) (some_keys s.dataset is.fits.some)
+    (subst (λ (n : ℕ). n ≤ chunk_limit s) (sym (line_chunks s.dataset (bands_of s))) is.few)
 
--- and so are their bands
-pub bands_few : (s : Session) → IsSession s → bands_of s ≤ most_bands s.dataset
-bands_few s is = le-div (bands_of s) (chunk_limit s) (chunks_across s.dataset) (some_across s.dataset s.index is.fits) is.few
-
-takes_by : (k : IndexKind) (bands across : ℕ) (d : Described) (v : IndexView) → k ≡ kind_of v → chunks_across d ≡ across → Fits d v → bands * across ≤ limit_of format_limits k → (key : Key) → key.i < bands → TakesKey v key
-takes_by Array bands across d (an_array v) same is fits few key low =
-    let one : bands * across ≡ bands = ap (λ (n : ℕ). bands * n) (sym is ∙ fits) ∙ omega arith in
-    omega (arith, few, one, low)
-takes_by Tree bands across d (an_array v) same is fits few key low = absurd (kinds_apart same)
-takes_by k bands across d (a_tree p v) same is fits few key low = tt
+takes_by : (d : Described) (bands : ℕ) (v : IndexView) → Fits d v → bands * chunks_across d ≤ limit_of format_limits d.layout.index → (key : Key) → key.i < first_line d bands → TakesKey v key
+takes_by d bands (an_array v) fits few key low =
+    let limit : limit_of format_limits d.layout.index ≡ 131060 = ap (limit_of format_limits) fits.kind in
+    omega (arith, few, limit, array_line d bands fits.kind, low)
+takes_by d bands (a_tree p v) fits few key low = tt
 
 -- the index takes the keys of the bands of the rows
-pub takes_keys : (s : Session) → IsSession s → (key : Key) → key.i < bands_of s → TakesKey s.index key
-takes_keys s is = takes_by s.dataset.layout.index (bands_of s) (chunks_across s.dataset) s.dataset s.index is.kind refl is.fits is.few
+pub takes_keys : (s : Session) → IsSession s → (key : Key) → key.i < first_line s.dataset (bands_of s) → TakesKey s.index key
+takes_keys s is = takes_by s.dataset (bands_of s) s.index is.fits is.few
 
 -- ---- Pieces
 
@@ -205,7 +196,7 @@ module _ (s : Session) (is : IsSession s) (there : IsWhole s) (t : Space) (w : I
         begun = omega (arith, is.begun, far);
         kind = kind_then s is s.index s.places before w t x;
         sound = sound_then s is s.index s.places before w t x;
-        fits = fits_then s is s.index s.places before w t x;
+        fits = let f = fits_then s is s.index s.places before w t x in record { kind = f.kind; some = f.some };
         header = writable_again s.header rows is.header;
         addressed = λ none. absurd (there.named none);
         header_ends = omega (arith, written_length s.header rows is.header, is.header_ends, far);

@@ -5,7 +5,7 @@ use Rattle.std.proofs.lemmas.Nat.{mul-le}
 use Rattle.h5w_model.specs.Logs.{Log, appended, div_up, flushed, load, plans, spent, touched_chunks, and_now}
 use Rattle.h5w_model.specs.Datasets.{Described}
 use Rattle.h5w_model.specs.Findings.{chunk_bytes}
-use Rattle.h5w_model.specs.Tables.{chunks_across}
+use Rattle.h5w_model.specs.Tables.{chunks_across, keys_across}
 use Rattle.h5w_model.specs.declared.piece.Write.{Write}
 use Rattle.h5w_model.specs.declared.root.Super.{Super}
 use Rattle.h5w_space.specs.Space.{Space}
@@ -27,7 +27,7 @@ use Rattle.h5w_index.proofs.RaisedLemmas.{raised_more, raised_on}
 use Rattle.h5w_session.specs.Flushes.{ArePlanned, IsFlushed, flushed_of, header_piece, touched_by}
 use Rattle.h5w_session.specs.Loads.{NoPlace, first_end_of}
 use Rattle.h5w_session.specs.Past.{IsCounted, IsMadeHere, Past}
-use Rattle.h5w_session.specs.Sessions.{IsRoomy, Session, AllEndBy, AreReached, cutting_of, most_bands, rows_of, with_rows}
+use Rattle.h5w_session.specs.Sessions.{IsRoomy, Session, AllEndBy, AreReached, cutting_of, most_lines, rows_of, with_rows}
 use Rattle.h5w_session.specs.Stands.{Running, Stands}
 use Rattle.h5w_session.proofs.FlushLemmas.{after_flush, told_of}
 use Rattle.h5w_session.proofs.HeaderAlone.{same_block}
@@ -114,7 +114,7 @@ module _ (s : Session) (v : IndexView) (before : Space) (w : IndexView) (t : Spa
 
   -- an index that had room has it still
   pub planned_roomy : IsRoomy s.dataset v → IsRoomy s.dataset w
-  planned_roomy roomy = depth_laws.planned (most_bands s.dataset) (chunks_across s.dataset) x.named x.between x.moves x.copies x.fixed w t x.plan (x.roomy roomy)
+  planned_roomy roomy = depth_laws.planned (most_lines s.dataset) (keys_across s.dataset) x.named x.between x.moves x.copies x.fixed w t x.plan (x.roomy roomy)
 
   module _ (marks : IsMarked s.dataset s.dataset.shape.rows (rows_of s) v) where
     pub planned_raised : IsRaised before t (most_of s.dataset (rows_of s))

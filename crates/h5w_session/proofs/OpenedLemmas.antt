@@ -10,6 +10,7 @@ use Rattle.h5w_steps.specs.Moments.{Moment, Represents}
 use Rattle.h5w_steps.proofs.MomentLemmas.{super_parts}
 use Rattle.h5w_steps.proofs.SessionLaws.{goes_runs, opened_goes}
 use Rattle.h5w_cache.specs.Stores.{times}
+use Rattle.h5w_chunks.specs.Shares.{first_line}
 use Rattle.h5w_index.specs.Views.{IndexView, IsClean, IsReached, an_array, a_tree, address_in}
 use Rattle.h5w_index.specs.Flushes.{Rests}
 use Rattle.h5w_index.proofs.MarkLemmas.{mark_laws}
@@ -59,7 +60,7 @@ module _ (s : Session) (img : List ℕ) (rows columns : ℕ) (values : List ℤ)
           let of_array : Rests img m (λ k. address_in s.index k) s.places (an_array v) = subst (λ (w : IndexView). Rests img m (λ k. address_in s.index k) s.places w) e rest in
           let clean : v.changed ≡ [] = subst IsClean e b.clean in
           let six = array_six img m (λ k. address_in s.index k) s.places v of_array (ap (times 846) clean) in
-          let needed : key.i < div_up m.dataset.shape.rows m.dataset.layout.chunk_rows = subst (λ (d : Described). key.i < div_up d.shape.rows d.layout.chunk_rows) (sym b.keeps.dataset) low in
+          let needed : key.i < first_line m.dataset (div_up m.dataset.shape.rows m.dataset.layout.chunk_rows) = subst (λ (d : Described). key.i < first_line d (div_up d.shape.rows d.layout.chunk_rows)) (sym b.keeps.dataset) low in
           let found = finds m (λ k. address_in s.index k) goes.now b.knows.index of_array.kind key needed there in
           subst (λ (w : IndexView). IsReached w key) (sym e) (omega (arith, found, ap (λ l. get_or l 4 0) six))
 

@@ -1,13 +1,13 @@
 -- By what options create a file.
-use Rattle.std.proofs.Common.{◌≡◌, ℕ, ◌≤◌, List, length, Option, Some, None, ℤ, refl, ap, sym, subst, ◌∙◌, arith}
+use Rattle.std.proofs.Common.{◌≡◌, ◌≢◌, ℕ, ◌≤◌, Bool, true, false, not, List, length, Option, Some, None, ℤ, refl, ap, sym, subst, ◌∙◌, arith}
 use Rattle.std.specs.Option.{IfSome, option_map}
+use Rattle.std.proofs.lemmas.Bool.{ne_eqb}
 use Rattle.h5w_model.specs.Integers.{cell_bytes, cell_bytes_of, cell_of}
-use Rattle.h5w_model.specs.Messages.{FillFields, IntTypeFields}
+use Rattle.h5w_model.specs.Messages.{FillFields, IntTypeFields, is_shape, unlimited}
 use Rattle.h5w_model.specs.declared.cell.Cell.{Cell}
-use Rattle.h5w_model.specs.declared.cell.IndexKind.TheVariants.{Array}
 use Rattle.h5w_model.proofs.IntegerLemmas.{cell_bytes-cell_of, length-cell_bytes_of}
 use Rattle.h5w_types.specs.Fields.{int_type_of}
-use Rattle.h5w_options.specs.Options.{AreColumns, AreOptions, columns_in, index_in, width_in}
+use Rattle.h5w_options.specs.Options.{AreColumns, AreOptions, columns_in, grows_in, rank_in, width_in}
 use Rattle.h5w_options.specs.declared.options.Options.{Options}
 use Rattle.h5w_creation_laws.specs.CreatedFiles.{IsCreatable, fill_given}
 use Rattle.h5w_session.specs.Creations.{IsFillOf, new_file}
@@ -51,11 +51,26 @@ record AreSome (c : Option (ℕ × ℕ)) : Type 0 where
   bound : columns_in c ≤ 65536
   some_wide : 1 ≤ width_in c
   wide_bound : width_in c ≤ 65536
-  line : index_in c ≡ Array → (width_in c ≡ 1) × (columns_in c ≡ 1)
+  shaped : (fixed : Bool) → is_shape (record { rank = rank_in c; rows = 0; cols = columns_in c; growing = grows_in c fixed }) ≡ true
+  line : rank_in c ≡ 1 → width_in c ≡ 1
+
+-- so few columns are a shape, whether they grow or not
+sides_shaped : (columns : ℕ) → columns ≤ 65536 → (fixed : Bool) → is_shape (record { rank = 2; rows = 0; cols = columns; growing = not fixed }) ≡ true
+sides_shaped columns few false = refl
+sides_shaped columns few true =
+    let ne : columns ≢ unlimited = λ e. absurd (omega (arith, few, e)) in
+    ap not (ne_eqb columns unlimited ne)
 
 columns_are : (c : Option (ℕ × ℕ)) → IfSome c AreColumns → AreSome c
-columns_are None is = record { some = omega arith; bound = omega arith; some_wide = omega arith; wide_bound = omega arith; line = λ e. (refl, refl) }
-columns_are (Some x) is = record { some = is.some; bound = is.bound; some_wide = is.some_wide; wide_bound = is.wide_bound; line = λ e. absurd cc }
+columns_are None is = record { some = omega arith; bound = omega arith; some_wide = omega arith; wide_bound = omega arith; shaped = λ fixed. refl; line = λ e. refl }
+columns_are (Some x) is = record {
+  some = is.some;
+  bound = is.bound;
+  some_wide = is.some_wide;
+  wide_bound = is.wide_bound;
+  shaped = sides_shaped x.0 is.bound;
+  line = λ e. absurd (omega (arith, e));
+}
 
 -- with any name a file can be created so
 pub creatable_by : (name : List ℕ) (o : Options) → 1 ≤ length name → length name ≤ 64 → AreOptions o → IsCreatable (record (new_file o) { name = name })
@@ -73,7 +88,9 @@ creatable_by name o some few by =
       some_columns = c.some;
       columns_bound = c.bound;
       small = by.small;
+      shaped = c.shaped o.fixed;
       line = c.line;
+      indexed = refl;
     }
 
 pub creatable : (o : Options) → AreOptions o → IsCreatable (new_file o)

@@ -1,5 +1,5 @@
 -- The pieces of new rows are no more than what is reserved for them.
-use Rattle.std.proofs.Common.{◌≡◌, ℕ, zero, suc, ◌+◌, ◌-◌, ◌*◌, ◌<◌, ◌≤◌, min, Bool, true, false, List, [], ◌∷◌, length, drop, get_or, refl, arith, ap, ◌∙◌, length-append}
+use Rattle.std.proofs.Common.{◌≡◌, ℕ, zero, suc, ◌+◌, ◌-◌, ◌*◌, ◌%◌, ◌<◌, ◌≤◌, min, Bool, true, false, List, [], ◌∷◌, length, drop, get_or, refl, arith, ap, ◌∙◌, length-append}
 use Rattle.std.specs.Prelude.{◌==◌, if◌then◌else◌}
 use Rattle.std.proofs.lemmas.List.{drop_all}
 use Rattle.std.proofs.Math.Seq.{drop-cons}
@@ -10,7 +10,7 @@ use Rattle.h5w_model.specs.Tables.{chunks_across}
 use Rattle.h5w_model.proofs.ImageLemmas.{length-pieces}
 use Rattle.h5w_chunks.specs.Grids.{IsCut, chunk_len, row_len}
 use Rattle.h5w_chunks.specs.Rows.{IsShare}
-use Rattle.h5w_chunks.specs.Shares.{new_chunk, new_writes, own_row, row_blocks, share_blocks, share_of, share_rows, touched, touched_key, writes_from, writes_of}
+use Rattle.h5w_chunks.specs.Shares.{new_chunk, new_writes, own_row, row_blocks, share_blocks, share_of, share_rows, touched, writes_from, writes_of}
 use Rattle.h5w_chunks.specs.declared.grid.ChunkPlace.{ChunkPlace}
 use Rattle.h5w_chunks.specs.declared.share.Share.{Share}
 use Rattle.h5w_chunks.proofs.BlockLemmas.{AllLong, AllLong-first, AllLong-next}
@@ -20,8 +20,8 @@ use Rattle.h5w_chunks.proofs.WriteLaws.{is_share}
 use Rattle.h5w_session.specs.Room.{chunk_pieces, most_pieces, own_pieces, pieces_in}
 
 -- the first column of a touched chunk is one of the dataset
-pub column_fits : (d : Described) (from to k : ℕ) → IsCut d → k < touched d from to → (touched_key d from k).j * d.layout.chunk_cols < d.shape.cols
-column_fits d from to k cut known = (share_numbers d from to k (chunks_across d) cut known refl).column
+pub column_fits : (d : Described) (from to k across : ℕ) → IsCut d → k < touched d from to → across ≡ chunks_across d → k % across * d.layout.chunk_cols < d.shape.cols
+column_fits d from to k across cut known is = (share_numbers d from to k across cut known is).column
 
 one_block : (place : ℕ) (bytes : List ℕ) → length (writes_of ((place, bytes) ∷ [])) ≡ pieces_in (length bytes)
 unfolding writes_of

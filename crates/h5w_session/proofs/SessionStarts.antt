@@ -1,6 +1,5 @@
 -- What holds of every session holds of one that creates its file.
-use Rattle.std.proofs.Common.{◌≡◌, ℕ, ◌+◌, ◌<◌, ◌≤◌, [], ◌∷◌, refl, ap, sym, subst, ◌∙◌, inl, inr, arith}
-use Rattle.h5w_model.specs.Logs.{div_up}
+use Rattle.std.proofs.Common.{◌≡◌, ℕ, ◌+◌, ◌<◌, ◌≤◌, [], ◌∷◌, refl, sym, subst, inl, inr, arith}
 use Rattle.h5w_model.specs.Numbers.{undefined}
 use Rattle.h5w_model.specs.Arrays.{eahd_len, eaib_len}
 use Rattle.h5w_model.specs.Trees.{bthd_len}
@@ -71,12 +70,8 @@ new_index f v is index =
     let small = (created_sizes f is).end in
     empty_index f.index (index_place f) (block_place f) v (end_of f) (λ e. refl) (omega arith) (omega (arith, small)) (omega (arith, small)) index.new
 
-new_fits : (f : CreatedFile) (k : IndexKind) (at block : ℕ) (v : IndexView) → IsCreatable f → f.index ≡ k → IsNewIndex k at block v → Fits (described_of f) v
-new_fits f Array at block v is e new =
-    let line = is.line e in
-    let one : div_up f.columns f.chunk_cols ≡ 1 = ap (λ (n : ℕ). div_up n f.chunk_cols) line.1 ∙ ap (λ (n : ℕ). div_up 1 n) line.0 in
-    subst (Fits (described_of f)) (sym new.1) one
-new_fits f Tree at block v is e new = subst (Fits (described_of f)) (sym new) (up_some f.columns f.chunk_cols (omega (arith, is.some_cols)) (omega (arith, is.some_columns)))
+new_fits : (f : CreatedFile) (v : IndexView) → IsCreatable f → f.index ≡ kind_of v → Fits (described_of f) v
+new_fits f v is kind = record { kind = kind; some = up_some f.columns f.chunk_cols (omega (arith, is.some_cols)) (omega (arith, is.some_columns)) }
 
 pub created_is : (f : CreatedFile) (most : ℕ) (v : IndexView) → IsCreatable f → IsLimit most → IsIndexOf f v → IsSession (created f most v)
 created_is f most v is limit index =
@@ -91,7 +86,7 @@ created_is f most v is limit index =
       begun = omega arith;
       kind = empty.is_kind;
       sound = index.sound;
-      fits = new_fits f f.index (index_place f) (block_place f) v is refl index.new;
+      fits = new_fits f v is empty.is_kind;
       header = writable f is;
       addressed = λ none. absurd (omega (arith, none, z.end));
       header_ends = omega (arith, z.header);

@@ -1,8 +1,8 @@
 -- What each call makes of a session that stands over a log.
 use Rattle.std.proofs.Common.{◌≡◌, ◌⊎◌, ℕ, ◌+◌, ◌*◌, ◌/◌, ◌%◌, ◌≤◌, Bool, true, false, nat_lt, List, [], ◌∷◌, ◌++◌, length, ℤ, Option, None, Ok, refl, sym, ap, ◌∙◌, subst, inl, inr, arith, length-append, append_assoc}
 use Rattle.std.proofs.lemmas.Nat.{div-mul-add}
-use Rattle.std.proofs.lemmas.Bool.{eq-eqb, lt-ltb}
-use Rattle.std.specs.Prelude.{if◌then◌else◌}
+use Rattle.std.proofs.lemmas.Bool.{eq-eqb, lt-ltb, or_right}
+use Rattle.std.specs.Prelude.{◌==◌, if◌then◌else◌}
 use Rattle.std.specs.Option.{unwrap_or}
 use Rattle.h5w_model.specs.Images.{apply, image}
 use Rattle.h5w_model.specs.Integers.{cell_bytes_of}
@@ -282,11 +282,14 @@ more_running s w x xs log r =
 
 -- ---- A close
 
-cleared_swmr : (flags : ℕ) → is_swmr (cleared flags) ≡ true
-cleared_swmr flags =
+cleared_alike : (flags : ℕ) → ((cleared flags % 2) == (cleared flags / 4 % 2)) ≡ true
+cleared_alike flags =
     let low : cleared flags % 2 ≡ 0 = omega arith in
     let high : cleared flags / 4 % 2 ≡ 0 = omega arith in
     eq-eqb (cleared flags % 2) (cleared flags / 4 % 2) (low ∙ sym high)
+
+closed_swmr : (s : Session) → is_swmr (closed_root s) ≡ true
+closed_swmr s = or_right (s.root.version == 2) ((cleared s.root.flags % 2) == (cleared s.root.flags / 4 % 2)) (cleared_alike s.root.flags)
 
 either : (b : Bool) (x y : List ℤ) → x ≡ y → (if b then x else y) ≡ y
 either true x y e = e
@@ -296,7 +299,7 @@ same_either : (b : Bool) (x : List ℤ) → x ≡ (if b then x else x)
 same_either true x = refl
 same_either false x = refl
 
-flagged_running : (s : Session) (log : Log) (flags : ℕ) (stop : Bool) → super_at (super_bytes (flagged_root flags s)) ≡ Ok (flagged_root flags s) → is_swmr flags ≡ true → Running s [] log
+flagged_running : (s : Session) (log : Log) (flags : ℕ) (stop : Bool) → super_at (super_bytes (flagged_root flags s)) ≡ Ok (flagged_root flags s) → is_swmr (flagged_root flags s) ≡ true → Running s [] log
     → Running (flagged flags stop s) (flagged flags stop s).pending log
 flagged_running s log flags stop reads swmr r =
     let m = r.after in
@@ -355,7 +358,7 @@ flagged_running s log flags stop reads swmr r =
     }
 
 -- the superblock is written with other flags
-pub flagged_stands : (s : Session) (log : Log) (flags : ℕ) (stop : Bool) → super_at (super_bytes (flagged_root flags s)) ≡ Ok (flagged_root flags s) → is_swmr flags ≡ true → s.stopped ≡ false → s.pending ≡ [] → Stands s log
+pub flagged_stands : (s : Session) (log : Log) (flags : ℕ) (stop : Bool) → super_at (super_bytes (flagged_root flags s)) ≡ Ok (flagged_root flags s) → is_swmr (flagged_root flags s) ≡ true → s.stopped ≡ false → s.pending ≡ [] → Stands s log
     → Stands (flagged flags stop s) log
 flagged_stands s log flags stop reads swmr running idle st =
     let none : st.left ≡ [] = left_running s st.left running st.dropped ∙ idle in
@@ -371,4 +374,4 @@ flagged_stands s log flags stop reads swmr running idle st =
     ]
 
 pub close_stands : (s : Session) (log : Log) → super_at (super_bytes (closed_root s)) ≡ Ok (closed_root s) → s.stopped ≡ false → s.pending ≡ [] → Stands s log → Stands (closed_of s) log
-close_stands s log reads running idle st = flagged_stands s log (cleared s.root.flags) true reads (cleared_swmr s.root.flags) running idle st
+close_stands s log reads running idle st = flagged_stands s log (cleared s.root.flags) true reads (closed_swmr s) running idle st

@@ -14,7 +14,7 @@ use Rattle.h5w_space.specs.declared.Full.{Full}
 use Rattle.h5w_cache.specs.declared.moves.Move.{Move}
 use Rattle.h5w_chunks.specs.Grids.{fill_cell}
 use Rattle.h5w_chunks.specs.Rows.{RowsWritten}
-use Rattle.h5w_chunks.specs.Shares.{new_writes, touched}
+use Rattle.h5w_chunks.specs.Shares.{first_line, new_writes, touched}
 use Rattle.h5w_chunks.specs.declared.grid.ChunkPlace.{ChunkPlace}
 use Rattle.h5w_header_laws.specs.Files.{with_index}
 use Rattle.h5w_flush_laws.specs.Parts.{AreEnded}
@@ -33,7 +33,7 @@ use Rattle.h5w_session.proofs.StartingLemmas.{made_fits, made_inside, made_takes
 -- of the index that is made at places, up to row `to`
 pub record AsksOfMade (v : Session) (to : ℕ) (made : IndexView) (first : Space) : Type 0 where
   pub fits : Fits v.dataset made
-  pub takes : (key : Key) → key.i < div_up to v.dataset.layout.chunk_rows → TakesKey made key
+  pub takes : (key : Key) → key.i < first_line v.dataset (div_up to v.dataset.layout.chunk_rows) → TakesKey made key
   pub inside : AreInside v.dataset first.end made
   pub limit : first.limit ≤ 2 ^ 40
 
@@ -41,7 +41,7 @@ pub asks_of_made : (v : Session) (to : ℕ) (places : Space) (at : ℕ) (made : 
     → AsksOfMade v to made first
 asks_of_made v to places at made first is e places_are kind start = record {
   fits = made_fits v is made kind;
-  takes = subst (λ (n : ℕ). (key : Key) → key.i < div_up n v.dataset.layout.chunk_rows → TakesKey made key) (sym e) (made_takes v is made kind);
+  takes = subst (λ (n : ℕ). (key : Key) → key.i < first_line v.dataset (div_up n v.dataset.layout.chunk_rows) → TakesKey made key) (sym e) (made_takes v is made kind);
   inside = made_inside v.dataset first.end v.dataset.layout.address places at made first start;
   limit = subst (λ (n : ℕ). n ≤ 2 ^ 40) (sym (start.raised.limit ∙ ap (λ (s : Space). s.limit) places_are)) is.limit;
 }

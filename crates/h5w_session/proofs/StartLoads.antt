@@ -5,7 +5,7 @@ use Rattle.h5w_model.specs.Trees.{bthd_len}
 use Rattle.h5w_model.specs.Datasets.{Described}
 use Rattle.h5w_model.specs.Findings.{the_superblock}
 use Rattle.h5w_model.specs.Numbers.{undefined}
-use Rattle.h5w_model.specs.Tables.{chunks_across}
+use Rattle.h5w_model.specs.Tables.{keys_across}
 use Rattle.h5w_model.specs.Logs.{Log, and_now, load, plans}
 use Rattle.h5w_model.specs.declared.cell.IndexKind.{IndexKind}
 use Rattle.h5w_model.specs.declared.cell.IndexKind.TheVariants.{Array, Tree}
@@ -23,7 +23,7 @@ use Rattle.h5w_index.proofs.MarkLemmas.{mark_laws}
 use Rattle.h5w_index.proofs.RaisedLemmas.{raised_more, raised_none, raised_on}
 use Rattle.h5w_creation_laws.specs.CreatedFiles.{index_len}
 use Rattle.h5w_creation_laws.proofs.SizeLemmas.{index_lens}
-use Rattle.h5w_session.specs.Sessions.{AllEndBy, IsRoomy, IsUnmade, Session, cutting_of, most_bands, rows_of, with_rows}
+use Rattle.h5w_session.specs.Sessions.{AllEndBy, IsRoomy, IsUnmade, Session, cutting_of, most_lines, rows_of, with_rows}
 use Rattle.h5w_session.specs.Loads.{NoPlace}
 use Rattle.h5w_session.specs.Past.{IsMadeHere, IsNew, Past}
 use Rattle.h5w_session.specs.Refusals.{IsFullFor, IsUnfilled, IsUnplaced, no_block, no_header}
@@ -60,7 +60,7 @@ made_clean address s at (a_tree place v) t made = subst (λ (w : Index). IsClean
 -- and has room
 made_roomy : (d : Described) (address : ℕ) (s : Space) (at : ℕ) (v : IndexView) (t : Space) → IsMadeAt address s at v t → IsRoomy d v
 made_roomy d address s at (an_array v) t made = tt
-made_roomy d address s at (a_tree place v) t made = subst (λ (w : Index). IsRoomy d (a_tree place w)) (sym made.empty) (depth_laws.none (most_bands d) (chunks_across d) place)
+made_roomy d address s at (a_tree place v) t made = subst (λ (w : Index). IsRoomy d (a_tree place w)) (sym made.empty) (depth_laws.none (most_lines d) (keys_across d) place)
 
 -- the order of the last pieces does not tell
 few_total : (total a b c e n m : ℕ) → total ≡ a + (b + (e + (c + 1))) → a + (b + (c + (e + 1))) ≤ n → m ≡ n → total ≤ m

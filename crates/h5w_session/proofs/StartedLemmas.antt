@@ -9,7 +9,7 @@ use Rattle.h5w_model.specs.Headers.{with_rows_bytes}
 use Rattle.h5w_model.specs.Lawful.{first_outside}
 use Rattle.h5w_model.specs.Numbers.{undefined}
 use Rattle.h5w_model.specs.Messages.{IsIntType}
-use Rattle.h5w_model.specs.Tables.{chunks_across, format_limits, limit_of, needed}
+use Rattle.h5w_model.specs.Tables.{format_limits, limit_of, needed}
 use Rattle.h5w_model.specs.Logs.{Log, plans, flushed_in, flushed_rows, appended_in, and_now, div_up}
 use Rattle.h5w_model.specs.Datasets.{Described}
 use Rattle.h5w_model.specs.Findings.{Used}
@@ -33,7 +33,7 @@ use Rattle.h5w_flush_laws.specs.Rows.{IsOutside, IsPlaced}
 use Rattle.h5w_starting_laws.specs.Starting.{no_chunk}
 use Rattle.h5w_index.specs.Views.{IndexView, an_array, a_tree, address_in, header_place}
 use Rattle.h5w_index.specs.Flushes.{PlanTold}
-use Rattle.h5w_index.specs.Placing.{Fits, IsPlacing}
+use Rattle.h5w_index.specs.Placing.{IsPlacing}
 use Rattle.h5w_index.proofs.MarkLemmas.{mark_laws}
 use Rattle.h5w_session.specs.Sessions.{Session, rows_of, with_rows}
 use Rattle.h5w_session.specs.Past.{Past}
@@ -47,10 +47,6 @@ use Rattle.h5w_session.proofs.FlushLemmas.{each_fits, others_then, placed_then, 
 use Rattle.h5w_session.proofs.StartKinds.{AreFirstCalls, AreFirstPending, blank_none, first_named, first_pending}
 
 -- ---- Some chunk has its place
-
-some_across : (d : Described) (v : IndexView) → Fits d v → 0 < chunks_across d
-some_across d (an_array v) fits = subst (λ (n : ℕ). 0 < n) (sym fits) (omega arith)
-some_across d (a_tree place v) fits = fits
 
 -- where chunks stand there are columns
 some_columns : (columns c : ℕ) → 0 < div_up columns c → 0 < columns
@@ -80,7 +76,7 @@ module _ (old new : Session) (log : Log) (x : IsStartFlushed old new) (r : Start
   some_chunk : 0 < length x.planned.chunks
   some_chunk =
       let d = old.dataset in
-      let columns = some_columns d.shape.cols d.layout.chunk_cols (some_across d x.made x.planned.fits) in
+      let columns = some_columns d.shape.cols d.layout.chunk_cols x.planned.fits.some in
       let p = x.planned.written.placed d.shape.rows 0 (omega arith) (let some = x.planned.some in omega arith) columns in
       some_placed x.planned.chunks _ p.0 p.1.stands
 

@@ -10,6 +10,7 @@ use Rattle.h5w_model.specs.declared.cell.Key.{Key}
 use Rattle.h5w_model.specs.declared.cell.IndexKind.TheVariants.{Array, Tree}
 use Rattle.h5w_model.specs.declared.piece.Write.{Write}
 use Rattle.h5w_space.specs.Space.{Space}
+use Rattle.h5w_chunks.specs.Shares.{first_line}
 use Rattle.h5w_header_laws.specs.Files.{with_index}
 use Rattle.h5w_index.specs.Views.{IndexView, TakesKey, an_array, a_tree, kind_of}
 use Rattle.h5w_index.specs.Placing.{AreInside, Fits}
@@ -46,7 +47,7 @@ module _ (s : Session) (is : IsSession s) (made : IndexView) (kind : s.dataset.l
   pub made_fits : Fits s.dataset made
   made_fits = fits_same s.dataset s.index made same_kind is.fits
 
-  pub made_takes : (key : Key) → key.i < bands_of s → TakesKey made key
+  pub made_takes : (key : Key) → key.i < first_line s.dataset (bands_of s) → TakesKey made key
   made_takes key low = takes_same s.index made same_kind key (takes_keys s is key low)
 
 -- ---- The dataset header
@@ -101,7 +102,7 @@ module _ (s : Session) (is : IsSession s) (at : ℕ) (made : IndexView) (first :
           begun = omega (arith, is.begun, far);
           kind = kind_then s is made first begun w t x;
           sound = sound_then s is made first begun w t x;
-          fits = fits_then s is made first begun w t x;
+          fits = let f = fits_then s is made first begun w t x in record { kind = f.kind; some = f.some };
           header = naming_writable s is naming at names rows;
           addressed = λ none. absurd (header_defined made start.sound (start.at_place ∙ none));
           header_ends = omega (arith, naming_length s is naming at names rows, is.header_ends, far);

@@ -6,37 +6,38 @@ use Rattle.std.proofs.lemmas.List.{length-replicate}
 use Rattle.std.proofs.lemmas.Bool.{cases_eq, cases_lt, eq-eqb, lt-ltb, ne_eqb}
 use Rattle.std.specs.Prelude.{List}
 use Rattle.std.proofs.lemmas.Nat.{div-add-mod', mul-le}
+use Rattle.std.proofs.Math.Nat.{div-le_self}
 use Rattle.h5w_model.specs.Integers.{cell_bytes}
 use Rattle.h5w_model.specs.Logs.{div_up}
 use Rattle.h5w_model.specs.Numbers.{undefined}
 use Rattle.h5w_model.specs.Datasets.{Described}
-use Rattle.h5w_model.specs.Tables.{chunks_across, format_limits, key_equal, limit_of}
+use Rattle.h5w_model.specs.Tables.{chunks_across, format_limits, keys_across, limit_of}
 use Rattle.h5w_model.specs.declared.cell.Cell.{Cell}
 use Rattle.h5w_model.specs.declared.cell.Key.{Key}
 use Rattle.h5w_model.specs.declared.cell.IndexKind.{IndexKind}
 use Rattle.h5w_model.specs.declared.cell.IndexKind.TheVariants.{Array, Tree}
 use Rattle.h5w_model.proofs.IntegerLemmas.{int_size_bounds}
 use Rattle.h5w_chunks.specs.Grids.{IsCut, IsGrid, chunk_len, dataset_of, fill_cell}
-use Rattle.h5w_chunks.specs.Shares.{touched, touched_key}
+use Rattle.h5w_chunks.specs.Shares.{first_line, touched, touched_band, touched_key}
 use Rattle.h5w_chunks.specs.declared.grid.ChunkPlace.{ChunkPlace}
 use Rattle.h5w_chunks.specs.declared.grid.Grid.{Grid}
-use Rattle.h5w_chunks.proofs.Geometry.{lt_up, share_numbers}
+use Rattle.h5w_chunks.proofs.Geometry.{share_numbers}
+use Rattle.h5w_chunks.proofs.KeyLemmas.{touched_lines}
 use Rattle.h5w_space.specs.declared.Full.{Full}
 use Rattle.h5w_cache.specs.Plans.{IfFull}
 use Rattle.h5w_cache.specs.declared.plan.PlanError.{PlanError}
 use Rattle.h5w_cache.specs.declared.plan.PlanError.TheVariants as plan
 use Rattle.h5w_index.specs.Steps.{IsDeep, found}
-use Rattle.h5w_index.specs.Views.{IndexView, IsSound, an_array, a_tree, address_in, is_key}
+use Rattle.h5w_index.specs.Views.{IndexView, IsSound, address_in}
 use Rattle.h5w_index.specs.Placing.{Fits, IsPlacing, next_key}
 use Rattle.h5w_index.specs.Marks.{IsTouched}
 use Rattle.h5w_index.proofs.DepthLemmas.{depth_laws}
+use Rattle.h5w_index.proofs.PartlyLemmas.{apart_keys}
 use Rattle.h5w_bt_index.specs.declared.error.InsertError.{InsertError}
 use Rattle.h5w_bt_index.specs.declared.error.InsertError.TheVariants as inserts
-use Rattle.h5w_bt_index.proofs.Keys.{equal-is}
-use Rattle.h5w_flush_laws.proofs.NewChunkLemmas.{one_number}
 use Rattle.h5w_space.specs.Space.{Space}
 use Rattle.h5w_session.specs.Refusals.{IsSpace, insert_fault, plan_fault}
-use Rattle.h5w_session.specs.Sessions.{IsRoomy, most_bands}
+use Rattle.h5w_session.specs.Sessions.{IsRoomy, most_lines}
 use Rattle.h5w_session.specs.declared.refusal.FlushError.{FlushError}
 use Rattle.h5w_session.specs.declared.refusal.FlushError.TheVariants as flushes
 
@@ -104,76 +105,75 @@ sizes_of g is =
     let all : rows ≤ rows * (cols * size) = part rows (cols * size) (omega (arith, layout.cols, line)) in
     record { rows = low; some = omega (arith, layout.rows, all) }
 
--- a chunk in the loop over those that rows go into: it is one of them, in a band of the rows, and no key is too much
+-- a chunk in the loop over those that rows go into: it is one of them, its key is in the lines of the rows' bands, and no key is too much
 pub record IsKeyIn (d : Described) (from to k : ℕ) : Type 0 where
   pub touched_is : IsTouched d from to (touched_key d from k)
-  pub row : (touched_key d from k).i < div_up to d.layout.chunk_rows
-  pub column : (touched_key d from k).j < chunks_across d
-  pub start : (touched_key d from k).i * d.layout.chunk_rows < to
+  pub row : (touched_key d from k).i < first_line d (div_up to d.layout.chunk_rows)
+  pub column : (touched_key d from k).j < keys_across d
+  pub start : touched_band d from k * d.layout.chunk_rows < to
 
 pub key_in : (d : Described) (from to k : ℕ) → IsCut d → k < touched d from to → IsKeyIn d from to k
 key_in d from to k cut known =
-    let n = share_numbers d from to k (chunks_across d) cut known refl in
+    let lines = touched_lines d from to k known in
     record {
       touched_is = record { number = k; inside = known; is = refl };
-      row = lt_up (touched_key d from k).i to d.layout.chunk_rows cut.rows n.band;
-      column = lt_up (touched_key d from k).j d.shape.cols d.layout.chunk_cols cut.cols n.column;
-      start = n.band;
+      row = lines.high;
+      column = lines.side;
+      start = (share_numbers d from to k (chunks_across d) cut known refl).band;
     }
 
--- ---- The bands of a dataset's chunks
+-- ---- The lines of a dataset's keys
 
 pub limit_top : (k : IndexKind) → limit_of format_limits k ≤ 1000000
 limit_top Array = omega arith
 limit_top Tree = omega arith
 
--- the chunks of the most bands are few
-most_few : (d : Described) → most_bands d * chunks_across d ≤ 1000000
+-- the keys of the most lines are few
+most_few : (d : Described) → most_lines d * keys_across d ≤ 1000000
 most_few d =
-    let parts = div-add-mod' (limit_of format_limits d.layout.index) (chunks_across d) in
+    let parts = div-add-mod' (limit_of format_limits d.layout.index) (keys_across d) in
     omega (arith, parts, limit_top d.layout.index)
+
+-- and so are the lines
+pub lines_small : (d : Described) (lines : ℕ) → lines ≤ most_lines d → lines < 2 ^ 64
+lines_small d lines few =
+    let most : most_lines d ≤ limit_of format_limits d.layout.index = div-le_self (limit_of format_limits d.layout.index) (keys_across d) in
+    omega (arith, few, most, limit_top d.layout.index)
+
+-- a line of one of those
+pub line_below : (line lines most : ℕ) → line < lines → lines ≤ most → line < most
+line_below line lines most low few = omega (arith, low, few)
 
 -- no key is too much for an index that has room
 pub not_deep : (d : Described) (key : Key) (v : IndexView) → IsSound v → IsRoomy d v → IsDeep v key → ⊥
-not_deep d key v sound roomy deep = depth_laws.shallow (most_bands d) (chunks_across d) key v sound roomy (let few = most_few d in omega (arith, few)) deep
+not_deep d key v sound roomy deep = depth_laws.shallow (most_lines d) (keys_across d) key v sound roomy (let few = most_few d in omega (arith, few)) deep
 
 -- the next chunk of the loop
-pub record IsNext (d : Described) (to : ℕ) (key : Key) (chunks : List ChunkPlace) : Type 0 where
+pub record IsNext (d : Described) (to : ℕ) (key : Key) (band : ℕ) (chunks : List ChunkPlace) : Type 0 where
   pub touched_is : IsTouched d d.shape.rows to key
-  pub row : key.i < div_up to d.layout.chunk_rows
-  pub column : key.j < chunks_across d
-  pub start : key.i * d.layout.chunk_rows < to
+  pub row : key.i < first_line d (div_up to d.layout.chunk_rows)
+  pub column : key.j < keys_across d
+  pub start : band * d.layout.chunk_rows < to
   pub number : key ≡ next_key d chunks
+  pub band_is : band ≡ touched_band d d.shape.rows (length chunks)
   pub inside : length chunks < touched d d.shape.rows to
 
-pub next_in : (d : Described) (to k n : ℕ) (key : Key) (chunks : List ChunkPlace) → IsCut d → n ≡ touched d d.shape.rows to → k < n → length chunks ≡ k → key ≡ touched_key d d.shape.rows k → IsNext d to key chunks
-next_in d to k n key chunks cut all low count is =
+pub next_in : (d : Described) (to k n : ℕ) (key : Key) (band : ℕ) (chunks : List ChunkPlace) → IsCut d → n ≡ touched d d.shape.rows to → k < n → length chunks ≡ k → key ≡ touched_key d d.shape.rows k → band ≡ touched_band d d.shape.rows k
+    → IsNext d to key band chunks
+next_in d to k n key band chunks cut all low count is band_is =
     let at : key ≡ next_key d chunks = is ∙ ap (touched_key d d.shape.rows) (sym count) in
+    let here : band ≡ touched_band d d.shape.rows (length chunks) = band_is ∙ ap (touched_band d d.shape.rows) (sym count) in
     let inside : length chunks < touched d d.shape.rows to = omega (arith, all, low, count) in
     let own = key_in d d.shape.rows to (length chunks) cut inside in
     record {
       touched_is = subst (IsTouched d d.shape.rows to) (sym at) own.touched_is;
-      row = subst (λ (x : Key). x.i < div_up to d.layout.chunk_rows) (sym at) own.row;
-      column = subst (λ (x : Key). x.j < chunks_across d) (sym at) own.column;
-      start = subst (λ (x : Key). x.i * d.layout.chunk_rows < to) (sym at) own.start;
+      row = subst (λ (x : Key). x.i < first_line d (div_up to d.layout.chunk_rows)) (sym at) own.row;
+      column = subst (λ (x : Key). x.j < keys_across d) (sym at) own.column;
+      start = subst (λ (n : ℕ). n * d.layout.chunk_rows < to) (sym here) own.start;
       number = at;
+      band_is = here;
       inside = inside;
     }
-
--- two touched chunks are not one to the index
-not_true : (b : Bool) → (b ≡ true → ⊥) → b ≡ false
-not_true true h = absurd (h refl)
-not_true false h = refl
-
-by_one : (k a : ℕ) → a ≡ 1 → k / a ≡ k
-by_one k a e = ap (λ n. k / n) e ∙ omega arith
-
-apart_keys : (d : Described) (v : IndexView) (from j k : ℕ) → Fits d v → j ≢ k → is_key v (touched_key d from j) (touched_key d from k) ≡ false
-apart_keys d (an_array v) from j k one ne =
-    let first : from / d.layout.chunk_rows + k / chunks_across d ≡ from / d.layout.chunk_rows + k = ap (λ n. from / d.layout.chunk_rows + n) (by_one k (chunks_across d) one) in
-    let second : from / d.layout.chunk_rows + j / chunks_across d ≡ from / d.layout.chunk_rows + j = ap (λ n. from / d.layout.chunk_rows + n) (by_one j (chunks_across d) one) in
-    ne_eqb (touched_key d from k).i (touched_key d from j).i (λ e. ne (omega (arith, e, first, second)))
-apart_keys d (a_tree p v) from j k some ne = not_true (key_equal (touched_key d from j) (touched_key d from k)) (λ e. ne (one_number d from j k some (equal-is (touched_key d from j) (touched_key d from k) e)))
 
 -- the next chunk has no address where it had none before
 pub absent_before : (d : Described) (to : ℕ) (v w : IndexView) (s t : Space) (chunks : List ChunkPlace) (added : List Key) (key : Key) → Fits d v → IsPlacing d to v s chunks added w t → key ≡ next_key d chunks → address_in w key ≡ undefined

@@ -5,7 +5,7 @@ use Rattle.h5w_model.specs.declared.cell.Cell.{Cell}
 use Rattle.h5w_layout.specs.Layouts.{fill_of}
 use Rattle.h5w_layout.specs.declared.fill.Fill.{Fill}
 use Rattle.h5w_model.specs.Logs.{Log, Happening}
-use Rattle.h5w_options.specs.Options.{columns_in, index_in, width_in}
+use Rattle.h5w_options.specs.Options.{columns_in, grows_in, index_in, rank_in, width_in}
 use Rattle.h5w_options.specs.declared.options.Options.{Options}
 use Rattle.h5w_types.specs.Fields.{int_type_of}
 use Rattle.h5w_space.specs.Space.{Space}
@@ -15,7 +15,8 @@ use Rattle.h5w_creation_laws.specs.CreatedFiles.{CreatedFile, block_place, creat
 use Rattle.h5w_creation.specs.Made.{IsNewIndex}
 use Rattle.h5w_session.specs.Sessions.{Session}
 
--- by what these options create a file: one dimension, by an extensible array, or two, by a version 2 B-tree
+-- by what these options create a file: one dimension, or two of which the second is fixed, by an extensible array; or two that grow, by a
+-- version 2 B-tree
 abbrev pub new_file : Options → CreatedFile
 new_file o = record {
   name = o.name;
@@ -23,8 +24,10 @@ new_file o = record {
   fill = fill_given o.fill (int_type_of o.int_type);
   chunk_rows = o.chunk_rows;
   chunk_cols = width_in o.columns;
+  rank = rank_in o.columns;
   columns = columns_in o.columns;
-  index = index_in o.columns;
+  growing = grows_in o.columns o.fixed;
+  index = index_in o.columns o.fixed;
 }
 
 -- the most bytes that a file may have

@@ -9,7 +9,7 @@ use Rattle.h5w_model.specs.declared.piece.Write.{Write}
 use Rattle.h5w_space.specs.Space.{Space}
 use Rattle.h5w_cache.specs.declared.moves.Move.{Move}
 use Rattle.h5w_chunks.specs.Grids.{fill_cell}
-use Rattle.h5w_chunks.specs.Shares.{new_writes, touched, touched_key}
+use Rattle.h5w_chunks.specs.Shares.{new_writes, touched, touched_band, touched_key}
 use Rattle.h5w_chunks.specs.Rows.{RowsWritten}
 use Rattle.h5w_chunks.specs.declared.grid.ChunkPlace.{ChunkPlace}
 use Rattle.h5w_flush_laws.specs.Parts.{AreEnded}
@@ -29,9 +29,7 @@ first_key d = touched_key d d.shape.rows 0
 
 -- the place of that chunk by the index: it is stored where its band has rows already
 abbrev pub first_place : Described → IndexView → ChunkPlace
-first_place d v =
-    let key = first_key d in
-    record { address = address_in v key; stored = nat_lt (key.i * d.layout.chunk_rows) d.shape.rows }
+first_place d v = record { address = address_in v (first_key d); stored = nat_lt (touched_band d d.shape.rows 0 * d.layout.chunk_rows) d.shape.rows }
 
 -- the piece by which the dataset header says all rows
 abbrev pub header_piece : Session → Write

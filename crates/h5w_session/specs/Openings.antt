@@ -74,5 +74,5 @@ flagged flags stop s = record s {
 pub record OverLaws : Type 0 where
   pub over : (img name : List ℕ) (rows columns : ℕ) (values : List ℤ) (sm : Summary) → Valid img name sm → Reads img name rows columns values → 0 < columns
       → (m : Moment) × Represents img name m × ((s : Session) → s.name ≡ name → IsOver s img m → Stands s (opened_log img columns values))
-  pub rewritten : (s : Session) (log : Log) (flags : ℕ) (stop : Bool) → super_at (super_bytes (flagged_root flags s)) ≡ Ok (flagged_root flags s) → is_swmr flags ≡ true → s.stopped ≡ false → s.pending ≡ [] → Stands s log
+  pub rewritten : (s : Session) (log : Log) (flags : ℕ) (stop : Bool) → super_at (super_bytes (flagged_root flags s)) ≡ Ok (flagged_root flags s) → is_swmr (flagged_root flags s) ≡ true → s.stopped ≡ false → s.pending ≡ [] → Stands s log
       → Stands (flagged flags stop s) log

@@ -5,7 +5,7 @@ use Rattle.h5w_model.specs.Superblock.{super_bytes}
 use Rattle.h5w_model.specs.Arrays.{eahd_len}
 use Rattle.h5w_model.specs.Logs.{Cutting, div_up}
 use Rattle.h5w_model.specs.Datasets.{Described, dataspace_kind, layout_kind}
-use Rattle.h5w_model.specs.Tables.{chunks_across, format_limits, limit_of, needed}
+use Rattle.h5w_model.specs.Tables.{format_limits, keys_across, limit_of, needed}
 use Rattle.h5w_model.specs.Numbers.{undefined}
 use Rattle.h5w_model.specs.Headers.{index_address_place, messages_at}
 use Rattle.h5w_model.specs.declared.cell.Key.{Key}
@@ -16,6 +16,7 @@ use Rattle.h5w_header_laws.specs.Files.{with_index}
 use Rattle.h5w_space.specs.Space.{Space, Commits}
 use Rattle.h5w_visits.specs.Ranges.{AllEndBy as RangesEndBy}
 use Rattle.h5w_chunks.specs.Grids.{cells_of}
+use Rattle.h5w_chunks.specs.Shares.{first_line}
 use Rattle.h5w_index.specs.Views.{IndexView, IsReached, IsSound, address_in, fixed_of, header_place, kind_of}
 use Rattle.h5w_index.specs.Blocks.{has_no_block}
 use Rattle.h5w_index.specs.Placing.{AreInside, Fits}
@@ -61,13 +62,13 @@ cutting_of s = record {
 abbrev pub chunks_with : Session → ℕ → ℕ
 chunks_with s more = needed (with_rows (rows_of s + more) s.dataset)
 
--- the most bands of chunks that a dataset's index can have
-abbrev pub most_bands : Described → ℕ
-most_bands d = limit_of format_limits d.layout.index / chunks_across d
+-- the most lines of keys that a dataset's index can have
+abbrev pub most_lines : Described → ℕ
+most_lines d = limit_of format_limits d.layout.index / keys_across d
 
 -- the index has room for each chunk that the dataset can have: places are held in it for such chunks alone
 abbrev pub IsRoomy : Described → IndexView → Type 0
-IsRoomy d v = AreWithin (most_bands d) (chunks_across d) v
+IsRoomy d v = AreWithin (most_lines d) (keys_across d) v
 
 -- the most chunks of the dataset's index
 abbrev pub chunk_limit : Session → ℕ
@@ -117,7 +118,7 @@ bands_of s = div_up (rows_of s) s.dataset.layout.chunk_rows
 
 -- readers look for each chunk that has an address and that the planned rows need
 abbrev pub AreReached : Session → Type 0
-AreReached s = (key : Key) → key.i < div_up s.dataset.shape.rows s.dataset.layout.chunk_rows → address_in s.index key ≢ undefined → IsReached s.index key
+AreReached s = (key : Key) → key.i < first_line s.dataset (div_up s.dataset.shape.rows s.dataset.layout.chunk_rows) → address_in s.index key ≢ undefined → IsReached s.index key
 
 -- what holds of every session
 pub record IsSession (s : Session) : Type 0 where

@@ -17,7 +17,7 @@ ghost use Rattle.std.specs.List.{slice_get};
 ghost use Rattle.h5w_chunks.specs.Grids.{IsGrid, chunk_len, dataset_of};
 ghost use Rattle.h5w_chunks.specs.declared.grid.ChunkPlace.{ChunkPlace};
 ghost use Rattle.h5w_chunks.specs.Rows.{RowsWritten};
-ghost use Rattle.h5w_chunks.specs.Shares.{new_writes, share_of, touched};
+ghost use Rattle.h5w_chunks.specs.Shares.{first_line, new_writes, share_of, touched};
 ghost use Rattle.h5w_flush_laws.specs.Parts.{AreEnded};
 ghost use Rattle.h5w_image.specs.View.{Same};
 ghost use Rattle.h5w_space.specs.declared.Full.{Full};
@@ -29,7 +29,7 @@ ghost use Rattle.h5w_model.specs.Numbers.{undefined};
 ghost use Rattle.h5w_session.specs.Refusals.{IsArrayUnplaced, IsDeepFor, IsDeepPart, IsFullFor, IsSpace, IsStartFull, IsUnplaced, flush_refusal};
 ghost use Rattle.h5w_session.specs.Room.{HasRoomFor, chunk_pieces, most_pieces, own_pieces};
 ghost use Rattle.h5w_session.specs.Past.{IsNew};
-ghost use Rattle.h5w_session.specs.Sessions.{AllEndBy, AreReached, IsRoomy, IsSession, IsUnmade, IsWhole, TakesRows, cutting_of, most_bands, option_list, rows_of};
+ghost use Rattle.h5w_session.specs.Sessions.{AllEndBy, AreReached, IsRoomy, IsSession, IsUnmade, IsWhole, TakesRows, cutting_of, most_lines, option_list, rows_of};
 ghost use Rattle.h5w_session.specs.Stands.{Stands};
 ghost use Rattle.h5w_session.specs.declared.refusal.FlushError.{FlushError};
 
@@ -115,9 +115,11 @@ fn columns_of(grid: &Grid, to: u64, k: u64) -> u64
     ensures exact { result ≡ (share_of (dataset_of grid.now) grid.now.shape.rows to k).columns }
     ensures bound { result ≤ grid.now.layout.chunk.1 }
 {
-    let key = grid.touched_key(grid.shape.rows, to, k);
+    let columns = grid.shape.cols;
     let width = grid.layout.chunk.1;
-    width.min(grid.shape.cols - key.j * width)
+    let across = grid.across();
+    let column = k % across * width;
+    width.min(columns - column)
 }
 
 /// How many pieces the writes of the new rows have at most in touched chunk `k`, which has this place.
@@ -201,11 +203,11 @@ fn prepare<W: PieceWrite>(
     requires grid { IsGrid grid.now }
     requires order { grid.now.shape.rows < to }
     requires room { (to - grid.now.shape.rows) * grid.now.shape.cols < 2 ^ 64 }
-    requires few { div_up to grid.now.layout.chunk.0 ≤ most_bands (dataset_of grid.now) }
+    requires few { first_line (dataset_of grid.now) (div_up to grid.now.layout.chunk.0) ≤ most_lines (dataset_of grid.now) }
     requires count { length cells.now ≡ (to - grid.now.shape.rows) * grid.now.shape.cols * grid.now.int_type.size }
     requires sound { IsSound (view_of index.old) }
     requires fits { Fits (dataset_of grid.now) (view_of index.old) }
-    requires takes { (key : Key) → key.i < div_up to grid.now.layout.chunk.0 → TakesKey (view_of index.old) key }
+    requires takes { (key : Key) → key.i < first_line (dataset_of grid.now) (div_up to grid.now.layout.chunk.0) → TakesKey (view_of index.old) key }
     requires inside { AreInside (dataset_of grid.now) taking.old.places.end (view_of index.old) }
     requires small { taking.old.places.end < 2 ^ 64 }
     requires limit { taking.old.places.limit ≤ 2 ^ 40 }
@@ -496,7 +498,7 @@ fn start_array(alloc: Global, address: u64, places: &mut Places) -> Result<(Inde
     requires head { address ≢ undefined → address + eahd_len ≤ places.old.end }
     ensures started { IfOk result (λ x. IsStartedAt address places.old x.1 (view_of x.0) places.new) }
     ensures kind { IfOk result (λ x. kind_of (view_of x.0) ≡ Array) }
-    ensures within { IfOk result (λ x. (bands across : ℕ) → AreWithin bands across (view_of x.0)) }
+    ensures within { IfOk result (λ x. (lines across : ℕ) → AreWithin lines across (view_of x.0)) }
     ensures full { (full : Full) → result ≡ Err (FlushError.Space full) → IsUnplaced Array address places.old full }
     ensures causes { IfErr result (λ e. IsSpace e ⊎ (e ≡ FlushError.OutOfMemory)) }
 {
@@ -511,7 +513,7 @@ fn start_tree(alloc: Global, places: &mut Places) -> Result<(Index, u64), Full>
     requires limit { places.old.limit ≤ 2 ^ 40 }
     ensures started { IfOk result (λ x. IsStartedAt undefined places.old x.1 (view_of x.0) places.new) }
     ensures kind { IfOk result (λ x. kind_of (view_of x.0) ≡ Tree) }
-    ensures within { IfOk result (λ x. (bands across : ℕ) → AreWithin bands across (view_of x.0)) }
+    ensures within { IfOk result (λ x. (lines across : ℕ) → AreWithin lines across (view_of x.0)) }
     ensures full { IfErr result (λ full. IsUnplaced Tree undefined places.old full) }
 {
     let header = places.take(TREE_HEADER)?;
@@ -532,7 +534,7 @@ fn start_index(
     requires tree { kind ≡ Tree → address ≡ undefined }
     ensures started { IfOk result (λ x. IsStartedAt address places.old x.1 (view_of x.0) places.new) }
     ensures kind { IfOk result (λ x. kind ≡ kind_of (view_of x.0)) }
-    ensures within { IfOk result (λ x. (bands across : ℕ) → AreWithin bands across (view_of x.0)) }
+    ensures within { IfOk result (λ x. (lines across : ℕ) → AreWithin lines across (view_of x.0)) }
     ensures full { (full : Full) → result ≡ Err (FlushError.Space full) → IsUnplaced kind address places.old full }
     ensures causes { IfErr result (λ e. IsSpace e ⊎ (e ≡ FlushError.OutOfMemory)) }
 {

@@ -8,7 +8,7 @@ ghost use Rattle.h5w_model.specs.Tables.{chunks_across};
 ghost use Rattle.h5w_model.specs.declared.cell.Key.{Key};
 ghost use Rattle.h5w_cache.specs.Plans.{IsRefused};
 ghost use Rattle.h5w_chunks.specs.Grids.{IsGrid, chunk_len, dataset_of};
-ghost use Rattle.h5w_chunks.specs.Shares.{touched};
+ghost use Rattle.h5w_chunks.specs.Shares.{first_line, touched, touched_band};
 ghost use Rattle.h5w_space.specs.Space.{Space};
 ghost use Rattle.h5w_space.specs.declared.Full.{Full};
 ghost use Rattle.h5w_index.specs.Depths.{AreWithin};
@@ -19,7 +19,7 @@ ghost use Rattle.h5w_index.specs.Steps.{IsDeep};
 ghost use Rattle.h5w_index.specs.Views.{HasSlot, IndexView, IsReached, IsSound, TakesKey, address_in};
 ghost use Rattle.h5w_session.specs.Flushes.{first_key, first_place};
 ghost use Rattle.h5w_session.specs.Refusals.{IsDeepPart, IsSpace};
-ghost use Rattle.h5w_session.specs.Sessions.{IsRoomy, most_bands};
+ghost use Rattle.h5w_session.specs.Sessions.{IsRoomy, most_lines};
 ghost use Rattle.h5w_session.specs.declared.refusal.FlushError.{FlushError};
 
 use crate::refusal::FlushError;
@@ -86,7 +86,7 @@ fn place_new(
     ensures count { OnOk result (length taking.new.chunks.items ≡ length taking.old.chunks.items + 1) }
     ensures partly { OnErr result ((to : ℕ) (v : IndexView) → IsPartly (dataset_of grid.now) to v taking.old.added.items (view_of index.old)
         → IsTouched (dataset_of grid.now) grid.now.shape.rows to key → IsPartly (dataset_of grid.now) to v taking.new.added.items (view_of index.new)) }
-    ensures within { (bands across : ℕ) → key.i < bands → key.j < across → AreWithin bands across (view_of index.old) → AreWithin bands across (view_of index.new) }
+    ensures within { (lines across : ℕ) → key.i < lines → key.j < across → AreWithin lines across (view_of index.old) → AreWithin lines across (view_of index.new) }
     ensures full { (full : Full) → result ≡ Err (FlushError.Space full) → IsRefused taking.old.places (chunk_len (dataset_of grid.now)) full }
     ensures deep { result ≡ Err FlushError.Deep → IsDeep (view_of index.old) key }
     ensures causes { IfErr result (λ e. IsSpace e ⊎ ((e ≡ FlushError.Deep) ⊎ (e ≡ FlushError.OutOfMemory))) }
@@ -103,29 +103,32 @@ fn place_new(
     Ok(())
 }
 
-/// Gives a chunk its place: that which the index names, or a new one, which the index names from now on. Readers look for it there, as
-/// they might not have done for a chunk that a stopped writer left. After a refusal the index names no more chunks than before.
+/// Gives a chunk of this band of rows its place: that which the index names, or a new one, which the index names from now on. Readers look
+/// for it there, as they might not have done for a chunk that a stopped writer left. After a refusal the index names no more chunks than
+/// before.
 fn place_chunk(
     grid: &Grid,
     key: Key,
+    band: u64,
     taking: &mut Taking,
     index: &mut Index,
 ) -> Result<(), FlushError>
     requires grid { IsGrid grid.now }
     requires sound { IsSound (view_of index.old) }
     requires takes { TakesKey (view_of index.old) key }
-    requires row { key.i * grid.now.layout.chunk.0 < 2 ^ 64 }
+    requires row { band * grid.now.layout.chunk.0 < 2 ^ 64 }
     requires small { taking.old.places.end < 2 ^ 64 }
     requires limit { taking.old.places.limit ≤ 2 ^ 40 }
     ensures sound { IsSound (view_of index.new) }
     ensures placed { OnOk result ((to : ℕ) (v : IndexView) (s : Space) → Fits (dataset_of grid.now) v → AreInside (dataset_of grid.now) s.end v
-        → key ≡ next_key (dataset_of grid.now) taking.old.chunks.items → length taking.old.chunks.items < touched (dataset_of grid.now) grid.now.shape.rows to
+        → key ≡ next_key (dataset_of grid.now) taking.old.chunks.items → band ≡ touched_band (dataset_of grid.now) grid.now.shape.rows (length taking.old.chunks.items)
+        → length taking.old.chunks.items < touched (dataset_of grid.now) grid.now.shape.rows to
         → IsPlacing (dataset_of grid.now) to v s taking.old.chunks.items taking.old.added.items (view_of index.old) taking.old.places
         → IsPlacing (dataset_of grid.now) to v s taking.new.chunks.items taking.new.added.items (view_of index.new) taking.new.places) }
     ensures count { OnOk result (length taking.new.chunks.items ≡ length taking.old.chunks.items + 1) }
     ensures partly { OnErr result ((to : ℕ) (v : IndexView) → IsPartly (dataset_of grid.now) to v taking.old.added.items (view_of index.old)
         → IsTouched (dataset_of grid.now) grid.now.shape.rows to key → IsPartly (dataset_of grid.now) to v taking.new.added.items (view_of index.new)) }
-    ensures within { (bands across : ℕ) → key.i < bands → key.j < across → AreWithin bands across (view_of index.old) → AreWithin bands across (view_of index.new) }
+    ensures within { (lines across : ℕ) → key.i < lines → key.j < across → AreWithin lines across (view_of index.old) → AreWithin lines across (view_of index.new) }
     ensures full { (full : Full) → result ≡ Err (FlushError.Space full)
         → (address_in (view_of index.old) key ≡ undefined) × IsRefused taking.old.places (chunk_len (dataset_of grid.now)) full }
     ensures deep { result ≡ Err FlushError.Deep → (address_in (view_of index.old) key ≡ undefined) × IsDeep (view_of index.old) key }
@@ -133,7 +136,7 @@ fn place_chunk(
 {
     if let Some(address) = index.get(key) {
         index.reach(key);
-        let stored = key.i * grid.layout.chunk.0 < grid.shape.rows;
+        let stored = band * grid.layout.chunk.0 < grid.shape.rows;
         keep(&mut taking.chunks, ChunkPlace { address, stored })?;
         return Ok(());
     }
@@ -150,10 +153,10 @@ pub fn place_chunks(
     requires grid { IsGrid grid.now }
     requires order { grid.now.shape.rows < to }
     requires room { (to - grid.now.shape.rows) * grid.now.shape.cols < 2 ^ 64 }
-    requires few { div_up to grid.now.layout.chunk.0 ≤ most_bands (dataset_of grid.now) }
+    requires few { first_line (dataset_of grid.now) (div_up to grid.now.layout.chunk.0) ≤ most_lines (dataset_of grid.now) }
     requires sound { IsSound (view_of index.old) }
     requires fits { Fits (dataset_of grid.now) (view_of index.old) }
-    requires takes { (key : Key) → key.i < div_up to grid.now.layout.chunk.0 → TakesKey (view_of index.old) key }
+    requires takes { (key : Key) → key.i < first_line (dataset_of grid.now) (div_up to grid.now.layout.chunk.0) → TakesKey (view_of index.old) key }
     requires inside { AreInside (dataset_of grid.now) taking.old.places.end (view_of index.old) }
     requires small { taking.old.places.end < 2 ^ 64 }
     requires limit { taking.old.places.limit ≤ 2 ^ 40 }
@@ -171,7 +174,8 @@ pub fn place_chunks(
     let from = grid.shape.rows;
     for k in 0..grid.touched(from, to) {
         let key = grid.touched_key(from, to, k);
-        place_chunk(grid, key, taking, index)?;
+        let band = grid.touched_band(from, to, k);
+        place_chunk(grid, key, band, taking, index)?;
     }
     Ok(())
 }
@@ -185,7 +189,7 @@ pub fn named_chunk(grid: &Grid, to: u64, index: &Index) -> Option<ChunkPlace>
     requires few { div_up to grid.now.layout.chunk.0 * chunks_across (dataset_of grid.now) ≤ 1000000 }
     requires sound { IsSound (view_of index.now) }
     requires fits { Fits (dataset_of grid.now) (view_of index.now) }
-    requires takes { (key : Key) → key.i < div_up to grid.now.layout.chunk.0 → TakesKey (view_of index.now) key }
+    requires takes { (key : Key) → key.i < first_line (dataset_of grid.now) (div_up to grid.now.layout.chunk.0) → TakesKey (view_of index.now) key }
     ensures placed { IfSome result (λ p. (s : Space) → AreInside (dataset_of grid.now) s.end (view_of index.now)
         → IsPlacing (dataset_of grid.now) to (view_of index.now) s (p ∷ []) [] (view_of index.now) s) }
     ensures all { IfSome result (λ p. touched (dataset_of grid.now) grid.now.shape.rows to ≡ 1) }
@@ -215,7 +219,7 @@ pub fn unset(added: &[Key], index: &mut Index)
     requires slots { All (HasSlot (view_of index.old)) added.now }
     ensures sound { IsSound (view_of index.new) }
     ensures taken_back { (d : Described) (to : ℕ) (v : IndexView) → IsPartly d to v added.now (view_of index.old) → IsPartly d to v [] (view_of index.new) }
-    ensures within { (bands across : ℕ) → AreWithin bands across (view_of index.old) → AreWithin bands across (view_of index.new) }
+    ensures within { (lines across : ℕ) → AreWithin lines across (view_of index.old) → AreWithin lines across (view_of index.new) }
 {
     for key in added {
         index.unset(*key);

@@ -54,16 +54,16 @@ use Rattle.h5w_ea_index.specs.Ranges.{block_ranges, each_below, range_from, rang
 use Rattle.h5w_ea_index.proofs.StandingLemmas.{opened_finds}
 use Rattle.h5w_opening.specs.Openings.{Opened, chunk_0_len, closed_super, dataset_found, in_chunk_0, is_open, known, looked_for, place_found, refused_dataset, super_found}
 use Rattle.h5w_opening.specs.declared.error.OpenError.{OpenError}
-use Rattle.h5w_opening.specs.declared.error.OpenError.TheVariants.{Read, Flags, Cut}
+use Rattle.h5w_opening.specs.declared.error.OpenError.TheVariants.{Read, Version, Flags, Cut}
 use Rattle.h5w_session_open.specs.declared.index.NoIndex.{NoIndex}
 use Rattle.h5w_session_open.specs.declared.index.NoIndex.TheVariants.{Unnamed, Empty, WrongTotals, Unordered}
 use Rattle.h5w_session_open.specs.OpenAnswers.{IsArrayOf, IsBadBlock, IsIndexOf, IsNotOpened, IsOtherOf, IsTreeOf, array, damaged, refused, tree, unfound, writing_flags}
-use Rattle.h5w_session_open.specs.OpenLaws.{IsLeft, OpenLaws, dataset, open_already, unknown}
-use Rattle.h5w_session_open.specs.OpenRanges.{blocks_in, chunk_0_range, chunks_behind, chunks_from, cut_at, first_key, first_open, first_past, header_alone, header_len, open_blocks, open_chunks, ranges_refused, refused_index}
+use Rattle.h5w_session_open.specs.OpenLaws.{IsLeft, OpenLaws, dataset, older, open_already, unknown}
+use Rattle.h5w_session_open.specs.OpenRanges.{blocks_in, chunk_0_range, chunks_behind, chunks_from, cut_at, first_key, first_open_line, first_past, header_alone, header_len, open_blocks, open_chunks, ranges_refused, refused_index}
 use Rattle.h5w_session.specs.Sessions.{cleared}
 use Rattle.h5w_session_open.proofs.OpenRangeLemmas.{AllBy, both_none, by_both, by_later, by_take, chunks_by, past_none, range_by}
 use Rattle.h5w_session_open.proofs.OverFile.{begins, checked, cut_here, dataset_same, end_same, found, header_same, nodes_end, place_same, same_answer, visited}
-use Rattle.h5w_session_open.proofs.SessionOver.{open_few}
+use Rattle.h5w_session_open.proofs.OpenLineLemmas.{open_few}
 use Rattle.h5w_session_open.proofs.UndamagedLemmas.{undamaged, visit_of}
 use Rattle.h5w_session_open.proofs.UndamagedTreeLemmas.{all_by, answered, chunks_end, head_ends}
 use Rattle.h5w_opening.proofs.OpeningLemmas.{behind_place, behind_super, opened_by, opening_gives}
@@ -74,8 +74,9 @@ use Rattle.h5w_space.specs.Space.{extent}
 
 -- ---- What is found of a file at a moment
 
--- it is open already; or a header has a message that asks to be known; or all is found
+-- its superblock is of version 2; or it is open already; or a header has a message that asks to be known; or all is found
 pub data Finding (img : List ℕ) (size : ℕ) (name : List ℕ) (m : Moment) : Type 0 where
+  is_older : eval img (looked_for size name) ≡ Err (Version 2) → Finding img size name m
   is_writing : is_open m.super.flags ≡ true → eval img (looked_for size name) ≡ Err (Flags m.super.flags) → Finding img size name m
   is_unknown : (at kind : ℕ) → eval img (looked_for size name) ≡ Err (Read (Header at (Unknown kind))) → Finding img size name m
   is_found : (o : Opened) → eval img (looked_for size name) ≡ Ok o → Finding img size name m
@@ -140,22 +141,31 @@ module _ (img name : List ℕ) (m : Moment) (file : Represents img name m) where
       step_ok (refused_as Read (refused_as super_refusal (super_at (range img 0 48)))) s (closed_super size)
       (ap (λ r. refused_as Read (refused_as super_refusal r)) (super_parts size (range img 0 48) s file.super).read)
 
-  on_flags : (is_open s.flags ≡ true) ⊎ (is_open s.flags ≡ false) → Finding img size name m
-  on_flags (inl t) =
+  -- what is answered of a superblock with these flags that is of version 3
+  abbrev by_flags : Bool → Result Super OpenError
+  by_flags c = cond c (Err (Flags s.flags)) (cond (nat_lt size s.end) (Err (Cut s.end size)) (Ok s))
+
+  abbrev by_version : Bool → Result Super OpenError
+  by_version c = cond c (Err (Version 2)) (by_flags (is_open s.flags))
+
+  on_flags : (s.version == 2) ≡ false → (is_open s.flags ≡ true) ⊎ (is_open s.flags ≡ false) → Finding img size name m
+  on_flags new (inl t) =
       is_writing t
-      (opening_gives img name size
-      ∙ step_err (super_found size img) (Flags s.flags) (behind_super name img) (supered ∙ ap (λ c. cond c (Err (Flags s.flags)) (cond (nat_lt size s.end) (Err (Cut s.end size)) (Ok s))) t))
-  on_flags (inr t) =
+      (opening_gives img name size ∙ step_err (super_found size img) (Flags s.flags) (behind_super name img) (supered ∙ ap by_version new ∙ ap by_flags t))
+  on_flags new (inr t) =
       let inside = (super_parts size (range img 0 48) s file.super).inside in
       on_root
       (opening_gives img name size
       ∙ step_ok (super_found size img) s (behind_super name img)
-      (supered ∙ ap (λ c. cond c (Err (Flags s.flags)) (cond (nat_lt size s.end) (Err (Cut s.end size)) (Ok s))) t
-      ∙ ap (λ c. cond c (Err (Cut s.end size)) (Ok s)) (le-ltb size s.end inside)))
+      (supered ∙ ap by_version new ∙ ap by_flags t ∙ ap (λ c. cond c (Err (Cut s.end size)) (Ok s)) (le-ltb size s.end inside)))
       (root_alike img s.root)
 
+  on_version : ((s.version == 2) ≡ true) ⊎ ((s.version == 2) ≡ false) → Finding img size name m
+  on_version (inl old) = is_older (opening_gives img name size ∙ step_err (super_found size img) (Version 2) (behind_super name img) (supered ∙ ap by_version old))
+  on_version (inr new) = on_flags new (cases_Bool (is_open s.flags))
+
   pub finding : Finding img size name m
-  finding = on_flags (cases_Bool (is_open s.flags))
+  finding = on_version (cases_Bool (s.version == 2))
 
 -- ---- The ranges of a valid file
 
@@ -210,12 +220,12 @@ module _ (img name : List ℕ) (o : Opened) (m : Moment) (is : eval img (looked_
 
   -- the array
   module _ (v : Store) (x : IsArrayOf img o.header.dataset v) where
-    low : first_open o.header.dataset < 131060
+    low : first_open_line o.header.dataset < 131060
     low =
         let c = checked img name (length img) o m is file in
         let few : needed m.dataset ≤ limit_of format_limits m.dataset.layout.index = ltb-false (limit_of format_limits m.dataset.layout.index) (needed m.dataset) c.within in
         let here = subst (λ (d : Described). needed d ≤ limit_of format_limits d.layout.index) (dataset_same img name (length img) o m is file) few in
-        open_few o.header.dataset (cut_here img name (length img) o m is file) here x.kind
+        open_few o.header.dataset (cut_here img name (length img) o m is file).chunked.rows here x.kind
 
     rests : Rests img m (λ key. map_of v key.i) (record { end = end; limit = 1024; free = []; retired = []; spare = 0 }) (an_array v)
     rests = (begins img name (length img) o m is file (an_array v) x low 1024).rests
@@ -237,7 +247,7 @@ module _ (img name : List ℕ) (o : Opened) (m : Moment) (is : eval img (looked_
     parted k p = range_by end (place_at_part v k) (length_of k) (placed k p)
 
     abbrev first : ℕ
-    first = first_open o.header.dataset
+    first = first_open_line o.header.dataset
 
     late : (k : Part) → IsPart k → AllBy end (range_from first v k)
     late k p = cond_both (nat_lt first (past k)) (range_of_part v k) [] (AllBy end) (λ t. parted k p) (λ t. tt)
@@ -254,11 +264,11 @@ module _ (img name : List ℕ) (o : Opened) (m : Moment) (is : eval img (looked_
         by_both end (if nat_lt s 4 then [] else range_from first v (secondary_of s)) (ranges_of_data first v s) (second s lt (nat_lt s 4) refl)
         (by_each end (λ b. range_from first v (data_of s b)) (super_block_of s).blocks (λ b inside. late (data_of s b) (omega arith, inside)))))
 
-    chunk_ends : (i : ℕ) → first_open o.header.dataset ≤ i → i < first_open o.header.dataset + (131060 - first_open o.header.dataset) → map_of v i ≢ undefined → map_of v i + chunk_bytes o.header.dataset ≤ end
+    chunk_ends : (i : ℕ) → first_open_line o.header.dataset ≤ i → i < first_open_line o.header.dataset + (131060 - first_open_line o.header.dataset) → map_of v i ≢ undefined → map_of v i + chunk_bytes o.header.dataset ≤ end
     chunk_ends i from below named =
         let same_d = dataset_same img name (length img) o m is file in
         let key : Key = record { i = i; j = 0 } in
-        let finds = opened_finds img (first_open o.header.dataset) o.header.dataset v x.kind (sym x.at) low x.array x.clean x.opened in
+        let finds = opened_finds img (first_open_line o.header.dataset) o.header.dataset v x.kind (sym x.at) low x.array x.clean x.opened in
         let a = file.index.answered key (λ kind. let t = low in omega arith) in
         let read : eval img (in_place o.header.dataset) ≡ Ok file.index.blocks = subst (λ (d : Described). eval img (in_place d) ≡ Ok file.index.blocks) same_d file.index.read in
         let blocks : file.index.blocks ≡ blocks_in_place v = same_answer (eval img (in_place o.header.dataset)) file.index.blocks (blocks_in_place v) read finds.says in
@@ -268,8 +278,8 @@ module _ (img name : List ℕ) (o : Opened) (m : Moment) (is : eval img (looked_
         let ends = file.index.ends (chunk_at a.address (chunk_bytes m.dataset)) (among_right (chunk_at a.address (chunk_bytes m.dataset)) m.fixed m.behind among) in
         omega (arith, ends, address, same_end, ap chunk_bytes same_d)
 
-    chunks_are_by : AllBy end (chunks_from v (chunk_bytes o.header.dataset) (first_open o.header.dataset) (131060 - first_open o.header.dataset))
-    chunks_are_by = chunks_by end (chunk_bytes o.header.dataset) v (first_open o.header.dataset) (131060 - first_open o.header.dataset) chunk_ends
+    chunks_are_by : AllBy end (chunks_from v (chunk_bytes o.header.dataset) (first_open_line o.header.dataset) (131060 - first_open_line o.header.dataset))
+    chunks_are_by = chunks_by end (chunk_bytes o.header.dataset) v (first_open_line o.header.dataset) (131060 - first_open_line o.header.dataset) chunk_ends
 
   -- the tree
   module _ (place : ℕ) (v : TreeIndex) (x : IsTreeOf img o.header.dataset place v) where
@@ -282,11 +292,11 @@ module _ (img name : List ℕ) (o : Opened) (m : Moment) (is : eval img (looked_
         let head = head_ends img end o.header.dataset Tree seen x.kind x.named in
         (super_ends, (omega (arith, head, x.at), all_by end (ranges_from first v) (needed_ends end first v x.tree.kept (nodes_end img name (length img) o m is file place v x))))
 
-    tree_chunks : AllBy end (chunks_behind bytes (first_open o.header.dataset) (records v))
+    tree_chunks : AllBy end (chunks_behind bytes (first_open_line o.header.dataset) (records v))
     tree_chunks =
         let rests : Rests img m (λ key. address_of v key) (record { end = end; limit = 1024; free = []; retired = []; spare = 0 }) (a_tree place v) = (begins img name (length img) o m is file (a_tree place v) x tt 1024).rests in
         let same : AreSame (behind_of bytes v) m.behind = subst (λ n. AreSame (behind_of n v) m.behind) (ap chunk_bytes (dataset_same img name (length img) o m is file)) rests.behind in
-        chunks_end end bytes (first_open o.header.dataset) v m.behind x.tree.kept same
+        chunks_end end bytes (first_open_line o.header.dataset) v m.behind x.tree.kept same
         (ends_right end m.fixed m.behind (subst (λ n. AllEndBy n (m.fixed ++ m.behind)) same_end file.index.ends))
 
   all_within : (a : Result IndexView NoIndex) → IsIndexOf img o.header.dataset a → AllBy end (chunk_0_range o ∷ open_blocks o.header.dataset a) × AllBy end (open_chunks o.header.dataset a)
@@ -306,7 +316,7 @@ module _ (img name : List ℕ) (o : Opened) (m : Moment) (is : eval img (looked_
 
   -- no block of the index is refused
   pub no_bad : (at : ℕ) (f : BlockFault) → IsBadBlock img o.header.dataset at f → ⊥
-  no_bad at f (array kind named bad) = undamaged img end (first_open o.header.dataset) at o.header.dataset f seen kind named bad
+  no_bad at f (array kind named bad) = undamaged img end (first_open_line o.header.dataset) at o.header.dataset f seen kind named bad
   no_bad at f (tree kind named bad) =
       let index : IsIndex img m.super.end o.header.dataset m.fixed m.behind = subst (λ (d : Described). IsIndex img m.super.end d m.fixed m.behind) (dataset_same img name (length img) o m is file) file.index in
       answered img m.super.end at o.header.dataset m.fixed m.behind f index kind named bad
@@ -344,6 +354,7 @@ left img name rows columns values sm e short valid reads why =
     go f.0 f.1 e why
   where
     unfound_by : (m : Moment) → Represents img name m → (g : OpenError) → eval img (looked_for (length img) name) ≡ Err g → Finding img (length img) name m → IsLeft img (length img) name g
+    unfound_by m file g is (is_older h) = subst (IsLeft img (length img) name) (same_refusal (Version 2) g (sym h ∙ is)) older
     unfound_by m file g is (is_writing t h) = subst (IsLeft img (length img) name) (same_refusal (Flags m.super.flags) g (sym h ∙ is)) (open_already m.super.flags t)
     unfound_by m file g is (is_unknown at kind h) = subst (IsLeft img (length img) name) (same_refusal (Read (Header at (Unknown kind))) g (sym h ∙ is)) (unknown at kind h)
     unfound_by m file g is (is_found o h) = let clash : answer o ≡ refusal g = sym h ∙ is in absurd cc

@@ -1,5 +1,6 @@
 mod OpenRangeLemmas
 mod SaidLemmas
+mod OpenLineLemmas
 mod SessionOver
 mod UndamagedLemmas
 mod UndamagedTreeLemmas

@@ -1,14 +1,12 @@
 -- What the session is that was opened, on every image and on a still one.
 use Rattle.std.proofs.Common.{◌≡◌, ℕ, ◌+◌, ◌^◌, ◌<◌, ◌≤◌, List, ℤ, Result, Ok, Err, refl, sym, ap, ◌∙◌, subst, None, arith}
 use Rattle.std.specs.Option.{option_or}
-use Rattle.std.proofs.lemmas.Bool.{eqb-true}
-use Rattle.h5w_model.specs.Numbers.{field, range, undefined}
-use Rattle.h5w_model.specs.Superblock.{super_at, super_bytes, super_fields, super_tests}
+use Rattle.h5w_model.specs.Numbers.{undefined}
+use Rattle.h5w_model.specs.Superblock.{super_at, super_bytes}
 use Rattle.h5w_model.specs.Datasets.{Described}
 use Rattle.h5w_model.specs.Findings.{Summary, Valid}
 use Rattle.h5w_model.specs.Tables.{Reads}
 use Rattle.h5w_model.specs.declared.root.Super.{Super}
-use Rattle.h5w_model.proofs.CheckedLemmas.{checked-passed}
 use Rattle.h5w_header_laws.specs.Files.{chunk_0}
 use Rattle.h5w_index.specs.Views.{IndexView, an_array, a_tree}
 use Rattle.h5w_opening.specs.Openings.{IsFound, IsSaid, Opened, refused_dataset}
@@ -25,11 +23,6 @@ use Rattle.h5w_session_open.proofs.OverFile.{IsFirst, bare_over, both_set, opene
 use Rattle.h5w_session_open.proofs.SessionOver.{in_chunk, near_of, open_below, some_columns, unrefused_parts}
 use Rattle.h5w_session_open.proofs.OpenRangeLemmas.{or_none}
 
-version_three : (b : List ℕ) (s : Super) → super_at b ≡ Ok s → s.version ≡ 3
-version_three b s h =
-    let p = checked-passed (super_tests b) (super_fields b) s h in
-    ap (λ (t : Super). t.version) (sym p.1) ∙ eqb-true (field b 8 1) 3 p.0.1.1.0
-
 own_version : (o : Opened) → o.root.version ≡ 3 → versioned o ≡ o
 own_version o e = ap (λ n. record o { root = record (o.root) { version = n } }) (sym e)
 
@@ -40,7 +33,7 @@ is_first o (a_tree place u) said img x = tt
 
 module _ (img : List ℕ) (size : ℕ) (name : List ℕ) (limit : ℕ) (o : Opened) (header : List ℕ) (v : IndexView) (f : IsOpenedFile img size name o header v) (s : Session) (e : s ≡ opened_session (versioned o) header v name limit) where
   version : versioned o ≡ o
-  version = own_version o (version_three (range img 0 48) o.root (parts img size name o f.is).super)
+  version = own_version o (parts img size name o f.is).version
 
   same : s ≡ opened_session o (chunk_0 img o.place) v name limit
   same = e ∙ ap (λ (x : Opened). opened_session x header v name limit) version ∙ ap (λ (h : List ℕ). opened_session o h v name limit) f.kept

@@ -141,23 +141,23 @@ unfound_range len a h = elim (cases_eq a undefined) [
 
 -- ---- Chunks of a tree
 
--- a record of a band and later has its chunk there
-behind_first : (end len band : ℕ) (r : Record) (c : Bool) → nat_lt r.key.i band ≡ c → AllBy end (cond c [] (range_at r.address len)) → band ≤ r.key.i → r.address ≢ undefined → r.address + len ≤ end
-behind_first end len band r true e h late named = let low = ltb-true r.key.i band e in absurd (omega (arith, low, late))
-behind_first end len band r false e h late named = by_range end r.address len h named
+-- a record of a line and later has its chunk there
+behind_first : (end len line : ℕ) (r : Record) (c : Bool) → nat_lt r.key.i line ≡ c → AllBy end (cond c [] (range_at r.address len)) → line ≤ r.key.i → r.address ≢ undefined → r.address + len ≤ end
+behind_first end len line r true e h late named = let low = ltb-true r.key.i line e in absurd (omega (arith, low, late))
+behind_first end len line r false e h late named = by_range end r.address len h named
 
-first_behind : (end len band : ℕ) (r : Record) (c : Bool) → nat_lt r.key.i band ≡ c → (band ≤ r.key.i → r.address ≢ undefined → r.address + len ≤ end) → AllBy end (cond c [] (range_at r.address len))
-first_behind end len band r true e h = tt
-first_behind end len band r false e h = range_by end r.address len (h (ltb-false r.key.i band e))
+first_behind : (end len line : ℕ) (r : Record) (c : Bool) → nat_lt r.key.i line ≡ c → (line ≤ r.key.i → r.address ≢ undefined → r.address + len ≤ end) → AllBy end (cond c [] (range_at r.address len))
+first_behind end len line r true e h = tt
+first_behind end len line r false e h = range_by end r.address len (h (ltb-false r.key.i line e))
 
--- where the chunks of a band and later end by an end, so does that of each key there
-pub behind_ends : (end len band : ℕ) (rs : List Record) (key : Key) → AllBy end (chunks_behind len band rs) → band ≤ key.i → in_leaf key (map record_of rs) ≢ undefined → in_leaf key (map record_of rs) + len ≤ end
-behind_ends end len band [] key h late = λ named. absurd (named refl)
-behind_ends end len band (r ∷ rs) key h late =
-    go (behind_ends end len band rs key (by_right end first (chunks_behind len band rs) h) late) (key_below r.key key) (key_equal r.key key) refl
+-- where the chunks of a line and later end by an end, so does that of each key there
+pub behind_ends : (end len line : ℕ) (rs : List Record) (key : Key) → AllBy end (chunks_behind len line rs) → line ≤ key.i → in_leaf key (map record_of rs) ≢ undefined → in_leaf key (map record_of rs) + len ≤ end
+behind_ends end len line [] key h late = λ named. absurd (named refl)
+behind_ends end len line (r ∷ rs) key h late =
+    go (behind_ends end len line rs key (by_right end first (chunks_behind len line rs) h) late) (key_below r.key key) (key_equal r.key key) refl
   where
     first : List Extent
-    first = cond (nat_lt r.key.i band) [] (range_at r.address len)
+    first = cond (nat_lt r.key.i line) [] (range_at r.address len)
 
     later : ℕ
     later = in_leaf key (map record_of rs)
@@ -166,35 +166,35 @@ behind_ends end len band (r ∷ rs) key h late =
         → cond below later (cond same r.address undefined) + len ≤ end
     go others true same e = others
     go others false true e =
-        behind_first end len band r (nat_lt r.key.i band) refl (by_left end first (chunks_behind len band rs) h) (subst (λ (k : Key). band ≤ k.i) (sym (equal-is r.key key e)) late)
+        behind_first end len line r (nat_lt r.key.i line) refl (by_left end first (chunks_behind len line rs) h) (subst (λ (k : Key). line ≤ k.i) (sym (equal-is r.key key e)) late)
     go others false false e = λ named. absurd (named refl)
 
 -- and they do where each record's does
-pub ends_behind : (end len band : ℕ) (rs : List Record) → All (λ (r : Record). band ≤ r.key.i → r.address ≢ undefined → r.address + len ≤ end) rs → AllBy end (chunks_behind len band rs)
-ends_behind end len band [] h = tt
-ends_behind end len band (r ∷ rs) h =
-    let P : Record → Type 0 = λ s. band ≤ s.key.i → s.address ≢ undefined → s.address + len ≤ end in
-    by_both end (cond (nat_lt r.key.i band) [] (range_at r.address len)) (chunks_behind len band rs) (first_behind end len band r (nat_lt r.key.i band) refl (All-head P r rs h))
-    (ends_behind end len band rs (All-tail P r rs h))
+pub ends_behind : (end len line : ℕ) (rs : List Record) → All (λ (r : Record). line ≤ r.key.i → r.address ≢ undefined → r.address + len ≤ end) rs → AllBy end (chunks_behind len line rs)
+ends_behind end len line [] h = tt
+ends_behind end len line (r ∷ rs) h =
+    let P : Record → Type 0 = λ s. line ≤ s.key.i → s.address ≢ undefined → s.address + len ≤ end in
+    by_both end (cond (nat_lt r.key.i line) [] (range_at r.address len)) (chunks_behind len line rs) (first_behind end len line r (nat_lt r.key.i line) refl (All-head P r rs h))
+    (ends_behind end len line rs (All-tail P r rs h))
 
--- that of a record, where its chunk is of a band or later
+-- that of a record, where its chunk is of a line or later
 abbrev pub behind_one : ℕ → ℕ → Record → List Extent
-behind_one len band r = cond (nat_lt r.key.i band) [] (range_at r.address len)
+behind_one len line r = cond (nat_lt r.key.i line) [] (range_at r.address len)
 
 -- those of some records and one more
-pub behind_more : (len band : ℕ) (rs : List Record) (r : Record) → chunks_behind len band (rs ++ r ∷ []) ≡ chunks_behind len band rs ++ behind_one len band r
-behind_more len band [] r = append-nil (behind_one len band r)
-behind_more len band (x ∷ xs) r =
-    ap (λ (es : List Extent). behind_one len band x ++ es) (behind_more len band xs r) ∙ sym (append_assoc (behind_one len band x) (chunks_behind len band xs) (behind_one len band r))
+pub behind_more : (len line : ℕ) (rs : List Record) (r : Record) → chunks_behind len line (rs ++ r ∷ []) ≡ chunks_behind len line rs ++ behind_one len line r
+behind_more len line [] r = append-nil (behind_one len line r)
+behind_more len line (x ∷ xs) r =
+    ap (λ (es : List Extent). behind_one len line x ++ es) (behind_more len line xs r) ∙ sym (append_assoc (behind_one len line x) (chunks_behind len line xs) (behind_one len line r))
 
-pub behind_there : (len band : ℕ) (r : Record) → band ≤ r.key.i → r.address ≢ undefined → behind_one len band r ≡ extent r.address len ∷ []
-behind_there len band r late named = ap (λ c. cond c [] (range_at r.address len)) (le-ltb r.key.i band late) ∙ range_there r.address len named
+pub behind_there : (len line : ℕ) (r : Record) → line ≤ r.key.i → r.address ≢ undefined → behind_one len line r ≡ extent r.address len ∷ []
+behind_there len line r late named = ap (λ c. cond c [] (range_at r.address len)) (le-ltb r.key.i line late) ∙ range_there r.address len named
 
-pub behind_early : (len band : ℕ) (r : Record) → r.key.i < band → behind_one len band r ≡ []
-behind_early len band r early = ap (λ c. cond c [] (range_at r.address len)) (lt-ltb r.key.i band early)
+pub behind_early : (len line : ℕ) (r : Record) → r.key.i < line → behind_one len line r ≡ []
+behind_early len line r early = ap (λ c. cond c [] (range_at r.address len)) (lt-ltb r.key.i line early)
 
-pub behind_absent : (len band : ℕ) (r : Record) → r.address ≡ undefined → behind_one len band r ≡ []
-behind_absent len band r none = by (nat_lt r.key.i band)
+pub behind_absent : (len line : ℕ) (r : Record) → r.address ≡ undefined → behind_one len line r ≡ []
+behind_absent len line r none = by (nat_lt r.key.i line)
   where
     by : (c : Bool) → cond c [] (range_at r.address len) ≡ []
     by true = refl

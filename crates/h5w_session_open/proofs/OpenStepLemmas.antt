@@ -44,14 +44,14 @@ use Rattle.h5w_opening.specs.Errors.{IsOpenKind, open_errors, refusal_of}
 use Rattle.h5w_opening.specs.Openings.{Opened, chunk_0_len, looked_for, most_chunk_bytes, refused_dataset, in_chunk_0}
 use Rattle.h5w_opening.specs.Views.{opened_of}
 use Rattle.h5w_opening.specs.declared.error.OpenError.{OpenError}
-use Rattle.h5w_opening.specs.declared.error.OpenError.TheVariants.{Read, Flags, Cut, Failed, OutOfMemory, Layout, ChunkBytes, NoColumns, Finding}
+use Rattle.h5w_opening.specs.declared.error.OpenError.TheVariants.{Read, Version, Flags, Cut, Failed, OutOfMemory, Layout, ChunkBytes, NoColumns, Finding}
 use Rattle.h5w_opening.specs.declared.finding.Opening.{Opening}
 use Rattle.h5w_opening.proofs.FoundParts.{parts}
 use Rattle.h5w_opening.proofs.WritingLemmas.{alike_ok, dataset_alike}
 use Rattle.h5w_session_open.specs.declared.index.NoIndex.{NoIndex}
 use Rattle.h5w_session_open.specs.declared.index.NoIndex.TheVariants as whys
 use Rattle.h5w_session_open.specs.OpenAnswers.{IfRefusal, IsIndexOf, IsKeptIndexOf, IsNotOpened, array, damaged, refused, tree}
-use Rattle.h5w_session_open.specs.OpenRanges.{chunk_0_range, cut_at, first_key, first_open, first_past, open_blocks, open_chunks, ranges_refused, refused_index, refused_open, is_starting}
+use Rattle.h5w_session_open.specs.OpenRanges.{chunk_0_range, cut_at, first_key, first_open_line, first_past, open_blocks, open_chunks, ranges_refused, refused_index, refused_open, is_starting}
 use Rattle.h5w_session_open.specs.OpenSteps.{IsBadIndex, IsFoundIn, IsOpenedFile, OpenStep, Says, array_error, front_of, tree_error, IsKeptHeader}
 use Rattle.h5w_session.specs.Sessions.{IsWritable, HasAddress}
 use Rattle.h5w_session_open.proofs.SessionOver.{in_chunk, starts_so, unrefused_parts}
@@ -226,6 +226,7 @@ refused_file img size name o a e f (inl h) = by_error e h
   where
     by_error : (g : OpenError) → refused_open o a ≡ Some g → IfRefusal (refusal_of g) (IsNotOpened img size name)
     by_error (Read x) h = refused o a (Read x) f.is f.index h
+    by_error (Version version) h = refused o a (Version version) f.is f.index h
     by_error (Flags flags) h = refused o a (Flags flags) f.is f.index h
     by_error (Cut end size) h = refused o a (Cut end size) f.is f.index h
     by_error Layout h = refused o a Layout f.is f.index h
@@ -252,7 +253,7 @@ abbrev as_tree : OpenTreeError → Result Kept OpenTreeError
 as_tree e = Err e
 
 -- an array that is not opened
-pub bad_array : {v w : ImageView} (d : Described) (first : ℕ) (e : OpenArrayError) (out : OpenError) → d.layout.index ≡ Array → d.layout.address ≢ undefined → first ≡ first_open d → out ≡ array_error e
+pub bad_array : {v w : ImageView} (d : Described) (first : ℕ) (e : OpenArrayError) (out : OpenError) → d.layout.index ≡ Array → d.layout.address ≢ undefined → first ≡ first_open_line d → out ≡ array_error e
     → ArrayLoads {A = Option Store} v w (λ img a f. IsDamaged img d.layout.address first a f) (Err e) → OpenStep {A = Result HeldIndex NoIndex} v w (index_good d) (index_bad d) (Err out)
 bad_array {v = v} {w = w} d first e out kind named from is loads =
     subst (λ x. OpenStep {A = Result HeldIndex NoIndex} v w (index_good d) (index_bad d) (Err x)) (sym is)

@@ -3,6 +3,7 @@ use Rattle.std.proofs.Common.{◌≡◌, ◌⊎◌, ℕ, ◌+◌, ◌/◌, ◌%�
 use Rattle.std.specs.Prelude.{IfSome, ◌==◌}
 use Rattle.std.specs.List.{All}
 use Rattle.std.specs.Option.{unwrap_or}
+use Rattle.std.proofs.lemmas.Bool.{eq-eqb, or_right}
 use Rattle.std.proofs.lemmas.List.{length-replicate}
 use Rattle.h5w_model.specs.Numbers.{range, undefined}
 use Rattle.h5w_model.specs.Programs.{eval}
@@ -49,7 +50,7 @@ use Rattle.h5w_block_laws.specs.HeaderAlone.{IsHeaderAlone}
 use Rattle.h5w_block_laws.proofs.AloneLemmas.{alone_begins}
 use Rattle.h5w_session.specs.Indexes.{IsBlank, IsKeptIndex, Lacks, an_index, a_block}
 use Rattle.h5w_session_open.specs.OpenAnswers.{IsArrayOf, IsBare, IsBlankOf, IsEmptyOf, IsIndexOf, IsTreeOf, opened_session, session_over, writing_flags}
-use Rattle.h5w_session_open.specs.OpenRanges.{first_key, first_open}
+use Rattle.h5w_session_open.specs.OpenRanges.{first_key, first_open_line}
 use Rattle.h5w_session_open.specs.OpenSteps.{IsCut}
 use Rattle.h5w_session.specs.Openings.{IsOver, flagged_root, opened_log}
 use Rattle.h5w_session.specs.Past.{IsCounted}
@@ -92,9 +93,9 @@ counted d c some =
 
 -- ---- The index that a session begins with
 
--- the first chunk of an array is one that an array can have
+-- the first line of an array is one that an array can have
 abbrev pub IsFirst : Described → IndexView → Type 0
-IsFirst d (an_array v) = first_open d < 131060
+IsFirst d (an_array v) = first_open_line d < 131060
 IsFirst d (a_tree place v) = Unit {0}
 
 -- it is sound, and no part of it changed
@@ -229,7 +230,7 @@ module _ (img name : List ℕ) (size : ℕ) (o : Opened) (m : Moment) (is : eval
     stands : (u : IndexView) → IsIndexOf img o.header.dataset (Ok u) → IsUnchanged m.dataset u → IsFirst o.header.dataset u → StandsOn u img
     stands (an_array u) y is low =
         let a : IsArrayOf img o.header.dataset u = y in
-        array_stands img m.super.end (first_open o.header.dataset) m.dataset m.fixed m.behind u file.index is.kind is.at_place low a.array a.clean a.opened
+        array_stands img m.super.end (first_open_line o.header.dataset) m.dataset m.fixed m.behind u file.index is.kind is.at_place low a.array a.clean a.opened
     stands (a_tree place u) y is any =
         let t : IsTreeOf img o.header.dataset place u = y in
         let inside = (super_parts (length img) (range img 0 48) m.super file.super).inside in
@@ -294,8 +295,10 @@ module _ (img name : List ℕ) (size : ℕ) (o : Opened) (m : Moment) (is : eval
 pub both_set : (flags : ℕ) → (writing_flags flags % 2 ≡ 1) × (writing_flags flags / 4 % 2 ≡ 1)
 both_set flags = (omega arith, omega arith)
 
-swmr : (flags : ℕ) → is_swmr (writing_flags flags) ≡ true
-swmr flags = let b = both_set flags in rw (b.0, b.1) refl
+swmr : (s : Super) → is_swmr (record s { flags = writing_flags s.flags }) ≡ true
+swmr s =
+    let b = both_set s.flags in
+    or_right (s.version == 2) ((writing_flags s.flags % 2) == (writing_flags s.flags / 4 % 2)) (eq-eqb (writing_flags s.flags % 2) (writing_flags s.flags / 4 % 2) (b.0 ∙ sym b.1))
 
 -- ---- The session that was opened
 
@@ -310,7 +313,7 @@ module _ (img name : List ℕ) (size : ℕ) (o : Opened) (v : IndexView) (limit 
       let t = over_laws.over img name rows columns values sm valid reads (omega (arith, some, columns_are)) in
       let s : Session = session_over o (chunk_0 img o.place) v name limit in
       let stands = t.2 s refl (is_so t.0 t.1) in
-      over_laws.rewritten s (opened_log img columns values) (writing_flags o.root.flags) false reads_back (swmr o.root.flags) refl refl stands
+      over_laws.rewritten s (opened_log img columns values) (writing_flags o.root.flags) false reads_back (swmr o.root) refl refl stands
 
   pub opened_over : IsIndexOf img o.header.dataset (Ok v) → IsFirst o.header.dataset v → 1024 ≤ limit → limit ≤ 2 ^ 40 → Stands (opened_session o (chunk_0 img o.place) v name limit) (opened_log img columns values)
   opened_over x below low high = over_any (λ m file. is_over img name size o m is file v x below limit some low high)

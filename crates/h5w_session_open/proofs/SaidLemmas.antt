@@ -1,13 +1,10 @@
 -- What the messages of a dataset header say of the dataset.
 use Rattle.std.proofs.Common.{◌≡◌, ◌⊎◌, ℕ, ◌+◌, ◌*◌, ◌^◌, ◌≤◌, Bool, true, false, cond, ◌&&◌, ◌||◌, not, List, length, Option, Some, None, Result, Ok, refl, sym, ap, ◌∙◌, subst, inl, inr, arith}
 use Rattle.std.specs.Prelude.{IfSome, IsTrue, ◌==◌, nat_le, if◌then◌else◌}
-use Rattle.std.proofs.lemmas.Bool.{cases_Bool, ltb-true, leb-true, eqb-true}
+use Rattle.std.proofs.lemmas.Bool.{ltb-true, leb-true, eqb-true}
 use Rattle.h5w_model.specs.Numbers.{range, field}
-use Rattle.h5w_model.specs.Logs.{div_up}
-use Rattle.h5w_model.specs.Messages.{FillFields, IntTypeFields, LayoutFields, ShapeFields, IsIntType, IsLayout, IsShape, byte, chunk_cols_at, chunk_size, fill_at, fill_fields, fill_size, fill_tests, int_type_at, int_type_fields, int_type_tests, is_int_size, is_shape, layout_at, layout_fields, layout_tests, shape_at, shape_fields, shape_tests}
+use Rattle.h5w_model.specs.Messages.{FillFields, IntTypeFields, LayoutFields, ShapeFields, IsIntType, IsLayout, IsShape, byte, chunk_cols_at, chunk_size, fill_at, fill_fields, fill_size, fill_tests, int_type_at, int_type_fields, int_type_tests, is_int_size, is_shape, layout_at, layout_fields, layout_tests, shape_at, shape_fields, shape_tests, unlimited}
 use Rattle.h5w_model.specs.Datasets.{Described, FoundMessage, body_of, described, fill_value_kind}
-use Rattle.h5w_model.specs.Tables.{chunks_across}
-use Rattle.h5w_model.specs.declared.cell.IndexKind.TheVariants.{Array, Tree}
 use Rattle.h5w_model.specs.declared.refusal.Unsupported.{Unsupported}
 use Rattle.h5w_model.proofs.CheckedLemmas.{checked-passed}
 use Rattle.h5w_laws.proofs.LoweringLemmas.{length_range}
@@ -20,9 +17,22 @@ two_of : (a b : Bool) → (a || b) ≡ true → (a ≡ true) ⊎ (b ≡ true)
 two_of true b h = inl refl
 two_of false b h = inr h
 
-by_rank : (rank rows cols : ℕ) → (rank ≡ 1) ⊎ (rank ≡ 2) → is_shape (record { rank = rank; rows = rows; cols = if rank == 1 then 1 else cols; growing = rank == 2 }) ≡ true
-by_rank rank rows cols (inl e) = subst (λ n. is_shape (record { rank = n; rows = rows; cols = if n == 1 then 1 else cols; growing = n == 2 }) ≡ true) (sym e) refl
-by_rank rank rows cols (inr e) = subst (λ n. is_shape (record { rank = n; rows = rows; cols = if n == 1 then 1 else cols; growing = n == 2 }) ≡ true) (sym e) refl
+-- a second dimension whose maximum is none, or is its size
+by_side : (most cols : ℕ) → ((most == unlimited) || (most == cols)) ≡ true → ((most == unlimited) || not (cols == unlimited)) ≡ true
+by_side most cols h = by (most == unlimited) refl h
+  where
+    by : (b : Bool) → (most == unlimited) ≡ b → (b || (most == cols)) ≡ true → (b || not (cols == unlimited)) ≡ true
+    by true e g = refl
+    by false e g =
+        let same : most ≡ cols = eqb-true most cols g in
+        ap not (ap (λ n. n == unlimited) (sym same) ∙ e)
+
+by_rank : (rank rows cols most : ℕ) → (rank ≡ 1) ⊎ (rank ≡ 2) → ((rank == 1) || (most == unlimited) || (most == cols)) ≡ true
+    → is_shape (record { rank = rank; rows = rows; cols = if rank == 1 then 1 else cols; growing = (rank == 2) && (most == unlimited) }) ≡ true
+by_rank rank rows cols most (inl e) h = subst (λ n. is_shape (record { rank = n; rows = rows; cols = if n == 1 then 1 else cols; growing = (n == 2) && (most == unlimited) }) ≡ true) (sym e) refl
+by_rank rank rows cols most (inr e) h =
+    subst (λ n. is_shape (record { rank = n; rows = rows; cols = if n == 1 then 1 else cols; growing = (n == 2) && (most == unlimited) }) ≡ true) (sym e)
+    (by_side most cols (subst (λ n. ((n == 1) || (most == unlimited) || (most == cols)) ≡ true) e h))
 
 as_true : (b : Bool) → b ≡ true → IsTrue b
 as_true b e = e
@@ -33,7 +43,7 @@ shaped_by space s h =
     let shape = checked-passed (shape_tests space) (shape_fields space) s h in
     let ranked = two_of (byte space 1 == 1) (byte space 1 == 2) shape.0.1.1.0 in
     let rank : (byte space 1 ≡ 1) ⊎ (byte space 1 ≡ 2) = elim ranked [ inl t ↦ inl (eqb-true (byte space 1) 1 t) | inr t ↦ inr (eqb-true (byte space 1) 2 t) ] in
-    as_true (is_shape s) (subst (λ (x : ShapeFields). is_shape x ≡ true) shape.1 (by_rank (byte space 1) (field space 4 8) (field space 12 8) rank))
+    as_true (is_shape s) (subst (λ (x : ShapeFields). is_shape x ≡ true) shape.1 (by_rank (byte space 1) (field space 4 8) (field space 12 8) (field space 28 8) rank shape.0.1.1.1.1.1.1.1.0))
 
 -- ---- The type
 
@@ -94,38 +104,5 @@ said ms d h =
       filled = fill_said (body_of fill_value_kind ms) d.int_type d.fill p.fill;
     }
 
--- ---- Arrays
-
-not_growing : (growing : Bool) → cond growing Tree Array ≡ Array → growing ≡ false
-not_growing false h = refl
-not_growing true h = absurd cc
-
-flat_shape : (s : ShapeFields) → s.growing ≡ false → is_shape s ≡ true → (s.rank ≡ 1) × (s.cols ≡ 1)
-flat_shape s flat h = go (cases_Bool (s.rank == 1)) (cases_Bool (s.cols == 1))
-  where
-    here : (((s.rank == 1) && (s.cols == 1) && true) || ((s.rank == 2) && false)) ≡ true
-    here = ap (λ g. ((s.rank == 1) && (s.cols == 1) && not g) || ((s.rank == 2) && g)) (sym flat) ∙ h
-
-    never : (a b c : Bool) → (a ≡ false) ⊎ (b ≡ false) → ((a && b && true) || (c && false)) ≡ true → ⊥
-    never true true c (inl e) g = cc
-    never true true c (inr e) g = cc
-    never true false true e g = cc
-    never true false false e g = cc
-    never false b true e g = cc
-    never false b false e g = cc
-
-    go : ((s.rank == 1) ≡ true) ⊎ ((s.rank == 1) ≡ false) → ((s.cols == 1) ≡ true) ⊎ ((s.cols == 1) ≡ false) → (s.rank ≡ 1) × (s.cols ≡ 1)
-    go (inl t) (inl u) = (eqb-true s.rank 1 t, eqb-true s.cols 1 u)
-    go (inl t) (inr u) = absurd (never (s.rank == 1) (s.cols == 1) (s.rank == 2) (inr u) here)
-    go (inr t) u = absurd (never (s.rank == 1) (s.cols == 1) (s.rank == 2) (inl t) here)
-
 pub is_true : (b : Bool) → IsTrue b → b ≡ true
 is_true b t = t
-
--- a dataset whose index is an array has one column, and one chunk for each band of rows
-pub one_column : (d : Described) → IsCut d → d.layout.index ≡ Array → (d.shape.cols ≡ 1) × (d.layout.chunk_cols ≡ 1) × (chunks_across d ≡ 1)
-one_column d c kind =
-    let flat = not_growing d.shape.growing (sym c.chunked.index ∙ kind) in
-    let shape = flat_shape d.shape flat (is_true (is_shape d.shape) c.shaped) in
-    let cols : d.layout.chunk_cols ≡ 1 = c.chunked.line shape.0 in
-    (shape.1, cols, ap (λ n. div_up n d.layout.chunk_cols) shape.1 ∙ ap (λ n. div_up 1 n) cols)

@@ -3,12 +3,10 @@ use Rattle.std.proofs.Common.{◌≡◌, ◌≢◌, ℕ, ◌+◌, ◌-◌, ◌*�
 use Rattle.std.specs.Prelude.{nat_lt, option_map, ◌==◌}
 use Rattle.std.specs.Option.{option_or}
 use Rattle.std.proofs.lemmas.Bool.{both_ways, cases_lt, ne_eqb, ltb-false, le-ltb, eqb-true, eqb-false, eq-eqb}
-use Rattle.std.proofs.lemmas.Nat.{div-add-mod', div_below, le-div}
 use Rattle.h5w_model.specs.Arrays.{eahd_len}
 use Rattle.h5w_model.specs.Numbers.{undefined}
-use Rattle.h5w_model.specs.Logs.{div_up}
 use Rattle.h5w_model.specs.Datasets.{Described, FoundMessage, described, refused_as}
-use Rattle.h5w_model.specs.Tables.{bands, chunks_across, format_limits, limit_of, needed}
+use Rattle.h5w_model.specs.Tables.{chunks_across, format_limits, limit_of, needed}
 use Rattle.h5w_model.specs.Findings.{chunk_bytes}
 use Rattle.h5w_model.specs.declared.cell.IndexKind.TheVariants.{Array, Tree}
 use Rattle.h5w_laws.proofs.ResultLemmas.{fails, refused_ok, then_ok}
@@ -23,6 +21,7 @@ use Rattle.h5w_index.specs.Placing.{AreInside, Fits}
 use Rattle.h5w_visits.specs.Ranges.{AllEndBy, block_at}
 use Rattle.h5w_visits.proofs.RangeLemmas.{ends_cons, ends_nil}
 use Rattle.h5w_chunks.specs.Grids.{chunk_len}
+use Rattle.h5w_chunks.specs.Shares.{first_line}
 use Rattle.h5w_ea_index.specs.Ranges.{block_ranges, each_below, range_of_part, ranges_of_super_block}
 use Rattle.h5w_opening.specs.Openings.{DatasetHeaderFields, IsSaid, Opened, in_chunk_0}
 use Rattle.h5w_opening.specs.declared.error.OpenError.{OpenError}
@@ -31,14 +30,15 @@ use Rattle.h5w_model.specs.declared.refusal.ReadError.TheVariants as read_errors
 use Rattle.h5w_session_open.specs.declared.index.NoIndex.{NoIndex}
 use Rattle.h5w_session_open.specs.declared.index.NoIndex.TheVariants.{Unnamed, Empty, WrongTotals, Unordered}
 use Rattle.h5w_session_open.specs.OpenAnswers.{IsBare, IsBlankOf, IsKeptIndexOf, IsStartOf, opened_session}
-use Rattle.h5w_session_open.specs.OpenRanges.{IsNear, blocks_in, chunk_0_range, chunks_in, cut_at, first_open, first_past, header_alone, header_len, open_blocks, open_chunks, ranges_refused, refused_index, refused_open, is_starting}
+use Rattle.h5w_session_open.specs.OpenRanges.{IsNear, blocks_in, chunk_0_range, chunks_in, cut_at, first_open_line, first_past, header_alone, header_len, open_blocks, open_chunks, ranges_refused, refused_index, refused_open, is_starting}
 use Rattle.h5w_opening.specs.Openings.{most_chunk_bytes, refused_dataset}
 use Rattle.h5w_session_open.specs.OpenSteps.{IfNamedIndex, IsCut, IsNamedArray, IsNamedIndex, IsNamedTree, IsReady, IsReadyIndex, IsReadyStart, NamesArray, versioned}
 use Rattle.h5w_session.specs.Sessions.{IsNamed, IsSession, with_rows}
 use Rattle.h5w_session.proofs.HeaderAlone.{never}
 use Rattle.h5w_session_open.proofs.OpenRangeLemmas.{AllBy, behind_ends, by_left, by_range, by_right, chunk_by, map_none, none_past, or_none}
-use Rattle.h5w_session_open.proofs.SaidLemmas.{one_column, said}
-use Rattle.h5w_session.proofs.StateLemmas.{up_at_most, up_some}
+use Rattle.h5w_session_open.proofs.OpenLineLemmas.{open_few, open_line_first}
+use Rattle.h5w_session_open.proofs.SaidLemmas.{said}
+use Rattle.h5w_session.proofs.StateLemmas.{up_some}
 use Rattle.h5w_array_laws.proofs.CreatedLemmas.{created_starts}
 use Rattle.h5w_model.specs.declared.cell.IndexKind.{IndexKind}
 use Rattle.h5w_space.specs.Space.{extent}
@@ -72,30 +72,12 @@ cut h is = let k = known_says h is in said k.messages h.dataset k.says
 
 -- ---- Numbers
 
--- the chunk of the last committed row is one of an array
-pub open_few : (d : Described) → IsCut d → needed d ≤ limit_of format_limits d.layout.index → d.layout.index ≡ Array → first_open d < 131060
-open_few d c few kind =
-    let one = (one_column d c kind).2 in
-    let limit : limit_of format_limits d.layout.index ≡ 131060 = ap (limit_of format_limits) kind in
-    let per = c.chunked.rows in
-    let same : bands d * chunks_across d ≡ bands d = ap (λ n. bands d * n) one ∙ times_one (bands d) in
-    let bound : div_up d.shape.rows d.layout.chunk_rows ≤ 131060 = subst (λ n. n ≤ 131060) same (subst (λ n. needed d ≤ n) limit few) in
-    let most = up_at_most d.shape.rows d.layout.chunk_rows 131060 per bound in
-    div_below (d.shape.rows - 1) d.layout.chunk_rows 131060 per (let q : ℕ = d.layout.chunk_rows in let r : ℕ = d.shape.rows in omega arith)
-  where
-    times_one : (n : ℕ) → n * 1 ≡ n
-    times_one n = omega arith
+-- the line of the last committed row's band is one of an array
+pub open_below : (h : DatasetHeaderFields) → IsSaid h → h.dataset.layout.index ≡ Array → first_open_line h.dataset < 131060
+open_below h is kind = open_few h.dataset (cut h is).chunked.rows (known_says h is).few kind
 
-pub open_below : (h : DatasetHeaderFields) → IsSaid h → h.dataset.layout.index ≡ Array → first_open h.dataset < 131060
-open_below h is kind = open_few h.dataset (cut h is) (known_says h is).few kind
-
--- and no later than that of the next row
-open_first : (d : Described) → 0 < d.layout.chunk_rows → first_open d ≤ d.shape.rows / d.layout.chunk_rows
-open_first d per =
-    let r : ℕ = d.shape.rows in
-    let q : ℕ = d.layout.chunk_rows in
-    let parts = div-add-mod' (r - 1) q in
-    le-div ((r - 1) / q) r q per (omega arith)
+no_earlier : (first next line : ℕ) → first ≤ next → next ≤ line → first ≤ line
+no_earlier first next line low from = omega (arith, low, from)
 
 -- a chunk has the bytes of its rows
 chunk_len_is : (d : Described) → chunk_len d ≡ chunk_bytes d
@@ -210,25 +192,25 @@ module _ (d : Described) (c : IsCut d) (few : needed d ≤ limit_of format_limit
   across : 0 < chunks_across d
   across = up_some d.shape.cols d.layout.chunk_cols c.chunked.cols (omega arith)
 
-  low : first_open d ≤ d.shape.rows / d.layout.chunk_rows
-  low = open_first d c.chunked.rows
+  low : first_open_line d ≤ first_line d (d.shape.rows / d.layout.chunk_rows)
+  low = open_line_first d c.chunked.rows
 
   -- an array's blocks in place are among the ranges
-  array_fits : (v : Store) → IsNamedArray d v → AllBy end (block_ranges (first_open d) v) → AllBy end (chunks_in d (an_array v)) → IsFit d end (an_array v)
+  array_fits : (v : Store) → IsNamedArray d v → AllBy end (block_ranges (first_open_line d) v) → AllBy end (chunks_in d (an_array v)) → IsFit d end (an_array v)
   array_fits v n blocks chunks =
-      let front = by_left end (range_of_part v header ++ range_of_part v index_block) (each_below (ranges_of_super_block (first_open d) v) 13) blocks in
+      let front = by_left end (range_of_part v header ++ range_of_part v index_block) (each_below (ranges_of_super_block (first_open_line d) v) 13) blocks in
       let head = by_range end (place_at_part v header) 72 (by_left end (range_of_part v header) (range_of_part v index_block) front) (n.array.in_place header tt refl).1 in
       let block = by_range end (place_at_part v index_block) 298 (by_right end (range_of_part v header) (range_of_part v index_block) front) (n.array.in_place index_block tt refl).1 in
       record {
         is_kind = n.kind;
         sound = n.array;
-        fits = (one_column d c n.kind).2;
+        fits = record { kind = n.kind; some = across };
         long = omega (arith, block);
         inside = λ key from named.
             let i = key.i in
-            let below = open_few d c few n.kind in
+            let below = open_few d c.chunked.rows few n.kind in
             let near : i < 131060 = named_below v i named in
-            let h = chunk_by end (chunk_bytes d) v (first_open d) (131060 - first_open d) chunks i (omega (arith, low, from)) (omega (arith, below, near)) named in
+            let h = chunk_by end (chunk_bytes d) v (first_open_line d) (131060 - first_open_line d) chunks i (no_earlier (first_open_line d) (first_line d (d.shape.rows / d.layout.chunk_rows)) i low from) (omega (arith, below, near)) named in
             subst (λ n. map_of v i + n ≤ end) (sym (chunk_len_is d)) h;
         tops = λ named made. ends_cons end (block_at (place_at_part v header) 72) (block_at (place_at_part v index_block) 298 ∷ []) head (ends_cons end (block_at (place_at_part v index_block) 298) [] block (ends_nil end));
         head = λ named lacking. subst (λ n. n + eahd_len ≤ end) n.at head;
@@ -245,10 +227,10 @@ module _ (d : Described) (c : IsCut d) (few : needed d ≤ limit_of format_limit
   tree_fits place v n blocks chunks = record {
     is_kind = n.kind;
     sound = record { index = n.kept; defined = λ none. n.named (sym n.at ∙ none) };
-    fits = across;
+    fits = record { kind = n.kind; some = across };
     long = blocks.0;
     inside = λ key from named.
-        let h = behind_ends end (chunk_bytes d) (first_open d) (records v) key chunks (omega (arith, low, from)) named in
+        let h = behind_ends end (chunk_bytes d) (first_open_line d) (records v) key chunks (no_earlier (first_open_line d) (first_line d (d.shape.rows / d.layout.chunk_rows)) key.i low from) named in
         subst (λ n. address_of v key + n ≤ end) (sym (chunk_len_is d)) h;
     tops = λ named made. ends_cons end (header_range place) [] blocks.1.0 (ends_nil end);
     head = λ named lacking. absurd cc;
@@ -261,7 +243,7 @@ module _ (d : Described) (c : IsCut d) (few : needed d ≤ limit_of format_limit
       record {
         is_kind = kind;
         sound = starts.array;
-        fits = (one_column d c kind).2;
+        fits = record { kind = kind; some = across };
         long = long;
         inside = λ key from named. absurd (named (starts.map key.i));
         tops = λ named made. absurd (named none);
@@ -271,7 +253,7 @@ module _ (d : Described) (c : IsCut d) (few : needed d ≤ limit_of format_limit
       let no_records = subst (λ (w : Index). IsFit d end (a_tree 0 w)) (sym blank.1) (record {
         is_kind = kind;
         sound = record { index = record { shallow = omega arith; sound = omega arith; rises = tt; marked = tt }; defined = λ zero_is. absurd (omega (arith, zero_is)) };
-        fits = across;
+        fits = record { kind = kind; some = across };
         long = long;
         inside = λ key from named. absurd (named refl);
         tops = λ named made. absurd (named none);
@@ -290,7 +272,7 @@ module _ (d : Described) (c : IsCut d) (few : needed d ≤ limit_of format_limit
       record {
         is_kind = n.kind;
         sound = starts.array;
-        fits = (one_column d c n.kind).2;
+        fits = record { kind = n.kind; some = across };
         long = omega (arith, head);
         inside = λ key from named. absurd (named (starts.map key.i));
         tops = λ named made. never (has_no_block (an_array v)) (ap (λ p. p == 0) created.index_at) made;

@@ -72,15 +72,15 @@ chunk_ends end len r h =
     let named : AllEndBy end (chunk_at r.address len ∷ []) = subst (λ (us : List Used). AllEndBy end us) (cond-false (r.address == undefined) [] (chunk_at r.address len ∷ []) (ne_eqb r.address undefined ne)) h in
     named (chunk_at r.address len) (inl refl))
 
-behind_by : (end len band : ℕ) (rs : List Record) → AllEndBy end (chunks_of len rs) → AllBy end (chunks_behind len band rs)
-behind_by end len band [] h = tt
-behind_by end len band (r ∷ rs) h =
+behind_by : (end len line : ℕ) (rs : List Record) → AllEndBy end (chunks_of len rs) → AllBy end (chunks_behind len line rs)
+behind_by end len line [] h = tt
+behind_by end len line (r ∷ rs) h =
     let own = chunk_ends end len r (ends_left end (chunk_of len r) (chunks_of len rs) h) in
-    let here : AllBy end (if nat_lt r.key.i band then [] else range_at r.address len) = cond_both (nat_lt r.key.i band) [] (range_at r.address len) (AllBy end) (λ early. tt) (λ late. own) in
-    by_both end (if nat_lt r.key.i band then [] else range_at r.address len) (chunks_behind len band rs) here (behind_by end len band rs (ends_right end (chunk_of len r) (chunks_of len rs) h))
+    let here : AllBy end (if nat_lt r.key.i line then [] else range_at r.address len) = cond_both (nat_lt r.key.i line) [] (range_at r.address len) (AllBy end) (λ early. tt) (λ late. own) in
+    by_both end (if nat_lt r.key.i line then [] else range_at r.address len) (chunks_behind len line rs) here (behind_by end len line rs (ends_right end (chunk_of len r) (chunks_of len rs) h))
 
 -- a tree's chunks are among the ranges behind its header
-pub chunks_end : (end len band : ℕ) (v : Index) (us : List Used) → trees.IsIndex v → AreSame (behind_of len v) us → AllEndBy end us → AllBy end (chunks_behind len band (records v))
-chunks_end end len band v us is same ends =
+pub chunks_end : (end len line : ℕ) (v : Index) (us : List Used) → trees.IsIndex v → AreSame (behind_of len v) us → AllEndBy end us → AllBy end (chunks_behind len line (records v))
+chunks_end end len line v us is same ends =
     let light : (f : Used → ℕ) → sum_by f (chunks_of len (records v)) ≤ sum_by f us = λ f. omega (arith, apart f len v.depth (capacity_of v.depth) v.root is.sound, same f) in
-    behind_by end len band (records v) (λ u a. ends u ((by_weight (chunks_of len (records v)) us light).among u a))
+    behind_by end len line (records v) (λ u a. ends u ((by_weight (chunks_of len (records v)) us light).among u a))

@@ -25,7 +25,7 @@ use Rattle.h5w_opening.specs.declared.error.OpenError.{OpenError}
 use Rattle.h5w_opening.specs.declared.error.OpenError.TheVariants.{Read}
 use Rattle.h5w_session_open.specs.declared.index.NoIndex.{NoIndex}
 use Rattle.h5w_session_open.specs.declared.index.NoIndex.TheVariants.{Unnamed, Empty, WrongTotals, Unordered}
-use Rattle.h5w_session_open.specs.OpenRanges.{first_key, first_open, refused_open}
+use Rattle.h5w_session_open.specs.OpenRanges.{first_key, first_open_line, refused_open}
 use Rattle.h5w_session.specs.Openings.{flagged}
 use Rattle.h5w_session.specs.Sessions.{Session}
 
@@ -38,7 +38,7 @@ pub record IsArrayOf (img : List ℕ) (d : Described) (v : Store) : Type 0 where
   pub at : header_place v ≡ d.layout.address
   pub array : IsArray v
   pub clean : v.changed ≡ []
-  pub opened : IsOpened img (first_open d) v
+  pub opened : IsOpened img (first_open_line d) v
 
 -- the tree that the dataset names, as it is opened from the first key of that band on: its keys rise, and each node says how many records
 -- are under it
@@ -97,7 +97,7 @@ IsKeptIndexOf d (Err why) w = IsStartOf d why w
 -- A block of the index that the dataset names is refused: the first of an array's, from the last committed band on; of a tree's, that which
 -- the least key from there on meets of all whose lookup is refused.
 pub data IsBadBlock (img : List ℕ) (d : Described) (at : ℕ) (f : BlockFault) : Type 0 where
-  array : d.layout.index ≡ Array → d.layout.address ≢ undefined → IsDamaged img d.layout.address (first_open d) at f → IsBadBlock img d at f
+  array : d.layout.index ≡ Array → d.layout.address ≢ undefined → IsDamaged img d.layout.address (first_open_line d) at f → IsBadBlock img d at f
   tree : d.layout.index ≡ Tree → d.layout.address ≢ undefined → IsRefused (looked_in img d.layout.address) (Leads (from_key (first_key d))) at f → IsBadBlock img d at f
 
 -- Why a file of these bytes is not opened: something before the index; a block of the index that is refused; or, once all was read, a range

@@ -7,13 +7,14 @@ use Rattle.h5w_model.specs.declared.refusal.HeaderError.TheVariants.{Unknown}
 use Rattle.h5w_model.specs.declared.refusal.ReadError.TheVariants.{Header}
 use Rattle.h5w_opening.specs.Openings.{Opened, is_open, looked_for, refused_dataset}
 use Rattle.h5w_opening.specs.declared.error.OpenError.{OpenError}
-use Rattle.h5w_opening.specs.declared.error.OpenError.TheVariants.{Read, Flags}
+use Rattle.h5w_opening.specs.declared.error.OpenError.TheVariants.{Read, Version, Flags}
 use Rattle.h5w_session_open.specs.OpenAnswers.{IsNotOpened, writing_flags}
 use Rattle.h5w_session.specs.Sessions.{cleared}
 
--- Why a valid file is not opened: it is open, or was not closed; a header has a message that asks to be known where the file is written; or,
+-- Why a valid file is not opened: its superblock is of version 2; it is open, or was not closed; a header has a message that asks to be known where the file is written; or,
 -- of what was found, the layout stands outside of chunk 0, a chunk is too large, or there is no column. Each index of a valid file is kept.
 pub data IsLeft (img : List ℕ) (size : ℕ) (name : List ℕ) : OpenError → Type 0 where
+  older : IsLeft img size name (Version 2)
   open_already : (flags : ℕ) → is_open flags ≡ true → IsLeft img size name (Flags flags)
   unknown : (at kind : ℕ) → eval img (looked_for size name) ≡ Err (Read (Header at (Unknown kind))) → IsLeft img size name (Read (Header at (Unknown kind)))
   dataset : (o : Opened) (e : OpenError) → eval img (looked_for size name) ≡ Ok o → refused_dataset o ≡ Some e → IsLeft img size name e

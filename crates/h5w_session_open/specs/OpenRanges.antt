@@ -1,10 +1,11 @@
 -- The ranges of a file that is opened, and the first of them that is refused.
-use Rattle.std.specs.Prelude.{ℕ, zero, suc, ◌+◌, ◌-◌, ◌/◌, ◌^◌, ◌<◌, List, [], ◌∷◌, ◌++◌, take, find, nat_lt, Option, Some, None, option_map, Result, Ok, Err, Bool, ◌==◌, if◌then◌else◌}
+use Rattle.std.specs.Prelude.{ℕ, zero, suc, ◌+◌, ◌-◌, ◌/◌, ◌^◌, ◌<◌, ◌≤◌, List, [], ◌∷◌, ◌++◌, take, find, nat_lt, Option, Some, None, option_map, Result, Ok, Err, Bool, ◌==◌, if◌then◌else◌}
 use Rattle.std.specs.Option.{option_or}
 use Rattle.h5w_model.specs.Arrays.{eahd_len}
 use Rattle.h5w_model.specs.Trees.{bthd_len}
 use Rattle.h5w_model.specs.declared.cell.Key.{Key}
 use Rattle.h5w_model.specs.Datasets.{Described}
+use Rattle.h5w_model.specs.Tables.{format_limits, limit_of, needed}
 use Rattle.h5w_model.specs.Findings.{chunk_bytes}
 use Rattle.h5w_model.specs.declared.cell.IndexKind.{IndexKind}
 use Rattle.h5w_model.specs.declared.cell.IndexKind.TheVariants.{Array, Tree}
@@ -13,6 +14,7 @@ use Rattle.h5w_model.specs.declared.refusal.ReadError.TheVariants.{Damaged}
 use Rattle.h5w_space.specs.Space.{extent}
 use Rattle.h5w_space.specs.declared.Extent.{Extent}
 use Rattle.h5w_cache.specs.Stores.{Store}
+use Rattle.h5w_chunks.specs.Shares.{first_line}
 use Rattle.h5w_array_laws.specs.ArrayStores.{map_of}
 use Rattle.h5w_ea_index.specs.Ranges.{block_ranges, range_at}
 use Rattle.h5w_bt.specs.declared.records.Record.{Record}
@@ -26,13 +28,21 @@ use Rattle.h5w_session_open.specs.declared.index.NoIndex.{NoIndex}
 use Rattle.h5w_session_open.specs.declared.index.NoIndex.TheVariants.{Unnamed, Empty, WrongTotals, Unordered}
 use Rattle.h5w_model.specs.Numbers.{undefined}
 
--- the chunk of the last committed row, 0 where there is none
+-- its rows need no more chunks than are read
+abbrev pub HasFewChunks : Described → Type 0
+HasFewChunks d = needed d ≤ limit_of format_limits d.layout.index
+
+-- the band of the last committed row, 0 where there is none
 abbrev pub first_open : Described → ℕ
 first_open d = (d.shape.rows - 1) / d.layout.chunk_rows
 
--- the first key of its band
+-- the first line of keys of this band
+abbrev pub first_open_line : Described → ℕ
+first_open_line d = first_line d (first_open d)
+
+-- the first key of this band
 abbrev pub first_key : Described → Key
-first_key d = record { i = first_open d; j = 0 }
+first_key d = record { i = first_open_line d; j = 0 }
 
 -- ---- The ranges, in the order in which they are tried
 
@@ -41,15 +51,15 @@ abbrev pub chunks_from : Store → ℕ → ℕ → ℕ → List Extent
 chunks_from v len i zero = []
 chunks_from v len i (suc n) = range_at (map_of v i) len ++ chunks_from v len (i + 1) n
 
--- those of a tree's chunks of a band and later, by rising key
+-- those of a tree's chunks of a line of keys and later, by rising key
 abbrev pub chunks_behind : ℕ → ℕ → List Record → List Extent
-chunks_behind len band [] = []
-chunks_behind len band (r ∷ rs) = (if nat_lt r.key.i band then [] else range_at r.address len) ++ chunks_behind len band rs
+chunks_behind len line [] = []
+chunks_behind len line (r ∷ rs) = (if nat_lt r.key.i line then [] else range_at r.address len) ++ chunks_behind len line rs
 
 -- the chunks of the last committed band and later
 abbrev pub chunks_in : Described → IndexView → List Extent
-chunks_in d (an_array v) = chunks_from v (chunk_bytes d) (first_open d) (131060 - first_open d)
-chunks_in d (a_tree place v) = chunks_behind (chunk_bytes d) (first_open d) (records v)
+chunks_in d (an_array v) = chunks_from v (chunk_bytes d) (first_open_line d) (131060 - first_open_line d)
+chunks_in d (a_tree place v) = chunks_behind (chunk_bytes d) (first_open_line d) (records v)
 
 abbrev pub open_chunks : Described → Result IndexView NoIndex → List Extent
 open_chunks d (Ok v) = chunks_in d v
@@ -67,7 +77,7 @@ header_alone kind address = if address == undefined then extent 0 48 ∷ [] else
 -- the index's blocks on the way to a chunk of the last committed band or later, in the order of the looks, each of so many bytes as were
 -- looked at; a tree's behind the superblock, since its header is shorter than that
 abbrev pub blocks_in : Described → IndexView → List Extent
-blocks_in d (an_array v) = block_ranges (first_open d) v
+blocks_in d (an_array v) = block_ranges (first_open_line d) v
 blocks_in d (a_tree place v) = extent 0 48 ∷ extent place bthd_len ∷ ranges_from (first_key d) v
 
 abbrev pub open_blocks : Described → Result IndexView NoIndex → List Extent

@@ -21,7 +21,7 @@ ghost use Rattle.h5w_opening.specs.Errors.{IsOpenKind};
 ghost use Rattle.h5w_opening.specs.Openings.{IsFound, IsSaid, is_open};
 ghost use Rattle.h5w_opening.specs.Views.{header_fields_of, opened_of};
 ghost use Rattle.h5w_session_open.specs.OpenAnswers.{HasBegun, IsIndexOf, IsNotOpened, IsOpenAnswer, opened_session, writing_flags};
-ghost use Rattle.h5w_session_open.specs.OpenRanges.{first_open, refused_open};
+ghost use Rattle.h5w_session_open.specs.OpenRanges.{HasFewChunks, refused_open};
 ghost use Rattle.h5w_session_open.specs.OpenSteps.{HasLayout, IsKeptHeader, IfNamedIndex, IsBadIndex, IsCut, IsFoundIn, IsOpenedFile, HasRows, IsReady, OpenStep, array_error, front_of, tree_error, versioned};
 ghost use Rattle.h5w_session_open.specs.OpenLaws.{OpenLaws};
 ghost use Rattle.h5w_session.specs.Openings.{opened_log};
@@ -29,7 +29,7 @@ ghost use Rattle.h5w_session.specs.Sessions.{IsWritable};
 ghost use Rattle.h5w_session.specs.Stands.{Stands};
 
 use crate::index::NoIndex;
-use crate::ranges::{first_key, first_open, is_starting, unrefused};
+use crate::ranges::{first_key, first_open_line, is_starting, unrefused};
 use h5w_bt_open::{Kept, OpenTreeError, open_kept};
 use h5w_bytes::byte;
 use h5w_chunks::{Fill, Grid};
@@ -84,11 +84,11 @@ fn open_array<I: PieceRead>(
 ) -> Result<Result<Index, NoIndex>, OpenError>
     requires array { (described_of d.now).layout.index ≡ Array }
     requires named { (described_of d.now).layout.address ≢ undefined }
-    requires few { first_open (described_of d.now) < 131060 }
+    requires few { HasFewChunks (described_of d.now) }
     ensures step { OpenStep (I.view image.old) (I.view image.new) (λ img a. IsIndexOf img (described_of d.now) (seen view_of a)) (λ img e. IsBadIndex img (described_of d.now) e) result }
     ensures named { IfOk result (λ a. IfNamedIndex (described_of d.now) (seen view_of a)) }
 {
-    match ArrayIndex::open(alloc, image, d.layout.address, first_open(d)) {
+    match ArrayIndex::open(alloc, image, d.layout.address, first_open_line(d)) {
         Ok(Some(array)) => Ok(Ok(Index::Array(array))),
         Ok(None) => Ok(Err(NoIndex::Empty)),
         Err(e) => Err(array_error(e)),
@@ -103,6 +103,7 @@ fn open_tree<I: PieceRead>(
 ) -> Result<Result<Index, NoIndex>, OpenError>
     requires tree { (described_of d.now).layout.index ≡ Tree }
     requires named { (described_of d.now).layout.address ≢ undefined }
+    requires few { HasFewChunks (described_of d.now) }
     ensures step { OpenStep (I.view image.old) (I.view image.new) (λ img a. IsIndexOf img (described_of d.now) (seen view_of a)) (λ img e. IsBadIndex img (described_of d.now) e) result }
     ensures named { IfOk result (λ a. IfNamedIndex (described_of d.now) (seen view_of a)) }
 {
@@ -120,7 +121,7 @@ fn index_of<I: PieceRead>(
     image: &mut I,
     d: &Dataset,
 ) -> Result<Result<Index, NoIndex>, OpenError>
-    requires few { (described_of d.now).layout.index ≡ Array → first_open (described_of d.now) < 131060 }
+    requires few { HasFewChunks (described_of d.now) }
     ensures step { OpenStep (I.view image.old) (I.view image.new) (λ img a. IsIndexOf img (described_of d.now) (seen view_of a)) (λ img e. IsBadIndex img (described_of d.now) e) result }
     ensures named { IfOk result (λ a. IfNamedIndex (described_of d.now) (seen view_of a)) }
 {
@@ -362,7 +363,7 @@ fn unrefused_file<I: PieceRead>(
 /// the file says that it is written; all its flags but these two stay. What the file has stays where it is, and new places begin at its
 /// end-of-file address.
 ///
-/// Tried in this order: the superblock, its flags and end-of-file address, the root header, the link, the dataset header, and what its
+/// Tried in this order: the superblock, its version, flags and end-of-file address, the root header, the link, the dataset header, and what its
 /// messages say; the index's blocks, from the last committed band on; the first of the dataset header's chunk 0 and the index's blocks
 /// in place, and then of the chunks of that band and later, that ends at 2^64 or later; the first range that ends behind the end-of-file
 /// address, of chunk 0, the superblock where the index is a tree or the layout names none, the index's blocks on the way to those chunks in
@@ -400,8 +401,8 @@ pub fn open<I: PieceRead>(
     Ok(session)
 }
 
-/// A valid file is refused only where it is open already, asks its writer to know a message that is not known here, or has its layout outside
-/// of chunk 0, too large chunks or no column. A close gives back the flags that the file had.
+/// A valid file is refused only where its superblock is of version 2, it is open already, asks its writer to know a message that is not known
+/// here, or has its layout outside of chunk 0, too large chunks or no column. A close gives back the flags that the file had.
 #[tactic(auto, using(crate::proofs::LeftLemmas::open_laws))]
 pub fn open_laws()
     ensures { OpenLaws }

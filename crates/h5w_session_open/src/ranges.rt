@@ -1,6 +1,7 @@
 //! The ranges of a file that is opened, and the first of them that is refused.
 ghost use Rattle.std.specs.Prelude.{◌≡◌, ◌⊎◌, ◌+◌, ◌-◌, ◌≤◌, ◌++◌, ◌∷◌, [], take, nat_lt, IfErr, IfOk, MatchOption, Some, None, Ok, Err, OnOk};
 ghost use Rattle.std.specs.Option.{option_copied};
+ghost use Rattle.h5w_model.specs.Tables.{chunks_across};
 ghost use Rattle.h5w_bt_index.specs.Held as trees;
 ghost use Rattle.h5w_bt_index.specs.Index.{IsShaped, records};
 ghost use Rattle.h5w_found.specs.Described.{described_of};
@@ -8,7 +9,7 @@ ghost use Rattle.h5w_found.specs.Ran.{seen};
 ghost use Rattle.h5w_index.specs.Held.{view_of};
 ghost use Rattle.h5w_index.specs.Views.{a_tree};
 ghost use Rattle.h5w_opening.specs.Views.{opened_of};
-ghost use Rattle.h5w_session_open.specs.OpenRanges.{blocks_in, chunk_0_range, chunks_behind, chunks_from, chunks_in, cut_at, first_key, first_open, first_past, IsNear, header_alone, header_len, open_blocks, open_chunks, is_starting, ranges_refused, refused_index, refused_open, refused_ranges};
+ghost use Rattle.h5w_session_open.specs.OpenRanges.{blocks_in, chunk_0_range, chunks_behind, chunks_from, chunks_in, cut_at, first_key, first_open, first_open_line, first_past, HasFewChunks, IsNear, header_alone, header_len, open_blocks, open_chunks, is_starting, ranges_refused, refused_index, refused_open, refused_ranges};
 ghost use Rattle.h5w_session_open.specs.OpenAnswers.{IsBlankOf, IsKeptIndexOf, IsStartOf};
 ghost use Rattle.h5w_session_open.specs.OpenSteps.{IfNamedIndex, IsNamedIndex};
 
@@ -83,18 +84,38 @@ fn cut_at(r: &Extent, end: u64) -> OpenError
 }
 
 /// The band of the last committed row, 0 where there is none.
-pub fn first_open(d: &Dataset) -> u64
+fn first_open(d: &Dataset) -> u64
     ensures { result ≡ first_open (described_of d.now) }
 {
     d.shape.rows.saturating_sub(1) / d.layout.chunk.0
 }
 
+/// How many chunks stand side by side.
+fn across(d: &Dataset) -> u64
+    ensures { result ≡ chunks_across (described_of d.now) }
+{
+    d.shape.cols.div_ceil(d.layout.chunk.1)
+}
+
+/// The first line of keys of that band.
+pub fn first_open_line(d: &Dataset) -> u64
+    requires few { HasFewChunks (described_of d.now) }
+    ensures { result ≡ first_open_line (described_of d.now) }
+{
+    let band = first_open(d);
+    match d.layout.index {
+        IndexKind::Array => band * across(d),
+        IndexKind::Tree => band,
+    }
+}
+
 /// The first key of that band.
 pub fn first_key(d: &Dataset) -> Key
+    requires few { HasFewChunks (described_of d.now) }
     ensures { result ≡ first_key (described_of d.now) }
 {
     Key {
-        i: first_open(d),
+        i: first_open_line(d),
         j: 0,
     }
 }
@@ -117,18 +138,18 @@ fn array_chunks(
     Ok(chunks)
 }
 
-/// The ranges of the chunks of these records from band `band` on, each of `len` bytes.
+/// The ranges of the chunks of these records from line `line` of their keys on, each of `len` bytes.
 fn chunks_behind(
     alloc: Global,
     records: &[Record],
-    band: u64,
+    line: u64,
     len: u64,
 ) -> Result<Vec<Extent>, OutOfMemory>
-    ensures { IfOk result (λ r. r.items ≡ chunks_behind len band records.now) }
+    ensures { IfOk result (λ r. r.items ≡ chunks_behind len line records.now) }
 {
     let mut chunks = Vec::new(alloc);
     for r in records {
-        if r.key.i >= band && r.address != UNDEFINED {
+        if r.key.i >= line && r.address != UNDEFINED {
             chunks.push(Extent {
                 at: r.address,
                 size: len,
@@ -138,26 +159,28 @@ fn chunks_behind(
     Ok(chunks)
 }
 
-/// The ranges of a tree's chunks from band `band` on, each of `len` bytes.
+/// The ranges of a tree's chunks from line `line` of their keys on, each of `len` bytes.
 fn tree_chunks(
     alloc: Global,
     tree: &TreeIndex,
-    band: u64,
+    line: u64,
     len: u64,
 ) -> Result<Vec<Extent>, OutOfMemory>
-    ensures { IfOk result (λ r. r.items ≡ chunks_behind len band (records (trees.view_of tree.now))) }
+    ensures { IfOk result (λ r. r.items ≡ chunks_behind len line (records (trees.view_of tree.now))) }
 {
     let records = h5w_bt_open::records(alloc, tree)?;
-    chunks_behind(alloc, &records, band, len)
+    chunks_behind(alloc, &records, line, len)
 }
 
 /// The ranges of the chunks of the last committed band and later.
 fn chunks_in(alloc: Global, index: &Index, d: &Dataset) -> Result<Vec<Extent>, OutOfMemory>
+    requires few { HasFewChunks (described_of d.now) }
     ensures { IfOk result (λ r. r.items ≡ chunks_in (described_of d.now) (view_of index.now)) }
 {
+    let first = first_open_line(d);
     match index {
-        Index::Array(array) => array_chunks(alloc, array, first_open(d), d.chunk_bytes()),
-        Index::Tree(tree) => tree_chunks(alloc, tree, first_open(d), d.chunk_bytes()),
+        Index::Array(array) => array_chunks(alloc, array, first, d.chunk_bytes()),
+        Index::Tree(tree) => tree_chunks(alloc, tree, first, d.chunk_bytes()),
     }
 }
 
@@ -167,6 +190,7 @@ fn open_chunks(
     index: &Result<Index, NoIndex>,
     d: &Dataset,
 ) -> Result<Vec<Extent>, OutOfMemory>
+    requires few { HasFewChunks (described_of d.now) }
     ensures { IfOk result (λ r. r.items ≡ open_chunks (described_of d.now) (seen view_of index.now)) }
 {
     match index {
@@ -211,7 +235,8 @@ fn header_alone(d: &Dataset) -> Extent
 /// The ranges of the superblock, of the header of the tree that the layout names, and of its nodes on the way to a chunk of the last
 /// committed band or later, in the order of the looks.
 fn tree_blocks(alloc: Global, tree: &TreeIndex, d: &Dataset) -> Result<Vec<Extent>, OutOfMemory>
-    requires { IsShaped (trees.view_of tree.now) }
+    requires shaped { IsShaped (trees.view_of tree.now) }
+    requires few { HasFewChunks (described_of d.now) }
     ensures { IfOk result (λ r. r.items ≡ blocks_in (described_of d.now) (a_tree (described_of d.now).layout.address (trees.view_of tree.now))) }
 {
     let mut blocks = Vec::new(alloc);
@@ -228,11 +253,12 @@ fn tree_blocks(alloc: Global, tree: &TreeIndex, d: &Dataset) -> Result<Vec<Exten
 /// The ranges of the blocks of the index that the layout names, on the way to a chunk of the last committed band or later, in the order of
 /// the looks.
 fn index_blocks(alloc: Global, index: &Index, d: &Dataset) -> Result<Vec<Extent>, OutOfMemory>
-    requires { IsNamedIndex (described_of d.now) (view_of index.now) }
+    requires named { IsNamedIndex (described_of d.now) (view_of index.now) }
+    requires few { HasFewChunks (described_of d.now) }
     ensures { IfOk result (λ r. r.items ≡ blocks_in (described_of d.now) (view_of index.now)) }
 {
     match index {
-        Index::Array(array) => array.ranges(first_open(d)),
+        Index::Array(array) => array.ranges(first_open_line(d)),
         Index::Tree(tree) => tree_blocks(alloc, tree, d),
     }
 }
@@ -243,7 +269,8 @@ fn blocks(
     found: &Opening,
     index: &Result<Index, NoIndex>,
 ) -> Result<Vec<Extent>, OutOfMemory>
-    requires { IfNamedIndex (opened_of found.now).header.dataset (seen view_of index.now) }
+    requires named { IfNamedIndex (opened_of found.now).header.dataset (seen view_of index.now) }
+    requires few { HasFewChunks (opened_of found.now).header.dataset }
     ensures { IfOk result (λ r. r.items ≡ chunk_0_range (opened_of found.now) ∷ open_blocks (opened_of found.now).header.dataset (seen view_of index.now)) }
 {
     let d = &found.header.dataset;
@@ -282,7 +309,8 @@ fn check_ranges(
     found: &Opening,
     index: &Result<Index, NoIndex>,
 ) -> Result<(), OpenError>
-    requires { IfNamedIndex (opened_of found.now).header.dataset (seen view_of index.now) }
+    requires named { IfNamedIndex (opened_of found.now).header.dataset (seen view_of index.now) }
+    requires few { HasFewChunks (opened_of found.now).header.dataset }
     ensures none { OnOk result (ranges_refused (opened_of found.now) (seen view_of index.now) ≡ None) }
     ensures first { IfErr result (λ e. (ranges_refused (opened_of found.now) (seen view_of index.now) ≡ Some e) ⊎ (e ≡ OpenError.OutOfMemory)) }
 {
@@ -345,6 +373,7 @@ pub fn unrefused(
     index: Result<Index, NoIndex>,
 ) -> Result<Index, OpenError>
     requires named { IfNamedIndex (opened_of found.now).header.dataset (seen view_of index) }
+    requires few { HasFewChunks (opened_of found.now).header.dataset }
     ensures kept { IfOk result (λ v. IsKeptIndexOf (opened_of found.now).header.dataset (seen view_of index) (view_of v)) }
     ensures none { OnOk result (refused_open (opened_of found.now) (seen view_of index) ≡ None) }
     ensures first { IfErr result (λ e. (refused_open (opened_of found.now) (seen view_of index) ≡ Some e) ⊎ (e ≡ OpenError.OutOfMemory)) }

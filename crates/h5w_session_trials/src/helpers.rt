@@ -46,6 +46,7 @@ pub fn create(
         int_type,
         chunk_rows,
         columns: None,
+        fixed: false,
         fill,
         limit: 1 << 40,
     };

@@ -33,7 +33,7 @@ use Rattle.h5w_steps.proofs.PartLemmas.{disjoint_right, disjoint_apart}
 
 pub record SuperParts (size : ℕ) (b : List ℕ) (s : Super) : Type 0 where
   pub read : super_at b ≡ Ok s
-  pub swmr : is_swmr s.flags ≡ true
+  pub swmr : is_swmr s ≡ true
   pub inside : s.end ≤ size
 
 abbrev pub super_is : Super → Result Super Finding
@@ -44,15 +44,15 @@ same_super s t h = cc
 
 pub super_parts : (size : ℕ) (b : List ℕ) (s : Super) → checked_super size b ≡ Ok s → SuperParts size b s
 super_parts size b s h =
-    let read = then_ok (refused_as super_finding (super_at b)) (λ s. if not (is_swmr s.flags) then Err (found half_flagged 0) else if nat_lt size s.end then Err (found cut_off 0) else super_is s) s h in
-    let swmr = fails (not (is_swmr read.0.flags)) (if nat_lt size read.0.end then Err (found cut_off 0) else super_is read.0) (found half_flagged 0) s read.2 in
+    let read = then_ok (refused_as super_finding (super_at b)) (λ s. if not (is_swmr s) then Err (found half_flagged 0) else if nat_lt size s.end then Err (found cut_off 0) else super_is s) s h in
+    let swmr = fails (not (is_swmr read.0)) (if nat_lt size read.0.end then Err (found cut_off 0) else super_is read.0) (found half_flagged 0) s read.2 in
     let whole = fails (nat_lt size read.0.end) (super_is read.0) (found cut_off 0) s swmr.1 in
     subst (λ (t : Super). SuperParts size b t) (same_super read.0 s whole.1)
-    (record { read = refused_ok super_finding (super_at b) read.0 read.1; swmr = not-false (is_swmr read.0.flags) swmr.0; inside = ltb-false size read.0.end whole.0 })
+    (record { read = refused_ok super_finding (super_at b) read.0 read.1; swmr = not-false (is_swmr read.0) swmr.0; inside = ltb-false size read.0.end whole.0 })
 
 pub super_from : (size : ℕ) (b : List ℕ) (s : Super) → SuperParts size b s → checked_super size b ≡ Ok s
 super_from size b s p =
-    then_from (refused_as super_finding (super_at b)) (λ s. if not (is_swmr s.flags) then Err (found half_flagged 0) else if nat_lt size s.end then Err (found cut_off 0) else super_is s) s s
+    then_from (refused_as super_finding (super_at b)) (λ s. if not (is_swmr s) then Err (found half_flagged 0) else if nat_lt size s.end then Err (found cut_off 0) else super_is s) s s
     (refused_from super_finding (super_at b) s p.read)
     (ap (λ c. cond (not c) (Err (found half_flagged 0)) (cond (nat_lt size s.end) (Err (found cut_off 0)) (super_is s))) p.swmr
     ∙ ap (λ c. cond c (Err (found cut_off 0)) (super_is s)) (le-ltb size s.end p.inside))

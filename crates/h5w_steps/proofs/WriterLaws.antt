@@ -1,16 +1,17 @@
 -- What a writer shows before a block in place or a header is written again makes a safe piece.
-use Rattle.std.proofs.Common.{◌≡◌, ◌≢◌, ◌⊎◌, ℕ, zero, suc, ◌+◌, ◌/◌, ◌<◌, ◌≤◌, true, false, List, [], ◌∷◌, ◌++◌, length, get_or, Result, Ok, Err, refl, sym, ◌∙◌, ap, subst, inl, inr, arith, append_assoc}
+use Rattle.std.proofs.Common.{◌≡◌, ◌≢◌, ◌⊎◌, ℕ, zero, suc, ◌+◌, ◌*◌, ◌/◌, ◌%◌, ◌<◌, ◌≤◌, true, false, List, [], ◌∷◌, ◌++◌, length, get_or, Result, Ok, Err, refl, sym, ◌∙◌, ap, subst, inl, inr, arith}
 use Rattle.std.specs.Prelude.{◌==◌, ◌-◌, map}
-use Rattle.std.specs.List.{range_with_len, flat_map}
+use Rattle.std.specs.List.{range_with_len}
 use Rattle.std.proofs.lemmas.Bool.Decides.{eqb_tells}
 use Rattle.std.proofs.lemmas.Bool.{cond-true, cond-false, eqb-true, eq-eqb}
 use Rattle.std.proofs.lemmas.List.{get_or_append_left}
+use Rattle.std.proofs.Math.Nat.{mul-le-mul_right}
 use Rattle.h5w_model.specs.Numbers.{range, undefined}
 use Rattle.h5w_model.specs.Images.{apply}
 use Rattle.h5w_model.specs.Programs.{Prog, ret, eval, visits, Visit, and_then}
 use Rattle.h5w_model.specs.Arrays.{EahdFields, eahd_at, eahd_len, eaib_len}
 use Rattle.h5w_model.specs.Datasets.{Described}
-use Rattle.h5w_model.specs.Tables.{InPlace, nowhere, in_place, array_in_place, tree_in_place, address_behind, each_of, table_of, needed_keys, bands, chunks_across, format_limits}
+use Rattle.h5w_model.specs.Tables.{InPlace, nowhere, in_place, array_in_place, tree_in_place, address_behind, each_of, table_of, bands, chunks_across, keys_across, needed, index_key, needed_keys, format_limits}
 use Rattle.h5w_model.specs.Findings.{Finding, Used, index_visit}
 use Rattle.h5w_model.specs.Prefixed.{NamesBlock, StaysDefined, SameDescribed}
 use Rattle.h5w_model.specs.declared.cell.Key.{Key}
@@ -147,13 +148,13 @@ reshaped img end d rows fixed behind i = record {
   some = i.some;
 }
 
--- the keys of the first bands come first
-pub keys_first : (f : ℕ → List Key) (from n total : ℕ) → n ≤ total → (rest : List Key) × (flat_map f (range_with_len from total) ≡ flat_map f (range_with_len from n) ++ rest)
-keys_first f from zero total h = (flat_map f (range_with_len from total), refl)
+-- the keys of the first numbers come first
+pub keys_first : (f : ℕ → Key) (from n total : ℕ) → n ≤ total → (rest : List Key) × (map f (range_with_len from total) ≡ map f (range_with_len from n) ++ rest)
+keys_first f from zero total h = (map f (range_with_len from total), refl)
 keys_first f from (suc n) zero h = absurd (omega (arith, h))
 keys_first f from (suc n) (suc total) h =
     let later = keys_first f (from + 1) n total (omega (arith, h)) in
-    (later.0, ap (λ (ks : List Key). f from ++ ks) later.1 ∙ sym (append_assoc (f from) (flat_map f (range_with_len (from + 1) n)) later.0))
+    (later.0, ap (λ (ks : List Key). f from ∷ ks) later.1)
 
 abbrev pub addresses_are : List ℕ → Result (List ℕ) ReadError
 addresses_are xs = Ok xs
@@ -183,18 +184,21 @@ each_first img p (k ∷ ks) more table all h g =
     )
 
 -- the table of more rows begins with that of fewer
-pub table_first : (img : List ℕ) (d e : Described) (blocks : InPlace) (table all : List ℕ) → bands d ≤ bands e → chunks_across e ≡ chunks_across d
+pub table_first : (img : List ℕ) (d e : Described) (blocks : InPlace) (table all : List ℕ) → needed d ≤ needed e → keys_across e ≡ keys_across d
     → eval img (each_of (address_behind blocks) (needed_keys d)) ≡ Ok table → eval img (each_of (address_behind blocks) (needed_keys e)) ≡ Ok all → (rest : List ℕ) × (all ≡ table ++ rest)
-table_first img d e blocks table all more across h g =
-    let row_keys : ℕ → ℕ → List Key = λ across row. map (λ column. record { i = row; j = column }) (range_with_len 0 across) in
-    let rest = keys_first (row_keys (chunks_across d)) 0 (bands d) (bands e) more in
-    let keys : needed_keys e ≡ needed_keys d ++ rest.0 = ap (λ n. flat_map (row_keys n) (range_with_len 0 (bands e))) across ∙ rest.1 in
+table_first img d e blocks table all more side h g =
+    let key_by : ℕ → ℕ → Key = λ across n. record { i = n / across; j = n % across } in
+    let rest = keys_first (index_key d) 0 (needed d) (needed e) more in
+    let keys : needed_keys e ≡ needed_keys d ++ rest.0 = ap (λ n. map (key_by n) (range_with_len 0 (needed e))) side ∙ rest.1 in
     each_first img (address_behind blocks) (needed_keys d) rest.0 table all h (ap (λ (ks : List Key). eval img (each_of (address_behind blocks) ks)) (sym keys) ∙ g)
 
 pub bands_rise : (d e : Described) → e.layout.chunk_rows ≡ d.layout.chunk_rows → d.shape.rows ≤ e.shape.rows → bands d ≤ bands e
 bands_rise d e same rows =
     subst (λ c. bands d ≤ (e.shape.rows + c - 1) / c) (sym same)
     (div_rises d.layout.chunk_rows (d.shape.rows + d.layout.chunk_rows - 1) (e.shape.rows + d.layout.chunk_rows - 1) (omega (arith, rows)))
+
+pub needed_rises : (d e : Described) → chunks_across e ≡ chunks_across d → bands d ≤ bands e → needed d ≤ needed e
+needed_rises d e across more = subst (λ n. needed d ≤ bands e * n) (sym across) (mul-le-mul_right (chunks_across d) more)
 
 pub stays_defined : (table rest : List ℕ) (k : ℕ) → k < length table → StaysDefined (get_or table k undefined) (get_or (table ++ rest) k undefined)
 stays_defined table rest k low d = get_or_append_left table rest undefined k low
@@ -225,7 +229,8 @@ growing_commits img name m held w n r g =
     let now = sym (table_laws.by_blocks img e blocks (needed_keys e) read_now) ∙ g.table in
     let chunk_rows : e.layout.chunk_rows ≡ d.layout.chunk_rows = ap (λ (x : Described). x.layout.chunk_rows) g.shape in
     let across : chunks_across e ≡ chunks_across d = ap (λ (x : Described). chunks_across x) g.shape in
-    let first = table_first img d e blocks m.table n.table (bands_rise d e chunk_rows (omega (arith, rises))) across before now in
+    let side : keys_across e ≡ keys_across d = ap (λ (x : Described). keys_across x) g.shape in
+    let first = table_first img d e blocks m.table n.table (needed_rises d e across (bands_rise d e chunk_rows (omega (arith, rises)))) side before now in
     commits (record {
       more = g.more;
       is = g.is ∙ ap (λ (us : List Used). record m { dataset = e; fixed = us; behind = m.behind; table = n.table; values = m.values ++ g.more }) (sym same_fixed)

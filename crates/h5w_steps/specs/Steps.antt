@@ -28,7 +28,7 @@ pub record Ends (img : List ℕ) (m : Moment) (w : Write) (n : Moment) : Type 0 
   pub len : length w.piece ≡ 48
   pub reads : super_at w.piece ≡ Ok n.super
   pub root : n.super.root ≡ m.super.root
-  pub swmr : is_swmr n.super.flags ≡ true
+  pub swmr : is_swmr n.super ≡ true
   pub rises : m.super.end ≤ n.super.end
   pub there : n.super.end ≤ length img
 

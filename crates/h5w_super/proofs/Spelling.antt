@@ -7,13 +7,13 @@ use Rattle.h5w_model.specs.Superblock.{super_signature, super_bytes}
 use Rattle.h5w_model.specs.declared.root.Super.{Super}
 
 -- the signature and the four bytes behind it, and zeros
-pub front : (s : Super) (first second : List ℕ) → first ≡ super_signature → second ≡ 3 ∷ 8 ∷ 8 ∷ s.flags ∷ []
-    → put_mid 8 4 (put_mid 0 8 (replicate 48 0) first) second ≡ (super_signature ++ (3 ∷ 8 ∷ 8 ∷ s.flags ∷ [])) ++ replicate 36 0
+pub front : (s : Super) (first second : List ℕ) → first ≡ super_signature → second ≡ s.version ∷ 8 ∷ 8 ∷ s.flags ∷ []
+    → put_mid 8 4 (put_mid 0 8 (replicate 48 0) first) second ≡ (super_signature ++ (s.version ∷ 8 ∷ 8 ∷ s.flags ∷ [])) ++ replicate 36 0
 front s first second e f = rw (e, f) refl
 
 -- the four numbers behind them, and the sum
 pub spelled : (s : Super) (a b c d e f : List ℕ)
-    → a ≡ (super_signature ++ (3 ∷ 8 ∷ 8 ∷ s.flags ∷ [])) ++ replicate 36 0
+    → a ≡ (super_signature ++ (s.version ∷ 8 ∷ 8 ∷ s.flags ∷ [])) ++ replicate 36 0
     → b ≡ (take 12 a ++ le 8 0) ++ drop 20 a
     → c ≡ (take 20 b ++ le 8 undefined) ++ drop 28 b
     → d ≡ (take 28 c ++ le 8 s.end) ++ drop 36 c

@@ -1,9 +1,9 @@
-//! The superblock: the first 48 bytes of a file, read and written. Takes no memory.
+//! The superblock of version 2 or 3: the first 48 bytes of a file, read and written. Takes no memory.
 //!
 //! docs/FORMAT.md, "Superblock" (HDF5 File Format Specification 3.0, "Format Signature and Superblock").
 #![tactic(auto)]
 
-ghost use Rattle.std.specs.Prelude.{◌≡◌, Ok};
+ghost use Rattle.std.specs.Prelude.{◌≡◌, ◌⊎◌, Ok};
 ghost use Rattle.h5w_model.specs.Superblock.{super_at, super_bytes};
 
 use h5w_bytes::{UNDEFINED, byte, number, put};
@@ -15,9 +15,6 @@ pub const LEN: usize = 48;
 
 /// What each HDF5 file begins with.
 const SIGNATURE: [u8; 8] = [0x89, b'H', b'D', b'F', b'\r', b'\n', 0x1a, b'\n'];
-
-/// The one version that is read and written.
-const VERSION: u8 = 3;
 
 /// How many bytes an address has, and how many a length.
 const SIZE: u8 = 8;
@@ -54,7 +51,7 @@ pub fn decode(b: &[u8]) -> Result<Super, SuperError>
         });
     }
     let version = byte(b, place::VERSION);
-    if version != VERSION {
+    if version != 2 && version != 3 {
         return Err(SuperError::Version(version));
     }
     let (o, l) = (
@@ -83,19 +80,19 @@ pub fn decode(b: &[u8]) -> Result<Super, SuperError>
 
 /// The one spelling of these fields.
 pub fn encode(s: &Super) -> [u8; LEN]
-    requires { s.now.version ≡ 3 }
+    requires { (s.now.version ≡ 2) ⊎ (s.now.version ≡ 3) }
     ensures spelled { result ≡ super_bytes s.now }
     ensures reads_back { super_at result ≡ Ok s.now }
 {
     let Super {
+        version,
         flags,
         end,
         root,
-        ..
     } = *s;
     let mut block = [0; LEN];
     block[..8].copy_from_slice(&SIGNATURE);
-    block[place::VERSION..place::BASE].copy_from_slice(&[VERSION, SIZE, SIZE, flags]);
+    block[place::VERSION..place::BASE].copy_from_slice(&[version, SIZE, SIZE, flags]);
     put(&mut block, place::BASE, 8, 0);
     put(&mut block, place::EXTENSION, 8, UNDEFINED);
     put(&mut block, place::END, 8, end);

@@ -3,7 +3,7 @@ use Rattle.std.specs.Prelude.{ℕ, List, [], ◌∷◌, ◌++◌, codes}
 use Rattle.h5w_text.specs.Replies.{spaced, spaced_value}
 use Rattle.h5w_text.specs.Refusals.{refusal_words}
 use Rattle.h5w_text.specs.declared.error.ErrorLine.{ErrorLine}
-use Rattle.h5w_text.specs.declared.error.ErrorLine.TheVariants.{Usage, Missing, Exists, Read, Finding, Overlap, Cut, Layout, ChunkBytes, NoColumns, FullChunks, FullSpace, Deep, Line, Range, Input, Disk, Source, Memory}
+use Rattle.h5w_text.specs.declared.error.ErrorLine.TheVariants.{Usage, Missing, Exists, Read, Finding, Overlap, Cut, WriterVersion, Layout, ChunkBytes, NoColumns, FullChunks, FullSpace, Deep, Line, Range, Input, Disk, Source, Memory}
 
 -- the text of an error, without the byte 0a that ends it
 abbrev pub error_words : ErrorLine → List ℕ
@@ -14,6 +14,7 @@ error_words (Read e) = refusal_words e
 error_words (Finding kind at) = codes "finding" ++ spaced kind ++ spaced at
 error_words (Overlap at len other other_len) = codes "finding 19" ++ spaced at ++ spaced len ++ spaced other ++ spaced other_len
 error_words (Cut end size) = codes "error cut" ++ spaced end ++ spaced size
+error_words (WriterVersion version) = codes "error writer version" ++ spaced version
 error_words Layout = codes "error writer layout"
 error_words (ChunkBytes bytes) = codes "error writer chunk" ++ spaced bytes
 error_words NoColumns = codes "error writer columns"

@@ -45,6 +45,7 @@ status_of (errors.Read e) = refusal_status e
 status_of (errors.Finding kind at) = Damaged
 status_of (errors.Overlap at len other other_len) = Damaged
 status_of (errors.Cut end size) = Damaged
+status_of (errors.WriterVersion version) = Format
 status_of errors.Layout = Format
 status_of (errors.ChunkBytes bytes) = Format
 status_of errors.NoColumns = Format

@@ -35,6 +35,8 @@ pub enum ErrorLine {
         end: u64,
         size: u64,
     },
+    /// The file to write has a superblock of this version.
+    WriterVersion(u8),
     /// The layout message of the dataset to write, which is to have the index's address, stands outside of the header's chunk 0.
     Layout,
     /// A chunk of the dataset to write has so many bytes.
@@ -102,7 +104,10 @@ impl ErrorLine {
             ErrorLine::Finding { .. } | ErrorLine::Overlap { .. } | ErrorLine::Cut { .. } => {
                 Status::Damaged
             }
-            ErrorLine::Layout | ErrorLine::ChunkBytes(_) | ErrorLine::NoColumns => Status::Format,
+            ErrorLine::WriterVersion(_)
+            | ErrorLine::Layout
+            | ErrorLine::ChunkBytes(_)
+            | ErrorLine::NoColumns => Status::Format,
             ErrorLine::FullChunks { .. } | ErrorLine::FullSpace { .. } | ErrorLine::Deep => {
                 Status::Limit
             }
@@ -132,6 +137,9 @@ fn words(out: &mut Vec<u8>, error: &ErrorLine) -> Result<(), OutOfMemory>
             other_len,
         } => with_numbers(out, b"finding 19", &[*at, *len, *other, *other_len]),
         ErrorLine::Cut { end, size } => with_numbers(out, b"error cut", &[*end, *size]),
+        ErrorLine::WriterVersion(version) => {
+            with_numbers(out, b"error writer version", &[u64::from(*version)])
+        }
         ErrorLine::Layout => text(out, b"error writer layout"),
         ErrorLine::ChunkBytes(bytes) => with_numbers(out, b"error writer chunk", &[*bytes]),
         ErrorLine::NoColumns => text(out, b"error writer columns"),

@@ -12,6 +12,8 @@ use Rattle.h5w_model.specs.declared.cell.IndexKind.{IndexKind}
 use Rattle.h5w_model.specs.declared.cell.IndexKind.TheVariants.{Array, Tree}
 use Rattle.h5w_model.specs.declared.refusal.ReadError.{ReadError}
 use Rattle.h5w_model.specs.declared.refusal.ReadError.TheVariants.{TooManyChunks}
+use Rattle.h5w_laws.specs.ChunkNumbers.{HasKeys}
+use Rattle.h5w_laws.proofs.NumberLemmas.{needed_count, places_chunks}
 use Rattle.h5w_laws.proofs.ResultLemmas.{and_then_ok, and_then_from}
 use Rattle.h5w_laws.proofs.SlotLemmas.{by_test, where_equal, where_other, answered, number_key, same_place, array_by_row, array_found, array_read}
 use Rattle.h5w_laws.proofs.SpliceLemmas.{by_order}
@@ -114,18 +116,14 @@ each_read img p (key ∷ ks) (x ∷ xs) n h =
     (and_then_from img (each_of p ks) (λ rest. ret (some_list (x ∷ rest))) xs (x ∷ xs)
     (each_read img p ks xs (omega (arith, n)) (λ k other there. h (suc k) other there)) refl)
 
--- each key has the chunk that is listed
-abbrev Chunks : List ℕ → Described → List Key → List ℕ → Type 0
-Chunks img d ks xs = (k : ℕ) (key : Key) → slice_get ks k ≡ Some key → HasChunk img d key (get_or xs k undefined)
-
-table_found : (img : List ℕ) (d : Described) (ks : List Key) (xs : List ℕ) → eval img (table_of d ks) ≡ Ok xs → (length xs ≡ length ks) × Chunks img d ks xs
+table_found : (img : List ℕ) (d : Described) (ks : List Key) (xs : List ℕ) → eval img (table_of d ks) ≡ Ok xs → (length xs ≡ length ks) × HasKeys img d ks xs
 table_found img d [] xs h = (ap length (same_listed [] xs h), λ k key there. absurd cc)
 table_found img d (first ∷ ks) xs h =
     let s = and_then_ok img (in_place d) (λ (p : InPlace). each_of (address_behind p) (first ∷ ks)) xs h in
     let each = each_found img (address_behind s.0) (first ∷ ks) xs s.2 in
     (each.0, λ k key there. chunk_found img d key (get_or xs k undefined) (and_then_from img (in_place d) (λ (p : InPlace). address_behind p key) s.0 (get_or xs k undefined) s.1 (each.1 k key there)))
 
-table_read : (img : List ℕ) (d : Described) (ks : List Key) (xs : List ℕ) → length xs ≡ length ks → Chunks img d ks xs → eval img (table_of d ks) ≡ Ok xs
+table_read : (img : List ℕ) (d : Described) (ks : List Key) (xs : List ℕ) → length xs ≡ length ks → HasKeys img d ks xs → eval img (table_of d ks) ≡ Ok xs
 table_read img d [] [] n h = refl
 table_read img d [] (x ∷ xs) n h = absurd (omega (arith, n))
 table_read img d (first ∷ ks) xs n h =
@@ -178,7 +176,7 @@ shows_found limits img name r h =
     let table = table_found img d.0 (needed_keys d.0) t.0 within.1 in
     let shown : Reading = record { place = at.0; dataset = d.0; table = t.0 } in
     subst (λ (s : Reading). HasReading limits img name s) (same_reading shown r t.2)
-    (record { dataset = dataset_found img name at.0 d.0 (at.1, d.1); within = within.0; listed = table.0; chunks = table.1 })
+    (record { dataset = dataset_found img name at.0 d.0 (at.1, d.1); within = within.0; listed = table.0 ∙ needed_count d.0; chunks = (places_chunks img t.0 d.0).0 table.1 })
 
 shows_read : (limits : Limits) (img name : List ℕ) (r : Reading) → HasReading limits img name r → Shows limits img name r
 shows_read limits img name r h =
@@ -186,7 +184,7 @@ shows_read limits img name r h =
     and_then_from img (dataset_place name) (λ (at : ℕ). and_then (dataset at) (λ (d : Described). and_then (needed_table limits d) (λ (t : List ℕ). ret (known at d t)))) r.place r d.0
     (and_then_from img (dataset r.place) (λ (d : Described). and_then (needed_table limits d) (λ (t : List ℕ). ret (known r.place d t))) r.dataset r d.1
     (and_then_from img (needed_table limits r.dataset) (λ (t : List ℕ). ret (known r.place r.dataset t)) r.table r
-    (needed_read limits img r.dataset r.table h.within (table_read img r.dataset (needed_keys r.dataset) r.table h.listed h.chunks)) refl))
+    (needed_read limits img r.dataset r.table h.within (table_read img r.dataset (needed_keys r.dataset) r.table (h.listed ∙ sym (needed_count r.dataset)) ((places_chunks img r.table r.dataset).1 h.chunks))) refl))
 
 -- an image shows a reading exactly where the plain relation holds
 pub finds_readings : FindsReadings

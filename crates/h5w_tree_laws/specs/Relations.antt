@@ -23,6 +23,7 @@ chunk_program d key = and_then (in_place d) (λ p. address_behind p key)
 abbrev pub FindsChunks : Type 0
 FindsChunks = (img : List ℕ) (d : Described) (key : Key) (x : ℕ) → (eval img (chunk_program d key) ≡ Ok x) ↔ HasChunk img d key x
 
--- an image shows a reading exactly where it has the dataset, its needed chunks are within the limits, and each has its address
+-- an image shows a reading exactly where it has the dataset, its needed chunks are within the limits, and each chunk of the grid has
+-- its address
 abbrev pub FindsReadings : Type 0
 FindsReadings = (limits : Limits) (img name : List ℕ) (r : Reading) → Shows limits img name r ↔ HasReading limits img name r

@@ -18,7 +18,7 @@ pub struct Shape {
     pub rows: u64,
     /// The size of dimension 1, and 1 in rank 1.
     pub cols: u64,
-    /// Dimension 1 has no maximum.
+    /// Dimension 1 has no maximum. Without it its size is its maximum.
     pub growing: bool,
 }
 
@@ -42,14 +42,19 @@ impl Shape {
         if b.len() < maximums + 8 * usize::from(rank) {
             return Err(Unsupported(5));
         }
-        if number(b, maximums, 8) != UNLIMITED || (rank == 2 && number(b, 28, 8) != UNLIMITED) {
+        let (cols, maximum) = if rank == 1 {
+            (1, 1)
+        } else {
+            (number(b, 12, 8), number(b, 28, 8))
+        };
+        if number(b, maximums, 8) != UNLIMITED || (maximum != UNLIMITED && maximum != cols) {
             return Err(Unsupported(6));
         }
         Ok(Shape {
             rank,
             rows: number(b, 4, 8),
-            cols: if rank == 1 { 1 } else { number(b, 12, 8) },
-            growing: rank == 2,
+            cols,
+            growing: maximum == UNLIMITED,
         })
     }
 
@@ -62,22 +67,23 @@ impl Shape {
         ensures reads_back { (rest : List ℕ) → shape_at (shape_bytes (shape_of self.now) ++ rest) ≡ Ok (shape_of self.now) }
     {
         out[..4].copy_from_slice(&[2, self.rank, 1, 1]);
-        put_numbers(out, self.rank, self.rows, self.cols)
+        put_numbers(out, self.rank, self.rows, self.cols, self.growing)
     }
 }
 
 /// Writes sizes and maximums behind the first four bytes, and answers where they end.
-fn put_numbers(out: &mut [u8], rank: u8, rows: u64, cols: u64) -> usize
+fn put_numbers(out: &mut [u8], rank: u8, rows: u64, cols: u64, growing: bool) -> usize
     requires ranked { (rank ≡ 1) ⊎ (rank ≡ 2) }
     requires room { 4 + 16 * rank ≤ length out.old }
     ensures len { result ≡ 4 + 16 * rank }
-    ensures written { out.new ≡ (take 4 out.old ++ flat_map (le 8) (shape_numbers rank rows cols)) ++ drop result out.old }
+    ensures written { out.new ≡ (take 4 out.old ++ flat_map (le 8) (shape_numbers rank rows cols growing)) ++ drop result out.old }
 {
     if rank == 1 {
         put_each(out, 4, 8, &[rows, UNLIMITED]);
         20
     } else {
-        put_each(out, 4, 8, &[rows, cols, UNLIMITED, UNLIMITED]);
+        let maximum = if growing { UNLIMITED } else { cols };
+        put_each(out, 4, 8, &[rows, cols, UNLIMITED, maximum]);
         36
     }
 }

@@ -524,3 +524,35 @@ two_layouts_file =
 
 abbrev pub two_layouts_reading : Reading
 two_layouts_reading = record { place = 106; dataset = line 0 1 signed_byte None undefined 13; table = [] }
+
+-- a superblock of version 2 with the flags of a writer, which say nothing there
+abbrev pub older_superblock_file : List ℕ
+older_superblock_file =
+    (137 ∷ 72 ∷ 68 ∷ 70 ∷ 13 ∷ 10 ∷ 26 ∷ 10 ∷ 2 ∷ 8 ∷ 8 ∷ 5 ∷ 0 ∷ 0 ∷ 0 ∷ 0 ∷
+    0 ∷ 0 ∷ 0 ∷ 0 ∷ 255 ∷ 255 ∷ 255 ∷ 255 ∷ 255 ∷ 255 ∷ 255 ∷ 255 ∷ 81 ∷ 3 ∷ 0 ∷ 0 ∷
+    0 ∷ 0 ∷ 0 ∷ 0 ∷ 48 ∷ 0 ∷ 0 ∷ 0 ∷ 0 ∷ 0 ∷ 0 ∷ 0 ∷ 218 ∷ 234 ∷ 252 ∷ 10 ∷
+    79 ∷ 72 ∷ 68 ∷ 82 ∷ 2 ∷ 0 ∷ 47 ∷ 2 ∷ 18 ∷ 0 ∷ 0 ∷ 0 ∷ 0 ∷ [])
+    ++ replicate 16 255
+    ++ (10 ∷ 2 ∷ 0 ∷ 0 ∷ 0 ∷ 0 ∷ 6 ∷ 15 ∷ 0 ∷ 0 ∷ 1 ∷ 0 ∷ 4 ∷ 100 ∷ 97 ∷ 116 ∷
+    97 ∷ 106 ∷ 0 ∷ 0 ∷ 0 ∷ 0 ∷ 0 ∷ 0 ∷ 0 ∷ 226 ∷ 193 ∷ 120 ∷ 148 ∷ 79 ∷ 72 ∷ 68 ∷
+    82 ∷ 2 ∷ 0 ∷ 71 ∷ 1 ∷ 20 ∷ 0 ∷ 0 ∷ 2 ∷ 1 ∷ 1 ∷ 1 ∷ 53 ∷ 0 ∷ 0 ∷ 0 ∷
+    0 ∷ 0 ∷ 0 ∷ 0 ∷ 255 ∷ 255 ∷ 255 ∷ 255 ∷ 255 ∷ 255 ∷ 255 ∷ 255 ∷ 3 ∷ 12 ∷ 0 ∷ 0 ∷
+    48 ∷ 8 ∷ 0 ∷ 0 ∷ 1 ∷ 0 ∷ 0 ∷ 0 ∷ 0 ∷ 0 ∷ 8 ∷ 0 ∷ 5 ∷ 2 ∷ 0 ∷ 0 ∷
+    3 ∷ 11 ∷ 8 ∷ 21 ∷ 0 ∷ 0 ∷ 4 ∷ 2 ∷ 0 ∷ 2 ∷ 1 ∷ 1 ∷ 1 ∷ 4 ∷ 32 ∷ 4 ∷
+    4 ∷ 16 ∷ 10 ∷ 200 ∷ 0 ∷ 0 ∷ 0 ∷ 0 ∷ 0 ∷ 0 ∷ 0 ∷ 180 ∷ 242 ∷ 119 ∷ 138 ∷ [])
+    ++ replicate 12 0
+    ++ (69 ∷ 65 ∷ 72 ∷ 68 ∷ 0 ∷ 0 ∷ 8 ∷ 32 ∷ 4 ∷ 16 ∷ 4 ∷ 10 ∷ [])
+    ++ replicate 48 0
+    ++ (16 ∷ 1 ∷ 0 ∷ 0 ∷ 0 ∷ 0 ∷ 0 ∷ 0 ∷ 242 ∷ 54 ∷ 236 ∷ 168 ∷ 69 ∷ 65 ∷ 73 ∷ 66 ∷
+    0 ∷ 0 ∷ 200 ∷ 0 ∷ 0 ∷ 0 ∷ 0 ∷ 0 ∷ 0 ∷ 0 ∷ [])
+    ++ replicate 48 255
+    ++ (58 ∷ 2 ∷ 0 ∷ 0 ∷ 0 ∷ 0 ∷ 0 ∷ 0 ∷ [])
+    ++ replicate 224 255
+    ++ (172 ∷ 25 ∷ 146 ∷ 45 ∷ 69 ∷ 65 ∷ 68 ∷ 66 ∷ 0 ∷ 0 ∷ 200 ∷ [])
+    ++ replicate 11 0
+    ++ (80 ∷ 3 ∷ 0 ∷ 0 ∷ 0 ∷ 0 ∷ 0 ∷ 0 ∷ [])
+    ++ replicate 248 255
+    ++ (107 ∷ 226 ∷ 15 ∷ 157 ∷ 7 ∷ [])
+
+abbrev pub older_superblock_reading : Reading
+older_superblock_reading = record { place = 106; dataset = line 53 1 signed_byte None 200 13; table = replicate 52 undefined ++ 848 ∷ [] }

@@ -65,6 +65,15 @@ grid rows columns chunk_rows chunk_columns type fill address = record {
   layout = record { chunk_rows = chunk_rows; chunk_cols = chunk_columns; index = Tree; address = address; place = 15 };
 }
 
+-- rows of fixed columns, in chunks of rows and columns, and an array
+abbrev pub fixed : ℕ → ℕ → ℕ → ℕ → IntTypeFields → Option (List ℕ) → ℕ → ℕ → Described
+fixed rows columns chunk_rows chunk_columns type fill address place = record {
+  shape = record { rank = 2; rows = rows; cols = columns; growing = false };
+  int_type = type;
+  fill = record { value = fill };
+  layout = record { chunk_rows = chunk_rows; chunk_cols = chunk_columns; index = Array; address = address; place = place };
+}
+
 -- rows, chunks, blocks, end and lost bytes
 abbrev pub summary_as : ℕ → ℕ → ℕ → ℕ → ℕ → Summary
 summary_as rows chunks blocks end lost = record { rows = rows; chunks = chunks; blocks = blocks; end = end; lost = lost }

@@ -12,7 +12,7 @@ ghost use Rattle.h5w_vectors.specs.Readings.{IsFoundFile, IsRefusedFile};
 /// wrong sum.
 pub fn damaged_blocks()
     ensures seven_bytes { IsRefusedFile seven_bytes_file NotHdf5 (found not_hdf5 0) }
-    ensures other_version { IsRefusedFile other_version_file (Super (super_errors.Version 2)) (found bad_superblock 0) }
+    ensures other_version { IsRefusedFile other_version_file (Super (super_errors.Version 1)) (found bad_superblock 0) }
     ensures bad_superblock { IsRefusedFile bad_superblock_file (Damaged 0 (Sum (record { stored = 478709244; computed = 478709245 }))) (found superblock_sum 0) }
     ensures bad_root_header { IsRefusedFile bad_root_header_file (Damaged 48 (Sum (record { stored = 2490941922; computed = 1171340080 }))) (found bad_root 48) }
     ensures bad_dataset_header { IsRefusedFile bad_dataset_header_file (Damaged 106 (Sum (record { stored = 2323116724; computed = 3173452191 }))) (found bad_dataset_header 106) }

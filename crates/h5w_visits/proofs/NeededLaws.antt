@@ -6,24 +6,20 @@ use Rattle.h5w_model.specs.Numbers.{undefined}
 use Rattle.h5w_model.specs.Images.{apply}
 use Rattle.h5w_model.specs.Programs.{Prog, ret, eval, and_then}
 use Rattle.h5w_model.specs.Datasets.{Described, then_also}
-use Rattle.h5w_model.specs.Tables.{InPlace, in_place, address_behind, each_of, table_of, bands, chunks_across, needed_keys}
+use Rattle.h5w_model.specs.Tables.{InPlace, in_place, address_behind, each_of, table_of, needed_keys}
 use Rattle.h5w_model.specs.Findings.{Used, chunk_bytes}
 use Rattle.h5w_model.specs.declared.cell.Key.{Key}
 use Rattle.h5w_model.specs.declared.refusal.ReadError.{ReadError}
 use Rattle.h5w_laws.proofs.ProgramLemmas.{eval_and_then}
 use Rattle.h5w_laws.proofs.ResultLemmas.{and_then_ok, and_then_from}
-use Rattle.h5w_laws.proofs.ValidLemmas.{InGrid, needed_grid, named_in_grid}
+use Rattle.h5w_laws.proofs.ValidLemmas.{needed_reached}
 use Rattle.h5w_visits.specs.Ranges.{Among, chunk_at}
 use Rattle.h5w_visits.specs.Indexes.{IsNamed, IsIndex, IsAnswered}
 use Rattle.h5w_visits.specs.Needed.{AreFew, NeededNamed, HasTable, TableLaws}
 use Rattle.h5w_visits.proofs.IndexLaws.{index_missed}
 
-pub all_named : (d : Described) (ks : List Key) → AreFew d → AllByRecursion (InGrid (bands d) (chunks_across d)) ks → AllByRecursion (IsNamed d) ks
-all_named d [] few h = tt
-all_named d (k ∷ ks) few h = (named_in_grid d k few h.0, all_named d ks few h.1)
-
 pub needed_named : NeededNamed
-needed_named d few = all_named d (needed_keys d) few (needed_grid d)
+needed_named d few = needed_reached d few
 
 -- ---- A program for each key
 

@@ -1,18 +1,18 @@
--- By what a file is created: --type T --chunk R [--columns M --width C] [--fill V] [--name N] [--limit B]
-use Rattle.std.specs.Prelude.{ℕ, ◌*◌, ◌^◌, true, false, nat_lt, if◌then◌else◌, List, Option, Some, None, option_map, option_and_then, codes, ℤ}
+-- By what a file is created: --type T --chunk R [--columns M --width C [--fixed]] [--fill V] [--name N] [--limit B]
+use Rattle.std.specs.Prelude.{ℕ, ◌*◌, ◌^◌, Bool, true, false, nat_le, nat_lt, if◌then◌else◌, List, Option, Some, None, option_map, option_and_then, codes, ℤ}
 use Rattle.clap.specs.Words.{App, Row, Text, first_of, with_rule}
 use Rattle.h5w_options.specs.Options.{width_in}
 use Rattle.h5w_options.specs.declared.options.Options.{Options}
 use Rattle.h5w_types.specs.Fields.{int_type_of}
 use Rattle.h5w_types.specs.declared.int_type.IntType.{IntType}
-use Rattle.h5w_words.specs.Arguments.{count_given, count_or, name_or, option_rule}
+use Rattle.h5w_words.specs.Arguments.{count_given, count_or, flag_rule, is_given, name_or, option_rule}
 use Rattle.h5w_words.specs.Types.{fill_given, type_named}
 
 -- a command with the arguments that a file is created by
 abbrev pub with_creation : App → App
 with_creation app =
-    with_rule (with_rule (with_rule (with_rule (with_rule (with_rule (with_rule app (option_rule (codes "type") true)) (option_rule (codes "chunk") true)) (option_rule (codes "columns") false))
-    (option_rule (codes "width") false)) (option_rule (codes "fill") false)) (option_rule (codes "name") false)) (option_rule (codes "limit") false)
+    with_rule (with_rule (with_rule (with_rule (with_rule (with_rule (with_rule (with_rule app (option_rule (codes "type") true)) (option_rule (codes "chunk") true)) (option_rule (codes "columns") false))
+    (option_rule (codes "width") false)) (flag_rule (codes "fixed"))) (option_rule (codes "fill") false)) (option_rule (codes "name") false)) (option_rule (codes "limit") false)
 
 -- the type of the integers
 abbrev pub type_of : List Row → Option IntType
@@ -31,6 +31,19 @@ columns_by (Some columns) (Some width) = option_and_then (λ m. option_map (λ c
 
 abbrev pub columns_of : List Row → Option (Option (ℕ × ℕ))
 columns_of rows = columns_by (first_of (codes "columns") rows) (first_of (codes "width") rows)
+
+-- columns that are fixed are those of a chunk at least; without columns none are
+abbrev pub may_be_fixed : Option (ℕ × ℕ) → Bool
+may_be_fixed None = false
+may_be_fixed (Some x) = nat_le x.1 x.0
+
+abbrev pub fixed_by : Bool → Option (ℕ × ℕ) → Option Bool
+fixed_by false columns = Some false
+fixed_by true columns = if may_be_fixed columns then Some true else None
+
+-- whether the columns are fixed: the dataset grows in its rows alone
+abbrev pub fixed_of : List Row → Option (ℕ × ℕ) → Option Bool
+fixed_of rows columns = fixed_by (is_given (first_of (codes "fixed") rows)) columns
 
 -- the dataset's name; where none is given, data
 abbrev pub name_of : List Row → Option Text
@@ -51,8 +64,9 @@ of_chunks o = if nat_lt 16777216 (o.chunk_rows * width_in o.columns * o.int_type
 -- the options of a file whose dataset has this name and type
 abbrev pub named_options : List Row → Text → IntType → Option Options
 named_options rows name t =
-    option_and_then (λ chunk_rows. option_and_then (λ columns. option_and_then (λ fill. option_and_then (λ limit.
-    of_chunks (record { name = name; int_type = t; chunk_rows = chunk_rows; columns = columns; fill = fill; limit = limit })) (limit_of rows)) (fill_of rows t)) (columns_of rows)) (chunk_rows_of rows)
+    option_and_then (λ chunk_rows. option_and_then (λ columns. option_and_then (λ fixed. option_and_then (λ fill. option_and_then (λ limit.
+    of_chunks (record { name = name; int_type = t; chunk_rows = chunk_rows; columns = columns; fixed = fixed; fill = fill; limit = limit }))
+    (limit_of rows)) (fill_of rows t)) (fixed_of rows columns)) (columns_of rows)) (chunk_rows_of rows)
 
 -- the options of a file that is created
 abbrev pub options_of : List Row → Option Options

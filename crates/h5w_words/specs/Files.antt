@@ -1,4 +1,4 @@
--- The commands on files: new FILE OPTS, OPTS being what a file is created by, check FILE [--name N], poll FILE [--name N] [--times T] [--attempts A] [--values], clear FILE
+-- The commands on files: new FILE OPTS, OPTS being what a file is created by, check FILE [--name N], poll FILE [--name N] [--times T] [--attempts A] [--values], clear FILE [--upgrade]
 use Rattle.std.specs.Prelude.{ℕ, false, List, Option, option_map, option_and_then, codes}
 use Rattle.clap.specs.Words.{App, Row, Text, first_of, new_app, with_rule}
 use Rattle.h5w_words.specs.Arguments.{count_or, flag_rule, is_given, link_name_or, option_rule, word_rule}
@@ -19,7 +19,7 @@ poll_app =
     (option_rule (codes "times") false)) (option_rule (codes "attempts") false)) (flag_rule (codes "values"))
 
 abbrev pub clear_app : App
-clear_app = with_rule (new_app (codes "clear")) (word_rule (codes "FILE"))
+clear_app = with_rule (with_rule (new_app (codes "clear")) (word_rule (codes "FILE"))) (flag_rule (codes "upgrade"))
 
 -- the name of the file
 abbrev pub file_of : List Row → Option Text
@@ -48,4 +48,4 @@ abbrev pub poll_of : List Row → Option Job
 poll_of rows = option_and_then (λ file. option_and_then (poll_numbers_of rows file) (link_name_of rows)) (file_of rows)
 
 abbrev pub clear_of : List Row → Option Job
-clear_of rows = option_map Clear (file_of rows)
+clear_of rows = option_map (λ file. Clear file (is_given (first_of (codes "upgrade") rows))) (file_of rows)

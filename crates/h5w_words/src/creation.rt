@@ -1,17 +1,17 @@
 //! By what a file is created.
-ghost use Rattle.std.specs.Prelude.{◌≡◌, ◌*◌, ◌≤◌, ◌⊎◌, None, Some, IfErr, IfOk, IfSome, length};
+ghost use Rattle.std.specs.Prelude.{◌≡◌, ◌*◌, ◌≤◌, ◌⊎◌, None, Some, IfErr, IfOk, IfSome, IsSome, IsTrue, length};
 ghost use Rattle.h5w_model.specs.Messages.{IsIntType};
-ghost use Rattle.h5w_options.specs.Options.{AreColumns, AreOptions, width_in};
+ghost use Rattle.h5w_options.specs.Options.{AreColumns, AreOptions, columns_in, width_in};
 ghost use Rattle.h5w_types.specs.Fields.{int_type_of};
 ghost use Rattle.clap.specs.Words.{app_of, found_of, rows_of};
 ghost use Rattle.h5w_words.specs.Arguments.{has_globals};
-ghost use Rattle.h5w_words.specs.Creation.{columns_of, named_options, options_of, type_of, with_creation};
+ghost use Rattle.h5w_words.specs.Creation.{columns_of, fixed_of, named_options, options_of, type_of, with_creation};
 
-use crate::arguments::Argument::{Needed, Optional};
+use crate::arguments::Argument::{Flag, Needed, Optional};
 use crate::arguments::with_arguments;
 use crate::job::WordsError;
 use crate::types::{fill_given, type_named};
-use crate::values::{count, limit_given, name_or, text};
+use crate::values::{count, is_given, limit_given, name_or, text};
 use clap::{ArgMatches, Command};
 use h5w_model::Bytes;
 use h5w_options::{IntType, Options};
@@ -36,6 +36,7 @@ pub fn creation<'a>(alloc: Global, command: Command<'a>) -> Result<Command<'a>, 
             Needed("chunk"),
             Optional("columns"),
             Optional("width"),
+            Flag("fixed"),
             Optional("fill"),
             Optional("name"),
             Optional("limit"),
@@ -63,6 +64,20 @@ fn columns_given(options: &ArgMatches<'_>) -> Option<Option<(u64, u64)>>
             let width = count(options, "width", 1, SIDE)?;
             Some(Some((columns, width)))
         }
+        _ => None,
+    }
+}
+
+/// Whether the columns are fixed; None where they are said to be, and are not given or are fewer than those of a chunk.
+fn fixed_given(options: &ArgMatches<'_>, columns: Option<(u64, u64)>) -> Option<bool>
+    ensures fixed { result ≡ fixed_of (rows_of (found_of options.now)) columns }
+    ensures limits { IfSome result (λ fixed. IsTrue fixed → IsSome columns × (width_in columns ≤ columns_in columns)) }
+{
+    if !is_given(options, "fixed") {
+        return Some(false);
+    }
+    match columns {
+        Some((columns, width)) if width <= columns => Some(true),
         _ => None,
     }
 }
@@ -96,6 +111,7 @@ fn numbers_given(
 {
     let chunk_rows = count(options, "chunk", 1, SIDE).ok_or(WordsError::Usage)?;
     let columns = columns_given(options).ok_or(WordsError::Usage)?;
+    let fixed = fixed_given(options, columns).ok_or(WordsError::Usage)?;
     let fill = fill_given(text(options, "fill"), &int_type).ok_or(WordsError::Usage)?;
     let limit = limit_given(options).ok_or(WordsError::Usage)?;
     let options = Options {
@@ -103,6 +119,7 @@ fn numbers_given(
         int_type,
         chunk_rows,
         columns,
+        fixed,
         fill,
         limit,
     };

@@ -53,13 +53,13 @@ pub fn poll<'a>(alloc: Global) -> Result<Command<'a>, AllocError>
     )
 }
 
-/// The command that clears the flags of writers, with its argument.
+/// The command that clears the flags of writers, with its arguments.
 pub fn clear<'a>(alloc: Global) -> Result<Command<'a>, AllocError>
     ensures shape { IfOk result (λ c. app_of c ≡ clear_app) }
     ensures local { IfOk result (λ c. has_globals c ≡ false) }
 {
     let command = Command::new(alloc, "clear");
-    with_arguments(alloc, command, &[Word("FILE")])
+    with_arguments(alloc, command, &[Word("FILE"), Flag("upgrade")])
 }
 
 /// The name of the file, which is a word of the command.
@@ -137,7 +137,7 @@ pub fn poll_job(alloc: Global, options: &ArgMatches<'_>) -> Result<Job, WordsErr
     poll_named(options, file, name)
 }
 
-/// The clearing that the argument asks for; `Usage` where it is outside the command set.
+/// The clearing that the arguments ask for; `Usage` where they are outside the command set.
 pub fn clear_job(alloc: Global, options: &ArgMatches<'_>) -> Result<Job, WordsError>
     ensures ok { IfOk result (λ job. clear_of (rows_of (found_of options.now)) ≡ Some job) }
     ensures usage { IfErr result (λ e. (e ≡ WordsError.OutOfMemory) ⊎ (clear_of (rows_of (found_of options.now)) ≡ None)) }
@@ -145,5 +145,6 @@ pub fn clear_job(alloc: Global, options: &ArgMatches<'_>) -> Result<Job, WordsEr
 {
     Ok(Job::Clear {
         file: file_given(alloc, options)?,
+        upgrade: is_given(options, "upgrade"),
     })
 }

@@ -46,6 +46,8 @@ pub enum Job {
     Clear {
         /// The name of the file.
         file: FileName,
+        /// Whether a superblock of version 2 becomes one of version 3.
+        upgrade: bool,
     },
     /// Makes a file in memory of a generator's values.
     Make {

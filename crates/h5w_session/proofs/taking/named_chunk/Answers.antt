@@ -10,7 +10,8 @@ use Rattle.h5w_index.specs.Held.{view_of}
 use Rattle.h5w_index.specs.Views.{IsReached, address_in}
 use Rattle.h5w_index.specs.Placing.{next_key}
 use Rattle.h5w_index.proofs.PlacingLemmas.{placing_laws}
-use Rattle.h5w_session.proofs.AloneLemmas.{alone_is, alone_key, on_none, touched_alone}
+use Rattle.h5w_session.specs.Flushes.{first_place}
+use Rattle.h5w_session.proofs.AloneLemmas.{alone_band, alone_is, alone_key, on_none, touched_alone}
 use Rattle.h5w_session.proofs.TakingLemmas.{found_none, found_some, next_in, not_less}
 use Rattle.h5w_session.proofs.taking.named_chunk.Goals as goal
 use Rattle.h5w_session.proofs.taking.named_chunk.Goals.{then-to-first-via-then-to-first, then-to-first-via-else-to-first+then-grid-eq0, then-to-first-via-else-to-first+else-grid-eq0+then-grid-columns}
@@ -21,7 +22,7 @@ get-requires-clause-key c =
     let cut = is_cut c.args.grid.now c.requires.grid in
     let key : Key = record { i = d.shape.rows / d.layout.chunk_rows; j = 0 } in
     let one : touched d d.shape.rows c.args.to ≡ 1 = touched_alone d d.shape.rows c.args.to cut c.requires.order (omega arith) (omega arith) (omega arith) in
-    let next = next_in d c.args.to 0 1 key [] cut (sym one) (omega arith) refl (sym (alone_key d d.shape.rows c.args.to one)) in
+    let next = next_in d c.args.to 0 1 key (d.shape.rows / d.layout.chunk_rows) [] cut (sym one) (omega arith) refl (sym (alone_key d d.shape.rows c.args.to one)) (sym (alone_band d d.shape.rows c.args.to one)) in
     c.requires.takes key next.row
 
 -- rows that go into more chunks than one, or into none
@@ -59,8 +60,10 @@ returns-clause-exact c =
     let key : Key = record { i = d.shape.rows / d.layout.chunk_rows; j = 0 } in
     let one : touched d d.shape.rows c.args.to ≡ 1 = touched_alone d d.shape.rows c.args.to (is_cut c.args.grid.now c.requires.grid) c.requires.order (omega arith) (omega arith) (omega arith) in
     let there = found_some (address_in v key) c.in_ok-address.address (sym c.get.ensures ∙ c.in_ok-address.was) in
-    let put : ℕ → Key → ChunkPlace = λ a k. record { address = a; stored = nat_lt (k.i * d.layout.chunk_rows) d.shape.rows } in
-    ap (λ (a : ℕ). put a key) (sym there.0) ∙ ap (λ (k : Key). put (address_in v k) k) (sym (alone_key d d.shape.rows c.args.to one))
+    let put : ℕ → ℕ → ChunkPlace = λ a band. record { address = a; stored = nat_lt (band * d.layout.chunk_rows) d.shape.rows } in
+    ap (λ (a : ℕ). put a key.i) (sym there.0)
+    ∙ ap (λ (k : Key). put (address_in v k) key.i) (sym (alone_key d d.shape.rows c.args.to one))
+    ∙ ap (put (first_place d v).address) (sym (alone_band d d.shape.rows c.args.to one))
 
 pub returns-clause-placed : goal.returns-clause-placed
 returns-clause-placed c s within =
@@ -76,7 +79,7 @@ returns-clause-placed c s within =
     let named : address_in v (next_key d []) ≡ p.address = ap (address_in v) (sym number) ∙ there.0 in
     let none = placing_laws.none d c.args.to v s s c.requires.sound refl refl refl refl in
     placing_laws.stored d c.args.to v v s s [] [] p c.requires.fits named defined
-    (λ fresh. subst (λ (k : Key). d.shape.rows ≤ k.i * d.layout.chunk_rows) number (not_less (key.i * d.layout.chunk_rows) d.shape.rows fresh))
+    (λ fresh. subst (λ (n : ℕ). d.shape.rows ≤ n * d.layout.chunk_rows) (sym (alone_band d d.shape.rows c.args.to one)) (not_less (key.i * d.layout.chunk_rows) d.shape.rows fresh))
     (subst (IsReached v) number (c.is_reached.ensures.exact.0 c.if-not-is_reached.false)) within none
 
 pub returns-clause-all : goal.returns-clause-all

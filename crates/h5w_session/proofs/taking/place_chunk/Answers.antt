@@ -1,4 +1,4 @@
-use Rattle.std.proofs.Common.{◌≡◌, ◌≢◌, ◌*◌, ◌≤◌, nat_lt, List, length, sym, ◌∙◌, subst, ap}
+use Rattle.std.proofs.Common.{◌≡◌, ◌≢◌, ℕ, ◌*◌, ◌≤◌, nat_lt, List, length, sym, ◌∙◌, subst, ap}
 use Rattle.h5w_model.specs.Numbers.{undefined}
 use Rattle.h5w_model.specs.declared.cell.Key.{Key}
 use Rattle.h5w_chunks.specs.Grids.{dataset_of}
@@ -22,15 +22,15 @@ returns-in_err-keep-clause-partly c =
     placing_laws.held (dataset_of c.args.grid.now) to c.args.key v (view_of c.args.index.now) (view_of c.reach.new.self) c.args.taking.now.added.items touches c.reach.ensures.held x)
 
 pub returns-in_err-keep-clause-within : goal.returns-in_err-keep-clause-within
-returns-in_err-keep-clause-within c bands across row column x =
-    depth_laws.held bands across c.args.key (view_of c.args.index.now) (view_of c.reach.new.self) c.requires.sound row column c.reach.ensures.held x
+returns-in_err-keep-clause-within c lines across row column x =
+    depth_laws.held lines across c.args.key (view_of c.args.index.now) (view_of c.reach.new.self) c.requires.sound row column c.reach.ensures.held x
 
 pub returns-in-Some-clause-within : goal.returns-in-Some-clause-within
-returns-in-Some-clause-within c bands across row column x =
-    depth_laws.held bands across c.args.key (view_of c.args.index.now) (view_of c.reach.new.self) c.requires.sound row column c.reach.ensures.held x
+returns-in-Some-clause-within c lines across row column x =
+    depth_laws.held lines across c.args.key (view_of c.args.index.now) (view_of c.reach.new.self) c.requires.sound row column c.reach.ensures.held x
 
 pub returns-in-Some-clause-placed : goal.returns-in-Some-clause-placed
-returns-in-Some-clause-placed c to v s fits within number inside x =
+returns-in-Some-clause-placed c to v s fits within number band inside x =
     let d = dataset_of c.args.grid.now in
     let w = view_of c.args.index.now in
     let u = view_of c.reach.new.self in
@@ -38,7 +38,7 @@ returns-in-Some-clause-placed c to v s fits within number inside x =
     let t = c.args.taking.now.places in
     let chunks = c.args.taking.now.chunks.items in
     let added = c.args.taking.now.added.items in
-    let p : ChunkPlace = record { address = c.in-Some.address; stored = nat_lt (key.i * c.args.grid.now.layout.chunk.0) c.args.grid.now.shape.rows } in
+    let p : ChunkPlace = record { address = c.in-Some.address; stored = nat_lt (c.args.band * c.args.grid.now.layout.chunk.0) c.args.grid.now.shape.rows } in
     let there = found_some (address_in w key) p.address (sym c.get.ensures ∙ c.in-Some.is) in
     let defined : p.address ≢ undefined = λ e. there.1 (there.0 ∙ e) in
     let held = held_tells key w u c.requires.sound c.reach.ensures.held in
@@ -47,14 +47,14 @@ returns-in-Some-clause-placed c to v s fits within number inside x =
     let now : IsPlacing d to v s chunks added u t = placing_laws.holds d to key v w u s t chunks added touches c.reach.ensures.held x in
     subst (λ (ps : List ChunkPlace). IsPlacing d to v s ps added u t) (sym c.in_ok-keep.ensures.added)
     (placing_laws.stored d to v u s t chunks added p fits named defined
-    (λ fresh. subst (λ (k : Key). d.shape.rows ≤ k.i * d.layout.chunk_rows) number (not_less (key.i * d.layout.chunk_rows) d.shape.rows fresh))
+    (λ fresh. subst (λ (n : ℕ). d.shape.rows ≤ n * d.layout.chunk_rows) band (not_less (c.args.band * d.layout.chunk_rows) d.shape.rows fresh))
     (subst (IsReached u) number c.reach.ensures.reached) within now)
 
 pub place_new-requires-clause-absent : goal.place_new-requires-clause-absent
 place_new-requires-clause-absent c = found_none (address_in (view_of c.args.index.now) c.args.key) (sym c.get.ensures ∙ c.in_default.is)
 
 pub returns-clause-placed : goal.returns-clause-placed
-returns-clause-placed c = map_ok c.place_new.result (λ f to v s fits within number inside x. f to v s fits number inside x) c.place_new.ensures.placed
+returns-clause-placed c = map_ok c.place_new.result (λ f to v s fits within number band inside x. f to v s fits number inside x) c.place_new.ensures.placed
 
 pub returns-clause-full : goal.returns-clause-full
 returns-clause-full c full is = (found_none (address_in (view_of c.args.index.now) c.args.key) (sym c.get.ensures ∙ c.in_default.is), c.place_new.ensures.full full is)

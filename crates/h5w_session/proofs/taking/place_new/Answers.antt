@@ -61,28 +61,28 @@ returns-in_err-keep-2-clause-partly c =
     (placing_laws.held (dataset_of c.args.grid.now) to c.args.key v (view_of c.args.index.now) (view_of c.hold.new.self) c.args.taking.now.added.items touches c.hold.ensures.held x))
 
 pub returns-in_err-hold-clause-within : goal.returns-in_err-hold-clause-within
-returns-in_err-hold-clause-within c bands across row column x =
-    depth_laws.held bands across c.args.key (view_of c.args.index.now) (view_of c.hold.new.self) c.requires.sound row column c.hold.ensures.held x
+returns-in_err-hold-clause-within c lines across row column x =
+    depth_laws.held lines across c.args.key (view_of c.args.index.now) (view_of c.hold.new.self) c.requires.sound row column c.hold.ensures.held x
 
 pub returns-in_err-address-clause-within : goal.returns-in_err-address-clause-within
-returns-in_err-address-clause-within c bands across row column x =
-    depth_laws.held bands across c.args.key (view_of c.args.index.now) (view_of c.hold.new.self) c.requires.sound row column c.hold.ensures.held x
+returns-in_err-address-clause-within c lines across row column x =
+    depth_laws.held lines across c.args.key (view_of c.args.index.now) (view_of c.hold.new.self) c.requires.sound row column c.hold.ensures.held x
 
 pub returns-in_err-keep-clause-within : goal.returns-in_err-keep-clause-within
-returns-in_err-keep-clause-within c bands across row column x =
-    depth_laws.held bands across c.args.key (view_of c.args.index.now) (view_of c.hold.new.self) c.requires.sound row column c.hold.ensures.held x
+returns-in_err-keep-clause-within c lines across row column x =
+    depth_laws.held lines across c.args.key (view_of c.args.index.now) (view_of c.hold.new.self) c.requires.sound row column c.hold.ensures.held x
 
 pub returns-in_err-keep-2-clause-within : goal.returns-in_err-keep-2-clause-within
-returns-in_err-keep-2-clause-within c bands across row column x =
-    depth_laws.held bands across c.args.key (view_of c.args.index.now) (view_of c.hold.new.self) c.requires.sound row column c.hold.ensures.held x
+returns-in_err-keep-2-clause-within c lines across row column x =
+    depth_laws.held lines across c.args.key (view_of c.args.index.now) (view_of c.hold.new.self) c.requires.sound row column c.hold.ensures.held x
 
 pub returns-clause-within : goal.returns-clause-within
-returns-clause-within c bands across row column x =
+returns-clause-within c lines across row column x =
     let w = view_of c.args.index.now in
     let h = view_of c.hold.new.self in
     let u = view_of c.set.new.self in
-    depth_laws.set bands across c.args.key c.in_ok-address.address h u c.hold.ensures.sound c.in_ok-hold.ensures.slot c.set.ensures.set
-    (depth_laws.held bands across c.args.key w h c.requires.sound row column c.hold.ensures.held x)
+    depth_laws.set lines across c.args.key c.in_ok-address.address h u c.hold.ensures.sound c.in_ok-hold.ensures.slot c.set.ensures.set
+    (depth_laws.held lines across c.args.key w h c.requires.sound row column c.hold.ensures.held x)
 
 pub returns-clause-placed : goal.returns-clause-placed
 returns-clause-placed c to v s fits number inside x =

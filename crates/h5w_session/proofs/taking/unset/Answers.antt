@@ -26,7 +26,7 @@ unset-requires-clause-slot c =
     All-head (HasSlot (view_of l.index)) (get_or added l.key-index no_key) (drop (l.key-index + 1) added) (subst (λ (xs : List Key). All (HasSlot (view_of l.index)) xs) (next_number added l.key-index c.loop-key-test.true) l.invariant.slots)
 
 pub loop-key-init : goal.loop-key-init
-loop-key-init c = record { sound = c.requires.sound; slots = c.requires.slots; goes = λ d to v p. p; within = λ bands across x. x }
+loop-key-init c = record { sound = c.requires.sound; slots = c.requires.slots; goes = λ d to v p. p; within = λ lines across x. x }
 
 pub loop-key-preserved : goal.loop-key-preserved
 loop-key-preserved c =
@@ -44,7 +44,7 @@ loop-key-preserved c =
       sound = c.unset.ensures.sound;
       slots = All-weaker (HasSlot w) (HasSlot u) told.like.slots rest (All-tail (HasSlot w) x rest here);
       goes = λ d to v p. placing_laws.unset d to x v w u rest c.unset.ensures.unset (subst (λ (xs : List Key). IsPartly d to v xs w) split (l.invariant.goes d to v p));
-      within = λ bands across y. depth_laws.unset bands across x w u l.invariant.sound slot c.unset.ensures.unset (l.invariant.within bands across y);
+      within = λ lines across y. depth_laws.unset lines across x w u l.invariant.sound slot c.unset.ensures.unset (l.invariant.within lines across y);
     }
 
 pub returns-clause-sound : goal.returns-clause-sound

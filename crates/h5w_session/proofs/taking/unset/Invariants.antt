@@ -12,5 +12,5 @@ invariant-loop-key l = record {
   sound : IsSound (view_of l.index);
   slots : All (HasSlot (view_of l.index)) (drop l.key-index l.added);
   goes : (d : Described) (to : ℕ) (v : IndexView) → IsPartly d to v l.added (view_of l.initial.index) → IsPartly d to v (drop l.key-index l.added) (view_of l.index);
-  within : (bands across : ℕ) → AreWithin bands across (view_of l.initial.index) → AreWithin bands across (view_of l.index);
+  within : (lines across : ℕ) → AreWithin lines across (view_of l.initial.index) → AreWithin lines across (view_of l.index);
 }

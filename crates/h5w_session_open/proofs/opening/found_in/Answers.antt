@@ -2,7 +2,7 @@ use Rattle.std.proofs.Common.{◌≡◌, Ok, Err, rules}
 use Rattle.h5w_opening.specs.Views.{opened_of}
 use Rattle.h5w_session_open.specs.OpenAnswers.{unfound}
 use Rattle.h5w_session_open.proofs.OpenStepLemmas.{bad_index, found_good, not_opened, ran_step, step_both, step_stop, step_then_stop}
-use Rattle.h5w_session_open.proofs.SessionOver.{open_below}
+use Rattle.h5w_session_open.proofs.SessionOver.{known_says}
 use Rattle.h5w_session_open.proofs.opening.found_in.Goals as goal
 
 pub returns-in_err-found-clause-step : goal.returns-in_err-found-clause-step
@@ -13,7 +13,7 @@ returns-in_err-found-clause-step g c =
     rw is (step_stop (found_good a.size a.name.now) (not_opened a.size a.name.now) e (ran_step a.size a.name.now (Err e) c.in_err-found.ensures.ran c.in_err-found.ensures.kinds) (λ img f h. unfound f h))
 
 pub index_of-requires : goal.index_of-requires
-index_of-requires g c = record { few = λ kind. open_below (opened_of c.in_ok-found.found).header c.in_ok-found.ensures.found.said kind }
+index_of-requires g c = record { few = (known_says (opened_of c.in_ok-found.found).header c.in_ok-found.ensures.found.said).few }
 
 pub returns-in_err-index-clause-step : goal.returns-in_err-index-clause-step
 returns-in_err-index-clause-step g c =

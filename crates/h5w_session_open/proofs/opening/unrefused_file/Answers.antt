@@ -4,8 +4,11 @@ use Rattle.h5w_index.specs.Held.{view_of}
 use Rattle.h5w_opening.specs.Views.{opened_of}
 use Rattle.h5w_session_open.proofs.OpenStepLemmas.{file_good, file_is, first_quiet, not_opened, refused_file, step_both, step_refused, step_then_stop, writable_front}
 use Rattle.h5w_session_open.specs.OpenSteps.{IsKeptHeader, front_of}
-use Rattle.h5w_session_open.proofs.SessionOver.{ready_index}
+use Rattle.h5w_session_open.proofs.SessionOver.{known_says, ready_index}
 use Rattle.h5w_session_open.proofs.opening.unrefused_file.Goals as goal
+
+pub unrefused-requires-clause-few : goal.unrefused-requires-clause-few
+unrefused-requires-clause-few g c = (known_says (opened_of c.in_ok-found.found).header c.in_ok-found.ensures.found.said).few
 
 pub returns-in_err-index-clause-step : goal.returns-in_err-index-clause-step
 returns-in_err-index-clause-step g c =

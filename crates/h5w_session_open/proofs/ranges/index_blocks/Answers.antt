@@ -8,5 +8,5 @@ use Rattle.h5w_index.specs.declared.index.Index.{Index as HeldIndex}
 use Rattle.h5w_session_open.specs.OpenSteps.{IsNamedIndex}
 use Rattle.h5w_session_open.proofs.ranges.index_blocks.Goals as goal
 
-pub tree_blocks-requires : goal.tree_blocks-requires
-tree_blocks-requires c = index_shaped (trees.view_of c.in-Tree.tree) (subst (λ (x : HeldIndex). IsNamedIndex (described_of c.args.d.now) (view_of x)) c.in-Tree.is c.requires).kept
+pub tree_blocks-requires-clause-shaped : goal.tree_blocks-requires-clause-shaped
+tree_blocks-requires-clause-shaped c = index_shaped (trees.view_of c.in-Tree.tree) (subst (λ (x : HeldIndex). IsNamedIndex (described_of c.args.d.now) (view_of x)) c.in-Tree.is c.requires.named).kept

@@ -24,7 +24,7 @@ returns-in-Wait c =
     let less : c.loop-i.i < needed d = omega (arith, c.loop-i-test.true, c.needed-needed.ensures) in
     c.in_ok-wait-in-Wait.ensures g
     ∙ c.in-Wait.ensures (after_found g.place known d e xs)
-    ∙ slots_at g.place known d e (kept c.loop-i.store) c.across-across.result c.loop-i.i xs c.across-across.ensures.exact c.loop-i.invariant.at less
+    ∙ slots_at g.place known d e (kept c.loop-i.store) c.keys_across-across.result c.loop-i.i xs c.keys_across-across.ensures c.loop-i.invariant.at less
     ∙ c.loop-i.invariant.same
 
 pub loop-i-preserved : goal.loop-i-preserved
@@ -42,7 +42,7 @@ loop-i-preserved c =
       at = c.unknown-i-in-loop-i.ensures ∙ ap (unknown_at known) count;
       same = slots_push place known d e (kept c.chunk.new.store) a xs c.push.new.self.items c.in_ok-push.ensures.items
           ∙ c.in-Found.ensures (after_found place known d e xs)
-          ∙ slots_at place known d e (kept c.loop-i.store) c.across-across.result c.loop-i.i xs c.across-across.ensures.exact c.loop-i.invariant.at less
+          ∙ slots_at place known d e (kept c.loop-i.store) c.keys_across-across.result c.loop-i.i xs c.keys_across-across.ensures c.loop-i.invariant.at less
           ∙ c.loop-i.invariant.same;
     }
 
@@ -70,5 +70,5 @@ chunk-requires c =
     let less : c.loop-i.i < needed d = omega (arith, c.loop-i-test.true, c.needed-needed.ensures) in
     record {
       indexed = index_below c.args.self.index (needed d) c.loop-i.i less c.args.self.indexed;
-      some = some_across d c.loop-i.i c.across-across.result less c.across-across.ensures.exact;
+      some = some_across d c.loop-i.i c.keys_across-across.result less c.keys_across-across.ensures;
     }

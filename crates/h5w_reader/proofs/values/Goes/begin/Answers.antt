@@ -1,4 +1,4 @@
-use Rattle.std.proofs.Common.{◌≡◌, ◌<◌, ◌+◌, ◌/◌, ◌∙◌, false, List, Result, Ok, ap, sym, arith}
+use Rattle.std.proofs.Common.{◌≡◌, ◌<◌, ◌+◌, ◌/◌, ◌∙◌, List, Result, Ok, ap, sym, arith}
 use Rattle.std.specs.Prelude.{ℤ}
 use Rattle.h5w_model.specs.Programs.{Prog, ret}
 use Rattle.h5w_model.specs.Calls.{values_call}
@@ -12,16 +12,15 @@ use Rattle.h5w_reader.proofs.GridLemmas.{call_grid}
 use Rattle.h5w_reader.proofs.ReadLemmas.{span_line, none_beside}
 use Rattle.h5w_reader.proofs.values.Goes.begin.Goals as goal
 
-pub returns-then-not-dataset : goal.returns-then-not-dataset
-returns-then-not-dataset c =
+pub returns-then-dataset-eq1 : goal.returns-then-dataset-eq1
+returns-then-dataset-eq1 c =
     let k = c.args.known.now in
     let r = reading_of k in
     let from = c.args.from in
     let some : 0 < c.args.count = omega arith in
-    let line : k.dataset.shape.growing ≡ false = (let z = c.if-not-dataset.true in cc) in
     along (goes k) c.go_on.result _ (values_call r from c.args.count) c.go_on.ensures
     (ap (rows_rest r from (from + c.args.count) (from / k.dataset.layout.chunk.0)) c.new-none.ensures.items
-    ∙ sym (call_line r from c.args.count (span_line k.dataset line) some))
+    ∙ sym (call_line r from c.args.count (span_line k.dataset c.if-dataset-eq1.true) some))
 
 pub returns-then-dataset-eq0 : goal.returns-then-dataset-eq0
 returns-then-dataset-eq0 c =

@@ -1,4 +1,4 @@
-use Rattle.std.proofs.Common.{arith, ◌≡◌, ◌∙◌, [], ◌∷◌, ◌++◌, ap, sym, subst, List, ℕ, Ok}
+use Rattle.std.proofs.Common.{arith, ◌≡◌, ◌∙◌, [], ◌∷◌, ◌++◌, ap, sym, subst, inr, List, ℕ, Ok}
 use Rattle.h5w_model.specs.Superblock.{super_bytes}
 use Rattle.h5w_model.specs.declared.root.Super.{Super}
 use Rattle.h5w_model.specs.declared.piece.Write.{Write}
@@ -8,6 +8,9 @@ use Rattle.h5w_session.proofs.StateLemmas.{closed_is}
 use Rattle.h5w_model.specs.Superblock.{super_at}
 use Rattle.h5w_session.specs.Sessions.{closed_root}
 use Rattle.h5w_session.proofs.state.WriterCore.clear.Goals as goal
+
+pub encode-requires : goal.encode-requires
+encode-requires c = inr c.self.invariant.0.version
 
 -- the one piece that is pending
 planned : (c : goal.After-self-3-1) → c.push_reserved.new.self.items ≡ record { at = 0; piece = super_bytes (record (c.self.inside.root) { flags = c.cleared-self-inside.result }) } ∷ []

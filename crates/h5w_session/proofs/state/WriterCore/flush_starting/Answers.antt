@@ -1,9 +1,9 @@
 use Rattle.std.proofs.Common.{◌≡◌, ◌<◌, ◌-◌, ◌*◌, ◌^◌, ◌∙◌, ℕ, Err, length, drop, ap, sym, subst, arith, rules}
-use Rattle.h5w_model.specs.Tables.{chunks_across}
+use Rattle.h5w_model.specs.Tables.{keys_across}
 use Rattle.h5w_model.proofs.IntegerLemmas.{int_size_bounds}
 use Rattle.h5w_chunks.specs.Grids.{dataset_of}
 use Rattle.h5w_index.specs.Held.{view_of}
-use Rattle.h5w_session.specs.Sessions.{IsSession, IsUnmade, Session, most_bands, option_list, rows_of}
+use Rattle.h5w_session.specs.Sessions.{IsSession, IsUnmade, Session, most_lines, option_list, rows_of}
 use Rattle.h5w_session.proofs.CarriedLemmas.{asks_for, has_rows, one_at_most, same_error, values_few}
 use Rattle.h5w_session.proofs.StartCarriedLemmas.{AsksOfMade, StartCarried, asks_of_made, asks_of_start, lengths_first, start_carried_flushed, start_carried_is, start_carried_pieces, start_unfilled, start_unplaced}
 use Rattle.h5w_index.proofs.BegunLemmas.{was_begun}
@@ -94,7 +94,7 @@ prepare-requires-clause-few g c =
     let is : IsSession v = c.self.invariant.0 in
     let to = c.rows-to.result in
     let to_is : to ≡ rows_of v = c.rows-to.ensures.value ∙ ap rows_of (sym c.self.view_is) in
-    (asks_for v to is to_is).bands
+    (asks_for v to is to_is).lines
 
 pub prepare-requires-clause-takes : goal.prepare-requires-clause-takes
 prepare-requires-clause-takes g c =
@@ -201,7 +201,7 @@ returns-in_err-prepared-clause-causes g c =
     let d = dataset_of c.self.inside.grid in
     let e = c.in_err-prepared.field-0.0 in
     let is : c.from_residual-in_err-prepared.result ≡ Err e = search rules in
-    shallow_causes e c.from_residual-in_err-prepared.result is c.in_err-prepared.ensures.causes (λ deep. (c.in_err-prepared.ensures.deep (ap Err deep)).cramped (c.in_ok-index.ensures.within (most_bands d) (chunks_across d)))
+    shallow_causes e c.from_residual-in_err-prepared.result is c.in_err-prepared.ensures.causes (λ deep. (c.in_err-prepared.ensures.deep (ap Err deep)).cramped (c.in_ok-index.ensures.within (most_lines d) (keys_across d)))
 
 pub prepare-requires-clause-room : goal.prepare-requires-clause-room
 prepare-requires-clause-room g c =

@@ -1,6 +1,6 @@
 use Rattle.std.proofs.Common.{◌≡◌, ◌<◌, ◌-◌, ◌*◌, ◌^◌, ◌∙◌, [], List, ℕ, length, drop, ap, sym, subst, arith}
 use Rattle.std.specs.List.{All}
-use Rattle.h5w_model.specs.Tables.{chunks_across}
+use Rattle.h5w_model.specs.Tables.{keys_across}
 use Rattle.h5w_model.specs.declared.cell.Key.{Key}
 use Rattle.h5w_model.proofs.IntegerLemmas.{int_size_bounds}
 use Rattle.h5w_chunks.specs.Grids.{dataset_of}
@@ -9,7 +9,7 @@ use Rattle.h5w_index.specs.Held.{view_of}
 use Rattle.h5w_index.specs.Placing.{IsFullPart, IsPartly}
 use Rattle.h5w_index.specs.Views.{HasSlot}
 use Rattle.h5w_session.specs.Refusals.{IsDeepPart}
-use Rattle.h5w_session.specs.Sessions.{IsRoomy, IsSession, Session, most_bands, option_list, rows_of, IsWhole}
+use Rattle.h5w_session.specs.Sessions.{IsRoomy, IsSession, Session, most_lines, option_list, rows_of, IsWhole}
 use Rattle.h5w_session.proofs.CarriedLemmas.{Carried, asks_for, carried_flushed, carried_is, carried_pieces, has_rows, lengths_joined, one_at_most, refused_is, refused_same, same_error, values_few}
 use Rattle.h5w_index.proofs.BegunLemmas.{was_begun}
 use Rattle.h5w_session.proofs.TakingLemmas.{filled_cell}
@@ -36,7 +36,7 @@ prepare-requires-clause-few g c =
     let is : IsSession v = c.self.invariant.0 in
     let to = c.rows-to.result in
     let to_is : to ≡ rows_of v = c.rows-to.ensures.value ∙ ap rows_of (sym c.self.view_is) in
-    (asks_for v to is to_is).bands
+    (asks_for v to is to_is).lines
 
 pub prepare-requires-clause-takes : goal.prepare-requires-clause-takes
 prepare-requires-clause-takes g c =
@@ -366,7 +366,7 @@ returns-in-Err-clause-kept g c =
     let p : IsPartly v.dataset to v.index [] u =
     c.unset.ensures.taken_back v.dataset to v.index (subst (λ (ks : List Key). IsPartly v.dataset to v.index ks (view_of c.prepare.new.index)) (sym c.deref-in-Err.ensures.value) c.in-Err.ensures.partly) in
     let there : IsWhole v = subst IsWhole (sym c.self.view_is) c.requires.there in
-    let roomy : IsRoomy v.dataset v.index → IsRoomy v.dataset u = λ r. c.unset.ensures.within (most_bands v.dataset) (chunks_across v.dataset) (c.prepare.ensures.roomy r) in
+    let roomy : IsRoomy v.dataset v.index → IsRoomy v.dataset u = λ r. c.unset.ensures.within (most_lines v.dataset) (keys_across v.dataset) (c.prepare.ensures.roomy r) in
     refused_same v to u to_is p there roomy c.args.self.now c.self.view_is
 
 pub returns-in-Err-clause-full : goal.returns-in-Err-clause-full

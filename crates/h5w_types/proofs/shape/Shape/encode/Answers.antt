@@ -17,9 +17,9 @@ returns-clause-written c =
     let out = c.args.out.now in
     let end = c.put_numbers.result in
     let header : List ℕ = 2 ∷ s.rank ∷ 1 ∷ 1 ∷ [] in
-    let numbers = flat_map (le 8) (shape_numbers s.rank s.rows s.cols) in
-    let count = length-shape_numbers s.rank s.rows s.cols (shape_rank s c.requires.shaped) in
-    let long : length numbers ≡ 16 * s.rank = length-flat_map_le 8 (shape_numbers s.rank s.rows s.cols) ∙ omega arith in
+    let numbers = flat_map (le 8) (shape_numbers s.rank s.rows s.cols s.growing) in
+    let count = length-shape_numbers s.rank s.rows s.cols s.growing (shape_rank s c.requires.shaped) in
+    let long : length numbers ≡ 16 * s.rank = length-flat_map_le 8 (shape_numbers s.rank s.rows s.cols s.growing) ∙ omega arith in
     let sized : end ≡ 4 + 16 * s.rank = c.put_numbers.ensures.len in
     let room = c.requires.room in
     c.put_numbers.ensures.written
