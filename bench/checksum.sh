@@ -25,7 +25,7 @@ for at, line in enumerate(lines):
 print("%d %d" % max(costs))' "$work/out"
 }
 
-ours=$(calls "$top/crates/h5w_cli/out/h5w_cli" play --type i32le --chunk 65536 <"$work/script") || exit 1
+ours=$(calls "$top/crates/h5w_cli/out/h5w_cli" play --type i32le --chunk 65536 --budget 1073741824 <"$work/script") || exit 1
 theirs=$(calls "$work/lookup3" 82 2000) || exit 1
 python3 -c '
 import sys

@@ -25,7 +25,7 @@ print("write 1000000")' "$1"
 instructions() {
     script "$1" > "$work/script"
     valgrind --tool=callgrind --callgrind-out-file="$work/out" \
-        "$top/crates/h5w_cli/out/h5w_cli" play --type i32le --chunk 65536 <"$work/script" >"$work/replies" 2>"$work/log" || exit 1
+        "$top/crates/h5w_cli/out/h5w_cli" play --type i32le --chunk 65536 --budget 1073741824 <"$work/script" >"$work/replies" 2>"$work/log" || exit 1
     tail -n 1 "$work/replies" >&2
     sed -n 's/^summary: //p; s/^totals: //p' "$work/out" | head -n 1
 }
@@ -37,7 +37,7 @@ for line in range(64):
     print("append " + " ".join(str(1024 * line + it) for it in range(1024)))
 print("flush")' >"$work/script"
     valgrind --tool=massif --massif-out-file="$work/heap" \
-        "$top/crates/h5w_cli/out/h5w_cli" play --type i32le --chunk "$1" <"$work/script" >"$work/replies" 2>"$work/log" || exit 1
+        "$top/crates/h5w_cli/out/h5w_cli" play --type i32le --chunk "$1" --budget 1073741824 <"$work/script" >"$work/replies" 2>"$work/log" || exit 1
     sed -n 's/^mem_heap_B=//p' "$work/heap" | sort -n | tail -n 1
 }
 

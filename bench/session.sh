@@ -18,7 +18,7 @@ for _ in range(flushes):
         print("append " + " ".join(str(value % 1000000) for value in range(first, min(first + 8192, rows))))
     print("flush\nwrite 1000000")' "$2" "$3" > "$work/script"
     valgrind --tool=callgrind --callgrind-out-file="$work/out" \
-        "$top/crates/h5w_cli/out/h5w_cli" play --type i32le --chunk "$1" <"$work/script" >"$work/replies" 2>"$work/log" || { tail -n 5 "$work/log" >&2; exit 1; }
+        "$top/crates/h5w_cli/out/h5w_cli" play --type i32le --chunk "$1" --budget 1073741824 <"$work/script" >"$work/replies" 2>"$work/log" || { tail -n 5 "$work/log" >&2; exit 1; }
     callgrind_annotate --inclusive=yes "$work/out" | python3 -c '
 import re, sys
 costs = [int(m.group(1).replace(",", "")) for line in sys.stdin for m in [re.match(r" *([0-9,]+) .*World::step", line)] if m]
@@ -30,8 +30,8 @@ whole=$(steps 1 131060 1) || exit 1
 few=$(steps 1 131 500) || exit 1
 many=$(steps 1 131 1000) || exit 1
 wide=$(steps 65536 65536 1) || exit 1
-one=$(steps 65536 1 1) || exit 1
-more=$(steps 65536 1 101) || exit 1
+one=$(steps 65536 1 101) || exit 1
+more=$(steps 65536 1 201) || exit 1
 python3 -c '
 import sys
 half, whole, few, many, wide, one, more = map(int, sys.argv[1:])

@@ -23,7 +23,7 @@ END
 # counts the instructions of the program over a script
 program() {
     valgrind --tool=callgrind --callgrind-out-file="$work/$1.out" \
-        "$top/crates/h5w_cli/out/h5w_cli" play --type i32le --chunk 65536 <"$work/$1" >"$work/replies" 2>"$work/log" || exit 1
+        "$top/crates/h5w_cli/out/h5w_cli" play --type i32le --chunk 65536 --budget 1073741824 <"$work/$1" >"$work/replies" 2>"$work/log" || exit 1
 }
 
 # what a function in C and those that it calls cost

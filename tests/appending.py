@@ -4,6 +4,7 @@ import resource
 import select
 import signal
 import subprocess
+import time
 
 from new_files import dataset_header, new_file
 from program import PROGRAM, SECONDS, named, of, read, run, steps
@@ -145,6 +146,52 @@ def told_at_once(folder):
     )
 
 
+def before_their_flush(folder):
+    """Rows past the budget: they are in the file before their batch ends, and no reader finds them. Then the writer is killed."""
+    found = steps(folder, ("new f --type i32le --chunk 255", b"", 0, b"new end 558\n"))
+    for option in ([], ["--no-reuse"]):
+        process = subprocess.Popen([PROGRAM, "append", f"{folder}/f", "--budget", "1024", *option], stdin=subprocess.PIPE, stdout=subprocess.PIPE)
+        process.stdin.write(b"1 2 3\n")
+        process.stdin.flush()
+        wanted, until = new_file("i32le", 255, flags=5) + bytes([1, 0, 0, 0, 2, 0, 0, 0, 3]) + bytes(1011), time.monotonic() + SECONDS
+        while read(f"{folder}/f") != wanted and time.monotonic() < until:
+            time.sleep(0.01)
+        found += of("the file before the flush", read(f"{folder}/f"), wanted)
+        found += steps(folder, ("poll f", b"", 0, b"rows 0\n"), ("check f", b"", 0, b"valid rows 0 chunks 0 blocks 5 end 558 lost 0\n"))
+        process.kill()
+        process.wait(SECONDS)
+        found += steps(folder, ("append f", b"4\n", 6, b"error flags 5\n"), ("clear f", b"", 0, b"clear 5 0\n"))
+        os.truncate(f"{folder}/f", 558)
+    return found + steps(
+        folder,
+        ("append f --budget 1024", b"1 2 3\nx\n", 8, b"error line 2\n"),
+        ("check f", b"", 0, b"valid rows 0 chunks 0 blocks 5 end 558 lost 0\n"),
+        ("append f --budget 1024", b"4\n", 0, b"rows 1\nclosed 1\n"),
+        ("poll f --values", b"", 0, b"rows 1\n4\n"),
+        ("check f", b"", 0, b"valid rows 1 chunks 1 blocks 5 end 1578 lost 0\n"),
+    )
+
+
+# Datasets, by their options: an array, a tree, and an array with fixed columns.
+SHAPES = [f"--type i32le --chunk {it}" for it in (1, 7, 300)] + [f"--type i16be --chunk {it} --columns 3 --width 2{fixed}" for it in (1, 50, 300) for fixed in ("", " --fixed")]
+
+
+def any_budget(folder):
+    """Files with the same rows: each byte is the same whatever the budget, since chunks get their places in the same order."""
+    rows, found = iter(range(10_000)), []
+    lines = [" ".join(str(next(rows) % 30_000) for _ in range(3 * it)) for it in (1, 2, 300, 7, 1, 1, 500, 40, 3, 1000)]
+    text = "\n".join([*lines[:3], "", *lines[3:6], "", "", *lines[6:8], lines[8], "", lines[9]]).encode()
+    for shape in SHAPES:
+        for option in ("", " --no-reuse"):
+            files = set()
+            for budget in ("", " --budget 1024", " --budget 2000", " --budget 1073741824"):
+                found += of("new", run(folder, f"new f {shape}".split(" "))[0], 0) + of("append", run(folder, f"append f{option}{budget}".split(" "), text)[0], 0)
+                files.add(read(f"{folder}/f"))
+                os.remove(f"{folder}/f")
+            found += of(f"files of {shape}{option}", len(files), 1)
+    return found
+
+
 def unwritten(folder):
     """An output that nobody takes: the batch is there, and the file is closed. An input that is a folder: the file is closed."""
     steps(folder, (NEW, b"", 0, b"new end 558\n"))
@@ -159,7 +206,7 @@ def unwritten(folder):
     return found + of("the flags then", read(f"{folder}/f")[11], 0)
 
 
-WORDS = ["append", "append f g", "append f --budget 65536", "append f --limit 1023", "append f --name a/b", "append f --no-reuse --no-reuse", "append f --values", "append --no-reuse"]
+WORDS = ["append", "append f g", "append f --budget 1023", "append f --budget 1073741825", "append f --budget=", "append f --limit 1023", "append f --name a/b", "append f --no-reuse --no-reuse", "append f --values", "append --no-reuse"]
 
 
 def other_words(folder):
@@ -170,4 +217,4 @@ def other_words(folder):
 
 
 def trials():
-    yield from named("append", begins, used_again, two_dimensions, fixed_columns, damaged, full_device, told_at_once, unwritten, other_words)
+    yield from named("append", begins, used_again, two_dimensions, fixed_columns, damaged, full_device, told_at_once, before_their_flush, any_budget, unwritten, other_words)

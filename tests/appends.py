@@ -4,6 +4,7 @@ import re
 import select
 import signal
 import subprocess
+import time
 
 import h5py
 import numpy
@@ -307,6 +308,50 @@ def watched_by_h5py(folder, kind, chunk, batches, columns=None):
         return found + [f"{type(error).__name__}: {error}"]
 
 
+def grown(file, size):
+    """Whether the file has more bytes than these before long."""
+    until = time.monotonic() + SECONDS
+    while os.path.getsize(file) <= size:
+        if time.monotonic() > until:
+            return False
+        time.sleep(0.005)
+    return True
+
+
+def watched_early(folder, kind, chunk, lines, options, columns=None):
+    """h5py reads, as SWMR reader, beside a writer with little budget: behind each line of a batch, whose rows are in the file before their flush, it
+    finds those of the batches before, and behind the empty line all."""
+    m = wide(columns)
+    file, values, found = f"{folder}/f.h5", values_of(kind, 3 * sum(lines) * m), made(f"{folder}/f.h5", kind, chunk, None, columns)
+    writer, rows, flushed, opened = Appending(file, "--budget", "1024", *options), 0, 0, None
+
+    def read(count):
+        opened["data"].id.refresh()
+        with h5py.File(file, "r", libver="latest", swmr=True) as other:
+            there = [other["data"][:].tolist(), opened["data"][:].tolist()]
+        return of(f"h5py at {count} rows", there, [table(values[: count * m], columns)] * 2)
+
+    try:
+        for _ in range(3):
+            for count in lines:
+                size, rows = os.path.getsize(file), rows + count
+                writer.process.stdin.write(text_of([values[(rows - count) * m : rows * m]], columns).encode())
+                writer.process.stdin.flush()
+                found += [] if grown(file, size) else [f"{rows} rows are not in the file before their flush"]
+                opened = opened or h5py.File(file, "r", libver="latest", swmr=True)
+                found += read(flushed) + of("poll", run([PROGRAM, "poll", file]), f"rows {flushed}\n")
+            writer.process.stdin.write(b"\n")
+            writer.process.stdin.flush()
+            flushed = rows
+            found += of("append", writer.line(), f"rows {rows}") + read(rows)
+        opened.close()
+        found += of("the end", writer.end(), (0, f"closed {rows}\n"))
+        return found + read_by_us(file, values, columns) + still(file, kind, values, folder, True, columns)
+    except (OSError, ValueError) as error:
+        writer.process.kill()
+        return found + [f"{type(error).__name__}: {error}"]
+
+
 def watched_by_us(folder, kind, chunk, batches, columns=None):
     """The program polls what h5py writes, as SWMR writer: each poll that finds rows has a beginning of the values. HDF5's library writes blocks
     of its index where they stand, so that a poll may find one half written, or a superblock of before: such a poll is made again."""
@@ -401,8 +446,22 @@ LIVE = [
 ]
 
 
+# Files whose rows are written before their flush: the type, the rows of a chunk, those of each line of a batch, and the columns. Each line needs new
+# chunks of more bytes than the budget of 1,024.
+EARLY = [
+    ("i32le", 300, [300, 700, 301], None),
+    ("u16be", 64, [1000, 1500, 1000], None),
+    ("i32le", 200, [200, 300, 401], (3, 2)),
+    ("i64le", 64, [65, 130, 200], (4, 4, "fixed")),
+]
+
+
 def trials(kinds):
     """Each trial by its name: what it finds is not as it should be, in a folder of its own."""
+    for kind, chunk, lines, columns in EARLY:
+        words = f"{kind} of {in_words(columns)} in chunks of {chunk} by {columns[1]}" if columns else f"{kind} in chunks of {chunk}"
+        for options in (["--no-reuse"], []):
+            yield f"{words}: h5py beside rows that are written before their flush{', --no-reuse' if options else ''}", lambda it, k=kind, c=chunk, n=lines, o=options, m=columns: watched_early(it, k, c, n, o, m)
     for at, kind in enumerate(kinds):
         chunk = (2, 5, 64, 300)[at % 4]
         for counts in ([], [1], [3, 2], [chunk, 4 * chunk - 1, 1], [299, 1]):

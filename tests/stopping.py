@@ -56,18 +56,19 @@ def ran(words, text="", **how):
 
 @dataclass
 class Case:
-    """A file: its maker, its chunks, its columns if it has two dimensions, the rows that it begins with, and the batches of the append."""
+    """A file: its maker, its chunks, its columns if it has two dimensions, the rows that it begins with, the batches of the append, and its options."""
 
     maker: str
     chunk: int
     columns: tuple
     before: int
     batches: list
+    options: tuple = ()
 
     def name(self):
         """The case in words."""
         sides = f"{self.chunk} by {self.columns[1]} of {self.columns[0]} columns" if self.columns else str(self.chunk)
-        return f"{self.maker}, {self.before} rows in chunks of {sides}: stopped before each write of an append of {self.batches} rows"
+        return f"{self.maker}, {self.before} rows in chunks of {sides}: stopped before each write of an append of {self.batches} rows{''.join(f' {it}' for it in self.options)}"
 
     def values(self, first, rows):
         """The values of so many rows."""
@@ -103,6 +104,10 @@ def cases():
             yield Case("our file", chunk, columns, 3 * chunk, [2 * chunk + 1, 1])
             yield Case("h5py's file", chunk, columns, 2 * chunk - 1, [chunk + 2, 1])
             yield Case("h5py's file without chunks", chunk, columns, chunk - 1, [chunk + 1])
+        # (rows past the budget are written before their flush)
+        for more in ((), ("--no-reuse",)):
+            yield Case("our file", 64, columns, 0, [400, 1, 300], ("--budget", "1024", *more))
+            yield Case("h5py's file", 64, columns, 100, [400, 1], ("--budget", "1024", *more))
 
 
 # ---- What is read of files that were stopped
@@ -160,7 +165,7 @@ def stop(case, shim, folder, at, batches):
     file = f"{folder}/stopped"
     shutil.copyfile(f"{folder}/begun", file)
     how = {"env": {**os.environ, "LD_PRELOAD": shim, "H5SWMR_STOP": str(at)}}
-    status, text = ran([PROGRAM, "append", file], text_of(batches, case.columns), **how)
+    status, text = ran([PROGRAM, "append", file, *case.options], text_of(batches, case.columns), **how)
     if status == 0:
         return None, []
     found = of("status", status, -signal.SIGKILL) + of("clear", ran([PROGRAM, "clear", file]), (0, f"clear {0 if at == 1 else 5} 0\n"))

@@ -85,8 +85,8 @@ front_of r front img =
     let w : Write = record { at = 0; piece = super_bytes r } in
     ap (λ (x : List ℕ). range x 0 48) (image-push img front w) ∙ ap (λ n. range (apply w (image img front)) 0 n) (sym (length-super_bytes r)) ∙ At-apply w (image img front)
 
-shut_again : {v w : DiskView} (name at : List ℕ) (limit : ℕ) (keeps : Bool) (first : Session) (b : Batches) → IsOpenOver name at limit keeps v first → ClosedUp name first b v w → ShutAgain name at v w
-shut_again {v} {w} name at limit keeps first b opened c = λ img root told reads.
+shut_again : {v w : DiskView} (name at : List ℕ) (limit budget : ℕ) (keeps : Bool) (first : Session) (b : Batches) → IsOpenOver name at limit budget keeps v first → ClosedUp name first b v w → ShutAgain name at v w
+shut_again {v} {w} name at limit budget keeps first b opened c = λ img root told reads.
     let over = opened.exact img told in
     let super = open_super img at (length img) over.found over.is in
     let same : root ≡ over.found.root = ok_is root over.found.root (sym reads ∙ super.0) in
@@ -106,28 +106,28 @@ shut_again {v} {w} name at limit keeps first b opened c = λ img root told reads
       },
     )
 
-first_named : {v : DiskView} (name at : List ℕ) (limit : ℕ) (keeps : Bool) (first : Session) → IsOpenOver name at limit keeps v first → first.name ≡ at
-first_named name at limit keeps first opened = ap (λ (x : Session). x.name) opened.is ∙ opened.begun.named
+first_named : {v : DiskView} (name at : List ℕ) (limit budget : ℕ) (keeps : Bool) (first : Session) → IsOpenOver name at limit budget keeps v first → first.name ≡ at
+first_named name at limit budget keeps first opened = ap (λ (x : Session). x.name) opened.is ∙ opened.begun.named
 
-closed_of_up : {v w : DiskView} (name at : List ℕ) (limit : ℕ) (keeps : Bool) (first : Session) (b : Batches) → IsOpenOver name at limit keeps v first → ClosedUp name first b v w → Closed name at first b v w
-closed_of_up name at limit keeps first b opened c = record {
+closed_of_up : {v w : DiskView} (name at : List ℕ) (limit budget : ℕ) (keeps : Bool) (first : Session) (b : Batches) → IsOpenOver name at limit budget keeps v first → ClosedUp name first b v w → Closed name at first b v w
+closed_of_up name at limit budget keeps first b opened c = record {
   closed = c;
-  holds = holds_after name at first b c.puts (first_named name at limit keeps first opened) opened.stands c.disk c.logs;
-  shut = shut_again name at limit keeps first b opened c;
+  holds = holds_after name at first b c.puts (first_named name at limit budget keeps first opened) opened.stands c.disk c.logs;
+  shut = shut_again name at limit budget keeps first b opened c;
 }
 
 -- and the one whose disk failed
-broken_of : {v w : DiskView} (name at : List ℕ) (limit : ℕ) (keeps : Bool) (first : Session) (b : Batches) → IsOpenOver name at limit keeps v first → Broke name first b v w → Broken name at first b v w
-broken_of name at limit keeps first b opened broke =
-    record { broke = broke; holds = holds_after name at first b broke.puts (first_named name at limit keeps first opened) opened.stands broke.disk broke.logs }
+broken_of : {v w : DiskView} (name at : List ℕ) (limit budget : ℕ) (keeps : Bool) (first : Session) (b : Batches) → IsOpenOver name at limit budget keeps v first → Broke name first b v w → Broken name at first b v w
+broken_of name at limit budget keeps first b opened broke =
+    record { broke = broke; holds = holds_after name at first b broke.puts (first_named name at limit budget keeps first opened) opened.stands broke.disk broke.logs }
 
 -- ---- Its end
 
-pub appends_done : {v w : DiskView} {k l m : SinkView} {x y : SourceView} (name at : List ℕ) (limit : ℕ) (keeps : Bool) (n : ℕ) (first : Session) (status : Status) (text : List ℕ) → IsOpenOver name at limit keeps v first → Settles name n first x y v w k l (Ok tt)
-    → text ≡ closed_text n → Said text statuses.Done status l m → AppendEnds name at limit keeps x y v w status k m
-appends_done {v} {w} {k} {l} name at limit keeps n first status text opened h is said =
+pub appends_done : {v w : DiskView} {k l m : SinkView} {x y : SourceView} (name at : List ℕ) (limit budget : ℕ) (keeps : Bool) (n : ℕ) (first : Session) (status : Status) (text : List ℕ) → IsOpenOver name at limit budget keeps v first → Settles name n first x y v w k l (Ok tt)
+    → text ≡ closed_text n → Said text statuses.Done status l m → AppendEnds name at limit budget keeps x y v w status k m
+appends_done {v} {w} {k} {l} name at limit budget keeps n first status text opened h is said =
     let b = close_batch (after_lines no_batches h.0) in
-    let closed = closed_of_up name at limit keeps first b opened h.2 in
+    let closed = closed_of_up name at limit budget keeps first b opened h.2 in
     inl (record {
       answer = Ok tt;
       front = lines_of first b.closed;
@@ -148,35 +148,35 @@ appends_done {v} {w} {k} {l} name at limit keeps n first status text opened h is
       said = said;
     })
 
-some_appends : {v w : DiskView} {x y : SourceView} (name at : List ℕ) (limit : ℕ) (keeps : Bool) (first : Session) (b : Batches) (e : ErrorLine) → IsOpenOver name at limit keeps v first → AreTaken (columns_of first) x y b
-    → InputRefuses name first x y b v e → ClosedUp name first b v w → AppendsSome name at limit keeps x y v w e (lines_of first b.closed) (error_text e)
-some_appends name at limit keeps first b e opened taken refused closed =
-    record { first = first; opened = opened; batches = b; taken = taken; refused = refused; closed = closed_of_up name at limit keeps first b opened closed; front_is = refl; last_is = refl }
+some_appends : {v w : DiskView} {x y : SourceView} (name at : List ℕ) (limit budget : ℕ) (keeps : Bool) (first : Session) (b : Batches) (e : ErrorLine) → IsOpenOver name at limit budget keeps v first → AreTaken (columns_of first) x y b
+    → InputRefuses name first x y b v e → ClosedUp name first b v w → AppendsSome name at limit budget keeps x y v w e (lines_of first b.closed) (error_text e)
+some_appends name at limit budget keeps first b e opened taken refused closed =
+    record { first = first; opened = opened; batches = b; taken = taken; refused = refused; closed = closed_of_up name at limit budget keeps first b opened closed; front_is = refl; last_is = refl }
 
-pub appends_refused : {v w : DiskView} {k l m : SinkView} {x y : SourceView} (name at : List ℕ) (limit : ℕ) (keeps : Bool) (n : ℕ) (first : Session) (e : ErrorLine) (status : Status) → IsOpenOver name at limit keeps v first
-    → Settles name n first x y v w k l (Err (endings.Refused e)) → SaidUnlessMemory (error_text e) (status_of e) status l m → AppendEnds name at limit keeps x y v w status k m
-appends_refused {l = l} name at limit keeps n first e status opened h (inl said) = inl (record {
+pub appends_refused : {v w : DiskView} {k l m : SinkView} {x y : SourceView} (name at : List ℕ) (limit budget : ℕ) (keeps : Bool) (n : ℕ) (first : Session) (e : ErrorLine) (status : Status) → IsOpenOver name at limit budget keeps v first
+    → Settles name n first x y v w k l (Err (endings.Refused e)) → SaidUnlessMemory (error_text e) (status_of e) status l m → AppendEnds name at limit budget keeps x y v w status k m
+appends_refused {l = l} name at limit budget keeps n first e status opened h (inl said) = inl (record {
   answer = Err e;
   front = lines_of first h.0.closed;
   last = error_text e;
-  comes = inr (inl (some_appends name at limit keeps first h.0 e opened h.1 h.2 h.3));
+  comes = inr (inl (some_appends name at limit budget keeps first h.0 e opened h.1 h.2 h.3));
   middle = l;
   gave = h.4;
   said = said;
 })
-appends_refused {l = l} name at limit keeps n first e status opened h (inr said) = inl (record {
+appends_refused {l = l} name at limit budget keeps n first e status opened h (inr said) = inl (record {
   answer = Err errors.Memory;
   front = lines_of first h.0.closed;
   last = error_text errors.Memory;
-  comes = inr (inl (some_appends name at limit keeps first h.0 errors.Memory opened h.1 tt h.3));
+  comes = inr (inl (some_appends name at limit budget keeps first h.0 errors.Memory opened h.1 tt h.3));
   middle = l;
   gave = h.4;
   said = said;
 })
 
-pub appends_broke : {v w : DiskView} {k l m : SinkView} {x y : SourceView} (name at : List ℕ) (limit : ℕ) (keeps : Bool) (n : ℕ) (first : Session) (status : Status) → IsOpenOver name at limit keeps v first → Settles name n first x y v w k l (Err endings.Disk)
-    → Said (error_text errors.Disk) statuses.Disk status l m → AppendEnds name at limit keeps x y v w status k m
-appends_broke {l = l} name at limit keeps n first status opened h said = inl (record {
+pub appends_broke : {v w : DiskView} {k l m : SinkView} {x y : SourceView} (name at : List ℕ) (limit budget : ℕ) (keeps : Bool) (n : ℕ) (first : Session) (status : Status) → IsOpenOver name at limit budget keeps v first → Settles name n first x y v w k l (Err endings.Disk)
+    → Said (error_text errors.Disk) statuses.Disk status l m → AppendEnds name at limit budget keeps x y v w status k m
+appends_broke {l = l} name at limit budget keeps n first status opened h said = inl (record {
   answer = Err errors.Disk;
   front = lines_of first h.0.closed;
   last = error_text errors.Disk;
@@ -187,7 +187,7 @@ appends_broke {l = l} name at limit keeps n first status opened h said = inl (re
       opened = opened;
       batches = h.0;
       taken = h.1;
-      broken = broken_of name at limit keeps first h.0 opened h.2.broke;
+      broken = broken_of name at limit budget keeps first h.0 opened h.2.broke;
       front_is = refl;
       last_is = refl;
     },
@@ -198,21 +198,21 @@ appends_broke {l = l} name at limit keeps n first status opened h said = inl (re
 })
 
 -- the sink failed at the line of a batch
-pub appends_cut : {v w : DiskView} {k l : SinkView} {x y : SourceView} (name at : List ℕ) (limit : ℕ) (keeps : Bool) (n : ℕ) (first : Session) → IsOpenOver name at limit keeps v first → Settles name n first x y v w k l (Err endings.Sink)
-    → AppendEnds name at limit keeps x y v w statuses.Sink k l
-appends_cut {v} {w} name at limit keeps n first opened h = inr (refl, record { first = first; opened = opened; batches = h.0; taken = h.1; stops = h.3; left = cases h.0 h.2 })
+pub appends_cut : {v w : DiskView} {k l : SinkView} {x y : SourceView} (name at : List ℕ) (limit budget : ℕ) (keeps : Bool) (n : ℕ) (first : Session) → IsOpenOver name at limit budget keeps v first → Settles name n first x y v w k l (Err endings.Sink)
+    → AppendEnds name at limit budget keeps x y v w statuses.Sink k l
+appends_cut {v} {w} name at limit budget keeps n first opened h = inr (refl, record { first = first; opened = opened; batches = h.0; taken = h.1; stops = h.3; left = cases h.0 h.2 })
   where
     cases : (b : Batches) → ClosedUp name first b v w ⊎ Broke name first b v w → Closed name at first b v w ⊎ Broken name at first b v w
-    cases b (inl closed) = inl (closed_of_up name at limit keeps first b opened closed)
-    cases b (inr broke) = inr (broken_of name at limit keeps first b opened broke)
+    cases b (inl closed) = inl (closed_of_up name at limit budget keeps first b opened closed)
+    cases b (inr broke) = inr (broken_of name at limit budget keeps first b opened broke)
 
 wanting : {v w : DiskView} (name at : List ℕ) (e : ErrorLine) → Unopened name at v w e → Unopened name at v w errors.Memory
 wanting {v} name at e h = record { disk = h.disk; exact = any_told v.told (λ d. inl (inr refl)); kinds = inr (OutOfMemory, refl, tt); cause = λ f. cc }
 
 -- the file was not opened
-pub appends_none : {v w : DiskView} {k l : SinkView} (x : SourceView) (name at : List ℕ) (limit : ℕ) (keeps : Bool) (e : ErrorLine) (status : Status) → Unopened name at v w e → SaidUnlessMemory (error_text e) (status_of e) status k l
-    → AppendEnds name at limit keeps x x v w status k l
-appends_none {k = k} x name at limit keeps e status h (inl said) = inl (record {
+pub appends_none : {v w : DiskView} {k l : SinkView} (x : SourceView) (name at : List ℕ) (limit budget : ℕ) (keeps : Bool) (e : ErrorLine) (status : Status) → Unopened name at v w e → SaidUnlessMemory (error_text e) (status_of e) status k l
+    → AppendEnds name at limit budget keeps x x v w status k l
+appends_none {k = k} x name at limit budget keeps e status h (inl said) = inl (record {
   answer = Err e;
   front = [];
   last = error_text e;
@@ -221,7 +221,7 @@ appends_none {k = k} x name at limit keeps e status h (inl said) = inl (record {
   gave = gave_nothing k;
   said = said;
 })
-appends_none {k = k} x name at limit keeps e status h (inr said) = inl (record {
+appends_none {k = k} x name at limit budget keeps e status h (inr said) = inl (record {
   answer = Err errors.Memory;
   front = [];
   last = error_text errors.Memory;
@@ -233,25 +233,25 @@ appends_none {k = k} x name at limit keeps e status h (inr said) = inl (record {
 
 -- ---- By its result
 
-pub appends_whole : {v w : DiskView} {k l m : SinkView} {x y : SourceView} (name at : List ℕ) (limit : ℕ) (keeps : Bool) (status : Status) (text bytes : List ℕ) → bytes ≡ text → Finishes name at limit keeps x y v w k l text (Ok tt)
-    → Said bytes statuses.Done status l m → AppendEnds name at limit keeps x y v w status k m
-appends_whole name at limit keeps status text bytes is h said = appends_done name at limit keeps h.rows h.first status bytes h.opened h.settles (is ∙ h.line) said
+pub appends_whole : {v w : DiskView} {k l m : SinkView} {x y : SourceView} (name at : List ℕ) (limit budget : ℕ) (keeps : Bool) (status : Status) (text bytes : List ℕ) → bytes ≡ text → Finishes name at limit budget keeps x y v w k l text (Ok tt)
+    → Said bytes statuses.Done status l m → AppendEnds name at limit budget keeps x y v w status k m
+appends_whole name at limit budget keeps status text bytes is h said = appends_done name at limit budget keeps h.rows h.first status bytes h.opened h.settles (is ∙ h.line) said
 
-pub appends_some : {v w : DiskView} {k l m : SinkView} {x y : SourceView} (name at : List ℕ) (limit : ℕ) (keeps : Bool) (e : ErrorLine) (status : Status) (text : List ℕ)
-    → BeginsNone name at x y v w k l e ⊎ Finishes name at limit keeps x y v w k l text (Err (endings.Refused e)) → SaidUnlessMemory (error_text e) (status_of e) status l m → AppendEnds name at limit keeps x y v w status k m
-appends_some {v} {w} {k} {l} {m} {x} {y} name at limit keeps e status text (inl h) said =
-    subst (λ (z : SourceView). AppendEnds name at limit keeps x z v w status k m) (sym h.unread)
-    (appends_none x name at limit keeps e status h.unopened (subst (λ (o : SinkView). SaidUnlessMemory (error_text e) (status_of e) status o m) h.unwritten said))
-appends_some name at limit keeps e status text (inr h) said = appends_refused name at limit keeps h.rows h.first e status h.opened h.settles said
+pub appends_some : {v w : DiskView} {k l m : SinkView} {x y : SourceView} (name at : List ℕ) (limit budget : ℕ) (keeps : Bool) (e : ErrorLine) (status : Status) (text : List ℕ)
+    → BeginsNone name at x y v w k l e ⊎ Finishes name at limit budget keeps x y v w k l text (Err (endings.Refused e)) → SaidUnlessMemory (error_text e) (status_of e) status l m → AppendEnds name at limit budget keeps x y v w status k m
+appends_some {v} {w} {k} {l} {m} {x} {y} name at limit budget keeps e status text (inl h) said =
+    subst (λ (z : SourceView). AppendEnds name at limit budget keeps x z v w status k m) (sym h.unread)
+    (appends_none x name at limit budget keeps e status h.unopened (subst (λ (o : SinkView). SaidUnlessMemory (error_text e) (status_of e) status o m) h.unwritten said))
+appends_some name at limit budget keeps e status text (inr h) said = appends_refused name at limit budget keeps h.rows h.first e status h.opened h.settles said
 
-pub finishes_by : {v : DiskView} (u w : DiskView) (k l : SinkView) (x y : SourceView) (text : List ℕ) (name at : List ℕ) (limit : ℕ) (keeps : Bool) (first s : Session) (taken r : Result (Unit {0}) Ending) (n : ℕ) → IsOpenOver name at limit keeps v first → v.faults ≡ n
-    → TakesInput name first s x y v u k l taken → OnOk taken (text ≡ closed_text (rows_of s)) → OnOk r (taken ≡ Ok tt) → SettlesOn n name s u w taken r → FinishesBy name at limit keeps x y v w k l text r
-finishes_by {v} u w k l x y text name at limit keeps first s taken r n opened counted takes line done settles = cases r done (settles first x y v k l counted takes)
+pub finishes_by : {v : DiskView} (u w : DiskView) (k l : SinkView) (x y : SourceView) (text : List ℕ) (name at : List ℕ) (limit budget : ℕ) (keeps : Bool) (first s : Session) (taken r : Result (Unit {0}) Ending) (n : ℕ) → IsOpenOver name at limit budget keeps v first → v.faults ≡ n
+    → TakesInput name first s x y v u k l taken → OnOk taken (text ≡ closed_text (rows_of s)) → OnOk r (taken ≡ Ok tt) → SettlesOn n name s u w taken r → FinishesBy name at limit budget keeps x y v w k l text r
+finishes_by {v} u w k l x y text name at limit budget keeps first s taken r n opened counted takes line done settles = cases r done (settles first x y v k l counted takes)
   where
     last : taken ≡ Ok tt → text ≡ closed_text (rows_of s)
     last is = subst (λ (q : Result (Unit {0}) Ending). OnOk q (text ≡ closed_text (rows_of s))) is line
 
-    cases : (q : Result (Unit {0}) Ending) → OnOk q (taken ≡ Ok tt) → Settles name (rows_of s) first x y v w k l q → FinishesBy name at limit keeps x y v w k l text q
+    cases : (q : Result (Unit {0}) Ending) → OnOk q (taken ≡ Ok tt) → Settles name (rows_of s) first x y v w k l q → FinishesBy name at limit budget keeps x y v w k l text q
     cases (Ok a) done h = record { first = first; opened = opened; rows = rows_of s; settles = h; line = last done }
     cases (Err (endings.Refused e)) done h = inr (record { first = first; opened = opened; rows = rows_of s; settles = h; line = tt })
     cases (Err endings.Disk) done h = record { first = first; opened = opened; rows = rows_of s; settles = h; line = tt }

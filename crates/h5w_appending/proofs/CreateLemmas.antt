@@ -243,7 +243,7 @@ pub fills_all : {u v w x : DiskView} (name : List ℕ) (r s c t : Session) → L
     → PutsPieces name c t w x → t.pending ≡ [] → x.faults ≡ w.faults → FillsAll name r t u x
 fills_all {u} {v} {w} {x} name r s c t m calm p calmer none is keeps q all calmest =
     let last : PutsPieces name (closed_of s) t w x = subst (λ (y : Session). PutsPieces name y t w x) is q in
-    let same : t ≡ record (closed_of s) { places = t.places; committed = t.committed; pending = t.pending } = last.session in
+    let same : t ≡ record (closed_of s) { places = t.places; committed = t.committed; pending = t.pending; flushing = t.flushing } = last.session in
     let first : r.pending ≡ writes_of p.puts = p.pieces ∙ ap (λ (ws : List Write). writes_of p.puts ++ ws) none ∙ append-nil (writes_of p.puts) in
     let second : closing_of s ∷ [] ≡ writes_of last.puts = last.pieces ∙ ap (λ (ws : List Write). writes_of last.puts ++ ws) all ∙ append-nil (writes_of last.puts) in
     let both : writes_of p.puts ++ writes_of last.puts ≡ r.pending ++ closing_of r ∷ [] =

@@ -20,7 +20,7 @@ use Rattle.h5w_batches.specs.Reads.{error_of}
 use Rattle.h5w_files.specs.Images.{LeavesFiles}
 use Rattle.h5w_appending.specs.Taken.{AreTaken, ReadsFirst, ReadsLine, of_all, of_first}
 use Rattle.h5w_appending.specs.Appends.{HasTaken, InputRefuses, Stored, columns_of}
-use Rattle.h5w_appending.specs.Appending.{Closes, FlushRefused, HalfTold, IsBegun, IsReady, PutsAll, PutsBy, ReadyUnlessDisk, LineRefused, Steps, StepsOn, TakesInput, TakesInputFrom, TakesInputOn, TakesLine, Told, ending_of}
+use Rattle.h5w_appending.specs.Appending.{BrokeTold, Closes, FlushRefused, HalfTold, IsBegun, IsReady, PutsAll, PutsBy, ReadyUnlessDisk, LineRefused, Steps, StepsOn, TakesInput, TakesInputFrom, TakesInputOn, TakesLine, Told, ending_of}
 use Rattle.h5w_appending.specs.Puts.{writes_of}
 use Rattle.h5w_appending.specs.declared.batching.Ending.{Ending}
 use Rattle.h5w_appending.specs.declared.batching.Ending.TheVariants as endings
@@ -29,6 +29,7 @@ use Rattle.h5w_batches.proofs.LineLemmas.{GoingWhole, first_all, first_none, fir
 use Rattle.h5w_appending.proofs.PutLemmas.{length-writes, puts_there}
 use Rattle.h5w_batches.proofs.InputLemmas.{rose_before}
 use Rattle.h5w_files.proofs.SinkLemmas.{gave_nothing}
+use Rattle.h5w_appending.proofs.StepLemmas.{ready_put}
 use Rattle.h5w_appending.proofs.StoreLemmas.{broke_puts, stored_none, stored_puts}
 
 -- ---- A loop over the lines
@@ -133,7 +134,10 @@ taken_end {v} {w} {k} {l} {x} {y} z o n name s t q numbers r read done step = λ
         → Steps name first q (after_lines no_batches numbers) (Closes first (after_lines no_batches numbers)) (FlushRefused t) u z m o r → TakesInput name first q x y u z m o r
     cases first u m before read (Ok a) h = (numbers, read, subst (λ (b : Batches). Told name first q b u z m o) h.1 h.2)
     cases first u m before read (Err (endings.Refused e)) h = (after_lines no_batches numbers, of_first numbers (all_first read), close_cause name first t numbers u e read before.stored h.1, h.0)
-    cases first u m before read (Err endings.Disk) h = (after_lines no_batches numbers, of_first numbers (all_first read), h)
+    cases first u m before read (Err endings.Disk) h = elim h.1 [
+      | inl same ↦ (after_lines no_batches numbers, of_first numbers (all_first read), subst (λ (b : Batches). BrokeTold name first b u z m o) same h.2)
+      | inr next ↦ (close_batch (after_lines no_batches numbers), of_all numbers read, subst (λ (b : Batches). BrokeTold name first b u z m o) next h.2)
+    ]
     cases first u m before read (Err endings.Sink) h = (close_batch (after_lines no_batches numbers), of_all numbers read, subst (λ (b : Batches). HalfTold name first q b u z m o) h.1 h.2)
 
 -- ---- A line at which it ends
@@ -168,6 +172,15 @@ taken_line {v} {w} {k} {l} {x} {y} {number} z o t n name s q r line ending room 
     let before = h.done first u m counted told in
     cases first u m before (same_columns first s no_batches told.stored.taken) ending (step first (after_lines no_batches h.numbers) u m counted before)
   where
+    -- the batches with the line
+    with_line : (first : Session) → columns_of s ≡ columns_of first → (next : Batches) → TakesLine line first (after_lines no_batches h.numbers) next → AreTaken (columns_of first) (outside x) t next
+    with_line first same next takes =
+        let values = takes.values in
+        let is = subst (λ c. number_line_of c line ≡ Some values) (sym same) takes.spelled in
+        let next_is : after_lines no_batches (h.numbers ++ values ∷ []) ≡ next = lines-append no_batches h.numbers values ∙ sym takes.next_is in
+        subst (AreTaken (columns_of first) (outside x) t) next_is
+        (of_first (h.numbers ++ values ∷ []) (subst (λ c. ReadsFirst c (outside x) (h.numbers ++ values ∷ [])) same (reads_more (columns_of s) x h.going.going.lines h.numbers line values h.going.going.spell is behind)))
+
     cases : (first : Session) (u : DiskView) (m : SinkView) → Told name first q (after_lines no_batches h.numbers) u w m l → columns_of s ≡ columns_of first → (ending : Ending)
         → Steps name first r (after_lines no_batches h.numbers) (TakesLine line first (after_lines no_batches h.numbers)) (LineRefused line (number + 1) q) u z m o (Err ending) → TakesInput name first r (outside x) t u z m o (Err ending)
     cases first u m before same (endings.Refused a) g =
@@ -179,17 +192,15 @@ taken_line {v} {w} {k} {l} {x} {y} {number} z o t n name s q r line ending room 
           line_cause t name first q h.numbers u line (number + 1) a (subst (λ c. ReadsLine c (outside x) h.numbers line) same (reads_line (columns_of s) x h.going.going.lines h.numbers line spell behind)) count before.stored g.1,
           g.0,
         )
-    cases first u m before same endings.Disk g =
-        (after_lines no_batches h.numbers, of_first h.numbers (subst (λ c. ReadsFirst c (outside x) h.numbers) same (reads_first room h.going)), g)
-    cases first u m before same endings.Sink g =
-        let takes = g.1 in
-        let values = takes.values in
-        let is = subst (λ c. number_line_of c line ≡ Some values) (sym same) takes.spelled in
-        let next : g.0 ≡ after_lines no_batches (h.numbers ++ values ∷ []) = takes.next_is ∙ sym (lines-append no_batches h.numbers values) in (
-          after_lines no_batches (h.numbers ++ values ∷ []),
-          of_first (h.numbers ++ values ∷ []) (subst (λ c. ReadsFirst c (outside x) (h.numbers ++ values ∷ [])) same (reads_more (columns_of s) x h.going.going.lines h.numbers line values h.going.going.spell is behind)),
-          subst (λ (b : Batches). HalfTold name first r b u z m o) next g.2,
-        )
+    cases first u m before same endings.Disk g = elim g.1 [
+      | inl still ↦ (
+        after_lines no_batches h.numbers,
+        of_first h.numbers (subst (λ c. ReadsFirst c (outside x) h.numbers) same (reads_first room h.going)),
+        subst (λ (b : Batches). BrokeTold name first b u z m o) still g.2,
+      )
+      | inr takes ↦ (g.0, with_line first same g.0 takes, g.2)
+    ]
+    cases first u m before same endings.Sink g = (g.0, with_line first same g.0 g.1, g.2)
 
 -- ---- The next line is not there
 
@@ -241,30 +252,8 @@ ready_source name t line_errors.OutOfMemory ready = ready
 nothing_read : (columns : ℕ) (x y : SourceView) → AreTaken columns x y no_batches
 nothing_read columns x y = of_first [] (record { lines = []; spell = refl; first = first_none x.left })
 
-begun_end : {v w : DiskView} (n : ℕ) (name : List ℕ) (s t : Session) → PutsAll n name s t v w → IsBegun name s v → (1 ≤ w.pieces) × (t.places.end ≤ w.end name)
-begun_end {v} {w} n name s t q begun =
-    let ps = q.puts in
-    let count : length s.pending ≡ length (writes_of ps.puts) = ap length ps.pieces ∙ ap (λ (ws : List Write). length (writes_of ps.puts ++ ws)) q.all ∙ ap length (append-nil (writes_of ps.puts)) in
-    let puts = length-writes ps.puts in
-    let one = begun.one in
-    let room = begun.room in
-    let left = ps.room in
-    let end = ps.end in
-    let low = begun.end in
-    let ends = ps.ends in
-    (omega (arith, count, puts, one, room, left), omega (arith, end, low, ends))
-
 pub ready_begun : {v w : DiskView} (n : ℕ) (name : List ℕ) (s t : Session) → 1 ≤ s.dataset.shape.cols → PutsAll n name s t v w → IsBegun name s v → IsReady name t w
-ready_begun n name s t columns q begun =
-    let both = begun_end n name s t q begun in
-    record {
-      there = puts_there name q.puts.puts q.puts.disk begun.there;
-      running = ap (λ (y : Session). y.stopped) q.puts.session ∙ begun.running;
-      columns = subst (λ n. 1 ≤ n) (sym (ap (λ (y : Session). y.dataset.shape.cols) q.puts.session)) columns;
-      idle = q.all;
-      room = both.0;
-      end = both.1;
-    }
+ready_begun n name s t columns q begun = let one = begun.one in let room = begun.room in ready_put n name s t begun.there begun.running columns (omega (arith, one, room)) begun.end q
 
 pub told_begun : {u v w : DiskView} (k : SinkView) (n : ℕ) (name : List ℕ) (s t : Session) → u.faults ≡ n → LeavesFiles u.told u v → PutsAll n name s t v w → IsBegun name s v → Told name s t no_batches u w k k
 told_begun k n name s t counted p q begun =

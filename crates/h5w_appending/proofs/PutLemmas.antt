@@ -9,7 +9,7 @@ use Rattle.h5w_model.specs.declared.piece.Write.{Write}
 use Rattle.h5w_image.specs.View.{DiskState, DiskView, IsThere, Leaves, file, put}
 use Rattle.h5w_image.proofs.DiskLemmas.{there_after_put}
 use Rattle.h5w_space.specs.Space.{Space}
-use Rattle.h5w_session.specs.Sessions.{AfterPiece, Freed, Session}
+use Rattle.h5w_session.specs.Sessions.{AfterPiece, Freed, Session, Settles}
 use Rattle.h5w_session.specs.Stands.{Stands}
 use Rattle.h5w_files.specs.Images.{LeavesFiles}
 use Rattle.h5w_appending.specs.Puts.{AllAre, PutsPieces, PutsSome, after_puts, counts_of, showing, writes_of}
@@ -96,31 +96,45 @@ freed_limit false s t is = is.limit
 
 -- what a piece leaves of its session
 record Leaving (s t : Session) (ws : List Write) : Type 0 where
-  session : t ≡ record s { places = t.places; committed = t.committed; pending = t.pending }
+  session : t ≡ record s { places = t.places; committed = t.committed; pending = t.pending; flushing = t.flushing }
   end : t.places.end ≡ s.places.end
   limit : t.places.limit ≡ s.places.limit
   pending : t.pending ≡ ws
 
-leaving : (s : Session) (ws : List Write) (t : Session) → AfterPiece s ws t → Leaving s t ws
-leaving s [] t after =
+-- the last one of a flush
+flush_leaving : (s t : Session) → Settles true s t → Leaving s t []
+flush_leaving s t after =
     let pending : t.pending ≡ [] = ap (λ (x : Session). x.pending) after.1 in
     let committed : t.committed ≡ s.dataset.shape.rows = ap (λ (x : Session). x.committed) after.1 in
+    let flushing : t.flushing ≡ false = ap (λ (x : Session). x.flushing) after.1 in
     record {
-      session = after.1 ∙ (λ i. record s { places = t.places; committed = sym committed i; pending = sym pending i });
+      session = after.1 ∙ (λ i. record s { places = t.places; committed = sym committed i; pending = sym pending i; flushing = sym flushing i });
       end = freed_end s.keeps s.places t.places after.0;
       limit = freed_limit s.keeps s.places t.places after.0;
       pending = pending;
     }
-leaving s (w ∷ ws) t after =
-    let pending : t.pending ≡ w ∷ ws = ap (λ (x : Session). x.pending) after in
+
+-- any other
+plain_leaving : (s t : Session) (ws : List Write) → t ≡ record s { pending = ws } → Leaving s t ws
+plain_leaving s t ws after =
+    let pending : t.pending ≡ ws = ap (λ (x : Session). x.pending) after in
     let committed : t.committed ≡ s.committed = ap (λ (x : Session). x.committed) after in
     let places : t.places ≡ s.places = ap (λ (x : Session). x.places) after in
+    let flushing : t.flushing ≡ s.flushing = ap (λ (x : Session). x.flushing) after in
     record {
-      session = after ∙ (λ i. record s { places = sym places i; committed = sym committed i; pending = sym pending i });
+      session = after ∙ (λ i. record s { places = sym places i; committed = sym committed i; pending = sym pending i; flushing = sym flushing i });
       end = ap (λ (x : Space). x.end) places;
       limit = ap (λ (x : Space). x.limit) places;
       pending = pending;
     }
+
+last_leaving : (b : Bool) (s t : Session) → Settles b s t → Leaving s t []
+last_leaving true s t after = flush_leaving s t after
+last_leaving false s t after = plain_leaving s t [] after
+
+leaving : (s : Session) (ws : List Write) (t : Session) → AfterPiece s ws t → Leaving s t ws
+leaving s [] t after = last_leaving s.flushing s t after
+leaving s (w ∷ ws) t after = plain_leaving s t (w ∷ ws) after
 
 -- it was put
 pub puts_one : {v w : DiskView} (name : List ℕ) (s t : Session) (wr : Write) (ws : List Write) → s.pending ≡ wr ∷ ws → AfterPiece s ws t → ((log : Log) → Stands s log → Stands t (and_now (shows wr) log))
@@ -188,7 +202,7 @@ puts_then {u} {v} {w} name r s t calm p q =
       pieces =
           p.pieces ∙ ap (λ (ws : List Write). writes_of p.puts ++ ws) q.pieces ∙ sym (append_assoc (writes_of p.puts) (writes_of q.puts) t.pending)
           ∙ ap (λ (ws : List Write). ws ++ t.pending) (sym (writes-append p.puts q.puts));
-      session = q.session ∙ (λ i. record (p.session i) { places = t.places; committed = t.committed; pending = t.pending });
+      session = q.session ∙ (λ i. record (p.session i) { places = t.places; committed = t.committed; pending = t.pending; flushing = t.flushing });
       end = q.end ∙ p.end;
       limit = q.limit ∙ p.limit;
       stands = λ log stands. subst (λ (l : Log). Stands t l) (sym (ap (λ (ws : List Write). showing ws log) (writes-append p.puts q.puts) ∙ showing-append (writes_of p.puts) (writes_of q.puts) log))

@@ -1,6 +1,6 @@
 -- The steps of an append: batches that are closed, and lines that are taken.
 use Rattle.std.proofs.Common.{◌≡◌, ◌≢◌, ◌⊎◌, ℕ, ◌+◌, ◌*◌, ◌≤◌, Bool, true, false, List, [], ◌∷◌, ◌++◌, length, ℤ, Option, Some, None, Result, Ok, Err, refl, sym, ap, ◌∙◌, subst, inl, inr, arith, append-nil}
-use Rattle.std.specs.Prelude.{IfSome, IsSome, nat_lt, if◌then◌else◌}
+use Rattle.std.specs.Prelude.{IfSome, IsSome, OnOk, nat_lt, if◌then◌else◌}
 use Rattle.h5w_model.specs.Causes.{Rose}
 use Rattle.h5w_model.specs.Datasets.{Described}
 use Rattle.h5w_model.specs.Lawful.{first_outside}
@@ -17,8 +17,8 @@ use Rattle.h5w_text.specs.Streams.{SinkView, Gave, GaveSome}
 use Rattle.h5w_text.specs.declared.error.ErrorLine.{ErrorLine}
 use Rattle.h5w_text.specs.declared.error.ErrorLine.TheVariants as errors
 use Rattle.h5w_batches.specs.Batches.{Batches, after_line, close_batch}
-use Rattle.h5w_appending.specs.Appends.{HasTaken, columns_of, last_line_of, lines_of}
-use Rattle.h5w_appending.specs.Appending.{AppendsAll, AppendsBy, Closes, FlushRefused, FlushesBy, Halted, HasNone, IsReady, LineRefused, Planned, PutsAll, PutsBy, PutsHalted, Steps, StepsOn, TakesLine, Told, Unflushed, Unput, ValuesRefused}
+use Rattle.h5w_appending.specs.Appends.{HasTaken, Stored, columns_of, last_line_of, lines_of}
+use Rattle.h5w_appending.specs.Appending.{AppendsAll, AppendsBy, Closes, FlushRefused, FlushesBy, Halted, HasNone, IsReady, LineRefused, Planned, PutsAll, PutsBy, PutsHalted, ReadyUnlessDisk, Steps, StepsOn, TakesLine, Told, Unflushed, Unput, ValuesRefused}
 use Rattle.h5w_files.specs.Polls.{count_text}
 use Rattle.h5w_appending.specs.Puts.{writes_of}
 use Rattle.h5w_appending.specs.declared.batching.Ending.{Ending}
@@ -26,7 +26,7 @@ use Rattle.h5w_appending.specs.declared.batching.Ending.TheVariants as endings
 use Rattle.h5w_appending.proofs.BatchLemmas.{batch_lines, batch_rows, nothing_closes, some_batch}
 use Rattle.h5w_appending.proofs.PutLemmas.{length-writes, puts_there}
 use Rattle.h5w_files.proofs.SinkLemmas.{gave_both}
-use Rattle.h5w_appending.proofs.StoreLemmas.{broke_batch, broke_before, stored_batch, stored_same, stored_unflushed, stored_values}
+use Rattle.h5w_appending.proofs.StoreLemmas.{broke_batch, broke_before, broke_puts, stored_batch, stored_puts, stored_same, stored_unflushed, stored_values}
 
 -- ---- Refusals that a session gives which is ready
 
@@ -115,9 +115,6 @@ ready_unput name s p r = record {
   end = omega (arith, r.end, p.end);
 }
 
-pub ready_values : {v w : DiskView} (name : List ℕ) (s t : Session) (values : List ℤ) → Unput name v w → AppendsAll s t values → IsReady name s v → IsReady name t w
-ready_values {v} {w} name s t values p a r = subst (λ (x : Session). IsReady name x w) (sym a.session) (let q = ready_unput name s p r in record { there = q.there; running = q.running; columns = q.columns; idle = q.idle; room = q.room; end = q.end })
-
 pub ready_unflushed : {v w : DiskView} (name : List ℕ) (s t : Session) → Unput name v w → Unflushed s t → IsReady name s v → IsReady name t w
 ready_unflushed {v} {w} name s t p a r =
     let q = ready_unput name s p r in
@@ -132,25 +129,33 @@ ready_unflushed {v} {w} name s t p a r =
       end = let low = q.end in omega (arith, end, low);
     }
 
-pub ready_batch : {v x w : DiskView} (n : ℕ) (name : List ℕ) (s t r : Session) → Unput name v x → Planned name s t x → PutsAll n name t r x w → IsReady name s v → IsReady name r w
-ready_batch {v} {x} {w} n name s t r p plan q ready =
+-- one whose pieces were all put, where there was room for one more
+pub ready_put : {v w : DiskView} (n : ℕ) (name : List ℕ) (s t : Session) → IsThere v name → s.stopped ≡ false → 1 ≤ s.dataset.shape.cols → length s.pending + 1 ≤ v.pieces → s.places.end ≤ v.end name → PutsAll n name s t v w → IsReady name t w
+ready_put {v} {w} n name s t there running columns room low q =
     let ps = q.puts in
     let same = ps.session in
-    let count : length t.pending ≡ length (writes_of ps.puts) = ap length ps.pieces ∙ ap (λ (ws : List Write). length (writes_of ps.puts ++ ws)) q.all ∙ ap length (append-nil (writes_of ps.puts)) in
+    let count : length s.pending ≡ length (writes_of ps.puts) = ap length ps.pieces ∙ ap (λ (ws : List Write). length (writes_of ps.puts ++ ws)) q.all ∙ ap length (append-nil (writes_of ps.puts)) in
     let puts = length-writes ps.puts in
     let end = ps.end in
-    let low = plan.end in
     let ends = ps.ends in
-    let had = plan.room in
     let left = ps.room in
     record {
-      there = puts_there name ps.puts ps.disk (there_unput name p ready.there);
-      running = ap (λ (y : Session). y.stopped) same ∙ plan.rows.stopped ∙ ready.running;
-      columns = subst (λ n. 1 ≤ n) (sym (ap (λ (y : Session). y.dataset.shape.cols) same ∙ ap (λ (d : Described). d.shape.cols) plan.rows.dataset)) ready.columns;
+      there = puts_there name ps.puts ps.disk there;
+      running = ap (λ (y : Session). y.stopped) same ∙ running;
+      columns = subst (λ n. 1 ≤ n) (sym (ap (λ (y : Session). y.dataset.shape.cols) same)) columns;
       idle = q.all;
-      room = omega (arith, count, puts, had, left);
+      room = omega (arith, count, puts, room, left);
       end = omega (arith, end, low, ends);
     }
+
+pub ready_values : {v x w : DiskView} (n : ℕ) (name : List ℕ) (s t r : Session) (values : List ℤ) → Unput name v x → AppendsAll name s t values x → PutsAll n name t r x w → IsReady name s v → IsReady name r w
+ready_values n name s t r values p a q ready =
+    let is = a.added.session in
+    ready_put n name t r (there_unput name p ready.there) (ap (λ (y : Session). y.stopped) is ∙ ready.running) (subst (λ n. 1 ≤ n) (sym (ap (λ (y : Session). y.dataset.shape.cols) is)) ready.columns) a.room a.end q
+
+pub ready_batch : {v x w : DiskView} (n : ℕ) (name : List ℕ) (s t r : Session) → Unput name v x → Planned name s t x → PutsAll n name t r x w → IsReady name s v → IsReady name r w
+ready_batch n name s t r p plan q ready =
+    ready_put n name t r (there_unput name p ready.there) (plan.rows.stopped ∙ ready.running) (subst (λ n. 1 ≤ n) (sym (ap (λ (d : Described). d.shape.cols) plan.rows.dataset)) ready.columns) plan.room plan.end q
 
 -- ---- Batches
 
@@ -189,7 +194,7 @@ close_wanting n name s = λ first b u m counted told. (told, tt)
 -- the image failed
 pub close_failed : {v w : DiskView} {k : SinkView} (n : ℕ) (name : List ℕ) (s c t : Session) → Unput name v w → Unflushed s c → Halted c t → Rose v.faults w.faults → StepsOn n name s t Closes (FlushRefused s) v w k k (Err endings.Disk)
 close_failed {v} {w} n name s c t p a halted rose =
-    λ first b u m counted told. record { broke = broke_before name first c t b halted p rose (stored_unflushed name first s c b a (nothing_put v name) told.stored); gave = told.gave }
+    λ first b u m counted told. (b, inl refl, record { broke = broke_before name first c t b halted p rose (stored_unflushed name first s c b a (nothing_put v name) told.stored); gave = told.gave })
 
 -- no row waits
 pub close_none : {v w : DiskView} {k : SinkView} (n : ℕ) (name : List ℕ) (s t : Session) → Unput name v w → HasNone s t → StepsOn n name s t Closes (FlushRefused s) v w k k (Ok tt)
@@ -203,7 +208,7 @@ close_none {v} {w} {k} n name s t p none = λ first b u m counted told.
 -- the disk failed at a piece
 pub close_broke : {v x w : DiskView} {k : SinkView} (n : ℕ) (name : List ℕ) (s t r : Session) → IsReady name s v → Unput name v x → Planned name s t x → PutsHalted n name t r x w → StepsOn n name s r Closes (FlushRefused s) v w k k (Err endings.Disk)
 close_broke n name s t r ready p plan q =
-    λ first b u m counted told. record { broke = broke_batch n name first s t r b counted (some_columns name first s b told.stored.taken ready) ready.idle p plan q told.stored; gave = told.gave }
+    λ first b u m counted told. (b, inl refl, record { broke = broke_batch n name first s t r b counted (some_columns name first s b told.stored.taken ready) ready.idle p plan q told.stored; gave = told.gave })
 
 -- all was put, and its line was written
 pub close_whole : {v x w : DiskView} {k l : SinkView} (n : ℕ) (name : List ℕ) (s t r : Session) (bytes : List ℕ) → IsReady name s v → Unput name v x → Planned name s t x → PutsAll n name t r x w → bytes ≡ count_text (rows_of s)
@@ -273,24 +278,53 @@ line_closes {v} {k} w l n name s t line number r spelled steps = λ first b u m 
         → Steps name first t b (TakesLine line first b) (LineRefused line number s) u w m l r
     cases first b u m is (Ok a) h = (h.0, record { values = []; spelled = is; next_is = h.1 }, h.2)
     cases first b u m is (Err (endings.Refused e)) h = (h.0, refused e h.1)
-    cases first b u m is (Err endings.Disk) h = h
+    cases first b u m is (Err endings.Disk) h = (h.0, elim h.1 [ inl same ↦ inl same | inr next ↦ inr (record { values = []; spelled = is; next_is = next }) ], h.2)
     cases first b u m is (Err endings.Sink) h = (h.0, record { values = []; spelled = is; next_is = h.1 }, h.2)
 
 nonempty_line : (b : Batches) (values : List ℤ) → 1 ≤ length values → after_line b values ≡ record b { waiting = b.waiting ++ values }
 nonempty_line b [] h = absurd (omega (arith, h))
 nonempty_line b (x ∷ xs) h = refl
 
--- its values are appended, or refused
-pub line_appends : {v w : DiskView} (k : SinkView) (faults : ℕ) (name : List ℕ) (s t : Session) (line : List ℕ) (number n : ℕ) (values : List ℤ) (r : Result (Unit {0}) Ending) → IsReady name s v → Unput name v w → number_line_of (columns_of s) line ≡ Some values
-    → 1 ≤ length values → length values ≡ n * s.dataset.shape.cols → AppendsBy number values s t v w r → StepsOn faults name s t (TakesLine line) (LineRefused line number s) v w k k r
-line_appends {v} {w} k faults name s t line number n values (Ok a) ready p spelled some rows h = λ first b u m counted told.
-    let taken = told.stored.taken in
-    let after = nonempty_line b values some in (
-      after_line b values,
-      record { values = values; spelled = subst (λ c. number_line_of c line ≡ Some values) (columns_same first s b taken) spelled; next_is = refl },
-      subst (λ (x : Batches). Told name first t x u w m k) (sym after) (record { stored = stored_values name first s t b values n (some_columns name first s b taken ready) rows h p told.stored; gave = told.gave }),
-    )
-line_appends {v} {w} k faults name s t line number n values (Err (endings.Refused e)) ready p spelled some rows h = λ first b u m counted told.
+-- they close no batch
+lines_still : {k m : SinkView} (first : Session) (b : Batches) (values : List ℤ) → 1 ≤ length values → Gave (lines_of first b.closed) m k → Gave (lines_of first (after_line b values).closed) m k
+lines_still {k} {m} first b values some gave = subst (λ (y : Batches). Gave (lines_of first y.closed) m k) (sym (nonempty_line b values some)) gave
+
+-- What was stored before a line, and the line's values behind it: its early pieces are pending.
+values_told : {u v x : DiskView} {k m : SinkView} (name : List ℕ) (first s t : Session) (b : Batches) (values : List ℤ) (n : ℕ) → IsReady name s v → Unput name v x → 1 ≤ length values → length values ≡ n * s.dataset.shape.cols → AppendsAll name s t values x
+    → Told name first s b u v m k → Stored name first t (after_line b values) u x
+values_told {u} {v} {x} name first s t b values n ready p some rows a told =
+    subst (λ (y : Batches). Stored name first t y u x) (sym (nonempty_line b values some))
+    (stored_values name first s t b values n (some_columns name first s b told.stored.taken ready) rows ready.idle a p told.stored)
+
+-- a line of these values leads to the batches with them
+takes_values : {u v : DiskView} {k m : SinkView} (name : List ℕ) (first s : Session) (b : Batches) (line : List ℕ) (values : List ℤ) → number_line_of (columns_of s) line ≡ Some values → Told name first s b u v m k → TakesLine line first b (after_line b values)
+takes_values name first s b line values spelled told =
+    record { values = values; spelled = subst (λ c. number_line_of c line ≡ Some values) (columns_same first s b told.stored.taken) spelled; next_is = refl }
+
+-- its values are appended, and their early pieces put
+pub line_whole : {v x w : DiskView} (k : SinkView) (faults : ℕ) (name : List ℕ) (s t r : Session) (line : List ℕ) (number n : ℕ) (values : List ℤ) → IsReady name s v → Unput name v x → number_line_of (columns_of s) line ≡ Some values
+    → 1 ≤ length values → length values ≡ n * s.dataset.shape.cols → AppendsAll name s t values x → PutsAll faults name t r x w → StepsOn faults name s r (TakesLine line) (LineRefused line number s) v w k k (Ok tt)
+line_whole k faults name s t r line number n values ready p spelled some rows a q = λ first b u m counted told. (
+  after_line b values,
+  takes_values name first s b line values spelled told,
+  record { stored = stored_puts name first t r (after_line b values) (q.before ∙ sym counted) q.puts (values_told name first s t b values n ready p some rows a told); gave = lines_still first b values some told.gave },
+)
+
+-- the disk failed at one of those
+pub line_broke : {v x : DiskView} (w : DiskView) (k : SinkView) (faults : ℕ) (name : List ℕ) (s t r : Session) (line : List ℕ) (number n : ℕ) (values : List ℤ) (e : Ending) → IsReady name s v → Unput name v x → number_line_of (columns_of s) line ≡ Some values
+    → 1 ≤ length values → length values ≡ n * s.dataset.shape.cols → AppendsAll name s t values x → PutsBy faults name t r x w (Err e) → StepsOn faults name s r (TakesLine line) (LineRefused line number s) v w k k (Err e)
+line_broke w k faults name s t r line number n values (endings.Refused e) ready p spelled some rows a q = absurd q
+line_broke w k faults name s t r line number n values endings.Disk ready p spelled some rows a q = λ first b u m counted told. (
+  after_line b values,
+  inr (takes_values name first s b line values spelled told),
+  record { broke = broke_puts faults name first t r (after_line b values) counted q (values_told name first s t b values n ready p some rows a told); gave = lines_still first b values some told.gave },
+)
+line_broke w k faults name s t r line number n values endings.Sink ready p spelled some rows a q = absurd q
+
+-- they are refused, or the image failed
+pub line_refused : {v w : DiskView} (k : SinkView) (faults : ℕ) (name : List ℕ) (s t : Session) (line : List ℕ) (number : ℕ) (values : List ℤ) (e : Ending) → Unput name v w → number_line_of (columns_of s) line ≡ Some values
+    → AppendsBy name number values s t v w (Err e) → StepsOn faults name s t (TakesLine line) (LineRefused line number s) v w k k (Err e)
+line_refused {v} {w} k faults name s t line number values (endings.Refused e) p spelled h = λ first b u m counted told.
     (subst (λ (x : Session). Told name first x b u w m k) (sym h.0) (told_unput name first s b p told), refused e h.1)
   where
     refused : (e : ErrorLine) → ValuesRefused number s values e → LineRefused line number s e
@@ -314,8 +348,8 @@ line_appends {v} {w} k faults name s t line number n values (Err (endings.Refuse
     refused errors.Disk c = absurd c
     refused errors.Source c = absurd c
     refused errors.Memory c = tt
-line_appends k faults name s t line number n values (Err endings.Disk) ready p spelled some rows h = λ first b u m counted told. record { broke = broke_before name first s t b h.0 p h.1 told.stored; gave = told.gave }
-line_appends k faults name s t line number n values (Err endings.Sink) ready p spelled some rows h = absurd h
+line_refused k faults name s t line number values endings.Disk p spelled h = λ first b u m counted told. (b, inl refl, record { broke = broke_before name first s t b h.0 p h.1 told.stored; gave = told.gave })
+line_refused k faults name s t line number values endings.Sink p spelled h = absurd h
 
 -- ---- By results
 
@@ -336,3 +370,20 @@ pub puts_ended : {v x : DiskView} (w : DiskView) (k : SinkView) (n : ℕ) (name 
 puts_ended w k n name s t r (endings.Refused e) ready p plan h = absurd h
 puts_ended w k n name s t r endings.Disk ready p plan h = close_broke n name s t r ready p plan h
 puts_ended w k n name s t r endings.Sink ready p plan h = absurd h
+
+-- ---- A line whose values were appended, by the result of its puts
+
+pub line_ready : {v x : DiskView} (w : DiskView) (faults : ℕ) (name : List ℕ) (s t r : Session) (values : List ℤ) (q : Result (Unit {0}) Ending) → IsReady name s v → Unput name v x → AppendsAll name s t values x → PutsBy faults name t r x w q → ReadyUnlessDisk name r w q
+line_ready w faults name s t r values (Ok e) ready p a q = ready_values faults name s t r values p a q ready
+line_ready w faults name s t r values (Err (endings.Refused e)) ready p a q = absurd q
+line_ready w faults name s t r values (Err endings.Disk) ready p a q = tt
+line_ready w faults name s t r values (Err endings.Sink) ready p a q = absurd q
+
+pub line_columns : {x : DiskView} (w : DiskView) (faults : ℕ) (name : List ℕ) (s t r : Session) (values : List ℤ) (q : Result (Unit {0}) Ending) → AppendsAll name s t values x → PutsBy faults name t r x w q → OnOk q (columns_of r ≡ columns_of s)
+line_columns w faults name s t r values (Ok e) a q = ap (λ (y : Session). y.dataset.shape.cols) q.puts.session ∙ ap (λ (y : Session). y.dataset.shape.cols) a.added.session
+line_columns w faults name s t r values (Err e) a q = tt
+
+pub line_appends : {v x : DiskView} (w : DiskView) (k : SinkView) (faults : ℕ) (name : List ℕ) (s t r : Session) (line : List ℕ) (number n : ℕ) (values : List ℤ) (q : Result (Unit {0}) Ending) → IsReady name s v → Unput name v x → number_line_of (columns_of s) line ≡ Some values
+    → 1 ≤ length values → length values ≡ n * s.dataset.shape.cols → AppendsAll name s t values x → PutsBy faults name t r x w q → StepsOn faults name s r (TakesLine line) (LineRefused line number s) v w k k q
+line_appends w k faults name s t r line number n values (Ok e) ready p spelled some rows a q = line_whole k faults name s t r line number n values ready p spelled some rows a q
+line_appends w k faults name s t r line number n values (Err e) ready p spelled some rows a q = line_broke w k faults name s t r line number n values e ready p spelled some rows a q

@@ -10,7 +10,7 @@ use Rattle.h5w_model.specs.Datasets.{Described}
 use Rattle.h5w_image.specs.View.{DiskView, ImageView, Looked, Same}
 use Rattle.h5w_session.specs.Openings.{opened_log}
 use Rattle.h5w_session.specs.Room.{HasRoomFor}
-use Rattle.h5w_session.specs.Sessions.{IsNamed, Session, TakesRows, rows_of, with_values}
+use Rattle.h5w_session.specs.Sessions.{AddsValues, IsNamed, Session, TakesRows, rows_of}
 use Rattle.h5w_session.specs.Stands.{Stands}
 use Rattle.h5w_files.specs.Images.{LeavesFiles, file_image}
 use Rattle.h5w_batches.specs.Batches.{Batches, close_batch, no_batches}
@@ -37,6 +37,16 @@ unput_of {v} {w} r q name other same =
 -- and works through the same reference
 pub reference_of : {v w : ImageView} → Same v w → (r q : ℕ) (xs ys : List ℕ) → v.through ≡ r ∷ xs → w.through ≡ q ∷ ys → q ≡ r
 reference_of same r q xs ys e f = let both : q ∷ ys ≡ r ∷ xs = sym f ∙ same.through ∙ e in cc
+
+-- values that were appended
+pub appends_ok : (v w : DiskView) (r q : ℕ) (name other : List ℕ) (s t : Session) (values : List ℤ) → Same (file_image r name v) (file_image q other w) → AddsValues s values t → ((log : Log) → Stands s log → Stands t (and_now (appends values) log))
+    → HasRoomFor t (file_image q other w) → AppendsAll name s t values w
+appends_ok v w r q name other s t values same added stands room = record {
+  added = added;
+  stands = stands;
+  room = room.pieces;
+  end = subst (λ (m : List ℕ). t.places.end ≤ w.end m) (same_name r q name other v.through w.through same.through).0 room.end;
+}
 
 -- what a flush that was not refused planned
 pub flushes_ok : (v w : DiskView) (r q : ℕ) (name other : List ℕ) (s t : Session) (n : ℕ) → Same (file_image r name v) (file_image q other w) → TakesRows s t → n ≡ length t.pending → (0 < s.waits → 1 ≤ n) → (s.waits ≡ 0 → t ≡ s)
@@ -83,6 +93,10 @@ first_more vs ws xs h = (h.0 ++ xs, sym (append_assoc vs h.0 xs) ∙ ap (λ (x :
 first_idle : (vs ws : List Write) (s : Session) → s.pending ≡ [] → ComesFirst vs (ws ++ s.pending) → ComesFirst vs ws
 first_idle vs ws s idle h = (h.0, h.1 ∙ ap (λ (x : List Write). ws ++ x) idle ∙ append-nil ws)
 
+-- those that are pending later come behind
+first_later : (vs ws : List Write) (s t : Session) → s.pending ≡ [] → ComesFirst vs (ws ++ s.pending) → ComesFirst vs (ws ++ t.pending)
+first_later vs ws s t idle h = first_more vs ws t.pending (first_idle vs ws s idle h)
+
 -- more pieces of it, behind those
 pub first_planned : (vs : List Write) (s t : Session) (ps qs : List (Write × ℕ)) → s.pending ≡ [] → ComesFirst vs (writes_of ps ++ s.pending) → ComesFirst vs (writes_of (ps ++ qs) ++ t.pending)
 first_planned vs s t ps qs idle h =
@@ -97,22 +111,30 @@ first_whole vs s ps qs idle h = subst (λ (x : List Write). ComesFirst vs x) (sy
 
 -- ---- Values of a line
 
-added_taken : (first s : Session) (b : Batches) (values : List ℤ) (n : ℕ) → 1 ≤ columns_of first → length values ≡ n * s.dataset.shape.cols → HasTaken first s b → HasTaken first (with_values s values) (record b { waiting = b.waiting ++ values })
-added_taken first s b values n some rows h =
+added_taken : (first s t : Session) (b : Batches) (values : List ℤ) (n : ℕ) → 1 ≤ columns_of first → length values ≡ n * s.dataset.shape.cols → AddsValues s values t → HasTaken first s b → HasTaken first t (record b { waiting = b.waiting ++ values })
+added_taken first s t b values n some rows a h =
+    let is = a.session in
+    let name : t.name ≡ s.name = ap (λ (x : Session). x.name) is in
+    let root : t.root ≡ s.root = ap (λ (x : Session). x.root) is in
+    let dataset : t.dataset ≡ s.dataset = ap (λ (x : Session). x.dataset) is in
+    let waits : t.waits ≡ s.waits + length values / s.dataset.shape.cols = ap (λ (x : Session). x.waits) is in
+    let low = h.rises in
+    let more = a.rises in
     let same : s.dataset.shape.cols ≡ columns_of first = ap (λ (d : Described). d.shape.cols) h.dataset in
     let count : length values ≡ n * columns_of first = rows ∙ ap (λ c. n * c) same in
     let quotient : length values / s.dataset.shape.cols ≡ n = ap (λ c. length values / c) same ∙ ap (λ k. k / columns_of first) count ∙ divides n (columns_of first) some in
     record {
-      name = h.name;
-      root = h.root;
-      dataset = h.dataset;
-      named = h.named;
-      rows = h.rows;
+      name = name ∙ h.name;
+      root = root ∙ h.root ∙ ap (λ n. record (first.root) { end = n }) (sym (ap (λ (r : Super). r.end) root));
+      dataset = dataset ∙ h.dataset ∙ ap (λ (d : Described). grown d.shape.rows d.layout.address first.dataset) (sym dataset);
+      named = λ n. ap (λ (d : Described). d.layout.address) dataset ∙ h.named n;
+      rows = ap (λ (d : Described). d.shape.rows) dataset ∙ h.rows;
       waits = length-append b.waiting values ∙ ap (λ k. k + length values) h.waits ∙ ap (λ k. s.waits * columns_of first + k) count ∙ distributes s.waits n (columns_of first)
-          ∙ ap (λ k. (s.waits + k) * columns_of first) (sym quotient);
-      limit = h.limit;
-      rises = h.rises;
-      keeps = h.keeps;
+          ∙ ap (λ k. (s.waits + k) * columns_of first) (sym quotient) ∙ ap (λ k. k * columns_of first) (sym waits);
+      limit = a.limit ∙ h.limit;
+      rises = omega (arith, low, more);
+      keeps = ap (λ (x : Session). x.keeps) is ∙ h.keeps;
+      budget = ap (λ (x : Session). x.budget) is ∙ h.budget;
     }
   where
     divides : (n c : ℕ) → 1 ≤ c → n * c / c ≡ n
@@ -121,14 +143,14 @@ added_taken first s b values n some rows h =
     distributes : (a b c : ℕ) → a * c + b * c ≡ (a + b) * c
     distributes a b c = grind arith
 
-added_log : (img : List ℕ) (columns : ℕ) (xs : List ℤ) (s t : Session) (ws : List Write) (b : Batches) (values : List ℤ) → AppendsAll s t values → Settled img columns xs s ws b
+added_log : (img : List ℕ) (columns : ℕ) (xs : List ℤ) (s t : Session) (ws : List Write) (b : Batches) (values : List ℤ) → ((log : Log) → Stands s log → Stands t (and_now (appends values) log)) → Settled img columns xs s ws b
     → Settled img columns xs t ws (record b { waiting = b.waiting ++ values })
-added_log img columns xs s t ws b values a l =
+added_log img columns xs s t ws b values stands l =
     let log = l.of.log in
     record {
       of = record {
         log = and_now (appends values) log;
-        stands = a.stands log l.of.stands;
+        stands = stands log l.of.stands;
         begun = ap (λ (x : Log). record x { events = appends values ∷ log.events }) l.of.begun;
         pieces = l.of.pieces;
         flushed_are = l.of.flushed_are;
@@ -137,16 +159,16 @@ added_log img columns xs s t ws b values a l =
       settled = l.settled;
     }
 
--- values were appended
-pub stored_values : {u v w : DiskView} (name : List ℕ) (first s t : Session) (b : Batches) (values : List ℤ) (n : ℕ) → 1 ≤ columns_of first → length values ≡ n * s.dataset.shape.cols → AppendsAll s t values → Unput name v w
+-- values were appended, by a session that had nothing pending
+pub stored_values : {u v w : DiskView} (name : List ℕ) (first s t : Session) (b : Batches) (values : List ℤ) (n : ℕ) → 1 ≤ columns_of first → length values ≡ n * s.dataset.shape.cols → s.pending ≡ [] → AppendsAll name s t values w → Unput name v w
     → Stored name first s b u v → Stored name first t (record b { waiting = b.waiting ++ values }) u w
-stored_values {u} {v} {w} name first s t b values n some rows a p h = record {
-  taken = subst (λ (x : Session). HasTaken first x (record b { waiting = b.waiting ++ values })) (sym a.session) (added_taken first s b values n some rows h.taken);
+stored_values {u} {v} {w} name first s t b values n some rows idle a p h = record {
+  taken = added_taken first s t b values n some rows a.added h.taken;
   puts = h.puts;
   disk = unput_more name h.puts h.disk p.disk;
   since = h.since;
-  begins = first_still first.pending (writes_of h.puts) s t (ap (λ (x : Session). x.pending) a.session) h.begins;
-  logs = λ img columns xs stands. added_log img columns xs s t (writes_of h.puts) b values a (h.logs img columns xs stands);
+  begins = first_later first.pending (writes_of h.puts) s t idle h.begins;
+  logs = λ img columns xs stands. added_log img columns xs s t (writes_of h.puts) b values a.stands (h.logs img columns xs stands);
 }
 
 -- ---- Refusals
@@ -169,6 +191,7 @@ but_taken first s t b same h =
       limit = ap (λ (x : Session). x.places.limit) same ∙ h.limit;
       rises = omega (arith, low, end);
       keeps = ap (λ (x : Session). x.keeps) same ∙ h.keeps;
+      budget = ap (λ (x : Session). x.budget) same ∙ h.budget;
     }
 
 pub same_log : (img : List ℕ) (columns : ℕ) (xs : List ℤ) (s t : Session) (ws : List Write) (b : Batches) → ((log : Log) → Stands s log → Stands t log) → Settled img columns xs s ws b → Settled img columns xs t ws b
@@ -293,6 +316,7 @@ puts_taken name first s t b p h =
       limit = p.limit ∙ h.limit;
       rises = omega (arith, low, end);
       keeps = ap (λ (x : Session). x.keeps) same ∙ h.keeps;
+      budget = ap (λ (x : Session). x.budget) same ∙ h.budget;
     }
 
 pub writes_both : (P : List Write → Type 0) (ps qs : List (Write × ℕ)) → P (writes_of ps ++ writes_of qs) → P (writes_of (ps ++ qs))
@@ -359,6 +383,7 @@ planned_taken name first s t b w some p h =
       limit = r.limit ∙ h.limit;
       rises = omega (arith, low, more);
       keeps = r.keeps ∙ h.keeps;
+      budget = r.budget ∙ h.budget;
     }
 
 batch_log : (img : List ℕ) (columns : ℕ) (xs : List ℤ) (name : List ℕ) (s t r : Session) (ws vs : List Write) (b : Batches) (v : DiskView) → Planned name s t v → ((log : Log) → Stands t log → Stands r (showing vs log)) → length t.pending ≡ length vs
@@ -451,6 +476,7 @@ stored_none {u} {v} name first p none = record {
     limit = refl;
     rises = omega arith;
     keeps = refl;
+    budget = refl;
   };
   puts = [];
   disk = record { told = p.told ∙ no_puts name u.told; faults = p.faults; through = p.through };

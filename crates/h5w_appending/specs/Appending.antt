@@ -7,7 +7,7 @@ use Rattle.h5w_image.specs.View.{DiskView, IsThere, file}
 use Rattle.h5w_session.specs.Flushes.{SameBut}
 use Rattle.h5w_session.specs.Loads.{NoPlace}
 use Rattle.h5w_session.specs.Refusals.{IsDeepFor, IsFullFor, append_refusal}
-use Rattle.h5w_session.specs.Sessions.{Session, TakesRows, rows_of, stopped_of, with_values}
+use Rattle.h5w_session.specs.Sessions.{AddsValues, Session, TakesRows, rows_of, stopped_of}
 use Rattle.h5w_session.specs.Stands.{Stands}
 use Rattle.h5w_session.specs.declared.refusal.AppendError.TheVariants as append_errors
 use Rattle.h5w_text.specs.Scripts.{number_line_of}
@@ -55,15 +55,18 @@ pub record Halted (s t : Session) : Type 0 where
   pub session : t ≡ stopped_of s
   pub stands : (log : Log) → Stands s log → Stands t log
 
-pub record AppendsAll (s t : Session) (values : List ℤ) : Type 0 where
-  pub session : t ≡ with_values s values
+-- The values were appended. Pieces of rows that are written before their flush may be pending, and there is room for them and one more.
+pub record AppendsAll (name : List ℕ) (s t : Session) (values : List ℤ) (w : DiskView) : Type 0 where
+  pub added : AddsValues s values t
   pub stands : (log : Log) → Stands s log → Stands t (and_now (appends values) log)
+  pub room : length t.pending + 1 ≤ w.pieces
+  pub end : t.places.end ≤ w.end name
 
-abbrev pub AppendsBy : ℕ → List ℤ → Session → Session → DiskView → DiskView → Result (Unit {0}) Ending → Type 0
-AppendsBy line values s t v w (Ok a) = AppendsAll s t values
-AppendsBy line values s t v w (Err (endings.Refused e)) = (t ≡ s) × ValuesRefused line s values e
-AppendsBy line values s t v w (Err endings.Disk) = Halted s t × Rose v.faults w.faults
-AppendsBy line values s t v w (Err endings.Sink) = ⊥
+abbrev pub AppendsBy : List ℕ → ℕ → List ℤ → Session → Session → DiskView → DiskView → Result (Unit {0}) Ending → Type 0
+AppendsBy name line values s t v w (Ok a) = AppendsAll name s t values w
+AppendsBy name line values s t v w (Err (endings.Refused e)) = (t ≡ s) × ValuesRefused line s values e
+AppendsBy name line values s t v w (Err endings.Disk) = Halted s t × Rose v.faults w.faults
+AppendsBy name line values s t v w (Err endings.Sink) = ⊥
 
 -- why a batch is not flushed
 abbrev pub FlushRefused : Session → ErrorLine → Type 0
@@ -143,11 +146,15 @@ pub record BrokeTold (name : List ℕ) (first : Session) (b : Batches) (u w : Di
   pub broke : Broke name first b u w
   pub gave : Gave (lines_of first b.closed) k l
 
+-- the batches before a step or behind it: behind it where the disk failed at a piece of values that were appended
+abbrev pub IsEither : (Batches → Type 0) → Batches → Batches → Type 0
+IsEither Next b at = (at ≡ b) ⊎ Next at
+
 -- A step that leads from some batches to others, by its result; a refusal has its cause.
 abbrev pub Steps : List ℕ → Session → Session → Batches → (Batches → Type 0) → (ErrorLine → Type 0) → DiskView → DiskView → SinkView → SinkView → Result (Unit {0}) Ending → Type 0
 Steps name first t b Next Cause u w k l (Ok a) = (next : Batches) × Next next × Told name first t next u w k l
 Steps name first t b Next Cause u w k l (Err (endings.Refused e)) = Told name first t b u w k l × Cause e
-Steps name first t b Next Cause u w k l (Err endings.Disk) = BrokeTold name first b u w k l
+Steps name first t b Next Cause u w k l (Err endings.Disk) = (at : Batches) × IsEither Next b at × BrokeTold name first at u w k l
 Steps name first t b Next Cause u w k l (Err endings.Sink) = (next : Batches) × Next next × HalfTold name first t next u w k l
 
 -- for each session that began with the first, whatever was stored before, of a disk that had failed so often
@@ -239,21 +246,21 @@ abbrev pub HasSize : DiskView → List ℕ → ℕ → Type 0
 HasSize v name size = IfSome v.told (λ d. Some size ≡ option_map length (file d name))
 
 -- what the look of an open gives
-abbrev pub LooksOpen : List ℕ → List ℕ → ℕ → DiskView → DiskView → Result Session ErrorLine → Type 0
-LooksOpen name at limit v w (Ok s) = IsOpenOver name at limit false v s
-LooksOpen name at limit v w (Err e) = Unopened name at v w e
+abbrev pub LooksOpen : List ℕ → List ℕ → (limit budget : ℕ) → DiskView → DiskView → Result Session ErrorLine → Type 0
+LooksOpen name at limit budget v w (Ok s) = IsOpenOver name at limit budget false v s
+LooksOpen name at limit budget v w (Err e) = Unopened name at v w e
 
 -- what an open gives
-abbrev pub OpensBy : List ℕ → List ℕ → ℕ → Bool → DiskView → DiskView → Result Session ErrorLine → Type 0
-OpensBy name at limit keeps v w (Ok s) = IsOpenOver name at limit keeps v s × IsBegun name s w × LeavesFiles v.told v w
-OpensBy name at limit keeps v w (Err e) = Unopened name at v w e
+abbrev pub OpensBy : List ℕ → List ℕ → (limit budget : ℕ) → Bool → DiskView → DiskView → Result Session ErrorLine → Type 0
+OpensBy name at limit budget keeps v w (Ok s) = IsOpenOver name at limit budget keeps v s × IsBegun name s w × LeavesFiles v.told v w
+OpensBy name at limit budget keeps v w (Err e) = Unopened name at v w e
 
 -- ---- The whole append
 
 -- The session that began over the file took its input and was closed, or the disk failed. The text is the last line of all.
-pub record Finishes (name at : List ℕ) (limit : ℕ) (keeps : Bool) (x y : SourceView) (v w : DiskView) (k l : SinkView) (text : List ℕ) (result : Result (Unit {0}) Ending) : Type 0 where
+pub record Finishes (name at : List ℕ) (limit budget : ℕ) (keeps : Bool) (x y : SourceView) (v w : DiskView) (k l : SinkView) (text : List ℕ) (result : Result (Unit {0}) Ending) : Type 0 where
   pub first : Session
-  pub opened : IsOpenOver name at limit keeps v first
+  pub opened : IsOpenOver name at limit budget keeps v first
   pub rows : ℕ
   pub settles : Settles name rows first x y v w k l result
   pub line : OnOk result (text ≡ closed_text rows)
@@ -265,8 +272,8 @@ pub record BeginsNone (name at : List ℕ) (x y : SourceView) (v w : DiskView) (
   pub unwritten : l ≡ k
 
 -- either, by the result of it all
-abbrev pub FinishesBy : List ℕ → List ℕ → ℕ → Bool → SourceView → SourceView → DiskView → DiskView → SinkView → SinkView → List ℕ → Result (Unit {0}) Ending → Type 0
-FinishesBy name at limit keeps x y v w k l text (Ok a) = Finishes name at limit keeps x y v w k l text (Ok a)
-FinishesBy name at limit keeps x y v w k l text (Err (endings.Refused e)) = BeginsNone name at x y v w k l e ⊎ Finishes name at limit keeps x y v w k l text (Err (endings.Refused e))
-FinishesBy name at limit keeps x y v w k l text (Err endings.Disk) = Finishes name at limit keeps x y v w k l text (Err endings.Disk)
-FinishesBy name at limit keeps x y v w k l text (Err endings.Sink) = Finishes name at limit keeps x y v w k l text (Err endings.Sink)
+abbrev pub FinishesBy : List ℕ → List ℕ → (limit budget : ℕ) → Bool → SourceView → SourceView → DiskView → DiskView → SinkView → SinkView → List ℕ → Result (Unit {0}) Ending → Type 0
+FinishesBy name at limit budget keeps x y v w k l text (Ok a) = Finishes name at limit budget keeps x y v w k l text (Ok a)
+FinishesBy name at limit budget keeps x y v w k l text (Err (endings.Refused e)) = BeginsNone name at x y v w k l e ⊎ Finishes name at limit budget keeps x y v w k l text (Err (endings.Refused e))
+FinishesBy name at limit budget keeps x y v w k l text (Err endings.Disk) = Finishes name at limit budget keeps x y v w k l text (Err endings.Disk)
+FinishesBy name at limit budget keeps x y v w k l text (Err endings.Sink) = Finishes name at limit budget keeps x y v w k l text (Err endings.Sink)

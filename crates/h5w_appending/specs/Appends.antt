@@ -66,7 +66,7 @@ abbrev pub grown : ℕ → ℕ → Described → Described
 grown rows index d = record d { shape = record (d.shape) { rows = rows }; layout = record (d.layout) { address = index } }
 
 -- The session is the one that began, once these batches were closed, and these values wait. An index that the dataset named is where it
--- was, the file may grow to the limit that it had, and its end did not fall.
+-- was, the file may grow to the limit that it had, its end did not fall, and so many bytes as before may wait unwritten.
 pub record HasTaken (first s : Session) (b : Batches) : Type 0 where
   pub name : s.name ≡ first.name
   pub root : s.root ≡ record (first.root) { end = s.root.end }
@@ -77,6 +77,7 @@ pub record HasTaken (first s : Session) (b : Batches) : Type 0 where
   pub limit : s.places.limit ≡ first.places.limit
   pub rises : first.places.end ≤ s.places.end
   pub keeps : s.keeps ≡ first.keeps
+  pub budget : s.budget ≡ first.budget
 
 -- where the file was valid, a log of the session
 abbrev pub OfEachLog : Session → (List ℕ → ℕ → List ℤ → Type 0) → Type 0
@@ -208,12 +209,12 @@ open_line opens.OutOfMemory = errors.Memory
 
 -- The session that begins over the file, which is there if the disk tells its files: it is open with both flags of writers pending, and what is retired stays so where
 -- that is asked for. Over a valid file it is that of the log to which nothing happened yet.
-pub record IsOpenOver (name at : List ℕ) (limit : ℕ) (keeps : Bool) (v : DiskView) (first : Session) : Type 0 where
+pub record IsOpenOver (name at : List ℕ) (limit budget : ℕ) (keeps : Bool) (v : DiskView) (first : Session) : Type 0 where
   pub there : IsThere v name
   pub opened : Session
-  pub begun : HasBegun at limit opened
+  pub begun : HasBegun at limit budget opened
   pub is : first ≡ record opened { keeps = keeps }
-  pub exact : (img : List ℕ) → told_bytes v.told name ≡ Some img → IsOpenedOver img (length img) at limit opened
+  pub exact : (img : List ℕ) → told_bytes v.told name ≡ Some img → IsOpenedOver img (length img) at limit budget opened
   pub stands : (img : List ℕ) (rows columns : ℕ) (values : List ℤ) (sm : Summary) → told_bytes v.told name ≡ Some img → Valid img at sm → Reads img at rows columns values
       → Stands first (opened_log img columns values)
 
@@ -287,9 +288,9 @@ pub record Broken (name at : List ℕ) (first : Session) (b : Batches) (v w : Di
   pub holds : OfValid name at v (λ columns values. Holds name at w columns (values ++ values_of b.closed))
 
 -- All was appended: each line is of numbers, and the end of the input closes the last batch.
-pub record AppendsWhole (name at : List ℕ) (limit : ℕ) (keeps : Bool) (s t : SourceView) (v w : DiskView) (front last : List ℕ) : Type 0 where
+pub record AppendsWhole (name at : List ℕ) (limit budget : ℕ) (keeps : Bool) (s t : SourceView) (v w : DiskView) (front last : List ℕ) : Type 0 where
   pub first : Session
-  pub opened : IsOpenOver name at limit keeps v first
+  pub opened : IsOpenOver name at limit budget keeps v first
   pub numbers : List (List ℤ)
   pub read : ReadsAll (columns_of first) s t numbers
   pub closed : Closed name at first (close_batch (after_lines no_batches numbers)) v w
@@ -298,9 +299,9 @@ pub record AppendsWhole (name at : List ℕ) (limit : ℕ) (keeps : Bool) (s t :
   pub last_is : last ≡ closed_text (rows_after (columns_of first) first.dataset.shape.rows (close_batch (after_lines no_batches numbers)).closed)
 
 -- A refusal, behind which the session was closed: what waits for the end of its batch is dropped.
-pub record AppendsSome (name at : List ℕ) (limit : ℕ) (keeps : Bool) (s t : SourceView) (v w : DiskView) (e : ErrorLine) (front last : List ℕ) : Type 0 where
+pub record AppendsSome (name at : List ℕ) (limit budget : ℕ) (keeps : Bool) (s t : SourceView) (v w : DiskView) (e : ErrorLine) (front last : List ℕ) : Type 0 where
   pub first : Session
-  pub opened : IsOpenOver name at limit keeps v first
+  pub opened : IsOpenOver name at limit budget keeps v first
   pub batches : Batches
   pub taken : AreTaken (columns_of first) s t batches
   pub refused : InputRefuses name first s t batches v e
@@ -309,9 +310,9 @@ pub record AppendsSome (name at : List ℕ) (limit : ℕ) (keeps : Bool) (s t : 
   pub last_is : last ≡ error_text e
 
 -- The disk failed behind these batches.
-pub record AppendsUpTo (name at : List ℕ) (limit : ℕ) (keeps : Bool) (s t : SourceView) (v w : DiskView) (front last : List ℕ) : Type 0 where
+pub record AppendsUpTo (name at : List ℕ) (limit budget : ℕ) (keeps : Bool) (s t : SourceView) (v w : DiskView) (front last : List ℕ) : Type 0 where
   pub first : Session
-  pub opened : IsOpenOver name at limit keeps v first
+  pub opened : IsOpenOver name at limit budget keeps v first
   pub batches : Batches
   pub taken : AreTaken (columns_of first) s t batches
   pub broken : Broken name at first batches v w
@@ -326,22 +327,22 @@ pub record AppendsNone (name at : List ℕ) (s t : SourceView) (v w : DiskView) 
   pub last_is : last ≡ error_text e
 
 -- An append between two states of a source and a disk, by its answer and by what it writes: a line for each batch, and then a last line.
-abbrev pub AppendsTo : List ℕ → List ℕ → ℕ → Bool → SourceView → SourceView → DiskView → DiskView → Result (Unit {0}) ErrorLine → List ℕ → List ℕ → Type 0
-AppendsTo name at limit keeps s t v w (Ok a) front last = AppendsWhole name at limit keeps s t v w front last
-AppendsTo name at limit keeps s t v w (Err e) front last =
-    AppendsNone name at s t v w e front last ⊎ (AppendsSome name at limit keeps s t v w e front last ⊎ ((e ≡ errors.Disk) × AppendsUpTo name at limit keeps s t v w front last))
+abbrev pub AppendsTo : List ℕ → List ℕ → (limit budget : ℕ) → Bool → SourceView → SourceView → DiskView → DiskView → Result (Unit {0}) ErrorLine → List ℕ → List ℕ → Type 0
+AppendsTo name at limit budget keeps s t v w (Ok a) front last = AppendsWhole name at limit budget keeps s t v w front last
+AppendsTo name at limit budget keeps s t v w (Err e) front last =
+    AppendsNone name at s t v w e front last ⊎ (AppendsSome name at limit budget keeps s t v w e front last ⊎ ((e ≡ errors.Disk) × AppendsUpTo name at limit budget keeps s t v w front last))
 
 -- The sink failed at the line of a batch: the file has that batch, those before it, and no more. The session was closed behind it, unless
 -- the disk failed at that.
-pub record AppendsCut (name at : List ℕ) (limit : ℕ) (keeps : Bool) (s t : SourceView) (v w : DiskView) (k l : SinkView) : Type 0 where
+pub record AppendsCut (name at : List ℕ) (limit budget : ℕ) (keeps : Bool) (s t : SourceView) (v w : DiskView) (k l : SinkView) : Type 0 where
   pub first : Session
-  pub opened : IsOpenOver name at limit keeps v first
+  pub opened : IsOpenOver name at limit budget keeps v first
   pub batches : Batches
   pub taken : AreTaken (columns_of first) s t batches
   pub stops : StopsAtLine first batches k l
   pub left : Closed name at first batches v w ⊎ Broken name at first batches v w
 
 -- how an append ends: the lines of all its batches are written before the last line, or the sink fails at one of them
-abbrev pub AppendEnds : List ℕ → List ℕ → ℕ → Bool → SourceView → SourceView → DiskView → DiskView → Status → SinkView → SinkView → Type 0
-AppendEnds name at limit keeps s t v w status k l =
-    EndsBehind {A = Unit {0}} (AppendsTo name at limit keeps s t v w) status k l ⊎ ((status ≡ statuses.Sink) × AppendsCut name at limit keeps s t v w k l)
+abbrev pub AppendEnds : List ℕ → List ℕ → (limit budget : ℕ) → Bool → SourceView → SourceView → DiskView → DiskView → Status → SinkView → SinkView → Type 0
+AppendEnds name at limit budget keeps s t v w status k l =
+    EndsBehind {A = Unit {0}} (AppendsTo name at limit budget keeps s t v w) status k l ⊎ ((status ≡ statuses.Sink) × AppendsCut name at limit budget keeps s t v w k l)

@@ -41,7 +41,7 @@ AllAre n (c ∷ cs) = (c ≡ n) × AllAre n cs
 pub record PutsPieces (name : List ℕ) (s t : Session) (v w : DiskView) : Type 0 where
   pub puts : List (Write × ℕ)
   pub pieces : s.pending ≡ writes_of puts ++ t.pending
-  pub session : t ≡ record s { places = t.places; committed = t.committed; pending = t.pending }
+  pub session : t ≡ record s { places = t.places; committed = t.committed; pending = t.pending; flushing = t.flushing }
   pub end : t.places.end ≡ s.places.end
   pub limit : t.places.limit ≡ s.places.limit
   pub stands : (log : Log) → Stands s log → Stands t (showing (writes_of puts) log)

@@ -192,6 +192,7 @@ fn look_open<D: Disk>(
     size: u64,
     name: &[u8],
     limit: u64,
+    budget: u64,
     disk: &mut D,
 ) -> Result<WriterCore, ErrorLine>
     requires there { IsThere (D.view disk.old) file.now }
@@ -199,11 +200,12 @@ fn look_open<D: Disk>(
     requires name { length name.now ≤ 512 }
     requires low { 1024 ≤ limit }
     requires high { limit ≤ 2 ^ 40 }
+    requires budget { (1024 ≤ budget) × (budget ≤ 2 ^ 30) }
     ensures disk { LeavesFiles (D.view disk.old).told (D.view disk.old) (D.view disk.new) }
-    ensures opens { LooksOpen file.now name.now limit (D.view disk.old) (D.view disk.new) result }
+    ensures opens { LooksOpen file.now name.now limit budget (D.view disk.old) (D.view disk.new) result }
 {
     let mut image = DiskImage { disk, name: file };
-    match h5w_session_open::open(alloc, &mut image, size, name, limit) {
+    match h5w_session_open::open(alloc, &mut image, size, name, limit, budget) {
         Ok(session) => Ok(session),
         Err(error) => Err(open_line(error)),
     }
@@ -226,20 +228,22 @@ fn open<D: Disk>(
     file: &str,
     name: &[u8],
     limit: u64,
+    budget: u64,
     keeps: bool,
     disk: &mut D,
 ) -> Result<WriterCore, ErrorLine>
     requires name { length name.now ≤ 512 }
     requires low { 1024 ≤ limit }
     requires high { limit ≤ 2 ^ 40 }
-    ensures { OpensBy file.now name.now limit keeps (D.view disk.old) (D.view disk.new) result }
+    requires budget { (1024 ≤ budget) × (budget ≤ 2 ^ 30) }
+    ensures { OpensBy file.now name.now limit budget keeps (D.view disk.old) (D.view disk.new) result }
 {
     let size = match disk.size(file) {
         Ok(Some(size)) => size,
         Ok(None) => return Err(ErrorLine::Missing),
         Err(_) => return Err(ErrorLine::Disk),
     };
-    let mut session = look_open(alloc, file, size, name, limit, disk)?;
+    let mut session = look_open(alloc, file, size, name, limit, budget, disk)?;
     match disk.reserve(file, session.pending() + 1, session.end()) {
         Ok(()) => {}
         Err(_) => return Err(ErrorLine::Memory),
@@ -254,6 +258,7 @@ fn append_all<S: Source, K: Sink, D: Disk>(
     file: &str,
     name: &[u8],
     limit: u64,
+    budget: u64,
     keeps: bool,
     text: &mut Vec<u8>,
     source: &mut S,
@@ -263,11 +268,12 @@ fn append_all<S: Source, K: Sink, D: Disk>(
     requires name { length name.now ≤ 512 }
     requires low { 1024 ≤ limit }
     requires high { limit ≤ 2 ^ 40 }
-    ensures finishes { FinishesBy file.now name.now limit keeps (S.view source.old) (S.view source.new) (D.view disk.old) (D.view disk.new) (K.view sink.old) (K.view sink.new) text.new.items result }
+    requires budget { (1024 ≤ budget) × (budget ≤ 2 ^ 30) }
+    ensures finishes { FinishesBy file.now name.now limit budget keeps (S.view source.old) (S.view source.new) (D.view disk.old) (D.view disk.new) (K.view sink.old) (K.view sink.new) text.new.items result }
     ensures source { SameSource (S.view source.old) (S.view source.new) }
 {
     let faults = disk.faults();
-    let mut session = match open(alloc, file, name, limit, keeps, disk) {
+    let mut session = match open(alloc, file, name, limit, budget, keeps, disk) {
         Ok(session) => session,
         Err(error) => return Err(Ending::Refused(error)),
     };
@@ -277,13 +283,15 @@ fn append_all<S: Source, K: Sink, D: Disk>(
 
 /// Appends the numbers of the source to the dataset that the root group's link of `name` leads to in the file of the name `file`, which
 /// grows to `limit` bytes at most: each line has the values of rows, and an empty line and the end of the input close a batch. A batch
-/// becomes visible at once, and how many rows the file has then is written. Where `keeps` is set no place that is let go is used again.
+/// becomes visible at once, and how many rows the file has then is written. Of a batch that leaves more than `budget` bytes unwritten some rows
+/// are written before its end, and no reader reaches them. Where `keeps` is set no place that is let go is used again.
 /// After a refusal what was not closed is dropped, and nobody writes the file.
 pub fn append<S: Source, K: Sink, D: Disk>(
     alloc: Global,
     file: &str,
     name: &[u8],
     limit: u64,
+    budget: u64,
     keeps: bool,
     source: &mut S,
     sink: &mut K,
@@ -292,12 +300,13 @@ pub fn append<S: Source, K: Sink, D: Disk>(
     requires name { length name.now ≤ 512 }
     requires low { 1024 ≤ limit }
     requires high { limit ≤ 2 ^ 40 }
-    ensures appends { AppendEnds file.now name.now limit keeps (S.view source.old) (S.view source.new) (D.view disk.old) (D.view disk.new) result (K.view sink.old) (K.view sink.new) }
+    requires budget { (1024 ≤ budget) × (budget ≤ 2 ^ 30) }
+    ensures appends { AppendEnds file.now name.now limit budget keeps (S.view source.old) (S.view source.new) (D.view disk.old) (D.view disk.new) result (K.view sink.old) (K.view sink.new) }
     ensures source { SameSource (S.view source.old) (S.view source.new) }
 {
     let mut text = Vec::new(alloc);
     match append_all(
-        alloc, file, name, limit, keeps, &mut text, source, sink, disk,
+        alloc, file, name, limit, budget, keeps, &mut text, source, sink, disk,
     ) {
         Ok(()) => say(&text, Status::Done, sink),
         Err(Ending::Refused(error)) => tell(alloc, &error, sink),

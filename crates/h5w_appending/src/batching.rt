@@ -54,7 +54,8 @@ impl From<LineError> for Ending {
     }
 }
 
-/// Appends the values of the line of this number. Where the image failed the session is stopped.
+/// Appends the values of the line of this number: pieces of rows that are written before their flush are pending then. Where the image failed
+/// the session is stopped.
 fn append_values<D: Disk>(
     session: &mut WriterCore,
     values: &[i128],
@@ -65,7 +66,7 @@ fn append_values<D: Disk>(
     requires ready { IsReady file.now session.old (D.view disk.old) }
     requires rows { AreRows session.old values.now }
     ensures unput { Unput file.now (D.view disk.old) (D.view disk.new) }
-    ensures appends { AppendsBy line values.now session.old session.new (D.view disk.old) (D.view disk.new) result }
+    ensures appends { AppendsBy file.now line values.now session.old session.new (D.view disk.old) (D.view disk.new) result }
 {
     let mut image = DiskImage { disk, name: file };
     match session.append(values, &mut image) {
@@ -168,7 +169,8 @@ pub fn close_batch<K: Sink, D: Disk>(
     }
 }
 
-/// Appends the values of a line of the input, whose rows have so many; an empty one closes a batch.
+/// Appends the values of a line of the input, whose rows have so many, and puts the pieces of those rows that are written before their flush;
+/// an empty one closes a batch.
 pub fn take_line<K: Sink, D: Disk>(
     alloc: Global,
     columns: u64,
@@ -192,5 +194,6 @@ pub fn take_line<K: Sink, D: Disk>(
     if values.is_empty() {
         return close_batch(session, file, faults, text, sink, disk);
     }
-    append_values(session, &values, number, file, disk)
+    append_values(session, &values, number, file, disk)?;
+    put_all(session, file, faults, disk)
 }

@@ -1,9 +1,9 @@
 -- What a session knows of a file whose array is a header alone.
-use Rattle.std.proofs.Common.{◌≡◌, ℕ, List, [], ◌∷◌, ◌++◌, Result, Ok, Err, refl, sym, ◌∙◌, ap, subst, inl}
+use Rattle.std.proofs.Common.{◌≡◌, ℕ, false, List, [], ◌∷◌, ◌++◌, Result, Ok, Err, refl, sym, ◌∙◌, ap, subst, inl}
 use Rattle.std.specs.Prelude.{cond}
 use Rattle.std.proofs.lemmas.Bool.{eq-eqb}
 use Rattle.h5w_model.specs.Numbers.{range, undefined}
-use Rattle.h5w_model.specs.Images.{apply}
+use Rattle.h5w_model.specs.Images.{Misses, apply}
 use Rattle.h5w_model.specs.Arrays.{EahdFields, eahd_at, eahd_len}
 use Rattle.h5w_model.specs.Programs.{Prog, ret, eval, visits, Visit}
 use Rattle.h5w_model.specs.Datasets.{Described}
@@ -51,20 +51,21 @@ alone_begins img name m s r x begun =
     let known = begin_knows img name m no_chunk s r (alone_nowhere img name m r x).map begun (λ none. absurd (x.named none)) in
     (record { knows = known.knows; alone = x }, known.is)
 
--- a write that misses its ranges leaves it
-pub alone_missed : (img name : List ℕ) (m : Moment) (w : Write) → Represents img name m → IsHeaderAlone img m.dataset → MissesEach w (m.fixed ++ m.behind) → IsHeaderAlone (apply w img) m.dataset
+-- a write that misses the ranges of its blocks leaves it
+pub alone_missed : (img name : List ℕ) (m : Moment) (w : Write) → Represents img name m → IsHeaderAlone img m.dataset → ((u : Used) → Among u (m.fixed ++ m.behind) → u.chunk ≡ false → Misses w u.place u.len)
+    → IsHeaderAlone (apply w img) m.dataset
 alone_missed img name m w r x off =
     let at : ℕ = m.dataset.layout.address in
     let u : Used = block_at at eahd_len in
     let among : Among u m.fixed = subst (λ (us : List Used). Among u us) (sym (alone_nowhere img name m r x).fixed) (inl refl) in
-    let same = range-apply_missed w img at eahd_len (off u (among_left u m.fixed m.behind among)) (header_fits img at x.fields x.read) in
+    let same = range-apply_missed w img at eahd_len (off u (among_left u m.fixed m.behind among) refl) (header_fits img at x.fields x.read) in
     record { kind = x.kind; named = x.named; fields = x.fields; read = ap (λ (b : List ℕ). eahd_at b at) same ∙ x.read; none = x.none }
 
 pub alone_ends : AloneEnds
 alone_ends img name m n s w x e fits =
     let off : MissesEach w (m.fixed ++ m.behind) = λ u a. ends_missed img m n w x.knows.file.apart e u (among_right u m.root (m.header ++ (m.fixed ++ m.behind)) (among_right u m.header (m.fixed ++ m.behind) a)) in
     let known = end_known img name m n no_chunk s w x.knows e fits in
-    (record { knows = known.knows; alone = subst (λ (y : Moment). IsHeaderAlone (apply w img) y.dataset) (sym e.is) (alone_missed img name m w x.knows.file x.alone off) }, known.is)
+    (record { knows = known.knows; alone = subst (λ (y : Moment). IsHeaderAlone (apply w img) y.dataset) (sym e.is) (alone_missed img name m w x.knows.file x.alone (λ u a block. off u a)) }, known.is)
 
 pub alone_freed : AloneFreed
 alone_freed img name m s t x c =

@@ -67,7 +67,7 @@ pub fn session_of(
 ) -> Result<Result<(u64, u64, Option<u8>), OpenError>, OutOfMemory> {
     let mut image = MemImage::of(alloc, bytes)?;
     let size = image.len();
-    let session = match h5w_session_open::open(alloc, &mut image, size, b"data", 1 << 20) {
+    let session = match h5w_session_open::open(alloc, &mut image, size, b"data", 1 << 20, 1 << 16) {
         Ok(session) => session,
         Err(error) => return Ok(Err(error)),
     };

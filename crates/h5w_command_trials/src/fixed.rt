@@ -51,7 +51,7 @@ open 1 => reader 1 open
 look 1 9 => reader 1 rows 2
 
 # more rows than the array has chunks for
-$ play --type u8 --chunk 1 --columns 30000 --width 1 --fixed
+$ play --type u8 --chunk 1 --columns 30000 --width 1 --fixed --budget 1073741824
 append 7*30000 => appended 1
 append 7*30000 => appended 2
 append 7*30000 => appended 3

@@ -7,6 +7,8 @@ mod appends;
 #[cfg(test)]
 mod changing;
 #[cfg(test)]
+mod early;
+#[cfg(test)]
 mod edges;
 #[cfg(test)]
 mod files;

@@ -1,6 +1,9 @@
 use crate::steps::{ran, step_of};
 use h5w_image::MemDisk;
+use std::process::Abort;
+use std::sync::Wait;
 use std::test::Fail;
+use std::thread::Threads;
 
 /// What is wanted of runs in threads whose text no schedule changes; the form is that of the other rows. The creation has five pieces where
 /// rows are single values, and four where they have columns.
@@ -110,16 +113,18 @@ fn rows_told(line: &str) -> Option<u64> {
     }
 }
 
-#[test]
-fn batches_are_flushed_beside_readers(rt: HostRuntime) -> Result<(), Fail> {
+/// Panics where a run of two readers beside the batches 1 2 3 and 4 is told otherwise than by these lines of its flushes, what readers may
+/// find, and all rows.
+fn check_flushes<R: Threads + Wait + Sync + Abort + AllocGlobal>(
+    rt: &R,
+    words: &str,
+    flushes: &str,
+) -> Result<(), Fail> {
     let mut disk = MemDisk::with_faults(rt.alloc(), &[])?;
-    let step = step_of(&rt, "1 2 3\n-\n4")?;
-    let words = " live --type i32le --chunk 2 --readers 2 --polls 3";
-    let (status, text) = ran(&rt, words, &step, &mut disk)?;
+    let step = step_of(rt, "1 2 3\n-\n4")?;
+    let (status, text) = ran(rt, words, &step, &mut disk)?;
     assert_eq!(rt; status, 0);
-    let text = text
-        .strip_prefix("flush 11 3\nflush 13 4\n")
-        .ok_or("flushes")?;
+    let text = text.strip_prefix(flushes).ok_or("flushes")?;
     let text = text.strip_suffix("done 4\n").ok_or("all rows")?;
     assert_eq!(rt; text.split('\n').count(), 7);
     let mut seen = 0;
@@ -131,4 +136,13 @@ fn batches_are_flushed_beside_readers(rt: HostRuntime) -> Result<(), Fail> {
         seen = rows;
     }
     Ok(())
+}
+
+// a chunk of 512 rows has four pieces, which are there before its flush where the budget is 1,024 bytes
+#[test]
+fn batches_are_flushed_beside_readers(rt: HostRuntime) -> Result<(), Fail> {
+    let words = " live --type i32le --readers 2 --polls 3 --chunk 2";
+    check_flushes(&rt, words, "flush 11 3\nflush 13 4\n")?;
+    let words = " live --type i32le --readers 2 --polls 3 --chunk 512 --budget 1024";
+    check_flushes(&rt, words, "flush 13 3\nflush 15 4\n")
 }

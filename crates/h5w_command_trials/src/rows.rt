@@ -266,11 +266,12 @@ $ play --type i32le --chunk 65535 --limit 1024
 append 7 => appended 1
 flush => full space 560 262140 1024
 
-# a reader of chunks of 65,535 rows
+# a reader of chunks of 65,535 rows, of which the first is past the budget
 $ play --type i32le --chunk 65535
-append 7 -8 => appended 2
-flush => flushing 516
-write 18446744073709551615 => written 516 pending 0
+append 7 -8 => appended 2 pending 512
+write 18446744073709551615 => written 512 pending 0
+flush => flushing 4
+write 18446744073709551615 => written 4 pending 0
 open 1 => reader 1 open
 look 1 9 => reader 1 rows 2
 read 1 0 2 => reader 1 read
@@ -282,7 +283,7 @@ append 7 => appended 1
 flush => full space 562 262144 1024
 
 # a reader of chunks of 65,536 rows
-$ play --type i32le --chunk 65536
+$ play --type i32le --chunk 65536 --budget 1073741824
 append 7 -8 => appended 2
 flush => flushing 516
 write 18446744073709551615 => written 516 pending 0

@@ -1,6 +1,7 @@
 //! Rows of a table of text, each of which runs the program in memory, step by step.
 
 use crate::appends::APPEND_ROWS;
+use crate::early::EARLY_ROWS;
 use crate::files::FILE_ROWS;
 use crate::fixed::FIXED_ROWS;
 use crate::lives::LIVE_ROWS;
@@ -286,6 +287,9 @@ fn rows_are_answered(rt: HostRuntime) -> Result<(), Fail> {
         check_row(&rt, row)?;
     }
     for row in APPEND_ROWS.split('#').skip(1) {
+        check_row(&rt, row)?;
+    }
+    for row in EARLY_ROWS.split('#').skip(1) {
         check_row(&rt, row)?;
     }
     for row in LIVE_ROWS.split('#').skip(1) {

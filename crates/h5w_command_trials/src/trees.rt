@@ -39,7 +39,7 @@ read 1 0 3 => reader 1 read
 look 1 99 => reader 1 values 1 2 3 4 5 6
 
 # one column in two dimensions, and a value outside its type
-$ play --type i8 --chunk 1 --columns 1 --width 65536
+$ play --type i8 --chunk 1 --columns 1 --width 65536 --budget 1073741824
 append 1 -129 => outofrange 1 -129
 append 127 -128 => appended 2
 flush => flushing 263

@@ -391,11 +391,6 @@ $ play --type u16 --chunk 2
 => error usage
 = 2
 
-# a budget is no word of the program
-$ play --type i32le --chunk 2 --budget 1024
-=> error usage
-= 2
-
 # a stop after 16 of the 17 pieces of a data block's copy
 $ play --type u8 --chunk 1
 append 0*32757 => appended 32757
@@ -411,7 +406,7 @@ read 1 32756 1 => reader 1 read
 look 1 9 => reader 1 values 0
 
 # as many chunks as there may be
-$ play --type u8 --chunk 1
+$ play --type u8 --chunk 1 --budget 1073741824
 append 0*32765 => appended 32765
 append 0*32765 => appended 65530
 append 0*32765 => appended 98295

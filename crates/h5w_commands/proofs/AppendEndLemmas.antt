@@ -28,9 +28,9 @@ use Rattle.h5w_commands.specs.Appending.{AppendEndsWell, HasInput, HasRows}
 use Rattle.h5w_commands.proofs.PlayLemmas.{gave_nothing, rose_before}
 
 -- memory was wanting before the file was looked at
-pub appends_nothing : {s : SourceView} {v : DiskView} {k l : SinkView} (name at : List ℕ) (limit : ℕ) (keeps : Bool) (status : Status) → Said (error_text errors.Memory) statuses.Memory status k l
-    → AppendEnds name at limit keeps s s v v status k l
-appends_nothing {s} {v} {k} name at limit keeps status said = inl (record {
+pub appends_nothing : {s : SourceView} {v : DiskView} {k l : SinkView} (name at : List ℕ) (limit budget : ℕ) (keeps : Bool) (status : Status) → Said (error_text errors.Memory) statuses.Memory status k l
+    → AppendEnds name at limit budget keeps s s v v status k l
+appends_nothing {s} {v} {k} name at limit budget keeps status said = inl (record {
   answer = Err errors.Memory;
   front = [];
   last = error_text errors.Memory;
@@ -56,7 +56,7 @@ at_file None name bytes P e h = absurd (cc)
 at_file (Some d) name bytes P e h = subst P e h
 
 -- the session that begins has the dataset that was found
-found_dataset : {name at : List ℕ} {limit : ℕ} {keeps : Bool} {s : SourceView} {v : DiskView} (first : Session) → IsOpenOver name at limit keeps v first → (h : HasInput name at s v) → first.dataset ≡ h.found.header.dataset
+found_dataset : {name at : List ℕ} {limit budget : ℕ} {keeps : Bool} {s : SourceView} {v : DiskView} (first : Session) → IsOpenOver name at limit budget keeps v first → (h : HasInput name at s v) → first.dataset ≡ h.found.header.dataset
 found_dataset first o h =
     let x = o.exact h.bytes h.told in
     let same : x.found ≡ h.found = let e = sym x.is ∙ h.is in cc in
@@ -110,34 +110,34 @@ opened_so h disk e u (inl (inl broke)) = absurd (disk (u.cause broke))
 opened_so h disk e u (inl (inr wanting)) = ap status_of wanting
 opened_so h disk e u (inr refused) = absurd (h.unrefused refused.0 refused.2)
 
-error_ends : {name at : List ℕ} {limit : ℕ} {keeps : Bool} {s t : SourceView} {v w : DiskView} (front last : List ℕ) (h : HasInput name at s v) → (Rose s.faults t.faults → ⊥) → (Rose v.faults w.faults → ⊥) → (e : ErrorLine)
-    → AppendsNone name at s t v w e front last ⊎ (AppendsSome name at limit keeps s t v w e front last ⊎ ((e ≡ errors.Disk) × AppendsUpTo name at limit keeps s t v w front last))
+error_ends : {name at : List ℕ} {limit budget : ℕ} {keeps : Bool} {s t : SourceView} {v w : DiskView} (front last : List ℕ) (h : HasInput name at s v) → (Rose s.faults t.faults → ⊥) → (Rose v.faults w.faults → ⊥) → (e : ErrorLine)
+    → AppendsNone name at s t v w e front last ⊎ (AppendsSome name at limit budget keeps s t v w e front last ⊎ ((e ≡ errors.Disk) × AppendsUpTo name at limit budget keeps s t v w front last))
     → (status_of e ≡ statuses.Limit) ⊎ (status_of e ≡ statuses.Memory)
-error_ends {name} {at} {limit} {keeps} {s} {t} {v} front last h source disk e (inl none) =
+error_ends {name} {at} {limit} {budget} {keeps} {s} {t} {v} front last h source disk e (inl none) =
     inr (opened_so h disk e none.unopened (at_file v.told name h.bytes (λ (o : Option (List ℕ)). IsFree e ⊎ NotOpened at o e) h.told none.unopened.exact))
 error_ends {t = t} front last h source disk e (inr (inl some)) = input_ends t some.first some.batches h (found_dataset some.first some.opened h) source e some.refused
 error_ends front last h source disk e (inr (inr broke)) = absurd (disk broke.1.broken.broke.rose)
 
-append_ends : {name at : List ℕ} {s : SourceView} {v : DiskView} (limit : ℕ) (keeps : Bool) (t : SourceView) (w : DiskView) (front last : List ℕ) → HasInput name at s v → (Rose s.faults t.faults → ⊥) → (Rose v.faults w.faults → ⊥) → (answer : Result (Unit {0}) ErrorLine)
-    → AppendsTo name at limit keeps s t v w answer front last → (status_by answer ≡ statuses.Done) ⊎ ((status_by answer ≡ statuses.Limit) ⊎ (status_by answer ≡ statuses.Memory))
-append_ends limit keeps t w front last h source disk (Ok a) p = inl refl
-append_ends limit keeps t w front last h source disk (Err e) p = inr (error_ends front last h source disk e p)
+append_ends : {name at : List ℕ} {s : SourceView} {v : DiskView} (limit budget : ℕ) (keeps : Bool) (t : SourceView) (w : DiskView) (front last : List ℕ) → HasInput name at s v → (Rose s.faults t.faults → ⊥) → (Rose v.faults w.faults → ⊥) → (answer : Result (Unit {0}) ErrorLine)
+    → AppendsTo name at limit budget keeps s t v w answer front last → (status_by answer ≡ statuses.Done) ⊎ ((status_by answer ≡ statuses.Limit) ⊎ (status_by answer ≡ statuses.Memory))
+append_ends limit budget keeps t w front last h source disk (Ok a) p = inl refl
+append_ends limit budget keeps t w front last h source disk (Err e) p = inr (error_ends front last h source disk e p)
 
 known : (status given : Status) → status ≡ given → (given ≡ statuses.Done) ⊎ ((given ≡ statuses.Limit) ⊎ (given ≡ statuses.Memory)) → (status ≡ statuses.Done) ⊎ ((status ≡ statuses.Limit) ⊎ (status ≡ statuses.Memory))
 known status given is (inl done) = inl (is ∙ done)
 known status given is (inr (inl limit)) = inr (inl (is ∙ limit))
 known status given is (inr (inr memory)) = inr (inr (is ∙ memory))
 
-pub appends_whole : {s t : SourceView} {k l : SinkView} {v w : DiskView} (name at : List ℕ) (limit : ℕ) (keeps : Bool) (status : Status) → AppendEnds name at limit keeps s t v w status k l
+pub appends_whole : {s t : SourceView} {k l : SinkView} {v w : DiskView} (name at : List ℕ) (limit budget : ℕ) (keeps : Bool) (status : Status) → AppendEnds name at limit budget keeps s t v w status k l
     → AppendEndsWell name at status s t k l v w
-appends_whole {s} {t} {k} {l} {v} {w} name at limit keeps status e = λ h source sink disk. go h source sink disk e
+appends_whole {s} {t} {k} {l} {v} {w} name at limit budget keeps status e = λ h source sink disk. go h source sink disk e
   where
-    spoken : HasInput name at s v → (Rose s.faults t.faults → ⊥) → (Rose k.faults l.faults → ⊥) → (Rose v.faults w.faults → ⊥) → (p : EndsBehind {A = Unit {0}} (AppendsTo name at limit keeps s t v w) status k l)
+    spoken : HasInput name at s v → (Rose s.faults t.faults → ⊥) → (Rose k.faults l.faults → ⊥) → (Rose v.faults w.faults → ⊥) → (p : EndsBehind {A = Unit {0}} (AppendsTo name at limit budget keeps s t v w) status k l)
         → Said p.last (status_by p.answer) status p.middle l → (status ≡ statuses.Done) ⊎ ((status ≡ statuses.Limit) ⊎ (status ≡ statuses.Memory))
     spoken h source sink disk p (failed is rose some) = absurd (sink (rose_before k.faults p.middle.faults l.faults p.gave.faults rose))
-    spoken h source sink disk p (whole is gave) = known status (status_by p.answer) is (append_ends limit keeps t w p.front p.last h source disk p.answer p.comes)
+    spoken h source sink disk p (whole is gave) = known status (status_by p.answer) is (append_ends limit budget keeps t w p.front p.last h source disk p.answer p.comes)
 
-    go : HasInput name at s v → (Rose s.faults t.faults → ⊥) → (Rose k.faults l.faults → ⊥) → (Rose v.faults w.faults → ⊥) → AppendEnds name at limit keeps s t v w status k l
+    go : HasInput name at s v → (Rose s.faults t.faults → ⊥) → (Rose k.faults l.faults → ⊥) → (Rose v.faults w.faults → ⊥) → AppendEnds name at limit budget keeps s t v w status k l
         → (status ≡ statuses.Done) ⊎ ((status ≡ statuses.Limit) ⊎ (status ≡ statuses.Memory))
     go h source sink disk (inl p) = spoken h source sink disk p p.said
     go h source sink disk (inr cut) = let stops = cut.1.stops in absurd (sink (rose_before k.faults stops.middle.faults l.faults stops.gave.faults stops.rose))

@@ -70,7 +70,7 @@ does_whole (Check file name) status s t k l v w does = checks_whole file name st
 does_whole (Poll file name times attempts values) status s t k l v w does = polls_whole file name times attempts values status does.1
 does_whole (Clear file upgrade) status s t k l v w does = clears_whole file upgrade status does.1
 does_whole (Make count seed) status s t k l v w does = makes_whole count seed status does.2
-does_whole (Append file name limit keeps) status s t k l v w does = appends_whole file name limit keeps status does
+does_whole (Append file name limit budget keeps) status s t k l v w does = appends_whole file name limit budget keeps status does
 does_whole (Live options readers polls attempts) status s t k l v w does = absurd does
 
 ended_whole : (job : Job) (ended : Ended) (s t : SourceView) (k l : SinkView) (v w : DiskView) → EndsWith (λ status. Does job status s t k l v w) ended → EndsWith (λ status. DoesWhole job status s t k l v w) ended
@@ -86,5 +86,5 @@ ran_whole (Some (Check file name)) ended s t k l v w ran = ended_whole (Check fi
 ran_whole (Some (Poll file name times attempts values)) ended s t k l v w ran = ended_whole (Poll file name times attempts values) ended s t k l v w ran
 ran_whole (Some (Clear file upgrade)) ended s t k l v w ran = ended_whole (Clear file upgrade) ended s t k l v w ran
 ran_whole (Some (Make count seed)) ended s t k l v w ran = ended_whole (Make count seed) ended s t k l v w ran
-ran_whole (Some (Append file name limit keeps)) ended s t k l v w ran = ended_whole (Append file name limit keeps) ended s t k l v w ran
+ran_whole (Some (Append file name limit budget keeps)) ended s t k l v w ran = ended_whole (Append file name limit budget keeps) ended s t k l v w ran
 ran_whole (Some (Live options readers polls attempts)) ended s t k l v w ran = ends_well (asked_by options readers polls attempts) ended ran.0

@@ -1,5 +1,6 @@
 -- Pieces that become visible one by one are the pieces of one line.
 use Rattle.std.proofs.Common.{ℕ, zero, suc, ◌+◌, ◌-◌, ◌<◌, ◌≡◌, min, Bool, true, false, if◌then◌else◌, nat_lt, length, sym, refl, ap, ◌∙◌, subst, arith, tests}
+use Rattle.std.proofs.lemmas.List.{nil_from_length}
 use Rattle.h5w_model.specs.Lawful.{Rules, ScriptState, Allowed, after_shows, committed, next_state, shows_up_to}
 use Rattle.h5w_model.specs.declared.reply.Reply.{Reply}
 use Rattle.h5w_model.specs.declared.reply.Reply.TheVariants.{Written}
@@ -13,17 +14,17 @@ with_pending s q = record s { pending = q }
 abbrev shows_cases : Rules → ScriptState → Bool → ℕ → Bool → ScriptState
 shows_cases g s fewer q ending = if fewer then with_pending s q else if ending then committed g s else with_pending s 0
 
-nothing_at : (g : Rules) (s : ScriptState) (p : ℕ) → s.pending ≡ p → s.ends_flush ≡ nat_lt 0 p → after_shows g s 0 ≡ s
+nothing_at : (g : Rules) (s : ScriptState) (p : ℕ) → s.pending ≡ p → (s.pending ≡ 0 → s.ends_flush ≡ false) → after_shows g s 0 ≡ s
 nothing_at g s zero e f =
     subst (λ (q : ℕ). shows_cases g s (nat_lt 0 q) (q - 0) s.ends_flush ≡ s) (sym e)
-    (subst (λ (b : Bool). shows_cases g s false 0 b ≡ s) (sym f) (ap (with_pending s) (sym e)))
+    (subst (λ (b : Bool). shows_cases g s false 0 b ≡ s) (sym (f e)) (ap (with_pending s) (sym e)))
 nothing_at g s (suc p) e f =
     let some : nat_lt 0 s.pending ≡ true = grind (arith, tests) in
     let same : s.pending - 0 ≡ s.pending = omega arith in
     ap (λ b. shows_cases g s b (s.pending - 0) s.ends_flush) some ∙ ap (with_pending s) same
 
 -- before the first piece
-pub nothing_shown : (g : Rules) (s : ScriptState) → s.ends_flush ≡ nat_lt 0 s.pending → after_shows g s 0 ≡ s
+pub nothing_shown : (g : Rules) (s : ScriptState) → (s.pending ≡ 0 → s.ends_flush ≡ false) → after_shows g s 0 ≡ s
 nothing_shown g s f = nothing_at g s s.pending refl f
 
 fewer_shown : (g : Rules) (s : ScriptState) (j : ℕ) → j < s.pending → after_shows g s j ≡ with_pending s (s.pending - j)
@@ -52,7 +53,9 @@ pub record Shown (old now : WorldView) (j : ℕ) : Type 0 where
 pub none_shown : (w : WorldView) → Shown w w 0
 none_shown w = record {
   rules = refl;
-  fits = λ s f. subst (λ (t : ScriptState). HaveOneLog w t) (sym (nothing_shown (rules_of w) s (f.state.ends_flush ∙ ap (nat_lt 0) (sym f.state.pending)))) f;
+  fits = λ s f.
+      let idle : s.pending ≡ 0 → s.ends_flush ≡ false = λ none. f.state.ends_flush ∙ f.state.idle (nil_from_length w.session.pending (sym f.state.pending ∙ none)) in
+      subst (λ (t : ScriptState). HaveOneLog w t) (sym (nothing_shown (rules_of w) s idle)) f;
 }
 
 pub more_shown : (old now new : WorldView) (j : ℕ) (reply : Reply) → Shown old now j → j < length old.session.pending → rules_of new ≡ rules_of now

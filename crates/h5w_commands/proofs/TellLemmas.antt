@@ -101,7 +101,7 @@ ran_wanting (Some (Check file name)) status s k l v said = (refl, checks_nothing
 ran_wanting (Some (Poll file name times attempts values)) status s k l v said = (refl, polls_nothing file name times attempts values status said)
 ran_wanting (Some (Clear file upgrade)) status s k l v said = (refl, clears_wanted file upgrade status said)
 ran_wanting (Some (Make count seed)) status s k l v said = (refl, refl, makes_nothing count seed status said)
-ran_wanting (Some (Append file name limit keeps)) status s k l v said = appends_nothing file name limit keeps status said
+ran_wanting (Some (Append file name limit budget keeps)) status s k l v said = appends_nothing file name limit budget keeps status said
 ran_wanting (Some (Live options readers polls attempts)) status s k l v said = (error_ends (asked_by options readers polls attempts) errors.Memory status tt (inl said), refl)
 
 -- the words are outside the command set
@@ -115,7 +115,7 @@ does_run (Check file name) status s t k l v w does = does
 does_run (Poll file name times attempts values) status s t k l v w does = does
 does_run (Clear file upgrade) status s t k l v w does = does
 does_run (Make count seed) status s t k l v w does = does
-does_run (Append file name limit keeps) status s t k l v w does = does
+does_run (Append file name limit budget keeps) status s t k l v w does = does
 does_run (Live options readers polls attempts) status s t k l v w does = absurd does
 
 pub ran_job : (o : Option Job) (job : Job) (status : Status) (s t : SourceView) (k l : SinkView) (v w : DiskView) → o ≡ Some job → Does job status s t k l v w → Ran o (outcomes.With status) s t k l v w
@@ -129,7 +129,7 @@ is_plain (Check file name) other = tt
 is_plain (Poll file name times attempts values) other = tt
 is_plain (Clear file upgrade) other = tt
 is_plain (Make count seed) other = tt
-is_plain (Append file name limit keeps) other = tt
+is_plain (Append file name limit budget keeps) other = tt
 is_plain (Live options readers polls attempts) other = other options readers polls attempts refl
 
 -- a run in threads

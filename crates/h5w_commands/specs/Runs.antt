@@ -40,7 +40,7 @@ Does (Check file name) status s t k l v w = (t ≡ s) × CheckEnds file name v w
 Does (Poll file name times attempts values) status s t k l v w = (t ≡ s) × PollEnds file name times attempts values v w status k l
 Does (Clear file upgrade) status s t k l v w = (t ≡ s) × ClearEnds file upgrade v w status k l
 Does (Make count seed) status s t k l v w = (t ≡ s) × (w ≡ v) × MakeEnds count seed status k l
-Does (Append file name limit keeps) status s t k l v w = AppendEnds file name limit keeps s t v w status k l
+Does (Append file name limit budget keeps) status s t k l v w = AppendEnds file name limit budget keeps s t v w status k l
 Does (Live options readers polls attempts) status s t k l v w = ⊥
 
 -- the words are outside the command set: nothing is read, no file is looked at, and that is said
@@ -68,7 +68,7 @@ DoesWhole (Check file name) status s t k l v w = EndsWell (check_of name) file v
 DoesWhole (Poll file name times attempts values) status s t k l v w = EndsWell (poll_of (reader_rules name attempts) values) file v w status k l
 DoesWhole (Clear file upgrade) status s t k l v w = EndsWell (clears_of upgrade) file v w status k l
 DoesWhole (Make count seed) status s t k l v w = MakeEndsWell status k l
-DoesWhole (Append file name limit keeps) status s t k l v w = AppendEndsWell file name status s t k l v w
+DoesWhole (Append file name limit budget keeps) status s t k l v w = AppendEndsWell file name status s t k l v w
 DoesWhole (Live options readers polls attempts) status s t k l v w = ⊥
 
 -- the same of the job that words of the command set have

@@ -1,22 +1,25 @@
 -- The writer appends values.
-use Rattle.std.proofs.Common.{◌≡◌, ◌≢◌, ◌⊎◌, ℕ, ◌+◌, ◌/◌, List, [], ◌∷◌, ◌++◌, length, ℤ, Bool, true, false, nat_lt, if◌then◌else◌, Option, Some, None, Result, Ok, Err, sym, refl, ap, ◌∙◌, subst, inl, inr, arith, append_assoc}
+use Rattle.std.proofs.Common.{◌≡◌, ◌≢◌, ◌⊎◌, ℕ, ◌+◌, ◌/◌, ◌<◌, ◌≤◌, List, [], ◌∷◌, ◌++◌, length, ℤ, Bool, true, false, nat_lt, if◌then◌else◌, Option, Some, None, Result, Ok, Err, sym, refl, ap, ◌∙◌, subst, inl, inr, arith, append_assoc}
 use Rattle.std.proofs.lemmas.Bool.{lt-ltb}
+use Rattle.std.specs.Result.{OnOk, OnErr, IfOk}
 use Rattle.h5w_model.specs.declared.piece.Write.{Write}
-use Rattle.h5w_model.specs.Logs.{Log, appends, appended, appended_in, load, and_now, needed_chunks}
-use Rattle.h5w_model.specs.Lawful.{Rules, ScriptState, adds, append_reply, first_outside, fitting_reply, load_of, next_state, rows_in}
+use Rattle.h5w_model.specs.Logs.{Cutting, Log, appends, appended, appended_in, load, spent, and_now, needed_chunks}
+use Rattle.h5w_model.specs.Lawful.{Rules, ScriptState, AppendAllowed, adds, append_reply, first_outside, fitting_reply, load_of, next_state, rows_in}
 use Rattle.h5w_model.specs.declared.event.Event.TheVariants as events
 use Rattle.h5w_model.specs.declared.reply.Reply.{Reply}
 use Rattle.h5w_model.specs.declared.reply.Reply.TheVariants as replies
+use Rattle.h5w_polling.specs.Polling.{Polling}
+use Rattle.h5w_polling.specs.Scripts.{AllPoll}
 use Rattle.h5w_polling.proofs.ScriptLemmas.{writer_line_laws}
 use Rattle.h5w_session.specs.Refusals.{append_refusal, chunks_refusal}
-use Rattle.h5w_session.specs.Sessions.{Session, chunk_limit, chunks_with, cutting_of, rows_of, with_values}
+use Rattle.h5w_session.specs.Sessions.{AddsValues, Session, chunk_limit, chunks_with, cutting_of, rows_of}
 use Rattle.h5w_session.specs.Stands.{Stands}
 use Rattle.h5w_session.specs.declared.refusal.AppendError.{AppendError}
 use Rattle.h5w_session.specs.declared.refusal.AppendError.TheVariants as errors
 use Rattle.h5w_session.proofs.LawLemmas.{standing_laws}
-use Rattle.h5w_core.specs.Worlds.{AreRowsBy, WorldView, HaveOneLog, IsStateOf, Steps, polling_of, rules_of}
-use Rattle.h5w_core.proofs.StateLemmas.{columns_of, in_rows, load_of-log, more_rows, new_now, some_columns, spent_in-events}
-use Rattle.h5w_core.proofs.WorldLemmas.{world_of, changed}
+use Rattle.h5w_core.specs.Worlds.{AreRowsBy, WorldView, HaveOneLog, IsStateOf, Steps, polling_by, polling_of, rules_of}
+use Rattle.h5w_core.proofs.StateLemmas.{columns_of, in_rows, load_of-log, more_rows, new_now, rules_by, some_columns, spent_in-events}
+use Rattle.h5w_core.proofs.WorldLemmas.{world_of, changed, replaced, with_session}
 use Rattle.h5w_image.specs.Memory.{MemView}
 use Rattle.h5w_image.specs.View.{Same}
 use Rattle.h5w_reader.specs.declared.reader.ReaderCore.{ReaderCore}
@@ -156,8 +159,8 @@ refused_steps w vs e rows refusal own =
     record {
       rules = refl;
       lawful = λ s fits. (
-        sym (refused_rows e (rows_of w.session + rows_more w.session vs)) ∙ ap (λ (r : Option AppendError). append_answer r (rows_of w.session + rows_more w.session vs)) (sym refusal)
-            ∙ sym (append_reply-answer w s fits.log vs rows fits.stands.stands fits.state),
+        inl (sym (refused_rows e (rows_of w.session + rows_more w.session vs)) ∙ ap (λ (r : Option AppendError). append_answer r (rows_of w.session + rows_more w.session vs)) (sym refusal)
+            ∙ sym (append_reply-answer w s fits.log vs rows fits.stands.stands fits.state)),
         subst (λ (t : ScriptState). HaveOneLog w t) (sym (refused_state (rules_of w) s vs e own)) fits,
       );
     }
@@ -188,51 +191,116 @@ going_rest : (b : Bool) (rest : Option AppendError) → (if b then Some errors.S
 going_rest true rest accepted = cc
 going_rest false rest accepted = accepted
 
-busy_none : (ws : List Write) (rest : Option AppendError) → (if nat_lt 0 (length ws) then Some (errors.Busy (length ws)) else rest) ≡ None → ws ≢ [] → ⊥
-busy_none [] rest accepted some = some refl
-busy_none (w ∷ ws) rest accepted some =
+none_pending : (ws : List Write) (rest : Option AppendError) → (if nat_lt 0 (length ws) then Some (errors.Busy (length ws)) else rest) ≡ None → ws ≡ []
+none_pending [] rest accepted = refl
+none_pending (w ∷ ws) rest accepted =
     let busy : Some (errors.Busy (length (w ∷ ws))) ≡ None =
     ap (λ (b : Bool). if b then Some (errors.Busy (length (w ∷ ws))) else rest) (sym (lt-ltb 0 (length (w ∷ ws)) (omega arith))) ∙ accepted in
     cc
 
-abbrev pub CarriesValues : Session → List ℤ → Type 0
-CarriesValues s vs = (log : Log) → Stands s log → Stands (with_values s vs) (and_now (appends vs) log)
+-- what is true of the session after it, and of the pieces that it wrote early
+pub record IsAppend (s t : Session) (vs : List ℤ) : Type 0 where
+  pub accepted : append_refusal s vs ≡ None
+  pub added : AddsValues s vs t
+  pub bound : (log : Log) → Stands s log → length t.pending ≤ load (cutting_of s) (and_now (appends vs) log)
+  pub over : t.pending ≢ [] → (log : Log) → Stands s log → s.budget < load (cutting_of s) (and_now (appends vs) log)
+  pub carries : (log : Log) → Stands s log → Stands t (and_now (appends vs) log)
 
--- the world after it
-abbrev pub appended_world : WorldView → List ℤ → WorldView
-appended_world w vs = record w { session = with_values w.session vs }
+was_idle : (s t : Session) (vs : List ℤ) → IsAppend s t vs → s.pending ≡ []
+was_idle s t vs app = none_pending s.pending _ (going_rest s.stopped _ app.accepted)
 
-appended_state : (w : WorldView) (vs : List ℤ) (s : ScriptState) (log : Log) → append_refusal w.session vs ≡ None → Stands w.session log → IsStateOf w s log
-    → IsStateOf (appended_world w vs) (record s { appended = s.appended ++ vs; spent = s.spent + load_of (rules_of w) s (s.appended ++ vs) }) (and_now (appends vs) log)
-appended_state w vs s log accepted stands state =
-    let more : s.appended ++ vs ≡ appended (and_now (appends vs) log) = ap (λ (xs : List ℤ). xs ++ vs) state.appended ∙ append_assoc log.values (appended_in log.events) vs in
+-- the rules, what readers poll for and how rows are cut stay
+added_rules : (w : WorldView) (t : Session) (vs : List ℤ) → AddsValues w.session vs t → rules_of (with_session w t) ≡ rules_of w
+added_rules w t vs more = λ i. rules_by (more.session i).dataset (more.limit i) (more.session i).budget w.attempts
+
+added_polling : (w : WorldView) (t : Session) (vs : List ℤ) → AddsValues w.session vs t → polling_of (with_session w t) ≡ polling_of w
+added_polling w t vs more = λ i. polling_by (more.session i).name (rules_by (more.session i).dataset (more.limit i) (more.session i).budget w.attempts)
+
+added_cutting : (s t : Session) (vs : List ℤ) → AddsValues s vs t → cutting_of t ≡ cutting_of s
+added_cutting s t vs more = ap cutting_of more.session
+
+-- all values are the log's
+all_values : (w : WorldView) (s : ScriptState) (log : Log) (vs : List ℤ) → IsStateOf w s log → s.appended ++ vs ≡ appended (and_now (appends vs) log)
+all_values w s log vs state = ap (λ (xs : List ℤ). xs ++ vs) state.appended ∙ append_assoc log.values (appended_in log.events) vs
+
+-- the load of the rows that wait
+load_with : (w : WorldView) (s : ScriptState) (log : Log) (vs : List ℤ) → Stands w.session log → IsStateOf w s log → load_of (rules_of w) s (s.appended ++ vs) ≡ load (cutting_of w.session) (and_now (appends vs) log)
+load_with w s log vs stands state =
+    load_of-log (rules_of w) s (s.appended ++ vs) (and_now (appends vs) log) (columns_of w.session log stands) state.flushed (all_values w s log vs state)
+
+-- the reply is lawful: without pieces, or with those that were written early
+append_allowed : (w : WorldView) (t : Session) (vs : List ℤ) (s : ScriptState) (log : Log) → AreRowsBy (rules_of w) vs → IsAppend w.session t vs → Stands w.session log → IsStateOf w s log
+    → AppendAllowed (rules_of w) s vs (replies.Appended (rows_of w.session + rows_more w.session vs) (length t.pending))
+append_allowed w t vs s log are app stands state = by_pieces t.pending refl
+  where
+    g : Rules
+    g = rules_of w
+
+    rows : ℕ
+    rows = rows_of w.session + rows_more w.session vs
+
+    plain : append_reply g s vs ≡ replies.Appended rows 0
+    plain = append_reply-answer w s log vs are stands state ∙ ap (λ (r : Option AppendError). append_answer r rows) app.accepted
+
+    all : rows ≡ rows_in g (s.appended ++ vs)
+    all = sym (rows_with w s log vs are stands state)
+
+    load_is : load (cutting_of w.session) (and_now (appends vs) log) ≡ load_of g s (s.appended ++ vs)
+    load_is = sym (load_with w s log vs stands state)
+
+    cons_some : (p : Write) (ps : List Write) → t.pending ≡ p ∷ ps → t.pending ≢ []
+    cons_some p ps some none = let clash : p ∷ ps ≡ [] = sym some ∙ none in cc
+
+    by_pieces : (ws : List Write) → t.pending ≡ ws → AppendAllowed g s vs (replies.Appended rows (length t.pending))
+    by_pieces [] none = inl (ap (λ (ws : List Write). replies.Appended rows (length ws)) none ∙ sym plain)
+    by_pieces (p ∷ ps) some =
+        inr (record {
+          pieces = length t.pending;
+          accepted = plain ∙ ap (λ (n : ℕ). replies.Appended n 0) all;
+          is = ap (λ (n : ℕ). replies.Appended n (length t.pending)) all;
+          some = omega (arith, ap length some);
+          bound = subst (λ (n : ℕ). length t.pending ≤ n) load_is (app.bound log stands);
+          over = subst (λ (n : ℕ). w.session.budget < n) load_is (app.over (cons_some p ps some) log stands);
+        })
+
+-- the state of the script after it
+abbrev appended_script : WorldView → ScriptState → List ℤ → Session → ScriptState
+appended_script w s vs t = record s { appended = s.appended ++ vs; pending = length t.pending; ends_flush = false; spent = s.spent + load_of (rules_of w) s (s.appended ++ vs) }
+
+appended_state : (w : WorldView) (t : Session) (vs : List ℤ) (s : ScriptState) (log : Log) → IsAppend w.session t vs → Stands w.session log → IsStateOf w s log
+    → IsStateOf (with_session w t) (appended_script w s vs t) (and_now (appends vs) log)
+appended_state w t vs s log app stands state =
+    let more = app.added in
+    let still : t.flushing ≡ false = ap (λ (x : Session). x.flushing) more.session ∙ state.idle (was_idle w.session t vs app) in
+    let polls = writer_line_laws.appended (polling_of w) log s (reader_at w.readers) vs state.polls in
     record {
-      appended = more;
+      appended = all_values w s log vs state;
       flushed = state.flushed;
-      pending = state.pending;
-      ends_flush = state.ends_flush;
-      taken = λ some. absurd (busy_none w.session.pending _ (going_rest w.session.stopped _ accepted) some);
+      pending = refl;
+      ends_flush = sym still;
+      taken = λ flush. let clash : false ≡ true = sym still ∙ flush in cc;
+      idle = λ none. still;
       spent =
-          (λ i. state.spent i + load_of-log (rules_of w) s (s.appended ++ vs) (and_now (appends vs) log) (columns_of w.session log stands) state.flushed more i)
-          ∙ ap (λ n. n + load (cutting_of w.session) (and_now (appends vs) log)) (sym (spent_in-events (cutting_of w.session) log (appends vs ∷ log.events) log.events));
-      stopped = state.stopped;
+          (λ i. state.spent i + load_with w s log vs stands state i)
+          ∙ ap (λ n. n + load (cutting_of w.session) (and_now (appends vs) log)) (sym (spent_in-events (cutting_of w.session) log (appends vs ∷ log.events) log.events))
+          ∙ ap (λ (c : Cutting). spent c (and_now (appends vs) log)) (sym (added_cutting w.session t vs more));
+      stopped = state.stopped ∙ sym (ap (λ (x : Session). x.stopped) more.session);
       tries = state.tries;
       begun = state.begun;
-      polls = writer_line_laws.appended (polling_of w) log s (reader_at w.readers) vs state.polls;
+      polls = subst (λ (g : Polling). AllPoll g (and_now (appends vs) log) s (reader_at w.readers)) (sym (added_polling w t vs more)) polls;
     }
 
-pub appended_steps : (w : WorldView) (vs : List ℤ) → AreRowsBy (rules_of w) vs → append_refusal w.session vs ≡ None → CarriesValues w.session vs
-    → Steps w (events.Append vs) (replies.Appended (rows_of w.session + rows_more w.session vs) 0) (appended_world w vs)
-appended_steps w vs rows accepted carries =
+appended_steps : (w : WorldView) (t : Session) (vs : List ℤ) → AreRowsBy (rules_of w) vs → IsAppend w.session t vs
+    → Steps w (events.Append vs) (replies.Appended (rows_of w.session + rows_more w.session vs) (length t.pending)) (with_session w t)
+appended_steps w t vs rows app =
     record {
-      rules = refl;
+      rules = added_rules w t vs app.added;
       lawful = λ s fits. (
-        ap (λ (r : Option AppendError). append_answer r (rows_of w.session + rows_more w.session vs)) (sym accepted)
-            ∙ sym (append_reply-answer w s fits.log vs rows fits.stands.stands fits.state),
+        append_allowed w t vs s fits.log rows app fits.stands.stands fits.state,
         record {
           log = and_now (appends vs) fits.log;
-          stands = record { stands = carries fits.log fits.stands.stands; new = new_now (appends vs) fits.log fits.stands.new; journal = fits.stands.journal; bytes = fits.stands.bytes };
-          state = appended_state w vs s fits.log accepted fits.stands.stands fits.state;
+          stands = record { stands = app.carries fits.log fits.stands.stands; new = new_now (appends vs) fits.log fits.stands.new; journal = fits.stands.journal; bytes = fits.stands.bytes };
+          state = appended_state w t vs s fits.log app fits.stands.stands fits.state;
         },
       );
     }
@@ -244,15 +312,30 @@ not_refused : (refusal : Option AppendError) (r : Result ℕ AppendError) (rows 
 not_refused None r rows refused ok = refl
 not_refused (Some e) r rows refused ok = absurd (ok_err e r rows ok (refused e refl))
 
-pub append_done : (s t : Session) (m n : MemView) (attempts rows : ℕ) (readers : List (Option ReaderCore)) (w : WorldView) (vs : List ℤ) (r : Result ℕ AppendError) → AreRowsBy (rules_of w) vs → world_of s m attempts readers ≡ w
-    → Same (steady m) (steady n) → t ≡ with_values s vs → rows ≡ rows_of t → ((e : AppendError) → append_refusal s vs ≡ Some e → r ≡ Err e) → r ≡ Ok rows
-    → ((log : Log) → Stands s log → Stands t (and_now (appends vs) log)) → Steps w (events.Append vs) (replies.Appended rows 0) (world_of t n attempts readers)
-append_done s t m n attempts rows readers w vs r are view same is count refused ok stands =
+-- what the session's append tells
+pub record AppendTells (s t : Session) (vs : List ℤ) (r : Result ℕ AppendError) : Type 0 where
+  pub added : OnOk r (AddsValues s vs t)
+  pub rows : IfOk r (λ rows. rows ≡ rows_of t)
+  pub stands : OnOk r ((log : Log) → Stands s log → Stands t (and_now (appends vs) log))
+  pub bound : OnOk r ((log : Log) → Stands s log → length t.pending ≤ load (cutting_of s) (and_now (appends vs) log))
+  pub over : OnOk r (t.pending ≢ [] → (log : Log) → Stands s log → s.budget < load (cutting_of s) (and_now (appends vs) log))
+  pub refused : (e : AppendError) → append_refusal s vs ≡ Some e → r ≡ Err e
+  pub kept : OnErr r (t ≡ s)
+
+pub append_done : (s t : Session) (m n : MemView) (attempts rows pieces : ℕ) (readers : List (Option ReaderCore)) (w : WorldView) (vs : List ℤ) → AreRowsBy (rules_of w) vs → world_of s m attempts readers ≡ w
+    → Same (steady m) (steady n) → AppendTells s t vs (Ok rows) → pieces ≡ length t.pending → Steps w (events.Append vs) (replies.Appended rows pieces) (world_of t n attempts readers)
+append_done s t m n attempts rows pieces readers w vs are view same tells count =
     let old = world_of s m attempts readers in
     let own : AreRowsBy (rules_of old) vs = subst (λ (x : WorldView). AreRowsBy (rules_of x) vs) (sym view) are in
-    let accepted = not_refused (append_refusal s vs) r rows refused ok in
-    let carries : CarriesValues s vs = λ log stood. subst (λ (x : Session). Stands x (and_now (appends vs) log)) is (stands log stood) in
-    let all : rows ≡ rows_of s + rows_more s vs = count ∙ ap rows_of is ∙ omega arith in
-    subst (λ (x : WorldView). Steps x (events.Append vs) (replies.Appended rows 0) (world_of t n attempts readers)) view
-    (subst (λ (x : WorldView). Steps old (events.Append vs) (replies.Appended rows 0) x) (sym (changed s t m n attempts readers same (λ x. with_values x vs) is))
-    (subst (λ (k : ℕ). Steps old (events.Append vs) (replies.Appended k 0) (appended_world old vs)) (sym all) (appended_steps old vs own accepted carries)))
+    let app : IsAppend s t vs = record {
+      accepted = not_refused (append_refusal s vs) (Ok rows) rows tells.refused refl;
+      added = tells.added;
+      bound = tells.bound;
+      over = tells.over;
+      carries = tells.stands;
+    } in
+    let all : rows ≡ rows_of s + rows_more s vs = tells.rows ∙ ap rows_of tells.added.session ∙ omega arith in
+    let reply : replies.Appended rows pieces ≡ replies.Appended (rows_of s + rows_more s vs) (length t.pending) = λ i. replies.Appended (all i) (count i) in
+    subst (λ (x : WorldView). Steps x (events.Append vs) (replies.Appended rows pieces) (world_of t n attempts readers)) view
+    (subst (λ (x : WorldView). Steps old (events.Append vs) (replies.Appended rows pieces) x) (sym (replaced s t m n attempts readers same))
+    (subst (λ (r : Reply). Steps old (events.Append vs) r (with_session old t)) (sym reply) (appended_steps old t vs own app)))

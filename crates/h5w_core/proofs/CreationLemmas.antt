@@ -1,9 +1,8 @@
 -- The pieces of a new file become visible, one after another.
-use Rattle.std.proofs.Common.{◌≡◌, ℕ, zero, suc, ◌+◌, ◌<◌, ◌≤◌, List, [], ◌∷◌, ◌++◌, length, replicate, get_or, sym, refl, ap, ◌∙◌, subst, arith, append_assoc, length-append, nat_lt, Option, Some, None}
+use Rattle.std.proofs.Common.{◌≡◌, ℕ, zero, suc, ◌+◌, ◌<◌, ◌≤◌, List, [], ◌∷◌, ◌++◌, length, replicate, get_or, sym, refl, ap, ◌∙◌, subst, arith, append_assoc, length-append, Option, Some, None}
 use Rattle.std.proofs.lemmas.List.{append-nil, length-map, nil_from_length}
 use Rattle.std.specs.Option.{unwrap_or}
 use Rattle.h5w_model.specs.Images.{image}
-use Rattle.h5w_model.specs.Datasets.{Described}
 use Rattle.h5w_model.specs.Logs.{Cutting, Log, and_now, hist, spent, shows}
 use Rattle.h5w_model.specs.Lawful.{at_first}
 use Rattle.h5w_model.specs.declared.piece.Write.{Write}
@@ -15,7 +14,7 @@ use Rattle.h5w_model.specs.Unfinished.{Reader}
 use Rattle.h5w_reader.specs.declared.reader.ReaderCore.{ReaderCore}
 use Rattle.h5w_options.specs.Options.{AreOptions}
 use Rattle.h5w_options.specs.declared.options.Options.{Options}
-use Rattle.h5w_creation_laws.specs.CreatedFiles.{block_write, created_blocks, created_log, created_writes, described_of}
+use Rattle.h5w_creation_laws.specs.CreatedFiles.{block_write, created_blocks, created_log, created_writes}
 use Rattle.h5w_session.specs.Creations.{IsCreated, new_file}
 use Rattle.h5w_session.proofs.OptionLemmas.{creatable}
 use Rattle.h5w_session.specs.Room.{HasRoomFor}
@@ -26,7 +25,7 @@ use Rattle.h5w_core.specs.Creation.{Creates}
 use Rattle.h5w_core.specs.Readers.{placed, reader_at}
 use Rattle.h5w_steady.specs.Steady.{steady}
 use Rattle.h5w_core.specs.Worlds.{HaveOneLog, HoldsTogether, nobody, polling_of, rules_for, rules_of}
-use Rattle.h5w_core.proofs.ShowLemmas.{after_facts, same_cutting}
+use Rattle.h5w_core.proofs.ShowLemmas.{after_facts, same_cutting, still_piece}
 use Rattle.h5w_core.proofs.StateLemmas.{new_now, rules_by, spent_in-events}
 use Rattle.h5w_core.proofs.WorldLemmas.{world_of}
 
@@ -38,9 +37,9 @@ abbrev pub total : Options → ℕ
 total o = length (created_writes (new_file o))
 
 -- none is visible yet
-pub begins : (o : Options) (s : Session) (m n : MemView) → AreOptions o → IsCreated (new_file o) o.limit s → Stands s (created_log (new_file o)) → m ≡ fresh [] [] → Same (steady m) (steady n) → length s.pending + 1 ≤ n.pieces → s.places.end ≤ n.end
+pub begins : (o : Options) (s : Session) (m n : MemView) → AreOptions o → IsCreated (new_file o) o.limit s → s.budget ≡ o.budget → Stands s (created_log (new_file o)) → m ≡ fresh [] [] → Same (steady m) (steady n) → length s.pending + 1 ≤ n.pieces → s.places.end ≤ n.end
     → Creates o 0 s n
-begins o s m n by c stands empty same pieces end =
+begins o s m n by c budget stands empty same pieces end =
     let is = c.session in
     let history : n.history ≡ [] = some_is n.history m.history same.history ∙ ap (λ (v : MemView). v.history) empty in
     record {
@@ -53,9 +52,11 @@ begins o s m n by c stands empty same pieces end =
       bytes = some_is n.bytes m.bytes same.bytes ∙ ap (λ (v : MemView). v.bytes) empty;
       dataset = ap (λ (x : Session). x.dataset) is;
       limit = ap (λ (x : Session). x.places.limit) is;
+      budget = budget;
       committed = ap (λ (x : Session). x.committed) is;
       waits = ap (λ (x : Session). x.waits) is;
       going = ap (λ (x : Session). x.stopped) is;
+      no_flush = ap (λ (x : Session). x.flushing) is;
       loads = refl;
       pieces = ap (λ (ws : List Write). ws ++ s.pending) history ∙ ap (λ (x : Session). x.pending) is;
       shown = ap length history;
@@ -67,15 +68,12 @@ pub some_left : (o : Options) (count : ℕ) (s : Session) (m : MemView) → Crea
 some_left o count s m start = omega (arith, length-append m.history s.pending, ap length start.pieces, start.shown)
 
 -- one more
-new_committed : (s : Session) (ws : List Write) (t : Session) (o : Options) → AfterPiece s ws t → s.dataset ≡ described_of (new_file o) → s.committed ≡ 0 → t.committed ≡ 0
-new_committed s [] t o after dataset none = ap (λ (x : Session). x.committed) after.1 ∙ ap (λ (d : Described). d.shape.rows) dataset
-new_committed s (w ∷ ws) t o after dataset none = ap (λ (x : Session). x.committed) after ∙ none
-
 piece_more : (o : Options) (count : ℕ) (s t : Session) (m n : MemView) (piece : Write) (pieces : List Write) → s.pending ≡ piece ∷ pieces → Creates o count s m → AfterPiece s pieces t
     → Wrote (piece ∷ []) (steady m) (steady n) → ((log : Log) → Stands s log → Stands t (and_now (shows piece) log)) → HasRoomFor t (steady n) → Creates o (count + 1) t n
 piece_more o count s t m n piece pieces pending start shown wrote stands room =
     let log = start.log in
     let after = after_facts s pieces t shown in
+    let is = still_piece s pieces t start.no_flush shown in
     let history : n.history ≡ m.history ++ piece ∷ [] = some_is n.history (m.history ++ piece ∷ []) wrote.history in
     record {
       log = and_now (shows piece) log;
@@ -87,9 +85,11 @@ piece_more o count s t m n piece pieces pending start shown wrote stands room =
       bytes = some_is n.bytes (image m.bytes (piece ∷ [])) wrote.bytes ∙ ap (λ (b : List ℕ). image b (piece ∷ [])) start.bytes ∙ sym (image-push [] (hist log.events) piece);
       dataset = after.dataset ∙ start.dataset;
       limit = after.limit ∙ start.limit;
-      committed = new_committed s pieces t o shown start.dataset start.committed;
+      budget = after.budget ∙ start.budget;
+      committed = ap (λ (x : Session). x.committed) is ∙ start.committed;
       waits = after.waits ∙ start.waits;
       going = after.stopped ∙ start.going;
+      no_flush = ap (λ (x : Session). x.flushing) is ∙ start.no_flush;
       loads = ap (λ (c : Cutting). spent c (and_now (shows piece) log)) (same_cutting s t pieces after) ∙ spent_in-events (cutting_of s) log (shows piece ∷ log.events) log.events ∙ start.loads;
       pieces =
           ap (λ (ws : List Write). ws ++ t.pending) history
@@ -144,8 +144,9 @@ created_fits o attempts s m some start =
         appended = sym start.none;
         flushed = sym start.committed ∙ standing_laws.flushed_rows s start.log start.stands;
         pending = ap length (sym shown);
-        ends_flush = ap (λ (ws : List Write). nat_lt 0 (length ws)) (sym shown);
-        taken = λ some. start.waits;
+        ends_flush = sym start.no_flush;
+        taken = λ flush. start.waits;
+        idle = λ none. start.no_flush;
         spent = sym start.loads;
         stopped = sym start.going;
         tries = some;
@@ -155,7 +156,7 @@ created_fits o attempts s m some start =
     }
 
 pub created_rules : (o : Options) (attempts : ℕ) (s : Session) (m : MemView) (readers : List (Option ReaderCore)) → Creates o (total o) s m → rules_of (world_of s m attempts readers) ≡ rules_for o attempts
-created_rules o attempts s m readers start = λ i. rules_by (start.dataset i) (start.limit i) attempts
+created_rules o attempts s m readers start = λ i. rules_by (start.dataset i) (start.limit i) (start.budget i) attempts
 
 pub created_world_fits : (o : Options) (attempts : ℕ) (s : Session) (m : MemView) (readers : List (Option ReaderCore)) → 1 ≤ attempts → Creates o (total o) s m → readers ≡ nobody
     → HaveOneLog (world_of s m attempts readers) at_first

@@ -33,13 +33,9 @@ use Rattle.h5w_core.specs.Readers.{reader_at}
 use Rattle.h5w_steady.specs.Steady.{steady}
 use Rattle.h5w_core.specs.Worlds.{WorldView, HaveOneLog, IsStateOf, Steps, full_reply, polling_by, polling_of, rules_of}
 use Rattle.h5w_core.proofs.StateLemmas.{columns_of, in_rows, load_of-log, new_now, rules_by, spent_in-events}
-use Rattle.h5w_core.proofs.WorldLemmas.{world_of, replaced}
+use Rattle.h5w_core.proofs.WorldLemmas.{world_of, replaced, with_session}
 
 -- ---- A session that may hold more blocks
-
--- the world with another session
-abbrev pub with_session : WorldView → Session → WorldView
-with_session w t = record w { session = t }
 
 -- the state is that of the world with it
 pub held_state : (w : WorldView) (t : Session) (s : ScriptState) (log : Log) → SameBut w.session t → IsStateOf w s log → IsStateOf (with_session w t) s log
@@ -51,6 +47,7 @@ held_state w t s log same state =
       pending = state.pending;
       ends_flush = state.ends_flush;
       taken = state.taken;
+      idle = state.idle;
       spent = state.spent;
       stopped = state.stopped;
       tries = state.tries;
@@ -108,9 +105,13 @@ pub record IsFlush (s t : Session) (pieces : ℕ) : Type 0 where
   pub takes : TakesRows s t
   pub count : pieces ≡ length t.pending
   pub some : 0 < s.waits → 1 ≤ pieces
-  pub none : s.waits ≡ 0 → pieces ≡ 0
+  pub none : s.waits ≡ 0 → t ≡ s
   pub load_bound : (log : Log) → Stands s log → pieces ≤ load (cutting_of s) log
   pub carries : (log : Log) → Stands s log → Stands t (and_now (plans pieces) log)
+
+-- no piece where no row waits
+none_planned : (s t : Session) (pieces : ℕ) → IsFlush s t pieces → s.waits ≡ 0 → pieces ≡ 0
+none_planned s t pieces flush none = flush.count ∙ ap (λ (x : Session). length x.pending) (flush.none none) ∙ ap length flush.idle
 
 unflushed : (w : WorldView) (s : ScriptState) (log : Log) → w.session.stopped ≡ false → w.session.pending ≡ [] → Stands w.session log → IsStateOf w s log
     → rows_of (rules_of w) s ≡ s.flushed + w.session.waits
@@ -134,7 +135,7 @@ planned_allowed w t s log pieces flush stands state =
           (inl (record { pieces = pieces; is = refl; positive = flush.some some; bound = bound }))
       | inr none ↦
           subst (λ (b : Bool). MatchBool b (IsPlanned g s reply ⊎ IsFull g s reply) (reply ≡ replies.Flushing 0)) (sym (le-ltb s.flushed (rows_of g s) (omega (arith, rows))))
-          (ap replies.Flushing (flush.none (omega arith)))
+          (ap replies.Flushing (none_planned w.session t pieces flush (omega arith)))
     ]
 
 flush_allowed : (w : WorldView) (t : Session) (s : ScriptState) (log : Log) (pieces : ℕ) → IsFlush w.session t pieces → Stands w.session log → IsStateOf w s log
@@ -157,14 +158,29 @@ plan_polls g log s t rs pieces same level all =
 
 -- the rules and what readers poll for stay
 planned_rules : (w : WorldView) (t : Session) → TakesRows w.session t → rules_of (with_session w t) ≡ rules_of w
-planned_rules w t takes = λ i. rules_by (takes.dataset i) (takes.limit i) w.attempts
+planned_rules w t takes = λ i. rules_by (takes.dataset i) (takes.limit i) (takes.budget i) w.attempts
 
 planned_polling : (w : WorldView) (t : Session) → TakesRows w.session t → polling_of (with_session w t) ≡ polling_of w
-planned_polling w t takes = λ i. polling_by (takes.name i) (rules_by (takes.dataset i) (takes.limit i) w.attempts)
+planned_polling w t takes = λ i. polling_by (takes.name i) (rules_by (takes.dataset i) (takes.limit i) (takes.budget i) w.attempts)
 
 planned_cutting : (s t : Session) → TakesRows s t → cutting_of t ≡ cutting_of s
 planned_cutting s t takes =
     ap (λ (d : Described). record { chunk_rows = d.layout.chunk_rows; chunk_columns = d.layout.chunk_cols; columns = d.shape.cols; value_size = d.int_type.size }) takes.dataset
+
+-- what is pending is a flush where some rows waited
+flush_begun : (s t : Session) (pieces : ℕ) → IsFlush s t pieces → (s.pending ≡ [] → s.flushing ≡ false) → nat_lt 0 pieces ≡ t.flushing
+flush_begun s t pieces flush idle =
+    elim (cases_lt 0 s.waits) [
+      | inl some ↦ lt-ltb 0 pieces (omega (arith, flush.some some)) ∙ sym (flush.takes.flushing some)
+      | inr none ↦
+          let same = flush.none (omega arith) in
+          le-ltb 0 pieces (omega (arith, none_planned s t pieces flush (omega arith))) ∙ sym (ap (λ (x : Session). x.flushing) same ∙ idle flush.idle)
+    ]
+
+still_idle : (s t : Session) (pieces : ℕ) → IsFlush s t pieces → (s.pending ≡ [] → s.flushing ≡ false) → t.pending ≡ [] → t.flushing ≡ false
+still_idle s t pieces flush idle none =
+    let nothing : pieces ≡ 0 = flush.count ∙ ap length none in
+    sym (flush_begun s t pieces flush idle) ∙ ap (λ n. nat_lt 0 n) nothing
 
 -- the state of the script after it
 abbrev planned_script : WorldView → ScriptState → ℕ → ScriptState
@@ -181,8 +197,9 @@ planned_state w t s log pieces flush stands state =
       appended = state.appended;
       flushed = state.flushed ∙ sym level;
       pending = flush.count;
-      ends_flush = ap (λ n. nat_lt 0 n) flush.count;
-      taken = λ some. takes.waits;
+      ends_flush = flush_begun w.session t pieces flush state.idle;
+      taken = λ ends. takes.waits;
+      idle = still_idle w.session t pieces flush state.idle;
       spent =
           (λ i. state.spent i + load_of-log (rules_of w) s s.appended log (columns_of w.session log stands) state.flushed state.appended i)
           ∙ ap (λ n. n + load (cutting_of w.session) log) (sym (spent_in-events (cutting_of w.session) log (plans pieces ∷ log.events) log.events))
@@ -414,7 +431,7 @@ flush_done s t m k attempts pieces readers w r view same by =
       takes = by.takes;
       count = by.count;
       some = by.some;
-      none = λ none. by.count ∙ ap (λ (x : Session). length x.pending) (by.nothing none) ∙ ap length free.1;
+      none = by.nothing;
       load_bound = by.bound;
       carries = by.stands;
     } in

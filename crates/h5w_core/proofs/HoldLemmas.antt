@@ -12,16 +12,16 @@ use Rattle.h5w_model.specs.declared.reply.Reply.TheVariants as replies
 use Rattle.h5w_image.specs.Memory.{MemView}
 use Rattle.h5w_image.specs.View.{Same, Wrote}
 use Rattle.h5w_reader.specs.declared.reader.ReaderCore.{ReaderCore}
-use Rattle.h5w_session.specs.Refusals.{append_refusal, flush_refusal}
+use Rattle.h5w_session.specs.Refusals.{flush_refusal}
 use Rattle.h5w_session.specs.Room.{HasRoomFor}
 use Rattle.h5w_session.specs.Flushes.{SameBut}
-use Rattle.h5w_session.specs.Sessions.{Session, AfterPiece, TakesRows, cutting_of, rows_of, stopped_of, with_values}
+use Rattle.h5w_session.specs.Sessions.{Session, AfterPiece, TakesRows, cutting_of, stopped_of}
 use Rattle.h5w_session.specs.Stands.{Stands}
 use Rattle.h5w_session.specs.declared.refusal.AppendError.{AppendError}
 use Rattle.h5w_session.specs.declared.refusal.FlushError.{FlushError}
 use Rattle.h5w_steady.specs.Steady.{steady}
 use Rattle.h5w_core.specs.Worlds.{AreRowsBy, HaveOneLog, HoldsMore, HoldsTogether, IsStateOf, StandsFor, Steps, WorldView, logged, rules_of}
-use Rattle.h5w_core.proofs.AppendLemmas.{append_done}
+use Rattle.h5w_core.proofs.AppendLemmas.{AppendTells, append_done}
 use Rattle.h5w_core.proofs.FlushLemmas.{IsAnswered, LeavesSession, flush_done, held_log}
 use Rattle.h5w_core.proofs.ShowLemmas.{idle_steps, nothing_logged, show_done, show_logged}
 use Rattle.h5w_core.proofs.StateLemmas.{new_now}
@@ -57,12 +57,11 @@ same_hold s t m n attempts places h same is = record {
 -- ---- The writer's calls
 
 pub append_hold : (s t : Session) (m n : MemView) (attempts : ℕ) (places : List (Option ReaderCore)) (vs : List ℤ) (r : Result ℕ AppendError) → AreRowsBy (rules_of (world_of s m attempts places)) vs → HoldsTogether s m attempts places → Same (steady m) (steady n)
-    → OnOk r (t ≡ with_values s vs) → IfOk r (λ rows. rows ≡ rows_of t) → OnOk r ((log : Log) → Stands s log → Stands t (and_now (appends vs) log)) → ((e : AppendError) → append_refusal s vs ≡ Some e → r ≡ Err e)
-    → OnErr r (t ≡ s) → OnOk r (HasRoomFor t (steady n)) → HoldsTogether t n attempts places
-append_hold s t m n attempts places vs (Ok rows) are h same added count stands refused kept room =
-    steps_hold s t m n attempts places places (events.Append vs) (replies.Appended rows 0) h
-    (append_done s t m n attempts rows places (world_of s m attempts places) vs (Ok rows) are refl same added count refused refl stands) room (same_folded m n same h.folds) h.places
-append_hold s t m n attempts places vs (Err e) are h same added count stands refused kept room = same_hold s t m n attempts places h same kept
+    → AppendTells s t vs r → OnOk r (HasRoomFor t (steady n)) → HoldsTogether t n attempts places
+append_hold s t m n attempts places vs (Ok rows) are h same tells room =
+    steps_hold s t m n attempts places places (events.Append vs) (replies.Appended rows (length t.pending)) h
+    (append_done s t m n attempts rows (length t.pending) places (world_of s m attempts places) vs are refl same tells refl) room (same_folded m n same h.folds) h.places
+append_hold s t m n attempts places vs (Err e) are h same tells room = same_hold s t m n attempts places h same tells.kept
 
 -- a session that may hold more blocks
 held_room : (s t : Session) (m n : MemView) → Same (steady m) (steady n) → SameBut s t → HasRoomFor s (steady m) → HasRoomFor t (steady n)
@@ -115,7 +114,8 @@ stop_state w s log state = record {
   flushed = state.flushed;
   pending = refl;
   ends_flush = refl;
-  taken = λ some. absurd (some refl);
+  taken = λ flush. let clash : false ≡ true = flush in cc;
+  idle = λ none. refl;
   spent = state.spent;
   stopped = refl;
   tries = state.tries;

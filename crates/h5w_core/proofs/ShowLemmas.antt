@@ -15,7 +15,7 @@ use Rattle.h5w_polling.specs.Scripts.{AllPoll}
 use Rattle.h5w_polling.proofs.ScriptLemmas.{writer_line_laws}
 use Rattle.h5w_model.specs.Datasets.{Described}
 use Rattle.h5w_space.specs.Space.{Space}
-use Rattle.h5w_session.specs.Sessions.{Session, AfterPiece, Freed, cutting_of, rows_of}
+use Rattle.h5w_session.specs.Sessions.{Session, AfterPiece, Freed, Settles, cutting_of, rows_of}
 use Rattle.h5w_session.specs.Stands.{Stands}
 use Rattle.h5w_session.proofs.LawLemmas.{standing_laws}
 use Rattle.h5w_core.specs.Worlds.{WorldView, HaveOneLog, IsStateOf, StandsFor, Steps, logged, polling_by, polling_of, rules_of, shown_world}
@@ -42,6 +42,7 @@ idle_state w s log none state =
       pending = ap length (sym none);
       ends_flush = state.ends_flush;
       taken = state.taken;
+      idle = state.idle;
       spent = state.spent;
       stopped = state.stopped;
       tries = state.tries;
@@ -55,7 +56,7 @@ idle_steps w none =
       rules = refl;
       lawful = λ s fits.
           let pending : s.pending ≡ 0 = fits.state.pending ∙ ap length none in
-          let idle : s.ends_flush ≡ false = fits.state.ends_flush ∙ ap (λ (ws : List Write). nat_lt 0 (length ws)) none in (
+          let idle : s.ends_flush ≡ false = fits.state.ends_flush ∙ fits.state.idle none in (
             ap (λ n. replies.Written (min 1 n) (n - min 1 n)) (sym pending),
             subst (λ (t : ScriptState). HaveOneLog w t) (sym (nothing_shown s pending idle (rules_of w)))
                 (record { log = fits.log; stands = fits.stands; state = idle_state w s fits.log none fits.state }),
@@ -74,37 +75,45 @@ pub record AfterFacts (s t : Session) (ws : List Write) : Type 0 where
   pub name : t.name ≡ s.name
   pub dataset : t.dataset ≡ s.dataset
   pub limit : t.places.limit ≡ s.places.limit
+  pub budget : t.budget ≡ s.budget
   pub waits : t.waits ≡ s.waits
   pub stopped : t.stopped ≡ s.stopped
   pub pending : t.pending ≡ ws
 
+-- of one that has nothing but other pieces
+pending_facts : (s : Session) (ws : List Write) → AfterFacts s (record s { pending = ws }) ws
+pending_facts s ws = record { name = refl; dataset = refl; limit = refl; budget = refl; waits = refl; stopped = refl; pending = refl }
+
+-- of one whose pieces are all visible, by whether they were a flush
+settled_facts : (b : Bool) (s t : Session) → Settles b s t → AfterFacts s t []
+settled_facts true s t settles =
+    subst (λ (x : Session). AfterFacts s x []) (sym settles.1)
+    (record { name = refl; dataset = refl; limit = freed_limit s.keeps s.places t.places settles.0; budget = refl; waits = refl; stopped = refl; pending = refl })
+settled_facts false s t is = subst (λ (x : Session). AfterFacts s x []) (sym is) (pending_facts s [])
+
 pub after_facts : (s : Session) (ws : List Write) (t : Session) → AfterPiece s ws t → AfterFacts s t ws
-after_facts s [] t after =
-    let is = after.1 in
-    record {
-      name = ap (λ (x : Session). x.name) is;
-      dataset = ap (λ (x : Session). x.dataset) is;
-      limit = freed_limit s.keeps s.places t.places after.0;
-      waits = ap (λ (x : Session). x.waits) is;
-      stopped = ap (λ (x : Session). x.stopped) is;
-      pending = ap (λ (x : Session). x.pending) is;
-    }
-after_facts s (w ∷ ws) t is =
-    record {
-      name = ap (λ (x : Session). x.name) is;
-      dataset = ap (λ (x : Session). x.dataset) is;
-      limit = ap (λ (x : Session). x.places.limit) is;
-      waits = ap (λ (x : Session). x.waits) is;
-      stopped = ap (λ (x : Session). x.stopped) is;
-      pending = ap (λ (x : Session). x.pending) is;
-    }
+after_facts s [] t settles = settled_facts s.flushing s t settles
+after_facts s (w ∷ ws) t is = subst (λ (x : Session). AfterFacts s x (w ∷ ws)) (sym is) (pending_facts s (w ∷ ws))
+
+-- the last piece leaves no flush
+settled_still : (b : Bool) (s t : Session) → s.flushing ≡ b → Settles b s t → t.flushing ≡ false
+settled_still true s t ends settles = ap (λ (x : Session). x.flushing) settles.1
+settled_still false s t still is = ap (λ (x : Session). x.flushing) is ∙ still
+
+no_flush_left : (s t : Session) → AfterPiece s [] t → t.flushing ≡ false
+no_flush_left s t settles = settled_still s.flushing s t refl settles
+
+-- pieces of no flush leave nothing but themselves
+pub still_piece : (s : Session) (ws : List Write) (t : Session) → s.flushing ≡ false → AfterPiece s ws t → t ≡ record s { pending = ws }
+still_piece s [] t still settles = subst (λ (b : Bool). Settles b s t) still settles
+still_piece s (w ∷ ws) t still is = is
 
 -- so rules and polling stay
 pub shown_rules : (w : WorldView) (piece : Write) (t : Session) (ws : List Write) → AfterFacts w.session t ws → rules_of (shown_world w piece t) ≡ rules_of w
-shown_rules w piece t ws after = λ i. rules_by (after.dataset i) (after.limit i) w.attempts
+shown_rules w piece t ws after = λ i. rules_by (after.dataset i) (after.limit i) (after.budget i) w.attempts
 
 shown_polling : (w : WorldView) (piece : Write) (t : Session) (ws : List Write) → AfterFacts w.session t ws → polling_of (shown_world w piece t) ≡ polling_of w
-shown_polling w piece t ws after = λ i. polling_by (after.name i) (rules_by (after.dataset i) (after.limit i) w.attempts)
+shown_polling w piece t ws after = λ i. polling_by (after.name i) (rules_by (after.dataset i) (after.limit i) (after.budget i) w.attempts)
 
 pub same_cutting : (s t : Session) (ws : List Write) → AfterFacts s t ws → cutting_of t ≡ cutting_of s
 same_cutting s t ws after =
@@ -126,6 +135,11 @@ last_state : (g : Rules) (s : ScriptState) → s.pending ≡ 1 → s.ends_flush 
 last_state g s one ends =
     ap (λ n. if nat_lt 1 n then record s { pending = s.pending - 1 } else (if s.ends_flush then committed g s else record s { pending = 0 })) one
     ∙ ap (λ (b : Bool). if b then committed g s else record s { pending = 0 }) ends
+
+early_state : (g : Rules) (s : ScriptState) → s.pending ≡ 1 → s.ends_flush ≡ false → after_shows g s 1 ≡ record s { pending = 0 }
+early_state g s one still =
+    ap (λ n. if nat_lt 1 n then record s { pending = s.pending - 1 } else (if s.ends_flush then committed g s else record s { pending = 0 })) one
+    ∙ ap (λ (b : Bool). if b then committed g s else record s { pending = 0 }) still
 
 more_state : (g : Rules) (s : ScriptState) (n : ℕ) → s.pending ≡ suc (suc n) → after_shows g s 1 ≡ record s { pending = s.pending - 1 }
 more_state g s n more =
@@ -153,22 +167,24 @@ shown_spent w piece t ws n log after is =
     is ∙ sym (spent_in-events (cutting_of w.session) log (shows piece ∷ log.events) log.events) ∙ ap (λ (c : Cutting). spent c (and_now (shows piece) log)) (sym (same_cutting w.session t ws after))
 
 -- the last piece of a flush brings all rows
-last_shown : (w : WorldView) (piece : Write) (t : Session) (s : ScriptState) (log : Log) → w.session.pending ≡ piece ∷ [] → AfterPiece w.session [] t → Stands w.session log
+last_shown : (w : WorldView) (piece : Write) (t : Session) (s : ScriptState) (log : Log) → w.session.pending ≡ piece ∷ [] → w.session.flushing ≡ true → AfterPiece w.session [] t → Stands w.session log
     → Stands t (and_now (shows piece) log) → IsStateOf w s log → IsStateOf (shown_world w piece t) (committed (rules_of w) s) (and_now (shows piece) log)
-last_shown w piece t s log pending shown stood stands state =
+last_shown w piece t s log pending flushing shown stood stands state =
     let after = after_facts w.session [] t shown in
+    let settles : Settles true w.session t = subst (λ (b : Bool). Settles b w.session t) flushing shown in
     let one : s.pending ≡ 1 = state.pending ∙ ap length pending in
-    let ends : s.ends_flush ≡ true = state.ends_flush ∙ lt-ltb 0 (length w.session.pending) (omega (arith, ap length pending)) in
-    let none_wait : w.session.waits ≡ 0 = state.taken (λ e. cons_some piece [] (sym pending ∙ e)) in
+    let ends : s.ends_flush ≡ true = state.ends_flush ∙ flushing in
+    let none_wait : w.session.waits ≡ 0 = state.taken flushing in
     let rows : rows_of w.session ≡ rows_in (rules_of w) s.appended = standing_laws.appended_rows w.session log stood ∙ in_rows w.session log (appended log) stood ∙ ap (λ (vs : List ℤ). rows_in (rules_of w) vs) (sym state.appended) in
-    let committed_is : t.committed ≡ w.session.dataset.shape.rows = ap (λ (x : Session). x.committed) shown.1 in
+    let committed_is : t.committed ≡ w.session.dataset.shape.rows = ap (λ (x : Session). x.committed) settles.1 in
     let all : rows_in (rules_of w) s.appended ≡ t.committed = omega (arith, rows, none_wait, committed_is) in
     record {
       appended = state.appended;
       flushed = all ∙ standing_laws.flushed_rows t (and_now (shows piece) log) stands;
       pending = sym (ap length after.pending);
-      ends_flush = sym (ap (λ (ws : List Write). nat_lt 0 (length ws)) after.pending);
-      taken = λ some. absurd (some after.pending);
+      ends_flush = sym (no_flush_left w.session t shown);
+      taken = λ flush. after.waits ∙ none_wait;
+      idle = λ none. no_flush_left w.session t shown;
       spent = shown_spent w piece t [] s.spent log after state.spent;
       stopped = state.stopped ∙ sym after.stopped;
       tries = state.tries;
@@ -177,6 +193,34 @@ last_shown w piece t s log pending shown stood stands state =
           shown_polls w piece t [] (committed (rules_of w) s) log after
           (subst (λ (x : ScriptState). AllPoll (polling_of w) (and_now (shows piece) log) x (reader_at w.readers)) (last_state (rules_of w) s one ends)
           (writer_line_laws.shown (polling_of w) log s (reader_at w.readers) piece 1 (last_alone s log piece one ends) state.polls));
+    }
+
+-- the last piece of an append brings none
+early_shown : (w : WorldView) (piece : Write) (t : Session) (s : ScriptState) (log : Log) → w.session.pending ≡ piece ∷ [] → w.session.flushing ≡ false → AfterPiece w.session [] t → Stands w.session log
+    → Stands t (and_now (shows piece) log) → IsStateOf w s log → IsStateOf (shown_world w piece t) (record s { pending = 0 }) (and_now (shows piece) log)
+early_shown w piece t s log pending still shown stood stands state =
+    let after = after_facts w.session [] t shown in
+    let none = no_flush_left w.session t shown in
+    let one : s.pending ≡ 1 = state.pending ∙ ap length pending in
+    let open_still : s.ends_flush ≡ false = state.ends_flush ∙ still in
+    let same : t.committed ≡ w.session.committed = ap (λ (x : Session). x.committed) (still_piece w.session [] t still shown) in
+    let level : flushed_rows log ≡ flushed_rows (and_now (shows piece) log) =
+    sym (standing_laws.flushed_rows w.session log stood) ∙ sym same ∙ standing_laws.flushed_rows t (and_now (shows piece) log) stands in
+    record {
+      appended = state.appended;
+      flushed = state.flushed ∙ level;
+      pending = sym (ap length after.pending);
+      ends_flush = open_still ∙ sym none;
+      taken = λ flush. let clash : false ≡ true = sym none ∙ flush in cc;
+      idle = λ no_piece. none;
+      spent = shown_spent w piece t [] s.spent log after state.spent;
+      stopped = state.stopped ∙ sym after.stopped;
+      tries = state.tries;
+      begun = begun_on (shows piece) log state.begun;
+      polls =
+          shown_polls w piece t [] (record s { pending = 0 }) log after
+          (subst (λ (x : ScriptState). AllPoll (polling_of w) (and_now (shows piece) log) x (reader_at w.readers)) (early_state (rules_of w) s one open_still)
+          (writer_line_laws.shown (polling_of w) log s (reader_at w.readers) piece 1 (λ _. sym level) state.polls));
     }
 
 -- each other one leaves the rows
@@ -189,12 +233,14 @@ more_shown w piece next rest t s log pending shown stood stands state =
     let level : flushed_rows log ≡ flushed_rows (and_now (shows piece) log) =
     sym (standing_laws.flushed_rows w.session log stood) ∙ sym same ∙ standing_laws.flushed_rows t (and_now (shows piece) log) stands in
     let left : length t.pending ≡ length (next ∷ rest) = ap length after.pending in
+    let flush : t.flushing ≡ w.session.flushing = ap (λ (x : Session). x.flushing) shown in
     record {
       appended = state.appended;
       flushed = state.flushed ∙ level;
       pending = omega (arith, count, left);
-      ends_flush = state.ends_flush ∙ lt-ltb 0 (length w.session.pending) (omega (arith, ap length pending)) ∙ sym (lt-ltb 0 (length t.pending) (omega (arith, left)));
-      taken = λ some. after.waits ∙ state.taken (λ e. cons_some piece (next ∷ rest) (sym pending ∙ e));
+      ends_flush = state.ends_flush ∙ sym flush;
+      taken = λ ends. after.waits ∙ state.taken (sym flush ∙ ends);
+      idle = λ none. absurd (cons_some next rest (sym after.pending ∙ none));
       spent = shown_spent w piece t (next ∷ rest) s.spent log after state.spent;
       stopped = state.stopped ∙ sym after.stopped;
       tries = state.tries;
@@ -205,13 +251,19 @@ more_shown w piece next rest t s log pending shown stood stands state =
           (writer_line_laws.shown (polling_of w) log s (reader_at w.readers) piece 1 (λ _. sym level) state.polls));
     }
 
+-- the last piece, by whether it ends a flush
+last_fits : (w : WorldView) (piece : Write) (t : Session) (s : ScriptState) (log : Log) (b : Bool) → w.session.flushing ≡ b → w.session.pending ≡ piece ∷ [] → AfterPiece w.session [] t → StandsFor w log
+    → Stands t (and_now (shows piece) log) → IsStateOf w s log → HaveOneLog (shown_world w piece t) (after_shows (rules_of w) s 1)
+last_fits w piece t s log true flushing pending shown stood stands state =
+    subst (λ (x : ScriptState). HaveOneLog (shown_world w piece t) x) (sym (last_state (rules_of w) s (state.pending ∙ ap length pending) (state.ends_flush ∙ flushing)))
+    (record { log = and_now (shows piece) log; stands = shown_stands w piece t log stands stood; state = last_shown w piece t s log pending flushing shown stood.stands stands state })
+last_fits w piece t s log false still pending shown stood stands state =
+    subst (λ (x : ScriptState). HaveOneLog (shown_world w piece t) x) (sym (early_state (rules_of w) s (state.pending ∙ ap length pending) (state.ends_flush ∙ still)))
+    (record { log = and_now (shows piece) log; stands = shown_stands w piece t log stands stood; state = early_shown w piece t s log pending still shown stood.stands stands state })
+
 piece_fits : (w : WorldView) (piece : Write) (pieces : List Write) (t : Session) (s : ScriptState) (log : Log) → w.session.pending ≡ piece ∷ pieces → AfterPiece w.session pieces t → StandsFor w log
     → Stands t (and_now (shows piece) log) → IsStateOf w s log → HaveOneLog (shown_world w piece t) (after_shows (rules_of w) s 1)
-piece_fits w piece [] t s log pending shown stood stands state =
-    let one : s.pending ≡ 1 = state.pending ∙ ap length pending in
-    let ends : s.ends_flush ≡ true = state.ends_flush ∙ lt-ltb 0 (length w.session.pending) (omega (arith, ap length pending)) in
-    subst (λ (x : ScriptState). HaveOneLog (shown_world w piece t) x) (sym (last_state (rules_of w) s one ends))
-    (record { log = and_now (shows piece) log; stands = shown_stands w piece t log stands stood; state = last_shown w piece t s log pending shown stood.stands stands state })
+piece_fits w piece [] t s log pending shown stood stands state = last_fits w piece t s log w.session.flushing refl pending shown stood stands state
 piece_fits w piece (next ∷ rest) t s log pending shown stood stands state =
     let more : s.pending ≡ suc (suc (length rest)) = state.pending ∙ ap length pending in
     subst (λ (x : ScriptState). HaveOneLog (shown_world w piece t) x) (sym (more_state (rules_of w) s (length rest) more))

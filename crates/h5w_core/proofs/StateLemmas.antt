@@ -8,10 +8,10 @@ use Rattle.h5w_model.specs.Logs.{Log, Happening, Cutting, and_now, appends, plan
 use Rattle.h5w_model.specs.Logs as logs
 use Rattle.h5w_model.specs.Lawful.{Rules, ScriptState, load_of, rows_in}
 use Rattle.h5w_session.specs.Past.{IsNew}
-use Rattle.h5w_session.specs.Sessions.{Session, with_rows}
+use Rattle.h5w_session.specs.Sessions.{Session}
 use Rattle.h5w_session.specs.Stands.{Stands}
 use Rattle.h5w_session.proofs.LawLemmas.{standing_laws}
-use Rattle.h5w_core.specs.Worlds.{AreRowsBy, WorldView, rules_of}
+use Rattle.h5w_core.specs.Worlds.{AreRowsBy}
 
 -- a new file's log stays one
 pub new_now : (e : Happening) (log : Log) → IsNew log → IsNew (and_now e log)
@@ -52,20 +52,13 @@ load_of-log g s vs log columns flushed_is values =
 
 -- ---- By what a world's rules go
 
--- the rules of a dataset, of a file that may grow so far, with so many attempts
-abbrev pub rules_by : Described → ℕ → ℕ → Rules
-rules_by d limit attempts = record {
+-- the rules of a dataset, of a file that may grow so far, with this budget and so many attempts
+abbrev pub rules_by : Described → (limit budget attempts : ℕ) → Rules
+rules_by d limit budget attempts = record {
   cutting = record { chunk_rows = d.layout.chunk_rows; chunk_columns = d.layout.chunk_cols; columns = d.shape.cols; value_size = d.int_type.size };
   int_type = d.int_type;
   chunk_limit = limit_of format_limits d.layout.index;
   space_limit = limit;
+  budget = budget;
   attempts = attempts;
 }
-
--- sessions whose datasets differ in their rows at most, in files that may grow so far, have the same rules
-pub same_rules : (s t : Session) (attempts rows : ℕ) (v w : WorldView) → v.session ≡ s → w.session ≡ t → v.attempts ≡ attempts → w.attempts ≡ attempts → t.dataset ≡ with_rows rows s.dataset → t.places.limit ≡ s.places.limit
-    → rules_of w ≡ rules_of v
-same_rules s t attempts rows v w old new before after is limit =
-    let first : rules_of w ≡ rules_by t.dataset t.places.limit attempts = λ i. rules_by (new i).dataset (new i).places.limit (after i) in
-    let last : rules_of v ≡ rules_by s.dataset s.places.limit attempts = λ i. rules_by (old i).dataset (old i).places.limit (before i) in
-    first ∙ (λ i. rules_by (is i) (limit i) attempts) ∙ sym last

@@ -16,6 +16,10 @@ use Rattle.h5w_core.specs.Worlds.{WorldView, shown_world}
 abbrev pub world_of : Session → MemView → ℕ → List (Option ReaderCore) → WorldView
 world_of s m attempts readers = record { session = s; bytes = m.bytes; journal = m.history; attempts = attempts; readers = readers }
 
+-- the world with another session
+abbrev pub with_session : WorldView → Session → WorldView
+with_session w t = record w { session = t }
+
 some_is : {A : Type 0} (a b : A) → Some a ≡ Some b → a ≡ b
 some_is a b same = ap (λ o. unwrap_or o a) same
 
@@ -33,7 +37,7 @@ oldest w [] none = cc
 oldest w (x ∷ xs) same = ap (λ y. y ∷ xs) (sym (some_is w x same))
 
 -- the image is as before, whatever the session is
-pub replaced : (s t : Session) (m n : MemView) (attempts : ℕ) (readers : List (Option ReaderCore)) → Same (steady m) (steady n) → world_of t n attempts readers ≡ record (world_of s m attempts readers) { session = t }
+pub replaced : (s t : Session) (m n : MemView) (attempts : ℕ) (readers : List (Option ReaderCore)) → Same (steady m) (steady n) → world_of t n attempts readers ≡ with_session (world_of s m attempts readers) t
 replaced s t m n attempts readers same =
     let bytes = some_is n.bytes m.bytes same.bytes in
     let journal = some_is n.history m.history same.history in

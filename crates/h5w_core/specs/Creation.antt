@@ -23,9 +23,11 @@ pub record Creates (options : Options) (count : ℕ) (s : Session) (m : MemView)
   pub bytes : m.bytes ≡ image [] (hist log.events)
   pub dataset : s.dataset ≡ described_of (new_file options)
   pub limit : s.places.limit ≡ options.limit
+  pub budget : s.budget ≡ options.budget
   pub committed : s.committed ≡ 0
   pub waits : s.waits ≡ 0
   pub going : s.stopped ≡ false
+  pub no_flush : s.flushing ≡ false
   pub loads : spent (cutting_of s) log ≡ 0
   pub pieces : m.history ++ s.pending ≡ created_writes (new_file options)
   pub shown : length m.history ≡ count

@@ -1,6 +1,6 @@
 -- A world of one writer, one image and some readers: what its value is, of which logs it can be the world, and of which
 -- states of a script.
-use Rattle.std.specs.Prelude.{◌≡◌, ◌≢◌, ℕ, ◌*◌, ◌≤◌, ℤ, List, [], ◌∷◌, ◌++◌, length, replicate, nat_lt, ◌==◌, if◌then◌else◌, Option, None, option_map}
+use Rattle.std.specs.Prelude.{◌≡◌, ℕ, ◌*◌, ◌≤◌, ℤ, true, false, List, [], ◌∷◌, ◌++◌, length, replicate, ◌==◌, if◌then◌else◌, Option, None, option_map}
 use Rattle.h5w_model.specs.Images.{image}
 use Rattle.h5w_model.specs.Logs.{Log, appends, plans, shows, hist, appended, flushed_rows, spent, and_now}
 use Rattle.h5w_model.specs.Tables.{format_limits, limit_of}
@@ -45,6 +45,7 @@ rules_for options attempts = record {
   int_type = int_type_of options.int_type;
   chunk_limit = limit_of format_limits (index_in options.columns options.fixed);
   space_limit = options.limit;
+  budget = options.budget;
   attempts = attempts;
 }
 
@@ -55,6 +56,7 @@ rules_of w = record {
   int_type = w.session.dataset.int_type;
   chunk_limit = chunk_limit w.session;
   space_limit = w.session.places.limit;
+  budget = w.session.budget;
   attempts = w.attempts;
 }
 
@@ -77,14 +79,15 @@ pub record StandsFor (w : WorldView) (log : Log) : Type 0 where
   pub journal : w.journal ≡ hist log.events
   pub bytes : w.bytes ≡ image [] (hist log.events)
 
--- The state of the script is that of a log: its values, rows flushed and loads are the log's, and what is pending are the
--- pieces of a flush that took all rows. The new file is there, and what the script keeps of each reader is true of it.
+-- The state of the script is that of a log: its values, rows flushed and loads are the log's. What is pending are the pieces
+-- of a flush that took all rows, or those of an append. The new file is there, and what the script keeps of each reader is true of it.
 pub record IsStateOf (w : WorldView) (s : ScriptState) (log : Log) : Type 0 where
   pub appended : s.appended ≡ appended log
   pub flushed : s.flushed ≡ flushed_rows log
   pub pending : s.pending ≡ length w.session.pending
-  pub ends_flush : s.ends_flush ≡ nat_lt 0 (length w.session.pending)
-  pub taken : w.session.pending ≢ [] → w.session.waits ≡ 0
+  pub ends_flush : s.ends_flush ≡ w.session.flushing
+  pub taken : w.session.flushing ≡ true → w.session.waits ≡ 0
+  pub idle : w.session.pending ≡ [] → w.session.flushing ≡ false
   pub spent : s.spent ≡ spent (cutting_of w.session) log
   pub stopped : s.stopped ≡ w.session.stopped
   pub tries : 1 ≤ w.attempts

@@ -166,7 +166,7 @@ impl World {
         }
     }
 
-    /// The writer appends values.
+    /// The writer appends values. Pieces that it writes early are pending then.
     fn append(&mut self, values: &[i128]) -> Result<Reply, OutOfMemory>
         requires { AreRowsBy (rules_of self.old) values.now }
         ensures steps { IfOk result (λ reply. Steps self.old (Event.Append values.now) reply self.new) }
@@ -176,7 +176,10 @@ impl World {
         ensures memory { OnErr result (MayWantMemory self.old (Event.Append values.now)) }
     {
         match self.session.append(values, &mut self.image) {
-            Ok(rows) => Ok(Reply::Appended { rows, pending: 0 }),
+            Ok(rows) => Ok(Reply::Appended {
+                rows,
+                pending: self.session.pending(),
+            }),
             Err(AppendError::Stopped) => Ok(Reply::Stopped),
             Err(AppendError::Busy { pending }) => Ok(Reply::Busy { pending }),
             Err(AppendError::OutOfRange { index, value }) => Ok(Reply::OutOfRange { index, value }),

@@ -146,4 +146,6 @@ unseen_known img name m old s ws k unseen missed =
         layout = λ h. stage.header.layout (k.layout h);
       };
       holds = refl;
+      unseen = unseen;
+      off_held = missed;
     }

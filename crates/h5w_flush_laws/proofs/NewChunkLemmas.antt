@@ -136,26 +136,23 @@ new_apart d old from base (x ∷ places) (suc j) (suc k) p q apart less first se
     rest true h = h.2
     rest false h = h
 
--- one more place
+-- some places and then others
 or_none_more : (b : Bool) (u : Used) (us vs : List Used) → or_none b u (us ++ vs) ≡ or_none b u us ++ vs
 or_none_more true u us vs = refl
 or_none_more false u us vs = refl
 
-abbrev pub one_new : Described → (Key → ℕ) → ℕ → ChunkPlace → ℕ → List Used
-one_new d old from p k = if old (touched_key d from k) == undefined then chunk_at p.address (chunk_bytes d) ∷ [] else []
-
-more_from : (d : Described) (old : Key → ℕ) (from base : ℕ) (places : List ChunkPlace) (p : ChunkPlace) → new_chunks d old from base (places ++ p ∷ []) ≡ new_chunks d old from base places ++ one_new d old from p (base + length places)
-more_from d old from base [] p = ap (one_new d old from p) (let e : base ≡ base + 0 = omega arith in e)
-more_from d old from base (q ∷ places) p =
+pub new_joined : (d : Described) (old : Key → ℕ) (from base : ℕ) (places more : List ChunkPlace) → new_chunks d old from base (places ++ more) ≡ new_chunks d old from base places ++ new_chunks d old from (base + length places) more
+new_joined d old from base [] more = ap (λ k. new_chunks d old from k more) (let e : base ≡ base + 0 = omega arith in e)
+new_joined d old from base (q ∷ places) more =
     let b : Bool = old (touched_key d from base) == undefined in
     let u : Used = chunk_at q.address (chunk_bytes d) in
-    ap (or_none b u) (more_from d old from (suc base) places p)
-    ∙ or_none_more b u (new_chunks d old from (suc base) places) (one_new d old from p (suc base + length places))
-    ∙ ap (λ k. new_chunks d old from base (q ∷ places) ++ one_new d old from p k) (let e : suc base + length places ≡ base + suc (length places) = omega arith in e)
+    ap (or_none b u) (new_joined d old from (suc base) places more)
+    ∙ or_none_more b u (new_chunks d old from (suc base) places) (new_chunks d old from (suc base + length places) more)
+    ∙ ap (λ k. new_chunks d old from base (q ∷ places) ++ new_chunks d old from k more) (let e : suc base + length places ≡ base + suc (length places) = omega arith in e)
 
 pub new_chunks_more : NewChunksMore
 new_chunks_more d old from places p =
-    more_from d old from 0 places p ∙ ap (λ k. new_chunks d old from 0 places ++ one_new d old from p k) (let e : 0 + length places ≡ length places = omega arith in e)
+    new_joined d old from 0 places (p ∷ []) ∙ ap (λ k. new_chunks d old from 0 places ++ new_chunks d old from k (p ∷ [])) (let e : 0 + length places ≡ length places = omega arith in e)
 
 pub same_len : (d : Described) → chunk_len d ≡ chunk_bytes d
 same_len d = sym (mul_assoc d.layout.chunk_rows d.layout.chunk_cols d.int_type.size)

@@ -101,6 +101,8 @@ pub record IsUnseen (img name : List ℕ) (m : Moment) (held : List Used) (old :
   pub plan : Plan img m held ws m held
   pub known : Knows (image img ws) name m old s
   pub holds : known.held ≡ held
+  pub unseen : AllUnseen m ws
+  pub off_held : HeldMissed held ws
 
 abbrev pub UnseenKnown : Type 0
 UnseenKnown = (img name : List ℕ) (m : Moment) (old : Key → ℕ) (s : Space) (ws : List Write) → (k : Knows img name m old s) → AllUnseen m ws → HeldMissed k.held ws → IsUnseen img name m k.held old s ws

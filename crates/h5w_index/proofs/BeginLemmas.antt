@@ -1,5 +1,5 @@
 -- A session that begins with an index that stands in its file.
-use Rattle.std.proofs.Common.{◌≡◌, ℕ, ◌+◌, ◌≤◌, max, true, List, [], ◌∷◌, ◌++◌, length, Ok, refl, sym, ap, ◌∙◌, subst, inl, inr, arith, sum_by}
+use Rattle.std.proofs.Common.{◌≡◌, ℕ, ◌+◌, ◌≤◌, max, true, false, List, [], ◌∷◌, ◌++◌, length, Ok, refl, sym, ap, ◌∙◌, subst, inl, inr, arith, sum_by}
 use Rattle.h5w_model.specs.Programs.{eval}
 use Rattle.h5w_model.specs.Images.{Misses, apply}
 use Rattle.h5w_model.specs.Tables.{InPlace}
@@ -102,13 +102,13 @@ in_file img m old s v u r a =
     ]
 
 abbrev Missed : Write → Moment → Type 0
-Missed w m = (u : Used) → Among u (m.fixed ++ m.behind) → Misses w u.place u.len
+Missed w m = (u : Used) → Among u (m.fixed ++ m.behind) → u.chunk ≡ false → Misses w u.place u.len
 
 array_missed : (img : List ℕ) (m : Moment) (old : Key → ℕ) (s : Space) (v : Store) (w : Write) → Missed w m → Rests img m old s (an_array v) → StandsArray v (apply w img)
 array_missed img m old s v w off r =
     array_stays v img w r.sound r.stands (λ n placed.
     let u : Used = block_at (place_of v n) (length (bytes_in v.blocks n)) in
-    off u (in_file img m old s (an_array v) u r (placed_range (chunk_bytes m.dataset) v n r.sound placed)))
+    off u (in_file img m old s (an_array v) u r (placed_range (chunk_bytes m.dataset) v n r.sound placed)) refl)
 
 tree_missed : (img name : List ℕ) (m : Moment) (old : Key → ℕ) (s : Space) (p : ℕ) (v : Index) (w : Write) → Knows img name m old s → Missed w m → Rests img m old s (a_tree p v) → TreeStands p v (apply w img)
 tree_missed img name m old s p v w k off r =
@@ -121,8 +121,8 @@ tree_missed img name m old s p v w k off r =
     record {
       nodes = tree_left v img (w ∷ []) is.index stands.nodes (λ part clean n.
           let u : Used = node_range (node_place part.depth part.tree) in
-          (off u (in_file img m old s (a_tree p v) u r (among_right u (header_range p ∷ []) behind (part_range bytes part v.depth v.root is.index.sound n.ends clean))), tt));
-      header = λ e. names_again p v img (apply w img) (range-apply_missed w img p bthd_len (off (header_range p) head) fits) (stands.header e);
+          (off u (in_file img m old s (a_tree p v) u r (among_right u (header_range p ∷ []) behind (part_range bytes part v.depth v.root is.index.sound n.ends clean))) refl, tt));
+      header = λ e. names_again p v img (apply w img) (range-apply_missed w img p bthd_len (off (header_range p) head refl) fits) (stands.header e);
     }
 
 again : (img : List ℕ) (m : Moment) (old : Key → ℕ) (s : Space) (v : IndexView) (w : Write) → StandsOn v (apply w img) → Rests img m old s v → Rests (apply w img) m old s v

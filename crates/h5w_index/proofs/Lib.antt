@@ -10,6 +10,7 @@ pub mod BegunLemmas
 pub mod MarkLemmas
 pub mod ReachLemmas
 pub mod PartlyLemmas
+pub mod BehindLemmas
 pub mod NamingLemmas
 pub mod PlacingLemmas
 pub mod DepthLemmas

@@ -1,8 +1,7 @@
--- Chunks are named by the index, whenever their places were taken; and their places.
-use Rattle.std.proofs.Common.{◌≡◌, ◌≢◌, ◌⊎◌, ℕ, ◌+◌, ◌*◌, ◌<◌, ◌≤◌, true, false, List, [], ◌∷◌, ◌++◌, length, Option, Some, None, refl, sym, ap, ◌∙◌, subst, inl, inr, arith, length-append, append-nil, eq-eqb}
-use Rattle.std.specs.Prelude.{if◌then◌else◌}
+-- Chunks are named by the index, whenever their places were taken.
+use Rattle.std.proofs.Common.{◌≡◌, ◌≢◌, ◌⊎◌, ℕ, ◌*◌, ◌<◌, ◌≤◌, true, false, List, [], ◌∷◌, ◌++◌, length, Option, Some, None, refl, sym, ◌∙◌, subst, inl, inr, arith}
 use Rattle.std.specs.List.{slice_get}
-use Rattle.std.proofs.lemmas.Bool.{cond-false, cond-true, ne_eqb}
+use Rattle.std.proofs.lemmas.Bool.{cond-false, cond-true}
 use Rattle.std.proofs.lemmas.Option.{slice_get_within}
 use Rattle.h5w_model.specs.Numbers.{undefined}
 use Rattle.h5w_model.specs.Datasets.{Described}
@@ -10,29 +9,24 @@ use Rattle.h5w_model.specs.Findings.{Used, chunk_bytes}
 use Rattle.h5w_model.specs.declared.cell.Key.{Key}
 use Rattle.h5w_visits.specs.Ranges.{Among, chunk_at}
 use Rattle.h5w_visits.proofs.RangeLemmas.{among_left, among_right, among_split}
-use Rattle.h5w_space.specs.Space.{Space, extent}
-use Rattle.h5w_space.specs.declared.Extent.{Extent}
-use Rattle.h5w_cache.specs.Plans.{Took}
-use Rattle.h5w_chunks.specs.Grids.{chunk_len}
+use Rattle.h5w_space.specs.Space.{Space}
 use Rattle.h5w_chunks.specs.Shares.{touched, touched_band, touched_key}
+use Rattle.h5w_chunks.proofs.KeyLemmas.{touched_lines}
 use Rattle.h5w_chunks.specs.declared.grid.ChunkPlace.{ChunkPlace}
 use Rattle.h5w_array_laws.specs.Among.{AreAmong}
 use Rattle.h5w_array_laws.proofs.AmongLemmas.{part_itself, part_joined, part_onward}
-use Rattle.h5w_flush_laws.specs.Spaces.{Taken}
 use Rattle.h5w_flush_laws.specs.Rows.{IsPlaced, new_chunks}
-use Rattle.h5w_flush_laws.proofs.NewChunkLemmas.{new_chunks_more, same_len}
 use Rattle.h5w_flush_laws.proofs.PartLemmas.{count_append}
-use Rattle.h5w_flush_laws.proofs.SpaceLemmas.{taken_laws}
 use Rattle.h5w_tree_index_laws.specs.TreeImages.{AreSame}
 use Rattle.h5w_tree_index_laws.proofs.TreeRangeLemmas.{by_weight}
 use Rattle.h5w_index.specs.Views.{IndexView, HasSlot, IsReached, IsSound, address_in, behind_of, is_key}
 use Rattle.h5w_index.specs.Steps.{IsHeld, IsSet}
 use Rattle.h5w_index.specs.Told.{HeldTold, SetTold}
-use Rattle.h5w_index.specs.Marks.{IsRaised, IsTouched}
-use Rattle.h5w_index.specs.Placing.{Fits, IsCopy, IsPlacing, TakesEach, next_key}
+use Rattle.h5w_index.specs.Marks.{IsTouched}
+use Rattle.h5w_index.specs.Placing.{AllPlaced, Fits, IsPlacing, next_key}
 use Rattle.h5w_index.specs.Naming.{AreNamed, AreTaken, NamingLaws}
-use Rattle.h5w_index.proofs.PartlyLemmas.{apart_keys, get_pushed, own_key, partly_held, partly_none, partly_set}
-use Rattle.h5w_index.proofs.RaisedLemmas.{raised_next, raised_none, raised_on, raised_one, raised_still}
+use Rattle.h5w_index.proofs.BehindLemmas.{no_range, one_range, pushed_long, taken_copy, taken_new, taken_none, taken_stored}
+use Rattle.h5w_index.proofs.PartlyLemmas.{apart_keys, get_pushed, lines_apart, own_key, partly_held, partly_none, partly_set}
 use Rattle.h5w_index.proofs.ReachLemmas.{reach_laws}
 use Rattle.h5w_index.proofs.ToldLemmas.{held_tells, same_ranges, set_tells}
 
@@ -52,118 +46,6 @@ turn c us vs = record { among = there; counts = λ q. omega (arith, count_append
 -- the same ranges are among each other
 pub same_among : (us vs : List Used) → AreSame us vs → AreAmong us vs
 same_among us vs same = let a = by_weight us vs (λ f. let e = same f in omega (arith, e)) in record { among = a.among; counts = a.counts }
-
-pushed_long : (chunks : List ChunkPlace) (p : ChunkPlace) → length (chunks ++ p ∷ []) ≡ length chunks + 1
-pushed_long chunks p = length-append chunks (p ∷ []) ∙ omega arith
-
--- the ranges of new chunks with one chunk more, which had an address or had none
-no_range : (d : Described) (old : Key → ℕ) (chunks : List ChunkPlace) (p : ChunkPlace) → old (next_key d chunks) ≢ undefined → new_chunks d old d.shape.rows 0 (chunks ++ p ∷ []) ≡ new_chunks d old d.shape.rows 0 chunks
-no_range d old chunks p there =
-    new_chunks_more d old d.shape.rows chunks p
-    ∙ ap (λ b. new_chunks d old d.shape.rows 0 chunks ++ (if b then chunk_at p.address (chunk_bytes d) ∷ [] else [])) (ne_eqb (old (next_key d chunks)) undefined there)
-    ∙ append-nil (new_chunks d old d.shape.rows 0 chunks)
-
-one_range : (d : Described) (old : Key → ℕ) (chunks : List ChunkPlace) (p : ChunkPlace) → old (next_key d chunks) ≡ undefined
-    → new_chunks d old d.shape.rows 0 (chunks ++ p ∷ []) ≡ new_chunks d old d.shape.rows 0 chunks ++ chunk_at p.address (chunk_bytes d) ∷ []
-one_range d old chunks p none =
-    new_chunks_more d old d.shape.rows chunks p
-    ∙ ap (λ b. new_chunks d old d.shape.rows 0 chunks ++ (if b then chunk_at p.address (chunk_bytes d) ∷ [] else [])) (eq-eqb (old (next_key d chunks)) undefined none)
-
--- ---- The places
-
-pub taken_none : (d : Described) (old : Key → ℕ) (s t : Space) → IsCopy s t → AreTaken d old s [] t
-taken_none d old s t c = record {
-  taken = taken_laws.none_taken s t c.end c.free c.retired;
-  raised = subst (λ n. IsRaised s t n) (let e : 0 ≡ 0 * chunk_bytes d = omega arith in e) (raised_none s t c.end c.limit);
-  inside = λ k p at. absurd (let clash : ◌≡◌ {A = Option ChunkPlace} None (Some p) = at in cc);
-  first = t;
-  copied = c;
-  ranges = [];
-  each = refl;
-}
-
--- the next chunk has an address
-pub taken_stored : (d : Described) (old : Key → ℕ) (s t : Space) (chunks : List ChunkPlace) (p : ChunkPlace) → old (next_key d chunks) ≢ undefined → p.address + chunk_len d ≤ t.end → AreTaken d old s chunks t → AreTaken d old s (chunks ++ p ∷ []) t
-taken_stored d old s t chunks p there ends x = record {
-  taken = subst (λ (us : List Used). Taken s us t) (sym (no_range d old chunks p there)) x.taken;
-  raised = subst (λ n. IsRaised s t (n * chunk_bytes d)) (sym (pushed_long chunks p)) (raised_still s t (length chunks) (chunk_bytes d) x.raised);
-  inside = λ k q at.
-      elim (get_pushed chunks p k q at) [
-        | inl before ↦ x.inside k q before
-        | inr last ↦ subst (λ (c : ChunkPlace). c.address + chunk_len d ≤ t.end) last.1 ends
-      ];
-  first = x.first;
-  copied = x.copied;
-  ranges = x.ranges;
-  each = x.each;
-}
-
-takes_also : (s t n : Space) (rs : List Extent) (r : Extent) → TakesEach s rs t → Took t n r → TakesEach s (rs ++ r ∷ []) n
-takes_also s t n [] r e took = (n, subst (λ (u : Space). Took u n r) e took, refl)
-takes_also s t n (q ∷ rs) r e took = (e.0, e.1, takes_also e.0 t n rs r e.2 took)
-
--- it has none, and gets a place
-pub taken_new : (d : Described) (old : Key → ℕ) (s t next : Space) (chunks : List ChunkPlace) (p : ChunkPlace) → 0 < chunk_len d → old (next_key d chunks) ≡ undefined → Took t next (extent p.address (chunk_len d))
-    → AreTaken d old s chunks t → AreTaken d old s (chunks ++ p ∷ []) next
-taken_new d old s t next chunks p some none took x =
-    let bytes : ℕ = chunk_bytes d in
-    let c : Used = chunk_at p.address bytes in
-    let took_bytes : Took t next (extent p.address bytes) = subst (λ n. Took t next (extent p.address n)) (same_len d) took in
-    let long : 0 < bytes = subst (λ n. 0 < n) (same_len d) some in
-    let end = (raised_one t next p.address bytes took_bytes.takes).rises in
-    record {
-      taken = subst (λ (us : List Used). Taken s us next) (sym (one_range d old chunks p none))
-          (taken_laws.joined s t next (new_chunks d old d.shape.rows 0 chunks) (c ∷ []) x.taken (taken_laws.one t next c long took_bytes));
-      raised = subst (λ n. IsRaised s next (n * bytes)) (sym (pushed_long chunks p)) (raised_next s t next (length chunks) p.address bytes x.raised took_bytes.takes);
-      inside = λ k q at.
-          elim (get_pushed chunks p k q at) [
-            | inl before ↦ omega (arith, x.inside k q before, end)
-            | inr last ↦ subst (λ (c : ChunkPlace). c.address + chunk_len d ≤ next.end) last.1 took.live.within
-          ];
-      first = x.first;
-      copied = x.copied;
-      ranges = x.ranges ++ extent p.address (chunk_len d) ∷ [];
-      each = takes_also x.first t next x.ranges (extent p.address (chunk_len d)) x.each took;
-    }
-
--- places are taken alike whatever room there is
-took_roomy : (n : ℕ) (s t : Space) (r : Extent) → Took s t r → Took (record s { spare = n }) (record t { spare = n }) r
-took_roomy n s t r k = record {
-  takes = record {
-    by = elim k.takes.by [
-      | inl f ↦ inl (record { free = f.free; end = f.end })
-      | inr e ↦ inr (record { none = e.none; place = e.place; end = e.end; fits = e.fits; free = e.free })
-    ];
-    limit = k.takes.limit;
-    retired = k.takes.retired;
-    spare = refl;
-  };
-  off_live = λ x l. k.off_live x (record { within = l.within; off_free = l.off_free; off_retired = l.off_retired });
-  off_retired = k.off_retired;
-  live = record { within = k.live.within; off_free = k.live.off_free; off_retired = k.live.off_retired };
-  stays_live = λ x l.
-      let m = k.stays_live x (record { within = l.within; off_free = l.off_free; off_retired = l.off_retired }) in
-      record { within = m.within; off_free = m.off_free; off_retired = m.off_retired };
-}
-
-takes_roomy : (n : ℕ) (s t : Space) (rs : List Extent) → TakesEach s rs t → TakesEach (record s { spare = n }) rs (record t { spare = n })
-takes_roomy n s t [] e = ap (λ (x : Space). let y : Space = record x { spare = n } in y) e
-takes_roomy n s t (r ∷ rs) e = (record (e.0) { spare = n }, took_roomy n s e.0 r e.1, takes_roomy n e.0 t rs e.2)
-
-copy_is : (t u : Space) → IsCopy t u → ◌≡◌ {A = Space} (record t { spare = u.spare }) u
-copy_is t u c = λ i. let y : Space = record { end = sym c.end i; limit = sym c.limit i; free = sym c.free i; retired = sym c.retired i; spare = u.spare } in y
-
--- so they may be taken on copies, again and again
-pub taken_copy : (d : Described) (old : Key → ℕ) (s t u : Space) (chunks : List ChunkPlace) → IsCopy t u → AreTaken d old s chunks t → AreTaken d old s chunks u
-taken_copy d old s t u chunks c x = record {
-  taken = subst (λ (us : List Used). Taken s us u) (append-nil (new_chunks d old d.shape.rows 0 chunks)) (taken_laws.joined s t u (new_chunks d old d.shape.rows 0 chunks) [] x.taken (taken_laws.none_taken t u c.end c.free c.retired));
-  raised = subst (λ n. IsRaised s u n) (let e : length chunks * chunk_bytes d + 0 ≡ length chunks * chunk_bytes d = omega arith in e) (raised_on s t u (length chunks * chunk_bytes d) 0 x.raised (raised_none t u c.end c.limit));
-  inside = λ k p at. omega (arith, x.inside k p at, c.end);
-  first = record (x.first) { spare = u.spare };
-  copied = record { end = x.copied.end; free = x.copied.free; retired = x.copied.retired; limit = x.copied.limit };
-  ranges = x.ranges;
-  each = subst (λ (y : Space). TakesEach (record (x.first) { spare = u.spare }) x.ranges y) (copy_is t u c) (takes_roomy u.spare x.first t x.ranges x.each);
-}
 
 -- ---- The index
 
@@ -207,7 +89,7 @@ module _ (d : Described) (to : ℕ) (v w : IndexView) (chunks : List ChunkPlace)
           | inr last ↦ subst (λ (c : ChunkPlace). IsPlaced d (address_in v) (address_in w) d.shape.rows k c) last.1 (subst (λ n. IsPlaced d (address_in v) (address_in w) d.shape.rows n p) (sym last.0) last_there)
         ];
     others = λ key outside. x.others key (λ k low. outside k (omega (arith, low, pushed_long chunks p)));
-    behind = subst (λ (us : List Used). AreAmong (behind_of (chunk_bytes d) w) (us ++ behind_of (chunk_bytes d) v)) (sym (no_range d (address_in v) chunks p is_there)) x.behind;
+    behind = subst (λ (us : List Used). AreAmong (behind_of (chunk_bytes d) w) (us ++ behind_of (chunk_bytes d) v)) (sym (no_range d (address_in v) [] chunks chunks p refl is_there)) x.behind;
     reached = λ k q at.
         elim (get_pushed chunks p k q at) [
           | inl before ↦ x.reached k q before
@@ -289,7 +171,7 @@ module _ (d : Described) (to : ℕ) (v w h u : IndexView) (chunks : List ChunkPl
           | inr last ↦ subst (λ (c : ChunkPlace). IsPlaced d (address_in v) (address_in u) d.shape.rows k c) last.1 (subst (λ n. IsPlaced d (address_in v) (address_in u) d.shape.rows n p) (sym last.0) new_there)
         ];
     others = λ other outside. map_others other (outside (length chunks) (omega (arith, pushed_long chunks p))) ∙ x.others other (λ k below. outside k (omega (arith, below, pushed_long chunks p)));
-    behind = subst (λ (us : List Used). AreAmong (behind_of bytes u) (us ++ behind_of bytes v)) (sym (one_range d (address_in v) chunks p was_none)) ranges_now;
+    behind = subst (λ (us : List Used). AreAmong (behind_of bytes u) (us ++ behind_of bytes v)) (sym (one_range d (address_in v) [] chunks chunks p refl was_none)) ranges_now;
     reached = λ k q at.
         elim (get_pushed chunks p k q at) [
           | inl before ↦ reach_laws.set key (touched_key d d.shape.rows k) p.address h u set (reach_laws.held key (touched_key d d.shape.rows k) w h held (x.reached k q before))
@@ -310,6 +192,19 @@ named_held d to key v w u chunks added touches held x =
           (same_among (behind_of bytes u) (behind_of bytes w) (same_ranges w u bytes x.partly.like.sound told.like told.map)) x.behind;
       reached = λ k q at. reach_laws.held key (touched_key d d.shape.rows k) w u held (x.reached k q at);
     }
+
+-- ---- All are named
+
+pub all_named : (d : Described) (to : ℕ) (v w : IndexView) (chunks : List ChunkPlace) (added : List Key) → Fits d v → length chunks ≡ touched d d.shape.rows to → d.shape.rows < to → AreNamed d to v chunks added w → AllPlaced d to v w
+all_named d to v w chunks added fits all rises x = record {
+  like = x.partly.like;
+  others = λ key outside. x.others key (λ k low.
+      let lines = touched_lines d d.shape.rows to k (omega (arith, low, all)) in
+      lines_apart v (touched_key d d.shape.rows k) key (λ e. elim outside [
+        | inl before ↦ absurd (omega (arith, before, e, lines.low))
+        | inr behind ↦ absurd (omega (arith, behind, e, lines.high))
+      ]));
+}
 
 -- ---- Both
 
@@ -345,6 +240,7 @@ naming_laws = record {
   named_stored = named_stored;
   named_new = named_new;
   named_held = named_held;
+  all = all_named;
   placing = placing;
   named = named_of;
   taken = taken_of;

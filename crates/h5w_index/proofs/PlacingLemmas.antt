@@ -1,5 +1,5 @@
 -- The chunks that rows go into get their places, one after another: what each call of the index and of the places does to that.
-use Rattle.std.proofs.Common.{◌≡◌, ◌≢◌, ◌⊎◌, ℕ, zero, suc, ◌+◌, ◌*◌, ◌/◌, ◌<◌, ◌≤◌, true, false, List, [], ◌∷◌, ◌++◌, length, Some, refl, sym, ap, ◌∙◌, subst, inl, inr, arith}
+use Rattle.std.proofs.Common.{◌≡◌, ◌≢◌, ◌⊎◌, ℕ, zero, suc, ◌+◌, ◌*◌, ◌/◌, ◌<◌, ◌≤◌, true, false, List, [], ◌∷◌, ◌++◌, length, Some, refl, sym, ap, ◌∙◌, subst, inl, inr, arith, length-append}
 use Rattle.std.specs.List.{slice_get}
 use Rattle.std.proofs.lemmas.Bool.{cases_Bool, cases_eq}
 use Rattle.std.proofs.lemmas.Nat.{le-div, mul-le}
@@ -16,7 +16,7 @@ use Rattle.h5w_cache.specs.Plans.{Took}
 use Rattle.h5w_cache.specs.declared.moves.Move.{Move}
 use Rattle.h5w_chunks.specs.Grids.{chunk_len}
 use Rattle.h5w_chunks.specs.Shares.{first_line, touched, touched_band, touched_key}
-use Rattle.h5w_chunks.proofs.KeyLemmas.{first_line_grows, touched_lines, touched_low}
+use Rattle.h5w_chunks.proofs.KeyLemmas.{first_line_grows, touched_low}
 use Rattle.h5w_chunks.specs.declared.grid.ChunkPlace.{ChunkPlace}
 use Rattle.h5w_header_laws.specs.Files.{with_rows}
 use Rattle.h5w_flush_laws.proofs.NewChunkLemmas.{same_len}
@@ -24,10 +24,14 @@ use Rattle.h5w_index.specs.Views.{IndexView, HasSlot, IsReached, IsSound, addres
 use Rattle.h5w_index.specs.Steps.{IsHeld, IsPlan, IsSet}
 use Rattle.h5w_index.specs.Told.{SameMap}
 use Rattle.h5w_index.specs.Marks.{IsMarked, IsRaised, IsTouched}
-use Rattle.h5w_index.specs.Placing.{AllPlaced, AreInside, Fits, FullPartBound, IsFullPart, IsPlacing, PlacingLaws, most_of, next_key}
+use Rattle.h5w_index.specs.Placing.{AllPlaced, AreInside, Fits, IsPlacing, next_key}
+use Rattle.h5w_index.specs.Naming.{AreNamed, AreTakenBehind}
+use Rattle.h5w_index.specs.Full.{FullPartBound, IsFullPart, most_of}
+use Rattle.h5w_index.specs.PlacingLaws.{PlacingLaws}
 use Rattle.h5w_index.proofs.MarkLemmas.{full_bounds, plan_bounds}
-use Rattle.h5w_index.proofs.NamingLemmas.{named_before, named_held, named_new, named_none, named_of, named_stored, placing, taken_new, taken_none, taken_of, taken_stored}
-use Rattle.h5w_index.proofs.PartlyLemmas.{lines_apart, partly_held, partly_unset, same_address}
+use Rattle.h5w_index.proofs.NamingLemmas.{all_named, named_before, named_held, named_new, named_none, named_of, named_stored, placing, taken_of}
+use Rattle.h5w_index.proofs.BehindLemmas.{get_joined, taken_new, taken_none, taken_stored}
+use Rattle.h5w_index.proofs.PartlyLemmas.{partly_held, partly_unset, same_address}
 use Rattle.h5w_index.proofs.RaisedLemmas.{raised_more, raised_on}
 
 div_grows : (a b n : ℕ) → a ≤ b → a / n ≤ b / n
@@ -68,15 +72,7 @@ placing_holds d to key v w u s t chunks added touches held x =
 -- ---- All have their places
 
 all_placed : (d : Described) (to : ℕ) (v w : IndexView) (s t : Space) (chunks : List ChunkPlace) (added : List Key) → Fits d v → length chunks ≡ touched d d.shape.rows to → d.shape.rows < to → IsPlacing d to v s chunks added w t → AllPlaced d to v w
-all_placed d to v w s t chunks added fits all rises x = record {
-  like = x.partly.like;
-  others = λ key outside. x.others key (λ k low.
-      let lines = touched_lines d d.shape.rows to k (omega (arith, low, all)) in
-      lines_apart v (touched_key d d.shape.rows k) key (λ e. elim outside [
-        | inl before ↦ absurd (omega (arith, before, e, lines.low))
-        | inr behind ↦ absurd (omega (arith, behind, e, lines.high))
-      ]));
-}
+all_placed d to v w s t chunks added fits all rises x = all_named d to v w chunks added fits all rises (named_of d to v w s t chunks added x)
 
 -- ---- What stands in the file
 
@@ -110,30 +106,50 @@ chunk_there [] k low = absurd (omega (arith, low))
 chunk_there (p ∷ ps) zero low = (p, refl)
 chunk_there (p ∷ ps) (suc k) low = chunk_there ps k (omega (arith, low))
 
-module _ (d : Described) (to : ℕ) (v w : IndexView) (s t : Space) (chunks : List ChunkPlace) (added : List Key) (rises : d.shape.rows ≤ to) (within : AreInside d s.end v) (x : IsPlacing d to v s chunks added w t) where
+-- each of some chunks ends by a place
+abbrev AllEnd : Described → ℕ → List ChunkPlace → Type 0
+AllEnd d end chunks = (k : ℕ) (p : ChunkPlace) → slice_get chunks k ≡ Some p → p.address + chunk_len d ≤ end
+
+module _ (d : Described) (to : ℕ) (v w : IndexView) (end later : ℕ) (chunks : List ChunkPlace) (added : List Key) (rises : d.shape.rows ≤ to) (within : AreInside d end v) (more : end ≤ later) (ends : AllEnd d later chunks)
+    (x : AreNamed d to v chunks added w) where
   -- the chunk's place is new or was there
-  one_inside : (key : Key) → IsOneOf d v (length chunks) key → address_in w key + chunk_len d ≤ t.end
+  one_inside : (key : Key) → IsOneOf d v (length chunks) key → address_in w key + chunk_len d ≤ later
   one_inside key o =
       let p = chunk_there chunks o.number o.below in
       let first : Key = touched_key d d.shape.rows o.number in
       let named : address_in w key ≡ (p.0).address = same_address w first key (x.partly.like.one first key ∙ o.same) ∙ (x.placed o.number p.0 p.1).named in
-      omega (arith, named, x.inside o.number p.0 p.1)
+      omega (arith, named, ends o.number p.0 p.1)
 
-  none_inside : (key : Key) → IsNoneOf d v (length chunks) key → first_line d (d.shape.rows / d.layout.chunk_rows) ≤ key.i → address_in w key ≢ undefined → address_in w key + chunk_len d ≤ t.end
+  none_inside : (key : Key) → IsNoneOf d v (length chunks) key → first_line d (d.shape.rows / d.layout.chunk_rows) ≤ key.i → address_in w key ≢ undefined → address_in w key + chunk_len d ≤ later
   unfolding IsNoneOf
   none_inside key none from there =
       let same : address_in w key ≡ address_in v key = x.others key none in
       let before = within key from (λ e. there (same ∙ e)) in
-      omega (arith, same, before, x.raised.rises)
+      omega (arith, same, before, more)
 
-  placed_inside : AreInside (with_rows to d) t.end w
-  placed_inside key from there =
+  named_inside : AreInside (with_rows to d) later w
+  named_inside key from there =
       elim (one_or_none d v (length chunks) key) [
         | inl o ↦ one_inside key o
         | inr none ↦
             let grows = first_line_grows d (d.shape.rows / d.layout.chunk_rows) (to / d.layout.chunk_rows) (div_grows d.shape.rows to d.layout.chunk_rows rises) in
             none_inside key none (omega (arith, from, grows)) there
       ]
+
+placed_inside : (d : Described) (to : ℕ) (v w : IndexView) (s t : Space) (chunks : List ChunkPlace) (added : List Key) → d.shape.rows ≤ to → AreInside d s.end v → IsPlacing d to v s chunks added w t → AreInside (with_rows to d) t.end w
+placed_inside d to v w s t chunks added rises within x = named_inside d to v w s.end t.end chunks added rises within x.raised.rises x.inside (named_of d to v w s t chunks added x)
+
+-- early ones end by the places of before, others by those of now
+behind_ends : (d : Described) (old : Key → ℕ) (early : List ChunkPlace) (s t : Space) (chunks : List ChunkPlace) → AllEnd d s.end early → AreTakenBehind d old early s chunks t → AllEnd d t.end chunks
+behind_ends d old early s t chunks ends x k p at =
+    elim (get_joined early x.later k p (subst (λ (cs : List ChunkPlace). slice_get cs k ≡ Some p) x.all at)) [
+      | inl first ↦ omega (arith, ends k p first, x.raised.rises)
+      | inr last ↦ x.inside last.0 p last.1
+    ]
+
+inside_behind : (d : Described) (to : ℕ) (v w : IndexView) (s t : Space) (early chunks : List ChunkPlace) (added : List Key) → d.shape.rows ≤ to → AreInside d s.end v → AllEnd d s.end early → AreNamed d to v chunks added w
+    → AreTakenBehind d (address_in v) early s chunks t → AreInside (with_rows to d) t.end w
+inside_behind d to v w s t early chunks added rises within ends x y = named_inside d to v w s.end t.end chunks added rises within y.raised.rises (behind_ends d (address_in v) early s t chunks ends y) x
 
 carried_inside : (d : Described) (end later : ℕ) (v w : IndexView) → SameMap v w → end ≤ later → AreInside d end v → AreInside d later w
 carried_inside d end later v w map less within key from there =
@@ -145,36 +161,41 @@ carried_inside d end later v w map less within key from there =
 most_is : (n bytes : ℕ) → n * (bytes + 20000) ≡ n * bytes + n * 20000
 most_is n bytes = grind arith
 
-all_raised : (d : Described) (to : ℕ) (v held w : IndexView) (s between t : Space) (chunks : List ChunkPlace) (added : List Key) (ms : List Move) (copies fixed : List Write) → length chunks ≡ touched d d.shape.rows to → IsMarked d d.shape.rows to v
-    → IsPlacing d to v s chunks added held between → IsPlan held between ms copies fixed w t → IsRaised s t (most_of d to)
-all_raised d to v held w s between t chunks added ms copies fixed all marks x plan =
+-- chunks behind others are no more than all of them, and raise the file by no more
+behind_raised : (d : Described) (old : Key → ℕ) (early : List ChunkPlace) (s t : Space) (chunks : List ChunkPlace) (n : ℕ) → length chunks ≤ n → AreTakenBehind d old early s chunks t → IsRaised s t (n * chunk_bytes d)
+behind_raised d old early s t chunks n few x =
+    let bytes : ℕ = chunk_bytes d in
+    let long : length chunks ≡ length early + length x.later = ap length x.all ∙ length-append early x.later in
+    raised_more s t (length x.later * bytes) (n * bytes) (mul-le (length x.later) bytes n bytes (omega (arith, long, few)) (omega arith)) x.raised
+
+all_raised : (d : Described) (to : ℕ) (v held w : IndexView) (s between t : Space) (early chunks : List ChunkPlace) (added : List Key) (ms : List Move) (copies fixed : List Write) → length chunks ≡ touched d d.shape.rows to
+    → IsMarked d d.shape.rows to v → AreNamed d to v chunks added held → AreTakenBehind d (address_in v) early s chunks between → IsPlan held between ms copies fixed w t → IsRaised s t (most_of d to)
+all_raised d to v held w s between t early chunks added ms copies fixed all marks x y plan =
     let n : ℕ = touched d d.shape.rows to in
     let bytes : ℕ = chunk_bytes d in
     let bound = plan_bounds d d.shape.rows to held between ms copies fixed w t x.partly.like.sound (x.partly.marks marks) plan in
-    let first : IsRaised s between (n * bytes) = subst (λ k. IsRaised s between (k * bytes)) all x.raised in
+    let first : IsRaised s between (n * bytes) = behind_raised d (address_in v) early s between chunks n (omega (arith, all)) y in
     raised_more s t (n * bytes + n * 16428) (most_of d to) (omega (arith, most_is n bytes)) (raised_on s between t (n * bytes) (n * 16428) first bound.raised)
 
-full_part : (d : Described) (to : ℕ) (v : IndexView) (s : Space) (full : Full) → 0 < chunk_len d → 0 < touched d d.shape.rows to → IsMarked d d.shape.rows to v → IsFullPart d to v s full → FullPartBound d to s full
-full_part d to v s full some any marks (inl chunk) =
+full_part : (d : Described) (to : ℕ) (v : IndexView) (early : List ChunkPlace) (s : Space) (full : Full) → 0 < chunk_len d → 0 < touched d d.shape.rows to → IsMarked d d.shape.rows to v → IsFullPart d to v early s full → FullPartBound d to s full
+full_part d to v early s full some any marks (inl chunk) =
     let n : ℕ = touched d d.shape.rows to in
     let bytes : ℕ = chunk_bytes d in
-    let k : ℕ = length chunk.chunks in
-    let most : k * bytes ≤ n * bytes = mul-le k bytes n bytes (omega (arith, chunk.inside)) (omega arith) in
     let one : 1 * bytes ≤ n * bytes = mul-le 1 bytes n bytes (omega (arith, any)) (omega arith) in
     record {
       before = chunk.t;
-      raised = raised_more s chunk.t (k * bytes) (most_of d to) (omega (arith, most_is n bytes, most)) chunk.placing.raised;
+      raised = raised_more s chunk.t (n * bytes) (most_of d to) (omega (arith, most_is n bytes)) (behind_raised d (address_in v) early s chunk.t chunk.chunks n (omega (arith, chunk.inside)) chunk.taken);
       size = chunk_len d;
       some = omega (arith, some);
       few = omega (arith, same_len d, most_is n bytes, one);
       refused = chunk.refused;
     }
-full_part d to v s full some any marks (inr block) =
+full_part d to v early s full some any marks (inr block) =
     let n : ℕ = touched d d.shape.rows to in
     let bytes : ℕ = chunk_bytes d in
-    let x = block.placing in
+    let x = block.named in
     let bound = full_bounds d d.shape.rows to block.held block.between full x.partly.like.sound (x.partly.marks marks) block.refused in
-    let first : IsRaised s block.between (n * bytes) = subst (λ k. IsRaised s block.between (k * bytes)) block.all x.raised in
+    let first : IsRaised s block.between (n * bytes) = behind_raised d (address_in v) early s block.between block.chunks n (omega (arith, block.all)) block.taken in
     record {
       before = bound.before;
       raised = raised_more s bound.before (n * bytes + n * 16428) (most_of d to) (omega (arith, most_is n bytes)) (raised_on s block.between bound.before (n * bytes) (n * 16428) first bound.raised);
@@ -195,6 +216,7 @@ placing_laws = record {
   kept = λ d to v w p. record { like = p.like; map = λ key. p.rest key (All-nil (λ other. is_key v other key ≡ false)) };
   all = all_placed;
   inside = placed_inside;
+  inside_behind = inside_behind;
   carried = carried_inside;
   raised = all_raised;
   full = full_part;

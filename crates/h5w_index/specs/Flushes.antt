@@ -1,5 +1,5 @@
 -- The plan of an index as its part of a flush, whichever its kind.
-use Rattle.std.specs.Prelude.{◌≡◌, ℕ, ◌*◌, ◌^◌, ◌<◌, ◌≤◌, List, [], ◌++◌, length, None, ℤ}
+use Rattle.std.specs.Prelude.{◌≡◌, ℕ, ◌*◌, ◌^◌, ◌<◌, ◌≤◌, false, List, [], ◌++◌, length, None, ℤ}
 use Rattle.std.specs.List.{All}
 use Rattle.h5w_model.specs.Images.{Misses, apply, image}
 use Rattle.h5w_model.specs.Findings.{Used, chunk_bytes}
@@ -148,7 +148,7 @@ abbrev pub IndexBegins : Type 0
 IndexBegins = (img name : List ℕ) (m : Moment) (s : Space) (v : IndexView) → IsSound v → IsClean v → StandsOn v img → Represents img name m → m.dataset.layout.index ≡ kind_of v → m.dataset.layout.address ≡ header_place v
     → IsBegun m s → Begins img name m s v
 
--- A write that misses the index's ranges leaves it, as the superblock's.
+-- A write that misses the ranges of the index's blocks leaves it, as the superblock's, and as one of a chunk's cells.
 abbrev pub RestsMissed : Type 0
-RestsMissed = (img name : List ℕ) (m : Moment) (old : Key → ℕ) (s : Space) (v : IndexView) (w : Write) → Knows img name m old s → ((u : Used) → Among u (m.fixed ++ m.behind) → Misses w u.place u.len)
+RestsMissed = (img name : List ℕ) (m : Moment) (old : Key → ℕ) (s : Space) (v : IndexView) (w : Write) → Knows img name m old s → ((u : Used) → Among u (m.fixed ++ m.behind) → u.chunk ≡ false → Misses w u.place u.len)
     → Rests img m old s v → Rests (apply w img) m old s v

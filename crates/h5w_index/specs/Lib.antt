@@ -5,6 +5,8 @@ pub mod Told
 pub mod Marks
 pub mod Placing
 pub mod Naming
+pub mod Full
+pub mod PlacingLaws
 pub mod Depths
 pub mod Flushes
 pub mod Blocks

@@ -17,7 +17,7 @@ use Rattle.h5w_flush_laws.specs.Rows.{IsPlaced, new_chunks}
 use Rattle.h5w_index.specs.Views.{IndexView, HasSlot, IsReached, IsSound, address_in, behind_of, is_key}
 use Rattle.h5w_index.specs.Steps.{IsHeld, IsSet}
 use Rattle.h5w_index.specs.Marks.{IsRaised, IsTouched}
-use Rattle.h5w_index.specs.Placing.{Fits, IsCopy, IsPartly, IsPlacing, TakesEach, next_key}
+use Rattle.h5w_index.specs.Placing.{AllPlaced, Fits, IsCopy, IsPartly, IsPlacing, TakesEach, next_key}
 
 -- Some first chunks have their places: those of the new ones were taken one after another, and `old` is the map of the others. s are the
 -- places of the file before, t after.
@@ -25,6 +25,19 @@ pub record AreTaken (d : Described) (old : Key → ℕ) (s : Space) (chunks : Li
   pub taken : Taken s (new_chunks d old d.shape.rows 0 chunks) t
   pub raised : IsRaised s t (length chunks * chunk_bytes d)
   pub inside : (k : ℕ) (p : ChunkPlace) → slice_get chunks k ≡ Some p → p.address + chunk_len d ≤ t.end
+  pub first : Space
+  pub copied : IsCopy s first
+  pub ranges : List Extent
+  pub each : TakesEach first ranges t
+
+-- Behind some first chunks that have their places (`early`) others got theirs: those of the new ones were taken one after another, and `old`
+-- is the map of the others. s are the places of the file before, t after.
+pub record AreTakenBehind (d : Described) (old : Key → ℕ) (early : List ChunkPlace) (s : Space) (chunks : List ChunkPlace) (t : Space) : Type 0 where
+  pub later : List ChunkPlace
+  pub all : chunks ≡ early ++ later
+  pub taken : Taken s (new_chunks d old d.shape.rows (length early) later) t
+  pub raised : IsRaised s t (length later * chunk_bytes d)
+  pub inside : (k : ℕ) (p : ChunkPlace) → slice_get later k ≡ Some p → p.address + chunk_len d ≤ t.end
   pub first : Space
   pub copied : IsCopy s first
   pub ranges : List Extent
@@ -63,7 +76,30 @@ pub record NamingLaws : Type 0 where
   -- a place is held for one of the chunks, and nothing else
   pub named_held : (d : Described) (to : ℕ) (key : Key) (v w u : IndexView) (chunks : List ChunkPlace) (added : List Key) → IsTouched d d.shape.rows to key → IsHeld key w u → AreNamed d to v chunks added w
       → AreNamed d to v chunks added u
+  -- all are named: each other key gives what it gave
+  pub all : (d : Described) (to : ℕ) (v w : IndexView) (chunks : List ChunkPlace) (added : List Key) → Fits d v → length chunks ≡ touched d d.shape.rows to → d.shape.rows < to → AreNamed d to v chunks added w
+      → AllPlaced d to v w
   -- chunks that have their places and are named are placed, and back
   pub placing : (d : Described) (to : ℕ) (v w : IndexView) (s t : Space) (chunks : List ChunkPlace) (added : List Key) → AreNamed d to v chunks added w → AreTaken d (address_in v) s chunks t → IsPlacing d to v s chunks added w t
   pub named : (d : Described) (to : ℕ) (v w : IndexView) (s t : Space) (chunks : List ChunkPlace) (added : List Key) → IsPlacing d to v s chunks added w t → AreNamed d to v chunks added w
   pub taken : (d : Described) (to : ℕ) (v w : IndexView) (s t : Space) (chunks : List ChunkPlace) (added : List Key) → IsPlacing d to v s chunks added w t → AreTaken d (address_in v) s chunks t
+
+-- Behind others, places are taken as they are of the first.
+pub record BehindLaws : Type 0 where
+  -- no chunk but those has its place yet
+  pub behind_none : (d : Described) (old : Key → ℕ) (early : List ChunkPlace) (s t : Space) → IsCopy s t → AreTakenBehind d old early s early t
+  -- the next has an address
+  pub behind_stored : (d : Described) (old : Key → ℕ) (early : List ChunkPlace) (s t : Space) (chunks : List ChunkPlace) (p : ChunkPlace) → old (next_key d chunks) ≢ undefined → p.address + chunk_len d ≤ t.end
+      → AreTakenBehind d old early s chunks t → AreTakenBehind d old early s (chunks ++ p ∷ []) t
+  -- the next has none, and one is taken
+  pub behind_new : (d : Described) (old : Key → ℕ) (early : List ChunkPlace) (s t next : Space) (chunks : List ChunkPlace) (p : ChunkPlace) → 0 < chunk_len d → old (next_key d chunks) ≡ undefined
+      → Took t next (extent p.address (chunk_len d)) → AreTakenBehind d old early s chunks t → AreTakenBehind d old early s (chunks ++ p ∷ []) next
+  -- so they may be taken on copies, at several times
+  pub behind_copy : (d : Described) (old : Key → ℕ) (early : List ChunkPlace) (s t u : Space) (chunks : List ChunkPlace) → IsCopy t u → AreTakenBehind d old early s chunks t → AreTakenBehind d old early s chunks u
+  -- those behind others that were taken behind none, and those behind others that were taken behind some
+  pub behind_joins : (d : Described) (old : Key → ℕ) (rest s t : Space) (early chunks : List ChunkPlace) → AreTaken d old rest early s → AreTakenBehind d old early s chunks t → AreTaken d old rest chunks t
+  pub behind_again : (d : Described) (old : Key → ℕ) (early : List ChunkPlace) (s t u : Space) (chunks more : List ChunkPlace) → AreTakenBehind d old early s chunks t → AreTakenBehind d old chunks t more u
+      → AreTakenBehind d old early s more u
+  -- behind none they are taken as the first, and back
+  pub behind_first : (d : Described) (old : Key → ℕ) (s t : Space) (chunks : List ChunkPlace) → AreTaken d old s chunks t → AreTakenBehind d old [] s chunks t
+  pub first_of : (d : Described) (old : Key → ℕ) (s t : Space) (chunks : List ChunkPlace) → AreTakenBehind d old [] s chunks t → AreTaken d old s chunks t

@@ -1,5 +1,5 @@
 -- The chunks that rows go into get their places, one after another; the index names each new one at once. Whichever its kind.
-use Rattle.std.specs.Prelude.{◌≡◌, ◌≢◌, ◌⊎◌, ℕ, ◌+◌, ◌*◌, ◌/◌, ◌<◌, ◌≤◌, false, List, [], ◌∷◌, ◌++◌, length, Some}
+use Rattle.std.specs.Prelude.{◌≡◌, ◌≢◌, ℕ, ◌+◌, ◌*◌, ◌/◌, ◌<◌, ◌≤◌, false, List, ◌++◌, length, Some}
 use Rattle.std.specs.List.{All, slice_get}
 use Rattle.h5w_model.specs.Numbers.{undefined}
 use Rattle.h5w_model.specs.Datasets.{Described}
@@ -7,26 +7,24 @@ use Rattle.h5w_model.specs.Tables.{chunks_across}
 use Rattle.h5w_model.specs.Findings.{chunk_bytes}
 use Rattle.h5w_model.specs.declared.cell.Key.{Key}
 use Rattle.h5w_model.specs.declared.piece.Write.{Write}
-use Rattle.h5w_space.specs.Space.{Space, extent}
+use Rattle.h5w_space.specs.Space.{Space}
 use Rattle.h5w_space.specs.declared.Extent.{Extent}
-use Rattle.h5w_space.specs.declared.Full.{Full}
-use Rattle.h5w_cache.specs.Plans.{Chain, IsRefused, Took}
+use Rattle.h5w_cache.specs.Plans.{Chain, Took}
 use Rattle.h5w_cache.specs.Stores.{Store}
 use Rattle.h5w_cache.specs.declared.moves.Move.{Move}
 use Rattle.h5w_chunks.specs.Grids.{chunk_len}
-use Rattle.h5w_chunks.specs.Shares.{first_line, touched, touched_band, touched_key}
+use Rattle.h5w_chunks.specs.Shares.{first_line, touched_key}
 use Rattle.h5w_chunks.specs.declared.grid.ChunkPlace.{ChunkPlace}
 use Rattle.h5w_array_laws.specs.Among.{AreAmong}
 use Rattle.h5w_array_laws.specs.ArrayStores.{IsHeaded, IsNumbered}
-use Rattle.h5w_header_laws.specs.Files.{with_rows}
 use Rattle.h5w_steps.specs.Moments.{Moment}
 use Rattle.h5w_array_flushes.specs.ArrayFlushes.{chunks_for}
 use Rattle.h5w_flush_laws.specs.Parts.{block_writes}
 use Rattle.h5w_flush_laws.specs.Spaces.{Taken}
 use Rattle.h5w_flush_laws.specs.Rows.{IsOutside, IsPlaced, new_chunks}
 use Rattle.h5w_index.specs.Views.{IndexView, an_array, a_tree, HasSlot, IsReached, IsSound, KeepsReach, address_in, behind_of, is_key, kind_of}
-use Rattle.h5w_index.specs.Steps.{HasNoPlace, IsHeld, IsPlan, IsSet, IsUnset}
-use Rattle.h5w_index.specs.Told.{HeldTold, IsLike, SameMap}
+use Rattle.h5w_index.specs.Steps.{IsHeld, IsPlan, IsSet, IsUnset}
+use Rattle.h5w_index.specs.Told.{HeldTold, IsLike}
 use Rattle.h5w_index.specs.Flushes.{AreCopies, IsIndexPart, Rests}
 use Rattle.h5w_index.specs.Marks.{IsMarked, IsRaised, IsTouched}
 
@@ -91,82 +89,12 @@ pub record IsPlacing (d : Described) (to : ℕ) (v : IndexView) (s : Space) (chu
   pub ranges : List Extent
   pub each : TakesEach first ranges t
 
--- ---- A file that has no place
-
--- behind chunks that have their places, the next has none yet, and there is none for it
-pub record IsChunkFull (d : Described) (to : ℕ) (v : IndexView) (s : Space) (full : Full) : Type 0 where
-  pub chunks : List ChunkPlace
-  pub added : List Key
-  pub w : IndexView
-  pub t : Space
-  pub placing : IsPlacing d to v s chunks added w t
-  pub inside : length chunks < touched d d.shape.rows to
-  pub absent : address_in v (next_key d chunks) ≡ undefined
-  pub refused : IsRefused t (chunk_len d) full
-
--- all chunks that rows go into have their places, and the first block in turn that has none is refused
-pub record IsBlockFull (d : Described) (to : ℕ) (v : IndexView) (s : Space) (full : Full) : Type 0 where
-  pub chunks : List ChunkPlace
-  pub added : List Key
-  pub held : IndexView
-  pub between : Space
-  pub placing : IsPlacing d to v s chunks added held between
-  pub all : length chunks ≡ touched d d.shape.rows to
-  pub refused : HasNoPlace held between full
-
--- the first new chunk by its key has no place, or else the first block of the index in turn
-abbrev pub IsFullPart : Described → ℕ → IndexView → Space → Full → Type 0
-IsFullPart d to v s full = IsChunkFull d to v s full ⊎ IsBlockFull d to v s full
-
--- the most bytes by which such rows raise the file, all but what each flush has
-abbrev pub most_of : Described → ℕ → ℕ
-most_of d to = touched d d.shape.rows to * (chunk_bytes d + 20000)
-
--- What has no place is not larger than that, and stands where the file was raised by no more.
-pub record FullPartBound (d : Described) (to : ℕ) (s : Space) (full : Full) : Type 0 where
-  pub before : Space
-  pub raised : IsRaised s before (most_of d to)
-  pub size : ℕ
-  pub some : 1 ≤ size
-  pub few : size ≤ most_of d to
-  pub refused : IsRefused before size full
-
 -- ---- Laws
 
 -- all chunks have their places: each other key gives what it gave
 pub record AllPlaced (d : Described) (to : ℕ) (v : IndexView) (w : IndexView) : Type 0 where
   pub like : IsLike v w
   pub others : (key : Key) → IsOutside d d.shape.rows to key → address_in w key ≡ address_in v key
-
-pub record PlacingLaws : Type 0 where
-  -- no chunk yet
-  pub none : (d : Described) (to : ℕ) (v : IndexView) (s t : Space) → IsSound v → t.end ≡ s.end → t.free ≡ s.free → t.retired ≡ s.retired → t.limit ≡ s.limit → IsPlacing d to v s [] [] v t
-  -- the next has its place already, and readers look for it
-  pub stored : (d : Described) (to : ℕ) (v w : IndexView) (s t : Space) (chunks : List ChunkPlace) (added : List Key) (p : ChunkPlace) → Fits d v → address_in w (next_key d chunks) ≡ p.address → p.address ≢ undefined
-      → (p.stored ≡ false → d.shape.rows ≤ touched_band d d.shape.rows (length chunks) * d.layout.chunk_rows) → IsReached w (next_key d chunks) → AreInside d s.end v → IsPlacing d to v s chunks added w t → IsPlacing d to v s (chunks ++ p ∷ []) added w t
-  -- a place is held for one of the chunks, and nothing else
-  pub holds : (d : Described) (to : ℕ) (key : Key) (v w u : IndexView) (s t : Space) (chunks : List ChunkPlace) (added : List Key) → IsTouched d d.shape.rows to key → IsHeld key w u → IsPlacing d to v s chunks added w t
-      → IsPlacing d to v s chunks added u t
-  -- the next has none: a place is held for it in the index and one is taken in the file, and the index names it
-  pub new : (d : Described) (to : ℕ) (v w h u : IndexView) (s t next : Space) (chunks : List ChunkPlace) (added : List Key) (p : ChunkPlace) → Fits d v → 0 < chunk_len d → length chunks < touched d d.shape.rows to
-      → address_in w (next_key d chunks) ≡ undefined → p.stored ≡ false → p.address ≢ undefined → IsHeld (next_key d chunks) w h → HasSlot h (next_key d chunks) → Took t next (extent p.address (chunk_len d))
-      → IsSet (next_key d chunks) p.address h u → IsPlacing d to v s chunks added w t → IsPlacing d to v s (chunks ++ p ∷ []) (added ++ next_key d chunks ∷ []) u next
-  -- a place is held, and then the call is refused
-  pub held : (d : Described) (to : ℕ) (key : Key) (v w u : IndexView) (added : List Key) → IsTouched d d.shape.rows to key → IsHeld key w u → IsPartly d to v added w → IsPartly d to v added u
-  -- after a refusal what was set is taken back, and then the index is as before, but that places are held
-  pub unset : (d : Described) (to : ℕ) (key : Key) (v w u : IndexView) (added : List Key) → IsUnset key w u → IsPartly d to v (key ∷ added) w → IsPartly d to v added u
-  pub kept : (d : Described) (to : ℕ) (v w : IndexView) → IsPartly d to v [] w → HeldTold v w
-  -- all have their places
-  pub all : (d : Described) (to : ℕ) (v w : IndexView) (s t : Space) (chunks : List ChunkPlace) (added : List Key) → Fits d v → length chunks ≡ touched d d.shape.rows to → d.shape.rows < to
-      → IsPlacing d to v s chunks added w t → AllPlaced d to v w
-  -- so each chunk that later rows may go into stands in the file as it did, also once the blocks are planned
-  pub inside : (d : Described) (to : ℕ) (v w : IndexView) (s t : Space) (chunks : List ChunkPlace) (added : List Key) → d.shape.rows ≤ to → AreInside d s.end v → IsPlacing d to v s chunks added w t
-      → AreInside (with_rows to d) t.end w
-  pub carried : (d : Described) (end later : ℕ) (v w : IndexView) → SameMap v w → end ≤ later → AreInside d end v → AreInside d later w
-  -- by how much all that raises the file, with the plan of the index's blocks; and what has no place
-  pub raised : (d : Described) (to : ℕ) (v held w : IndexView) (s between t : Space) (chunks : List ChunkPlace) (added : List Key) (ms : List Move) (copies fixed : List Write) → length chunks ≡ touched d d.shape.rows to
-      → IsMarked d d.shape.rows to v → IsPlacing d to v s chunks added held between → IsPlan held between ms copies fixed w t → IsRaised s t (most_of d to)
-  pub full : (d : Described) (to : ℕ) (v : IndexView) (s : Space) (full : Full) → 0 < chunk_len d → 0 < touched d d.shape.rows to → IsMarked d d.shape.rows to v → IsFullPart d to v s full → FullPartBound d to s full
 
 -- What readers look for they look for after each call too, where it has an address; and they look for each chunk that gets one. They do
 -- for all chunks of an index that was made here, and for each chunk of a lower band.

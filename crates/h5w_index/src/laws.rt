@@ -4,8 +4,9 @@
 ghost use Rattle.h5w_index.specs.Flushes.{IndexBegins, IndexIsFlush, IndexRestsThen, PlanTells, RestsForgotten, RestsFreed, RestsMissed};
 ghost use Rattle.h5w_index.specs.Depths.{DepthLaws};
 ghost use Rattle.h5w_index.specs.Marks.{FullBounds, MarkLaws, PlanBounds};
-ghost use Rattle.h5w_index.specs.Naming.{NamingLaws};
-ghost use Rattle.h5w_index.specs.Placing.{IndexPart, OwnLaws, PlacingLaws, ReachLaws, RestsHeld};
+ghost use Rattle.h5w_index.specs.Naming.{BehindLaws, NamingLaws};
+ghost use Rattle.h5w_index.specs.Placing.{IndexPart, OwnLaws, ReachLaws, RestsHeld};
+ghost use Rattle.h5w_index.specs.PlacingLaws.{PlacingLaws};
 ghost use Rattle.h5w_index.specs.Told.{HeldTells, LikeLaws, SameRanges, SetTells, UnsetTells};
 
 /// Where a place is held, the map and all that stands stay.
@@ -57,6 +58,11 @@ pub fn placing_laws()
 /// Places that were taken one after another, for chunks that are named later, one by one: with their names the chunks are placed.
 pub fn naming_laws()
     ensures { NamingLaws }
+{}
+
+/// So are places that are taken behind those of other chunks, taken before.
+pub fn behind_laws()
+    ensures { BehindLaws }
 {}
 
 /// Where places are held for the keys of a dataset's chunks alone, and these are few, no place is refused for want of depth.
@@ -114,7 +120,7 @@ pub fn rests_forgotten()
     ensures { RestsForgotten }
 {}
 
-/// It rests still once a write missed its ranges.
+/// It rests still once a write missed the ranges of its blocks.
 pub fn rests_missed()
     ensures { RestsMissed }
 {}

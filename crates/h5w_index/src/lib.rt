@@ -12,7 +12,7 @@ pub use begun::Begun;
 pub use h5w_bt_index::{InsertError, Key};
 pub use index::Index;
 pub use laws::{
-    depth_laws, full_bounds, held_tells, index_begins, index_is_flush, index_part,
+    behind_laws, depth_laws, full_bounds, held_tells, index_begins, index_is_flush, index_part,
     index_rests_then, like_laws, mark_laws, naming_laws, own_laws, placing_laws, plan_bounds,
     plan_tells, rests_forgotten, rests_freed, rests_held, rests_missed, same_ranges, set_tells,
     unset_tells,

@@ -1,5 +1,5 @@
 -- A batch of the writer of a run.
-use Rattle.std.proofs.Common.{◌≡◌, ℕ, ◌+◌, ◌*◌, ◌/◌, ◌<◌, ◌≤◌, Bool, false, cond, nat_lt, div-mul-le_self, List, [], ◌∷◌, ◌++◌, length, ℤ, Option, Some, None, Result, Ok, Err, sym, refl, ap, ◌∙◌, subst, arith, append_assoc, length-append, ◌⊎◌, inl, inr}
+use Rattle.std.proofs.Common.{◌≡◌, ℕ, ◌+◌, ◌*◌, ◌/◌, ◌<◌, ◌≤◌, Bool, true, false, cond, nat_lt, div-mul-le_self, List, [], ◌∷◌, ◌++◌, length, ℤ, Option, Some, None, Result, Ok, Err, sym, refl, ap, ◌∙◌, subst, arith, append_assoc, length-append, ◌⊎◌, inl, inr}
 use Rattle.std.specs.Prelude.{IfErr}
 use Rattle.std.proofs.lemmas.Bool.{cases_lt, cond_both, cond-true, lt-ltb}
 use Rattle.std.proofs.lemmas.List.{length-take}
@@ -7,18 +7,20 @@ use Rattle.h5w_model.specs.Agrees.{rows_after, values_in}
 use Rattle.h5w_model.specs.Tables.{format_limits, limit_of}
 use Rattle.h5w_model.specs.Datasets.{Described}
 use Rattle.h5w_model.specs.Lawful.{first_outside}
-use Rattle.h5w_model.specs.Logs.{Happening, Log, and_now, appended, appended_in, appends, div_up, flushed, flushed_at, flushed_rows, hist, needed_chunks, plans}
+use Rattle.h5w_model.specs.Logs.{Happening, Log, and_now, appended, appended_in, appends, div_up, flushed, flushed_at, flushed_in, flushed_rows, hist, needed_chunks, plans}
 use Rattle.h5w_model.specs.declared.piece.Write.{Write}
 use Rattle.h5w_model.specs.declared.report.FlushLine.{FlushLine}
 use Rattle.h5w_model.specs.declared.root.Super.{Super}
 use Rattle.h5w_laws.proofs.LogLemmas.{flushed_begins, length_hist, position_laws}
 use Rattle.h5w_creation_laws.specs.CreatedFiles.{CreatedFile, created_writes, described_of}
 use Rattle.h5w_session.specs.Loads.{NoPlace}
-use Rattle.h5w_session.specs.Refusals.{IsFullFor, append_refusal, chunks_refusal, flush_refusal}
-use Rattle.h5w_session.specs.Sessions.{AfterPiece, AreRows, IsNamed, Session, TakesRows, chunks_with, rows_of, with_rows, with_values}
+use Rattle.h5w_session.specs.Refusals.{IsFullFor, IsSpace, append_refusal, chunks_refusal, flush_refusal}
+use Rattle.h5w_session.specs.Sessions.{AddsValues, AfterPiece, AreRows, IsNamed, Session, Settles, TakesRows, chunks_with, rows_of, with_rows}
 use Rattle.h5w_session.specs.Stands.{Stands}
 use Rattle.h5w_session.specs.declared.refusal.AppendError.{AppendError}
 use Rattle.h5w_session.specs.declared.refusal.AppendError.TheVariants as errors
+use Rattle.h5w_session.specs.declared.refusal.FlushError.{FlushError}
+use Rattle.h5w_session.specs.declared.refusal.FlushError.TheVariants as flushing
 use Rattle.h5w_session.proofs.FlushCalls.{takes_named}
 use Rattle.h5w_session.proofs.LawLemmas.{standing_laws, shown_laws}
 use Rattle.h5w_session.proofs.StandLemmas.{none_outside}
@@ -26,10 +28,10 @@ use Rattle.h5w_space.specs.declared.Full.{Full}
 use Rattle.h5w_shared.specs.Seats.{ImageId, SeatView}
 use Rattle.h5w_live_laws.specs.Lines.{rows_told}
 use Rattle.h5w_live_laws.proofs.LineLemmas.{agree_more, tells_more, values_more}
-use Rattle.h5w_live.specs.Writing.{HasFlushed, HasRoom, HasWritten, LacksPlace, StaysSeated, Writes, batch_refusal, cutting_for, showing, too_many}
+use Rattle.h5w_live.specs.Writing.{HasAppended, HasFlushed, HasRoom, HasWritten, LacksPlace, StaysSeated, Writes, batch_refusal, cutting_for, showing, too_many}
 use Rattle.h5w_live.proofs.RowLemmas.{batches_more, rows_in_values, some_rows}
-use Rattle.h5w_live.proofs.WritingLemmas.{Shown, after_pending, appended_showing, hist_showing, is_new, put_behind, shown_stays}
-use Rattle.h5w_live.proofs.FlushedLemmas.{before_last, pieces_last, rows_all, rows_last}
+use Rattle.h5w_live.proofs.WritingLemmas.{Shown, after_flush, after_pending, appended_showing, hist_showing, is_new, put_behind, shown_stays}
+use Rattle.h5w_live.proofs.FlushedLemmas.{before_last, flushed_level, flushed_showing, pieces_last, rows_all, rows_last}
 
 none_some : {A : Type 0} (a : A) → ◌≡◌ {A = Option A} None (Some a) → ⊥
 none_some a e = cc
@@ -130,16 +132,15 @@ module _ (f : CreatedFile) (most : ℕ) (done : List (List ℤ)) (s : Session) (
   refusal_for [] rows some = absurd (omega arith)
   refusal_for (x ∷ xs) rows some = refusal_is x xs rows
 
-  pub flush_taken : (t : Session) (values : List ℤ) → t ≡ with_values s values → flush_refusal t ≡ None
-  flush_taken t values is =
-      ap flush_refusal is
-      ∙ ap (λ (b : Bool). flush_refusal (record (with_values s values) { stopped = b })) h.going
-      ∙ ap (λ (ws : List Write). flush_refusal (record (with_values s values) { stopped = false; pending = ws })) h.pending
+  -- behind an append nothing keeps rows from being planned
+  pub flush_taken : (t : Session) (x : SeatView) (values : List ℤ) (early : List Write) → HasAppended values early s t v x → flush_refusal t ≡ None
+  flush_taken t x values early a =
+      ap (λ (b : Bool). flush_refusal (record t { stopped = b })) (a.stopped ∙ h.going) ∙ ap (λ (ws : List Write). flush_refusal (record t { stopped = false; pending = ws })) a.pending
 
-  pub waits_some : (t : Session) (values : List ℤ) → AreRows s values → t ≡ with_values s values → 1 ≤ length values → 0 < t.waits
-  waits_some t values rows is some =
+  pub waits_some : (t : Session) (x : SeatView) (values : List ℤ) (early : List Write) → AreRows s values → HasAppended values early s t v x → 1 ≤ length values → 0 < t.waits
+  waits_some t x values early rows a some =
       let any : 1 ≤ rows.0 = some_rows rows.0 (length values) f.columns (whole values rows) some in
-      omega (arith, ap (λ (x : Session). x.waits) is, counted values rows, any)
+      omega (arith, a.waits, counted values rows, any)
 
   -- all that was appended is flushed
   pub rows_flushed : length (flushed h.writes.log) ≡ length (values_in done)
@@ -153,61 +154,58 @@ module _ (f : CreatedFile) (most : ℕ) (done : List (List ℤ)) (s : Session) (
       (let l = length-take (length (flushed log)) (appended log) in omega (arith, l, ap length (flushed_begins 0 log.values log.events))) in
       omega (arith, low, all, under, ap length h.appended)
 
-  -- the session is the writer's still, where all that happened is in the log
-  pub writes_as : (t : Session) (x : SeatView) (e : Happening) → hist (e ∷ h.writes.log.events) ≡ hist h.writes.log.events → StaysSeated v x → t.name ≡ s.name → t.dataset ≡ s.dataset
-      → ((log : Log) → Stands s log → Stands t (and_now e log)) → Writes f t x
-  writes_as t x e quiet seat name dataset stands = record {
-    log = and_now e h.writes.log;
-    stands = stands h.writes.log h.writes.stands;
-    is = h.writes.is;
-    new = ap (λ (l : Log). record l { events = e ∷ h.writes.log.events }) h.writes.new;
-    seat = record { start = h.writes.seat.start ∙ ap (λ (i : ImageId). i.start) (sym seat.image); pieces = quiet ∙ h.writes.seat.pieces ∙ sym seat.seen };
-    begun = omega (arith, h.writes.begun, ap length seat.seen);
-    name = name ∙ h.writes.name;
-    dataset = dataset ∙ h.writes.dataset ∙ ap (λ (d : Described). with_rows d.shape.rows (described_of f)) (sym dataset);
-  }
-
-  module _ (x : ℤ) (xs : List ℤ) (rows : AreRows s (x ∷ xs)) (s1 s2 s3 : Session) (v1 v2 v3 : SeatView) (line : FlushLine) (added : s1 ≡ with_values s (x ∷ xs)) (stands1 : (log : Log) → Stands s log → Stands s1 (and_now (appends (x ∷ xs)) log))
-      (same1 : StaysSeated v v1) (fits : first_outside f.int_type 0 (x ∷ xs) ≡ None) (few : too_many f ((length (values_in done) + length (x ∷ xs)) / f.columns) ≡ None) (takes : TakesRows s1 s2) (some : 1 ≤ length s2.pending)
+  module _ (x : ℤ) (xs : List ℤ) (rows : AreRows s (x ∷ xs)) (early : List Write) (s1 s2 s3 : Session) (v1 v2 v3 : SeatView) (line : FlushLine) (a : HasAppended (x ∷ xs) early s s1 v v1)
+      (fits : first_outside f.int_type 0 (x ∷ xs) ≡ None) (few : too_many f ((length (values_in done) + length (x ∷ xs)) / f.columns) ≡ None) (takes : TakesRows s1 s2) (some : 1 ≤ length s2.pending)
       (stands2 : (log : Log) → Stands s1 log → Stands s2 (and_now (plans (length s2.pending)) log)) (same2 : StaysSeated v1 v2) (room : HasRoom s2 v2) (after : AfterPiece s2 [] s3) (wrote : HasWritten s2.pending v2 v3)
       (stands3 : (log : Log) → Stands s2 log → Stands s3 (record log { events = showing s2.pending log.events })) (pieces_are : line.pieces ≡ length v3.seen) (rows_are : line.rows ≡ s3.committed) where
     abbrev pub es : List Happening
-    es = showing s2.pending (plans (length s2.pending) ∷ appends (x ∷ xs) ∷ h.writes.log.events)
+    es = showing s2.pending (plans (length s2.pending) ∷ showing early (appends (x ∷ xs) ∷ h.writes.log.events))
 
     abbrev pub new_log : Log
     new_log = record (h.writes.log) { events = es }
 
     all_rows : s2.dataset.shape.rows ≡ s.dataset.shape.rows + rows.0
     all_rows =
-        let now : rows_of s1 ≡ rows_of s + length (x ∷ xs) / s.dataset.shape.cols =
-        ap (λ (t : Session). t.dataset.shape.rows + t.waits) added ∙ (let e : s.dataset.shape.rows + (s.waits + length (x ∷ xs) / s.dataset.shape.cols) ≡ s.dataset.shape.rows + s.waits + length (x ∷ xs) / s.dataset.shape.cols = omega arith in e) in
-        ap (λ (d : Described). d.shape.rows) takes.dataset ∙ now ∙ (let e : rows_of s + length (x ∷ xs) / s.dataset.shape.cols ≡ s.dataset.shape.rows + rows.0 = omega (arith, h.waits, counted (x ∷ xs) rows) in e)
+        ap (λ (d : Described). d.shape.rows) takes.dataset
+        ∙ (let e : rows_of s1 ≡ s.dataset.shape.rows + rows.0 = omega (arith, ap (λ (d : Described). d.shape.rows) a.dataset, a.waits, h.waits, counted (x ∷ xs) rows) in e)
 
     pub facts : Shown s2 s3
     facts = shown_stays s2 s3 [] after
 
+    -- all pieces of the flush are visible
+    pub settles : Settles true s2 s3
+    settles = after_flush s2 s3 (takes.flushing (waits_some s1 v1 (x ∷ xs) early rows a (omega arith))) after
+
     pub dataset_is : s3.dataset ≡ with_rows s3.dataset.shape.rows (described_of f)
     dataset_is =
-        let named : IsNamed s1.dataset = subst (λ (t : Session). IsNamed t.dataset) (sym added) (shown_laws.named s h.writes.log h.writes.stands (is_new f s v h.writes)) in
+        let named : IsNamed s1.dataset = subst (λ (d : Described). IsNamed d) (sym a.dataset) (shown_laws.named s h.writes.log h.writes.stands (is_new f s v h.writes)) in
         let base : s3.dataset ≡ with_rows (rows_of s1) (described_of f) =
-        facts.dataset ∙ takes_named s1 s2 takes named ∙ ap (λ (t : Session). with_rows (rows_of s1) t.dataset) added ∙ ap (λ (d : Described). with_rows (rows_of s1) d) h.writes.dataset in
+        facts.dataset ∙ takes_named s1 s2 takes named ∙ ap (λ (d : Described). with_rows (rows_of s1) d) a.dataset ∙ ap (λ (d : Described). with_rows (rows_of s1) d) h.writes.dataset in
         base ∙ ap (λ (n : ℕ). with_rows n (described_of f)) (sym (ap (λ (d : Described). d.shape.rows) base))
 
-    pub seen_is : v3.seen ≡ v.seen ++ s2.pending
-    seen_is = wrote.seen ∙ ap (λ (l : List Write). l ++ s2.pending) (same2.seen ∙ same1.seen)
+    pub seen_is : v3.seen ≡ (v.seen ++ early) ++ s2.pending
+    seen_is = wrote.seen ∙ ap (λ (l : List Write). l ++ s2.pending) (same2.seen ∙ a.seen)
 
     pub hist_is : hist es ≡ v3.seen
-    hist_is = hist_showing s2.pending (plans (length s2.pending) ∷ appends (x ∷ xs) ∷ h.writes.log.events) ∙ ap (λ (l : List Write). l ++ s2.pending) h.writes.seat.pieces ∙ sym seen_is
+    hist_is =
+        hist_showing s2.pending (plans (length s2.pending) ∷ showing early (appends (x ∷ xs) ∷ h.writes.log.events))
+        ∙ ap (λ (l : List Write). l ++ s2.pending) (hist_showing early (appends (x ∷ xs) ∷ h.writes.log.events) ∙ ap (λ (l : List Write). l ++ early) h.writes.seat.pieces) ∙ sym seen_is
+
+    pub seen_count : length v3.seen ≡ length v.seen + (length early + length s2.pending)
+    seen_count =
+        let l = length-append (v.seen ++ early) s2.pending in
+        omega (arith, ap length seen_is, l, length-append v.seen early)
 
     abbrev pub batch_writes : Writes f s3 v3
     batch_writes = record {
       log = new_log;
       is = h.writes.is;
-      stands = stands3 (and_now (plans (length s2.pending)) (and_now (appends (x ∷ xs)) h.writes.log)) (stands2 (and_now (appends (x ∷ xs)) h.writes.log) (stands1 h.writes.log h.writes.stands));
+      stands = stands3 (record (h.writes.log) { events = plans (length s2.pending) ∷ showing early (appends (x ∷ xs) ∷ h.writes.log.events) })
+          (stands2 (record (h.writes.log) { events = showing early (appends (x ∷ xs) ∷ h.writes.log.events) }) (a.stands h.writes.log h.writes.stands));
       new = ap (λ (l : Log). record l { events = es }) h.writes.new;
-      seat = record { start = h.writes.seat.start ∙ ap (λ (i : ImageId). i.start) (sym (wrote.image ∙ same2.image ∙ same1.image)); pieces = hist_is };
-      begun = omega (arith, h.writes.begun, ap length seen_is, length-append v.seen s2.pending);
-      name = facts.name ∙ takes.name ∙ ap (λ (t : Session). t.name) added ∙ h.writes.name;
+      seat = record { start = h.writes.seat.start ∙ ap (λ (i : ImageId). i.start) (sym (wrote.image ∙ same2.image ∙ a.image)); pieces = hist_is };
+      begun = omega (arith, h.writes.begun, seen_count);
+      name = facts.name ∙ takes.name ∙ a.name ∙ h.writes.name;
       dataset = dataset_is;
     }
 
@@ -219,45 +217,48 @@ module _ (f : CreatedFile) (most : ℕ) (done : List (List ℤ)) (s : Session) (
         subst (λ (n : ℕ). needed_chunks (cutting_for f) n ≤ limit_of format_limits f.index) (all_counted (x ∷ xs) rows ∙ sym now_rows)
         (few_of f ((length (values_in done) + length (x ∷ xs)) / f.columns) few)
 
+    committed_is : s3.committed ≡ s2.dataset.shape.rows
+    committed_is = ap (λ (t : Session). t.committed) settles.1
+
     line_rows : line.rows ≡ s.dataset.shape.rows + rows.0
-    line_rows = rows_are ∙ ap (λ (t : Session). t.committed) after.1 ∙ all_rows
+    line_rows = rows_are ∙ committed_is ∙ all_rows
 
     appended_is : appended new_log ≡ values_in (done ++ (x ∷ xs) ∷ [])
     appended_is =
-        ap (λ (vs : List ℤ). h.writes.log.values ++ vs) (appended_showing s2.pending (plans (length s2.pending) ∷ appends (x ∷ xs) ∷ h.writes.log.events))
+        ap (λ (vs : List ℤ). h.writes.log.values ++ vs)
+        (appended_showing s2.pending (plans (length s2.pending) ∷ showing early (appends (x ∷ xs) ∷ h.writes.log.events)) ∙ appended_showing early (appends (x ∷ xs) ∷ h.writes.log.events))
         ∙ sym (append_assoc h.writes.log.values (appended_in h.writes.log.events) (x ∷ xs)) ∙ ap (λ (vs : List ℤ). vs ++ x ∷ xs) h.appended ∙ sym (values_more done (x ∷ xs))
-
-    seen_count : length v3.seen ≡ length (hist h.writes.log.events) + length s2.pending
-    seen_count = ap length seen_is ∙ length-append v.seen s2.pending ∙ ap (λ (l : List Write). length l + length s2.pending) (sym h.writes.seat.pieces)
 
     tells_all : (p : ℕ) → p ≤ length v3.seen → flushed_at new_log p ≡ rows_after 0 p (lines ++ line ∷ [])
     tells_all =
         tells_more new_log lines line (length v3.seen) pieces_are
-        (λ p less. before_last h.writes.log s2.pending (x ∷ xs) (length (values_in done)) s.dataset.shape.rows lines log_rows rows_flushed (ap length h.appended) h.tells
+        (λ p less. before_last h.writes.log early s2.pending (x ∷ xs) (length (values_in done)) s.dataset.shape.rows lines log_rows rows_flushed (ap length h.appended) h.tells
         (λ q low. rows_all f.columns (length (created_writes f)) 0 0 q done lines h.agree (omega (arith, h.last, low, ap length h.writes.seat.pieces)) ∙ h.told)
-        p (omega (arith, less, seen_count)))
+        p (omega (arith, less, seen_count, ap length h.writes.seat.pieces)))
         (ap (λ (l : Log). flushed_rows l) (position_laws.now new_log (length v3.seen) (omega (arith, ap length hist_is, length_hist es)))
         ∙ sym (standing_laws.flushed_rows s3 new_log batch_writes.stands) ∙ sym rows_are)
 
     pub batch_flushed : HasFlushed f most (done ++ (x ∷ xs) ∷ []) s3 v3 (lines ++ line ∷ [])
     batch_flushed = record {
       writes = batch_writes;
-      put = put_behind (showing (created_writes f) []) h.writes.log.events done x xs s2.pending h.put;
+      put = put_behind (showing (created_writes f) []) h.writes.log.events done x xs early s2.pending h.put;
       batches = batches_more f.columns done (x ∷ xs) h.batches (rows.0, whole (x ∷ xs) rows);
       rows = length_values done (x ∷ xs) ∙ rows_with (x ∷ xs) rows ∙ ap (λ (n : ℕ). n * f.columns) (sym now_rows);
       few = few_rows;
       waits = facts.waits ∙ takes.waits;
       pending = after_pending s2 s3 [] after;
-      going = facts.stopped ∙ takes.stopped ∙ ap (λ (t : Session). t.stopped) added ∙ h.going;
-      flags = ap (λ (t : Session). t.root.flags) after.1 ∙ ap (λ (r : Super). r.flags) takes.root ∙ ap (λ (t : Session). t.root.flags) added ∙ h.flags;
-      limit = facts.limit ∙ takes.limit ∙ ap (λ (t : Session). t.places.limit) added ∙ h.limit;
+      settled = ap (λ (t : Session). t.flushing) settles.1;
+      committed = committed_is ∙ sym (ap (λ (d : Described). d.shape.rows) facts.dataset);
+      going = facts.stopped ∙ takes.stopped ∙ a.stopped ∙ h.going;
+      flags = ap (λ (r : Super). r.flags) (facts.root ∙ takes.root) ∙ ap (λ (r : Super). r.flags) a.root ∙ h.flags;
+      limit = facts.limit ∙ takes.limit ∙ a.limit ∙ h.limit;
       room = record {
         pieces = omega (arith, room.pieces, wrote.pieces, ap length (after_pending s2 s3 [] after));
         end = omega (arith, room.end, wrote.end, facts.end);
       };
       appended = appended_is;
       fit = ap (first_outside f.int_type 0) (values_more done (x ∷ xs)) ∙ none_outside f.int_type 0 (values_in done) (x ∷ xs) h.fit fits;
-      agree = agree_more f.columns (length (created_writes f)) 0 done lines x xs line h.agree (omega (arith, h.last, some, pieces_are, ap length seen_is, length-append v.seen s2.pending))
+      agree = agree_more f.columns (length (created_writes f)) 0 done lines x xs line h.agree (omega (arith, h.last, some, pieces_are, seen_count))
           (line_rows ∙ (let e : s.dataset.shape.rows + rows.0 ≡ rows_told 0 lines + length (x ∷ xs) / f.columns = omega (arith, h.told, counted_here (x ∷ xs) rows) in e));
       tells = λ p within. tells_all p (omega (arith, within, ap length hist_is));
       last = omega (arith, pieces_last (length (created_writes f)) lines line, pieces_are);
@@ -269,6 +270,15 @@ module _ (f : CreatedFile) (most : ℕ) (done : List (List ℤ)) (s : Session) (
 pub accepted_none : (o : Option AppendError) (r : Result ℕ AppendError) (n : ℕ) → r ≡ Ok n → ((e : AppendError) → o ≡ Some e → r ≡ Err e) → o ≡ None
 accepted_none None r n ok refused = refl
 accepted_none (Some e) r n ok refused = let both : ◌≡◌ {A = Result ℕ AppendError} (Ok n) (Err e) = sym ok ∙ refused e refl in absurd cc
+
+-- nothing else refuses a flush that may be planned
+pub no_other : (o : Option FlushError) (e : FlushError) → o ≡ None → (o ≡ Some e) ⊎ (IsSpace e ⊎ ((e ≡ flushing.Deep) ⊎ ((e ≡ flushing.Failed) ⊎ (e ≡ flushing.OutOfMemory)))) → ((full : Full) → e ≡ flushing.Space full → ⊥)
+    → (e ≡ flushing.Deep → ⊥) → (e ≡ flushing.Failed → ⊥) → (e ≡ flushing.OutOfMemory → ⊥) → ⊥
+no_other o e none (inl h) space deep failed memory = none_some e (sym none ∙ h)
+no_other o e none (inr (inl h)) space deep failed memory = space h.0 h.1
+no_other o e none (inr (inr (inl h))) space deep failed memory = deep h
+no_other o e none (inr (inr (inr (inl h)))) space deep failed memory = failed h
+no_other o e none (inr (inr (inr (inr h)))) space deep failed memory = memory h
 
 -- no batch is refused for what is pending
 abbrev IsOfValues : Option AppendError → Type 0
@@ -310,25 +320,73 @@ chunks_of None a e = e
 chunks_of (Some x) a e = absurd (none_some (errors.OutOfRange x.0 x.1) (sym e))
 
 -- a batch behind others, of whatever values
-pub put_flushed : (f : CreatedFile) (most : ℕ) (done : List (List ℤ)) (s : Session) (v : SeatView) (lines : List FlushLine) (values : List ℤ) (s1 s2 s3 : Session) (v1 v2 v3 : SeatView) (line : FlushLine)
-    → (h : HasFlushed f most done s v lines) → AreRows s values → 1 ≤ length values → s1 ≡ with_values s values → ((log : Log) → Stands s log → Stands s1 (and_now (appends values) log)) → StaysSeated v v1 → append_refusal s values ≡ None
+pub put_flushed : (f : CreatedFile) (most : ℕ) (done : List (List ℤ)) (s : Session) (v : SeatView) (lines : List FlushLine) (values : List ℤ) (early : List Write) (s1 s2 s3 : Session) (v1 v2 v3 : SeatView) (line : FlushLine)
+    → (h : HasFlushed f most done s v lines) → AreRows s values → 1 ≤ length values → HasAppended values early s s1 v v1 → append_refusal s values ≡ None
     → TakesRows s1 s2 → 1 ≤ length s2.pending → ((log : Log) → Stands s1 log → Stands s2 (and_now (plans (length s2.pending)) log)) → StaysSeated v1 v2 → HasRoom s2 v2 → AfterPiece s2 [] s3
     → HasWritten s2.pending v2 v3 → ((log : Log) → Stands s2 log → Stands s3 (record log { events = showing s2.pending log.events })) → line.pieces ≡ length v3.seen → line.rows ≡ s3.committed
     → HasFlushed f most (done ++ values ∷ []) s3 v3 (lines ++ line ∷ [])
-put_flushed f most done s v lines [] s1 s2 s3 v1 v2 v3 line h rows some added stands1 same1 none takes more stands2 same2 room after wrote stands3 pieces told = absurd (omega arith)
-put_flushed f most done s v lines (x ∷ xs) s1 s2 s3 v1 v2 v3 line h rows some added stands1 same1 none takes more stands2 same2 room after wrote stands3 pieces told =
+put_flushed f most done s v lines [] early s1 s2 s3 v1 v2 v3 line h rows some a none takes more stands2 same2 room after wrote stands3 pieces told = absurd (omega arith)
+put_flushed f most done s v lines (x ∷ xs) early s1 s2 s3 v1 v2 v3 line h rows some a none takes more stands2 same2 room after wrote stands3 pieces told =
     let chunks : Option AppendError = too_many f ((length (values_in done) + length (x ∷ xs)) / f.columns) in
     let taken = sym (refusal_is f most done s v lines h x xs rows) ∙ none in
     let fits = fits_of (first_outside f.int_type 0 (x ∷ xs)) chunks taken in
     let few = chunks_of (first_outside f.int_type 0 (x ∷ xs)) chunks taken in
-    batch_flushed f most done s v lines h x xs rows s1 s2 s3 v1 v2 v3 line added stands1 same1 fits few takes more stands2 same2 room after wrote stands3 pieces told
+    batch_flushed f most done s v lines h x xs rows early s1 s2 s3 v1 v2 v3 line a fits few takes more stands2 same2 room after wrote stands3 pieces told
 
--- the session is the writer's still after an append, and after a flush of it that was refused
-pub taken_writes : (f : CreatedFile) (most : ℕ) (done : List (List ℤ)) (s : Session) (v : SeatView) (lines : List FlushLine) (values : List ℤ) (t : Session) (x : SeatView) → (h : HasFlushed f most done s v lines) → t ≡ with_values s values
-    → ((log : Log) → Stands s log → Stands t (and_now (appends values) log)) → StaysSeated v x → Writes f t x
-taken_writes f most done s v lines values t x h is stands seat =
-    writes_as f most done s v lines h t x (appends values) refl seat (ap (λ (y : Session). y.name) is) (ap (λ (y : Session). y.dataset) is) stands
+-- ---- An append, and what was written of it early
 
+-- the session once these values were appended: nothing of it was shown yet
+pub taken_writes : (f : CreatedFile) (s t : Session) (v x : SeatView) (values : List ℤ) → Writes f s v → AddsValues s values t → ((log : Log) → Stands s log → Stands t (and_now (appends values) log)) → StaysSeated v x → Writes f t x
+taken_writes f s t v x values w is stands seat =
+    let d : t.dataset ≡ s.dataset = ap (λ (y : Session). y.dataset) is.session in
+    record {
+      log = and_now (appends values) w.log;
+      stands = stands w.log w.stands;
+      is = w.is;
+      new = ap (λ (l : Log). record l { events = appends values ∷ w.log.events }) w.new;
+      seat = record { start = w.seat.start ∙ ap (λ (i : ImageId). i.start) (sym seat.image); pieces = w.seat.pieces ∙ sym seat.seen };
+      begun = omega (arith, w.begun, ap length seat.seen);
+      name = ap (λ (y : Session). y.name) is.session ∙ w.name;
+      dataset = d ∙ w.dataset ∙ ap (λ (e : Described). with_rows e.shape.rows (described_of f)) (sym d);
+    }
+
+-- it stays settled
+pub taken_settled : (s t : Session) (values : List ℤ) → AddsValues s values t → s.flushing ≡ false → t.flushing ≡ false
+taken_settled s t values is settled = ap (λ (y : Session). y.flushing) is.session ∙ settled
+
+-- and then what was written early became visible
+pub has_appended : (values : List ℤ) (s t u : Session) (v x y : SeatView) → AddsValues s values t → ((log : Log) → Stands s log → Stands t (and_now (appends values) log)) → StaysSeated v x → u ≡ record t { pending = [] }
+    → HasWritten t.pending x y → ((log : Log) → Stands t log → Stands u (record log { events = showing t.pending log.events })) → HasAppended values t.pending s u v y
+has_appended values s t u v x y is stands seat shown wrote early = record {
+  name = ap (λ (z : Session). z.name) shown ∙ ap (λ (z : Session). z.name) is.session;
+  root = ap (λ (z : Session). z.root) shown ∙ ap (λ (z : Session). z.root) is.session;
+  dataset = ap (λ (z : Session). z.dataset) shown ∙ ap (λ (z : Session). z.dataset) is.session;
+  waits = ap (λ (z : Session). z.waits) shown ∙ ap (λ (z : Session). z.waits) is.session;
+  pending = ap (λ (z : Session). z.pending) shown;
+  stopped = ap (λ (z : Session). z.stopped) shown ∙ ap (λ (z : Session). z.stopped) is.session;
+  limit = ap (λ (z : Session). z.places.limit) shown ∙ is.limit;
+  stands = λ log stood. early (and_now (appends values) log) (stands log stood);
+  image = wrote.image ∙ seat.image;
+  seen = wrote.seen ∙ ap (λ (ws : List Write). ws ++ t.pending) seat.seen;
+}
+
+-- it is the writer's still
+pub added_writes : (f : CreatedFile) (s t : Session) (v x : SeatView) (values : List ℤ) (early : List Write) → Writes f s v → HasAppended values early s t v x → Writes f t x
+added_writes f s t v x values early w a = record {
+  log = record (w.log) { events = showing early (appends values ∷ w.log.events) };
+  stands = a.stands w.log w.stands;
+  is = w.is;
+  new = ap (λ (l : Log). record l { events = showing early (appends values ∷ w.log.events) }) w.new;
+  seat = record {
+    start = w.seat.start ∙ ap (λ (i : ImageId). i.start) (sym a.image);
+    pieces = hist_showing early (appends values ∷ w.log.events) ∙ ap (λ (l : List Write). l ++ early) w.seat.pieces ∙ sym a.seen;
+  };
+  begun = omega (arith, w.begun, ap length a.seen, length-append v.seen early);
+  name = a.name ∙ w.name;
+  dataset = a.dataset ∙ w.dataset ∙ ap (λ (d : Described). with_rows d.shape.rows (described_of f)) (sym a.dataset);
+}
+
+-- so is it after a flush that was refused
 pub writes_still : (f : CreatedFile) (s t : Session) (v x : SeatView) → Writes f s v → StaysSeated v x → t.name ≡ s.name → t.dataset ≡ s.dataset → ((log : Log) → Stands s log → Stands t log) → Writes f t x
 writes_still f s t v x w seat name dataset stands = record {
   log = w.log;
@@ -356,25 +414,30 @@ planned_writes f s t v x w seat takes k stands =
     }
 
 -- the file has no place for what was appended behind others
-pub lacks_place : (f : CreatedFile) (most : ℕ) (done : List (List ℤ)) (s : Session) (v : SeatView) (lines : List FlushLine) (values : List ℤ) (t : Session) (full : Full) → (h : HasFlushed f most done s v lines) → t ≡ with_values s values
-    → ((log : Log) → Stands s log → Stands t (and_now (appends values) log)) → IsFullFor t full → ((log : Log) → Stands t log → NoPlace t log full) → LacksPlace f most done values full
-lacks_place f most done s v lines values t full h is stands full_for none =
-    let stood = stands h.writes.log h.writes.stands in
-    let places : t.places.limit ≡ most = ap (λ (y : Session). y.places.limit) is ∙ h.limit in
-    let dataset : t.dataset ≡ s.dataset = ap (λ (y : Session). y.dataset) is in
+pub lacks_place : (f : CreatedFile) (most : ℕ) (done : List (List ℤ)) (s : Session) (v : SeatView) (lines : List FlushLine) (values : List ℤ) (early : List Write) (t : Session) (x : SeatView) (full : Full)
+    → (h : HasFlushed f most done s v lines) → HasAppended values early s t v x → IsFullFor t full → ((log : Log) → Stands t log → NoPlace t log full) → LacksPlace f most done values full
+lacks_place f most done s v lines values early t x full h a full_for none =
+    let log : Log = record (h.writes.log) { events = showing early (appends values ∷ h.writes.log.events) } in
+    let stood = a.stands h.writes.log h.writes.stands in
+    let places : t.places.limit ≡ most = a.limit ∙ h.limit in
+    let still : flushed log ≡ flushed_in (0 + length early) h.writes.log.values h.writes.log.events = flushed_showing 0 h.writes.log.values early (appends values ∷ h.writes.log.events) in
+    let count : length (flushed log) ≡ length (values_in done) =
+    ap length still ∙ flushed_level (0 + length early) h.writes.log.values h.writes.log.events (length (values_in done)) (rows_flushed f most done s v lines h) (ap length h.appended) in
     record {
       session = t;
-      log = and_now (appends values) h.writes.log;
+      log = log;
       stands = stood;
-      new = ap (λ (l : Log). record l { events = appends values ∷ h.writes.log.events }) h.writes.new;
+      new = ap (λ (l : Log). record l { events = showing early (appends values ∷ h.writes.log.events) }) h.writes.new;
       before = h.writes.log.events;
       put = h.put;
+      early = early;
       events = refl;
-      dataset = dataset ∙ h.writes.dataset ∙ ap (λ (d : Described). with_rows d.shape.rows (described_of f)) (sym dataset);
+      dataset = a.dataset ∙ h.writes.dataset ∙ ap (λ (d : Described). with_rows d.shape.rows (described_of f)) (sym a.dataset);
       places = places;
-      limit = (none (and_now (appends values) h.writes.log) stood).limit ∙ places;
-      appended = sym (append_assoc h.writes.log.values (appended_in h.writes.log.events) values) ∙ ap (λ (xs : List ℤ). xs ++ values) h.appended;
-      flushed = ap (λ (n : ℕ). n / h.writes.log.columns) (rows_flushed f most done s v lines h) ∙ ap (λ (c : ℕ). length (values_in done) / c) (log_columns f most done s v lines h);
+      limit = (none log stood).limit ∙ places;
+      appended = ap (λ (xs : List ℤ). h.writes.log.values ++ xs) (appended_showing early (appends values ∷ h.writes.log.events))
+          ∙ sym (append_assoc h.writes.log.values (appended_in h.writes.log.events) values) ∙ ap (λ (xs : List ℤ). xs ++ values) h.appended;
+      flushed = ap (λ (n : ℕ). n / h.writes.log.columns) count ∙ ap (λ (c : ℕ). length (values_in done) / c) (log_columns f most done s v lines h);
       full_for = full_for;
       lacks = none;
     }

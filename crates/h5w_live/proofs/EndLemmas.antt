@@ -1,5 +1,5 @@
 -- The creation of a file, and its close.
-use Rattle.std.proofs.Common.{◌≡◌, ◌⊎◌, ℕ, ◌+◌, ◌-◌, ◌*◌, ◌/◌, ◌<◌, ◌≤◌, List, [], ◌∷◌, ◌++◌, length, map, take, ℤ, Ok, sym, refl, ap, ◌∙◌, subst, arith, inl, inr, length-append}
+use Rattle.std.proofs.Common.{◌≡◌, ◌⊎◌, ℕ, ◌+◌, ◌-◌, ◌*◌, ◌/◌, ◌<◌, ◌≤◌, false, List, [], ◌∷◌, ◌++◌, length, map, take, ℤ, Ok, sym, refl, ap, ◌∙◌, subst, arith, inl, inr, length-append}
 use Rattle.std.proofs.lemmas.Bool.{cases_lt}
 use Rattle.std.proofs.lemmas.List.{length-map, take-append-le, take_all}
 use Rattle.h5w_model.specs.Agrees.{rows_after, values_in}
@@ -10,6 +10,7 @@ use Rattle.h5w_model.specs.Logs.{Happening, Log, events_at, flushed_at, flushed_
 use Rattle.h5w_model.specs.Superblock.{super_at, super_bytes}
 use Rattle.h5w_model.specs.declared.piece.Write.{Write}
 use Rattle.h5w_model.specs.declared.report.FlushLine.{FlushLine}
+use Rattle.h5w_model.specs.declared.root.Super.{Super}
 use Rattle.h5w_laws.proofs.LogLemmas.{events_at_earlier, events_at_now, length_hist}
 use Rattle.h5w_creation_laws.specs.CreatedFiles.{CreatedFile, IsCreatable, block_write, created_blocks, created_log, created_writes, described_of, header_block, index_blocks, root_block, super_block}
 use Rattle.h5w_session.specs.Creations.{IsCreated, log_of}
@@ -18,7 +19,7 @@ use Rattle.h5w_session.specs.Stands.{Stands}
 use Rattle.h5w_shared.specs.Seats.{ImageId, SeatView}
 use Rattle.h5w_live.specs.Reports.{before_close}
 use Rattle.h5w_live.specs.Writing.{HasClosed, HasFlushed, HasRoom, HasWritten, showing}
-use Rattle.h5w_live.proofs.WritingLemmas.{after_pending, appended_showing, hist_showing, shown_stays}
+use Rattle.h5w_live.proofs.WritingLemmas.{after_early, after_pending, appended_showing, hist_showing, shown_stays}
 use Rattle.h5w_live.proofs.FlushedLemmas.{events_among, flushed_level, flushed_showing, rows_all}
 use Rattle.h5w_live.proofs.BatchLemmas.{log_rows, rows_flushed}
 use Rattle.h5w_live.proofs.RowLemmas.{none_needed, rows_in_values}
@@ -52,6 +53,8 @@ created_flushed f most s t v w by made stood start none room after wrote stands 
     let pending : s.pending ≡ created_writes f = ap (λ (x : Session). x.pending) is in
     let es : List Happening = showing (created_writes f) [] in
     let facts = shown_stays s t [] after in
+    let settled : s.flushing ≡ false = ap (λ (x : Session). x.flushing) is in
+    let only : t ≡ record s { pending = [] } = after_early s t settled after in
     let seen : w.seen ≡ created_writes f = wrote.seen ∙ ap (λ (l : List Write). l ++ s.pending) none ∙ pending in
     let left : t.pending ≡ [] = after_pending s t [] after in
     let count : length (hist es) ≡ length (created_writes f) = ap length (hist_showing (created_writes f) []) in
@@ -74,8 +77,10 @@ created_flushed f most s t v w by made stood start none room after wrote stands 
       few = none_needed f t.dataset.shape.rows by no_rows;
       waits = facts.waits ∙ ap (λ (x : Session). x.waits) is;
       pending = left;
+      settled = ap (λ (x : Session). x.flushing) only ∙ settled;
+      committed = ap (λ (x : Session). x.committed) only ∙ ap (λ (x : Session). x.committed) is ∙ sym no_rows;
       going = facts.stopped ∙ ap (λ (x : Session). x.stopped) is;
-      flags = ap (λ (x : Session). x.root.flags) after.1 ∙ ap (λ (x : Session). x.root.flags) is;
+      flags = ap (λ (x : Super). x.flags) facts.root ∙ ap (λ (x : Session). x.root.flags) is;
       limit = facts.limit ∙ ap (λ (x : Session). x.places.limit) is;
       room = record { pieces = omega (arith, room.pieces, wrote.pieces, ap length left); end = omega (arith, room.end, wrote.end, facts.end) };
       appended = appended_showing (created_writes f) [];
@@ -108,6 +113,7 @@ pub closed_after : (f : CreatedFile) (most : ℕ) (done : List (List ℤ)) (s t 
     → ((log : Log) → Stands s log → Stands t log) → AfterPiece t [] u → HasWritten t.pending v w → ((log : Log) → Stands t log → Stands u (record log { events = showing t.pending log.events })) → HasClosed f done u w lines
 closed_after f most done s t u v w lines h is reads stands1 after wrote stands2 =
     let facts = shown_stays t u [] after in
+    let only : u ≡ record t { pending = [] } = after_early t u (ap (λ (y : Session). y.flushing) is ∙ h.settled) after in
     let x : Write = record { at = 0; piece = super_bytes (closed_root s) } in
     let pending : t.pending ≡ x ∷ [] = ap (λ (y : Session). y.pending) is in
     let es : List Happening = shows x ∷ h.writes.log.events in
@@ -127,7 +133,7 @@ closed_after f most done s t u v w lines h is reads stands1 after wrote stands2 
       stopped = facts.stopped ∙ ap (λ (y : Session). y.stopped) is;
       pending = after_pending t u [] after;
       batches = h.batches;
-      rows = h.rows ∙ ap (λ (n : ℕ). n * f.columns) (sym (ap (λ (y : Session). y.committed) after.1 ∙ ap (λ (y : Session). y.dataset.shape.rows) is));
+      rows = h.rows ∙ ap (λ (n : ℕ). n * f.columns) (sym (ap (λ (y : Session). y.committed) only ∙ ap (λ (y : Session). y.committed) is ∙ h.committed));
       appended = h.appended;
       fit = h.fit;
       agree = h.agree;

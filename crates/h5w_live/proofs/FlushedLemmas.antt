@@ -1,4 +1,4 @@
--- What is flushed at the positions of a plan's pieces.
+-- What is flushed at the positions of a batch's pieces.
 use Rattle.std.proofs.Common.{◌≡◌, ◌⊎◌, ℕ, zero, suc, ◌+◌, ◌-◌, ◌/◌, ◌<◌, ◌≤◌, List, [], ◌∷◌, ◌++◌, length, take, ℤ, sym, refl, ap, ◌∙◌, arith, inl, inr}
 use Rattle.std.specs.Prelude.{nat_le}
 use Rattle.std.proofs.lemmas.Bool.{cases_lt, cond-false, lt-leb, cond-true, le-leb}
@@ -44,37 +44,54 @@ flushed_level j base es n low high =
     (let l = length-take (length (flushed_in j base es)) (base ++ appended_in es) in omega (arith, l, ap length (flushed_begins j base es))) in
     omega (arith, rises_behind 0 j base es (omega arith), low, high, under)
 
-module _ (log : Log) (ws : List Write) (vs : List ℤ) (n r : ℕ) (rows : n / log.columns ≡ r) (low : length (flushed log) ≡ n) (high : length (appended log) ≡ n) where
-  begun : List Happening
-  begun = plans (length ws) ∷ appends vs ∷ log.events
+-- where all of it is flushed that was appended before some values, which a plan takes behind what was written of them early
+module _ (log : Log) (early ws : List Write) (vs : List ℤ) (n r : ℕ) (rows : n / log.columns ≡ r) (low : length (flushed log) ≡ n) (high : length (appended log) ≡ n) where
+  -- behind the early pieces, and behind all
+  abbrev pub behind : List Happening
+  behind = showing early (appends vs ∷ log.events)
 
-  pub after_all : Log
-  after_all = record log { events = showing ws (plans (length ws) ∷ appends vs ∷ log.events) }
+  abbrev pub whole : List Happening
+  whole = showing ws (plans (length ws) ∷ behind)
 
-  rows_are : (xs : List ℤ) → length xs ≡ n → rows_in log xs ≡ r
-  rows_are xs e = ap (λ k. k / log.columns) e ∙ rows
+  abbrev pub after_all : Log
+  after_all = record log { events = whole }
 
-  -- among the pieces, but for the last
-  among : (i : ℕ) → i < length ws → flushed_at (record log { events = showing ws (plans (length ws) ∷ appends vs ∷ log.events) }) (shown log.events + i) ≡ r
+  shown_behind : shown behind ≡ shown log.events + length early
+  shown_behind = shown_showing early (appends vs ∷ log.events)
+
+  rows_are : (es : List Happening) (i : ℕ) → flushed_in 0 log.values es ≡ flushed_in i log.values log.events → rows_in log (flushed_in 0 log.values es) ≡ r
+  rows_are es i e = ap (λ k. k / log.columns) (ap length e ∙ flushed_level i log.values log.events n low high) ∙ rows
+
+  -- among the pieces of the plan, but for the last
+  among : (i : ℕ) → i < length ws → flushed_at after_all (shown behind + i) ≡ r
   among i less =
-      let there : events_at (shown log.events + i) (showing ws (plans (length ws) ∷ appends vs ∷ log.events)) ≡ showing (take i ws) (plans (length ws) ∷ appends vs ∷ log.events) =
-      events_among i ws (plans (length ws) ∷ appends vs ∷ log.events) (omega (arith, less)) in
+      let there : events_at (shown behind + i) whole ≡ showing (take i ws) (plans (length ws) ∷ behind) = events_among i ws (plans (length ws) ∷ behind) (omega (arith, less)) in
       let k : 0 + length (take i ws) ≡ i = (let l = length-take i ws in omega (arith, l, less)) in
-      let skip : flushed_in i log.values (plans (length ws) ∷ appends vs ∷ log.events) ≡ flushed_in i log.values log.events =
-      cond-false (nat_le (length ws) i) (log.values ++ (appended_in log.events ++ vs)) (flushed_in i log.values log.events) (lt-leb (length ws) i less) in
-      let all : flushed_in 0 log.values (events_at (shown log.events + i) (showing ws (plans (length ws) ∷ appends vs ∷ log.events))) ≡ flushed_in i log.values log.events =
-      ap (flushed_in 0 log.values) there ∙ flushed_showing 0 log.values (take i ws) (plans (length ws) ∷ appends vs ∷ log.events)
-      ∙ ap (λ m. flushed_in m log.values (plans (length ws) ∷ appends vs ∷ log.events)) k ∙ skip in
-      rows_are (flushed_in 0 log.values (events_at (shown log.events + i) (showing ws (plans (length ws) ∷ appends vs ∷ log.events))))
-      (ap length all ∙ flushed_level i log.values log.events n low high)
+      let skip : flushed_in i log.values (plans (length ws) ∷ behind) ≡ flushed_in i log.values behind =
+      cond-false (nat_le (length ws) i) (log.values ++ appended_in behind) (flushed_in i log.values behind) (lt-leb (length ws) i less) in
+      rows_are (events_at (shown behind + i) whole) (i + length early)
+      (ap (flushed_in 0 log.values) there ∙ flushed_showing 0 log.values (take i ws) (plans (length ws) ∷ behind)
+      ∙ ap (λ m. flushed_in m log.values (plans (length ws) ∷ behind)) k ∙ skip ∙ flushed_showing i log.values early (appends vs ∷ log.events))
 
   -- before them
-  earlier : (p : ℕ) → p < shown log.events → flushed_at (record log { events = showing ws (plans (length ws) ∷ appends vs ∷ log.events) }) p ≡ flushed_at log p
+  before_plan : (p : ℕ) → p < shown behind → events_at p whole ≡ events_at p behind
+  before_plan p less = events_before p ws (plans (length ws) ∷ behind) (omega (arith, less)) ∙ events_at_earlier p (plans (length ws)) behind less
+
+  -- among the early pieces
+  among_early : (i : ℕ) → i < length early → flushed_at after_all (shown log.events + i) ≡ r
+  among_early i less =
+      let there : events_at (shown log.events + i) behind ≡ showing (take i early) (appends vs ∷ log.events) = events_among i early (appends vs ∷ log.events) (omega (arith, less)) in
+      rows_are (events_at (shown log.events + i) whole) (0 + length (take i early))
+      (ap (flushed_in 0 log.values) (before_plan (shown log.events + i) (omega (arith, less, shown_behind)) ∙ there)
+      ∙ flushed_showing 0 log.values (take i early) (appends vs ∷ log.events))
+
+  -- before these
+  earlier : (p : ℕ) → p < shown log.events → flushed_at after_all p ≡ flushed_at log p
   earlier p less =
       ap (λ es. rows_in log (flushed_in 0 log.values es))
-      (events_before p ws (plans (length ws) ∷ appends vs ∷ log.events) (omega (arith, less))
-      ∙ events_at_earlier p (plans (length ws)) (appends vs ∷ log.events) (omega (arith, less))
-      ∙ events_at_earlier p (appends vs) log.events (omega (arith, less)))
+      (before_plan p (omega (arith, less, shown_behind))
+      ∙ events_before p early (appends vs ∷ log.events) (omega (arith, less))
+      ∙ events_at_earlier p (appends vs) log.events less)
 
 -- ---- Lines
 
@@ -106,17 +123,27 @@ rows_last before (g ∷ gs) f = rows_last g.rows gs f
 
 -- ---- All positions before the last piece
 
-pub before_last : (log : Log) (ws : List Write) (vs : List ℤ) (n r : ℕ) (fs : List FlushLine) → n / log.columns ≡ r → length (flushed log) ≡ n → length (appended log) ≡ n
+pub before_last : (log : Log) (early ws : List Write) (vs : List ℤ) (n r : ℕ) (fs : List FlushLine) → n / log.columns ≡ r → length (flushed log) ≡ n → length (appended log) ≡ n
     → ((p : ℕ) → p ≤ length (hist log.events) → flushed_at log p ≡ rows_after 0 p fs) → ((p : ℕ) → length (hist log.events) ≤ p → rows_after 0 p fs ≡ r)
-    → (p : ℕ) → p < length (hist log.events) + length ws → flushed_at (record log { events = showing ws (plans (length ws) ∷ appends vs ∷ log.events) }) p ≡ rows_after 0 p fs
-before_last log ws vs n r fs rows low high tells told p less = go (cases_lt p (shown log.events)) where
+    → (p : ℕ) → p < length (hist log.events) + (length early + length ws)
+    → flushed_at (record log { events = showing ws (plans (length ws) ∷ showing early (appends vs ∷ log.events)) }) p ≡ rows_after 0 p fs
+before_last log early ws vs n r fs rows low high tells told p less = go (cases_lt p (shown log.events)) (cases_lt p (shown (showing early (appends vs ∷ log.events)))) where
+  new : Log
+  new = record log { events = showing ws (plans (length ws) ∷ showing early (appends vs ∷ log.events)) }
+
   count : length (hist log.events) ≡ shown log.events
   count = length_hist log.events
 
-  go : (p < shown log.events) ⊎ (shown log.events ≤ p) → flushed_at (record log { events = showing ws (plans (length ws) ∷ appends vs ∷ log.events) }) p ≡ rows_after 0 p fs
-  go (inl x) = earlier log ws vs n r rows low high p x ∙ tells p (omega (arith, count, x))
-  go (inr x) =
+  more : shown (showing early (appends vs ∷ log.events)) ≡ shown log.events + length early
+  more = shown_behind log early ws vs n r rows low high
+
+  go : (p < shown log.events) ⊎ (shown log.events ≤ p) → (p < shown (showing early (appends vs ∷ log.events))) ⊎ (shown (showing early (appends vs ∷ log.events)) ≤ p) → flushed_at new p ≡ rows_after 0 p fs
+  go (inl x) y = earlier log early ws vs n r rows low high p x ∙ tells p (omega (arith, count, x))
+  go (inr x) (inl y) =
       let i : ℕ = p - shown log.events in
       let e : p ≡ shown log.events + i = omega (arith, x) in
-      ap (flushed_at (record log { events = showing ws (plans (length ws) ∷ appends vs ∷ log.events) })) e
-      ∙ among log ws vs n r rows low high i (omega (arith, less, count, x)) ∙ sym (told p (omega (arith, count, x)))
+      ap (flushed_at new) e ∙ among_early log early ws vs n r rows low high i (omega (arith, x, y, more)) ∙ sym (told p (omega (arith, count, x)))
+  go (inr x) (inr y) =
+      let i : ℕ = p - shown (showing early (appends vs ∷ log.events)) in
+      let e : p ≡ shown (showing early (appends vs ∷ log.events)) + i = omega (arith, y) in
+      ap (flushed_at new) e ∙ among log early ws vs n r rows low high i (omega (arith, less, count, more, y)) ∙ sym (told p (omega (arith, count, x)))

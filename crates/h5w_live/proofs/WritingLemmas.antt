@@ -9,7 +9,7 @@ use Rattle.h5w_model.specs.declared.piece.Write.{Write}
 use Rattle.h5w_space.specs.Space.{Space}
 use Rattle.h5w_creation_laws.specs.CreatedFiles.{CreatedFile, described_of}
 use Rattle.h5w_session.specs.Past.{IsNew}
-use Rattle.h5w_session.specs.Sessions.{AfterPiece, Freed, Session, stopped_of, with_rows}
+use Rattle.h5w_session.specs.Sessions.{AfterPiece, Freed, Session, Settles, stopped_of, with_rows}
 use Rattle.h5w_session.specs.Stands.{Stands}
 use Rattle.h5w_image.specs.View.{Same}
 use Rattle.h5w_shared.specs.Seats.{FailedSeat, ImageId, SeatView, seen_through}
@@ -30,16 +30,17 @@ appended_showing [] es = refl
 appended_showing (w ∷ ws) es = appended_showing ws (shows w ∷ es)
 
 -- a batch more was put
-pub put_behind : (before now : List Happening) (bs : List (List ℤ)) (v : ℤ) (vs : List ℤ) (ws : List Write) → ArePut before bs now → ArePut before (bs ++ (v ∷ vs) ∷ []) (showing ws (plans (length ws) ∷ appends (v ∷ vs) ∷ now))
-put_behind before now [] v vs ws h = (ws, ap (λ (es : List Happening). showing ws (plans (length ws) ∷ appends (v ∷ vs) ∷ es)) h)
-put_behind before now ([] ∷ bs) v vs ws h = put_behind before now bs v vs ws h
-put_behind before now ((x ∷ xs) ∷ bs) v vs ws h = (h.0, put_behind (showing h.0 (plans (length h.0) ∷ appends (x ∷ xs) ∷ before)) now bs v vs ws h.1)
+pub put_behind : (before now : List Happening) (bs : List (List ℤ)) (v : ℤ) (vs : List ℤ) (early ws : List Write) → ArePut before bs now
+    → ArePut before (bs ++ (v ∷ vs) ∷ []) (showing ws (plans (length ws) ∷ showing early (appends (v ∷ vs) ∷ now)))
+put_behind before now [] v vs early ws h = (early, ws, ap (λ (es : List Happening). showing ws (plans (length ws) ∷ showing early (appends (v ∷ vs) ∷ es))) h)
+put_behind before now ([] ∷ bs) v vs early ws h = put_behind before now bs v vs early ws h
+put_behind before now ((x ∷ xs) ∷ bs) v vs early ws h = (h.0, h.1, put_behind (showing h.1 (plans (length h.1) ∷ showing h.0 (appends (x ∷ xs) ∷ before))) now bs v vs early ws h.2)
 
 -- an empty one is none
 pub put_empty : (before now : List Happening) (bs : List (List ℤ)) → ArePut before bs now → ArePut before (bs ++ [] ∷ []) now
 put_empty before now [] h = h
 put_empty before now ([] ∷ bs) h = put_empty before now bs h
-put_empty before now ((x ∷ xs) ∷ bs) h = (h.0, put_empty (showing h.0 (plans (length h.0) ∷ appends (x ∷ xs) ∷ before)) now bs h.1)
+put_empty before now ((x ∷ xs) ∷ bs) h = (h.0, h.1, put_empty (showing h.1 (plans (length h.1) ∷ showing h.0 (appends (x ∷ xs) ∷ before))) now bs h.2)
 
 -- its log is a new file's
 pub is_new : (f : CreatedFile) (s : Session) (v : SeatView) (w : Writes f s v) → IsNew w.log
@@ -58,25 +59,18 @@ freed_limit false s t is = is.limit
 -- what stays of a session while its pieces become visible
 pub record Shown (s t : Session) : Type 0 where
   pub name : t.name ≡ s.name
+  pub root : t.root ≡ s.root
   pub dataset : t.dataset ≡ s.dataset
   pub waits : t.waits ≡ s.waits
   pub stopped : t.stopped ≡ s.stopped
   pub end : t.places.end ≡ s.places.end
   pub limit : t.places.limit ≡ s.places.limit
 
-pub shown_stays : (s t : Session) (ws : List Write) → AfterPiece s ws t → Shown s t
-shown_stays s t [] after =
-    let is = after.1 in
-    record {
-      name = ap (λ (x : Session). x.name) is;
-      dataset = ap (λ (x : Session). x.dataset) is;
-      waits = ap (λ (x : Session). x.waits) is;
-      stopped = ap (λ (x : Session). x.stopped) is;
-      end = freed_end s.keeps s.places t.places after.0;
-      limit = freed_limit s.keeps s.places t.places after.0;
-    }
-shown_stays s t (w ∷ ws) is = record {
+-- only what is pending changed
+left_shown : (s t : Session) (ws : List Write) → t ≡ record s { pending = ws } → Shown s t
+left_shown s t ws is = record {
   name = ap (λ (x : Session). x.name) is;
+  root = ap (λ (x : Session). x.root) is;
   dataset = ap (λ (x : Session). x.dataset) is;
   waits = ap (λ (x : Session). x.waits) is;
   stopped = ap (λ (x : Session). x.stopped) is;
@@ -84,17 +78,51 @@ shown_stays s t (w ∷ ws) is = record {
   limit = ap (λ (x : Session). x.places.limit) is;
 }
 
+settled_shown : (b : Bool) (s t : Session) → Settles b s t → Shown s t
+settled_shown true s t after =
+    let is = after.1 in
+    record {
+      name = ap (λ (x : Session). x.name) is;
+      root = ap (λ (x : Session). x.root) is;
+      dataset = ap (λ (x : Session). x.dataset) is;
+      waits = ap (λ (x : Session). x.waits) is;
+      stopped = ap (λ (x : Session). x.stopped) is;
+      end = freed_end s.keeps s.places t.places after.0;
+      limit = freed_limit s.keeps s.places t.places after.0;
+    }
+settled_shown false s t is = left_shown s t [] is
+
+pub shown_stays : (s t : Session) (ws : List Write) → AfterPiece s ws t → Shown s t
+shown_stays s t [] after = settled_shown s.flushing s t after
+shown_stays s t (w ∷ ws) is = left_shown s t (w ∷ ws) is
+
+-- all pieces of a flush became visible
+pub after_flush : (s t : Session) → s.flushing ≡ true → AfterPiece s [] t → Settles true s t
+after_flush s t flushing after = subst (λ (b : Bool). Settles b s t) flushing after
+
+-- or of no flush
+pub after_early : (s t : Session) → s.flushing ≡ false → AfterPiece s [] t → t ≡ record s { pending = [] }
+after_early s t settled after = subst (λ (b : Bool). Settles b s t) settled after
+
 itself : (s : Session) (ws : List Write) → s.pending ≡ ws → 0 < length ws → AfterPiece s ws s
 itself s [] is some = absurd (omega arith)
 itself s (w ∷ ws) is some = ap (λ (ps : List Write). record s { pending = ps }) is
 
 -- one piece after another
+settles_onward : (b : Bool) (s : Session) (ws : List Write) (t : Session) → Settles b (record s { pending = ws }) t → Settles b s t
+settles_onward true s ws t after = after
+settles_onward false s ws t after = after
+
 onward : (s : Session) (w : Write) (ws vs : List Write) (t : Session) → AfterPiece (record s { pending = w ∷ ws }) vs t → AfterPiece s vs t
-onward s w ws [] t after = after
+onward s w ws [] t after = settles_onward s.flushing s (w ∷ ws) t after
 onward s w ws (v ∷ vs) t after = after
 
+settled_pending : (b : Bool) (s t : Session) → Settles b s t → t.pending ≡ []
+settled_pending true s t after = ap (λ (x : Session). x.pending) after.1
+settled_pending false s t is = ap (λ (x : Session). x.pending) is
+
 pub after_pending : (s t : Session) (ws : List Write) → AfterPiece s ws t → t.pending ≡ ws
-after_pending s t [] after = ap (λ (x : Session). x.pending) after.1
+after_pending s t [] after = settled_pending s.flushing s t after
 after_pending s t (w ∷ ws) after = ap (λ (x : Session). x.pending) after
 
 -- the oldest of some writes
@@ -189,6 +217,25 @@ stands_done s t v u so none log stood =
 
 pub session_done : (s t : Session) (v u : SeatView) → Showing s t v u → t.pending ≡ [] → AfterPiece s [] t
 session_done s t v u so none = subst (λ (ps : List Write). AfterPiece s ps t) none so.session
+
+-- where nothing is pending, nothing is to be shown
+nothing : (ws : List Write) → length ws ≡ 0 → ws ≡ []
+nothing [] none = refl
+nothing (w ∷ ws) none = absurd (omega (arith, none))
+
+pub shows_none : (s : Session) → length s.pending ≡ 0 → s ≡ record s { pending = [] }
+shows_none s none = ap (λ (ws : List Write). record s { pending = ws }) (nothing s.pending none)
+
+pub stands_none : (s : Session) → length s.pending ≡ 0 → (log : Log) → Stands s log → Stands s (record log { events = showing s.pending log.events })
+stands_none s none log stood = subst (λ (ws : List Write). Stands s (record log { events = showing ws log.events })) (sym (nothing s.pending none)) stood
+
+pub wrote_none : (s : Session) (v : SeatView) → length s.pending ≡ 0 → HasWritten s.pending v v
+wrote_none s v none = record {
+  image = refl;
+  seen = sym (append-nil v.seen) ∙ ap (λ (ws : List Write). v.seen ++ ws) (sym (nothing s.pending none));
+  pieces = omega arith;
+  end = omega arith;
+}
 
 -- the session is the writer's still, with what is visible so far
 pub writes_on : (f : CreatedFile) (s t n : Session) (v u x : SeatView) → Showing s t v u → x.image ≡ u.image → x.seen ≡ u.seen → n.name ≡ t.name → n.dataset ≡ t.dataset

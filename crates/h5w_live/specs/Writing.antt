@@ -70,11 +70,12 @@ showing [] es = es
 showing (w ∷ ws) es = showing ws (shows w ∷ es)
 
 -- What happened behind these events is that the batches were put, one behind another, and nothing else: each that has values was appended,
--- a flush planned some pieces, and these became visible.
+-- what was written of it early became visible, a flush planned some pieces, and these became visible.
 abbrev pub ArePut : List Happening → List (List ℤ) → List Happening → Type 0
 ArePut before [] now = now ≡ before
 ArePut before ([] ∷ batches) now = ArePut before batches now
-ArePut before ((v ∷ vs) ∷ batches) now = (ws : List Write) × ArePut (showing ws (plans (length ws) ∷ appends (v ∷ vs) ∷ before)) batches now
+ArePut before ((v ∷ vs) ∷ batches) now =
+    (early : List Write) × (ws : List Write) × ArePut (showing ws (plans (length ws) ∷ showing early (appends (v ∷ vs) ∷ before))) batches now
 
 -- ---- The session
 
@@ -89,8 +90,21 @@ pub record Writes (f : CreatedFile) (s : Session) (v : SeatView) : Type 0 where
   pub name : s.name ≡ f.name
   pub dataset : s.dataset ≡ with_rows s.dataset.shape.rows (described_of f)
 
--- All pieces of these batches are visible, and the lines tell of their flushes: nothing is pending or waits, and nothing else happened
--- since the creation. The file may have so many bytes.
+-- Values were appended, and what was written of them early became visible: nothing is pending.
+pub record HasAppended (values : List ℤ) (early : List Write) (s t : Session) (v x : SeatView) : Type 0 where
+  pub name : t.name ≡ s.name
+  pub root : t.root ≡ s.root
+  pub dataset : t.dataset ≡ s.dataset
+  pub waits : t.waits ≡ s.waits + length values / s.dataset.shape.cols
+  pub pending : t.pending ≡ []
+  pub stopped : t.stopped ≡ s.stopped
+  pub limit : t.places.limit ≡ s.places.limit
+  pub stands : (log : Log) → Stands s log → Stands t (record log { events = showing early (appends values ∷ log.events) })
+  pub image : x.image ≡ v.image
+  pub seen : x.seen ≡ v.seen ++ early
+
+-- All pieces of these batches are visible, and the lines tell of their flushes: nothing is pending or waits, all rows are committed, and
+-- nothing else happened since the creation. The file may have so many bytes.
 pub record HasFlushed (f : CreatedFile) (most : ℕ) (done : List (List ℤ)) (s : Session) (v : SeatView) (lines : List FlushLine) : Type 0 where
   pub writes : Writes f s v
   pub put : ArePut (showing (created_writes f) []) done writes.log.events
@@ -99,6 +113,8 @@ pub record HasFlushed (f : CreatedFile) (most : ℕ) (done : List (List ℤ)) (s
   pub few : needed_chunks (cutting_for f) s.dataset.shape.rows ≤ limit_of format_limits f.index
   pub waits : s.waits ≡ 0
   pub pending : s.pending ≡ []
+  pub settled : s.flushing ≡ false
+  pub committed : s.committed ≡ s.dataset.shape.rows
   pub going : s.stopped ≡ false
   pub flags : s.root.flags ≡ 5
   pub limit : s.places.limit ≡ most
@@ -150,9 +166,9 @@ first_refused f before batch [] = None
 first_refused f before batch (vs ∷ rest) =
     elim (batch_refusal f before vs) [ Some e ↦ Some (batch, e) | None ↦ first_refused f (before + length vs) (batch + 1) rest ]
 
--- The batch was appended behind these, which were flushed, and nothing else happened since the creation. The file, of so many bytes at most,
--- has no place for what comes next of it in turn, a new chunk or a block of the index, within the bounds by the loads of every log of the
--- session.
+-- The batch was appended behind these, which were flushed, what was written of it early became visible, and nothing else happened since the
+-- creation. The file, of so many bytes at most, has no place for what comes next of it in turn, a new chunk or a block of the index, within
+-- the bounds by the loads of every log of the session.
 pub record LacksPlace (f : CreatedFile) (most : ℕ) (done : List (List ℤ)) (batch : List ℤ) (full : Full) : Type 0 where
   pub session : Session
   pub log : Log
@@ -160,7 +176,8 @@ pub record LacksPlace (f : CreatedFile) (most : ℕ) (done : List (List ℤ)) (b
   pub new : log ≡ log_of f log.events
   pub before : List Happening
   pub put : ArePut (showing (created_writes f) []) done before
-  pub events : log.events ≡ appends batch ∷ before
+  pub early : List Write
+  pub events : log.events ≡ showing early (appends batch ∷ before)
   pub dataset : session.dataset ≡ with_rows session.dataset.shape.rows (described_of f)
   pub places : session.places.limit ≡ most
   pub limit : full.limit ≡ most

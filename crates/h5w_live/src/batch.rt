@@ -3,6 +3,7 @@ ghost use Rattle.std.specs.Prelude.{◌≡◌, ◌≢◌, ◌⊎◌, ℕ, ℤ, L
 ghost use Rattle.h5w_model.specs.Agrees.{values_in};
 ghost use Rattle.h5w_model.specs.Lawful.{first_outside};
 ghost use Rattle.h5w_model.specs.Logs.{Log, and_now, appends, plans};
+ghost use Rattle.h5w_model.specs.declared.piece.Write.{Write};
 ghost use Rattle.h5w_model.specs.declared.report.FlushLine.{FlushLine};
 ghost use Rattle.h5w_space.specs.declared.Full.{Full};
 ghost use Rattle.h5w_creation_laws.specs.CreatedFiles.{CreatedFile};
@@ -10,13 +11,13 @@ ghost use Rattle.h5w_session.specs.Flushes.{SameBut};
 ghost use Rattle.h5w_session.specs.Loads.{NoPlace};
 ghost use Rattle.h5w_session.specs.Past.{IsNew};
 ghost use Rattle.h5w_session.specs.Refusals.{IsFullFor, append_refusal, flush_refusal};
-ghost use Rattle.h5w_session.specs.Sessions.{AreRows, TakesRows, with_values};
+ghost use Rattle.h5w_session.specs.Sessions.{AddsValues, AreRows, TakesRows};
 ghost use Rattle.h5w_session.specs.Stands.{Stands};
 ghost use Rattle.h5w_session.specs.declared.refusal.AppendError.TheVariants as appending;
-ghost use Rattle.h5w_live.specs.Writing.{HasFlushed, HasRoom, LacksPlace, StaysSeated, Writes, batch_refusal};
+ghost use Rattle.h5w_live.specs.Writing.{HasAppended, HasFlushed, HasRoom, LacksPlace, StaysSeated, Writes, batch_refusal};
 
 use crate::seated::{append, flush};
-use crate::writing::{Halt, show};
+use crate::writing::{Halt, show, show_early};
 use h5w_image::Gate;
 use h5w_model::FlushLine;
 use h5w_session::{AppendError, FlushError, WriterCore};
@@ -35,8 +36,9 @@ fn take<R: Wait>(
     requires rows { AreRows session.old values.now }
     requires some { 1 ≤ length values.now }
     requires flushed { (f : CreatedFile) × (most : ℕ) × (done : List (List ℤ)) × (lines : List FlushLine) × HasFlushed f most done session.old seat.old lines }
-    ensures added { OnOk result (session.new ≡ with_values session.old values.now) }
+    ensures added { OnOk result (AddsValues session.old values.now session.new) }
     ensures stands { OnOk result ((log : Log) → Stands session.old log → Stands session.new (and_now (appends values.now) log)) }
+    ensures room { OnOk result (HasRoom session.new seat.new) }
     ensures accepted { OnOk result (append_refusal session.old values.now ≡ None) }
     ensures range { (index : ℕ) (value : ℤ) → result ≡ Err (Halt.OutOfRange index value) → append_refusal session.old values.now ≡ Some (appending.OutOfRange index value) }
     ensures chunks { (chunks limit : ℕ) → result ≡ Err (Halt.Chunks chunks limit) → append_refusal session.old values.now ≡ Some (appending.Chunks chunks limit) }
@@ -53,6 +55,37 @@ fn take<R: Wait>(
         Err(AppendError::OutOfMemory) => Err(Halt::OutOfMemory),
         Err(AppendError::Stopped) => unreachable!(),
         Err(AppendError::Busy { .. }) => unreachable!(),
+    }
+}
+
+/// Appends a batch behind others that were flushed, and what is written of it early becomes visible.
+fn add<R: Wait>(
+    rt: &R,
+    image: &SharedImage,
+    seat: &mut WriterSeat,
+    session: &mut WriterCore,
+    values: &[i128],
+) -> Result<(), Halt>
+    requires image { seat.old.image ≡ image.now }
+    requires rows { AreRows session.old values.now }
+    requires some { 1 ≤ length values.now }
+    requires flushed { (f : CreatedFile) × (most : ℕ) × (done : List (List ℤ)) × (lines : List FlushLine) × HasFlushed f most done session.old seat.old lines }
+    ensures added { OnOk result ((early : List Write) × HasAppended values.now early session.old session.new seat.old seat.new) }
+    ensures accepted { OnOk result (append_refusal session.old values.now ≡ None) }
+    ensures range { (index : ℕ) (value : ℤ) → result ≡ Err (Halt.OutOfRange index value) → append_refusal session.old values.now ≡ Some (appending.OutOfRange index value) }
+    ensures chunks { (chunks limit : ℕ) → result ≡ Err (Halt.Chunks chunks limit) → append_refusal session.old values.now ≡ Some (appending.Chunks chunks limit) }
+    ensures space { (full : Full) → result ≢ Err (Halt.Space full) }
+    ensures left { OnErr result ((f : CreatedFile) → Writes f session.old seat.old → Writes f session.new seat.new) }
+    ensures image { seat.new.image ≡ image.now }
+    ensures failed { result ≡ Err Halt.Failed → 0 < seat.new.faults }
+{
+    match take(rt, image, seat, session, values) {
+        Ok(()) => {}
+        Err(halt) => return Err(halt),
+    }
+    match show_early(rt, image, seat, session) {
+        Ok(()) => Ok(()),
+        Err(_) => Err(Halt::Failed),
     }
 }
 
@@ -90,7 +123,7 @@ fn plan<R: Wait>(
     }
 }
 
-/// Appends a batch, flushes it, and makes its pieces visible.
+/// Appends a batch, flushes it, and makes its pieces visible. Its line counts all pieces that are visible then.
 pub fn put<R: Wait, G: Gate>(
     rt: &R,
     image: &SharedImage,
@@ -116,7 +149,7 @@ pub fn put<R: Wait, G: Gate>(
     ensures left { (f : CreatedFile) (most : ℕ) (done : List (List ℤ)) (lines : List FlushLine) → HasFlushed f most done session.old seat.old lines → OnErr result (Writes f session.new seat.new) }
     ensures failed { result ≡ Err Halt.Failed → 0 < seat.new.faults }
 {
-    match take(rt, image, seat, session, values) {
+    match add(rt, image, seat, session, values) {
         Ok(()) => {}
         Err(halt) => return Err(halt),
     }

@@ -4,7 +4,7 @@ ghost use Rattle.h5w_model.specs.Logs.{Log, and_now, appends, plans};
 ghost use Rattle.h5w_session.specs.Refusals.{IsFullFor, IsSpace, append_refusal, flush_refusal};
 ghost use Rattle.h5w_session.specs.Loads.{NoPlace};
 ghost use Rattle.h5w_session.specs.Past.{IsNew};
-ghost use Rattle.h5w_session.specs.Sessions.{AreRows, TakesRows, rows_of, with_values};
+ghost use Rattle.h5w_session.specs.Sessions.{AddsValues, AreRows, TakesRows, rows_of};
 ghost use Rattle.h5w_session.specs.Stands.{Stands};
 ghost use Rattle.h5w_session.specs.Flushes.{SameBut};
 ghost use Rattle.h5w_session.specs.declared.refusal.AppendError.{AppendError};
@@ -19,7 +19,7 @@ use h5w_session::{AppendError, FlushError, Full, WriterCore};
 use h5w_shared::{SharedImage, WriterSeat, Writing};
 use std::sync::Wait;
 
-/// Appends values. Failed: the seat was shown the ticket word at 2^63, and counts it.
+/// Appends values; what is written of them early is pending then. Failed: the seat was shown the ticket word at 2^63, and counts it.
 pub fn append<R: Wait>(
     rt: &R,
     image: &SharedImage,
@@ -29,12 +29,13 @@ pub fn append<R: Wait>(
 ) -> Result<u64, AppendError>
     requires image { seat.old.image ≡ image.now }
     requires rows { AreRows session.old values.now }
-    ensures added { OnOk result (session.new ≡ with_values session.old values.now) }
+    ensures added { OnOk result (AddsValues session.old values.now session.new) }
     ensures stands { OnOk result ((log : Log) → Stands session.old log → Stands session.new (and_now (appends values.now) log)) }
     ensures refused { (e : AppendError) → append_refusal session.old values.now ≡ Some e → result ≡ Err e }
     ensures causes { IfErr result (λ e. (append_refusal session.old values.now ≡ Some e) ⊎ (e ≡ AppendError.Failed) ⊎ (e ≡ AppendError.OutOfMemory)) }
     ensures kept { OnErr result (session.new ≡ session.old) }
     ensures seat { StaysSeated seat.old seat.new }
+    ensures room { OnOk result (HasRoom session.new seat.new) }
     ensures failed { result ≡ Err AppendError.Failed → 0 < seat.new.faults }
 {
     session.append(values, &mut Writing { rt, image, seat })

@@ -1,5 +1,5 @@
 //! The writer of a run: each batch is appended and flushed, and its pieces become visible one by one.
-ghost use Rattle.std.specs.Prelude.{◌≡◌, ◌≢◌, ◌⊎◌, ℕ, ℤ, List, ◌<◌, ◌≤◌, ◌+◌, ◌++◌, ◌∷◌, [], length, true, IfErr, IfOk, OnErr, OnOk, Ok, Err, Some, None};
+ghost use Rattle.std.specs.Prelude.{◌≡◌, ◌≢◌, ◌⊎◌, ℕ, ℤ, List, ◌<◌, ◌≤◌, ◌+◌, ◌++◌, ◌∷◌, [], length, true, false, IfErr, IfOk, OnErr, OnOk, Ok, Err, Some, None};
 ghost use Rattle.h5w_model.specs.Agrees.{values_in};
 ghost use Rattle.h5w_model.specs.Logs.{Log, and_now, appends};
 ghost use Rattle.h5w_model.specs.declared.report.FlushLine.{FlushLine};
@@ -10,7 +10,7 @@ ghost use Rattle.h5w_session.specs.declared.refusal.AppendError.TheVariants as a
 ghost use Rattle.h5w_live.specs.Writing.{HasFlushed, HasPlaces, HasRoom, HasWritten, Writes, batch_refusal, showing};
 
 use crate::seated::{append, flush, write};
-use h5w_image::{Failed, Gate};
+use h5w_image::{Failed, Gate, OpenGate};
 use h5w_model::FlushLine;
 use h5w_session::{AppendError, FlushError, Full, WriterCore};
 use h5w_shared::{SharedImage, WriterSeat};
@@ -64,4 +64,28 @@ pub fn show<R: Wait, G: Gate>(
         }
     }
     Ok(())
+}
+
+/// What is pending of rows that were written early becomes visible, one piece after another. The writer comes to no turn. Where the seat
+/// fails, the session is stopped.
+pub fn show_early<R: Wait>(
+    rt: &R,
+    image: &SharedImage,
+    seat: &mut WriterSeat,
+    session: &mut WriterCore,
+) -> Result<(), Failed>
+    requires image { seat.old.image ≡ image.now }
+    requires early { session.old.flushing ≡ false }
+    requires room { HasPlaces session.old seat.old }
+    ensures session { OnOk result (session.new ≡ record session.old { pending = [] }) }
+    ensures stands { OnOk result ((log : Log) → Stands session.old log → Stands session.new (record log { events = showing session.old.pending log.events })) }
+    ensures seat { OnOk result (HasWritten session.old.pending seat.old seat.new) }
+    ensures left { OnErr result ((f : CreatedFile) → Writes f session.old seat.old → Writes f session.new seat.new) }
+    ensures failed { OnErr result (0 < seat.new.faults) }
+    ensures image { seat.new.image ≡ image.now }
+{
+    if session.pending() == 0 {
+        return Ok(());
+    }
+    show(rt, image, seat, session, &OpenGate, 0)
 }

@@ -1,7 +1,7 @@
 //! Runs whose gates hold an actor until another has come.
 ghost use Rattle.std.specs.Prelude.{◌≤◌};
 
-use crate::helpers::run;
+use crate::helpers::{run, run_early};
 use h5w_image::Gate;
 use h5w_live::LiveReport;
 use h5w_model::Poll;
@@ -123,6 +123,28 @@ fn the_writer_comes_to_its_turn_before_the_header(rt: HostRuntime) -> Result<(),
     let lines = report.flushes.as_slice();
     assert_eq!(rt; lines.len(), 2);
     assert_eq!(rt; (polls[1].after, lines[1].pieces), (16, 17));
+    Ok(())
+}
+
+// Of the first batch a chunk of 2,048 bytes is written early, in 4 pieces behind the 5 of the creation; its flush writes the superblock, EAIB,
+// EAHD and the dataset header. Of the second the 511 cells that fill this chunk and the next chunk are, in 8 pieces behind 13, and its flush
+// writes the same four. Where the writer came to its turn at an early piece too, the call would end behind fewer than 24.
+#[test]
+fn the_writer_comes_to_no_turn_at_early_pieces(rt: HostRuntime) -> Result<(), Fail> {
+    let gate = nobody_came();
+    let more = [2i128; 512];
+    let batches: [&[i128]; 2] = [&[1], &more];
+    let Ok(report) = run_early(&rt, rt.alloc(), &batches, 1, 2, &gate)? else {
+        return Err("the run was refused".into());
+    };
+    assert!(rt; !gate.late.load(Ordering::SeqCst));
+    let polls = report.polls.as_slice();
+    assert_eq!(rt; polls.len(), 2);
+    assert!(rt; matches!(polls[1].answer, Poll::Rows { rows: 1, sum: 1 }));
+    let lines = report.flushes.as_slice();
+    assert_eq!(rt; lines.len(), 2);
+    assert_eq!(rt; (lines[0].pieces, lines[1].pieces), (13, 25));
+    assert_eq!(rt; polls[1].after, 24);
     Ok(())
 }
 

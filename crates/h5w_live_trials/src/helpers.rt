@@ -1,5 +1,5 @@
 //! What the trials of runs have in common.
-ghost use Rattle.std.specs.Prelude.{◌≡◌, ◌≤◌, IfOk, IfSome};
+ghost use Rattle.std.specs.Prelude.{◌≡◌, ◌*◌, ◌^◌, ◌≤◌, IfOk, IfSome};
 ghost use Rattle.h5w_live.specs.Writing.{AreBatches, AreWholeRows};
 ghost use Rattle.h5w_options.specs.Options.{AreColumns, AreOptions, columns_in, width_in};
 
@@ -12,10 +12,18 @@ use std::sync::Wait;
 use std::test::Fail;
 use std::thread::Threads;
 
-/// A dataset `data` of integers of 4 bytes, 2 rows in a chunk: in one dimension, or in rows of so many columns, and of so many a chunk.
-fn options(alloc: Global, columns: Option<(u64, u64)>) -> Result<Options, AllocError>
+/// A dataset `data` of integers of 4 bytes, of so many rows in a chunk: in one dimension, or in rows of so many columns, and of so many a
+/// chunk. So many bytes may wait unwritten after an append.
+fn options(
+    alloc: Global,
+    chunk_rows: u64,
+    columns: Option<(u64, u64)>,
+    budget: u64,
+) -> Result<Options, AllocError>
+    requires rows { (1 ≤ chunk_rows) × (chunk_rows ≤ 65536) }
     requires columns { IfSome columns AreColumns }
-    requires wide { width_in columns ≤ 65536 }
+    requires small { chunk_rows * width_in columns * 4 ≤ 16777216 }
+    requires budget { (1024 ≤ budget) × (budget ≤ 2 ^ 30) }
     ensures options { IfOk result AreOptions }
     ensures columns { IfOk result (λ o. o.columns ≡ columns) }
 {
@@ -26,11 +34,12 @@ fn options(alloc: Global, columns: Option<(u64, u64)>) -> Result<Options, AllocE
             big: false,
             signed: true,
         },
-        chunk_rows: 2,
+        chunk_rows,
         columns,
         fixed: false,
         fill: None,
         limit: 1 << 40,
+        budget,
     })
 }
 
@@ -71,7 +80,7 @@ fn batches(alloc: Global, columns: u64, of: &[&[i128]]) -> Result<Batches, Fail>
     Ok(Batches::from_vec(batches))
 }
 
-/// A run of these batches in one dimension, and of so many readers with so many calls.
+/// A run of these batches in one dimension, 2 rows in a chunk, and of so many readers with so many calls.
 pub fn run<R: Threads + Wait + Sync, G: Gate>(
     rt: &R,
     alloc: Global,
@@ -101,7 +110,24 @@ pub fn run_in<R: Threads + Wait + Sync, G: Gate>(
     requires readers { (1 ≤ readers) × (readers ≤ 16) }
     requires polls { (1 ≤ polls) × (polls ≤ 10000) }
 {
-    let options = options(alloc, columns)?;
+    let options = options(alloc, 2, columns, 65_536)?;
     let batches = batches(alloc, columns_of(columns), of)?;
+    Ok(live(rt, alloc, &options, &batches, readers, polls, 8, gate))
+}
+
+/// A run of these batches in one dimension, 512 rows in a chunk, which are more bytes than may wait.
+pub fn run_early<R: Threads + Wait + Sync, G: Gate>(
+    rt: &R,
+    alloc: Global,
+    of: &[&[i128]],
+    readers: u32,
+    polls: u32,
+    gate: &G,
+) -> Result<Result<LiveReport, LiveError>, Fail>
+    requires readers { (1 ≤ readers) × (readers ≤ 16) }
+    requires polls { (1 ≤ polls) × (polls ≤ 10000) }
+{
+    let options = options(alloc, 512, None, 1024)?;
+    let batches = batches(alloc, columns_of(None), of)?;
     Ok(live(rt, alloc, &options, &batches, readers, polls, 8, gate))
 }

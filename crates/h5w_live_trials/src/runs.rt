@@ -1,6 +1,6 @@
 //! Runs with ample memory, and what refuses one.
 
-use crate::helpers::run;
+use crate::helpers::{run, run_early};
 use h5w_image::OpenGate;
 use h5w_live::{LiveError, LiveReport};
 use h5w_model::{Poll, PollLine};
@@ -46,6 +46,20 @@ fn an_empty_batch_has_no_line(rt: HostRuntime) -> Result<(), Fail> {
     assert_eq!(rt; (lines[0].pieces, lines[0].rows), (11, 3));
     assert_eq!(rt; (lines[1].pieces, lines[1].rows), (13, 4));
     assert_eq!(rt; report.journal.len(), 14);
+    Ok(())
+}
+
+// The first batch has 4 early pieces behind the 5 of the creation, and 4 of its flush: the superblock, EAIB, EAHD and the dataset header. The
+// second waits: its flush writes two cells in one piece, and the dataset header.
+#[test]
+fn early_pieces_count_in_the_line_of_their_flush(rt: HostRuntime) -> Result<(), Fail> {
+    let batches: [&[i128]; 2] = [&[1], &[2, 3]];
+    let report = report(run_early(&rt, rt.alloc(), &batches, 1, 1, &OpenGate)?)?;
+    let lines = report.flushes.as_slice();
+    assert_eq!(rt; lines.len(), 2);
+    assert_eq!(rt; (lines[0].pieces, lines[0].rows), (13, 1));
+    assert_eq!(rt; (lines[1].pieces, lines[1].rows), (15, 3));
+    assert_eq!(rt; report.journal.len(), 16);
     Ok(())
 }
 

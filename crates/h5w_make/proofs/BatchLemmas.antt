@@ -22,7 +22,7 @@ use Rattle.h5w_session.specs.Creations.{IsCreated, log_of}
 use Rattle.h5w_session.specs.Past.{IsNew}
 use Rattle.h5w_session.specs.Room.{HasRoomFor}
 use Rattle.h5w_session.specs.Refusals.{IsSpace, append_refusal, chunks_refusal, close_refusal, flush_refusal}
-use Rattle.h5w_session.specs.Sessions.{AfterPiece, Freed, Session, TakesRows, chunk_limit, chunks_with, cleared, closed_of, closed_root, cutting_of, rows_of, with_rows, with_values, IsNamed}
+use Rattle.h5w_session.specs.Sessions.{AddsValues, AfterPiece, Freed, Session, Settles, TakesRows, chunk_limit, chunks_with, cleared, closed_of, closed_root, cutting_of, rows_of, with_rows, with_values, IsNamed}
 use Rattle.h5w_session.specs.Stands.{Stands}
 use Rattle.h5w_session.specs.declared.refusal.AppendError.{AppendError}
 use Rattle.h5w_session.specs.declared.refusal.AppendError.TheVariants as errors
@@ -32,8 +32,8 @@ use Rattle.h5w_session.proofs.PastLemmas.{new_end}
 use Rattle.h5w_session.proofs.LawLemmas.{standing_laws, shown_laws}
 use Rattle.h5w_steady.specs.Steady.{steady}
 use Rattle.h5w_make.specs.Commands.{new_file, showing, values_of}
-use Rattle.h5w_make.specs.States.{HasPlace, IsAfter, IsClosed, IsTaken, ShowsAll}
-use Rattle.h5w_make.proofs.EventLemmas.{appended_batches, cutting, hist_showing, load_bound, spent_in-events, spent_showing}
+use Rattle.h5w_make.specs.States.{HasPlace, IsAfter, IsAppended, IsClosed, IsTaken, ShowsAll}
+use Rattle.h5w_make.proofs.EventLemmas.{appended_batches, appended_showing, cutting, hist_showing, load_bound, spent_in-events, spent_showing}
 use Rattle.h5w_session.proofs.FlushCalls.{takes_named}
 
 pub some_is : {A : Type 0} (a b : A) → Some a ≡ Some b → a ≡ b
@@ -55,18 +55,22 @@ record AllShown (s t : Session) : Type 0 where
   waits : t.waits ≡ s.waits
   stopped : t.stopped ≡ s.stopped
   pending : t.pending ≡ []
+  no_flush : t.flushing ≡ false
+
+-- whether they were a flush or not
+settled : (b : Bool) (s t : Session) → s.flushing ≡ b → Settles b s t → AllShown s t
+settled true s t flush settles =
+    subst (λ (x : Session). AllShown s x) (sym settles.1)
+    (record { name = refl; dataset = refl; limit = freed_limit s.keeps s.places t.places settles.0; waits = refl; stopped = refl; pending = refl; no_flush = refl })
+settled false s t still is =
+    subst (λ (x : Session). AllShown s x) (sym is) (record { name = refl; dataset = refl; limit = refl; waits = refl; stopped = refl; pending = refl; no_flush = still })
 
 all_shown : (s t : Session) → AfterPiece s [] t → AllShown s t
-all_shown s t after =
-    let is = after.1 in
-    record {
-      name = ap (λ (x : Session). x.name) is;
-      dataset = ap (λ (x : Session). x.dataset) is;
-      limit = freed_limit s.keeps s.places t.places after.0;
-      waits = ap (λ (x : Session). x.waits) is;
-      stopped = ap (λ (x : Session). x.stopped) is;
-      pending = ap (λ (x : Session). x.pending) is;
-    }
+all_shown s t settles = settled s.flushing s t refl settles
+
+-- pieces of no flush leave nothing but themselves
+pub still_shown : (s t : Session) → s.flushing ≡ false → AfterPiece s [] t → t ≡ record s { pending = [] }
+still_shown s t still settles = subst (λ (b : Bool). Settles b s t) still settles
 
 -- ---- Between two batches
 
@@ -103,12 +107,18 @@ cut_alike bs s m h =
 pub all_appended : (bs : List (List ℤ)) (s : Session) (m : MemView) → (h : IsAfter bs s m) → appended h.log ≡ values_of bs
 all_appended bs s m h = ap (λ (l : Log). appended (record { start = l.start; columns = l.columns; values = l.values; first = l.first; events = h.log.events })) h.is ∙ appended_batches bs h.log.events h.batches
 
+-- as many rows are flushed as the session's dataset has, one value each
+rows_flushed : (s : Session) (log : Log) → log.columns ≡ 1 → Stands s log → s.stopped ≡ false → s.pending ≡ [] → length (flushed log) ≡ s.dataset.shape.rows
+rows_flushed s log one stands going idle =
+    let whole : length (flushed log) / 1 ≡ length (flushed log) = omega arith in
+    sym whole ∙ ap (λ (n : ℕ). length (flushed log) / n) (sym one) ∙ standing_laws.planned_rows s log stands going idle
+
 pub all_flushed : (bs : List (List ℤ)) (s : Session) (m : MemView) → (h : IsAfter bs s m) → length (flushed h.log) ≡ length (values_of bs)
-all_flushed bs s m h =
-    let one : h.log.columns ≡ 1 = ap (λ (l : Log). l.columns) h.is in
-    let rows : rows_in h.log (flushed h.log) ≡ length (values_of bs) = standing_laws.planned_rows s h.log h.stands h.going h.pending ∙ ap (λ (d : Described). d.shape.rows) h.dataset in
-    let whole : length (flushed h.log) / 1 ≡ length (flushed h.log) = omega arith in
-    sym whole ∙ ap (λ (n : ℕ). length (flushed h.log) / n) (sym one) ∙ rows
+all_flushed bs s m h = rows_flushed s h.log (ap (λ (l : Log). l.columns) h.is) h.stands h.going h.pending ∙ ap (λ (d : Described). d.shape.rows) h.dataset
+
+-- the rows of the file are those of the batches
+pub all_committed : (bs : List (List ℤ)) (s : Session) (m : MemView) → IsAfter bs s m → s.committed ≡ length (values_of bs)
+all_committed bs s m h = standing_laws.flushed_rows s h.log h.stands ∙ standing_laws.planned_rows s h.log h.stands h.going h.pending ∙ ap (λ (d : Described). d.shape.rows) h.dataset
 
 -- the load of another batch
 batch_load : (bs : List (List ℤ)) (s : Session) (m : MemView) (values : List ℤ) → (h : IsAfter bs s m) → IsTaken bs values → load cutting (and_now (appends values) h.log) ≤ 346000
@@ -147,97 +157,147 @@ are_rows bs s m values h =
 
 -- ---- The flush
 
-pub waits_some : (bs : List (List ℤ)) (s t : Session) (m : MemView) (values : List ℤ) → IsAfter bs s m → IsTaken bs values → t ≡ with_values s values → 0 < t.waits
-waits_some bs s t m values h taken is =
-    let columns : s.dataset.shape.cols ≡ 1 = ap (λ (d : Described). d.shape.cols) h.dataset in
-    let whole : length values / s.dataset.shape.cols ≡ length values = ap (λ (c : ℕ). length values / c) columns ∙ (let e : length values / 1 ≡ length values = omega arith in e) in
-    omega (arith, ap (λ (x : Session). x.waits) is, whole, taken.some)
+module _ (bs : List (List ℤ)) (values : List ℤ) (s t : Session) (m : MemView) (h : IsAfter bs s m) (adds : AddsValues s values t) where
+  one_column : s.dataset.shape.cols ≡ 1
+  one_column = ap (λ (d : Described). d.shape.cols) h.dataset
 
-pub flush_taken : (bs : List (List ℤ)) (s t : Session) (m : MemView) (values : List ℤ) → IsAfter bs s m → t ≡ with_values s values → flush_refusal t ≡ None
-flush_taken bs s t m values h is =
-    ap flush_refusal is
-    ∙ ap (λ (b : Bool). flush_refusal (record (with_values s values) { stopped = b })) h.going
-    ∙ ap (λ (ws : List Write). flush_refusal (record (with_values s values) { stopped = false; pending = ws })) h.pending
+  -- each value is a row
+  new_rows : length values / s.dataset.shape.cols ≡ length values
+  new_rows = ap (λ (c : ℕ). length values / c) one_column ∙ (let e : length values / 1 ≡ length values = omega arith in e)
 
-pub place_there : (bs : List (List ℤ)) (s t : Session) (m : MemView) (values : List ℤ) → IsAfter bs s m → IsTaken bs values → t ≡ with_values s values
-    → ((log : Log) → Stands s log → Stands t (and_now (appends values) log)) → HasPlace t
-place_there bs s t m values h taken is stands =
-    let log = and_now (appends values) h.log in
-    let cut : cutting_of t ≡ cutting = ap cutting_of is ∙ cut_alike bs s m h in
-    let one : load cutting log ≤ 346000 = batch_load bs s m values h taken in
-    let before : spent_in cutting log h.log.events ≡ spent cutting h.log = spent_in-events cutting h.log (appends values ∷ h.log.events) h.log.events in
-    let loads : spent cutting h.log ≤ length bs * 700000 = subst (λ (c : Cutting). spent c h.log ≤ length bs * 700000) (cut_alike bs s m h) h.loads in
-    let limit : t.places.limit ≡ 2 ^ 40 = ap (λ (x : Session). x.places.limit) is ∙ h.limit in
-    let made : IsNew log = is_new log (ap (and_now (appends values)) h.is) in (
-      log,
-      stands h.log h.stands,
-      made,
-      λ full none.
-          let size : full.size ≤ load cutting log = subst (λ (c : Cutting). full.size ≤ load c log) cut none.size_bound in
-          let new : first_end_of log ≡ 1024 = new_end log made in
-          let place : full.at ≤ first_end_of log + spent cutting log + load cutting log = subst (λ (c : Cutting). full.at ≤ first_end_of log + spent c log + load c log) cut none.at_bound in
-          omega (arith, none.limit, none.past, size, place, new, one, before, loads, limit, taken.batches),
-    )
+  pub waits_some : IsTaken bs values → 0 < t.waits
+  waits_some taken = omega (arith, ap (λ (x : Session). x.waits) adds.session, new_rows, taken.some)
+
+  added_going : t.stopped ≡ false
+  added_going = ap (λ (x : Session). x.stopped) adds.session ∙ h.going
+
+  pub flush_taken : t.pending ≡ [] → flush_refusal t ≡ None
+  flush_taken idle = ap (λ (b : Bool). flush_refusal (record t { stopped = b })) added_going ∙ ap (λ (ws : List Write). flush_refusal (record t { stopped = false; pending = ws })) idle
+
+-- the events once a batch was appended, and once its flush was planned
+abbrev behind_append : List Write → List ℤ → List Happening → List Happening
+behind_append early values es = showing early (appends values ∷ es)
+
+abbrev behind_flush : (pieces early : List Write) → List ℤ → List Happening → List Happening
+behind_flush pieces early values es = showing pieces (plans (length pieces) ∷ behind_append early values es)
+
+module _ (bs : List (List ℤ)) (values : List ℤ) (s t : Session) (m n : MemView) (taken : IsTaken bs values) (h : IsAfter bs s m) (app : IsAppended values s t m n) where
+  -- the log once the pieces that were written early became visible
+  abbrev pub log_behind : Log
+  log_behind = record (h.log) { events = behind_append app.early values h.log.events }
+
+  pub stands_behind : Stands t log_behind
+  stands_behind = app.stands h.log h.stands
+
+  values_behind : appended log_behind ≡ values_of bs ++ values
+  values_behind =
+      ap (λ (vs : List ℤ). h.log.values ++ vs) (appended_showing app.early (appends values ∷ h.log.events))
+      ∙ sym (append_assoc h.log.values _ values) ∙ ap (λ (vs : List ℤ). vs ++ values) (all_appended bs s m h)
+
+  flushed_behind : length (flushed log_behind) ≡ length (values_of bs)
+  flushed_behind =
+      rows_flushed t log_behind (ap (λ (l : Log). l.columns) h.is) stands_behind (added_going bs values s t m h app.adds) app.idle
+      ∙ ap (λ (x : Session). x.dataset.shape.rows) app.adds.session ∙ ap (λ (d : Described). d.shape.rows) h.dataset
+
+  -- the loads of the append and of the flush
+  pub flush_load : load cutting log_behind ≤ 346000
+  flush_load = load_bound log_behind (omega (arith, ap length values_behind, length-append (values_of bs) values, flushed_behind, taken.few))
+
+  pub spent_behind : spent cutting log_behind ≤ length bs * 700000 + 346000
+  spent_behind =
+      let is : spent cutting log_behind ≡ spent_in cutting log_behind h.log.events + load cutting (and_now (appends values) h.log) = spent_showing cutting log_behind app.early (appends values ∷ h.log.events) in
+      let before : spent_in cutting log_behind h.log.events ≡ spent cutting h.log = spent_in-events cutting h.log (behind_append app.early values h.log.events) h.log.events in
+      let loads : spent cutting h.log ≤ length bs * 700000 = subst (λ (c : Cutting). spent c h.log ≤ length bs * 700000) (cut_alike bs s m h) h.loads in
+      omega (arith, is, before, loads, batch_load bs s m values h taken)
+
+  pub place_there : HasPlace t
+  place_there =
+      let cut : cutting_of t ≡ cutting = ap cutting_of app.adds.session ∙ cut_alike bs s m h in
+      let limit : t.places.limit ≡ 2 ^ 40 = app.adds.limit ∙ h.limit in
+      let made : IsNew log_behind = is_new log_behind (ap (λ (l : Log). record l { events = behind_append app.early values h.log.events }) h.is) in (
+        log_behind,
+        stands_behind,
+        made,
+        λ full none.
+            let size : full.size ≤ load cutting log_behind = subst (λ (c : Cutting). full.size ≤ load c log_behind) cut none.size_bound in
+            let new : first_end_of log_behind ≡ 1024 = new_end log_behind made in
+            let place : full.at ≤ first_end_of log_behind + spent cutting log_behind + load cutting log_behind =
+            subst (λ (c : Cutting). full.at ≤ first_end_of log_behind + spent c log_behind + load c log_behind) cut none.at_bound in
+            omega (arith, none.limit, none.past, size, place, new, flush_load, spent_behind, limit, taken.batches),
+      )
 
 -- ---- The batch
 
-module _ (bs : List (List ℤ)) (values : List ℤ) (s0 s1 s2 s3 : Session) (m0 m1 m2 m3 : MemView) (taken : IsTaken bs values) (h : IsAfter bs s0 m0) (added : s1 ≡ with_values s0 values)
-    (stands1 : (log : Log) → Stands s0 log → Stands s1 (and_now (appends values) log)) (same1 : Same (steady m0) (steady m1)) (takes : TakesRows s1 s2)
+-- the image stays what its journal makes of no bytes
+abbrev IsFolded : MemView → Type 0
+IsFolded m = m.bytes ≡ image [] m.history
+
+folded_shown : (ws : List Write) (m n : MemView) → ShowsAll ws m n → IsFolded m → IsFolded n
+folded_shown ws m n shown folds = shown.bytes ∙ ap (λ (b : List ℕ). image b ws) folds ∙ sym (image-append [] m.history ws) ∙ ap (image []) (sym shown.history)
+
+folded_same : (m n : MemView) → Same (steady m) (steady n) → IsFolded m → IsFolded n
+folded_same m n same folds = some_is n.bytes m.bytes same.bytes ∙ folds ∙ ap (image []) (sym (some_is n.history m.history same.history))
+
+module _ (bs : List (List ℤ)) (values : List ℤ) (s0 s1 s2 s3 : Session) (m0 m1 m2 m3 : MemView) (taken : IsTaken bs values) (h : IsAfter bs s0 m0) (app : IsAppended values s0 s1 m0 m1) (takes : TakesRows s1 s2)
     (stands2 : (log : Log) → Stands s1 log → Stands s2 (and_now (plans (length s2.pending)) log)) (same2 : Same (steady m1) (steady m2)) (after : AfterPiece s2 [] s3) (shown : ShowsAll s2.pending m2 m3)
     (stands3 : (log : Log) → Stands s2 log → Stands s3 (record log { events = showing s2.pending log.events })) where
-  history_is : m3.history ≡ hist (showing s2.pending (plans (length s2.pending) ∷ appends values ∷ h.log.events))
+  abbrev events : List Happening
+  events = behind_flush s2.pending app.early values h.log.events
+
+  hist_is : hist events ≡ (hist h.log.events ++ app.early) ++ s2.pending
+  hist_is = hist_showing s2.pending (plans (length s2.pending) ∷ behind_append app.early values h.log.events) ∙ ap (λ (ws : List Write). ws ++ s2.pending) (hist_showing app.early (appends values ∷ h.log.events))
+
+  history_is : m3.history ≡ hist events
   history_is =
       shown.history
-      ∙ ap (λ (ws : List Write). ws ++ s2.pending) (some_is m2.history m1.history same2.history ∙ some_is m1.history m0.history same1.history ∙ h.history)
-      ∙ sym (hist_showing s2.pending (plans (length s2.pending) ∷ appends values ∷ h.log.events))
+      ∙ ap (λ (ws : List Write). ws ++ s2.pending) (some_is m2.history m1.history same2.history ∙ app.image.history ∙ ap (λ (ws : List Write). ws ++ app.early) h.history)
+      ∙ sym hist_is
 
-  bytes_are : m3.bytes ≡ image [] (hist (showing s2.pending (plans (length s2.pending) ∷ appends values ∷ h.log.events)))
+  bytes_are : m3.bytes ≡ image [] (hist events)
   bytes_are =
-      shown.bytes
-      ∙ ap (λ (b : List ℕ). image b s2.pending) (some_is m2.bytes m1.bytes same2.bytes ∙ some_is m1.bytes m0.bytes same1.bytes ∙ h.bytes)
-      ∙ sym (image-append [] (hist h.log.events) s2.pending)
-      ∙ ap (image []) (sym (hist_showing s2.pending (plans (length s2.pending) ∷ appends values ∷ h.log.events)))
+      let first : IsFolded m0 = h.bytes ∙ ap (image []) (sym h.history) in
+      folded_shown s2.pending m2 m3 shown (folded_same m1 m2 same2 (folded_shown app.early m0 m1 app.image first)) ∙ ap (image []) history_is
 
   dataset_is : s3.dataset ≡ of_rows (length (values_of bs ++ values))
   dataset_is =
-      let columns : s0.dataset.shape.cols ≡ 1 = ap (λ (d : Described). d.shape.cols) h.dataset in
+      let adds = app.adds in
       let rows : s0.dataset.shape.rows ≡ length (values_of bs) = ap (λ (d : Described). d.shape.rows) h.dataset in
-      let whole : length values / s0.dataset.shape.cols ≡ length values = ap (λ (c : ℕ). length values / c) columns ∙ (let e : length values / 1 ≡ length values = omega arith in e) in
-      let all : rows_of (with_values s0 values) ≡ length (values_of bs ++ values) = omega (arith, rows, whole, h.waits, length-append (values_of bs) values) in
-      let named : IsNamed s1.dataset = subst (λ (x : Session). IsNamed x.dataset) (sym added) (shown_laws.named s0 h.log h.stands (is_new h.log h.is)) in
-      (all_shown s2 s3 after).dataset ∙ takes_named s1 s2 takes named ∙ ap (λ (x : Session). with_rows (rows_of x) x.dataset) added
+      let all : rows_of (with_values s0 values) ≡ length (values_of bs ++ values) = omega (arith, rows, new_rows bs values s0 s1 m0 h adds, h.waits, length-append (values_of bs) values) in
+      let named : IsNamed s1.dataset = subst (λ (x : Session). IsNamed x.dataset) (sym adds.session) (shown_laws.named s0 h.log h.stands (is_new h.log h.is)) in
+      (all_shown s2 s3 after).dataset ∙ takes_named s1 s2 takes named ∙ ap (λ (x : Session). with_rows (rows_of x) x.dataset) adds.session
       ∙ ap (λ (d : Described). with_rows (rows_of (with_values s0 values)) d) h.dataset ∙ ap of_rows all
 
-  loads_are : spent (cutting_of s3) (record (h.log) { events = showing s2.pending (plans (length s2.pending) ∷ appends values ∷ h.log.events) }) ≤ suc (length bs) * 700000
+  loads_are : spent (cutting_of s3) (record (h.log) { events = events }) ≤ suc (length bs) * 700000
   loads_are =
-      let es = showing s2.pending (plans (length s2.pending) ∷ appends values ∷ h.log.events) in
-      let log = record (h.log) { events = es } in
+      let log = record (h.log) { events = events } in
+      let behind = log_behind bs values s0 s1 m0 m1 taken h app in
       let cut : cutting_of s3 ≡ cutting = ap (λ (d : Described). record { chunk_rows = d.layout.chunk_rows; chunk_columns = d.layout.chunk_cols; columns = d.shape.cols; value_size = d.int_type.size }) dataset_is in
-      let one : load cutting (and_now (appends values) h.log) ≤ 346000 = batch_load bs s0 m0 values h taken in
-      let before : spent_in cutting log h.log.events ≡ spent cutting h.log = spent_in-events cutting h.log es h.log.events in
-      let old : spent cutting h.log ≤ length bs * 700000 = subst (λ (c : Cutting). spent c h.log ≤ length bs * 700000) (cut_alike bs s0 m0 h) h.loads in
-      let is : spent cutting log ≡ spent_in cutting log h.log.events + load cutting (and_now (appends values) h.log) + load cutting (and_now (appends values) h.log) =
-      spent_showing cutting log s2.pending (plans (length s2.pending) ∷ appends values ∷ h.log.events) in
-      subst (λ (c : Cutting). spent c log ≤ suc (length bs) * 700000) (sym cut) (omega (arith, is, one, before, old))
+      let is : spent cutting log ≡ spent_in cutting log behind.events + load cutting behind = spent_showing cutting log s2.pending (plans (length s2.pending) ∷ behind.events) in
+      let before : spent_in cutting log behind.events ≡ spent cutting behind = spent_in-events cutting behind events behind.events in
+      subst (λ (c : Cutting). spent c log ≤ suc (length bs) * 700000) (sym cut)
+      (omega (arith, is, before, spent_behind bs values s0 s1 m0 m1 taken h app, flush_load bs values s0 s1 m0 m1 taken h app))
 
   pub batch_after : IsAfter (values ∷ bs) s3 m3
   batch_after =
-      let es = showing s2.pending (plans (length s2.pending) ∷ appends values ∷ h.log.events) in
       let facts = all_shown s2 s3 after in
+      let adds = app.adds in
       record {
-        log = record (h.log) { events = es };
-        stands = stands3 (and_now (plans (length s2.pending)) (and_now (appends values) h.log)) (stands2 (and_now (appends values) h.log) (stands1 h.log h.stands));
-        is = ap (λ (l : Log). record l { events = es }) h.is;
-        batches = (h.log.events, h.batches, record { pieces = s2.pending; is = refl });
+        log = record (h.log) { events = events };
+        stands =
+            let behind = log_behind bs values s0 s1 m0 m1 taken h app in
+            stands3 (and_now (plans (length s2.pending)) behind) (stands2 behind (app.stands h.log h.stands));
+        is = ap (λ (l : Log). record l { events = events }) h.is;
+        batches = (h.log.events, h.batches, record { early = app.early; pieces = s2.pending; is = refl });
         history = history_is;
         bytes = bytes_are;
-        name = facts.name ∙ takes.name ∙ ap (λ (x : Session). x.name) added ∙ h.name;
+        name = facts.name ∙ takes.name ∙ ap (λ (x : Session). x.name) adds.session ∙ h.name;
         dataset = dataset_is;
-        limit = facts.limit ∙ takes.limit ∙ ap (λ (x : Session). x.places.limit) added ∙ h.limit;
+        limit = facts.limit ∙ takes.limit ∙ adds.limit ∙ h.limit;
         waits = facts.waits ∙ takes.waits;
         pending = facts.pending;
-        going = facts.stopped ∙ takes.stopped ∙ ap (λ (x : Session). x.stopped) added ∙ h.going;
-        begun = omega (arith, h.begun, ap length (hist_showing s2.pending (plans (length s2.pending) ∷ appends values ∷ h.log.events)), length-append (hist h.log.events) s2.pending);
+        no_flush = facts.no_flush;
+        going = facts.stopped ∙ takes.stopped ∙ ap (λ (x : Session). x.stopped) adds.session ∙ h.going;
+        begun = omega (arith, h.begun, ap length hist_is, length-append (hist h.log.events ++ app.early) s2.pending, length-append (hist h.log.events) app.early);
         loads = loads_are;
       }
 
@@ -266,6 +326,7 @@ created_after s t m n o made stood empty same after shown stands =
       limit = facts.limit ∙ ap (λ (x : Session). x.places.limit) is;
       waits = facts.waits ∙ ap (λ (x : Session). x.waits) is;
       pending = facts.pending;
+      no_flush = facts.no_flush;
       going = facts.stopped ∙ ap (λ (x : Session). x.stopped) is;
       begun = omega arith;
       loads = omega arith;
@@ -295,12 +356,16 @@ shows_first s m some room = record {
 }
 
 -- one piece after another
+settles_onward : (b : Bool) (s : Session) (ws : List Write) (t : Session) → Settles b (record s { pending = ws }) t → Settles b s t
+settles_onward true s ws t settles = settles
+settles_onward false s ws t is = is
+
 onward : (s : Session) (w : Write) (ws vs : List Write) (t : Session) → AfterPiece (record s { pending = w ∷ ws }) vs t → AfterPiece s vs t
-onward s w ws [] t after = after
+onward s w ws [] t after = settles_onward s.flushing s (w ∷ ws) t after
 onward s w ws (v ∷ vs) t after = after
 
 pub after_pending : (s t : Session) (ws : List Write) → AfterPiece s ws t → t.pending ≡ ws
-after_pending s t [] after = ap (λ (x : Session). x.pending) after.1
+after_pending s t [] after = (all_shown s t after).pending
 after_pending s t (w ∷ ws) after = ap (λ (x : Session). x.pending) after
 
 pub shows_next : (s t u : Session) (m n o : MemView) (w : Write) (ws : List Write) → Showing s t m n → t.pending ≡ w ∷ ws → AfterPiece t ws u → Wrote (w ∷ []) (steady n) (steady o)
@@ -346,6 +411,26 @@ pub no_piece : (ws : List Write) → None ≡ slice_get ws 0 → ws ≡ []
 no_piece [] none = refl
 no_piece (w ∷ ws) none = cc
 
+-- ---- Pieces that were written early
+
+-- where there are none the log stays
+pub none_stands : (s : Session) → s.pending ≡ [] → (log : Log) → Stands s log → Stands s (record log { events = showing s.pending log.events })
+none_stands s none log stood = subst (λ (ws : List Write). Stands s (record log { events = showing ws log.events })) (sym none) stood
+
+-- an append, and its early pieces
+pub early_shown : (s t u : Session) (m n o : MemView) (values : List ℤ) → AddsValues s values t → Same (steady m) (steady n) → ((log : Log) → Stands s log → Stands t (and_now (appends values) log))
+    → u ≡ record t { pending = [] } → ShowsAll t.pending n o → ((log : Log) → Stands t log → Stands u (record log { events = showing t.pending log.events })) → IsAppended values s u m o
+early_shown s t u m n o values adds same stands1 is shown stands2 = record {
+  early = t.pending;
+  adds = subst (AddsValues s values) (sym is) (record { session = ap (λ (x : Session). record x { pending = [] }) adds.session; limit = adds.limit; rises = adds.rises });
+  idle = ap (λ (x : Session). x.pending) is;
+  image = record {
+    bytes = shown.bytes ∙ ap (λ (b : List ℕ). image b t.pending) (some_is n.bytes m.bytes same.bytes);
+    history = shown.history ∙ ap (λ (ws : List Write). ws ++ t.pending) (some_is n.history m.history same.history);
+  };
+  stands = λ log stood. stands2 (and_now (appends values) log) (stands1 log stood);
+}
+
 -- ---- The close
 
 low_bit : (flags : ℕ) → cleared flags % 2 ≡ 0
@@ -374,7 +459,8 @@ closed_after bs s t u m n o h same is stands1 after shown stands2 =
           ∙ ap (λ (ws : List Write). image [] (hist h.log.events ++ ws)) pending;
       name = facts.name ∙ ap (λ (x : Session). x.name) is ∙ h.name;
       stopped = facts.stopped ∙ ap (λ (x : Session). x.stopped) is;
-      committed = ap (λ (x : Session). x.committed) after.1 ∙ ap (λ (x : Session). x.dataset.shape.rows) is ∙ ap (λ (d : Described). d.shape.rows) h.dataset;
+      committed =
+          ap (λ (x : Session). x.committed) (still_shown t u (ap (λ (x : Session). x.flushing) is ∙ h.no_flush) after) ∙ ap (λ (x : Session). x.committed) is ∙ all_committed bs s m h;
       begun = omega (arith, h.begun, length-append (hist h.log.events) (w ∷ []));
       limit = facts.limit ∙ ap (λ (x : Session). x.places.limit) is ∙ h.limit;
     }

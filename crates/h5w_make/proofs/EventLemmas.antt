@@ -23,7 +23,10 @@ spent_showing c log (w ∷ ws) es = spent_showing c log ws (shows w ∷ es)
 pub appended_batches : (bs : List (List ℤ)) (es : List Happening) → AreBatches bs es → appended_in es ≡ values_of bs
 appended_batches [] es is = ap appended_in is ∙ appended_showing (created_writes new_file) []
 appended_batches (b ∷ bs) es h =
-    ap appended_in h.2.is ∙ appended_showing h.2.pieces (plans (length h.2.pieces) ∷ appends b ∷ h.0) ∙ ap (λ (vs : List ℤ). vs ++ b) (appended_batches bs h.0 h.1)
+    ap appended_in h.2.is
+    ∙ appended_showing h.2.pieces (plans (length h.2.pieces) ∷ showing h.2.early (appends b ∷ h.0))
+    ∙ appended_showing h.2.early (appends b ∷ h.0)
+    ∙ ap (λ (vs : List ℤ). vs ++ b) (appended_batches bs h.0 h.1)
 
 -- the loads of some events, by what a log has else
 pub spent_in-events : (c : Cutting) (log : Log) (other es : List Happening) → spent_in c (record log { events = other }) es ≡ spent_in c log es

@@ -33,10 +33,11 @@ abbrev pub showing : List Write → List Happening → List Happening
 showing [] es = es
 showing (w ∷ ws) es = showing ws (shows w ∷ es)
 
--- Values were appended, a flush planned some pieces, and each of them became visible.
+-- Values were appended, some pieces that were written early became visible, a flush planned others, and each of them became visible.
 pub record IsBatch (values : List ℤ) (before after : List Happening) : Type 0 where
+  pub early : List Write
   pub pieces : List Write
-  pub is : after ≡ showing pieces (plans (length pieces) ∷ appends values ∷ before)
+  pub is : after ≡ showing pieces (plans (length pieces) ∷ showing early (appends values ∷ before))
 
 -- The pieces of a creation became visible, and then these batches followed one another, the last of them first.
 abbrev pub AreBatches : List (List ℤ) → List Happening → Type 0

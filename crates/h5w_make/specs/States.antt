@@ -1,8 +1,8 @@
 -- A session that makes a file, and its image, between two batches.
-use Rattle.std.specs.Prelude.{◌≡◌, ◌+◌, ◌*◌, ◌^◌, ◌≤◌, false, true, List, [], ◌++◌, length, None, ℤ}
+use Rattle.std.specs.Prelude.{◌≡◌, ◌+◌, ◌*◌, ◌^◌, ◌≤◌, false, true, List, [], ◌∷◌, ◌++◌, length, None, ℤ}
 use Rattle.h5w_model.specs.Images.{image}
 use Rattle.h5w_model.specs.Lawful.{first_outside}
-use Rattle.h5w_model.specs.Logs.{Log, hist, spent}
+use Rattle.h5w_model.specs.Logs.{Log, appends, hist, spent}
 use Rattle.h5w_model.specs.declared.piece.Write.{Write}
 use Rattle.h5w_image.specs.Memory.{MemView}
 use Rattle.h5w_space.specs.declared.Full.{Full}
@@ -10,9 +10,9 @@ use Rattle.h5w_session.specs.Loads.{NoPlace}
 use Rattle.h5w_creation_laws.specs.CreatedFiles.{described_of}
 use Rattle.h5w_session.specs.Creations.{log_of}
 use Rattle.h5w_session.specs.Past.{IsNew}
-use Rattle.h5w_session.specs.Sessions.{Session, cutting_of, with_rows}
+use Rattle.h5w_session.specs.Sessions.{AddsValues, Session, cutting_of, with_rows}
 use Rattle.h5w_session.specs.Stands.{Stands}
-use Rattle.h5w_make.specs.Commands.{AreBatches, AreClosed, data_name, new_file, values_of}
+use Rattle.h5w_make.specs.Commands.{AreBatches, AreClosed, data_name, new_file, showing, values_of}
 
 -- All pieces of these batches are visible: the image is that of the session's log, and nothing is pending or waits.
 pub record IsAfter (bs : List (List ℤ)) (s : Session) (m : MemView) : Type 0 where
@@ -27,6 +27,7 @@ pub record IsAfter (bs : List (List ℤ)) (s : Session) (m : MemView) : Type 0 w
   pub limit : s.places.limit ≡ 2 ^ 40
   pub waits : s.waits ≡ 0
   pub pending : s.pending ≡ []
+  pub no_flush : s.flushing ≡ false
   pub going : s.stopped ≡ false
   pub begun : 5 ≤ length (hist log.events)
   pub loads : spent (cutting_of s) log ≤ length bs * 700000
@@ -65,3 +66,11 @@ HasPlace s = (log : Log) × Stands s log × IsNew log × ((full : Full) → NoPl
 pub record ShowsAll (ws : List Write) (old new : MemView) : Type 0 where
   pub bytes : new.bytes ≡ image old.bytes ws
   pub history : new.history ≡ old.history ++ ws
+
+-- Values were appended, and the pieces that were written early became visible, so that nothing is pending.
+pub record IsAppended (values : List ℤ) (s t : Session) (m n : MemView) : Type 0 where
+  pub early : List Write
+  pub adds : AddsValues s values t
+  pub idle : t.pending ≡ []
+  pub image : ShowsAll early m n
+  pub stands : (log : Log) → Stands s log → Stands t (record log { events = showing early (appends values ∷ log.events) })

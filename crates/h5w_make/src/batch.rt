@@ -1,18 +1,18 @@
 //! A session in memory that creates a file, takes batches of values, and closes it.
-ghost use Rattle.std.specs.Prelude.{◌≡◌, ◌∷◌, ◌<◌, ◌^◌, ◌≤◌, [], List, ℤ, length, IfOk, OnOk};
+ghost use Rattle.std.specs.Prelude.{◌≡◌, ◌∷◌, ◌<◌, ◌^◌, ◌≤◌, [], false, List, ℤ, length, IfOk, OnOk};
 ghost use Rattle.h5w_model.specs.Images.{image};
-ghost use Rattle.h5w_model.specs.Logs.{Log, and_now, appends, hist, plans};
+ghost use Rattle.h5w_model.specs.Logs.{Log, and_now, hist, plans};
 ghost use Rattle.h5w_options.specs.Options.{AreOptions};
 ghost use Rattle.h5w_image.specs.Memory.{fresh};
 ghost use Rattle.h5w_image.specs.View.{Same};
 ghost use Rattle.h5w_session.specs.Creations.{new_file as file_of};
 ghost use Rattle.h5w_session.specs.Refusals.{append_refusal, flush_refusal};
 ghost use Rattle.h5w_session.specs.Room.{HasRoomFor};
-ghost use Rattle.h5w_session.specs.Sessions.{AfterPiece, AreRows, Session, TakesRows, with_values};
+ghost use Rattle.h5w_session.specs.Sessions.{AfterPiece, AreRows, Session, TakesRows};
 ghost use Rattle.h5w_session.specs.Stands.{Stands};
 ghost use Rattle.h5w_steady.specs.Steady.{steady};
 ghost use Rattle.h5w_make.specs.Commands.{batches, new_file, showing};
-ghost use Rattle.h5w_make.specs.States.{HasPlace, IsAfter, IsClosed, IsTaken, TakesBatch, ShowsAll};
+ghost use Rattle.h5w_make.specs.States.{HasPlace, IsAfter, IsAppended, IsClosed, IsTaken, TakesBatch, ShowsAll};
 
 use crate::seeded::generator;
 use h5w_model::{Bytes, OutOfMemory};
@@ -45,6 +45,7 @@ fn options(alloc: Global) -> Result<Options, OutOfMemory>
         fixed: false,
         fill: None,
         limit: 1 << 40,
+        budget: 1 << 16,
     })
 }
 
@@ -75,20 +76,35 @@ fn create(alloc: Global, image: &mut SteadyImage) -> Result<WriterCore, OutOfMem
     Ok(session)
 }
 
-/// Appends values that are not refused.
+/// Makes the pieces visible that an append wrote early, where there are some.
+fn show_early(session: &mut WriterCore, image: &mut SteadyImage)
+    requires no_flush { session.old.flushing ≡ false }
+    requires room { HasRoomFor session.old (steady image.old) }
+    ensures session { session.new ≡ record session.old { pending = [] } }
+    ensures image { ShowsAll session.old.pending image.old image.new }
+    ensures stands { (log : Log) → Stands session.old log → Stands session.new (record log { events = showing session.old.pending log.events }) }
+{
+    if session.pending() > 0 {
+        show_all(session, image);
+    }
+}
+
+/// Appends values that are not refused, and makes the pieces visible that were written early.
 fn append(
     session: &mut WriterCore,
     image: &mut SteadyImage,
     values: &[i128],
 ) -> Result<(), OutOfMemory>
     requires rows { AreRows session.old values.now }
+    requires no_flush { session.old.flushing ≡ false }
     requires taken { append_refusal session.old values.now ≡ None }
-    ensures added { OnOk result (session.new ≡ with_values session.old values.now) }
-    ensures stands { OnOk result ((log : Log) → Stands session.old log → Stands session.new (and_now (appends values.now) log)) }
-    ensures image { Same (steady image.old) (steady image.new) }
+    ensures { OnOk result (IsAppended values.now session.old session.new image.old image.new) }
 {
     match session.append(values, image) {
-        Ok(_) => Ok(()),
+        Ok(_) => {
+            show_early(session, image);
+            Ok(())
+        }
         Err(AppendError::OutOfMemory) => Err(OutOfMemory),
         Err(_) => unreachable!(),
     }
@@ -112,7 +128,7 @@ fn flush(session: &mut WriterCore, image: &mut SteadyImage) -> Result<(), OutOfM
     }
 }
 
-/// Appends a batch, flushes it, and makes all its pieces visible.
+/// Appends a batch, flushes it, and makes all its pieces visible: those that were written early before the flush.
 fn put_batch(
     session: &mut WriterCore,
     image: &mut SteadyImage,

@@ -37,6 +37,7 @@ pub record Rules : Type 0 where
   pub int_type : IntTypeFields
   pub chunk_limit : ℕ
   pub space_limit : ℕ
+  pub budget : ℕ
   pub attempts : ℕ
 
 pub data CallKind : Type 0 where
@@ -101,11 +102,24 @@ fitting_reply g all =
     then replies.FullChunks (needed_chunks g.cutting (rows_in g all)) g.chunk_limit
     else replies.Appended (rows_in g all) 0
 
+-- what an append is answered if no piece is written before its flush
 abbrev pub append_reply : Rules → ScriptState → List ℤ → Reply
 append_reply g s vs =
     if s.stopped then replies.Stopped
     else if nat_lt 0 s.pending then replies.Busy s.pending
     else elim (first_outside g.int_type 0 vs) [ Some x ↦ replies.OutOfRange x.0 x.1 | None ↦ fitting_reply g (s.appended ++ vs) ]
+
+-- Some of the rows that wait are written before their flush: the load is past the budget, and bounds the pieces.
+pub record IsEarly (g : Rules) (s : ScriptState) (vs : List ℤ) (reply : Reply) : Type 0 where
+  pub pieces : ℕ
+  pub accepted : append_reply g s vs ≡ replies.Appended (rows_in g (s.appended ++ vs)) 0
+  pub is : reply ≡ replies.Appended (rows_in g (s.appended ++ vs)) pieces
+  pub some : 1 ≤ pieces
+  pub bound : pieces ≤ load_of g s (s.appended ++ vs)
+  pub over : g.budget < load_of g s (s.appended ++ vs)
+
+abbrev pub AppendAllowed : Rules → ScriptState → List ℤ → Reply → Type 0
+AppendAllowed g s vs reply = (reply ≡ append_reply g s vs) ⊎ IsEarly g s vs reply
 
 -- there is no place of that size
 pub record IsFull (g : Rules) (s : ScriptState) (reply : Reply) : Type 0 where
@@ -199,7 +213,7 @@ LookAllowed g s r k (Some x) reply = CallAllowed g s r x k x.call reply
 
 -- a reply that a line may be given
 abbrev pub Allowed : Rules → ScriptState → Line → Reply → Type 0
-Allowed g s (adds vs) reply = reply ≡ append_reply g s vs
+Allowed g s (adds vs) reply = AppendAllowed g s vs reply
 Allowed g s flushes reply = FlushAllowed g s reply
 Allowed g s (shows_up_to k) reply = reply ≡ replies.Written (min k s.pending) (s.pending - min k s.pending)
 Allowed g s ends reply = reply ≡ replies.Stopped
@@ -254,7 +268,8 @@ on_reader s r f = elim (reader_in r s.readers) [ None ↦ s | Some x ↦ with_re
 
 -- the state after a line that was given a reply
 abbrev pub next_state : Rules → ScriptState → Line → Reply → ScriptState
-next_state g s (adds vs) (replies.Appended rows pending) = record s { appended = s.appended ++ vs; spent = s.spent + load_of g s (s.appended ++ vs) }
+next_state g s (adds vs) (replies.Appended rows pending) =
+    record s { appended = s.appended ++ vs; pending = pending; ends_flush = false; spent = s.spent + load_of g s (s.appended ++ vs) }
 next_state g s flushes (replies.Flushing pieces) =
     record s { pending = pieces; ends_flush = nat_lt 0 pieces; spent = s.spent + load_of g s s.appended }
 next_state g s (shows_up_to k) (replies.Written pieces pending) = after_shows g s pieces

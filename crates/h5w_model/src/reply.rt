@@ -3,7 +3,7 @@ use crate::memory::Values;
 /// What is answered to an event. Rows, pieces and chunks are counted; places and sizes are in bytes.
 #[derive(Debug, Drop)]
 pub enum Reply {
-    /// The rows appended in all, and the pieces that are pending.
+    /// The rows appended in all, and the pieces that are pending: those that this append wrote before their flush.
     Appended {
         rows: u64,
         pending: u64,
@@ -17,7 +17,7 @@ pub enum Reply {
         pieces: u64,
         pending: u64,
     },
-    /// Pieces are pending.
+    /// Pieces are pending, of a flush or of an append.
     Busy {
         pending: u64,
     },

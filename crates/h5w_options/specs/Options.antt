@@ -59,6 +59,8 @@ pub record AreOptions (o : Options) : Type 0 where
   pub filled : IfSome o.fill (HasValue (int_type_of o.int_type))
   pub limit_low : 1024 ≤ o.limit
   pub limit_high : o.limit ≤ 2 ^ 40
+  pub budget_low : 1024 ≤ o.budget
+  pub budget_high : o.budget ≤ 2 ^ 30
 
 -- the attempts of a reader's call
 pub record AreAttempts (attempts : ℕ) : Type 0 where

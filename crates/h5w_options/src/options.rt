@@ -19,4 +19,6 @@ pub struct Options {
     pub fill: Option<i128>,
     /// The most bytes of the file, 1,024 to 2^40.
     pub limit: u64,
+    /// The most bytes of chunks and headers that may wait unwritten after an append, 1,024 to 2^30.
+    pub budget: u64,
 }

@@ -1,5 +1,6 @@
 -- What the code of a flush shows, in its own words.
-use Rattle.std.proofs.Common.{◌≡◌, ℕ, ◌+◌, ◌*◌, ◌^◌, ◌<◌, ◌≤◌, List, [], ◌∷◌, ◌++◌, length, Option, Some, None, IsSome, Result, Err, refl, ap, sym, ◌∙◌, subst, arith, inl, inr, length-append}
+use Rattle.std.proofs.Common.{◌≡◌, ℕ, ◌+◌, ◌*◌, ◌^◌, ◌<◌, ◌≤◌, true, List, [], ◌∷◌, ◌++◌, length, Option, Some, None, IsSome, Result, Err, refl, ap, sym, ◌∙◌, subst, arith, inl, inr, length-append}
+use Rattle.std.proofs.lemmas.Bool.{cases_lt}
 use Rattle.std.proofs.lemmas.Nat.{mul-le}
 use Rattle.h5w_model.specs.Logs.{div_up}
 use Rattle.h5w_model.specs.Tables.{chunks_across}
@@ -11,22 +12,26 @@ use Rattle.h5w_model.specs.declared.piece.Write.{Write}
 use Rattle.h5w_space.specs.Space.{Space}
 use Rattle.h5w_space.specs.declared.Full.{Full}
 use Rattle.h5w_cache.specs.declared.moves.Move.{Move}
-use Rattle.h5w_chunks.specs.Grids.{fill_cell}
+use Rattle.h5w_chunks.specs.Grids.{IsCut, fill_cell}
 use Rattle.h5w_chunks.specs.Rows.{RowsWritten}
-use Rattle.h5w_chunks.specs.Shares.{first_line, new_writes, touched}
+use Rattle.h5w_chunks.specs.Shares.{first_line, touched}
 use Rattle.h5w_chunks.specs.declared.grid.ChunkPlace.{ChunkPlace}
+use Rattle.h5w_chunks.proofs.Geometry.{lt_up}
+use Rattle.h5w_flush_laws.specs.EarlyRows.{IsEarlyPlace}
 use Rattle.h5w_flush_laws.specs.Parts.{AreEnded}
 use Rattle.h5w_model.proofs.HeaderLemmas.{messages_at-ok}
 use Rattle.h5w_header_laws.proofs.CommitLaws.{rows_place_is, rows_there}
 use Rattle.h5w_visits.specs.Ranges as ranges
-use Rattle.h5w_index.specs.Views.{IndexView, TakesKey}
+use Rattle.h5w_index.specs.Views.{IndexView, TakesKey, address_in}
 use Rattle.h5w_index.specs.Blocks.{has_no_block}
 use Rattle.h5w_index.specs.Steps.{IsPlan}
 use Rattle.h5w_index.specs.Told.{HeldTold}
-use Rattle.h5w_index.specs.Placing.{IsPartly, IsPlacing}
+use Rattle.h5w_index.specs.Naming.{AreNamed, AreTakenBehind}
+use Rattle.h5w_index.specs.Placing.{IsPartly}
 use Rattle.h5w_index.proofs.PlacingLemmas.{placing_laws}
-use Rattle.h5w_session.specs.Sessions.{ArePieces, IsRoomy, IsSession, IsWritable, Session, most_lines, option_list, rows_of, with_rows, IsWhole}
-use Rattle.h5w_session.specs.Flushes.{ArePlanned, IsFlushed, SameBut, flushed_of, header_piece}
+use Rattle.h5w_session.specs.Sessions.{ArePieces, IsRoomy, IsSession, IsUnmade, IsWhole, IsWritable, Session, bands_of, most_lines, next_row, option_list, rows_of, with_rows}
+use Rattle.h5w_session.specs.Early.{next_places}
+use Rattle.h5w_session.specs.Flushes.{ArePlanned, IsFlushed, SameBut, flushed_of, header_piece, writes_behind}
 use Rattle.h5w_session.specs.declared.refusal.FlushError.{FlushError}
 use Rattle.h5w_session.specs.declared.refusal.FlushError.TheVariants as errors
 use Rattle.h5w_session.proofs.HeaderAlone.{never, same_block}
@@ -49,19 +54,33 @@ pub record AsksFor (v : Session) (to : ℕ) : Type 0 where
 pub asks_for : (v : Session) (to : ℕ) → IsSession v → to ≡ rows_of v → AsksFor v to
 asks_for v to is e = subst (AsksFor v) (sym e) (record { few = chunks_few v is; takes = takes_keys v is; lines = lines_few v is })
 
--- the values that wait are as many as fit in memory
-pub values_few : (v : Session) (most : ℕ) → IsSession v → 1 ≤ v.dataset.int_type.size → length v.waiting < most → v.waits * v.dataset.shape.cols < most
-values_few v most is some few =
-    let cols = v.dataset.shape.cols in
-    let size = v.dataset.int_type.size in
-    let one : v.waits * cols * 1 ≤ v.waits * cols * size = mul-le (v.waits * cols) 1 (v.waits * cols) size (omega arith) some in
-    let split : v.waits * (cols * size) ≡ v.waits * cols * size = omega arith in
-    omega (arith, is.cells, one, split, few)
+-- so many have no more than their parts
+within_parts : (n part : ℕ) → 0 < part → n ≤ div_up n part * part
+within_parts n part some = elim (cases_lt (div_up n part * part) n) [
+  | inl past ↦ absurd (omega (arith, lt_up (div_up n part) n part some past))
+  | inr h ↦ h
+]
+
+-- the values of the rows that wait are few, as their chunks are
+pub values_few : (v : Session) → IsSession v → IsCut v.dataset → v.waits * v.dataset.shape.cols < 2 ^ 64
+values_few v is cut =
+    let d = v.dataset in
+    let R = d.layout.chunk_rows in
+    let C = d.layout.chunk_cols in
+    let across = chunks_across d in
+    let rows : v.waits ≤ bands_of v * R = omega (arith, within_parts (rows_of v) R cut.rows) in
+    let columns : d.shape.cols ≤ across * C = within_parts d.shape.cols C cut.cols in
+    let all : v.waits * d.shape.cols ≤ (bands_of v * R) * (across * C) = mul-le v.waits d.shape.cols (bands_of v * R) (across * C) rows columns in
+    let same : (bands_of v * R) * (across * C) ≡ (bands_of v * across) * (R * C) = grind arith in
+    let cells : (bands_of v * across) * (R * C) ≤ 1000000 * (R * C) = mul-le (bands_of v * across) (R * C) 1000000 (R * C) (chunks_few v is) (omega arith) in
+    let bytes : (R * C) * 1 ≤ (R * C) * d.int_type.size = mul-le (R * C) 1 (R * C) d.int_type.size (omega arith) cut.some in
+    omega (arith, all, same, cells, bytes, cut.small)
 
 -- ---- What its calls make
 
--- the calls, of a session v, up to row `to`; r, b and e are the superblock, the header and the cells that wait then
-pub record Carried (v : Session) (to : ℕ) (t : Space) (w : IndexView) (ws : List Write) (r : Super) (b e : List ℕ) : Type 0 where
+-- the calls, of a session v, up to row `to`; r, b and e are the superblock, the header and the cells that wait then, n and k the number of
+-- early rows and the places of their chunks
+pub record Carried (v : Session) (to : ℕ) (t : Space) (w : IndexView) (ws : List Write) (r : Super) (b e : List ℕ) (n : ℕ) (k : List ChunkPlace) : Type 0 where
   pub there : IsWhole v
   pub some : 0 < v.waits
   pub to_is : to ≡ rows_of v
@@ -74,14 +93,19 @@ pub record Carried (v : Session) (to : ℕ) (t : Space) (w : IndexView) (ws : Li
   pub named : IndexView
   pub places : Space
   pub places_are : places ≡ v.places
-  pub placing : IsPlacing v.dataset to v.index places chunks added named between
+  pub names : AreNamed v.dataset to v.index chunks added named
+  pub early : List ChunkPlace
+  pub early_are : early ≡ v.chunks
+  pub taken : AreTakenBehind v.dataset (λ key. address_in v.index key) early places chunks between
   pub all : length chunks ≡ touched v.dataset v.dataset.shape.rows to
   pub roomy : IsRoomy v.dataset v.index → IsRoomy v.dataset named
   pub cells : List ℕ
   pub cells_are : cells ≡ v.waiting
   pub rows : List Write
-  pub exact : rows ≡ new_writes v.dataset cells v.dataset.shape.rows to chunks
-  pub written : RowsWritten v.dataset cells v.dataset.shape.rows to chunks rows
+  pub mid : ℕ
+  pub mid_is : mid ≡ next_row v
+  pub exact : rows ≡ writes_behind v.dataset cells v.dataset.shape.rows mid to chunks
+  pub written : mid < to → RowsWritten v.dataset cells mid to (next_places v.dataset v.dataset.shape.rows mid chunks) rows
   pub moves : List Move
   pub copies : List Write
   pub fixed : List Write
@@ -99,10 +123,14 @@ pub record Carried (v : Session) (to : ℕ) (t : Space) (w : IndexView) (ws : Li
   pub items : ws ≡ rows ++ (copies ++ (supers ++ (fixed ++ record { at = v.place; piece = piece } ∷ [])))
   pub header_short : length v.header ≤ 512
   pub none_waits : e ≡ []
+  pub none_early : n ≡ 0
+  pub no_chunks : k ≡ []
 
-module _ (v : Session) (to : ℕ) (t : Space) (w : IndexView) (ws : List Write) (r : Super) (b e : List ℕ) (x : Carried v to t w ws r b e) (is : IsSession v) where
+module _ (v : Session) (to : ℕ) (t : Space) (w : IndexView) (ws : List Write) (r : Super) (b e : List ℕ) (n : ℕ) (k : List ChunkPlace) (x : Carried v to t w ws r b e n k) (is : IsSession v) where
   carried_planned : ArePlanned v v.index v.places w t
   carried_planned =
+      let d = v.dataset in
+      let from = d.shape.rows in
       let rows = rows_of v in
       record {
         fits = is.fits;
@@ -115,15 +143,21 @@ module _ (v : Session) (to : ℕ) (t : Space) (w : IndexView) (ws : List Write) 
         added = x.added;
         named = x.named;
         between = x.between;
-        placing =
-            subst (λ (s : Space). IsPlacing v.dataset rows v.index s x.chunks x.added x.named x.between) x.places_are
-            (subst (λ (n : ℕ). IsPlacing v.dataset n v.index x.places x.chunks x.added x.named x.between) x.to_is x.placing);
-        all = subst (λ (n : ℕ). length x.chunks ≡ touched v.dataset v.dataset.shape.rows n) x.to_is x.all;
+        names = subst (λ (row : ℕ). AreNamed d row v.index x.chunks x.added x.named) x.to_is x.names;
+        taken =
+            subst (λ (s : Space). AreTakenBehind d (λ key. address_in v.index key) v.chunks s x.chunks x.between) x.places_are
+            (subst (λ (early : List ChunkPlace). AreTakenBehind d (λ key. address_in v.index key) early x.places x.chunks x.between) x.early_are x.taken);
+        all = subst (λ (row : ℕ). length x.chunks ≡ touched d from row) x.to_is x.all;
         rows = x.rows;
-        exact = x.exact ∙ ap (λ (n : ℕ). new_writes v.dataset x.cells v.dataset.shape.rows n x.chunks) x.to_is ∙ ap (λ (c : List ℕ). new_writes v.dataset c v.dataset.shape.rows rows x.chunks) x.cells_are;
+        exact =
+            x.exact
+            ∙ ap (λ (row : ℕ). writes_behind d x.cells from x.mid row x.chunks) x.to_is
+            ∙ ap (λ (row : ℕ). writes_behind d x.cells from row rows x.chunks) x.mid_is
+            ∙ ap (λ (c : List ℕ). writes_behind d c from (next_row v) rows x.chunks) x.cells_are;
         written =
-            subst (λ (c : List ℕ). RowsWritten v.dataset c v.dataset.shape.rows rows x.chunks x.rows) x.cells_are
-            (subst (λ (n : ℕ). RowsWritten v.dataset x.cells v.dataset.shape.rows n x.chunks x.rows) x.to_is x.written);
+            subst (λ (c : List ℕ). next_row v < rows → RowsWritten d c (next_row v) rows (next_places d from (next_row v) x.chunks) x.rows) x.cells_are
+            (subst (λ (row : ℕ). row < rows → RowsWritten d x.cells row rows (next_places d from row x.chunks) x.rows) x.mid_is
+            (subst (λ (row : ℕ). x.mid < row → RowsWritten d x.cells x.mid row (next_places d from x.mid x.chunks) x.rows) x.to_is x.written));
         moves = x.moves;
         copies = x.copies;
         fixed = x.fixed;
@@ -145,15 +179,16 @@ module _ (v : Session) (to : ℕ) (t : Space) (w : IndexView) (ws : List Write) 
       x.items ∙ ap (λ (h : Write). x.rows ++ (x.copies ++ (x.supers ++ (x.fixed ++ h ∷ [])))) last
 
   abbrev carried : Session
-  carried = record v { root = r; header = b; dataset = with_rows to v.dataset; places = t; waiting = e; waits = 0; pending = ws; index = w }
+  carried = record v { root = r; header = b; dataset = with_rows to v.dataset; places = t; waiting = e; waits = 0; pending = ws; early = n; chunks = k; flushing = true; index = w }
 
   carried_after : carried ≡ flushed_of v t ws w
   carried_after =
       let rows = rows_of v in
-      let put : Super → List ℕ → ℕ → List ℕ → Session = λ s h n c. record v { root = s; header = h; dataset = with_rows n v.dataset; places = t; waiting = c; waits = 0; pending = ws; index = w } in
+      let put : Super → List ℕ → ℕ → List ℕ → ℕ → List ChunkPlace → Session = λ s h row c early places.
+      record v { root = s; header = h; dataset = with_rows row v.dataset; places = t; waiting = c; waits = 0; pending = ws; early = early; chunks = places; flushing = true; index = w } in
       let root : r ≡ record (v.root) { end = t.end } = x.root ∙ ap (λ (n : ℕ). record (v.root) { end = n }) x.end_is in
       let header : b ≡ with_rows_bytes v.header rows None = x.header ∙ ap (λ (n : ℕ). with_rows_bytes v.header n None) x.to_is in
-      λ k. put (root k) (header k) (x.to_is k) (x.none_waits k)
+      λ i. put (root i) (header i) (x.to_is i) (x.none_waits i) (x.none_early i) (x.no_chunks i)
 
   pub carried_is : IsSession carried
   unfolding carried_planned
@@ -175,6 +210,11 @@ module _ (v : Session) (to : ℕ) (u : IndexView) (to_is : to ≡ rows_of v) (p 
   partly_now : IsPartly v.dataset (rows_of v) v.index [] u
   partly_now = subst (λ (n : ℕ). IsPartly v.dataset n v.index [] u) to_is p
 
+  -- what is not there is not there before
+  lacked : HeldTold v.index u → IsUnmade (record v { index = u }) → IsUnmade v
+  lacked kept (inl none) = inl none
+  lacked kept (inr lacking) = inr (sym (same_block v.index u kept.like.fixed) ∙ lacking)
+
   pub refused_is : IsSession v → IsSession (record v { index = u })
   refused_is is =
       let kept : HeldTold v.index u = placing_laws.kept v.dataset to v.index u p in
@@ -195,6 +235,16 @@ module _ (v : Session) (to : ℕ) (u : IndexView) (to_is : to ≡ rows_of v) (p 
         inside = placing_laws.carried v.dataset v.places.end v.places.end v.index u kept.map (omega arith) is.inside;
         tops = λ whole. subst (λ us. ranges.AllEndBy v.places.end us) (sym kept.like.fixed) (is.tops (record { named = whole.named; made = sym (same_block v.index u kept.like.fixed) ∙ whole.made }));
         head = λ named lacking. is.head named (sym (same_block v.index u kept.like.fixed) ∙ lacking);
+        blank = λ lacks key. kept.map key ∙ is.blank (lacked kept lacks) key;
+        live = λ lacks. is.live (lacked kept lacks);
+        early = is.early;
+        chunks = is.chunks;
+        placed = λ k p at. subst (λ (f : Key → ℕ). IsEarlyPlace v.dataset f v.dataset.shape.rows k p) (λ i key. sym (kept.map key) i) (is.placed k p at);
+        ends = is.ends;
+        flushing = is.flushing;
+        busy = is.busy;
+        budget_low = is.budget_low;
+        budget_high = is.budget_high;
       }
 
   pub refused_same : IsWhole v → (IsRoomy v.dataset v.index → IsRoomy v.dataset u) → (s : Session) → v ≡ s → SameBut s (record v { index = u })

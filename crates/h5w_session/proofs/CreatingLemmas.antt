@@ -1,5 +1,5 @@
 -- A session that creates its file: it stands for the log without events, and each of its pieces brings it nearer to a file.
-use Rattle.std.proofs.Common.{◌≡◌, ◌≢◌, ℕ, ◌+◌, ◌*◌, ◌/◌, ◌<◌, ◌≤◌, ◌==◌, Bool, true, false, List, [], ◌∷◌, ◌++◌, length, ℤ, refl, sym, ap, ◌∙◌, subst, inl, inr, arith, length-append, append_assoc}
+use Rattle.std.proofs.Common.{◌≡◌, ◌≢◌, ℕ, ◌+◌, ◌-◌, ◌*◌, ◌/◌, ◌<◌, ◌≤◌, ◌==◌, Bool, true, false, List, [], ◌∷◌, ◌++◌, length, ℤ, refl, sym, ap, ◌∙◌, subst, inl, inr, arith, length-append, append_assoc}
 use Rattle.std.proofs.lemmas.Bool.{le-ltb, ne_eqb}
 use Rattle.std.proofs.lemmas.List.{nil_from_length}
 use Rattle.std.proofs.lemmas.Nat.{div-mul-add}
@@ -41,11 +41,13 @@ use Rattle.h5w_creation_laws.specs.CreationLaws.{WritesEndBy}
 use Rattle.h5w_creation_laws.proofs.CreatedLaws.{created_new, created_sizes}
 use Rattle.h5w_creation.specs.Made.{IsNewIndex}
 use Rattle.h5w_creation.proofs.MadeLemmas.{created_rests}
-use Rattle.h5w_session.specs.Sessions.{IsRoomy, Session, AfterPiece, AllEndBy, Freed, most_lines, rows_of}
+use Rattle.h5w_session.specs.Sessions.{IsRoomy, Session, AfterPiece, AllEndBy, Settles, most_lines, rows_of}
 use Rattle.h5w_session.specs.Creations.{IsIndexOf, IsLimit, created, log_of, places_to}
 use Rattle.h5w_session.specs.Stands.{Creating, Running, Stands}
 use Rattle.h5w_session.proofs.PastLemmas.{one_each, past_begins, past_same, some_blocks}
-use Rattle.h5w_session.proofs.StandLemmas.{freed_keeps, goes_rows, last_running, left_pending, more_running, settled, with_pending}
+use Rattle.h5w_visits.specs.Needed.{AreFew}
+use Rattle.h5w_session.proofs.EarlyLemmas.{nothing_early}
+use Rattle.h5w_session.proofs.StandLemmas.{goes_rows, last_running, last_unplanned, left_pending, more_running, settled, with_pending}
 use Rattle.h5w_session.proofs.StateLemmas.{up_few}
 
 -- ---- Before the first position
@@ -80,8 +82,8 @@ some_writes f none =
     let count : length (created_writes f) ≡ 0 = ap length none in
     absurd (omega (arith, count, one_each f, some_blocks f))
 
-pub creation_begins : (f : CreatedFile) (most : ℕ) (v : IndexView) → IsCreatable f → IsLimit most → IsIndexOf f v → Stands (created f most v) (created_log f)
-creation_begins f most v is limit index = record {
+pub creation_begins : (f : CreatedFile) (most budget : ℕ) (v : IndexView) → IsCreatable f → IsLimit most → IsIndexOf f v → Stands (created f most budget v) (created_log f)
+creation_begins f most budget v is limit index = record {
   left = created_writes f;
   dropped = inl refl;
   phase = inl (
@@ -117,17 +119,9 @@ creating_more f s w x xs log c = record {
   flushed = λ k. c.flushed (k + 1);
 }
 
--- nothing is free after nothing was retired
-none_of : (xs : List Extent) → IsPermutation [] xs → xs ≡ []
-none_of xs p = nil_from_length xs (length_permutation [] xs p)
-
-places_begin : (keep : Bool) (end most : ℕ) (t : Space) → Freed keep (places_to end most) t → (t.end ≡ end) × (t.free ≡ []) × (t.retired ≡ [])
-places_begin true end most t freed = (ap (λ (x : Space). x.end) freed, ap (λ (x : Space). x.free) freed, ap (λ (x : Space). x.retired) freed)
-places_begin false end most t freed = (freed.end, none_of t.free freed.free, freed.retired)
-
 -- a session that creates its file, with these pieces pending
-abbrev pub creating : CreatedFile → ℕ → IndexView → List Write → Bool → Bool → Session
-creating f most v ws stop keep = record (created f most v) { pending = ws; stopped = stop; keeps = keep }
+abbrev pub creating : CreatedFile → (most budget : ℕ) → IndexView → List Write → Bool → Bool → Session
+creating f most budget v ws stop keep = record (created f most budget v) { pending = ws; stopped = stop; keeps = keep }
 
 pub no_cells : (d : Described) → [] ≡ cells_of d []
 unfolding run_bytes
@@ -186,12 +180,17 @@ pub writes_end : (end : ℕ) (ws : List Write) → WritesEndBy end ws → AllEnd
 writes_end end [] all = tt
 writes_end end (w ∷ ws) all = (all.0, writes_end end ws all.1)
 
+-- so few are
+pub new_few : (f : CreatedFile) → IsCreatable f → AreFew (described_of f)
+new_few f is = le-ltb (limit_of format_limits f.index) (needed (described_of f)) (omega (arith, no_chunks f is))
+
 -- the last of them makes the file
-file_made : (f : CreatedFile) (most : ℕ) (v : IndexView) (ws : List Write) (stop keep : Bool) (w : Write) (es : List Happening) (t : Space) → IsCreatable f → IsLimit most → IsIndexOf f v → Freed keep (places_to (end_of f) most) t
-    → hist es ++ w ∷ [] ≡ created_writes f → appended_in es ≡ [] → ((k : ℕ) → flushed_in k [] es ≡ []) → Running (settled (creating f most v ws stop keep) t) [] (log_of f (shows w ∷ es))
-file_made f most v ws stop keep w es t is limit index freed pieces none_appended none_flushed =
+file_made : (f : CreatedFile) (most budget : ℕ) (v : IndexView) (ws : List Write) (stop keep : Bool) (w : Write) (es : List Happening) → IsCreatable f → IsLimit most → IsIndexOf f v
+    → hist es ++ w ∷ [] ≡ created_writes f → appended_in es ≡ [] → ((k : ℕ) → flushed_in k [] es ≡ []) → Running (with_pending (creating f most budget v ws stop keep) []) [] (log_of f (shows w ∷ es))
+file_made f most budget v ws stop keep w es is limit index pieces none_appended none_flushed =
     let next = log_of f (shows w ∷ es) in
     let m = created_moment f in
+    let t = places_to (end_of f) most in
     let img : image [] (created_writes f) ≡ image_now next = sym (ap (image []) pieces) in
     let made = created_new f is in
     let here = subst (λ (x : List ℕ). Represents x f.name m) img made.represents in
@@ -200,36 +199,39 @@ file_made f most v ws stop keep w es t is limit index freed pieces none_appended
     let some : 0 < f.columns = omega (arith, is.some_columns) in
     let prefixed : PrefixedEach f.name next = ((λ begun. reads_now f.name next m here none some refl), none_read f.name next es (omega (arith, before))) in
     let goes = begin_goes f.name next m (omega (arith, before)) here none some refl prefixed in
-    let begun = places_begin keep (end_of f) most t freed in
-    let kept = freed_keeps keep (places_to (end_of f) most) t freed in
-    let begins = subst (λ (x : List ℕ). Begins x f.name m t v) img (created_rests f t v is index.sound index.new (record { end = begun.0; none_free = begun.1; none_retired = begun.2 })) in
+    let begins = subst (λ (x : List ℕ). Begins x f.name m t v) img (created_rests f t v is index.sound index.new (record { end = refl; none_free = refl; none_retired = refl })) in
     record {
       after = m;
       address = λ key. address_in v key;
       held = [];
       runs = goes_runs f.name next m [] goes (λ k. none_flushed (k + 1));
+      rest = t;
       knows = begins.knows;
       holds = begins.held;
       keeps = record { root = refl; place = refl; dataset = refl; header = subst (λ (x : List ℕ). chunk_0 x (header_place f) ≡ spelled_header (described_of f)) img (header_kept f is) };
       index = inl begins.rests;
       marks = mark_laws.clean (described_of f) 0 0 v (new_clean f.index (index_place f) (block_place f) v index.new);
+      early = [];
+      written = nothing_early (described_of f) t (image_now next) (λ key. address_in v key) (new_few f is);
+      some = omega arith;
+      flushing = λ e. refl;
       more = [];
       waiting = no_cells (described_of f);
       fit = refl;
       count = omega arith;
       appended = sym none_appended;
       committed = goes_rows f.name next m [] goes;
+      planned = λ some e. refl;
       columns = refl;
-      past = past_begins f (settled (creating f most v ws stop keep) t) next m is refl pieces refl refl refl (record { low = omega (arith, limit.low, kept.1); high = omega (arith, limit.high, kept.1) }) kept.0
+      past = past_begins f (with_pending (creating f most budget v ws stop keep) []) next m is refl pieces refl refl refl limit refl
           (writes_end (end_of f) (created_writes f) (created_sizes f is).within) here (no_chunks f is) (made_here f v is index) (roomy_of f v index);
     }
 
-creating_last : (f : CreatedFile) (s : Session) (w : Write) (log : Log) (t : Space) → Freed s.keeps s.places t → Creating f s (w ∷ []) log → Running (settled s t) [] (and_now (shows w) log)
-creating_last f s w log t freed c =
-    let free = subst (λ (x : Session). Freed s.keeps x.places t) c.session freed in
-    let made = file_made f s.places.limit s.index s.pending s.stopped s.keeps w log.events t c.is c.limit c.index free c.pieces c.appended c.flushed in
-    subst (λ (l : Log). Running (settled s t) [] (and_now (shows w) l)) (sym c.log_is)
-    (subst (λ (x : Session). Running (settled x t) [] (log_of f (shows w ∷ log.events))) (sym c.session) made)
+creating_last : (f : CreatedFile) (s : Session) (w : Write) (log : Log) → Creating f s (w ∷ []) log → Running (with_pending s []) [] (and_now (shows w) log)
+creating_last f s w log c =
+    let made = file_made f s.places.limit s.budget s.index s.pending s.stopped s.keeps w log.events c.is c.limit c.index c.pieces c.appended c.flushed in
+    subst (λ (l : Log). Running (with_pending s []) [] (and_now (shows w) l)) (sym c.log_is)
+    (subst (λ (x : Session). Running (with_pending x []) [] (log_of f (shows w ∷ log.events))) (sym c.session) made)
 
 -- ---- A piece of any session
 
@@ -240,12 +242,29 @@ after_last s log r idle =
 
 pub piece_stands : (s : Session) (w : Write) (ws : List Write) (t : Session) (log : Log) → s.pending ≡ w ∷ ws → AfterPiece s ws t → Stands s log → Stands t (and_now (shows w) log)
 piece_stands s w [] t log pending after st =
-    let next = and_now (shows w) log in
-    let left = left_pending s st.left w [] pending st.dropped in
-    subst (λ (x : Session). Stands x next) (sym after.1) (elim st.phase [
-      | inl c ↦ after_last (settled s t.places) next (creating_last c.0 s w log t.places after.0 (subst (λ (vs : List Write). Creating c.0 s vs log) left c.1)) refl
-      | inr r ↦ after_last (settled s t.places) next (last_running s w log t.places after.0 (subst (λ (vs : List Write). Running s vs log) left r)) refl
-    ])
+    elim st.phase [
+      | inl c ↦
+          let own = subst (λ (vs : List Write). Creating c.0 s vs log) left c.1 in
+          unplanned (ap (λ (x : Session). x.flushing) own.session) (creating_last c.0 s w log own)
+      | inr r ↦ by_flush (subst (λ (vs : List Write). Running s vs log) left r) s.flushing refl
+    ]
+  where
+    left : st.left ≡ w ∷ []
+    left = left_pending s st.left w [] pending st.dropped
+
+    next : Log
+    next = and_now (shows w) log
+
+    unplanned : s.flushing ≡ false → Running (with_pending s []) [] next → Stands t next
+    unplanned none r =
+        let same : t ≡ with_pending s [] = subst (λ (b : Bool). Settles b s t) none after in
+        subst (λ (x : Session). Stands x next) (sym same) (after_last (with_pending s []) next r refl)
+
+    by_flush : Running s (w ∷ []) log → (b : Bool) → s.flushing ≡ b → Stands t next
+    by_flush r true e =
+        let settles : Settles true s t = subst (λ (b : Bool). Settles b s t) e after in
+        subst (λ (x : Session). Stands x next) (sym settles.1) (after_last (settled s t.places) next (last_running s w log r t.places e settles.0) refl)
+    by_flush r false e = unplanned e (last_unplanned s w log r (r.planned (λ stopped none. some_is w [] (sym pending ∙ none)) e))
 piece_stands s w (x ∷ xs) t log pending after st =
     let next = and_now (shows w) log in
     let left = left_pending s st.left w (x ∷ xs) pending st.dropped in
@@ -264,7 +283,7 @@ piece_stands s w (x ∷ xs) t log pending after st =
           }
       | inr r ↦
           let own = subst (λ (vs : List Write). Running s vs log) left r in
-          let more = more_running s w x xs log own in
+          let more = more_running s w x xs log pending own in
           let goes = more.runs.goes in
           record { left = x ∷ xs; dropped = inl refl; phase = inr more; prefixed = goes.prefixed; still = goes.still }
     ])
@@ -295,17 +314,23 @@ keep_stands s log st = record {
       address = r.address;
       held = r.held;
       runs = r.runs;
+      rest = r.rest;
       knows = r.knows;
       holds = r.holds;
       keeps = record { root = r.keeps.root; place = r.keeps.place; dataset = r.keeps.dataset; header = r.keeps.header };
       index = r.index;
       marks = r.marks;
+      early = r.early;
+      written = r.written;
+      some = r.some;
+      flushing = r.flushing;
       more = r.more;
       waiting = r.waiting;
       fit = r.fit;
       count = r.count;
       appended = r.appended;
       committed = r.committed;
+      planned = r.planned;
       columns = r.columns;
       past = past_same s (record s { keeps = true }) st.left log r.after (record { name = refl; place = refl; dataset = refl; address = λ named. refl; limit = refl; own = λ o. o; reach = λ first img h. h; roomy = λ o. o }) refl r.past;
     })
@@ -340,8 +365,12 @@ rows_told s log some st =
           let cols = s.dataset.shape.cols in
           let rows = s.dataset.shape.rows in
           let count : length r.after.values ≡ rows * cols = r.knows.file.count ∙ ap (λ (d : Described). d.shape.rows * d.shape.cols) r.keeps.dataset in
-          let split : (rows + s.waits) * cols ≡ rows * cols + s.waits * cols = omega arith in
-          let all : length (appended log) ≡ (rows + s.waits) * cols = ap length (sym r.appended) ∙ length-append r.after.values r.more ∙ omega (arith, count, r.count, split) in
+          let early = r.some in
+          let waits : s.early + (s.waits - s.early) ≡ s.waits = omega (arith, early) in
+          let split : (rows + s.waits) * cols ≡ rows * cols + (s.early * cols + (s.waits - s.early) * cols) =
+          ap (λ (n : ℕ). (rows + n) * cols) (sym waits) ∙ (let e : (rows + (s.early + (s.waits - s.early))) * cols ≡ rows * cols + (s.early * cols + (s.waits - s.early) * cols) = omega arith in e) in
+          let all : length (appended log) ≡ (rows + s.waits) * cols =
+          ap length (sym r.appended) ∙ length-append r.after.values (r.early ++ r.more) ∙ omega (arith, length-append r.early r.more, count, r.written.count, r.count, split) in
           rows_of_values (appended log) (rows + s.waits) cols log.columns all r.columns some
     ]
 

@@ -21,7 +21,7 @@ session_finds s log st running idle none named kind more =
     let r = at_rest s log st running idle in
     go r r.index
   where
-    go : (r : Running s [] log) → IsKeptIndex (image_now log) r.after r.address s.places s.index → FindsAll s (image_now log)
+    go : (r : Running s [] log) → IsKeptIndex (image_now log) r.after r.address r.rest s.index → FindsAll s (image_now log)
     go r (inl now) =
         let same : kind_of s.index ≡ Array = sym now.kind ∙ ap (λ (d : Described). d.layout.index) r.keeps.dataset ∙ kind in
         let v = of_kind s.index same in

@@ -1,8 +1,9 @@
 -- What the call of a flush tells of the session that it leaves.
-use Rattle.std.proofs.Common.{◌≡◌, ℕ, zero, suc, ◌*◌, ◌<◌, ◌≤◌, Bool, true, false, nat_lt, if◌then◌else◌, List, [], ◌∷◌, ◌++◌, length, Option, Some, None, Result, Ok, Err, refl, sym, ap, ◌∙◌, subst, arith, length-append, inl, inr}
+use Rattle.std.proofs.Common.{◌≡◌, ℕ, zero, suc, ◌-◌, ◌*◌, ◌<◌, ◌≤◌, Bool, true, false, nat_lt, if◌then◌else◌, List, [], ◌∷◌, ◌++◌, length, Option, Some, None, Result, Ok, Err, refl, sym, ap, ◌∙◌, subst, arith, length-append, inl, inr}
 use Rattle.std.specs.Option.{MatchOption}
 use Rattle.std.specs.Prelude.{IfOk, OnErr, OnOk}
 use Rattle.std.proofs.lemmas.Bool.{lt-ltb}
+use Rattle.std.proofs.lemmas.List.{nil_from_length}
 use Rattle.h5w_model.specs.Datasets.{Described}
 use Rattle.h5w_model.specs.Logs.{Log, and_now, load, plans}
 use Rattle.h5w_model.specs.declared.piece.Write.{Write}
@@ -20,6 +21,7 @@ use Rattle.h5w_session.specs.Stands.{Stands}
 use Rattle.h5w_session.specs.Starts.{HasFlushed, IsStartFlushed, naming_piece}
 use Rattle.h5w_session.specs.declared.refusal.FlushError.{FlushError}
 use Rattle.h5w_session.specs.declared.refusal.FlushError.TheVariants as flushes
+use Rattle.h5w_session.proofs.EarlyLemmas.{no_chunks}
 use Rattle.h5w_session.proofs.FlushLemmas.{told_of}
 use Rattle.h5w_session.proofs.FlushStands.{refused_stands}
 use Rattle.h5w_session.proofs.HeaderAlone.{made_there}
@@ -65,7 +67,7 @@ some_pieces old new x =
 takes_rows : (old new : Session) → IsFlushed old new → TakesRows old new
 takes_rows old new x =
     let told = told_of old old.index old.places new.index new.places x.planned in
-    let placing = x.planned.placing in
+    let taken = x.planned.taken in
     let root : new.root ≡ record (old.root) { end = new.places.end } = ap (λ (s : Session). s.root) x.session in
     let dataset : new.dataset ≡ with_rows (rows_of old) old.dataset = ap (λ (s : Session). s.dataset) x.session in
     record {
@@ -81,8 +83,13 @@ takes_rows old new x =
       committed = ap (λ (s : Session). s.committed) x.session;
       stopped = ap (λ (s : Session). s.stopped) x.session;
       keeps = ap (λ (s : Session). s.keeps) x.session;
-      limit = told.limit ∙ placing.raised.limit;
-      rises = omega (arith, placing.raised.rises, told.rises);
+      limit = told.limit ∙ taken.raised.limit;
+      rises = omega (arith, taken.raised.rises, told.rises);
+      budget = ap (λ (s : Session). s.budget) x.session;
+      early = ap (λ (s : Session). s.early) x.session;
+      chunks = ap (λ (s : Session). s.chunks) x.session;
+      flushing = λ some. ap (λ (s : Session). s.flushing) x.session;
+      still = λ none. absurd (let some = x.planned.some in omega (arith, some, none));
     }
 
 started_pieces : (old new : Session) → IsStartFlushed old new → 1 ≤ length new.pending
@@ -96,11 +103,12 @@ started_pieces old new x =
 starts_rows : (old new : Session) → IsStartFlushed old new → TakesRows old new
 starts_rows old new x =
     let told = told_of old x.made x.first new.index new.places x.planned in
-    let placing = x.planned.placing in
+    let names = x.planned.names in
+    let taken = x.planned.taken in
     let root : new.root ≡ record (old.root) { end = new.places.end } = ap (λ (s : Session). s.root) x.session in
     let dataset : new.dataset ≡ with_index x.at (with_rows (rows_of old) old.dataset) = ap (λ (s : Session). s.dataset) x.session in
     let address : new.dataset.layout.address ≡ x.at = ap (λ (d : Described). d.layout.address) dataset in
-    let at_place : header_place new.index ≡ x.at = told.place ∙ placing.partly.like.place ∙ x.start.at_place in
+    let at_place : header_place new.index ≡ x.at = told.place ∙ names.partly.like.place ∙ x.start.at_place in
     record {
       name = ap (λ (s : Session). s.name) x.session;
       root = root ∙ ap (λ n. record (old.root) { end = n }) (sym (ap (λ (r : Super). r.end) root));
@@ -114,8 +122,13 @@ starts_rows old new x =
       committed = ap (λ (s : Session). s.committed) x.session;
       stopped = ap (λ (s : Session). s.stopped) x.session;
       keeps = ap (λ (s : Session). s.keeps) x.session;
-      limit = told.limit ∙ placing.raised.limit ∙ x.start.raised.limit;
-      rises = omega (arith, x.start.raised.rises, placing.raised.rises, told.rises);
+      limit = told.limit ∙ taken.raised.limit ∙ x.start.raised.limit;
+      rises = omega (arith, x.start.raised.rises, taken.raised.rises, told.rises);
+      budget = ap (λ (s : Session). s.budget) x.session;
+      early = ap (λ (s : Session). s.early) x.session;
+      chunks = ap (λ (s : Session). s.chunks) x.session;
+      flushing = λ some. ap (λ (s : Session). s.flushing) x.session;
+      still = λ none. absurd (let some = x.planned.some in omega (arith, some, none));
     }
 
 any_rows : (old new : Session) → HasFlushed old new → TakesRows old new
@@ -130,14 +143,11 @@ any_pieces old new (inr x) = started_pieces old new x
 pub takes_named : (old new : Session) → TakesRows old new → IsNamed old.dataset → new.dataset ≡ with_rows (rows_of old) old.dataset
 takes_named old new x named = x.dataset ∙ ap (λ (n : ℕ). with_index n (with_rows (rows_of old) old.dataset)) (x.address named)
 
-no_bytes : (b : List ℕ) → length b ≡ 0 → b ≡ []
-no_bytes [] e = refl
-no_bytes (x ∷ xs) e = absurd (omega (arith, e))
-
 -- a flush of no rows leaves the session
 pub takes_none : (s : Session) → IsSession s → s.waits ≡ 0 → TakesRows s s
 takes_none s is none =
     let same : s.dataset.shape.rows ≡ rows_of s = omega (arith, none) in
+    let early : s.early ≡ 0 = omega (arith, is.early, none) in
     record {
       name = refl;
       root = refl;
@@ -146,13 +156,18 @@ takes_none s is none =
       address = λ named. refl;
       named = λ some. absurd (omega (arith, some, none));
       made = λ some. absurd (omega (arith, some, none));
-      waiting = no_bytes s.waiting (is.cells ∙ ap (λ (n : ℕ). n * row_bytes s.dataset) none ∙ omega arith);
+      waiting = nil_from_length s.waiting (is.cells ∙ ap (λ (n : ℕ). n * row_bytes s.dataset) (let e : s.waits - s.early ≡ 0 = omega (arith, none) in e) ∙ omega arith);
       waits = none;
       committed = refl;
       stopped = refl;
       keeps = refl;
       limit = refl;
       rises = omega arith;
+      budget = refl;
+      early = early;
+      chunks = no_chunks s.dataset s.early s.chunks is.chunks early;
+      flushing = λ some. absurd (omega (arith, some, none));
+      still = λ waits. refl;
     }
 
 pub told_rows : (old new : Session) (r : Result ℕ FlushError) → OnOk r (HasFlushed old new) → OnOk r (TakesRows old new)

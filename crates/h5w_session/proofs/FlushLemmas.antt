@@ -1,5 +1,5 @@
 -- A flush that was planned: the session after it stands over the log with that plan.
-use Rattle.std.proofs.Common.{◌≡◌, ℕ, zero, suc, ◌+◌, ◌*◌, ◌<◌, Bool, List, [], ◌∷◌, ◌++◌, ◌/◌, length, ℤ, Some, None, refl, sym, ap, ◌∙◌, subst, arith, length-append, append_assoc, append-nil, inl}
+use Rattle.std.proofs.Common.{◌≡◌, ℕ, zero, suc, ◌+◌, ◌-◌, ◌*◌, ◌<◌, ◌≤◌, Bool, true, false, List, [], ◌∷◌, ◌++◌, ◌/◌, length, ℤ, Some, None, refl, sym, ap, ◌∙◌, subst, arith, length-append, append_assoc, append-nil, inl}
 use Rattle.std.specs.Prelude.{if◌then◌else◌}
 use Rattle.std.specs.List.{slice_get}
 use Rattle.std.proofs.lemmas.Bool.{le-ltb}
@@ -15,12 +15,11 @@ use Rattle.h5w_model.specs.declared.cell.Key.{Key}
 use Rattle.h5w_model.specs.declared.piece.Write.{Write}
 use Rattle.h5w_model.specs.declared.root.Super.{Super}
 use Rattle.h5w_visits.specs.Needed.{AreFew}
-use Rattle.h5w_chunks.specs.Grids.{FitsType, cells_of, fill_cell}
+use Rattle.h5w_chunks.specs.Grids.{FitsType, IsCut, cells_of, fill_cell}
 use Rattle.h5w_chunks.specs.Shares.{touched}
-use Rattle.h5w_chunks.specs.Rows.{RowsWritten}
+use Rattle.h5w_chunks.specs.Rows.{ChunksApart}
 use Rattle.h5w_chunks.specs.Early.{RowsStand}
 use Rattle.h5w_chunks.specs.declared.grid.ChunkPlace.{ChunkPlace}
-use Rattle.h5w_chunks.proofs.EarlyLemmas.{rows_stand}
 use Rattle.h5w_header_laws.specs.Files.{chunk_0, commit_at}
 use Rattle.h5w_space.specs.Space.{Space}
 use Rattle.h5w_steps.specs.Moments.{Moment}
@@ -41,18 +40,22 @@ use Rattle.h5w_array_flushes.proofs.ArrayLaws.{new_are}
 use Rattle.h5w_index.specs.Views.{IndexView, address_in}
 use Rattle.h5w_index.specs.Steps.{IsPlan}
 use Rattle.h5w_index.specs.Flushes.{IsIndexPart, PlanTold, Rests, RestsClean, index_parts}
+use Rattle.h5w_index.specs.Naming.{AreTaken}
 use Rattle.h5w_index.specs.Placing.{IsPlacing}
+use Rattle.h5w_index.proofs.BehindLemmas.{behind_laws}
 use Rattle.h5w_index.proofs.FlushLemmas.{index_is_flush, index_rests_then, plan_tells}
 use Rattle.h5w_index.proofs.MarkLemmas.{mark_laws}
+use Rattle.h5w_index.proofs.NamingLemmas.{naming_laws}
 use Rattle.h5w_index.proofs.PartLemmas.{index_part}
-use Rattle.h5w_index.proofs.PlacingLemmas.{placing_laws}
 use Rattle.h5w_session.specs.Sessions.{Session, rows_of, with_rows, IsNamed}
 use Rattle.h5w_session.specs.Flushes.{ArePlanned, IsFlushed, flushed_of, header_piece}
-use Rattle.h5w_session.specs.Past.{Past}
+use Rattle.h5w_session.specs.Past.{IsCounted, Past}
 use Rattle.h5w_session.specs.Stands.{Running}
 use Rattle.h5w_types.proofs.RunLemmas.{first_has_cell}
 use Rattle.h5w_session.proofs.IndexLemmas.{kept_whole}
 use Rattle.h5w_session.proofs.CreatingLemmas.{no_cells}
+use Rattle.h5w_session.proofs.EarlyLemmas.{nothing_early}
+use Rattle.h5w_session.proofs.PlannedRows.{planned_stand}
 
 -- ---- Values
 
@@ -67,11 +70,23 @@ each_fits d i (w ∷ vs) none zero v at =
     one x y e = cc
 each_fits d i (w ∷ vs) none (suc k) v at = each_fits d (i + 1) vs (first_has_cell d.int_type i w vs none).rest k v at
 
+-- ---- Rows
+
+-- chunks whose sizes can be counted with are cut as a dataset's
+pub cut_of : (d : Described) → IsCounted d → IsCut d
+cut_of d c = record { rows = c.rows; cols = c.cols; some = c.some; few = c.few; small = c.small; fill = c.fill }
+
+-- the values of some rows and of those behind them
+joined_rows : (some all cols : ℕ) → some ≤ all → some * cols + (all - some) * cols ≡ all * cols
+joined_rows some all cols few =
+    let split : some * cols + (all - some) * cols ≡ (some + (all - some)) * cols = omega arith in
+    split ∙ ap (λ (n : ℕ). n * cols) (let e : some + (all - some) ≡ all = omega (arith, few) in e)
+
 -- ---- What the calls show, of the file that the session knows
 
 -- what a plan leaves
 pub told_of : (s : Session) (v : IndexView) (before : Space) (w : IndexView) (t : Space) (x : ArePlanned s v before w t) → PlanTold x.named x.between x.moves x.copies x.fixed w t
-told_of s v before w t x = plan_tells x.named x.between x.moves x.copies x.fixed w t x.placing.partly.like.sound x.plan
+told_of s v before w t x = plan_tells x.named x.between x.moves x.copies x.fixed w t x.names.partly.like.sound x.plan
 
 -- each chunk has its place once all is planned: the plan leaves the map
 pub placed_then : (s : Session) (v : IndexView) (before : Space) (w : IndexView) (t : Space) (x : ArePlanned s v before w t) (k : ℕ) (p : ChunkPlace) → slice_get x.chunks k ≡ Some p
@@ -79,11 +94,11 @@ pub placed_then : (s : Session) (v : IndexView) (before : Space) (w : IndexView)
 placed_then s v before w t x k p at =
     let told = told_of s v before w t x in
     let same : ◌≡◌ {A = Key → ℕ} (λ key. address_in x.named key) (λ key. address_in w key) = λ i key. sym (told.map key) i in
-    subst (λ (f : Key → ℕ). IsPlaced s.dataset (λ key. address_in v key) f s.dataset.shape.rows k p) same (x.placing.placed k p at)
+    subst (λ (f : Key → ℕ). IsPlaced s.dataset (λ key. address_in v key) f s.dataset.shape.rows k p) same (x.names.placed k p at)
 
 pub others_then : (s : Session) (v : IndexView) (before : Space) (w : IndexView) (t : Space) (x : ArePlanned s v before w t) (key : Key) → IsOutside s.dataset s.dataset.shape.rows (rows_of s) key → address_in w key ≡ address_in v key
 others_then s v before w t x key outside =
-    let all = placing_laws.all s.dataset (rows_of s) v x.named before x.between x.chunks x.added x.fits x.all (let some = x.some in omega arith) x.placing in
+    let all = naming_laws.all s.dataset (rows_of s) v x.named x.chunks x.added x.fits x.all (let some = x.some in omega arith) x.names in
     (told_of s v before w t x).map key ∙ all.others key outside
 
 -- the parts of a flush
@@ -92,31 +107,45 @@ parts m old new x more =
     index_parts (chunk_bytes m.dataset) new.index (rows_of old) more x.planned.rows (chunks_for m (λ key. address_in old.index key) x.planned.chunks)
     (told_of old old.index old.places new.index new.places x.planned).copied.placed x.planned.supers new.places.end x.planned.fixed
 
+-- The values that wait are those of rows that were written early and of those behind them. The file is known at the places that it had when it came
+-- to rest; since then those of the early rows' chunks were taken.
 module _ (old new : Session) (log : Log) (x : IsFlushed old new) (r : Running old [] log) where
   abbrev map_before : Key → ℕ
   map_before key = address_in old.index key
+
+  abbrev all_values : List ℤ
+  all_values = r.early ++ r.more
 
   abbrev told : PlanTold x.planned.named x.planned.between x.planned.moves x.planned.copies x.planned.fixed new.index new.places
   told = told_of old old.index old.places new.index new.places x.planned
 
   -- the file's index is the session's
-  pub index_now : Rests (image_now log) r.after r.address old.places old.index
-  index_now = kept_whole (image_now log) r.after r.address old.places old.index (subst IsNamed (sym r.keeps.dataset) x.there.named) x.there.made r.index
+  pub index_now : Rests (image_now log) r.after r.address r.rest old.index
+  index_now = kept_whole (image_now log) r.after r.address r.rest old.index (subst IsNamed (sym r.keeps.dataset) x.there.named) x.there.made r.index
 
   same_map : r.address ≡ map_before
   same_map = λ i key. index_now.map key i
 
-  known : KnownHeld (image_now log) old.name r.after map_before old.places r.held
-  known = subst (λ (f : Key → ℕ). KnownHeld (image_now log) old.name r.after f old.places r.held) same_map (record { knows = r.knows; is = r.holds })
+  known : KnownHeld (image_now log) old.name r.after map_before r.rest r.held
+  known = subst (λ (f : Key → ℕ). KnownHeld (image_now log) old.name r.after f r.rest r.held) same_map (record { knows = r.knows; is = r.holds })
 
-  rests_now : Rests (image_now log) r.after map_before old.places old.index
-  rests_now = subst (λ (f : Key → ℕ). Rests (image_now log) r.after f old.places old.index) same_map index_now
+  rests_now : Rests (image_now log) r.after map_before r.rest old.index
+  rests_now = subst (λ (f : Key → ℕ). Rests (image_now log) r.after f r.rest old.index) same_map index_now
 
   data_set : old.dataset ≡ r.after.dataset
   data_set = sym r.keeps.dataset
 
-  taken : Taken old.places (chunks_for r.after map_before x.planned.chunks) x.planned.between
-  taken = subst (λ (d : Described). Taken old.places (new_chunks d map_before d.shape.rows 0 x.planned.chunks) x.planned.between) data_set x.planned.placing.taken
+  -- all new chunks have their places, those of rows that were written early too
+  all_taken : AreTaken old.dataset map_before r.rest x.planned.chunks x.planned.between
+  all_taken =
+      behind_laws.behind_joins old.dataset map_before r.rest old.places x.planned.between old.chunks x.planned.chunks
+      (subst (λ (f : Key → ℕ). AreTaken old.dataset f r.rest old.chunks old.places) same_map r.written.taken) x.planned.taken
+
+  placing : IsPlacing old.dataset (rows_of old) old.index r.rest x.planned.chunks x.planned.added x.planned.named x.planned.between
+  placing = naming_laws.placing old.dataset (rows_of old) old.index x.planned.named r.rest x.planned.between x.planned.chunks x.planned.added x.planned.names all_taken
+
+  taken : Taken r.rest (chunks_for r.after map_before x.planned.chunks) x.planned.between
+  taken = subst (λ (d : Described). Taken r.rest (new_chunks d map_before d.shape.rows 0 x.planned.chunks) x.planned.between) data_set all_taken.taken
 
   few_after : AreFew (with_rows (rows_of old) r.after.dataset)
   few_after =
@@ -132,14 +161,16 @@ module _ (old new : Session) (log : Log) (x : IsFlushed old new) (r : Running ol
   each_placed : (k : ℕ) (p : ChunkPlace) → slice_get x.planned.chunks k ≡ Some p → IsPlaced r.after.dataset map_before (λ key. address_in new.index key) r.after.dataset.shape.rows k p
   each_placed k p at = subst (λ (d : Described). IsPlaced d map_before (λ key. address_in new.index key) d.shape.rows k p) data_set (placed_then old old.index old.places new.index new.places x.planned k p at)
 
-  rows_there : RowsStand (image_now log) r.after.dataset (cells_of r.after.dataset r.more) r.after.dataset.shape.rows (rows_of old) x.planned.chunks x.planned.rows
-  rows_there =
-      rows_stand (image_now log) r.after.dataset (cells_of r.after.dataset r.more) r.after.dataset.shape.rows (rows_of old) x.planned.chunks x.planned.rows
-      (subst (λ (d : Described). RowsWritten d (cells_of d r.more) d.shape.rows (rows_of old) x.planned.chunks x.planned.rows) data_set
-      (subst (λ (b : List ℕ). RowsWritten old.dataset b old.dataset.shape.rows (rows_of old) x.planned.chunks x.planned.rows) r.waiting x.planned.written))
-      (places_apart (image_now log) old.name r.after map_before old.places x.planned.between (rows_of old) x.planned.chunks known.knows taken rises few_after all_touched (λ k p at. (each_placed k p at).kept))
+  apart : ChunksApart r.after.dataset x.planned.chunks
+  apart = places_apart (image_now log) old.name r.after map_before r.rest x.planned.between (rows_of old) x.planned.chunks known.knows taken rises few_after all_touched (λ k p at. (each_placed k p at).kept)
 
-  placed : ArePlaced (image_now log) r.after map_before (parts r.after old new x r.more) x.planned.chunks
+  rows_there : RowsStand (image_now log) r.after.dataset (cells_of r.after.dataset all_values) r.after.dataset.shape.rows (rows_of old) x.planned.chunks x.planned.rows
+  rows_there =
+      subst (λ (d : Described). RowsStand (image_now log) d (cells_of d all_values) d.shape.rows (rows_of old) x.planned.chunks x.planned.rows) data_set
+      (planned_stand (image_now log) old old.index old.places new.index new.places x.planned r.address r.rest r.early r.more r.written r.some r.waiting r.fit r.count (cut_of old.dataset r.past.counted)
+      (subst (λ (d : Described). ChunksApart d x.planned.chunks) (sym data_set) apart))
+
+  placed : ArePlaced (image_now log) r.after map_before (parts r.after old new x all_values) x.planned.chunks
   placed = record {
     written = rows_there;
     all = all_touched;
@@ -150,33 +181,35 @@ module _ (old new : Session) (log : Log) (x : IsFlushed old new) (r : Running ol
     chunks = refl;
     typed = subst (λ (d : Described). IsIntType d.int_type) data_set x.planned.typed;
     filled = subst (λ (d : Described). length (fill_cell d) ≡ d.int_type.size) data_set x.planned.filled;
-    fit = each_fits r.after.dataset 0 r.more (subst (λ (d : Described). first_outside d.int_type 0 r.more ≡ None) data_set r.fit);
+    fit = each_fits r.after.dataset 0 all_values (subst (λ (d : Described). first_outside d.int_type 0 all_values ≡ None) data_set r.fit);
   }
 
   part : IsIndexPart (image_now log) r.after x.planned.named x.planned.between x.planned.moves new.index new.places (chunks_for r.after map_before x.planned.chunks) told.copied.placed x.planned.fixed
   part =
-      index_part (image_now log) r.after map_before old.places x.planned.between new.places (rows_of old) old.index x.planned.named new.index x.planned.chunks x.planned.added x.planned.moves told.copied.placed x.planned.fixed
+      index_part (image_now log) r.after map_before r.rest x.planned.between new.places (rows_of old) old.index x.planned.named new.index x.planned.chunks x.planned.added x.planned.moves told.copied.placed x.planned.fixed
       rests_now
-      (subst (λ (d : Described). IsPlacing d (rows_of old) old.index old.places x.planned.chunks x.planned.added x.planned.named x.planned.between) data_set x.planned.placing)
+      (subst (λ (d : Described). IsPlacing d (rows_of old) old.index r.rest x.planned.chunks x.planned.added x.planned.named x.planned.between) data_set placing)
       (subst (λ (ws : List Write). IsPlan x.planned.named x.planned.between x.planned.moves ws x.planned.fixed new.index new.places) told.copied.writes x.planned.plan)
       told.copied.are
 
-  count_after : length (r.after.values ++ r.more) ≡ rows_of old * r.after.dataset.shape.cols
+  count_after : length (r.after.values ++ all_values) ≡ rows_of old * r.after.dataset.shape.cols
   count_after =
       let cols = old.dataset.shape.cols in
       let rows = old.dataset.shape.rows in
       let file : length r.after.values ≡ rows * cols = r.knows.file.count ∙ ap (λ (d : Described). d.shape.rows * d.shape.cols) r.keeps.dataset in
+      let early : old.early * cols + (old.waits - old.early) * cols ≡ old.waits * cols = joined_rows old.early old.waits cols r.some in
       let split : (rows + old.waits) * cols ≡ rows * cols + old.waits * cols = omega arith in
-      subst (λ (d : Described). length (r.after.values ++ r.more) ≡ rows_of old * d.shape.cols) data_set (length-append r.after.values r.more ∙ omega (arith, file, r.count, split))
+      subst (λ (d : Described). length (r.after.values ++ all_values) ≡ rows_of old * d.shape.cols) data_set
+      (length-append r.after.values all_values ∙ omega (arith, file, length-append r.early r.more, r.written.count, r.count, early, split))
 
-  is_flush : IsFlush (image_now log) r.after map_before old.places (parts r.after old new x r.more) new.places
+  is_flush : IsFlush (image_now log) r.after map_before r.rest (parts r.after old new x all_values) new.places
   is_flush =
-      index_is_flush (image_now log) old.name r.after map_before old.places x.planned.between new.places x.planned.named new.index x.planned.moves (rows_of old) r.more x.planned.rows x.planned.chunks told.copied.placed
+      index_is_flush (image_now log) old.name r.after map_before r.rest x.planned.between new.places x.planned.named new.index x.planned.moves (rows_of old) all_values x.planned.rows x.planned.chunks told.copied.placed
       x.planned.supers x.planned.fixed known.knows taken rises x.planned.small few_after count_after placed (subst (λ (s : Super). AreEnded s new.places.end x.planned.supers) (sym r.keeps.root) x.planned.ended) part
 
   missed : HeldMissed known.knows.held x.planned.rows
   missed =
-      (rows_flush (image_now log) old.name r.after map_before old.places x.planned.between (parts r.after old new x r.more) x.planned.chunks known.knows taken rises few_after count_after placed).off_held
+      (rows_flush (image_now log) old.name r.after map_before r.rest x.planned.between (parts r.after old new x all_values) x.planned.chunks known.knows taken rises few_after count_after placed).off_held
 
   -- ---- Its pieces, and the file after them
 
@@ -186,7 +219,7 @@ module _ (old new : Session) (log : Log) (x : IsFlushed old new) (r : Running ol
       ap (λ (p : ℕ). commit_at (image_now log) p (rows_of old) None) at
       ∙ ap (λ (b : List ℕ). record { at = old.place; piece = with_rows_bytes b (rows_of old) None }) r.keeps.header
 
-  all_pieces : pieces_of (image_now log) r.after (parts r.after old new x r.more) ≡ new.pending
+  all_pieces : pieces_of (image_now log) r.after (parts r.after old new x all_values) ≡ new.pending
   all_pieces =
       let rows = x.planned.rows in
       let copies = x.planned.copies in
@@ -199,31 +232,31 @@ module _ (old new : Session) (log : Log) (x : IsFlushed old new) (r : Running ol
       ∙ ap (λ (ws : List Write). rows ++ (copies ++ ws)) (append_assoc supers fixed (header_piece old ∷ []))
       ∙ sym x.pending
 
-  then : IsKnownThen (image_now log) old.name r.after new.places (parts r.after old new x r.more)
-  then = knows_then (image_now log) old.name r.after map_before old.places new.places (parts r.after old new x r.more) known.knows is_flush missed
+  then : IsKnownThen (image_now log) old.name r.after new.places (parts r.after old new x all_values)
+  then = knows_then (image_now log) old.name r.after map_before r.rest new.places (parts r.after old new x all_values) known.knows is_flush missed
 
-  header_then : chunk_0 (image (image_now log) (pieces_of (image_now log) r.after (parts r.after old new x r.more))) old.place ≡ (header_piece old).piece
+  header_then : chunk_0 (image (image_now log) (pieces_of (image_now log) r.after (parts r.after old new x all_values))) old.place ≡ (header_piece old).piece
   header_then =
-      let img = image (image_now log) (pieces_of (image_now log) r.after (parts r.after old new x r.more)) in
+      let img = image (image_now log) (pieces_of (image_now log) r.after (parts r.after old new x all_values)) in
       ap (λ (p : ℕ). chunk_0 img p) (sym r.keeps.place)
       ∙ then.header
       ∙ ap (λ (w : Write). w.piece) same_header
 
-  rests_then : RestsClean (image (image_now log) (pieces_of (image_now log) r.after (parts r.after old new x r.more))) (flushed_to r.after (parts r.after old new x r.more)) (λ key. address_in new.index key) new.places new.index
+  rests_then : RestsClean (image (image_now log) (pieces_of (image_now log) r.after (parts r.after old new x all_values))) (flushed_to r.after (parts r.after old new x all_values)) (λ key. address_in new.index key) new.places new.index
   rests_then =
-      index_rests_then (image_now log) old.name r.after map_before old.places x.planned.between new.places x.planned.named new.index x.planned.moves (rows_of old) r.more x.planned.rows
+      index_rests_then (image_now log) old.name r.after map_before r.rest x.planned.between new.places x.planned.named new.index x.planned.moves (rows_of old) all_values x.planned.rows
       (chunks_for r.after map_before x.planned.chunks) told.copied.placed x.planned.supers x.planned.fixed new.places.end known.knows taken (new_are r.after.dataset map_before r.after.dataset.shape.rows 0 x.planned.chunks) is_flush missed part
 
   -- ---- The session after it
 
   abbrev pub after_flush : Moment
-  after_flush = flushed_to r.after (parts r.after old new x r.more)
+  after_flush = flushed_to r.after (parts r.after old new x all_values)
 
   runs_then : Runs old.name (and_now (plans (length new.pending)) log) new.pending after_flush after_flush.behind
   runs_then =
-      let rests : FileRests old.name log r.after map_before old.places = record { knows = known.knows; runs = subst (λ (us : List Used). Runs old.name log [] r.after us) (sym known.is) r.runs } in
+      let rests : FileRests old.name log r.after map_before r.rest = record { knows = known.knows; runs = subst (λ (us : List Used). Runs old.name log [] r.after us) (sym known.is) r.runs } in
       subst (λ (ws : List Write). Runs old.name (and_now (plans (length ws)) log) ws after_flush after_flush.behind) all_pieces
-      (session_laws.plans_flush old.name log r.after map_before old.places new.places (parts r.after old new x r.more) rests is_flush missed r.appended)
+      (session_laws.plans_flush old.name log r.after map_before r.rest new.places (parts r.after old new x all_values) rests is_flush missed r.appended)
 
   known_then : KnownHeld (image (image_now log) new.pending) old.name after_flush (λ key. address_in new.index key) new.places after_flush.behind
   known_then =
@@ -246,6 +279,12 @@ module _ (old new : Session) (log : Log) (x : IsFlushed old new) (r : Running ol
       let chosen : Bool → ℕ = λ b. length (if b then log.values ++ appended_in log.events else flushed_in 0 log.values log.events) / log.columns in
       ap chosen (lt-leb-false (length new.pending) 0 some_pieces) ∙ r.committed
 
+  -- the chunks of all rows are few
+  few_then : AreFew (with_rows (rows_of old + 0) (with_rows (rows_of old) old.dataset))
+  few_then =
+      subst (λ (n : ℕ). AreFew (with_rows n (with_rows (rows_of old) old.dataset))) (let e : rows_of old ≡ rows_of old + 0 = omega arith in e)
+      (le-ltb (limit_of format_limits old.dataset.layout.index) (needed (with_rows (rows_of old) old.dataset)) x.planned.few)
+
   pub flush_running : Past (flushed_of old new.places new.pending new.index) new.pending (and_now (plans (length new.pending)) log) after_flush
       → Running (flushed_of old new.places new.pending new.index) new.pending (and_now (plans (length new.pending)) log)
   flush_running past = record {
@@ -263,12 +302,18 @@ module _ (old new : Session) (log : Log) (x : IsFlushed old new) (r : Running ol
     };
     index = inl (subst (λ (ws : List Write). Rests (image (image_now log) ws) after_flush (λ key. address_in new.index key) new.places new.index) all_pieces rests_then.rests);
     marks = mark_laws.clean (with_rows (rows_of old) old.dataset) (rows_of old) (rows_of old + 0) new.index told.clean;
+    rest = new.places;
+    early = [];
+    written = nothing_early (with_rows (rows_of old) old.dataset) new.places (image (image_now log) new.pending) (λ key. address_in new.index key) few_then;
+    some = omega arith;
+    flushing = λ e. refl;
     more = [];
     waiting = no_cells (with_rows (rows_of old) old.dataset);
     fit = refl;
     count = omega arith;
-    appended = append-nil (r.after.values ++ r.more) ∙ r.appended;
+    appended = append-nil (r.after.values ++ all_values) ∙ r.appended;
     committed = committed_then;
+    planned = λ kept none. absurd (let clash : true ≡ false = none in cc);
     columns = r.columns;
     past = past;
   }

@@ -1,7 +1,8 @@
 -- What a flush makes of a session that stands over a log.
-use Rattle.std.proofs.Common.{◌≡◌, ◌⊎◌, ℕ, ◌*◌, Bool, true, false, List, [], ◌∷◌, ◌++◌, length, ℤ, refl, sym, ap, ◌∙◌, subst, inl, inr, arith, append-nil}
+use Rattle.std.proofs.Common.{◌≡◌, ◌⊎◌, ℕ, ◌-◌, ◌*◌, Bool, true, false, List, [], ◌∷◌, ◌++◌, length, ℤ, refl, sym, ap, ◌∙◌, subst, inl, inr, arith, append-nil}
 use Rattle.std.specs.Prelude.{if◌then◌else◌}
 use Rattle.std.proofs.lemmas.Bool.{le-leb}
+use Rattle.std.proofs.lemmas.List.{nil_from_length}
 use Rattle.h5w_model.specs.Logs.{Log, load, plans, appended, appended_in, flushed_in, and_now}
 use Rattle.h5w_model.specs.declared.piece.Write.{Write}
 use Rattle.h5w_model.specs.Numbers.{undefined}
@@ -56,9 +57,8 @@ flush_stands old new log x running idle past st = let r = idle_running old log r
 
 -- ---- No row waits
 
-none_long : (vs : List ℤ) → length vs ≡ 0 → vs ≡ []
-none_long [] e = refl
-none_long (v ∷ vs) e = absurd (omega (arith, e))
+no_rows : (n cols : ℕ) → n ≡ 0 → n * cols ≡ 0
+no_rows n cols none = ap (λ (k : ℕ). k * cols) none ∙ omega arith
 
 nothing_running : (s : Session) (log : Log) → s.waits ≡ 0 → Running s [] log → Running s [] (and_now (plans 0) log)
 nothing_running s log none r =
@@ -66,8 +66,10 @@ nothing_running s log none r =
     let m = r.after in
     let goes = resting s.name log m r.held r.runs in
     let chosen : Bool → ℕ → List ℤ = λ b k. if b then log.values ++ appended_in log.events else flushed_in k log.values log.events in
-    let more : r.more ≡ [] = none_long r.more (r.count ∙ ap (λ (n : ℕ). n * s.dataset.shape.cols) none ∙ omega arith) in
-    let all : m.values ≡ appended log = sym (append-nil m.values) ∙ ap (λ (vs : List ℤ). m.values ++ vs) (sym more) ∙ r.appended in
+    let early : r.early ≡ [] = nil_from_length r.early (r.written.count ∙ no_rows s.early s.dataset.shape.cols (let some = r.some in omega (arith, some, none))) in
+    let more : r.more ≡ [] = nil_from_length r.more (r.count ∙ no_rows (s.waits - s.early) s.dataset.shape.cols (omega (arith, none))) in
+    let others : r.early ++ r.more ≡ [] = ap (λ (vs : List ℤ). vs ++ r.more) early ∙ more in
+    let all : m.values ≡ appended log = sym (append-nil m.values) ∙ ap (λ (vs : List ℤ). m.values ++ vs) (sym others) ∙ r.appended in
     let each : (k : ℕ) → flushed_in k next.values next.events ≡ m.values = λ k. ap (λ b. chosen b k) (le-leb 0 k (omega arith)) ∙ sym all in
     let later : Goes s.name next m r.held = event_goes s.name (plans 0) log m r.held refl (sym (each 0)) goes in
     record {
@@ -75,17 +77,23 @@ nothing_running s log none r =
       address = r.address;
       held = r.held;
       runs = goes_runs s.name next m r.held later each;
+      rest = r.rest;
       knows = r.knows;
       holds = r.holds;
       keeps = r.keeps;
       index = r.index;
       marks = r.marks;
+      early = r.early;
+      written = r.written;
+      some = r.some;
+      flushing = r.flushing;
       more = r.more;
       waiting = r.waiting;
       fit = r.fit;
       count = r.count;
       appended = r.appended;
       committed = goes_rows s.name next m r.held later ∙ sym (goes_rows s.name log m r.held goes) ∙ r.committed;
+      planned = r.planned;
       columns = r.columns;
       past = past_planned s s 0 [] log m m (like_itself s) (raised_more s.places s.places 0 (load (cutting_of s) log) (omega arith) (raised_none s.places s.places refl refl)) tt r.past.next r.past;
     }
@@ -115,19 +123,25 @@ refused_running old new log b r = record {
   address = r.address;
   held = r.held;
   runs = r.runs;
+  rest = r.rest;
   knows = r.knows;
   holds = r.holds;
   keeps = record { root = r.keeps.root; place = r.keeps.place; dataset = r.keeps.dataset; header = r.keeps.header };
   index =
-      held_kept (image_now log) r.after r.address old.places old.dataset (rows_of old) old.index new.index b.held
+      held_kept (image_now log) r.after r.address r.rest old.dataset (rows_of old) old.index new.index b.held
       (λ none. b.unmade (subst (λ (d : Described). (d.layout.address ≡ undefined) ⊎ (has_no_block old.index ≡ true)) r.keeps.dataset none)) r.index;
   marks = b.held.marks r.marks;
+  early = r.early;
+  written = r.written;
+  some = r.some;
+  flushing = r.flushing;
   more = r.more;
   waiting = r.waiting;
   fit = r.fit;
   count = r.count;
   appended = r.appended;
   committed = r.committed;
+  planned = r.planned;
   columns = r.columns;
   past = past_same old (record old { index = new.index }) [] log r.after (record { name = refl; place = refl; dataset = refl; address = λ named. refl; limit = refl; own = λ o. (b.held.own o.0, same_block old.index new.index (placing_laws.kept old.dataset (rows_of old) old.index new.index b.held).like.fixed ∙ o.1); reach = λ first img reached more key low there. b.held.reach key there (reached more key low (λ e. there ((placing_laws.kept old.dataset (rows_of old) old.index new.index b.held).map key ∙ e))); roomy = b.roomy }) refl r.past;
 }

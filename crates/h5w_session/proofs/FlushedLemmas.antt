@@ -1,5 +1,6 @@
 -- What a flush leaves is a session again.
-use Rattle.std.proofs.Common.{◌≡◌, ℕ, ◌+◌, ◌*◌, ◌^◌, ◌<◌, ◌≤◌, List, [], ◌∷◌, ◌++◌, length, Some, refl, ap, sym, ◌∙◌, subst, inl, inr, arith}
+use Rattle.std.proofs.Common.{◌≡◌, ◌≢◌, ◌⊎◌, ℕ, ◌+◌, ◌*◌, ◌^◌, ◌<◌, ◌≤◌, nat_lt, List, [], ◌∷◌, ◌++◌, length, Some, refl, ap, sym, ◌∙◌, subst, inl, inr, arith, length-append}
+use Rattle.std.proofs.lemmas.Bool.{cases_lt, cond-false, le-ltb}
 use Rattle.std.specs.List.{All, slice_get}
 use Rattle.std.proofs.lemmas.List.Elements.{All-head, All-tail}
 use Rattle.std.proofs.lemmas.Nat.{le-div}
@@ -16,7 +17,7 @@ use Rattle.h5w_visits.specs.Ranges as ranges
 use Rattle.h5w_visits.proofs.RangeLemmas.{ends_later}
 use Rattle.h5w_space.specs.Space.{Space}
 use Rattle.h5w_chunks.specs.Grids.{chunk_len}
-use Rattle.h5w_chunks.specs.Shares.{first_line}
+use Rattle.h5w_chunks.specs.Shares.{first_line, new_writes}
 use Rattle.h5w_chunks.specs.declared.grid.ChunkPlace.{ChunkPlace}
 use Rattle.h5w_chunks.proofs.KeyLemmas.{array_line, line_chunks, some_keys}
 use Rattle.h5w_flush_laws.specs.Parts.{AreEnded}
@@ -25,9 +26,13 @@ use Rattle.h5w_index.specs.Blocks.{has_no_block}
 use Rattle.h5w_index.specs.Flushes.{PlanTold}
 use Rattle.h5w_index.specs.Flushes as index
 use Rattle.h5w_index.specs.Placing.{AreInside, Fits}
+use Rattle.h5w_index.proofs.BehindLemmas.{get_joined}
 use Rattle.h5w_index.proofs.PlacingLemmas.{placing_laws}
-use Rattle.h5w_session.specs.Sessions.{ArePieces, IsSession, Session, bands_of, chunk_limit, most_lines, rows_of, with_rows, IsWhole}
+use Rattle.h5w_session.specs.Sessions.{ArePieces, IsSession, IsUnmade, IsWhole, Session, bands_of, chunk_limit, most_lines, next_row, rows_of, with_rows}
+use Rattle.h5w_session.specs.Early.{next_places}
 use Rattle.h5w_session.specs.Flushes.{ArePlanned, IsFlushed, flushed_of, header_piece}
+use Rattle.h5w_session.proofs.EarlyLemmas.{none_touched}
+use Rattle.h5w_session.proofs.EarlyPlaces.{places_all}
 use Rattle.h5w_session.proofs.FlushLemmas.{told_of}
 use Rattle.h5w_session.proofs.HeaderAlone.{never, same_block}
 use Rattle.h5w_session.proofs.PastLemmas.{ends_joined}
@@ -110,17 +115,17 @@ module _ (s : Session) (is : IsSession s) (v : IndexView) (before : Space) (b : 
   told = told_of s v before w t x
 
   pub rises : s.places.end ≤ t.end
-  rises = omega (arith, b.rises, x.placing.raised.rises, told.rises)
+  rises = omega (arith, b.rises, x.taken.raised.rises, told.rises)
 
   pub same_limit : t.limit ≡ s.places.limit
-  same_limit = told.limit ∙ x.placing.raised.limit ∙ b.limit
+  same_limit = told.limit ∙ x.taken.raised.limit ∙ b.limit
 
   pub limit_then : t.limit ≤ 2 ^ 40
   limit_then = subst (λ (n : ℕ). n ≤ 2 ^ 40) (sym same_limit) is.limit
 
   -- the index is of the kind that it was
   same_kind : kind_of w ≡ kind_of v
-  same_kind = told.kind ∙ x.placing.partly.like.kind
+  same_kind = told.kind ∙ x.names.partly.like.kind
 
   pub kind_then : s.dataset.layout.index ≡ kind_of w
   kind_then = b.kind ∙ sym same_kind
@@ -136,27 +141,46 @@ module _ (s : Session) (is : IsSession s) (v : IndexView) (before : Space) (b : 
   inside_then =
       let d = s.dataset in
       let less : d.shape.rows ≤ rows_of s = omega arith in
-      let placed : AreInside (with_rows (rows_of s) d) x.between.end x.named = placing_laws.inside d (rows_of s) v x.named before x.between x.chunks x.added less b.inside x.placing in
+      let early : (k : ℕ) (p : ChunkPlace) → slice_get s.chunks k ≡ Some p → p.address + chunk_len d ≤ before.end = λ k p at. omega (arith, is.ends k p at, b.rises) in
+      let placed : AreInside (with_rows (rows_of s) d) x.between.end x.named = placing_laws.inside_behind d (rows_of s) v x.named before x.between s.chunks x.chunks x.added less b.inside early x.names x.taken in
       placing_laws.carried (with_rows (rows_of s) d) x.between.end t.end x.named w told.map told.rises placed
 
   -- the blocks in place stay where they are
   pub tops_then : ranges.AllEndBy t.end (fixed_of w)
   tops_then =
-      let less : before.end ≤ t.end = omega (arith, x.placing.raised.rises, told.rises) in
-      subst (λ (us : List Used). ranges.AllEndBy t.end us) (sym (told.stay ∙ x.placing.partly.like.fixed)) (ends_later before.end t.end (fixed_of v) less b.tops)
+      let less : before.end ≤ t.end = omega (arith, x.taken.raised.rises, told.rises) in
+      subst (λ (us : List Used). ranges.AllEndBy t.end us) (sym (told.stay ∙ x.names.partly.like.fixed)) (ends_later before.end t.end (fixed_of v) less b.tops)
 
   pub told_place : header_place w ≡ header_place v
-  told_place = told.place ∙ x.placing.partly.like.place
+  told_place = told.place ∙ x.names.partly.like.place
 
   -- and lack the index block where they did
   pub same_blocks : has_no_block w ≡ has_no_block v
-  same_blocks = same_block v w (told.stay ∙ x.placing.partly.like.fixed)
+  same_blocks = same_block v w (told.stay ∙ x.names.partly.like.fixed)
+
+  -- each chunk that the rows go into ends in the file then, one that was written early too
+  chunk_ends : (k : ℕ) (p : ChunkPlace) → slice_get x.chunks k ≡ Some p → p.address + chunk_len s.dataset ≤ t.end
+  chunk_ends k p at = go (get_joined s.chunks x.taken.later k p (subst (λ (ps : List ChunkPlace). slice_get ps k ≡ Some p) x.taken.all at))
+    where
+      go : (slice_get s.chunks k ≡ Some p) ⊎ ((j : ℕ) × (slice_get x.taken.later j ≡ Some p)) → p.address + chunk_len s.dataset ≤ t.end
+      go (inl early) = omega (arith, is.ends k p early, rises)
+      go (inr later) = omega (arith, x.taken.inside later.0 p later.1, told.rises)
 
   -- its pieces but for the header's
   pub rows_pieces : ArePieces t.end x.rows
-  rows_pieces =
-      let inside : (k : ℕ) (p : ChunkPlace) → slice_get x.chunks k ≡ Some p → p.address + chunk_len s.dataset ≤ t.end = λ k p at. omega (arith, x.placing.inside k p at, told.rises) in
-      record { sized = x.written.sized; within = rows_within s.dataset t.end x.chunks x.rows inside x.written.within }
+  rows_pieces = go (cases_lt (next_row s) (rows_of s))
+    where
+      d : Described
+      d = s.dataset
+
+      go : (next_row s < rows_of s) ⊎ (rows_of s ≤ next_row s) → ArePieces t.end x.rows
+      go (inl more) =
+          let w = x.written more in
+          let ends = places_all d d.shape.rows (next_row s) x.chunks (λ n. n + chunk_len d ≤ t.end) chunk_ends in
+          record { sized = w.sized; within = rows_within d t.end (next_places d d.shape.rows (next_row s) x.chunks) x.rows ends w.within }
+      go (inr none) =
+          let no_writes : x.rows ≡ [] = x.exact ∙ cond-false (nat_lt (next_row s) (rows_of s)) (new_writes d s.waiting (next_row s) (rows_of s) (next_places d d.shape.rows (next_row s) x.chunks)) [] (le-ltb (next_row s) (rows_of s) none) in
+          subst (ArePieces t.end) (sym no_writes) (record { sized = tt; within = tt })
 
   pub copies_pieces : ArePieces t.end x.copies
   copies_pieces =
@@ -182,6 +206,16 @@ module _ (s : Session) (is : IsSession s) (there : IsWhole s) (t : Space) (w : I
   abbrev before : IsBefore s s.index s.places
   before = before_is s is there
 
+  -- the index is there then
+  whole : IsUnmade after → ⊥
+  whole (inl none) = there.named none
+  whole (inr lacking) = never (has_no_block w) lacking (same_blocks s is s.index s.places before w t x ∙ there.made)
+
+  some_pieces : ws ≢ []
+  some_pieces none =
+      let last = x.fixed ++ header_piece s ∷ [] in
+      omega (arith, ap length none, ap length pending, length-append x.rows (x.copies ++ (x.supers ++ last)), length-append x.copies (x.supers ++ last), length-append x.supers last, length-append x.fixed (header_piece s ∷ []))
+
   pub flushed_is : IsSession after
   flushed_is =
       let d = s.dataset in
@@ -203,8 +237,18 @@ module _ (s : Session) (is : IsSession s) (there : IsWhole s) (t : Space) (w : I
         small = small;
         limit = limit_then s is s.index s.places before w t x;
         inside = inside_then s is s.index s.places before w t x;
+        blank = λ lacks key. absurd (whole lacks);
+        live = λ lacks. absurd (whole lacks);
+        early = omega arith;
+        chunks = sym (none_touched (with_rows rows d) rows);
+        placed = λ k p at. absurd cc;
+        ends = λ k p at. absurd cc;
+        flushing = λ e. refl;
+        busy = λ e. some_pieces;
+        budget_low = is.budget_low;
+        budget_high = is.budget_high;
         tops = λ whole. tops_then s is s.index s.places before w t x;
-        head = λ named lacking. never (has_no_block w) lacking (same_blocks s is s.index s.places before w t x ∙ there.made);
+        head = λ named lacking. absurd (whole (inr lacking));
       }
 
   pub flushed_pieces : ArePieces t.end ws

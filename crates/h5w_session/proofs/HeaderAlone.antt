@@ -8,11 +8,10 @@ use Rattle.h5w_model.specs.Arrays.{eahd_len, eaib_len}
 use Rattle.h5w_model.specs.Findings.{Used, the_superblock}
 use Rattle.h5w_model.specs.declared.cell.Key.{Key}
 use Rattle.h5w_model.specs.declared.piece.Write.{Write}
-use Rattle.h5w_visits.specs.Ranges.{Among, AllEndBy, AreApart, block_at}
+use Rattle.h5w_visits.specs.Ranges.{Among, AllEndBy, block_at}
 use Rattle.h5w_visits.proofs.RangeLemmas.{among_left, among_right}
 use Rattle.h5w_space.specs.Space.{Space, IsLive, extent}
 use Rattle.h5w_cache.specs.Plans.{Took}
-use Rattle.h5w_cache.specs.Stores.{Store}
 use Rattle.h5w_steps.specs.Moments.{Moment}
 use Rattle.h5w_steps.proofs.MomentLemmas.{parts_of}
 use Rattle.h5w_array_laws.specs.Parts.{index_block}

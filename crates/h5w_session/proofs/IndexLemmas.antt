@@ -9,7 +9,7 @@ use Rattle.h5w_model.specs.declared.piece.Write.{Write}
 use Rattle.h5w_space.specs.Space.{Space, IsLive, Apart}
 use Rattle.h5w_space.specs.declared.Extent.{Extent}
 use Rattle.h5w_steps.specs.Moments.{Moment}
-use Rattle.h5w_steps.proofs.StepRepresents.{MissesEach}
+use Rattle.h5w_visits.specs.Ranges.{MissesBlocks}
 use Rattle.h5w_array_laws.specs.Parts.{header}
 use Rattle.h5w_flush_laws.specs.Knowledge.{Knows}
 use Rattle.h5w_index.specs.Views.{IndexView, IsSound, an_array, a_tree, header_place}
@@ -37,8 +37,8 @@ pub freed_kept : (keeps : Bool) (img : List ℕ) (m : Moment) (address : Key →
 freed_kept keeps img m address s t v freed (inl i) = inl (freed_index keeps img m address s t v freed i)
 freed_kept keeps img m address s t v freed (inr none) = inr none
 
--- a write that misses its ranges leaves it
-pub missed_kept : (img name : List ℕ) (m : Moment) (address : Key → ℕ) (s : Space) (v : IndexView) (w : Write) → Knows img name m address s → MissesEach w (m.fixed ++ m.behind) → IsKeptIndex img m address s v
+-- a write that misses its blocks leaves it
+pub missed_kept : (img name : List ℕ) (m : Moment) (address : Key → ℕ) (s : Space) (v : IndexView) (w : Write) → Knows img name m address s → MissesBlocks w (m.fixed ++ m.behind) → IsKeptIndex img m address s v
     → IsKeptIndex (apply w img) m address s v
 missed_kept img name m address s v w knows off (inl i) = inl (rests_missed img name m address s v w knows off i)
 missed_kept img name m address s v w knows off (inr none) = inr (record { kind = none.kind; lacks = go none.lacks; sound = none.sound; blank = none.blank; map = none.map })

@@ -1,5 +1,5 @@
 -- What a session's relation to its log gives.
-use Rattle.std.proofs.Common.{◌≡◌, ◌⊎◌, ℕ, suc, ◌-◌, ◌*◌, ◌/◌, ◌^◌, ◌<◌, ◌≤◌, false, nat_lt, max, List, [], ◌∷◌, length, take, Option, Ok, Err, refl, ap, sym, ◌∙◌, subst, inl, inr, arith}
+use Rattle.std.proofs.Common.{◌≡◌, ◌⊎◌, ℕ, suc, ◌-◌, ◌*◌, ◌/◌, ◌^◌, ◌<◌, ◌≤◌, Bool, true, false, nat_lt, max, List, [], ◌∷◌, length, take, Option, Ok, Err, refl, ap, sym, ◌∙◌, subst, inl, inr, arith}
 use Rattle.std.proofs.lemmas.Bool.{cases_lt, cond-false, le-ltb, lt-ltb, ltb-false}
 use Rattle.std.specs.Prelude.{IsSome}
 use Rattle.h5w_model.specs.Arrays.{eahd_len, numbers_in}
@@ -31,7 +31,8 @@ use Rattle.h5w_creation_laws.proofs.CreatedLaws.{created_sizes}
 use Rattle.h5w_session.specs.Laws.{IsDatasetOf, RoomStays, SaysNumbers, ShownLaws, StandingLaws}
 use Rattle.h5w_session.specs.Loads.{end_in, first_end_of}
 use Rattle.h5w_session.specs.Past.{HasCreated, HasOpened, IsNew, Past, most_of}
-use Rattle.h5w_session.specs.Sessions.{IsRoomy, Session, chunk_limit, with_rows, IsNamed}
+use Rattle.h5w_session.specs.Room.{HasRoomFor}
+use Rattle.h5w_session.specs.Sessions.{IsRoomy, Session, Settles, chunk_limit, with_rows, IsNamed}
 use Rattle.h5w_session.specs.Stands.{Creating, Stands}
 use Rattle.h5w_session.proofs.BeginLemmas.{beginning, new_image, since_first}
 use Rattle.h5w_session.proofs.CreatingLemmas.{committed_told, own_of, roomy_of, rows_told, shown_so_far, some_length}
@@ -297,7 +298,7 @@ says_numbers s log st new running idle none v e =
     let r = at_rest s log st running idle in
     let own : IsOwnArray v = subst IsOwn e (r.past.own new).0 in
     let named : IsNamed r.after.dataset = subst IsNamed (sym r.keeps.dataset) (new_named s [] log r.after new r.past) in
-    let now = kept_whole (image_now log) r.after r.address s.places s.index named (r.past.own new).1 r.index in
+    let now = kept_whole (image_now log) r.after r.address r.rest s.index named (r.past.own new).1 r.index in
     let rest = array_rests s log r now none v e in
     record {
       address = rest.address;
@@ -326,11 +327,20 @@ shown_laws = record {
 -- ---- Room
 
 pub room_stays : RoomStays
-room_stays s t w [] v u pending room after wrote =
-    let count : length s.pending ≡ 1 = ap length pending in
-    let end : t.places.end ≡ s.places.end = (freed_keeps s.keeps s.places t.places after.0).0 in
-    let none : length t.pending ≡ 0 = ap (λ (x : Session). length x.pending) after.1 in
-    record { pieces = omega (arith, count, none, room.pieces, wrote.pieces); end = omega (arith, end, room.end, wrote.end) }
+room_stays s t w [] v u pending room after wrote = by s.flushing after
+  where
+    count : length s.pending ≡ 1
+    count = ap length pending
+
+    by : (b : Bool) → Settles b s t → HasRoomFor t u
+    by true settles =
+        let end : t.places.end ≡ s.places.end = (freed_keeps s.keeps s.places t.places settles.0).0 in
+        let none : length t.pending ≡ 0 = ap (λ (x : Session). length x.pending) settles.1 in
+        record { pieces = omega (arith, count, none, room.pieces, wrote.pieces); end = omega (arith, end, room.end, wrote.end) }
+    by false same =
+        let end : t.places.end ≡ s.places.end = ap (λ (x : Session). x.places.end) same in
+        let none : length t.pending ≡ 0 = ap (λ (x : Session). length x.pending) same in
+        record { pieces = omega (arith, count, none, room.pieces, wrote.pieces); end = omega (arith, end, room.end, wrote.end) }
 room_stays s t w (x ∷ xs) v u pending room after wrote =
     let count : length s.pending ≡ suc (length (x ∷ xs)) = ap length pending in
     let left : length t.pending ≡ length (x ∷ xs) = ap (λ (y : Session). length y.pending) after in

@@ -1,7 +1,9 @@
+pub mod SessionFields
 pub mod StateLemmas
 pub mod AddressedLemmas
 pub mod IndexLemmas
 pub mod PastLemmas
+pub mod EarlyLemmas
 pub mod StandLemmas
 pub mod CreatingLemmas
 pub mod OptionLemmas
@@ -12,6 +14,10 @@ pub mod BeginLemmas
 pub mod RestLemmas
 pub mod LawLemmas
 pub mod FindingLemmas
+pub mod EarlyBytes
+pub mod EarlyRowLemmas
+pub mod PlaceLemmas
+pub mod EarlyPlaces
 pub mod AloneLemmas
 pub mod RowPieces
 pub mod IndexStarts
@@ -19,9 +25,13 @@ pub mod FlushLemmas
 pub mod FlushStands
 pub mod WritableLemmas
 pub mod PieceLemmas
+pub mod PlanLemmas
 pub mod FlushedLemmas
+pub mod PrepareLemmas
 pub mod CarriedLemmas
 pub mod StartKinds
+pub mod StartPlaces
+pub mod PlannedRows
 pub mod StartedLemmas
 pub mod StartingLemmas
 pub mod StartCarriedLemmas
@@ -29,6 +39,10 @@ pub mod NextLemmas
 pub mod PieceBounds
 pub mod ReachedLemmas
 pub mod LoadLemmas
+pub mod EarlyStands
+pub mod EarlyLoads
+pub mod AppendStands
+pub mod EarlyCalls
 pub mod HeaderAlone
 pub mod StartLoads
 pub mod FlushCalls

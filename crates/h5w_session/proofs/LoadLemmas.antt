@@ -11,14 +11,14 @@ use Rattle.h5w_model.specs.declared.root.Super.{Super}
 use Rattle.h5w_space.specs.Space.{Space}
 use Rattle.h5w_space.specs.declared.Full.{Full}
 use Rattle.h5w_cache.specs.Plans.{IsRefused}
-use Rattle.h5w_types.proofs.RunLemmas.{length-run_bytes}
 use Rattle.h5w_chunks.specs.Grids.{IsCut, chunk_len}
 use Rattle.h5w_chunks.proofs.Geometry.{lt_up}
 use Rattle.h5w_header_laws.specs.Files.{with_index}
 use Rattle.h5w_flush_laws.specs.Parts.{AreEnded}
 use Rattle.h5w_index.specs.Views.{IndexView}
 use Rattle.h5w_index.specs.Marks.{IsMarked, IsRaised}
-use Rattle.h5w_index.specs.Placing.{IsFullPart, IsOwn, most_of}
+use Rattle.h5w_index.specs.Full.{IsFullPart, most_of}
+use Rattle.h5w_index.specs.Placing.{IsOwn}
 use Rattle.h5w_index.proofs.DepthLemmas.{depth_laws}
 use Rattle.h5w_index.proofs.MarkLemmas.{plan_bounds}
 use Rattle.h5w_index.proofs.PartlyLemmas.{own_laws}
@@ -27,15 +27,17 @@ use Rattle.h5w_index.proofs.RaisedLemmas.{raised_more, raised_on}
 use Rattle.h5w_session.specs.Flushes.{ArePlanned, IsFlushed, flushed_of, header_piece, touched_by}
 use Rattle.h5w_session.specs.Loads.{NoPlace, first_end_of}
 use Rattle.h5w_session.specs.Past.{IsCounted, IsMadeHere, Past}
-use Rattle.h5w_session.specs.Sessions.{IsRoomy, Session, AllEndBy, AreReached, cutting_of, most_lines, rows_of, with_rows}
+use Rattle.h5w_session.specs.Sessions.{IsRoomy, Session, AllEndBy, AreReached, cutting_of, most_lines, next_row, rows_of, with_rows}
+use Rattle.h5w_steps.specs.Logs.{image_now}
 use Rattle.h5w_session.specs.Stands.{Running, Stands}
-use Rattle.h5w_session.proofs.FlushLemmas.{after_flush, told_of}
+use Rattle.h5w_session.proofs.FlushLemmas.{after_flush, cut_of, told_of}
 use Rattle.h5w_session.proofs.HeaderAlone.{same_block}
 use Rattle.h5w_session.proofs.FlushStands.{flush_stands, idle_running}
 use Rattle.h5w_session.proofs.LawLemmas.{standing_laws}
 use Rattle.h5w_session.proofs.NextLemmas.{next_addressed}
 use Rattle.h5w_session.proofs.PastLemmas.{IsLike, past_planned}
-use Rattle.h5w_session.proofs.PieceBounds.{new_writes_few}
+use Rattle.h5w_session.proofs.PieceBounds.{behind_few}
+use Rattle.h5w_session.proofs.PlannedRows.{other_bytes}
 use Rattle.h5w_session.proofs.ReachedLemmas.{any_reached}
 
 -- ---- Numbers
@@ -81,7 +83,7 @@ counted s c =
     let cells : 1 * 1 ≤ d.layout.chunk_rows * d.layout.chunk_cols = mul-le 1 1 d.layout.chunk_rows d.layout.chunk_cols (omega (arith, c.rows)) (omega (arith, c.cols)) in
     let bytes : 1 * 1 ≤ d.layout.chunk_rows * d.layout.chunk_cols * d.int_type.size = mul-le 1 1 (d.layout.chunk_rows * d.layout.chunk_cols) d.int_type.size (omega (arith, cells)) (omega (arith, c.some)) in
     record {
-      cut = record { rows = c.rows; cols = c.cols; some = c.some; few = c.few; small = c.small; fill = c.fill };
+      cut = cut_of d c;
       across = c.across;
       bytes = omega (arith, bytes);
       same = grind arith;
@@ -110,7 +112,7 @@ supers_few s e (w ∷ ws) ended = omega (arith, ap length ended.1)
 module _ (s : Session) (v : IndexView) (before : Space) (w : IndexView) (t : Space) (x : ArePlanned s v before w t) where
   -- an index that was made here stays one
   pub planned_own : IsOwn v → IsOwn w
-  planned_own own = own_laws.planned x.named x.between x.moves x.copies x.fixed w t x.placing.partly.like.sound x.plan (x.placing.partly.own own)
+  planned_own own = own_laws.planned x.named x.between x.moves x.copies x.fixed w t x.names.partly.like.sound x.plan (x.names.partly.own own)
 
   -- an index that had room has it still
   pub planned_roomy : IsRoomy s.dataset v → IsRoomy s.dataset w
@@ -118,26 +120,23 @@ module _ (s : Session) (v : IndexView) (before : Space) (w : IndexView) (t : Spa
 
   module _ (marks : IsMarked s.dataset s.dataset.shape.rows (rows_of s) v) where
     pub planned_raised : IsRaised before t (most_of s.dataset (rows_of s))
-    planned_raised = placing_laws.raised s.dataset (rows_of s) v x.named w before x.between t x.chunks x.added x.moves x.copies x.fixed x.all marks x.placing x.plan
+    planned_raised = placing_laws.raised s.dataset (rows_of s) v x.named w before x.between t s.chunks x.chunks x.added x.moves x.copies x.fixed x.all marks x.names x.taken x.plan
 
     module _ (log : Log) (r : Running s [] log) where
       rows_few : length x.rows ≤ touched_by s * chunk_bytes s.dataset
       rows_few =
           let d = s.dataset in
           let counts = counted s r.past.counted in
-          let cells : length s.waiting ≡ s.waits * d.shape.cols * d.int_type.size =
-          ap length r.waiting ∙ length-run_bytes d.int_type 0 r.more r.fit ∙ ap (λ (n : ℕ). n * d.int_type.size) r.count in
-          let waits : rows_of s - d.shape.rows ≡ s.waits = omega arith in
-          let count : length s.waiting ≡ (rows_of s - d.shape.rows) * d.shape.cols * d.int_type.size = cells ∙ ap (λ (n : ℕ). n * d.shape.cols * d.int_type.size) (sym waits) in
-          let few = new_writes_few d s.waiting d.shape.rows (rows_of s) x.chunks counts.cut count x.all in
-          let size : length x.chunks * chunk_len d ≡ touched_by s * chunk_bytes d = ap (λ (n : ℕ). n * chunk_len d) x.all ∙ ap (λ (n : ℕ). touched_by s * n) counts.same in
+          let count = other_bytes (image_now log) s v before w t x r.address r.rest r.early r.more r.written r.some r.waiting r.fit r.count counts.cut in
+          let few = behind_few d s.waiting d.shape.rows (next_row s) (rows_of s) x.chunks counts.cut (omega arith) count x.all in
+          let size : touched_by s * chunk_len d ≡ touched_by s * chunk_bytes d = ap (λ (n : ℕ). touched_by s * n) counts.same in
           between_same (length x.rows) _ _ (touched_by s * chunk_bytes d) (ap length x.exact) few size
 
       -- all pieces, with the header's
       pub planned_few : length x.rows + (length x.copies + (length x.supers + (length x.fixed + 1))) ≤ 1000 + most_of s.dataset (rows_of s)
       planned_few =
           let d = s.dataset in
-          let index = plan_bounds d d.shape.rows (rows_of s) x.named x.between x.moves x.copies x.fixed w t x.placing.partly.like.sound (x.placing.partly.marks marks) x.plan in
+          let index = plan_bounds d d.shape.rows (rows_of s) x.named x.between x.moves x.copies x.fixed w t x.names.partly.like.sound (x.names.partly.marks marks) x.plan in
           all_few (touched_by s) (chunk_bytes d) (length x.rows) (length x.copies) (length x.supers) (length x.fixed) rows_few index.pieces (supers_few s.root t.end x.supers x.ended)
 
 -- ---- A flush into a file whose index is there
@@ -176,7 +175,7 @@ module _ (old new : Session) (log : Log) (x : IsFlushed old new) (running : old.
   -- what it keeps of the past
   past_flushed : AllEndBy new.places.end new.pending → Past new new.pending (and_now (plans (length new.pending)) log) (after_flush old new log x r)
   past_flushed within =
-      past_planned old new (length new.pending) new.pending log r.after (after_flush old new log x r) (like_flushed old new x.session flush_raised.limit (λ o. (planned_own old old.index old.places new.index new.places x.planned o.0, same_block old.index new.index ((told_of old old.index old.places new.index new.places x.planned).stay ∙ x.planned.placing.partly.like.fixed) ∙ o.1)) (any_reached old new (inl x)) (planned_roomy old old.index old.places new.index new.places x.planned)) flush_raised
+      past_planned old new (length new.pending) new.pending log r.after (after_flush old new log x r) (like_flushed old new x.session flush_raised.limit (λ o. (planned_own old old.index old.places new.index new.places x.planned o.0, same_block old.index new.index ((told_of old old.index old.places new.index new.places x.planned).stay ∙ x.planned.names.partly.like.fixed) ∙ o.1)) (any_reached old new (inl x)) (planned_roomy old old.index old.places new.index new.places x.planned)) flush_raised
       within (λ new_log. next_addressed old new log x r new_log) r.past
 
 -- the pieces of a flush, and what is left of the relation to the log
@@ -206,13 +205,13 @@ refused_bound s log t n size full waits grew raised few refused some small =
 -- Where rows that wait have no place for their first new chunk that has none, or else for the first block in turn: then the place that
 -- is not there is bounded, also where the blocks of an index without chunks took places first.
 pub part_no_place : (s : Session) (log : Log) → s.stopped ≡ false → s.pending ≡ [] → Stands s log → 0 < s.waits → (full : Full) (v : IndexView) → IsMarked s.dataset s.dataset.shape.rows (rows_of s) v → (base : Space) (taken : ℕ)
-    → taken ≤ 1000 → IsRaised s.places base taken → IsFullPart s.dataset (rows_of s) v base full → NoPlace s log full
+    → taken ≤ 1000 → IsRaised s.places base taken → IsFullPart s.dataset (rows_of s) v s.chunks base full → NoPlace s log full
 part_no_place s log running idle st waits full v marks base taken little risen none =
     let r = idle_running s log running idle st in
     let c = counted s r.past.counted in
     let most = most_of s.dataset (rows_of s) in
     let top = load (cutting_of s) log in
     let loads = load_is s log running idle st in
-    let b = placing_laws.full s.dataset (rows_of s) v base full (let bytes = c.bytes in let same = c.same in omega (arith, bytes, same)) (some_touched s c waits) marks none in
+    let b = placing_laws.full s.dataset (rows_of s) v s.chunks base full (let bytes = c.bytes in let same = c.same in omega (arith, bytes, same)) (some_touched s c waits) marks none in
     refused_bound s log b.before (taken + most) b.size full waits r.past.grew (raised_on s.places base b.before taken most risen b.raised) (at_most (taken + most) (1000 + most) top (omega (arith, little)) loads)
     b.refused b.some (at_most b.size (1000 + most) top (let few = b.few in omega (arith, few)) loads)

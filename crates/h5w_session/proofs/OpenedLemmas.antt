@@ -1,5 +1,5 @@
 -- A session over a file that was opened stands for the log without events.
-use Rattle.std.proofs.Common.{◌≡◌, ℕ, ◌*◌, ◌<◌, ◌≤◌, List, [], ◌∷◌, ◌++◌, length, get_or, ℤ, refl, sym, ap, ◌∙◌, subst, inl, inr, arith, length-append}
+use Rattle.std.proofs.Common.{◌≡◌, ℕ, ◌+◌, ◌-◌, ◌*◌, ◌<◌, ◌≤◌, List, [], ◌∷◌, ◌++◌, length, get_or, ℤ, refl, sym, ap, ◌∙◌, subst, inl, inr, arith, length-append}
 use Rattle.h5w_model.specs.Datasets.{Described}
 use Rattle.h5w_model.specs.Findings.{Summary, Valid}
 use Rattle.h5w_model.specs.Logs.{Log, div_up, rows_in}
@@ -7,21 +7,25 @@ use Rattle.h5w_model.specs.Numbers.{range}
 use Rattle.h5w_model.specs.Tables.{Reads}
 use Rattle.h5w_steps.specs.Logs.{Goes}
 use Rattle.h5w_steps.specs.Moments.{Moment, Represents}
-use Rattle.h5w_steps.proofs.MomentLemmas.{super_parts}
+use Rattle.h5w_steps.proofs.MomentLemmas.{few, super_parts}
 use Rattle.h5w_steps.proofs.SessionLaws.{goes_runs, opened_goes}
 use Rattle.h5w_cache.specs.Stores.{times}
 use Rattle.h5w_chunks.specs.Shares.{first_line}
+use Rattle.h5w_chunks.specs.declared.grid.ChunkPlace.{ChunkPlace}
+use Rattle.h5w_visits.specs.Needed.{AreFew}
 use Rattle.h5w_index.specs.Views.{IndexView, IsClean, IsReached, an_array, a_tree, address_in}
 use Rattle.h5w_index.specs.Flushes.{Rests}
 use Rattle.h5w_index.proofs.MarkLemmas.{mark_laws}
 use Rattle.h5w_creation_laws.specs.CreatedFiles.{CreatedFile, created_blocks, header_block, index_blocks, root_block, super_block}
+use Rattle.h5w_session.specs.Early.{HasEarly}
 use Rattle.h5w_session.specs.Loads.{end_in, first_end_of}
 use Rattle.h5w_session.specs.Openings.{IsOver, OverLaws, opened_log}
 use Rattle.h5w_session.specs.Past.{IsNew, Past}
-use Rattle.h5w_session.specs.Sessions.{AreReached, Session, rows_of}
+use Rattle.h5w_session.specs.Sessions.{AreReached, Session, rows_of, with_rows}
 use Rattle.h5w_session.specs.Reaches.{FileFinds}
 use Rattle.h5w_session.specs.Stands.{Running, Stands}
 use Rattle.h5w_session.proofs.CreatingLemmas.{no_cells}
+use Rattle.h5w_session.proofs.EarlyLemmas.{nothing_early}
 use Rattle.h5w_session.proofs.RestLemmas.{array_six}
 use Rattle.h5w_session.proofs.StandLemmas.{flagged_stands, goes_rows}
 use Rattle.h5w_session.proofs.StartKinds.{blank_none}
@@ -82,23 +86,40 @@ module _ (s : Session) (img : List ℕ) (rows columns : ℕ) (values : List ℤ)
         roomy = λ new. not_new new;
       }
 
+  -- no row was written early
+  written : HasEarly s.dataset s.early s.chunks s.places img (λ key. address_in s.index key) s.places []
+  written =
+      let d = m.dataset in
+      let rows : d.shape.rows ≡ d.shape.rows + 0 = omega arith in
+      let now : AreFew (with_rows (s.dataset.shape.rows + 0) s.dataset) =
+      subst (λ (x : Described). AreFew (with_rows (x.shape.rows + 0) x)) b.keeps.dataset (subst (λ (n : ℕ). AreFew (with_rows n d)) rows (few img s.name m b.knows.file)) in
+      let none = nothing_early s.dataset s.places img (λ key. address_in s.index key) now in
+      subst (λ (n : ℕ). HasEarly s.dataset n s.chunks s.places img (λ key. address_in s.index key) s.places []) (sym b.early)
+      (subst (λ (ps : List ChunkPlace). HasEarly s.dataset 0 ps s.places img (λ key. address_in s.index key) s.places []) (sym b.chunks) none)
+
   running : Running s [] log
   running = record {
     after = m;
     address = λ key. address_in s.index key;
     held = m.behind;
     runs = goes_runs s.name log m m.behind goes (λ k. sym same);
+    rest = s.places;
     knows = b.knows;
     holds = b.held;
     keeps = b.keeps;
     index = b.index;
     marks = mark_laws.clean s.dataset s.dataset.shape.rows (rows_of s) s.index b.clean;
+    early = [];
+    written = written;
+    some = let none = b.early in omega (arith, none);
+    flushing = λ e. b.early;
     more = [];
     waiting = b.waiting ∙ no_cells s.dataset;
     fit = refl;
-    count = subst (λ (n : ℕ). 0 ≡ n * s.dataset.shape.cols) (sym b.waits) (omega arith);
+    count = subst (λ (n : ℕ). 0 ≡ n * s.dataset.shape.cols) (let waits = b.waits in let none : 0 ≡ s.waits - s.early = omega (arith, waits) in none) (omega arith);
     appended = ap (λ (vs : List ℤ). vs ++ []) same;
     committed = goes_rows s.name log m m.behind goes ∙ ap (λ (d : Described). d.shape.rows) b.keeps.dataset ∙ sym b.committed;
+    planned = λ kept still. b.committed;
     columns = ap (λ (d : Described). d.shape.cols) (sym b.keeps.dataset) ∙ goes.columns;
     past = past;
   }

@@ -215,6 +215,29 @@ past_values s t vs log m like end past =
       roomy = λ new. like.roomy (past.roomy (new_before e log new));
     }
 
+-- rows are appended, of which some are written early: the file rises by no more than their load
+pub past_early : (s t : Session) (vs : List ℤ) (ws : List Write) (log : Log) (m : Moment) → IsLike s t → IsRaised s.places t.places (load (cutting_of s) (and_now (appends vs) log)) → AllEndBy t.places.end ws → Past s [] log m
+    → Past t ws (and_now (appends vs) log) m
+past_early s t vs ws log m like raised within past =
+    let e = appends vs in
+    let fits : t.places.end ≤ most_of t log = omega (arith, raised.fits, past.fits, most_alike s t log like, raised.limit) in
+    record {
+      begun = begun_later s t e log like past.begun;
+      counted = counted_alike s t like past.counted;
+      limit_low = omega (arith, past.limit_low, like.limit);
+      limit_high = omega (arith, past.limit_high, like.limit);
+      addressed = λ new. subst (λ (name : List ℕ). EachAddressed name (and_now e log)) (sym like.name) (same_positions e log s.name refl (past.addressed (new_before e log new)));
+      next = λ new. past.next (new_before e log new);
+      own = λ new. like.own (past.own (new_before e log new));
+      reach = like.reach (rows_in log log.values) log.start past.reach;
+      grew =
+          let more = spent_in-events (cutting_of s) log (e ∷ log.events) log.events in
+          grew_alike s t log like (and_now e log) t.places.end (omega (arith, past.grew, raised.bound, more)) refl;
+      fits = fits;
+      ends = ends_joined (most_of t log) (hist log.events) ws (ends_alike s t log like (hist log.events) (ends_front (most_of s log) (hist log.events) [] past.ends)) (ends_later t.places.end (most_of t log) ws fits within);
+      roomy = λ new. like.roomy (past.roomy (new_before e log new));
+    }
+
 -- a flush is planned, and all needed chunks of the file after it have addresses
 pub past_planned : (s t : Session) (k : ℕ) (ws : List Write) (log : Log) (m n : Moment) → IsLike s t → IsRaised s.places t.places (load (cutting_of s) log) → AllEndBy t.places.end ws
     → (IsNew log → AllAddressed (reading_of n)) → Past s [] log m → Past t ws (and_now (plans k) log) n

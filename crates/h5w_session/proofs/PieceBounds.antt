@@ -1,5 +1,6 @@
 -- How many pieces rows have.
-use Rattle.std.proofs.Common.{◌≡◌, ℕ, zero, suc, ◌+◌, ◌-◌, ◌*◌, ◌≤◌, Bool, true, false, List, [], ◌∷◌, length, arith, length-append}
+use Rattle.std.proofs.Common.{◌≡◌, ◌⊎◌, ℕ, zero, suc, ◌+◌, ◌-◌, ◌*◌, ◌<◌, ◌≤◌, Bool, true, false, nat_lt, List, [], ◌∷◌, length, ap, inl, inr, arith, length-append, mul-le-mul_right}
+use Rattle.std.proofs.lemmas.Bool.{cases_lt, cond-false, cond-true, le-ltb, lt-ltb}
 use Rattle.std.specs.Prelude.{◌==◌, if◌then◌else◌}
 use Rattle.std.proofs.lemmas.Nat.{mul-le}
 use Rattle.h5w_model.specs.Images.{pieces}
@@ -13,6 +14,9 @@ use Rattle.h5w_chunks.specs.declared.share.Share.{Share}
 use Rattle.h5w_chunks.proofs.BlockLemmas.{AllLong, AllLong-first, AllLong-next}
 use Rattle.h5w_chunks.proofs.RowLaws.{length-new_chunk, length-share_rows, own_long}
 use Rattle.h5w_chunks.proofs.WriteLaws.{is_share}
+use Rattle.h5w_session.specs.Early.{next_places}
+use Rattle.h5w_session.specs.Flushes.{writes_behind}
+use Rattle.h5w_session.proofs.EarlyPlaces.{places_count, touched_less}
 
 -- how many bytes some blocks have
 abbrev total_len : List (ℕ × List ℕ) → ℕ
@@ -74,3 +78,19 @@ from_few d cells from to k (p ∷ ps) cut count known =
 pub new_writes_few : (d : Described) (cells : List ℕ) (from to : ℕ) (places : List ChunkPlace) → IsCut d → length cells ≡ (to - from) * d.shape.cols * d.int_type.size → length places ≡ touched d from to
     → length (new_writes d cells from to places) ≤ length places * chunk_len d
 new_writes_few d cells from to places cut count all = from_few d cells from to 0 places cut count (omega (arith, all))
+
+-- so are those behind rows that were written early
+pub behind_few : (d : Described) (cells : List ℕ) (from mid to : ℕ) (chunks : List ChunkPlace) → IsCut d → from ≤ mid → length cells ≡ (to - mid) * d.shape.cols * d.int_type.size → length chunks ≡ touched d from to
+    → length (writes_behind d cells from mid to chunks) ≤ touched d from to * chunk_len d
+behind_few d cells from mid to chunks cut low count all = go (cases_lt mid to)
+  where
+    places : List ChunkPlace
+    places = next_places d from mid chunks
+
+    go : (mid < to) ⊎ (to ≤ mid) → length (writes_behind d cells from mid to chunks) ≤ touched d from to * chunk_len d
+    go (inl rises) =
+        let each : length places ≡ touched d mid to = places_count d from mid to chunks cut low rises all in
+        let few = new_writes_few d cells mid to places cut count each in
+        let less : length places * chunk_len d ≤ touched d from to * chunk_len d = mul-le-mul_right (chunk_len d) (omega (arith, each, touched_less d from mid to cut low rises)) in
+        omega (arith, ap length (cond-true (nat_lt mid to) (new_writes d cells mid to places) [] (lt-ltb mid to rises)), few, less)
+    go (inr none) = omega (arith, ap length (cond-false (nat_lt mid to) (new_writes d cells mid to places) [] (le-ltb mid to none)))

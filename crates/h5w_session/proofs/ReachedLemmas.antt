@@ -78,8 +78,8 @@ planned_reached s v before w t x key low =
           let last = last_touched d from to (omega (arith, x.some)) per x.fits.some in
           let there = chunk_there x.chunks last.0 (omega (arith, last.1.inside, x.all)) in
           let top : Key = touched_key d from last.0 in
-          let looked : IsReached x.named top = x.placing.reached last.0 there.0 there.1 in
-          let kept : IsReached w top = reach_laws.planned x.named x.between x.moves x.copies x.fixed w t x.placing.partly.like.sound x.plan top looked in
+          let looked : IsReached x.named top = x.names.reached last.0 there.0 there.1 in
+          let kept : IsReached w top = reach_laws.planned x.named x.between x.moves x.copies x.fixed w t x.names.partly.like.sound x.plan top looked in
           reach_laws.lower w top key (below_last key.i (first_line d (div_up to d.layout.chunk_rows)) top.i low last.1.last) kept
       | inr none ↦
           let zero : d.layout.chunk_rows ≡ 0 = omega (arith, none) in

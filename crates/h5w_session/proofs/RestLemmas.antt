@@ -25,7 +25,7 @@ use Rattle.h5w_flush_laws.specs.Knowledge.{IsMap}
 use Rattle.h5w_index.specs.Views.{IndexView, an_array, address_in}
 use Rattle.h5w_index.specs.Flushes.{Rests}
 use Rattle.h5w_index.specs.Marks.{IsMarked}
-use Rattle.h5w_session.specs.Sessions.{Session, IsNamed, rows_of}
+use Rattle.h5w_session.specs.Sessions.{Session, rows_of}
 use Rattle.h5w_session.specs.Stands.{Running, Stands}
 use Rattle.h5w_session.proofs.StandLemmas.{left_running}
 
@@ -72,10 +72,10 @@ pub record ArrayRests (s : Session) (v : Store) (img : List ℕ) : Type 0 where
   pub there : (k : Part) → IsPart k → IsSome (block_at_part v k) → At img (place_at_part v k) (bytes_at_part v k)
   pub six : numbers_in (range img s.dataset.layout.address eahd_len) 6 12 ≡ numbers_in (bytes_at_part v header) 6 12
 
-pub array_rests : (s : Session) (log : Log) → (r : Running s [] log) → Rests (image_now log) r.after r.address s.places s.index → s.waits ≡ 0 → (v : Store) → s.index ≡ an_array v → ArrayRests s v (image_now log)
+pub array_rests : (s : Session) (log : Log) → (r : Running s [] log) → Rests (image_now log) r.after r.address r.rest s.index → s.waits ≡ 0 → (v : Store) → s.index ≡ an_array v → ArrayRests s v (image_now log)
 array_rests s log r now none v e =
     let img = image_now log in
-    let of_array : Rests img r.after r.address s.places (an_array v) = subst (λ (w : IndexView). Rests img r.after r.address s.places w) e now in
+    let of_array : Rests img r.after r.address r.rest (an_array v) = subst (λ (w : IndexView). Rests img r.after r.address r.rest w) e now in
     let is : IsArray v = of_array.sound in
     let all : rows_of s ≡ s.dataset.shape.rows = omega (arith, none) in
     let marks : IsMarked s.dataset s.dataset.shape.rows s.dataset.shape.rows (an_array v) =
@@ -90,5 +90,5 @@ array_rests s log r now none v e =
       there = there;
       six =
           ap (λ (at : ℕ). numbers_in (range img at eahd_len) 6 12) (ap (λ (d : Described). d.layout.address) (sym r.keeps.dataset))
-          ∙ array_six img r.after r.address s.places v of_array (none_changed s.dataset s.dataset.shape.rows v (number_of header) marks);
+          ∙ array_six img r.after r.address r.rest v of_array (none_changed s.dataset s.dataset.shape.rows v (number_of header) marks);
     }

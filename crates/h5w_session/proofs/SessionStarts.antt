@@ -1,5 +1,6 @@
 -- What holds of every session holds of one that creates its file.
-use Rattle.std.proofs.Common.{◌≡◌, ℕ, ◌+◌, ◌<◌, ◌≤◌, [], ◌∷◌, refl, sym, subst, inl, inr, arith}
+use Rattle.std.proofs.Common.{◌≡◌, ℕ, ◌+◌, ◌^◌, ◌<◌, ◌≤◌, [], ◌∷◌, refl, sym, subst, inl, inr, arith}
+use Rattle.std.proofs.lemmas.List.Elements.{All-nil}
 use Rattle.h5w_model.specs.Numbers.{undefined}
 use Rattle.h5w_model.specs.Arrays.{eahd_len, eaib_len}
 use Rattle.h5w_model.specs.Trees.{bthd_len}
@@ -11,6 +12,7 @@ use Rattle.h5w_visits.specs.Ranges.{AllEndBy as RangesEndBy, block_at}
 use Rattle.h5w_visits.proofs.RangeLemmas.{ends_cons, ends_nil}
 use Rattle.h5w_header_laws.specs.Spelled.{spelled_header}
 use Rattle.h5w_header_laws.proofs.SpelledLemmas.{spelled_read}
+use Rattle.h5w_space.specs.Space.{Apart, extent}
 use Rattle.h5w_array_laws.specs.Parts.{index_block}
 use Rattle.h5w_array_laws.specs.ArrayStores.{header_place, place_at_part}
 use Rattle.h5w_array_laws.proofs.CreatedLemmas.{created_starts}
@@ -23,6 +25,7 @@ use Rattle.h5w_creation.specs.Made.{IsNewIndex}
 use Rattle.h5w_session.specs.Sessions.{ArePieces, IsSession, IsWritable}
 use Rattle.h5w_session.specs.Creations.{IsIndexOf, IsLimit, created}
 use Rattle.h5w_session.proofs.CreatingLemmas.{no_chunks, writes_end}
+use Rattle.h5w_session.proofs.EarlyLemmas.{none_touched}
 use Rattle.h5w_session.proofs.HeaderAlone.{head_ends}
 use Rattle.h5w_session.proofs.StateLemmas.{up_some}
 
@@ -73,8 +76,8 @@ new_index f v is index =
 new_fits : (f : CreatedFile) (v : IndexView) → IsCreatable f → f.index ≡ kind_of v → Fits (described_of f) v
 new_fits f v is kind = record { kind = kind; some = up_some f.columns f.chunk_cols (omega (arith, is.some_cols)) (omega (arith, is.some_columns)) }
 
-pub created_is : (f : CreatedFile) (most : ℕ) (v : IndexView) → IsCreatable f → IsLimit most → IsIndexOf f v → IsSession (created f most v)
-created_is f most v is limit index =
+pub created_is : (f : CreatedFile) (most budget : ℕ) (v : IndexView) → IsCreatable f → IsLimit most → 1024 ≤ budget → budget ≤ 2 ^ 30 → IsIndexOf f v → IsSession (created f most budget v)
+created_is f most budget v is limit low high index =
     let z = created_sizes f is in
     let none = no_chunks f is in
     let empty = new_index f v is index in
@@ -94,6 +97,16 @@ created_is f most v is limit index =
       limit = limit.high;
       inside = λ key from named. absurd (named (empty.map key));
       tops = λ whole. empty.tops;
+      blank = λ unmade key. empty.map key;
+      live = λ unmade. record { within = omega arith; off_free = All-nil (Apart (extent 0 48)); off_retired = All-nil (Apart (extent 0 48)) };
+      early = omega arith;
+      chunks = sym (none_touched (described_of f) (described_of f).shape.rows);
+      placed = λ k p here. absurd cc;
+      ends = λ k p here. absurd cc;
+      flushing = λ e. refl;
+      busy = λ e. absurd cc;
+      budget_low = low;
+      budget_high = high;
       head = λ named lacking. subst (λ n. n + eahd_len ≤ end_of f) (sym empty.place) (head_ends v (end_of f) lacking empty.tops);
     }
 

@@ -1,5 +1,6 @@
 -- What the code of a first flush makes of a session.
-use Rattle.std.proofs.Common.{◌≡◌, ◌≢◌, ℕ, ◌+◌, ◌^◌, ◌<◌, ◌≤◌, true, List, [], ◌∷◌, ◌++◌, length, Option, ap, sym, ◌∙◌, subst, arith, inl, inr, length-append}
+use Rattle.std.proofs.Common.{◌≡◌, ◌≢◌, ℕ, ◌+◌, ◌^◌, ◌<◌, ◌≤◌, true, List, [], length, Option, Some, ap, sym, ◌∙◌, subst, arith, inl, inr}
+use Rattle.std.specs.List.{slice_get}
 use Rattle.h5w_model.specs.Arrays.{eahd_len}
 use Rattle.h5w_model.specs.Numbers.{undefined}
 use Rattle.h5w_model.specs.declared.cell.IndexKind.TheVariants.{Tree}
@@ -12,20 +13,25 @@ use Rattle.h5w_model.specs.declared.root.Super.{Super}
 use Rattle.h5w_space.specs.Space.{Space}
 use Rattle.h5w_space.specs.declared.Full.{Full}
 use Rattle.h5w_cache.specs.declared.moves.Move.{Move}
-use Rattle.h5w_chunks.specs.Grids.{fill_cell}
+use Rattle.h5w_chunks.specs.Grids.{chunk_len, fill_cell}
 use Rattle.h5w_chunks.specs.Rows.{RowsWritten}
-use Rattle.h5w_chunks.specs.Shares.{first_line, new_writes, touched}
+use Rattle.h5w_chunks.specs.Shares.{first_line, touched, touched_key}
 use Rattle.h5w_chunks.specs.declared.grid.ChunkPlace.{ChunkPlace}
 use Rattle.h5w_header_laws.specs.Files.{with_index}
+use Rattle.h5w_flush_laws.specs.EarlyRows.{IsEarlyPlace}
 use Rattle.h5w_flush_laws.specs.Parts.{AreEnded}
 use Rattle.h5w_index.specs.Blocks.{has_no_block}
-use Rattle.h5w_index.specs.Views.{IndexView, TakesKey, an_array, a_tree, kind_of}
+use Rattle.h5w_index.specs.Views.{IndexView, TakesKey, address_in, an_array, a_tree, kind_of}
 use Rattle.h5w_index.specs.Steps.{IsPlan}
-use Rattle.h5w_index.specs.Placing.{AreInside, Fits, IsFullPart, IsPlacing}
-use Rattle.h5w_session.specs.Sessions.{ArePieces, IsRoomy, IsSession, IsUnmade, Session, rows_of, with_rows}
-use Rattle.h5w_session.specs.Flushes.{ArePlanned}
+use Rattle.h5w_index.specs.Full.{IsFullPart}
+use Rattle.h5w_index.specs.Naming.{AreNamed, AreTakenBehind}
+use Rattle.h5w_index.specs.Placing.{AreInside, Fits}
+use Rattle.h5w_session.specs.Sessions.{ArePieces, IsRoomy, IsSession, IsUnmade, Session, next_row, rows_of, with_rows}
+use Rattle.h5w_session.specs.Early.{next_places}
+use Rattle.h5w_session.specs.Flushes.{ArePlanned, writes_behind}
 use Rattle.h5w_session.specs.Refusals.{IsStartFull, IsUnfilled, IsUnplaced}
 use Rattle.h5w_session.specs.Starts.{AreJoined, IsNaming, IsStartFlushed, IsStartedAt, naming_piece, started_of}
+use Rattle.h5w_session.proofs.StartKinds.{made_none}
 use Rattle.h5w_session.proofs.StartingLemmas.{made_fits, made_inside, made_takes, shown_started, started_is, started_pieces}
 
 -- ---- What the places of such a flush ask for
@@ -36,14 +42,23 @@ pub record AsksOfMade (v : Session) (to : ℕ) (made : IndexView) (first : Space
   pub takes : (key : Key) → key.i < first_line v.dataset (div_up to v.dataset.layout.chunk_rows) → TakesKey made key
   pub inside : AreInside v.dataset first.end made
   pub limit : first.limit ≤ 2 ^ 40
+  -- the chunks that were written early are new ones: the index names none, as that which is not there did not
+  pub placed : (k : ℕ) (p : ChunkPlace) → slice_get v.chunks k ≡ Some p → IsEarlyPlace v.dataset (λ key. address_in made key) v.dataset.shape.rows k p
+  pub ends : (k : ℕ) (p : ChunkPlace) → slice_get v.chunks k ≡ Some p → p.address + chunk_len v.dataset ≤ first.end
 
-pub asks_of_made : (v : Session) (to : ℕ) (places : Space) (at : ℕ) (made : IndexView) (first : Space) → IsSession v → to ≡ rows_of v → places ≡ v.places → v.dataset.layout.index ≡ kind_of made → IsStartedAt v.dataset.layout.address places at made first
-    → AsksOfMade v to made first
-asks_of_made v to places at made first is e places_are kind start = record {
+pub asks_of_made : (v : Session) (to : ℕ) (places : Space) (at : ℕ) (made : IndexView) (first : Space) → IsSession v → IsUnmade v → to ≡ rows_of v → places ≡ v.places → v.dataset.layout.index ≡ kind_of made
+    → IsStartedAt v.dataset.layout.address places at made first → AsksOfMade v to made first
+asks_of_made v to places at made first is unmade e places_are kind start = record {
   fits = made_fits v is made kind;
   takes = subst (λ (n : ℕ). (key : Key) → key.i < first_line v.dataset (div_up n v.dataset.layout.chunk_rows) → TakesKey made key) (sym e) (made_takes v is made kind);
   inside = made_inside v.dataset first.end v.dataset.layout.address places at made first start;
   limit = subst (λ (n : ℕ). n ≤ 2 ^ 40) (sym (start.raised.limit ∙ ap (λ (s : Space). s.limit) places_are)) is.limit;
+  placed = λ k p here.
+      let place = is.placed k p here in
+      let key = touched_key v.dataset v.dataset.shape.rows k in
+      let none : address_in made key ≡ undefined = made_none v.dataset.layout.address places at made first start.made key in
+      record { defined = place.defined; kept = λ there. absurd (there none); stored = λ stored. absurd (place.stored stored (is.blank unmade key)); whole = λ new there. absurd (there none) };
+  ends = λ k p here. let end : places.end ≡ v.places.end = ap (λ (s : Space). s.end) places_are in omega (arith, end, start.raised.rises, is.ends k p here);
 }
 
 -- what the places of the index's blocks in place ask for
@@ -64,8 +79,8 @@ asks_of_start v places is (inr lacking) places_are = record {
 
 -- ---- What its calls make
 
--- the calls, of a session v, up to row `to`; r, b and e are the superblock, the header and the cells that wait then
-pub record StartCarried (v : Session) (to : ℕ) (t : Space) (w : IndexView) (ws : List Write) (r : Super) (b e : List ℕ) (at : ℕ) : Type 0 where
+-- the calls, of a session v, up to row `to`; r, b, e and k are the superblock, the header, the cells that wait and the chunks of early rows then
+pub record StartCarried (v : Session) (to : ℕ) (t : Space) (w : IndexView) (ws : List Write) (r : Super) (b e : List ℕ) (k : List ChunkPlace) (at : ℕ) : Type 0 where
   pub unmade : IsUnmade v
   pub some : 0 < v.waits
   pub to_is : to ≡ rows_of v
@@ -82,14 +97,19 @@ pub record StartCarried (v : Session) (to : ℕ) (t : Space) (w : IndexView) (ws
   pub added : List Key
   pub between : Space
   pub named : IndexView
-  pub placing : IsPlacing v.dataset to made first chunks added named between
+  pub names_are : AreNamed v.dataset to made chunks added named
+  pub early : List ChunkPlace
+  pub early_are : early ≡ v.chunks
+  pub taken : AreTakenBehind v.dataset (λ key. address_in made key) early first chunks between
   pub all : length chunks ≡ touched v.dataset v.dataset.shape.rows to
   pub roomy : IsRoomy v.dataset made → IsRoomy v.dataset named
   pub cells : List ℕ
   pub cells_are : cells ≡ v.waiting
   pub rows : List Write
-  pub exact : rows ≡ new_writes v.dataset cells v.dataset.shape.rows to chunks
-  pub written : RowsWritten v.dataset cells v.dataset.shape.rows to chunks rows
+  pub mid : ℕ
+  pub mid_is : mid ≡ next_row v
+  pub exact : rows ≡ writes_behind v.dataset cells v.dataset.shape.rows mid to chunks
+  pub written : mid < to → RowsWritten v.dataset cells mid to (next_places v.dataset v.dataset.shape.rows mid chunks) rows
   pub moves : List Move
   pub copies : List Write
   pub fixed : List Write
@@ -109,13 +129,16 @@ pub record StartCarried (v : Session) (to : ℕ) (t : Space) (w : IndexView) (ws
   pub items : AreJoined naming rows copies fixed supers (record { at = v.place; piece = piece }) ws
   pub header_short : length v.header ≤ 512
   pub none_waits : e ≡ []
+  pub none_early : k ≡ []
 
-module _ (v : Session) (to : ℕ) (t : Space) (w : IndexView) (ws : List Write) (r : Super) (b e : List ℕ) (at : ℕ) (x : StartCarried v to t w ws r b e at) (is : IsSession v) where
+module _ (v : Session) (to : ℕ) (t : Space) (w : IndexView) (ws : List Write) (r : Super) (b e : List ℕ) (k : List ChunkPlace) (at : ℕ) (x : StartCarried v to t w ws r b e k at) (is : IsSession v) where
   start_now : IsStartedAt v.dataset.layout.address v.places at x.made x.first
   start_now = subst (λ (s : Space). IsStartedAt v.dataset.layout.address s at x.made x.first) x.places_are x.start
 
   carried_planned : ArePlanned v x.made x.first w t
   carried_planned =
+      let d = v.dataset in
+      let from = d.shape.rows in
       let rows = rows_of v in
       record {
         fits = made_fits v is x.made x.kind;
@@ -128,13 +151,19 @@ module _ (v : Session) (to : ℕ) (t : Space) (w : IndexView) (ws : List Write) 
         added = x.added;
         named = x.named;
         between = x.between;
-        placing = subst (λ (n : ℕ). IsPlacing v.dataset n x.made x.first x.chunks x.added x.named x.between) x.to_is x.placing;
-        all = subst (λ (n : ℕ). length x.chunks ≡ touched v.dataset v.dataset.shape.rows n) x.to_is x.all;
+        names = subst (λ (n : ℕ). AreNamed d n x.made x.chunks x.added x.named) x.to_is x.names_are;
+        taken = subst (λ (early : List ChunkPlace). AreTakenBehind d (λ key. address_in x.made key) early x.first x.chunks x.between) x.early_are x.taken;
+        all = subst (λ (n : ℕ). length x.chunks ≡ touched d from n) x.to_is x.all;
         rows = x.rows;
-        exact = x.exact ∙ ap (λ (n : ℕ). new_writes v.dataset x.cells v.dataset.shape.rows n x.chunks) x.to_is ∙ ap (λ (c : List ℕ). new_writes v.dataset c v.dataset.shape.rows rows x.chunks) x.cells_are;
+        exact =
+            x.exact
+            ∙ ap (λ (n : ℕ). writes_behind d x.cells from x.mid n x.chunks) x.to_is
+            ∙ ap (λ (n : ℕ). writes_behind d x.cells from n rows x.chunks) x.mid_is
+            ∙ ap (λ (c : List ℕ). writes_behind d c from (next_row v) rows x.chunks) x.cells_are;
         written =
-            subst (λ (c : List ℕ). RowsWritten v.dataset c v.dataset.shape.rows rows x.chunks x.rows) x.cells_are
-            (subst (λ (n : ℕ). RowsWritten v.dataset x.cells v.dataset.shape.rows n x.chunks x.rows) x.to_is x.written);
+            subst (λ (c : List ℕ). next_row v < rows → RowsWritten d c (next_row v) rows (next_places d from (next_row v) x.chunks) x.rows) x.cells_are
+            (subst (λ (n : ℕ). n < rows → RowsWritten d x.cells n rows (next_places d from n x.chunks) x.rows) x.mid_is
+            (subst (λ (n : ℕ). x.mid < n → RowsWritten d x.cells x.mid n (next_places d from x.mid x.chunks) x.rows) x.to_is x.written));
         moves = x.moves;
         copies = x.copies;
         fixed = x.fixed;
@@ -155,15 +184,16 @@ module _ (v : Session) (to : ℕ) (t : Space) (w : IndexView) (ws : List Write) 
       subst (λ (h : Write). AreJoined x.naming x.rows x.copies x.fixed x.supers h ws) last x.items
 
   abbrev carried : Session
-  carried = record v { root = r; header = b; dataset = with_index at (with_rows to v.dataset); places = t; waiting = e; waits = 0; pending = ws; index = w }
+  carried = record v { root = r; header = b; dataset = with_index at (with_rows to v.dataset); places = t; waiting = e; waits = 0; pending = ws; early = 0; chunks = k; flushing = true; index = w }
 
   carried_after : carried ≡ started_of v at x.naming t ws w
   carried_after =
       let rows = rows_of v in
-      let put : Super → List ℕ → ℕ → List ℕ → Session = λ s h n c. record v { root = s; header = h; dataset = with_index at (with_rows n v.dataset); places = t; waiting = c; waits = 0; pending = ws; index = w } in
+      let put : Super → List ℕ → ℕ → List ℕ → List ChunkPlace → Session = λ s h n c early.
+      record v { root = s; header = h; dataset = with_index at (with_rows n v.dataset); places = t; waiting = c; waits = 0; pending = ws; early = 0; chunks = early; flushing = true; index = w } in
       let root : r ≡ record (v.root) { end = t.end } = x.root ∙ ap (λ (n : ℕ). record (v.root) { end = n }) x.end_is in
       let header : b ≡ with_rows_bytes v.header rows x.naming = x.header ∙ ap (λ (n : ℕ). with_rows_bytes v.header n x.naming) x.to_is in
-      λ k. put (root k) (header k) (x.to_is k) (x.none_waits k)
+      λ i. put (root i) (header i) (x.to_is i) (x.none_waits i) (x.none_early i)
 
   pub start_carried_is : IsSession carried
   unfolding carried_planned
@@ -179,21 +209,6 @@ module _ (v : Session) (to : ℕ) (t : Space) (w : IndexView) (ws : List Write) 
       subst (λ (u : Session). IsStartFlushed u carried) e'
       (subst (λ (u : Session). IsStartFlushed v u) (sym carried_after) (shown_started v is at x.made x.first x.kind start_now x.unmade x.naming x.names t w ws carried_planned carried_small carried_joined x.header_short))
 
--- how many pieces such a flush has
-pub lengths_first : (naming : Option ℕ) (a b c d : List Write) (h : Write) (ws : List Write) → AreJoined naming a b c d h ws → length ws ≡ length a + length b + length c + length d + 1
-lengths_first naming a b c d h ws j =
-    omega (
-      arith,
-      ap length j.all,
-      ap length j.cut,
-      length-append j.front j.behind,
-      length-append a (b ++ (j.front ++ (d ++ (j.behind ++ h ∷ [])))),
-      length-append b (j.front ++ (d ++ (j.behind ++ h ∷ []))),
-      length-append j.front (d ++ (j.behind ++ h ∷ [])),
-      length-append d (j.behind ++ h ∷ []),
-      length-append j.behind (h ∷ []),
-    )
-
 -- ---- A file that has no place
 
 pub start_unplaced : (v : Session) (places : Space) (full : Full) → places ≡ v.places → IsUnplaced v.dataset.layout.index v.dataset.layout.address places full → (s : Session) → v ≡ s → IsStartFull s full
@@ -202,14 +217,14 @@ start_unplaced v places full places_are none s e =
     subst (λ (u : Session). IsStartFull u full) e (inl now)
 
 pub start_unfilled : (v : Session) (to : ℕ) (places : Space) (at : ℕ) (made : IndexView) (first : Space) (full : Full) → to ≡ rows_of v → places ≡ v.places → v.dataset.layout.index ≡ kind_of made → IsStartedAt v.dataset.layout.address places at made first
-    → IsFullPart v.dataset to made first full → (s : Session) → v ≡ s → IsStartFull s full
-start_unfilled v to places at made first full to_is places_are kind start part s e =
+    → (early : List ChunkPlace) → early ≡ v.chunks → IsFullPart v.dataset to made early first full → (s : Session) → v ≡ s → IsStartFull s full
+start_unfilled v to places at made first full to_is places_are kind start early early_are part s e =
     let now : IsUnfilled v full = record {
       at = at;
       first = first;
       made = made;
       kind = kind;
       start = subst (λ (t : Space). IsStartedAt v.dataset.layout.address t at made first) places_are start;
-      none = subst (λ (n : ℕ). IsFullPart v.dataset n made first full) to_is part;
+      none = subst (λ (cs : List ChunkPlace). IsFullPart v.dataset (rows_of v) made cs first full) early_are (subst (λ (n : ℕ). IsFullPart v.dataset n made early first full) to_is part);
     } in
     subst (λ (u : Session). IsStartFull u full) e (inr now)

@@ -23,10 +23,8 @@ use Rattle.h5w_cache.specs.Stores.{Store, is_changed}
 use Rattle.h5w_cache.specs.declared.moves.Move.{Move}
 use Rattle.h5w_chunks.specs.Grids.{FitsType, cells_of, fill_cell}
 use Rattle.h5w_chunks.specs.Shares.{touched, touched_key}
-use Rattle.h5w_chunks.specs.Rows.{ChunksApart, RowsWritten}
 use Rattle.h5w_chunks.specs.Early.{RowsStand}
 use Rattle.h5w_chunks.specs.declared.grid.ChunkPlace.{ChunkPlace}
-use Rattle.h5w_chunks.proofs.EarlyLemmas.{rows_stand}
 use Rattle.h5w_header_laws.specs.Files.{chunk_0, commit_at, with_rows}
 use Rattle.h5w_steps.specs.Moments.{Moment}
 use Rattle.h5w_steps.specs.Logs.{image_now}
@@ -38,7 +36,6 @@ use Rattle.h5w_flush_laws.specs.Spaces.{Taken}
 use Rattle.h5w_flush_laws.specs.Knowledge.{Knows}
 use Rattle.h5w_flush_laws.specs.Parts.{AreEnded, Parts, committed, pieces_of}
 use Rattle.h5w_flush_laws.specs.Rows.{ArePlaced, IsOutside, IsPlaced, new_chunks}
-use Rattle.h5w_flush_laws.proofs.ChunkPlaceLemmas.{places_apart}
 use Rattle.h5w_flush_laws.proofs.SpaceLemmas.{taken_laws}
 use Rattle.h5w_array_flushes.specs.ArrayFlushes.{chunks_for}
 use Rattle.h5w_starting_laws.specs.Starting as starts
@@ -52,12 +49,11 @@ use Rattle.h5w_block_laws.proofs.BlockCallLemmas.{block_pending}
 use Rattle.h5w_starting_laws.proofs.StartLemmas.{blank_map, created_blank}
 use Rattle.h5w_starting_laws.proofs.StartPieceLemmas.{named_changed}
 use Rattle.h5w_starting_laws.proofs.StartCallLemmas.{start_pending, two_taken}
-use Rattle.h5w_starting_laws.proofs.TakenLemmas.{taken_right}
 use Rattle.h5w_bt_index.specs.Index.{Index, no_tree}
 use Rattle.h5w_index.specs.Views.{IndexView, an_array, a_tree, address_in, behind_of, fixed_of, header_place, kind_of}
 use Rattle.h5w_index.specs.Steps.{IsPlan}
 use Rattle.h5w_index.specs.Flushes.{Begins}
-use Rattle.h5w_index.specs.Placing.{IsPlacing}
+use Rattle.h5w_index.specs.Naming.{AreNamed}
 use Rattle.h5w_tree_starting_laws.specs.TreeStarting as tree_starts
 use Rattle.h5w_tree_starting_laws.specs.TreeStarting.{TreeStartKnows}
 use Rattle.h5w_tree_starting_laws.specs.TreeStartCalls.{AreTreeStartCalls}
@@ -85,10 +81,10 @@ made_none address s at v t made key = blank_none v (made_blank address s at v t 
 
 -- ---- The calls
 
--- What the calls of a first flush show, over a file that is known and the places before it: the index that is made, that index once each
--- chunk has its address, and once its blocks are planned.
-pub record AreFirstCalls (img : List ℕ) (m : Moment) (base first b : Space) (at : ℕ) (naming : Option ℕ) (u v : IndexView) (ms : List Move) (w : IndexView) (t : Space) (rows : ℕ) (more : List ℤ) (writes : List Write) (places : List ChunkPlace)
-    (added : List Key) (cs fixed supers ws : List Write) : Type 0 where
+-- What the calls of a first flush show, over a file that is known, the places that it came to rest with and those before the flush: the index
+-- that is made, that index once each chunk has its address, and once its blocks are planned.
+pub record AreFirstCalls (img : List ℕ) (m : Moment) (rest base first b : Space) (at : ℕ) (naming : Option ℕ) (u v : IndexView) (ms : List Move) (w : IndexView) (t : Space) (rows : ℕ) (more : List ℤ) (writes : List Write)
+    (places : List ChunkPlace) (added : List Key) (cs fixed supers ws : List Write) : Type 0 where
   pub kind : m.dataset.layout.index ≡ kind_of u
   pub alone : m.dataset.layout.address ≢ undefined → IsHeaderAlone img m.dataset
   pub made : IsMadeAt m.dataset.layout.address base at u first
@@ -98,8 +94,10 @@ pub record AreFirstCalls (img : List ℕ) (m : Moment) (base first b : Space) (a
   pub few : AreFew (with_rows rows m.dataset)
   pub count : length (m.values ++ more) ≡ rows * m.dataset.shape.cols
   pub some : 0 < length places
-  pub placing : IsPlacing m.dataset rows u first places added v b
-  pub written : RowsWritten m.dataset (cells_of m.dataset more) m.dataset.shape.rows rows places writes
+  -- the index names the chunks, whose places were taken in part before those of its blocks
+  pub named : AreNamed m.dataset rows u places added v
+  pub taken : (tops : List Used) → Taken base tops first → Taken rest (tops ++ chunks_for m no_chunk places) b
+  pub stand : RowsStand img m.dataset (cells_of m.dataset more) m.dataset.shape.rows rows places writes
   pub all : length places ≡ touched m.dataset m.dataset.shape.rows rows
   pub placed : (k : ℕ) (p : ChunkPlace) → slice_get places k ≡ Some p → IsPlaced m.dataset (λ key. address_in u key) (λ key. address_in w key) m.dataset.shape.rows k p
   pub others : (key : Key) → IsOutside m.dataset m.dataset.shape.rows rows key → address_in w key ≡ address_in u key
@@ -138,16 +136,6 @@ first_of : (places : List ChunkPlace) → 0 < length places → (p : ChunkPlace)
 first_of [] some = absurd (omega (arith, some))
 first_of (p ∷ ps) some = (p, refl)
 
--- No two of the chunks meet: places of blocks were taken, and then theirs.
-first_apart : (img name : List ℕ) (m : Moment) (base first b : Space) (u : IndexView) (rows : ℕ) (places : List ChunkPlace) (tops : List Used) → Knows img name m no_chunk base → Taken base tops first
-    → ◌≡◌ {A = Key → ℕ} (λ key. address_in u key) no_chunk → Taken first (new_chunks m.dataset (λ key. address_in u key) m.dataset.shape.rows 0 places) b → m.dataset.shape.rows < rows → AreFew (with_rows rows m.dataset)
-    → length places ≡ touched m.dataset m.dataset.shape.rows rows → ChunksApart m.dataset places
-first_apart img name m base first b u rows places tops knows top none taken rises few all =
-    let chunks : List Used = chunks_for m no_chunk places in
-    let now : Taken first chunks b = subst (λ (f : Key → ℕ). Taken first (new_chunks m.dataset f m.dataset.shape.rows 0 places) b) none taken in
-    let own = taken_right base b tops chunks (taken_laws.joined base first b tops chunks top now) in
-    places_apart img name m no_chunk base own.0 rows places knows own.1 rises few all (λ k p here e. absurd (e refl))
-
 -- ---- Of an array
 
 -- none of the keys has this number
@@ -157,8 +145,8 @@ none_is k (x ∷ xs) off =
     let is : x.i ≢ k = All-head (λ (j : ℕ). j ≢ k) x.i (map (λ (key : Key). key.i) xs) off in
     All-cons (λ (other : Key). (k == other.i) ≡ false) x xs (ne_eqb k x.i (λ e. is (sym e))) (none_is k xs (All-tail (λ (j : ℕ). j ≢ k) x.i (map (λ (key : Key). key.i) xs) off))
 
-module _ (name : List ℕ) (log : Log) (m : Moment) (base first b t : Space) (at : ℕ) (naming : Option ℕ) (u v w : Store) (ms : List Move) (rows : ℕ) (more : List ℤ) (writes : List Write) (places : List ChunkPlace) (added : List Key)
-    (cs fixed supers ws : List Write) (c : AreFirstCalls (image_now log) m base first b at naming (an_array u) (an_array v) ms (an_array w) t rows more writes places added cs fixed supers ws) where
+module _ (name : List ℕ) (log : Log) (m : Moment) (rest base first b t : Space) (at : ℕ) (naming : Option ℕ) (u v w : Store) (ms : List Move) (rows : ℕ) (more : List ℤ) (writes : List Write) (places : List ChunkPlace) (added : List Key)
+    (cs fixed supers ws : List Write) (c : AreFirstCalls (image_now log) m rest base first b at naming (an_array u) (an_array v) ms (an_array w) t rows more writes places added cs fixed supers ws) where
   array_made : IsArrayMade m.dataset.layout.address base at u first
   array_made = c.made
 
@@ -171,41 +159,30 @@ module _ (name : List ℕ) (log : Log) (m : Moment) (base first b t : Space) (at
   array_chunks : new_chunks m.dataset (λ key. address_in (an_array u) key) m.dataset.shape.rows 0 places ≡ chunks_for m no_chunk places
   array_chunks = ap (λ (f : Key → ℕ). new_chunks m.dataset f m.dataset.shape.rows 0 places) array_none
 
-  -- the places of the blocks in place that were taken, and those of the chunks
-  taken_with : (tops : List Used) → Taken base tops first → Taken base (tops ++ chunks_for m no_chunk places) b
-  taken_with tops taken =
-      subst (λ (us : List Used). Taken base (tops ++ us) b) array_chunks
-      (taken_laws.joined base first b tops (new_chunks m.dataset (λ key. address_in (an_array u) key) m.dataset.shape.rows 0 places) taken c.placing.taken)
-
   -- some chunk got an address, and so the index block is changed
   array_changed : is_changed v (number_of index_block) ≡ true
   array_changed =
       let one = first_of places c.some in
-      let placed = c.placing.placed 0 one.0 one.1 in
-      named_changed u v (map (λ (key : Key). key.i) added) (touched_key m.dataset m.dataset.shape.rows 0).i c.placing.partly.like.sound
-      (All-map (λ (j : ℕ). (j < 131060) × (is_changed v (number_of (holder j)) ≡ true)) (λ (key : Key). key.i) added c.placing.partly.slots)
-      (λ k off. c.placing.partly.rest (record { i = k; j = 0 }) (none_is k added off)) (array_blank.map (touched_key m.dataset m.dataset.shape.rows 0).i) (λ e. placed.defined (sym placed.named ∙ e))
+      let placed = c.named.placed 0 one.0 one.1 in
+      named_changed u v (map (λ (key : Key). key.i) added) (touched_key m.dataset m.dataset.shape.rows 0).i c.named.partly.like.sound
+      (All-map (λ (j : ℕ). (j < 131060) × (is_changed v (number_of (holder j)) ≡ true)) (λ (key : Key). key.i) added c.named.partly.slots)
+      (λ k off. c.named.partly.rest (record { i = k; j = 0 }) (none_is k added off)) (array_blank.map (touched_key m.dataset m.dataset.shape.rows 0).i) (λ e. placed.defined (sym placed.named ∙ e))
 
   names_chunks : NamesChunks (chunk_bytes m.dataset) u (chunks_for m no_chunk places) v
   names_chunks = record {
-    array = c.placing.partly.like.sound;
-    standing = c.placing.partly.like.stays;
-    places = c.placing.partly.like.blocks;
+    array = c.named.partly.like.sound;
+    standing = c.named.partly.like.stays;
+    places = c.named.partly.like.blocks;
     changed = array_changed;
-    behind = subst (λ (us : List Used). AreAmong (arrays.behind_of (chunk_bytes m.dataset) v) (us ++ arrays.behind_of (chunk_bytes m.dataset) u)) array_chunks c.placing.behind;
+    behind = subst (λ (us : List Used). AreAmong (arrays.behind_of (chunk_bytes m.dataset) v) (us ++ arrays.behind_of (chunk_bytes m.dataset) u)) array_chunks c.named.behind;
   }
 
-  array_stand : Knows (image_now log) name m no_chunk base → (tops : List Used) → Taken base tops first → RowsStand (image_now log) m.dataset (cells_of m.dataset more) m.dataset.shape.rows rows places writes
-  array_stand knows tops taken =
-      rows_stand (image_now log) m.dataset (cells_of m.dataset more) m.dataset.shape.rows rows places writes c.written
-      (first_apart (image_now log) name m base first b (an_array u) rows places tops knows taken array_none c.placing.taken c.rises c.few c.all)
-
   -- the chunks are placed in whatever parts of a flush have them, these rows and this map
-  array_placed : RowsStand (image_now log) m.dataset (cells_of m.dataset more) m.dataset.shape.rows rows places writes → (f : Parts) → f.rows ≡ rows → f.more ≡ more → f.writes ≡ writes → f.address ≡ (λ key. address_in (an_array w) key) → f.chunks ≡ chunks_for m no_chunk places → ArePlaced (image_now log) m no_chunk f places
-  array_placed stand f is_rows is_more is_writes is_map is_chunks = record {
+  array_placed : (f : Parts) → f.rows ≡ rows → f.more ≡ more → f.writes ≡ writes → f.address ≡ (λ key. address_in (an_array w) key) → f.chunks ≡ chunks_for m no_chunk places → ArePlaced (image_now log) m no_chunk f places
+  array_placed f is_rows is_more is_writes is_map is_chunks = record {
     written = subst (λ (n : ℕ). RowsStand (image_now log) m.dataset (cells_of m.dataset f.more) m.dataset.shape.rows n places f.writes) (sym is_rows)
         (subst (λ (vs : List ℤ). RowsStand (image_now log) m.dataset (cells_of m.dataset vs) m.dataset.shape.rows rows places f.writes) (sym is_more)
-        (subst (λ (ws : List Write). RowsStand (image_now log) m.dataset (cells_of m.dataset more) m.dataset.shape.rows rows places ws) (sym is_writes) stand));
+        (subst (λ (ws : List Write). RowsStand (image_now log) m.dataset (cells_of m.dataset more) m.dataset.shape.rows rows places ws) (sym is_writes) c.stand));
     all = subst (λ (n : ℕ). length places ≡ touched m.dataset m.dataset.shape.rows n) (sym is_rows) c.all;
     placed = λ k p here. subst (λ (g : Key → ℕ). IsPlaced m.dataset no_chunk g m.dataset.shape.rows k p) (sym is_map)
         (subst (λ (g : Key → ℕ). IsPlaced m.dataset g (λ key. address_in (an_array w) key) m.dataset.shape.rows k p) array_none (c.placed k p here));
@@ -230,49 +207,47 @@ module _ (name : List ℕ) (log : Log) (m : Moment) (base first b t : Space) (at
       }
 
   -- where the layout names none, the dataset header names it
-  array_named : m.dataset.layout.address ≡ undefined → TookTwo base at array_made.block first → (k : Knows (image_now log) name m no_chunk base) → Runs name log [] m k.held → m.values ++ more ≡ appended log
+  array_named : m.dataset.layout.address ≡ undefined → TookTwo base at array_made.block first → (k : Knows (image_now log) name m no_chunk rest) → Runs name log [] m k.held → m.values ++ more ≡ appended log
       → AreFirstPending name log m naming (an_array w) t rows more ws
   array_named none two knows runs values =
       let is : naming ≡ Some (arrays.header_place w) = c.names.unnamed none in
-      let known : StartKnows (image_now log) name m base u = record { knows = knows; unnamed = record { kind = c.kind; address = none }; blank = array_blank } in
+      let known : StartKnows (image_now log) name m rest u = record { knows = knows; unnamed = record { kind = c.kind; address = none }; blank = array_blank } in
       let tops : List Used = block_at at eahd_len ∷ block_at array_made.block eaib_len ∷ [] in
       let top : Taken base tops first = two_taken base two.between first at array_made.block two.first two.second in
-      let stand = array_stand knows tops top in
-      let calls : AreStartCalls (image_now log) m base b at array_made.block u v ms w t rows more writes places cs fixed supers = record {
+      let calls : AreStartCalls (image_now log) m rest b at array_made.block u v ms w t rows more writes places cs fixed supers = record {
         rises = c.rises;
         small = c.small;
         few = c.few;
         count = c.count;
-        taken = taken_with tops top;
+        taken = c.taken tops top;
         made = array_made.is_made;
         names = names_chunks;
-        placed = λ copies. array_placed stand (starts_parts.parts_for m w rows more writes places copies supers t.end) refl refl refl refl refl;
+        placed = λ copies. array_placed (starts_parts.parts_for m w rows more writes places copies supers t.end) refl refl refl refl refl;
         plan = c.plan;
         ended = c.ended;
       } in
       let pieces = all_before naming (arrays.header_place w) writes cs fixed supers (commit_at (image_now log) m.place rows naming) ws is c.pieces in
       let named_pieces : ws ≡ writes ++ (cs ++ (fixed ++ (supers ++ commit_at (image_now log) m.place rows (Some (arrays.header_place w)) ∷ []))) =
       pieces ∙ ap (λ (o : Option ℕ). writes ++ (cs ++ (fixed ++ (supers ++ commit_at (image_now log) m.place rows o ∷ [])))) is in
-      let p = start_pending name log m base b t at array_made.block u u v w ms rows more writes places cs fixed supers ws known runs calls values named_pieces in
+      let p = start_pending name log m rest b t at array_made.block u u v w ms rows more writes places cs fixed supers ws known runs calls values named_pieces in
       subst (λ (o : Option ℕ). AreFirstPending name log m o (an_array w) t rows more ws) (sym is) (as_index (Some (arrays.header_place w)) p)
 
   -- else its header, which is there, names its index block
-  array_block : m.dataset.layout.address ≢ undefined → at ≡ m.dataset.layout.address → Took base first (extent array_made.block eaib_len) → (k : Knows (image_now log) name m no_chunk base) → Runs name log [] m k.held
+  array_block : m.dataset.layout.address ≢ undefined → at ≡ m.dataset.layout.address → Took base first (extent array_made.block eaib_len) → (k : Knows (image_now log) name m no_chunk rest) → Runs name log [] m k.held
       → m.values ++ more ≡ appended log → AreFirstPending name log m naming (an_array w) t rows more ws
   array_block named there took knows runs values =
       let is : naming ≡ None = c.names.named named in
       let tops : List Used = block_at array_made.block eaib_len ∷ [] in
       let top : Taken base tops first = taken_laws.one base first (block_at array_made.block eaib_len) (omega arith) took in
-      let stand = array_stand knows tops top in
-      let calls : AreBlockCalls (image_now log) m base b array_made.block u v ms w t rows more writes places cs fixed supers = record {
+      let calls : AreBlockCalls (image_now log) m rest b array_made.block u v ms w t rows more writes places cs fixed supers = record {
         rises = c.rises;
         small = c.small;
         few = c.few;
         count = c.count;
-        taken = taken_with tops top;
+        taken = c.taken tops top;
         made = subst (λ (n : ℕ). IsMade n array_made.block u) there array_made.is_made;
         names = names_chunks;
-        placed = λ copies. array_placed stand (block_parts_for m w rows more writes places copies supers t.end) refl refl refl refl refl;
+        placed = λ copies. array_placed (block_parts_for m w rows more writes places copies supers t.end) refl refl refl refl refl;
         plan = c.plan;
         ended = c.ended;
       } in
@@ -284,10 +259,10 @@ module _ (name : List ℕ) (log : Log) (m : Moment) (base first b t : Space) (at
         one = j.named is;
         all = j.all ∙ ap (λ (o : Option ℕ). writes ++ (cs ++ (j.front ++ (supers ++ (j.behind ++ commit_at (image_now log) m.place rows o ∷ []))))) is;
       } in
-      let p = block_pending name log m base b t array_made.block u v w ms rows more writes places cs fixed supers ws (record { knows = knows; alone = c.alone named }) runs calls values ordered in
+      let p = block_pending name log m rest b t array_made.block u v w ms rows more writes places cs fixed supers ws (record { knows = knows; alone = c.alone named }) runs calls values ordered in
       subst (λ (o : Option ℕ). AreFirstPending name log m o (an_array w) t rows more ws) (sym is) (as_index None p)
 
-  array_pending : (k : Knows (image_now log) name m no_chunk base) → Runs name log [] m k.held → m.values ++ more ≡ appended log → AreFirstPending name log m naming (an_array w) t rows more ws
+  array_pending : (k : Knows (image_now log) name m no_chunk rest) → Runs name log [] m k.held → m.values ++ more ≡ appended log → AreFirstPending name log m naming (an_array w) t rows more ws
   array_pending knows runs values = go array_made.tops
     where
       go : TookTops m.dataset.layout.address base at array_made.block first → AreFirstPending name log m naming (an_array w) t rows more ws
@@ -296,32 +271,26 @@ module _ (name : List ℕ) (log : Log) (m : Moment) (base first b t : Space) (at
 
 -- ---- Of a tree
 
-module _ (name : List ℕ) (log : Log) (m : Moment) (base first b t : Space) (at p : ℕ) (naming : Option ℕ) (v w : Index) (ms : List Move) (rows : ℕ) (more : List ℤ) (writes : List Write) (places : List ChunkPlace) (added : List Key)
-    (cs fixed supers ws : List Write) (c : AreFirstCalls (image_now log) m base first b at naming (a_tree p no_tree) (a_tree p v) ms (a_tree p w) t rows more writes places added cs fixed supers ws) where
+module _ (name : List ℕ) (log : Log) (m : Moment) (rest base first b t : Space) (at p : ℕ) (naming : Option ℕ) (v w : Index) (ms : List Move) (rows : ℕ) (more : List ℤ) (writes : List Write) (places : List ChunkPlace) (added : List Key)
+    (cs fixed supers ws : List Write) (c : AreFirstCalls (image_now log) m rest base first b at naming (a_tree p no_tree) (a_tree p v) ms (a_tree p w) t rows more writes places added cs fixed supers ws) where
   tree_made : IsTreeMade m.dataset.layout.address base at p no_tree first
   tree_made = c.made
 
   tree_none : ◌≡◌ {A = Key → ℕ} (λ key. address_in (a_tree p no_tree) key) no_chunk
   tree_none = λ i key. made_none m.dataset.layout.address base at (a_tree p no_tree) first c.made key i
 
-  tree_stand : Knows (image_now log) name m no_chunk base → RowsStand (image_now log) m.dataset (cells_of m.dataset more) m.dataset.shape.rows rows places writes
-  tree_stand knows =
-      let top : Taken base (block_at at bthd_len ∷ []) first = taken_laws.one base first (block_at at bthd_len) (omega arith) tree_made.header in
-      rows_stand (image_now log) m.dataset (cells_of m.dataset more) m.dataset.shape.rows rows places writes c.written
-      (first_apart (image_now log) name m base first b (a_tree p no_tree) rows places (block_at at bthd_len ∷ []) knows top tree_none c.placing.taken c.rises c.few c.all)
-
-  tree_calls : Knows (image_now log) name m no_chunk base → AreTreeStartCalls (image_now log) m base first b p v ms w t rows more writes places added cs fixed supers
-  tree_calls knows = record {
+  tree_calls : AreTreeStartCalls (image_now log) m rest b p v ms w t rows more writes places added cs fixed supers
+  tree_calls = record {
     rises = c.rises;
     small = c.small;
     few = c.few;
     count = c.count;
-    header = subst (λ (n : ℕ). Took base first (extent n bthd_len)) (sym tree_made.place_is) tree_made.header;
+    taken = c.taken (block_at p bthd_len ∷ []) (taken_laws.one base first (block_at p bthd_len) (omega arith) (subst (λ (n : ℕ). Took base first (extent n bthd_len)) (sym tree_made.place_is) tree_made.header));
     ends = omega (arith, tree_made.ends, tree_made.place_is);
     some = c.some;
-    placing = c.placing;
+    named = c.named;
     placed = λ copies. record {
-      written = tree_stand knows;
+      written = c.stand;
       all = c.all;
       placed = λ k q here. subst (λ (f : Key → ℕ). IsPlaced m.dataset f (λ key. address_in (a_tree p w) key) m.dataset.shape.rows k q) tree_none (c.placed k q here);
       others = λ key asked outside. c.others key outside ∙ made_none m.dataset.layout.address base at (a_tree p no_tree) first c.made key;
@@ -334,18 +303,18 @@ module _ (name : List ℕ) (log : Log) (m : Moment) (base first b t : Space) (at
     ended = c.ended;
   }
 
-  tree_pending : (k : Knows (image_now log) name m no_chunk base) → Runs name log [] m k.held → m.values ++ more ≡ appended log → AreFirstPending name log m naming (a_tree p w) t rows more ws
+  tree_pending : (k : Knows (image_now log) name m no_chunk rest) → Runs name log [] m k.held → m.values ++ more ≡ appended log → AreFirstPending name log m naming (a_tree p w) t rows more ws
   tree_pending knows runs values =
       let now : List ℕ = image_now log in
-      let known : TreeStartKnows now name m base = record { knows = knows; unnamed = record { kind = c.kind; address = tree_made.unnamed } } in
+      let known : TreeStartKnows now name m rest = record { knows = knows; unnamed = record { kind = c.kind; address = tree_made.unnamed } } in
       let is : naming ≡ Some p = c.names.unnamed tree_made.unnamed in
       let pieces : ws ≡ writes ++ (cs ++ (fixed ++ (supers ++ commit_at now m.place rows (Some p) ∷ []))) =
       all_before naming p writes cs fixed supers (commit_at now m.place rows naming) ws is c.pieces ∙ ap (λ (o : Option ℕ). writes ++ (cs ++ (fixed ++ (supers ++ commit_at now m.place rows o ∷ [])))) is in
-      let calls = tree_start_calls now m base first b t p v w ms rows more writes places added cs fixed supers (tree_calls knows) in
+      let calls = tree_start_calls now m rest b t p v w ms rows more writes places added cs fixed supers tree_calls in
       let f : Parts = tree_starts.parts_for m p w rows more writes places calls.copies supers t.end in
       let same : pieces_of now m f ≡ ws = calls.pieces ∙ sym pieces in
-      let over = tree_start_runs name log m base b t p v w ms rows more writes places calls.copies fixed supers known runs calls.start values in
-      let leads = tree_start_leads now name m base b t p v w ms rows more writes places calls.copies fixed supers known calls.start in
+      let over = tree_start_runs name log m rest b t p v w ms rows more writes places calls.copies fixed supers known runs calls.start values in
+      let leads = tree_start_leads now name m rest b t p v w ms rows more writes places calls.copies fixed supers known calls.start in
       let after : Moment = first_named m (Some p) (a_tree p w) rows more t.end in
       let r = leads.rests in
       let begins : Begins (image now (pieces_of now m f)) name after t (a_tree p w) = record {
@@ -369,31 +338,31 @@ module _ (name : List ℕ) (log : Log) (m : Moment) (base first b t : Space) (at
       })
 
 -- the header of a tree stays where it was made
-tree_first : (name : List ℕ) (log : Log) (m : Moment) (base first b t : Space) (at p q r : ℕ) (naming : Option ℕ) (u v w : Index) (ms : List Move) (rows : ℕ) (more : List ℤ) (writes : List Write) (places : List ChunkPlace) (added : List Key)
-    (cs fixed supers ws : List Write) → (k : Knows (image_now log) name m no_chunk base) → Runs name log [] m k.held → m.values ++ more ≡ appended log
-    → AreFirstCalls (image_now log) m base first b at naming (a_tree p u) (a_tree q v) ms (a_tree r w) t rows more writes places added cs fixed supers ws → AreFirstPending name log m naming (a_tree r w) t rows more ws
-tree_first name log m base first b t at p q r naming u v w ms rows more writes places added cs fixed supers ws knows runs values c =
+tree_first : (name : List ℕ) (log : Log) (m : Moment) (rest base first b t : Space) (at p q r : ℕ) (naming : Option ℕ) (u v w : Index) (ms : List Move) (rows : ℕ) (more : List ℤ) (writes : List Write) (places : List ChunkPlace) (added : List Key)
+    (cs fixed supers ws : List Write) → (k : Knows (image_now log) name m no_chunk rest) → Runs name log [] m k.held → m.values ++ more ≡ appended log
+    → AreFirstCalls (image_now log) m rest base first b at naming (a_tree p u) (a_tree q v) ms (a_tree r w) t rows more writes places added cs fixed supers ws → AreFirstPending name log m naming (a_tree r w) t rows more ws
+tree_first name log m rest base first b t at p q r naming u v w ms rows more writes places added cs fixed supers ws knows runs values c =
     let made : IsTreeMade m.dataset.layout.address base at p u first = c.made in
-    let here : q ≡ p = c.placing.partly.like.place in
+    let here : q ≡ p = c.named.partly.like.place in
     let there : r ≡ p = c.plan.0 ∙ here in
-    let Calls : Index → ℕ → ℕ → Type 0 = λ x y z. AreFirstCalls (image_now log) m base first b at naming (a_tree p x) (a_tree y v) ms (a_tree z w) t rows more writes places added cs fixed supers ws in
+    let Calls : Index → ℕ → ℕ → Type 0 = λ x y z. AreFirstCalls (image_now log) m rest base first b at naming (a_tree p x) (a_tree y v) ms (a_tree z w) t rows more writes places added cs fixed supers ws in
     let one : Calls no_tree q r = subst (λ (x : Index). Calls x q r) made.empty c in
     let two : Calls no_tree p r = subst (λ (y : ℕ). Calls no_tree y r) here one in
     let three : Calls no_tree p p = subst (λ (z : ℕ). Calls no_tree p z) there two in
     subst (λ (z : ℕ). AreFirstPending name log m naming (a_tree z w) t rows more ws) (sym there)
-    (tree_pending name log m base first b t at p naming v w ms rows more writes places added cs fixed supers ws three knows runs values)
+    (tree_pending name log m rest base first b t at p naming v w ms rows more writes places added cs fixed supers ws three knows runs values)
 
 -- ---- Of either
 
 -- A session whose log has come to such a file plans that flush, of all values that were appended.
-pub first_pending : (name : List ℕ) (log : Log) (m : Moment) (base first b t : Space) (at : ℕ) (naming : Option ℕ) (u v w : IndexView) (ms : List Move) (rows : ℕ) (more : List ℤ) (writes : List Write) (places : List ChunkPlace) (added : List Key)
-    (cs fixed supers ws : List Write) → (k : Knows (image_now log) name m no_chunk base) → Runs name log [] m k.held → m.values ++ more ≡ appended log
-    → AreFirstCalls (image_now log) m base first b at naming u v ms w t rows more writes places added cs fixed supers ws → AreFirstPending name log m naming w t rows more ws
-first_pending name log m base first b t at naming (an_array u) (an_array v) (an_array w) ms rows more writes places added cs fixed supers ws knows runs values c =
-    array_pending name log m base first b t at naming u v w ms rows more writes places added cs fixed supers ws c knows runs values
-first_pending name log m base first b t at naming (a_tree p u) (a_tree q v) (a_tree r w) ms rows more writes places added cs fixed supers ws knows runs values c =
-    tree_first name log m base first b t at p q r naming u v w ms rows more writes places added cs fixed supers ws knows runs values c
-first_pending name log m base first b t at naming (an_array u) (an_array v) (a_tree r w) ms rows more writes places added cs fixed supers ws knows runs values c = absurd c.plan
-first_pending name log m base first b t at naming (a_tree p u) (a_tree q v) (an_array w) ms rows more writes places added cs fixed supers ws knows runs values c = absurd c.plan
-first_pending name log m base first b t at naming (an_array u) (a_tree q v) w ms rows more writes places added cs fixed supers ws knows runs values c = absurd c.placing.partly.like.blocks
-first_pending name log m base first b t at naming (a_tree p u) (an_array v) w ms rows more writes places added cs fixed supers ws knows runs values c = absurd c.placing.partly.like.blocks
+pub first_pending : (name : List ℕ) (log : Log) (m : Moment) (rest base first b t : Space) (at : ℕ) (naming : Option ℕ) (u v w : IndexView) (ms : List Move) (rows : ℕ) (more : List ℤ) (writes : List Write) (places : List ChunkPlace) (added : List Key)
+    (cs fixed supers ws : List Write) → (k : Knows (image_now log) name m no_chunk rest) → Runs name log [] m k.held → m.values ++ more ≡ appended log
+    → AreFirstCalls (image_now log) m rest base first b at naming u v ms w t rows more writes places added cs fixed supers ws → AreFirstPending name log m naming w t rows more ws
+first_pending name log m rest base first b t at naming (an_array u) (an_array v) (an_array w) ms rows more writes places added cs fixed supers ws knows runs values c =
+    array_pending name log m rest base first b t at naming u v w ms rows more writes places added cs fixed supers ws c knows runs values
+first_pending name log m rest base first b t at naming (a_tree p u) (a_tree q v) (a_tree r w) ms rows more writes places added cs fixed supers ws knows runs values c =
+    tree_first name log m rest base first b t at p q r naming u v w ms rows more writes places added cs fixed supers ws knows runs values c
+first_pending name log m rest base first b t at naming (an_array u) (an_array v) (a_tree r w) ms rows more writes places added cs fixed supers ws knows runs values c = absurd c.plan
+first_pending name log m rest base first b t at naming (a_tree p u) (a_tree q v) (an_array w) ms rows more writes places added cs fixed supers ws knows runs values c = absurd c.plan
+first_pending name log m rest base first b t at naming (an_array u) (a_tree q v) w ms rows more writes places added cs fixed supers ws knows runs values c = absurd c.named.partly.like.blocks
+first_pending name log m rest base first b t at naming (a_tree p u) (an_array v) w ms rows more writes places added cs fixed supers ws knows runs values c = absurd c.named.partly.like.blocks

@@ -1,5 +1,5 @@
 -- By how much a first flush raises the end of the file, and the session after it stands over the log; and where there is no place for it.
-use Rattle.std.proofs.Common.{◌≡◌, ◌⊎◌, ℕ, ◌+◌, ◌<◌, ◌≤◌, true, false, [], ◌∷◌, ◌++◌, length, refl, sym, ap, ◌∙◌, subst, inl, inr, arith, length-append}
+use Rattle.std.proofs.Common.{◌≡◌, ◌⊎◌, ℕ, ◌+◌, ◌<◌, ◌≤◌, true, false, [], ◌++◌, length, refl, sym, ap, ◌∙◌, subst, inl, inr, arith}
 use Rattle.h5w_model.specs.Arrays.{eahd_len, eaib_len}
 use Rattle.h5w_model.specs.Trees.{bthd_len}
 use Rattle.h5w_model.specs.Datasets.{Described}
@@ -11,13 +11,17 @@ use Rattle.h5w_model.specs.declared.cell.IndexKind.{IndexKind}
 use Rattle.h5w_model.specs.declared.cell.IndexKind.TheVariants.{Array, Tree}
 use Rattle.h5w_space.specs.Space.{Space}
 use Rattle.h5w_space.specs.declared.Full.{Full}
+use Rattle.h5w_chunks.specs.Early.{RowsStand}
+use Rattle.h5w_chunks.specs.Grids.{cells_of}
+use Rattle.h5w_chunks.specs.Rows.{ChunksApart}
 use Rattle.h5w_header_laws.specs.Files.{with_index}
 use Rattle.h5w_steps.specs.Logs.{image_now}
+use Rattle.h5w_flush_laws.specs.Spaces.{extent_of}
 use Rattle.h5w_bt_index.specs.Index.{Index}
 use Rattle.h5w_index.specs.Views.{IndexView, IsClean, an_array, a_tree, kind_of}
 use Rattle.h5w_index.specs.Marks.{IsMarked, IsRaised}
 use Rattle.h5w_index.specs.Blocks.{has_no_block}
-use Rattle.h5w_index.specs.Placing.{most_of}
+use Rattle.h5w_index.specs.Full.{most_of}
 use Rattle.h5w_index.proofs.DepthLemmas.{depth_laws}
 use Rattle.h5w_index.proofs.MarkLemmas.{mark_laws}
 use Rattle.h5w_index.proofs.RaisedLemmas.{raised_more, raised_none, raised_on}
@@ -33,10 +37,12 @@ use Rattle.h5w_session.proofs.FlushStands.{idle_running}
 use Rattle.h5w_session.proofs.FlushLemmas.{told_of}
 use Rattle.h5w_session.proofs.HeaderAlone.{made_there, made_whole, never, same_block}
 use Rattle.h5w_session.proofs.IndexLemmas.{kept_starting}
-use Rattle.h5w_session.proofs.LoadLemmas.{at_most, flush_bound, flush_carries, load_is, part_no_place, planned_few, planned_own, planned_raised, planned_roomy, refused_bound}
+use Rattle.h5w_session.proofs.LoadLemmas.{at_most, counted, flush_bound, flush_carries, load_is, part_no_place, planned_few, planned_own, planned_raised, planned_roomy, refused_bound}
 use Rattle.h5w_session.proofs.PastLemmas.{IsLike, new_named, past_planned}
+use Rattle.h5w_session.proofs.PlannedRows.{planned_stand}
 use Rattle.h5w_session.proofs.ReachedLemmas.{any_reached}
 use Rattle.h5w_session.proofs.StartedLemmas.{after_start, start_running}
+use Rattle.h5w_session.proofs.StartingLemmas.{lengths_first}
 
 like_started : (old new : Session) (x : IsStartFlushed old new) → new.places.limit ≡ old.places.limit → (IsMadeHere old.index → IsMadeHere new.index) → (IsRoomy old.dataset old.index → IsRoomy old.dataset new.index) → IsLike old new
 like_started old new x limit own roomy =
@@ -82,21 +88,8 @@ module _ (old new : Session) (log : Log) (x : IsStartFlushed old new) (running :
   pieces_few : length new.pending ≤ load (cutting_of old) log
   pieces_few =
       let p = x.planned in
-      let j = x.pending in
-      let last = j.behind ++ naming_piece old x.naming ∷ [] in
-      let total : length new.pending ≡ length p.rows + (length p.copies + (length p.fixed + (length p.supers + 1))) =
-      omega (
-        arith,
-        ap length j.all,
-        length-append p.rows (p.copies ++ (j.front ++ (p.supers ++ last))),
-        length-append p.copies (j.front ++ (p.supers ++ last)),
-        length-append j.front (p.supers ++ last),
-        length-append p.supers last,
-        length-append j.behind (naming_piece old x.naming ∷ []),
-        ap length j.cut,
-        length-append j.front j.behind,
-      ) in
-      few_total (length new.pending) (length p.rows) (length p.copies) (length p.supers) (length p.fixed) (1000 + most_of old.dataset (rows_of old)) (load (cutting_of old) log) total
+      let long = lengths_first x.naming p.rows p.copies p.fixed p.supers (naming_piece old x.naming) new.pending x.pending in
+      few_total (length new.pending) (length p.rows) (length p.copies) (length p.supers) (length p.fixed) (1000 + most_of old.dataset (rows_of old)) (load (cutting_of old) log) (omega (arith, long))
       (planned_few old x.made x.first new.index new.places p marks log r) (load_is old log running idle st)
 
   -- what Running says of the session before it
@@ -106,11 +99,15 @@ module _ (old new : Session) (log : Log) (x : IsStartFlushed old new) (running :
     address = r.address;
     held = r.held;
     runs = r.runs;
+    rest = r.rest;
     knows = r.knows;
     holds = r.holds;
     keeps = r.keeps;
     index =
-        kept_starting (image_now log) old.name r.after r.address old.places old.index r.knows (subst (λ (d : Described). (d.layout.address ≡ undefined) ⊎ (has_no_block old.index ≡ true)) (sym r.keeps.dataset) x.unmade) r.index;
+        kept_starting (image_now log) old.name r.after r.address r.rest old.index r.knows (subst (λ (d : Described). (d.layout.address ≡ undefined) ⊎ (has_no_block old.index ≡ true)) (sym r.keeps.dataset) x.unmade) r.index;
+    early = r.early;
+    written = r.written;
+    some = r.some;
     more = r.more;
     waiting = r.waiting;
     fit = r.fit;
@@ -120,26 +117,31 @@ module _ (old new : Session) (log : Log) (x : IsStartFlushed old new) (running :
     columns = r.columns;
   }
 
+  stand : ChunksApart old.dataset x.planned.chunks → RowsStand (image_now log) old.dataset (cells_of old.dataset (r.early ++ r.more)) old.dataset.shape.rows (rows_of old) x.planned.chunks x.planned.rows
+  stand =
+      planned_stand (image_now log) old x.made x.first new.index new.places x.planned r.address r.rest r.early r.more r.written r.some r.waiting r.fit r.count (counted old r.past.counted).cut
+
   -- a file that the session created has its index
   not_new : IsNew log → IsUnmade old → ⊥
   not_new new_log (inl none) = new_named old [] log r.after new_log r.past none
   not_new new_log (inr lacking) = never (has_no_block old.index) lacking (r.past.own new_log).1
 
   carries : AllEndBy new.places.end new.pending → Stands new (and_now (plans (length new.pending)) log)
+  unfolding before
   carries within =
       let next = and_now (plans (length new.pending)) log in
-      let m = after_start old new log x before in
+      let m = after_start old new log x before stand in
       let s = started_of old x.at x.naming new.places new.pending new.index in
       let address = old.dataset.layout.address in
-      let blocks = (told_of old x.made x.first new.index new.places x.planned).stay ∙ x.planned.placing.partly.like.fixed in
+      let blocks = (told_of old x.made x.first new.index new.places x.planned).stay ∙ x.planned.names.partly.like.fixed in
       let own : IsMadeHere new.index = (
         planned_own old x.made x.first new.index new.places x.planned x.start.own,
-        same_block x.made new.index blocks ∙ made_whole address old.places x.at x.made x.first x.start.made (r.knows.live the_superblock (inl refl)),
+        same_block x.made new.index blocks ∙ made_whole address old.places x.at x.made x.first x.start.made (r.written.taken.taken.stays_live (extent_of the_superblock) (r.knows.live the_superblock (inl refl))),
       ) in
       let roomy : IsRoomy old.dataset new.index = planned_roomy old x.made x.first new.index new.places x.planned (made_roomy old.dataset old.dataset.layout.address old.places x.at x.made x.first x.start.made) in
       let past : Past new new.pending next m =
       past_planned old new (length new.pending) new.pending log r.after m (like_started old new x start_raised.limit (λ o. own) (λ o. roomy)) start_raised within (λ new_log. absurd (not_new new_log x.unmade)) r.past in
-      let running : Running s new.pending next = start_running old new log x before (subst (λ (t : Session). Past t new.pending next m) x.session past) in
+      let running : Running s new.pending next = start_running old new log x before stand (subst (λ (t : Session). Past t new.pending next m) x.session past) in
       let goes = running.runs.goes in
       subst (λ (t : Session). Stands t next) (sym x.session) (record { left = new.pending; dropped = inl refl; phase = inr running; prefixed = goes.prefixed; still = goes.still })
 

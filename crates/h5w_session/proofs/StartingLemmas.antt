@@ -1,8 +1,7 @@
 -- What a first flush leaves is a session again, and what its calls show is such a flush.
-use Rattle.std.proofs.Common.{◌≡◌, ℕ, ◌+◌, ◌^◌, ◌<◌, ◌≤◌, ◌≢◌, ◌⊎◌, ◌==◌, true, false, List, [], ◌∷◌, ◌++◌, length, Option, Some, None, refl, sym, ◌∙◌, subst, inl, inr, arith}
+use Rattle.std.proofs.Common.{◌≡◌, ℕ, ◌+◌, ◌^◌, ◌<◌, ◌≤◌, ◌≢◌, ◌⊎◌, ◌==◌, true, false, List, [], ◌∷◌, ◌++◌, length, Option, Some, None, refl, sym, ap, ◌∙◌, subst, inl, inr, arith, length-append}
 use Rattle.std.proofs.lemmas.Bool.Decides.{eqb_tells}
 use Rattle.h5w_model.specs.Numbers.{undefined}
-use Rattle.h5w_model.specs.Arrays.{eahd_len}
 use Rattle.h5w_model.specs.Headers.{with_rows_bytes}
 use Rattle.h5w_model.specs.Tables.{needed}
 use Rattle.h5w_model.specs.Datasets.{Described}
@@ -13,12 +12,14 @@ use Rattle.h5w_space.specs.Space.{Space}
 use Rattle.h5w_chunks.specs.Shares.{first_line}
 use Rattle.h5w_header_laws.specs.Files.{with_index}
 use Rattle.h5w_index.specs.Views.{IndexView, TakesKey, an_array, a_tree, kind_of}
+use Rattle.h5w_index.specs.Blocks.{has_no_block}
 use Rattle.h5w_index.specs.Placing.{AreInside, Fits}
 use Rattle.h5w_session.specs.Sessions.{ArePieces, HasAddress, IsSession, IsUnmade, IsWritable, Session, bands_of, chunk_limit, rows_of, with_rows}
 use Rattle.h5w_session.specs.Flushes.{ArePlanned}
 use Rattle.h5w_session.specs.Starts.{AreJoined, IsNaming, IsStartFlushed, IsStartedAt, naming_piece, started_of}
-use Rattle.h5w_session.proofs.FlushedLemmas.{IsBefore, copies_pieces, fits_same, fits_then, fixed_pieces, inside_then, kind_then, limit_then, one_piece, pieces_joined, rises, rows_pieces, sound_then, supers_pieces, takes_keys, told_place, tops_then}
-use Rattle.h5w_session.proofs.HeaderAlone.{head_ends}
+use Rattle.h5w_session.proofs.FlushedLemmas.{IsBefore, copies_pieces, fits_same, fits_then, fixed_pieces, inside_then, kind_then, limit_then, one_piece, pieces_joined, rises, rows_pieces, sound_then, supers_pieces, takes_keys, told, tops_then}
+use Rattle.h5w_session.proofs.EarlyLemmas.{none_touched}
+use Rattle.h5w_session.proofs.HeaderAlone.{made_whole, never, same_block}
 use Rattle.h5w_session.proofs.IndexLemmas.{header_defined}
 use Rattle.h5w_session.proofs.StartKinds.{made_none}
 use Rattle.h5w_session.proofs.WritableLemmas.{named_length, named_writable, writable_again, written_length}
@@ -72,6 +73,21 @@ naming_length s is naming at names rows = elim (naming_cases s is naming at name
   | inr e ↦ subst (λ (o : Option ℕ). length (with_rows_bytes s.header rows o) ≡ length s.header) (sym e) (written_length s.header rows is.header)
 ]
 
+-- how many pieces a first flush has
+pub lengths_first : (naming : Option ℕ) (a b c d : List Write) (h : Write) (ws : List Write) → AreJoined naming a b c d h ws → length ws ≡ length a + length b + length c + length d + 1
+lengths_first naming a b c d h ws j =
+    omega (
+      arith,
+      ap length j.all,
+      ap length j.cut,
+      length-append j.front j.behind,
+      length-append a (b ++ (j.front ++ (d ++ (j.behind ++ h ∷ [])))),
+      length-append b (j.front ++ (d ++ (j.behind ++ h ∷ []))),
+      length-append j.front (d ++ (j.behind ++ h ∷ [])),
+      length-append d (j.behind ++ h ∷ []),
+      length-append j.behind (h ∷ []),
+    )
+
 -- pieces in two parts
 pub pieces_cut : (end : ℕ) (ws vs : List Write) → ArePieces end (ws ++ vs) → ArePieces end ws × ArePieces end vs
 pieces_cut end [] vs all = (record { sized = tt; within = tt }, all)
@@ -87,6 +103,16 @@ module _ (s : Session) (is : IsSession s) (at : ℕ) (made : IndexView) (first :
       (pending : AreJoined naming x.rows x.copies x.fixed x.supers (naming_piece s naming) ws) (header_short : length s.header ≤ 512) where
     abbrev pub after : Session
     after = started_of s at naming t ws w
+
+    -- the index is there then: its header stands somewhere, and an array has its index block
+    there : IsUnmade after → ⊥
+    there (inl none) = header_defined made start.sound (start.at_place ∙ none)
+    there (inr lacking) =
+        let blocks = (told s is made first begun w t x).stay ∙ x.names.partly.like.fixed in
+        never (has_no_block w) lacking (same_block made w blocks ∙ made_whole s.dataset.layout.address s.places at made first start.made (is.live unmade))
+
+    some_pieces : ws ≢ []
+    some_pieces none = let long = lengths_first naming x.rows x.copies x.fixed x.supers (naming_piece s naming) ws pending in omega (arith, long, ap length none)
 
     pub started_is : IsSession after
     started_is =
@@ -110,7 +136,17 @@ module _ (s : Session) (is : IsSession s) (at : ℕ) (made : IndexView) (first :
           limit = limit_then s is made first begun w t x;
           inside = inside_then s is made first begun w t x;
           tops = λ whole. tops_then s is made first begun w t x;
-          head = λ named lacking. subst (λ n. n + eahd_len ≤ t.end) (told_place s is made first begun w t x ∙ start.at_place) (head_ends w t.end lacking (tops_then s is made first begun w t x));
+          blank = λ lacks key. absurd (there lacks);
+          live = λ lacks. absurd (there lacks);
+          early = omega arith;
+          chunks = sym (none_touched (with_index at (with_rows rows d)) rows);
+          placed = λ k p here. absurd cc;
+          ends = λ k p here. absurd cc;
+          flushing = λ e. refl;
+          busy = λ e. some_pieces;
+          budget_low = is.budget_low;
+          budget_high = is.budget_high;
+          head = λ named lacking. absurd (there (inr lacking));
         }
 
     pub started_pieces : ArePieces t.end ws

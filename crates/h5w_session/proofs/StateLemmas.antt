@@ -1,5 +1,5 @@
 -- What holds of every session is kept by each call, and which refusal applies.
-use Rattle.std.proofs.Common.{◌≡◌, ℕ, zero, suc, ◌+◌, ◌*◌, ◌/◌, ◌^◌, ◌<◌, ◌≤◌, Bool, true, false, nat_lt, if◌then◌else◌, List, [], ◌∷◌, ◌++◌, length, drop, get_or, ℤ, Option, Some, None, Result, Ok, Err, sym, refl, ap, ◌∙◌, subst, inl, inr, arith, length-append, length-drop}
+use Rattle.std.proofs.Common.{◌≡◌, ◌≢◌, ℕ, zero, suc, ◌+◌, ◌-◌, ◌*◌, ◌/◌, ◌^◌, ◌<◌, ◌≤◌, Bool, true, false, nat_lt, if◌then◌else◌, List, [], ◌∷◌, ◌++◌, length, drop, get_or, ℤ, Option, Some, None, Result, Ok, Err, sym, refl, ap, ◌∙◌, subst, inl, inr, arith, length-append, length-drop}
 use Rattle.std.proofs.lemmas.Bool.{cases_lt, lt-ltb, le-ltb}
 use Rattle.std.proofs.lemmas.Nat.{mul-le, div-mul-add}
 use Rattle.std.proofs.lemmas.List.{drop_all}
@@ -17,7 +17,11 @@ use Rattle.h5w_model.specs.declared.root.Super.{Super}
 use Rattle.h5w_model.specs.declared.piece.Write.{Write}
 use Rattle.h5w_chunks.specs.Grids.{cells_of}
 use Rattle.h5w_chunks.proofs.Geometry.{up_lt, lt_up, ceil_is_up}
-use Rattle.h5w_session.specs.Sessions.{Session, IsSession, AllEndBy, AfterPiece, AreRows, cleared, closed_of, chunk_limit, chunks_with, rows_of, row_bytes, stopped_of, with_rows, with_values}
+use Rattle.h5w_session.specs.Sessions.{Session, IsSession, AllEndBy, AfterPiece, AreRows, Settles, cleared, closed_of, chunk_limit, chunks_with, rows_of, row_bytes, stopped_of, with_rows, with_values}
+use Rattle.h5w_model.specs.Findings.{the_superblock}
+use Rattle.h5w_flush_laws.specs.Spaces.{extent_of}
+use Rattle.h5w_space.specs.Space.{IsLive, Space}
+use Rattle.h5w_space.specs.declared.Extent.{Extent}
 use Rattle.h5w_session.specs.Refusals.{append_refusal, chunks_refusal}
 use Rattle.h5w_session.specs.declared.refusal.AppendError.{AppendError}
 use Rattle.h5w_session.specs.declared.refusal.AppendError.TheVariants as appends
@@ -194,6 +198,77 @@ not_refused s values chunks limit running idle inside is top few =
 
 -- ---- What holds of every session is kept
 
+-- It does not look at the rows that are flushed, at the superblock but for its version, and at how the session stands to its pieces.
+pub still_is : (s : Session) (root : Super) (committed : ℕ) (ws : List Write) (stop keep flush : Bool) → root.version ≡ s.root.version → (flush ≡ true → (s.waits ≡ 0) × (ws ≢ [])) → IsSession s
+    → IsSession (record s { root = root; committed = committed; pending = ws; stopped = stop; keeps = keep; flushing = flush })
+still_is s root committed ws stop keep flush version takes is = record {
+  some_columns = is.some_columns;
+  cells = is.cells;
+  few = is.few;
+  version = version ∙ is.version;
+  begun = is.begun;
+  kind = is.kind;
+  sound = is.sound;
+  fits = is.fits;
+  header = is.header;
+  addressed = is.addressed;
+  header_ends = is.header_ends;
+  small = is.small;
+  limit = is.limit;
+  inside = is.inside;
+  tops = λ whole. is.tops (record { named = whole.named; made = whole.made });
+  head = is.head;
+  blank = is.blank;
+  live = is.live;
+  early = is.early;
+  chunks = is.chunks;
+  placed = is.placed;
+  ends = is.ends;
+  flushing = λ e. (takes e).0;
+  busy = λ e. (takes e).1;
+  budget_low = is.budget_low;
+  budget_high = is.budget_high;
+}
+
+-- so it is at other places that end where these do
+pub freed_is : (s : Session) (t : Space) → t.end ≡ s.places.end → t.limit ≡ s.places.limit → ((r : Extent) → IsLive s.places r → IsLive t r) → IsSession s → IsSession (record s { places = t })
+freed_is s t end limit stays is = record {
+  some_columns = is.some_columns;
+  cells = is.cells;
+  few = is.few;
+  version = is.version;
+  begun = omega (arith, is.begun, end);
+  kind = is.kind;
+  sound = is.sound;
+  fits = is.fits;
+  header = is.header;
+  addressed = is.addressed;
+  header_ends = omega (arith, is.header_ends, end);
+  small = omega (arith, is.small, end);
+  limit = omega (arith, is.limit, limit);
+  inside = λ k from named. omega (arith, is.inside k from named, end);
+  tops = λ whole u among. omega (arith, is.tops (record { named = whole.named; made = whole.made }) u among, end);
+  head = λ named lacking. omega (arith, is.head named lacking, end);
+  blank = is.blank;
+  live = λ unmade. stays (extent_of the_superblock) (is.live unmade);
+  early = is.early;
+  chunks = is.chunks;
+  placed = is.placed;
+  ends = λ k p at. omega (arith, is.ends k p at, end);
+  flushing = is.flushing;
+  busy = is.busy;
+  budget_low = is.budget_low;
+  budget_high = is.budget_high;
+}
+
+-- a session of which nothing is pending is not flushing
+not_true : (b : Bool) → (b ≡ true → ⊥) → b ≡ false
+not_true true some = absurd (some refl)
+not_true false some = refl
+
+pub idle_unplanned : (s : Session) → IsSession s → s.pending ≡ [] → s.flushing ≡ false
+idle_unplanned s is idle = not_true s.flushing (λ e. is.busy e idle)
+
 pub values_is : (s : Session) (values : List ℤ) → IsSession s → AreRows s values → Accepted s values → IsSession (with_values s values)
 values_is s values is rows by =
     let more = length values / s.dataset.shape.cols in
@@ -202,7 +277,9 @@ values_is s values is rows by =
     let count = rows_are s values is.some_columns rows in
     let size = s.dataset.int_type.size in
     let regrouped : length values * size ≡ more * (s.dataset.shape.cols * size) = ap (λ (n : ℕ). n * size) (sym count) ∙ omega arith in
-    let split : (s.waits + more) * row_bytes s.dataset ≡ s.waits * row_bytes s.dataset + more * row_bytes s.dataset = omega arith in
+    let early = is.early in
+    let split : (s.waits + more - s.early) * row_bytes s.dataset ≡ (s.waits - s.early) * row_bytes s.dataset + more * row_bytes s.dataset =
+    ap (λ (n : ℕ). n * row_bytes s.dataset) (let e : s.waits + more - s.early ≡ (s.waits - s.early) + more = omega (arith, early) in e) ∙ (let e : ((s.waits - s.early) + more) * row_bytes s.dataset ≡ (s.waits - s.early) * row_bytes s.dataset + more * row_bytes s.dataset = omega arith in e) in
     let sum : s.dataset.shape.rows + (s.waits + more) ≡ rows_of s + more = omega arith in
     record {
       some_columns = is.some_columns;
@@ -221,6 +298,16 @@ values_is s values is rows by =
       inside = is.inside;
       tops = λ whole. is.tops (record { named = whole.named; made = whole.made });
       head = is.head;
+      blank = is.blank;
+      live = is.live;
+      early = omega (arith, is.early);
+      chunks = is.chunks;
+      placed = is.placed;
+      ends = is.ends;
+      flushing = λ e. absurd (is.busy e by.idle);
+      busy = λ e. is.busy e;
+      budget_low = is.budget_low;
+      budget_high = is.budget_high;
     }
 
 -- the same as fields tell it
@@ -234,9 +321,9 @@ pub waits_is : (v s : Session) (values : List ℤ) (b : List ℕ) → v ≡ s �
     → IsSession (record v { waiting = b; waits = v.waits + length values / v.dataset.shape.cols })
 waits_is v s values b e added is = subst IsSession (sym (with_values_is v s values b e added)) is
 
-pub stopped_is : (v s : Session) (ws : List Write) → v ≡ s → ws ≡ [] → record v { pending = ws; stopped = true } ≡ stopped_of s
+pub stopped_is : (v s : Session) (ws : List Write) → v ≡ s → ws ≡ [] → record v { pending = ws; stopped = true; flushing = false } ≡ stopped_of s
 stopped_is v s ws e none =
-    let put : List Write → Session = λ xs. record v { pending = xs; stopped = true } in
+    let put : List Write → Session = λ xs. record v { pending = xs; stopped = true; flushing = false } in
     ap put none ∙ ap stopped_of e
 
 -- ---- Pieces
@@ -261,6 +348,10 @@ left_are plan shown w ws inside pending = behind_first w (get_or plan shown no_w
 pub last_left : (plan : List Write) (shown : ℕ) (w : Write) (ws : List Write) → shown + 1 ≡ length plan → drop shown plan ≡ w ∷ ws → ws ≡ []
 last_left plan shown w ws last pending = left_are plan shown w ws (omega arith) pending ∙ drop_all (shown + 1) plan (omega arith)
 
+-- none are left behind the last
+pub last_of : (plan : List Write) (shown : ℕ) → shown < length plan → drop (shown + 1) plan ≡ [] → shown + 1 ≡ length plan
+last_of plan shown inside none = omega (arith, inside, ap length none, length-drop (shown + 1) plan)
+
 pub more_left : (plan : List Write) (shown : ℕ) (w : Write) (ws : List Write) → shown < length plan → (shown + 1 ≡ length plan → ⊥) → drop shown plan ≡ w ∷ ws → 0 < length ws
 more_left plan shown w ws inside more pending = omega (arith, ap length (left_are plan shown w ws inside pending), length-drop (shown + 1) plan)
 
@@ -268,6 +359,15 @@ more_left plan shown w ws inside more pending = omega (arith, ap length (left_ar
 pub after_some : (s : Session) (ws : List Write) (t : Session) → 0 < length ws → t ≡ record s { pending = ws } → AfterPiece s ws t
 after_some s [] t some is = absurd (omega arith)
 after_some s (w ∷ ws) t some is = is
+
+-- nor where the last was of no flush
+pub after_unplanned : (s : Session) (ws : List Write) (t : Session) → s.flushing ≡ false → t ≡ record s { pending = ws } → AfterPiece s ws t
+after_unplanned s [] t none is = subst (λ (b : Bool). Settles b s t) (sym none) is
+after_unplanned s (w ∷ ws) t none is = is
+
+-- the last of a flush brings its rows
+pub after_flush_piece : (s : Session) (ws : List Write) (t : Session) → ws ≡ [] → s.flushing ≡ true → Settles true s t → AfterPiece s ws t
+after_flush_piece s ws t none flushes settles = subst (λ (vs : List Write). AfterPiece s vs t) (sym none) (subst (λ (b : Bool). Settles b s t) (sym flushes) settles)
 
 -- ---- A close
 

@@ -1,10 +1,13 @@
 -- Steps of the functions that take chunks.
-use Rattle.std.proofs.Common.{◌≡◌, ◌≢◌, ◌⊎◌, refl, ℕ, ◌+◌, ◌*◌, ◌/◌, ◌^◌, ◌<◌, ◌≤◌, Bool, true, false, nat_lt, if◌then◌else◌, length, replicate, Option, Some, None, Result, Ok, Err, sym, ap, subst, ◌∙◌, inl, inr, arith}
+use Rattle.std.proofs.Common.{◌≡◌, ◌≢◌, ◌⊎◌, refl, ℕ, suc, ◌+◌, ◌*◌, ◌^◌, ◌<◌, ◌≤◌, true, false, [], ◌∷◌, ◌++◌, nat_lt, if◌then◌else◌, length, replicate, Option, Some, None, Result, Ok, Err, sym, ap, subst, ◌∙◌, inl, inr, arith}
 use Rattle.std.specs.Result.{IfErr, OnErr, OnOk}
 use Rattle.std.specs.Option.{IfSome, option_map, unwrap_or}
-use Rattle.std.proofs.lemmas.List.{length-replicate}
-use Rattle.std.proofs.lemmas.Bool.{cases_eq, cases_lt, eq-eqb, lt-ltb, ne_eqb}
-use Rattle.std.specs.Prelude.{List}
+use Rattle.std.proofs.lemmas.List.{length-replicate, length-take-le}
+use Rattle.std.proofs.lemmas.Bool.{cases_Bool, cases_eq, cases_lt, eq-eqb, lt-ltb, ne_eqb}
+use Rattle.std.specs.Prelude.{List, take, get_or}
+use Rattle.std.specs.List.{slice_get}
+use Rattle.std.proofs.lemmas.Option.{slice_get-get_or}
+use Rattle.std.proofs.Math.Seq.{take-suc}
 use Rattle.std.proofs.lemmas.Nat.{div-add-mod', mul-le}
 use Rattle.std.proofs.Math.Nat.{div-le_self}
 use Rattle.h5w_model.specs.Integers.{cell_bytes}
@@ -22,20 +25,26 @@ use Rattle.h5w_chunks.specs.Shares.{first_line, touched, touched_band, touched_k
 use Rattle.h5w_chunks.specs.declared.grid.ChunkPlace.{ChunkPlace}
 use Rattle.h5w_chunks.specs.declared.grid.Grid.{Grid}
 use Rattle.h5w_chunks.proofs.Geometry.{share_numbers}
-use Rattle.h5w_chunks.proofs.KeyLemmas.{touched_lines}
+use Rattle.h5w_chunks.proofs.KeyLemmas.{touched_lines, touched_low}
 use Rattle.h5w_space.specs.declared.Full.{Full}
-use Rattle.h5w_cache.specs.Plans.{IfFull}
+use Rattle.h5w_cache.specs.Plans.{IfFull, Took}
 use Rattle.h5w_cache.specs.declared.plan.PlanError.{PlanError}
 use Rattle.h5w_cache.specs.declared.plan.PlanError.TheVariants as plan
-use Rattle.h5w_index.specs.Steps.{IsDeep, found}
-use Rattle.h5w_index.specs.Views.{IndexView, IsSound, address_in}
-use Rattle.h5w_index.specs.Placing.{Fits, IsPlacing, next_key}
+use Rattle.h5w_flush_laws.specs.EarlyRows.{IsEarlyPlace}
+use Rattle.h5w_index.specs.Steps.{IsDeep, IsHeld, IsSet, found}
+use Rattle.h5w_index.specs.Views.{HasSlot, IndexView, IsReached, IsSound, address_in}
+use Rattle.h5w_index.specs.Naming.{AreNamed, AreTakenBehind}
+use Rattle.h5w_index.specs.Placing.{AreInside, Fits, IsPartly, next_key}
 use Rattle.h5w_index.specs.Marks.{IsTouched}
 use Rattle.h5w_index.proofs.DepthLemmas.{depth_laws}
-use Rattle.h5w_index.proofs.PartlyLemmas.{apart_keys}
+use Rattle.h5w_index.proofs.BehindLemmas.{behind_laws}
+use Rattle.h5w_index.proofs.NamingLemmas.{named_before, naming_laws}
+use Rattle.h5w_index.proofs.PlacingLemmas.{placing_laws}
+use Rattle.h5w_index.proofs.RaisedLemmas.{raised_one}
+use Rattle.h5w_index.proofs.ToldLemmas.{held_tells}
 use Rattle.h5w_bt_index.specs.declared.error.InsertError.{InsertError}
 use Rattle.h5w_bt_index.specs.declared.error.InsertError.TheVariants as inserts
-use Rattle.h5w_space.specs.Space.{Space}
+use Rattle.h5w_space.specs.Space.{IsLive, Space, TakesPlace, extent}
 use Rattle.h5w_session.specs.Refusals.{IsSpace, insert_fault, plan_fault}
 use Rattle.h5w_session.specs.Sessions.{IsRoomy, most_lines}
 use Rattle.h5w_session.specs.declared.refusal.FlushError.{FlushError}
@@ -104,6 +113,13 @@ sizes_of g is =
     let line : cols ≤ cols * size = part cols size some_size in
     let all : rows ≤ rows * (cols * size) = part rows (cols * size) (omega (arith, layout.cols, line)) in
     record { rows = low; some = omega (arith, layout.rows, all) }
+
+-- a place that is taken is no place past all files
+pub taken_small : (t next : Space) (at size : ℕ) → TakesPlace t next (extent at size) → t.end < 2 ^ 64 → t.limit ≤ 2 ^ 40 → next.end < 2 ^ 64
+taken_small t next at size takes small limit = let raised = raised_one t next at size takes in omega (arith, raised.fits, raised.limit, small, limit)
+
+pub taken_defined : (t next : Space) (at size : ℕ) → TakesPlace t next (extent at size) → IsLive next (extent at size) → 0 < size → t.end < 2 ^ 64 → t.limit ≤ 2 ^ 40 → at ≢ undefined
+taken_defined t next at size takes live some small limit e = absurd (omega (arith, live.within, taken_small t next at size takes small limit, some, e))
 
 -- a chunk in the loop over those that rows go into: it is one of them, its key is in the lines of the rows' bands, and no key is too much
 pub record IsKeyIn (d : Described) (from to k : ℕ) : Type 0 where
@@ -176,10 +192,98 @@ next_in d to k n key band chunks cut all low count is band_is =
     }
 
 -- the next chunk has no address where it had none before
-pub absent_before : (d : Described) (to : ℕ) (v w : IndexView) (s t : Space) (chunks : List ChunkPlace) (added : List Key) (key : Key) → Fits d v → IsPlacing d to v s chunks added w t → key ≡ next_key d chunks → address_in w key ≡ undefined
+pub absent_before : (d : Described) (to : ℕ) (v w : IndexView) (chunks : List ChunkPlace) (added : List Key) (key : Key) → Fits d v → AreNamed d to v chunks added w → key ≡ next_key d chunks → address_in w key ≡ undefined
     → address_in v (next_key d chunks) ≡ undefined
-absent_before d to v w s t chunks added key fits x is none =
-    sym (x.others (next_key d chunks) (λ k low. apart_keys d v d.shape.rows k (length chunks) fits (λ e. absurd (omega (arith, e, low))))) ∙ ap (address_in w) (sym is) ∙ none
+absent_before d to v w chunks added key fits x is none = sym (named_before d to v w chunks added fits x) ∙ ap (address_in w) (sym is) ∙ none
+
+-- it has one that it had before
+pub there_before : (d : Described) (to : ℕ) (v w : IndexView) (chunks : List ChunkPlace) (added : List Key) (key : Key) (address : ℕ) → Fits d v → AreNamed d to v chunks added w → key ≡ next_key d chunks → address_in w key ≡ address
+    → address_in v (next_key d chunks) ≡ address
+there_before d to v w chunks added key address fits x is there = sym (named_before d to v w chunks added fits x) ∙ ap (address_in w) (sym is) ∙ there
+
+-- ---- The next chunk gets its place
+
+-- The index names it there already, and readers look for it from now on.
+pub named_there : (d : Described) (to : ℕ) (v w u : IndexView) (chunks now : List ChunkPlace) (added : List Key) (key : Key) (p : ChunkPlace) → Fits d v → key ≡ next_key d chunks → length chunks < touched d d.shape.rows to → address_in w key ≡ p.address
+    → p.address ≢ undefined → (p.stored ≡ false → d.shape.rows ≤ touched_band d d.shape.rows (length chunks) * d.layout.chunk_rows) → IsHeld key w u → IsReached u key → now ≡ chunks ++ p ∷ [] → AreNamed d to v chunks added w
+    → AreNamed d to v now added u
+named_there d to v w u chunks now added key p fits number inside there defined whole held looked is x =
+    let told = held_tells key w u x.partly.like.sound held in
+    let named : address_in u (next_key d chunks) ≡ p.address = ap (address_in u) (sym number) ∙ told.map key ∙ there in
+    let touches : IsTouched d d.shape.rows to key = record { number = length chunks; inside = inside; is = number } in
+    subst (λ (ps : List ChunkPlace). AreNamed d to v ps added u) (sym is)
+    (naming_laws.named_stored d to v u chunks added p fits named defined whole (subst (IsReached u) number looked) (naming_laws.named_held d to key v w u chunks added touches held x))
+
+pub taken_there : (d : Described) (to : ℕ) (v w : IndexView) (early : List ChunkPlace) (s t : Space) (chunks now : List ChunkPlace) (added : List Key) (key : Key) (p : ChunkPlace) → Fits d v → AreInside d s.end v → key ≡ next_key d chunks
+    → address_in w key ≡ p.address → p.address ≢ undefined → now ≡ chunks ++ p ∷ [] → AreNamed d to v chunks added w → AreTakenBehind d (address_in v) early s chunks t → AreTakenBehind d (address_in v) early s now t
+taken_there d to v w early s t chunks now added key p fits within number there defined is x y =
+    let before = there_before d to v w chunks added key p.address fits x number there in
+    let known : address_in v (next_key d chunks) ≢ undefined = λ e. defined (sym before ∙ e) in
+    let own = within (next_key d chunks) (touched_low d d.shape.rows (length chunks) fits.some) known in
+    subst (λ (ps : List ChunkPlace). AreTakenBehind d (address_in v) early s ps t) (sym is)
+    (behind_laws.behind_stored d (address_in v) early s t chunks p known (omega (arith, own, before, y.raised.rises)) y)
+
+-- The index names it for the first time.
+pub named_first : (d : Described) (to : ℕ) (v w h u : IndexView) (chunks now : List ChunkPlace) (added all : List Key) (key : Key) (p : ChunkPlace) → Fits d v → key ≡ next_key d chunks → length chunks < touched d d.shape.rows to
+    → address_in w key ≡ undefined → p.stored ≡ false → p.address ≢ undefined → IsHeld key w h → HasSlot h key → IsSet key p.address h u → now ≡ chunks ++ p ∷ [] → all ≡ added ++ key ∷ [] → AreNamed d to v chunks added w
+    → AreNamed d to v now all u
+named_first d to v w h u chunks now added all key p fits number inside none fresh defined held slot set is keys x =
+    let made = naming_laws.named_new d to v w h u chunks added p fits inside (subst (λ (k : Key). address_in w k ≡ undefined) number none) fresh defined (subst (λ (k : Key). IsHeld k w h) number held)
+    (subst (λ (k : Key). HasSlot h k) number slot) (subst (λ (k : Key). IsSet k p.address h u) number set) x in
+    let own : AreNamed d to v (chunks ++ p ∷ []) (added ++ key ∷ []) u = subst (λ (k : Key). AreNamed d to v (chunks ++ p ∷ []) (added ++ k ∷ []) u) (sym number) made in
+    subst (λ (ps : List ChunkPlace). AreNamed d to v ps all u) (sym is) (subst (λ (ks : List Key). AreNamed d to v (chunks ++ p ∷ []) ks u) (sym keys) own)
+
+pub taken_first : (d : Described) (to : ℕ) (v w : IndexView) (early : List ChunkPlace) (s t next : Space) (chunks now : List ChunkPlace) (added : List Key) (key : Key) (p : ChunkPlace) → Fits d v → 0 < chunk_len d → key ≡ next_key d chunks
+    → address_in w key ≡ undefined → Took t next (extent p.address (chunk_len d)) → now ≡ chunks ++ p ∷ [] → AreNamed d to v chunks added w → AreTakenBehind d (address_in v) early s chunks t → AreTakenBehind d (address_in v) early s now next
+taken_first d to v w early s t next chunks now added key p fits some number none took is x y =
+    subst (λ (ps : List ChunkPlace). AreTakenBehind d (address_in v) early s ps next) (sym is)
+    (behind_laws.behind_new d (address_in v) early s t next chunks p some (absent_before d to v w chunks added key fits x number none) took y)
+
+-- A place is held for it, and then the call is refused.
+pub partly_refused : (d : Described) (to : ℕ) (key : Key) (v w h u : IndexView) (added now : List Key) → IsHeld key w h → u ≡ h → now ≡ added → IsPartly d to v added w → IsTouched d d.shape.rows to key → IsPartly d to v now u
+partly_refused d to key v w h u added now held index keys x touches =
+    let here = placing_laws.held d to key v w h added touches held x in
+    subst (λ (ks : List Key). IsPartly d to v ks u) (sym keys) (subst (λ (i : IndexView). IsPartly d to v added i) (sym index) here)
+
+-- A chunk that was written early is where the index names it, or the index does not know it.
+pub early_there : (d : Described) (to : ℕ) (v w : IndexView) (chunks : List ChunkPlace) (added : List Key) (key : Key) (p : ChunkPlace) → Fits d v → AreNamed d to v chunks added w → key ≡ next_key d chunks → address_in w key ≢ undefined
+    → IsEarlyPlace d (address_in v) d.shape.rows (length chunks) p → (address_in w key ≡ p.address) × (p.stored ≡ false → d.shape.rows ≤ touched_band d d.shape.rows (length chunks) * d.layout.chunk_rows)
+early_there d to v w chunks added key p fits x number known e =
+    let before : address_in v (next_key d chunks) ≡ address_in w key = there_before d to v w chunks added key (address_in w key) fits x number refl in
+    let there : address_in v (next_key d chunks) ≢ undefined = λ none. known (sym before ∙ none) in
+    (sym before ∙ sym (e.kept there), λ fresh. e.whole fresh there)
+
+pub early_first : (d : Described) (to : ℕ) (v w : IndexView) (chunks : List ChunkPlace) (added : List Key) (key : Key) (p : ChunkPlace) → Fits d v → AreNamed d to v chunks added w → key ≡ next_key d chunks → address_in w key ≡ undefined
+    → IsEarlyPlace d (address_in v) d.shape.rows (length chunks) p → p.stored ≡ false
+early_first d to v w chunks added key p fits x number none e =
+    elim (cases_Bool p.stored) [
+      | inl stored ↦ absurd (e.stored stored (absent_before d to v w chunks added key fits x number none))
+      | inr fresh ↦ fresh
+    ]
+
+-- so many of the first
+pub taken_long : (early chunks : List ChunkPlace) (k : ℕ) → chunks ≡ take k early → k ≤ length early → length chunks ≡ k
+taken_long early chunks k is low = ap length is ∙ length-take-le k early low
+
+-- The next of the chunks that were written early, in the loop that names them.
+pub record IsEarlyNext (d : Described) (to k : ℕ) (v : IndexView) (early : List ChunkPlace) (key : Key) (p : ChunkPlace) (chunks : List ChunkPlace) : Type 0 where
+  pub next : IsNext d to key (touched_band d d.shape.rows (length chunks)) chunks
+  pub place : IsEarlyPlace d (address_in v) d.shape.rows (length chunks) p
+  pub pushed : chunks ++ p ∷ [] ≡ take (k + 1) early
+
+pub early_next : (d : Described) (to k n : ℕ) (v : IndexView) (early : List ChunkPlace) (key : Key) (chunks : List ChunkPlace) → IsCut d → length early ≤ touched d d.shape.rows to
+    → ((j : ℕ) (p : ChunkPlace) → slice_get early j ≡ Some p → IsEarlyPlace d (address_in v) d.shape.rows j p) → chunks ≡ take k early → k < length early → n ≡ length chunks → key ≡ touched_key d d.shape.rows n
+    → IsEarlyNext d to k v early key (get_or early k (record { address = 0; stored = false })) chunks
+early_next d to k n v early key chunks cut known places is low count is_key =
+    let p : ChunkPlace = get_or early k (record { address = 0; stored = false }) in
+    let long = taken_long early chunks k is (omega (arith, low)) in
+    let found : slice_get early k ≡ Some p = slice_get-get_or early k (record { address = 0; stored = false }) low in
+    record {
+      next = next_in d to (length chunks) (touched d d.shape.rows to) key (touched_band d d.shape.rows (length chunks)) chunks cut refl (omega (arith, long, low, known)) refl
+          (is_key ∙ ap (touched_key d d.shape.rows) count) refl;
+      place = subst (λ (j : ℕ). IsEarlyPlace d (address_in v) d.shape.rows j p) (sym long) (places k p found);
+      pushed = ap (λ (cs : List ChunkPlace). cs ++ p ∷ []) is ∙ sym (take-suc early k (record { address = 0; stored = false }) low) ∙ ap (λ (j : ℕ). take j early) (let e : suc k ≡ k + 1 = omega arith in e);
+    }
 
 pub same_error : {T E : Type 0} (e f : E) → ◌≡◌ {A = Result T E} (Err e) (Err f) → e ≡ f
 same_error {T} {E} e f is = cc

@@ -39,9 +39,9 @@ pub record IsLimit (most : ℕ) : Type 0 where
 abbrev pub places_to : ℕ → ℕ → Space
 places_to e most = record { end = e; limit = most; free = []; retired = []; spare = 0 }
 
--- a session that creates a file, up to a limit, and has this index without chunks: its pieces are pending
-abbrev pub created : CreatedFile → ℕ → IndexView → Session
-created f most v = record {
+-- a session that creates a file, up to a limit and with a budget, and has this index without chunks: its pieces are pending
+abbrev pub created : CreatedFile → (most budget : ℕ) → IndexView → Session
+created f most budget v = record {
   name = f.name;
   root = super_of f;
   place = header_place f;
@@ -54,6 +54,10 @@ created f most v = record {
   pending = created_writes f;
   stopped = false;
   keeps = false;
+  budget = budget;
+  early = 0;
+  chunks = [];
+  flushing = false;
   index = v;
 }
 
@@ -65,7 +69,7 @@ pub record IsIndexOf (f : CreatedFile) (v : IndexView) : Type 0 where
 -- The session that creates a file, up to a limit.
 pub record IsCreated (f : CreatedFile) (most : ℕ) (s : Session) : Type 0 where
   pub index : IsIndexOf f s.index
-  pub session : s ≡ created f most s.index
+  pub session : s ≡ created f most s.budget s.index
 
 -- the log of a session that creates its file, after these events
 abbrev pub log_of : CreatedFile → List Happening → Log

@@ -1,5 +1,5 @@
 -- What a flush makes of a session.
-use Rattle.std.specs.Prelude.{◌≡◌, ℕ, ◌*◌, ◌^◌, ◌<◌, ◌≤◌, List, [], ◌∷◌, ◌++◌, length, nat_lt, None}
+use Rattle.std.specs.Prelude.{◌≡◌, ℕ, ◌*◌, ◌^◌, ◌<◌, ◌≤◌, true, List, [], ◌∷◌, ◌++◌, length, nat_lt, None, if◌then◌else◌}
 use Rattle.h5w_model.specs.Headers.{with_rows_bytes}
 use Rattle.h5w_model.specs.Datasets.{Described}
 use Rattle.h5w_model.specs.Messages.{IsIntType}
@@ -16,8 +16,10 @@ use Rattle.h5w_flush_laws.specs.Parts.{AreEnded}
 use Rattle.h5w_index.specs.Views.{IndexView, address_in}
 use Rattle.h5w_index.specs.Steps.{IsBegun, IsPlan}
 use Rattle.h5w_index.specs.declared.begun.Begun.{Begun}
-use Rattle.h5w_index.specs.Placing.{Fits, IsPartly, IsPlacing}
-use Rattle.h5w_session.specs.Sessions.{IsRoomy, IsUnmade, IsWhole, Session, chunk_limit, rows_of, with_rows}
+use Rattle.h5w_index.specs.Naming.{AreNamed, AreTakenBehind}
+use Rattle.h5w_index.specs.Placing.{Fits, IsPartly}
+use Rattle.h5w_session.specs.Early.{next_places}
+use Rattle.h5w_session.specs.Sessions.{IsRoomy, IsUnmade, IsWhole, Session, chunk_limit, next_row, rows_of, with_rows}
 
 -- how many chunks the rows that wait go into
 abbrev pub touched_by : Session → ℕ
@@ -45,18 +47,27 @@ flushed_of s t ws v = record s {
   waiting = [];
   waits = 0;
   pending = ws;
+  early = 0;
+  chunks = [];
+  flushing = true;
   index = v;
 }
 
--- The chunks have their places over an index and places, and then the plan of the index that names them is begun.
-pub record IsPrepared (d : Described) (to : ℕ) (v : IndexView) (before : Space) (chunks : List ChunkPlace) (added : List Key) (named : IndexView) (b : Begun) (t : Space) : Type 0 where
+-- The chunks have their places over an index and places, some first of them had theirs before, and then the plan of the index that names them
+-- all is begun.
+pub record IsPrepared (d : Described) (to : ℕ) (v : IndexView) (early : List ChunkPlace) (before : Space) (chunks : List ChunkPlace) (added : List Key) (named : IndexView) (b : Begun) (t : Space) : Type 0 where
   pub between : Space
-  pub placing : IsPlacing d to v before chunks added named between
+  pub names : AreNamed d to v chunks added named
+  pub taken : AreTakenBehind d (λ key. address_in v key) early before chunks between
   pub begun : IsBegun named between b t
 
--- What a flush shows of the chunks that the rows that wait go into, over an index and places: each chunk in the order of its key, with its
--- place; the places once the new ones are taken; the index once it names them; the writes of the rows; and the plan of the index's
--- changed blocks.
+-- the writes of the rows from `mid` on, of rows from `from` on whose chunks have these places: none where all were written early
+abbrev pub writes_behind : Described → List ℕ → (from mid to : ℕ) → List ChunkPlace → List Write
+writes_behind d cells from mid to chunks = if nat_lt mid to then new_writes d cells mid to (next_places d from mid chunks) else []
+
+-- What a flush shows of the chunks that the rows that no flush has planned go into, over an index and places: each chunk in the order of its
+-- key, with its place, first those of rows that were written early; the places once the new ones are taken; the index once it names them;
+-- the writes of the rows that were not; and the plan of the index's changed blocks.
 pub record ArePlanned (s : Session) (v : IndexView) (before : Space) (w : IndexView) (t : Space) : Type 0 where
   -- the index is of chunks that stand as the dataset's do
   pub fits : Fits s.dataset v
@@ -69,11 +80,12 @@ pub record ArePlanned (s : Session) (v : IndexView) (before : Space) (w : IndexV
   pub added : List Key
   pub named : IndexView
   pub between : Space
-  pub placing : IsPlacing s.dataset (rows_of s) v before chunks added named between
+  pub names : AreNamed s.dataset (rows_of s) v chunks added named
+  pub taken : AreTakenBehind s.dataset (λ key. address_in v key) s.chunks before chunks between
   pub all : length chunks ≡ touched_by s
   pub rows : List Write
-  pub exact : rows ≡ new_writes s.dataset s.waiting s.dataset.shape.rows (rows_of s) chunks
-  pub written : RowsWritten s.dataset s.waiting s.dataset.shape.rows (rows_of s) chunks rows
+  pub exact : rows ≡ writes_behind s.dataset s.waiting s.dataset.shape.rows (next_row s) (rows_of s) chunks
+  pub written : next_row s < rows_of s → RowsWritten s.dataset s.waiting (next_row s) (rows_of s) (next_places s.dataset s.dataset.shape.rows (next_row s) chunks) rows
   pub moves : List Move
   pub copies : List Write
   pub fixed : List Write

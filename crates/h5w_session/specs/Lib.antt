@@ -13,6 +13,7 @@ pub use Rattle.h5w_chunks.specs.Grids
 pub use Rattle.h5w_types.specs.Fields
 pub mod Sessions
 pub mod Codes
+pub mod Early
 pub mod Creations
 pub mod Refusals
 pub mod Indexes

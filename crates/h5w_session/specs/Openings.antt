@@ -18,8 +18,8 @@ use Rattle.h5w_session.specs.declared.over.FileParts.{FileParts}
 use Rattle.h5w_session.specs.Stands.{Keeps, Stands}
 
 -- what a session over a file that is there begins with: the superblock is pending, and nothing happened yet
-abbrev pub session_over : FileParts → List ℕ → ℕ → Session
-session_over file name limit = record {
+abbrev pub session_over : FileParts → List ℕ → (limit budget : ℕ) → Session
+session_over file name limit budget = record {
   name = name;
   root = file.root;
   place = file.place;
@@ -32,6 +32,10 @@ session_over file name limit = record {
   pending = record { at = 0; piece = super_bytes file.root } ∷ [];
   stopped = false;
   keeps = false;
+  budget = budget;
+  early = 0;
+  chunks = [];
+  flushing = false;
   index = view_of file.index;
 }
 
@@ -54,6 +58,9 @@ pub record IsOver (s : Session) (img : List ℕ) (m : Moment) : Type 0 where
   pub committed : s.committed ≡ s.dataset.shape.rows
   pub waiting : s.waiting ≡ []
   pub waits : s.waits ≡ 0
+  pub early : s.early ≡ 0
+  pub chunks : s.chunks ≡ []
+  pub flushing : s.flushing ≡ false
   pub idle : s.pending ≡ []
   pub running : s.stopped ≡ false
 

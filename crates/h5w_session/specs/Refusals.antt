@@ -21,7 +21,9 @@ use Rattle.h5w_bt_index.specs.declared.error.InsertError.{InsertError}
 use Rattle.h5w_bt_index.specs.declared.error.InsertError.TheVariants as inserts
 use Rattle.h5w_index.specs.Views.{IndexView, address_in, kind_of}
 use Rattle.h5w_index.specs.Marks.{IsRaised}
-use Rattle.h5w_index.specs.Placing.{IsFullPart, IsPlacing, next_key}
+use Rattle.h5w_index.specs.Full.{IsFullPart}
+use Rattle.h5w_index.specs.Naming.{AreNamed}
+use Rattle.h5w_index.specs.Placing.{next_key}
 use Rattle.h5w_index.specs.Steps.{IsDeep}
 use Rattle.h5w_session.specs.Sessions.{IsRoomy, IsUnmade, IsWhole, Session, chunk_limit, chunks_with, rows_of}
 use Rattle.h5w_session.specs.Starts.{IsStartedAt}
@@ -88,7 +90,7 @@ pub record IsUnfilled (s : Session) (full : Full) : Type 0 where
   pub made : IndexView
   pub kind : s.dataset.layout.index ≡ kind_of made
   pub start : IsStartedAt s.dataset.layout.address s.places at made first
-  pub none : IsFullPart s.dataset (rows_of s) made first full
+  pub none : IsFullPart s.dataset (rows_of s) made s.chunks first full
 
 -- the file lacks its index, or its index block
 abbrev pub IsStartFull : Session → Full → Type 0
@@ -96,16 +98,15 @@ IsStartFull s full = IsUnplaced s.dataset.layout.index s.dataset.layout.address 
 
 -- so it is for the rows that wait
 abbrev pub IsFullFor : Session → Full → Type 0
-IsFullFor s full = (IsWhole s × IsFullPart s.dataset (rows_of s) s.index s.places full) ⊎ (IsUnmade s × IsStartFull s full)
+IsFullFor s full = (IsWhole s × IsFullPart s.dataset (rows_of s) s.index s.chunks s.places full) ⊎ (IsUnmade s × IsStartFull s full)
 
 -- Behind chunks that have their places, the next has none yet, and the index as it is then, with places held for those before it, has no
 -- room for its key. So it is in no index that has room for each chunk that the dataset can have.
-pub record IsDeepPart (d : Described) (to : ℕ) (v : IndexView) (s : Space) : Type 0 where
+pub record IsDeepPart (d : Described) (to : ℕ) (v : IndexView) : Type 0 where
   pub chunks : List ChunkPlace
   pub added : List Key
   pub w : IndexView
-  pub t : Space
-  pub placing : IsPlacing d to v s chunks added w t
+  pub named : AreNamed d to v chunks added w
   pub inside : length chunks < touched d d.shape.rows to
   pub absent : address_in v (next_key d chunks) ≡ undefined
   pub deep : IsDeep w (next_key d chunks)
@@ -113,7 +114,7 @@ pub record IsDeepPart (d : Described) (to : ℕ) (v : IndexView) (s : Space) : T
 
 -- So it is for the rows that wait: in a tree of depth 3 that is there each node on the way to the first new chunk that has no record is full.
 abbrev pub IsDeepFor : Session → Type 0
-IsDeepFor s = IsWhole s × IsDeepPart s.dataset (rows_of s) s.index s.places
+IsDeepFor s = IsWhole s × IsDeepPart s.dataset (rows_of s) s.index
 
 -- what is answered where the image made no room, where a chunk's key has none in the index, and where the index has no plan
 abbrev pub flush_fault : ImageError → FlushError

@@ -1,5 +1,5 @@
 -- A session: what its values are, and what each call makes of it.
-use Rattle.std.specs.Prelude.{◌≡◌, ◌≢◌, ◌⊎◌, ◌==◌, ◌^◌, ℕ, ◌+◌, ◌-◌, ◌*◌, ◌/◌, ◌%◌, ◌<◌, ◌≤◌, Bool, true, false, List, [], ◌∷◌, ◌++◌, length, ℤ, Option, None, Some, Ok, find}
+use Rattle.std.specs.Prelude.{◌≡◌, ◌≢◌, ◌⊎◌, ◌==◌, ◌^◌, ℕ, ◌+◌, ◌-◌, ◌*◌, ◌/◌, ◌%◌, ◌<◌, ◌≤◌, Bool, true, false, List, [], ◌∷◌, ◌++◌, length, ℤ, Option, None, Some, Ok, find, slice_get}
 use Rattle.h5w_model.specs.Images.{AllSized}
 use Rattle.h5w_model.specs.Superblock.{super_bytes}
 use Rattle.h5w_model.specs.Arrays.{eahd_len}
@@ -7,25 +7,31 @@ use Rattle.h5w_model.specs.Logs.{Cutting, div_up}
 use Rattle.h5w_model.specs.Datasets.{Described, dataspace_kind, layout_kind}
 use Rattle.h5w_model.specs.Tables.{format_limits, keys_across, limit_of, needed}
 use Rattle.h5w_model.specs.Numbers.{undefined}
+use Rattle.h5w_model.specs.Findings.{the_superblock}
 use Rattle.h5w_model.specs.Headers.{index_address_place, messages_at}
 use Rattle.h5w_model.specs.declared.cell.Key.{Key}
 use Rattle.h5w_model.specs.declared.message.Msg.{Msg}
 use Rattle.h5w_model.specs.declared.root.Super.{Super}
 use Rattle.h5w_model.specs.declared.piece.Write.{Write}
 use Rattle.h5w_header_laws.specs.Files.{with_index}
-use Rattle.h5w_space.specs.Space.{Space, Commits}
+use Rattle.h5w_space.specs.Space.{Commits, IsLive, Space}
 use Rattle.h5w_visits.specs.Ranges.{AllEndBy as RangesEndBy}
-use Rattle.h5w_chunks.specs.Grids.{cells_of}
-use Rattle.h5w_chunks.specs.Shares.{first_line}
+use Rattle.h5w_chunks.specs.Grids.{cells_of, chunk_len}
+use Rattle.h5w_chunks.specs.Shares.{first_line, touched}
+use Rattle.h5w_chunks.specs.declared.grid.ChunkPlace.{ChunkPlace}
+use Rattle.h5w_flush_laws.specs.EarlyRows.{IsEarlyPlace}
+use Rattle.h5w_flush_laws.specs.Spaces.{extent_of}
 use Rattle.h5w_index.specs.Views.{IndexView, IsReached, IsSound, address_in, fixed_of, header_place, kind_of}
 use Rattle.h5w_index.specs.Blocks.{has_no_block}
 use Rattle.h5w_index.specs.Placing.{AreInside, Fits}
 use Rattle.h5w_index.specs.Depths.{AreWithin}
 
 -- The dataset's name; the superblock; the dataset header's place and its chunk 0; the dataset; the places of the file: all as they
--- are once all pending pieces became visible. The rows that the file has until the last of them does; the cells of the rows that no
--- flush has planned, and how many rows these are; the pending pieces, the oldest first; whether the session was stopped, and whether
--- what is retired stays so. Last the index of chunks, of either kind.
+-- are once all pending pieces became visible. The rows that the file has until the last of a flush's does; how many rows no flush has
+-- planned, and the cells of those of them that were not written early; the pending pieces, the oldest first; whether the session was
+-- stopped, and whether what is retired stays so. The most bytes that may wait unwritten after an append; how many of the rows that no flush
+-- has planned, the first of them, were written early, and the places of the chunks that these go into, in the order of their keys; whether
+-- what is pending is a flush. Last the index of chunks, of either kind, which names no chunk that was written early.
 pub record Session : Type 0 where
   pub name : List ℕ
   pub root : Super
@@ -39,11 +45,19 @@ pub record Session : Type 0 where
   pub pending : List Write
   pub stopped : Bool
   pub keeps : Bool
+  pub budget : ℕ
+  pub early : ℕ
+  pub chunks : List ChunkPlace
+  pub flushing : Bool
   pub index : IndexView
 
 -- the rows appended in all
 abbrev pub rows_of : Session → ℕ
 rows_of s = s.dataset.shape.rows + s.waits
+
+-- the first row whose cells wait
+abbrev pub next_row : Session → ℕ
+next_row s = s.dataset.shape.rows + s.early
 
 -- the dataset with so many rows
 abbrev pub with_rows : ℕ → Described → Described
@@ -123,7 +137,7 @@ AreReached s = (key : Key) → key.i < first_line s.dataset (div_up s.dataset.sh
 -- what holds of every session
 pub record IsSession (s : Session) : Type 0 where
   pub some_columns : 1 ≤ s.dataset.shape.cols
-  pub cells : length s.waiting ≡ s.waits * row_bytes s.dataset
+  pub cells : length s.waiting ≡ (s.waits - s.early) * row_bytes s.dataset
   pub few : needed (with_rows (rows_of s) s.dataset) ≤ chunk_limit s
   pub version : s.root.version ≡ 3
   pub begun : 48 ≤ s.places.end
@@ -141,6 +155,18 @@ pub record IsSession (s : Session) : Type 0 where
   pub inside : AreInside s.dataset s.places.end s.index
   pub tops : IsWhole s → RangesEndBy s.places.end (fixed_of s.index)
   pub head : IsNamed s.dataset → has_no_block s.index ≡ true → s.dataset.layout.address + eahd_len ≤ s.places.end
+  -- an index that is not there names no chunk, and where it is not nothing was let go at the superblock's place
+  pub blank : IsUnmade s → (key : Key) → address_in s.index key ≡ undefined
+  pub live : IsUnmade s → IsLive s.places (extent_of the_superblock)
+  -- each chunk that the rows written early go into has its place, and no row waits where a flush is pending
+  pub early : s.early ≤ s.waits
+  pub chunks : length s.chunks ≡ touched s.dataset s.dataset.shape.rows (next_row s)
+  pub placed : (k : ℕ) (p : ChunkPlace) → slice_get s.chunks k ≡ Some p → IsEarlyPlace s.dataset (λ key. address_in s.index key) s.dataset.shape.rows k p
+  pub ends : (k : ℕ) (p : ChunkPlace) → slice_get s.chunks k ≡ Some p → p.address + chunk_len s.dataset ≤ s.places.end
+  pub flushing : s.flushing ≡ true → s.waits ≡ 0
+  pub busy : s.flushing ≡ true → s.pending ≢ []
+  pub budget_low : 1024 ≤ s.budget
+  pub budget_high : s.budget ≤ 2 ^ 30
 
 -- each write ends by a place
 abbrev pub AllEndBy : ℕ → List Write → Type 0
@@ -158,19 +184,30 @@ pub record ArePieces (end : ℕ) (ws : List Write) : Type 0 where
 abbrev pub with_values : Session → List ℤ → Session
 with_values s values = record s { waiting = s.waiting ++ cells_of s.dataset values; waits = s.waits + length values / s.dataset.shape.cols }
 
+-- Values are appended, of which some rows may be written early. Nothing else changes.
+pub record AddsValues (old : Session) (values : List ℤ) (new : Session) : Type 0 where
+  pub session : new ≡ record (with_values old values) { early = new.early; waiting = new.waiting; chunks = new.chunks; places = new.places; pending = new.pending }
+  pub limit : new.places.limit ≡ old.places.limit
+  pub rises : old.places.end ≤ new.places.end
+
 -- what was retired is free, or where it stays out of use forgotten: neither free nor retired
 abbrev pub Freed : Bool → Space → Space → Type 0
 Freed true s t = t ≡ record s { retired = [] }
 Freed false s t = Commits s t
 
--- the session once its oldest piece became visible, with these left: the last brings the rows, and frees or forgets what was retired
+-- all pieces became visible: those of a flush bring the rows, and free or forget what was retired
+abbrev pub Settles : Bool → Session → Session → Type 0
+Settles true s t = Freed s.keeps s.places t.places × (t ≡ record s { places = t.places; committed = s.dataset.shape.rows; pending = []; flushing = false })
+Settles false s t = t ≡ record s { pending = [] }
+
+-- the session once its oldest piece became visible, with these left
 abbrev pub AfterPiece : Session → List Write → Session → Type 0
-AfterPiece s [] t = Freed s.keeps s.places t.places × (t ≡ record s { places = t.places; committed = s.dataset.shape.rows; pending = [] })
+AfterPiece s [] t = Settles s.flushing s t
 AfterPiece s (w ∷ ws) t = t ≡ record s { pending = w ∷ ws }
 
 -- the session once it was stopped: what was pending is dropped
 abbrev pub stopped_of : Session → Session
-stopped_of s = record s { pending = []; stopped = true }
+stopped_of s = record s { pending = []; stopped = true; flushing = false }
 
 -- flags without bit 0, open for writing, and bit 2, open for SWMR writing
 abbrev pub cleared : ℕ → ℕ
@@ -211,3 +248,8 @@ pub record TakesRows (old new : Session) : Type 0 where
   pub keeps : new.keeps ≡ old.keeps
   pub limit : new.places.limit ≡ old.places.limit
   pub rises : old.places.end ≤ new.places.end
+  pub budget : new.budget ≡ old.budget
+  pub early : new.early ≡ 0
+  pub chunks : new.chunks ≡ []
+  pub flushing : 0 < old.waits → new.flushing ≡ true
+  pub still : old.waits ≡ 0 → new.flushing ≡ old.flushing

@@ -1,5 +1,5 @@
 -- Of which logs a session can be the session.
-use Rattle.std.specs.Prelude.{◌≡◌, ◌≢◌, ◌⊎◌, ℕ, ◌*◌, true, List, [], ◌++◌, length, ℤ, None}
+use Rattle.std.specs.Prelude.{◌≡◌, ◌≢◌, ◌⊎◌, ℕ, ◌-◌, ◌*◌, ◌≤◌, true, false, List, [], ◌++◌, length, ℤ, None}
 use Rattle.h5w_model.specs.Images.{image}
 use Rattle.h5w_model.specs.Lawful.{first_outside}
 use Rattle.h5w_model.specs.Logs.{Log, hist, appended, appended_in, flushed_in, flushed_rows}
@@ -16,6 +16,8 @@ use Rattle.h5w_flush_laws.specs.Knowledge.{Knows}
 use Rattle.h5w_session.specs.Sessions.{Session, rows_of}
 use Rattle.h5w_index.specs.Marks.{IsMarked}
 use Rattle.h5w_creation_laws.specs.CreatedFiles.{CreatedFile, IsCreatable, created_writes}
+use Rattle.h5w_space.specs.Space.{Space}
+use Rattle.h5w_session.specs.Early.{HasEarly}
 use Rattle.h5w_session.specs.Indexes.{IsKeptIndex}
 use Rattle.h5w_session.specs.Creations.{IsIndexOf, IsLimit, created, log_of}
 use Rattle.h5w_session.specs.Past.{Past}
@@ -34,7 +36,7 @@ pub record Creating (f : CreatedFile) (s : Session) (left : List Write) (log : L
   pub index : IsIndexOf f s.index
   pub some : left ≢ []
   pub pieces : hist log.events ++ left ≡ created_writes f
-  pub session : s ≡ record (created f s.places.limit s.index) { pending = s.pending; stopped = s.stopped; keeps = s.keeps }
+  pub session : s ≡ record (created f s.places.limit s.budget s.index) { pending = s.pending; stopped = s.stopped; keeps = s.keeps }
   pub log_is : log ≡ log_of f log.events
   pub appended : appended_in log.events ≡ []
   pub flushed : (k : ℕ) → flushed_in k [] log.events ≡ []
@@ -46,17 +48,26 @@ pub record Running (s : Session) (left : List Write) (log : Log) : Type 0 where
   -- what readers may hold then
   pub held : List Used
   pub runs : Runs s.name log left after held
-  pub knows : Knows (image (image_now log) left) s.name after address s.places
+  -- the places when the file came to rest, since when those of chunks that were written early were taken
+  pub rest : Space
+  pub knows : Knows (image (image_now log) left) s.name after address rest
   pub holds : knows.held ≡ held
   pub keeps : Keeps s (image (image_now log) left) after
-  pub index : IsKeptIndex (image (image_now log) left) after address s.places s.index
+  pub index : IsKeptIndex (image (image_now log) left) after address rest s.index
   pub marks : IsMarked s.dataset s.dataset.shape.rows (rows_of s) s.index
+  -- the values of the rows that were written early, and of those behind them
+  pub early : List ℤ
+  pub written : HasEarly s.dataset s.early s.chunks s.places (image (image_now log) left) address rest early
+  pub some : s.early ≤ s.waits
+  pub flushing : s.flushing ≡ true → s.early ≡ 0
   pub more : List ℤ
   pub waiting : s.waiting ≡ cells_of s.dataset more
-  pub fit : first_outside s.dataset.int_type 0 more ≡ None
-  pub count : length more ≡ s.waits * s.dataset.shape.cols
-  pub appended : after.values ++ more ≡ appended log
+  pub fit : first_outside s.dataset.int_type 0 (early ++ more) ≡ None
+  pub count : length more ≡ (s.waits - s.early) * s.dataset.shape.cols
+  pub appended : after.values ++ (early ++ more) ≡ appended log
   pub committed : flushed_rows log ≡ s.committed
+  -- but for a flush that is pending, or was dropped, the rows planned are the file's
+  pub planned : (s.stopped ≡ true → s.pending ≢ []) → s.flushing ≡ false → s.committed ≡ s.dataset.shape.rows
   pub columns : s.dataset.shape.cols ≡ log.columns
   pub past : Past s left log after
 

@@ -1,5 +1,5 @@
 -- A session over a file whose index is not there yet, or is the header of an array alone, and its first flush.
-use Rattle.std.specs.Prelude.{◌≡◌, ◌≢◌, ◌⊎◌, ℕ, ◌+◌, ◌*◌, ◌^◌, ◌<◌, List, [], ◌∷◌, ◌++◌, length, min, Option, Some, None, IsSome, ℤ}
+use Rattle.std.specs.Prelude.{◌≡◌, ◌≢◌, ◌⊎◌, ℕ, ◌+◌, ◌-◌, ◌*◌, ◌^◌, ◌<◌, ◌≤◌, true, List, [], ◌∷◌, ◌++◌, length, min, Option, Some, None, IsSome, ℤ}
 use Rattle.h5w_model.specs.Headers.{with_rows_bytes}
 use Rattle.h5w_model.specs.Numbers.{undefined}
 use Rattle.h5w_model.specs.Lawful.{first_outside}
@@ -28,6 +28,7 @@ use Rattle.h5w_creation_laws.specs.CreatedFiles.{index_len}
 use Rattle.h5w_session.specs.Sessions.{IsUnmade, Session, rows_of, with_rows}
 use Rattle.h5w_session.specs.Indexes.{IsStarting}
 use Rattle.h5w_session.specs.Flushes.{ArePlanned, IsFlushed}
+use Rattle.h5w_session.specs.Early.{HasEarly}
 use Rattle.h5w_session.specs.Stands.{Keeps}
 
 -- what Running says of such a session where nothing is pending
@@ -36,15 +37,19 @@ pub record StartRunning (s : Session) (log : Log) : Type 0 where
   pub address : Key → ℕ
   pub held : List Used
   pub runs : Runs s.name log [] after held
-  pub knows : Knows (image_now log) s.name after address s.places
+  pub rest : Space
+  pub knows : Knows (image_now log) s.name after address rest
   pub holds : knows.held ≡ held
   pub keeps : Keeps s (image_now log) after
   pub index : IsStarting (image_now log) after address s.index
+  pub early : List ℤ
+  pub written : HasEarly s.dataset s.early s.chunks s.places (image_now log) address rest early
+  pub some : s.early ≤ s.waits
   pub more : List ℤ
   pub waiting : s.waiting ≡ cells_of s.dataset more
-  pub fit : first_outside s.dataset.int_type 0 more ≡ None
-  pub count : length more ≡ s.waits * s.dataset.shape.cols
-  pub appended : after.values ++ more ≡ appended log
+  pub fit : first_outside s.dataset.int_type 0 (early ++ more) ≡ None
+  pub count : length more ≡ (s.waits - s.early) * s.dataset.shape.cols
+  pub appended : after.values ++ (early ++ more) ≡ appended log
   pub committed : flushed_rows log ≡ s.committed
   pub columns : s.dataset.shape.cols ≡ log.columns
 
@@ -117,6 +122,9 @@ started_of s at naming t ws v = record s {
   waiting = [];
   waits = 0;
   pending = ws;
+  early = 0;
+  chunks = [];
+  flushing = true;
   index = v;
 }
 

@@ -10,18 +10,21 @@ ghost use Rattle.h5w_model.specs.declared.cell.Key.{Key};
 ghost use Rattle.h5w_index.specs.Depths.{AreWithin};
 ghost use Rattle.h5w_index.specs.Held.{view_of};
 ghost use Rattle.h5w_index.specs.Marks.{IsRaised};
-ghost use Rattle.h5w_index.specs.Placing.{AreInside, Fits, IsFullPart, IsPartly, IsPlacing};
+ghost use Rattle.h5w_index.specs.Full.{IsFullPart};
+ghost use Rattle.h5w_index.specs.Placing.{AreInside, Fits, IsPartly, IsPlacing};
 ghost use Rattle.h5w_index.specs.Steps.{IsPlan, copy_pieces, in_place_pieces};
-ghost use Rattle.h5w_index.specs.Views.{IsClean, IsReached, IsSound, TakesKey, an_array, a_tree, kind_of};
+ghost use Rattle.h5w_index.specs.Views.{IsClean, IsReached, IsSound, TakesKey, address_in, an_array, a_tree, kind_of};
 ghost use Rattle.std.specs.List.{slice_get};
 ghost use Rattle.h5w_chunks.specs.Grids.{IsGrid, chunk_len, dataset_of};
 ghost use Rattle.h5w_chunks.specs.declared.grid.ChunkPlace.{ChunkPlace};
 ghost use Rattle.h5w_chunks.specs.Rows.{RowsWritten};
-ghost use Rattle.h5w_chunks.specs.Shares.{first_line, new_writes, share_of, touched};
+ghost use Rattle.h5w_chunks.specs.Shares.{first_line, new_writes, touched};
+ghost use Rattle.h5w_flush_laws.specs.EarlyRows.{IsEarlyPlace};
 ghost use Rattle.h5w_flush_laws.specs.Parts.{AreEnded};
 ghost use Rattle.h5w_image.specs.View.{Same};
 ghost use Rattle.h5w_space.specs.declared.Full.{Full};
-ghost use Rattle.h5w_session.specs.Flushes.{IsFlushed, IsPrepared, SameBut, first_key, first_place, touched_by};
+ghost use Rattle.h5w_session.specs.Early.{next_places};
+ghost use Rattle.h5w_session.specs.Flushes.{IsFlushed, IsPrepared, SameBut, first_key, first_place, touched_by, writes_behind};
 ghost use Rattle.h5w_session.specs.Loads.{NoPlace};
 ghost use Rattle.h5w_session.specs.Starts.{AreJoined, HasFlushed, IsNaming, IsStartFlushed, IsStartedAt, TookTops, TookTwo};
 ghost use Rattle.h5w_model.specs.Arrays.{eahd_len, eaib_len};
@@ -33,9 +36,10 @@ ghost use Rattle.h5w_session.specs.Sessions.{AllEndBy, AreReached, IsRoomy, IsSe
 ghost use Rattle.h5w_session.specs.Stands.{Stands};
 ghost use Rattle.h5w_session.specs.declared.refusal.FlushError.{FlushError};
 
+use crate::pieces::{alone_pieces, put_behind};
 use crate::refusal::FlushError;
 use crate::state::WriterCore;
-use crate::taking::{Taking, named_chunk, place_chunks, unset};
+use crate::taking::{Taking, name_chunks, named_chunk, place_chunks, unset};
 use h5w_bytes::UNDEFINED;
 use h5w_cache::Plan;
 use h5w_chunks::{ChunkPlace, Grid, IndexKind};
@@ -69,132 +73,32 @@ fn pieces_after(begun: &Begun) -> Option<usize>
     begun.copies().checked_add(begun.in_place())?.checked_add(2)
 }
 
-/// Makes room for all pieces of a flush, and in the image for one more, up to this end.
+/// Makes room in the image for the pieces of the rows, for so many behind them, and for one more, up to this end.
 fn make_room<W: PieceWrite>(
-    writes: &mut Vec<Write>,
-    begun: &Begun,
+    rows: usize,
+    after: usize,
     end: u64,
     image: &mut W,
 ) -> Result<(), FlushError>
-    ensures writes { writes.new.items ≡ writes.old.items }
-    ensures room { OnOk result (vec_len writes.new + (copy_pieces begun.now + in_place_pieces begun.now + 2) ≤ vec_capacity writes.new) }
-    ensures pieces { OnOk result (vec_len writes.new + (copy_pieces begun.now + in_place_pieces begun.now + 2) + 1 ≤ (W.view image.new).pieces) }
+    ensures pieces { OnOk result (rows + after + 1 ≤ (W.view image.new).pieces) }
     ensures end { OnOk result (end ≤ (W.view image.new).end) }
     ensures image { Same (W.view image.old) (W.view image.new) }
     ensures fault { result ≡ Err FlushError.Failed → Rose (W.view image.old).faults (W.view image.new).faults }
     ensures causes { IfErr result (λ e. (e ≡ FlushError.Failed) ⊎ (e ≡ FlushError.OutOfMemory)) }
 {
-    let after = pieces_after(begun).ok_or(OutOfMemory)?;
-    let all = writes.len().checked_add(after).ok_or(OutOfMemory)?;
+    let all = rows.checked_add(after).ok_or(OutOfMemory)?;
     let pieces = (all as u64).checked_add(1).ok_or(OutOfMemory)?;
-    writes.reserve(after).map_err(OutOfMemory::from)?;
     image.reserve(pieces, end)?;
     Ok(())
 }
 
-/// How many pieces the new rows have at most in a stored chunk, of whose columns the dataset has so many.
-fn own_pieces(grid: &Grid, to: u64, columns: u64) -> u64
-    requires grid { IsGrid grid.now }
-    requires order { grid.now.shape.rows ≤ to }
-    requires columns { columns ≤ grid.now.layout.chunk.1 }
-    ensures { result ≡ own_pieces (dataset_of grid.now) grid.now.shape.rows to columns }
-{
-    let rows = (to - grid.shape.rows).min(grid.layout.chunk.0);
-    let line = columns * u64::from(grid.int_type.size);
-    if columns == grid.layout.chunk.1 {
-        (rows * line).div_ceil(PIECE as u64)
-    } else {
-        rows * line.div_ceil(PIECE as u64)
-    }
-}
-
-/// How many of its chunk's columns the dataset has in touched chunk `k`.
-fn columns_of(grid: &Grid, to: u64, k: u64) -> u64
-    requires grid { IsGrid grid.now }
-    requires known { k < touched (dataset_of grid.now) grid.now.shape.rows to }
-    ensures exact { result ≡ (share_of (dataset_of grid.now) grid.now.shape.rows to k).columns }
-    ensures bound { result ≤ grid.now.layout.chunk.1 }
-{
-    let columns = grid.shape.cols;
-    let width = grid.layout.chunk.1;
-    let across = grid.across();
-    let column = k % across * width;
-    width.min(columns - column)
-}
-
-/// How many pieces the writes of the new rows have at most in touched chunk `k`, which has this place.
-fn chunk_pieces(grid: &Grid, to: u64, k: u64, place: &ChunkPlace) -> u64
-    requires grid { IsGrid grid.now }
-    requires order { grid.now.shape.rows ≤ to }
-    requires known { k < touched (dataset_of grid.now) grid.now.shape.rows to }
-    ensures { result ≡ chunk_pieces (dataset_of grid.now) grid.now.shape.rows to k place.now }
-{
-    if place.stored {
-        own_pieces(grid, to, columns_of(grid, to, k))
-    } else {
-        grid.chunk_len().div_ceil(PIECE as u64)
-    }
-}
-
-/// How many pieces the writes of rows that all go into a chunk with this place have at most: it has all columns of the dataset.
-fn alone_pieces(grid: &Grid, to: u64, place: &ChunkPlace) -> u64
-    requires grid { IsGrid grid.now }
-    requires order { grid.now.shape.rows ≤ to }
-    requires all { touched (dataset_of grid.now) grid.now.shape.rows to ≡ 1 }
-    ensures { result ≡ chunk_pieces (dataset_of grid.now) grid.now.shape.rows to 0 place.now }
-{
-    if place.stored {
-        own_pieces(grid, to, grid.shape.cols)
-    } else {
-        grid.chunk_len().div_ceil(PIECE as u64)
-    }
-}
-
-/// How many pieces the writes of the new rows have at most, whose chunks have these places. None where no list has so many.
-fn most_pieces(grid: &Grid, to: u64, places: &[ChunkPlace]) -> Option<usize>
-    requires grid { IsGrid grid.now }
-    requires order { grid.now.shape.rows ≤ to }
-    requires all { length places.now ≡ touched (dataset_of grid.now) grid.now.shape.rows to }
-    ensures sum { IfSome result (λ n. n ≡ most_pieces (dataset_of grid.now) grid.now.shape.rows to 0 places.now) }
-    ensures enough { IfSome result (λ n. (cells : List ℕ) → length cells ≡ (to - grid.now.shape.rows) * grid.now.shape.cols * grid.now.int_type.size
-        → length (new_writes (dataset_of grid.now) cells grid.now.shape.rows to places.now) ≤ n) }
-    ensures none { IfNone result (2 ^ 64 ≤ most_pieces (dataset_of grid.now) grid.now.shape.rows to 0 places.now) }
-{
-    let mut count = 0_usize;
-    for (k, place) in places.iter().enumerate() {
-        count = count.checked_add(chunk_pieces(grid, to, k as u64, place) as usize)?;
-    }
-    Some(count)
-}
-
-/// The writes of the new rows, whose chunks have these places, with room for so many behind them.
-fn put_rows(
-    grid: &Grid,
-    cells: &[u8],
-    to: u64,
-    taking: &Taking,
-    after: usize,
-) -> Result<Vec<Write>, OutOfMemory>
-    requires grid { IsGrid grid.now }
-    requires order { grid.now.shape.rows ≤ to }
-    requires count { length cells.now ≡ (to - grid.now.shape.rows) * grid.now.shape.cols * grid.now.int_type.size }
-    requires all { length taking.now.chunks.items ≡ touched (dataset_of grid.now) grid.now.shape.rows to }
-    requires ends { (k : ℕ) (p : ChunkPlace) → slice_get taking.now.chunks.items k ≡ Some p → p.address + chunk_len (dataset_of grid.now) < 2 ^ 64 }
-    ensures exact { IfOk result (λ ws. ws.items ≡ new_writes (dataset_of grid.now) cells.now grid.now.shape.rows to taking.now.chunks.items) }
-    ensures does { IfOk result (λ ws. RowsWritten (dataset_of grid.now) cells.now grid.now.shape.rows to taking.now.chunks.items ws.items) }
-{
-    let most = most_pieces(grid, to, &taking.chunks).ok_or(OutOfMemory)?;
-    let room = most.checked_add(after).ok_or(OutOfMemory)?;
-    let mut writes = Vec::with_capacity(*taking.chunks.allocator(), room)?;
-    grid.new_bytes(cells, grid.shape.rows, to, &taking.chunks, &mut writes)?;
-    Ok(writes)
-}
-
-/// Takes all places and all memory of a flush of these cells, the rows up to but not including `to`. After a refusal some of the new
-/// chunks have an address.
+/// Takes all places and all memory of a flush of these cells, those of the rows from `mid` on up to but not including `to`. The rows before
+/// `mid` were written early, into chunks that have these places. After a refusal some of the new chunks have an address.
 fn prepare<W: PieceWrite>(
     grid: &Grid,
     cells: &[u8],
+    early: &[ChunkPlace],
+    mid: u64,
     to: u64,
     taking: &mut Taking,
     index: &mut Index,
@@ -202,9 +106,14 @@ fn prepare<W: PieceWrite>(
 ) -> Result<Prepared, FlushError>
     requires grid { IsGrid grid.now }
     requires order { grid.now.shape.rows < to }
+    requires first { grid.now.shape.rows ≤ mid }
+    requires last { mid ≤ to }
     requires room { (to - grid.now.shape.rows) * grid.now.shape.cols < 2 ^ 64 }
     requires few { first_line (dataset_of grid.now) (div_up to grid.now.layout.chunk.0) ≤ most_lines (dataset_of grid.now) }
-    requires count { length cells.now ≡ (to - grid.now.shape.rows) * grid.now.shape.cols * grid.now.int_type.size }
+    requires count { length cells.now ≡ (to - mid) * grid.now.shape.cols * grid.now.int_type.size }
+    requires known { length early.now ≡ touched (dataset_of grid.now) grid.now.shape.rows mid }
+    requires placed { (k : ℕ) (p : ChunkPlace) → slice_get early.now k ≡ Some p → IsEarlyPlace (dataset_of grid.now) (λ key. address_in (view_of index.old) key) grid.now.shape.rows k p }
+    requires ends { (k : ℕ) (p : ChunkPlace) → slice_get early.now k ≡ Some p → p.address + chunk_len (dataset_of grid.now) ≤ taking.old.places.end }
     requires sound { IsSound (view_of index.old) }
     requires fits { Fits (dataset_of grid.now) (view_of index.old) }
     requires takes { (key : Key) → key.i < first_line (dataset_of grid.now) (div_up to grid.now.layout.chunk.0) → TakesKey (view_of index.old) key }
@@ -215,25 +124,27 @@ fn prepare<W: PieceWrite>(
     requires none_added { taking.old.added.items ≡ [] }
     ensures sound { IsSound (view_of index.new) }
     ensures roomy { IsRoomy (dataset_of grid.now) (view_of index.old) → IsRoomy (dataset_of grid.now) (view_of index.new) }
-    ensures prepared { IfOk result (λ p. IsPrepared (dataset_of grid.now) to (view_of index.old) taking.old.places taking.new.chunks.items taking.new.added.items (view_of index.new) p.begun taking.new.places) }
+    ensures prepared { IfOk result (λ p. IsPrepared (dataset_of grid.now) to (view_of index.old) early.now taking.old.places taking.new.chunks.items taking.new.added.items (view_of index.new) p.begun taking.new.places) }
     ensures all { OnOk result (length taking.new.chunks.items ≡ touched (dataset_of grid.now) grid.now.shape.rows to) }
-    ensures exact { IfOk result (λ p. p.writes.items ≡ new_writes (dataset_of grid.now) cells.now grid.now.shape.rows to taking.new.chunks.items) }
-    ensures does { IfOk result (λ p. RowsWritten (dataset_of grid.now) cells.now grid.now.shape.rows to taking.new.chunks.items p.writes.items) }
+    ensures exact { IfOk result (λ p. p.writes.items ≡ writes_behind (dataset_of grid.now) cells.now grid.now.shape.rows mid to taking.new.chunks.items) }
+    ensures does { IfOk result (λ p. mid < to → RowsWritten (dataset_of grid.now) cells.now mid to (next_places (dataset_of grid.now) grid.now.shape.rows mid taking.new.chunks.items) p.writes.items) }
     ensures room { IfOk result (λ p. vec_len p.writes + (copy_pieces p.begun + in_place_pieces p.begun + 2) ≤ vec_capacity p.writes) }
     ensures pieces { IfOk result (λ p. vec_len p.writes + (copy_pieces p.begun + in_place_pieces p.begun + 2) + 1 ≤ (W.view image.new).pieces) }
     ensures end { OnOk result (taking.new.places.end ≤ (W.view image.new).end) }
     ensures partly { OnErr result (IsPartly (dataset_of grid.now) to (view_of index.old) taking.new.added.items (view_of index.new)) }
-    ensures full { (full : Full) → result ≡ Err (FlushError.Space full) → IsFullPart (dataset_of grid.now) to (view_of index.old) taking.old.places full }
-    ensures deep { result ≡ Err FlushError.Deep → IsDeepPart (dataset_of grid.now) to (view_of index.old) taking.old.places }
+    ensures full { (full : Full) → result ≡ Err (FlushError.Space full) → IsFullPart (dataset_of grid.now) to (view_of index.old) early.now taking.old.places full }
+    ensures deep { result ≡ Err FlushError.Deep → IsDeepPart (dataset_of grid.now) to (view_of index.old) }
     ensures image { Same (W.view image.old) (W.view image.new) }
     ensures fault { result ≡ Err FlushError.Failed → Rose (W.view image.old).faults (W.view image.new).faults }
     ensures causes { IfErr result (λ e. IsSpace e ⊎ ((e ≡ FlushError.Deep) ⊎ ((e ≡ FlushError.Failed) ⊎ (e ≡ FlushError.OutOfMemory)))) }
 {
+    name_chunks(grid, early, to, taking, index)?;
     place_chunks(grid, to, taking, index)?;
     let begun = index.begin(&mut taking.places)?;
     let after = pieces_after(&begun).ok_or(OutOfMemory)?;
-    let mut writes = put_rows(grid, cells, to, taking, after)?;
-    make_room(&mut writes, &begun, taking.places.end(), image)?;
+    let alloc = *taking.chunks.allocator();
+    let writes = put_behind(alloc, grid, cells, mid, to, &taking.chunks, after)?;
+    make_room(writes.len(), after, taking.places.end(), image)?;
     Ok(Prepared { writes, begun })
 }
 
@@ -639,16 +550,18 @@ impl WriterCore {
         self.index.has_no_block()
     }
 
-    /// The chunk that has its place, where readers look for it, and that all rows that wait go into; where no block of the index changed.
+    /// The chunk that has its place, where readers look for it, and that all rows that wait go into; where no block of the index changed, and
+    /// no row was written early.
     fn chunk_alone(&self) -> Option<ChunkPlace>
         requires waits { 0 < self.now.waits }
         ensures exact { IfSome result (λ p. p ≡ first_place self.now.dataset self.now.index) }
-        ensures none { IfNone result (IsClean self.now.index → touched_by self.now ≡ 1 → IsReached self.now.index (first_key self.now.dataset) → (first_place self.now.dataset self.now.index).address ≡ undefined) }
+        ensures none { IfNone result (self.now.early ≡ 0 → IsClean self.now.index → touched_by self.now ≡ 1 → IsReached self.now.index (first_key self.now.dataset) → (first_place self.now.dataset self.now.index).address ≡ undefined) }
         ensures placing { IfSome result (λ p. IsPlacing self.now.dataset (rows_of self.now) self.now.index self.now.places (p ∷ []) [] self.now.index self.now.places) }
         ensures all { IfSome result (λ p. touched_by self.now ≡ 1) }
+        ensures early { IsSome result → self.now.early ≡ 0 }
         ensures plan { IsSome result → IsPlan self.now.index self.now.places [] [] [] self.now.index self.now.places }
     {
-        if !self.index.is_clean() {
+        if self.early > 0 || !self.index.is_clean() {
             return None;
         }
         named_chunk(&self.grid, self.rows(), &self.index)
@@ -663,6 +576,7 @@ impl WriterCore {
     ) -> Result<u64, FlushError>
         requires there { IsWhole self.old }
         requires waits { 0 < self.old.waits }
+        requires early { self.old.early ≡ 0 }
         requires placing { IsPlacing self.old.dataset (rows_of self.old) self.old.index self.old.places (place ∷ []) [] self.old.index self.old.places }
         requires all { touched_by self.old ≡ 1 }
         requires plan { IsPlan self.old.index self.old.places [] [] [] self.old.index self.old.places }
@@ -670,7 +584,7 @@ impl WriterCore {
         ensures pieces { IfOk result (λ pieces. pieces ≡ length self.new.pending) }
         ensures ends { OnOk result (AllEndBy self.new.places.end self.new.pending) }
         ensures kept { OnErr result (SameBut self.old self.new) }
-        ensures full { (full : Full) → result ≡ Err (FlushError.Space full) → IsFullPart self.old.dataset (rows_of self.old) self.old.index self.old.places full }
+        ensures full { (full : Full) → result ≡ Err (FlushError.Space full) → IsFullPart self.old.dataset (rows_of self.old) self.old.index self.old.chunks self.old.places full }
         ensures causes { IfErr result (λ e. IsSpace e ⊎ ((e ≡ FlushError.Failed) ⊎ (e ≡ FlushError.OutOfMemory))) }
         ensures fault { result ≡ Err FlushError.Failed → Rose (W.view image.old).faults (W.view image.new).faults }
         ensures image { Same (W.view image.old) (W.view image.new) }
@@ -693,6 +607,7 @@ impl WriterCore {
         self.grid.shape.rows = to;
         self.waiting.clear();
         self.waits = 0;
+        self.flushing = true;
         Ok(self.plan.len() as u64)
     }
 
@@ -711,7 +626,7 @@ impl WriterCore {
         ensures image { Same (W.view image.old) (W.view image.new) }
         ensures room { OnOk result (HasRoomFor self.new (W.view image.new)) }
     {
-        let to = self.rows();
+        let (mid, to) = (self.next_row(), self.rows());
         let alloc = *self.plan.allocator();
         let mut taking = Taking::new(alloc, self.places.copy()?);
         let (kind, address) = (self.grid.layout.index, self.grid.layout.address);
@@ -719,6 +634,8 @@ impl WriterCore {
         let prepared = prepare(
             &self.grid,
             &self.waiting,
+            &self.chunks,
+            mid,
             to,
             &mut taking,
             &mut index,
@@ -742,6 +659,9 @@ impl WriterCore {
         self.index = index;
         self.waiting.clear();
         self.waits = 0;
+        self.chunks.clear();
+        self.early = 0;
+        self.flushing = true;
         Ok(self.plan.len() as u64)
     }
 
@@ -753,18 +673,20 @@ impl WriterCore {
         ensures pieces { IfOk result (λ pieces. pieces ≡ length self.new.pending) }
         ensures ends { OnOk result (AllEndBy self.new.places.end self.new.pending) }
         ensures kept { OnErr result (SameBut self.old self.new) }
-        ensures full { (full : Full) → result ≡ Err (FlushError.Space full) → IsFullPart self.old.dataset (rows_of self.old) self.old.index self.old.places full }
-        ensures deep { result ≡ Err FlushError.Deep → IsDeepPart self.old.dataset (rows_of self.old) self.old.index self.old.places }
+        ensures full { (full : Full) → result ≡ Err (FlushError.Space full) → IsFullPart self.old.dataset (rows_of self.old) self.old.index self.old.chunks self.old.places full }
+        ensures deep { result ≡ Err FlushError.Deep → IsDeepPart self.old.dataset (rows_of self.old) self.old.index }
         ensures causes { IfErr result (λ e. IsSpace e ⊎ ((e ≡ FlushError.Deep) ⊎ ((e ≡ FlushError.Failed) ⊎ (e ≡ FlushError.OutOfMemory)))) }
         ensures fault { result ≡ Err FlushError.Failed → Rose (W.view image.old).faults (W.view image.new).faults }
         ensures image { Same (W.view image.old) (W.view image.new) }
         ensures room { OnOk result (HasRoomFor self.new (W.view image.new)) }
     {
-        let to = self.rows();
+        let (mid, to) = (self.next_row(), self.rows());
         let mut taking = Taking::new(*self.plan.allocator(), self.places.copy()?);
         match prepare(
             &self.grid,
             &self.waiting,
+            &self.chunks,
+            mid,
             to,
             &mut taking,
             &mut self.index,
@@ -785,6 +707,9 @@ impl WriterCore {
                 self.places = taking.places;
                 self.waiting.clear();
                 self.waits = 0;
+                self.chunks.clear();
+                self.early = 0;
+                self.flushing = true;
                 Ok(self.plan.len() as u64)
             }
             Err(e) => {

@@ -46,18 +46,19 @@ fn super_plan(alloc: Global, piece: Piece) -> Result<Vec<Write>, OutOfMemory>
 }
 
 impl WriterCore {
-    /// A session over a file that is there, of which nothing is said here: to append rows to it up to `limit` bytes of the file. One piece is
+    /// A session over a file that is there, of which nothing is said here: to append rows to it up to `limit` bytes of the file, of which at most `budget` bytes wait unwritten after an append. One piece is
     /// pending, the superblock. No row waits, nothing is free, and new places begin at the end-of-file address.
     pub fn over(
         alloc: Global,
         name: &[u8],
         file: FileParts,
         limit: u64,
+        budget: u64,
     ) -> Result<WriterCore, OutOfMemory>
         requires name { length name.now ≤ 512 }
         requires grid { IsGrid file.grid }
-        requires session { IsSession (session_over file name.now limit) }
-        ensures session { IfOk result (λ s. s ≡ session_over file name.now limit) }
+        requires session { IsSession (session_over file name.now limit budget) }
+        ensures session { IfOk result (λ s. s ≡ session_over file name.now limit budget) }
         ensures reads { IfOk result (λ s. super_at (super_bytes s.root) ≡ Ok s.root) }
     {
         let plan = super_plan(alloc, super_piece(&file.root))?;
@@ -76,6 +77,10 @@ impl WriterCore {
             spare: Vec::new(alloc),
             stopped: false,
             keeps: false,
+            budget,
+            early: 0,
+            chunks: Vec::new(alloc),
+            flushing: false,
             index: file.index,
         })
     }

@@ -1,16 +1,17 @@
 //! A session, and its calls but for the flush.
-ghost use Rattle.std.specs.Prelude.{◌≡◌, ℕ, ◌+◌, ◌*◌, ◌^◌, ◌<◌, ◌≤◌, true, [], ◌∷◌, List, length, slice_get, IfOk, IfErr, IfSome, MatchOption, OnOk, OnErr, Ok, Err, Some, ◌⊎◌};
+ghost use Rattle.std.specs.Prelude.{◌≡◌, ◌≢◌, ℕ, ◌+◌, ◌*◌, ◌^◌, ◌<◌, ◌≤◌, true, false, [], ◌∷◌, List, length, slice_get, IfOk, IfErr, IfSome, MatchOption, OnOk, OnErr, Ok, Err, Some, ◌⊎◌};
 ghost use Rattle.std.specs.Option.{option_copied};
 ghost use Rattle.h5w_model.specs.declared.piece.Write.{Write};
 ghost use Rattle.h5w_model.specs.Causes.{Rose};
-ghost use Rattle.h5w_model.specs.Logs.{Log, and_now, appended, appends, flushed_rows, rows_in, shows};
+ghost use Rattle.h5w_model.specs.Logs.{Log, and_now, appended, appends, flushed_rows, load, rows_in, shows};
 ghost use Rattle.h5w_options.specs.Options.{AreOptions};
 ghost use Rattle.h5w_model.specs.Superblock.{super_at, super_bytes};
 ghost use Rattle.h5w_session.specs.Creations.{IsCreated, new_file};
 ghost use Rattle.h5w_creation_laws.specs.CreatedFiles.{created_log};
 ghost use Rattle.h5w_image.specs.View.{Same};
 ghost use Rattle.h5w_session.specs.Room.{HasRoomFor};
-ghost use Rattle.h5w_session.specs.Sessions.{AfterPiece, AreRows, Freed, chunk_limit, chunks_with, cleared, closed_of, closed_root, rows_of, stopped_of, with_values};
+ghost use Rattle.h5w_session.specs.Sessions.{AddsValues, AfterPiece, AreRows, Freed, chunk_limit, chunks_with, cleared, closed_of, closed_root, cutting_of, rows_of, stopped_of, with_values};
+ghost use Rattle.h5w_session.specs.Early.{IsWithin, WrittenEarly, dirty_of};
 ghost use Rattle.h5w_session.specs.Refusals.{append_refusal, close_refusal};
 ghost use Rattle.h5w_session.specs.Stands.{Stands};
 ghost use Rattle.h5w_session.specs.declared.refusal.AppendError.{AppendError};
@@ -18,7 +19,7 @@ ghost use Rattle.h5w_session.specs.declared.refusal.CloseError.{CloseError};
 
 use crate::form::form_of;
 use crate::refusal::{AppendError, CloseError};
-use h5w_chunks::{Grid, IndexKind};
+use h5w_chunks::{ChunkPlace, Grid, IndexKind};
 use h5w_creation::create_file;
 use h5w_image::PieceWrite;
 use h5w_index::Index;
@@ -49,7 +50,7 @@ pub struct WriterCore {
     pub(crate) places: Places,
     /// The rows that the file has before the last of them does.
     pub(crate) committed: u64,
-    /// The cells of the rows that no flush has planned, and how many rows these are.
+    /// How many rows no flush has planned, and the cells of those of them that were not written early.
     pub(crate) waiting: Vec<u8>,
     pub(crate) waits: u64,
     /// The pieces of the last plan, and how many of them became visible.
@@ -60,6 +61,13 @@ pub struct WriterCore {
     pub(crate) stopped: bool,
     /// What is retired stays out of use.
     pub(crate) keeps: bool,
+    /// The most bytes that may wait unwritten after an append.
+    pub(crate) budget: u64,
+    /// How many of the rows that no flush has planned were written early, and the places of the chunks that they go into, by key.
+    pub(crate) early: u64,
+    pub(crate) chunks: Vec<ChunkPlace>,
+    /// What is pending is a flush.
+    pub(crate) flushing: bool,
     /// The index of the chunks.
     pub(crate) index: Index,
 }
@@ -89,6 +97,10 @@ impl Model for WriterCore {
       pending = drop w.shown w.plan.items;
       stopped = w.stopped;
       keeps = w.keeps;
+      budget = w.budget;
+      early = w.early;
+      chunks = w.chunks.items;
+      flushing = w.flushing;
       index = view_of w.index;
     } };
 
@@ -106,6 +118,10 @@ impl Model for WriterCore {
           pending = drop w.shown w.plan.items;
           stopped = w.stopped;
           keeps = w.keeps;
+          budget = w.budget;
+          early = w.early;
+          chunks = w.chunks.items;
+          flushing = w.flushing;
           index = view_of w.index;
         })
         × IsGrid w.grid
@@ -120,6 +136,7 @@ impl WriterCore {
     pub fn create(alloc: Global, options: &Options) -> Result<WriterCore, OutOfMemory>
         requires { AreOptions options.now }
         ensures session { IfOk result (λ s. IsCreated (new_file options.now) options.now.limit s) }
+        ensures budget { IfOk result (λ s. s.budget ≡ options.now.budget) }
         ensures stands { IfOk result (λ s. Stands s (created_log (new_file options.now))) }
     {
         let name = options.name.as_slice();
@@ -139,21 +156,33 @@ impl WriterCore {
             spare: Vec::new(alloc),
             stopped: false,
             keeps: false,
+            budget: options.budget,
+            early: 0,
+            chunks: Vec::new(alloc),
+            flushing: false,
             index: file.index,
         })
     }
 
     /// Appends values, rows one after another, whose cells wait for the next flush. Answers how many rows were appended in all.
-    /// Room is reserved in the image for one piece, up to the file's end.
+    /// Where more bytes wait than the budget has, whole bands of chunks are written early, the first rows first, until what waits is within it
+    /// or the file has no place for the next band: their pieces are pending then, and no reader reaches what they write before the flush.
+    /// Room is reserved in the image for these pieces and one more, up to the file's end.
     pub fn append<W: PieceWrite>(
         &mut self,
         values: &[i128],
         image: &mut W,
     ) -> Result<u64, AppendError>
         requires rows { AreRows self.old values.now }
-        ensures added { OnOk result (self.new ≡ with_values self.old values.now) }
+        ensures added { OnOk result (AddsValues self.old values.now self.new) }
+        ensures written { OnOk result (WrittenEarly (with_values self.old values.now) self.new) }
+        ensures within { OnOk result (IsWithin self.new) }
+        ensures early { OnOk result (self.new.pending ≢ [] → self.old.budget < dirty_of (with_values self.old values.now)) }
         ensures rows { IfOk result (λ rows. rows ≡ rows_of self.new) }
+        ensures unplanned { OnOk result (self.new.flushing ≡ false) }
         ensures stands { OnOk result ((log : Log) → Stands self.old log → Stands self.new (and_now (appends values.now) log)) }
+        ensures bound { OnOk result ((log : Log) → Stands self.old log → length self.new.pending ≤ load (cutting_of self.old) (and_now (appends values.now) log)) }
+        ensures over { OnOk result (self.new.pending ≢ [] → (log : Log) → Stands self.old log → self.old.budget < load (cutting_of self.old) (and_now (appends values.now) log)) }
         ensures refused { (e : AppendError) → append_refusal self.old values.now ≡ Some e → result ≡ Err e }
         ensures causes { IfErr result (λ e. (append_refusal self.old values.now ≡ Some e) ⊎ (e ≡ AppendError.Failed) ⊎ (e ≡ AppendError.OutOfMemory)) }
         ensures fault { result ≡ Err AppendError.Failed → Rose (W.view image.old).faults (W.view image.new).faults }
@@ -162,10 +191,18 @@ impl WriterCore {
         ensures room { OnOk result (HasRoomFor self.new (W.view image.new)) }
     {
         self.check(values)?;
-        image.reserve(1, self.places.end())?;
+        let rows = values.len() as u64 / self.grid.shape.cols;
+        let bytes = self.waiting.len();
         put_cells(values, &self.grid.int_type, &mut self.waiting)?;
-        self.waits += values.len() as u64 / self.grid.shape.cols;
-        Ok(self.rows())
+        self.waits += rows;
+        match self.write_early(image) {
+            Ok(()) => Ok(self.rows()),
+            Err(e) => {
+                self.waiting.truncate(bytes);
+                self.waits -= rows;
+                Err(AppendError::from(e))
+            }
+        }
     }
 
     /// Why these values are not appended, but for the image and memory.
@@ -228,8 +265,15 @@ impl WriterCore {
         self.plan.get(self.shown)
     }
 
-    /// The oldest pending piece became visible. With the last one the file has the planned rows, and what was retired is free, or stays
-    /// out of use. Takes no memory.
+    /// Whether what is pending is a flush, and not pieces that were written early, or a superblock.
+    pub fn is_flushing(&self) -> bool
+        ensures { result ≡ self.now.flushing }
+    {
+        self.flushing
+    }
+
+    /// The oldest pending piece became visible. With the last one of a flush the file has the planned rows, and what was retired is free, or
+    /// stays out of use. Takes no memory.
     pub fn written(&mut self)
         requires { 0 < length self.old.pending }
         ensures piece { (w : Write) (ws : List Write) → self.old.pending ≡ w ∷ ws → AfterPiece self.old ws self.new }
@@ -244,18 +288,11 @@ impl WriterCore {
         ensures { (w : Write) (ws : List Write) → self.old.pending ≡ w ∷ ws → AfterPiece self.old ws self.new }
     {
         self.shown += 1;
-        if self.shown == self.plan.len() {
-            self.settle();
+        if self.shown == self.plan.len() && self.flushing {
+            self.flushing = false;
+            self.committed = self.grid.shape.rows;
+            let_go(&mut self.places, self.keeps);
         }
-    }
-
-    /// All pieces became visible.
-    fn settle(&mut self)
-        requires { self.old.pending ≡ [] }
-        ensures { AfterPiece self.old [] self.new }
-    {
-        self.committed = self.grid.shape.rows;
-        let_go(&mut self.places, self.keeps);
     }
 
     /// Drops the pending pieces. The session is stopped from then on: nothing is pending, and what was flushed stays.
@@ -267,6 +304,7 @@ impl WriterCore {
         self.plan.clear();
         self.shown = 0;
         self.stopped = true;
+        self.flushing = false;
     }
 
     /// The image failed at a piece, so that the pieces behind it cannot become visible: the session is stopped.

@@ -1,6 +1,6 @@
 //! The chunks that rows go into, and their places.
-ghost use Rattle.std.specs.Prelude.{◌≡◌, ◌⊎◌, ℕ, ◌+◌, ◌-◌, ◌*◌, ◌^◌, ◌<◌, ◌≤◌, [], ◌∷◌, ◌++◌, length, IfErr, IfNone, IfSome, OnErr, OnOk, Err};
-ghost use Rattle.std.specs.List.{All};
+ghost use Rattle.std.specs.Prelude.{◌≡◌, ◌≢◌, ◌⊎◌, ℕ, ◌+◌, ◌-◌, ◌*◌, ◌^◌, ◌<◌, ◌≤◌, false, List, [], ◌∷◌, ◌++◌, length, IfErr, IfNone, IfSome, OnErr, OnOk, Err, Some};
+ghost use Rattle.std.specs.List.{All, slice_get};
 ghost use Rattle.h5w_model.specs.Datasets.{Described};
 ghost use Rattle.h5w_model.specs.Logs.{div_up};
 ghost use Rattle.h5w_model.specs.Numbers.{undefined};
@@ -9,13 +9,17 @@ ghost use Rattle.h5w_model.specs.declared.cell.Key.{Key};
 ghost use Rattle.h5w_cache.specs.Plans.{IsRefused};
 ghost use Rattle.h5w_chunks.specs.Grids.{IsGrid, chunk_len, dataset_of};
 ghost use Rattle.h5w_chunks.specs.Shares.{first_line, touched, touched_band};
+ghost use Rattle.h5w_chunks.specs.declared.grid.ChunkPlace.{ChunkPlace};
 ghost use Rattle.h5w_space.specs.Space.{Space};
 ghost use Rattle.h5w_space.specs.declared.Full.{Full};
+ghost use Rattle.h5w_flush_laws.specs.EarlyRows.{IsEarlyPlace};
 ghost use Rattle.h5w_index.specs.Depths.{AreWithin};
 ghost use Rattle.h5w_index.specs.Held.{view_of};
 ghost use Rattle.h5w_index.specs.Marks.{IsTouched};
-ghost use Rattle.h5w_index.specs.Placing.{AreInside, Fits, IsChunkFull, IsPartly, IsPlacing, next_key};
-ghost use Rattle.h5w_index.specs.Steps.{IsDeep};
+ghost use Rattle.h5w_index.specs.Full.{IsChunkFull};
+ghost use Rattle.h5w_index.specs.Naming.{AreNamed, AreTakenBehind};
+ghost use Rattle.h5w_index.specs.Placing.{AreInside, Fits, IsPartly, IsPlacing, next_key};
+ghost use Rattle.h5w_index.specs.Steps.{IsDeep, IsSet};
 ghost use Rattle.h5w_index.specs.Views.{HasSlot, IndexView, IsReached, IsSound, TakesKey, address_in};
 ghost use Rattle.h5w_session.specs.Flushes.{first_key, first_place};
 ghost use Rattle.h5w_session.specs.Refusals.{IsDeepPart, IsSpace};
@@ -64,6 +68,31 @@ fn keep<T: Copy + Drop>(items: &mut Vec<T>, item: T) -> Result<(), OutOfMemory>
     Ok(())
 }
 
+/// A chunk, for which the index holds a place, is at this one from now on: the index names it there. Where memory ran out the index names no
+/// more chunks than before.
+fn name_held(
+    key: Key,
+    place: ChunkPlace,
+    taking: &mut Taking,
+    index: &mut Index,
+) -> Result<(), OutOfMemory>
+    requires sound { IsSound (view_of index.old) }
+    requires slot { HasSlot (view_of index.old) key }
+    requires defined { place.address ≢ undefined }
+    ensures sound { IsSound (view_of index.new) }
+    ensures set { OnOk result (IsSet key place.address (view_of index.old) (view_of index.new)) }
+    ensures chunks { OnOk result (taking.new.chunks.items ≡ taking.old.chunks.items ++ place ∷ []) }
+    ensures added { OnOk result (taking.new.added.items ≡ taking.old.added.items ++ key ∷ []) }
+    ensures places { taking.new.places ≡ taking.old.places }
+    ensures index_kept { OnErr result (view_of index.new ≡ view_of index.old) }
+    ensures added_kept { OnErr result (taking.new.added.items ≡ taking.old.added.items) }
+{
+    keep(&mut taking.chunks, place)?;
+    keep(&mut taking.added, key)?;
+    index.set(key, place.address);
+    Ok(())
+}
+
 /// Gives a chunk that has none a new place, by which the index names it from now on. After a refusal the index names no more chunks than
 /// before.
 fn place_new(
@@ -79,10 +108,17 @@ fn place_new(
     requires small { taking.old.places.end < 2 ^ 64 }
     requires limit { taking.old.places.limit ≤ 2 ^ 40 }
     ensures sound { IsSound (view_of index.new) }
-    ensures placed { OnOk result ((to : ℕ) (v : IndexView) (s : Space) → Fits (dataset_of grid.now) v
+    ensures takes { (other : Key) → TakesKey (view_of index.old) other → TakesKey (view_of index.new) other }
+    ensures small { OnOk result (taking.new.places.end < 2 ^ 64) }
+    ensures limit { OnOk result (taking.new.places.limit ≡ taking.old.places.limit) }
+    ensures named { OnOk result ((to : ℕ) (v : IndexView) → Fits (dataset_of grid.now) v
         → key ≡ next_key (dataset_of grid.now) taking.old.chunks.items → length taking.old.chunks.items < touched (dataset_of grid.now) grid.now.shape.rows to
-        → IsPlacing (dataset_of grid.now) to v s taking.old.chunks.items taking.old.added.items (view_of index.old) taking.old.places
-        → IsPlacing (dataset_of grid.now) to v s taking.new.chunks.items taking.new.added.items (view_of index.new) taking.new.places) }
+        → AreNamed (dataset_of grid.now) to v taking.old.chunks.items taking.old.added.items (view_of index.old)
+        → AreNamed (dataset_of grid.now) to v taking.new.chunks.items taking.new.added.items (view_of index.new)) }
+    ensures taken { OnOk result ((to : ℕ) (v : IndexView) (early : List ChunkPlace) (s : Space) → Fits (dataset_of grid.now) v → key ≡ next_key (dataset_of grid.now) taking.old.chunks.items
+        → AreNamed (dataset_of grid.now) to v taking.old.chunks.items taking.old.added.items (view_of index.old)
+        → AreTakenBehind (dataset_of grid.now) (address_in v) early s taking.old.chunks.items taking.old.places
+        → AreTakenBehind (dataset_of grid.now) (address_in v) early s taking.new.chunks.items taking.new.places) }
     ensures count { OnOk result (length taking.new.chunks.items ≡ length taking.old.chunks.items + 1) }
     ensures partly { OnErr result ((to : ℕ) (v : IndexView) → IsPartly (dataset_of grid.now) to v taking.old.added.items (view_of index.old)
         → IsTouched (dataset_of grid.now) grid.now.shape.rows to key → IsPartly (dataset_of grid.now) to v taking.new.added.items (view_of index.new)) }
@@ -97,9 +133,7 @@ fn place_new(
         address,
         stored: false,
     };
-    keep(&mut taking.chunks, place)?;
-    keep(&mut taking.added, key)?;
-    index.set(key, address);
+    name_held(key, place, taking, index)?;
     Ok(())
 }
 
@@ -120,11 +154,19 @@ fn place_chunk(
     requires small { taking.old.places.end < 2 ^ 64 }
     requires limit { taking.old.places.limit ≤ 2 ^ 40 }
     ensures sound { IsSound (view_of index.new) }
-    ensures placed { OnOk result ((to : ℕ) (v : IndexView) (s : Space) → Fits (dataset_of grid.now) v → AreInside (dataset_of grid.now) s.end v
+    ensures takes { (other : Key) → TakesKey (view_of index.old) other → TakesKey (view_of index.new) other }
+    ensures small { OnOk result (taking.new.places.end < 2 ^ 64) }
+    ensures limit { OnOk result (taking.new.places.limit ≡ taking.old.places.limit) }
+    ensures named { OnOk result ((to : ℕ) (v : IndexView) → Fits (dataset_of grid.now) v
         → key ≡ next_key (dataset_of grid.now) taking.old.chunks.items → band ≡ touched_band (dataset_of grid.now) grid.now.shape.rows (length taking.old.chunks.items)
         → length taking.old.chunks.items < touched (dataset_of grid.now) grid.now.shape.rows to
-        → IsPlacing (dataset_of grid.now) to v s taking.old.chunks.items taking.old.added.items (view_of index.old) taking.old.places
-        → IsPlacing (dataset_of grid.now) to v s taking.new.chunks.items taking.new.added.items (view_of index.new) taking.new.places) }
+        → AreNamed (dataset_of grid.now) to v taking.old.chunks.items taking.old.added.items (view_of index.old)
+        → AreNamed (dataset_of grid.now) to v taking.new.chunks.items taking.new.added.items (view_of index.new)) }
+    ensures taken { OnOk result ((to : ℕ) (v : IndexView) (early : List ChunkPlace) (s : Space) → Fits (dataset_of grid.now) v → AreInside (dataset_of grid.now) s.end v
+        → key ≡ next_key (dataset_of grid.now) taking.old.chunks.items
+        → AreNamed (dataset_of grid.now) to v taking.old.chunks.items taking.old.added.items (view_of index.old)
+        → AreTakenBehind (dataset_of grid.now) (address_in v) early s taking.old.chunks.items taking.old.places
+        → AreTakenBehind (dataset_of grid.now) (address_in v) early s taking.new.chunks.items taking.new.places) }
     ensures count { OnOk result (length taking.new.chunks.items ≡ length taking.old.chunks.items + 1) }
     ensures partly { OnErr result ((to : ℕ) (v : IndexView) → IsPartly (dataset_of grid.now) to v taking.old.added.items (view_of index.old)
         → IsTouched (dataset_of grid.now) grid.now.shape.rows to key → IsPartly (dataset_of grid.now) to v taking.new.added.items (view_of index.new)) }
@@ -143,7 +185,8 @@ fn place_chunk(
     place_new(grid, key, taking, index)
 }
 
-/// Gives each chunk that the rows up to but not including `to` go into its place. After a refusal some of the new ones have an address.
+/// Gives each chunk that the rows up to but not including `to` go into its place, behind those that have theirs already. After a refusal some
+/// of the new ones have an address.
 pub fn place_chunks(
     grid: &Grid,
     to: u64,
@@ -155,27 +198,131 @@ pub fn place_chunks(
     requires room { (to - grid.now.shape.rows) * grid.now.shape.cols < 2 ^ 64 }
     requires few { first_line (dataset_of grid.now) (div_up to grid.now.layout.chunk.0) ≤ most_lines (dataset_of grid.now) }
     requires sound { IsSound (view_of index.old) }
-    requires fits { Fits (dataset_of grid.now) (view_of index.old) }
     requires takes { (key : Key) → key.i < first_line (dataset_of grid.now) (div_up to grid.now.layout.chunk.0) → TakesKey (view_of index.old) key }
-    requires inside { AreInside (dataset_of grid.now) taking.old.places.end (view_of index.old) }
     requires small { taking.old.places.end < 2 ^ 64 }
     requires limit { taking.old.places.limit ≤ 2 ^ 40 }
-    requires no_chunks { taking.old.chunks.items ≡ [] }
-    requires none_added { taking.old.added.items ≡ [] }
+    requires known { length taking.old.chunks.items ≤ touched (dataset_of grid.now) grid.now.shape.rows to }
     ensures sound { IsSound (view_of index.new) }
-    ensures placed { OnOk result (IsPlacing (dataset_of grid.now) to (view_of index.old) taking.old.places taking.new.chunks.items taking.new.added.items (view_of index.new) taking.new.places) }
+    // v is the index before any of the chunks was named
+    ensures named { OnOk result ((v : IndexView) → Fits (dataset_of grid.now) v
+        → AreNamed (dataset_of grid.now) to v taking.old.chunks.items taking.old.added.items (view_of index.old)
+        → AreNamed (dataset_of grid.now) to v taking.new.chunks.items taking.new.added.items (view_of index.new)) }
+    ensures taken { OnOk result ((v : IndexView) (early : List ChunkPlace) (s : Space) → Fits (dataset_of grid.now) v → AreInside (dataset_of grid.now) s.end v
+        → AreNamed (dataset_of grid.now) to v taking.old.chunks.items taking.old.added.items (view_of index.old)
+        → AreTakenBehind (dataset_of grid.now) (address_in v) early s taking.old.chunks.items taking.old.places
+        → AreTakenBehind (dataset_of grid.now) (address_in v) early s taking.new.chunks.items taking.new.places) }
     ensures all { OnOk result (length taking.new.chunks.items ≡ touched (dataset_of grid.now) grid.now.shape.rows to) }
-    ensures partly { OnErr result (IsPartly (dataset_of grid.now) to (view_of index.old) taking.new.added.items (view_of index.new)) }
+    ensures partly { OnErr result ((v : IndexView) → Fits (dataset_of grid.now) v
+        → AreNamed (dataset_of grid.now) to v taking.old.chunks.items taking.old.added.items (view_of index.old)
+        → IsPartly (dataset_of grid.now) to v taking.new.added.items (view_of index.new)) }
     ensures roomy { IsRoomy (dataset_of grid.now) (view_of index.old) → IsRoomy (dataset_of grid.now) (view_of index.new) }
-    ensures full { (full : Full) → result ≡ Err (FlushError.Space full) → IsChunkFull (dataset_of grid.now) to (view_of index.old) taking.old.places full }
-    ensures deep { result ≡ Err FlushError.Deep → IsDeepPart (dataset_of grid.now) to (view_of index.old) taking.old.places }
+    ensures full { (full : Full) → result ≡ Err (FlushError.Space full)
+        → (v : IndexView) (early : List ChunkPlace) (s : Space) → Fits (dataset_of grid.now) v → AreInside (dataset_of grid.now) s.end v
+        → AreNamed (dataset_of grid.now) to v taking.old.chunks.items taking.old.added.items (view_of index.old)
+        → AreTakenBehind (dataset_of grid.now) (address_in v) early s taking.old.chunks.items taking.old.places
+        → IsChunkFull (dataset_of grid.now) to v early s full }
+    ensures deep { result ≡ Err FlushError.Deep
+        → (v : IndexView) → Fits (dataset_of grid.now) v → (IsRoomy (dataset_of grid.now) v → IsRoomy (dataset_of grid.now) (view_of index.old))
+        → AreNamed (dataset_of grid.now) to v taking.old.chunks.items taking.old.added.items (view_of index.old) → IsDeepPart (dataset_of grid.now) to v }
     ensures causes { IfErr result (λ e. IsSpace e ⊎ ((e ≡ FlushError.Deep) ⊎ (e ≡ FlushError.OutOfMemory))) }
 {
     let from = grid.shape.rows;
-    for k in 0..grid.touched(from, to) {
+    for k in taking.chunks.len() as u64..grid.touched(from, to) {
         let key = grid.touched_key(from, to, k);
         let band = grid.touched_band(from, to, k);
         place_chunk(grid, key, band, taking, index)?;
+    }
+    Ok(())
+}
+
+/// The index names a chunk that it does not know at the place that it has, from now on. After a refusal it names no more chunks than before.
+fn name_new(
+    key: Key,
+    place: ChunkPlace,
+    taking: &mut Taking,
+    index: &mut Index,
+) -> Result<(), FlushError>
+    requires sound { IsSound (view_of index.old) }
+    requires takes { TakesKey (view_of index.old) key }
+    requires absent { address_in (view_of index.old) key ≡ undefined }
+    requires defined { place.address ≢ undefined }
+    ensures sound { IsSound (view_of index.new) }
+    ensures named { OnOk result ((d : Described) (to : ℕ) (v : IndexView) → Fits d v → key ≡ next_key d taking.old.chunks.items → length taking.old.chunks.items < touched d d.shape.rows to → place.stored ≡ false
+        → AreNamed d to v taking.old.chunks.items taking.old.added.items (view_of index.old) → AreNamed d to v taking.new.chunks.items taking.new.added.items (view_of index.new)) }
+    ensures chunks { OnOk result (taking.new.chunks.items ≡ taking.old.chunks.items ++ place ∷ []) }
+    ensures places { taking.new.places ≡ taking.old.places }
+    ensures partly { OnErr result ((d : Described) (to : ℕ) (v : IndexView) → IsPartly d to v taking.old.added.items (view_of index.old) → IsTouched d d.shape.rows to key → IsPartly d to v taking.new.added.items (view_of index.new)) }
+    ensures within { (lines across : ℕ) → key.i < lines → key.j < across → AreWithin lines across (view_of index.old) → AreWithin lines across (view_of index.new) }
+    ensures deep { result ≡ Err FlushError.Deep → IsDeep (view_of index.old) key }
+    ensures causes { IfErr result (λ e. (e ≡ FlushError.Deep) ⊎ (e ≡ FlushError.OutOfMemory)) }
+{
+    index.hold(key)?;
+    name_held(key, place, taking, index)?;
+    Ok(())
+}
+
+/// The index names a chunk at the place that it has, from now on, as it may have done before; readers look for it there. After a refusal it
+/// names no more chunks than before.
+fn name_chunk(
+    key: Key,
+    place: ChunkPlace,
+    taking: &mut Taking,
+    index: &mut Index,
+) -> Result<(), FlushError>
+    requires sound { IsSound (view_of index.old) }
+    requires takes { TakesKey (view_of index.old) key }
+    requires defined { place.address ≢ undefined }
+    ensures sound { IsSound (view_of index.new) }
+    ensures named { OnOk result ((d : Described) (to : ℕ) (v : IndexView) → Fits d v → key ≡ next_key d taking.old.chunks.items → length taking.old.chunks.items < touched d d.shape.rows to
+        → IsEarlyPlace d (address_in v) d.shape.rows (length taking.old.chunks.items) place
+        → AreNamed d to v taking.old.chunks.items taking.old.added.items (view_of index.old) → AreNamed d to v taking.new.chunks.items taking.new.added.items (view_of index.new)) }
+    ensures chunks { OnOk result (taking.new.chunks.items ≡ taking.old.chunks.items ++ place ∷ []) }
+    ensures places { taking.new.places ≡ taking.old.places }
+    ensures partly { OnErr result ((d : Described) (to : ℕ) (v : IndexView) → IsPartly d to v taking.old.added.items (view_of index.old) → IsTouched d d.shape.rows to key → IsPartly d to v taking.new.added.items (view_of index.new)) }
+    ensures within { (lines across : ℕ) → key.i < lines → key.j < across → AreWithin lines across (view_of index.old) → AreWithin lines across (view_of index.new) }
+    ensures deep { result ≡ Err FlushError.Deep → (address_in (view_of index.old) key ≡ undefined) × IsDeep (view_of index.old) key }
+    ensures causes { IfErr result (λ e. (e ≡ FlushError.Deep) ⊎ (e ≡ FlushError.OutOfMemory)) }
+{
+    if index.get(key).is_some() {
+        index.reach(key);
+        keep(&mut taking.chunks, place)?;
+        return Ok(());
+    }
+    name_new(key, place, taking, index)
+}
+
+/// The index names the first chunks that the rows up to but not including `to` go into at the places that they have: those of rows that were
+/// written early. After a refusal it names some of them.
+pub fn name_chunks(
+    grid: &Grid,
+    early: &[ChunkPlace],
+    to: u64,
+    taking: &mut Taking,
+    index: &mut Index,
+) -> Result<(), FlushError>
+    requires grid { IsGrid grid.now }
+    requires order { grid.now.shape.rows < to }
+    requires few { first_line (dataset_of grid.now) (div_up to grid.now.layout.chunk.0) ≤ most_lines (dataset_of grid.now) }
+    requires sound { IsSound (view_of index.old) }
+    requires fits { Fits (dataset_of grid.now) (view_of index.old) }
+    requires takes { (key : Key) → key.i < first_line (dataset_of grid.now) (div_up to grid.now.layout.chunk.0) → TakesKey (view_of index.old) key }
+    requires known { length early.now ≤ touched (dataset_of grid.now) grid.now.shape.rows to }
+    requires early { (k : ℕ) (p : ChunkPlace) → slice_get early.now k ≡ Some p → IsEarlyPlace (dataset_of grid.now) (address_in (view_of index.old)) grid.now.shape.rows k p }
+    requires no_chunks { taking.old.chunks.items ≡ [] }
+    requires none_added { taking.old.added.items ≡ [] }
+    ensures sound { IsSound (view_of index.new) }
+    ensures named { OnOk result (AreNamed (dataset_of grid.now) to (view_of index.old) early.now taking.new.added.items (view_of index.new)) }
+    ensures chunks { OnOk result (taking.new.chunks.items ≡ early.now) }
+    ensures places { taking.new.places ≡ taking.old.places }
+    ensures partly { OnErr result (IsPartly (dataset_of grid.now) to (view_of index.old) taking.new.added.items (view_of index.new)) }
+    ensures roomy { IsRoomy (dataset_of grid.now) (view_of index.old) → IsRoomy (dataset_of grid.now) (view_of index.new) }
+    ensures deep { result ≡ Err FlushError.Deep → IsDeepPart (dataset_of grid.now) to (view_of index.old) }
+    ensures causes { IfErr result (λ e. (e ≡ FlushError.Deep) ⊎ (e ≡ FlushError.OutOfMemory)) }
+{
+    let from = grid.shape.rows;
+    for place in early {
+        let key = grid.touched_key(from, to, taking.chunks.len() as u64);
+        name_chunk(key, *place, taking, index)?;
     }
     Ok(())
 }

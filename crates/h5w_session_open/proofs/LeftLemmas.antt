@@ -228,7 +228,7 @@ module _ (img name : List ℕ) (o : Opened) (m : Moment) (is : eval img (looked_
         open_few o.header.dataset (cut_here img name (length img) o m is file).chunked.rows here x.kind
 
     rests : Rests img m (λ key. map_of v key.i) (record { end = end; limit = 1024; free = []; retired = []; spare = 0 }) (an_array v)
-    rests = (begins img name (length img) o m is file (an_array v) x low 1024).rests
+    rests = (begins img name (length img) o m is file (an_array v) x low 1024 1024).rests
 
     standing : Standing v (record { end = end; limit = 1024; free = []; retired = []; spare = 0 })
     standing = rests.stays
@@ -294,7 +294,7 @@ module _ (img name : List ℕ) (o : Opened) (m : Moment) (is : eval img (looked_
 
     tree_chunks : AllBy end (chunks_behind bytes (first_open_line o.header.dataset) (records v))
     tree_chunks =
-        let rests : Rests img m (λ key. address_of v key) (record { end = end; limit = 1024; free = []; retired = []; spare = 0 }) (a_tree place v) = (begins img name (length img) o m is file (a_tree place v) x tt 1024).rests in
+        let rests : Rests img m (λ key. address_of v key) (record { end = end; limit = 1024; free = []; retired = []; spare = 0 }) (a_tree place v) = (begins img name (length img) o m is file (a_tree place v) x tt 1024 1024).rests in
         let same : AreSame (behind_of bytes v) m.behind = subst (λ n. AreSame (behind_of n v) m.behind) (ap chunk_bytes (dataset_same img name (length img) o m is file)) rests.behind in
         chunks_end end bytes (first_open_line o.header.dataset) v m.behind x.tree.kept same
         (ends_right end m.fixed m.behind (subst (λ n. AllEndBy n (m.fixed ++ m.behind)) same_end file.index.ends))

@@ -5,6 +5,7 @@ mod SessionOver
 mod UndamagedLemmas
 mod UndamagedTreeLemmas
 mod OverFile
+mod FrontLemmas
 pub mod LeftLemmas
 mod OpenStepLemmas
 mod OpenAnswerLemmas

@@ -188,10 +188,10 @@ module _ (img name : List ℕ) (size : ℕ) (o : Opened) (m : Moment) (is : eval
   -- ---- The session over it
 
   -- what is known of the file, and of the index that is kept, is all that is asked
-  over : (v : IndexView) (limit : ℕ) → KnownHeld img name m (λ key. address_in v key) (session_over o (chunk_0 img o.place) v name limit).places m.behind
-      → IsKeptIndex img m (λ key. address_in v key) (session_over o (chunk_0 img o.place) v name limit).places v → IsClean v → 0 < o.header.dataset.shape.cols → 1024 ≤ limit → limit ≤ 2 ^ 40
-      → IsOver (session_over o (chunk_0 img o.place) v name limit) img m
-  over v limit known index clean some enough most = record {
+  over : (v : IndexView) (limit budget : ℕ) → KnownHeld img name m (λ key. address_in v key) (session_over o (chunk_0 img o.place) v name limit budget).places m.behind
+      → IsKeptIndex img m (λ key. address_in v key) (session_over o (chunk_0 img o.place) v name limit budget).places v → IsClean v → 0 < o.header.dataset.shape.cols → 1024 ≤ limit → limit ≤ 2 ^ 40
+      → IsOver (session_over o (chunk_0 img o.place) v name limit budget) img m
+  over v limit budget known index clean some enough most = record {
     knows = known.knows;
     held = known.is;
     keeps = record { root = super_same; place = place_same; dataset = dataset_same; header = refl };
@@ -204,6 +204,9 @@ module _ (img name : List ℕ) (size : ℕ) (o : Opened) (m : Moment) (is : eval
     committed = refl;
     waiting = refl;
     waits = refl;
+    early = refl;
+    chunks = refl;
+    flushing = refl;
     idle = refl;
     running = refl;
   }
@@ -220,9 +223,9 @@ module _ (img name : List ℕ) (size : ℕ) (o : Opened) (m : Moment) (is : eval
       let there = visit_of img o.root.end o.header.dataset Tree visited x.kind x.named in
       opened_ends img place o.root.end bytes (first_key o.header.dataset) v there.0 x.tree.standing x.tree.kept (ap (λ n. eval img (tree_visit o.root.end bytes n)) x.at ∙ there.1)
 
-  module _ (v : IndexView) (x : IsIndexOf img o.header.dataset (Ok v)) (below : IsFirst o.header.dataset v) (limit : ℕ) where
+  module _ (v : IndexView) (x : IsIndexOf img o.header.dataset (Ok v)) (below : IsFirst o.header.dataset v) (limit budget : ℕ) where
     abbrev s : Session
-    s = session_over o (chunk_0 img o.place) v name limit
+    s = session_over o (chunk_0 img o.place) v name limit budget
 
     same : IsUnchanged m.dataset v
     same = subst (λ (d : Described). IsUnchanged d v) (sym dataset_same) (unchanged img o.header.dataset v x)
@@ -241,7 +244,7 @@ module _ (img name : List ℕ) (size : ℕ) (o : Opened) (m : Moment) (is : eval
     begins = index_begins img name m s.places v same.sound same.clean (stands v x same below) file same.kind same.at_place (begun_places limit)
 
     pub is_over : 0 < o.header.dataset.shape.cols → 1024 ≤ limit → limit ≤ 2 ^ 40 → IsOver s img m
-    is_over some enough most = over v limit (record { knows = begins.knows; is = begins.held }) (inl begins.rests) same.clean some enough most
+    is_over some enough most = over v limit budget (record { knows = begins.knows; is = begins.held }) (inl begins.rests) same.clean some enough most
 
   -- ---- The session over a file whose index is not there yet
 
@@ -254,15 +257,15 @@ module _ (img name : List ℕ) (size : ℕ) (o : Opened) (m : Moment) (is : eval
       sym (ap chosen at) ∙ here
 
   -- a blank index is kept, and no chunk of the file has an address
-  blank_over : (v : IndexView) (limit : ℕ) → IsUnmade m.dataset.layout.index v → Lacks img m.dataset v → KnownHeld img name m no_chunk (session_over o (chunk_0 img o.place) v name limit).places m.behind → 0 < o.header.dataset.shape.cols → 1024 ≤ limit
-      → limit ≤ 2 ^ 40 → IsOver (session_over o (chunk_0 img o.place) v name limit) img m
-  blank_over v limit blank lacks knows some enough most =
-      let known = subst (λ (f : Key → ℕ). KnownHeld img name m f (session_over o (chunk_0 img o.place) v name limit).places m.behind) (λ i key. sym (blank_none v blank.blank key) i) knows in
-      over v limit known (inr (record { kind = blank.kind; lacks = lacks; sound = blank.sound; blank = blank.blank; map = λ key. refl })) blank.clean some enough most
+  blank_over : (v : IndexView) (limit budget : ℕ) → IsUnmade m.dataset.layout.index v → Lacks img m.dataset v → KnownHeld img name m no_chunk (session_over o (chunk_0 img o.place) v name limit budget).places m.behind → 0 < o.header.dataset.shape.cols → 1024 ≤ limit
+      → limit ≤ 2 ^ 40 → IsOver (session_over o (chunk_0 img o.place) v name limit budget) img m
+  blank_over v limit budget blank lacks knows some enough most =
+      let known = subst (λ (f : Key → ℕ). KnownHeld img name m f (session_over o (chunk_0 img o.place) v name limit budget).places m.behind) (λ i key. sym (blank_none v blank.blank key) i) knows in
+      over v limit budget known (inr (record { kind = blank.kind; lacks = lacks; sound = blank.sound; blank = blank.blank; map = λ key. refl })) blank.clean some enough most
 
-  module _ (v : IndexView) (absent : o.header.dataset.layout.address ≡ undefined) (made : IsBlankOf o.header.dataset.layout.index v) (inside : o.header.in_chunk_0 ≡ true) (limit : ℕ) where
+  module _ (v : IndexView) (absent : o.header.dataset.layout.address ≡ undefined) (made : IsBlankOf o.header.dataset.layout.index v) (inside : o.header.in_chunk_0 ≡ true) (limit budget : ℕ) where
     abbrev begun : Session
-    begun = session_over o (chunk_0 img o.place) v name limit
+    begun = session_over o (chunk_0 img o.place) v name limit budget
 
     blank : IsUnmade m.dataset.layout.index v
     blank = subst (λ (d : Described). IsUnmade d.layout.index v) (sym dataset_same) (unmade o.header.dataset.layout.index v made)
@@ -274,21 +277,21 @@ module _ (img name : List ℕ) (size : ℕ) (o : Opened) (m : Moment) (is : eval
     known = begin_knows img name m no_chunk begun.places file (unnamed_nowhere img name m file unnamed).map (begun_places limit) (λ e. layout_here inside)
 
     pub is_begun : 0 < o.header.dataset.shape.cols → 1024 ≤ limit → limit ≤ 2 ^ 40 → IsOver begun img m
-    is_begun = blank_over v limit blank (an_index unnamed) known
+    is_begun = blank_over v limit budget blank (an_index unnamed) known
 
   -- ---- The session over a file whose array is a header alone
 
-  module _ (v : IndexView) (x : IsEmptyOf img o.header.dataset) (made : IsBare o.header.dataset.layout.address v) (low : o.header.dataset.layout.address < undefined) (limit : ℕ) where
+  module _ (v : IndexView) (x : IsEmptyOf img o.header.dataset) (made : IsBare o.header.dataset.layout.address v) (low : o.header.dataset.layout.address < undefined) (limit budget : ℕ) where
     alone : IsHeaderAlone img m.dataset
     alone = subst (IsHeaderAlone img) (sym dataset_same) (record { kind = x.kind; named = x.named; fields = x.empty.fields; read = x.empty.read; none = x.empty.none })
 
     bare_blank : IsUnmade m.dataset.layout.index v
     bare_blank = subst (λ (k : IndexKind). IsUnmade k v) (sym alone.kind) (bare o.header.dataset.layout.address v made low)
 
-    pub is_bare : 0 < o.header.dataset.shape.cols → 1024 ≤ limit → limit ≤ 2 ^ 40 → IsOver (session_over o (chunk_0 img o.place) v name limit) img m
+    pub is_bare : 0 < o.header.dataset.shape.cols → 1024 ≤ limit → limit ≤ 2 ^ 40 → IsOver (session_over o (chunk_0 img o.place) v name limit budget) img m
     is_bare =
-        let begun = alone_begins img name m (session_over o (chunk_0 img o.place) v name limit).places file alone (begun_places limit) in
-        blank_over v limit bare_blank (a_block alone (lacking o.header.dataset.layout.address v made)) (record { knows = begun.0.knows; is = begun.1 })
+        let begun = alone_begins img name m (session_over o (chunk_0 img o.place) v name limit budget).places file alone (begun_places limit) in
+        blank_over v limit budget bare_blank (a_block alone (lacking o.header.dataset.layout.address v made)) (record { knows = begun.0.knows; is = begun.1 })
 
 -- ---- The flags
 
@@ -302,25 +305,25 @@ swmr s =
 
 -- ---- The session that was opened
 
-module _ (img name : List ℕ) (size : ℕ) (o : Opened) (v : IndexView) (limit rows columns : ℕ) (values : List ℤ) (sm : Summary) (is : eval img (looked_for size name) ≡ Ok o) (some : 0 < o.header.dataset.shape.cols)
-    (reads_back : super_at (super_bytes (flagged_root (writing_flags o.root.flags) (session_over o (chunk_0 img o.place) v name limit))) ≡ Ok (flagged_root (writing_flags o.root.flags) (session_over o (chunk_0 img o.place) v name limit)))
+module _ (img name : List ℕ) (size : ℕ) (o : Opened) (v : IndexView) (limit budget rows columns : ℕ) (values : List ℤ) (sm : Summary) (is : eval img (looked_for size name) ≡ Ok o) (some : 0 < o.header.dataset.shape.cols)
+    (reads_back : super_at (super_bytes (flagged_root (writing_flags o.root.flags) (session_over o (chunk_0 img o.place) v name limit budget))) ≡ Ok (flagged_root (writing_flags o.root.flags) (session_over o (chunk_0 img o.place) v name limit budget)))
     (valid : Valid img name sm) (reads : Reads img name rows columns values) where
   -- where the session is over each file that the image is
-  over_any : ((m : Moment) → Represents img name m → IsOver (session_over o (chunk_0 img o.place) v name limit) img m) → Stands (opened_session o (chunk_0 img o.place) v name limit) (opened_log img columns values)
+  over_any : ((m : Moment) → Represents img name m → IsOver (session_over o (chunk_0 img o.place) v name limit budget) img m) → Stands (opened_session o (chunk_0 img o.place) v name limit budget) (opened_log img columns values)
   over_any is_so =
       let first = opens img name rows columns values sm valid reads in
       let columns_are : o.header.dataset.shape.cols ≡ columns = ap (λ (d : Described). d.shape.cols) (sym (dataset_same img name size o first.0 is first.1)) ∙ first.4 in
       let t = over_laws.over img name rows columns values sm valid reads (omega (arith, some, columns_are)) in
-      let s : Session = session_over o (chunk_0 img o.place) v name limit in
+      let s : Session = session_over o (chunk_0 img o.place) v name limit budget in
       let stands = t.2 s refl (is_so t.0 t.1) in
       over_laws.rewritten s (opened_log img columns values) (writing_flags o.root.flags) false reads_back (swmr o.root) refl refl stands
 
-  pub opened_over : IsIndexOf img o.header.dataset (Ok v) → IsFirst o.header.dataset v → 1024 ≤ limit → limit ≤ 2 ^ 40 → Stands (opened_session o (chunk_0 img o.place) v name limit) (opened_log img columns values)
-  opened_over x below low high = over_any (λ m file. is_over img name size o m is file v x below limit some low high)
+  pub opened_over : IsIndexOf img o.header.dataset (Ok v) → IsFirst o.header.dataset v → 1024 ≤ limit → limit ≤ 2 ^ 40 → Stands (opened_session o (chunk_0 img o.place) v name limit budget) (opened_log img columns values)
+  opened_over x below low high = over_any (λ m file. is_over img name size o m is file v x below limit budget some low high)
 
   pub started_over : o.header.dataset.layout.address ≡ undefined → IsBlankOf o.header.dataset.layout.index v → o.header.in_chunk_0 ≡ true → 1024 ≤ limit → limit ≤ 2 ^ 40
-      → Stands (opened_session o (chunk_0 img o.place) v name limit) (opened_log img columns values)
-  started_over absent made inside low high = over_any (λ m file. is_begun img name size o m is file v absent made inside limit some low high)
+      → Stands (opened_session o (chunk_0 img o.place) v name limit budget) (opened_log img columns values)
+  started_over absent made inside low high = over_any (λ m file. is_begun img name size o m is file v absent made inside limit budget some low high)
 
-  pub bare_over : IsEmptyOf img o.header.dataset → IsBare o.header.dataset.layout.address v → o.header.dataset.layout.address < undefined → 1024 ≤ limit → limit ≤ 2 ^ 40 → Stands (opened_session o (chunk_0 img o.place) v name limit) (opened_log img columns values)
-  bare_over x made near low high = over_any (λ m file. is_bare img name size o m is file v x made near limit some low high)
+  pub bare_over : IsEmptyOf img o.header.dataset → IsBare o.header.dataset.layout.address v → o.header.dataset.layout.address < undefined → 1024 ≤ limit → limit ≤ 2 ^ 40 → Stands (opened_session o (chunk_0 img o.place) v name limit budget) (opened_log img columns values)
+  bare_over x made near low high = over_any (λ m file. is_bare img name size o m is file v x made near limit budget some low high)

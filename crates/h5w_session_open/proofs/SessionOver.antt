@@ -1,27 +1,30 @@
 -- What holds of every session holds of one over a file that is there, whatever its image is.
-use Rattle.std.proofs.Common.{◌≡◌, ◌≢◌, ℕ, ◌+◌, ◌-◌, ◌*◌, ◌/◌, ◌^◌, ◌<◌, ◌≤◌, Bool, cond, List, ◌∷◌, ◌++◌, take, Option, Some, None, Result, Ok, Err, refl, sym, ap, ◌∙◌, subst, inl, inr, arith, true, false, not, ◌&&◌, []}
+use Rattle.std.proofs.Common.{◌≡◌, ◌≢◌, ℕ, ◌+◌, ◌-◌, ◌*◌, ◌/◌, ◌^◌, ◌<◌, ◌≤◌, Bool, cond, List, ◌∷◌, ◌++◌, take, Option, Some, None, Result, Ok, Err, refl, sym, ap, ◌∙◌, ◌⊎◌, subst, inl, inr, arith, true, false, not, ◌&&◌, []}
 use Rattle.std.specs.Prelude.{nat_lt, option_map, ◌==◌}
 use Rattle.std.specs.Option.{option_or}
+use Rattle.std.proofs.lemmas.List.Elements.{All-nil}
 use Rattle.std.proofs.lemmas.Bool.{both_ways, cases_lt, ne_eqb, ltb-false, le-ltb, eqb-true, eqb-false, eq-eqb}
 use Rattle.h5w_model.specs.Arrays.{eahd_len}
+use Rattle.h5w_model.specs.Logs.{div_up}
 use Rattle.h5w_model.specs.Numbers.{undefined}
 use Rattle.h5w_model.specs.Datasets.{Described, FoundMessage, described, refused_as}
 use Rattle.h5w_model.specs.Tables.{chunks_across, format_limits, limit_of, needed}
-use Rattle.h5w_model.specs.Findings.{chunk_bytes}
+use Rattle.h5w_model.specs.Findings.{chunk_bytes, the_superblock}
 use Rattle.h5w_model.specs.declared.cell.IndexKind.TheVariants.{Array, Tree}
+use Rattle.h5w_model.specs.declared.cell.Key.{Key}
 use Rattle.h5w_laws.proofs.ResultLemmas.{fails, refused_ok, then_ok}
 use Rattle.h5w_cache.specs.Stores.{Store}
 use Rattle.h5w_array_laws.specs.Parts.{header, holder, index_block, slot_offset}
 use Rattle.h5w_array_laws.specs.ArrayStores.{IsCreated, address_in, block_at_part, map_of, place_at_part}
 use Rattle.h5w_bt_index.specs.Index.{Index, address_of, records}
 use Rattle.h5w_tree_index_laws.specs.TreeFlushes.{header_range}
-use Rattle.h5w_index.specs.Views.{IndexView, IsSound, an_array, a_tree, fixed_of, kind_of}
+use Rattle.h5w_index.specs.Views.{IndexView, IsSound, address_in as index_address, an_array, a_tree, fixed_of, kind_of}
 use Rattle.h5w_index.specs.Blocks.{has_no_block}
 use Rattle.h5w_index.specs.Placing.{AreInside, Fits}
 use Rattle.h5w_visits.specs.Ranges.{AllEndBy, block_at}
 use Rattle.h5w_visits.proofs.RangeLemmas.{ends_cons, ends_nil}
 use Rattle.h5w_chunks.specs.Grids.{chunk_len}
-use Rattle.h5w_chunks.specs.Shares.{first_line}
+use Rattle.h5w_chunks.specs.Shares.{first_line, touched}
 use Rattle.h5w_ea_index.specs.Ranges.{block_ranges, each_below, range_of_part, ranges_of_super_block}
 use Rattle.h5w_opening.specs.Openings.{DatasetHeaderFields, IsSaid, Opened, in_chunk_0}
 use Rattle.h5w_opening.specs.declared.error.OpenError.{OpenError}
@@ -32,7 +35,7 @@ use Rattle.h5w_session_open.specs.declared.index.NoIndex.TheVariants.{Unnamed, E
 use Rattle.h5w_session_open.specs.OpenAnswers.{IsBare, IsBlankOf, IsKeptIndexOf, IsStartOf, opened_session}
 use Rattle.h5w_session_open.specs.OpenRanges.{IsNear, blocks_in, chunk_0_range, chunks_in, cut_at, first_open_line, first_past, header_alone, header_len, open_blocks, open_chunks, ranges_refused, refused_index, refused_open, is_starting}
 use Rattle.h5w_opening.specs.Openings.{most_chunk_bytes, refused_dataset}
-use Rattle.h5w_session_open.specs.OpenSteps.{IfNamedIndex, IsCut, IsNamedArray, IsNamedIndex, IsNamedTree, IsReady, IsReadyIndex, IsReadyStart, NamesArray, versioned}
+use Rattle.h5w_session_open.specs.OpenSteps.{HasItsBlock, IfNamedIndex, IsCut, IsNamedArray, IsNamedIndex, IsNamedTree, IsReady, IsReadyIndex, IsReadyStart, NamesArray, versioned}
 use Rattle.h5w_session.specs.Sessions.{IsNamed, IsSession, with_rows}
 use Rattle.h5w_session.proofs.HeaderAlone.{never}
 use Rattle.h5w_session_open.proofs.OpenRangeLemmas.{AllBy, behind_ends, by_left, by_range, by_right, chunk_by, map_none, none_past, or_none}
@@ -41,7 +44,8 @@ use Rattle.h5w_session_open.proofs.SaidLemmas.{said}
 use Rattle.h5w_session.proofs.StateLemmas.{up_some}
 use Rattle.h5w_array_laws.proofs.CreatedLemmas.{created_starts}
 use Rattle.h5w_model.specs.declared.cell.IndexKind.{IndexKind}
-use Rattle.h5w_space.specs.Space.{extent}
+use Rattle.h5w_flush_laws.specs.Spaces.{extent_of}
+use Rattle.h5w_space.specs.Space.{Apart, extent}
 
 -- ---- What was said
 
@@ -187,6 +191,7 @@ record IsFit (d : Described) (end : ℕ) (v : IndexView) : Type 0 where
   inside : AreInside d end v
   tops : IsNamed d → has_no_block v ≡ false → AllEndBy end (fixed_of v)
   head : IsNamed d → has_no_block v ≡ true → d.layout.address + eahd_len ≤ end
+  blank : (d.layout.address ≡ undefined) ⊎ (has_no_block v ≡ true) → (key : Key) → index_address v key ≡ undefined
 
 module _ (d : Described) (c : IsCut d) (few : needed d ≤ limit_of format_limits d.layout.index) (columns : 0 < d.shape.cols) (end : ℕ) where
   across : 0 < chunks_across d
@@ -196,8 +201,8 @@ module _ (d : Described) (c : IsCut d) (few : needed d ≤ limit_of format_limit
   low = open_line_first d c.chunked.rows
 
   -- an array's blocks in place are among the ranges
-  array_fits : (v : Store) → IsNamedArray d v → AllBy end (block_ranges (first_open_line d) v) → AllBy end (chunks_in d (an_array v)) → IsFit d end (an_array v)
-  array_fits v n blocks chunks =
+  array_fits : (v : Store) → IsNamedArray d v → has_no_block (an_array v) ≡ false → AllBy end (block_ranges (first_open_line d) v) → AllBy end (chunks_in d (an_array v)) → IsFit d end (an_array v)
+  array_fits v n made blocks chunks =
       let front = by_left end (range_of_part v header ++ range_of_part v index_block) (each_below (ranges_of_super_block (first_open_line d) v) 13) blocks in
       let head = by_range end (place_at_part v header) 72 (by_left end (range_of_part v header) (range_of_part v index_block) front) (n.array.in_place header tt refl).1 in
       let block = by_range end (place_at_part v index_block) 298 (by_right end (range_of_part v header) (range_of_part v index_block) front) (n.array.in_place index_block tt refl).1 in
@@ -214,6 +219,10 @@ module _ (d : Described) (c : IsCut d) (few : needed d ≤ limit_of format_limit
             subst (λ n. map_of v i + n ≤ end) (sym (chunk_len_is d)) h;
         tops = λ named made. ends_cons end (block_at (place_at_part v header) 72) (block_at (place_at_part v index_block) 298 ∷ []) head (ends_cons end (block_at (place_at_part v index_block) 298) [] block (ends_nil end));
         head = λ named lacking. subst (λ n. n + eahd_len ≤ end) n.at head;
+        blank = λ u key. elim u [
+          | inl none ↦ absurd (n.named none)
+          | inr lacks ↦ absurd (both_ways (has_no_block (an_array v)) made lacks)
+        ];
       }
     where
       named_below : (v : Store) (k : ℕ) → map_of v k ≢ undefined → k < 131060
@@ -234,6 +243,10 @@ module _ (d : Described) (c : IsCut d) (few : needed d ≤ limit_of format_limit
         subst (λ n. address_of v key + n ≤ end) (sym (chunk_len_is d)) h;
     tops = λ named made. ends_cons end (header_range place) [] blocks.1.0 (ends_nil end);
     head = λ named lacking. absurd cc;
+    blank = λ u key. elim u [
+      | inl none ↦ absurd (n.named none)
+      | inr lacks ↦ absurd (cc)
+    ];
   }
 
   -- a blank one has no chunks, and stands nowhere yet
@@ -248,6 +261,7 @@ module _ (d : Described) (c : IsCut d) (few : needed d ≤ limit_of format_limit
         inside = λ key from named. absurd (named (starts.map key.i));
         tops = λ named made. absurd (named none);
         head = λ named lacking. absurd (named none);
+        blank = λ u key. starts.map key.i;
       }
   blank_fits Tree (a_tree place v) kind none long blank =
       let no_records = subst (λ (w : Index). IsFit d end (a_tree 0 w)) (sym blank.1) (record {
@@ -258,6 +272,7 @@ module _ (d : Described) (c : IsCut d) (few : needed d ≤ limit_of format_limit
         inside = λ key from named. absurd (named refl);
         tops = λ named made. absurd (named none);
         head = λ named lacking. absurd (named none);
+        blank = λ u key. refl;
       }) in
       subst (λ (p : ℕ). IsFit d end (a_tree p v)) (sym blank.0) no_records
   blank_fits Array (a_tree place v) kind none long blank = absurd blank
@@ -277,12 +292,13 @@ module _ (d : Described) (c : IsCut d) (few : needed d ≤ limit_of format_limit
         inside = λ key from named. absurd (named (starts.map key.i));
         tops = λ named made. never (has_no_block (an_array v)) (ap (λ p. p == 0) created.index_at) made;
         head = λ named lacking. head;
+        blank = λ u key. starts.map key.i;
       }
   bare_fits small (a_tree place v) n made blocks = absurd made
 
-  named_fits : (v : IndexView) → IsNamedIndex d v → AllBy end (blocks_in d v) → AllBy end (chunks_in d v) → IsFit d end v
-  named_fits (an_array v) n blocks chunks = array_fits v n blocks chunks
-  named_fits (a_tree place v) n blocks chunks = tree_fits place v n blocks chunks
+  named_fits : (v : IndexView) → IsNamedIndex d v → has_no_block v ≡ false → AllBy end (blocks_in d v) → AllBy end (chunks_in d v) → IsFit d end v
+  named_fits (an_array v) n made blocks chunks = array_fits v n made blocks chunks
+  named_fits (a_tree place v) n made blocks chunks = tree_fits place v n blocks chunks
 
   start_fits : end < 2 ^ 64 → (why : NoIndex) (v : IndexView) → IsReadyStart d why v → AllBy end (header_alone d.layout.index d.layout.address) → IsFit d end v
   start_fits small why v r blocks = go why r
@@ -304,13 +320,17 @@ module _ (d : Described) (c : IsCut d) (few : needed d ≤ limit_of format_limit
       go WrongTotals x = none x
       go Unordered x = none x
 
-  ready_fits : end < 2 ^ 64 → (a : Result IndexView NoIndex) (v : IndexView) → IsReadyIndex d a v → AllBy end (open_blocks d a) → AllBy end (open_chunks d a) → IsFit d end v
-  ready_fits small (Ok u) v r blocks chunks = subst (IsFit d end) (sym r.1) (named_fits u r.0 blocks chunks)
-  ready_fits small (Err why) v r blocks chunks = start_fits small why v r blocks
+  ready_fits : end < 2 ^ 64 → (a : Result IndexView NoIndex) (v : IndexView) → IsReadyIndex d a v → HasItsBlock a → AllBy end (open_blocks d a) → AllBy end (open_chunks d a) → IsFit d end v
+  ready_fits small (Ok u) v r made blocks chunks = subst (IsFit d end) (sym r.1) (named_fits u r.0 made blocks chunks)
+  ready_fits small (Err why) v r made blocks chunks = start_fits small why v r blocks
 
 -- ---- The session
 
-module _ (o : Opened) (b : List ℕ) (v : IndexView) (name : List ℕ) (limit : ℕ) (r : IsReady o b v) (high : limit ≤ 2 ^ 40) (small : o.root.end < 2 ^ 64) where
+-- no rows go into no chunk
+none_touched : (d : Described) (n : ℕ) → touched d n (n + 0) ≡ 0
+none_touched d n = ap (λ (t : Bool). cond t ((div_up (n + 0) d.layout.chunk_rows - n / d.layout.chunk_rows) * chunks_across d) 0) (le-ltb n (n + 0) (omega arith))
+
+module _ (o : Opened) (b : List ℕ) (v : IndexView) (name : List ℕ) (limit budget : ℕ) (r : IsReady o b v) (high : limit ≤ 2 ^ 40) (bounds : (1024 ≤ budget) × (budget ≤ 2 ^ 30)) (small : o.root.end < 2 ^ 64) where
   abbrev d : Described
   d = o.header.dataset
 
@@ -324,9 +344,9 @@ module _ (o : Opened) (b : List ℕ) (v : IndexView) (name : List ℕ) (limit : 
   columns = some_columns o parts.dataset
 
   fit : IsFit d o.root.end v
-  fit = ready_fits d (cut o.header r.found.said) few columns o.root.end small r.index v r.ready parts.ranges.1 parts.chunks
+  fit = ready_fits d (cut o.header r.found.said) few columns o.root.end small r.index v r.ready r.made parts.ranges.1 parts.chunks
 
-  pub session_is : IsSession (opened_session (versioned o) b v name limit)
+  pub session_is : IsSession (opened_session (versioned o) b v name limit budget)
   session_is =
       let same : with_rows (d.shape.rows + 0) d ≡ d = ap (λ n. with_rows n d) (plus_none d.shape.rows) in
       record {
@@ -346,6 +366,16 @@ module _ (o : Opened) (b : List ℕ) (v : IndexView) (name : List ℕ) (limit : 
         inside = fit.inside;
         tops = λ whole. fit.tops whole.named whole.made;
         head = fit.head;
+        early = omega arith;
+        chunks = sym (none_touched d d.shape.rows);
+        placed = λ k p e. cc;
+        ends = λ k p e. cc;
+        flushing = λ e. cc;
+        busy = λ e. cc;
+        blank = λ u. fit.blank u;
+        live = λ u. record { within = fit.long; off_free = All-nil (Apart (extent_of the_superblock)); off_retired = All-nil (Apart (extent_of the_superblock)) };
+        budget_low = bounds.0;
+        budget_high = bounds.1;
       }
     where
       plus_none : (n : ℕ) → n + 0 ≡ n

@@ -114,8 +114,8 @@ abbrev pub writing_flags : ℕ → ℕ
 writing_flags flags = flags + (1 - flags % 2) + (1 - flags / 4 % 2) * 4
 
 -- A session over what was found, with chunk 0 of the dataset header: nothing happened yet.
-abbrev pub session_over : Opened → List ℕ → IndexView → List ℕ → ℕ → Session
-session_over o header v name limit = record {
+abbrev pub session_over : Opened → List ℕ → IndexView → List ℕ → (limit budget : ℕ) → Session
+session_over o header v name limit budget = record {
   name = name;
   root = o.root;
   place = o.place;
@@ -128,15 +128,19 @@ session_over o header v name limit = record {
   pending = [];
   stopped = false;
   keeps = false;
+  budget = budget;
+  early = 0;
+  chunks = [];
+  flushing = false;
   index = v;
 }
 
 -- with the superblock pending that says that the file is written
-abbrev pub opened_session : Opened → List ℕ → IndexView → List ℕ → ℕ → Session
-opened_session o header v name limit = flagged (writing_flags o.root.flags) false (session_over o header v name limit)
+abbrev pub opened_session : Opened → List ℕ → IndexView → List ℕ → (limit budget : ℕ) → Session
+opened_session o header v name limit budget = flagged (writing_flags o.root.flags) false (session_over o header v name limit budget)
 
 -- The session over a file of these bytes, which nothing refuses.
-pub record IsOpenedOver (img : List ℕ) (size : ℕ) (name : List ℕ) (limit : ℕ) (s : Session) : Type 0 where
+pub record IsOpenedOver (img : List ℕ) (size : ℕ) (name : List ℕ) (limit budget : ℕ) (s : Session) : Type 0 where
   pub found : Opened
   pub is : eval img (looked_for size name) ≡ Ok found
   pub index : Result IndexView NoIndex
@@ -144,7 +148,7 @@ pub record IsOpenedOver (img : List ℕ) (size : ℕ) (name : List ℕ) (limit :
   pub unrefused : refused_open found index ≡ None
   pub kept : IndexView
   pub is_kept : IsKeptIndexOf found.header.dataset index kept
-  pub session : s ≡ opened_session found (chunk_0 img found.place) kept name limit
+  pub session : s ≡ opened_session found (chunk_0 img found.place) kept name limit budget
 
 -- ---- The answer
 
@@ -153,13 +157,13 @@ IfRefusal (Some e) P = P e
 IfRefusal None P = Unit {0}
 
 -- the session, or the first refusal; a failed image and want of memory are neither
-abbrev pub IsOpenAnswer : List ℕ → ℕ → List ℕ → ℕ → Result Session OpenError → Type 0
-IsOpenAnswer img size name limit (Ok s) = IsOpenedOver img size name limit s
-IsOpenAnswer img size name limit (Err e) = IfRefusal (refusal_of e) (IsNotOpened img size name)
+abbrev pub IsOpenAnswer : List ℕ → ℕ → List ℕ → (limit budget : ℕ) → Result Session OpenError → Type 0
+IsOpenAnswer img size name limit budget (Ok s) = IsOpenedOver img size name limit budget s
+IsOpenAnswer img size name limit budget (Err e) = IfRefusal (refusal_of e) (IsNotOpened img size name)
 
--- What a session has that was opened, whatever the image is: no row waits, the rows that it has are committed, nothing is free, and the
--- superblock is pending with both flags.
-pub record HasBegun (name : List ℕ) (limit : ℕ) (s : Session) : Type 0 where
+-- What a session has that was opened, whatever the image is: no row waits and none was written early, the rows that it has are committed,
+-- nothing is free, and the superblock is pending with both flags, of no flush.
+pub record HasBegun (name : List ℕ) (limit budget : ℕ) (s : Session) : Type 0 where
   pub named : s.name ≡ name
   pub limited : s.places.limit ≡ limit
   pub end : s.root.end ≡ s.places.end
@@ -173,3 +177,7 @@ pub record HasBegun (name : List ℕ) (limit : ℕ) (s : Session) : Type 0 where
   pub pending : s.pending ≡ record { at = 0; piece = super_bytes s.root } ∷ []
   pub running : s.stopped ≡ false
   pub frees : s.keeps ≡ false
+  pub budgeted : s.budget ≡ budget
+  pub early : s.early ≡ 0
+  pub chunks : s.chunks ≡ []
+  pub flushing : s.flushing ≡ false

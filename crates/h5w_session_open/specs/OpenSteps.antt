@@ -1,5 +1,5 @@
 -- What the steps of an opening answer.
-use Rattle.std.specs.Prelude.{◌≡◌, ◌≢◌, ℕ, ◌≤◌, min, List, [], length, find, ◌==◌, IfErr, IfSome, Option, Some, None, Result, Ok, Err, Bool, true, ◌+◌}
+use Rattle.std.specs.Prelude.{◌≡◌, ◌≢◌, ℕ, ◌≤◌, min, List, [], length, find, take, ◌==◌, IfErr, IfSome, Option, Some, None, Result, Ok, Err, Bool, true, false, ◌+◌}
 use Rattle.h5w_model.specs.Causes.{Rose}
 use Rattle.h5w_model.specs.Numbers.{range, undefined}
 use Rattle.h5w_model.specs.Programs.{eval}
@@ -7,7 +7,9 @@ use Rattle.h5w_model.specs.Datasets.{Described, dataspace_kind, layout_kind}
 use Rattle.h5w_model.specs.declared.message.Msg.{Msg}
 use Rattle.h5w_model.specs.Messages.{IsIntType, IsLayout, IsShape}
 use Rattle.h5w_model.specs.declared.cell.IndexKind.TheVariants.{Array, Tree}
+use Rattle.h5w_model.specs.Superblock.{super_signature}
 use Rattle.h5w_model.specs.declared.refusal.BlockFault.{BlockFault}
+use Rattle.h5w_model.specs.declared.refusal.BlockFault.TheVariants.{Signature}
 use Rattle.h5w_model.specs.declared.refusal.ReadError.TheVariants.{Damaged}
 use Rattle.h5w_image.specs.View.{ImageView, Looked}
 use Rattle.h5w_looks.specs.Still.{IsStill}
@@ -18,6 +20,7 @@ use Rattle.h5w_bt_index.specs.Marks.{clean_of}
 use Rattle.h5w_bt_index.specs.Index.{Index, IsIndex}
 use Rattle.h5w_bt_open.specs.declared.error.OpenTreeError.{OpenTreeError}
 use Rattle.h5w_bt_open.specs.declared.error.OpenTreeError.TheVariants as tree_errors
+use Rattle.h5w_index.specs.Blocks.{has_no_block}
 use Rattle.h5w_index.specs.Views.{IndexView, an_array, a_tree}
 use Rattle.h5w_ea_index.specs.declared.error.OpenArrayError.{OpenArrayError}
 use Rattle.h5w_ea_index.specs.declared.error.OpenArrayError.TheVariants as array_errors
@@ -93,6 +96,20 @@ IfNamedIndex d (Err Unnamed) = d.layout.address ≡ undefined
 IfNamedIndex d (Err Empty) = NamesArray d
 IfNamedIndex d (Err why) = Unit {0}
 
+-- an index that was read has its index block, where it is an array; nothing is said of one that was not
+abbrev pub HasItsBlock : Result IndexView NoIndex → Type 0
+HasItsBlock (Ok v) = has_no_block v ≡ false
+HasItsBlock (Err why) = Unit {0}
+
+-- an array was read that has none: it was looked at where the superblock stands
+abbrev pub LacksItsBlock : Result IndexView NoIndex → Type 0
+LacksItsBlock (Ok v) = has_no_block v ≡ true
+LacksItsBlock (Err why) = ⊥
+
+-- the signature of the superblock stands there
+abbrev pub no_block_error : OpenError
+no_block_error = Read (Damaged 0 (Signature (take 4 super_signature)))
+
 -- what a file has, and its index
 pub record IsFoundIn (img : List ℕ) (size : ℕ) (name : List ℕ) (o : Opened) (a : Result IndexView NoIndex) : Type 0 where
   pub is : eval img (looked_for size name) ≡ Ok o
@@ -140,6 +157,7 @@ pub record IsReady (o : Opened) (header : List ℕ) (v : IndexView) : Type 0 whe
   pub found : IsFound o
   pub index : Result IndexView NoIndex
   pub ready : IsReadyIndex o.header.dataset index v
+  pub made : HasItsBlock index
   pub unrefused : refused_open o index ≡ None
   pub header_kept : IsKeptHeader (is_starting o.header.dataset) header
   pub few : length header ≤ o.header.len

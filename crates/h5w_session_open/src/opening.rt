@@ -1,5 +1,5 @@
 //! A session over a file that is there.
-ghost use Rattle.std.specs.Prelude.{◌≡◌, ◌≢◌, ◌⊎◌, ℕ, ◌+◌, ◌*◌, ◌^◌, ◌<◌, ◌≤◌, false, List, ◌∷◌, [], Err, IfErr, IfOk, IfSome, IsFalse, IsTrue, OnOk, Ok, Some, find, ◌==◌, length, nat_le, vec_capacity, ℤ};
+ghost use Rattle.std.specs.Prelude.{◌≡◌, ◌≢◌, ◌⊎◌, ℕ, ◌+◌, ◌*◌, ◌^◌, ◌<◌, ◌≤◌, false, List, ◌∷◌, [], Err, IfErr, IfOk, IfSome, IsFalse, IsTrue, OnErr, OnOk, Ok, Some, find, ◌==◌, length, nat_le, vec_capacity, ℤ};
 ghost use Rattle.h5w_model.specs.Causes.{Rose};
 ghost use Rattle.h5w_model.specs.Findings.{Summary, Valid};
 ghost use Rattle.h5w_model.specs.Tables.{Reads};
@@ -22,7 +22,7 @@ ghost use Rattle.h5w_opening.specs.Openings.{IsFound, IsSaid, is_open};
 ghost use Rattle.h5w_opening.specs.Views.{header_fields_of, opened_of};
 ghost use Rattle.h5w_session_open.specs.OpenAnswers.{HasBegun, IsIndexOf, IsNotOpened, IsOpenAnswer, opened_session, writing_flags};
 ghost use Rattle.h5w_session_open.specs.OpenRanges.{HasFewChunks, refused_open};
-ghost use Rattle.h5w_session_open.specs.OpenSteps.{HasLayout, IsKeptHeader, IfNamedIndex, IsBadIndex, IsCut, IsFoundIn, IsOpenedFile, HasRows, IsReady, OpenStep, array_error, front_of, tree_error, versioned};
+ghost use Rattle.h5w_session_open.specs.OpenSteps.{HasItsBlock, HasLayout, IsKeptHeader, IfNamedIndex, IsBadIndex, IsCut, IsFoundIn, IsOpenedFile, HasRows, IsReady, LacksItsBlock, OpenStep, array_error, front_of, no_block_error, tree_error, versioned};
 ghost use Rattle.h5w_session_open.specs.OpenLaws.{OpenLaws};
 ghost use Rattle.h5w_session.specs.Openings.{opened_log};
 ghost use Rattle.h5w_session.specs.Sessions.{IsWritable};
@@ -39,7 +39,8 @@ use h5w_image::PieceRead;
 use h5w_index::Index;
 use h5w_looks::read;
 use h5w_model::{
-    Cell, HeaderError, IndexKind, OutOfMemory, PIECE, Piece, ReadError, Super, Unsupported,
+    BlockFault, Cell, HeaderError, IndexKind, OutOfMemory, PIECE, Piece, ReadError, Super,
+    Unsupported,
 };
 use h5w_ohdr::{Msg, Msgs, messages};
 use h5w_opening::{OpenError, Opening, find};
@@ -134,6 +135,25 @@ fn index_of<I: PieceRead>(
     }
 }
 
+/// What stands in front of the superblock, where an index block would have its signature.
+const FRONT: [u8; 4] = [0x89, b'H', b'D', b'F'];
+
+/// Refuses an array whose index block was looked at where the superblock stands. No image has both there: somebody else wrote the file between
+/// the looks.
+fn check_block(index: &Result<Index, NoIndex>) -> Result<(), OpenError>
+    ensures made { OnOk result (HasItsBlock (seen view_of index.now)) }
+    ensures refused { IfErr result (λ e. e ≡ no_block_error) }
+    ensures lacks { OnErr result (LacksItsBlock (seen view_of index.now)) }
+{
+    match index {
+        Ok(index) if index.has_no_block() => Err(OpenError::Read(ReadError::Damaged {
+            at: 0,
+            fault: BlockFault::Signature { found: FRONT },
+        })),
+        _ => Ok(()),
+    }
+}
+
 /// What the file has that is opened, and its index.
 fn found_in<I: PieceRead>(
     alloc: Global,
@@ -144,9 +164,11 @@ fn found_in<I: PieceRead>(
     ensures step { OpenStep (I.view image.old) (I.view image.new) (λ img x. IsFoundIn img size name.now (opened_of x.0) (seen view_of x.1)) (λ img e. IsNotOpened img size name.now e) result }
     ensures found { IfOk result (λ x. IsFound (opened_of x.0)) }
     ensures named { IfOk result (λ x. IfNamedIndex (opened_of x.0).header.dataset (seen view_of x.1)) }
+    ensures made { IfOk result (λ x. HasItsBlock (seen view_of x.1)) }
 {
     let found = find(alloc, image, size, name)?;
     let index = index_of(alloc, image, &found.header.dataset)?;
+    check_block(&index)?;
     Ok((found, index))
 }
 
@@ -323,11 +345,13 @@ fn session_over(
     index: Index,
     name: &[u8],
     limit: u64,
+    budget: u64,
 ) -> Result<WriterCore, OutOfMemory>
     requires name { length name.now ≤ 512 }
     requires high { limit ≤ 2 ^ 40 }
+    requires budget { (1024 ≤ budget) × (budget ≤ 2 ^ 30) }
     requires ready { IsReady (opened_of found.now) header (view_of index) }
-    ensures session { IfOk result (λ s. s ≡ opened_session (versioned (opened_of found.now)) header (view_of index) name.now limit) }
+    ensures session { IfOk result (λ s. s ≡ opened_session (versioned (opened_of found.now)) header (view_of index) name.now limit budget) }
     ensures reads { IfOk result (λ s. super_at (super_bytes s.root) ≡ Ok s.root) }
 {
     let file = FileParts {
@@ -337,7 +361,7 @@ fn session_over(
         grid: grid_of(&found.header.dataset),
         index,
     };
-    WriterCore::over(alloc, name, file, limit)
+    WriterCore::over(alloc, name, file, limit, budget)
 }
 
 /// The file that is opened: what was found, chunk 0 of the dataset header, and the index, where nothing refuses it.
@@ -357,9 +381,9 @@ fn unrefused_file<I: PieceRead>(
     Ok((found, header, index))
 }
 
-/// Opens the dataset of this name in a file of `size` bytes that is there, to append rows to it up to `limit` bytes of the file. The
-/// image is only looked at. Where the layout names no index yet, the first flush makes one, and where it names an array that has no index block
-/// yet, the first flush makes that. One piece is pending, the superblock by which
+/// Opens the dataset of this name in a file of `size` bytes that is there, to append rows to it up to `limit` bytes of the file, of which at
+/// most `budget` bytes wait unwritten. The image is only looked at. Where the layout names no index yet, the first flush makes one, and where it
+/// names an array that has no index block yet, the first flush makes that. One piece is pending, the superblock by which
 /// the file says that it is written; all its flags but these two stay. What the file has stays where it is, and new places begin at its
 /// end-of-file address.
 ///
@@ -381,23 +405,25 @@ pub fn open<I: PieceRead>(
     size: u64,
     name: &[u8],
     limit: u64,
+    budget: u64,
 ) -> Result<WriterCore, OpenError>
     requires name { length name.now ≤ 512 }
     requires low { 1024 ≤ limit }
     requires high { limit ≤ 2 ^ 40 }
+    requires budget { (1024 ≤ budget) × (budget ≤ 2 ^ 30) }
     ensures looked { Looked (I.view image.old) (I.view image.new) }
     ensures cause { result ≡ Err OpenError.Failed → Rose (I.view image.old).faults (I.view image.new).faults }
     // on every image a Read is none of NotSwmr, Again, Shrunk and OutOfMemory
     ensures kinds { IfErr result IsOpenKind }
     // where the image tells its bytes and nobody else writes it
-    ensures exact { (img : List ℕ) → IsStill (I.view image.old) img → IsOpenAnswer img size name.now limit result }
-    ensures begun { IfOk result (λ s. HasBegun name.now limit s) }
+    ensures exact { (img : List ℕ) → IsStill (I.view image.old) img → IsOpenAnswer img size name.now limit budget result }
+    ensures begun { IfOk result (λ s. HasBegun name.now limit budget s) }
     // where the file is valid, the session stands for the log over it to which nothing happened yet
     ensures stands { IfOk result (λ s. (img : List ℕ) (rows columns : ℕ) (values : List ℤ) (sm : Summary) → IsStill (I.view image.old) img → Valid img name.now sm → Reads img name.now rows columns values
         → Stands s (opened_log img columns values)) }
 {
     let (found, header, index) = unrefused_file(alloc, image, size, name)?;
-    let session = session_over(alloc, &found, header, index, name, limit)?;
+    let session = session_over(alloc, &found, header, index, name, limit, budget)?;
     Ok(session)
 }
 

@@ -85,7 +85,7 @@ fn two_flushes_have_these_pieces(rt: HostRuntime) -> Result<(), Fail> {
 #[test]
 fn cells_without_a_row_have_the_fill(rt: HostRuntime) -> Result<(), Fail> {
     let mut image = MemImage::new(rt.alloc())?;
-    let mut core = create(&rt, b"data", I16BE, 4, Some(-2))?;
+    let mut core = create(&rt, b"data", I16BE, 4, Some(-2), 1 << 16)?;
     show_all(&mut core, &mut image)?;
     flush(&rt, &mut core, &mut image, &[1])?;
     let chunk = core.next().map(|w| w.piece.as_slice());

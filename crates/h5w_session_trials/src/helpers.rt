@@ -1,5 +1,5 @@
 //! What the trials of a session have in common.
-ghost use Rattle.std.specs.Prelude.{◌*◌, ◌≤◌, length, IfSome};
+ghost use Rattle.std.specs.Prelude.{◌*◌, ◌^◌, ◌≤◌, length, IfSome};
 ghost use Rattle.h5w_model.specs.Messages.{IsIntType};
 ghost use Rattle.h5w_options.specs.Options.{HasValue};
 ghost use Rattle.h5w_types.specs.Fields.{int_type_of};
@@ -25,13 +25,14 @@ pub const I16BE: IntType = IntType {
     signed: true,
 };
 
-/// A session that creates a file of a dataset of this name and type, in chunks of so many rows.
+/// A session that creates a file of a dataset of this name and type, in chunks of so many rows, with this budget.
 pub fn create(
     rt: &impl AllocGlobal,
     name: &[u8],
     int_type: IntType,
     chunk_rows: u64,
     fill: Option<i128>,
+    budget: u64,
 ) -> Result<WriterCore, Fail>
     requires named { 1 ≤ length name.now }
     requires name_bound { length name.now ≤ 64 }
@@ -40,6 +41,8 @@ pub fn create(
     requires chunk_bound { chunk_rows ≤ 65536 }
     requires small { chunk_rows * 1 * int_type.size ≤ 16777216 }
     requires filled { IfSome fill (HasValue (int_type_of int_type)) }
+    requires budget_low { 1024 ≤ budget }
+    requires budget_high { budget ≤ 2 ^ 30 }
 {
     let options = Options {
         name: Bytes::from_vec(Vec::from_slice(rt.alloc(), name)?),
@@ -49,6 +52,7 @@ pub fn create(
         fixed: false,
         fill,
         limit: 1 << 40,
+        budget,
     };
     Ok(WriterCore::create(rt.alloc(), &options)?)
 }
@@ -98,7 +102,7 @@ pub fn created(
     requires some_rows { 1 ≤ chunk_rows }
     requires chunk_bound { chunk_rows ≤ 65536 }
 {
-    let mut core = create(rt, b"data", I32LE, chunk_rows, None)?;
+    let mut core = create(rt, b"data", I32LE, chunk_rows, None, 1 << 16)?;
     show_all(&mut core, image)?;
     Ok(core)
 }

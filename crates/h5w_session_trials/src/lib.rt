@@ -3,6 +3,8 @@
 #![tactic(auto)]
 
 #[cfg(test)]
+mod early;
+#[cfg(test)]
 mod endings;
 #[cfg(test)]
 mod flushes;

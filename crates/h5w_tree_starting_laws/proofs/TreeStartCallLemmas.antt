@@ -18,16 +18,14 @@ use Rattle.h5w_header_laws.specs.Files.{commit_at}
 use Rattle.h5w_steps.specs.Moments.{Moment}
 use Rattle.h5w_array_laws.specs.Among.{AreAmong}
 use Rattle.h5w_array_laws.proofs.FixedLemmas.{one_piece}
-use Rattle.h5w_flush_laws.specs.Spaces.{Taken}
 use Rattle.h5w_flush_laws.specs.Parts.{block_writes, pieces_of}
-use Rattle.h5w_flush_laws.proofs.SpaceLemmas.{taken_laws}
 use Rattle.h5w_starting_laws.specs.Starting.{no_chunk}
 use Rattle.h5w_bt_index.specs.Marks.{Part, clean_of}
 use Rattle.h5w_bt_index.specs.Index.{Index, address_of, no_tree}
 use Rattle.h5w_bt_index.specs.Plans.{IsTreePlan, header_of, header_writes, news, written}
 use Rattle.h5w_bt_index.proofs.Shares.{filled_kept}
 use Rattle.h5w_tree_index_laws.specs.TreeImages.{behind_of, blank}
-use Rattle.h5w_tree_index_laws.specs.TreeFlushes.{chunks_for, header_range}
+use Rattle.h5w_tree_index_laws.specs.TreeFlushes.{chunks_for}
 use Rattle.h5w_tree_index_laws.proofs.TreeHeaderLemmas.{header_long}
 use Rattle.h5w_tree_index_laws.proofs.TreeStandLemmas.{own_part, part_of}
 use Rattle.h5w_index.specs.Views.{IsSoundTree}
@@ -64,8 +62,8 @@ last_in a b c d e =
     append_assoc a (b ++ (c ++ d)) e
     ∙ ap (λ (x : List Write). a ++ x) (append_assoc b (c ++ d) e ∙ ap (λ (x : List Write). b ++ x) (append_assoc c d e))
 
-module _ (img : List ℕ) (m : Moment) (base a b t : Space) (place : ℕ) (v w : Index) (ms : List Move) (rows : ℕ) (more : List ℤ) (writes : List Write) (places : List ChunkPlace) (added : List Key) (cs fixed supers : List Write)
-    (c : AreTreeStartCalls img m base a b place v ms w t rows more writes places added cs fixed supers) where
+module _ (img : List ℕ) (m : Moment) (base b t : Space) (place : ℕ) (v w : Index) (ms : List Move) (rows : ℕ) (more : List ℤ) (writes : List Write) (places : List ChunkPlace) (added : List Key) (cs fixed supers : List Write)
+    (c : AreTreeStartCalls img m base b place v ms w t rows more writes places added cs fixed supers) where
   abbrev chunks : List Used
   chunks = chunks_for m no_chunk places
 
@@ -73,26 +71,23 @@ module _ (img : List ℕ) (m : Moment) (base a b t : Space) (place : ℕ) (v w :
   copies = written v.depth (news ms) v.root
 
   sound : IsSoundTree place v
-  sound = c.placing.partly.like.sound
+  sound = c.named.partly.like.sound
 
   unwritten : IsUnwritten v
-  unwritten = record { places = c.placing.partly.like.blocks; clean = λ p clean. (c.placing.partly.like.marks p clean).1 }
+  unwritten = record { places = c.named.partly.like.blocks; clean = λ p clean. (c.named.partly.like.marks p clean).1 }
 
   -- some chunk has an address, so that the tree is not the blank leaf
   changed : clean_of v.depth v.root ≡ false
   changed = elim (cases_Bool (clean_of v.depth v.root)) [
     | inl e ↦
         let first = first_of places c.some in
-        let at = c.placing.placed 0 first.0 first.1 in
+        let at = c.named.placed 0 first.0 first.1 in
         absurd (at.defined (sym at.named ∙ blank_finds v (touched_key m.dataset m.dataset.shape.rows 0) (unwritten.clean (part_of v.depth v.root) (own_part v.depth v.root e))))
     | inr e ↦ e
   ]
 
-  taken : Taken base (header_range place ∷ chunks) b
-  taken = taken_laws.joined base a b (header_range place ∷ []) chunks (taken_laws.one base a (header_range place) (omega arith) c.header) c.placing.taken
-
   among : AreAmong (behind_of (chunk_bytes m.dataset) v) chunks
-  among = subst (λ (us : List Used). AreAmong (behind_of (chunk_bytes m.dataset) v) us) (append-nil chunks) c.placing.behind
+  among = subst (λ (us : List Used). AreAmong (behind_of (chunk_bytes m.dataset) v) us) (append-nil chunks) c.named.behind
 
   fixed_is : fixed ≡ block_writes ((place, bthd_bytes (header_of w)) ∷ [])
   fixed_is = c.plan.1.in_place ∙ header_written place v w changed ∙ sym (header_block place w)
@@ -116,11 +111,11 @@ module _ (img : List ℕ) (m : Moment) (base a b t : Space) (place : ℕ) (v w :
       small = c.small;
       few = c.few;
       count = c.count;
-      taken = taken;
+      taken = c.taken;
       ends = c.ends;
       placed = c.placed copies;
       index = sound.index;
-      filled = filled_kept no_tree v c.placing.partly.like.shares (omega arith);
+      filled = filled_kept no_tree v c.named.partly.like.shares (omega arith);
       unwritten = unwritten;
       changed = changed;
       behind = record { among = among.among; counts = among.counts };
@@ -132,4 +127,4 @@ module _ (img : List ℕ) (m : Moment) (base a b t : Space) (place : ℕ) (v w :
   }
 
 pub tree_start_calls : TreeStartCalls
-tree_start_calls img m base a b t place v w ms rows more writes places added cs fixed supers c = calls_start img m base a b t place v w ms rows more writes places added cs fixed supers c
+tree_start_calls img m base b t place v w ms rows more writes places added cs fixed supers c = calls_start img m base b t place v w ms rows more writes places added cs fixed supers c

@@ -7,29 +7,32 @@ use Rattle.h5w_model.specs.declared.piece.Write.{Write}
 use Rattle.h5w_visits.specs.Needed.{AreFew}
 use Rattle.h5w_chunks.specs.declared.grid.ChunkPlace.{ChunkPlace}
 use Rattle.h5w_header_laws.specs.Files.{commit_at, with_rows}
-use Rattle.h5w_space.specs.Space.{Space, extent}
-use Rattle.h5w_cache.specs.Plans.{Took}
+use Rattle.h5w_space.specs.Space.{Space}
 use Rattle.h5w_cache.specs.declared.moves.Move.{Move}
 use Rattle.h5w_steps.specs.Moments.{Moment}
 use Rattle.h5w_flush_laws.specs.Parts.{AreEnded, block_writes, pieces_of}
 use Rattle.h5w_flush_laws.specs.Rows.{ArePlaced}
+use Rattle.h5w_flush_laws.specs.Spaces.{Taken}
 use Rattle.h5w_starting_laws.specs.Starting.{no_chunk}
 use Rattle.h5w_bt_index.specs.Index.{Index, no_tree}
 use Rattle.h5w_index.specs.Views.{a_tree}
 use Rattle.h5w_index.specs.Steps.{IsPlan}
-use Rattle.h5w_index.specs.Placing.{IsPlacing}
+use Rattle.h5w_index.specs.Naming.{AreNamed}
+use Rattle.h5w_tree_index_laws.specs.TreeFlushes.{chunks_for, header_range}
 use Rattle.h5w_tree_starting_laws.specs.TreeStarting.{IsTreeStart, parts_for}
 
-pub record AreTreeStartCalls (img : List ℕ) (m : Moment) (base a b : Space) (place : ℕ) (v : Index) (ms : List Move) (w : Index) (t : Space) (rows : ℕ) (more : List ℤ) (writes : List Write) (places : List ChunkPlace) (added : List Key)
+-- the calls of such a flush
+pub record AreTreeStartCalls (img : List ℕ) (m : Moment) (base b : Space) (place : ℕ) (v : Index) (ms : List Move) (w : Index) (t : Space) (rows : ℕ) (more : List ℤ) (writes : List Write) (places : List ChunkPlace) (added : List Key)
     (cs fixed supers : List Write) : Type 0 where
   pub rises : m.dataset.shape.rows < rows
   pub small : rows < 2 ^ 64
   pub few : AreFew (with_rows rows m.dataset)
   pub count : length (m.values ++ more) ≡ rows * m.dataset.shape.cols
-  pub header : Took base a (extent place bthd_len)
+  -- the places of the tree's header and of the new chunks, in whatever order they were taken
+  pub taken : Taken base (header_range place ∷ chunks_for m no_chunk places) b
   pub ends : place + bthd_len < 2 ^ 64
   pub some : 0 < length places
-  pub placing : IsPlacing m.dataset rows (a_tree place no_tree) a places added (a_tree place v) b
+  pub named : AreNamed m.dataset rows (a_tree place no_tree) places added (a_tree place v)
   pub placed : (copies : List (ℕ × List ℕ)) → ArePlaced img m no_chunk (parts_for m place w rows more writes places copies supers t.end) places
   pub plan : IsPlan (a_tree place v) b ms cs fixed (a_tree place w) t
   pub ended : AreEnded m.super t.end supers
@@ -43,6 +46,6 @@ pub record CallsStartTree (img : List ℕ) (m : Moment) (base b : Space) (place 
   pub pieces : pieces_of img m (parts_for m place w rows more writes places copies supers t.end) ≡ writes ++ (cs ++ (fixed ++ (supers ++ commit_at img m.place rows (Some place) ∷ [])))
 
 abbrev pub TreeStartCalls : Type 0
-TreeStartCalls = (img : List ℕ) (m : Moment) (base a b t : Space) (place : ℕ) (v w : Index) (ms : List Move) (rows : ℕ) (more : List ℤ) (writes : List Write) (places : List ChunkPlace) (added : List Key)
-    (cs fixed supers : List Write) → AreTreeStartCalls img m base a b place v ms w t rows more writes places added cs fixed supers
+TreeStartCalls = (img : List ℕ) (m : Moment) (base b t : Space) (place : ℕ) (v w : Index) (ms : List Move) (rows : ℕ) (more : List ℤ) (writes : List Write) (places : List ChunkPlace) (added : List Key)
+    (cs fixed supers : List Write) → AreTreeStartCalls img m base b place v ms w t rows more writes places added cs fixed supers
     → CallsStartTree img m base b place v ms w t rows more writes places cs fixed supers

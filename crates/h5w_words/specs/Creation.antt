@@ -1,4 +1,4 @@
--- By what a file is created: --type T --chunk R [--columns M --width C [--fixed]] [--fill V] [--name N] [--limit B]
+-- By what a file is created: --type T --chunk R [--columns M --width C [--fixed]] [--fill V] [--name N] [--limit B] [--budget G]
 use Rattle.std.specs.Prelude.{ℕ, ◌*◌, ◌^◌, Bool, true, false, nat_le, nat_lt, if◌then◌else◌, List, Option, Some, None, option_map, option_and_then, codes, ℤ}
 use Rattle.clap.specs.Words.{App, Row, Text, first_of, with_rule}
 use Rattle.h5w_options.specs.Options.{width_in}
@@ -11,8 +11,9 @@ use Rattle.h5w_words.specs.Types.{fill_given, type_named}
 -- a command with the arguments that a file is created by
 abbrev pub with_creation : App → App
 with_creation app =
-    with_rule (with_rule (with_rule (with_rule (with_rule (with_rule (with_rule (with_rule app (option_rule (codes "type") true)) (option_rule (codes "chunk") true)) (option_rule (codes "columns") false))
-    (option_rule (codes "width") false)) (flag_rule (codes "fixed"))) (option_rule (codes "fill") false)) (option_rule (codes "name") false)) (option_rule (codes "limit") false)
+    with_rule (with_rule (with_rule (with_rule (with_rule (with_rule (with_rule (with_rule (with_rule app (option_rule (codes "type") true)) (option_rule (codes "chunk") true)) (option_rule (codes "columns") false))
+    (option_rule (codes "width") false)) (flag_rule (codes "fixed"))) (option_rule (codes "fill") false)) (option_rule (codes "name") false)) (option_rule (codes "limit") false))
+    (option_rule (codes "budget") false)
 
 -- the type of the integers
 abbrev pub type_of : List Row → Option IntType
@@ -53,6 +54,10 @@ name_of rows = name_or (codes "data") (first_of (codes "name") rows)
 abbrev pub limit_of : List Row → Option ℕ
 limit_of rows = count_or (2 ^ 40) 1024 (2 ^ 40) (first_of (codes "limit") rows)
 
+-- how many bytes may wait unwritten after an append, 1,024 to 2^30; where it is not given, 65,536
+abbrev pub budget_of : List Row → Option ℕ
+budget_of rows = count_or 65536 1024 (2 ^ 30) (first_of (codes "budget") rows)
+
 -- a fill of this type
 abbrev pub fill_of : List Row → IntType → Option (Option ℤ)
 fill_of rows t = fill_given (int_type_of t) (first_of (codes "fill") rows)
@@ -64,9 +69,9 @@ of_chunks o = if nat_lt 16777216 (o.chunk_rows * width_in o.columns * o.int_type
 -- the options of a file whose dataset has this name and type
 abbrev pub named_options : List Row → Text → IntType → Option Options
 named_options rows name t =
-    option_and_then (λ chunk_rows. option_and_then (λ columns. option_and_then (λ fixed. option_and_then (λ fill. option_and_then (λ limit.
-    of_chunks (record { name = name; int_type = t; chunk_rows = chunk_rows; columns = columns; fixed = fixed; fill = fill; limit = limit }))
-    (limit_of rows)) (fill_of rows t)) (fixed_of rows columns)) (columns_of rows)) (chunk_rows_of rows)
+    option_and_then (λ chunk_rows. option_and_then (λ columns. option_and_then (λ fixed. option_and_then (λ fill. option_and_then (λ limit. option_and_then (λ budget.
+    of_chunks (record { name = name; int_type = t; chunk_rows = chunk_rows; columns = columns; fixed = fixed; fill = fill; limit = limit; budget = budget }))
+    (budget_of rows)) (limit_of rows)) (fill_of rows t)) (fixed_of rows columns)) (columns_of rows)) (chunk_rows_of rows)
 
 -- the options of a file that is created
 abbrev pub options_of : List Row → Option Options

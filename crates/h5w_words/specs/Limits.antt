@@ -11,5 +11,5 @@ IsWithinLimits (Check file name) = Unit {0}
 IsWithinLimits (Poll file name times attempts values) = (1 ≤ times) × AreAttempts attempts
 IsWithinLimits (Clear file upgrade) = Unit {0}
 IsWithinLimits (Make count seed) = count ≤ 1000000
-IsWithinLimits (Append file name limit keeps) = (length name ≤ 255) × (1024 ≤ limit) × (limit ≤ 2 ^ 40)
+IsWithinLimits (Append file name limit budget keeps) = (length name ≤ 255) × (1024 ≤ limit) × (limit ≤ 2 ^ 40) × (1024 ≤ budget) × (budget ≤ 2 ^ 30)
 IsWithinLimits (Live options readers polls attempts) = AreOptions options × AreAttempts attempts × (1 ≤ readers) × (readers ≤ 16) × (1 ≤ polls) × (polls ≤ 10000)

@@ -9,7 +9,7 @@ use crate::arguments::Argument::{Flag, Optional, Word};
 use crate::arguments::with_arguments;
 use crate::files::{file_given, link_name_given};
 use crate::job::{Job, WordsError};
-use crate::values::{is_given, limit_given};
+use crate::values::{budget_given, is_given, limit_given};
 use clap::{ArgMatches, Command};
 use std::alloc::{AllocError, Global};
 
@@ -26,6 +26,7 @@ pub fn append<'a>(alloc: Global) -> Result<Command<'a>, AllocError>
             Word("FILE"),
             Optional("name"),
             Optional("limit"),
+            Optional("budget"),
             Flag("no-reuse"),
         ],
     )
@@ -38,10 +39,12 @@ pub fn append_job(alloc: Global, options: &ArgMatches<'_>) -> Result<Job, WordsE
     ensures limits { IfOk result IsWithinLimits }
 {
     let limit = limit_given(options).ok_or(WordsError::Usage)?;
+    let budget = budget_given(options).ok_or(WordsError::Usage)?;
     Ok(Job::Append {
         file: file_given(alloc, options)?,
         name: link_name_given(alloc, options)?,
         limit,
+        budget,
         keeps: is_given(options, "no-reuse"),
     })
 }

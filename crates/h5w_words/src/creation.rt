@@ -11,7 +11,7 @@ use crate::arguments::Argument::{Flag, Needed, Optional};
 use crate::arguments::with_arguments;
 use crate::job::WordsError;
 use crate::types::{fill_given, type_named};
-use crate::values::{count, is_given, limit_given, name_or, text};
+use crate::values::{budget_given, count, is_given, limit_given, name_or, text};
 use clap::{ArgMatches, Command};
 use h5w_model::Bytes;
 use h5w_options::{IntType, Options};
@@ -40,6 +40,7 @@ pub fn creation<'a>(alloc: Global, command: Command<'a>) -> Result<Command<'a>, 
             Optional("fill"),
             Optional("name"),
             Optional("limit"),
+            Optional("budget"),
         ],
     )
 }
@@ -114,6 +115,7 @@ fn numbers_given(
     let fixed = fixed_given(options, columns).ok_or(WordsError::Usage)?;
     let fill = fill_given(text(options, "fill"), &int_type).ok_or(WordsError::Usage)?;
     let limit = limit_given(options).ok_or(WordsError::Usage)?;
+    let budget = budget_given(options).ok_or(WordsError::Usage)?;
     let options = Options {
         name,
         int_type,
@@ -122,6 +124,7 @@ fn numbers_given(
         fixed,
         fill,
         limit,
+        budget,
     };
     if chunk_bytes(&options) > CHUNK {
         return Err(WordsError::Usage);

@@ -64,6 +64,8 @@ pub enum Job {
         name: Bytes,
         /// How many bytes the file may have, 1,024 to 2^40.
         limit: u64,
+        /// How many bytes of chunks and headers may wait unwritten behind a line, 1,024 to 2^30.
+        budget: u64,
         /// Whether places that the session lets go are kept, and none of them is used again.
         keeps: bool,
     },

@@ -3,7 +3,7 @@ ghost use Rattle.std.specs.Prelude.{◌≡◌, ◌^◌, ◌≤◌, IfSome, IsTru
 ghost use Rattle.clap.specs.Words.{first_of, found_of, rows_of};
 ghost use Rattle.h5w_options.specs.Options.{AreAttempts};
 ghost use Rattle.h5w_words.specs.Arguments.{count_given, count_or, is_given, link_name_or, name_or};
-ghost use Rattle.h5w_words.specs.Creation.{limit_of};
+ghost use Rattle.h5w_words.specs.Creation.{budget_of, limit_of};
 ghost use Rattle.h5w_words.specs.Names.{is_link_name, is_name};
 ghost use Rattle.h5w_words.specs.Play.{attempts_of};
 
@@ -13,6 +13,11 @@ use clap::ArgMatches;
 
 /// The most bytes that a file may have.
 const LIMIT: u64 = 1 << 40;
+
+/// The most bytes that may wait unwritten, and how many may where it is not said.
+const MOST_WAITING: u64 = 1 << 30;
+
+const BUDGET: u64 = 65_536;
 
 /// The text of an option, where it was given.
 #[tactic(auto, using(crate::proofs::WordLemmas::first_text))]
@@ -63,6 +68,14 @@ pub fn limit_given(options: &ArgMatches<'_>) -> Option<u64>
     ensures bounds { IfSome result (λ n. (1024 ≤ n) × (n ≤ 2 ^ 40)) }
 {
     count_or(options, "limit", LIMIT, 1_024, LIMIT)
+}
+
+/// How many bytes may wait unwritten after an append; None where the number is not within its limits.
+pub fn budget_given(options: &ArgMatches<'_>) -> Option<u64>
+    ensures budget { result ≡ budget_of (rows_of (found_of options.now)) }
+    ensures bounds { IfSome result (λ n. (1024 ≤ n) × (n ≤ 2 ^ 30)) }
+{
+    count_or(options, "budget", BUDGET, 1_024, MOST_WAITING)
 }
 
 /// The name that an option gives, or `default` where it was not given.

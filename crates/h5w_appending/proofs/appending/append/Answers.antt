@@ -4,22 +4,22 @@ use Rattle.h5w_appending.proofs.AppendLemmas.{appends_broke, appends_cut, append
 use Rattle.h5w_appending.proofs.appending.append.Goals as goal
 
 pub returns-in-Ok-clause-appends : goal.returns-in-Ok-clause-appends
-returns-in-Ok-clause-appends g c = appends_whole c.args.file.now c.args.name.now c.args.limit c.args.keeps c.say.result c.append_all.new.text.items c.deref.result.now c.deref.ensures.value c.in-Ok.ensures.finishes c.say.ensures
+returns-in-Ok-clause-appends g c = appends_whole c.args.file.now c.args.name.now c.args.limit c.args.budget c.args.keeps c.say.result c.append_all.new.text.items c.deref.result.now c.deref.ensures.value c.in-Ok.ensures.finishes c.say.ensures
 
 pub returns-in-Err-Refused-clause-appends : goal.returns-in-Err-Refused-clause-appends
 returns-in-Err-Refused-clause-appends g c =
     let is : c.append_all.result ≡ Err (endings.Refused c.in-Err-Refused.error) = search rules in
     let h = rw is at c.append_all.ensures.finishes in
-    appends_some c.args.file.now c.args.name.now c.args.limit c.args.keeps c.in-Err-Refused.error _ c.append_all.new.text.items h c.tell.ensures
+    appends_some c.args.file.now c.args.name.now c.args.limit c.args.budget c.args.keeps c.in-Err-Refused.error _ c.append_all.new.text.items h c.tell.ensures
 
 pub returns-in-Err-Disk-clause-appends : goal.returns-in-Err-Disk-clause-appends
 returns-in-Err-Disk-clause-appends g c =
     let is : c.append_all.result ≡ Err endings.Disk = search rules in
     let h = rw is at c.append_all.ensures.finishes in
-    appends_broke c.args.file.now c.args.name.now c.args.limit c.args.keeps h.rows h.first _ h.opened h.settles c.say-in-Err-Disk.ensures
+    appends_broke c.args.file.now c.args.name.now c.args.limit c.args.budget c.args.keeps h.rows h.first _ h.opened h.settles c.say-in-Err-Disk.ensures
 
 pub returns-clause-appends : goal.returns-clause-appends
 returns-clause-appends g c =
     let is : c.append_all.result ≡ Err endings.Sink = search rules in
     let h = rw is at c.append_all.ensures.finishes in
-    appends_cut c.args.file.now c.args.name.now c.args.limit c.args.keeps h.rows h.first h.opened h.settles
+    appends_cut c.args.file.now c.args.name.now c.args.limit c.args.budget c.args.keeps h.rows h.first h.opened h.settles

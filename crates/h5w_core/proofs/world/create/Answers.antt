@@ -14,5 +14,5 @@ returns c =
     let o = c.args.options.now in
     let s = c.in_ok-session in
     let room = c.in_ok-make_room.ensures in
-    let start = begins o s.session c.in_ok-image.image c.make_room.new.self c.requires s.ensures.session s.ensures.stands c.in_ok-image.ensures room.same (omega (arith, c.pending.ensures, room.pieces)) (omega (arith, c.end.ensures, room.end)) in
+    let start = begins o s.session c.in_ok-image.image c.make_room.new.self c.requires s.ensures.session s.ensures.budget s.ensures.stands c.in_ok-image.ensures room.same (omega (arith, c.pending.ensures, room.pieces)) (omega (arith, c.end.ensures, room.end)) in
     subst (λ (n : ℕ). Creates o n c.show_all.new.session c.show_all.new.image) (ap (λ (x : Session). length x.pending) s.ensures.session.session) (c.show_all.ensures o start)

@@ -1,53 +1,54 @@
-use Rattle.std.proofs.Common.{◌≡◌, Err, sym, ap, subst, ◌∙◌}
+use Rattle.std.proofs.Common.{◌≡◌, Err, sym, ap, ◌∙◌}
 use Rattle.std.specs.Prelude.{length}
 use Rattle.h5w_session.specs.Sessions.{Session}
-use Rattle.h5w_session.specs.Stands.{Stands}
 use Rattle.h5w_live.specs.declared.writing.Halt.TheVariants as halts
-use Rattle.h5w_live.proofs.BatchLemmas.{flush_taken, lacks_place, planned_writes, put_flushed, refusal_for, taken_writes, waits_some, writes_still}
+use Rattle.h5w_live.proofs.BatchLemmas.{added_writes, flush_taken, lacks_place, planned_writes, put_flushed, refusal_for, waits_some, writes_still}
 use Rattle.h5w_live.proofs.batch.put.Goals as goal
 
 pub plan-requires-clause-waits : goal.plan-requires-clause-waits
 plan-requires-clause-waits g c =
     let h = c.requires.flushed in
-    waits_some h.0 h.1 h.2 c.args.session.now c.args.seat.now h.3 h.4 c.take.new.session c.args.values.now c.requires.rows c.in-Ok.ensures.added c.requires.some
+    let a = c.in-Ok.ensures.added in
+    waits_some h.0 h.1 h.2 c.args.session.now c.args.seat.now h.3 h.4 c.add.new.session c.add.new.seat c.args.values.now a.0 c.requires.rows a.1 c.requires.some
 
 pub plan-requires-clause-taken : goal.plan-requires-clause-taken
 plan-requires-clause-taken g c =
     let h = c.requires.flushed in
-    flush_taken h.0 h.1 h.2 c.args.session.now c.args.seat.now h.3 h.4 c.take.new.session c.args.values.now c.in-Ok.ensures.added
+    let a = c.in-Ok.ensures.added in
+    flush_taken h.0 h.1 h.2 c.args.session.now c.args.seat.now h.3 h.4 c.add.new.session c.add.new.seat c.args.values.now a.0 a.1
 
 pub plan-requires-clause-created : goal.plan-requires-clause-created
 plan-requires-clause-created g c =
     let h = c.requires.flushed in
-    let w = taken_writes h.0 h.1 h.2 c.args.session.now c.args.seat.now h.3 c.args.values.now c.take.new.session c.take.new.seat h.4 c.in-Ok.ensures.added c.in-Ok.ensures.stands c.take.ensures.seat in
+    let a = c.in-Ok.ensures.added in
+    let w = added_writes h.0 c.args.session.now c.add.new.session c.args.seat.now c.add.new.seat c.args.values.now a.0 h.4.writes a.1 in
     (w.log, w.stands, record { file = h.0; is = w.is; log_is = w.new })
 
 pub returns-in-Err-clause-range : goal.returns-in-Err-clause-range
 returns-in-Err-clause-range g c = λ f most done lines h index value same.
     let halt : c.in-Err.halt ≡ halts.OutOfRange index value = cc in
-    sym (refusal_for f most done c.args.session.now c.args.seat.now lines h c.args.values.now c.requires.rows c.requires.some) ∙ c.take.ensures.range index value (c.in-Err.is ∙ ap Err halt)
+    sym (refusal_for f most done c.args.session.now c.args.seat.now lines h c.args.values.now c.requires.rows c.requires.some) ∙ c.add.ensures.range index value (c.in-Err.is ∙ ap Err halt)
 
 pub returns-in-Err-clause-chunks : goal.returns-in-Err-clause-chunks
 returns-in-Err-clause-chunks g c = λ f most done lines h chunks limit same.
     let halt : c.in-Err.halt ≡ halts.Chunks chunks limit = cc in
-    sym (refusal_for f most done c.args.session.now c.args.seat.now lines h c.args.values.now c.requires.rows c.requires.some) ∙ c.take.ensures.chunks chunks limit (c.in-Err.is ∙ ap Err halt)
+    sym (refusal_for f most done c.args.session.now c.args.seat.now lines h c.args.values.now c.requires.rows c.requires.some) ∙ c.add.ensures.chunks chunks limit (c.in-Err.is ∙ ap Err halt)
 
 pub returns-in-Err-clause-left : goal.returns-in-Err-clause-left
-returns-in-Err-clause-left g c = λ f most done lines h.
-    let same = c.in-Err.ensures.kept in
-    writes_still f c.args.session.now c.take.new.session c.args.seat.now c.take.new.seat h.writes c.take.ensures.seat (ap (λ (s : Session). s.name) same) (ap (λ (s : Session). s.dataset) same)
-    (λ log stands. subst (λ (s : Session). Stands s log) (sym same) stands)
+returns-in-Err-clause-left g c = λ f most done lines h. c.in-Err.ensures.left f h.writes
 
 pub returns-in-Err-plan-clause-left : goal.returns-in-Err-plan-clause-left
 returns-in-Err-plan-clause-left g c = λ f most done lines h.
-    writes_still f c.take.new.session c.plan.new.session c.take.new.seat c.plan.new.seat
-    (taken_writes f most done c.args.session.now c.args.seat.now lines c.args.values.now c.take.new.session c.take.new.seat h c.in-Ok.ensures.added c.in-Ok.ensures.stands c.take.ensures.seat)
+    let a = c.in-Ok.ensures.added in
+    writes_still f c.add.new.session c.plan.new.session c.add.new.seat c.plan.new.seat
+    (added_writes f c.args.session.now c.add.new.session c.args.seat.now c.add.new.seat c.args.values.now a.0 h.writes a.1)
     c.plan.ensures.seat (ap (λ (s : Session). s.name) c.in-Err-plan.ensures.kept.session) (ap (λ (s : Session). s.dataset) c.in-Err-plan.ensures.kept.session) c.in-Err-plan.ensures.left
 
 pub returns-in-Ok-show-clause-flushed : goal.returns-in-Ok-show-clause-flushed
 returns-in-Ok-show-clause-flushed g c = λ f most done lines h.
-    put_flushed f most done c.args.session.now c.args.seat.now lines c.args.values.now c.take.new.session c.plan.new.session c.show.new.session c.take.new.seat c.plan.new.seat c.show.new.seat
-    (record { pieces = c.seen.result; rows = c.committed.result }) h c.requires.rows c.requires.some c.in-Ok.ensures.added c.in-Ok.ensures.stands c.take.ensures.seat c.in-Ok.ensures.accepted c.in-Ok-plan.ensures.flushed c.in-Ok-plan.ensures.some
+    let a = c.in-Ok.ensures.added in
+    put_flushed f most done c.args.session.now c.args.seat.now lines c.args.values.now a.0 c.add.new.session c.plan.new.session c.show.new.session c.add.new.seat c.plan.new.seat c.show.new.seat
+    (record { pieces = c.seen.result; rows = c.committed.result }) h c.requires.rows c.requires.some a.1 c.in-Ok.ensures.accepted c.in-Ok-plan.ensures.flushed c.in-Ok-plan.ensures.some
     c.in-Ok-plan.ensures.stands c.plan.ensures.seat c.in-Ok-plan.ensures.room c.in-Ok-show.ensures.session c.in-Ok-show.ensures.seat c.in-Ok-show.ensures.stands c.seen.ensures c.committed.ensures.value
 
 pub returns-in-Ok-show-clause-accepted : goal.returns-in-Ok-show-clause-accepted
@@ -56,15 +57,17 @@ returns-in-Ok-show-clause-accepted g c = λ f most done lines h.
 
 pub returns-in-Err-show-clause-left : goal.returns-in-Err-show-clause-left
 returns-in-Err-show-clause-left g c = λ f most done lines h.
+    let a = c.in-Ok.ensures.added in
     c.in-Err-show.ensures.left f
-    (planned_writes f c.take.new.session c.plan.new.session c.take.new.seat c.plan.new.seat
-    (taken_writes f most done c.args.session.now c.args.seat.now lines c.args.values.now c.take.new.session c.take.new.seat h c.in-Ok.ensures.added c.in-Ok.ensures.stands c.take.ensures.seat)
+    (planned_writes f c.add.new.session c.plan.new.session c.add.new.seat c.plan.new.seat
+    (added_writes f c.args.session.now c.add.new.session c.args.seat.now c.add.new.seat c.args.values.now a.0 h.writes a.1)
     c.plan.ensures.seat c.in-Ok-plan.ensures.flushed (length c.plan.new.session.pending) c.in-Ok-plan.ensures.stands)
 
 pub returns-in-Err-plan-clause-space : goal.returns-in-Err-plan-clause-space
 returns-in-Err-plan-clause-space g c = λ f most done lines h full same.
-    let halt : c.in-Err-plan.halt ≡ halts.Space full = cc in (
+    let halt : c.in-Err-plan.halt ≡ halts.Space full = cc in
+    let a = c.in-Ok.ensures.added in (
       sym (refusal_for f most done c.args.session.now c.args.seat.now lines h c.args.values.now c.requires.rows c.requires.some) ∙ c.in-Ok.ensures.accepted,
-      lacks_place f most done c.args.session.now c.args.seat.now lines c.args.values.now c.take.new.session full h c.in-Ok.ensures.added c.in-Ok.ensures.stands
+      lacks_place f most done c.args.session.now c.args.seat.now lines c.args.values.now a.0 c.add.new.session c.add.new.seat full h a.1
           (c.plan.ensures.full full (c.in-Err-plan.is ∙ ap Err halt)) (c.plan.ensures.space full (c.in-Err-plan.is ∙ ap Err halt)),
     )

@@ -20,9 +20,9 @@ pub grid_of-requires : goal.grid_of-requires
 grid_of-requires c = cut (opened_of c.args.found.now).header c.requires.ready.found.said
 
 -- the superblock that is written, and the dataset, make the session over what was found
-same_here : (o : Opening) (root : Super) (grid : Grid) (header : List ℕ) (index : Index) (name : List ℕ) (limit : ℕ) → root ≡ record (o.root) { version = 3; flags = writing_flags o.root.flags } → dataset_of grid ≡ (opened_of o).header.dataset
-    → session_over (record { root = root; place = o.place; header = header; grid = grid; index = index }) name limit ≡ opened_session (versioned (opened_of o)) header (view_of index) name limit
-same_here o root grid header index name limit is same = λ k. record {
+same_here : (o : Opening) (root : Super) (grid : Grid) (header : List ℕ) (index : Index) (name : List ℕ) (limit budget : ℕ) → root ≡ record (o.root) { version = 3; flags = writing_flags o.root.flags } → dataset_of grid ≡ (opened_of o).header.dataset
+    → session_over (record { root = root; place = o.place; header = header; grid = grid; index = index }) name limit budget ≡ opened_session (versioned (opened_of o)) header (view_of index) name limit budget
+same_here o root grid header index name limit budget is same = λ k. record {
   name = name;
   root = is k;
   place = o.place;
@@ -35,6 +35,10 @@ same_here o root grid header index name limit is same = λ k. record {
   pending = record { at = 0; piece = super_bytes (is k) } ∷ [];
   stopped = false;
   keeps = false;
+  budget = budget;
+  early = 0;
+  chunks = [];
+  flushing = false;
   index = view_of index;
 }
 
@@ -46,13 +50,13 @@ over-requires-clause-session c =
     let a = c.args in
     let o : Opened = opened_of c.args.found.now in
     let small : o.root.end < 2 ^ 64 = omega (arith, c.writing_super.ensures.small, ap (λ (r : Super). r.end) c.writing_super.ensures.root) in
-    subst IsSession (sym (same_here a.found.now c.writing_super.result c.grid_of.result a.header a.index a.name.now a.limit c.writing_super.ensures.root c.grid_of.ensures.same))
-    (session_is o a.header (view_of a.index) a.name.now a.limit c.requires.ready c.requires.high small)
+    subst IsSession (sym (same_here a.found.now c.writing_super.result c.grid_of.result a.header a.index a.name.now a.limit a.budget c.writing_super.ensures.root c.grid_of.ensures.same))
+    (session_is o a.header (view_of a.index) a.name.now a.limit a.budget c.requires.ready c.requires.high c.requires.budget small)
 
 pub returns-clause-session : goal.returns-clause-session
 returns-clause-session c =
     let a = c.args in
-    subst (λ (x : Session). IfOk c.over.result (λ s. s ≡ x)) (same_here a.found.now c.writing_super.result c.grid_of.result a.header a.index a.name.now a.limit c.writing_super.ensures.root c.grid_of.ensures.same) c.over.ensures.session
+    subst (λ (x : Session). IfOk c.over.result (λ s. s ≡ x)) (same_here a.found.now c.writing_super.result c.grid_of.result a.header a.index a.name.now a.limit a.budget c.writing_super.ensures.root c.grid_of.ensures.same) c.over.ensures.session
 
 pub returns-clause-reads : goal.returns-clause-reads
 returns-clause-reads c = c.over.ensures.reads

@@ -43,6 +43,7 @@ returns-clause-ready g c =
       found = c.in_ok-found.ensures.found;
       index = seen view_of c.in_ok-found.index;
       ready = ready_index o (seen view_of c.in_ok-found.index) (view_of c.in_ok-index.index) c.in_ok-found.ensures.named c.in_ok-index.ensures.kept c.in_ok-index.ensures.none;
+      made = c.in_ok-found.ensures.made;
       unrefused = c.in_ok-index.ensures.none;
       header_kept = subst (λ (b : Bool). IsKeptHeader b c.in_ok-header.header) c.is_starting-starts.ensures c.in_ok-header.ensures.writable;
       few = c.in_ok-header.ensures.few;

@@ -4,7 +4,7 @@ use Rattle.h5w_model.specs.declared.event.Event.TheVariants as events
 use Rattle.h5w_model.specs.declared.reply.Reply.TheVariants as replies
 use Rattle.h5w_core.specs.Worlds.{AreRowsBy, Steps, WorldView, rules_of}
 use Rattle.h5w_core.proofs.WorldLemmas.{world_of}
-use Rattle.h5w_core.proofs.AppendLemmas.{append_done, append_memory, refused_done}
+use Rattle.h5w_core.proofs.AppendLemmas.{AppendTells, append_done, append_memory, refused_done}
 use Rattle.h5w_session.specs.Refusals.{append_refusal}
 use Rattle.h5w_session.specs.declared.refusal.AppendError.TheVariants as errors
 use Rattle.h5w_core.proofs.HoldLemmas.{append_hold, appended_stands, same_stands}
@@ -23,8 +23,8 @@ returns-clause-steps c =
     elim c.match-append.branch [
       | in-Ok w ↦
           let e = w.in-Ok.ensures in
-          rw w.result-is
-          (append_done s t m n attempts w.in-Ok.rows c.self.inside.readers.items c.args.self.now vs (Ok w.in-Ok.rows) rows c.self.view_is e.image e.added e.rows e.refused refl e.stands)
+          let tells : AppendTells s t vs (Ok w.in-Ok.rows) = record { added = e.added; rows = e.rows; stands = e.stands; bound = e.bound; over = e.over; refused = e.refused; kept = tt } in
+          rw w.result-is (append_done s t m n attempts w.in-Ok.rows w.pending.result c.self.inside.readers.items c.args.self.now vs rows c.self.view_is e.image tells w.pending.ensures)
       | in-Err-Stopped w ↦
           let e = w.in-Err-Stopped in
           rw w.result-is (refused_done s t m n attempts c.self.inside.readers.items c.args.self.now vs e.field-0 errors.Stopped rows c.self.view_is e.ensures.image e.ensures.kept e.ensures.causes e.field-0-is tt)
@@ -47,7 +47,8 @@ invariant_of-self c =
     let i = c.self.inside in
     let e = c.append.ensures in
     append_hold i.session c.append.new.self i.image c.append.new.image i.attempts i.readers.items c.args.values.now c.append.result
-    (subst (λ (x : WorldView). AreRowsBy (rules_of x) c.args.values.now) (sym c.self.view_is) c.requires) c.self.invariant e.image e.added e.rows e.stands e.refused e.kept e.room
+    (subst (λ (x : WorldView). AreRowsBy (rules_of x) c.args.values.now) (sym c.self.view_is) c.requires) c.self.invariant e.image
+    (record { added = e.added; rows = e.rows; stands = e.stands; bound = e.bound; over = e.over; refused = e.refused; kept = e.kept }) e.room
 
 pub append-requires : goal.append-requires
 append-requires c =

@@ -1,16 +1,19 @@
-use Rattle.std.proofs.Common.{arith, ◌≡◌, ◌∙◌, [], ◌∷◌, ◌++◌, ap, sym, subst, inr, List, ℕ, Ok}
+use Rattle.std.proofs.Common.{arith, true, refl, ◌≡◌, ◌∙◌, [], ◌∷◌, ◌++◌, ap, sym, subst, inr, List, ℕ, Ok}
 use Rattle.h5w_model.specs.Superblock.{super_bytes}
 use Rattle.h5w_model.specs.declared.root.Super.{Super}
 use Rattle.h5w_model.specs.declared.piece.Write.{Write}
 use Rattle.h5w_model.proofs.SuperLemmas.{length-super_bytes}
 use Rattle.h5w_session.specs.Sessions.{ArePieces}
-use Rattle.h5w_session.proofs.StateLemmas.{closed_is}
+use Rattle.h5w_session.proofs.StateLemmas.{closed_is, still_is}
 use Rattle.h5w_model.specs.Superblock.{super_at}
 use Rattle.h5w_session.specs.Sessions.{closed_root}
 use Rattle.h5w_session.proofs.state.WriterCore.clear.Goals as goal
 
 pub encode-requires : goal.encode-requires
 encode-requires c = inr c.self.invariant.0.version
+
+some_piece : {w : Write} {ws : List Write} → w ∷ ws ≡ [] → ⊥
+some_piece e = cc
 
 -- the one piece that is pending
 planned : (c : goal.After-self-3-1) → c.push_reserved.new.self.items ≡ record { at = 0; piece = super_bytes (record (c.self.inside.root) { flags = c.cleared-self-inside.result }) } ∷ []
@@ -29,7 +32,7 @@ invariant_of-self c =
     let begun = is.begun in
     let w : Write = record { at = 0; piece = super_bytes root } in
     let one : ArePieces i.places.end (w ∷ []) = record { sized = ((omega (arith, size), omega (arith, size)), tt); within = (omega (arith, size, begun), tt) } in (
-      record { some_columns = is.some_columns; cells = is.cells; few = is.few; version = is.version; begun = is.begun; kind = is.kind; sound = is.sound; fits = is.fits; header = is.header; addressed = is.addressed; header_ends = is.header_ends; small = is.small; limit = is.limit; inside = is.inside; tops = λ whole. is.tops (record { named = whole.named; made = whole.made }); head = is.head },
+      still_is _ root i.committed _ true i.keeps i.flushing refl (λ e. (is.flushing e, λ none. some_piece (sym (planned c) ∙ none))) is,
       c.self.invariant.1,
       subst (λ (ws : List Write). ArePieces i.places.end ws) (sym (planned c)) one,
       omega arith,

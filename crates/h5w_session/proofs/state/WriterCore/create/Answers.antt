@@ -14,10 +14,10 @@ use Rattle.h5w_session.proofs.OptionLemmas.{creatable}
 use Rattle.h5w_session.proofs.SessionStarts.{created_is, created_pieces}
 use Rattle.h5w_session.proofs.CreatingLemmas.{creation_begins}
 use Rattle.h5w_session.proofs.state.WriterCore.create.Goals as goal
-use Rattle.h5w_session.proofs.state.WriterCore.create.Goals.{After-new-3}
+use Rattle.h5w_session.proofs.state.WriterCore.create.Goals.{After-new-4}
 
 -- the session that is made
-abbrev made : After-new-3 → Session
+abbrev made : After-new-4 → Session
 made c = record {
   name = c.of.result;
   root = c.in_ok-file.file.root;
@@ -31,14 +31,18 @@ made c = record {
   pending = c.in_ok-file.file.writes.items;
   stopped = false;
   keeps = false;
+  budget = c.args.options.now.budget;
+  early = 0;
+  chunks = c.new-4.result.items;
+  flushing = false;
   index = view_of c.in_ok-file.file.index;
 }
 
 -- by what the file is created
-file_here : (c : After-new-3) → created_by c.as_slice-name.result.now c.form_of.result ≡ new_file c.args.options.now
+file_here : (c : After-new-4) → created_by c.as_slice-name.result.now c.form_of.result ≡ new_file c.args.options.now
 file_here c = ap (λ (n : List ℕ). created_by n c.form_of.result) c.as_slice-name.ensures ∙ c.form_of.ensures.file
 
-made_here : (c : After-new-3) → made c ≡ created (new_file c.args.options.now) c.args.options.now.limit (view_of c.in_ok-file.file.index)
+made_here : (c : After-new-4) → made c ≡ created (new_file c.args.options.now) c.args.options.now.limit c.args.options.now.budget (view_of c.in_ok-file.file.index)
 made_here c =
     let o = c.args.options.now in
     let f = new_file o in
@@ -63,10 +67,14 @@ made_here c =
       pending = writes k;
       stopped = false;
       keeps = false;
+      budget = o.budget;
+      early = 0;
+      chunks = c.new-4.ensures.items k;
+      flushing = false;
       index = view_of c.in_ok-file.file.index;
     }
 
-index_here : (c : After-new-3) → IsIndexOf (new_file c.args.options.now) (view_of c.in_ok-file.file.index)
+index_here : (c : After-new-4) → IsIndexOf (new_file c.args.options.now) (view_of c.in_ok-file.file.index)
 index_here c =
     let o = c.args.options.now in
     let v = view_of c.in_ok-file.file.index in
@@ -75,7 +83,7 @@ index_here c =
       new = subst (λ (x : CreatedFile). IsNewIndex x.index (index_place x) (block_place x) v) (file_here c) c.in_ok-file.ensures.index;
     }
 
-limit_here : (c : After-new-3) → IsLimit c.args.options.now.limit
+limit_here : (c : After-new-4) → IsLimit c.args.options.now.limit
 limit_here c = record { low = c.requires.limit_low; high = c.requires.limit_high }
 
 pub invariant_of-result : goal.invariant_of-result
@@ -87,7 +95,7 @@ invariant_of-result c =
     let here = made_here c in
     let end : (made c).places.end ≡ end_of f = ap (λ (s : Session). s.places.end) here in
     let writes : c.in_ok-file.file.writes.items ≡ created_writes f = ap (λ (s : Session). s.pending) here in (
-      subst IsSession (sym here) (created_is f o.limit v is (limit_here c) (index_here c)),
+      subst IsSession (sym here) (created_is f o.limit o.budget v is (limit_here c) c.requires.budget_low c.requires.budget_high (index_here c)),
       c.in_ok-file.ensures.grid,
       subst (λ (ws : List Write). ArePieces c.new.result.end ws) (sym writes) (subst (λ (e : ℕ). ArePieces e (created_writes f)) (sym end) (created_pieces f is)),
       omega arith,
@@ -102,4 +110,4 @@ returns-clause-stands c =
     let o = c.args.options.now in
     let f = new_file o in
     let v = view_of c.in_ok-file.file.index in
-    subst (λ (s : Session). Stands s (created_log f)) (sym (made_here c)) (creation_begins f o.limit v (creatable o c.requires) (limit_here c) (index_here c))
+    subst (λ (s : Session). Stands s (created_log f)) (sym (made_here c)) (creation_begins f o.limit o.budget v (creatable o c.requires) (limit_here c) (index_here c))

@@ -1,13 +1,20 @@
-use Rattle.std.proofs.Common.{rules, Err, inl, inr, ◌≡◌, ℕ, zero, ◌<◌, ◌∙◌, [], ◌∷◌, length, drop, refl, ap, sym, subst, arith}
+use Rattle.std.proofs.Common.{rules, Err, inl, inr, ◌≡◌, ℕ, zero, ◌<◌, ◌∙◌, List, [], ◌∷◌, length, refl, ap, sym, subst, arith}
 use Rattle.h5w_model.specs.declared.piece.Write.{Write}
-use Rattle.h5w_chunks.specs.Grids.{dataset_of}
+use Rattle.h5w_chunks.specs.Rows.{RowsWritten}
 use Rattle.h5w_chunks.specs.Shares.{touched}
-use Rattle.h5w_index.specs.Held.{view_of}
+use Rattle.h5w_chunks.specs.declared.grid.ChunkPlace.{ChunkPlace}
+use Rattle.h5w_index.specs.Naming.{AreNamed}
 use Rattle.h5w_index.specs.Placing.{IsPlacing}
+use Rattle.h5w_index.specs.Views.{address_in}
+use Rattle.h5w_index.proofs.BehindLemmas.{behind_laws}
+use Rattle.h5w_index.proofs.NamingLemmas.{naming_laws}
 use Rattle.h5w_index.specs.Steps.{IsPlan}
 use Rattle.h5w_index.proofs.PlacingLemmas.{placing_laws}
-use Rattle.h5w_session.specs.Sessions.{IsSession, Session, option_list, rows_of, IsWhole}
+use Rattle.h5w_session.specs.Sessions.{IsSession, IsWhole, Session, next_row, option_list, rows_of}
 use Rattle.h5w_session.specs.Flushes.{touched_by}
+use Rattle.h5w_session.proofs.SessionFields.{session_of}
+use Rattle.h5w_session.proofs.EarlyLemmas.{no_chunks}
+use Rattle.h5w_session.proofs.EarlyPlaces.{first_places, first_writes}
 use Rattle.h5w_session.proofs.CarriedLemmas.{Carried, carried_flushed, carried_is, carried_pieces, has_rows, lengths_joined, one_at_most, refused_same, same_space, space_not, space_not_memory}
 use Rattle.h5w_session.proofs.TakingLemmas.{filled_cell, on_err}
 use Rattle.h5w_session.proofs.state.WriterCore.flush_chunk.Goals as goal
@@ -15,21 +22,7 @@ use Rattle.h5w_session.proofs.state.WriterCore.flush_chunk.Goals as goal
 pub put_chunk-requires-clause-all : goal.put_chunk-requires-clause-all
 put_chunk-requires-clause-all g c =
     let i = c.self.inside in
-    let v : Session = record {
-      name = i.name;
-      root = i.root;
-      place = i.place;
-      header = i.header;
-      dataset = dataset_of i.grid;
-      places = i.places;
-      committed = i.committed;
-      waiting = i.waiting.items;
-      waits = i.waits;
-      pending = drop i.shown i.plan.items;
-      stopped = i.stopped;
-      keeps = i.keeps;
-      index = view_of i.index;
-    } in
+    let v = session_of i in
     let back = sym c.self.view_is in
     let to_is : c.rows-to.result ≡ rows_of v = c.rows-to.ensures.value ∙ ap rows_of back in
     subst (λ (n : ℕ). touched v.dataset v.dataset.shape.rows n ≡ 1) (sym to_is)
@@ -38,21 +31,7 @@ put_chunk-requires-clause-all g c =
 pub put_chunk-requires-clause-ends : goal.put_chunk-requires-clause-ends
 put_chunk-requires-clause-ends g c =
     let i = c.self.inside in
-    let v : Session = record {
-      name = i.name;
-      root = i.root;
-      place = i.place;
-      header = i.header;
-      dataset = dataset_of i.grid;
-      places = i.places;
-      committed = i.committed;
-      waiting = i.waiting.items;
-      waits = i.waits;
-      pending = drop i.shown i.plan.items;
-      stopped = i.stopped;
-      keeps = i.keeps;
-      index = view_of i.index;
-    } in
+    let v = session_of i in
     let is : IsSession v = c.self.invariant.0 in
     let placing : IsPlacing v.dataset (rows_of v) v.index v.places (c.args.place ∷ []) [] v.index v.places =
     subst (λ (s : Session). IsPlacing s.dataset (rows_of s) s.index s.places (c.args.place ∷ []) [] s.index s.places) (sym c.self.view_is) c.requires.placing in
@@ -67,21 +46,7 @@ invariant_of-self g c = c.self.invariant
 pub invariant_of-self-2 : goal.invariant_of-self-2
 invariant_of-self-2 g c =
     let i = c.self.inside in
-    let v : Session = record {
-      name = i.name;
-      root = i.root;
-      place = i.place;
-      header = i.header;
-      dataset = dataset_of i.grid;
-      places = i.places;
-      committed = i.committed;
-      waiting = i.waiting.items;
-      waits = i.waits;
-      pending = drop i.shown i.plan.items;
-      stopped = i.stopped;
-      keeps = i.keeps;
-      index = view_of i.index;
-    } in
+    let v = session_of i in
     let is : IsSession v = c.self.invariant.0 in
     let to = c.rows-to.result in
     let t = v.places in
@@ -90,12 +55,18 @@ invariant_of-self-2 g c =
     let r = c.raise-superblock.new.root in
     let b = c.raise_rows-piece.new.header in
     let e = c.clear.new.self.items in
+    let n = i.early in
+    let k = i.chunks.items in
     let back = sym c.self.view_is in
     let to_is : to ≡ rows_of v = c.rows-to.ensures.value ∙ ap rows_of back in
     let placing : IsPlacing v.dataset (rows_of v) v.index v.places (c.args.place ∷ []) [] v.index v.places =
     subst (λ (s : Session). IsPlacing s.dataset (rows_of s) s.index s.places (c.args.place ∷ []) [] s.index s.places) back c.requires.placing in
+    let early : v.early ≡ 0 = subst (λ (s : Session). s.early ≡ 0) back c.requires.early in
+    let none : v.chunks ≡ [] = no_chunks v.dataset v.early v.chunks is.chunks early in
+    let mid : v.dataset.shape.rows ≡ next_row v = omega (arith, early) in
+    let rises : v.dataset.shape.rows < to = (let waits : 0 < v.waits = subst (λ (u : Session). 0 < u.waits) back c.requires.waits in omega (arith, waits, to_is)) in
     let all : touched_by v ≡ 1 = subst (λ (s : Session). touched_by s ≡ 1) back c.requires.all in
-    let x : Carried v to t w ws r b e = record {
+    let x : Carried v to t w ws r b e n k = record {
       there = subst IsWhole (sym c.self.view_is) c.requires.there;
       some = subst (λ (u : Session). 0 < u.waits) back c.requires.waits;
       to_is = to_is;
@@ -108,14 +79,19 @@ invariant_of-self-2 g c =
       named = v.index;
       places = v.places;
       places_are = refl;
-      placing = subst (λ (n : ℕ). IsPlacing v.dataset n v.index v.places (c.args.place ∷ []) [] v.index v.places) (sym to_is) placing;
+      names = subst (λ (row : ℕ). AreNamed v.dataset row v.index (c.args.place ∷ []) [] v.index) (sym to_is) (naming_laws.named v.dataset (rows_of v) v.index v.index v.places v.places (c.args.place ∷ []) [] placing);
+      early = [];
+      early_are = sym none;
+      taken = behind_laws.behind_first v.dataset (address_in v.index) v.places v.places (c.args.place ∷ []) (naming_laws.taken v.dataset (rows_of v) v.index v.index v.places v.places (c.args.place ∷ []) [] placing);
       all = sym (subst (λ (n : ℕ). touched v.dataset v.dataset.shape.rows n ≡ 1) (sym to_is) all);
       roomy = λ r. r;
       cells = c.deref.result.now;
       cells_are = c.deref.ensures.value;
       rows = c.in_ok-writes.writes.items;
-      exact = c.in_ok-writes.ensures.exact;
-      written = c.in_ok-writes.ensures.does;
+      mid = v.dataset.shape.rows;
+      mid_is = mid;
+      exact = c.in_ok-writes.ensures.exact ∙ sym (first_writes v.dataset c.deref.result.now v.dataset.shape.rows to (c.args.place ∷ []) rises);
+      written = λ more. subst (λ (ps : List ChunkPlace). RowsWritten v.dataset c.deref.result.now v.dataset.shape.rows to ps c.in_ok-writes.writes.items) (sym (first_places v.dataset v.dataset.shape.rows (c.args.place ∷ []))) c.in_ok-writes.ensures.does;
       moves = [];
       copies = [];
       fixed = [];
@@ -133,16 +109,18 @@ invariant_of-self-2 g c =
       items = c.end_with.ensures.items;
       header_short = c.raise_rows-piece.ensures.short;
       none_waits = c.clear.ensures.items;
+      none_early = early;
+      no_chunks = none;
     } in
     let grid = c.self.invariant.1 in (
-      carried_is v to t w ws r b e x is,
+      carried_is v to t w ws r b e n k x is,
       record {
         shaped = grid.shaped;
         typed = grid.typed;
         chunked = record { rows = grid.chunked.rows; cols = grid.chunked.cols; line = grid.chunked.line; small = grid.chunked.small; index = grid.chunked.index };
         filled = grid.filled;
       },
-      carried_pieces v to t w ws r b e x is,
+      carried_pieces v to t w ws r b e n k x is,
       omega arith,
       c.end_with.ensures.room,
     )
@@ -150,21 +128,7 @@ invariant_of-self-2 g c =
 pub returns-clause-flushed : goal.returns-clause-flushed
 returns-clause-flushed g c =
     let i = c.self.inside in
-    let v : Session = record {
-      name = i.name;
-      root = i.root;
-      place = i.place;
-      header = i.header;
-      dataset = dataset_of i.grid;
-      places = i.places;
-      committed = i.committed;
-      waiting = i.waiting.items;
-      waits = i.waits;
-      pending = drop i.shown i.plan.items;
-      stopped = i.stopped;
-      keeps = i.keeps;
-      index = view_of i.index;
-    } in
+    let v = session_of i in
     let is : IsSession v = c.self.invariant.0 in
     let to = c.rows-to.result in
     let t = v.places in
@@ -173,12 +137,18 @@ returns-clause-flushed g c =
     let r = c.raise-superblock.new.root in
     let b = c.raise_rows-piece.new.header in
     let e = c.clear.new.self.items in
+    let n = i.early in
+    let k = i.chunks.items in
     let back = sym c.self.view_is in
     let to_is : to ≡ rows_of v = c.rows-to.ensures.value ∙ ap rows_of back in
     let placing : IsPlacing v.dataset (rows_of v) v.index v.places (c.args.place ∷ []) [] v.index v.places =
     subst (λ (s : Session). IsPlacing s.dataset (rows_of s) s.index s.places (c.args.place ∷ []) [] s.index s.places) back c.requires.placing in
+    let early : v.early ≡ 0 = subst (λ (s : Session). s.early ≡ 0) back c.requires.early in
+    let none : v.chunks ≡ [] = no_chunks v.dataset v.early v.chunks is.chunks early in
+    let mid : v.dataset.shape.rows ≡ next_row v = omega (arith, early) in
+    let rises : v.dataset.shape.rows < to = (let waits : 0 < v.waits = subst (λ (u : Session). 0 < u.waits) back c.requires.waits in omega (arith, waits, to_is)) in
     let all : touched_by v ≡ 1 = subst (λ (s : Session). touched_by s ≡ 1) back c.requires.all in
-    let x : Carried v to t w ws r b e = record {
+    let x : Carried v to t w ws r b e n k = record {
       there = subst IsWhole (sym c.self.view_is) c.requires.there;
       some = subst (λ (u : Session). 0 < u.waits) back c.requires.waits;
       to_is = to_is;
@@ -191,14 +161,19 @@ returns-clause-flushed g c =
       named = v.index;
       places = v.places;
       places_are = refl;
-      placing = subst (λ (n : ℕ). IsPlacing v.dataset n v.index v.places (c.args.place ∷ []) [] v.index v.places) (sym to_is) placing;
+      names = subst (λ (row : ℕ). AreNamed v.dataset row v.index (c.args.place ∷ []) [] v.index) (sym to_is) (naming_laws.named v.dataset (rows_of v) v.index v.index v.places v.places (c.args.place ∷ []) [] placing);
+      early = [];
+      early_are = sym none;
+      taken = behind_laws.behind_first v.dataset (address_in v.index) v.places v.places (c.args.place ∷ []) (naming_laws.taken v.dataset (rows_of v) v.index v.index v.places v.places (c.args.place ∷ []) [] placing);
       all = sym (subst (λ (n : ℕ). touched v.dataset v.dataset.shape.rows n ≡ 1) (sym to_is) all);
       roomy = λ r. r;
       cells = c.deref.result.now;
       cells_are = c.deref.ensures.value;
       rows = c.in_ok-writes.writes.items;
-      exact = c.in_ok-writes.ensures.exact;
-      written = c.in_ok-writes.ensures.does;
+      mid = v.dataset.shape.rows;
+      mid_is = mid;
+      exact = c.in_ok-writes.ensures.exact ∙ sym (first_writes v.dataset c.deref.result.now v.dataset.shape.rows to (c.args.place ∷ []) rises);
+      written = λ more. subst (λ (ps : List ChunkPlace). RowsWritten v.dataset c.deref.result.now v.dataset.shape.rows to ps c.in_ok-writes.writes.items) (sym (first_places v.dataset v.dataset.shape.rows (c.args.place ∷ []))) c.in_ok-writes.ensures.does;
       moves = [];
       copies = [];
       fixed = [];
@@ -216,27 +191,15 @@ returns-clause-flushed g c =
       items = c.end_with.ensures.items;
       header_short = c.raise_rows-piece.ensures.short;
       none_waits = c.clear.ensures.items;
+      none_early = early;
+      no_chunks = none;
     } in
-    carried_flushed v to t w ws r b e x is c.args.self.now c.self.view_is
+    carried_flushed v to t w ws r b e n k x is c.args.self.now c.self.view_is
 
 pub returns-clause-ends : goal.returns-clause-ends
 returns-clause-ends g c =
     let i = c.self.inside in
-    let v : Session = record {
-      name = i.name;
-      root = i.root;
-      place = i.place;
-      header = i.header;
-      dataset = dataset_of i.grid;
-      places = i.places;
-      committed = i.committed;
-      waiting = i.waiting.items;
-      waits = i.waits;
-      pending = drop i.shown i.plan.items;
-      stopped = i.stopped;
-      keeps = i.keeps;
-      index = view_of i.index;
-    } in
+    let v = session_of i in
     let is : IsSession v = c.self.invariant.0 in
     let to = c.rows-to.result in
     let t = v.places in
@@ -245,12 +208,18 @@ returns-clause-ends g c =
     let r = c.raise-superblock.new.root in
     let b = c.raise_rows-piece.new.header in
     let e = c.clear.new.self.items in
+    let n = i.early in
+    let k = i.chunks.items in
     let back = sym c.self.view_is in
     let to_is : to ≡ rows_of v = c.rows-to.ensures.value ∙ ap rows_of back in
     let placing : IsPlacing v.dataset (rows_of v) v.index v.places (c.args.place ∷ []) [] v.index v.places =
     subst (λ (s : Session). IsPlacing s.dataset (rows_of s) s.index s.places (c.args.place ∷ []) [] s.index s.places) back c.requires.placing in
+    let early : v.early ≡ 0 = subst (λ (s : Session). s.early ≡ 0) back c.requires.early in
+    let none : v.chunks ≡ [] = no_chunks v.dataset v.early v.chunks is.chunks early in
+    let mid : v.dataset.shape.rows ≡ next_row v = omega (arith, early) in
+    let rises : v.dataset.shape.rows < to = (let waits : 0 < v.waits = subst (λ (u : Session). 0 < u.waits) back c.requires.waits in omega (arith, waits, to_is)) in
     let all : touched_by v ≡ 1 = subst (λ (s : Session). touched_by s ≡ 1) back c.requires.all in
-    let x : Carried v to t w ws r b e = record {
+    let x : Carried v to t w ws r b e n k = record {
       there = subst IsWhole (sym c.self.view_is) c.requires.there;
       some = subst (λ (u : Session). 0 < u.waits) back c.requires.waits;
       to_is = to_is;
@@ -263,14 +232,19 @@ returns-clause-ends g c =
       named = v.index;
       places = v.places;
       places_are = refl;
-      placing = subst (λ (n : ℕ). IsPlacing v.dataset n v.index v.places (c.args.place ∷ []) [] v.index v.places) (sym to_is) placing;
+      names = subst (λ (row : ℕ). AreNamed v.dataset row v.index (c.args.place ∷ []) [] v.index) (sym to_is) (naming_laws.named v.dataset (rows_of v) v.index v.index v.places v.places (c.args.place ∷ []) [] placing);
+      early = [];
+      early_are = sym none;
+      taken = behind_laws.behind_first v.dataset (address_in v.index) v.places v.places (c.args.place ∷ []) (naming_laws.taken v.dataset (rows_of v) v.index v.index v.places v.places (c.args.place ∷ []) [] placing);
       all = sym (subst (λ (n : ℕ). touched v.dataset v.dataset.shape.rows n ≡ 1) (sym to_is) all);
       roomy = λ r. r;
       cells = c.deref.result.now;
       cells_are = c.deref.ensures.value;
       rows = c.in_ok-writes.writes.items;
-      exact = c.in_ok-writes.ensures.exact;
-      written = c.in_ok-writes.ensures.does;
+      mid = v.dataset.shape.rows;
+      mid_is = mid;
+      exact = c.in_ok-writes.ensures.exact ∙ sym (first_writes v.dataset c.deref.result.now v.dataset.shape.rows to (c.args.place ∷ []) rises);
+      written = λ more. subst (λ (ps : List ChunkPlace). RowsWritten v.dataset c.deref.result.now v.dataset.shape.rows to ps c.in_ok-writes.writes.items) (sym (first_places v.dataset v.dataset.shape.rows (c.args.place ∷ []))) c.in_ok-writes.ensures.does;
       moves = [];
       copies = [];
       fixed = [];
@@ -288,27 +262,15 @@ returns-clause-ends g c =
       items = c.end_with.ensures.items;
       header_short = c.raise_rows-piece.ensures.short;
       none_waits = c.clear.ensures.items;
+      none_early = early;
+      no_chunks = none;
     } in
-    (carried_pieces v to t w ws r b e x is).within
+    (carried_pieces v to t w ws r b e n k x is).within
 
 pub returns-in_err-writes-clause-kept : goal.returns-in_err-writes-clause-kept
 returns-in_err-writes-clause-kept g c =
     let i = c.self.inside in
-    let v : Session = record {
-      name = i.name;
-      root = i.root;
-      place = i.place;
-      header = i.header;
-      dataset = dataset_of i.grid;
-      places = i.places;
-      committed = i.committed;
-      waiting = i.waiting.items;
-      waits = i.waits;
-      pending = drop i.shown i.plan.items;
-      stopped = i.stopped;
-      keeps = i.keeps;
-      index = view_of i.index;
-    } in
+    let v = session_of i in
     let is : IsSession v = c.self.invariant.0 in
     let none = placing_laws.none v.dataset (rows_of v) v.index v.places v.places is.sound refl refl refl refl in
     let there : IsWhole v = subst IsWhole (sym c.self.view_is) c.requires.there in

@@ -1,4 +1,4 @@
-use Rattle.std.proofs.Common.{◌≡◌, Option, IsSome, refl, sym, subst, inl, inr}
+use Rattle.std.proofs.Common.{Option, IsSome, refl, sym, subst, inl, inr}
 use Rattle.h5w_chunks.specs.declared.grid.ChunkPlace.{ChunkPlace}
 use Rattle.h5w_session.proofs.FlushCalls.{told_same}
 use Rattle.h5w_session.proofs.TakingLemmas.{causes_shallow, causes_wider}

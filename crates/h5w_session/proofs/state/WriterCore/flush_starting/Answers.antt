@@ -1,34 +1,25 @@
-use Rattle.std.proofs.Common.{◌≡◌, ◌<◌, ◌-◌, ◌*◌, ◌^◌, ◌∙◌, ℕ, Err, length, drop, ap, sym, subst, arith, rules}
+use Rattle.std.proofs.Common.{◌≡◌, ◌<◌, ◌-◌, ◌*◌, ◌^◌, ◌∙◌, ℕ, List, Some, Err, ap, sym, subst, arith, rules}
+use Rattle.std.specs.List.{slice_get}
 use Rattle.h5w_model.specs.Tables.{keys_across}
-use Rattle.h5w_model.proofs.IntegerLemmas.{int_size_bounds}
+use Rattle.h5w_chunks.proofs.Geometry.{is_cut}
 use Rattle.h5w_chunks.specs.Grids.{dataset_of}
+use Rattle.h5w_chunks.specs.declared.grid.ChunkPlace.{ChunkPlace}
 use Rattle.h5w_index.specs.Held.{view_of}
-use Rattle.h5w_session.specs.Sessions.{IsSession, IsUnmade, Session, most_lines, option_list, rows_of}
+use Rattle.h5w_session.specs.Sessions.{IsSession, IsUnmade, Session, most_lines, next_row, option_list, rows_of}
+use Rattle.h5w_session.proofs.SessionFields.{session_of}
 use Rattle.h5w_session.proofs.CarriedLemmas.{asks_for, has_rows, one_at_most, same_error, values_few}
-use Rattle.h5w_session.proofs.StartCarriedLemmas.{AsksOfMade, StartCarried, asks_of_made, asks_of_start, lengths_first, start_carried_flushed, start_carried_is, start_carried_pieces, start_unfilled, start_unplaced}
+use Rattle.h5w_session.proofs.StartCarriedLemmas.{AsksOfMade, StartCarried, asks_of_made, asks_of_start, start_carried_flushed, start_carried_is, start_carried_pieces, start_unfilled, start_unplaced}
 use Rattle.h5w_index.proofs.BegunLemmas.{was_begun}
+use Rattle.h5w_session.proofs.StartingLemmas.{lengths_first}
 use Rattle.h5w_session.proofs.TakingLemmas.{filled_cell, shallow_causes}
 use Rattle.h5w_session.proofs.WritableLemmas.{has_address}
+use Rattle.h5w_session.proofs.state.WriterCore.flush_starting.Given.{Over}
 use Rattle.h5w_session.proofs.state.WriterCore.flush_starting.Goals as goal
 
 pub returns-in_err-index-clause-full : goal.returns-in_err-index-clause-full
 returns-in_err-index-clause-full g c full told =
     let i = c.self.inside in
-    let v : Session = record {
-      name = i.name;
-      root = i.root;
-      place = i.place;
-      header = i.header;
-      dataset = dataset_of i.grid;
-      places = i.places;
-      committed = i.committed;
-      waiting = i.waiting.items;
-      waits = i.waits;
-      pending = drop i.shown i.plan.items;
-      stopped = i.stopped;
-      keeps = i.keeps;
-      index = view_of i.index;
-    } in
+    let v = session_of i in
     let e = c.in_err-index.field-0.0 in
     let is : c.from_residual-in_err-index.result ≡ Err e = search rules in
     start_unplaced v c.new-taking.result.places full (c.new-taking.ensures.places ∙ c.in_ok-copy.ensures) (c.in_err-index.ensures.full full (same_error e _ (sym is ∙ told))) c.args.self.now c.self.view_is
@@ -36,165 +27,49 @@ returns-in_err-index-clause-full g c full told =
 pub start_index-requires-clause-head : goal.start_index-requires-clause-head
 start_index-requires-clause-head g c =
     let i = c.self.inside in
-    let v : Session = record {
-      name = i.name;
-      root = i.root;
-      place = i.place;
-      header = i.header;
-      dataset = dataset_of i.grid;
-      places = i.places;
-      committed = i.committed;
-      waiting = i.waiting.items;
-      waits = i.waits;
-      pending = drop i.shown i.plan.items;
-      stopped = i.stopped;
-      keeps = i.keeps;
-      index = view_of i.index;
-    } in
+    let v = session_of i in
     (asks_of_start v c.new-taking.result.places c.self.invariant.0 (subst IsUnmade (sym c.self.view_is) c.requires.unmade) (c.new-taking.ensures.places ∙ c.in_ok-copy.ensures)).head
 
 pub start_index-requires-clause-tree : goal.start_index-requires-clause-tree
 start_index-requires-clause-tree g c =
     let i = c.self.inside in
-    let v : Session = record {
-      name = i.name;
-      root = i.root;
-      place = i.place;
-      header = i.header;
-      dataset = dataset_of i.grid;
-      places = i.places;
-      committed = i.committed;
-      waiting = i.waiting.items;
-      waits = i.waits;
-      pending = drop i.shown i.plan.items;
-      stopped = i.stopped;
-      keeps = i.keeps;
-      index = view_of i.index;
-    } in
+    let v = session_of i in
     (asks_of_start v c.new-taking.result.places c.self.invariant.0 (subst IsUnmade (sym c.self.view_is) c.requires.unmade) (c.new-taking.ensures.places ∙ c.in_ok-copy.ensures)).tree
 
 pub prepare-requires-clause-few : goal.prepare-requires-clause-few
 prepare-requires-clause-few g c =
     let i = c.self.inside in
-    let v : Session = record {
-      name = i.name;
-      root = i.root;
-      place = i.place;
-      header = i.header;
-      dataset = dataset_of i.grid;
-      places = i.places;
-      committed = i.committed;
-      waiting = i.waiting.items;
-      waits = i.waits;
-      pending = drop i.shown i.plan.items;
-      stopped = i.stopped;
-      keeps = i.keeps;
-      index = view_of i.index;
-    } in
+    let v = session_of i in
     let is : IsSession v = c.self.invariant.0 in
     let to = c.rows-to.result in
     let to_is : to ≡ rows_of v = c.rows-to.ensures.value ∙ ap rows_of (sym c.self.view_is) in
     (asks_for v to is to_is).lines
 
+-- what the places of the flush ask for, of the index that is made
+asks_by : (g : Over) (c : goal.After-prepare-arg-2-1 g) → AsksOfMade (session_of c.self.inside) c.rows-to.result (view_of c.in_ok-index.index) c.start_index.new.places
+asks_by g c =
+    let v = session_of c.self.inside in
+    let to_is : c.rows-to.result ≡ rows_of v = c.rows-to.ensures.value ∙ ap rows_of (sym c.self.view_is) in
+    asks_of_made v c.rows-to.result c.new-taking.result.places c.in_ok-index.at (view_of c.in_ok-index.index) c.start_index.new.places c.self.invariant.0 (subst IsUnmade (sym c.self.view_is) c.requires.unmade) to_is
+    (c.new-taking.ensures.places ∙ c.in_ok-copy.ensures) c.in_ok-index.ensures.kind c.in_ok-index.ensures.started
+
 pub prepare-requires-clause-takes : goal.prepare-requires-clause-takes
-prepare-requires-clause-takes g c =
-    let i = c.self.inside in
-    let v : Session = record {
-      name = i.name;
-      root = i.root;
-      place = i.place;
-      header = i.header;
-      dataset = dataset_of i.grid;
-      places = i.places;
-      committed = i.committed;
-      waiting = i.waiting.items;
-      waits = i.waits;
-      pending = drop i.shown i.plan.items;
-      stopped = i.stopped;
-      keeps = i.keeps;
-      index = view_of i.index;
-    } in
-    let is : IsSession v = c.self.invariant.0 in
-    let to = c.rows-to.result in
-    let to_is : to ≡ rows_of v = c.rows-to.ensures.value ∙ ap rows_of (sym c.self.view_is) in
-    let asks : AsksOfMade v to (view_of c.in_ok-index.index) c.start_index.new.places =
-    asks_of_made v to c.new-taking.result.places c.in_ok-index.at (view_of c.in_ok-index.index) c.start_index.new.places is to_is (c.new-taking.ensures.places ∙ c.in_ok-copy.ensures) c.in_ok-index.ensures.kind c.in_ok-index.ensures.started in
-    asks.takes
+prepare-requires-clause-takes g c = (asks_by g c).takes
 
 pub prepare-requires-clause-fits : goal.prepare-requires-clause-fits
-prepare-requires-clause-fits g c =
-    let i = c.self.inside in
-    let v : Session = record {
-      name = i.name;
-      root = i.root;
-      place = i.place;
-      header = i.header;
-      dataset = dataset_of i.grid;
-      places = i.places;
-      committed = i.committed;
-      waiting = i.waiting.items;
-      waits = i.waits;
-      pending = drop i.shown i.plan.items;
-      stopped = i.stopped;
-      keeps = i.keeps;
-      index = view_of i.index;
-    } in
-    let is : IsSession v = c.self.invariant.0 in
-    let to = c.rows-to.result in
-    let to_is : to ≡ rows_of v = c.rows-to.ensures.value ∙ ap rows_of (sym c.self.view_is) in
-    let asks : AsksOfMade v to (view_of c.in_ok-index.index) c.start_index.new.places =
-    asks_of_made v to c.new-taking.result.places c.in_ok-index.at (view_of c.in_ok-index.index) c.start_index.new.places is to_is (c.new-taking.ensures.places ∙ c.in_ok-copy.ensures) c.in_ok-index.ensures.kind c.in_ok-index.ensures.started in
-    asks.fits
+prepare-requires-clause-fits g c = (asks_by g c).fits
 
 pub prepare-requires-clause-inside : goal.prepare-requires-clause-inside
-prepare-requires-clause-inside g c =
-    let i = c.self.inside in
-    let v : Session = record {
-      name = i.name;
-      root = i.root;
-      place = i.place;
-      header = i.header;
-      dataset = dataset_of i.grid;
-      places = i.places;
-      committed = i.committed;
-      waiting = i.waiting.items;
-      waits = i.waits;
-      pending = drop i.shown i.plan.items;
-      stopped = i.stopped;
-      keeps = i.keeps;
-      index = view_of i.index;
-    } in
-    let is : IsSession v = c.self.invariant.0 in
-    let to = c.rows-to.result in
-    let to_is : to ≡ rows_of v = c.rows-to.ensures.value ∙ ap rows_of (sym c.self.view_is) in
-    let asks : AsksOfMade v to (view_of c.in_ok-index.index) c.start_index.new.places =
-    asks_of_made v to c.new-taking.result.places c.in_ok-index.at (view_of c.in_ok-index.index) c.start_index.new.places is to_is (c.new-taking.ensures.places ∙ c.in_ok-copy.ensures) c.in_ok-index.ensures.kind c.in_ok-index.ensures.started in
-    asks.inside
+prepare-requires-clause-inside g c = (asks_by g c).inside
 
 pub prepare-requires-clause-limit : goal.prepare-requires-clause-limit
-prepare-requires-clause-limit g c =
-    let i = c.self.inside in
-    let v : Session = record {
-      name = i.name;
-      root = i.root;
-      place = i.place;
-      header = i.header;
-      dataset = dataset_of i.grid;
-      places = i.places;
-      committed = i.committed;
-      waiting = i.waiting.items;
-      waits = i.waits;
-      pending = drop i.shown i.plan.items;
-      stopped = i.stopped;
-      keeps = i.keeps;
-      index = view_of i.index;
-    } in
-    let is : IsSession v = c.self.invariant.0 in
-    let to = c.rows-to.result in
-    let to_is : to ≡ rows_of v = c.rows-to.ensures.value ∙ ap rows_of (sym c.self.view_is) in
-    let asks : AsksOfMade v to (view_of c.in_ok-index.index) c.start_index.new.places =
-    asks_of_made v to c.new-taking.result.places c.in_ok-index.at (view_of c.in_ok-index.index) c.start_index.new.places is to_is (c.new-taking.ensures.places ∙ c.in_ok-copy.ensures) c.in_ok-index.ensures.kind c.in_ok-index.ensures.started in
-    asks.limit
+prepare-requires-clause-limit g c = (asks_by g c).limit
+
+pub prepare-requires-clause-placed : goal.prepare-requires-clause-placed
+prepare-requires-clause-placed g c k p here = (asks_by g c).placed k p (subst (λ (ps : List ChunkPlace). slice_get ps k ≡ Some p) c.deref-2.ensures.value here)
+
+pub prepare-requires-clause-ends : goal.prepare-requires-clause-ends
+prepare-requires-clause-ends g c k p here = (asks_by g c).ends k p (subst (λ (ps : List ChunkPlace). slice_get ps k ≡ Some p) c.deref-2.ensures.value here)
 
 pub returns-in_err-prepared-clause-causes : goal.returns-in_err-prepared-clause-causes
 returns-in_err-prepared-clause-causes g c =
@@ -206,52 +81,24 @@ returns-in_err-prepared-clause-causes g c =
 pub prepare-requires-clause-room : goal.prepare-requires-clause-room
 prepare-requires-clause-room g c =
     let i = c.self.inside in
-    let v : Session = record {
-      name = i.name;
-      root = i.root;
-      place = i.place;
-      header = i.header;
-      dataset = dataset_of i.grid;
-      places = i.places;
-      committed = i.committed;
-      waiting = i.waiting.items;
-      waits = i.waits;
-      pending = drop i.shown i.plan.items;
-      stopped = i.stopped;
-      keeps = i.keeps;
-      index = view_of i.index;
-    } in
+    let v = session_of i in
     let is : IsSession v = c.self.invariant.0 in
     let to = c.rows-to.result in
     let to_is : to ≡ rows_of v = c.rows-to.ensures.value ∙ ap rows_of (sym c.self.view_is) in
-    let few : i.waits * i.grid.shape.cols < 2 ^ 64 = values_few v (2 ^ 64) is (int_size_bounds i.grid.int_type.size c.self.invariant.1.typed).0 (omega (arith, i.waiting.ok)) in
+    let few : i.waits * i.grid.shape.cols < 2 ^ 64 = values_few v is (is_cut i.grid c.self.invariant.1) in
     let less : to - i.grid.shape.rows ≡ i.waits = omega (arith, to_is) in
     subst (λ (n : ℕ). n * i.grid.shape.cols < 2 ^ 64) (sym less) few
 
 pub returns-in_err-prepared-clause-full : goal.returns-in_err-prepared-clause-full
 returns-in_err-prepared-clause-full g c full told =
     let i = c.self.inside in
-    let v : Session = record {
-      name = i.name;
-      root = i.root;
-      place = i.place;
-      header = i.header;
-      dataset = dataset_of i.grid;
-      places = i.places;
-      committed = i.committed;
-      waiting = i.waiting.items;
-      waits = i.waits;
-      pending = drop i.shown i.plan.items;
-      stopped = i.stopped;
-      keeps = i.keeps;
-      index = view_of i.index;
-    } in
+    let v = session_of i in
     let to = c.rows-to.result in
     let to_is : to ≡ rows_of v = c.rows-to.ensures.value ∙ ap rows_of (sym c.self.view_is) in
     let e = c.in_err-prepared.field-0.0 in
     let is : c.from_residual-in_err-prepared.result ≡ Err e = search rules in
     start_unfilled v to c.new-taking.result.places c.in_ok-index.at (view_of c.in_ok-index.index) c.start_index.new.places full to_is (c.new-taking.ensures.places ∙ c.in_ok-copy.ensures) c.in_ok-index.ensures.kind
-    c.in_ok-index.ensures.started (c.in_err-prepared.ensures.full full (same_error e _ (sym is ∙ told))) c.args.self.now c.self.view_is
+    c.in_ok-index.ensures.started c.deref-2.result.now c.deref-2.ensures.value (c.in_err-prepared.ensures.full full (same_error e _ (sym is ∙ told))) c.args.self.now c.self.view_is
 
 pub raise_rows-piece-requires-clause-rows : goal.raise_rows-piece-requires-clause-rows
 raise_rows-piece-requires-clause-rows g c = has_rows c.self.inside.header c.self.invariant.0.header
@@ -259,38 +106,17 @@ raise_rows-piece-requires-clause-rows g c = has_rows c.self.inside.header c.self
 pub raise_rows-piece-requires-clause-index : goal.raise_rows-piece-requires-clause-index
 raise_rows-piece-requires-clause-index g c some = has_address c.self.inside.header (c.self.invariant.0.addressed (c.naming-naming.ensures.unnamed some))
 
-pub invariant_of-self : goal.invariant_of-self
-invariant_of-self g c =
+-- what the calls made of the session, once all of them are done
+made_by : (g : Over) (c : goal.After-drop-taking-3 g)
+    → StartCarried (session_of c.self.inside) c.rows-to.result c.prepare.new.taking.places (view_of c.finish-plan.new.self) c.join_first.result.items c.raise-superblock.new.root c.raise_rows-piece.new.header c.clear.new.self.items
+    c.clear-2.new.self.items c.in_ok-index.at
+made_by g c =
     let i = c.self.inside in
-    let v : Session = record {
-      name = i.name;
-      root = i.root;
-      place = i.place;
-      header = i.header;
-      dataset = dataset_of i.grid;
-      places = i.places;
-      committed = i.committed;
-      waiting = i.waiting.items;
-      waits = i.waits;
-      pending = drop i.shown i.plan.items;
-      stopped = i.stopped;
-      keeps = i.keeps;
-      index = view_of i.index;
-    } in
-    let is : IsSession v = c.self.invariant.0 in
-    let to = c.rows-to.result in
-    let to_is : to ≡ rows_of v = c.rows-to.ensures.value ∙ ap rows_of (sym c.self.view_is) in
-    let t = c.prepare.new.taking.places in
-    let w = view_of c.finish-plan.new.self in
-    let ws = c.join_first.result.items in
-    let r = c.raise-superblock.new.root in
-    let b = c.raise_rows-piece.new.header in
-    let e = c.clear.new.self.items in
-    let at = c.in_ok-index.at in
-    let x : StartCarried v to t w ws r b e at = record {
+    let v = session_of i in
+    record {
       unmade = subst IsUnmade (sym c.self.view_is) c.requires.unmade;
       some = subst (λ (u : Session). 0 < u.waits) (sym c.self.view_is) c.requires.waits;
-      to_is = to_is;
+      to_is = c.rows-to.ensures.value ∙ ap rows_of (sym c.self.view_is);
       small = c.rows-to.ensures.bound;
       typed = c.self.invariant.1.typed;
       filled = filled_cell i.grid c.self.invariant.1;
@@ -304,12 +130,17 @@ invariant_of-self g c =
       added = c.prepare.new.taking.added.items;
       between = c.in_ok-prepared.ensures.prepared.between;
       named = view_of c.prepare.new.index;
-      placing = c.in_ok-prepared.ensures.prepared.placing;
+      names_are = c.in_ok-prepared.ensures.prepared.names;
+      early = c.deref-2.result.now;
+      early_are = c.deref-2.ensures.value;
+      taken = c.in_ok-prepared.ensures.prepared.taken;
       all = c.in_ok-prepared.ensures.all;
       roomy = c.prepare.ensures.roomy;
       cells = c.deref.result.now;
       cells_are = c.deref.ensures.value;
       rows = c.in_ok-prepared.prepared.writes.items;
+      mid = c.next_row-mid.result;
+      mid_is = c.next_row-mid.ensures.exact ∙ ap next_row (sym c.self.view_is);
       exact = c.in_ok-prepared.ensures.exact;
       written = c.in_ok-prepared.ensures.does;
       moves = c.finish-plan.result.moves.items;
@@ -331,169 +162,31 @@ invariant_of-self g c =
       items = c.join_first.ensures.joined;
       header_short = c.raise_rows-piece.ensures.short;
       none_waits = c.clear.ensures.items;
-    } in
+      none_early = c.clear-2.ensures.items;
+    }
+
+pub invariant_of-self : goal.invariant_of-self
+invariant_of-self g c =
+    let x = made_by g c in
+    let is = c.self.invariant.0 in
     let grid = c.self.invariant.1 in (
-      start_carried_is v to t w ws r b e at x is,
+      start_carried_is _ _ _ _ _ _ _ _ _ _ x is,
       record {
         shaped = grid.shaped;
         typed = grid.typed;
         chunked = record { rows = grid.chunked.rows; cols = grid.chunked.cols; line = grid.chunked.line; small = grid.chunked.small; index = grid.chunked.index };
         filled = grid.filled;
       },
-      start_carried_pieces v to t w ws r b e at x is,
+      start_carried_pieces _ _ _ _ _ _ _ _ _ _ x is,
       omega arith,
       c.join_first.ensures.room,
     )
 
 pub returns-clause-flushed : goal.returns-clause-flushed
-returns-clause-flushed g c =
-    let i = c.self.inside in
-    let v : Session = record {
-      name = i.name;
-      root = i.root;
-      place = i.place;
-      header = i.header;
-      dataset = dataset_of i.grid;
-      places = i.places;
-      committed = i.committed;
-      waiting = i.waiting.items;
-      waits = i.waits;
-      pending = drop i.shown i.plan.items;
-      stopped = i.stopped;
-      keeps = i.keeps;
-      index = view_of i.index;
-    } in
-    let is : IsSession v = c.self.invariant.0 in
-    let to = c.rows-to.result in
-    let to_is : to ≡ rows_of v = c.rows-to.ensures.value ∙ ap rows_of (sym c.self.view_is) in
-    let t = c.prepare.new.taking.places in
-    let w = view_of c.finish-plan.new.self in
-    let ws = c.join_first.result.items in
-    let r = c.raise-superblock.new.root in
-    let b = c.raise_rows-piece.new.header in
-    let e = c.clear.new.self.items in
-    let at = c.in_ok-index.at in
-    let x : StartCarried v to t w ws r b e at = record {
-      unmade = subst IsUnmade (sym c.self.view_is) c.requires.unmade;
-      some = subst (λ (u : Session). 0 < u.waits) (sym c.self.view_is) c.requires.waits;
-      to_is = to_is;
-      small = c.rows-to.ensures.bound;
-      typed = c.self.invariant.1.typed;
-      filled = filled_cell i.grid c.self.invariant.1;
-      places = c.new-taking.result.places;
-      places_are = c.new-taking.ensures.places ∙ c.in_ok-copy.ensures;
-      first = c.start_index.new.places;
-      made = view_of c.in_ok-index.index;
-      kind = c.in_ok-index.ensures.kind;
-      start = c.in_ok-index.ensures.started;
-      chunks = c.prepare.new.taking.chunks.items;
-      added = c.prepare.new.taking.added.items;
-      between = c.in_ok-prepared.ensures.prepared.between;
-      named = view_of c.prepare.new.index;
-      placing = c.in_ok-prepared.ensures.prepared.placing;
-      all = c.in_ok-prepared.ensures.all;
-      roomy = c.prepare.ensures.roomy;
-      cells = c.deref.result.now;
-      cells_are = c.deref.ensures.value;
-      rows = c.in_ok-prepared.prepared.writes.items;
-      exact = c.in_ok-prepared.ensures.exact;
-      written = c.in_ok-prepared.ensures.does;
-      moves = c.finish-plan.result.moves.items;
-      copies = c.finish-plan.result.copies.items;
-      fixed = c.finish-plan.result.in_place.items;
-      plan = c.finish-plan.ensures.planned c.in_ok-prepared.ensures.prepared.between c.prepare.new.taking.places c.in_ok-prepared.ensures.prepared.begun;
-      supers = option_list c.raise-superblock.result;
-      end = c.end.result;
-      end_is = c.end.ensures;
-      end_small = omega arith;
-      ended = c.raise-superblock.ensures.ended;
-      unraised = c.raise-superblock.ensures.unraised;
-      root = c.raise-superblock.ensures.root;
-      naming = c.naming-naming.result;
-      names = c.naming-naming.ensures.names;
-      header = c.raise_rows-piece.ensures.header;
-      piece = c.raise_rows-piece.result;
-      piece_is = c.raise_rows-piece.ensures.piece;
-      items = c.join_first.ensures.joined;
-      header_short = c.raise_rows-piece.ensures.short;
-      none_waits = c.clear.ensures.items;
-    } in
-    start_carried_flushed v to t w ws r b e at x is c.args.self.now c.self.view_is
+returns-clause-flushed g c = start_carried_flushed _ _ _ _ _ _ _ _ _ _ (made_by g c) c.self.invariant.0 c.args.self.now c.self.view_is
 
 pub returns-clause-ends : goal.returns-clause-ends
-returns-clause-ends g c =
-    let i = c.self.inside in
-    let v : Session = record {
-      name = i.name;
-      root = i.root;
-      place = i.place;
-      header = i.header;
-      dataset = dataset_of i.grid;
-      places = i.places;
-      committed = i.committed;
-      waiting = i.waiting.items;
-      waits = i.waits;
-      pending = drop i.shown i.plan.items;
-      stopped = i.stopped;
-      keeps = i.keeps;
-      index = view_of i.index;
-    } in
-    let is : IsSession v = c.self.invariant.0 in
-    let to = c.rows-to.result in
-    let to_is : to ≡ rows_of v = c.rows-to.ensures.value ∙ ap rows_of (sym c.self.view_is) in
-    let t = c.prepare.new.taking.places in
-    let w = view_of c.finish-plan.new.self in
-    let ws = c.join_first.result.items in
-    let r = c.raise-superblock.new.root in
-    let b = c.raise_rows-piece.new.header in
-    let e = c.clear.new.self.items in
-    let at = c.in_ok-index.at in
-    let x : StartCarried v to t w ws r b e at = record {
-      unmade = subst IsUnmade (sym c.self.view_is) c.requires.unmade;
-      some = subst (λ (u : Session). 0 < u.waits) (sym c.self.view_is) c.requires.waits;
-      to_is = to_is;
-      small = c.rows-to.ensures.bound;
-      typed = c.self.invariant.1.typed;
-      filled = filled_cell i.grid c.self.invariant.1;
-      places = c.new-taking.result.places;
-      places_are = c.new-taking.ensures.places ∙ c.in_ok-copy.ensures;
-      first = c.start_index.new.places;
-      made = view_of c.in_ok-index.index;
-      kind = c.in_ok-index.ensures.kind;
-      start = c.in_ok-index.ensures.started;
-      chunks = c.prepare.new.taking.chunks.items;
-      added = c.prepare.new.taking.added.items;
-      between = c.in_ok-prepared.ensures.prepared.between;
-      named = view_of c.prepare.new.index;
-      placing = c.in_ok-prepared.ensures.prepared.placing;
-      all = c.in_ok-prepared.ensures.all;
-      roomy = c.prepare.ensures.roomy;
-      cells = c.deref.result.now;
-      cells_are = c.deref.ensures.value;
-      rows = c.in_ok-prepared.prepared.writes.items;
-      exact = c.in_ok-prepared.ensures.exact;
-      written = c.in_ok-prepared.ensures.does;
-      moves = c.finish-plan.result.moves.items;
-      copies = c.finish-plan.result.copies.items;
-      fixed = c.finish-plan.result.in_place.items;
-      plan = c.finish-plan.ensures.planned c.in_ok-prepared.ensures.prepared.between c.prepare.new.taking.places c.in_ok-prepared.ensures.prepared.begun;
-      supers = option_list c.raise-superblock.result;
-      end = c.end.result;
-      end_is = c.end.ensures;
-      end_small = omega arith;
-      ended = c.raise-superblock.ensures.ended;
-      unraised = c.raise-superblock.ensures.unraised;
-      root = c.raise-superblock.ensures.root;
-      naming = c.naming-naming.result;
-      names = c.naming-naming.ensures.names;
-      header = c.raise_rows-piece.ensures.header;
-      piece = c.raise_rows-piece.result;
-      piece_is = c.raise_rows-piece.ensures.piece;
-      items = c.join_first.ensures.joined;
-      header_short = c.raise_rows-piece.ensures.short;
-      none_waits = c.clear.ensures.items;
-    } in
-    (start_carried_pieces v to t w ws r b e at x is).within
+returns-clause-ends g c = (start_carried_pieces _ _ _ _ _ _ _ _ _ _ (made_by g c) c.self.invariant.0).within
 
 pub returns-clause-room : goal.returns-clause-room
 returns-clause-room g c =

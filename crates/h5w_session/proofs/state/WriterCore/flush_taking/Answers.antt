@@ -1,15 +1,17 @@
-use Rattle.std.proofs.Common.{◌≡◌, ◌<◌, ◌-◌, ◌*◌, ◌^◌, ◌∙◌, [], List, ℕ, length, drop, ap, sym, subst, arith}
+use Rattle.std.proofs.Common.{◌≡◌, ◌<◌, ◌-◌, ◌*◌, ◌^◌, ◌∙◌, [], List, Some, ℕ, length, slice_get, refl, ap, sym, subst, arith}
 use Rattle.std.specs.List.{All}
 use Rattle.h5w_model.specs.Tables.{keys_across}
 use Rattle.h5w_model.specs.declared.cell.Key.{Key}
-use Rattle.h5w_model.proofs.IntegerLemmas.{int_size_bounds}
-use Rattle.h5w_chunks.specs.Grids.{dataset_of}
+use Rattle.h5w_chunks.proofs.Geometry.{is_cut}
 use Rattle.h5w_space.specs.Space.{Space}
 use Rattle.h5w_index.specs.Held.{view_of}
-use Rattle.h5w_index.specs.Placing.{IsFullPart, IsPartly}
+use Rattle.h5w_chunks.specs.declared.grid.ChunkPlace.{ChunkPlace}
+use Rattle.h5w_index.specs.Full.{IsFullPart}
+use Rattle.h5w_index.specs.Placing.{AreInside, IsPartly}
 use Rattle.h5w_index.specs.Views.{HasSlot}
 use Rattle.h5w_session.specs.Refusals.{IsDeepPart}
-use Rattle.h5w_session.specs.Sessions.{IsRoomy, IsSession, Session, most_lines, option_list, rows_of, IsWhole}
+use Rattle.h5w_session.specs.Sessions.{IsRoomy, IsSession, IsWhole, Session, most_lines, next_row, option_list, rows_of}
+use Rattle.h5w_session.proofs.SessionFields.{session_of}
 use Rattle.h5w_session.proofs.CarriedLemmas.{Carried, asks_for, carried_flushed, carried_is, carried_pieces, has_rows, lengths_joined, one_at_most, refused_is, refused_same, same_error, values_few}
 use Rattle.h5w_index.proofs.BegunLemmas.{was_begun}
 use Rattle.h5w_session.proofs.TakingLemmas.{filled_cell}
@@ -18,21 +20,7 @@ use Rattle.h5w_session.proofs.state.WriterCore.flush_taking.Goals as goal
 pub prepare-requires-clause-few : goal.prepare-requires-clause-few
 prepare-requires-clause-few g c =
     let i = c.self.inside in
-    let v : Session = record {
-      name = i.name;
-      root = i.root;
-      place = i.place;
-      header = i.header;
-      dataset = dataset_of i.grid;
-      places = i.places;
-      committed = i.committed;
-      waiting = i.waiting.items;
-      waits = i.waits;
-      pending = drop i.shown i.plan.items;
-      stopped = i.stopped;
-      keeps = i.keeps;
-      index = view_of i.index;
-    } in
+    let v = session_of i in
     let is : IsSession v = c.self.invariant.0 in
     let to = c.rows-to.result in
     let to_is : to ≡ rows_of v = c.rows-to.ensures.value ∙ ap rows_of (sym c.self.view_is) in
@@ -41,21 +29,7 @@ prepare-requires-clause-few g c =
 pub prepare-requires-clause-takes : goal.prepare-requires-clause-takes
 prepare-requires-clause-takes g c =
     let i = c.self.inside in
-    let v : Session = record {
-      name = i.name;
-      root = i.root;
-      place = i.place;
-      header = i.header;
-      dataset = dataset_of i.grid;
-      places = i.places;
-      committed = i.committed;
-      waiting = i.waiting.items;
-      waits = i.waits;
-      pending = drop i.shown i.plan.items;
-      stopped = i.stopped;
-      keeps = i.keeps;
-      index = view_of i.index;
-    } in
+    let v = session_of i in
     let is : IsSession v = c.self.invariant.0 in
     let to = c.rows-to.result in
     let to_is : to ≡ rows_of v = c.rows-to.ensures.value ∙ ap rows_of (sym c.self.view_is) in
@@ -64,27 +38,28 @@ prepare-requires-clause-takes g c =
 pub prepare-requires-clause-room : goal.prepare-requires-clause-room
 prepare-requires-clause-room g c =
     let i = c.self.inside in
-    let v : Session = record {
-      name = i.name;
-      root = i.root;
-      place = i.place;
-      header = i.header;
-      dataset = dataset_of i.grid;
-      places = i.places;
-      committed = i.committed;
-      waiting = i.waiting.items;
-      waits = i.waits;
-      pending = drop i.shown i.plan.items;
-      stopped = i.stopped;
-      keeps = i.keeps;
-      index = view_of i.index;
-    } in
+    let v = session_of i in
     let is : IsSession v = c.self.invariant.0 in
     let to = c.rows-to.result in
     let to_is : to ≡ rows_of v = c.rows-to.ensures.value ∙ ap rows_of (sym c.self.view_is) in
-    let few : i.waits * i.grid.shape.cols < 2 ^ 64 = values_few v (2 ^ 64) is (int_size_bounds i.grid.int_type.size c.self.invariant.1.typed).0 (omega (arith, i.waiting.ok)) in
+    let few : i.waits * i.grid.shape.cols < 2 ^ 64 = values_few v is (is_cut i.grid c.self.invariant.1) in
     let less : to - i.grid.shape.rows ≡ i.waits = omega (arith, to_is) in
     subst (λ (n : ℕ). n * i.grid.shape.cols < 2 ^ 64) (sym less) few
+
+pub prepare-requires-clause-inside : goal.prepare-requires-clause-inside
+prepare-requires-clause-inside g c =
+    let v = session_of c.self.inside in
+    let places_are = c.new-taking.ensures.places ∙ c.in_ok-copy.ensures in
+    subst (λ (s : Space). AreInside v.dataset s.end v.index) (sym places_are) c.self.invariant.0.inside
+
+pub prepare-requires-clause-placed : goal.prepare-requires-clause-placed
+prepare-requires-clause-placed g c k p at = c.self.invariant.0.placed k p (subst (λ (ps : List ChunkPlace). slice_get ps k ≡ Some p) c.deref-2.ensures.value at)
+
+pub prepare-requires-clause-ends : goal.prepare-requires-clause-ends
+prepare-requires-clause-ends g c k p at =
+    let v = session_of c.self.inside in
+    let end : c.new-taking.result.places.end ≡ v.places.end = ap (λ (s : Space). s.end) (c.new-taking.ensures.places ∙ c.in_ok-copy.ensures) in
+    omega (arith, end, c.self.invariant.0.ends k p (subst (λ (ps : List ChunkPlace). slice_get ps k ≡ Some p) c.deref-2.ensures.value at))
 
 pub raise_rows-piece-requires-clause-rows : goal.raise_rows-piece-requires-clause-rows
 raise_rows-piece-requires-clause-rows g c = has_rows c.self.inside.header c.self.invariant.0.header
@@ -92,21 +67,7 @@ raise_rows-piece-requires-clause-rows g c = has_rows c.self.inside.header c.self
 pub invariant_of-self : goal.invariant_of-self
 invariant_of-self g c =
     let i = c.self.inside in
-    let v : Session = record {
-      name = i.name;
-      root = i.root;
-      place = i.place;
-      header = i.header;
-      dataset = dataset_of i.grid;
-      places = i.places;
-      committed = i.committed;
-      waiting = i.waiting.items;
-      waits = i.waits;
-      pending = drop i.shown i.plan.items;
-      stopped = i.stopped;
-      keeps = i.keeps;
-      index = view_of i.index;
-    } in
+    let v = session_of i in
     let is : IsSession v = c.self.invariant.0 in
     let to = c.rows-to.result in
     let t = c.prepare.new.taking.places in
@@ -115,7 +76,8 @@ invariant_of-self g c =
     let r = c.raise-superblock.new.root in
     let b = c.raise_rows-piece.new.header in
     let e = c.clear.new.self.items in
-    let x : Carried v to t w ws r b e = record {
+    let k = c.clear-in-Ok.new.self.items in
+    let x : Carried v to t w ws r b e 0 k = record {
       there = subst IsWhole (sym c.self.view_is) c.requires.there;
       some = subst (λ (u : Session). 0 < u.waits) (sym c.self.view_is) c.requires.waits;
       to_is = c.rows-to.ensures.value ∙ ap rows_of (sym c.self.view_is);
@@ -128,12 +90,17 @@ invariant_of-self g c =
       named = view_of c.prepare.new.index;
       places = c.new-taking.result.places;
       places_are = c.new-taking.ensures.places ∙ c.in_ok-copy.ensures;
-      placing = c.in-Ok.ensures.prepared.placing;
+      names = c.in-Ok.ensures.prepared.names;
+      early = c.deref-2.result.now;
+      early_are = c.deref-2.ensures.value;
+      taken = c.in-Ok.ensures.prepared.taken;
       all = c.in-Ok.ensures.all;
       roomy = c.prepare.ensures.roomy;
       cells = c.deref.result.now;
       cells_are = c.deref.ensures.value;
       rows = c.in-Ok.prepared.writes.items;
+      mid = c.next_row-mid.result;
+      mid_is = c.next_row-mid.ensures.exact ∙ ap next_row (sym c.self.view_is);
       exact = c.in-Ok.ensures.exact;
       written = c.in-Ok.ensures.does;
       moves = c.finish-plan.result.moves.items;
@@ -153,16 +120,18 @@ invariant_of-self g c =
       items = c.join.ensures.items;
       header_short = c.raise_rows-piece.ensures.short;
       none_waits = c.clear.ensures.items;
+      none_early = refl;
+      no_chunks = c.clear-in-Ok.ensures.items;
     } in
     let grid = c.self.invariant.1 in (
-      carried_is v to t w ws r b e x is,
+      carried_is v to t w ws r b e 0 k x is,
       record {
         shaped = grid.shaped;
         typed = grid.typed;
         chunked = record { rows = grid.chunked.rows; cols = grid.chunked.cols; line = grid.chunked.line; small = grid.chunked.small; index = grid.chunked.index };
         filled = grid.filled;
       },
-      carried_pieces v to t w ws r b e x is,
+      carried_pieces v to t w ws r b e 0 k x is,
       omega arith,
       c.join.ensures.room,
     )
@@ -173,21 +142,7 @@ unset-requires-clause-slots g c = subst (λ (ks : List Key). All (HasSlot (view_
 pub invariant_of-self-in-Err-1 : goal.invariant_of-self-in-Err-1
 invariant_of-self-in-Err-1 g c =
     let i = c.self.inside in
-    let v : Session = record {
-      name = i.name;
-      root = i.root;
-      place = i.place;
-      header = i.header;
-      dataset = dataset_of i.grid;
-      places = i.places;
-      committed = i.committed;
-      waiting = i.waiting.items;
-      waits = i.waits;
-      pending = drop i.shown i.plan.items;
-      stopped = i.stopped;
-      keeps = i.keeps;
-      index = view_of i.index;
-    } in
+    let v = session_of i in
     let is : IsSession v = c.self.invariant.0 in
     let to = c.rows-to.result in
     let u = view_of c.unset.new.index in
@@ -199,21 +154,7 @@ invariant_of-self-in-Err-1 g c =
 pub returns-in-Ok-clause-flushed : goal.returns-in-Ok-clause-flushed
 returns-in-Ok-clause-flushed g c =
     let i = c.self.inside in
-    let v : Session = record {
-      name = i.name;
-      root = i.root;
-      place = i.place;
-      header = i.header;
-      dataset = dataset_of i.grid;
-      places = i.places;
-      committed = i.committed;
-      waiting = i.waiting.items;
-      waits = i.waits;
-      pending = drop i.shown i.plan.items;
-      stopped = i.stopped;
-      keeps = i.keeps;
-      index = view_of i.index;
-    } in
+    let v = session_of i in
     let is : IsSession v = c.self.invariant.0 in
     let to = c.rows-to.result in
     let t = c.prepare.new.taking.places in
@@ -222,7 +163,8 @@ returns-in-Ok-clause-flushed g c =
     let r = c.raise-superblock.new.root in
     let b = c.raise_rows-piece.new.header in
     let e = c.clear.new.self.items in
-    let x : Carried v to t w ws r b e = record {
+    let k = c.clear-in-Ok.new.self.items in
+    let x : Carried v to t w ws r b e 0 k = record {
       there = subst IsWhole (sym c.self.view_is) c.requires.there;
       some = subst (λ (u : Session). 0 < u.waits) (sym c.self.view_is) c.requires.waits;
       to_is = c.rows-to.ensures.value ∙ ap rows_of (sym c.self.view_is);
@@ -235,12 +177,17 @@ returns-in-Ok-clause-flushed g c =
       named = view_of c.prepare.new.index;
       places = c.new-taking.result.places;
       places_are = c.new-taking.ensures.places ∙ c.in_ok-copy.ensures;
-      placing = c.in-Ok.ensures.prepared.placing;
+      names = c.in-Ok.ensures.prepared.names;
+      early = c.deref-2.result.now;
+      early_are = c.deref-2.ensures.value;
+      taken = c.in-Ok.ensures.prepared.taken;
       all = c.in-Ok.ensures.all;
       roomy = c.prepare.ensures.roomy;
       cells = c.deref.result.now;
       cells_are = c.deref.ensures.value;
       rows = c.in-Ok.prepared.writes.items;
+      mid = c.next_row-mid.result;
+      mid_is = c.next_row-mid.ensures.exact ∙ ap next_row (sym c.self.view_is);
       exact = c.in-Ok.ensures.exact;
       written = c.in-Ok.ensures.does;
       moves = c.finish-plan.result.moves.items;
@@ -260,27 +207,15 @@ returns-in-Ok-clause-flushed g c =
       items = c.join.ensures.items;
       header_short = c.raise_rows-piece.ensures.short;
       none_waits = c.clear.ensures.items;
+      none_early = refl;
+      no_chunks = c.clear-in-Ok.ensures.items;
     } in
-    carried_flushed v to t w ws r b e x is c.args.self.now c.self.view_is
+    carried_flushed v to t w ws r b e 0 k x is c.args.self.now c.self.view_is
 
 pub returns-in-Ok-clause-ends : goal.returns-in-Ok-clause-ends
 returns-in-Ok-clause-ends g c =
     let i = c.self.inside in
-    let v : Session = record {
-      name = i.name;
-      root = i.root;
-      place = i.place;
-      header = i.header;
-      dataset = dataset_of i.grid;
-      places = i.places;
-      committed = i.committed;
-      waiting = i.waiting.items;
-      waits = i.waits;
-      pending = drop i.shown i.plan.items;
-      stopped = i.stopped;
-      keeps = i.keeps;
-      index = view_of i.index;
-    } in
+    let v = session_of i in
     let is : IsSession v = c.self.invariant.0 in
     let to = c.rows-to.result in
     let t = c.prepare.new.taking.places in
@@ -289,7 +224,8 @@ returns-in-Ok-clause-ends g c =
     let r = c.raise-superblock.new.root in
     let b = c.raise_rows-piece.new.header in
     let e = c.clear.new.self.items in
-    let x : Carried v to t w ws r b e = record {
+    let k = c.clear-in-Ok.new.self.items in
+    let x : Carried v to t w ws r b e 0 k = record {
       there = subst IsWhole (sym c.self.view_is) c.requires.there;
       some = subst (λ (u : Session). 0 < u.waits) (sym c.self.view_is) c.requires.waits;
       to_is = c.rows-to.ensures.value ∙ ap rows_of (sym c.self.view_is);
@@ -302,12 +238,17 @@ returns-in-Ok-clause-ends g c =
       named = view_of c.prepare.new.index;
       places = c.new-taking.result.places;
       places_are = c.new-taking.ensures.places ∙ c.in_ok-copy.ensures;
-      placing = c.in-Ok.ensures.prepared.placing;
+      names = c.in-Ok.ensures.prepared.names;
+      early = c.deref-2.result.now;
+      early_are = c.deref-2.ensures.value;
+      taken = c.in-Ok.ensures.prepared.taken;
       all = c.in-Ok.ensures.all;
       roomy = c.prepare.ensures.roomy;
       cells = c.deref.result.now;
       cells_are = c.deref.ensures.value;
       rows = c.in-Ok.prepared.writes.items;
+      mid = c.next_row-mid.result;
+      mid_is = c.next_row-mid.ensures.exact ∙ ap next_row (sym c.self.view_is);
       exact = c.in-Ok.ensures.exact;
       written = c.in-Ok.ensures.does;
       moves = c.finish-plan.result.moves.items;
@@ -327,8 +268,10 @@ returns-in-Ok-clause-ends g c =
       items = c.join.ensures.items;
       header_short = c.raise_rows-piece.ensures.short;
       none_waits = c.clear.ensures.items;
+      none_early = refl;
+      no_chunks = c.clear-in-Ok.ensures.items;
     } in
-    (carried_pieces v to t w ws r b e x is).within
+    (carried_pieces v to t w ws r b e 0 k x is).within
 
 pub returns-in-Ok-clause-room : goal.returns-in-Ok-clause-room
 returns-in-Ok-clause-room g c =
@@ -345,21 +288,7 @@ returns-in-Ok-clause-room g c =
 pub returns-in-Err-clause-kept : goal.returns-in-Err-clause-kept
 returns-in-Err-clause-kept g c =
     let i = c.self.inside in
-    let v : Session = record {
-      name = i.name;
-      root = i.root;
-      place = i.place;
-      header = i.header;
-      dataset = dataset_of i.grid;
-      places = i.places;
-      committed = i.committed;
-      waiting = i.waiting.items;
-      waits = i.waits;
-      pending = drop i.shown i.plan.items;
-      stopped = i.stopped;
-      keeps = i.keeps;
-      index = view_of i.index;
-    } in
+    let v = session_of i in
     let to = c.rows-to.result in
     let u = view_of c.unset.new.index in
     let to_is : to ≡ rows_of v = c.rows-to.ensures.value ∙ ap rows_of (sym c.self.view_is) in
@@ -372,52 +301,23 @@ returns-in-Err-clause-kept g c =
 pub returns-in-Err-clause-full : goal.returns-in-Err-clause-full
 returns-in-Err-clause-full g c full told =
     let i = c.self.inside in
-    let v : Session = record {
-      name = i.name;
-      root = i.root;
-      place = i.place;
-      header = i.header;
-      dataset = dataset_of i.grid;
-      places = i.places;
-      committed = i.committed;
-      waiting = i.waiting.items;
-      waits = i.waits;
-      pending = drop i.shown i.plan.items;
-      stopped = i.stopped;
-      keeps = i.keeps;
-      index = view_of i.index;
-    } in
+    let v = session_of i in
     let to = c.rows-to.result in
     let to_is : to ≡ rows_of v = c.rows-to.ensures.value ∙ ap rows_of (sym c.self.view_is) in
     let places_are = c.new-taking.ensures.places ∙ c.in_ok-copy.ensures in
     let part = c.in-Err.ensures.full full (same_error c.in-Err.e _ told) in
-    let now : IsFullPart v.dataset to v.index v.places full = subst (λ (s : Space). IsFullPart v.dataset to v.index s full) places_are part in
-    subst (λ (s : Session). IsFullPart s.dataset (rows_of s) s.index s.places full) c.self.view_is (subst (λ (n : ℕ). IsFullPart v.dataset n v.index v.places full) to_is now)
+    let now : IsFullPart v.dataset to v.index v.chunks v.places full =
+    subst (λ (early : List ChunkPlace). IsFullPart v.dataset to v.index early v.places full) c.deref-2.ensures.value (subst (λ (s : Space). IsFullPart v.dataset to v.index c.deref-2.result.now s full) places_are part) in
+    subst (λ (s : Session). IsFullPart s.dataset (rows_of s) s.index s.chunks s.places full) c.self.view_is (subst (λ (n : ℕ). IsFullPart v.dataset n v.index v.chunks v.places full) to_is now)
 
 pub returns-in-Err-clause-deep : goal.returns-in-Err-clause-deep
 returns-in-Err-clause-deep g c told =
     let i = c.self.inside in
-    let v : Session = record {
-      name = i.name;
-      root = i.root;
-      place = i.place;
-      header = i.header;
-      dataset = dataset_of i.grid;
-      places = i.places;
-      committed = i.committed;
-      waiting = i.waiting.items;
-      waits = i.waits;
-      pending = drop i.shown i.plan.items;
-      stopped = i.stopped;
-      keeps = i.keeps;
-      index = view_of i.index;
-    } in
+    let v = session_of i in
     let to = c.rows-to.result in
     let to_is : to ≡ rows_of v = c.rows-to.ensures.value ∙ ap rows_of (sym c.self.view_is) in
-    let places_are = c.new-taking.ensures.places ∙ c.in_ok-copy.ensures in
     let part = c.in-Err.ensures.deep (same_error c.in-Err.e _ told) in
-    let now : IsDeepPart v.dataset to v.index v.places = subst (λ (s : Space). IsDeepPart v.dataset to v.index s) places_are part in
-    subst (λ (s : Session). IsDeepPart s.dataset (rows_of s) s.index s.places) c.self.view_is (subst (λ (n : ℕ). IsDeepPart v.dataset n v.index v.places) to_is now)
+    subst (λ (s : Session). IsDeepPart s.dataset (rows_of s) s.index) c.self.view_is (subst (λ (n : ℕ). IsDeepPart v.dataset n v.index) to_is part)
 
 pub finish-plan-requires-clause-begun : goal.finish-plan-requires-clause-begun
 finish-plan-requires-clause-begun g c = let p = c.in-Ok.ensures.prepared in was_begun (view_of c.prepare.new.index) p.between c.in-Ok.prepared.begun c.prepare.new.taking.places p.begun

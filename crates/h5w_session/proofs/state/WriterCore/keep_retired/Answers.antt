@@ -1,13 +1,14 @@
-use Rattle.std.proofs.Common.{true, ap, sym, subst}
+use Rattle.std.proofs.Common.{true, ap, sym, subst, refl}
 use Rattle.h5w_session.specs.Sessions.{Session}
 use Rattle.h5w_session.specs.Stands.{Stands}
 use Rattle.h5w_session.proofs.CreatingLemmas.{keep_stands}
+use Rattle.h5w_session.proofs.StateLemmas.{still_is}
 use Rattle.h5w_session.proofs.state.WriterCore.keep_retired.Goals as goal
 
 pub invariant_of-self : goal.invariant_of-self
 invariant_of-self c =
     let is = c.self.invariant.0 in (
-      record { some_columns = is.some_columns; cells = is.cells; few = is.few; version = is.version; begun = is.begun; kind = is.kind; sound = is.sound; fits = is.fits; header = is.header; addressed = is.addressed; header_ends = is.header_ends; small = is.small; limit = is.limit; inside = is.inside; tops = λ whole. is.tops (record { named = whole.named; made = whole.made }); head = is.head },
+      still_is _ c.self.inside.root c.self.inside.committed _ c.self.inside.stopped true c.self.inside.flushing refl (λ e. (is.flushing e, is.busy e)) is,
       c.self.invariant.1,
       c.self.invariant.2,
       c.self.invariant.3,

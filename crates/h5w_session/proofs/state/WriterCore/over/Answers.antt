@@ -14,7 +14,7 @@ pub super_piece-requires : goal.super_piece-requires
 super_piece-requires c = c.requires.session.version
 
 -- the session that is made
-abbrev made : goal.After-new-3 → Session
+abbrev made : goal.After-new-4 → Session
 made c = record {
   name = c.of.result;
   root = c.args.file.root;
@@ -28,13 +28,17 @@ made c = record {
   pending = c.in_ok-plan.plan.items;
   stopped = false;
   keeps = false;
+  budget = c.args.budget;
+  early = 0;
+  chunks = c.new-4.result.items;
+  flushing = false;
   index = view_of c.args.file.index;
 }
 
-planned : (c : goal.After-new-3) → c.in_ok-plan.plan.items ≡ record { at = 0; piece = super_bytes c.args.file.root } ∷ []
+planned : (c : goal.After-new-4) → c.in_ok-plan.plan.items ≡ record { at = 0; piece = super_bytes c.args.file.root } ∷ []
 planned c = c.in_ok-plan.ensures.plan ∙ ap (λ (b : List ℕ). record { at = 0; piece = b } ∷ []) c.super_piece.ensures.piece
 
-made_here : (c : goal.After-new-3) → made c ≡ session_over c.args.file c.args.name.now c.args.limit
+made_here : (c : goal.After-new-4) → made c ≡ session_over c.args.file c.args.name.now c.args.limit c.args.budget
 made_here c = λ k. record {
   name = c.of.ensures k;
   root = c.args.file.root;
@@ -48,6 +52,10 @@ made_here c = λ k. record {
   pending = planned c k;
   stopped = false;
   keeps = false;
+  budget = c.args.budget;
+  early = 0;
+  chunks = c.new-4.ensures.items k;
+  flushing = false;
   index = view_of c.args.file.index;
 }
 

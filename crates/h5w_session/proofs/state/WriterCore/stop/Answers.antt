@@ -1,8 +1,8 @@
-use Rattle.std.proofs.Common.{List, arith, sym, subst}
+use Rattle.std.proofs.Common.{List, arith, sym, subst, true, false, refl}
 use Rattle.h5w_model.specs.declared.piece.Write.{Write}
 use Rattle.h5w_session.specs.Sessions.{ArePieces, Session}
 use Rattle.h5w_session.specs.Stands.{Stands}
-use Rattle.h5w_session.proofs.StateLemmas.{stopped_is}
+use Rattle.h5w_session.proofs.StateLemmas.{still_is, stopped_is}
 use Rattle.h5w_session.proofs.StandLemmas.{stop_stands}
 use Rattle.h5w_session.proofs.state.WriterCore.stop.Goals as goal
 
@@ -10,7 +10,7 @@ pub invariant_of-self : goal.invariant_of-self
 invariant_of-self c =
     let i = c.self.inside in
     let is = c.self.invariant.0 in (
-      record { some_columns = is.some_columns; cells = is.cells; few = is.few; version = is.version; begun = is.begun; kind = is.kind; sound = is.sound; fits = is.fits; header = is.header; addressed = is.addressed; header_ends = is.header_ends; small = is.small; limit = is.limit; inside = is.inside; tops = λ whole. is.tops (record { named = whole.named; made = whole.made }); head = is.head },
+      still_is _ i.root i.committed _ true i.keeps false refl (λ e. cc) is,
       c.self.invariant.1,
       subst (λ (ws : List Write). ArePieces i.places.end ws) (sym c.clear.ensures.items) (record { sized = tt; within = tt }),
       omega arith,

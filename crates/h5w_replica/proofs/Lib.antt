@@ -1,0 +1,4 @@
+pub mod FeedLemmas
+pub mod FollowLemmas
+pub mod PutLemmas
+pub mod Sent

@@ -1,0 +1,13 @@
+pub use Rattle.h5w_model.specs.Causes
+pub use Rattle.h5w_model.specs.Logs
+pub use Rattle.h5w_model.specs.Readers
+pub use Rattle.h5w_image.specs.View
+pub use Rattle.h5w_shared.specs.Seats
+pub use Rattle.h5w_shared.specs.Threads
+pub use Rattle.h5w_shared.specs.Turns
+pub mod Batches
+pub mod Rings
+pub mod Feeds
+pub mod Mirrors
+pub mod Putting
+pub mod Follows

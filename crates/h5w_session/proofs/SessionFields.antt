@@ -1,0 +1,27 @@
+-- A session by the fields that it is made of.
+use Rattle.std.proofs.Common.{drop}
+use Rattle.h5w_chunks.specs.Grids.{dataset_of}
+use Rattle.h5w_index.specs.Held.{view_of}
+use Rattle.h5w_session.specs.Sessions.{Session}
+use Rattle.h5w_session.specs.declared.state.WriterCore.TheInside.{Inside}
+
+abbrev pub session_of : Inside → Session
+session_of i = record {
+  name = i.name;
+  root = i.root;
+  place = i.place;
+  header = i.header;
+  dataset = dataset_of i.grid;
+  places = i.places;
+  committed = i.committed;
+  waiting = i.waiting.items;
+  waits = i.waits;
+  pending = drop i.shown i.plan.items;
+  stopped = i.stopped;
+  keeps = i.keeps;
+  budget = i.budget;
+  early = i.early;
+  chunks = i.chunks.items;
+  flushing = i.flushing;
+  index = view_of i.index;
+}
