@@ -2,7 +2,8 @@
 # Measures the most memory of `append`, of an input of 200 MB beside one of 20 MB, each one batch: 32-bit integers, 1,000 in a line, in chunks
 # of 1,024 rows. Rows past the budget are written before their flush, so the second takes hardly more: the places of its chunks, and the blocks
 # of their index. Beside them stands the shorter input with the greatest budget, whose cells wait to the end. Then it counts the instructions
-# a value of batches of 1,000 values, which are within the budget: those of one more batch. If another program is named, of that too.
+# a value of batches of 1,000 values, which are within the budget: those of one more batch, with its values in one line and with one in each
+# line. If another program is named, of that too.
 # Wants time, valgrind and python3, and 100 MB in the folder of temporary files.
 top=$(cd "$(dirname "$0")/.." && pwd -P) || exit 1
 work=$(mktemp -d) || exit 1
@@ -16,15 +17,16 @@ import sys
 FOLDER, PROGRAMS = sys.argv[1], sys.argv[2:]
 FILE, TOLD, COSTS = (f"{FOLDER}/{it}" for it in ("f", "told", "costs"))
 LINE = " ".join(str(1_000_000 + it) for it in range(1000)).encode() + b"\n"
+SINGLE = LINE.replace(b" ", b"\n")
 MEGABYTE = 1 << 20
 
 
-def appended(before, program, lines, ends, *options):
-    """Appends so many lines to a new file, each with these line ends, by a command that stands behind others."""
+def appended(before, program, line, lines, ends, *options):
+    """Appends so many times a thousand values to a new file, each with these line ends, by a command that stands behind others."""
     subprocess.run([program, "new", FILE, "--type", "i32le", "--chunk", "1024"], check=True, stdout=subprocess.DEVNULL)
     process = subprocess.Popen([*before, program, "append", FILE, *options], stdin=subprocess.PIPE, stdout=subprocess.PIPE, stderr=subprocess.DEVNULL)
     for _ in range(lines):
-        process.stdin.write(LINE + ends)
+        process.stdin.write(line + ends)
         if ends:
             process.stdin.flush()
             process.stdout.readline()
@@ -39,14 +41,14 @@ def appended(before, program, lines, ends, *options):
 
 def most_memory(program, megabytes, *options):
     """The most bytes at once of an append of an input of so many megabytes, which is one batch."""
-    appended(["/usr/bin/time", "-o", TOLD, "-f", "%M"], program, megabytes * MEGABYTE // len(LINE), b"", *options)
+    appended(["/usr/bin/time", "-o", TOLD, "-f", "%M"], program, LINE, megabytes * MEGABYTE // len(LINE), b"", *options)
     with open(TOLD, encoding="utf-8") as told:
         return int(told.read().split()[-1]) * 1024
 
 
-def instructions(program, batches):
-    """The instructions of an append of so many batches of 1,000 values."""
-    appended(["valgrind", "--tool=callgrind", f"--callgrind-out-file={COSTS}"], program, batches, b"\n")
+def instructions(program, line, batches):
+    """The instructions of an append of so many batches of the 1,000 values of these lines."""
+    appended(["valgrind", "--tool=callgrind", f"--callgrind-out-file={COSTS}"], program, line, batches, b"\n")
     with open(COSTS, encoding="utf-8") as costs:
         return max(int(it.split()[1]) for it in costs if it.startswith(("summary:", "totals:")))
 
@@ -56,7 +58,8 @@ print(f"the most memory of an input of 20 MB: {short / MEGABYTE:.1f} MB")
 print(f"of one of 200 MB: {long / MEGABYTE:.1f} MB (at most 4 MB more)")
 print(f"of 20 MB with a budget of 2^30: {whole / MEGABYTE:.1f} MB")
 for program in PROGRAMS:
-    each = (instructions(program, 300) - instructions(program, 100)) / 200_000
-    print(f"{'batches of 1,000 values' if program == PROGRAMS[0] else program}, instructions a value: {each:.1f}")
+    for line, what in (LINE, "a line of 1,000 values"), (SINGLE, "1,000 lines of one value"):
+        each = (instructions(program, line, 300) - instructions(program, line, 100)) / 200_000
+        print(f"{program}: batches of {what}, instructions a value: {each:.1f}")
 sys.exit(long > short + 4 * MEGABYTE)
 END_OF_SCRIPT

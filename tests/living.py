@@ -52,15 +52,18 @@ class Told:
             raise ValueError(f"{line!r} behind {seen} rows: of {sorted(may)}")
         return after, rows
 
-    def take(self, text, readers):
-        """The whole text: the flushes, then the calls of each reader, and all rows."""
+    def take(self, text, readers, mirrors=0):
+        """The whole text: the flushes, then the calls of each reader, how many pieces a second image has, and all rows."""
         lines = text.decode().split("\n")
-        wanted = len(self.batches) + readers * self.calls
-        if len(lines) != wanted + 2 or lines[wanted:] != [f"done {len(self.sums) - 1}", ""]:
-            raise ValueError(f"{len(lines) - 1} lines, wanted {wanted + 1}; the last is {lines[-2:]}")
+        wanted = len(self.batches) + (readers + mirrors) * self.calls
         self.take_flushes(lines)
+        pieces = self.flushes[-1][0] if self.flushes else self.first
+        # the close writes a piece more
+        ends = [f"mirror {pieces + 1}"] * (mirrors > 0) + [f"done {len(self.sums) - 1}", ""]
+        if lines[wanted:] != ends:
+            raise ValueError(f"{len(lines) - 1} lines, wanted {wanted + len(ends) - 1}; the last are {lines[-3:]}")
         polls = iter(lines[len(self.batches) :])
-        for reader in range(1, readers + 1):
+        for reader in range(1, readers + mirrors + 1):
             pieces, seen = self.first, 0
             for call in range(1, self.calls + 1):
                 pieces, seen = self.take_call(next(polls), reader, call, pieces, seen)
@@ -71,10 +74,11 @@ def text_of(batches):
     return b"".join(b" ".join(b"%d" % it for it in batch) + b"\n\n" if batch else b"\n" for batch in batches)
 
 
-def live(words, batches, columns=1, readers=1, calls=1, attempts=8):
+def live(words, batches, columns=1, readers=1, calls=1, attempts=8, mirrors=0):
     """A run of these batches. Rows of columns that are not fixed have a tree, which is a block less at first."""
     first = 5 if columns == 1 or "--fixed" in words else 4
     words = ["live", *words.split(" "), "--readers", str(readers), "--polls", str(calls), "--attempts", str(attempts)]
+    words += ["--mirrors", str(mirrors)] if mirrors else []
     words += ["--columns", str(columns), "--width", "2"] if columns > 1 else []
     try:
         ran = subprocess.run([PROGRAM, *words], input=text_of(batches), capture_output=True, timeout=SECONDS)
@@ -83,7 +87,7 @@ def live(words, batches, columns=1, readers=1, calls=1, attempts=8):
     if (ran.returncode, ran.stderr) != (0, b""):
         return [f"{words}: status {ran.returncode}, {ran.stdout[-200:]!r}, {ran.stderr!r}"]
     try:
-        Told(batches, columns, calls, attempts, first).take(ran.stdout, readers)
+        Told(batches, columns, calls, attempts, first).take(ran.stdout, readers, mirrors)
     except (IndexError, ValueError) as error:
         return [f"{words}: {error}"]
     return []
@@ -127,6 +131,9 @@ def trials():
         "16 readers": lambda: live("--type i64be --chunk 64", many, readers=16, calls=5),
         "16 readers of rows of three columns": lambda: live("--type i16le --chunk 64", [it * 2 for it in many[:20]], 3, readers=16, calls=5),
         "16 readers of rows of three fixed columns": lambda: live("--type i16le --chunk 64 --fixed", [it * 2 for it in many[:20]], 3, readers=16, calls=5),
+        "16 readers of each of two images": lambda: live("--type i64be --chunk 64", many, readers=16, calls=5, mirrors=16),
+        "a reader, and 4 of a second image": lambda: live("--type i32le --chunk 2", small, calls=1000, mirrors=4),
+        "rows of three columns with a second image": lambda: live("--type i16le --chunk 64", [it * 2 for it in many[:20]], 3, readers=2, calls=5, mirrors=2),
         "one attempt a call": lambda: live("--type i32le --chunk 64", many, readers=4, calls=20, attempts=1),
         "10,000 values in a line": lambda: live("--type u16be --chunk 4096", [range(10_000)] * 3, readers=2, calls=3),
         "wrong texts are found wrong": sees_differences,

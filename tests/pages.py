@@ -141,7 +141,7 @@ def options_agree():
     found = [f"docs/usage.txt and the synopsis differ in --{it}" for it in sorted(options ^ ({*re.findall(r"--([a-z-]+)", usage)} - {"version"}))]
     commands = {*re.findall(r"^h5swmr ([a-z]+)", synopsis, re.M)}
     found += [f"docs/usage.txt and the synopsis differ in {it}" for it in sorted(commands ^ {*re.findall(r"^  h5swmr ([a-z]+)", usage, re.M)})]
-    return found if len(commands) == 9 and len(options) > 10 else [f"{len(commands)} commands and {len(options)} options were found in the synopsis"]
+    return found if len(commands) == 10 and len(options) > 10 else [f"{len(commands)} commands and {len(options)} options were found in the synopsis"]
 
 
 def versions_agree():

@@ -7,7 +7,7 @@ use Rattle.h5w_model.specs.Lawful.{first_outside}
 use Rattle.h5w_model.specs.declared.piece.Write.{Write}
 use Rattle.h5w_image.specs.View.{DiskView}
 use Rattle.h5w_session.specs.Sessions.{Session}
-use Rattle.h5w_text.specs.LinesAhead.{Given, GivenUp, IntakeView, IsOver, IsWhole, LinesAhead, Stays, lines_ahead}
+use Rattle.h5w_text.specs.LinesAhead.{Given, GivenUp, IntakeView, IsOver, IsWhole, LinesAhead, Stays, TakesNumbers, lines_ahead}
 use Rattle.h5w_text.specs.Scripts.{number_line_of}
 use Rattle.h5w_text.specs.Streams.{SourceView, SinkView}
 use Rattle.h5w_text.specs.declared.error.ErrorLine.{ErrorLine}
@@ -80,6 +80,19 @@ taking_more {number = number} n name s t r line values h given whole spelled ste
   ready = ready;
   columns = columns ∙ h.columns;
 }
+
+-- one more line, whose bytes were held
+pub taking_held : {v w z : DiskView} {k l o : SinkView} {x y e : LinesAhead} {number : ℕ} (n : ℕ) (name : List ℕ) (s t r : Session) (values : List ℤ) → Taking n name s t x y number v w k l → (h : TakesNumbers (columns_of t) values y e)
+    → StepsOn n name t r (TakesLine h.line) (LineRefused h.line (number + 1) t) w z l o (Ok tt) → IsReady name r z → columns_of r ≡ columns_of t → Taking n name s r x e (number + 1) v z k o
+taking_held n name s t r values taking h steps ready columns = taking_more n name s t r h.line values taking h.given h.whole h.spelled steps ready columns
+
+-- where nothing was taken
+pub taking_kept : {v w : DiskView} {k l : SinkView} {x y e : LinesAhead} {number : ℕ} (n : ℕ) (name : List ℕ) (s t : Session) → e ≡ y → Taking n name s t x y number v w k l → Taking n name s t x e number v w k l
+taking_kept {v} {w} {k} {l} {x} {y} {e} {number} n name s t same taking = subst (λ (f : LinesAhead). Taking n name s t x f number v w k l) (sym same) taking
+
+-- the values of a line whose bytes were held, by the columns of the session
+pub held_columns : {y e : LinesAhead} (columns : ℕ) (t : Session) (values : List ℤ) → columns ≡ columns_of t → TakesNumbers columns values y e → TakesNumbers (columns_of t) values y e
+held_columns {y} {e} columns t values same h = subst (λ (k : ℕ). TakesNumbers k values y e) same h
 
 -- ---- The first lines
 

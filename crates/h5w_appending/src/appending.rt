@@ -11,7 +11,7 @@ ghost use Rattle.h5w_appending.specs.Taken.{closed_text};
 ghost use Rattle.h5w_appending.specs.Appends.{AppendEnds, columns_of, open_line};
 ghost use Rattle.h5w_appending.specs.Appending.{ClosesBy, FinishesBy, HasSize, IsBegun, IsReady, LooksOpen, OpensBy, ReadyUnlessDisk, SettlesOn, TakesInputFrom, TakesInputOn};
 
-use crate::batching::{Ending, close_batch, put_all, take_line};
+use crate::batching::{Ending, close_batch, put_all, take_line, take_values};
 use crate::putting::close;
 use h5w_batches::INPUT_LIMIT;
 use h5w_files::DiskImage;
@@ -44,8 +44,14 @@ fn take_lines<S: Source, K: Sink, D: Disk>(
     ensures same_reference { lines.new.source.ghost_name ≡ lines.old.source.ghost_name }
     ensures same_intake { lines.new.intake.ghost_name ≡ lines.old.intake.ghost_name }
 {
+    let mut values = Vec::new(alloc);
     let mut number = 0;
     loop {
+        if lines.take_numbers(columns, &mut values) {
+            number += 1;
+            take_values(session, &values, number, file, faults, text, sink, disk)?;
+            continue;
+        }
         match lines.next()? {
             Next::Line(line) => {
                 number += 1;

@@ -1,6 +1,7 @@
 //! The batches of an append: a session whose rows are put into a file.
-ghost use Rattle.std.specs.Prelude.{◌≡◌, ◌≤◌, ℕ, List, length, OnOk};
+ghost use Rattle.std.specs.Prelude.{◌≡◌, ◌≤◌, ℕ, List, length, Some, OnOk};
 ghost use Rattle.h5w_image.specs.View.{IsThere};
+ghost use Rattle.h5w_batches.specs.Batches.{AreWholeRows};
 ghost use Rattle.h5w_session.specs.Sessions.{AreRows};
 ghost use Rattle.h5w_text.specs.LinesAhead.{IsLine};
 ghost use Rattle.h5w_text.specs.Scripts.{number_line_of};
@@ -169,8 +170,32 @@ pub fn close_batch<K: Sink, D: Disk>(
     }
 }
 
-/// Appends the values of a line of the input, whose rows have so many, and puts the pieces of those rows that are written before their flush;
-/// an empty one closes a batch.
+/// Appends the values of a line of the input, which are whole rows, and puts the pieces of those rows that are written before their flush;
+/// no values close a batch.
+pub fn take_values<K: Sink, D: Disk>(
+    session: &mut WriterCore,
+    values: &[i128],
+    number: u64,
+    file: &str,
+    faults: u64,
+    text: &mut Vec<u8>,
+    sink: &mut K,
+    disk: &mut D,
+) -> Result<(), Ending>
+    requires ready { IsReady file.now session.old (D.view disk.old) }
+    requires rows { AreWholeRows (columns_of session.old) values.now }
+    ensures ready { ReadyUnlessDisk file.now session.new (D.view disk.new) result }
+    ensures columns { OnOk result (columns_of session.new ≡ columns_of session.old) }
+    ensures steps { (bytes : List ℕ) → number_line_of (columns_of session.old) bytes ≡ Some values.now → StepsOn faults file.now session.old session.new (TakesLine bytes) (LineRefused bytes number session.old) (D.view disk.old) (D.view disk.new) (K.view sink.old) (K.view sink.new) result }
+{
+    if values.is_empty() {
+        return close_batch(session, file, faults, text, sink, disk);
+    }
+    append_values(session, values, number, file, disk)?;
+    put_all(session, file, faults, disk)
+}
+
+/// Takes the values of a line of the input, whose rows have so many; an empty one closes a batch.
 pub fn take_line<K: Sink, D: Disk>(
     alloc: Global,
     columns: u64,
@@ -191,9 +216,5 @@ pub fn take_line<K: Sink, D: Disk>(
     ensures steps { (bytes : List ℕ) → IsLine line.now bytes → StepsOn faults file.now session.old session.new (TakesLine bytes) (LineRefused bytes number session.old) (D.view disk.old) (D.view disk.new) (K.view sink.old) (K.view sink.new) result }
 {
     let values = line_values(alloc, columns, line, number)?;
-    if values.is_empty() {
-        return close_batch(session, file, faults, text, sink, disk);
-    }
-    append_values(session, &values, number, file, disk)?;
-    put_all(session, file, faults, disk)
+    take_values(session, &values, number, file, faults, text, sink, disk)
 }

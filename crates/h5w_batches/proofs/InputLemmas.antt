@@ -2,7 +2,7 @@
 use Rattle.std.proofs.Common.{◌≡◌, ℕ, ◌+◌, ◌≤◌, List, [], ◌∷◌, ◌++◌, ℤ, Result, Ok, Err, refl, sym, ap, ◌∙◌, subst, arith}
 use Rattle.std.specs.Prelude.{IfErr, IfOk, IfSome}
 use Rattle.h5w_model.specs.Causes.{Rose}
-use Rattle.h5w_text.specs.LinesAhead.{Ended, Given, GivenUp, IntakeView, IsOver, IsWhole, LinesAhead, lines_ahead}
+use Rattle.h5w_text.specs.LinesAhead.{Ended, Given, GivenUp, IntakeView, IsOver, IsWhole, LinesAhead, TakesNumbers, lines_ahead}
 use Rattle.h5w_text.specs.Streams.{SourceView}
 use Rattle.h5w_text.specs.declared.line.LineError.{LineError}
 use Rattle.h5w_text.specs.declared.line.LineError.TheVariants as line_errors
@@ -35,6 +35,14 @@ gathers_more line h given is x = record {
   going = whole_more line x.values h.going given is x.spelled;
   batches_are = next_batches h.numbers x h.batches_are;
 }
+
+-- behind one whose bytes were held
+pub gathers_held : {columns : ℕ} {v u w : LinesAhead} {number : ℕ} {b next : Batches} (values : List ℤ) → Gathers columns v u number b → TakesNumbers columns values u w → next ≡ with_line b values → Gathers columns v w (number + 1) next
+gathers_held values h x is = gathers_more x.line h x.given x.whole (record { values = values; spelled = x.spelled; next_is = is })
+
+-- where nothing was taken
+pub gathers_kept : {columns : ℕ} {v u w : LinesAhead} {number : ℕ} {b : Batches} → w ≡ u → Gathers columns v u number b → Gathers columns v w number b
+gathers_kept {columns} {v} {u} {w} {number} {b} same h = subst (λ (x : LinesAhead). Gathers columns v x number b) (sym same) h
 
 -- ---- Its end
 

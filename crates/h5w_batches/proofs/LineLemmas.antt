@@ -35,6 +35,10 @@ all_left : (o : Option (List ℕ)) → option_map lines_of o ≡ option_map (λ 
 all_left None = refl
 all_left (Some ls) = refl
 
+-- what is ahead where neither the source nor what is held has changed
+pub ahead_kept : {s t : SourceView} {i j : IntakeView} → s ≡ t → i ≡ j → lines_ahead s i ≡ lines_ahead t j
+ahead_kept {s} {t} {i} {j} p q = ap (λ (x : SourceView). lines_ahead x i) p ∙ ap (λ (y : IntakeView). lines_ahead t y) q
+
 going_first : (columns : ℕ) (v : LinesAhead) → Going columns v v 0 []
 going_first columns v = record { lines = []; spell = refl; count = refl; room = omega arith; taken = []; passed = passed_nothing v; first = all_left v.left }
 

@@ -70,8 +70,14 @@ fn read_lines<S: Source>(
     ensures same_intake { lines.new.intake.ghost_name ≡ lines.old.intake.ghost_name }
 {
     let mut batches = Gathering::new(alloc);
+    let mut values = Vec::new(alloc);
     let mut number = 0;
     loop {
+        if lines.take_numbers(columns, &mut values) {
+            number += 1;
+            batches.take_line(&values)?;
+            continue;
+        }
         match lines.next()? {
             Next::Line(line) => {
                 number += 1;

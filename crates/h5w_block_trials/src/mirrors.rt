@@ -83,18 +83,43 @@ fn pass<R: Wait>(rt: &R, mirror: &mut Mirror) -> Result<u64, Fail>
     Ok(count)
 }
 
+/// Writes and sends three pieces, twice: the ring has room for one batch, and gives the other back.
+fn overfill<R: Wait>(rt: &R, mirror: &mut Mirror) -> Result<(), Fail>
+    requires feed { mirror.old.feed.seat.image ≡ mirror.old.first }
+    requires follow { mirror.old.follow.seat.image ≡ mirror.old.first }
+    requires second { mirror.old.follow.second.image ≡ mirror.old.second }
+    requires ring { mirror.old.feed.ring ≡ mirror.old.follow.ring }
+    ensures feed { mirror.new.feed.seat.image ≡ mirror.new.first }
+    ensures follow { mirror.new.follow.seat.image ≡ mirror.new.first }
+    ensures second { mirror.new.follow.second.image ≡ mirror.new.second }
+    ensures ring { mirror.new.feed.ring ≡ mirror.new.follow.ring }
+{
+    write_three(rt, &mirror.first, &mut mirror.feed)?;
+    mirror.feed.send(&mirror.first)?;
+    write_three(rt, &mirror.first, &mut mirror.feed)?;
+    mirror.feed.send(&mirror.first)?;
+    Ok(())
+}
+
+/// How many pieces each of three steps takes on.
+fn pass_three<R: Wait>(rt: &R, mirror: &mut Mirror) -> Result<(u64, u64, u64), Fail>
+    requires feed { mirror.old.feed.seat.image ≡ mirror.old.first }
+    requires follow { mirror.old.follow.seat.image ≡ mirror.old.first }
+    requires second { mirror.old.follow.second.image ≡ mirror.old.second }
+    requires ring { mirror.old.feed.ring ≡ mirror.old.follow.ring }
+{
+    let first = pass(rt, mirror)?;
+    let second = pass(rt, mirror)?;
+    let third = pass(rt, mirror)?;
+    Ok((first, second, third))
+}
+
 #[test]
 fn what_the_ring_gave_back_goes_first(rt: HostRuntime) -> Result<(), Fail> {
     let mut mirror = Mirror::new(rt.alloc(), &[], 1)?;
-    write_three(&rt, &mirror.first, &mut mirror.feed)?;
-    mirror.feed.send(&mirror.first)?;
-    write_three(&rt, &mirror.first, &mut mirror.feed)?;
-    mirror.feed.send(&mirror.first)?;
-    write_three(&rt, &mirror.first, &mut mirror.feed)?;
-    assert_eq!(rt; pass(&rt, &mut mirror)?, 3);
-    assert_eq!(rt; pass(&rt, &mut mirror)?, 3);
-    assert_eq!(rt; pass(&rt, &mut mirror)?, 3);
-    assert_eq!(rt; pass(&rt, &mut mirror)?, 0);
+    overfill(&rt, &mut mirror)?;
+    let counts = pass_three(&rt, &mut mirror)?;
+    assert_eq!(rt; counts, (3, 3, 0));
     assert_eq!(rt; mirror.follow.seen(), mirror.feed.seen());
     Ok(())
 }

@@ -6,4 +6,6 @@ mod files;
 #[cfg(test)]
 mod found;
 #[cfg(test)]
+mod refused;
+#[cfg(test)]
 mod tests;

@@ -21,9 +21,13 @@ mod lives;
 #[cfg(test)]
 mod new_files;
 #[cfg(test)]
+mod reopened;
+#[cfg(test)]
 mod rows;
 #[cfg(test)]
 mod steps;
+#[cfg(test)]
+mod stops;
 #[cfg(test)]
 mod torn;
 #[cfg(test)]

@@ -6,7 +6,9 @@ use crate::files::FILE_ROWS;
 use crate::fixed::FIXED_ROWS;
 use crate::lives::LIVE_ROWS;
 use crate::new_files::NEW_ROWS;
+use crate::reopened::REOPENED_ROWS;
 use crate::rows::ROWS;
+use crate::stops::STOP_ROWS;
 use crate::trees::TREE_ROWS;
 use crate::types::TYPE_ROWS;
 use h5w_commands::run;
@@ -266,34 +268,29 @@ fn check_row<R: Threads + Wait + Sync + Abort + AllocGlobal>(
     Ok(())
 }
 
+/// Each row of a table.
+fn check_rows<R: Threads + Wait + Sync + Abort + AllocGlobal>(
+    rt: &R,
+    rows: &str,
+) -> Result<(), Fail> {
+    for row in rows.split('#').skip(1) {
+        check_row(rt, row)?;
+    }
+    Ok(())
+}
+
 #[test]
 fn rows_are_answered(rt: HostRuntime) -> Result<(), Fail> {
-    for row in ROWS.split('#').skip(1) {
-        check_row(&rt, row)?;
-    }
-    for row in TYPE_ROWS.split('#').skip(1) {
-        check_row(&rt, row)?;
-    }
-    for row in FILE_ROWS.split('#').skip(1) {
-        check_row(&rt, row)?;
-    }
-    for row in NEW_ROWS.split('#').skip(1) {
-        check_row(&rt, row)?;
-    }
-    for row in TREE_ROWS.split('#').skip(1) {
-        check_row(&rt, row)?;
-    }
-    for row in FIXED_ROWS.split('#').skip(1) {
-        check_row(&rt, row)?;
-    }
-    for row in APPEND_ROWS.split('#').skip(1) {
-        check_row(&rt, row)?;
-    }
-    for row in EARLY_ROWS.split('#').skip(1) {
-        check_row(&rt, row)?;
-    }
-    for row in LIVE_ROWS.split('#').skip(1) {
-        check_row(&rt, row)?;
-    }
+    check_rows(&rt, ROWS)?;
+    check_rows(&rt, TYPE_ROWS)?;
+    check_rows(&rt, FILE_ROWS)?;
+    check_rows(&rt, NEW_ROWS)?;
+    check_rows(&rt, TREE_ROWS)?;
+    check_rows(&rt, FIXED_ROWS)?;
+    check_rows(&rt, APPEND_ROWS)?;
+    check_rows(&rt, EARLY_ROWS)?;
+    check_rows(&rt, REOPENED_ROWS)?;
+    check_rows(&rt, STOP_ROWS)?;
+    check_rows(&rt, LIVE_ROWS)?;
     Ok(())
 }

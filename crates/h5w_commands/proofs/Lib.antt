@@ -7,3 +7,7 @@ pub mod RangeLemmas
 pub mod CompleteLemmas
 pub mod MakeLemmas
 pub mod AppendEndLemmas
+pub mod ShowingLemmas
+pub mod WritingLemmas
+pub mod TakingLemmas
+pub mod ReportLemmas

@@ -113,7 +113,7 @@ pub record Going (v w : LinesAhead) (begun world : WorldView) (number : ℕ) (k 
   pub fits : HaveOneLog world state
   pub gave : Gave text k l
 
-all_left : (o : Option (List ℕ)) → option_map lines_of o ≡ option_map (λ ls. [] ++ ls) (option_map lines_of o)
+pub all_left : (o : Option (List ℕ)) → option_map lines_of o ≡ option_map (λ ls. [] ++ ls) (option_map lines_of o)
 all_left None = refl
 all_left (Some ls) = refl
 
@@ -168,7 +168,7 @@ pub whole_first : (v : LinesAhead) (world : WorldView) (l : SinkView) → HaveOn
 unfolding going_first
 whole_first v world l fits = record { going = going_first v world l fits; whole = λ rest. refl }
 
-one_whole : (taken line rest : List ℕ) (lines : List (List ℕ)) → Lacks 10 line → ((more : List ℕ) → whole_lines_of (taken ++ more) ≡ lines ++ whole_lines_of more)
+pub one_whole : (taken line rest : List ℕ) (lines : List (List ℕ)) → Lacks 10 line → ((more : List ℕ) → whole_lines_of (taken ++ more) ≡ lines ++ whole_lines_of more)
     → whole_lines_of ((taken ++ (line ++ 10 ∷ [])) ++ rest) ≡ (lines ++ line ∷ []) ++ whole_lines_of rest
 one_whole taken line rest lines lacks whole =
     ap whole_lines_of (append_assoc taken (line ++ 10 ∷ []) rest ∙ ap (λ l. taken ++ l) (append_assoc line (10 ∷ []) rest)) ∙ whole (line ++ 10 ∷ rest)
@@ -182,17 +182,17 @@ whole_more line x given is a = record {
 }
 
 -- bytes without an end behind what was taken
-none_more : (taken front : List ℕ) (lines : List (List ℕ)) → Lacks 10 front → ((more : List ℕ) → whole_lines_of (taken ++ more) ≡ lines ++ whole_lines_of more) → lines ≡ whole_lines_of (taken ++ front)
+pub none_more : (taken front : List ℕ) (lines : List (List ℕ)) → Lacks 10 front → ((more : List ℕ) → whole_lines_of (taken ++ more) ≡ lines ++ whole_lines_of more) → lines ≡ whole_lines_of (taken ++ front)
 none_more taken front lines lacks whole = sym (whole front ∙ ap (λ ls. lines ++ ls) (whole_lacks [] front lacks) ∙ append-nil lines)
 
-first_cases : (a b : Option (List ℕ)) (taken : List ℕ) (lines : List (List ℕ)) → length taken ≤ input_limit → a ≡ option_map (λ rest. taken ++ rest) b
+pub first_cases : (a b : Option (List ℕ)) (taken : List ℕ) (lines : List (List ℕ)) → length taken ≤ input_limit → a ≡ option_map (λ rest. taken ++ rest) b
     → option_map lines_of a ≡ option_map (λ ls. lines ++ ls) (option_map lines_of b) → IfSome a (HasFirst lines)
 first_cases None b taken lines bound cut e = tt
 first_cases (Some a) None taken lines bound cut e = absurd (cc)
 first_cases (Some a) (Some b) taken lines bound cut e = record { taken = taken; rest = b; is = cc; bound = bound; lines_are = cc }
 
 -- the bytes of a line that was given, behind those that were taken before
-more_first : {v u w : LinesAhead} (taken line : List ℕ) (lines : List (List ℕ)) → v.room ≡ input_limit → Passed taken v u → Given line u w → lines_left v ≡ option_map (λ ls. lines ++ ls) (lines_left w)
+pub more_first : {v u w : LinesAhead} (taken line : List ℕ) (lines : List (List ℕ)) → v.room ≡ input_limit → Passed taken v u → Given line u w → lines_left v ≡ option_map (λ ls. lines ++ ls) (lines_left w)
     → IfSome v.left (HasFirst lines)
 more_first {v} {u} {w} taken line lines room passed given first = elim given.passed [
   | inl p ↦ (let both = passed_twice taken line passed p in first_cases v.left w.left (taken ++ line) lines (omega (arith, both.room, room)) both.left first)
@@ -217,7 +217,7 @@ Long all lines input = (all < length input) × (whole_lines_of (take all input) 
 first_of_long : (taken b : List ℕ) (room all : ℕ) → all ≡ room + length taken → take all (taken ++ b) ≡ taken ++ take room b
 first_of_long taken b room all e = let f : all ≡ length taken + room = omega (arith, e) in ap (λ n. take n (taken ++ b)) f ∙ take-append-add taken b room
 
-too_long : (taken : List ℕ) (lines : List (List ℕ)) (a b : Option (List ℕ)) (room all : ℕ) → ((more : List ℕ) → whole_lines_of (taken ++ more) ≡ lines ++ whole_lines_of more) → a ≡ option_map (λ rest. taken ++ rest) b → all ≡ room + length taken
+pub too_long : (taken : List ℕ) (lines : List (List ℕ)) (a b : Option (List ℕ)) (room all : ℕ) → ((more : List ℕ) → whole_lines_of (taken ++ more) ≡ lines ++ whole_lines_of more) → a ≡ option_map (λ rest. taken ++ rest) b → all ≡ room + length taken
     → IfSome b (λ left. (room < length left) × Lacks 10 (take room left)) → IfSome a (Long all lines)
 too_long taken lines a None room all whole e f over = subst (λ (o : Option (List ℕ)). IfSome o (Long all lines)) (sym e) tt
 too_long taken lines a (Some b) room all whole e f over = subst (λ (o : Option (List ℕ)). IfSome o (Long all lines)) (sym e) (
@@ -225,7 +225,7 @@ too_long taken lines a (Some b) room all whole e f over = subst (λ (o : Option 
   ap whole_lines_of (first_of_long taken b room all f) ∙ sym (none_more taken (take room b) lines over.1 whole),
 )
 
-all_of_left : (a : Option (List ℕ)) (held : List ℕ) → held ≡ [] → option_map (λ rest. held ++ rest) a ≡ a
+pub all_of_left : (a : Option (List ℕ)) (held : List ℕ) → held ≡ [] → option_map (λ rest. held ++ rest) a ≡ a
 all_of_left None held e = refl
 all_of_left (Some a) held e = ap (λ h. Some (h ++ a)) e
 
@@ -310,7 +310,7 @@ ended_at_line {k = k} t m line endings.Memory room x given h = record {
   gave = subst (λ (s : SinkView). Gave x.text k s) (sym h) x.gave;
 }
 
-all_cases : (a : Option (List ℕ)) (lines : List (List ℕ)) → IfSome (option_map lines_of a) (λ ls. ls ≡ lines) → IfSome a (λ input. lines_of input ≡ lines)
+pub all_cases : (a : Option (List ℕ)) (lines : List (List ℕ)) → IfSome (option_map lines_of a) (λ ls. ls ≡ lines) → IfSome a (λ input. lines_of input ≡ lines)
 all_cases None lines h = tt
 all_cases (Some a) lines h = h
 
@@ -318,12 +318,12 @@ empty_behind : (held rest : List ℕ) → held ++ rest ≡ [] → rest ≡ []
 empty_behind [] rest e = e
 empty_behind (b ∷ held) rest e = absurd (cc)
 
-none_behind : (a : Option (List ℕ)) (held : List ℕ) → IfSome (option_map (λ rest. held ++ rest) a) (λ rest. rest ≡ []) → IfSome a (λ rest. rest ≡ [])
+pub none_behind : (a : Option (List ℕ)) (held : List ℕ) → IfSome (option_map (λ rest. held ++ rest) a) (λ rest. rest ≡ []) → IfSome a (λ rest. rest ≡ [])
 none_behind None held h = tt
 none_behind (Some a) held h = empty_behind held a h
 
 -- where nothing is left all that there was was taken
-all_taken : (a b : Option (List ℕ)) (taken : List ℕ) → a ≡ option_map (λ rest. taken ++ rest) b → IfSome b (λ rest. rest ≡ []) → length taken ≤ input_limit → IfSome a (λ input. length input ≤ input_limit)
+pub all_taken : (a b : Option (List ℕ)) (taken : List ℕ) → a ≡ option_map (λ rest. taken ++ rest) b → IfSome b (λ rest. rest ≡ []) → length taken ≤ input_limit → IfSome a (λ input. length input ≤ input_limit)
 all_taken None b taken e none bound = tt
 all_taken (Some a) None taken e none bound = absurd (cc)
 all_taken (Some a) (Some b) taken e none bound =
@@ -361,7 +361,7 @@ ended_at_last new t j m line (Err e) room x given answered ended = ended_at_line
 -- ---- The lines of a source
 
 -- nothing is held at first
-starts : (s : SourceView) (i : IntakeView) → i.held ≡ [] → outside (lines_ahead s i) ≡ s
+pub starts : (s : SourceView) (i : IntakeView) → i.held ≡ [] → outside (lines_ahead s i) ≡ s
 starts s i e = ap (λ o. record s { left = o }) (all_of_left s.left i.held e)
 
 -- from the lines to the source, which is given back

@@ -12,7 +12,7 @@ use Rattle.h5w_core.specs.Worlds.{rules_for}
 use Rattle.h5w_options.specs.declared.options.Options.{Options}
 use Rattle.h5w_words.specs.declared.job.WordsError.{WordsError}
 use Rattle.h5w_words.specs.declared.job.Job.{Job}
-use Rattle.h5w_words.specs.declared.job.Job.TheVariants.{Play, New, Check, Poll, Clear, Make, Append, Live}
+use Rattle.h5w_words.specs.declared.job.Job.TheVariants.{Play, New, Check, Poll, Clear, Make, Append, Live, Stop}
 use Rattle.h5w_image.specs.View.{DiskView}
 use Rattle.h5w_appending.proofs.CreateLemmas.{creates_wanted}
 use Rattle.h5w_files.proofs.CheckLemmas.{checks_nothing}
@@ -29,6 +29,7 @@ use Rattle.h5w_text.specs.declared.status.Status.{Status}
 use Rattle.h5w_text.specs.declared.status.Status.TheVariants.{Done, Usage, Missing, Exists, Format, Damaged, Flags, Again, Input, Limit, Disk, Source, Sink, Memory}
 use Rattle.h5w_commands.proofs.MakeLemmas.{makes_nothing}
 use Rattle.h5w_commands.proofs.AppendEndLemmas.{appends_nothing}
+use Rattle.h5w_commands.proofs.ReportLemmas.{stops_nothing}
 use Rattle.h5w_commands.proofs.PlayLemmas.{gave_both, gave_nothing, gave_then_some, replied_nothing, rose_before}
 
 -- any other bytes behind the answers
@@ -102,7 +103,8 @@ ran_wanting (Some (Poll file name times attempts values)) status s k l v said = 
 ran_wanting (Some (Clear file upgrade)) status s k l v said = (refl, clears_wanted file upgrade status said)
 ran_wanting (Some (Make count seed)) status s k l v said = (refl, refl, makes_nothing count seed status said)
 ran_wanting (Some (Append file name limit budget keeps)) status s k l v said = appends_nothing file name limit budget keeps status said
-ran_wanting (Some (Live options readers polls attempts)) status s k l v said = (error_ends (asked_by options readers polls attempts) errors.Memory status tt (inl said), refl)
+ran_wanting (Some (Live options readers polls attempts mirrors)) status s k l v said = (error_ends (asked_by options readers polls attempts mirrors) errors.Memory status tt (inl said), refl)
+ran_wanting (Some (Stop options)) status s k l v said = (stops_nothing options status said, refl)
 
 -- the words are outside the command set
 pub ran_outside : (o : Option Job) (status : Status) (s : SourceView) (k l : SinkView) (v : DiskView) → o ≡ None → Said (error_text errors.Usage) Usage status k l → Ran o (outcomes.With status) s s k l v v
@@ -116,13 +118,14 @@ does_run (Poll file name times attempts values) status s t k l v w does = does
 does_run (Clear file upgrade) status s t k l v w does = does
 does_run (Make count seed) status s t k l v w does = does
 does_run (Append file name limit budget keeps) status s t k l v w does = does
-does_run (Live options readers polls attempts) status s t k l v w does = absurd does
+does_run (Live options readers polls attempts mirrors) status s t k l v w does = absurd does
+does_run (Stop options) status s t k l v w does = does
 
 pub ran_job : (o : Option Job) (job : Job) (status : Status) (s t : SourceView) (k l : SinkView) (v w : DiskView) → o ≡ Some job → Does job status s t k l v w → Ran o (outcomes.With status) s t k l v w
 ran_job o job status s t k l v w e does = subst (λ (x : Option Job). Ran x (outcomes.With status) s t k l v w) (sym e) (does_run job status s t k l v w does)
 
 -- a job that runs nothing in threads
-pub is_plain : (job : Job) → ((options : Options) (readers polls attempts : ℕ) → job ≡ Live options readers polls attempts → ⊥) → IsPlain job
+pub is_plain : (job : Job) → ((options : Options) (readers polls attempts mirrors : ℕ) → job ≡ Live options readers polls attempts mirrors → ⊥) → IsPlain job
 is_plain (Play options attempts) other = tt
 is_plain (New file options) other = tt
 is_plain (Check file name) other = tt
@@ -130,12 +133,13 @@ is_plain (Poll file name times attempts values) other = tt
 is_plain (Clear file upgrade) other = tt
 is_plain (Make count seed) other = tt
 is_plain (Append file name limit budget keeps) other = tt
-is_plain (Live options readers polls attempts) other = other options readers polls attempts refl
+is_plain (Live options readers polls attempts mirrors) other = other options readers polls attempts mirrors refl
+is_plain (Stop options) other = tt
 
 -- a run in threads
-pub ran_live : (o : Option Job) (job : Job) (options : Options) (readers polls attempts : ℕ) (ended : Ended) (s t : SourceView) (k l : SinkView) (v : DiskView) → o ≡ Some job → job ≡ Live options readers polls attempts
-    → LiveEnds (asked_by options readers polls attempts) ended s t k l → Ran o ended s t k l v v
-ran_live o job options readers polls attempts ended s t k l v e is live = subst (λ (x : Option Job). Ran x ended s t k l v v) (sym (e ∙ ap Some is)) (live, refl)
+pub ran_live : (o : Option Job) (job : Job) (options : Options) (readers polls attempts mirrors : ℕ) (ended : Ended) (s t : SourceView) (k l : SinkView) (v : DiskView) → o ≡ Some job → job ≡ Live options readers polls attempts mirrors
+    → LiveEnds (asked_by options readers polls attempts mirrors) ended s t k l → Ran o ended s t k l v v
+ran_live o job options readers polls attempts mirrors ended s t k l v e is live = subst (λ (x : Option Job). Ran x ended s t k l v v) (sym (e ∙ ap Some is)) (live, refl)
 
 pub not_wanting : (e : WordsError) (P : Type 0) → e ≡ WordsError.Usage → (e ≡ WordsError.OutOfMemory) ⊎ P → P
 not_wanting e P is (inl wanting) = let clash : WordsError.Usage ≡ WordsError.OutOfMemory = sym is ∙ wanting in absurd (cc)

@@ -19,5 +19,7 @@ pub mod Answers
 pub mod Plays
 pub mod Endings
 pub mod Makes
+pub mod Writing
+pub mod Stops
 pub mod Appending
 pub mod Runs

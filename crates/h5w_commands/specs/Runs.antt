@@ -17,22 +17,23 @@ use Rattle.h5w_files.specs.Clears.{ClearEnds, clears_of}
 use Rattle.h5w_session.specs.Creations.{new_file}
 use Rattle.h5w_core.specs.Worlds.{rules_for}
 use Rattle.h5w_words.specs.declared.job.Job.{Job}
-use Rattle.h5w_words.specs.declared.job.Job.TheVariants.{Play, New, Check, Poll, Clear, Make, Append, Live}
+use Rattle.h5w_words.specs.declared.job.Job.TheVariants.{Play, New, Check, Poll, Clear, Make, Append, Live, Stop}
 use Rattle.h5w_running.specs.Runs.{asked_by}
 use Rattle.h5w_running.specs.Ends.{LiveEnds, LiveEndsWell}
 use Rattle.h5w_running.specs.declared.ended.Ended.{Ended}
 use Rattle.h5w_running.specs.declared.ended.Ended.TheVariants as ends
 use Rattle.h5w_commands.specs.Plays.{Completes, Plays}
 use Rattle.h5w_commands.specs.Makes.{MakeEnds, MakeEndsWell}
+use Rattle.h5w_commands.specs.Stops.{StopEnds, StopEndsWell}
 use Rattle.h5w_commands.specs.Appending.{AppendEndsWell}
 
 -- the job waits for nobody
 abbrev pub IsPlain : Job → Type 0
-IsPlain (Live options readers polls attempts) = ⊥
+IsPlain (Live options readers polls attempts mirrors) = ⊥
 IsPlain job = Unit {0}
 
--- What a job that waits for nobody leaves of source, sink and disk. A script leaves the disk as it is, of the commands on files an append alone reads, and the
--- making of a file in memory leaves both.
+-- What a job that waits for nobody leaves of source, sink and disk. A script leaves the disk as it is, be it of readers
+-- or of a writer alone; of the commands on files an append alone reads, and the making of a file in memory leaves both.
 abbrev pub Does : Job → Status → SourceView → SourceView → SinkView → SinkView → DiskView → DiskView → Type 0
 Does (Play options attempts) status s t k l v w = Plays (rules_for options attempts) status s t k l × (w ≡ v)
 Does (New file options) status s t k l v w = (t ≡ s) × CreateEnds file options v w status k l
@@ -41,7 +42,8 @@ Does (Poll file name times attempts values) status s t k l v w = (t ≡ s) × Po
 Does (Clear file upgrade) status s t k l v w = (t ≡ s) × ClearEnds file upgrade v w status k l
 Does (Make count seed) status s t k l v w = (t ≡ s) × (w ≡ v) × MakeEnds count seed status k l
 Does (Append file name limit budget keeps) status s t k l v w = AppendEnds file name limit budget keeps s t v w status k l
-Does (Live options readers polls attempts) status s t k l v w = ⊥
+Does (Live options readers polls attempts mirrors) status s t k l v w = ⊥
+Does (Stop options) status s t k l v w = StopEnds options status s t k l × (w ≡ v)
 
 -- the words are outside the command set: nothing is read, no file is looked at, and that is said
 pub record Refuses (status : Status) (s t : SourceView) (k l : SinkView) (v w : DiskView) : Type 0 where
@@ -57,7 +59,7 @@ EndsWith Leaves (ends.Image worn) = ⊥
 -- What a run leaves, by the job of its words. One in threads leaves the disk as it is.
 abbrev pub Ran : Option Job → Ended → SourceView → SourceView → SinkView → SinkView → DiskView → DiskView → Type 0
 Ran None ended s t k l v w = EndsWith (λ status. Refuses status s t k l v w) ended
-Ran (Some (Live options readers polls attempts)) ended s t k l v w = LiveEnds (asked_by options readers polls attempts) ended s t k l × (w ≡ v)
+Ran (Some (Live options readers polls attempts mirrors)) ended s t k l v w = LiveEnds (asked_by options readers polls attempts mirrors) ended s t k l × (w ≡ v)
 Ran (Some job) ended s t k l v w = EndsWith (λ status. Does job status s t k l v w) ended
 
 -- a job is done, or memory is wanted, where nothing else stands in its way; the file of an append may have no place
@@ -69,10 +71,11 @@ DoesWhole (Poll file name times attempts values) status s t k l v w = EndsWell (
 DoesWhole (Clear file upgrade) status s t k l v w = EndsWell (clears_of upgrade) file v w status k l
 DoesWhole (Make count seed) status s t k l v w = MakeEndsWell status k l
 DoesWhole (Append file name limit budget keeps) status s t k l v w = AppendEndsWell file name status s t k l v w
-DoesWhole (Live options readers polls attempts) status s t k l v w = ⊥
+DoesWhole (Live options readers polls attempts mirrors) status s t k l v w = ⊥
+DoesWhole (Stop options) status s t k l v w = StopEndsWell options status s t k l
 
 -- the same of the job that words of the command set have
 abbrev pub RanWhole : Option Job → Ended → SourceView → SourceView → SinkView → SinkView → DiskView → DiskView → Type 0
 RanWhole None ended s t k l v w = Unit {0}
-RanWhole (Some (Live options readers polls attempts)) ended s t k l v w = LiveEndsWell (asked_by options readers polls attempts) ended s t k l
+RanWhole (Some (Live options readers polls attempts mirrors)) ended s t k l v w = LiveEndsWell (asked_by options readers polls attempts mirrors) ended s t k l
 RanWhole (Some job) ended s t k l v w = EndsWith (λ status. DoesWhole job status s t k l v w) ended

@@ -9,7 +9,9 @@ mod make;
 mod plain;
 mod play;
 mod program;
+mod stop;
 mod streams;
+mod writing;
 
 pub use disk::FileDisk;
 pub use program::run;

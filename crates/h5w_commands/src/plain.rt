@@ -5,6 +5,7 @@ ghost use Rattle.h5w_words.specs.Limits.{IsWithinLimits};
 
 use crate::make::make;
 use crate::play::play;
+use crate::stop::stop;
 use h5w_appending::{append, create};
 use h5w_files::{check, clear, poll};
 use h5w_image::Disk;
@@ -66,6 +67,7 @@ pub fn plain<S: Source, K: Sink, D: Disk>(
             sink,
             disk,
         ),
+        Job::Stop { options } => stop(alloc, options, source, sink),
         Job::Live { .. } => unreachable!(),
     }
 }

@@ -36,9 +36,10 @@ pub fn run<R: Threads + Wait + Sync, S: Source, K: Sink, D: Disk, G: Gate>(
                 readers,
                 polls,
                 attempts,
+                mirrors,
             },
         ) => run_live(
-            rt, alloc, &options, readers, polls, attempts, source, sink, gate,
+            rt, alloc, &options, readers, polls, attempts, mirrors, source, sink, gate,
         ),
         Ok(job) => Ended::With(plain(alloc, &job, source, sink, disk)),
         Err(WordsError::Usage) => Ended::With(say(b"error usage\n", Status::Usage, sink)),

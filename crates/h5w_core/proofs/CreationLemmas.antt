@@ -24,7 +24,7 @@ use Rattle.h5w_session.proofs.LawLemmas.{standing_laws}
 use Rattle.h5w_core.specs.Creation.{Creates}
 use Rattle.h5w_core.specs.Readers.{placed, reader_at}
 use Rattle.h5w_steady.specs.Steady.{steady}
-use Rattle.h5w_core.specs.Worlds.{HaveOneLog, HoldsTogether, nobody, polling_of, rules_for, rules_of}
+use Rattle.h5w_core.specs.Worlds.{HaveOneLog, HoldsTogether, IsNewWorld, nobody, polling_of, rules_for, rules_of}
 use Rattle.h5w_core.proofs.ShowLemmas.{after_facts, same_cutting, still_piece}
 use Rattle.h5w_core.proofs.StateLemmas.{new_now, rules_by, spent_in-events}
 use Rattle.h5w_core.proofs.WorldLemmas.{world_of}
@@ -48,6 +48,7 @@ begins o s m n by c budget stands empty same pieces end =
       new = record { file = new_file o; is = creatable o by; log_is = refl };
       is = refl;
       none = refl;
+      name = ap (λ (x : Session). x.name) is;
       history = history;
       bytes = some_is n.bytes m.bytes same.bytes ∙ ap (λ (v : MemView). v.bytes) empty;
       dataset = ap (λ (x : Session). x.dataset) is;
@@ -81,6 +82,7 @@ piece_more o count s t m n piece pieces pending start shown wrote stands room =
       new = new_now (shows piece) log start.new;
       is = ap (and_now (shows piece)) start.is;
       none = start.none;
+      name = after.name ∙ start.name;
       history = history ∙ ap (λ (ws : List Write). ws ++ piece ∷ []) start.history;
       bytes = some_is n.bytes (image m.bytes (piece ∷ [])) wrote.bytes ∙ ap (λ (b : List ℕ). image b (piece ∷ [])) start.bytes ∙ sym (image-push [] (hist log.events) piece);
       dataset = after.dataset ∙ start.dataset;
@@ -154,6 +156,17 @@ created_fits o attempts s m some start =
         polls = λ r. subst (λ (o : Option Reader). MayPoll (polling_of w) start.log None o) (sym (nobody_at r)) tt;
       };
     }
+
+pub created_new : (o : Options) (attempts : ℕ) (s : Session) (m : MemView) (readers : List (Option ReaderCore)) → Creates o (total o) s m → IsNewWorld o (world_of s m attempts readers)
+created_new o attempts s m readers start = record {
+  log = start.log;
+  stands = record { stands = start.stands; new = start.new; journal = start.history; bytes = start.bytes };
+  is = start.is;
+  none = start.none;
+  pieces = sym start.history ∙ all_created o s m start;
+  loads = start.loads;
+  name = start.name;
+}
 
 pub created_rules : (o : Options) (attempts : ℕ) (s : Session) (m : MemView) (readers : List (Option ReaderCore)) → Creates o (total o) s m → rules_of (world_of s m attempts readers) ≡ rules_for o attempts
 created_rules o attempts s m readers start = λ i. rules_by (start.dataset i) (start.limit i) (start.budget i) attempts

@@ -11,3 +11,4 @@ pub mod RunLemmas
 pub mod PollLemmas
 pub mod HoldLemmas
 pub mod ReaderLemmas
+pub mod NameLemmas

@@ -19,6 +19,7 @@ pub record Creates (options : Options) (count : ℕ) (s : Session) (m : MemView)
   pub new : IsNew log
   pub is : log ≡ log_of (new_file options) log.events
   pub none : appended log ≡ []
+  pub name : s.name ≡ options.name
   pub history : m.history ≡ hist log.events
   pub bytes : m.bytes ≡ image [] (hist log.events)
   pub dataset : s.dataset ≡ described_of (new_file options)

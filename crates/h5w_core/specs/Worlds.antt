@@ -22,6 +22,8 @@ use Rattle.h5w_core.specs.Readers.{IsCalling, MayRead, ended, reader_at}
 use Rattle.h5w_space.specs.declared.Full.{Full}
 use Rattle.h5w_steady.specs.Steady.{steady}
 use Rattle.h5w_types.specs.Fields.{int_type_of}
+use Rattle.h5w_creation_laws.specs.CreatedFiles.{created_writes}
+use Rattle.h5w_session.specs.Creations.{log_of, new_file}
 use Rattle.h5w_session.specs.Refusals.{append_refusal, flush_refusal}
 use Rattle.h5w_session.specs.Room.{HasRoomFor}
 use Rattle.h5w_session.specs.Flushes.{SameBut}
@@ -93,6 +95,17 @@ pub record IsStateOf (w : WorldView) (s : ScriptState) (log : Log) : Type 0 wher
   pub tries : 1 ≤ w.attempts
   pub begun : log.first ≤ now log
   pub polls : AllPoll (polling_of w) log s (reader_at w.readers)
+
+-- The world of a session that created a file by these options, under their name: its log has the pieces of the creation, no values and no
+-- loads.
+pub record IsNewWorld (options : Options) (w : WorldView) : Type 0 where
+  pub log : Log
+  pub stands : StandsFor w log
+  pub is : log ≡ log_of (new_file options) log.events
+  pub none : appended log ≡ []
+  pub pieces : hist log.events ≡ created_writes (new_file options)
+  pub loads : spent (cutting_of w.session) log ≡ 0
+  pub name : w.session.name ≡ options.name
 
 -- the world and the state of a script that was run on it are those of one log
 pub record HaveOneLog (w : WorldView) (s : ScriptState) : Type 0 where

@@ -17,7 +17,7 @@ ghost use Rattle.h5w_session.specs.Stands.{Stands};
 ghost use Rattle.h5w_core.specs.Readers.{IsCalling, MayRead, ended, reader_at};
 ghost use Rattle.h5w_steady.specs.Steady.{steady};
 ghost use Rattle.h5w_core.specs.Creation.{Creates};
-ghost use Rattle.h5w_core.specs.Worlds.{AreRowsBy, HaveOneLog, HoldsMore, IsHeard, IsKept, IsLeft, MayWantMemory, StandsFor, Steps, full_reply, logged, nobody, rules_for, rules_of};
+ghost use Rattle.h5w_core.specs.Worlds.{AreRowsBy, HaveOneLog, HoldsMore, IsHeard, IsKept, IsLeft, IsNewWorld, MayWantMemory, StandsFor, Steps, full_reply, logged, nobody, rules_for, rules_of};
 
 use crate::readers;
 use h5w_image::Journal;
@@ -114,6 +114,7 @@ impl World {
         ensures fits { IfOk result (λ w. HaveOneLog w at_first) }
         ensures rules { IfOk result (λ w. rules_of w ≡ rules_for options.now attempts) }
         ensures created { IfOk result (λ w. w.journal ≡ created_writes (new_file options.now)) }
+        ensures new { IfOk result (IsNewWorld options.now) }
     {
         let readers = places(alloc)?;
         let (session, image) = create(alloc, options)?;
@@ -145,6 +146,7 @@ impl World {
         ensures logged { IfOk result (λ reply. (log : Log) → StandsFor self.old log → StandsFor self.new (logged self.old event reply log)) }
         ensures full { (full : Full) → result ≡ Ok (full_reply full) → IsFullFor self.old.session full }
         ensures rules { rules_of self.new ≡ rules_of self.old }
+        ensures named { self.new.session.name ≡ self.old.session.name }
         ensures kept { OnErr result (IsLeft self.old event self.new) }
         ensures memory { OnErr result (MayWantMemory self.old event) }
         ensures visible { event ≡ Event.Visible → IsOk result }
@@ -174,6 +176,7 @@ impl World {
         ensures no_space { (full : Full) → result ≡ Ok (full_reply full) → ⊥ }
         ensures kept { OnErr result (self.new ≡ self.old) }
         ensures memory { OnErr result (MayWantMemory self.old (Event.Append values.now)) }
+        ensures named { self.new.session.name ≡ self.old.session.name }
     {
         match self.session.append(values, &mut self.image) {
             Ok(rows) => Ok(Reply::Appended {
@@ -196,6 +199,7 @@ impl World {
         ensures full { (full : Full) → result ≡ Ok (full_reply full) → IsFullFor self.old.session full }
         ensures kept { OnErr result (HoldsMore self.old self.new) }
         ensures memory { OnErr result (MayWantMemory self.old Event.Flush) }
+        ensures named { self.new.session.name ≡ self.old.session.name }
     {
         match self.session.flush(&mut self.image) {
             Ok(pieces) => Ok(Reply::Flushing { pieces }),
@@ -217,6 +221,7 @@ impl World {
         ensures steps { Steps self.old Event.Visible result self.new }
         ensures logged { (log : Log) → StandsFor self.old log → StandsFor self.new (logged self.old Event.Visible result log) }
         ensures no_space { (full : Full) → result ≡ full_reply full → ⊥ }
+        ensures named { self.new.session.name ≡ self.old.session.name }
     {
         let pieces = show(&mut self.session, &mut self.image);
         Reply::Written {
@@ -230,6 +235,7 @@ impl World {
         ensures steps { Steps self.old Event.Stop result self.new }
         ensures no_space { (full : Full) → result ≡ full_reply full → ⊥ }
         ensures logged { (log : Log) → StandsFor self.old log → StandsFor self.new log }
+        ensures named { self.new.session.name ≡ self.old.session.name }
     {
         self.session.stop();
         Reply::Stopped
@@ -244,6 +250,7 @@ impl World {
         ensures rules { rules_of self.new ≡ rules_of self.old }
         ensures kept { OnErr result (IsKept self.old self.new reader (reader_at self.old.readers reader)) }
         ensures memory { OnErr result (reader_at self.old.readers reader ≡ None) }
+        ensures named { self.new.session.name ≡ self.old.session.name }
     {
         readers::open(
             &mut self.readers[reader as usize],
@@ -260,6 +267,7 @@ impl World {
         ensures steps { Steps self.old (Event.Refresh reader) result self.new }
         ensures no_space { (full : Full) → result ≡ full_reply full → ⊥ }
         ensures logged { (log : Log) → StandsFor self.old log → StandsFor self.new log }
+        ensures named { self.new.session.name ≡ self.old.session.name }
     {
         readers::refresh(&mut self.readers[reader as usize], reader)
     }
@@ -273,6 +281,7 @@ impl World {
         ensures rules { rules_of self.new ≡ rules_of self.old }
         ensures kept { OnErr result (IsKept self.old self.new reader (reader_at self.old.readers reader)) }
         ensures memory { OnErr result (MayRead from count (reader_at self.old.readers reader)) }
+        ensures named { self.new.session.name ≡ self.old.session.name }
     {
         readers::read(&mut self.readers[reader as usize], reader, from, count)
     }
@@ -286,6 +295,7 @@ impl World {
         ensures rules { rules_of self.new ≡ rules_of self.old }
         ensures kept { OnErr result (IsKept self.old self.new reader (option_map ended (reader_at self.old.readers reader))) }
         ensures memory { OnErr result (IsCalling (reader_at self.old.readers reader)) }
+        ensures named { self.new.session.name ≡ self.old.session.name }
     {
         readers::look(&mut self.readers[reader as usize], reader, &mut self.image)
     }

@@ -3,7 +3,6 @@ pub mod ClearLemmas
 pub mod CheckLemmas
 pub mod ImageLemmas
 pub mod SinkLemmas
-pub mod AnsweringLemmas
 pub mod PollLemmas
 pub mod OnceLemmas
 pub mod TimesLemmas

@@ -1,44 +1,31 @@
 -- What a poll finds and writes.
 use Rattle.std.proofs.Common.{◌≡◌, ◌⊎◌, ℕ, ◌+◌, ◌≤◌, ◌^◌, List, length, Option, Some, None, Result, Ok, Err, refl, sym, ap, ◌∙◌, subst, inl, inr}
 use Rattle.std.specs.Prelude.{nat_lt, ℤ, option_map}
-use Rattle.std.specs.List.{AllByRecursion}
 use Rattle.std.proofs.lemmas.Bool.{cond-false, le-ltb}
-use Rattle.h5w_model.specs.Numbers.{range}
-use Rattle.h5w_model.specs.Programs.{Prog, ret, whole, counted, stored, eval, IsLookAt}
-use Rattle.h5w_model.specs.Tables.{Reading, reading}
-use Rattle.h5w_model.specs.Calls.{open_call, rows_call, rows_seen}
+use Rattle.h5w_model.specs.Programs.{Prog, ret, eval}
+use Rattle.h5w_model.specs.Tables.{Reading}
+use Rattle.h5w_model.specs.Calls.{rows_call, rows_seen}
 use Rattle.h5w_model.specs.Unfinished.{Reader, ReaderRules, Unfinished, rows_left, values_left, rows_program, values_program, refresh_rules, with_left}
 use Rattle.h5w_model.specs.declared.refusal.ReadError.{ReadError}
 use Rattle.h5w_model.specs.declared.refusal.ReadError.TheVariants as reads
 use Rattle.h5w_laws.specs.Programs.{looks_on}
 use Rattle.h5w_laws.proofs.LookLemmas.{takes_on}
-use Rattle.h5w_headline.proofs.EndLemmas.{plain_open, plain_rows}
-use Rattle.h5w_headline.proofs.StillLemmas.{still_calls, still_refresh}
+use Rattle.h5w_headline.proofs.EndLemmas.{plain_rows}
+use Rattle.h5w_headline.proofs.StillLemmas.{still_refresh}
 use Rattle.h5w_reader.specs.Readers.{IsRefusedRead, StepTells, read_refusal}
 use Rattle.h5w_reader.specs.declared.step.ReadBegin.{ReadBegin}
 use Rattle.h5w_reader.specs.declared.step.ReadBegin.TheVariants as begins
 use Rattle.h5w_reader.specs.declared.step.Step.TheVariants as steps
 use Rattle.h5w_text.specs.declared.error.ErrorLine.{ErrorLine}
 use Rattle.h5w_text.specs.declared.error.ErrorLine.TheVariants as errors
-use Rattle.h5w_files.specs.Answering.{AnswersCall, IsForRows, IsForValues, evaluated}
+use Rattle.h5w_answers.proofs.OpenLemmas.{looks_there}
+use Rattle.h5w_answers.specs.Answering.{AnswersCall, IsForRows, IsForValues, evaluated}
 use Rattle.h5w_files.specs.Polls.{Shown}
 use Rattle.h5w_files.specs.Polling.{FindsRows, FindsValues, HasJustBegun, IsOfCall, RefusedBy, read_line}
 
 -- ---- On an image that stays as it is
 
-looks_there : {A : Type 0} (img : List ℕ) (p : Prog A) → AllByRecursion (IsLookAt img) (looks_on img p)
-looks_there img (ret a) = tt
-looks_there img (whole place n next) = (refl, looks_there img (next (range img place n)))
-looks_there img (counted place counts next) = tt
-looks_there img (stored kind place n next) = tt
-
--- an open finds what is shown, or the refusal of the first step that fails
-pub opens_still : (img : List ℕ) (g : ReaderRules) → length img ≤ 2 ^ 64 → eval img (rows_program g None) ≡ eval img (reading g.limits g.name)
-opens_still img g fits =
-    let p : Prog (Result Reading ReadError) = open_call g.limits g.keeps g.attempts g.name in
-    still_calls.opens img g.name g.limits g.keeps g.attempts (looks_on img p) (eval img p) fits (looks_there img p) (takes_on img p (plain_open g.limits g.keeps g.attempts g.name))
-
--- and a refresh finds it again
+-- a refresh finds again what is shown
 pub refreshes_still : (img : List ℕ) (g : ReaderRules) (r : Reading) → length img ≤ 2 ^ 64 → Shown img g r → eval img (rows_program g (Some r)) ≡ Ok r
 refreshes_still img g r fits shown =
     let p : Prog (Result Reading ReadError) = rows_call (refresh_rules g r) in

@@ -22,7 +22,8 @@ use Rattle.h5w_files.specs.declared.polling.Ending.{Ending}
 use Rattle.h5w_files.specs.declared.polling.Ending.TheVariants as endings
 use Rattle.h5w_batches.proofs.InputLemmas.{rose_before}
 use Rattle.h5w_files.proofs.SinkLemmas.{gave_both, gave_nothing, gave_then_some}
-use Rattle.h5w_files.proofs.PollLemmas.{opens_still, refreshes_still}
+use Rattle.h5w_answers.proofs.OpenLemmas.{opens_still}
+use Rattle.h5w_files.proofs.PollLemmas.{refreshes_still}
 use Rattle.h5w_files.proofs.OnceLemmas.{still_yet}
 
 -- ---- A call that has begun

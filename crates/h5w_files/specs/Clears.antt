@@ -1,5 +1,5 @@
 -- What the clearing of a file's flags tells, and what it leaves.
-use Rattle.std.specs.Prelude.{◌≡◌, ℕ, ◌-◌, ◌*◌, ◌/◌, ◌%◌, ◌≤◌, ◌⊎◌, Bool, List, [], ◌∷◌, ◌++◌, length, take, codes, ◌==◌, if◌then◌else◌, Option, Some, None, IfSome, IfOk, IfErr, OnOk, OnErr, Result, Ok, Err, option_map, unwrap_or}
+use Rattle.std.specs.Prelude.{◌≡◌, ℕ, ◌-◌, ◌*◌, ◌/◌, ◌%◌, ◌⊎◌, Bool, List, [], ◌∷◌, ◌++◌, length, take, codes, ◌==◌, if◌then◌else◌, Option, Some, None, IfSome, IfOk, IfErr, OnOk, OnErr, Result, Ok, Err, option_map, unwrap_or}
 use Rattle.h5w_model.specs.Causes.{Rose}
 use Rattle.h5w_model.specs.Numbers.{range}
 use Rattle.h5w_model.specs.Checksum.{sealed_block}

@@ -8,6 +8,5 @@ pub mod Images
 pub mod Ends
 pub mod Checks
 pub mod Clears
-pub mod Answering
 pub mod Polls
 pub mod Polling

@@ -1,5 +1,5 @@
 //! A reader's call over an image, to its answer.
-ghost use Rattle.std.specs.Prelude.{◌≡◌, ◌≢◌, ◌⊎◌, ◌≤◌, ◌-◌, ℕ, List, Some, Err, IsSome, IfErr, IfOk, option_map};
+ghost use Rattle.std.specs.Prelude.{◌≡◌, ◌≢◌, ◌⊎◌, ◌≤◌, ◌-◌, ℕ, List, Err, IsSome, IfErr, IfOk, option_map};
 ghost use Rattle.h5w_model.specs.Causes.{Rose};
 ghost use Rattle.h5w_model.specs.Unfinished.{wanted};
 ghost use Rattle.h5w_image.specs.View.{Looked};
@@ -7,14 +7,12 @@ ghost use Rattle.h5w_looks.specs.Still.{IsStill};
 ghost use Rattle.h5w_reader.specs.Cores as cores;
 ghost use Rattle.h5w_reader.specs.Readers.{StepTells};
 ghost use Rattle.h5w_reader.specs.declared.step.Step.TheVariants as steps;
-ghost use Rattle.h5w_files.specs.Answering.{AnswersCall, evaluated};
+ghost use Rattle.h5w_answers.specs.Answering.{AnswersCall, evaluated};
 
-use h5w_image::{Piece, PieceRead};
+use h5w_answers::answer;
+use h5w_image::{ImageError, PieceRead};
 use h5w_reader::{ReaderCore, Step};
 use h5w_text::ErrorLine;
-
-/// The most looks of one call.
-const LOOKS: u64 = u64::MAX;
 
 /// Takes the looks of the reader's unfinished call to its answer. A disk that is looked at so often that they are too many to
 /// count is answered as for want of memory. Each look takes one of `looks`, as long as some are left.
@@ -32,19 +30,9 @@ pub fn answered<I: PieceRead>(
     ensures exact { IfOk result (λ step. (img : List ℕ) → IsStill (I.view image.old) img → StepTells (option_map (evaluated img) (cores.reader reader.old).left) (cores.reader reader.old) step (cores.reader reader.new)) }
     ensures fewer { looks.new ≤ looks.old - 1 }
 {
-    let mut piece = Piece::new();
-    for _ in 0..LOOKS {
-        let Some(look) = reader.want() else {
-            unreachable!()
-        };
-        *looks = looks.saturating_sub(1);
-        match image.look(look.at, look.len, &mut piece) {
-            Ok(()) => match reader.give(&piece) {
-                Step::More => {}
-                step => return Ok(step),
-            },
-            Err(_) => return Err(ErrorLine::Disk),
-        }
+    match answer(reader, image, looks) {
+        Ok(step) => Ok(step),
+        Err(ImageError::Failed) => Err(ErrorLine::Disk),
+        Err(ImageError::OutOfMemory) => Err(ErrorLine::Memory),
     }
-    Err(ErrorLine::Memory)
 }

@@ -7,7 +7,7 @@ ghost use Rattle.h5w_image.specs.View.{Looked};
 ghost use Rattle.h5w_looks.specs.Still.{IsStill};
 ghost use Rattle.h5w_reader.specs.Cores as cores;
 ghost use Rattle.h5w_reader.specs.Readers.{reader_rules};
-ghost use Rattle.h5w_files.specs.Answering.{IsForRows};
+ghost use Rattle.h5w_answers.specs.Answering.{IsForRows};
 ghost use Rattle.h5w_files.specs.Ends.{EndsWell};
 ghost use Rattle.h5w_files.specs.Polling.{FindsRows, FindsValues, HasJustBegun, IsOfCall, OnceGives, PollGives, TimesGive, ToldBy, is_doubtful, may_pass, read_line};
 ghost use Rattle.h5w_files.specs.Polls.{PollEnds, count_text, poll_of, values_text};

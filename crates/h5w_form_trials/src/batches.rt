@@ -3,7 +3,7 @@
 ghost use Rattle.std.specs.Prelude.{◌≤◌};
 
 use h5w_batches::{BatchError, read_batches};
-use h5w_text::MemSource;
+use h5w_text::{MemSource, write_rows};
 use std::alloc::Global;
 use std::test::Fail;
 
@@ -53,6 +53,19 @@ fn an_empty_line_and_the_end_close_a_batch(rt: HostRuntime) -> Result<(), Fail> 
         marked(rt.alloc(), 3, b"1 2 3 4 5 6\n7 8 9\n")?.as_slice(),
         rows
     );
+    Ok(())
+}
+
+#[test]
+fn lines_that_reach_over_a_read_come_whole(rt: HostRuntime) -> Result<(), Fail> {
+    let mut values = Vec::new(rt.alloc());
+    for n in 0..3000u32 {
+        values.push(i128::from(n) * 7_000_000_000_000_001 - 1)?;
+    }
+    let mut text = Vec::new(rt.alloc());
+    write_rows(&mut text, 3000, 1, &values)?;
+    values.push(0)?;
+    assert_eq!(rt; marked(rt.alloc(), 1, &text)?.as_slice(), values.as_slice());
     Ok(())
 }
 

@@ -16,7 +16,7 @@ use Rattle.h5w_creation_laws.specs.CreatedFiles.{CreatedFile, IsCreatable, block
 use Rattle.h5w_session.specs.Creations.{IsCreated, log_of}
 use Rattle.h5w_session.specs.Sessions.{AfterPiece, Session, cleared, closed_of, closed_root, with_rows}
 use Rattle.h5w_session.specs.Stands.{Stands}
-use Rattle.h5w_shared.specs.Seats.{ImageId, SeatView}
+use Rattle.h5w_shared.specs.Seats.{HasMadeRoom, ImageId, SeatView}
 use Rattle.h5w_live.specs.Reports.{before_close}
 use Rattle.h5w_live.specs.Writing.{HasClosed, HasFlushed, HasRoom, HasWritten, showing}
 use Rattle.h5w_live.proofs.WritingLemmas.{after_early, after_pending, appended_showing, hist_showing, shown_stays}
@@ -45,6 +45,10 @@ none_flushed f ws p some within =
     let here : events_at p (showing ws []) ≡ showing (take p ws) [] = ap (λ q. events_at q (showing ws [])) (let e : p ≡ 0 + p = omega arith in e) ∙ there in
     let none : flushed_in 0 [] (events_at p (showing ws [])) ≡ [] = ap (flushed_in 0 []) here ∙ flushed_showing 0 [] (take p ws) [] in
     ap (λ (vs : List ℤ). length vs / f.columns) none ∙ rows_in_values 0 0 f.columns some (omega arith)
+
+-- room that was asked for what is pending and one piece more
+pub has_room : (s : Session) (v w : SeatView) (pieces end : ℕ) → pieces ≡ length s.pending → end ≡ s.places.end → HasMadeRoom (pieces + 1) end v w → HasRoom s w
+has_room s v w pieces end count place made = record { pieces = omega (arith, count, made.asked); end = omega (arith, place, made.asked_end) }
 
 pub created_flushed : (f : CreatedFile) (most : ℕ) (s t : Session) (v w : SeatView) → IsCreatable f → IsCreated f most s → Stands s (created_log f) → v.image.start ≡ [] → v.seen ≡ [] → HasRoom s v → AfterPiece s [] t → HasWritten s.pending v w
     → ((log : Log) → Stands s log → Stands t (record log { events = showing s.pending log.events })) → HasFlushed f most [] t w []

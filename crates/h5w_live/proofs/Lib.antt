@@ -9,3 +9,5 @@ pub mod ReaderLemmas
 pub mod ReportLemmas
 pub mod MeetLemmas
 pub mod JoinLemmas
+pub mod Sent
+pub mod SecondLemmas

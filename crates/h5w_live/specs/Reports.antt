@@ -1,6 +1,6 @@
 -- What the writer and the readers of a run leave, what the run reports of it, and by what cause it does not.
-use Rattle.std.specs.Prelude.{◌≡◌, ◌≢◌, ℕ, ◌+◌, ◌-◌, ◌*◌, ◌/◌, ◌^◌, ◌<◌, ◌≤◌, List, [], ◌∷◌, length, take, drop, ℤ, Some, None, Result, Ok, Err, IfOk, IfErr, OnOk}
-use Rattle.h5w_model.specs.Agrees.{Agrees, Run, values_in}
+use Rattle.std.specs.Prelude.{◌≡◌, ◌≢◌, ℕ, ◌+◌, ◌-◌, ◌*◌, ◌/◌, ◌^◌, ◌<◌, ◌≤◌, List, [], ◌∷◌, length, take, drop, ℤ, Option, Some, None, Result, Ok, Err, IfOk, IfErr, OnOk}
+use Rattle.h5w_model.specs.Agrees.{Agrees, ReaderAgrees, Run, values_in}
 use Rattle.h5w_model.specs.Headers.{header_view}
 use Rattle.h5w_model.specs.Images.{image}
 use Rattle.h5w_model.specs.Messages.{IsIntType}
@@ -12,6 +12,7 @@ use Rattle.h5w_model.specs.declared.report.FlushLine.{FlushLine}
 use Rattle.h5w_model.specs.declared.report.PollLine.{PollLine}
 use Rattle.h5w_model.specs.declared.root.Super.{Super}
 use Rattle.h5w_creation_laws.specs.CreatedFiles.{CreatedFile, created_writes}
+use Rattle.h5w_model.specs.Unfinished.{ReaderRules}
 use Rattle.h5w_reader.specs.Readers.{reader_rules}
 use Rattle.h5w_session.specs.Sessions.{Session}
 use Rattle.h5w_session.specs.declared.refusal.AppendError.TheVariants as appends
@@ -19,12 +20,14 @@ use Rattle.h5w_shared.specs.Seats.{ImageId, SeatView}
 use Rattle.h5w_shared.specs.Turns.{StartsWith}
 use Rattle.h5w_live_reading.specs.Ends.{ReadersEnd}
 use Rattle.h5w_live_reading.specs.Reading.{Polled}
+use Rattle.h5w_live.specs.Seconds.{IsSecondOf}
 use Rattle.h5w_live.specs.Writing.{Explains, HasFlushed, IsFullAt, first_refused}
 use Rattle.h5w_live_reading.specs.declared.actors.AllEnded.{AllEnded}
 use Rattle.h5w_live_reading.specs.declared.actors.Cut.{Cut}
 use Rattle.h5w_live.specs.declared.report.LiveError.{LiveError}
 use Rattle.h5w_live.specs.declared.report.LiveError.TheVariants as lives
 use Rattle.h5w_live.specs.declared.report.LiveReport.{LiveReport}
+use Rattle.h5w_live.specs.declared.threads.Beside.{Beside}
 use Rattle.h5w_live.specs.declared.threads.Written.{Written}
 use Rattle.h5w_live.specs.declared.writing.Halt.TheVariants as halts
 
@@ -123,30 +126,73 @@ pub record HasPutAll (f : CreatedFile) (most : ℕ) (bs : List (List ℤ)) (i : 
   pub refused : IfErr w.lines (λ e. Explains f most bs e.0 e.1)
   pub failed : (batch : ℕ) → w.lines ≡ Err (batch, halts.Failed) → 0 < w.seat.faults
 
--- the writer and its readers were joined: each reader's seat had seen the pieces of the creation when its thread began
-pub record Ran (i : ImageId) (w : Written) (r : Result AllEnded Cut) : Type 0 where
+-- what a second image leaves, at which so many readers looked, behind so many others: each of their seats had seen these pieces at first
+pub record BesideEnds (g : ReaderRules) (i : ImageId) (before calls readers : ℕ) (seen : List Write) (b : Beside) : Type 0 where
+  pub second : IsSecondOf i b.second
+  pub ends : ReadersEnd g b.second.image before calls readers seen b.ended
+
+-- no second image has no readers
+abbrev pub IsBeside : ReaderRules → ImageId → (before calls readers : ℕ) → List Write → Option Beside → Type 0
+IsBeside g i before calls readers seen None = readers ≡ 0
+IsBeside g i before calls readers seen (Some b) = BesideEnds g i before calls readers seen b
+
+-- The writer and all readers were joined, those of the second image too, which are numbered behind the others: each reader's seat had seen the
+-- pieces of the creation when its thread began.
+pub record Ran (i : ImageId) (w : Written) (r : Result AllEnded Cut) (b : Option Beside) : Type 0 where
   pub file : CreatedFile
   pub most : ℕ
   pub batches : List (List ℤ)
   pub attempts : ℕ
   pub readers : ℕ
+  pub mirrors : ℕ
   pub calls : ℕ
   pub typed : IsIntType file.int_type
   pub some : 1 ≤ attempts
   pub put : HasPutAll file most batches i w
-  pub ends : ReadersEnd (reader_rules file.name attempts) i calls readers (created_writes file) r
+  pub ends : ReadersEnd (reader_rules file.name attempts) i 0 calls readers (created_writes file) r
+  pub beside : IsBeside (reader_rules file.name attempts) i readers calls mirrors (created_writes file) b
 
 -- and the session, whose flushes have these lines, is not closed yet
-pub record Joined (i : ImageId) (s : Session) (v : SeatView) (flushes : List FlushLine) (r : Result AllEnded Cut) : Type 0 where
+pub record Joined (i : ImageId) (s : Session) (v : SeatView) (flushes : List FlushLine) (r : Result AllEnded Cut) (b : Option Beside) : Type 0 where
   pub file : CreatedFile
   pub most : ℕ
   pub batches : List (List ℤ)
   pub attempts : ℕ
   pub readers : ℕ
+  pub mirrors : ℕ
   pub calls : ℕ
   pub typed : IsIntType file.int_type
   pub some : 1 ≤ attempts
   pub few : length (values_in batches) < 2 ^ 52
-  pub there : v.image ≡ i
+  pub start : i.start ≡ []
   pub flushed : HasFlushed file most batches s v flushes
-  pub ends : ReadersEnd (reader_rules file.name attempts) i calls readers (created_writes file) r
+  pub ends : ReadersEnd (reader_rules file.name attempts) i 0 calls readers (created_writes file) r
+  pub beside : IsBeside (reader_rules file.name attempts) i readers calls mirrors (created_writes file) b
+
+-- ---- The readers of one image
+
+-- so many readers of an image were joined, behind so many others, in a run of so many in all
+pub record PartJoined (i : ImageId) (s : Session) (v : SeatView) (flushes : List FlushLine) (r : Result AllEnded Cut) : Type 0 where
+  pub file : CreatedFile
+  pub most : ℕ
+  pub batches : List (List ℤ)
+  pub attempts : ℕ
+  pub before : ℕ
+  pub readers : ℕ
+  pub all : ℕ
+  pub calls : ℕ
+  pub typed : IsIntType file.int_type
+  pub some : 1 ≤ attempts
+  pub few : length (values_in batches) < 2 ^ 52
+  pub start : i.start ≡ []
+  pub flushed : HasFlushed file most batches s v flushes
+  pub ends : ReadersEnd (reader_rules file.name attempts) i before calls readers (created_writes file) r
+
+-- the lines of so many readers behind so many others, one reader behind another, agree with the flushes of the run
+pub record PartAgrees (run : Run) (before readers : ℕ) (lines : List PollLine) : Type 0 where
+  pub count : length lines ≡ readers * run.calls
+  pub each : (k : ℕ) → k < readers → ReaderAgrees run (before + k + 1) 1 run.first 0 (take run.calls (drop (k * run.calls) lines))
+
+-- and tell of calls through the readers' seats
+abbrev pub TellPart : CreatedFile → (attempts before readers calls : ℕ) → List Write → List PollLine → Type 0
+TellPart f attempts before readers calls pieces lines = (k : ℕ) → k < readers → TellsSeat f attempts (before + k + 1) pieces (take calls (drop (k * calls) lines))

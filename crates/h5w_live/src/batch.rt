@@ -20,15 +20,16 @@ use crate::seated::{append, flush};
 use crate::writing::{Halt, show, show_early};
 use h5w_image::Gate;
 use h5w_model::FlushLine;
+use h5w_pen::Pen;
 use h5w_session::{AppendError, FlushError, WriterCore};
-use h5w_shared::{SharedImage, WriterSeat};
+use h5w_shared::SharedImage;
 use std::sync::Wait;
 
 /// Appends a batch behind others that were flushed.
 fn take<R: Wait>(
     rt: &R,
     image: &SharedImage,
-    seat: &mut WriterSeat,
+    seat: &mut Pen,
     session: &mut WriterCore,
     values: &[i128],
 ) -> Result<(), Halt>
@@ -62,7 +63,7 @@ fn take<R: Wait>(
 fn add<R: Wait>(
     rt: &R,
     image: &SharedImage,
-    seat: &mut WriterSeat,
+    seat: &mut Pen,
     session: &mut WriterCore,
     values: &[i128],
 ) -> Result<(), Halt>
@@ -93,7 +94,7 @@ fn add<R: Wait>(
 fn plan<R: Wait>(
     rt: &R,
     image: &SharedImage,
-    seat: &mut WriterSeat,
+    seat: &mut Pen,
     session: &mut WriterCore,
 ) -> Result<(), Halt>
     requires image { seat.old.image ≡ image.now }
@@ -127,7 +128,7 @@ fn plan<R: Wait>(
 pub fn put<R: Wait, G: Gate>(
     rt: &R,
     image: &SharedImage,
-    seat: &mut WriterSeat,
+    seat: &mut Pen,
     session: &mut WriterCore,
     values: &[i128],
     gate: &G,

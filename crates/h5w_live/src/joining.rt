@@ -1,29 +1,33 @@
 //! What a run in threads comes to, once all threads have ended.
-ghost use Rattle.std.specs.Prelude.{◌≡◌, ℕ, ◌<◌, All, IfErr, IfOk, OnOk, Ok, None, List, ℤ};
-ghost use Rattle.h5w_model.specs.Agrees.{Agrees, values_in};
+ghost use Rattle.std.specs.Prelude.{◌≡◌, ℕ, ◌+◌, ◌<◌, All, IfErr, IfOk, IfSome, OnOk, Ok, None, List, ℤ};
+ghost use Rattle.h5w_model.specs.Agrees.{Agrees};
 ghost use Rattle.h5w_model.specs.declared.report.FlushLine.{FlushLine};
 ghost use Rattle.h5w_creation_laws.specs.CreatedFiles.{CreatedFile};
 ghost use Rattle.h5w_session.specs.Sessions.{Session};
 ghost use Rattle.h5w_shared.specs.Seats.{NoteView};
 ghost use Rattle.h5w_shared.specs.Turns.{StartsWith};
-ghost use Rattle.h5w_live.specs.declared.writing.Halt.TheVariants as halts;
-ghost use Rattle.h5w_live.specs.Reports.{AreWhole, IsCause, IsShut, Joined, Ran, Reports, TellSeats, TellsNone, before_close, run_of};
+ghost use Rattle.h5w_live.specs.Reports.{IsCause, Joined, PartAgrees, PartJoined, Ran, Reports, TellPart, TellSeats, before_close, run_of};
+ghost use Rattle.h5w_live.specs.Seconds.{IsSecondOf};
 ghost use Rattle.h5w_live.specs.Writing.{Explains, HasClosed, HasFlushed, first_refused};
 
+use crate::creating::copied;
+use crate::following::{Second, caught_up};
 use crate::lists::{FlushLines, PollLines};
 use crate::report::{LiveError, LiveReport, Loss, lost};
-use crate::threads::Written;
+use crate::seconds::second_judged;
+use crate::threads::{Beside, Written};
 use crate::writer::close;
 use crate::writing::Halt;
-use h5w_image::{ImageError, Journal};
+use h5w_image::Journal;
 use h5w_live_reading::{AllEnded, Cut};
 use h5w_model::{FlushLine, PollLine};
+use h5w_pen::Pen;
 use h5w_session::WriterCore;
-use h5w_shared::{Note, SharedImage, WriterSeat};
+use h5w_shared::{Note, SharedImage};
 use std::sync::Wait;
 
 /// The error of a batch that was not flushed, by its number.
-fn halted(batch: u64, halt: Halt, seat: WriterSeat) -> LiveError
+fn halted(batch: u64, halt: Halt, seat: Pen) -> LiveError
     requires { halt ≡ Halt.Failed → 0 < seat.faults }
     ensures { (f : CreatedFile) (most : ℕ) (bs : List (List ℤ)) → Explains f most bs batch halt → IsCause f most bs result }
 {
@@ -36,15 +40,12 @@ fn halted(batch: u64, halt: Halt, seat: WriterSeat) -> LiveError
         Halt::Chunks { chunks, limit } => LiveError::Chunks { chunks, limit },
         Halt::Space(full) => LiveError::Space(full),
         Halt::OutOfMemory => LiveError::OutOfMemory,
-        Halt::Failed => match seat.worn() {
-            Ok(worn) => LiveError::Failed(worn),
-            Err(_) => unreachable!(),
-        },
+        Halt::Failed => LiveError::Failed(seat.worn()),
     }
 }
 
 /// The writer's seat takes in what the readers' seats have seen, which begins what it has written.
-fn meet_all(image: &SharedImage, seat: &mut WriterSeat, mut notes: Vec<Note>)
+fn meet_all(image: &SharedImage, seat: &mut Pen, mut notes: Vec<Note>)
     requires image { seat.old.image ≡ image.now }
     requires notes { All (λ (n : NoteView). n.image ≡ image.now) notes.items }
     ensures same { seat.new ≡ seat.old }
@@ -55,16 +56,18 @@ fn meet_all(image: &SharedImage, seat: &mut WriterSeat, mut notes: Vec<Note>)
     }
 }
 
-/// The lines of the readers' calls, which agree with those of the flushes. What each reader's seat has seen begins what the writer's has.
+/// The lines of the calls of the first image's readers, which agree with those of the flushes. What each reader's seat has seen begins what the
+/// writer's has.
 fn judged(
     image: &SharedImage,
-    seat: &mut WriterSeat,
+    seat: &mut Pen,
     ended: Result<AllEnded, Cut>,
 ) -> Result<Vec<PollLine>, Loss>
-    requires { (s : Session) × (fs : List FlushLine) × Joined image.now s seat.old fs ended }
+    requires image { seat.old.image ≡ image.now }
+    requires joined { (s : Session) × (fs : List FlushLine) × PartJoined image.now s seat.old fs ended }
     ensures same { seat.new ≡ seat.old }
-    ensures agrees { (s : Session) (fs : List FlushLine) (j : Joined image.now s seat.old fs ended) → IfOk result (λ lines. Agrees (run_of j.file j.attempts j.readers j.calls j.batches fs) j.batches lines.items) }
-    ensures seats { (s : Session) (fs : List FlushLine) (j : Joined image.now s seat.old fs ended) → IfOk result (λ lines. TellSeats j.file j.attempts j.readers j.calls seat.old.seen lines.items) }
+    ensures agrees { (s : Session) (fs : List FlushLine) (j : PartJoined image.now s seat.old fs ended) → IfOk result (λ lines. PartAgrees (run_of j.file j.attempts j.all j.calls j.batches fs) j.before j.readers lines.items) }
+    ensures seats { (s : Session) (fs : List FlushLine) (j : PartJoined image.now s seat.old fs ended) → IfOk result (λ lines. TellPart j.file j.attempts j.before j.readers j.calls seat.old.seen lines.items) }
 {
     match ended {
         Ok(AllEnded { lines, notes }) => {
@@ -80,18 +83,29 @@ fn judged(
     }
 }
 
-/// A copy of all pieces.
-fn copied<R: Wait>(rt: &R, image: &SharedImage, mut seat: WriterSeat) -> Result<Journal, Loss>
-    requires { seat.image ≡ image.now }
-    ensures { IfOk result (λ journal. journal.writes ≡ seat.seen) }
+/// The lines of all calls, which agree with those of the flushes, and the second image, if there is one: it has what begins the first one's
+/// pieces.
+fn all_judged(
+    image: &SharedImage,
+    seat: &mut Pen,
+    ended: Result<AllEnded, Cut>,
+    beside: Option<Beside>,
+) -> Result<(Vec<PollLine>, Option<Second>), Loss>
+    requires image { seat.old.image ≡ image.now }
+    requires joined { (s : Session) × (fs : List FlushLine) × Joined image.now s seat.old fs ended beside }
+    ensures same { seat.new ≡ seat.old }
+    ensures agrees { (s : Session) (fs : List FlushLine) (j : Joined image.now s seat.old fs ended beside) → IfOk result (λ r. Agrees (run_of j.file j.attempts (j.readers + j.mirrors) j.calls j.batches fs) j.batches r.0.items) }
+    ensures seats { (s : Session) (fs : List FlushLine) (j : Joined image.now s seat.old fs ended beside) → IfOk result (λ r. TellSeats j.file j.attempts (j.readers + j.mirrors) j.calls seat.old.seen r.0.items) }
+    ensures second { IfOk result (λ r. IfSome r.1 (IsSecondOf image.now)) }
 {
-    match seat.history(rt, image) {
-        Ok(journal) => Ok(journal),
-        Err(ImageError::OutOfMemory) => Err(Loss::OutOfMemory),
-        Err(ImageError::Failed) => match seat.worn() {
-            Ok(worn) => Err(Loss::Failed(worn)),
-            Err(_) => unreachable!(),
-        },
+    let mut lines = judged(image, seat, ended)?;
+    let Some(Beside { second, ended }) = beside else {
+        return Ok((lines, None));
+    };
+    let (second, mut others) = second_judged(image, seat, second, ended)?;
+    match lines.append(&mut others) {
+        Ok(()) => Ok((lines, Some(second))),
+        Err(_) => Err(Loss::OutOfMemory),
     }
 }
 
@@ -99,9 +113,9 @@ fn copied<R: Wait>(rt: &R, image: &SharedImage, mut seat: WriterSeat) -> Result<
 fn shut<R: Wait>(
     rt: &R,
     image: &SharedImage,
-    mut seat: WriterSeat,
+    mut seat: Pen,
     session: &mut WriterCore,
-) -> Result<WriterSeat, Loss>
+) -> Result<Pen, Loss>
     requires image { seat.image ≡ image.now }
     requires flushed { (f : CreatedFile) × (most : ℕ) × (done : List (List ℤ)) × (lines : List FlushLine) × HasFlushed f most done session.old seat lines }
     ensures image { IfOk result (λ r. r.image ≡ image.now) }
@@ -110,28 +124,45 @@ fn shut<R: Wait>(
 {
     match close(rt, image, &mut seat, session) {
         Ok(()) => Ok(seat),
-        Err(_) => match seat.worn() {
-            Ok(worn) => Err(Loss::Failed(worn)),
-            Err(_) => unreachable!(),
-        },
+        Err(_) => Err(Loss::Failed(seat.worn())),
     }
+}
+
+/// A copy of all pieces, which the second image has too then.
+fn left<R: Wait>(
+    rt: &R,
+    image: &SharedImage,
+    seat: Pen,
+    second: Option<Second>,
+) -> Result<Journal, Loss>
+    requires image { seat.image ≡ image.now }
+    requires second { IfSome second (IsSecondOf image.now) }
+    ensures { IfOk result (λ journal. journal.writes ≡ seat.seen) }
+{
+    let (_, journal, note) = copied(rt, image, seat)?;
+    if let Some(second) = second {
+        caught_up(rt, image, second, &journal, note)?;
+    }
+    Ok(journal)
 }
 
 /// Takes in what the readers left, then closes the session, and reports.
 fn reported<R: Wait>(
     rt: &R,
     image: &SharedImage,
-    mut seat: WriterSeat,
+    mut seat: Pen,
     session: &mut WriterCore,
     flushes: Vec<FlushLine>,
     ended: Result<AllEnded, Cut>,
+    beside: Option<Beside>,
 ) -> Result<LiveReport, Loss>
-    requires { Joined image.now session.old seat flushes.items ended }
-    ensures { (j : Joined image.now session.old seat flushes.items ended) → IfOk result (λ report. Reports j.file j.batches j.attempts j.readers j.calls report) }
+    requires image { seat.image ≡ image.now }
+    requires joined { Joined image.now session.old seat flushes.items ended beside }
+    ensures { (j : Joined image.now session.old seat flushes.items ended beside) → IfOk result (λ report. Reports j.file j.batches j.attempts (j.readers + j.mirrors) j.calls report) }
 {
-    let polls = judged(image, &mut seat, ended)?;
+    let (polls, second) = all_judged(image, &mut seat, ended, beside)?;
     let seat = shut(rt, image, seat, session)?;
-    let journal = copied(rt, image, seat)?;
+    let journal = left(rt, image, seat, second)?;
     Ok(LiveReport {
         journal,
         flushes: FlushLines::from_vec(flushes),
@@ -143,18 +174,19 @@ fn reported<R: Wait>(
 fn settled<R: Wait>(
     rt: &R,
     image: &SharedImage,
-    seat: WriterSeat,
+    seat: Pen,
     session: &mut WriterCore,
     lines: Result<Vec<FlushLine>, (u64, Halt)>,
     ended: Result<AllEnded, Cut>,
+    beside: Option<Beside>,
 ) -> Result<LiveReport, LiveError>
-    requires { Ran image.now (record { seat = seat; session = session.old; lines = lines }) ended }
-    ensures reports { (r : Ran image.now (record { seat = seat; session = session.old; lines = lines }) ended) → IfOk result (λ report. Reports r.file r.batches r.attempts r.readers r.calls report) }
-    ensures accepted { (r : Ran image.now (record { seat = seat; session = session.old; lines = lines }) ended) → OnOk result (first_refused r.file 0 1 r.batches ≡ None) }
-    ensures cause { (r : Ran image.now (record { seat = seat; session = session.old; lines = lines }) ended) → IfErr result (λ e. IsCause r.file r.most r.batches e) }
+    requires { Ran image.now (record { seat = seat; session = session.old; lines = lines }) ended beside }
+    ensures reports { (r : Ran image.now (record { seat = seat; session = session.old; lines = lines }) ended beside) → IfOk result (λ report. Reports r.file r.batches r.attempts (r.readers + r.mirrors) r.calls report) }
+    ensures accepted { (r : Ran image.now (record { seat = seat; session = session.old; lines = lines }) ended beside) → OnOk result (first_refused r.file 0 1 r.batches ≡ None) }
+    ensures cause { (r : Ran image.now (record { seat = seat; session = session.old; lines = lines }) ended beside) → IfErr result (λ e. IsCause r.file r.most r.batches e) }
 {
     match lines {
-        Ok(flushes) => match reported(rt, image, seat, session, flushes, ended) {
+        Ok(flushes) => match reported(rt, image, seat, session, flushes, ended, beside) {
             Ok(report) => Ok(report),
             Err(loss) => Err(lost(loss)),
         },
@@ -162,22 +194,24 @@ fn settled<R: Wait>(
     }
 }
 
-/// Closes the session after all threads were joined, and reports. The writer's error comes first, then that of the readers, then that of the close.
+/// Closes the session after all threads were joined, and reports. The writer's error comes first, then that of the readers, of the first image
+/// and then of the second, then that of the close, of the copy of all pieces, and of the second image where it gets those that it lacks.
 pub fn finish<R: Wait>(
     rt: &R,
     image: &SharedImage,
     written: Written,
     ended: Result<AllEnded, Cut>,
+    beside: Option<Beside>,
 ) -> Result<LiveReport, LiveError>
-    requires { Ran image.now written ended }
-    ensures reports { (r : Ran image.now written ended) → IfOk result (λ report. Reports r.file r.batches r.attempts r.readers r.calls report) }
-    ensures accepted { (r : Ran image.now written ended) → OnOk result (first_refused r.file 0 1 r.batches ≡ None) }
-    ensures cause { (r : Ran image.now written ended) → IfErr result (λ e. IsCause r.file r.most r.batches e) }
+    requires { Ran image.now written ended beside }
+    ensures reports { (r : Ran image.now written ended beside) → IfOk result (λ report. Reports r.file r.batches r.attempts (r.readers + r.mirrors) r.calls report) }
+    ensures accepted { (r : Ran image.now written ended beside) → OnOk result (first_refused r.file 0 1 r.batches ≡ None) }
+    ensures cause { (r : Ran image.now written ended beside) → IfErr result (λ e. IsCause r.file r.most r.batches e) }
 {
     let Written {
         seat,
         mut session,
         lines,
     } = written;
-    settled(rt, image, seat, &mut session, lines, ended)
+    settled(rt, image, seat, &mut session, lines, ended, beside)
 }

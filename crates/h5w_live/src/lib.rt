@@ -7,11 +7,13 @@
 
 mod batch;
 mod creating;
+mod following;
 mod joining;
 mod lists;
 mod report;
 mod running;
 mod seated;
+mod seconds;
 mod threads;
 mod writer;
 mod writing;

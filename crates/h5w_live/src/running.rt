@@ -1,5 +1,5 @@
 //! One writer and its readers in threads over a file in memory that they share.
-ghost use Rattle.std.specs.Prelude.{◌≡◌, ◌≤◌, IfErr, IfOk, OnOk, None};
+ghost use Rattle.std.specs.Prelude.{◌≡◌, ◌+◌, ◌≤◌, IfErr, IfOk, OnOk, None};
 ghost use Rattle.h5w_model.specs.Agrees.{Agrees, values_in};
 ghost use Rattle.h5w_options.specs.Options.{AreAttempts, AreOptions, columns_in};
 ghost use Rattle.h5w_session.specs.Creations.{new_file};
@@ -10,7 +10,7 @@ use crate::creating::create;
 use crate::joining::finish;
 use crate::lists::Batches;
 use crate::report::{LiveError, LiveReport, lost};
-use crate::threads::{run, seats};
+use crate::threads::{run_all, seats};
 use h5w_image::Gate;
 use h5w_options::Options;
 use std::alloc::Global;
@@ -22,7 +22,10 @@ use std::thread::Threads;
 /// before any reader begins, and the session is closed once all have ended. The first batch that is refused is the answer.
 /// Each batch is whole rows; an empty one is none, and has no line.
 ///
-/// The writer comes to its turn `f` before the dataset header's piece of flush `f`, and reader `r` to its turn `k` after its call `k`.
+/// Where `mirrors` is not 0, a second image follows the first, and so many readers more look at it: they are numbered on from those of the first.
+///
+/// The writer comes to its turn `f` before the dataset header's piece of flush `f`, and reader `r` to its turn `k` after its call `k`. The
+/// follower is the actor behind all readers: it comes to its turn `q` after a batch by which the second image has `q` pieces.
 pub fn live<R: Threads + Wait + Sync, G: Gate>(
     rt: &R,
     alloc: Global,
@@ -31,6 +34,7 @@ pub fn live<R: Threads + Wait + Sync, G: Gate>(
     readers: u32,
     polls: u32,
     attempts: u32,
+    mirrors: u32,
     gate: &G,
 ) -> Result<LiveReport, LiveError>
     requires options { AreOptions options.now }
@@ -38,14 +42,15 @@ pub fn live<R: Threads + Wait + Sync, G: Gate>(
     requires readers { (1 ≤ readers) × (readers ≤ 16) }
     requires polls { (1 ≤ polls) × (polls ≤ 10000) }
     requires attempts { AreAttempts attempts }
-    ensures agrees { IfOk result (λ r. Agrees (run_of (new_file options.now) attempts readers polls batches.now r.flushes) batches.now r.polls) }
+    requires mirrors { mirrors ≤ 16 }
+    ensures agrees { IfOk result (λ r. Agrees (run_of (new_file options.now) attempts (readers + mirrors) polls batches.now r.flushes) batches.now r.polls) }
     ensures whole { IfOk result (λ r. AreWhole options.now.name (columns_in options.now.columns) r.journal.writes (values_in batches.now) 0 r.flushes) }
     ensures shut { IfOk result (λ r. IsShut options.now.name (columns_in options.now.columns) r.journal.writes (values_in batches.now)) }
-    ensures seats { IfOk result (λ r. TellSeats (new_file options.now) attempts readers polls (before_close r.journal.writes) r.polls) }
+    ensures seats { IfOk result (λ r. TellSeats (new_file options.now) attempts (readers + mirrors) polls (before_close r.journal.writes) r.polls) }
     ensures accepted { OnOk result (first_refused (new_file options.now) 0 1 batches.now ≡ None) }
     ensures cause { IfErr result (IsCause (new_file options.now) options.now.limit batches.now) }
 {
-    let (image, mut seat, session) = match create(rt, alloc, options) {
+    let (image, mut seat, session, second) = match create(rt, alloc, options, mirrors) {
         Ok(created) => created,
         Err(loss) => return Err(lost(loss)),
     };
@@ -53,18 +58,12 @@ pub fn live<R: Threads + Wait + Sync, G: Gate>(
         return Err(LiveError::OutOfMemory);
     };
     let name = options.name.as_slice();
-    let (written, ended) = run(
-        rt,
-        alloc,
-        &image,
-        seat,
-        session,
-        seats,
-        batches.as_slice(),
-        name,
-        attempts,
-        polls,
+    let batches = batches.as_slice();
+    let Ok((written, ended, beside)) = run_all(
+        rt, alloc, &image, seat, session, seats, second, mirrors, batches, name, attempts, polls,
         gate,
-    );
-    finish(rt, &image, written, ended)
+    ) else {
+        return Err(LiveError::OutOfMemory);
+    };
+    finish(rt, &image, written, ended, beside)
 }

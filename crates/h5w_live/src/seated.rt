@@ -1,5 +1,5 @@
-//! A session's calls through the writer's seat.
-ghost use Rattle.std.specs.Prelude.{◌≡◌, ◌≢◌, ◌⊎◌, ◌<◌, ◌≤◌, ◌+◌, ◌-◌, ◌++◌, ◌∷◌, [], length, true, IfErr, IfOk, OnErr, OnOk, Ok, Err, Some};
+//! A session's calls through what writes its image.
+ghost use Rattle.std.specs.Prelude.{◌≡◌, ◌≢◌, ◌⊎◌, ◌<◌, ◌≤◌, length, IfErr, IfOk, OnErr, OnOk, Ok, Err, Some};
 ghost use Rattle.h5w_model.specs.Logs.{Log, and_now, appends, plans};
 ghost use Rattle.h5w_session.specs.Refusals.{IsFullFor, IsSpace, append_refusal, flush_refusal};
 ghost use Rattle.h5w_session.specs.Loads.{NoPlace};
@@ -10,20 +10,18 @@ ghost use Rattle.h5w_session.specs.Flushes.{SameBut};
 ghost use Rattle.h5w_session.specs.declared.refusal.AppendError.{AppendError};
 ghost use Rattle.h5w_session.specs.declared.refusal.FlushError.{FlushError};
 ghost use Rattle.h5w_space.specs.declared.Full.{Full};
-ghost use Rattle.h5w_shared.specs.Seats.{FailedSeat};
 ghost use Rattle.h5w_live.specs.Writing.{HasRoom, StaysSeated};
 
-use h5w_image::{Failed, PieceWrite};
-use h5w_model::Write;
-use h5w_session::{AppendError, FlushError, Full, WriterCore};
-use h5w_shared::{SharedImage, WriterSeat, Writing};
+use h5w_pen::{Pen, Penned};
+use h5w_session::{AppendError, FlushError, WriterCore};
+use h5w_shared::SharedImage;
 use std::sync::Wait;
 
 /// Appends values; what is written of them early is pending then. Failed: the seat was shown the ticket word at 2^63, and counts it.
 pub fn append<R: Wait>(
     rt: &R,
     image: &SharedImage,
-    seat: &mut WriterSeat,
+    seat: &mut Pen,
     session: &mut WriterCore,
     values: &[i128],
 ) -> Result<u64, AppendError>
@@ -38,14 +36,21 @@ pub fn append<R: Wait>(
     ensures room { OnOk result (HasRoom session.new seat.new) }
     ensures failed { result ≡ Err AppendError.Failed → 0 < seat.new.faults }
 {
-    session.append(values, &mut Writing { rt, image, seat })
+    session.append(
+        values,
+        &mut Penned {
+            rt,
+            image,
+            pen: seat,
+        },
+    )
 }
 
 /// Plans the pieces of the rows that wait. Failed: the seat was shown the ticket word at 2^63, and counts it.
 pub fn flush<R: Wait>(
     rt: &R,
     image: &SharedImage,
-    seat: &mut WriterSeat,
+    seat: &mut Pen,
     session: &mut WriterCore,
 ) -> Result<u64, FlushError>
     requires image { seat.old.image ≡ image.now }
@@ -64,22 +69,9 @@ pub fn flush<R: Wait>(
     ensures room { OnOk result (HasRoom session.new seat.new) }
     ensures failed { result ≡ Err FlushError.Failed → 0 < seat.new.faults }
 {
-    session.flush(&mut Writing { rt, image, seat })
-}
-
-/// Writes a piece.
-pub fn write<R: Wait>(
-    rt: &R,
-    image: &SharedImage,
-    seat: &mut WriterSeat,
-    w: &Write,
-) -> Result<(), Failed>
-    requires image { seat.old.image ≡ image.now }
-    requires some { 1 ≤ length w.now.piece }
-    requires pieces { 1 ≤ seat.old.pieces }
-    requires end { w.now.at + length w.now.piece ≤ seat.old.end }
-    ensures wrote { OnOk result (seat.new ≡ record seat.old { seen = seat.old.seen ++ w.now ∷ []; pieces = seat.old.pieces - 1 }) }
-    ensures refused { OnErr result (FailedSeat seat.old seat.new) }
-{
-    Writing { rt, image, seat }.write(w)
+    session.flush(&mut Penned {
+        rt,
+        image,
+        pen: seat,
+    })
 }

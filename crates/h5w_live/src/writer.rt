@@ -12,8 +12,9 @@ use crate::batch::put;
 use crate::writing::{Halt, show};
 use h5w_image::{Failed, Gate, OpenGate};
 use h5w_model::{FlushLine, Values};
+use h5w_pen::Pen;
 use h5w_session::WriterCore;
-use h5w_shared::{SharedImage, WriterSeat};
+use h5w_shared::SharedImage;
 use std::alloc::Global;
 use std::sync::Wait;
 
@@ -21,7 +22,7 @@ use std::sync::Wait;
 fn put_next<R: Wait, G: Gate>(
     rt: &R,
     image: &SharedImage,
-    seat: &mut WriterSeat,
+    seat: &mut Pen,
     session: &mut WriterCore,
     values: &[i128],
     gate: &G,
@@ -62,7 +63,7 @@ pub fn put_all<R: Wait, G: Gate>(
     rt: &R,
     alloc: Global,
     image: &SharedImage,
-    seat: &mut WriterSeat,
+    seat: &mut Pen,
     session: &mut WriterCore,
     batches: &[Values],
     gate: &G,
@@ -91,7 +92,7 @@ pub fn put_all<R: Wait, G: Gate>(
 pub fn close<R: Wait>(
     rt: &R,
     image: &SharedImage,
-    seat: &mut WriterSeat,
+    seat: &mut Pen,
     session: &mut WriterCore,
 ) -> Result<(), Failed>
     requires image { seat.old.image ≡ image.now }

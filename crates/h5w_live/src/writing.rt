@@ -9,11 +9,10 @@ ghost use Rattle.h5w_session.specs.Stands.{Stands};
 ghost use Rattle.h5w_session.specs.declared.refusal.AppendError.TheVariants as appending;
 ghost use Rattle.h5w_live.specs.Writing.{HasFlushed, HasPlaces, HasRoom, HasWritten, Writes, batch_refusal, showing};
 
-use crate::seated::{append, flush, write};
 use h5w_image::{Failed, Gate, OpenGate};
-use h5w_model::FlushLine;
-use h5w_session::{AppendError, FlushError, Full, WriterCore};
-use h5w_shared::{SharedImage, WriterSeat};
+use h5w_pen::Pen;
+use h5w_session::{Full, WriterCore};
+use h5w_shared::SharedImage;
 use std::sync::Wait;
 
 /// Why a batch was not flushed.
@@ -35,7 +34,7 @@ pub enum Halt {
 pub fn show<R: Wait, G: Gate>(
     rt: &R,
     image: &SharedImage,
-    seat: &mut WriterSeat,
+    seat: &mut Pen,
     session: &mut WriterCore,
     gate: &G,
     number: u64,
@@ -55,7 +54,7 @@ pub fn show<R: Wait, G: Gate>(
         if session.pending() == 1 {
             gate.turn(0, number);
         }
-        match write(rt, image, seat, w) {
+        match seat.write(rt, image, w) {
             Ok(()) => session.written(),
             Err(failed) => {
                 session.failed();
@@ -71,7 +70,7 @@ pub fn show<R: Wait, G: Gate>(
 pub fn show_early<R: Wait>(
     rt: &R,
     image: &SharedImage,
-    seat: &mut WriterSeat,
+    seat: &mut Pen,
     session: &mut WriterCore,
 ) -> Result<(), Failed>
     requires image { seat.old.image ≡ image.now }

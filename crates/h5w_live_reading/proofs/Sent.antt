@@ -38,19 +38,16 @@ parts_sent (T ∷ Ts) s = (s.0, parts_sent Ts s.1)
 pub captures_sent : (ν : Sym) (Ts : List RattleType) → AllSend Ts → IsSend (TupleAt ν Ts)
 captures_sent ν Ts s = recorded_send _ _ _ (type_at ν Ts).to_one (struct_send (shape (type_at ν Ts)) (parts_sent Ts s))
 
-u32_sent : IsSend (UInt w32)
+pub u32_sent : IsSend (UInt w32)
 u32_sent = search sendable
 
 name_shared : IsSync (UInt w8)
 name_shared = search sendable
 
--- what a reader's closure takes: its handle, where memory is had, the image, its seat or seats, the name, numbers and the gate
+-- what a reader's closure takes, or that of several: its handle, where memory is had, the image, its seat or seats, the name, numbers and the gate
 module _ (ν : Sym) (a b n d : NamedLft) (R S G : RattleType) (r : IsSync R) (s : IsSend S) (g : IsSync G) where
-  abbrev pub one_takes : List RattleType
-  one_takes = ShrRef a.mir a.lft (param 0 R) ∷ heap ∷ ShrRef b.mir b.lft image_row ∷ S ∷ ShrSlice n.mir n.lft (UInt w8) ∷ UInt w32 ∷ UInt w32 ∷ UInt w32 ∷ ShrRef d.mir d.lft (param 1 G) ∷ []
-
-  abbrev pub all_take : List RattleType
-  all_take = ShrRef a.mir a.lft (param 0 R) ∷ heap ∷ ShrRef b.mir b.lft image_row ∷ S ∷ ShrSlice n.mir n.lft (UInt w8) ∷ UInt w32 ∷ UInt w32 ∷ ShrRef d.mir d.lft (param 1 G) ∷ []
+  abbrev pub reading_takes : List RattleType
+  reading_takes = ShrRef a.mir a.lft (param 0 R) ∷ heap ∷ ShrRef b.mir b.lft image_row ∷ S ∷ ShrSlice n.mir n.lft (UInt w8) ∷ UInt w32 ∷ UInt w32 ∷ UInt w32 ∷ ShrRef d.mir d.lft (param 1 G) ∷ []
 
   handle : IsSend (ShrRef a.mir a.lft (param 0 R))
   handle = shr_send a.mir a.lft (param 0 R) (param_sync 0 R r)
@@ -64,8 +61,5 @@ module _ (ν : Sym) (a b n d : NamedLft) (R S G : RattleType) (r : IsSync R) (s 
   gate : IsSend (ShrRef d.mir d.lft (param 1 G))
   gate = shr_send d.mir d.lft (param 1 G) (param_sync 1 G g)
 
-  pub reader_sent : IsSend (TupleAt ν one_takes)
-  reader_sent = captures_sent ν one_takes (handle, (heap_sent, (image, (s, (name, (u32_sent, (u32_sent, (u32_sent, (gate, tt)))))))))
-
-  pub readers_sent : IsSend (TupleAt ν all_take)
-  readers_sent = captures_sent ν all_take (handle, (heap_sent, (image, (s, (name, (u32_sent, (u32_sent, (gate, tt))))))))
+  pub reading_sent : IsSend (TupleAt ν reading_takes)
+  reading_sent = captures_sent ν reading_takes (handle, (heap_sent, (image, (s, (name, (u32_sent, (u32_sent, (u32_sent, (gate, tt)))))))))

@@ -28,13 +28,13 @@ pub record ReaderEnds (g : ReaderRules) (i : ImageId) (calls reader : ℕ) (seen
   pub ends : IfOk r (λ e. EndsWith g i reader seen e.note e.lines.items)
   pub stray : (note : NoteView) → r ≡ Err (cuts.Stray note) → StraysWith g i seen note
 
--- the lines and notes of the first readers
-pub record EndWith (g : ReaderRules) (i : ImageId) (calls readers : ℕ) (seen : List Write) (notes : List NoteView) (lines : List PollLine) : Type 0 where
+-- the lines and notes of so many readers behind those before them
+pub record EndWith (g : ReaderRules) (i : ImageId) (before calls readers : ℕ) (seen : List Write) (notes : List NoteView) (lines : List PollLine) : Type 0 where
   pub notes_count : length notes ≡ readers
   pub lines_count : length lines ≡ readers * calls
-  pub each : (k : ℕ) (d : NoteView) → k < readers → EndsWith g i (k + 1) seen (get_or notes k d) (take calls (drop (k * calls) lines))
+  pub each : (k : ℕ) (d : NoteView) → k < readers → EndsWith g i (before + k + 1) seen (get_or notes k d) (take calls (drop (k * calls) lines))
 
 -- what comes of them
-pub record ReadersEnd (g : ReaderRules) (i : ImageId) (calls readers : ℕ) (seen : List Write) (r : Result AllEnded Cut) : Type 0 where
-  pub end : IfOk r (λ e. EndWith g i calls readers seen e.notes.items e.lines.items)
+pub record ReadersEnd (g : ReaderRules) (i : ImageId) (before calls readers : ℕ) (seen : List Write) (r : Result AllEnded Cut) : Type 0 where
+  pub end : IfOk r (λ e. EndWith g i before calls readers seen e.notes.items e.lines.items)
   pub stray : (note : NoteView) → r ≡ Err (cuts.Stray note) → StraysWith g i seen note

@@ -70,12 +70,12 @@ fn read<R: Wait, G: Gate>(
     }
 }
 
-/// The number of the reader behind so many.
-fn number(before: usize) -> u32
-    requires { before < 16 }
-    ensures { result ≡ before + 1 }
+/// The number of the reader behind so many, and behind others of the same image.
+fn number(before: u32, others: usize) -> u32
+    requires { before + others < 32 }
+    ensures { result ≡ before + others + 1 }
 {
-    before as u32 + 1
+    before + others as u32 + 1
 }
 
 /// None of no readers.
@@ -90,11 +90,11 @@ fn none(alloc: Global) -> AllEnded
 }
 
 /// What came of some readers, and of the one behind them.
-fn and_one(before: Result<AllEnded, Cut>, last: Result<Ended, Cut>) -> Result<AllEnded, Cut>
-    ensures { (g : ReaderRules) (i : ImageId) (calls readers : ℕ) (seen : List Write) → ReadersEnd g i calls readers seen before
-        → ReaderEnds g i calls (readers + 1) seen last → ReadersEnd g i calls (readers + 1) seen result }
+fn and_one(others: Result<AllEnded, Cut>, last: Result<Ended, Cut>) -> Result<AllEnded, Cut>
+    ensures { (g : ReaderRules) (i : ImageId) (before calls readers : ℕ) (seen : List Write) → ReadersEnd g i before calls readers seen others
+        → ReaderEnds g i calls (before + readers + 1) seen last → ReadersEnd g i before calls (readers + 1) seen result }
 {
-    let mut all = match before {
+    let mut all = match others {
         Ok(all) => all,
         Err(cut) => return Err(cut),
     };
@@ -111,7 +111,8 @@ fn and_one(before: Result<AllEnded, Cut>, last: Result<Ended, Cut>) -> Result<Al
     Ok(all)
 }
 
-/// All calls of the readers that have these seats, each in a thread of its own where one can be made. They are numbered from 1 on.
+/// All calls of the readers that have these seats, each in a thread of its own where one can be made. They are numbered on from so many
+/// readers before.
 pub fn read_all<R: Threads + Wait + Sync, G: Gate>(
     rt: &R,
     alloc: Global,
@@ -119,19 +120,20 @@ pub fn read_all<R: Threads + Wait + Sync, G: Gate>(
     mut seats: Vec<ReaderSeat>,
     name: &[u8],
     attempts: u32,
+    before: u32,
     calls: u32,
     gate: &G,
 ) -> Result<AllEnded, Cut>
     requires images { All (λ (s : SeatView). s.image ≡ image.now) seats.items }
-    requires few { vec_len seats ≤ 16 }
+    requires few { before + vec_len seats ≤ 32 }
     ensures { (seen : List Write) → All (λ (s : SeatView). s.seen ≡ seen) seats.items
-        → ReadersEnd (reader_rules name.now attempts) image.now calls (vec_len seats) seen result }
+        → ReadersEnd (reader_rules name.now attempts) image.now before calls (vec_len seats) seen result }
 {
     let Some(seat) = seats.pop() else {
         return Ok(none(alloc));
     };
-    let reader = number(seats.len());
-    let (last, before) = join(
+    let reader = number(before, seats.len());
+    let (last, others) = join(
         rt,
         move || -> Result<Ended, Cut>
             requires { seat.image ≡ image.now }
@@ -140,10 +142,10 @@ pub fn read_all<R: Threads + Wait + Sync, G: Gate>(
         move || -> Result<AllEnded, Cut>
             requires sync { IsSync R.row × IsSync G.row }
             requires images { All (λ (s : SeatView). s.image ≡ image.now) seats.items }
-            requires few { vec_len seats ≤ 16 }
+            requires few { before + vec_len seats ≤ 32 }
             ensures { (seen : List Write) → All (λ (s : SeatView). s.seen ≡ seen) seats.items
-                → ReadersEnd (reader_rules name.entry.now attempts) image.entry.now calls (vec_len seats) seen result }
-        { read_all(rt, alloc, image, seats, name, attempts, calls, gate) },
+                → ReadersEnd (reader_rules name.entry.now attempts) image.entry.now before calls (vec_len seats) seen result }
+        { read_all(rt, alloc, image, seats, name, attempts, before, calls, gate) },
     );
-    and_one(before, last)
+    and_one(others, last)
 }

@@ -112,7 +112,22 @@ pub fn run_in<R: Threads + Wait + Sync, G: Gate>(
 {
     let options = options(alloc, 2, columns, 65_536)?;
     let batches = batches(alloc, columns_of(columns), of)?;
-    Ok(live(rt, alloc, &options, &batches, readers, polls, 8, gate))
+    Ok(live(rt, alloc, &options, &batches, readers, polls, 8, 0, gate))
+}
+
+/// A run of these batches in one dimension, 2 rows in a chunk, and of one reader of each of two images, with so many calls.
+pub fn run_mirrored<R: Threads + Wait + Sync, G: Gate>(
+    rt: &R,
+    alloc: Global,
+    of: &[&[i128]],
+    polls: u32,
+    gate: &G,
+) -> Result<Result<LiveReport, LiveError>, Fail>
+    requires polls { (1 ≤ polls) × (polls ≤ 10000) }
+{
+    let options = options(alloc, 2, None, 65_536)?;
+    let batches = batches(alloc, columns_of(None), of)?;
+    Ok(live(rt, alloc, &options, &batches, 1, polls, 8, 1, gate))
 }
 
 /// A run of these batches in one dimension, 512 rows in a chunk, which are more bytes than may wait.
@@ -129,5 +144,5 @@ pub fn run_early<R: Threads + Wait + Sync, G: Gate>(
 {
     let options = options(alloc, 512, None, 1024)?;
     let batches = batches(alloc, columns_of(None), of)?;
-    Ok(live(rt, alloc, &options, &batches, readers, polls, 8, gate))
+    Ok(live(rt, alloc, &options, &batches, readers, polls, 8, 0, gate))
 }

@@ -1,17 +1,19 @@
 //! The file that was made: its check, and its rows by a reader.
-ghost use Rattle.std.specs.Prelude.{◌≡◌, ◌≢◌, ◌+◌, ◌<◌, ◌≤◌, ◌^◌, List, ℕ, ℤ, drop, length, map, pos, sum, take, Some, IfOk, OnOk};
+ghost use Rattle.std.specs.Prelude.{◌≡◌, ◌≢◌, ◌+◌, ◌<◌, ◌≤◌, ◌^◌, List, ℕ, ℤ, drop, length, map, pos, sum, take, Some, IsSome, IfOk, OnOk};
 ghost use Rattle.h5w_model.specs.Findings.{Summary as Found, Valid};
-ghost use Rattle.h5w_model.specs.Unfinished.{Reader, Unfinished, rows_left, values_left};
+ghost use Rattle.h5w_model.specs.Unfinished.{Unfinished, wanted};
 ghost use Rattle.h5w_model.specs.Tables.{Reading};
 ghost use Rattle.h5w_image.specs.View.{Same};
 ghost use Rattle.h5w_steady.specs.Steady.{steady};
 ghost use Rattle.h5w_reader.specs.Cores.{reader};
 ghost use Rattle.h5w_reader.specs.Readers.{StepTells, new_reader, reader_rules};
 ghost use Rattle.h5w_reader.specs.declared.step.Step.TheVariants as steps;
+ghost use Rattle.h5w_answers.specs.Answering.{evaluated};
 ghost use Rattle.h5w_make.specs.Commands.{data_name};
-ghost use Rattle.h5w_make.specs.Readings.{IsReadable, IsReaderOf, ending};
+ghost use Rattle.h5w_make.specs.Readings.{IsReadable, IsReaderOf};
 
 use crate::batch::NAME;
+use h5w_answers::{ImageError, answer};
 use h5w_check::{CheckError, check};
 use h5w_model::{OutOfMemory, ReadError, Values};
 use h5w_reader::{ReadBegin, ReaderCore, Step};
@@ -39,31 +41,32 @@ pub fn blocks(alloc: Global, image: &mut SteadyImage) -> Result<u64, OutOfMemory
 }
 
 /// Takes the looks of an unfinished call at the image, up to its answer.
-fn answer(call: &mut ReaderCore, image: &mut SteadyImage) -> Step
-    requires { (left : Unfinished) × ((reader call.old).left ≡ Some left) }
-    ensures answered { result ≢ steps.More }
-    ensures answer { (left : Unfinished) → (reader call.old).left ≡ Some left → StepTells (Some (ending image.old.bytes left)) (reader call.old) result (reader call.new) }
+fn answered(call: &mut ReaderCore, image: &mut SteadyImage) -> Result<Step, OutOfMemory>
+    requires { IsSome (wanted (reader call.old).left) }
+    ensures answered { IfOk result (λ step. step ≢ steps.More) }
+    ensures answer { IfOk result (λ step. (left : Unfinished) → (reader call.old).left ≡ Some left → StepTells (Some (evaluated image.old.bytes left)) (reader call.old) step (reader call.new)) }
     ensures image { Same (steady image.old) (steady image.new) }
 {
-    while let Some(look) = call.want() {
-        let piece = image.show(look.at, look.len);
-        match call.give(&piece) {
-            Step::More => {}
-            step => return step,
-        }
+    // What the bytes give rests on their end, which is below 2^64.
+    let _end = image.len();
+    let mut uncounted = 0;
+    match answer(call, image, &mut uncounted) {
+        Ok(step) => Ok(step),
+        Err(ImageError::OutOfMemory) => Err(OutOfMemory),
+        Err(ImageError::Failed) => unreachable!(),
     }
-    unreachable!()
 }
 
 /// The rows of the file, by a reader that begins to open it.
 fn find_rows(call: &mut ReaderCore, image: &mut SteadyImage) -> Result<u64, OutOfMemory>
     requires begun { reader call.old ≡ new_reader (reader_rules data_name 8) }
+    requires wanting { IsSome (wanted (reader call.old).left) }
     requires readable { (values : List ℤ) × IsReadable image.old.bytes values }
     ensures opened { (values : List ℤ) → IsReadable image.old.bytes values → OnOk result (IsReaderOf image.old.bytes values (reader call.new)) }
     ensures rows { (values : List ℤ) → IsReadable image.old.bytes values → IfOk result (λ rows. rows ≡ length values) }
     ensures image { Same (steady image.old) (steady image.new) }
 {
-    match answer(call, image) {
+    match answered(call, image)? {
         Step::Rows(rows) => Ok(rows),
         Step::Refused(ReadError::OutOfMemory) => Err(OutOfMemory),
         _ => unreachable!(),
@@ -88,7 +91,7 @@ fn read_part(
         Err(ReadBegin::OutOfMemory) => return Err(OutOfMemory),
         Err(_) => unreachable!(),
     }
-    match answer(call, image) {
+    match answered(call, image)? {
         Step::Values(values) => Ok(values),
         Step::Refused(ReadError::OutOfMemory) => Err(OutOfMemory),
         _ => unreachable!(),
@@ -127,6 +130,7 @@ fn sum_rows(call: &mut ReaderCore, rows: u64, image: &mut SteadyImage) -> Result
 /// The rows of a file of numbers and their sum, by a reader that begins to open it.
 fn rows_and_sum(call: &mut ReaderCore, image: &mut SteadyImage) -> Result<(u64, u64), OutOfMemory>
     requires begun { reader call.old ≡ new_reader (reader_rules data_name 8) }
+    requires wanting { IsSome (wanted (reader call.old).left) }
     requires readable { (ns : List ℕ) × IsReadable image.old.bytes (map pos ns) × (sum ns < 2 ^ 64) }
     ensures rows { (ns : List ℕ) → IsReadable image.old.bytes (map pos ns) → IfOk result (λ read. read.0 ≡ length ns) }
     ensures sum { (ns : List ℕ) → IsReadable image.old.bytes (map pos ns) → IfOk result (λ read. read.1 ≡ sum ns) }

@@ -9,3 +9,4 @@ pub mod LookLemmas
 pub mod ScriptLemmas
 pub mod OneByOneLemmas
 pub mod LookupLemmas
+pub mod AttemptLooks

@@ -4,3 +4,4 @@ pub mod Laws
 pub mod Scripts
 pub mod OneByOne
 pub mod Lookups
+pub mod Attempts

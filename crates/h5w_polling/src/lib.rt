@@ -4,12 +4,14 @@
 //! to cite. Nothing here runs.
 #![tactic(auto)]
 
+mod attempts;
 mod calls;
 mod looks;
 mod lookups;
 mod one_by_one;
 mod scripts;
 
+pub use attempts::looks_of_attempts;
 pub use calls::{call_begins, other_events};
 pub use looks::looks_reply;
 pub use lookups::lookups_visit;

@@ -1,5 +1,5 @@
--- What a seat has written.
-use Rattle.std.specs.Prelude.{◌≡◌, ◌≤◌, List, ◌++◌, true}
+-- What a seat has written, and what shows that it failed.
+use Rattle.std.specs.Prelude.{◌≡◌, ◌<◌, ◌≤◌, List, ◌++◌, true}
 use Rattle.h5w_image.specs.declared.fault.ImageError.{ImageError}
 use Rattle.h5w_image.specs.declared.fault.ImageError.TheVariants.{Failed, OutOfMemory}
 use Rattle.h5w_model.specs.Causes.{Rose}
@@ -22,3 +22,7 @@ pub record HasPutSome (ws : List Write) (error : ImageError) (s t : SeatView) : 
   pub split : ws ≡ done ++ left
   pub same : t ≡ record s { seen = s.seen ++ done; faults = t.faults; worn = t.worn; pieces = t.pieces; end = t.end }
   pub counts : Counts error s t
+
+-- this keeps the seat, which counts a fault
+abbrev pub KeepsWorn : SeatView → SeatView → Type 0
+KeepsWorn s w = (0 < s.faults) × (w ≡ s) × (w.worn ≡ true)

@@ -1,10 +1,11 @@
 //! The end of a mirror that writes the first image.
-ghost use Rattle.std.specs.Prelude.{◌≡◌, ◌≢◌, ◌≤◌, ◌<◌, ◌+◌, ◌∷◌, ◌++◌, [], ℕ, false, true, length, Err, IfOk, IfSome, IsSome, MatchBool, MatchOption, MatchResult, None, OnErr, OnOk};
+ghost use Rattle.std.specs.Prelude.{◌≡◌, ◌≢◌, ◌≤◌, ◌<◌, ◌+◌, ◌∷◌, ◌++◌, [], ℕ, false, true, length, Err, IfOk, IfSome, IsSome, MatchBool, MatchResult, None, OnErr, OnOk};
 ghost use Rattle.h5w_model.specs.Numbers.{range};
 ghost use Rattle.h5w_shared.specs.Seats.{bytes_of, note_of, reader_of};
 ghost use Rattle.h5w_shared.specs.Turns.{StartsWith};
 ghost use Rattle.h5w_replica.specs.Batches.{AreShort, Follows, Leads, batches_in, queue};
 ghost use Rattle.h5w_replica.specs.Feeds.{FailedFeed, HasRoomFed, HasTaken, IsFed, KeepsOrder, with_piece};
+ghost use Rattle.h5w_replica.specs.Putting.{KeepsWorn};
 ghost use Rattle.h5w_replica.specs.Rings.{ring_of};
 ghost use Rattle.rtrb.specs.Ring.{SameProducer, known_free, sent};
 
@@ -264,7 +265,7 @@ impl Feed {
 
     /// What shows that its seat was shown the ticket word at 2^63. Err exactly where the seat's count of faults is 0.
     pub fn worn(self) -> Result<Worn, Feed>
-        ensures { MatchResult result (λ w. (0 < self.seat.faults) × (w ≡ self.seat) × (w.worn ≡ true)) (λ f. (self.seat.faults ≡ 0) × (f ≡ self)) }
+        ensures { MatchResult result (λ w. KeepsWorn self.seat w) (λ f. (self.seat.faults ≡ 0) × (f ≡ self)) }
     {
         let Feed {
             alloc,

@@ -1,13 +1,12 @@
 //! The end of a mirror that writes the second image.
-ghost use Rattle.std.specs.Prelude.{◌≡◌, ◌≢◌, ◌⊎◌, ◌≤◌, ◌<◌, ◌++◌, [], ℕ, true, drop, length, Err, IfOk, MatchOption, MatchResult, None, Ok, OnErr, OnOk};
-ghost use Rattle.h5w_model.specs.Causes.{Rose};
+ghost use Rattle.std.specs.Prelude.{◌≡◌, ◌≢◌, ◌⊎◌, ◌≤◌, ◌<◌, ◌++◌, [], ℕ, drop, length, Err, IfOk, MatchOption, MatchResult, None, Ok, OnOk};
 ghost use Rattle.h5w_image.specs.declared.fault.ImageError.TheVariants as image;
 ghost use Rattle.h5w_shared.specs.Seats.{note_of, reader_of};
 ghost use Rattle.h5w_shared.specs.Turns.{StartsWith};
 ghost use Rattle.h5w_replica.specs.Batches.{AreShort, IsPartOf, Leads, batches_in};
 ghost use Rattle.h5w_replica.specs.Follows.{HasGap, HasKept, HasStepped, Takes, follow_error};
 ghost use Rattle.h5w_replica.specs.Mirrors.{Mirrored};
-ghost use Rattle.h5w_replica.specs.Putting.{HasPut, HasPutSome};
+ghost use Rattle.h5w_replica.specs.Putting.{HasPut, HasPutSome, KeepsWorn};
 ghost use Rattle.h5w_replica.specs.Rings.{ring_under};
 ghost use Rattle.rtrb.specs.Ring.{known_items, received};
 
@@ -180,6 +179,7 @@ impl Follow {
         ensures known { self.new.got ++ self.new.known ≡ feed.new.took }
         ensures follow { self.new ≡ record self.old { known = self.new.known } }
         ensures feed { feed.new ≡ record feed.old { free = feed.new.free } }
+        ensures free { feed.old.free ≤ feed.new.free }
         ensures mirrored { Mirrored self.new.seat.seen self.new.second.seen }
     {
         self.consumer.slots_beside(&mut feed.producer);
@@ -216,7 +216,7 @@ impl Follow {
 
     /// What shows that a seat of its two was shown the ticket word at 2^63. Err exactly where the counts of faults of both are 0.
     pub fn worn(self) -> Result<Worn, Follow>
-        ensures { MatchResult result (λ w. (((0 < self.seat.faults) × (w ≡ self.seat)) ⊎ ((0 < self.second.faults) × (w ≡ self.second))) × (w.worn ≡ true)) (λ f. (self.seat.faults ≡ 0) × (self.second.faults ≡ 0) × (f ≡ self)) }
+        ensures { MatchResult result (λ w. KeepsWorn self.seat w ⊎ KeepsWorn self.second w) (λ f. (self.seat.faults ≡ 0) × (self.second.faults ≡ 0) × (f ≡ self)) }
     {
         let Follow {
             seat,

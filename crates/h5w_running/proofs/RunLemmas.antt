@@ -11,7 +11,7 @@ use Rattle.h5w_live_laws.specs.Lines.{rows_told}
 use Rattle.h5w_live.specs.Reports.{Reports}
 use Rattle.h5w_live.specs.Writing.{AreBatches, AreWholeRows, first_refused}
 use Rattle.h5w_live.specs.declared.report.LiveReport.{LiveReport}
-use Rattle.h5w_running.specs.Runs.{Asked, Tells}
+use Rattle.h5w_running.specs.Runs.{Asked, Tells, mirrored_in}
 use Rattle.h5w_running.specs.Texts.{report_text}
 
 -- ---- Rows
@@ -72,7 +72,7 @@ told_all c pieces rows ((v ∷ vs) ∷ bs) (f ∷ fs) some h agree =
 -- ---- Answers
 
 pub tells_of : (a : Asked) (s t : SourceView) (r : LiveReport) (c : ℕ) (bs : List (List ℤ)) (text : List ℕ) → 1 ≤ c → c ≡ a.file.columns → ReadsBatches c s t bs → AreBatches c bs → first_refused a.file 0 1 bs ≡ None
-    → Reports a.file bs a.attempts a.readers a.calls r → text ≡ report_text r.flushes r.polls (rows_told 0 r.flushes) → Tells a s t r text
+    → Reports a.file bs a.attempts (a.readers + a.mirrors) a.calls r → text ≡ report_text r.flushes r.polls (mirrored_in a r) (rows_told 0 r.flushes) → Tells a s t r text
 tells_of a s t r c bs text some is read rows accepted reports text_is =
     let columns : 1 ≤ a.file.columns = subst (λ n. 1 ≤ n) is some in
     let whole : AreBatches a.file.columns bs = subst (λ n. AreBatches n bs) is rows in
@@ -81,5 +81,5 @@ tells_of a s t r c bs text some is read rows accepted reports text_is =
       read = subst (λ n. ReadsBatches n s t bs) is read;
       accepted = accepted;
       reports = reports;
-      text_is = text_is ∙ ap (report_text r.flushes r.polls) (told_all a.file.columns _ 0 bs r.flushes columns whole reports.agrees.flushes ∙ none_plus (length (values_in bs) / a.file.columns));
+      text_is = text_is ∙ ap (report_text r.flushes r.polls (mirrored_in a r)) (told_all a.file.columns _ 0 bs r.flushes columns whole reports.agrees.flushes ∙ none_plus (length (values_in bs) / a.file.columns));
     }

@@ -1,6 +1,6 @@
 -- The parts of a report's text.
 use Rattle.std.proofs.Common.{◌≡◌, ℕ, zero, suc, ◌+◌, ◌-◌, List, [], ◌∷◌, ◌++◌, length, Some, None, ℤ, pos, negsuc, refl, sym, ap, ◌∙◌, arith, append_assoc, append-nil}
-use Rattle.std.specs.Prelude.{codes, flat_map}
+use Rattle.std.specs.Prelude.{Option, codes, flat_map}
 use Rattle.std.specs.List.{slice_get}
 use Rattle.std.proofs.lemmas.Option.{slice_get-get_or}
 use Rattle.h5w_model.specs.declared.report.FlushLine.{FlushLine}
@@ -9,7 +9,7 @@ use Rattle.h5w_model.specs.declared.report.PollLine.{PollLine}
 use Rattle.h5w_text.specs.Replies.{spaced, spaced_value}
 use Rattle.h5w_text.specs.Table.{numbers_text, row_text, rows_text, value_text}
 use Rattle.h5w_live_laws.specs.Lines.{rows_told}
-use Rattle.h5w_running.specs.Texts.{answer_text, done_text, flush_text, poll_text, report_text}
+use Rattle.h5w_running.specs.Texts.{answer_text, done_text, flush_text, mirror_text, poll_text, report_text}
 
 joined : (out one two x y : List ℕ) → one ≡ out ++ x → two ≡ one ++ y → two ≡ out ++ (x ++ y)
 joined out one two x y p q = q ∙ ap (λ l. l ++ y) p ∙ append_assoc out x y
@@ -56,9 +56,17 @@ told_none (x ∷ fs) h = let some = slice_get-get_or (x ∷ fs) (length (x ∷ f
 
 -- ---- The whole
 
-pub report_parts : (bytes flushed polled all : List ℕ) (flushes : List FlushLine) (calls : List PollLine) (rows : ℕ) → all ≡ polled ++ numbers_text (codes "done") (rows ∷ []) → polled ≡ flushed ++ flat_map poll_text calls
-    → flushed ≡ bytes ++ flat_map flush_text flushes → bytes ≡ [] → rows ≡ rows_told 0 flushes → all ≡ report_text flushes calls (rows_told 0 flushes)
-report_parts bytes flushed polled all flushes calls rows done calling flushing none told =
-    joined bytes polled all (flat_map flush_text flushes ++ flat_map poll_text calls) (done_text rows) (joined bytes flushed polled (flat_map flush_text flushes) (flat_map poll_text calls) flushing calling) done
-    ∙ ap (λ (l : List ℕ). l ++ ((flat_map flush_text flushes ++ flat_map poll_text calls) ++ done_text rows)) none
-    ∙ ap (report_text flushes calls) told
+-- no second image has no line
+pub mirror_none : (out : List ℕ) → out ≡ out ++ mirror_text None
+mirror_none out = sym (append-nil out)
+
+pub report_parts : (bytes flushed polled mirrors all : List ℕ) (flushes : List FlushLine) (calls : List PollLine) (mirrored : Option ℕ) (rows : ℕ) → all ≡ mirrors ++ numbers_text (codes "done") (rows ∷ [])
+    → mirrors ≡ polled ++ mirror_text mirrored → polled ≡ flushed ++ flat_map poll_text calls → flushed ≡ bytes ++ flat_map flush_text flushes → bytes ≡ [] → rows ≡ rows_told 0 flushes
+    → all ≡ report_text flushes calls mirrored (rows_told 0 flushes)
+report_parts bytes flushed polled mirrors all flushes calls mirrored rows done following calling flushing none told =
+    let both : polled ≡ bytes ++ (flat_map flush_text flushes ++ flat_map poll_text calls) = joined bytes flushed polled (flat_map flush_text flushes) (flat_map poll_text calls) flushing calling in
+    let three : mirrors ≡ bytes ++ ((flat_map flush_text flushes ++ flat_map poll_text calls) ++ mirror_text mirrored) =
+    joined bytes polled mirrors (flat_map flush_text flushes ++ flat_map poll_text calls) (mirror_text mirrored) both following in
+    joined bytes mirrors all ((flat_map flush_text flushes ++ flat_map poll_text calls) ++ mirror_text mirrored) (done_text rows) three done
+    ∙ ap (λ (l : List ℕ). l ++ (((flat_map flush_text flushes ++ flat_map poll_text calls) ++ mirror_text mirrored) ++ done_text rows)) none
+    ∙ ap (report_text flushes calls mirrored) told

@@ -1,5 +1,5 @@
 -- What a run in threads over the batches of an input comes to: what it reports, or why it does not.
-use Rattle.std.specs.Prelude.{◌≡◌, ℕ, ◌/◌, List, length, ℤ, None, Some}
+use Rattle.std.specs.Prelude.{◌≡◌, ℕ, ◌+◌, ◌/◌, List, length, ℤ, nat_lt, if◌then◌else◌, Option, None, Some}
 use Rattle.h5w_model.specs.Agrees.{values_in}
 use Rattle.h5w_options.specs.declared.options.Options.{Options}
 use Rattle.h5w_creation_laws.specs.CreatedFiles.{CreatedFile}
@@ -16,17 +16,29 @@ use Rattle.h5w_running.specs.Texts.{report_text}
 use Rattle.h5w_running.specs.declared.refusal.Refusal.{Refusal}
 use Rattle.h5w_running.specs.declared.refusal.Refusal.TheVariants.{Error, Image}
 
--- What was asked for: the file that is created and the most bytes that it may have, the attempts of a call, and how many readers make how
--- many calls each.
+-- What was asked for: the file that is created and the most bytes that it may have, the attempts of a call, how many readers make how many
+-- calls each, and how many readers more look at a second image.
 pub record Asked : Type 0 where
   pub file : CreatedFile
   pub most : ℕ
   pub attempts : ℕ
   pub readers : ℕ
+  pub mirrors : ℕ
   pub calls : ℕ
 
-abbrev pub asked_by : Options → (readers calls attempts : ℕ) → Asked
-asked_by o readers calls attempts = record { file = new_file o; most = o.limit; attempts = attempts; readers = readers; calls = calls }
+abbrev pub asked_by : Options → (readers calls attempts mirrors : ℕ) → Asked
+asked_by o readers calls attempts mirrors = record {
+  file = new_file o;
+  most = o.limit;
+  attempts = attempts;
+  readers = readers;
+  mirrors = mirrors;
+  calls = calls;
+}
+
+-- how many pieces the file has, where a second image was asked for
+abbrev pub mirrored_in : Asked → LiveReport → Option ℕ
+mirrored_in a r = if nat_lt 0 a.mirrors then Some (length r.journal.writes) else None
 
 -- The whole input was read, and these are its batches; the run over them came to this report, and the text is the report's, with all rows
 -- in the end.
@@ -34,8 +46,8 @@ pub record Tells (a : Asked) (s t : SourceView) (r : LiveReport) (text : List �
   pub batches : List (List ℤ)
   pub read : ReadsBatches a.file.columns s t batches
   pub accepted : first_refused a.file 0 1 batches ≡ None
-  pub reports : Reports a.file batches a.attempts a.readers a.calls r
-  pub text_is : text ≡ report_text r.flushes r.polls (length (values_in batches) / a.file.columns)
+  pub reports : Reports a.file batches a.attempts (a.readers + a.mirrors) a.calls r
+  pub text_is : text ≡ report_text r.flushes r.polls (mirrored_in a r) (length (values_in batches) / a.file.columns)
 
 -- why a run over these batches does not report: the first batch that is refused, or one for which the file has no place, or no fault of theirs
 abbrev pub Halts : CreatedFile → ℕ → List (List ℤ) → Refusal → Type 0

@@ -1,5 +1,5 @@
 //! A run in threads over the batches of an input.
-ghost use Rattle.std.specs.Prelude.{◌≡◌, ◌≤◌, ℕ, List, ℤ, IfErr, IfOk, OnOk, None};
+ghost use Rattle.std.specs.Prelude.{◌≡◌, ◌+◌, ◌≤◌, ℕ, List, ℤ, IfErr, IfOk, OnOk, None};
 ghost use Rattle.h5w_options.specs.Options.{AreAttempts, AreOptions, columns_in};
 ghost use Rattle.h5w_creation_laws.specs.CreatedFiles.{CreatedFile};
 ghost use Rattle.h5w_session.specs.Creations.{new_file};
@@ -9,7 +9,7 @@ ghost use Rattle.h5w_batches.specs.Reads.{ReadsBatches};
 ghost use Rattle.h5w_live.specs.Reports.{IsCause, Reports};
 ghost use Rattle.h5w_live.specs.Writing.{AreBatches, first_refused};
 ghost use Rattle.h5w_live.specs.declared.report.LiveReport.{LiveReport as Report};
-ghost use Rattle.h5w_running.specs.Runs.{Asked, Halts, Refuses, Tells, asked_by};
+ghost use Rattle.h5w_running.specs.Runs.{Asked, Halts, Refuses, Tells, asked_by, mirrored_in};
 ghost use Rattle.h5w_running.specs.Ends.{LiveEnds, LiveEndsWell};
 
 use crate::ended::Ended;
@@ -89,6 +89,7 @@ fn reported<R: Threads + Wait + Sync, G: Gate>(
     readers: u32,
     polls: u32,
     attempts: u32,
+    mirrors: u32,
     gate: &G,
 ) -> Result<LiveReport, Refusal>
     requires options { AreOptions options.now }
@@ -96,13 +97,27 @@ fn reported<R: Threads + Wait + Sync, G: Gate>(
     requires readers { (1 ≤ readers) × (readers ≤ 16) }
     requires polls { (1 ≤ polls) × (polls ≤ 10000) }
     requires attempts { AreAttempts attempts }
-    ensures reports { IfOk result (λ r. Reports (new_file options.now) batches.now attempts readers polls r) }
+    requires mirrors { mirrors ≤ 16 }
+    ensures reports { IfOk result (λ r. Reports (new_file options.now) batches.now attempts (readers + mirrors) polls r) }
     ensures accepted { OnOk result (first_refused (new_file options.now) 0 1 batches.now ≡ None) }
     ensures halts { IfErr result (λ e. Halts (new_file options.now) options.now.limit batches.now e) }
 {
-    match live(rt, alloc, options, batches, readers, polls, attempts, gate) {
+    match live(
+        rt, alloc, options, batches, readers, polls, attempts, mirrors, gate,
+    ) {
         Ok(report) => Ok(report),
         Err(error) => Err(refusal_of(error)),
+    }
+}
+
+/// How many pieces the file has, where a second image was asked for.
+fn mirrored_in(mirrors: u32, report: &LiveReport) -> Option<u64>
+    ensures { (a : Asked) → a.mirrors ≡ mirrors → result ≡ mirrored_in a report.now }
+{
+    if mirrors > 0 {
+        Some(report.journal.len())
+    } else {
+        None
     }
 }
 
@@ -114,6 +129,7 @@ fn told<R: Threads + Wait + Sync, S: Source, G: Gate>(
     readers: u32,
     polls: u32,
     attempts: u32,
+    mirrors: u32,
     source: &mut S,
     gate: &G,
 ) -> Result<Vec<u8>, Refusal>
@@ -121,19 +137,28 @@ fn told<R: Threads + Wait + Sync, S: Source, G: Gate>(
     requires readers { (1 ≤ readers) × (readers ≤ 16) }
     requires polls { (1 ≤ polls) × (polls ≤ 10000) }
     requires attempts { AreAttempts attempts }
-    ensures tells { IfOk result (λ text. (r : Report) × Tells (asked_by options.now readers polls attempts) (S.view source.old) (S.view source.new) r text.items) }
-    ensures refused { IfErr result (λ e. Refuses (asked_by options.now readers polls attempts) (S.view source.old) (S.view source.new) e) }
+    requires mirrors { mirrors ≤ 16 }
+    ensures tells { IfOk result (λ text. (r : Report) × Tells (asked_by options.now readers polls attempts mirrors) (S.view source.old) (S.view source.new) r text.items) }
+    ensures refused { IfErr result (λ e. Refuses (asked_by options.now readers polls attempts mirrors) (S.view source.old) (S.view source.new) e) }
     ensures source { SameSource (S.view source.old) (S.view source.new) }
 {
     let batches = match read(alloc, columns(options), source) {
         Ok(batches) => batches,
         Err(refusal) => return Err(refusal),
     };
-    let report = match reported(rt, alloc, options, &batches, readers, polls, attempts, gate) {
+    let report = match reported(
+        rt, alloc, options, &batches, readers, polls, attempts, mirrors, gate,
+    ) {
         Ok(report) => report,
         Err(refusal) => return Err(refusal),
     };
-    match text_of(alloc, report.flushes.as_slice(), report.polls.as_slice()) {
+    let mirrored = mirrored_in(mirrors, &report);
+    match text_of(
+        alloc,
+        report.flushes.as_slice(),
+        report.polls.as_slice(),
+        mirrored,
+    ) {
         Ok(text) => Ok(text),
         Err(_) => Err(Refusal::Error(ErrorLine::Memory)),
     }
@@ -153,8 +178,9 @@ fn refuse<K: Sink>(alloc: Global, refusal: Refusal, sink: &mut K) -> Ended
 }
 
 /// Reads the batches of the input to its end. Then creates a file in memory by these options, and runs in threads one writer that appends and
-/// flushes the batches, and so many readers that make so many calls each, with at most so many attempts. Writes a line for each flush, a
-/// line for each call of each reader, and how many rows there are; or why not.
+/// flushes the batches, and so many readers that make so many calls each, with at most so many attempts; `mirrors` readers more look at a
+/// second image. Writes a line for each flush, a line for each call of each reader, how many pieces a second image has, and how many rows there
+/// are; or why not.
 pub fn run_live<R: Threads + Wait + Sync, S: Source, K: Sink, G: Gate>(
     rt: &R,
     alloc: Global,
@@ -162,6 +188,7 @@ pub fn run_live<R: Threads + Wait + Sync, S: Source, K: Sink, G: Gate>(
     readers: u32,
     polls: u32,
     attempts: u32,
+    mirrors: u32,
     source: &mut S,
     sink: &mut K,
     gate: &G,
@@ -170,11 +197,14 @@ pub fn run_live<R: Threads + Wait + Sync, S: Source, K: Sink, G: Gate>(
     requires readers { (1 ≤ readers) × (readers ≤ 16) }
     requires polls { (1 ≤ polls) × (polls ≤ 10000) }
     requires attempts { AreAttempts attempts }
-    ensures ran { LiveEnds (asked_by options.now readers polls attempts) result (S.view source.old) (S.view source.new) (K.view sink.old) (K.view sink.new) }
-    ensures completes { LiveEndsWell (asked_by options.now readers polls attempts) result (S.view source.old) (S.view source.new) (K.view sink.old) (K.view sink.new) }
+    requires mirrors { mirrors ≤ 16 }
+    ensures ran { LiveEnds (asked_by options.now readers polls attempts mirrors) result (S.view source.old) (S.view source.new) (K.view sink.old) (K.view sink.new) }
+    ensures completes { LiveEndsWell (asked_by options.now readers polls attempts mirrors) result (S.view source.old) (S.view source.new) (K.view sink.old) (K.view sink.new) }
     ensures source { SameSource (S.view source.old) (S.view source.new) }
 {
-    match told(rt, alloc, options, readers, polls, attempts, source, gate) {
+    match told(
+        rt, alloc, options, readers, polls, attempts, mirrors, source, gate,
+    ) {
         Ok(text) => Ended::With(say(&text, Status::Done, sink)),
         Err(refusal) => refuse(alloc, refusal, sink),
     }

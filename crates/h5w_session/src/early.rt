@@ -188,13 +188,14 @@ fn place_bands(
     Ok(to)
 }
 
-/// Rows that only have to be written early: up to which row, the places once their chunks have theirs, their pieces, and the cells behind them.
+/// Rows that only have to be written early: up to which row, the places once their chunks have theirs, their pieces, and how many bytes their
+/// cells have.
 #[derive(Drop)]
 struct Early {
     to: u64,
     places: Places,
     writes: Vec<Write>,
-    rest: Vec<u8>,
+    bytes: usize,
 }
 
 /// Takes all places and all memory for rows that are to be written early, from `mid` on, up to `to` or as far as the file has places: the cells of
@@ -236,7 +237,8 @@ fn plan_early<W: PieceWrite>(
     ensures same { IfOk result (λ e. e.to ≡ mid → (chunks.new.items ≡ chunks.old.items) × (e.places ≡ before.now)) }
     ensures exact { IfOk result (λ e. e.writes.items ≡ writes_behind (dataset_of grid.now) (take ((e.to - mid) * row_bytes (dataset_of grid.now)) cells.now) grid.now.shape.rows mid e.to chunks.new.items) }
     ensures does { IfOk result (λ e. mid < e.to → RowsWritten (dataset_of grid.now) (take ((e.to - mid) * row_bytes (dataset_of grid.now)) cells.now) mid e.to (next_places (dataset_of grid.now) grid.now.shape.rows mid chunks.new.items) e.writes.items) }
-    ensures rest { IfOk result (λ e. e.rest.items ≡ drop ((e.to - mid) * row_bytes (dataset_of grid.now)) cells.now) }
+    ensures bytes { IfOk result (λ e. e.bytes ≡ (e.to - mid) * row_bytes (dataset_of grid.now)) }
+    ensures inside { IfOk result (λ e. e.bytes ≤ length cells.now) }
     ensures list { IfOk result (λ e. 1 ≤ vec_capacity e.writes) }
     ensures sized { IfOk result (λ e. ArePieces e.places.end e.writes.items) }
     ensures some { IfOk result (λ e. mid < e.to → e.writes.items ≢ []) }
@@ -251,13 +253,12 @@ fn plan_early<W: PieceWrite>(
     let row = place_bands(grid, index, mid, to, &mut places, chunks)?;
     let bytes = ((row - mid) * grid.shape.cols) as usize * usize::from(grid.int_type.size);
     let writes = put_behind(alloc, grid, &cells[..bytes], mid, row, chunks, 1)?;
-    let rest = Vec::from_slice(alloc, &cells[bytes..]).map_err(OutOfMemory::from)?;
     image.reserve(writes.len() as u64 + 1, places.end())?;
     Ok(Early {
         to: row,
         places,
         writes,
-        rest,
+        bytes,
     })
 }
 
@@ -326,7 +327,7 @@ impl WriterCore {
             &self.grid,
             &self.index,
             &self.places,
-            &self.waiting,
+            self.waiting.as_slice(),
             mid,
             to,
             &mut self.chunks,
@@ -337,7 +338,7 @@ impl WriterCore {
                     self.places = early.places;
                     self.plan = early.writes;
                     self.shown = 0;
-                    self.waiting = early.rest;
+                    self.waiting.let_go(early.bytes);
                     self.early = early.to - self.grid.shape.rows;
                 }
                 Ok(())

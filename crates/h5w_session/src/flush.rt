@@ -594,7 +594,15 @@ impl WriterCore {
         let alloc = *self.plan.allocator();
         let end = self.places.end();
         let shown = mem::replace(&mut self.spare, Vec::new(alloc));
-        let writes = put_chunk(&self.grid, &self.waiting, to, place, end, shown, image)?;
+        let writes = put_chunk(
+            &self.grid,
+            self.waiting.as_slice(),
+            to,
+            place,
+            end,
+            shown,
+            image,
+        )?;
         let superblock = raise(&mut self.root, end);
         let piece = raise_rows(&mut self.header, to, None);
         let header = Write {
@@ -633,7 +641,7 @@ impl WriterCore {
         let (mut index, at) = start_index(alloc, kind, address, &mut taking.places)?;
         let prepared = prepare(
             &self.grid,
-            &self.waiting,
+            self.waiting.as_slice(),
             &self.chunks,
             mid,
             to,
@@ -684,7 +692,7 @@ impl WriterCore {
         let mut taking = Taking::new(*self.plan.allocator(), self.places.copy()?);
         match prepare(
             &self.grid,
-            &self.waiting,
+            self.waiting.as_slice(),
             &self.chunks,
             mid,
             to,

@@ -5,6 +5,7 @@ ghost use Rattle.h5w_chunks.specs.Grids.{IsGrid};
 ghost use Rattle.h5w_session.specs.Openings.{session_over};
 ghost use Rattle.h5w_session.specs.Sessions.{IsSession};
 
+use crate::cells::Cells;
 use crate::state::WriterCore;
 use h5w_chunks::Grid;
 use h5w_index::Index;
@@ -70,7 +71,7 @@ impl WriterCore {
             committed: file.grid.shape.rows,
             places: Places::new(alloc, file.root.end, limit),
             grid: file.grid,
-            waiting: Vec::new(alloc),
+            waiting: Cells::new(alloc),
             waits: 0,
             plan,
             shown: 0,

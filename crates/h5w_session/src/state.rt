@@ -17,6 +17,7 @@ ghost use Rattle.h5w_session.specs.Stands.{Stands};
 ghost use Rattle.h5w_session.specs.declared.refusal.AppendError.{AppendError};
 ghost use Rattle.h5w_session.specs.declared.refusal.CloseError.{CloseError};
 
+use crate::cells::Cells;
 use crate::form::form_of;
 use crate::refusal::{AppendError, CloseError};
 use h5w_chunks::{ChunkPlace, Grid, IndexKind};
@@ -26,7 +27,7 @@ use h5w_index::Index;
 use h5w_model::{OutOfMemory, Piece, Super, Write};
 use h5w_options::Options;
 use h5w_space::Places;
-use h5w_types::{first_outside, put_cells};
+use h5w_types::first_outside;
 use std::alloc::Global;
 use std::marker::Model;
 
@@ -51,7 +52,7 @@ pub struct WriterCore {
     /// The rows that the file has before the last of them does.
     pub(crate) committed: u64,
     /// How many rows no flush has planned, and the cells of those of them that were not written early.
-    pub(crate) waiting: Vec<u8>,
+    pub(crate) waiting: Cells,
     pub(crate) waits: u64,
     /// The pieces of the last plan, and how many of them became visible.
     pub(crate) plan: Vec<Write>,
@@ -92,7 +93,7 @@ impl Model for WriterCore {
       dataset = dataset_of w.grid;
       places = w.places;
       committed = w.committed;
-      waiting = w.waiting.items;
+      waiting = w.waiting;
       waits = w.waits;
       pending = drop w.shown w.plan.items;
       stopped = w.stopped;
@@ -113,7 +114,7 @@ impl Model for WriterCore {
           dataset = dataset_of w.grid;
           places = w.places;
           committed = w.committed;
-          waiting = w.waiting.items;
+          waiting = w.waiting;
           waits = w.waits;
           pending = drop w.shown w.plan.items;
           stopped = w.stopped;
@@ -149,7 +150,7 @@ impl WriterCore {
             grid: file.grid,
             places: Places::new(alloc, file.root.end, options.limit),
             committed: 0,
-            waiting: Vec::new(alloc),
+            waiting: Cells::new(alloc),
             waits: 0,
             plan: file.writes,
             shown: 0,
@@ -193,7 +194,7 @@ impl WriterCore {
         self.check(values)?;
         let rows = values.len() as u64 / self.grid.shape.cols;
         let bytes = self.waiting.len();
-        put_cells(values, &self.grid.int_type, &mut self.waiting)?;
+        self.waiting.put(values, &self.grid.int_type)?;
         self.waits += rows;
         match self.write_early(image) {
             Ok(()) => Ok(self.rows()),

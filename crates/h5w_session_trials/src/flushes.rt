@@ -7,7 +7,7 @@ use std::process::Abort;
 use std::test::Fail;
 
 /// Rows 1, 2, 3 by twos: two chunks, the superblock of 574 bytes, the blocks that name the chunks, and 3 rows.
-const THREE_ROWS: [PieceOutline; 6] = [
+pub const THREE_ROWS: [PieceOutline; 6] = [
     (558, 8, [2, 0, 0, 0]),
     (566, 8, [0, 0, 0, 0]),
     (0, 48, [0x57, 0x97, 0x72, 0xe9]),
@@ -74,12 +74,21 @@ fn move_block(rt: &impl Abort, core: &mut WriterCore, image: &mut MemImage) -> R
     check_flush(rt, core, image, &[6], &A_SIXTH_CHUNK)
 }
 
+/// Flushes three rows and a fourth one.
+pub fn two_flushes(
+    rt: &impl Abort,
+    core: &mut WriterCore,
+    image: &mut MemImage,
+) -> Result<(), Fail> {
+    check_flush(rt, core, image, &[1, 2, 3], &THREE_ROWS)?;
+    check_flush(rt, core, image, &[4], &A_FOURTH_ROW)
+}
+
 #[test]
 fn two_flushes_have_these_pieces(rt: HostRuntime) -> Result<(), Fail> {
     let mut image = MemImage::new(rt.alloc())?;
     let mut core = created(&rt, 2, &mut image)?;
-    check_flush(&rt, &mut core, &mut image, &[1, 2, 3], &THREE_ROWS)?;
-    check_flush(&rt, &mut core, &mut image, &[4], &A_FOURTH_ROW)
+    two_flushes(&rt, &mut core, &mut image)
 }
 
 #[test]

@@ -10,3 +10,5 @@ mod endings;
 mod flushes;
 #[cfg(test)]
 mod helpers;
+#[cfg(test)]
+mod refused;

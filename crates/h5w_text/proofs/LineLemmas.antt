@@ -1,10 +1,11 @@
 -- How an input is cut into lines.
-use Rattle.std.proofs.Common.{ℕ, zero, suc, ◌+◌, ◌-◌, ◌<◌, ◌≤◌, ◌≡◌, Bool, true, false, List, [], ◌∷◌, ◌++◌, length, take, drop, Option, Some, None, Result, Ok, Err, MatchBool, sym, refl, ap, ◌∙◌, subst, inl, inr, arith, rules, length-append, length-drop}
+use Rattle.std.proofs.Common.{ℕ, zero, suc, ◌+◌, ◌-◌, ◌<◌, ◌≤◌, ◌≡◌, Bool, true, false, List, [], ◌∷◌, ◌++◌, length, take, drop, Option, Some, None, Result, Ok, Err, MatchBool, ℤ, sym, refl, ap, ◌∙◌, subst, inl, inr, arith, rules, length-append, length-drop}
 use Rattle.std.specs.Prelude.{IfOk, IfSome, option_map, slice_range}
 use Rattle.std.proofs.lemmas.List.{append_assoc, append-nil, length-take-le, take_all, take-append-drop, drop-drop, drop-take, take-append-le}
 use Rattle.std.proofs.Math.Seq.{take-append_seam}
 use Rattle.h5w_text.specs.Streams.{SourceView, Took}
-use Rattle.h5w_text.specs.LinesAhead.{Cut, Ended, Given, NextGives, IntakeView, IsLast, IsLine, IsOver, Keeps, Passed, LinesAhead, Stays, lines_left, lines_ahead}
+use Rattle.h5w_text.specs.LinesAhead.{Cut, Ended, Given, NextGives, IntakeView, IsLast, IsLine, IsOver, Keeps, Passed, LinesAhead, Stays, TakesNumbers, lines_left, lines_ahead}
+use Rattle.h5w_text.specs.Scripts.{number_line_of}
 use Rattle.h5w_text.specs.declared.line.TextLine.{TextLine}
 use Rattle.h5w_text.specs.declared.line.Next.{Next}
 use Rattle.h5w_text.specs.declared.line.Next.TheVariants as nexts
@@ -234,6 +235,12 @@ whole_of line kept l ended v u t j k b p is a finish =
       given_whole (b.front ++ a.0) v (lines_ahead t k) lacks passed,
       record { lacks = lacks; passed = passed },
     )
+
+-- a line that was held with its end was taken, and has these values
+pub takes_numbers : (columns : ℕ) (values : List ℤ) (s : SourceView) (i j : IntakeView) → (line : List ℕ) × Cut line true i j × (number_line_of columns line ≡ Some values) → TakesNumbers columns values (lines_ahead s i) (lines_ahead s j)
+takes_numbers columns values s i j h =
+    let passed : Passed (h.0 ++ 10 ∷ []) (lines_ahead s i) (lines_ahead s j) = cut_ended s h.0 i j h.1 in
+    record { line = h.0; spelled = h.2; given = given_whole h.0 (lines_ahead s i) (lines_ahead s j) h.1.lacks passed; whole = record { lacks = h.1.lacks; passed = passed } }
 
 -- the line goes on
 pub open_of : (line kept : Partial) (ended : Bool) (v u : LinesAhead) (t : SourceView) (j k : IntakeView) → Before line v u → Passed [] u (lines_ahead t j) → ended ≡ false → Advance line kept ended j k → Before kept v (lines_ahead t k)

@@ -1,7 +1,8 @@
 -- What a reader of lines has before it, and what taking a line leaves.
-use Rattle.std.specs.Prelude.{◌≡◌, ◌⊎◌, ℕ, ◌+◌, ◌<◌, ◌≤◌, Bool, false, List, [], ◌∷◌, ◌++◌, length, take, if◌then◌else◌, MatchBool, Option, IfSome, option_map}
+use Rattle.std.specs.Prelude.{◌≡◌, ◌⊎◌, ℕ, ◌+◌, ◌<◌, ◌≤◌, Bool, false, List, [], ◌∷◌, ◌++◌, length, take, if◌then◌else◌, MatchBool, Option, Some, IfSome, option_map, ℤ}
 use Rattle.h5w_text.specs.Bytes.{Lacks}
 use Rattle.h5w_text.specs.Lines.{last_line, line_limit, lines_of}
+use Rattle.h5w_text.specs.Scripts.{number_line_of}
 use Rattle.h5w_text.specs.Streams.{SourceView}
 use Rattle.h5w_text.specs.declared.line.TextLine as lines
 use Rattle.h5w_text.specs.declared.line.TextLine.TheVariants.{Whole, Long}
@@ -71,6 +72,13 @@ pub record Given (line : List ℕ) (v w : LinesAhead) : Type 0 where
 pub record IsWhole (line : List ℕ) (v w : LinesAhead) : Type 0 where
   pub lacks : Lacks 10 line
   pub passed : Passed (line ++ 10 ∷ []) v w
+
+-- this line was taken with its end, and these are its values
+pub record TakesNumbers (columns : ℕ) (values : List ℤ) (v w : LinesAhead) : Type 0 where
+  pub line : List ℕ
+  pub spelled : number_line_of columns line ≡ Some values
+  pub given : Given line v w
+  pub whole : IsWhole line v w
 
 -- nothing was left
 pub record Ended (v w : LinesAhead) : Type 0 where

@@ -1,10 +1,12 @@
-ghost use Rattle.std.specs.Prelude.{◌≡◌, ◌≤◌, ◌++◌, ◌+◌, ℕ, List, [], ◌∷◌, length, take, Ok, Err, IfOk, OnOk, OnErr, IfSome, MatchBool};
+ghost use Rattle.std.specs.Prelude.{◌≡◌, ◌≤◌, ◌++◌, ◌+◌, ℕ, List, [], ◌∷◌, length, take, true, false, Some, Ok, Err, IfOk, OnOk, OnErr, IfSome, IsTrue, MatchBool};
 ghost use Rattle.h5w_model.specs.Causes.{Rose};
 ghost use Rattle.h5w_text.specs.Streams.{Took};
 ghost use Rattle.h5w_text.specs.LinesAhead.{Cut, Keeps, Passed, Stays, lines_ahead};
+ghost use Rattle.h5w_text.specs.Scripts.{number_line_of};
 
 use crate::line::{LineError, Partial};
 use crate::places::first_place;
+use crate::script::fill_numbers;
 use crate::streams::Source;
 use h5w_image::Failed;
 use h5w_model::OutOfMemory;
@@ -142,5 +144,26 @@ impl Intake {
         }
         self.at += place + 1;
         Ok(true)
+    }
+
+    /// Takes the line that stands next, and its end, where it is held whole and is one of numbers: its values come in the place of what
+    /// the list had. False: nothing was taken, which says nothing of the line.
+    pub fn take_numbers(&mut self, columns: u64, values: &mut Vec<i128>) -> bool
+        requires { 1 ≤ columns }
+        ensures taken { IsTrue result → (line : List ℕ) × Cut line true self.old self.new × (number_line_of columns line ≡ Some values.new.items) }
+        ensures kept { result ≡ false → self.new ≡ self.old }
+    {
+        let held = &self.buffer[self.at..self.end];
+        let len = first_place(b'\n', held);
+        if len == held.len() {
+            return false;
+        }
+        match fill_numbers(&held[..len], columns, values) {
+            Ok(()) => {
+                self.at += len + 1;
+                true
+            }
+            Err(_) => false,
+        }
     }
 }

@@ -1,6 +1,6 @@
-ghost use Rattle.std.specs.Prelude.{◌≡◌, ℕ, Err, IfOk};
+ghost use Rattle.std.specs.Prelude.{◌≡◌, ◌≤◌, ℕ, false, Err, IfOk, IsTrue};
 ghost use Rattle.h5w_model.specs.Causes.{Rose};
-ghost use Rattle.h5w_text.specs.LinesAhead.{GivenUp, GivenUpOver, NextGives, IsOver, Stays, lines_ahead};
+ghost use Rattle.h5w_text.specs.LinesAhead.{GivenUp, GivenUpOver, NextGives, IsOver, Stays, TakesNumbers, lines_ahead};
 
 use crate::intake::Intake;
 use crate::line::{LineError, Next, Partial};
@@ -54,5 +54,18 @@ impl<'a, S: Source> Lines<'a, S> {
                 return Ok(Next::Line(line.finish()));
             }
         }
+    }
+
+    /// Takes the next line where its bytes are held already, with its end, and it is one of numbers: its values come in the place of what
+    /// the list had. It takes no memory for the line, and asks the source for nothing. False: no line was taken, and `next` tells what comes.
+    pub fn take_numbers(&mut self, columns: u64, values: &mut Vec<i128>) -> bool
+        requires { 1 ≤ columns }
+        ensures taken { IsTrue result → TakesNumbers columns values.new.items (lines_ahead (S.view self.old.source.now) self.old.intake.now) (lines_ahead (S.view self.new.source.now) self.new.intake.now) }
+        ensures kept { result ≡ false → self.new.intake.now ≡ self.old.intake.now }
+        ensures source { self.new.source.now ≡ self.old.source.now }
+        ensures same_reference { self.new.source.ghost_name ≡ self.old.source.ghost_name }
+        ensures same_intake { self.new.intake.ghost_name ≡ self.old.intake.ghost_name }
+    {
+        self.intake.take_numbers(columns, values)
     }
 }

@@ -109,18 +109,18 @@ fn short_values(words: &mut Words<'_>, values: &mut Vec<i128>) -> Result<(), Tex
     Ok(())
 }
 
-/// The values of words, each of them a value. There is room for all of them from the beginning: each but the first
-/// has a space before it.
+/// The values of words, each of them a value, in the place of what the list had. There is room for all of them from the
+/// beginning: each but the first has a space before it.
 #[tactic(auto, using(crate::proofs::ScriptLemmas::values_more))]
-fn values(alloc: Global, mut words: Words) -> Result<Vec<i128>, TextError>
-    ensures { MatchResult result (λ values. values_of words.entry ≡ Some values.items) (λ e. e ≡ TextError.Grammar → values_of words.entry ≡ None) }
+fn fill_values(mut words: Words, values: &mut Vec<i128>) -> Result<(), TextError>
+    ensures { MatchResult result (λ _. values_of words.entry ≡ Some values.new.items) (λ e. e ≡ TextError.Grammar → values_of words.entry ≡ None) }
 {
-    let mut values = Vec::new(alloc);
+    values.clear();
     values.reserve(words.most_spaces() / 2 + 1)?;
     loop {
-        short_values(&mut words, &mut values)?;
+        short_values(&mut words, values)?;
         let Some(word) = words.next() else {
-            return Ok(values);
+            return Ok(());
         };
         let Some(value) = value(word) else {
             return Err(TextError::Grammar);
@@ -129,19 +129,19 @@ fn values(alloc: Global, mut words: Words) -> Result<Vec<i128>, TextError>
     }
 }
 
-/// The values of rows of so many columns, at least one row.
-fn rows(alloc: Global, words: Words, columns: u64) -> Result<Vec<i128>, TextError>
+/// The values of rows of so many columns, at least one row, in the place of what the list had.
+fn fill_rows(words: Words, columns: u64, values: &mut Vec<i128>) -> Result<(), TextError>
     requires { 1 ≤ columns }
-    ensures { MatchResult result (λ values. rows_of columns words.entry ≡ Some values.items) (λ e. e ≡ TextError.Grammar → rows_of columns words.entry ≡ None) }
+    ensures { MatchResult result (λ _. rows_of columns words.entry ≡ Some values.new.items) (λ e. e ≡ TextError.Grammar → rows_of columns words.entry ≡ None) }
 {
-    let values = values(alloc, words)?;
+    fill_values(words, values)?;
     if values.is_empty() {
         return Err(TextError::Grammar);
     }
     if values.len() as u64 % columns != 0 {
         return Err(TextError::Grammar);
     }
-    Ok(values)
+    Ok(())
 }
 
 #[tactic(auto, using(crate::proofs::ScriptLemmas::append_some, crate::proofs::ScriptLemmas::append_none))]
@@ -149,7 +149,8 @@ fn append(alloc: Global, words: Words, columns: u64) -> Result<ScriptLine, TextE
     requires { 1 ≤ columns }
     ensures { Spells (append_of columns words.entry) result }
 {
-    let values = rows(alloc, words, columns)?;
+    let mut values = Vec::new(alloc);
+    fill_rows(words, columns, &mut values)?;
     Ok(ScriptLine::Append(Values::from_vec(values)))
 }
 
@@ -244,17 +245,29 @@ pub fn script_line(alloc: Global, line: &[u8], columns: u64) -> Result<ScriptLin
     }
 }
 
+/// The values of a line of numbers, without the byte 0a, in the place of what the list had: rows of so many columns, and none in an empty
+/// line. Grammar: the bytes spell no such line.
+pub fn fill_numbers(line: &[u8], columns: u64, values: &mut Vec<i128>) -> Result<(), TextError>
+    requires { 1 ≤ columns }
+    ensures { MatchResult result (λ _. number_line_of columns line.now ≡ Some values.new.items) (λ e. e ≡ TextError.Grammar → number_line_of columns line.now ≡ None) }
+{
+    if line.is_empty() {
+        values.clear();
+        return Ok(());
+    }
+    if line.len() > LINE_LIMIT {
+        return Err(TextError::Grammar);
+    }
+    fill_rows(Words::of(line), columns, values)
+}
+
 /// The values of a line of numbers, without the byte 0a: rows of so many columns, and none in an empty line. Grammar: the bytes spell no
 /// such line.
 pub fn number_line(alloc: Global, line: &[u8], columns: u64) -> Result<Vec<i128>, TextError>
     requires { 1 ≤ columns }
     ensures { MatchResult result (λ values. number_line_of columns line.now ≡ Some values.items) (λ e. e ≡ TextError.Grammar → number_line_of columns line.now ≡ None) }
 {
-    if line.is_empty() {
-        return Ok(Vec::new(alloc));
-    }
-    if line.len() > LINE_LIMIT {
-        return Err(TextError::Grammar);
-    }
-    rows(alloc, Words::of(line), columns)
+    let mut values = Vec::new(alloc);
+    fill_numbers(line, columns, &mut values)?;
+    Ok(values)
 }

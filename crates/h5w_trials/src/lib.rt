@@ -12,3 +12,5 @@ mod looks;
 mod opens;
 #[cfg(test)]
 mod reads;
+#[cfg(test)]
+mod refused;

@@ -7,7 +7,7 @@ use std::alloc::Global;
 use std::test::Fail;
 
 /// The bytes of an image at a place, at most `len`.
-fn piece(image: &[u8], at: u64, len: usize) -> Piece
+pub fn piece(image: &[u8], at: u64, len: usize) -> Piece
     requires { len ≤ 512 }
     ensures { length result ≤ len }
 {

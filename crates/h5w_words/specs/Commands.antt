@@ -7,13 +7,14 @@ use Rattle.h5w_words.specs.Files.{creating_app, creating_of, check_app, check_of
 use Rattle.h5w_words.specs.Makes.{make_app, make_of}
 use Rattle.h5w_words.specs.Appends.{append_app, append_of}
 use Rattle.h5w_words.specs.Lives.{live_app, live_of}
+use Rattle.h5w_words.specs.Stops.{stop_app, stop_of}
 use Rattle.h5w_words.specs.declared.job.Job.{Job}
 
 -- the program with its commands
 abbrev pub program : App
 program =
-    with_subcommand (with_subcommand (with_subcommand (with_subcommand (with_subcommand (with_subcommand (with_subcommand (with_subcommand (new_app (codes "h5swmr")) play_app.top) creating_app.top) check_app.top)
-    poll_app.top) clear_app.top) make_app.top) append_app.top) live_app.top
+    with_subcommand (with_subcommand (with_subcommand (with_subcommand (with_subcommand (with_subcommand (with_subcommand (with_subcommand (with_subcommand (new_app (codes "h5swmr")) play_app.top) creating_app.top) check_app.top)
+    poll_app.top) clear_app.top) make_app.top) append_app.top) live_app.top) stop_app.top
 
 -- what a command of this name asks for, by its options
 abbrev pub named_of : Text → List Row → Option Job
@@ -26,6 +27,7 @@ named_of name rows =
     else if is_word (codes "make") name then make_of rows
     else if is_word (codes "append") name then append_of rows
     else if is_word (codes "live") name then live_of rows
+    else if is_word (codes "stop") name then stop_of rows
     else None
 
 -- what the command that was found asks for; without one nothing

@@ -11,4 +11,5 @@ pub mod Files
 pub mod Makes
 pub mod Appends
 pub mod Lives
+pub mod Stops
 pub mod Commands

@@ -2,7 +2,7 @@
 use Rattle.std.specs.Prelude.{◌≤◌, ◌^◌, length}
 use Rattle.h5w_options.specs.Options.{AreOptions, AreAttempts}
 use Rattle.h5w_words.specs.declared.job.Job.{Job}
-use Rattle.h5w_words.specs.declared.job.Job.TheVariants.{Play, New, Check, Poll, Clear, Make, Append, Live}
+use Rattle.h5w_words.specs.declared.job.Job.TheVariants.{Play, New, Check, Poll, Clear, Make, Append, Live, Stop}
 
 abbrev pub IsWithinLimits : Job → Type 0
 IsWithinLimits (Play options attempts) = AreOptions options × AreAttempts attempts
@@ -12,4 +12,5 @@ IsWithinLimits (Poll file name times attempts values) = (1 ≤ times) × AreAtte
 IsWithinLimits (Clear file upgrade) = Unit {0}
 IsWithinLimits (Make count seed) = count ≤ 1000000
 IsWithinLimits (Append file name limit budget keeps) = (length name ≤ 255) × (1024 ≤ limit) × (limit ≤ 2 ^ 40) × (1024 ≤ budget) × (budget ≤ 2 ^ 30)
-IsWithinLimits (Live options readers polls attempts) = AreOptions options × AreAttempts attempts × (1 ≤ readers) × (readers ≤ 16) × (1 ≤ polls) × (polls ≤ 10000)
+IsWithinLimits (Live options readers polls attempts mirrors) = AreOptions options × AreAttempts attempts × (1 ≤ readers) × (readers ≤ 16) × (1 ≤ polls) × (polls ≤ 10000) × (mirrors ≤ 16)
+IsWithinLimits (Stop options) = AreOptions options

@@ -79,6 +79,13 @@ pub enum Job {
         polls: u32,
         /// How many attempts a call makes at most, 1 to 1,000.
         attempts: u32,
+        /// How many readers more, which look at a second image, 0 to 16.
+        mirrors: u32,
+    },
+    /// Opens a reader at each piece of a writer's script.
+    Stop {
+        /// By what the file is created. The name has letters, digits and underscores alone.
+        options: Options,
     },
 }
 

@@ -14,6 +14,7 @@ mod make;
 mod name;
 mod number;
 mod play;
+mod stop;
 mod types;
 mod values;
 mod words;

@@ -9,7 +9,7 @@ use crate::arguments::Argument::{Needed, Optional};
 use crate::arguments::with_arguments;
 use crate::creation::{creation, options_given};
 use crate::job::{Job, WordsError};
-use crate::values::{attempts_given, count};
+use crate::values::{attempts_given, count, count_or};
 use clap::{ArgMatches, Command};
 use std::alloc::{AllocError, Global};
 
@@ -23,7 +23,12 @@ pub fn live<'a>(alloc: Global) -> Result<Command<'a>, AllocError>
     with_arguments(
         alloc,
         command,
-        &[Needed("readers"), Needed("polls"), Optional("attempts")],
+        &[
+            Needed("readers"),
+            Needed("polls"),
+            Optional("attempts"),
+            Optional("mirrors"),
+        ],
     )
 }
 
@@ -36,11 +41,13 @@ pub fn live_job(alloc: Global, options: &ArgMatches<'_>) -> Result<Job, WordsErr
     let readers = count(options, "readers", 1, 16).ok_or(WordsError::Usage)?;
     let polls = count(options, "polls", 1, 10_000).ok_or(WordsError::Usage)?;
     let attempts = attempts_given(options).ok_or(WordsError::Usage)?;
+    let mirrors = count_or(options, "mirrors", 0, 0, 16).ok_or(WordsError::Usage)?;
     let options = options_given(alloc, options)?;
     Ok(Job::Live {
         options,
         readers: readers as u32,
         polls: polls as u32,
         attempts,
+        mirrors: mirrors as u32,
     })
 }

@@ -10,6 +10,7 @@ use crate::job::{Job, WordsError};
 use crate::live::{live, live_job};
 use crate::make::{make, make_job};
 use crate::play::{play, play_job};
+use crate::stop::{stop, stop_job};
 use clap::{ArgMatches, Command};
 use std::alloc::{AllocError, Global};
 
@@ -36,7 +37,8 @@ fn program<'a>(alloc: Global) -> Result<Command<'a>, AllocError>
     let command = added(command, clear(alloc));
     let command = added(command, make(alloc));
     let command = added(command, append(alloc));
-    added(command, live(alloc))
+    let command = added(command, live(alloc));
+    added(command, stop(alloc))
 }
 
 /// What the program's commands make of the words.
@@ -65,6 +67,7 @@ fn named(alloc: Global, name: &str, options: &ArgMatches<'_>) -> Result<Job, Wor
         "make" => make_job(options),
         "append" => append_job(alloc, options),
         "live" => live_job(alloc, options),
+        "stop" => stop_job(alloc, options),
         _ => Err(WordsError::Usage),
     }
 }

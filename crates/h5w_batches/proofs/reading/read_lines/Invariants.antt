@@ -3,12 +3,12 @@ use Rattle.h5w_text.specs.LinesAhead.{lines_ahead}
 use Rattle.h5w_batches.proofs.InputLemmas.{Gathers}
 use Rattle.h5w_batches.proofs.reading.read_lines.Given as goal
 
-abbrev pub invariant-loop-batches : goal.invariant-loop-batches
-invariant-loop-batches g l = record {
+abbrev pub invariant-loop-number : goal.invariant-loop-number
+invariant-loop-number g l = record {
   gathers : Gathers l.fn.columns (lines_ahead (g.S.Source.view l.fn.lines.source.now) l.fn.lines.intake.now) (lines_ahead (g.S.Source.view l.lines.source.now) l.lines.intake.now) l.number l.batches;
   same_reference : l.lines.source.ghost_name ≡ l.fn.lines.source.ghost_name;
   same_intake : l.lines.intake.ghost_name ≡ l.fn.lines.intake.ghost_name;
 }
 
-abbrev pub decreases-loop-batches : goal.decreases-loop-batches
-decreases-loop-batches g l = length l.lines.intake.now.held + l.lines.intake.now.more
+abbrev pub decreases-loop-number : goal.decreases-loop-number
+decreases-loop-number g l = length l.lines.intake.now.held + l.lines.intake.now.more

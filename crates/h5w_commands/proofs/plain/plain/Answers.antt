@@ -23,6 +23,9 @@ returns-in-Make-clause-does g c = search rules
 pub returns-in-Append-clause-does : goal.returns-in-Append-clause-does
 returns-in-Append-clause-does g c = search rules
 
+pub returns-in-Stop-clause-does : goal.returns-in-Stop-clause-does
+returns-in-Stop-clause-does g c = search rules
+
 pub returns-in-Play-clause-completes : goal.returns-in-Play-clause-completes
 returns-in-Play-clause-completes g c = does_whole _ _ _ _ _ _ _ _ (returns-in-Play-clause-does g c)
 
@@ -43,3 +46,6 @@ returns-in-Make-clause-completes g c = does_whole _ _ _ _ _ _ _ _ (returns-in-Ma
 
 pub returns-in-Append-clause-completes : goal.returns-in-Append-clause-completes
 returns-in-Append-clause-completes g c = does_whole _ _ _ _ _ _ _ _ (returns-in-Append-clause-does g c)
+
+pub returns-in-Stop-clause-completes : goal.returns-in-Stop-clause-completes
+returns-in-Stop-clause-completes g c = does_whole _ _ _ _ _ _ _ _ (returns-in-Stop-clause-does g c)

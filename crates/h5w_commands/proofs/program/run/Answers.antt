@@ -4,7 +4,7 @@ use Rattle.h5w_commands.proofs.program.run.Goals as goal
 
 pub returns-in-Ok-Live-clause-ran : goal.returns-in-Ok-Live-clause-ran
 returns-in-Ok-Live-clause-ran g c =
-    ran_live _ c.in-Ok-Live.field-0 c.in-Ok-Live.options c.in-Ok-Live.readers c.in-Ok-Live.polls c.in-Ok-Live.attempts c.run_live.result _ _ _ _ _ c.in-Ok-Live.ensures.ok c.in-Ok-Live.field-0-is c.run_live.ensures.ran
+    ran_live _ c.in-Ok-Live.field-0 c.in-Ok-Live.options c.in-Ok-Live.readers c.in-Ok-Live.polls c.in-Ok-Live.attempts c.in-Ok-Live.mirrors c.run_live.result _ _ _ _ _ c.in-Ok-Live.ensures.ok c.in-Ok-Live.field-0-is c.run_live.ensures.ran
 
 pub returns-in-Ok-clause-ran : goal.returns-in-Ok-clause-ran
 returns-in-Ok-clause-ran g c = ran_job _ c.in-Ok.job _ _ _ _ _ _ _ c.in-Ok.ensures.ok c.plain.ensures.does

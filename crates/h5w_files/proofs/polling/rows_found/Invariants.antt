@@ -3,7 +3,7 @@ use Rattle.std.specs.Prelude.{IsSome}
 use Rattle.h5w_model.specs.Unfinished.{wanted}
 use Rattle.h5w_image.specs.View.{Looked}
 use Rattle.h5w_reader.specs.Cores.{reader}
-use Rattle.h5w_files.specs.Answering.{IsForRows}
+use Rattle.h5w_answers.specs.Answering.{IsForRows}
 use Rattle.h5w_files.proofs.polling.rows_found.Given as goal
 
 abbrev pub invariant-again : goal.invariant-again

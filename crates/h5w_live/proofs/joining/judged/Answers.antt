@@ -6,15 +6,15 @@ use Rattle.h5w_live.proofs.joining.judged.Goals as goal
 
 pub meet_all-requires-clause-notes : goal.meet_all-requires-clause-notes
 meet_all-requires-clause-notes c =
-    images c.args.image.now c.requires.0 c.args.seat.now c.requires.1 c.args.ended c.requires.2 c.in-Ok.field-0 c.in-Ok.is
+    images c.args.image.now c.requires.joined.0 c.args.seat.now c.requires.joined.1 c.args.ended c.requires.joined.2 c.in-Ok.field-0 c.in-Ok.is
 
 pub meet-requires-clause-note : goal.meet-requires-clause-note
 meet-requires-clause-note c =
-    stray_image c.args.image.now c.requires.0 c.args.seat.now c.requires.1 c.args.ended c.requires.2 c.in-Err-Stray.note (c.in-Err-Stray.is ∙ ap Err c.in-Err-Stray.field-0-is)
+    stray_image c.args.image.now c.requires.joined.0 c.args.seat.now c.requires.joined.1 c.args.ended c.requires.joined.2 c.in-Err-Stray.note (c.in-Err-Stray.is ∙ ap Err c.in-Err-Stray.field-0-is)
 
 pub unreachable-requires : goal.unreachable-requires
 unreachable-requires c =
-    none_strays c.args.image.now c.requires.0 c.args.seat.now c.requires.1 c.args.ended c.requires.2 c.in-Err-Stray.note (c.in-Err-Stray.is ∙ ap Err c.in-Err-Stray.field-0-is)
+    none_strays c.args.image.now c.requires.joined.0 c.args.seat.now c.requires.joined.1 c.args.ended c.requires.joined.2 c.in-Err-Stray.note (c.in-Err-Stray.is ∙ ap Err c.in-Err-Stray.field-0-is)
     (subst (λ (s : SeatView). StartsWith s.seen c.in-Err-Stray.note.seen) c.meet.ensures.same c.meet.ensures.begins)
 
 pub returns-in-Ok-clause-agrees : goal.returns-in-Ok-clause-agrees

@@ -5,6 +5,6 @@ use Rattle.h5w_live.proofs.seated.flush.Goals as goal
 
 pub returns-clause-seat : goal.returns-clause-seat
 returns-clause-seat g c =
-    let name = (through_seats.same true _ c.flush.new.image.seat.ghost_name c.args.seat.now c.flush.new.image.seat.now c.flush.ensures.image).0 in
-    let stays = stays_seated _ c.flush.new.image.seat.ghost_name c.args.seat.now c.flush.new.image.seat.now c.flush.ensures.image in
+    let name = (through_seats.same true _ c.flush.new.image.pen.ghost_name c.args.seat.now c.flush.new.image.pen.now c.flush.ensures.image).0 in
+    let stays = stays_seated _ c.flush.new.image.pen.ghost_name c.args.seat.now c.flush.new.image.pen.now c.flush.ensures.image in
     search (rules, name, stays)

@@ -6,7 +6,7 @@ use Rattle.h5w_live.proofs.writing.show.Goals as goal
 
 pub returns-in-Err-clause-left : goal.returns-in-Err-clause-left
 returns-in-Err-clause-left g c = λ f w.
-    writes_failed f c.args.session.now c.loop-w.session c.failed.new.self c.args.seat.now c.loop-w.seat c.write.new.seat c.loop-w.invariant.1 c.in-Err.ensures.refused c.failed.ensures.session c.failed.ensures.stands w
+    writes_failed f c.args.session.now c.loop-w.session c.failed.new.self c.args.seat.now c.loop-w.seat c.write.new.self c.loop-w.invariant.1 c.in-Err.ensures.refused c.failed.ensures.session c.failed.ensures.stands w
 
 pub returns-in-Err-clause-stopped : goal.returns-in-Err-clause-stopped
 returns-in-Err-clause-stopped g c = (ap (λ (s : Session). s.stopped) c.failed.ensures.session, ap (λ (s : Session). s.pending) c.failed.ensures.session)
@@ -26,7 +26,7 @@ loop-w-preserved g c =
     let ws = drop 1 t.pending in
     let pending = oldest w t.pending c.in-Some.ensures.oldest in (
       ap (λ (y : SeatView). y.image) c.in-Ok.ensures.wrote ∙ c.loop-w.invariant.0,
-      shows_next c.args.session.now t c.written.new.self c.args.seat.now c.loop-w.seat c.write.new.seat w ws c.loop-w.invariant.1 pending (c.written.ensures.piece w ws pending) c.in-Ok.ensures.wrote
+      shows_next c.args.session.now t c.written.new.self c.args.seat.now c.loop-w.seat c.write.new.self w ws c.loop-w.invariant.1 pending (c.written.ensures.piece w ws pending) c.in-Ok.ensures.wrote
           (c.written.ensures.stands w ws pending),
     )
 

@@ -1,5 +1,5 @@
 use Rattle.std.proofs.Common.{rules}
-use Rattle.h5w_live.proofs.WritingLemmas.{after_early, shows_none, stands_none, wrote_none}
+use Rattle.h5w_live.proofs.WritingLemmas.{shows_none, stands_none, wrote_none}
 use Rattle.h5w_live.proofs.writing.show_early.Goals as goal
 
 pub returns-then-pending-eq0-clause-session : goal.returns-then-pending-eq0-clause-session

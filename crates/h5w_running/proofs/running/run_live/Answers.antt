@@ -4,9 +4,9 @@ use Rattle.h5w_running.proofs.running.run_live.Goals as goal
 
 pub returns-in-Ok-clause-ran : goal.returns-in-Ok-clause-ran
 returns-in-Ok-clause-ran g c =
-    tells_ends (asked_by c.args.options.now c.args.readers c.args.polls c.args.attempts) c.in-Ok.ensures.tells.0 c.in-Ok.text.items c.deref.result.now c.say.result c.in-Ok.ensures.tells.1 c.deref.ensures.value c.say.ensures
+    tells_ends (asked_by c.args.options.now c.args.readers c.args.polls c.args.attempts c.args.mirrors) c.in-Ok.ensures.tells.0 c.in-Ok.text.items c.deref.result.now c.say.result c.in-Ok.ensures.tells.1 c.deref.ensures.value c.say.ensures
 
 pub returns-in-Err-clause-completes : goal.returns-in-Err-clause-completes
 returns-in-Err-clause-completes g c =
-    let a = asked_by c.args.options.now c.args.readers c.args.polls c.args.attempts in
+    let a = asked_by c.args.options.now c.args.readers c.args.polls c.args.attempts c.args.mirrors in
     ends_well a c.refuse.result (c.refuse.ensures a (g.S.Source.view c.args.source.now) (g.S.Source.view c.told.new.source) c.in-Err.ensures.refused)

@@ -80,39 +80,12 @@ returns-in_err-writes-clause-kept g c =
     let kept = first_kept d old c.args.chunks.now.items c.in_ok-places.places c.place_bands.new.places c.place_bands.new.chunks.items c.in_ok-row.ensures.taken in
     on_err c.from_residual-in_err-writes.result kept
 
-pub returns-in_err-rest-clause-kept : goal.returns-in_err-rest-clause-kept
-returns-in_err-rest-clause-kept g c =
-    let d = dataset_of c.args.grid.now in
-    let old = address_in (view_of c.args.index.now) in
-    let kept = first_kept d old c.args.chunks.now.items c.in_ok-places.places c.place_bands.new.places c.place_bands.new.chunks.items c.in_ok-row.ensures.taken in
-    on_err c.from_residual-in_err-rest.result kept
-
 pub returns-in_err-reserve-clause-kept : goal.returns-in_err-reserve-clause-kept
 returns-in_err-reserve-clause-kept g c =
     let d = dataset_of c.args.grid.now in
     let old = address_in (view_of c.args.index.now) in
     let kept = first_kept d old c.args.chunks.now.items c.in_ok-places.places c.place_bands.new.places c.place_bands.new.chunks.items c.in_ok-row.ensures.taken in
     on_err c.from_residual-in_err-reserve.result kept
-
-pub slice_bounds-from_slice-count : goal.slice_bounds-from_slice-count
-slice_bounds-from_slice-count g c =
-    let d = dataset_of c.args.grid.now in
-    let cut = is_cut c.args.grid.now c.requires.grid in
-    let row = c.in_ok-row.row in
-    let low = c.in_ok-row.ensures.bounds.1 in
-    let size = c.from.result in
-    let n = plan_bytes d c.args.cells.now c.args.mid row c.args.to size cut c.from.ensures low c.requires.chunks c.requires.count in
-    n.inside
-
-pub slice_bounds-from_slice-start : goal.slice_bounds-from_slice-start
-slice_bounds-from_slice-start g c =
-    let d = dataset_of c.args.grid.now in
-    let cut = is_cut c.args.grid.now c.requires.grid in
-    let row = c.in_ok-row.row in
-    let low = c.in_ok-row.ensures.bounds.1 in
-    let size = c.from.result in
-    let n = plan_bytes d c.args.cells.now c.args.mid row c.args.to size cut c.from.ensures low c.requires.chunks c.requires.count in
-    n.inside
 
 pub returns-clause-whole : goal.returns-clause-whole
 returns-clause-whole g c =
@@ -149,18 +122,25 @@ returns-clause-does g c some =
     let does : c.args.mid < row → RowsWritten d cells c.args.mid row (next_places d d.shape.rows c.args.mid chunks) c.in_ok-writes.writes.items = λ some. subst (λ (cs : List ChunkPlace). RowsWritten d cells c.args.mid row (next_places d d.shape.rows c.args.mid cs) c.in_ok-writes.writes.items) own (c.in_ok-writes.ensures.does some) in
     subst (λ (k : ℕ). RowsWritten d (take k c.args.cells.now) c.args.mid row (next_places d d.shape.rows c.args.mid chunks) c.in_ok-writes.writes.items) n.is (does some)
 
-pub returns-clause-rest : goal.returns-clause-rest
-returns-clause-rest g c =
+pub returns-clause-bytes : goal.returns-clause-bytes
+returns-clause-bytes g c =
     let d = dataset_of c.args.grid.now in
     let cut = is_cut c.args.grid.now c.requires.grid in
     let row = c.in_ok-row.row in
     let low = c.in_ok-row.ensures.bounds.1 in
     let size = c.from.result in
     let n = plan_bytes d c.args.cells.now c.args.mid row c.args.to size cut c.from.ensures low c.requires.chunks c.requires.count in
-    let cells = c.args.cells.now in
-    let bytes = (row - c.args.mid) * c.args.grid.now.shape.cols * size in
-    let own : c.in_ok-rest.rest.items ≡ take (length cells - bytes) (drop bytes cells) = search rules in
-    own ∙ take_rest cells bytes ∙ ap (λ k. drop k cells) n.is
+    n.is
+
+pub returns-clause-inside : goal.returns-clause-inside
+returns-clause-inside g c =
+    let d = dataset_of c.args.grid.now in
+    let cut = is_cut c.args.grid.now c.requires.grid in
+    let row = c.in_ok-row.row in
+    let low = c.in_ok-row.ensures.bounds.1 in
+    let size = c.from.result in
+    let n = plan_bytes d c.args.cells.now c.args.mid row c.args.to size cut c.from.ensures low c.requires.chunks c.requires.count in
+    n.inside
 
 pub returns-clause-sized : goal.returns-clause-sized
 returns-clause-sized g c =

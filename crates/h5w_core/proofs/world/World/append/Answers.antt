@@ -1,4 +1,4 @@
-use Rattle.std.proofs.Common.{◌≡◌, ℤ, None, Ok, Err, ap, refl, rules, subst, sym, to_z, of_z}
+use Rattle.std.proofs.Common.{◌≡◌, ◌∙◌, ℤ, None, Ok, Err, ap, refl, rules, subst, sym, to_z, of_z}
 use Rattle.std.specs.Int.{w128}
 use Rattle.h5w_model.specs.declared.event.Event.TheVariants as events
 use Rattle.h5w_model.specs.declared.reply.Reply.TheVariants as replies
@@ -7,6 +7,7 @@ use Rattle.h5w_core.proofs.WorldLemmas.{world_of}
 use Rattle.h5w_core.proofs.AppendLemmas.{AppendTells, append_done, append_memory, refused_done}
 use Rattle.h5w_session.specs.Refusals.{append_refusal}
 use Rattle.h5w_session.specs.declared.refusal.AppendError.TheVariants as errors
+use Rattle.h5w_core.proofs.NameLemmas.{append_named}
 use Rattle.h5w_core.proofs.HoldLemmas.{append_hold, appended_stands, same_stands}
 use Rattle.h5w_core.proofs.world.World.append.Goals as goal
 use Rattle.h5w_core.proofs.world.World.append.Goals.{in-Ok, in-Err-Stopped, in-Err-Busy, in-Err-OutOfRange, in-Err-Chunks, in-Err-OutOfMemory}
@@ -106,3 +107,8 @@ returns-clause-no_space c =
       | in-Err-Chunks b ↦ rw b.result-is (λ full told. absurd cc)
       | in-Err-OutOfMemory b ↦ rw b.result-is (λ full told. absurd cc)
     ]
+
+pub returns-clause-named : goal.returns-clause-named
+returns-clause-named c =
+    let e = c.append.ensures in
+    append_named c.self.inside.session c.append.new.self c.args.values.now c.append.result e.added e.kept ∙ ap (λ (x : WorldView). x.session.name) c.self.view_is

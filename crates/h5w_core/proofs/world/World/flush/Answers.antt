@@ -2,6 +2,7 @@ use Rattle.std.proofs.Common.{◌≡◌, ◌∙◌, None, Ok, Err, refl, ap, sub
 use Rattle.h5w_session.specs.Refusals.{flush_refusal}
 use Rattle.h5w_core.specs.Worlds.{WorldView}
 use Rattle.h5w_core.proofs.FlushLemmas.{LeavesSession, busy_done, flush_done, full_done, full_told, memory_only, stopped_done}
+use Rattle.h5w_core.proofs.NameLemmas.{flush_named}
 use Rattle.h5w_core.proofs.HoldLemmas.{answered, flush_hold, held_stands, holds_more, planned_stands}
 use Rattle.h5w_core.proofs.world.World.flush.Goals as goal
 use Rattle.h5w_core.proofs.world.World.flush.Goals.{in-Ok, in-Err-Stopped, in-Err-Busy, in-Err-Space, in-Err-OutOfMemory}
@@ -107,3 +108,8 @@ returns-clause-full c =
           rw b.result-is (λ full told. full_told c.args.self.now c.self.inside.session e.field-0 e.field-0-0 full (ap (λ (x : WorldView). x.session) c.self.view_is) e.field-0-is e.ensures.full told)
       | in-Err-OutOfMemory b ↦ rw b.result-is (λ full told. absurd cc)
     ]
+
+pub returns-clause-named : goal.returns-clause-named
+returns-clause-named c =
+    let e = c.flush.ensures in
+    flush_named c.self.inside.session c.flush.new.self c.flush.result e.flushed e.kept ∙ ap (λ (x : WorldView). x.session.name) c.self.view_is

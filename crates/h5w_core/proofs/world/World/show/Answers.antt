@@ -1,3 +1,6 @@
+use Rattle.std.proofs.Common.{◌∙◌, ap}
+use Rattle.h5w_core.specs.Worlds.{WorldView}
+use Rattle.h5w_core.proofs.NameLemmas.{shown_named}
 use Rattle.h5w_core.proofs.HoldLemmas.{show_hold, show_logs, show_steps}
 use Rattle.h5w_model.specs.declared.reply.Reply.TheVariants as replies
 use Rattle.h5w_core.proofs.world.World.show.Goals as goal
@@ -22,3 +25,8 @@ returns-clause-logged c =
     let e = c.show-pieces.ensures in
     show_logs i.session c.show-pieces.new.session i.image c.show-pieces.new.image i.attempts c.show-pieces.result i.readers.items c.args.self.now (replies.Written c.show-pieces.result c.pending.result) c.self.view_is
     (record { nothing = e.nothing; piece = e.piece; stands = e.stands })
+
+pub returns-clause-named : goal.returns-clause-named
+returns-clause-named c =
+    let e = c.show-pieces.ensures in
+    shown_named c.self.inside.session c.show-pieces.new.session (λ none. (e.nothing none).1) (λ w ws is. (e.piece w ws is).1) ∙ ap (λ (x : WorldView). x.session.name) c.self.view_is

@@ -1,3 +1,6 @@
+use Rattle.std.proofs.Common.{◌∙◌, ap}
+use Rattle.h5w_session.specs.Sessions.{Session}
+use Rattle.h5w_core.specs.Worlds.{WorldView}
 use Rattle.h5w_core.proofs.HoldLemmas.{stop_hold, stop_logs, stop_steps}
 use Rattle.h5w_core.proofs.world.World.stop.Goals as goal
 
@@ -15,3 +18,6 @@ pub returns-clause-logged : goal.returns-clause-logged
 returns-clause-logged c =
     let i = c.self.inside in
     stop_logs i.session c.stop.new.self i.image i.attempts i.readers.items c.args.self.now c.self.view_is c.stop.ensures.stands
+
+pub returns-clause-named : goal.returns-clause-named
+returns-clause-named c = ap (λ (x : Session). x.name) c.stop.ensures.session ∙ ap (λ (x : WorldView). x.session.name) c.self.view_is

@@ -28,21 +28,21 @@ invariant_of-self-2 g c =
     let by = accepted s values (Ok tt) c.in_ok-check.ensures refl in
     let is = subst IsSession c.self.view_is c.self.invariant.0 in
     let then = values_is s values is c.requires.rows by in
-    (waits_is _ s values c.put_cells.new.out.items c.self.view_is c.in_ok-put_cells.ensures.added then, c.self.invariant.1, c.self.invariant.2, c.self.invariant.3, c.self.invariant.4)
+    (waits_is _ s values c.put.new.self c.self.view_is c.in_ok-put.ensures.added then, c.self.invariant.1, c.self.invariant.2, c.self.invariant.3, c.self.invariant.4)
 
 pub invariant_of-self-in-Err : goal.invariant_of-self-in-Err
 invariant_of-self-in-Err g c =
     let v = session_of c.self.inside in
     let u = session_of c.self-2.inside in
-    let long : c.len-bytes.result ≡ length c.self.inside.waiting.items = omega (arith, c.len-bytes.ensures, c.self.inside.waiting.ok) in
-    let back = taken_back u v _ c.put_cells.new.out.items c.truncate.new.self.items (length c.args.values.now / c.self.inside.grid.shape.cols) (c.self-2.view_is ∙ c.in-Err.ensures.kept) c.in_ok-put_cells.ensures.added (c.truncate.ensures.items ∙ ap (λ (n : ℕ). take n c.self-2.inside.waiting.items) long) in
+    let long : c.len-bytes.result ≡ length c.self.inside.waiting = c.len-bytes.ensures in
+    let back = taken_back u v _ c.put.new.self c.truncate.new.self (length c.args.values.now / c.self.inside.grid.shape.cols) (c.self-2.view_is ∙ c.in-Err.ensures.kept) c.in_ok-put.ensures.added (c.truncate.ensures ∙ ap (λ (n : ℕ). take n c.self-2.inside.waiting) long) in
     (subst IsSession (sym back) c.self.invariant.0, c.self-2.invariant.1, c.self-2.invariant.2, c.self-2.invariant.3, c.self-2.invariant.4)
 
 pub returns-in-Ok-clause-added : goal.returns-in-Ok-clause-added
 returns-in-Ok-clause-added g c =
     let s = c.args.self.now in
     let values = c.args.values.now in
-    let same = with_values_is _ s values c.put_cells.new.out.items c.self.view_is c.in_ok-put_cells.ensures.added in
+    let same = with_values_is _ s values c.put.new.self c.self.view_is c.in_ok-put.ensures.added in
     let written : WrittenEarly (with_values s values) c.write_early.new.self = subst (λ (y : Session). WrittenEarly y c.write_early.new.self) same c.in-Ok.ensures.written in
     adds_values s values c.write_early.new.self written
 
@@ -52,7 +52,7 @@ returns-in-Ok-clause-unplanned g c =
     let values = c.args.values.now in
     let by = accepted s values (Ok tt) c.in_ok-check.ensures refl in
     let is = subst IsSession c.self.view_is c.self.invariant.0 in
-    let same = with_values_is _ s values c.put_cells.new.out.items c.self.view_is c.in_ok-put_cells.ensures.added in
+    let same = with_values_is _ s values c.put.new.self c.self.view_is c.in_ok-put.ensures.added in
     let written : WrittenEarly (with_values s values) c.write_early.new.self = subst (λ (y : Session). WrittenEarly y c.write_early.new.self) same c.in-Ok.ensures.written in
     adds_unplanned s values c.write_early.new.self is by.idle (adds_values s values c.write_early.new.self written)
 
@@ -62,7 +62,7 @@ returns-in-Ok-clause-stands g c log stands =
     let values = c.args.values.now in
     let by = accepted s values (Ok tt) c.in_ok-check.ensures refl in
     let is = subst IsSession c.self.view_is c.self.invariant.0 in
-    let same = with_values_is _ s values c.put_cells.new.out.items c.self.view_is c.in_ok-put_cells.ensures.added in
+    let same = with_values_is _ s values c.put.new.self c.self.view_is c.in_ok-put.ensures.added in
     let written : WrittenEarly (with_values s values) c.write_early.new.self = subst (λ (y : Session). WrittenEarly y c.write_early.new.self) same c.in-Ok.ensures.written in
     let typed : IsIntType s.dataset.int_type = subst (λ (t : Session). IsIntType t.dataset.int_type) c.self.view_is c.self.invariant.1.typed in
     append_stands s values log is c.requires.rows by stands c.write_early.new.self typed c.in-Ok.ensures.ends written
@@ -73,7 +73,7 @@ returns-in-Ok-clause-bound g c log stands =
     let values = c.args.values.now in
     let by = accepted s values (Ok tt) c.in_ok-check.ensures refl in
     let is = subst IsSession c.self.view_is c.self.invariant.0 in
-    let same = with_values_is _ s values c.put_cells.new.out.items c.self.view_is c.in_ok-put_cells.ensures.added in
+    let same = with_values_is _ s values c.put.new.self c.self.view_is c.in_ok-put.ensures.added in
     let written : WrittenEarly (with_values s values) c.write_early.new.self = subst (λ (y : Session). WrittenEarly y c.write_early.new.self) same c.in-Ok.ensures.written in
     append_few s values log is c.requires.rows by stands c.write_early.new.self written
 
@@ -83,6 +83,6 @@ returns-in-Ok-clause-over g c some log stands =
     let values = c.args.values.now in
     let by = accepted s values (Ok tt) c.in_ok-check.ensures refl in
     let is = subst IsSession c.self.view_is c.self.invariant.0 in
-    let same = with_values_is _ s values c.put_cells.new.out.items c.self.view_is c.in_ok-put_cells.ensures.added in
+    let same = with_values_is _ s values c.put.new.self c.self.view_is c.in_ok-put.ensures.added in
     let over = subst (λ (y : Session). (y.budget < dirty_of y) × (length y.header ≤ 512)) same (c.in-Ok.ensures.early some) in
     append_over s values log is c.requires.rows by stands over.0 over.1

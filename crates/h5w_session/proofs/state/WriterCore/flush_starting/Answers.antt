@@ -66,10 +66,10 @@ pub prepare-requires-clause-limit : goal.prepare-requires-clause-limit
 prepare-requires-clause-limit g c = (asks_by g c).limit
 
 pub prepare-requires-clause-placed : goal.prepare-requires-clause-placed
-prepare-requires-clause-placed g c k p here = (asks_by g c).placed k p (subst (λ (ps : List ChunkPlace). slice_get ps k ≡ Some p) c.deref-2.ensures.value here)
+prepare-requires-clause-placed g c k p here = (asks_by g c).placed k p (subst (λ (ps : List ChunkPlace). slice_get ps k ≡ Some p) c.deref.ensures.value here)
 
 pub prepare-requires-clause-ends : goal.prepare-requires-clause-ends
-prepare-requires-clause-ends g c k p here = (asks_by g c).ends k p (subst (λ (ps : List ChunkPlace). slice_get ps k ≡ Some p) c.deref-2.ensures.value here)
+prepare-requires-clause-ends g c k p here = (asks_by g c).ends k p (subst (λ (ps : List ChunkPlace). slice_get ps k ≡ Some p) c.deref.ensures.value here)
 
 pub returns-in_err-prepared-clause-causes : goal.returns-in_err-prepared-clause-causes
 returns-in_err-prepared-clause-causes g c =
@@ -98,7 +98,7 @@ returns-in_err-prepared-clause-full g c full told =
     let e = c.in_err-prepared.field-0.0 in
     let is : c.from_residual-in_err-prepared.result ≡ Err e = search rules in
     start_unfilled v to c.new-taking.result.places c.in_ok-index.at (view_of c.in_ok-index.index) c.start_index.new.places full to_is (c.new-taking.ensures.places ∙ c.in_ok-copy.ensures) c.in_ok-index.ensures.kind
-    c.in_ok-index.ensures.started c.deref-2.result.now c.deref-2.ensures.value (c.in_err-prepared.ensures.full full (same_error e _ (sym is ∙ told))) c.args.self.now c.self.view_is
+    c.in_ok-index.ensures.started c.deref.result.now c.deref.ensures.value (c.in_err-prepared.ensures.full full (same_error e _ (sym is ∙ told))) c.args.self.now c.self.view_is
 
 pub raise_rows-piece-requires-clause-rows : goal.raise_rows-piece-requires-clause-rows
 raise_rows-piece-requires-clause-rows g c = has_rows c.self.inside.header c.self.invariant.0.header
@@ -108,7 +108,7 @@ raise_rows-piece-requires-clause-index g c some = has_address c.self.inside.head
 
 -- what the calls made of the session, once all of them are done
 made_by : (g : Over) (c : goal.After-drop-taking-3 g)
-    → StartCarried (session_of c.self.inside) c.rows-to.result c.prepare.new.taking.places (view_of c.finish-plan.new.self) c.join_first.result.items c.raise-superblock.new.root c.raise_rows-piece.new.header c.clear.new.self.items
+    → StartCarried (session_of c.self.inside) c.rows-to.result c.prepare.new.taking.places (view_of c.finish-plan.new.self) c.join_first.result.items c.raise-superblock.new.root c.raise_rows-piece.new.header c.clear.new.self
     c.clear-2.new.self.items c.in_ok-index.at
 made_by g c =
     let i = c.self.inside in
@@ -131,13 +131,13 @@ made_by g c =
       between = c.in_ok-prepared.ensures.prepared.between;
       named = view_of c.prepare.new.index;
       names_are = c.in_ok-prepared.ensures.prepared.names;
-      early = c.deref-2.result.now;
-      early_are = c.deref-2.ensures.value;
+      early = c.deref.result.now;
+      early_are = c.deref.ensures.value;
       taken = c.in_ok-prepared.ensures.prepared.taken;
       all = c.in_ok-prepared.ensures.all;
       roomy = c.prepare.ensures.roomy;
-      cells = c.deref.result.now;
-      cells_are = c.deref.ensures.value;
+      cells = c.as_slice.result.now;
+      cells_are = c.as_slice.ensures;
       rows = c.in_ok-prepared.prepared.writes.items;
       mid = c.next_row-mid.result;
       mid_is = c.next_row-mid.ensures.exact ∙ ap next_row (sym c.self.view_is);
@@ -161,7 +161,7 @@ made_by g c =
       piece_is = c.raise_rows-piece.ensures.piece;
       items = c.join_first.ensures.joined;
       header_short = c.raise_rows-piece.ensures.short;
-      none_waits = c.clear.ensures.items;
+      none_waits = c.clear.ensures;
       none_early = c.clear-2.ensures.items;
     }
 

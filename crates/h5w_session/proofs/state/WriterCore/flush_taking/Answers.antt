@@ -53,13 +53,13 @@ prepare-requires-clause-inside g c =
     subst (λ (s : Space). AreInside v.dataset s.end v.index) (sym places_are) c.self.invariant.0.inside
 
 pub prepare-requires-clause-placed : goal.prepare-requires-clause-placed
-prepare-requires-clause-placed g c k p at = c.self.invariant.0.placed k p (subst (λ (ps : List ChunkPlace). slice_get ps k ≡ Some p) c.deref-2.ensures.value at)
+prepare-requires-clause-placed g c k p at = c.self.invariant.0.placed k p (subst (λ (ps : List ChunkPlace). slice_get ps k ≡ Some p) c.deref.ensures.value at)
 
 pub prepare-requires-clause-ends : goal.prepare-requires-clause-ends
 prepare-requires-clause-ends g c k p at =
     let v = session_of c.self.inside in
     let end : c.new-taking.result.places.end ≡ v.places.end = ap (λ (s : Space). s.end) (c.new-taking.ensures.places ∙ c.in_ok-copy.ensures) in
-    omega (arith, end, c.self.invariant.0.ends k p (subst (λ (ps : List ChunkPlace). slice_get ps k ≡ Some p) c.deref-2.ensures.value at))
+    omega (arith, end, c.self.invariant.0.ends k p (subst (λ (ps : List ChunkPlace). slice_get ps k ≡ Some p) c.deref.ensures.value at))
 
 pub raise_rows-piece-requires-clause-rows : goal.raise_rows-piece-requires-clause-rows
 raise_rows-piece-requires-clause-rows g c = has_rows c.self.inside.header c.self.invariant.0.header
@@ -75,7 +75,7 @@ invariant_of-self g c =
     let ws = c.join.result.items in
     let r = c.raise-superblock.new.root in
     let b = c.raise_rows-piece.new.header in
-    let e = c.clear.new.self.items in
+    let e = c.clear.new.self in
     let k = c.clear-in-Ok.new.self.items in
     let x : Carried v to t w ws r b e 0 k = record {
       there = subst IsWhole (sym c.self.view_is) c.requires.there;
@@ -91,13 +91,13 @@ invariant_of-self g c =
       places = c.new-taking.result.places;
       places_are = c.new-taking.ensures.places ∙ c.in_ok-copy.ensures;
       names = c.in-Ok.ensures.prepared.names;
-      early = c.deref-2.result.now;
-      early_are = c.deref-2.ensures.value;
+      early = c.deref.result.now;
+      early_are = c.deref.ensures.value;
       taken = c.in-Ok.ensures.prepared.taken;
       all = c.in-Ok.ensures.all;
       roomy = c.prepare.ensures.roomy;
-      cells = c.deref.result.now;
-      cells_are = c.deref.ensures.value;
+      cells = c.as_slice.result.now;
+      cells_are = c.as_slice.ensures;
       rows = c.in-Ok.prepared.writes.items;
       mid = c.next_row-mid.result;
       mid_is = c.next_row-mid.ensures.exact ∙ ap next_row (sym c.self.view_is);
@@ -119,7 +119,7 @@ invariant_of-self g c =
       piece_is = c.raise_rows-piece.ensures.piece;
       items = c.join.ensures.items;
       header_short = c.raise_rows-piece.ensures.short;
-      none_waits = c.clear.ensures.items;
+      none_waits = c.clear.ensures;
       none_early = refl;
       no_chunks = c.clear-in-Ok.ensures.items;
     } in
@@ -162,7 +162,7 @@ returns-in-Ok-clause-flushed g c =
     let ws = c.join.result.items in
     let r = c.raise-superblock.new.root in
     let b = c.raise_rows-piece.new.header in
-    let e = c.clear.new.self.items in
+    let e = c.clear.new.self in
     let k = c.clear-in-Ok.new.self.items in
     let x : Carried v to t w ws r b e 0 k = record {
       there = subst IsWhole (sym c.self.view_is) c.requires.there;
@@ -178,13 +178,13 @@ returns-in-Ok-clause-flushed g c =
       places = c.new-taking.result.places;
       places_are = c.new-taking.ensures.places ∙ c.in_ok-copy.ensures;
       names = c.in-Ok.ensures.prepared.names;
-      early = c.deref-2.result.now;
-      early_are = c.deref-2.ensures.value;
+      early = c.deref.result.now;
+      early_are = c.deref.ensures.value;
       taken = c.in-Ok.ensures.prepared.taken;
       all = c.in-Ok.ensures.all;
       roomy = c.prepare.ensures.roomy;
-      cells = c.deref.result.now;
-      cells_are = c.deref.ensures.value;
+      cells = c.as_slice.result.now;
+      cells_are = c.as_slice.ensures;
       rows = c.in-Ok.prepared.writes.items;
       mid = c.next_row-mid.result;
       mid_is = c.next_row-mid.ensures.exact ∙ ap next_row (sym c.self.view_is);
@@ -206,7 +206,7 @@ returns-in-Ok-clause-flushed g c =
       piece_is = c.raise_rows-piece.ensures.piece;
       items = c.join.ensures.items;
       header_short = c.raise_rows-piece.ensures.short;
-      none_waits = c.clear.ensures.items;
+      none_waits = c.clear.ensures;
       none_early = refl;
       no_chunks = c.clear-in-Ok.ensures.items;
     } in
@@ -223,7 +223,7 @@ returns-in-Ok-clause-ends g c =
     let ws = c.join.result.items in
     let r = c.raise-superblock.new.root in
     let b = c.raise_rows-piece.new.header in
-    let e = c.clear.new.self.items in
+    let e = c.clear.new.self in
     let k = c.clear-in-Ok.new.self.items in
     let x : Carried v to t w ws r b e 0 k = record {
       there = subst IsWhole (sym c.self.view_is) c.requires.there;
@@ -239,13 +239,13 @@ returns-in-Ok-clause-ends g c =
       places = c.new-taking.result.places;
       places_are = c.new-taking.ensures.places ∙ c.in_ok-copy.ensures;
       names = c.in-Ok.ensures.prepared.names;
-      early = c.deref-2.result.now;
-      early_are = c.deref-2.ensures.value;
+      early = c.deref.result.now;
+      early_are = c.deref.ensures.value;
       taken = c.in-Ok.ensures.prepared.taken;
       all = c.in-Ok.ensures.all;
       roomy = c.prepare.ensures.roomy;
-      cells = c.deref.result.now;
-      cells_are = c.deref.ensures.value;
+      cells = c.as_slice.result.now;
+      cells_are = c.as_slice.ensures;
       rows = c.in-Ok.prepared.writes.items;
       mid = c.next_row-mid.result;
       mid_is = c.next_row-mid.ensures.exact ∙ ap next_row (sym c.self.view_is);
@@ -267,7 +267,7 @@ returns-in-Ok-clause-ends g c =
       piece_is = c.raise_rows-piece.ensures.piece;
       items = c.join.ensures.items;
       header_short = c.raise_rows-piece.ensures.short;
-      none_waits = c.clear.ensures.items;
+      none_waits = c.clear.ensures;
       none_early = refl;
       no_chunks = c.clear-in-Ok.ensures.items;
     } in
@@ -307,7 +307,7 @@ returns-in-Err-clause-full g c full told =
     let places_are = c.new-taking.ensures.places ∙ c.in_ok-copy.ensures in
     let part = c.in-Err.ensures.full full (same_error c.in-Err.e _ told) in
     let now : IsFullPart v.dataset to v.index v.chunks v.places full =
-    subst (λ (early : List ChunkPlace). IsFullPart v.dataset to v.index early v.places full) c.deref-2.ensures.value (subst (λ (s : Space). IsFullPart v.dataset to v.index c.deref-2.result.now s full) places_are part) in
+    subst (λ (early : List ChunkPlace). IsFullPart v.dataset to v.index early v.places full) c.deref.ensures.value (subst (λ (s : Space). IsFullPart v.dataset to v.index c.deref.result.now s full) places_are part) in
     subst (λ (s : Session). IsFullPart s.dataset (rows_of s) s.index s.chunks s.places full) c.self.view_is (subst (λ (n : ℕ). IsFullPart v.dataset n v.index v.chunks v.places full) to_is now)
 
 pub returns-in-Err-clause-deep : goal.returns-in-Err-clause-deep

@@ -1,0 +1,2 @@
+pub mod ClearedLemmas
+pub mod ContinueLemmas

@@ -1,0 +1,3 @@
+pub mod UnrefusedLemmas
+pub mod SinceLemmas
+pub mod StopLemmas

@@ -1,0 +1,7 @@
+pub mod RunLemmas
+pub mod EventLemmas
+pub mod CountLemmas
+pub mod FoundLemmas
+pub mod LineLemmas
+pub mod OutcomeLemmas
+pub mod PieceLemmas

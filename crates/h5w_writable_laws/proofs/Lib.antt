@@ -1,0 +1,6 @@
+pub mod HeadLemmas
+pub mod KeptWalks
+pub mod KeptHeaders
+pub mod KeptFiles
+pub mod FindsLemmas
+pub mod CreatedLemmas
