@@ -1,9 +1,10 @@
 #!/bin/sh
 # Times the writer of runs in threads, by how many readers poll beside it: 4,000 batches of 50 32-bit integers, 1,024 in a chunk. The writer's
-# time is that from the start of the first reader's thread to the moment when it waits for its readers (bench/threads.c, preloaded). They make
-# so many calls that all are at work for longer, each call reads all values that are there, and a run counts only where each reader ended a
-# call meanwhile, which on a machine that runs something else it may not. In the first row one reader makes one call, in the last ones others
-# poll a second image beside one reader. Each figure is the median of 9 runs, or of as many as the first word says, one of each row in turn.
+# time is that from the start of the first other thread to the moment when it waits for its readers (bench/threads.c, preloaded). They make
+# so many calls that all are at work for longer, each call reads all values that are there, and a run counts only where each reader of the
+# first image ended a call meanwhile, which on a machine that runs something else it may not. In the first row one reader makes one call, in
+# the last ones 1 or 8 others poll a second image beside one reader. Each figure is the median of 9 runs, or of as many as the first word says,
+# one of each row in turn.
 # Nothing here is a test: the figures are those of one machine at one time.
 # Wants gcc and python3.
 top=$(cd "$(dirname "$0")/.." && pwd -P) || exit 1
@@ -23,42 +24,44 @@ INPUT, CLOCK = f"{FOLDER}/input", {**os.environ, "LD_PRELOAD": f"{FOLDER}/thread
 
 
 def measured(readers, mirrors, calls):
-    """The writer's seconds, how many calls ended before the last flush was whole, of how many readers, and whether all readers were at work then."""
+    """The writer's seconds, how many calls ended before the last flush was whole, of how many readers of the first image, and whether all of these
+    were at work then."""
     words = [PROGRAM, "live", "--type", "i32le", "--chunk", "1024", "--readers", str(readers), "--polls", str(calls), "--mirrors", str(mirrors)]
     with open(INPUT, "rb") as source:
         told = subprocess.run(words, stdin=source, capture_output=True, check=True, text=True, env=CLOCK)
     lines = [it.split(" ") for it in told.stdout.splitlines()]
     flushed = max(int(it[1]) for it in lines if it[0] == "flush")
     polls = [it for it in lines if it[0] == "poll"]
-    ended = [it[1] for it in polls if int(it[4]) < flushed]
+    ended = [int(it[1]) for it in polls if int(it[4]) < flushed]
+    busy = {it for it in ended if it <= readers}
     # what was not sent to a second image by the writer's end comes to it behind the readers' calls
     last = {it[1]: int(it[3]) for it in polls if int(it[1]) <= readers}
-    return int(told.stderr.split()[0]) / 1e9, len(ended), len(set(ended)), min(last.values()) >= flushed
+    return int(told.stderr.split()[0]) / 1e9, len(ended), len(busy), min(last.values()) >= flushed
 
 
-def enough(readers, mirrors):
+def enough(readers):
     """How many calls of each reader make sure that all are at work for longer than the writer."""
     calls = 4
-    while not all(measured(readers, mirrors, calls)[3] for _ in range(5)):
+    while not all(measured(readers, 0, calls)[3] for _ in range(5)):
         calls *= 2
         if calls > MOST_CALLS:
-            sys.exit(f"{readers} and {mirrors} readers end before the writer")
+            sys.exit(f"{readers} readers end before the writer")
     return min(2 * calls, MOST_CALLS)
 
 
 def beside(readers, mirrors, calls):
-    """The seconds, and how many calls ended meanwhile, of a run in which each reader ended one."""
+    """The seconds, and how many calls ended meanwhile, of a run in which each reader of the first image ended one."""
     for _ in range(100):
         seconds, ended, busy, is_longer = measured(readers, mirrors, calls)
-        if calls == 1 or busy == readers + mirrors and is_longer:
+        if calls == 1 or busy == readers and is_longer:
             return seconds, ended
     sys.exit(f"{readers} and {mirrors} readers do not get to work beside the writer: is the machine idle?")
 
 
 with open(INPUT, "w", encoding="utf-8") as text:
     text.writelines(" ".join(str(at + k) for k in range(VALUES)) + "\n\n" for at in range(0, BATCHES * VALUES, VALUES))
-kinds = [(readers, 0) for readers in (1, 2, 4, 8, 16)] + [(1, mirrors) for mirrors in (1, 2, 4, 8, 16)]
-rows = [(1, 0, 1)] + [(*kind, enough(*kind)) for kind in kinds]
+needed = {readers: enough(readers) for readers in (1, 2, 4, 8, 16)}
+rows = [(1, 0, 1)] + [(readers, 0, needed[readers]) for readers in needed] + [(1, mirrors, 2 * needed[1]) for mirrors in (1, 8)]
 seen = [[beside(*row) for row in rows] for _ in range(RUNS)]
 print(f"{BATCHES:,} batches of {VALUES} values, {os.cpu_count()} processors, median of {RUNS} runs\n")
 print("| readers | the writer's time | values a second | beside one call | calls that ended meanwhile | calls a second |")

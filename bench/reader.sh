@@ -1,8 +1,8 @@
 #!/bin/sh
 # Counts the instructions of a reader's calls over images in memory: of a refresh that finds nothing new, at 10 and at 100,000
 # chunks; of one that looks up the first chunk again, which is absent, at 10 and behind which 100,000 stand; of a refresh that
-# finds one chunk behind 100,000; and of a read of 1,000,000 values of i32le in chunks of 65,536 rows, by the value. The looks at
-# the image are among them, and are told beside them.
+# finds one chunk behind 100,000; of an open at 100,000 chunks, by the chunk; and of a read of 1,000,000 values of i32le in chunks
+# of 65,536 rows, by the value. The looks at the image are among them, and are told beside them.
 # Wants git, valgrind and python3; the last commit is what is measured.
 top=$(cd "$(dirname "$0")/.." && pwd -P) || exit 1
 work=$(mktemp -d) || exit 1
@@ -91,6 +91,7 @@ fn read_rows(reader: &mut ReaderCore, image: &mut MemImage, piece: &mut Piece, r
 }
 
 /// Opens the dataset in an image: its rows.
+#[inline(never)]
 fn opened(reader: &mut ReaderCore, image: &mut MemImage, piece: &mut Piece) -> Option<u64> {
     match answer(reader, image, piece)? {
         Step::Rows(rows) => Some(rows),
@@ -254,6 +255,7 @@ many=$(count refresh_idly many) || exit 1
 few_absent=$(count refresh_idly few_absent) || exit 1
 many_absent=$(count refresh_idly many_absent) || exit 1
 more=$(count refresh_once many) || exit 1
+open=$(count opened many) || exit 1
 rows=$(count read_rows rows read) || exit 1
 python3 -c '
 import sys
@@ -263,6 +265,7 @@ rows = [
     ("a refresh that looks up an absent chunk before 9 others, instructions", 1000, 15000),
     ("a refresh that looks up an absent chunk before 100,000 others, instructions", 1000, 15000),
     ("a refresh with one new chunk behind 100,000, instructions", 1, 60000),
+    ("an open at 100,000 chunks, instructions a chunk", 100000, 60),
     ("a read of 1,000,000 values, instructions a value", 1000000, 12),
 ]
 failed = False
@@ -270,4 +273,4 @@ for (text, times, most), counts in zip(rows, sys.argv[1:]):
     cost, looks = [int(count) / times for count in counts.split()]
     print("%s: %.1f, %.1f of them looks at the image (at most %s)" % (text, cost, looks, most))
     failed = failed or cost > most
-sys.exit(failed)' "$few" "$many" "$few_absent" "$many_absent" "$more" "$rows"
+sys.exit(failed)' "$few" "$many" "$few_absent" "$many_absent" "$more" "$open" "$rows"

@@ -18,7 +18,7 @@ abbrev place_in : Option (ℕ × ℕ) → ℕ
 place_in None = 0
 place_in (Some look) = look.0
 
-abbrev length_in : Option (ℕ × ℕ) → ℕ
+abbrev pub length_in : Option (ℕ × ℕ) → ℕ
 length_in None = 0
 length_in (Some look) = look.1
 

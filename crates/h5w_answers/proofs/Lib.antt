@@ -1,2 +1,3 @@
 pub mod AnsweringLemmas
+pub mod EndLemmas
 pub mod OpenLemmas

@@ -4,5 +4,5 @@
 mod call;
 
 pub use call::answer;
-pub use h5w_image::{ImageError, PieceRead};
+pub use h5w_image::{Failed, PieceRead};
 pub use h5w_reader::{ReaderCore, Step};

@@ -7,5 +7,6 @@ pub mod TreeLemmas
 pub mod FallenLemmas
 pub mod ArrayLemmas
 pub mod RootLemmas
+pub mod PartLemmas
 pub mod HeaderLemmas
 pub mod RangeLemmas

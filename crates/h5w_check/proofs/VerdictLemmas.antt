@@ -1,6 +1,6 @@
 -- The ranges by place, and what they come to.
 use Rattle.std.proofs.Common.{◌++◌, take, ◌≡◌, ℕ, suc, ◌+◌, ◌<◌, ◌≤◌, ◌⊎◌, Bool, true, false, cond, not, List, [], ◌∷◌, length, map, get_or, drop, Some, None, refl, sym, ◌∙◌, ap, subst, arith, inl, inr}
-use Rattle.std.specs.Prelude.{◌==◌, nat_lt, nat_le, count_by, sum_by, filter}
+use Rattle.std.specs.Prelude.{◌==◌, nat_le, count_by, sum_by, filter}
 use Rattle.std.specs.Ordering.{is_lt, nat_cmp}
 use Rattle.std.specs.List.Sorted.{IsNonDecreasingBy, ties}
 use Rattle.std.proofs.lemmas.List.{drop_all, append-nil, append_assoc, take_all, take_more}

@@ -1,12 +1,11 @@
 -- The verdict on a file, as it is answered.
-use Rattle.std.specs.Prelude.{◌≡◌, ◌<◌, ◌++◌, ◌==◌, filter, ℕ, List, [], ◌∷◌, Result}
+use Rattle.std.specs.Prelude.{◌≡◌, ◌<◌, ◌-◌, ◌++◌, ◌==◌, not, filter, count_by, sum_by, ℕ, List, [], ◌∷◌, Some, None, Result, Ok, Err}
 use Rattle.h5w_model.specs.Programs.{eval}
-use Rattle.h5w_model.specs.Datasets.{Described, then_also}
-use Rattle.h5w_model.specs.Tables.{format_limits}
+use Rattle.h5w_model.specs.Datasets.{then_also}
+use Rattle.h5w_model.specs.Tables.{each_of, format_limits}
 use Rattle.h5w_model.specs.declared.root.Super.{Super}
-use Rattle.h5w_model.specs.Findings as model
-use Rattle.h5w_model.specs.Findings.{Finding, Used, found, overlap, the_superblock, checked_root, checked_dataset}
-use Rattle.h5w_check.specs.Roots.{root_after, dataset_after}
+use Rattle.h5w_model.specs.Findings.{AllSummary, Finding, Used, found, overlap, by_place, overlap_of, the_superblock, checked_names, checked_part}
+use Rattle.h5w_check.specs.Roots.{names_after, parts_after}
 use Rattle.h5w_check.specs.declared.ranges.Range.{Range}
 use Rattle.h5w_check.specs.declared.error.Summary.{Summary}
 use Rattle.h5w_check.specs.declared.error.CheckError.{CheckError}
@@ -30,10 +29,24 @@ abbrev pub error_of : Finding → CheckError
 error_of (found kind at) = errors.Finding kind at
 error_of (overlap at len other other_len) = errors.Overlap at len other other_len
 
-abbrev pub summary_of : Summary → model.Summary
-summary_of s = record { rows = s.rows; chunks = s.chunks; blocks = s.blocks; end = s.end; lost = s.lost }
+abbrev pub summary_of : Summary → AllSummary
+summary_of s = record { rows = s.rows.items; chunks = s.chunks; blocks = s.blocks; end = s.end; lost = s.lost }
 
--- what the dataset's messages say, and the ranges of superblock and headers
-abbrev pub headers_found : List ℕ → Super → List ℕ → Result (Described × List Used) Finding
-headers_found name s img =
-    then_also (root_after (the_superblock ∷ []) (eval img (checked_root name s))) (λ x. dataset_after x.1 (eval img (checked_dataset format_limits s x.0)))
+-- the rows of all datasets, and all ranges
+abbrev pub datasets_found : List (List ℕ) → Super → List ℕ → Result (List ℕ × List Used) Finding
+datasets_found names s img =
+    then_also (names_after (the_superblock ∷ []) (eval img (checked_names names s))) (λ x. parts_after [] x.1 (eval img (each_of (checked_part format_limits s) x.0)))
+
+-- what a file has of datasets with these rows, by its ranges
+abbrev pub summary_with : Super → List ℕ → List Used → AllSummary
+summary_with s rows us = record {
+  rows = rows;
+  chunks = count_by (λ u. u.chunk) us;
+  blocks = count_by (λ u. not u.chunk) us;
+  end = s.end;
+  lost = s.end - sum_by (λ u. u.len) us;
+}
+
+-- the verdict, by the rows of all datasets and all ranges
+abbrev pub verdict_with : Super → List ℕ → List Used → Result AllSummary Finding
+verdict_with s rows us = elim (overlap_of (by_place us)) [ None ↦ Ok (summary_with s rows us) | Some f ↦ Err f ]

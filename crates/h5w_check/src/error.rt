@@ -5,10 +5,11 @@ use h5w_model::OutOfMemory;
 use std::alloc::{AllocError, AllocFailed};
 use thiserror::Error;
 
-/// What a valid file has.
-#[derive(Clone, Copy, Debug, PartialEq, Eq)]
+/// What a valid file has of some datasets.
+#[derive(Debug, PartialEq, Eq, Drop)]
 pub struct Summary {
-    pub rows: u64,
+    /// The rows of each, in the order of the names.
+    pub rows: Vec<u64>,
     /// The chunks that have an address in the index, those past the rows too.
     pub chunks: u64,
     /// The blocks that are no chunks, the superblock among them.

@@ -1,14 +1,12 @@
 //! Whether the ranges of a file overlap, and what they come to.
 ghost use Rattle.std.specs.Prelude.{◌≡◌, ◌++◌, ◌∷◌, [], List, ◌+◌, ◌-◌, map, not, count_by, sum_by, option_map, IfOk};
-ghost use Rattle.h5w_model.specs.Findings.{by_place, first_overlap, overlap_of, summary, verdict};
+ghost use Rattle.h5w_model.specs.Findings.{by_place, first_overlap, overlap_of};
 ghost use Rattle.h5w_check.specs.Ran.{Told, seen};
 ghost use Rattle.h5w_check.specs.Ranges.{used_of};
-ghost use Rattle.h5w_found.specs.Described.{described_of};
-ghost use Rattle.h5w_check.specs.Verdicts.{AreRuns, HaveSameOrder, error_of, summary_of};
+ghost use Rattle.h5w_check.specs.Verdicts.{AreRuns, HaveSameOrder, error_of, summary_of, summary_with, verdict_with};
 
 use crate::error::{CheckError, Summary};
 use crate::ranges::{Range, Ranges};
-use h5w_found::Dataset;
 use h5w_model::OutOfMemory;
 use h5w_super::Super;
 use std::alloc::Global;
@@ -47,16 +45,16 @@ fn lost(end: u64, bytes: u128) -> u64
     u128::from(end).saturating_sub(bytes) as u64
 }
 
-/// What a file of these ranges has.
-fn summary(ranges: &[Range], s: &Super, d: &Dataset) -> Summary
-    ensures { summary_of result ≡ summary s.now (described_of d.now) (map used_of ranges.now) }
+/// What a file of these ranges has, of datasets with these rows.
+fn summary(ranges: &[Range], s: &Super, rows: Vec<u64>) -> Summary
+    ensures { summary_of result ≡ summary_with s.now rows.items (map used_of ranges.now) }
 {
     Summary {
-        rows: d.shape.rows,
         chunks: chunks(ranges),
         blocks: blocks(ranges),
         end: s.end,
         lost: lost(s.end, bytes(ranges)),
+        rows,
     }
 }
 
@@ -140,12 +138,17 @@ fn sorted(alloc: Global, ranges: &[Range]) -> Result<Vec<Range>, OutOfMemory>
     Ok(runs)
 }
 
-/// The verdict on a file with these ranges.
-pub fn verdict(alloc: Global, ranges: Ranges, s: &Super, d: &Dataset) -> Result<Summary, CheckError>
-    ensures { Told (verdict s.now (described_of d.now) ranges) (seen summary_of result) }
+/// The verdict on a file with these ranges, which has datasets with these rows.
+pub fn verdict(
+    alloc: Global,
+    ranges: Ranges,
+    s: &Super,
+    rows: Vec<u64>,
+) -> Result<Summary, CheckError>
+    ensures { Told (verdict_with s.now rows.items ranges) (seen summary_of result) }
 {
     let list = ranges.into_vec();
-    let summary = summary(&list, s, d);
+    let summary = summary(&list, s, rows);
     let by_place = sorted(alloc, &list)?;
     match overlap(&by_place) {
         Some(error) => Err(error),

@@ -6,6 +6,8 @@ mod files;
 #[cfg(test)]
 mod found;
 #[cfg(test)]
+mod names;
+#[cfg(test)]
 mod refused;
 #[cfg(test)]
 mod tests;

@@ -4,6 +4,7 @@ ghost use Rattle.std.specs.Prelude.{◌+◌, ◌<◌, length, OnOk};
 use h5w_check::{CheckError, Summary, check};
 use h5w_image::MemImage;
 use h5w_model::OutOfMemory;
+use h5w_names::Names;
 use std::alloc::{AllocError, Global};
 use std::test::Fail;
 
@@ -58,7 +59,8 @@ pub fn verdict_of(
     let bytes = unpacked(alloc, packed)?;
     let mut image = MemImage::of(alloc, &bytes)?;
     let size = image.len();
-    Ok(check(alloc, &mut image, size, name.as_bytes()))
+    let names = Names::of(alloc, name.as_bytes())?;
+    Ok(check(alloc, &mut image, size, &names))
 }
 
 /// What the check answers on a file whose k-th look fails.
@@ -69,7 +71,8 @@ pub fn failing(
 ) -> Result<Result<Summary, CheckError>, OutOfMemory> {
     let mut image = MemImage::with_faults(alloc, bytes, &[k])?;
     let size = image.len();
-    Ok(check(alloc, &mut image, size, b"data"))
+    let names = Names::of(alloc, b"data")?;
+    Ok(check(alloc, &mut image, size, &names))
 }
 
 #[test]

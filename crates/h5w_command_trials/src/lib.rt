@@ -19,6 +19,8 @@ mod halves;
 #[cfg(test)]
 mod lives;
 #[cfg(test)]
+mod named;
+#[cfg(test)]
 mod new_files;
 #[cfg(test)]
 mod reopened;

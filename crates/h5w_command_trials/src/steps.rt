@@ -5,6 +5,7 @@ use crate::early::EARLY_ROWS;
 use crate::files::FILE_ROWS;
 use crate::fixed::FIXED_ROWS;
 use crate::lives::LIVE_ROWS;
+use crate::named::NAMED_ROWS;
 use crate::new_files::NEW_ROWS;
 use crate::reopened::REOPENED_ROWS;
 use crate::rows::ROWS;
@@ -284,6 +285,7 @@ fn rows_are_answered(rt: HostRuntime) -> Result<(), Fail> {
     check_rows(&rt, ROWS)?;
     check_rows(&rt, TYPE_ROWS)?;
     check_rows(&rt, FILE_ROWS)?;
+    check_rows(&rt, NAMED_ROWS)?;
     check_rows(&rt, NEW_ROWS)?;
     check_rows(&rt, TREE_ROWS)?;
     check_rows(&rt, FIXED_ROWS)?;

@@ -67,7 +67,7 @@ plays_whole g Memory s t k l p = λ h source sink. inr refl
 pub does_whole : (job : Job) (status : Status) (s t : SourceView) (k l : SinkView) (v w : DiskView) → Does job status s t k l v w → DoesWhole job status s t k l v w
 does_whole (Play options attempts) status s t k l v w does = plays_whole (rules_for options attempts) status s t k l does.0
 does_whole (New file options) status s t k l v w does = creates_whole file options status does.1
-does_whole (Check file name) status s t k l v w does = checks_whole file name status does.1
+does_whole (Check file names) status s t k l v w does = checks_whole file names status does.1
 does_whole (Poll file name times attempts values) status s t k l v w does = polls_whole file name times attempts values status does.1
 does_whole (Clear file upgrade) status s t k l v w does = clears_whole file upgrade status does.1
 does_whole (Make count seed) status s t k l v w does = makes_whole count seed status does.2
@@ -84,7 +84,7 @@ pub ran_whole : (o : Option Job) (ended : Ended) (s t : SourceView) (k l : SinkV
 ran_whole None ended s t k l v w ran = tt
 ran_whole (Some (Play options attempts)) ended s t k l v w ran = ended_whole (Play options attempts) ended s t k l v w ran
 ran_whole (Some (New file options)) ended s t k l v w ran = ended_whole (New file options) ended s t k l v w ran
-ran_whole (Some (Check file name)) ended s t k l v w ran = ended_whole (Check file name) ended s t k l v w ran
+ran_whole (Some (Check file names)) ended s t k l v w ran = ended_whole (Check file names) ended s t k l v w ran
 ran_whole (Some (Poll file name times attempts values)) ended s t k l v w ran = ended_whole (Poll file name times attempts values) ended s t k l v w ran
 ran_whole (Some (Clear file upgrade)) ended s t k l v w ran = ended_whole (Clear file upgrade) ended s t k l v w ran
 ran_whole (Some (Make count seed)) ended s t k l v w ran = ended_whole (Make count seed) ended s t k l v w ran

@@ -98,7 +98,7 @@ ran_wanting None status s k l v said = record { unread = refl; disk = refl; told
 ran_wanting (Some (Play options attempts)) status s k l v said =
     let g = rules_for options attempts in (ends_said g Memory status (error_text errors.Memory) s s k k l (λ e. cc) (leaves_first g s k) said, refl)
 ran_wanting (Some (New file options)) status s k l v said = (refl, creates_wanted file options status said)
-ran_wanting (Some (Check file name)) status s k l v said = (refl, checks_nothing file name status said)
+ran_wanting (Some (Check file names)) status s k l v said = (refl, checks_nothing file names status said)
 ran_wanting (Some (Poll file name times attempts values)) status s k l v said = (refl, polls_nothing file name times attempts values status said)
 ran_wanting (Some (Clear file upgrade)) status s k l v said = (refl, clears_wanted file upgrade status said)
 ran_wanting (Some (Make count seed)) status s k l v said = (refl, refl, makes_nothing count seed status said)
@@ -113,7 +113,7 @@ ran_outside o status s k l v e said = subst (λ (x : Option Job). Ran x (outcome
 does_run : (job : Job) (status : Status) (s t : SourceView) (k l : SinkView) (v w : DiskView) → Does job status s t k l v w → Ran (Some job) (outcomes.With status) s t k l v w
 does_run (Play options attempts) status s t k l v w does = does
 does_run (New file options) status s t k l v w does = does
-does_run (Check file name) status s t k l v w does = does
+does_run (Check file names) status s t k l v w does = does
 does_run (Poll file name times attempts values) status s t k l v w does = does
 does_run (Clear file upgrade) status s t k l v w does = does
 does_run (Make count seed) status s t k l v w does = does
@@ -128,7 +128,7 @@ ran_job o job status s t k l v w e does = subst (λ (x : Option Job). Ran x (out
 pub is_plain : (job : Job) → ((options : Options) (readers polls attempts mirrors : ℕ) → job ≡ Live options readers polls attempts mirrors → ⊥) → IsPlain job
 is_plain (Play options attempts) other = tt
 is_plain (New file options) other = tt
-is_plain (Check file name) other = tt
+is_plain (Check file names) other = tt
 is_plain (Poll file name times attempts values) other = tt
 is_plain (Clear file upgrade) other = tt
 is_plain (Make count seed) other = tt

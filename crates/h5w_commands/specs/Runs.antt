@@ -37,7 +37,7 @@ IsPlain job = Unit {0}
 abbrev pub Does : Job → Status → SourceView → SourceView → SinkView → SinkView → DiskView → DiskView → Type 0
 Does (Play options attempts) status s t k l v w = Plays (rules_for options attempts) status s t k l × (w ≡ v)
 Does (New file options) status s t k l v w = (t ≡ s) × CreateEnds file options v w status k l
-Does (Check file name) status s t k l v w = (t ≡ s) × CheckEnds file name v w status k l
+Does (Check file names) status s t k l v w = (t ≡ s) × CheckEnds file names v w status k l
 Does (Poll file name times attempts values) status s t k l v w = (t ≡ s) × PollEnds file name times attempts values v w status k l
 Does (Clear file upgrade) status s t k l v w = (t ≡ s) × ClearEnds file upgrade v w status k l
 Does (Make count seed) status s t k l v w = (t ≡ s) × (w ≡ v) × MakeEnds count seed status k l
@@ -66,7 +66,7 @@ Ran (Some job) ended s t k l v w = EndsWith (λ status. Does job status s t k l 
 abbrev pub DoesWhole : Job → Status → SourceView → SourceView → SinkView → SinkView → DiskView → DiskView → Type 0
 DoesWhole (Play options attempts) status s t k l v w = Completes (rules_for options attempts) status s t k l
 DoesWhole (New file options) status s t k l v w = EndsWell (end_of (new_file options)) file v w status k l
-DoesWhole (Check file name) status s t k l v w = EndsWell (check_of name) file v w status k l
+DoesWhole (Check file names) status s t k l v w = EndsWell (check_of names) file v w status k l
 DoesWhole (Poll file name times attempts values) status s t k l v w = EndsWell (poll_of (reader_rules name attempts) values) file v w status k l
 DoesWhole (Clear file upgrade) status s t k l v w = EndsWell (clears_of upgrade) file v w status k l
 DoesWhole (Make count seed) status s t k l v w = MakeEndsWell status k l

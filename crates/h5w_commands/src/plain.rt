@@ -31,7 +31,7 @@ pub fn plain<S: Source, K: Sink, D: Disk>(
     match job {
         Job::Play { options, attempts } => play(alloc, options, *attempts, source, sink),
         Job::New { file, options } => create(alloc, file.as_str(), options, sink, disk),
-        Job::Check { file, name } => check(alloc, file.as_str(), name.as_slice(), sink, disk),
+        Job::Check { file, names } => check(alloc, file.as_str(), names, sink, disk),
         Job::Poll {
             file,
             name,

@@ -90,20 +90,18 @@ rows_refused img old new e tells = λ p left.
       ]
     ]
 
--- a disk that failed, or want of memory
-pub free_kind : (e : ErrorLine) → (e ≡ errors.Disk) ⊎ (e ≡ errors.Memory) → IsOfCall e
-free_kind e (inl disk) = subst (λ x. IsOfCall x) (sym disk) tt
-free_kind e (inr memory) = subst (λ x. IsOfCall x) (sym memory) tt
+-- a disk that failed
+pub failed_kind : (e : ErrorLine) → e ≡ errors.Disk → IsOfCall e
+failed_kind e disk = subst (λ x. IsOfCall x) (sym disk) tt
 
-free_refused : {A : Type 0} (given : Result A ReadError) (e : ErrorLine) → (e ≡ errors.Disk) ⊎ (e ≡ errors.Memory) → RefusedBy given e
-free_refused given e (inl disk) = subst (λ x. RefusedBy given x) (sym disk) tt
-free_refused given e (inr memory) = subst (λ x. RefusedBy given x) (sym memory) tt
+failed_refused : {A : Type 0} (given : Result A ReadError) (e : ErrorLine) → e ≡ errors.Disk → RefusedBy given e
+failed_refused given e disk = subst (λ x. RefusedBy given x) (sym disk) tt
 
-pub free_rows : (img : List ℕ) (old new : Reader) (e : ErrorLine) → (e ≡ errors.Disk) ⊎ (e ≡ errors.Memory) → FindsRows img old (Err e) new
-free_rows img old new e free = λ p left. free_refused (eval img p) e free
+pub failed_rows : (img : List ℕ) (old new : Reader) (e : ErrorLine) → e ≡ errors.Disk → FindsRows img old (Err e) new
+failed_rows img old new e disk = λ p left. failed_refused (eval img p) e disk
 
-pub free_values : (img : List ℕ) (from count : ℕ) (old new : Reader) (e : ErrorLine) → (e ≡ errors.Disk) ⊎ (e ≡ errors.Memory) → FindsValues img from count old (Err e) new
-free_values img from count old new e free = λ r known left. free_refused (eval img (values_program (Some r) from count)) e free
+pub failed_values : (img : List ℕ) (from count : ℕ) (old new : Reader) (e : ErrorLine) → e ≡ errors.Disk → FindsValues img from count old (Err e) new
+failed_values img from count old new e disk = λ r known left. failed_refused (eval img (values_program (Some r) from count)) e disk
 
 -- a call for rows is not answered with values
 pub no_values : (old new : Reader) (vs : List ℤ) → IsForRows old.left → AnswersCall old (steps.Values vs) new → ⊥

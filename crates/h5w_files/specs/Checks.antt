@@ -1,10 +1,10 @@
 -- What a check of a file tells.
-use Rattle.std.specs.Prelude.{◌≡◌, ℕ, List, [], ◌∷◌, ◌++◌, length, codes, Option, Some, None, IfSome, IfErr, Result, Ok, Err}
+use Rattle.std.specs.Prelude.{◌≡◌, ℕ, List, [], ◌∷◌, ◌++◌, length, flat_map, codes, Option, Some, None, IfSome, IfErr, Result, Ok, Err}
 use Rattle.h5w_model.specs.Causes.{Rose}
 use Rattle.h5w_model.specs.Programs.{eval}
 use Rattle.h5w_model.specs.Datasets.{refused_as}
 use Rattle.h5w_model.specs.Tables.{format_limits}
-use Rattle.h5w_model.specs.Findings.{Finding, Summary, found, overlap, check}
+use Rattle.h5w_model.specs.Findings.{AllSummary, Finding, found, overlap, check_all}
 use Rattle.h5w_image.specs.View.{DiskView, file}
 use Rattle.h5w_text.specs.Errors.{error_text}
 use Rattle.h5w_text.specs.Streams.{SinkView}
@@ -24,10 +24,11 @@ abbrev pub finding_line : Finding → ErrorLine
 finding_line (found kind at) = errors.Finding kind at
 finding_line (overlap at len other other_len) = errors.Overlap at len other other_len
 
--- what the bytes of a file are found to be, where it is there: valid, with this, or the first finding that applies
-abbrev pub check_of : List ℕ → Option (List ℕ) → Result Summary ErrorLine
-check_of name None = Err errors.Missing
-check_of name (Some img) = refused_as finding_line (eval img (check format_limits name (length img)))
+-- what the bytes of a file are found to be, where it is there: valid for the datasets of these names, with this, or the first
+-- finding that applies
+abbrev pub check_of : List (List ℕ) → Option (List ℕ) → Result AllSummary ErrorLine
+check_of names None = Err errors.Missing
+check_of names (Some img) = refused_as finding_line (eval img (check_all format_limits names (length img)))
 
 abbrev pub check_line : CheckError → ErrorLine
 check_line (check_errors.Finding kind at) = errors.Finding kind at
@@ -36,7 +37,7 @@ check_line check_errors.Failed = errors.Disk
 check_line check_errors.OutOfMemory = errors.Memory
 
 -- an answer by what its summary tells
-abbrev pub summary_seen : Result checked.Summary ErrorLine → Result Summary ErrorLine
+abbrev pub summary_seen : Result checked.Summary ErrorLine → Result AllSummary ErrorLine
 summary_seen (Ok s) = Ok (summary_of s)
 summary_seen (Err e) = Err e
 
@@ -49,23 +50,23 @@ IsOfCheck errors.Disk = Unit {0}
 IsOfCheck errors.Memory = Unit {0}
 IsOfCheck e = ⊥
 
--- the line of a valid file
-abbrev pub valid_text : Summary → List ℕ
+-- the line of a valid file: the rows of each dataset, in the order of the names, and what the file has of all together
+abbrev pub valid_text : AllSummary → List ℕ
 valid_text s =
-    (codes "valid rows" ++ spaced s.rows) ++ (codes " chunks" ++ spaced s.chunks) ++ (codes " blocks" ++ spaced s.blocks) ++ (codes " end" ++ spaced s.end) ++ numbers_text (codes " lost") (s.lost ∷ [])
+    (codes "valid rows" ++ flat_map spaced s.rows) ++ (codes " chunks" ++ spaced s.chunks) ++ (codes " blocks" ++ spaced s.blocks) ++ (codes " end" ++ spaced s.end) ++ numbers_text (codes " lost") (s.lost ∷ [])
 
-abbrev pub check_text : Result Summary ErrorLine → List ℕ
+abbrev pub check_text : Result AllSummary ErrorLine → List ℕ
 check_text (Ok s) = valid_text s
 check_text (Err e) = error_text e
 
--- An answer between two states of a disk, by the file and the dataset's name: where the disk tells its files, what this file
+-- An answer between two states of a disk, by the file and the datasets' names: where the disk tells its files, what this file
 -- is found to be.
-pub record ChecksTo (name at : List ℕ) (v w : DiskView) (answer : Result Summary ErrorLine) : Type 0 where
+pub record ChecksTo (name : List ℕ) (names : List (List ℕ)) (v w : DiskView) (answer : Result AllSummary ErrorLine) : Type 0 where
   pub disk : LeavesFiles v.told v w
-  pub exact : IfSome v.told (λ d. IsGivenBy (check_of at (file d name)) answer)
+  pub exact : IfSome v.told (λ d. IsGivenBy (check_of names (file d name)) answer)
   pub kinds : IfErr answer IsOfCheck
   pub cause : answer ≡ Err errors.Disk → Rose v.faults w.faults
 
 -- how a check ends
-abbrev pub CheckEnds : List ℕ → List ℕ → DiskView → DiskView → Status → SinkView → SinkView → Type 0
-CheckEnds name at v w status k l = EndsBy {A = Summary} (λ answer text. ChecksTo name at v w answer × (text ≡ check_text answer)) status k l
+abbrev pub CheckEnds : List ℕ → List (List ℕ) → DiskView → DiskView → Status → SinkView → SinkView → Type 0
+CheckEnds name names v w status k l = EndsBy {A = AllSummary} (λ answer text. ChecksTo name names v w answer × (text ≡ check_text answer)) status k l

@@ -7,6 +7,7 @@ ghost use Rattle.h5w_files.specs.Checks.{CheckEnds, ChecksTo, check_line, check_
 use crate::image::DiskImage;
 use h5w_check::{CheckError, Summary, check as check_image};
 use h5w_image::Disk;
+use h5w_names::Names;
 use h5w_text::{ErrorLine, OutOfMemory, Sink, Status, say, tell, write_numbers, write_words};
 use std::alloc::Global;
 
@@ -32,15 +33,15 @@ fn check_line(error: CheckError) -> ErrorLine
     }
 }
 
-/// Checks the file of the name `file`, by the dataset that the root group's link of `name` leads to.
+/// Checks the file of the name `file`, by the datasets that the root group's links of these names lead to.
 #[tactic(auto, using(h5w_image::proofs::DiskLemmas::kept, crate::proofs::CheckLemmas::checks_missing, crate::proofs::CheckLemmas::checks_failed))]
 fn checked<D: Disk>(
     alloc: Global,
     file: &str,
-    name: &[u8],
+    names: &Names,
     disk: &mut D,
 ) -> Result<Summary, ErrorLine>
-    ensures { ChecksTo file.now name.now (D.view disk.old) (D.view disk.new) (summary_seen result) }
+    ensures { ChecksTo file.now names.now (D.view disk.old) (D.view disk.new) (summary_seen result) }
 {
     let size = match disk.size(file) {
         Ok(Some(size)) => size,
@@ -48,7 +49,7 @@ fn checked<D: Disk>(
         Err(_) => return Err(ErrorLine::Disk),
     };
     let mut image = DiskImage { disk, name: file };
-    match check_image(alloc, &mut image, size, name) {
+    match check_image(alloc, &mut image, size, names) {
         Ok(summary) => Ok(summary),
         Err(error) => Err(check_line(error)),
     }
@@ -58,27 +59,27 @@ fn checked<D: Disk>(
 fn write_valid(out: &mut Vec<u8>, s: &Summary) -> Result<(), OutOfMemory>
     ensures { OnOk result (out.new.items ≡ out.old.items ++ valid_text (summary_of s.now)) }
 {
-    write_words(out, b"valid rows", &[s.rows])?;
+    write_words(out, b"valid rows", &s.rows)?;
     write_words(out, b" chunks", &[s.chunks])?;
     write_words(out, b" blocks", &[s.blocks])?;
     write_words(out, b" end", &[s.end])?;
     write_numbers(out, b" lost", &[s.lost])
 }
 
-/// Writes what the file of the name `file` has where it is valid, and else the first finding; by the dataset that the root
-/// group's link of `name` leads to.
+/// Writes what the file of the name `file` has where it is valid, and else the first finding; by the datasets that the root
+/// group's links of these names lead to, whose rows come in the order of the names.
 #[tactic(auto, using(crate::proofs::CheckLemmas::checks_told, crate::proofs::CheckLemmas::checks_done, crate::proofs::CheckLemmas::checks_whole))]
 pub fn check<K: Sink, D: Disk>(
     alloc: Global,
     file: &str,
-    name: &[u8],
+    names: &Names,
     sink: &mut K,
     disk: &mut D,
 ) -> Status
-    ensures checks { CheckEnds file.now name.now (D.view disk.old) (D.view disk.new) result (K.view sink.old) (K.view sink.new) }
-    ensures completes { EndsWell (check_of name.now) file.now (D.view disk.old) (D.view disk.new) result (K.view sink.old) (K.view sink.new) }
+    ensures checks { CheckEnds file.now names.now (D.view disk.old) (D.view disk.new) result (K.view sink.old) (K.view sink.new) }
+    ensures completes { EndsWell (check_of names.now) file.now (D.view disk.old) (D.view disk.new) result (K.view sink.old) (K.view sink.new) }
 {
-    let summary = match checked(alloc, file, name, disk) {
+    let summary = match checked(alloc, file, names, disk) {
         Ok(summary) => summary,
         Err(error) => return tell(alloc, &error, sink),
     };

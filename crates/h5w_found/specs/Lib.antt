@@ -10,3 +10,4 @@ pub mod Listed
 pub mod Walks
 pub mod Headers
 pub mod Described
+pub mod Linked

@@ -78,7 +78,7 @@ pub fn root_header<I: PieceRead>(
 
 /// The messages as links are read from them, each with its place in the image.
 #[tactic(auto, using(crate::proofs::RootLemmas::listed_founds))]
-fn listed(alloc: Global, found: Vec<FoundMessage>) -> Result<Msgs, OutOfMemory>
+pub fn listed(alloc: Global, found: Vec<FoundMessage>) -> Result<Msgs, OutOfMemory>
     ensures { IfOk result (λ msgs. msgs ≡ map listed (founds found.items)) }
 {
     let msgs: Vec<Msg> = found

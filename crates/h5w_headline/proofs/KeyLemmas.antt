@@ -63,6 +63,9 @@ sound_by d by =
       size = subst (λ (t : IntTypeFields). is_int_size t.size ≡ true) int_type.1 int_type.0.1.1.1.0;
     }
 
+pub sound_described : (ms : List FoundMessage) (d : Described) → described ms ≡ Ok d → Sound d
+sound_described ms d h = sound_by d (described_by ms d h)
+
 pub sound_shown : (img name : List ℕ) (place : ℕ) (d : Described) → eval img (dataset_place name) ≡ Ok place → eval img (dataset place) ≡ Ok d → Sound d
 sound_shown img name place d h g = sound_by d (shown_by img name place d h g)
 

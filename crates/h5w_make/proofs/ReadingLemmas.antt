@@ -1,15 +1,18 @@
 -- A reader's calls at one image.
-use Rattle.std.proofs.Common.{◌≡◌, ◌≢◌, ℕ, zero, suc, ◌+◌, ◌*◌, ◌≤◌, List, [], length, take, drop, ℤ, Option, Some, None, Result, Ok, Err, sym, refl, ap, ◌∙◌, subst, arith, inl, inr}
+use Rattle.std.proofs.Common.{◌≡◌, ◌≢◌, ℕ, zero, suc, ◌+◌, ◌*◌, ◌≤◌, List, [], ◌∷◌, length, take, drop, ℤ, Option, Some, None, Result, Ok, Err, ◌⊎◌, sym, refl, ap, ◌∙◌, subst, arith, inl, inr}
 use Rattle.std.specs.Prelude.{◌==◌}
 use Rattle.std.proofs.lemmas.Bool.{cond-false, ne_eqb}
 use Rattle.std.specs.Option.{unwrap_or}
 use Rattle.h5w_model.specs.Programs.{ret, eval}
 use Rattle.h5w_model.specs.Tables.{Reading, format_limits}
 use Rattle.h5w_model.specs.Calls.{open_call, values_call}
+use Rattle.h5w_model.specs.Findings.{AllSummary, Finding, Summary, Valid, check_all, found, overlap}
 use Rattle.h5w_model.specs.Unfinished.{Reader, Unfinished, rows_left, values_left, values_program, with_left}
 use Rattle.h5w_model.specs.declared.refusal.ReadError.{ReadError}
 use Rattle.h5w_model.specs.declared.refusal.ReadError.TheVariants as refusals
 use Rattle.h5w_laws.specs.Programs.{looks_on}
+use Rattle.h5w_laws.specs.Several.{alone}
+use Rattle.h5w_laws.proofs.OneNameLemmas.{one_name}
 use Rattle.h5w_laws.proofs.LookLemmas.{takes_on}
 use Rattle.h5w_headline.proofs.EndLemmas.{plain_values}
 use Rattle.h5w_headline.proofs.StillReads.{still_reads}
@@ -17,9 +20,36 @@ use Rattle.h5w_reader.specs.Readers.{BegunRead, StepTells, IsRefused, IsRows, re
 use Rattle.h5w_reader.specs.declared.step.Step.{Step}
 use Rattle.h5w_reader.specs.declared.step.Step.TheVariants as steps
 use Rattle.h5w_answers.specs.Answering.{evaluated}
+use Rattle.h5w_check.specs.Ran.{Tells}
+use Rattle.h5w_check.specs.declared.error.CheckError.{CheckError}
+use Rattle.h5w_check.specs.declared.error.CheckError.TheVariants.{Finding as FoundAt, Overlap, Failed, OutOfMemory}
 use Rattle.h5w_answers.proofs.OpenLemmas.{looks_there, opens_still}
 use Rattle.h5w_make.specs.Commands.{data_name}
 use Rattle.h5w_make.specs.Readings.{IsReadable, IsReaderOf}
+
+-- ---- The check
+
+-- what the check answers of names that are the one of a valid file
+told_alone : (img name : List ℕ) (names : List (List ℕ)) (s : Summary) → names ≡ name ∷ [] → Valid img name s → eval img (check_all format_limits names (length img)) ≡ Ok (alone s)
+told_alone img name names s is valid = ap (λ (ns : List (List ℕ)). eval img (check_all format_limits ns (length img))) is ∙ one_name.valid img name s valid
+
+abbrev blocks_in : Result AllSummary Finding → ℕ
+blocks_in (Ok t) = t.blocks
+blocks_in (Err f) = 0
+
+-- it has the blocks of that file
+pub blocks_alone : (img name : List ℕ) (names : List (List ℕ)) (s : Summary) (t : AllSummary) → names ≡ name ∷ [] → Valid img name s → eval img (check_all format_limits names (length img)) ≡ Ok t → t.blocks ≡ s.blocks
+blocks_alone img name names s t is valid told = ap (λ (r : Result AllSummary Finding). blocks_in r) (sym told ∙ told_alone img name names s is valid)
+
+not_both : {A B : Type 0} (a : A) (b : B) (r : Result A B) → r ≡ Ok a → r ≡ Err b → ⊥
+not_both a b r ok err = cc
+
+-- it finds nothing
+pub none_found : (img name : List ℕ) (names : List (List ℕ)) (s : Summary) (e : CheckError) → names ≡ name ∷ [] → Valid img name s → Tells {B = AllSummary} (eval img (check_all format_limits names (length img))) (Err e) → (e ≡ Failed) ⊎ (e ≡ OutOfMemory)
+none_found img name names s (FoundAt kind at) is valid tells = absurd (not_both (alone s) (found kind at) (eval img (check_all format_limits names (length img))) (told_alone img name names s is valid) tells)
+none_found img name names s (Overlap at len other other_len) is valid tells = absurd (not_both (alone s) (overlap at len other other_len) (eval img (check_all format_limits names (length img))) (told_alone img name names s is valid) tells)
+none_found img name names s Failed is valid tells = inl refl
+none_found img name names s OutOfMemory is valid tells = inr refl
 
 -- ---- What calls give
 

@@ -13,9 +13,10 @@ ghost use Rattle.h5w_make.specs.Commands.{data_name};
 ghost use Rattle.h5w_make.specs.Readings.{IsReadable, IsReaderOf};
 
 use crate::batch::NAME;
-use h5w_answers::{ImageError, answer};
+use h5w_answers::{Failed, answer};
 use h5w_check::{CheckError, check};
 use h5w_model::{OutOfMemory, ReadError, Values};
+use h5w_names::Names;
 use h5w_reader::{ReadBegin, ReaderCore, Step};
 use h5w_steady::SteadyImage;
 use std::alloc::Global;
@@ -33,7 +34,8 @@ pub fn blocks(alloc: Global, image: &mut SteadyImage) -> Result<u64, OutOfMemory
     ensures image { Same (steady image.old) (steady image.new) }
 {
     let size = image.len();
-    match check(alloc, image, size, NAME) {
+    let names = Names::of(alloc, NAME)?;
+    match check(alloc, image, size, &names) {
         Ok(summary) => Ok(summary.blocks),
         Err(CheckError::OutOfMemory) => Err(OutOfMemory),
         Err(_) => unreachable!(),
@@ -41,19 +43,18 @@ pub fn blocks(alloc: Global, image: &mut SteadyImage) -> Result<u64, OutOfMemory
 }
 
 /// Takes the looks of an unfinished call at the image, up to its answer.
-fn answered(call: &mut ReaderCore, image: &mut SteadyImage) -> Result<Step, OutOfMemory>
+fn answered(call: &mut ReaderCore, image: &mut SteadyImage) -> Step
     requires { IsSome (wanted (reader call.old).left) }
-    ensures answered { IfOk result (λ step. step ≢ steps.More) }
-    ensures answer { IfOk result (λ step. (left : Unfinished) → (reader call.old).left ≡ Some left → StepTells (Some (evaluated image.old.bytes left)) (reader call.old) step (reader call.new)) }
+    ensures answered { result ≢ steps.More }
+    ensures answer { (left : Unfinished) → (reader call.old).left ≡ Some left → StepTells (Some (evaluated image.old.bytes left)) (reader call.old) result (reader call.new) }
     ensures image { Same (steady image.old) (steady image.new) }
 {
     // What the bytes give rests on their end, which is below 2^64.
     let _end = image.len();
     let mut uncounted = 0;
     match answer(call, image, &mut uncounted) {
-        Ok(step) => Ok(step),
-        Err(ImageError::OutOfMemory) => Err(OutOfMemory),
-        Err(ImageError::Failed) => unreachable!(),
+        Ok(step) => step,
+        Err(Failed) => unreachable!(),
     }
 }
 
@@ -66,7 +67,7 @@ fn find_rows(call: &mut ReaderCore, image: &mut SteadyImage) -> Result<u64, OutO
     ensures rows { (values : List ℤ) → IsReadable image.old.bytes values → IfOk result (λ rows. rows ≡ length values) }
     ensures image { Same (steady image.old) (steady image.new) }
 {
-    match answered(call, image)? {
+    match answered(call, image) {
         Step::Rows(rows) => Ok(rows),
         Step::Refused(ReadError::OutOfMemory) => Err(OutOfMemory),
         _ => unreachable!(),
@@ -91,7 +92,7 @@ fn read_part(
         Err(ReadBegin::OutOfMemory) => return Err(OutOfMemory),
         Err(_) => unreachable!(),
     }
-    match answered(call, image)? {
+    match answered(call, image) {
         Step::Values(values) => Ok(values),
         Step::Refused(ReadError::OutOfMemory) => Err(OutOfMemory),
         _ => unreachable!(),

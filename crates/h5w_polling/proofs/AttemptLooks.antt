@@ -19,10 +19,11 @@ use Rattle.h5w_laws.proofs.LoweringLemmas.{lowered_is}
 use Rattle.h5w_headline.proofs.BlockLemmas.{onward}
 use Rattle.h5w_headline.proofs.AttemptLemmas.{unless_cut, ends_with}
 use Rattle.h5w_headline.proofs.KeyLemmas.{keys_named}
-use Rattle.h5w_headline.proofs.CountLemmas.{AtMost, AnyOf, at_most_more, at_most_then, any_answered, taken_at_most}
+use Rattle.h5w_headline.proofs.CountLemmas.{AtMost, AnyOf, IsAnswered, any_answered}
 use Rattle.h5w_headline.proofs.DescentLemmas.{table_looks}
 use Rattle.h5w_headline.proofs.EndLemmas.{completed, plain_rows, plain_open}
 use Rattle.h5w_polling.specs.Attempts.{AreLimits, looked_up, LooksBehind, AttemptTakes, AttemptsTake, RowsTake, PlaceTakes, OpenTakes, LooksOfAttempts}
+use Rattle.h5w_polling.proofs.WithinLemmas.{Costs, within_takes, costs_more, costs_then, costs_at_most, lowered_within}
 
 -- ---- Behind what a header says
 
@@ -44,24 +45,30 @@ table_few limits known d false e h =
     let few : needed d ≤ limit_of limits d.layout.index = ltb-false (limit_of limits d.layout.index) (needed d) e in
     table_looks d known (keys_named d (le-ltb (limit_of format_limits d.layout.index) (needed d) (omega (arith, limit_few limits d.layout.index h))))
 
-abbrev described_with : CallRules → Described → Prog (Result Reading ReadError)
+abbrev pub described_with : CallRules → Described → Prog (Result Reading ReadError)
 described_with g d =
     and_then (ret (not_shrunk (rows_seen g.known) d)) (λ d. and_then (needed_from g.limits (known_table g.known d) d) (answered_with g.place d))
 
-described_few : (g : CallRules) (d : Described) → AreLimits g.limits → AtMost AnyOf (21 * looked_up g.limits (Ok d)) (described_with g d)
-described_few g d h =
-    let n : ℕ = looked_up g.limits (Ok d) in
+-- behind what a header says, with what is known of the answer
+pub described_costs : (g : CallRules) (d : Described) (P : Reading → Type 0) → AreLimits g.limits → ((t : List ℕ) → P (record { place = g.place; dataset = d; table = t }))
+    → Costs (IsAnswered P) (21 * looked_up g.limits (Ok d)) (described_with g d)
+described_costs g d P h each =
+    let n : ℕ = 21 * looked_up g.limits (Ok d) in
     let seen : ℕ = rows_seen g.known in
+    let found : Prog (Result (List ℕ) ReadError) = needed_from g.limits (known_table g.known d) d in
     let table : Described → Prog (Result Reading ReadError) = λ d. and_then (needed_from g.limits (known_table g.known d) d) (answered_with g.place d) in
-    let found : AtMost AnyOf (21 * n) (needed_from g.limits (known_table g.known d) d) = table_few g.limits (known_table g.known d) d (nat_lt (limit_of g.limits d.layout.index) (needed d)) refl h in
-    let reads : AtMost AnyOf (21 * n) (table d) =
-    at_most_more AnyOf (21 * n + 0) (21 * n) (table d) (omega arith)
-    (at_most_then AnyOf (21 * n) 0 (needed_from g.limits (known_table g.known d) d) (answered_with g.place d) (any_answered (21 * n) (needed_from g.limits (known_table g.known d) d) found) (λ t any. tt)) in
-    cond_both (nat_lt d.shape.rows seen) (Err (Shrunk seen d.shape.rows)) (Ok d) (λ (r : Result Described ReadError). AtMost AnyOf (21 * n) (onward table r)) (λ t. tt) (λ t. reads)
+    let few : AtMost AnyOf n found = table_few g.limits (known_table g.known d) d (nat_lt (limit_of g.limits d.layout.index) (needed d)) refl h in
+    let reads : Costs (IsAnswered P) n (table d) =
+    costs_more (IsAnswered P) (n + 0) n (table d) (omega arith)
+    (costs_then AnyOf P n 0 found (answered_with g.place d) (costs_at_most (IsAnswered AnyOf) n found (any_answered n found few)) (λ t any. each t)) in
+    cond_both (nat_lt d.shape.rows seen) (Err (Shrunk seen d.shape.rows)) (Ok d) (λ (r : Result Described ReadError). Costs (IsAnswered P) n (onward table r)) (λ t. tt) (λ t. reads)
 
 header_few : (g : CallRules) (r : Result Described ReadError) (ks : List Kept) (ls : List Look) (a : Result Reading ReadError) → AreLimits g.limits
     → Takes (lowered g.keeps ks (onward (described_with g) r)) ls a → length ls ≤ 21 * looked_up g.limits r
-header_few g (Ok d) ks ls a h takes = taken_at_most AnyOf (21 * looked_up g.limits (Ok d)) g.keeps ks (described_with g d) ls a (described_few g d h) takes
+header_few g (Ok d) ks ls a h takes =
+    let n : ℕ = 21 * looked_up g.limits (Ok d) in
+    let p : Prog (Result Reading ReadError) = described_with g d in
+    within_takes (IsAnswered AnyOf) n (lowered g.keeps ks p) (lowered_within (IsAnswered AnyOf) n g.keeps ks p (described_costs g d AnyOf h (λ t. tt))) ls (ret a) takes
 header_few g (Err e) ks ls a h takes = let none : length ls ≡ 0 = ap length (takes_ret _ ls a takes).0 in omega arith
 
 -- what is answered where the store that is left is answered too

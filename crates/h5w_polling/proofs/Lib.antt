@@ -10,3 +10,5 @@ pub mod ScriptLemmas
 pub mod OneByOneLemmas
 pub mod LookupLemmas
 pub mod AttemptLooks
+pub mod WithinLemmas
+pub mod EndingLemmas

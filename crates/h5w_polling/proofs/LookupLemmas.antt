@@ -1,13 +1,13 @@
 -- How many blocks the lookup of one chunk's address visits.
-use Rattle.std.proofs.Common.{◌≡◌, ℕ, zero, suc, ◌+◌, ◌-◌, ◌≤◌, Bool, true, false, cond, List, [], ◌∷◌, ◌++◌, length, get_or, length-append, Result, Ok, Err, refl, sym, ◌∙◌, ap, subst, arith}
+use Rattle.std.proofs.Common.{◌≡◌, ℕ, zero, suc, ◌+◌, ◌-◌, ◌≤◌, Bool, true, false, List, [], ◌∷◌, length, get_or, length-append, Result, Ok, Err, refl, ◌∙◌, ap, subst, arith}
 use Rattle.std.specs.Prelude.{◌==◌, if◌then◌else◌}
-use Rattle.std.proofs.lemmas.Bool.{leb-true, cond_both}
+use Rattle.std.proofs.lemmas.Bool.{leb-true}
 use Rattle.h5w_model.specs.Numbers.{field, range, undefined}
 use Rattle.h5w_model.specs.Programs.{Prog, ret, whole, stored, bind, and_then, eval, visits}
 use Rattle.h5w_model.specs.Arrays.{EahdFields, EaibFields, SlotsFields, place_of, super_block_of, easb_at, eahd_at, eaib_at, eaib_len, eahd_len, slots_len}
 use Rattle.h5w_model.specs.Trees.{RecordFields, ChildFields, BthdFields, BtinFields, bthd_at, bthd_tests, bthd_fields, bthd_len, btin_at, btin_len}
-use Rattle.h5w_model.specs.Datasets.{Described, then_also, refused_as}
-use Rattle.h5w_model.specs.Tables.{InPlace, nowhere, in_array, in_tree, array_in_place, tree_in_place, in_place, address_behind, array_slot, data_slot, secondary_slot, super_block_of_first, tree_lookup, in_node, key_below, key_equal, each_of, table_of}
+use Rattle.h5w_model.specs.Datasets.{then_also, refused_as}
+use Rattle.h5w_model.specs.Tables.{InPlace, nowhere, in_array, in_tree, array_in_place, tree_in_place, address_behind, array_slot, data_slot, secondary_slot, super_block_of_first, tree_lookup, in_node, key_below, key_equal, each_of}
 use Rattle.h5w_model.specs.declared.cell.Key.{Key}
 use Rattle.h5w_model.specs.declared.cell.IndexKind.{IndexKind}
 use Rattle.h5w_model.specs.declared.cell.IndexKind.TheVariants.{Array, Tree}

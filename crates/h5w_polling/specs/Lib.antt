@@ -5,3 +5,4 @@ pub mod Scripts
 pub mod OneByOne
 pub mod Lookups
 pub mod Attempts
+pub mod Endings

@@ -6,6 +6,7 @@
 
 mod attempts;
 mod calls;
+mod endings;
 mod looks;
 mod lookups;
 mod one_by_one;
@@ -13,6 +14,7 @@ mod scripts;
 
 pub use attempts::looks_of_attempts;
 pub use calls::{call_begins, other_events};
+pub use endings::calls_end;
 pub use looks::looks_reply;
 pub use lookups::lookups_visit;
 pub use one_by_one::looks_one_by_one;

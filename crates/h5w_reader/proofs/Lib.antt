@@ -16,6 +16,7 @@ pub mod UnstoredLemmas
 pub mod UnknownLemmas
 pub mod IdleLemmas
 pub mod DescentLemmas
+pub mod AheadLemmas
 pub mod PlaceLemmas
 pub mod HeaderLemmas
 pub mod CallLemmas

@@ -52,13 +52,17 @@ pub data_read : (ks : List Kept) (at n slot : ℕ) (b slots : List ℕ) (next : 
 unfolding store_rest next_rest
 data_read ks at n slot b slots next h = sym (ap (λ (p : Prog (Result ℕ ReadError)). lowered 16 ks (and_then p next)) (data_whole at slot (eadb_at b at n) slots h))
 
-pub data_kept : (old new : List Kept) (at n slot : ℕ) (b : List ℕ) (c : Content) (next : ℕ → Prog (Result Reading ReadError)) → at ≢ undefined → kept_bytes data_block at (slots_len n) old ≡ Some b
-    → IsRead data_block at (slots_len n) b c → new ≡ used 16 data_block at (slots_len n) b old → next_rest new next (get_or (slots_in c) slot undefined) ≡ store_rest old (data_slot at n slot) next
+pub data_gives : (old new : List Kept) (at n slot : ℕ) (b slots : List ℕ) (next : ℕ → Prog (Result Reading ReadError)) → at ≢ undefined → kept_bytes data_block at (slots_len n) old ≡ Some b
+    → GivesSlots slots (eadb_at b at n) → new ≡ used 16 data_block at (slots_len n) b old → next_rest new next (get_or slots slot undefined) ≡ store_rest old (data_slot at n slot) next
 unfolding store_rest
-data_kept old new p n slot b c next there some read used_is =
-    data_read new p n slot b (slots_in c) next (read.of_data n refl refl)
+data_gives old new p n slot b slots next there some gives used_is =
+    data_read new p n slot b slots next gives
     ∙ ap (λ ks. store_rest ks (data_given p n slot b) next) used_is
     ∙ sym (ap (λ (q : Prog (Result ℕ ReadError)). store_rest old q next) (data_stored p n slot there) ∙ stored_is old data_block p (slots_len n) (data_given p n slot) next (Some b) some)
+
+pub data_kept : (old new : List Kept) (at n slot : ℕ) (b : List ℕ) (c : Content) (next : ℕ → Prog (Result Reading ReadError)) → at ≢ undefined → kept_bytes data_block at (slots_len n) old ≡ Some b
+    → IsRead data_block at (slots_len n) b c → new ≡ used 16 data_block at (slots_len n) b old → next_rest new next (get_or (slots_in c) slot undefined) ≡ store_rest old (data_slot at n slot) next
+data_kept old new p n slot b c next there some read used_is = data_gives old new p n slot b (slots_in c) next there some (read.of_data n refl refl) used_is
 
 pub data_waits : (ks : List Kept) (w : DataWait) (next : ℕ → Prog (Result Reading ReadError)) → w.at ≢ undefined → kept_bytes data_block w.at (slots_len w.n) ks ≡ None
     → wait_rest ks (waits.Data w) next ≡ store_rest ks (data_slot w.at w.n w.slot) next
@@ -86,15 +90,20 @@ pub second_read : (ks : List Kept) (at s block slot : ℕ) (b slots : List ℕ) 
     → store_rest ks (data_slot (get_or slots block undefined) (super_block_of s).slots slot) next ≡ store_rest ks (second_given at s block slot b) next
 second_read ks at s block slot b slots next h = sym (ap (λ (p : Prog (Result ℕ ReadError)). store_rest ks p next) (second_whole at s block slot (easb_at b at (super_block_of s).blocks) slots h))
 
-pub second_kept : (old new : List Kept) (at s block slot : ℕ) (b : List ℕ) (c : Content) (next : ℕ → Prog (Result Reading ReadError)) → at ≢ undefined → kept_bytes secondary_block at (slots_len (super_block_of s).blocks) old ≡ Some b
-    → IsRead secondary_block at (slots_len (super_block_of s).blocks) b c → new ≡ used 16 secondary_block at (slots_len (super_block_of s).blocks) b old
-    → store_rest new (data_slot (get_or (slots_in c) block undefined) (super_block_of s).slots slot) next ≡ store_rest old (secondary_slot at s block slot) next
+pub second_gives : (old new : List Kept) (at s block slot : ℕ) (b slots : List ℕ) (next : ℕ → Prog (Result Reading ReadError)) → at ≢ undefined → kept_bytes secondary_block at (slots_len (super_block_of s).blocks) old ≡ Some b
+    → GivesSlots slots (easb_at b at (super_block_of s).blocks) → new ≡ used 16 secondary_block at (slots_len (super_block_of s).blocks) b old
+    → store_rest new (data_slot (get_or slots block undefined) (super_block_of s).slots slot) next ≡ store_rest old (secondary_slot at s block slot) next
 unfolding store_rest
-second_kept old new p s block slot b c next there some read used_is =
-    second_read new p s block slot b (slots_in c) next (read.of_second (super_block_of s).blocks refl refl)
+second_gives old new p s block slot b slots next there some gives used_is =
+    second_read new p s block slot b slots next gives
     ∙ ap (λ ks. store_rest ks (second_given p s block slot b) next) used_is
     ∙ sym (ap (λ (q : Prog (Result ℕ ReadError)). store_rest old q next) (second_stored p s block slot there)
     ∙ stored_is old secondary_block p (slots_len (super_block_of s).blocks) (second_given p s block slot) next (Some b) some)
+
+pub second_kept : (old new : List Kept) (at s block slot : ℕ) (b : List ℕ) (c : Content) (next : ℕ → Prog (Result Reading ReadError)) → at ≢ undefined → kept_bytes secondary_block at (slots_len (super_block_of s).blocks) old ≡ Some b
+    → IsRead secondary_block at (slots_len (super_block_of s).blocks) b c → new ≡ used 16 secondary_block at (slots_len (super_block_of s).blocks) b old
+    → store_rest new (data_slot (get_or (slots_in c) block undefined) (super_block_of s).slots slot) next ≡ store_rest old (secondary_slot at s block slot) next
+second_kept old new p s block slot b c next there some read used_is = second_gives old new p s block slot b (slots_in c) next there some (read.of_second (super_block_of s).blocks refl refl) used_is
 
 pub second_waits : (ks : List Kept) (w : SecondWait) (next : ℕ → Prog (Result Reading ReadError)) → w.at ≢ undefined → kept_bytes secondary_block w.at (slots_len (super_block_of w.sblock).blocks) ks ≡ None
     → wait_rest ks (waits.Second w) next ≡ store_rest ks (secondary_slot w.at w.sblock w.block w.slot) next

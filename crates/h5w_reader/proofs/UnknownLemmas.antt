@@ -28,6 +28,13 @@ unknown_rises (a ∷ t) (suc n) = elim (cases_absent a) [
   | inr h ↦ rw (ne_eqb a undefined h) (omega (arith, unknown_rises t (suc n)))
 ]
 
+pub unknown_less : (t : List ℕ) (m n : ℕ) → m < n → unknown_at t m < unknown_at t n
+unknown_less t m zero h = absurd (omega arith)
+unknown_less t m (suc n) h = elim (cases_lt m n) [
+  | inl less ↦ omega (arith, unknown_less t m n less, unknown_rises t n)
+  | inr more ↦ let same : m ≡ n = omega arith in rw same (unknown_rises t n)
+]
+
 -- those before the first, and those between two of them, are known
 pub known_first : (t : List ℕ) (i : ℕ) → i < unknown_at t 0 → get_or t i undefined ≢ undefined
 known_first [] i h = absurd (omega arith)
@@ -89,6 +96,13 @@ unknown_behind (a ∷ t) i (suc n) h = elim (cases_absent a) [
   | inl e ↦ let k = rw (eq-eqb a undefined e) at h in let rest = unknown_behind t (i + 1) n (omega arith) in rw (eq-eqb a undefined e) (omega arith)
   | inr e ↦ let k = rw (ne_eqb a undefined e) at h in let rest = unknown_behind t (i + 1) (suc n) k in rw (ne_eqb a undefined e) (omega arith)
 ]
+
+-- where all absent ones come before, all from there on are unknown
+pub all_behind : (t : List ℕ) (n k : ℕ) → length (absent_from 0 t) ≤ n → unknown_at t (n + k) ≡ unknown_at t n + k
+all_behind t n k h =
+    let one = unknown_behind t 0 n h in
+    let other = unknown_behind t 0 (n + k) (omega arith) in
+    omega (arith, one, other)
 
 -- ---- The table with what was found
 

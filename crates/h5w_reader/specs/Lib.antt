@@ -16,6 +16,7 @@ pub mod Sought
 pub mod Unknown
 pub mod Slots
 pub mod Descents
+pub mod Ahead
 pub mod Attempts
 pub mod Headers
 pub mod Seen

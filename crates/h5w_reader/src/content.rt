@@ -89,14 +89,21 @@ impl Content {
     ghost use Rattle.h5w_reader.specs.Contents.{slots_in, records_in, inner_in};
     ghost use Rattle.h5w_reader.specs.Turning.{turned, turning};
 
+    /// The addresses in its slots; none where it has none.
+    pub fn slots(&self) -> &[u64]
+        ensures { result.now ≡ slots_in self.now }
+    {
+        match self {
+            Content::Slots(slots) => slots.as_slice(),
+            _ => &[],
+        }
+    }
+
     /// The address in a slot; undefined behind the last, or where it has no slots.
     pub fn slot(&self, i: usize) -> u64
         ensures { result ≡ get_or (slots_in self.now) i undefined }
     {
-        match self {
-            Content::Slots(slots) => address_at(slots.as_slice(), i),
-            _ => UNDEFINED,
-        }
+        address_at(self.slots(), i)
     }
 
     /// The address of a key in a leaf; undefined in another block.

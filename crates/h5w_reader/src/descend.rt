@@ -11,6 +11,7 @@ ghost use Rattle.h5w_reader.specs.Sought.{sought};
 ghost use Rattle.h5w_reader.specs.Stores.{kept};
 ghost use Rattle.h5w_reader.specs.Descents.{descent_rest, after_next, waiting, descended};
 
+use crate::ahead::go_ahead;
 use crate::block::Block;
 use crate::content::Turn;
 use crate::descent::{Descended, Descent, Waiting};
@@ -84,6 +85,7 @@ impl Descent {
                 }
             };
             found.push(address)?;
+            go_ahead(&mut store, &index, known, &dataset, &mut found)?;
             i = unknown(known, &dataset, found.len());
         }
         Ok(Descended::Ready(News {

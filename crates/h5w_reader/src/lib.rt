@@ -24,6 +24,7 @@
 #![tactic(auto)]
 
 mod absorb;
+mod ahead;
 mod behind;
 mod block;
 mod call;

@@ -1,5 +1,5 @@
 //! What of a known dataset serves a call.
-ghost use Rattle.std.specs.Prelude.{◌≡◌, ◌<◌, ◌^◌};
+ghost use Rattle.std.specs.Prelude.{◌≡◌, ◌+◌, ◌<◌, ◌^◌, ℕ, true};
 ghost use Rattle.h5w_model.specs.Calls.{known_table, rows_seen, same_cut};
 ghost use Rattle.h5w_reader.specs.Attempts.{known_of};
 ghost use Rattle.h5w_reader.specs.Described.{described_of};
@@ -35,5 +35,15 @@ pub fn unknown(known: &Option<Known>, d: &Dataset, n: usize) -> usize
     match known {
         Some(known) if is_cut_alike(&known.dataset, d) => known.unknown(n),
         _ => n,
+    }
+}
+
+/// Whether all chunks of a dataset are unknown from the `n`-th on (from 0) whose address is not known.
+pub fn all_unknown(known: &Option<Known>, d: &Dataset, n: usize) -> bool
+    ensures { result ≡ true → (k : ℕ) → unknown_at (known_table (known_of known.now) (described_of d.now)) (n + k) ≡ unknown_at (known_table (known_of known.now) (described_of d.now)) n + k }
+{
+    match known {
+        Some(known) if is_cut_alike(&known.dataset, d) => known.absent.len() <= n,
+        _ => true,
     }
 }

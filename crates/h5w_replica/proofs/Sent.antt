@@ -14,7 +14,7 @@ pub feed_is_sent : IsSend feed_row
 feed_is_sent = search (ring.the_send, batch_is_sent, seats_sent, frees, crosses, sendable) depth 40
 
 pub follow_is_sent : IsSend follow_row
-follow_is_sent = search (ring.the_send, batch_is_sent, seats_sent, frees, crosses, sendable) depth 40
+follow_is_sent = search (ring.the_send, batch_is_sent, seats_sent, frees, crosses, sendable) depth 40 fits 10000
 
 -- for a search of what a thread's closure and its result ask
 pub ruleset sent = (batch_is_sent, feed_is_sent, follow_is_sent, seats_sent, crosses, sendable)

@@ -14,9 +14,10 @@ use crate::refusal::FollowError;
 use h5w_image::{Failed, ImageError, Journal, PieceRead, PieceWrite};
 use h5w_model::{OutOfMemory, Piece, Write};
 use h5w_shared::{Note, ReaderSeat, SharedImage, Worn, WriterSeat, Writing};
-use rtrb::{Producer, PushError};
+use rtrb::{Consumer, Producer, PushError};
 use std::alloc::Global;
 use std::marker::Model;
+use std::mem;
 use std::sync::Wait;
 
 /// The end of a mirror that writes the first image, and sends its pieces on.
@@ -25,6 +26,8 @@ pub struct Feed {
     alloc: Global,
     seat: WriterSeat,
     pub(crate) producer: Producer<Batch, Global, InOrder>,
+    /// Lists of pieces that were written on the second image, whose memory is for others.
+    spares: Consumer<Vec<Write>>,
     /// The batch that the ring gave back.
     back: Option<Batch>,
     /// The pieces that no batch has yet.
@@ -61,12 +64,24 @@ fn offer(producer: &mut Producer<Batch, Global, InOrder>, batch: Batch) -> Optio
     }
 }
 
+/// A list without pieces, with memory that was used before, where there is such.
+fn empty(spares: &mut Consumer<Vec<Write>>, alloc: Global) -> Vec<Write>
+    ensures { result.items ≡ [] }
+{
+    let Ok(mut pieces) = spares.pop() else {
+        return Vec::new(alloc);
+    };
+    pieces.clear();
+    pieces
+}
+
 impl Feed {
     /// The feed of an image that nobody wrote yet, and of a ring whose first item came through.
     pub(crate) fn of(
         alloc: Global,
         seat: WriterSeat,
         producer: Producer<Batch, Global, InOrder>,
+        spares: Consumer<Vec<Write>>,
     ) -> Feed
         requires new { seat.seen ≡ [] }
         requires leads { Leads seat.image (sent producer) }
@@ -80,6 +95,7 @@ impl Feed {
             alloc,
             seat,
             producer,
+            spares,
             back: None,
             unsent: Vec::new(alloc),
             room: 0,
@@ -229,8 +245,9 @@ impl Feed {
             return Ok(());
         }
         let before = self.seat.seen() - self.unsent.len() as u64;
-        let mut pieces = Vec::new(self.alloc);
-        pieces.append(&mut self.unsent)?;
+        let mut pieces = empty(&mut self.spares, self.alloc);
+        pieces.reserve(self.room as usize)?;
+        mem::swap(&mut self.unsent, &mut pieces);
         let note = self.seat.note(first);
         let batch = Batch {
             portion: Portion {
@@ -271,6 +288,7 @@ impl Feed {
             alloc,
             seat,
             producer,
+            spares,
             back,
             unsent,
             room,
@@ -281,6 +299,7 @@ impl Feed {
                 alloc,
                 seat,
                 producer,
+                spares,
                 back,
                 unsent,
                 room,

@@ -17,10 +17,13 @@ use crate::refusal::FollowError;
 use h5w_image::Journal;
 use h5w_model::Write;
 use h5w_shared::{Note, ReaderSeat, SharedImage, Worn, WriterSeat};
-use rtrb::Consumer;
+use rtrb::{Consumer, Producer};
 use std::alloc::Global;
 use std::marker::Model;
 use std::sync::Wait;
+
+/// The memory of so many pieces at most is for others.
+const FEW: u64 = 64;
 
 /// The end of a mirror that writes the second image, piece by piece as the first was written.
 #[derive(Drop)]
@@ -30,6 +33,8 @@ pub struct Follow {
     /// Of the second.
     second: WriterSeat,
     consumer: Consumer<Batch, Global, InOrder>,
+    /// Lists of pieces that were written on the second image, whose memory is for others.
+    spares: Producer<Vec<Write>>,
     /// What waits for the next step. Its note was met.
     kept: Option<Portion>,
 }
@@ -54,12 +59,24 @@ fn behind(pieces: &[Write], skip: u64) -> &[Write]
     &pieces[pieces.len().min(skip as usize)..]
 }
 
+/// The memory of a portion is for others. The answer is how many pieces it had.
+fn spare(spares: &mut Producer<Vec<Write>>, portion: Portion) -> u64
+    ensures { result ≡ length portion.pieces }
+{
+    let count = portion.pieces.len() as u64;
+    if count <= FEW {
+        let _full = spares.push(portion.pieces);
+    }
+    count
+}
+
 impl Follow {
     /// The follower of an image that nobody wrote yet, through a ring whose first item came through.
     pub(crate) fn of(
         seat: ReaderSeat,
         second: WriterSeat,
         consumer: Consumer<Batch, Global, InOrder>,
+        spares: Producer<Vec<Write>>,
     ) -> Follow
         requires new { second.seen ≡ [] }
         requires leads { Leads seat.image (received consumer) }
@@ -71,6 +88,7 @@ impl Follow {
             seat,
             second,
             consumer,
+            spares,
             kept: None,
         }
     }
@@ -165,7 +183,7 @@ impl Follow {
         }
         let rest = behind(&portion.pieces, have - portion.first);
         match put_all(rt, second, &mut self.second, rest) {
-            Ok(()) => Ok(portion.pieces.len() as u64),
+            Ok(()) => Ok(spare(&mut self.spares, portion)),
             Err(error) => {
                 self.kept = Some(portion);
                 Err(FollowError::from(error))
@@ -222,6 +240,7 @@ impl Follow {
             seat,
             second,
             consumer,
+            spares,
             kept,
         } = self;
         let seat = match seat.worn() {
@@ -234,6 +253,7 @@ impl Follow {
                 seat,
                 second,
                 consumer,
+                spares,
                 kept,
             }),
         }

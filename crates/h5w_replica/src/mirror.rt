@@ -51,14 +51,17 @@ impl Mirror {
             },
             note,
         });
+        let Ok((used, spares)) = RingBuffer::new(alloc, ring) else {
+            return Err(OutOfMemory);
+        };
         consumer.slots_beside(&mut producer);
         let _greeting = consumer.pop_known();
         producer.slots_beside(&mut consumer);
         Ok(Mirror {
             first,
             second,
-            feed: Feed::of(alloc, writer, producer),
-            follow: Follow::of(seat, other, consumer),
+            feed: Feed::of(alloc, writer, producer, spares),
+            follow: Follow::of(seat, other, consumer, used),
         })
     }
 

@@ -6,7 +6,7 @@ ghost use Rattle.h5w_reader.specs.Readers.{new_reader, reader_rules};
 ghost use Rattle.h5w_stop.specs.Outcomes.{outcome_in, outcome_of};
 
 use crate::image::Image;
-use h5w_answers::{ImageError, ReaderCore, Step, answer};
+use h5w_answers::{ReaderCore, Step, answer};
 use h5w_model::{OutOfMemory, ReadError};
 use std::alloc::Global;
 
@@ -49,7 +49,6 @@ fn found(reader: &mut ReaderCore, image: &mut Image) -> Result<Outcome, OutOfMem
     match answer(reader, image, &mut uncounted) {
         Ok(Step::Rows(rows)) => Ok(Outcome::Rows(rows)),
         Ok(Step::Refused(error)) => refused(error),
-        Err(ImageError::OutOfMemory) => Err(OutOfMemory),
         _ => unreachable!(),
     }
 }

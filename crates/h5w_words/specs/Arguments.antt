@@ -7,7 +7,7 @@ use Rattle.clap.specs.declared.builder.action.ArgAction.TheVariants.{SetTrue}
 use Rattle.clap.specs.declared.builder.command.Command.{Command}
 use Rattle.clap.specs.declared.builder.command.Command.TheViews.{out-Command}
 use Rattle.h5w_text.specs.Scripts.{count_in, is_word}
-use Rattle.h5w_words.specs.Names.{is_link_name, is_name}
+use Rattle.h5w_words.specs.Names.{are_link_names, is_link_name, is_name, parts_of}
 use Rattle.h5w_words.specs.declared.arguments.Argument.{Argument}
 use Rattle.h5w_words.specs.declared.arguments.Argument.TheVariants.{Word, Needed, Optional, Flag}
 
@@ -65,6 +65,15 @@ name_or default (Some text) = if is_name text then Some text else None
 abbrev pub link_name_or : Text → Option Text → Option Text
 link_name_or default None = Some default
 link_name_or default (Some text) = if is_link_name text then Some text else None
+
+-- the names of links that a text has between its commas
+abbrev pub link_names_in : Text → Option (List Text)
+link_names_in text = if are_link_names (parts_of text) then Some (parts_of text) else None
+
+-- names of links, where they are given
+abbrev pub link_names_or : Text → Option Text → Option (List Text)
+link_names_or default None = Some (default ∷ [])
+link_names_or default (Some text) = link_names_in text
 
 -- whether an option without a value is given, by its text
 abbrev pub is_given : Option Text → Bool

@@ -1,7 +1,7 @@
--- The commands on files: new FILE OPTS, OPTS being what a file is created by, check FILE [--name N], poll FILE [--name N] [--times T] [--attempts A] [--values], clear FILE [--upgrade]
+-- The commands on files: new FILE OPTS, OPTS being what a file is created by, check FILE [--name N,..], poll FILE [--name N] [--times T] [--attempts A] [--values], clear FILE [--upgrade]
 use Rattle.std.specs.Prelude.{ℕ, false, List, Option, option_map, option_and_then, codes}
 use Rattle.clap.specs.Words.{App, Row, Text, first_of, new_app, with_rule}
-use Rattle.h5w_words.specs.Arguments.{count_or, flag_rule, is_given, link_name_or, option_rule, word_rule}
+use Rattle.h5w_words.specs.Arguments.{count_or, flag_rule, is_given, link_name_or, link_names_or, option_rule, word_rule}
 use Rattle.h5w_words.specs.Creation.{options_of, with_creation}
 use Rattle.h5w_words.specs.Play.{attempts_of}
 use Rattle.h5w_words.specs.declared.job.Job.{Job}
@@ -29,6 +29,10 @@ file_of rows = first_of (codes "FILE") rows
 abbrev pub link_name_of : List Row → Option Text
 link_name_of rows = link_name_or (codes "data") (first_of (codes "name") rows)
 
+-- the names of the root group's links to 1 to 8 datasets; where none is given, data alone
+abbrev pub link_names_of : List Row → Option (List Text)
+link_names_of rows = link_names_or (codes "data") (first_of (codes "name") rows)
+
 -- 1 to 1,000,000; where none are given, 1
 abbrev pub times_of : List Row → Option ℕ
 times_of rows = count_or 1 1 1000000 (first_of (codes "times") rows)
@@ -37,7 +41,7 @@ abbrev pub creating_of : List Row → Option Job
 creating_of rows = option_and_then (λ file. option_map (λ options. New file options) (options_of rows)) (file_of rows)
 
 abbrev pub check_of : List Row → Option Job
-check_of rows = option_and_then (λ file. option_map (λ name. Check file name) (link_name_of rows)) (file_of rows)
+check_of rows = option_and_then (λ file. option_map (λ names. Check file names) (link_names_of rows)) (file_of rows)
 
 -- the numbers of a poll of this file with this name
 abbrev pub poll_numbers_of : List Row → Text → Text → Option Job

@@ -7,7 +7,7 @@ use Rattle.h5w_words.specs.declared.job.Job.TheVariants.{Play, New, Check, Poll,
 abbrev pub IsWithinLimits : Job → Type 0
 IsWithinLimits (Play options attempts) = AreOptions options × AreAttempts attempts
 IsWithinLimits (New file options) = AreOptions options
-IsWithinLimits (Check file name) = Unit {0}
+IsWithinLimits (Check file names) = (1 ≤ length names) × (length names ≤ 8)
 IsWithinLimits (Poll file name times attempts values) = (1 ≤ times) × AreAttempts attempts
 IsWithinLimits (Clear file upgrade) = Unit {0}
 IsWithinLimits (Make count seed) = count ≤ 1000000

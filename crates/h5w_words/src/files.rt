@@ -2,7 +2,7 @@
 ghost use Rattle.std.specs.Prelude.{◌≡◌, ◌≤◌, ◌⊎◌, false, None, Some, IfErr, IfOk, length};
 ghost use Rattle.clap.specs.Words.{app_of, found_of, rows_of};
 ghost use Rattle.h5w_words.specs.Arguments.{has_globals};
-ghost use Rattle.h5w_words.specs.Files.{check_app, check_of, clear_app, clear_of, creating_app, creating_of, file_of, link_name_of, poll_app, poll_numbers_of, poll_of};
+ghost use Rattle.h5w_words.specs.Files.{check_app, check_of, clear_app, clear_of, creating_app, creating_of, file_of, link_name_of, link_names_of, poll_app, poll_numbers_of, poll_of};
 ghost use Rattle.h5w_words.specs.Limits.{IsWithinLimits};
 
 use crate::arguments::Argument::{Flag, Optional, Word};
@@ -10,9 +10,11 @@ use crate::arguments::with_arguments;
 use crate::creation::{creation, options_given};
 use crate::file::FileName;
 use crate::job::{Job, WordsError};
+use crate::names::link_names;
 use crate::values::{attempts_given, count_or, is_given, link_name_or, text};
 use clap::{ArgMatches, Command};
 use h5w_model::Bytes;
+use h5w_names::Names;
 use std::alloc::{AllocError, Global};
 
 /// The command that makes a file, with its arguments.
@@ -85,6 +87,18 @@ pub fn link_name_given(alloc: Global, options: &ArgMatches<'_>) -> Result<Bytes,
     Ok(Bytes::from_vec(Vec::from_slice(alloc, name.as_bytes())?))
 }
 
+/// The names of the root group's links to the datasets; `Usage` where they are not 1 to 8 names of links, or one stands twice.
+fn link_names_given(alloc: Global, options: &ArgMatches<'_>) -> Result<Names, WordsError>
+    ensures ok { IfOk result (λ names. link_names_of (rows_of (found_of options.now)) ≡ Some names) }
+    ensures usage { IfErr result (λ e. (e ≡ WordsError.OutOfMemory) ⊎ (link_names_of (rows_of (found_of options.now)) ≡ None)) }
+    ensures bounds { IfOk result (λ names. (1 ≤ length names) × (length names ≤ 8)) }
+{
+    match text(options, "name") {
+        Some(text) => link_names(alloc, text),
+        None => Ok(Names::of(alloc, b"data")?),
+    }
+}
+
 /// The new file that the arguments ask for; `Usage` where they are outside the command set.
 pub fn creating_job(alloc: Global, options: &ArgMatches<'_>) -> Result<Job, WordsError>
     ensures ok { IfOk result (λ job. creating_of (rows_of (found_of options.now)) ≡ Some job) }
@@ -105,7 +119,7 @@ pub fn check_job(alloc: Global, options: &ArgMatches<'_>) -> Result<Job, WordsEr
 {
     Ok(Job::Check {
         file: file_given(alloc, options)?,
-        name: link_name_given(alloc, options)?,
+        names: link_names_given(alloc, options)?,
     })
 }
 

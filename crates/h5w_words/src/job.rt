@@ -1,6 +1,7 @@
 use crate::file::FileName;
 use clap::error::ErrorKind;
-use h5w_model::Bytes;
+use h5w_model::{Bytes, OutOfMemory};
+use h5w_names::Names;
 use h5w_options::Options;
 use std::alloc::AllocError;
 use thiserror::Error;
@@ -26,8 +27,8 @@ pub enum Job {
     Check {
         /// The name of the file.
         file: FileName,
-        /// The name of the root group's link to the dataset, of 1 to 255 bytes.
-        name: Bytes,
+        /// The names of the root group's links to the datasets, 1 to 8 of 1 to 255 bytes each; none stands twice.
+        names: Names,
     },
     /// Opens a dataset and refreshes it.
     Poll {
@@ -107,6 +108,17 @@ impl From<AllocError> for WordsError {
     ghost from_gives = { λ _ e. e ≡ no_memory };
 
     fn from(_e: AllocError) -> WordsError {
+        WordsError::OutOfMemory
+    }
+}
+
+impl From<OutOfMemory> for WordsError {
+    ghost use Rattle.std.specs.Prelude.{◌≡◌};
+    ghost use Rattle.h5w_words.specs.declared.job.WordsError.TheVariants.{OutOfMemory as no_memory};
+
+    ghost from_gives = { λ _ e. e ≡ no_memory };
+
+    fn from(_e: OutOfMemory) -> WordsError {
         WordsError::OutOfMemory
     }
 }

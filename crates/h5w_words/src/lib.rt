@@ -12,6 +12,7 @@ mod job;
 mod live;
 mod make;
 mod name;
+mod names;
 mod number;
 mod play;
 mod stop;
@@ -21,6 +22,7 @@ mod words;
 
 pub use file::FileName;
 pub use h5w_model::Bytes;
+pub use h5w_names::Names;
 pub use h5w_options::{IntType, Options};
 pub use job::{Job, WordsError};
 pub use words::read_words;

@@ -1,4 +1,4 @@
-use Rattle.std.proofs.Common.{◌+◌, ◌<◌, ◌≤◌, arith}
+use Rattle.std.proofs.Common.{◌<◌, ◌≤◌, arith}
 use Rattle.h5w_check.proofs.VerdictLemmas.{runs_first, runs_second}
 use Rattle.h5w_check.proofs.overlap.put_in_run.Goals as goal
 

@@ -11,7 +11,7 @@ unreachable-requires c =
     let img = c.args.image.now.bytes in
     let values = c.requires.readable.0 in
     let left = ap (λ (r : Reader). r.left) c.requires.begun in
-    let told = opened img values (reader c.args.call.now) (reader c.answered.new.call) c.in_ok-rows.field-0 c.requires.readable.1 c.in_ok-rows.ensures.answered (c.in_ok-rows.ensures.answer open_left left) in
+    let told = opened img values (reader c.args.call.now) (reader c.answered.new.call) c.answered.result c.requires.readable.1 c.answered.ensures.answered (c.answered.ensures.answer open_left left) in
     elim c.in_default.branch [
       | in_default-via-in-Refused+in_default w ↦
           let memory = subst (λ (s : Step). IsOpened img values s (reader c.answered.new.call)) w.in_default.is told in
@@ -23,12 +23,12 @@ pub returns-in-Rows-clause-opened : goal.returns-in-Rows-clause-opened
 returns-in-Rows-clause-opened c = λ values readable.
     let img = c.args.image.now.bytes in
     let left = ap (λ (r : Reader). r.left) c.requires.begun in
-    let told = opened img values (reader c.args.call.now) (reader c.answered.new.call) c.in_ok-rows.field-0 readable c.in_ok-rows.ensures.answered (c.in_ok-rows.ensures.answer open_left left) in
+    let told = opened img values (reader c.args.call.now) (reader c.answered.new.call) c.answered.result readable c.answered.ensures.answered (c.answered.ensures.answer open_left left) in
     (subst (λ (s : Step). IsOpened img values s (reader c.answered.new.call)) c.in-Rows.is told).0
 
 pub returns-in-Rows-clause-rows : goal.returns-in-Rows-clause-rows
 returns-in-Rows-clause-rows c = λ values readable.
     let img = c.args.image.now.bytes in
     let left = ap (λ (r : Reader). r.left) c.requires.begun in
-    let told = opened img values (reader c.args.call.now) (reader c.answered.new.call) c.in_ok-rows.field-0 readable c.in_ok-rows.ensures.answered (c.in_ok-rows.ensures.answer open_left left) in
+    let told = opened img values (reader c.args.call.now) (reader c.answered.new.call) c.answered.result readable c.answered.ensures.answered (c.answered.ensures.answer open_left left) in
     (subst (λ (s : Step). IsOpened img values s (reader c.answered.new.call)) c.in-Rows.is told).1

@@ -23,7 +23,7 @@ unreachable-requires-in_default c =
     let part = take c.args.count (drop c.args.from values) in
     let between = reader c.read.new.self in
     let left = begun_left img values c.args.from c.args.count (reader c.args.call.now) between c.requires.1 c.in-Ok-None.field-0 c.in-Ok-None.field-0-is c.in-Ok-None.ensures.begun in
-    let told = read_answer img values c.args.from c.args.count between (reader c.answered.new.call) c.in_ok-values.field-0 c.requires.1.readable c.requires.2 c.in_ok-values.ensures.answered (c.in_ok-values.ensures.answer (read_left c.requires.1.readable.reads.shown c.args.from c.args.count) left) in
+    let told = read_answer img values c.args.from c.args.count between (reader c.answered.new.call) c.answered.result c.requires.1.readable c.requires.2 c.answered.ensures.answered (c.answered.ensures.answer (read_left c.requires.1.readable.reads.shown c.args.from c.args.count) left) in
     elim c.in_default.branch [
       | in_default-via-in-Refused+in_default w ↦
           let memory = subst (λ (s : Step). IsRead part between s (reader c.answered.new.call)) w.in_default.is told in
@@ -38,7 +38,7 @@ returns-in-Values-clause-values c = λ values h.
     let between = reader c.read.new.self in
     let within : c.args.from + c.args.count ≤ length values = omega (arith, c.requires.2, same_rows img c.requires.0 values old c.requires.1 h) in
     let left = begun_left img values c.args.from c.args.count old between h c.in-Ok-None.field-0 c.in-Ok-None.field-0-is c.in-Ok-None.ensures.begun in
-    let told = read_answer img values c.args.from c.args.count between (reader c.answered.new.call) c.in_ok-values.field-0 h.readable within c.in_ok-values.ensures.answered (c.in_ok-values.ensures.answer (read_left h.readable.reads.shown c.args.from c.args.count) left) in
+    let told = read_answer img values c.args.from c.args.count between (reader c.answered.new.call) c.answered.result h.readable within c.answered.ensures.answered (c.answered.ensures.answer (read_left h.readable.reads.shown c.args.from c.args.count) left) in
     (subst (λ (s : Step). IsRead (take c.args.count (drop c.args.from values)) between s (reader c.answered.new.call)) c.in-Values.is told).0
 
 pub returns-in-Values-clause-reader : goal.returns-in-Values-clause-reader
@@ -48,6 +48,6 @@ returns-in-Values-clause-reader c =
     let old = reader c.args.call.now in
     let between = reader c.read.new.self in
     let left = begun_left img values c.args.from c.args.count old between c.requires.1 c.in-Ok-None.field-0 c.in-Ok-None.field-0-is c.in-Ok-None.ensures.begun in
-    let told = read_answer img values c.args.from c.args.count between (reader c.answered.new.call) c.in_ok-values.field-0 c.requires.1.readable c.requires.2 c.in_ok-values.ensures.answered (c.in_ok-values.ensures.answer (read_left c.requires.1.readable.reads.shown c.args.from c.args.count) left) in
+    let told = read_answer img values c.args.from c.args.count between (reader c.answered.new.call) c.answered.result c.requires.1.readable c.requires.2 c.answered.ensures.answered (c.answered.ensures.answer (read_left c.requires.1.readable.reads.shown c.args.from c.args.count) left) in
     ends_as_begun img values c.args.from c.args.count old between c.requires.1 c.in-Ok-None.field-0 (reader c.answered.new.call) c.in-Ok-None.field-0-is c.in-Ok-None.ensures.begun
     (subst (λ (s : Step). IsRead (take c.args.count (drop c.args.from values)) between s (reader c.answered.new.call)) c.in-Values.is told).1

@@ -1,4 +1,4 @@
-use Rattle.std.proofs.Common.{◌≡◌, suc, ◌<◌, ◌≤◌, ◌∙◌, ◌∷◌, [], length, ap, sym, arith}
+use Rattle.std.proofs.Common.{◌≡◌, ◌<◌, ◌≤◌, ◌∙◌, ◌∷◌, [], length, ap, sym, arith}
 use Rattle.h5w_model.specs.Calls.{known_table}
 use Rattle.h5w_model.specs.Tables.{needed}
 use Rattle.h5w_reader.specs.Attempts.{known_of, rules_of}
@@ -6,7 +6,7 @@ use Rattle.h5w_reader.specs.Indexes.{in_place_of}
 use Rattle.h5w_reader.specs.Described.{described_of}
 use Rattle.h5w_reader.specs.Slots.{after_found}
 use Rattle.h5w_reader.specs.Unknown.{unknown_at}
-use Rattle.h5w_reader.proofs.UnknownLemmas.{unknown_rises}
+use Rattle.h5w_reader.proofs.UnknownLemmas.{unknown_less}
 use Rattle.std.proofs.lemmas.List.{length-append}
 use Rattle.h5w_reader.specs.Stores.{kept}
 use Rattle.h5w_reader.proofs.IndexLemmas.{index_below, some_across}
@@ -37,10 +37,11 @@ loop-i-preserved c =
     let a = c.in-Found.address in
     let xs = c.loop-i.found.items in
     let less : c.loop-i.i < needed d = omega (arith, c.loop-i-test.true, c.needed-needed.ensures) in
-    let count : c.len-in-loop-i.result ≡ length c.push.new.self.items = omega (arith, c.len-in-loop-i.ensures, c.push.new.self.ok.0) in
+    let count : c.len-in-loop-i.result ≡ length c.go_ahead.new.found.items = omega (arith, c.len-in-loop-i.ensures, c.go_ahead.new.found.ok.0) in
     record {
       at = c.unknown-i-in-loop-i.ensures ∙ ap (unknown_at known) count;
-      same = slots_push place known d e (kept c.chunk.new.store) a xs c.push.new.self.items c.in_ok-push.ensures.items
+      same = c.in_ok-go_ahead.ensures.same place
+          ∙ slots_push place known d e (kept c.chunk.new.store) a xs c.push.new.self.items c.in_ok-push.ensures.items
           ∙ c.in-Found.ensures (after_found place known d e xs)
           ∙ slots_at place known d e (kept c.loop-i.store) c.keys_across-across.result c.loop-i.i xs c.keys_across-across.ensures c.loop-i.invariant.at less
           ∙ c.loop-i.invariant.same;
@@ -51,9 +52,11 @@ loop-i-smaller c =
     let s = c.args.self in
     let known = known_table (known_of c.args.known.now) (described_of s.dataset) in
     let xs = c.loop-i.found.items in
-    let more : c.len-in-loop-i.result ≡ suc (length xs) = omega (arith, c.len-in-loop-i.ensures, c.push.new.self.ok.0, ap length c.in_ok-push.ensures.items, length-append xs (c.in-Found.address ∷ [])) in
-    let next : c.unknown-i-in-loop-i.result ≡ unknown_at known (suc (length xs)) = c.unknown-i-in-loop-i.ensures ∙ ap (unknown_at known) more in
-    omega (arith, c.loop-i-test.true, c.loop-i.invariant.at, next, unknown_rises known (length xs))
+    let ys = c.go_ahead.new.found.items in
+    let more : length xs < length ys = omega (arith, c.in_ok-go_ahead.ensures.more, ap length c.in_ok-push.ensures.items, length-append xs (c.in-Found.address ∷ [])) in
+    let count : c.len-in-loop-i.result ≡ length ys = omega (arith, c.len-in-loop-i.ensures, c.go_ahead.new.found.ok.0) in
+    let next : c.unknown-i-in-loop-i.result ≡ unknown_at known (length ys) = c.unknown-i-in-loop-i.ensures ∙ ap (unknown_at known) count in
+    omega (arith, c.loop-i-test.true, c.loop-i.invariant.at, next, unknown_less known (length xs) (length ys) more)
 
 pub returns : goal.returns
 returns c =

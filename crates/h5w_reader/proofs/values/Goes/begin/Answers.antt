@@ -1,4 +1,4 @@
-use Rattle.std.proofs.Common.{◌≡◌, ◌<◌, ◌+◌, ◌/◌, ◌∙◌, List, Result, Ok, ap, sym, arith}
+use Rattle.std.proofs.Common.{◌<◌, ◌+◌, ◌/◌, ◌∙◌, List, Result, Ok, ap, sym, arith}
 use Rattle.std.specs.Prelude.{ℤ}
 use Rattle.h5w_model.specs.Programs.{Prog, ret}
 use Rattle.h5w_model.specs.Calls.{values_call}

@@ -32,8 +32,8 @@ returns-in-Ok-clause-took g c =
     let b = began c.args.self.now c.next.new.self _ p c.self.view_is c.next.ensures.same c.in-Some.ensures.taken in
     let rest = lacks p c.portion.inside.first c.seen-have.result c.portion.inside.pieces.items c.deref.result.now c.behind-rest.result.now c.self.inside.second.seen c.behind-rest.ensures c.seen-have.ensures c.deref.ensures.value c.portion.view_is in
     let begins : p.first ≤ length c.self.inside.second.seen = omega (arith, c.if-portion-have.false, c.seen-have.ensures, ap (λ (q : PortionView). q.first) c.portion.view_is) in
-    inr (stepped c.args.self.now _ c.put_all.new.seat p c.len.result b c.self.invariant.mirrored begins (subst (λ (ws : List Write). HasPut ws c.self.inside.second c.put_all.new.seat) rest c.in-Ok.ensures.put)
-    (omega (arith, c.len.ensures, c.deref.ensures.len, ap length c.deref.ensures.value, ap (λ (q : PortionView). length q.pieces) c.portion.view_is)))
+    inr (stepped c.args.self.now _ c.put_all.new.seat p c.spare.result b c.self.invariant.mirrored begins (subst (λ (ws : List Write). HasPut ws c.self.inside.second c.put_all.new.seat) rest c.in-Ok.ensures.put)
+    c.spare.ensures)
 
 pub returns-in-Ok-clause-mirrored : goal.returns-in-Ok-clause-mirrored
 returns-in-Ok-clause-mirrored g c = (invariant_of-self g c).mirrored
