@@ -1,6 +1,8 @@
 /* What HDF5's library takes for the work that h5swmr's commands do: built and led by bench/peer.
  *
  *   peer write FILE ROWS CHUNK    makes a dataset `data` of 32-bit integers 0, 1, .. in one write
+ *   peer grid FILE ROWS COLUMNS HEIGHT WIDTH
+ *                                 makes one whose rows and columns may both grow, in chunks of so many of each
  *   peer open FILE TIMES          opens the file and the dataset, asks for its rows, and closes both, so many times
  *   peer refresh FILE TIMES       opens them once, then refreshes the dataset and asks for its rows so many times
  *   peer read FILE                opens them and reads all values into memory
@@ -104,6 +106,20 @@ static void write_file(const char *path, hsize_t rows, hsize_t chunk)
     hid_t file = checked(H5Fcreate(path, H5F_ACC_TRUNC, H5P_DEFAULT, access), "H5Fcreate");
     hid_t dataset = checked(H5Dcreate2(file, "data", H5T_STD_I32LE, space, H5P_DEFAULT, creation, H5P_DEFAULT), "H5Dcreate2");
     append_rising(dataset, extent, rows);
+    H5Dclose(dataset);
+    checked(H5Fclose(file), "H5Fclose");
+}
+
+static void write_grid(const char *path, char **sides)
+{
+    hsize_t extent[2] = {0, strtoull(sides[1], NULL, 10)}, most[2] = {H5S_UNLIMITED, H5S_UNLIMITED};
+    hsize_t chunk[2] = {strtoull(sides[2], NULL, 10), strtoull(sides[3], NULL, 10)};
+    hid_t access = latest(), space = checked(H5Screate_simple(2, extent, most), "H5Screate_simple");
+    hid_t creation = checked(H5Pcreate(H5P_DATASET_CREATE), "H5Pcreate");
+    checked(H5Pset_chunk(creation, 2, chunk), "H5Pset_chunk");
+    hid_t file = checked(H5Fcreate(path, H5F_ACC_TRUNC, H5P_DEFAULT, access), "H5Fcreate");
+    hid_t dataset = checked(H5Dcreate2(file, "data", H5T_STD_I32LE, space, H5P_DEFAULT, creation, H5P_DEFAULT), "H5Dcreate2");
+    append_rising(dataset, extent, strtoull(sides[0], NULL, 10));
     H5Dclose(dataset);
     checked(H5Fclose(file), "H5Fclose");
 }
@@ -229,11 +245,13 @@ static void poll_often(const char *path, long times, int prints)
 static void read_all(const char *path, int prints)
 {
     hid_t file, dataset = open_dataset(path, H5F_ACC_RDONLY, &file);
-    hsize_t rows = rows_of(dataset), i;
-    int *values = malloc(rows * sizeof *values + 1);
+    hsize_t extent[2], count, i;
+    extent_of(dataset, extent);
+    count = extent[0] * extent[1];
+    int *values = malloc(count * sizeof *values + 1);
     checked(H5Dread(dataset, H5T_NATIVE_INT, H5S_ALL, H5S_ALL, H5P_DEFAULT, values), "H5Dread");
-    for (i = 0; prints && i < rows; i++)
-        printf("%d\n", values[i]);
+    for (i = 0; prints && i < count; i++)
+        printf("%d%c", values[i], (i + 1) % extent[1] ? ' ' : '\n');
     free(values);
     H5Dclose(dataset);
     H5Fclose(file);
@@ -245,6 +263,8 @@ int main(int count, char **words)
     long first = count > 3 ? atol(words[3]) : 0, second = count > 4 ? atol(words[4]) : 0;
     if (strcmp(what, "write") == 0)
         write_file(words[2], first, second);
+    else if (strcmp(what, "grid") == 0 && count > 6)
+        write_grid(words[2], words + 3);
     else if (strcmp(what, "open") == 0)
         open_often(words[2], first);
     else if (strcmp(what, "refresh") == 0)

@@ -8,7 +8,7 @@ use Rattle.h5w_image.specs.View.{GivesRange, ImageView, Looked}
 use Rattle.h5w_image.proofs.ViewLemmas.{looked_itself, looked_twice}
 use Rattle.h5w_looks.specs.Still.{IsStill}
 use Rattle.h5w_looks.proofs.ReadLemmas.{still_on}
-use Rattle.h5w_reader.specs.Looks.{IsWithinLook}
+use Rattle.h5w_lookup.specs.Looks.{IsWithinLook}
 use Rattle.h5w_reader.specs.Readers.{StepTells}
 use Rattle.h5w_reader.specs.declared.step.Step.{Step}
 use Rattle.h5w_reader.specs.declared.step.Step.TheVariants as steps

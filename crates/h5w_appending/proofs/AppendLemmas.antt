@@ -106,7 +106,7 @@ shut_again {v} {w} name at limit budget keeps first b opened c = λ img root tol
       },
     )
 
-first_named : {v : DiskView} (name at : List ℕ) (limit budget : ℕ) (keeps : Bool) (first : Session) → IsOpenOver name at limit budget keeps v first → first.name ≡ at
+pub first_named : {v : DiskView} (name at : List ℕ) (limit budget : ℕ) (keeps : Bool) (first : Session) → IsOpenOver name at limit budget keeps v first → first.name ≡ at
 first_named name at limit budget keeps first opened = ap (λ (x : Session). x.name) opened.is ∙ opened.begun.named
 
 closed_of_up : {v w : DiskView} (name at : List ℕ) (limit budget : ℕ) (keeps : Bool) (first : Session) (b : Batches) → IsOpenOver name at limit budget keeps v first → ClosedUp name first b v w → Closed name at first b v w

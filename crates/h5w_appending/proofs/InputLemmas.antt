@@ -1,10 +1,9 @@
 -- The input of an append, to its end or to a refusal.
-use Rattle.std.proofs.Common.{◌≡◌, ℕ, ◌+◌, ◌≤◌, List, [], ◌∷◌, ◌++◌, length, ℤ, Option, Some, None, Result, Ok, Err, refl, sym, ap, ◌∙◌, subst, inl, inr, arith, append-nil}
+use Rattle.std.proofs.Common.{◌≡◌, ℕ, ◌+◌, ◌≤◌, List, [], ◌∷◌, ◌++◌, length, ℤ, Option, Some, None, Result, Ok, Err, refl, sym, ap, ◌∙◌, subst, inl, inr, arith}
 use Rattle.std.specs.Prelude.{IfSome}
 use Rattle.h5w_model.specs.Causes.{Rose}
 use Rattle.h5w_model.specs.Datasets.{Described}
 use Rattle.h5w_model.specs.Lawful.{first_outside}
-use Rattle.h5w_model.specs.declared.piece.Write.{Write}
 use Rattle.h5w_image.specs.View.{DiskView}
 use Rattle.h5w_session.specs.Sessions.{Session}
 use Rattle.h5w_text.specs.LinesAhead.{Given, GivenUp, IntakeView, IsOver, IsWhole, LinesAhead, Stays, TakesNumbers, lines_ahead}
@@ -21,12 +20,10 @@ use Rattle.h5w_files.specs.Images.{LeavesFiles}
 use Rattle.h5w_appending.specs.Taken.{AreTaken, ReadsFirst, ReadsLine, of_all, of_first}
 use Rattle.h5w_appending.specs.Appends.{HasTaken, InputRefuses, Stored, columns_of}
 use Rattle.h5w_appending.specs.Appending.{BrokeTold, Closes, FlushRefused, HalfTold, IsBegun, IsReady, PutsAll, PutsBy, ReadyUnlessDisk, LineRefused, Steps, StepsOn, TakesInput, TakesInputFrom, TakesInputOn, TakesLine, Told, ending_of}
-use Rattle.h5w_appending.specs.Puts.{writes_of}
 use Rattle.h5w_appending.specs.declared.batching.Ending.{Ending}
 use Rattle.h5w_appending.specs.declared.batching.Ending.TheVariants as endings
 use Rattle.h5w_batches.proofs.RowLemmas.{lines-append}
 use Rattle.h5w_batches.proofs.LineLemmas.{GoingWhole, first_all, first_none, first_read, reads_too_much, reads_whole, spell_count, spell_more, starts, whole_first, whole_more}
-use Rattle.h5w_appending.proofs.PutLemmas.{length-writes, puts_there}
 use Rattle.h5w_batches.proofs.InputLemmas.{rose_before}
 use Rattle.h5w_files.proofs.SinkLemmas.{gave_nothing}
 use Rattle.h5w_appending.proofs.StepLemmas.{ready_put}

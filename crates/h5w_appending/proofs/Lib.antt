@@ -7,3 +7,4 @@ pub mod InputLemmas
 pub mod ShutLemmas
 pub mod AppendLemmas
 pub mod OpenLemmas
+pub mod TellLemmas

@@ -1,5 +1,5 @@
 -- How an append ends: the session that is closed, and what the file then is.
-use Rattle.std.proofs.Common.{◌≡◌, ◌⊎◌, ℕ, ◌*◌, ◌/◌, ◌≤◌, List, [], ◌∷◌, ◌++◌, length, ℤ, Option, Some, None, Result, Ok, Err, sym, ap, ◌∙◌, subst, inl, inr, arith, append-nil}
+use Rattle.std.proofs.Common.{◌≡◌, ℕ, ◌*◌, ◌/◌, ◌≤◌, List, [], ◌∷◌, ◌++◌, length, ℤ, Option, Some, None, Result, Ok, Err, sym, ap, ◌∙◌, subst, inl, inr, arith, append-nil}
 use Rattle.std.specs.Prelude.{option_map}
 use Rattle.std.specs.Option.{unwrap_or}
 use Rattle.h5w_model.specs.Datasets.{Described}
@@ -18,12 +18,11 @@ use Rattle.h5w_session.specs.Stands.{Stands}
 use Rattle.h5w_session.proofs.LawLemmas.{standing_laws}
 use Rattle.h5w_text.specs.Streams.{SourceView, SinkView}
 use Rattle.h5w_text.specs.declared.error.ErrorLine.{ErrorLine}
-use Rattle.h5w_text.specs.declared.error.ErrorLine.TheVariants as errors
 use Rattle.h5w_files.specs.Images.{LeavesFiles, told_bytes}
 use Rattle.h5w_batches.specs.Batches.{Batches, after_lines, close_batch, no_batches}
 use Rattle.h5w_appending.specs.Taken.{of_all, rows_after, values_of}
 use Rattle.h5w_appending.specs.Puts.{after_puts, counts_of, writes_of}
-use Rattle.h5w_appending.specs.Appends.{Broke, ClosedUp, InputRefuses, Holds, IsHalted, IsLogOf, OfEachLog, OfValid, Stored, columns_of}
+use Rattle.h5w_appending.specs.Appends.{Holds, IsHalted, IsLogOf, OfEachLog, OfValid, columns_of}
 use Rattle.h5w_appending.specs.Appending.{ClosesBy, IsReady, PutsAll, PutsBy, PutsHalted, Settles, TakesInput, Told}
 use Rattle.h5w_appending.specs.declared.batching.Ending.{Ending}
 use Rattle.h5w_appending.specs.declared.batching.Ending.TheVariants as endings

@@ -7,7 +7,7 @@ use Rattle.h5w_model.specs.Logs.{Log, and_now, appended_in, appends, flushed_in,
 use Rattle.h5w_model.specs.declared.piece.Write.{Write}
 use Rattle.h5w_model.specs.declared.root.Super.{Super}
 use Rattle.h5w_model.specs.Datasets.{Described}
-use Rattle.h5w_image.specs.View.{DiskView, ImageView, Looked, Same}
+use Rattle.h5w_image.specs.View.{DiskView, ImageView, Same}
 use Rattle.h5w_session.specs.Openings.{opened_log}
 use Rattle.h5w_session.specs.Room.{HasRoomFor}
 use Rattle.h5w_session.specs.Sessions.{AddsValues, IsNamed, Session, TakesRows, rows_of}
@@ -15,7 +15,7 @@ use Rattle.h5w_session.specs.Stands.{Stands}
 use Rattle.h5w_files.specs.Images.{LeavesFiles, file_image}
 use Rattle.h5w_batches.specs.Batches.{Batches, close_batch, no_batches}
 use Rattle.h5w_appending.specs.Taken.{values_of}
-use Rattle.h5w_appending.specs.Puts.{AgreesAtFirst, AllAre, ComesFirst, PutsPieces, PutsSome, after_puts, counts_of, showing, writes_of}
+use Rattle.h5w_appending.specs.Puts.{AgreesAtFirst, ComesFirst, PutsPieces, PutsSome, after_puts, counts_of, showing, writes_of}
 use Rattle.h5w_appending.specs.Appends.{Broke, HasTaken, IsLogOf, Settled, Stored, columns_of, grown}
 use Rattle.h5w_appending.specs.Appending.{AppendsAll, Halted, HasNone, Planned, PutsAll, PutsHalted, Unflushed, Unput}
 use Rattle.h5w_appending.proofs.BatchLemmas.{batch_rows, plan_done, plan_open, showing_appended, showing_flushed, showing_hist, showing_same, values_closed}

@@ -139,7 +139,7 @@ pub record Told (name : List ℕ) (first t : Session) (b : Batches) (u w : DiskV
 -- they were stored, and the sink failed at the line of the last
 pub record HalfTold (name : List ℕ) (first t : Session) (b : Batches) (u w : DiskView) (k l : SinkView) : Type 0 where
   pub stored : Stored name first t b u w
-  pub stops : StopsAtLine first b k l
+  pub stops : StopsAtLine (columns_of first) first.dataset.shape.rows b k l
 
 -- the disk failed behind them, and their lines were written
 pub record BrokeTold (name : List ℕ) (first : Session) (b : Batches) (u w : DiskView) (k l : SinkView) : Type 0 where
@@ -232,7 +232,7 @@ Settles name rows first x y u w k l (Ok a) = (numbers : List (List ℤ)) × Read
 Settles name rows first x y u w k l (Err (endings.Refused e)) = (b : Batches) × AreTaken (columns_of first) x y b × InputRefuses name first x y b u e × ClosedUp name first b u w × Gave (lines_of first b.closed) k l
 Settles name rows first x y u w k l (Err endings.Disk) = (b : Batches) × AreTaken (columns_of first) x y b × BrokeTold name first b u w k l
 Settles name rows first x y u w k l (Err endings.Sink) =
-    (b : Batches) × AreTaken (columns_of first) x y b × (ClosedUp name first b u w ⊎ Broke name first b u w) × StopsAtLine first b k l
+    (b : Batches) × AreTaken (columns_of first) x y b × (ClosedUp name first b u w ⊎ Broke name first b u w) × StopsAtLine (columns_of first) first.dataset.shape.rows b k l
 
 -- whatever was taken, of a disk that had failed so often
 abbrev pub SettlesOn : ℕ → List ℕ → Session → DiskView → DiskView → Result (Unit {0}) Ending → Result (Unit {0}) Ending → Type 0

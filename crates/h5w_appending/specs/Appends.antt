@@ -264,15 +264,15 @@ ShutAgain name at v w = (img : List ℕ) (root : Super) → told_bytes v.told na
 
 -- The sink failed at the line of the last of these batches: the lines of those before were written, then some first part of that one. No
 -- value waits.
-pub record StopsAtLine (first : Session) (b : Batches) (k l : SinkView) : Type 0 where
+pub record StopsAtLine (columns rows : ℕ) (b : Batches) (k l : SinkView) : Type 0 where
   pub before : List (List ℤ)
   pub last : List ℤ
   pub closed : b.closed ≡ before ++ last ∷ []
   pub waiting : b.waiting ≡ []
   pub middle : SinkView
-  pub gave : Gave (lines_of first before) k middle
+  pub gave : Gave (rows_lines columns rows before) k middle
   pub rose : Rose middle.faults l.faults
-  pub some : GaveSome (last_line_of first b.closed) middle l
+  pub some : GaveSome (count_text (rows_after columns rows b.closed)) middle l
 
 -- ---- The whole append
 
@@ -339,7 +339,7 @@ pub record AppendsCut (name at : List ℕ) (limit budget : ℕ) (keeps : Bool) (
   pub opened : IsOpenOver name at limit budget keeps v first
   pub batches : Batches
   pub taken : AreTaken (columns_of first) s t batches
-  pub stops : StopsAtLine first batches k l
+  pub stops : StopsAtLine (columns_of first) first.dataset.shape.rows batches k l
   pub left : Closed name at first batches v w ⊎ Broken name at first batches v w
 
 -- how an append ends: the lines of all its batches are written before the last line, or the sink fails at one of them

@@ -15,4 +15,5 @@ pub mod Puts
 pub mod Creates
 pub mod Taken
 pub mod Appends
+pub mod Tells
 pub mod Appending

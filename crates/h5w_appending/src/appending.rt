@@ -9,6 +9,7 @@ ghost use Rattle.h5w_files.specs.Images.{LeavesFiles};
 ghost use Rattle.h5w_batches.specs.Inputs.{SameSource, input_limit, outside};
 ghost use Rattle.h5w_appending.specs.Taken.{closed_text};
 ghost use Rattle.h5w_appending.specs.Appends.{AppendEnds, columns_of, open_line};
+ghost use Rattle.h5w_appending.specs.Tells.{TellsEnd};
 ghost use Rattle.h5w_appending.specs.Appending.{ClosesBy, FinishesBy, HasSize, IsBegun, IsReady, LooksOpen, OpensBy, ReadyUnlessDisk, SettlesOn, TakesInputFrom, TakesInputOn};
 
 use crate::batching::{Ending, close_batch, put_all, take_line, take_values};
@@ -307,6 +308,7 @@ pub fn append<S: Source, K: Sink, D: Disk>(
     requires low { 1024 ≤ limit }
     requires high { limit ≤ 2 ^ 40 }
     requires budget { (1024 ≤ budget) × (budget ≤ 2 ^ 30) }
+    ensures tells { TellsEnd file.now name.now limit (S.view source.old) (S.view source.new) (D.view disk.old) (D.view disk.new) result (K.view sink.old) (K.view sink.new) }
     ensures appends { AppendEnds file.now name.now limit budget keeps (S.view source.old) (S.view source.new) (D.view disk.old) (D.view disk.new) result (K.view sink.old) (K.view sink.new) }
     ensures source { SameSource (S.view source.old) (S.view source.new) }
 {

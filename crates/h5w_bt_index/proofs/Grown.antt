@@ -1,19 +1,21 @@
 -- A record put into a tree is that record put into all its records.
-use Rattle.std.proofs.Common.{◌≡◌, ℕ, zero, suc, ◌+◌, ◌<◌, ◌≤◌, Bool, true, false, List, [], ◌∷◌, ◌++◌, length, map, take, drop, set, refl, sym, ap, ap₂, subst, ◌∙◌, arith, Option, Some, None, slice_get, insert, sum_by}
+use Rattle.std.proofs.Common.{◌≡◌, ℕ, zero, suc, ◌+◌, ◌<◌, ◌≤◌, Bool, true, false, List, [], ◌∷◌, ◌++◌, length, map, take, drop, refl, sym, ap, ap₂, subst, ◌∙◌, arith, Option, Some, None, slice_get, insert, sum_by}
 use Rattle.std.proofs.lemmas.List.Sums.{sum_by-cons}
-use Rattle.std.proofs.lemmas.List.{length-map, map-append, map-set, take-map, drop-map}
+use Rattle.std.proofs.lemmas.List.{length-map, take-map, drop-map}
 use Rattle.std.proofs.lemmas.List.Elements.{All-cons, All-head, All-tail, All-nil}
 use Rattle.std.specs.List.{All}
 use Rattle.h5w_model.specs.declared.cell.Key.{Key}
 use Rattle.h5w_model.specs.Trees.{capacity_of}
 use Rattle.h5w_bt.specs.declared.records.Record.{Record}
-use Rattle.h5w_bt_index.specs.Nodes.{Tree, all_records, records_of, rank, address_in, joined, found, total_of}
-use Rattle.h5w_bt_index.specs.Puts.{put_record, put, settled, is_over, half, left_of, middle_of, right_of, no_record}
+use Rattle.h5w_bt_nodes.specs.Nodes.{Tree, all_records, records_of, rank, address_in, joined, found, total_of}
+use Rattle.h5w_bt_nodes.specs.Puts.{put_record, put, settled, is_over, half, left_of, middle_of, right_of, no_record}
 use Rattle.h5w_bt_index.specs.Sound.{IsRising, IsSound, IsInner}
 use Rattle.h5w_bt_index.proofs.Joined.{joined-put_here, joined-put_below, joined-finds_here, joined-finds_below, joined-each_rises, joined-divided, joined-cut, length-joined}
-use Rattle.h5w_bt_index.proofs.Places.{some_same, none_is_not, at_place, there_is, length-changed, get-changed, map-changed, cut-list, All-each}
-use Rattle.h5w_bt_index.proofs.Steps.{settled_over, settled_not, went_down, put_here, put_below, found_here, found_below, rank-inside, there, not_there, is_there}
-use Rattle.h5w_bt_index.proofs.Parts.{put_sound, over-half}
+use Rattle.h5w_bt_nodes.proofs.Places.{some_same, at_place, there_is, length-changed, get-changed, map-changed, cut-list, All-each}
+use Rattle.h5w_bt_nodes.proofs.Steps.{settled_over, settled_not, went_down, put_here, put_below, found_here, found_below, rank-inside, there, not_there, is_there}
+use Rattle.h5w_bt_nodes.proofs.Parts.{over-half}
+use Rattle.h5w_bt_index.proofs.Parts.{put_sound}
+use Rattle.h5w_bt_nodes.proofs.Children.{get-map, map_in_two}
 
 -- the node's lists of what is under its children
 abbrev pub lists : (d : ℕ) → List (Tree d) → List (List Record)
@@ -31,17 +33,6 @@ parts_records (suc d) m t s h =
     joined-cut t.records (lists d t.children) (half (suc d)) no_record (lists_long d m (IsSound d (capacity_of d)) t s) h
     ∙ ap₂ (λ (a b : List (List Record)). joined (take (half (suc d)) t.records) a ++ middle_of (suc d) t ∷ joined (drop (suc (half (suc d))) t.records) b)
     (take-map (all_records d) (suc (half (suc d))) t.children) (drop-map (all_records d) (suc (half (suc d))) t.children)
-
-pub insert-map : {A B : Type 0} (F : A → B) (k : ℕ) (xs : List A) (r : A) → map F (insert xs k r) ≡ insert (map F xs) k (F r)
-insert-map F k xs r = map-append F (take k xs) (r ∷ drop k xs) ∙ ap₂ (λ (a b : List _). a ++ F r ∷ b) (sym (take-map F k xs)) (sym (drop-map F k xs))
-
-pub map_in_two : {A B : Type 0} (F : A → B) (i : ℕ) (xs : List A) (l r : A) → map F (insert (set xs i l) (suc i) r) ≡ insert (set (map F xs) i (F l)) (suc i) (F r)
-map_in_two F i xs l r = insert-map F (suc i) (set xs i l) r ∙ ap (λ (ys : List _). insert ys (suc i) (F r)) (map-set F xs i l)
-
-pub get-map : {A B : Type 0} (F : A → B) (i : ℕ) (xs : List A) (c : A) → slice_get xs i ≡ Some c → slice_get (map F xs) i ≡ Some (F c)
-get-map F i [] c e = absurd (none_is_not c e)
-get-map F zero (x ∷ xs) c e = ap (λ (y : _). Some (F y)) (some_same x c e)
-get-map F (suc i) (x ∷ xs) c e = get-map F i xs c e
 
 -- a division of a child moves no record
 pub settled_records : (d i : ℕ) (t : Tree (suc d)) → i ≤ length t.records → length t.children ≡ length t.records + 1 → ((c : Tree d) → slice_get t.children i ≡ Some c → IsSound d (suc (capacity_of d)) c) →

@@ -8,18 +8,22 @@ use Rattle.h5w_model.specs.Tables.{key_below, key_equal, in_leaf}
 use Rattle.h5w_model.specs.Trees.{capacity_of}
 use Rattle.h5w_bt.specs.declared.records.Record.{Record}
 use Rattle.h5w_bt.specs.Parts.{record_of}
-use Rattle.h5w_bt_index.specs.Nodes.{Tree, all_records, records_of, address_in, found, total_of}
-use Rattle.h5w_bt_index.specs.Puts.{put_record, put, is_over, raised}
-use Rattle.h5w_bt_index.specs.Sound.{IsRising, IsShape, IsSound}
+use Rattle.h5w_bt_nodes.specs.Nodes.{Tree, all_records, records_of, address_in, found, total_of}
+use Rattle.h5w_bt_nodes.specs.Puts.{put_record, put, is_over, raised}
+use Rattle.h5w_bt_nodes.specs.Shapes.{IsShape}
+use Rattle.h5w_bt_index.specs.Sound.{IsRising, IsSound}
 use Rattle.h5w_bt_index.specs.Marks.{Part, IsMarked}
 use Rattle.h5w_bt_index.specs.Index.{Index, records, address_of, regrown, inserted, IsBlocked, IsIndex, IsShaped, HasShares, KeepsShares, IsClean, IsDeep, IsThere, found_address}
 use Rattle.h5w_bt_index.proofs.Keys.{equal-is}
-use Rattle.h5w_bt_index.proofs.Records.{under, here, past, side, in-under, in-here, in-past, put-finds_same, put-finds_other, put-rises}
-use Rattle.h5w_bt_index.proofs.Parts.{rebound, over-half, put_sound, raised_sound}
+use Rattle.h5w_bt_nodes.proofs.Records.{under, here, past, side, in-under, in-here, in-past}
+use Rattle.h5w_bt_index.proofs.Rising.{put-finds_same, put-finds_other, put-rises}
+use Rattle.h5w_bt_nodes.proofs.Parts.{over-half}
+use Rattle.h5w_bt_index.proofs.Parts.{rebound, put_sound, raised_sound}
 use Rattle.h5w_bt_index.proofs.Grown.{IsGood, parts_records, put_records, found_is, total_is}
-use Rattle.h5w_bt_index.proofs.Shapes.{put_shape, raised_shape, shape_rebound, sound_shape}
-use Rattle.h5w_bt_index.proofs.Over.{over-blocked}
-use Rattle.h5w_bt_index.proofs.Places.{some_same, none_is_not}
+use Rattle.h5w_bt_nodes.proofs.Shapes.{put_shape, raised_shape, shape_rebound}
+use Rattle.h5w_bt_index.proofs.Bounds.{sound_shape}
+use Rattle.h5w_bt_nodes.proofs.Over.{over-blocked}
+use Rattle.h5w_bt_nodes.proofs.Places.{some_same, none_is_not}
 use Rattle.h5w_bt_index.proofs.Shares.{least_less, put-share, raised-share}
 use Rattle.h5w_bt_index.proofs.Marks.{put-clean, raised-clean, put-marked, raised-marked}
 

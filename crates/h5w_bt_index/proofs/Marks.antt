@@ -4,13 +4,13 @@ use Rattle.std.proofs.lemmas.Bool.{false≢true}
 use Rattle.std.proofs.lemmas.List.Elements.{All-cons, All-nil}
 use Rattle.h5w_model.specs.Trees.{capacity_of}
 use Rattle.h5w_bt.specs.declared.records.Record.{Record}
-use Rattle.h5w_bt_index.specs.Nodes.{Tree, rank}
-use Rattle.h5w_bt_index.specs.Puts.{put_record, changed_at, put, settled, is_over, half, left_of, right_of, raised}
-use Rattle.h5w_bt_index.specs.Sound.{IsShape}
+use Rattle.h5w_bt_nodes.specs.Nodes.{Tree, rank}
+use Rattle.h5w_bt_nodes.specs.Puts.{put_record, changed_at, put, settled, is_over, half, left_of, right_of, raised}
+use Rattle.h5w_bt_nodes.specs.Shapes.{IsShape}
 use Rattle.h5w_bt_index.specs.Marks.{Part, Some_of, IsCleanPart, IsMarked}
-use Rattle.h5w_bt_index.proofs.Places.{some_same, none_is_not, at_place, inside_from, All-changed_at, All-in_two, All-taken, All-dropped}
-use Rattle.h5w_bt_index.proofs.Steps.{settled_over, settled_not, went_down, put_here, put_below, there, not_there, is_there}
-use Rattle.h5w_bt_index.proofs.Over.{OnTheWay, on_the_way}
+use Rattle.h5w_bt_nodes.proofs.Places.{some_same, none_is_not, at_place, inside_from, All-changed_at, All-in_two, All-taken, All-dropped}
+use Rattle.h5w_bt_nodes.proofs.Steps.{settled_over, settled_not, went_down, put_here, put_below, there, not_there, is_there}
+use Rattle.h5w_bt_nodes.proofs.Over.{OnTheWay, on_the_way}
 
 some-changed : {A : Type 0} (P : A → Type 0) (f : A → A) (i : ℕ) (xs : List A) (c : A) → slice_get xs i ≡ Some c → (P (f c) → P c) → Some_of P (changed_at i f xs) → Some_of P xs
 some-changed P f i [] c e k h = h

@@ -1,24 +1,18 @@
 -- A record put into a sound tree leaves it sound, with at most a record too many in the root.
-use Rattle.std.proofs.Common.{◌≡◌, ℕ, zero, suc, ◌+◌, ◌/◌, ◌<◌, ◌≤◌, Bool, true, false, List, [], ◌∷◌, length, take, drop, set, refl, sym, ap, subst, ◌∙◌, arith, Some, slice_get, length-set, insert, sum_by}
-use Rattle.std.proofs.lemmas.List.{length-take, length-drop}
+use Rattle.std.proofs.Common.{◌≡◌, ℕ, zero, suc, ◌+◌, ◌<◌, ◌≤◌, Bool, true, false, List, [], ◌∷◌, length, refl, sym, ap, subst, ◌∙◌, arith, Some, slice_get, sum_by}
 use Rattle.std.proofs.lemmas.List.Edits.{length-insert}
-use Rattle.std.proofs.lemmas.Bool.{ltb-true, ltb-false}
+use Rattle.std.proofs.lemmas.Bool.{ltb-false}
 use Rattle.std.proofs.lemmas.List.Elements.{All-cons, All-nil}
 use Rattle.std.specs.List.{All}
 use Rattle.h5w_model.specs.Trees.{capacity_of}
 use Rattle.h5w_bt.specs.declared.records.Record.{Record}
-use Rattle.h5w_bt_index.specs.Nodes.{Tree, records_of, rank, total_of}
-use Rattle.h5w_bt_index.specs.Puts.{put_record, changed_at, put, settled, is_over, half, left_of, middle_of, right_of, changed_node, raised}
+use Rattle.h5w_bt_nodes.specs.Nodes.{Tree, records_of, rank, total_of}
+use Rattle.h5w_bt_nodes.specs.Puts.{changed_at, put, settled, is_over, half, left_of, middle_of, right_of, changed_node, raised}
 use Rattle.h5w_bt_index.specs.Sound.{IsSound}
-use Rattle.h5w_bt_index.proofs.Records.{put-longer, put-as_long}
-use Rattle.h5w_bt_index.proofs.Places.{at_place, there_is, inside_from, length-changed, get-changed, All-changed_at, All-in_two, All-taken, All-dropped}
-use Rattle.h5w_bt_index.proofs.Steps.{settled_over, settled_not, put_here, put_below, rank-inside, there, not_there, is_there}
-
-pub put-at_most : (x : Record) (rs : List Record) → length (put_record x rs) ≤ length rs + 1
-put-at_most x rs = elim (is_there x.key rs) [
-  | there a e ↦ omega (arith, put-as_long x rs a e)
-  | not_there e ↦ omega (arith, put-longer x rs e)
-]
+use Rattle.h5w_bt_nodes.proofs.Records.{put-as_long}
+use Rattle.h5w_bt_nodes.proofs.Places.{at_place, there_is, inside_from, length-changed, get-changed, All-changed_at, All-in_two, All-taken, All-dropped}
+use Rattle.h5w_bt_nodes.proofs.Steps.{settled_over, settled_not, put_here, put_below, rank-inside, there, not_there, is_there}
+use Rattle.h5w_bt_nodes.proofs.Parts.{divided_long, dropped_both, dropped_few, half_fits, over-half, put-at_most, taken_both, taken_few}
 
 -- another bound on the records of the root
 pub rebound : (d m n : ℕ) (t : Tree d) → length (records_of d t) ≤ n → IsSound d m t → IsSound d n t
@@ -28,21 +22,6 @@ rebound (suc d) m n t h s = record { few = h; children = s.children; total = s.t
 pub few_of : (d m : ℕ) (t : Tree d) → IsSound d m t → length (records_of d t) ≤ m
 few_of zero m t s = s
 few_of (suc d) m t s = s.few
-
-pub half_fits : (c : ℕ) → c / 2 ≤ c
-half_fits c = omega arith
-
-pub taken_both : {A B : Type 0} (h : ℕ) (rs : List A) (cs : List B) → length cs ≡ length rs + 1 → h < length rs → length (take (suc h) cs) ≡ length (take h rs) + 1
-taken_both h rs cs n lt = omega (arith, length-take h rs, length-take (suc h) cs)
-
-pub dropped_both : {A B : Type 0} (h : ℕ) (rs : List A) (cs : List B) → length cs ≡ length rs + 1 → h < length rs → length (drop (suc h) cs) ≡ length (drop (suc h) rs) + 1
-dropped_both h rs cs n lt = omega (arith, length-drop (suc h) rs, length-drop (suc h) cs)
-
-pub taken_few : {A : Type 0} (h c : ℕ) (rs : List A) → h ≤ c → length (take h rs) ≤ c
-taken_few h c rs n = omega (arith, length-take h rs)
-
-pub dropped_few : {A : Type 0} (h c : ℕ) (rs : List A) → length rs ≤ suc c → length (drop (suc h) rs) ≤ c
-dropped_few h c rs n = omega (arith, length-drop (suc h) rs)
 
 pub left_sound : (d m : ℕ) (t : Tree d) → half d < length (records_of d t) → IsSound d m t → IsSound d (capacity_of d) (left_of d t)
 left_sound zero m t h s = taken_few (half zero) (capacity_of zero) t.records (half_fits (capacity_of zero))
@@ -62,16 +41,7 @@ right_sound (suc d) t h s = record {
   each = All-dropped (IsSound d (capacity_of d)) (suc (half (suc d))) t.children s.each;
 }
 
--- a node with a record too many has one to go up
-pub over-half : (d : ℕ) (t : Tree d) → is_over d t ≡ true → half d < length (records_of d t)
-over-half d t o = omega (arith, ltb-true (capacity_of d) (length (records_of d t)) o, half_fits (capacity_of d))
-
 -- ---- A child on the way changed, and divided where it has a record too many
-
-pub divided_long : {A : Type 0} (f : A → A) (i : ℕ) (xs : List A) (l r : A) → i < length xs → length (insert (set (changed_at i f xs) i l) (suc i) r) ≡ length xs + 1
-divided_long f i xs l r n =
-    let e : length (set (changed_at i f xs) i l) ≡ length xs = length-set (changed_at i f xs) i l ∙ length-changed i f xs in
-    length-insert (set (changed_at i f xs) i l) (suc i) r (omega (arith, n, e)) ∙ ap (λ (n : ℕ). n + 1) e
 
 -- what a change of a child on the way must give
 pub settled_sound : (d i : ℕ) (f : Tree d → Tree d) (rs : List Record) (cs : List (Tree d)) (place : ℕ) →

@@ -6,16 +6,18 @@ use Rattle.h5w_model.specs.Trees.{capacity_of}
 use Rattle.h5w_model.specs.Tables.{key_equal}
 use Rattle.h5w_space.specs.Space.{Space}
 use Rattle.h5w_bt.specs.declared.records.Record.{Record}
-use Rattle.h5w_bt_index.specs.Nodes.{Tree, address_in, found}
-use Rattle.h5w_bt_index.specs.Puts.{is_over, put, put_record, raised, settled, with_divided}
-use Rattle.h5w_bt_index.specs.Sound.{IsShape}
+use Rattle.h5w_bt_nodes.specs.Nodes.{Tree, address_in, found}
+use Rattle.h5w_bt_nodes.specs.Puts.{is_over, put, put_record, raised, settled, with_divided}
+use Rattle.h5w_bt_nodes.specs.Shapes.{IsShape}
 use Rattle.h5w_bt_index.specs.Marks.{clean_of}
 use Rattle.h5w_bt_index.specs.Index.{Index, IsIndex, IsShaped, IsReplaced, IsThere, found_by, inserted, keys_of, records}
-use Rattle.h5w_bt_index.specs.Plans.{AllRead, IsTreePlan, placed, stood, writes_of, written}
+use Rattle.h5w_bt_nodes.specs.Blocks.{AllRead, placed, stood, writes_of, written}
+use Rattle.h5w_bt_index.specs.Plans.{IsTreePlan}
 use Rattle.h5w_bt_index.proofs.Keys.{equal-is}
-use Rattle.h5w_bt_index.proofs.Records.{under, here, past, side, put-under, put-here, in-under, in-past, none_is_not_some, put-finds_other}
-use Rattle.h5w_bt_index.proofs.Steps.{is_there, there, not_there, put_here, put_below, went_down}
-use Rattle.h5w_bt_index.proofs.Over.{over-blocked}
+use Rattle.h5w_bt_nodes.proofs.Records.{under, here, past, side, put-under, put-here, in-under, in-past, none_is_not_some}
+use Rattle.h5w_bt_index.proofs.Rising.{put-finds_other}
+use Rattle.h5w_bt_nodes.proofs.Steps.{is_there, there, not_there, put_here, put_below, went_down}
+use Rattle.h5w_bt_nodes.proofs.Over.{over-blocked}
 use Rattle.h5w_bt_index.proofs.Laws.{finds, index_shaped, inserted-clean, inserted-index, inserted-map, inserted-records, inserted-shaped, inserted-shares, put-there, same-index}
 
 -- ---- Its key has a record

@@ -7,14 +7,15 @@ use Rattle.std.specs.List.{All}
 use Rattle.std.proofs.lemmas.Bool.{ltb-true}
 use Rattle.h5w_model.specs.Trees.{capacity_of}
 use Rattle.h5w_bt.specs.declared.records.Record.{Record}
-use Rattle.h5w_bt_index.specs.Nodes.{Tree, rank}
-use Rattle.h5w_bt_index.specs.Puts.{put_record, put, settled, is_over, half, left_of, middle_of, right_of, raised}
-use Rattle.h5w_bt_index.specs.Sound.{IsShape, AtLeast, two_fifths}
+use Rattle.h5w_bt_nodes.specs.Nodes.{Tree, rank}
+use Rattle.h5w_bt_nodes.specs.Puts.{put_record, put, settled, is_over, half, left_of, middle_of, right_of, raised}
+use Rattle.h5w_bt_nodes.specs.Shapes.{IsShape}
+use Rattle.h5w_bt_index.specs.Sound.{AtLeast, two_fifths}
 use Rattle.h5w_bt_index.specs.Index.{Index, IsFilled, IsHalfFull, KeepsShares}
-use Rattle.h5w_bt_index.proofs.Records.{put-longer, put-as_long}
-use Rattle.h5w_bt_index.proofs.Places.{at_place, inside_from, All-changed_at, All-in_two, All-taken, All-dropped}
-use Rattle.h5w_bt_index.proofs.Steps.{settled_over, settled_not, went_down, put_here, put_below, rank-inside, there, not_there, is_there}
-use Rattle.h5w_bt_index.proofs.Over.{OnTheWay, on_the_way}
+use Rattle.h5w_bt_nodes.proofs.Records.{put-longer, put-as_long}
+use Rattle.h5w_bt_nodes.proofs.Places.{at_place, inside_from, All-changed_at, All-in_two, All-taken, All-dropped}
+use Rattle.h5w_bt_nodes.proofs.Steps.{settled_over, settled_not, went_down, put_here, put_below, rank-inside, there, not_there, is_there}
+use Rattle.h5w_bt_nodes.proofs.Over.{OnTheWay, on_the_way}
 
 put-no_less : (x : Record) (rs : List Record) → length rs ≤ length (put_record x rs)
 put-no_less x rs = elim (is_there x.key rs) [

@@ -7,11 +7,12 @@ use Rattle.h5w_model.specs.Tables.{in_leaf, key_equal}
 use Rattle.h5w_model.specs.Trees.{capacity_of}
 use Rattle.h5w_bt.specs.declared.records.Record.{Record}
 use Rattle.h5w_bt.specs.Parts.{record_of}
-use Rattle.h5w_bt_index.specs.Nodes.{Tree, LeafNode, all_records, address_in, found}
-use Rattle.h5w_bt_index.specs.Puts.{half, put, put_record, is_over, is_full_path, raised}
-use Rattle.h5w_bt_index.specs.Sound.{IsRising, IsShape, IsSound, AtLeast, two_fifths}
+use Rattle.h5w_bt_nodes.specs.Nodes.{Tree, LeafNode, all_records, address_in, found}
+use Rattle.h5w_bt_nodes.specs.Puts.{half, put, put_record, is_over, is_full_path, raised}
+use Rattle.h5w_bt_nodes.specs.Shapes.{IsShape}
+use Rattle.h5w_bt_index.specs.Sound.{IsRising, IsSound, AtLeast, two_fifths}
 use Rattle.h5w_bt_index.specs.Marks.{IsMarked, Part, IsCleanPart, clean_of}
-use Rattle.h5w_bt_index.specs.Typed.{leaf_of, inner_of}
+use Rattle.h5w_bt_nodes.specs.Typed.{leaf_of, inner_of}
 use Rattle.h5w_bt_index.specs.declared.root.Root.{Root}
 use Rattle.h5w_bt_index.specs.declared.root.Root.TheVariants.{Zero, One, Two, Three}
 

@@ -1,9 +1,10 @@
 pub use Rattle.h5w_model.specs.Trees
-pub mod Nodes
-pub mod Puts
+pub use Rattle.h5w_bt_nodes.specs.Nodes
+pub use Rattle.h5w_bt_nodes.specs.Puts
+pub use Rattle.h5w_bt_nodes.specs.Shapes
+pub use Rattle.h5w_bt_nodes.specs.Blocks
 pub mod Sound
 pub mod Marks
-pub mod Typed
 pub mod Index
 pub mod Plans
 pub mod Held

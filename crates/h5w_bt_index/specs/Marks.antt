@@ -1,7 +1,7 @@
 -- Which nodes changed since they were written.
 use Rattle.std.specs.Prelude.{◌≡◌, ℕ, zero, suc, Bool, true, List, [], ◌∷◌, ◌⊎◌}
 use Rattle.std.specs.List.{All}
-use Rattle.h5w_bt_index.specs.Nodes.{Tree}
+use Rattle.h5w_bt_nodes.specs.Nodes.{Tree}
 
 abbrev pub clean_of : (d : ℕ) → Tree d → Bool
 clean_of zero t = t.clean

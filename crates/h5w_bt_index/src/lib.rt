@@ -4,22 +4,13 @@
 //! HDF5 File Format Specification 3.0, "Version 2 B-trees"; docs/FORMAT.md, "Version 2 B-tree".
 #![tactic(auto)]
 
-mod bytes;
 mod error;
 mod index;
-mod inner;
-mod leaf;
-mod lists;
 mod plan;
 mod root;
-mod search;
-mod subtree;
 
 pub use error::InsertError;
 pub use h5w_bt::Key;
 pub use index::TreeIndex;
-pub use inner::{Inner, count};
-pub use leaf::Leaf;
 pub use plan::Begun;
 pub use root::Root;
-pub use subtree::Subtree;

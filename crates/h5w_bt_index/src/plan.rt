@@ -1,17 +1,19 @@
 //! The plan of a tree's changed nodes.
 
-ghost use Rattle.std.specs.Prelude.{◌≡◌, ℕ, ◌+◌, ◌<◌, ◌≤◌, ◌^◌, [], length, IfErr, IfOk, OnErr, OnOk, vec_capacity};
+ghost use Rattle.std.specs.Prelude.{◌≡◌, ℕ, ◌+◌, ◌<◌, ◌≤◌, ◌^◌, ◌++◌, ◌∷◌, [], length, IfErr, IfOk, OnErr, OnOk, vec_capacity};
 ghost use Rattle.std.specs.List.{All};
 ghost use Rattle.h5w_cache.specs.Plans.{IfFull, IsRefused};
+ghost use Rattle.h5w_model.specs.Trees.{bthd_bytes};
 ghost use Rattle.h5w_bt.specs.Fields.{bthd_of};
+ghost use Rattle.h5w_bt.specs.Parts.{IsHeader};
 ghost use Rattle.h5w_bt_index.specs.Index.{IsShaped, index_of};
-ghost use Rattle.h5w_bt_index.specs.Plans.{AllRead, AreNodeMoves, AreTaken, HasNoPlace, IsBegun, IsNodeMove, TookSome, changes, header_writes, news, olds, planned, stood, writes_of, written};
+ghost use Rattle.h5w_bt_nodes.specs.Blocks.{AllRead, changes, stood, writes_of, written};
+ghost use Rattle.h5w_bt_index.specs.Plans.{AreNodeMoves, AreTaken, HasNoPlace, IsBegun, IsNodeMove, TookSome, header_writes, news, olds, planned};
 
-use crate::bytes::put_header;
 use crate::root::Root;
 use h5w_bt::{Bthd, Child, NODE};
 use h5w_cache::{Move, Plan, PlanError, retire_all, take_place};
-use h5w_model::{OutOfMemory, Write};
+use h5w_model::{OutOfMemory, Piece, Write};
 use h5w_space::{Full, Places};
 use std::alloc::Global;
 use std::marker::Model;
@@ -123,6 +125,20 @@ fn header(depth: u64, root: Child) -> Bthd
         records: root.records,
         total: root.total,
     }
+}
+
+/// Adds the write of a header at its place.
+fn put_header(place: u64, header: Bthd, out: &mut Vec<Write>) -> Result<(), OutOfMemory>
+    requires { IsHeader (bthd_of header) }
+    ensures { OnOk result (out.new.items ≡ out.old.items ++ record { at = place; piece = bthd_bytes (bthd_of header) } ∷ []) }
+{
+    let mut bytes = [0; Bthd::LEN];
+    header.encode(&mut bytes);
+    out.push(Write {
+        at: place,
+        piece: Piece::of(&bytes),
+    })?;
+    Ok(())
 }
 
 /// The writes of the changed nodes at these places, and of the header.

@@ -13,9 +13,9 @@ use Rattle.h5w_model.proofs.CheckedLemmas.{AllPass, checked-passed}
 use Rattle.h5w_model.proofs.NumberLemmas.{field-lt}
 use Rattle.h5w_bt.specs.declared.records.Record.{Record}
 use Rattle.h5w_bt.specs.Parts.{IsHeader, record_of}
-use Rattle.h5w_bt_index.specs.Nodes.{Tree, total_of}
+use Rattle.h5w_bt_nodes.specs.Nodes.{Tree, total_of}
 use Rattle.h5w_bt_index.specs.Marks.{IsMarked, clean_of}
-use Rattle.h5w_bt_index.specs.Sound.{IsShapedChild}
+use Rattle.h5w_bt_nodes.specs.Shapes.{IsShapedChild}
 use Rattle.h5w_bt_open.specs.declared.span.Span.{Span}
 use Rattle.h5w_bt_open.specs.Opened.{AreWhole, IsChild, IsHeld, IsLeafIn, IsOpened, IsRead, counted_node, nowhere_below, passed_of, said, told_under, with_total}
 

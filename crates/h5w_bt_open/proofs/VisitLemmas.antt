@@ -16,9 +16,10 @@ use Rattle.h5w_laws.proofs.ResultLemmas.{and_then_ok, choice_ok, then_ok}
 use Rattle.h5w_laws.proofs.ReachLemmas.{node_ok}
 use Rattle.h5w_bt.specs.declared.records.Record.{Record}
 use Rattle.h5w_bt.specs.Parts.{record_of}
-use Rattle.h5w_bt_index.specs.Nodes.{Tree, all_records, joined}
-use Rattle.h5w_bt_index.specs.Sound.{IsRising, IsShape, IsShapedChild, IsSound}
-use Rattle.h5w_bt_index.specs.Puts.{changed_node, counted}
+use Rattle.h5w_bt_nodes.specs.Nodes.{Tree, all_records, joined}
+use Rattle.h5w_bt_nodes.specs.Shapes.{IsShape, IsShapedChild}
+use Rattle.h5w_bt_index.specs.Sound.{IsRising, IsSound}
+use Rattle.h5w_bt_nodes.specs.Puts.{changed_node, counted}
 use Rattle.h5w_bt_index.specs.Index.{keys_of, records}
 use Rattle.h5w_bt_index.proofs.Grown.{total_is}
 use Rattle.h5w_bt_index.proofs.Keys.{below-trans}

@@ -5,7 +5,7 @@ use Rattle.h5w_model.specs.Trees.{capacity_of, node_size}
 use Rattle.h5w_model.specs.declared.cell.Key.{Key}
 use Rattle.h5w_space.specs.Space.{extent}
 use Rattle.h5w_space.specs.declared.Extent.{Extent}
-use Rattle.h5w_bt_index.specs.Nodes.{Tree}
+use Rattle.h5w_bt_nodes.specs.Nodes.{Tree}
 use Rattle.h5w_bt_index.specs.Sound.{IsRising, IsSound}
 use Rattle.h5w_bt_index.specs.Index.{Index, IsIndex, IsShaped, records}
 use Rattle.h5w_bt_index.specs.Held.{view_of}

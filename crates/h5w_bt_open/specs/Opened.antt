@@ -11,10 +11,10 @@ use Rattle.h5w_model.specs.declared.refusal.ReadError.{ReadError}
 use Rattle.h5w_model.specs.declared.refusal.ReadError.TheVariants.{Damaged}
 use Rattle.h5w_bt.specs.declared.records.Record.{Record}
 use Rattle.h5w_bt.specs.Parts.{record_of}
-use Rattle.h5w_bt_index.specs.Nodes.{Tree}
+use Rattle.h5w_bt_nodes.specs.Nodes.{Tree}
 use Rattle.h5w_bt_index.specs.Marks.{IsMarked, clean_of}
-use Rattle.h5w_bt_index.specs.Puts.{counted}
-use Rattle.h5w_bt_index.specs.Sound.{IsShape, IsShapedChild}
+use Rattle.h5w_bt_nodes.specs.Puts.{counted}
+use Rattle.h5w_bt_nodes.specs.Shapes.{IsShape, IsShapedChild}
 use Rattle.h5w_bt_index.specs.Index.{Index, no_tree}
 use Rattle.h5w_bt_open.specs.declared.span.Span.{Span}
 use Rattle.h5w_bt_open.specs.Spans.{IsKey, high_of, low_behind, low_of, rest, span_here}

@@ -3,15 +3,16 @@
 ghost use Rattle.std.specs.Prelude.{◌≡◌, ◌≤◌, ◌++◌, ◌↔◌, IsTrue, OnOk, map};
 ghost use Rattle.std.specs.List.{All};
 ghost use Rattle.h5w_model.specs.Trees.{capacity_of};
-ghost use Rattle.h5w_bt_index.specs.Nodes.{all_records, joined};
-ghost use Rattle.h5w_bt_index.specs.Sound.{IsShape, IsShapedChild, IsSound};
+ghost use Rattle.h5w_bt_nodes.specs.Nodes.{all_records, joined};
+ghost use Rattle.h5w_bt_nodes.specs.Shapes.{IsShape, IsShapedChild};
+ghost use Rattle.h5w_bt_index.specs.Sound.{IsSound};
 ghost use Rattle.h5w_bt_open.specs.Needed.{needed_ranges, node_extent, of_each};
 ghost use Rattle.h5w_bt_open.specs.Spans.{high_of, low_of};
 
 use crate::load::node_len;
 use crate::span::{Span, high_of, low_behind, low_of, span_at};
 use h5w_bt::Record;
-use h5w_bt_index::{Inner, Leaf, Subtree, count};
+use h5w_bt_nodes::{Inner, Leaf, Subtree, count};
 use h5w_bytes::UNDEFINED;
 use h5w_model::OutOfMemory;
 use h5w_space::Extent;

@@ -181,8 +181,21 @@ $ append f --no-reuse
 => rows 6
 => rows 7
 => closed 7
+& f f 184=ecaafe1d 256=51e988ed 554=cb47db7c 574=05000000 724=a9beaa9c 728=06000000 878=22df5ef6 882=07000000 1032=53543cd6
 $ check f
 => valid rows 7 chunks 7 blocks 6 end 1036 lost 300
+
+# cells without a row have the fill
+$ new f --type i16be --chunk 4 --fill 258
+=> new end 564
+$ append f
+1
+=> rows 1
+=> closed 1
+& f f 564=0001010201020102
+$ poll f --values
+=> rows 1
+=> 1
 
 # lines outside the grammar, and values outside the type
 $ new f --type i32le --chunk 2

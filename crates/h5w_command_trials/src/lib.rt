@@ -1,15 +1,11 @@
-//! Trials of the whole program in memory, of files that change between looks, and of its edge to the system. There are only tests
-//! here, so that no crate is proved once more for them.
+//! Trials of the whole program in memory, row by row, and of files that change between looks. There are only tests here, so that no crate
+//! is proved once more for them.
 #![tactic(auto)]
 
 #[cfg(test)]
 mod appends;
 #[cfg(test)]
-mod changing;
-#[cfg(test)]
 mod early;
-#[cfg(test)]
-mod edges;
 #[cfg(test)]
 mod files;
 #[cfg(test)]
@@ -25,13 +21,13 @@ mod new_files;
 #[cfg(test)]
 mod reopened;
 #[cfg(test)]
+mod restless;
+#[cfg(test)]
 mod rows;
 #[cfg(test)]
 mod steps;
 #[cfg(test)]
 mod stops;
-#[cfg(test)]
-mod torn;
 #[cfg(test)]
 mod trees;
 #[cfg(test)]

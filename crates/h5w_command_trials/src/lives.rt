@@ -102,47 +102,78 @@ $ live --type i8 --chunk 2 --readers 1 --polls 10001
 = 2
 ";
 
-/// The rows of a call's line where the first values are 1 to 4 and the first three were flushed together; None where it tells others.
-fn rows_told(line: &str) -> Option<u64> {
-    let (_, told) = line.split_once(" rows ")?;
-    match told {
-        "0 sum 0" => Some(0),
-        "3 sum 6" => Some(3),
-        "4 sum 10" => Some(4),
-        _ => None,
-    }
-}
+/// A run of two readers with three calls each beside its input: the words, the input, the lines of its flushes, what a call may find after
+/// none, the first and the second of them, and the last line.
+type Run = (
+    &'static str,
+    &'static str,
+    &'static str,
+    [&'static str; 3],
+    &'static str,
+);
 
-/// Panics where a run of two readers beside the batches 1 2 3 and 4 is told otherwise than by these lines of its flushes, what readers may
-/// find, and all rows.
-fn check_flushes<R: Threads + Wait + Sync + Abort + AllocGlobal>(
-    rt: &R,
-    words: &str,
-    flushes: &str,
-) -> Result<(), Fail> {
-    let mut disk = MemDisk::with_faults(rt.alloc(), &[])?;
-    let step = step_of(rt, "1 2 3\n-\n4")?;
-    let (status, text) = ran(rt, words, &step, &mut disk)?;
-    assert_eq!(rt; status, 0);
-    let text = text.strip_prefix(flushes).ok_or("flushes")?;
-    let text = text.strip_suffix("done 4\n").ok_or("all rows")?;
-    assert_eq!(rt; text.split('\n').count(), 7);
+// An empty batch has no line. A chunk of 512 rows has four pieces, which are there before its flush where the budget is 1,024 bytes. Rows of
+// three columns: the first flush writes two chunks, the tree's leaf in four pieces, the superblock, the tree's header and the dataset's, 9
+// pieces behind the 4 of the creation; the second writes the cells of a row in these chunks, two more, and then the same.
+const RUNS: [Run; 3] = [
+    (
+        " live --type i32le --readers 2 --polls 3 --chunk 2",
+        "1 2 3\n-\n-\n4",
+        "flush 11 3\nflush 13 4\n",
+        ["0 sum 0", "3 sum 6", "4 sum 10"],
+        "done 4\n",
+    ),
+    (
+        " live --type i32le --readers 2 --polls 3 --chunk 512 --budget 1024",
+        "1 2 3\n-\n4",
+        "flush 13 3\nflush 15 4\n",
+        ["0 sum 0", "3 sum 6", "4 sum 10"],
+        "done 4\n",
+    ),
+    (
+        " live --type i32le --readers 2 --polls 3 --chunk 2 --columns 3 --width 2",
+        "1 2 3\n-\n4 5 6\n7 8 9",
+        "flush 13 1\nflush 24 3\n",
+        ["0 sum 0", "1 sum 6", "3 sum 45"],
+        "done 3\n",
+    ),
+];
+
+/// Whether six lines are two readers' calls, of which each finds no less than its reader's one before.
+fn are_calls(text: &str, finds: &[&str]) -> bool {
     let mut seen = 0;
     for (k, line) in text.split('\n').take(6).enumerate() {
         let begin = if k < 3 { "poll 1 " } else { "poll 2 " };
-        assert!(rt; line.starts_with(begin), "{line}");
-        let rows = rows_told(line).ok_or("other rows")?;
-        assert!(rt; k == 3 || seen <= rows, "{line}");
-        seen = rows;
+        let (first, found) = line.split_once(" rows ").unwrap_or(("", ""));
+        let Some(place) = finds.iter().position(|it| *it == found) else {
+            return false;
+        };
+        if !first.starts_with(begin) || (k != 3 && place < seen) {
+            return false;
+        }
+        seen = place;
     }
+    text.split('\n').count() == 7
+}
+
+/// Panics where a run is told otherwise.
+fn check_run<R: Threads + Wait + Sync + Abort + AllocGlobal>(
+    rt: &R,
+    (words, input, flushes, finds, done): Run,
+) -> Result<(), Fail> {
+    let mut disk = MemDisk::new(rt.alloc());
+    let step = step_of(rt, input)?;
+    let (status, text) = ran(rt, words, &step, &mut disk)?;
+    let calls = text.strip_prefix(flushes).ok_or("flushes")?;
+    let calls = calls.strip_suffix(done).ok_or("all rows")?;
+    assert!(rt; status == 0 && are_calls(calls, &finds), "{text}");
     Ok(())
 }
 
-// a chunk of 512 rows has four pieces, which are there before its flush where the budget is 1,024 bytes
 #[test]
 fn batches_are_flushed_beside_readers(rt: HostRuntime) -> Result<(), Fail> {
-    let words = " live --type i32le --readers 2 --polls 3 --chunk 2";
-    check_flushes(&rt, words, "flush 11 3\nflush 13 4\n")?;
-    let words = " live --type i32le --readers 2 --polls 3 --chunk 512 --budget 1024";
-    check_flushes(&rt, words, "flush 13 3\nflush 15 4\n")
+    for run in RUNS {
+        check_run(&rt, run)?;
+    }
+    Ok(())
 }

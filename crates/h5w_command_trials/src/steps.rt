@@ -144,18 +144,30 @@ pub fn bytes_of(rt: &impl AllocGlobal, words: &str) -> Result<Vec<u8>, Fail> {
     Ok(bytes)
 }
 
-/// The bytes of a file of the disk with others from some places on; its name comes first.
-pub fn changed(rt: &impl AllocGlobal, disk: &MemDisk, told: &str) -> Result<Vec<u8>, Fail> {
-    let (name, changes) = told.split_once(' ').unwrap_or((told, ""));
-    let mut bytes = Vec::from_slice(rt.alloc(), disk.file(name).ok_or("a file")?)?;
-    for change in changes.split(' ') {
-        let (place, words) = change.split_once('=').ok_or("a place")?;
-        let place: usize = place.parse()?;
-        for (byte, new) in bytes.iter_mut().skip(place).zip(&bytes_of(rt, words)?) {
-            *byte = *new;
-        }
+/// Writes other bytes from a place on, as a word tells them.
+fn change(rt: &impl AllocGlobal, bytes: &mut [u8], told: &str) -> Result<(), Fail> {
+    let (place, words) = told.split_once('=').ok_or("a place")?;
+    let place: usize = place.parse()?;
+    let new = bytes_of(rt, words)?;
+    for (byte, new) in bytes.iter_mut().skip(place).zip(&new) {
+        *byte = *new;
+    }
+    Ok(())
+}
+
+/// These bytes with others from some places on.
+pub fn changed(rt: &impl AllocGlobal, of: &[u8], changes: &str) -> Result<Vec<u8>, Fail> {
+    let mut bytes = Vec::from_slice(rt.alloc(), of)?;
+    for told in changes.split(' ') {
+        change(rt, &mut bytes, told)?;
     }
     Ok(bytes)
+}
+
+/// The bytes of a file of the disk with others from some places on; its name comes first.
+fn changed_file(rt: &impl AllocGlobal, disk: &MemDisk, told: &str) -> Result<Vec<u8>, Fail> {
+    let (name, changes) = told.split_once(' ').unwrap_or((told, ""));
+    changed(rt, disk.file(name).ok_or("a file")?, changes)
 }
 
 /// The name and the bytes of the file that a line tells, if it does.
@@ -171,7 +183,7 @@ fn file_of<'a>(
     match kind {
         "+" => Ok(Some((name, Vec::from_slice(rt.alloc(), rest.as_bytes())?))),
         "%" => Ok(Some((name, bytes_of(rt, rest)?))),
-        "&" => Ok(Some((name, changed(rt, disk, rest)?))),
+        "&" => Ok(Some((name, changed_file(rt, disk, rest)?))),
         _ => Ok(None),
     }
 }
@@ -282,17 +294,21 @@ fn check_rows<R: Threads + Wait + Sync + Abort + AllocGlobal>(
 
 #[test]
 fn rows_are_answered(rt: HostRuntime) -> Result<(), Fail> {
-    check_rows(&rt, ROWS)?;
-    check_rows(&rt, TYPE_ROWS)?;
-    check_rows(&rt, FILE_ROWS)?;
-    check_rows(&rt, NAMED_ROWS)?;
-    check_rows(&rt, NEW_ROWS)?;
-    check_rows(&rt, TREE_ROWS)?;
-    check_rows(&rt, FIXED_ROWS)?;
-    check_rows(&rt, APPEND_ROWS)?;
-    check_rows(&rt, EARLY_ROWS)?;
-    check_rows(&rt, REOPENED_ROWS)?;
-    check_rows(&rt, STOP_ROWS)?;
-    check_rows(&rt, LIVE_ROWS)?;
+    for rows in [
+        ROWS,
+        TYPE_ROWS,
+        FILE_ROWS,
+        NAMED_ROWS,
+        NEW_ROWS,
+        TREE_ROWS,
+        FIXED_ROWS,
+        APPEND_ROWS,
+        EARLY_ROWS,
+        REOPENED_ROWS,
+        STOP_ROWS,
+        LIVE_ROWS,
+    ] {
+        check_rows(&rt, rows)?;
+    }
     Ok(())
 }

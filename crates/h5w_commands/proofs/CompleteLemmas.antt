@@ -19,7 +19,7 @@ use Rattle.h5w_running.specs.Runs.{asked_by}
 use Rattle.h5w_running.specs.declared.ended.Ended.{Ended}
 use Rattle.h5w_running.specs.declared.ended.Ended.TheVariants as ends
 use Rattle.h5w_running.proofs.EndLemmas.{ends_well}
-use Rattle.h5w_commands.specs.Runs.{Does, DoesWhole, EndsWith, Ran, RanWhole}
+use Rattle.h5w_commands.specs.Runs.{DoesInside, DoesWhole, EndsWith, RanInside, RanWhole}
 use Rattle.h5w_commands.proofs.MakeLemmas.{makes_whole}
 use Rattle.h5w_commands.proofs.ReportLemmas.{stops_whole}
 use Rattle.h5w_commands.proofs.AppendEndLemmas.{appends_whole}
@@ -64,7 +64,7 @@ plays_whole g Sink s t k l p = λ h source sink. absurd (sink p.rose)
 plays_whole g Memory s t k l p = λ h source sink. inr refl
 
 -- a job
-pub does_whole : (job : Job) (status : Status) (s t : SourceView) (k l : SinkView) (v w : DiskView) → Does job status s t k l v w → DoesWhole job status s t k l v w
+pub does_whole : (job : Job) (status : Status) (s t : SourceView) (k l : SinkView) (v w : DiskView) → DoesInside job status s t k l v w → DoesWhole job status s t k l v w
 does_whole (Play options attempts) status s t k l v w does = plays_whole (rules_for options attempts) status s t k l does.0
 does_whole (New file options) status s t k l v w does = creates_whole file options status does.1
 does_whole (Check file names) status s t k l v w does = checks_whole file names status does.1
@@ -75,12 +75,12 @@ does_whole (Append file name limit budget keeps) status s t k l v w does = appen
 does_whole (Live options readers polls attempts mirrors) status s t k l v w does = absurd does
 does_whole (Stop options) status s t k l v w does = stops_whole options status does.0
 
-ended_whole : (job : Job) (ended : Ended) (s t : SourceView) (k l : SinkView) (v w : DiskView) → EndsWith (λ status. Does job status s t k l v w) ended → EndsWith (λ status. DoesWhole job status s t k l v w) ended
+ended_whole : (job : Job) (ended : Ended) (s t : SourceView) (k l : SinkView) (v w : DiskView) → EndsWith (λ status. DoesInside job status s t k l v w) ended → EndsWith (λ status. DoesWhole job status s t k l v w) ended
 ended_whole job (ends.With status) s t k l v w does = does_whole job status s t k l v w does
 ended_whole job (ends.Image worn) s t k l v w does = absurd does
 
 -- a run, by its words
-pub ran_whole : (o : Option Job) (ended : Ended) (s t : SourceView) (k l : SinkView) (v w : DiskView) → Ran o ended s t k l v w → RanWhole o ended s t k l v w
+pub ran_whole : (o : Option Job) (ended : Ended) (s t : SourceView) (k l : SinkView) (v w : DiskView) → RanInside o ended s t k l v w → RanWhole o ended s t k l v w
 ran_whole None ended s t k l v w ran = tt
 ran_whole (Some (Play options attempts)) ended s t k l v w ran = ended_whole (Play options attempts) ended s t k l v w ran
 ran_whole (Some (New file options)) ended s t k l v w ran = ended_whole (New file options) ended s t k l v w ran

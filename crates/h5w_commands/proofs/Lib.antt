@@ -11,3 +11,4 @@ pub mod ShowingLemmas
 pub mod WritingLemmas
 pub mod TakingLemmas
 pub mod ReportLemmas
+pub mod InsideLemmas

@@ -23,7 +23,7 @@ use Rattle.h5w_running.specs.Ends.{LiveEnds}
 use Rattle.h5w_running.specs.declared.ended.Ended.{Ended}
 use Rattle.h5w_running.specs.declared.ended.Ended.TheVariants as outcomes
 use Rattle.h5w_running.proofs.EndLemmas.{error_ends}
-use Rattle.h5w_commands.specs.Runs.{Does, IsPlain, Ran}
+use Rattle.h5w_commands.specs.Runs.{DoesInside, IsPlain, RanInside}
 use Rattle.h5w_commands.specs.Plays.{Begun, Finished, HasFirst, Plays}
 use Rattle.h5w_text.specs.declared.status.Status.{Status}
 use Rattle.h5w_text.specs.declared.status.Status.TheVariants.{Done, Usage, Missing, Exists, Format, Damaged, Flags, Again, Input, Limit, Disk, Source, Sink, Memory}
@@ -93,7 +93,7 @@ runs_at g h e x s t k l p q r = subst (λ (h : Rules). Runs {A = Unit {0}} h (Er
 -- ---- Words
 
 -- memory was refused before the words were known
-pub ran_wanting : (o : Option Job) (status : Status) (s : SourceView) (k l : SinkView) (v : DiskView) → Said (error_text errors.Memory) Memory status k l → Ran o (outcomes.With status) s s k l v v
+pub ran_wanting : (o : Option Job) (status : Status) (s : SourceView) (k l : SinkView) (v : DiskView) → Said (error_text errors.Memory) Memory status k l → RanInside o (outcomes.With status) s s k l v v
 ran_wanting None status s k l v said = record { unread = refl; disk = refl; told = inr said }
 ran_wanting (Some (Play options attempts)) status s k l v said =
     let g = rules_for options attempts in (ends_said g Memory status (error_text errors.Memory) s s k k l (λ e. cc) (leaves_first g s k) said, refl)
@@ -107,10 +107,10 @@ ran_wanting (Some (Live options readers polls attempts mirrors)) status s k l v 
 ran_wanting (Some (Stop options)) status s k l v said = (stops_nothing options status said, refl)
 
 -- the words are outside the command set
-pub ran_outside : (o : Option Job) (status : Status) (s : SourceView) (k l : SinkView) (v : DiskView) → o ≡ None → Said (error_text errors.Usage) Usage status k l → Ran o (outcomes.With status) s s k l v v
-ran_outside o status s k l v e said = subst (λ (x : Option Job). Ran x (outcomes.With status) s s k l v v) (sym e) (record { unread = refl; disk = refl; told = inl said })
+pub ran_outside : (o : Option Job) (status : Status) (s : SourceView) (k l : SinkView) (v : DiskView) → o ≡ None → Said (error_text errors.Usage) Usage status k l → RanInside o (outcomes.With status) s s k l v v
+ran_outside o status s k l v e said = subst (λ (x : Option Job). RanInside x (outcomes.With status) s s k l v v) (sym e) (record { unread = refl; disk = refl; told = inl said })
 
-does_run : (job : Job) (status : Status) (s t : SourceView) (k l : SinkView) (v w : DiskView) → Does job status s t k l v w → Ran (Some job) (outcomes.With status) s t k l v w
+does_run : (job : Job) (status : Status) (s t : SourceView) (k l : SinkView) (v w : DiskView) → DoesInside job status s t k l v w → RanInside (Some job) (outcomes.With status) s t k l v w
 does_run (Play options attempts) status s t k l v w does = does
 does_run (New file options) status s t k l v w does = does
 does_run (Check file names) status s t k l v w does = does
@@ -121,8 +121,8 @@ does_run (Append file name limit budget keeps) status s t k l v w does = does
 does_run (Live options readers polls attempts mirrors) status s t k l v w does = absurd does
 does_run (Stop options) status s t k l v w does = does
 
-pub ran_job : (o : Option Job) (job : Job) (status : Status) (s t : SourceView) (k l : SinkView) (v w : DiskView) → o ≡ Some job → Does job status s t k l v w → Ran o (outcomes.With status) s t k l v w
-ran_job o job status s t k l v w e does = subst (λ (x : Option Job). Ran x (outcomes.With status) s t k l v w) (sym e) (does_run job status s t k l v w does)
+pub ran_job : (o : Option Job) (job : Job) (status : Status) (s t : SourceView) (k l : SinkView) (v w : DiskView) → o ≡ Some job → DoesInside job status s t k l v w → RanInside o (outcomes.With status) s t k l v w
+ran_job o job status s t k l v w e does = subst (λ (x : Option Job). RanInside x (outcomes.With status) s t k l v w) (sym e) (does_run job status s t k l v w does)
 
 -- a job that runs nothing in threads
 pub is_plain : (job : Job) → ((options : Options) (readers polls attempts mirrors : ℕ) → job ≡ Live options readers polls attempts mirrors → ⊥) → IsPlain job
@@ -138,8 +138,8 @@ is_plain (Stop options) other = tt
 
 -- a run in threads
 pub ran_live : (o : Option Job) (job : Job) (options : Options) (readers polls attempts mirrors : ℕ) (ended : Ended) (s t : SourceView) (k l : SinkView) (v : DiskView) → o ≡ Some job → job ≡ Live options readers polls attempts mirrors
-    → LiveEnds (asked_by options readers polls attempts mirrors) ended s t k l → Ran o ended s t k l v v
-ran_live o job options readers polls attempts mirrors ended s t k l v e is live = subst (λ (x : Option Job). Ran x ended s t k l v v) (sym (e ∙ ap Some is)) (live, refl)
+    → LiveEnds (asked_by options readers polls attempts mirrors) ended s t k l → RanInside o ended s t k l v v
+ran_live o job options readers polls attempts mirrors ended s t k l v e is live = subst (λ (x : Option Job). RanInside x ended s t k l v v) (sym (e ∙ ap Some is)) (live, refl)
 
 pub not_wanting : (e : WordsError) (P : Type 0) → e ≡ WordsError.Usage → (e ≡ WordsError.OutOfMemory) ⊎ P → P
 not_wanting e P is (inl wanting) = let clash : WordsError.Usage ≡ WordsError.OutOfMemory = sym is ∙ wanting in absurd (cc)

@@ -10,6 +10,7 @@ use Rattle.h5w_text.specs.declared.status.Status.{Status}
 use Rattle.h5w_text.specs.declared.status.Status.TheVariants as statuses
 use Rattle.h5w_files.specs.Ends.{EndsWell}
 use Rattle.h5w_appending.specs.Appends.{AppendEnds}
+use Rattle.h5w_appending.specs.Tells.{TellsEnd}
 use Rattle.h5w_appending.specs.Creates.{CreateEnds, end_of}
 use Rattle.h5w_files.specs.Checks.{CheckEnds, check_of}
 use Rattle.h5w_files.specs.Polls.{PollEnds, poll_of}
@@ -19,12 +20,12 @@ use Rattle.h5w_core.specs.Worlds.{rules_for}
 use Rattle.h5w_words.specs.declared.job.Job.{Job}
 use Rattle.h5w_words.specs.declared.job.Job.TheVariants.{Play, New, Check, Poll, Clear, Make, Append, Live, Stop}
 use Rattle.h5w_running.specs.Runs.{asked_by}
-use Rattle.h5w_running.specs.Ends.{LiveEnds, LiveEndsWell}
+use Rattle.h5w_running.specs.Ends.{LiveEnds, LiveEndsWell, LiveTells}
 use Rattle.h5w_running.specs.declared.ended.Ended.{Ended}
 use Rattle.h5w_running.specs.declared.ended.Ended.TheVariants as ends
 use Rattle.h5w_commands.specs.Plays.{Completes, Plays}
 use Rattle.h5w_commands.specs.Makes.{MakeEnds, MakeEndsWell}
-use Rattle.h5w_commands.specs.Stops.{StopEnds, StopEndsWell}
+use Rattle.h5w_commands.specs.Stops.{StopEnds, StopEndsWell, StopTells}
 use Rattle.h5w_commands.specs.Appending.{AppendEndsWell}
 
 -- the job waits for nobody
@@ -41,9 +42,21 @@ Does (Check file names) status s t k l v w = (t ≡ s) × CheckEnds file names v
 Does (Poll file name times attempts values) status s t k l v w = (t ≡ s) × PollEnds file name times attempts values v w status k l
 Does (Clear file upgrade) status s t k l v w = (t ≡ s) × ClearEnds file upgrade v w status k l
 Does (Make count seed) status s t k l v w = (t ≡ s) × (w ≡ v) × MakeEnds count seed status k l
-Does (Append file name limit budget keeps) status s t k l v w = AppendEnds file name limit budget keeps s t v w status k l
+Does (Append file name limit budget keeps) status s t k l v w = TellsEnd file name limit s t v w status k l
 Does (Live options readers polls attempts mirrors) status s t k l v w = ⊥
-Does (Stop options) status s t k l v w = StopEnds options status s t k l × (w ≡ v)
+Does (Stop options) status s t k l v w = StopTells options status s t k l × (w ≡ v)
+
+-- The same, with what an append and a script of a writer alone leave told by the state of their session, too.
+abbrev pub DoesInside : Job → Status → SourceView → SourceView → SinkView → SinkView → DiskView → DiskView → Type 0
+DoesInside (Play options attempts) status s t k l v w = Plays (rules_for options attempts) status s t k l × (w ≡ v)
+DoesInside (New file options) status s t k l v w = (t ≡ s) × CreateEnds file options v w status k l
+DoesInside (Check file names) status s t k l v w = (t ≡ s) × CheckEnds file names v w status k l
+DoesInside (Poll file name times attempts values) status s t k l v w = (t ≡ s) × PollEnds file name times attempts values v w status k l
+DoesInside (Clear file upgrade) status s t k l v w = (t ≡ s) × ClearEnds file upgrade v w status k l
+DoesInside (Make count seed) status s t k l v w = (t ≡ s) × (w ≡ v) × MakeEnds count seed status k l
+DoesInside (Append file name limit budget keeps) status s t k l v w = AppendEnds file name limit budget keeps s t v w status k l
+DoesInside (Live options readers polls attempts mirrors) status s t k l v w = ⊥
+DoesInside (Stop options) status s t k l v w = StopEnds options status s t k l × (w ≡ v)
 
 -- the words are outside the command set: nothing is read, no file is looked at, and that is said
 pub record Refuses (status : Status) (s t : SourceView) (k l : SinkView) (v w : DiskView) : Type 0 where
@@ -59,8 +72,14 @@ EndsWith Leaves (ends.Image worn) = ⊥
 -- What a run leaves, by the job of its words. One in threads leaves the disk as it is.
 abbrev pub Ran : Option Job → Ended → SourceView → SourceView → SinkView → SinkView → DiskView → DiskView → Type 0
 Ran None ended s t k l v w = EndsWith (λ status. Refuses status s t k l v w) ended
-Ran (Some (Live options readers polls attempts mirrors)) ended s t k l v w = LiveEnds (asked_by options readers polls attempts mirrors) ended s t k l × (w ≡ v)
+Ran (Some (Live options readers polls attempts mirrors)) ended s t k l v w = LiveTells (asked_by options readers polls attempts mirrors) ended s t k l × (w ≡ v)
 Ran (Some job) ended s t k l v w = EndsWith (λ status. Does job status s t k l v w) ended
+
+-- the same, with the state of sessions
+abbrev pub RanInside : Option Job → Ended → SourceView → SourceView → SinkView → SinkView → DiskView → DiskView → Type 0
+RanInside None ended s t k l v w = EndsWith (λ status. Refuses status s t k l v w) ended
+RanInside (Some (Live options readers polls attempts mirrors)) ended s t k l v w = LiveEnds (asked_by options readers polls attempts mirrors) ended s t k l × (w ≡ v)
+RanInside (Some job) ended s t k l v w = EndsWith (λ status. DoesInside job status s t k l v w) ended
 
 -- a job is done, or memory is wanted, where nothing else stands in its way; the file of an append may have no place
 abbrev pub DoesWhole : Job → Status → SourceView → SourceView → SinkView → SinkView → DiskView → DiskView → Type 0

@@ -25,7 +25,7 @@ use Rattle.h5w_files.specs.Ends.{EndsBy}
 use Rattle.h5w_batches.specs.Inputs.{AreAll, input_limit}
 use Rattle.h5w_commands.specs.Plays.{AreFirst}
 use Rattle.h5w_core.specs.Worlds.{WorldView}
-use Rattle.h5w_commands.specs.Writing.{Follows, HasDone, Refuses, first_error, writing_line_of, writing_rules}
+use Rattle.h5w_commands.specs.Writing.{Follows, HasDone, LacksPlace, LacksRoom, Refuses, RefusesBy, Rooms, first_error, writing_line_of, writing_rules}
 
 -- ---- What readers find
 
@@ -80,14 +80,17 @@ pub record IsOutside (o : Options) (s : SourceView) (number : ℕ) : Type 0 wher
   pub first : AreFirst (lines ++ line ∷ []) s
 
 -- The lines before this one were done, and it is refused.
-pub record IsRefused (o : Options) (s : SourceView) (e : ErrorLine) : Type 0 where
+pub record IsRefusedBy (Lacks : Rooms) (o : Options) (s : SourceView) (e : ErrorLine) : Type 0 where
   pub lines : List (List ℕ)
   pub done : AreDone o lines
   pub bytes : List ℕ
   pub line : Line
   pub spelled : writing_line_of (writing_rules o) bytes ≡ Some line
   pub first : AreFirst (lines ++ bytes ∷ []) s
-  pub refused : Refuses o done.script (length lines + 1) line e
+  pub refused : RefusesBy Lacks o done.script (length lines + 1) line e
+
+abbrev pub IsRefused : Options → SourceView → ErrorLine → Type 0
+IsRefused = IsRefusedBy LacksPlace
 
 -- The source had more bytes than an input may have, where it tells them; the lines that end among so many first ones were done.
 pub record IsTooLong (o : Options) (s : SourceView) (limit : ℕ) : Type 0 where
@@ -105,15 +108,18 @@ pub record HasFailed (o : Options) (s t : SourceView) : Type 0 where
   pub done : AreDone o (whole_lines_of taken)
 
 -- why there is no report
+abbrev pub StopRefusesBy : Rooms → Options → SourceView → SourceView → ErrorLine → Type 0
+StopRefusesBy Lacks o s t (errors.Line number) = IsOutside o s number
+StopRefusesBy Lacks o s t (errors.Range number index value) = IsRefusedBy Lacks o s (errors.Range number index value)
+StopRefusesBy Lacks o s t (errors.Input limit) = IsTooLong o s limit
+StopRefusesBy Lacks o s t (errors.FullChunks chunks limit) = IsRefusedBy Lacks o s (errors.FullChunks chunks limit)
+StopRefusesBy Lacks o s t (errors.FullSpace at size limit) = IsRefusedBy Lacks o s (errors.FullSpace at size limit)
+StopRefusesBy Lacks o s t errors.Source = HasFailed o s t
+StopRefusesBy Lacks o s t errors.Memory = Unit {0}
+StopRefusesBy Lacks o s t e = ⊥
+
 abbrev pub StopRefuses : Options → SourceView → SourceView → ErrorLine → Type 0
-StopRefuses o s t (errors.Line number) = IsOutside o s number
-StopRefuses o s t (errors.Range number index value) = IsRefused o s (errors.Range number index value)
-StopRefuses o s t (errors.Input limit) = IsTooLong o s limit
-StopRefuses o s t (errors.FullChunks chunks limit) = IsRefused o s (errors.FullChunks chunks limit)
-StopRefuses o s t (errors.FullSpace at size limit) = IsRefused o s (errors.FullSpace at size limit)
-StopRefuses o s t errors.Source = HasFailed o s t
-StopRefuses o s t errors.Memory = Unit {0}
-StopRefuses o s t e = ⊥
+StopRefuses = StopRefusesBy LacksPlace
 
 -- ---- Line by line
 
@@ -155,10 +161,18 @@ SweepsTo o s t text = (report : List Run) × Sweeps o s t report × (text ≡ fl
 -- ---- How the command ends
 
 -- the lines of the report, or the line of an error
-abbrev pub StopsTo : Options → SourceView → SourceView → Result (List Run) ErrorLine → List ℕ → Type 0
-StopsTo o s t (Ok report) text = Sweeps o s t report × (text ≡ flat_map run_text report)
-StopsTo o s t (Err e) text = StopRefuses o s t e × (text ≡ error_text e)
+abbrev pub StopsBy : Rooms → Options → SourceView → SourceView → Result (List Run) ErrorLine → List ℕ → Type 0
+StopsBy Lacks o s t (Ok report) text = Sweeps o s t report × (text ≡ flat_map run_text report)
+StopsBy Lacks o s t (Err e) text = StopRefusesBy Lacks o s t e × (text ≡ error_text e)
 
+abbrev pub StopsTo : Options → SourceView → SourceView → Result (List Run) ErrorLine → List ℕ → Type 0
+StopsTo = StopsBy LacksPlace
+
+-- in words of the log alone
+abbrev pub StopTells : Options → Status → SourceView → SourceView → SinkView → SinkView → Type 0
+StopTells o status s t k l = EndsBy {A = List Run} (λ answer text. StopsBy LacksRoom o s t answer text) status k l
+
+-- by the session's own state
 abbrev pub StopEnds : Options → Status → SourceView → SourceView → SinkView → SinkView → Type 0
 StopEnds o status s t k l = EndsBy {A = List Run} (λ answer text. StopsTo o s t answer text) status k l
 

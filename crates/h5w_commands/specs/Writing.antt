@@ -138,11 +138,30 @@ pub record LacksPlace (o : Options) (lines : List Line) (full : Full) : Type 0 w
   pub size_bound : full.size ≤ load (writing_rules o).cutting log
   pub at_bound : full.at ≤ 1024 + spent (writing_rules o).cutting log + load (writing_rules o).cutting log
 
--- why a line of this number is refused behind others
+-- the same in words of the log alone
+pub record LacksRoom (o : Options) (lines : List Line) (full : Full) : Type 0 where
+  pub log : Log
+  pub is : log ≡ log_of (new_file o) log.events
+  pub done : HasDone o lines log.events
+  pub limit : full.limit ≡ o.limit
+  pub some : 1 ≤ full.size
+  pub past : full.limit < full.at + full.size
+  pub size_bound : full.size ≤ load (writing_rules o).cutting log
+  pub at_bound : full.at ≤ 1024 + spent (writing_rules o).cutting log + load (writing_rules o).cutting log
+
+-- by what has no place behind some lines
+abbrev pub Rooms : Type 1
+Rooms = Options → List Line → Full → Type 0
+
+-- why a line of this number is refused behind others; what it means that there is no place is told by a relation
+abbrev pub RefusesBy : Rooms → Options → List Line → ℕ → Line → ErrorLine → Type 0
+RefusesBy Lacks o lines number line (errors.Line n) = (n ≡ number) × (writing line ≡ None)
+RefusesBy Lacks o lines number line (errors.Range n index value) = line_error (writing_rules o) (rest_of (writing_rules o) no_rows lines) number line ≡ Some (errors.Range n index value)
+RefusesBy Lacks o lines number line (errors.FullChunks chunks limit) = line_error (writing_rules o) (rest_of (writing_rules o) no_rows lines) number line ≡ Some (errors.FullChunks chunks limit)
+RefusesBy Lacks o lines number line (errors.FullSpace at size limit) = (line ≡ flushes) × Lacks o lines (record { at = at; size = size; limit = limit })
+RefusesBy Lacks o lines number line errors.Memory = Unit {0}
+RefusesBy Lacks o lines number line e = ⊥
+
+-- by the session's own state
 abbrev pub Refuses : Options → List Line → ℕ → Line → ErrorLine → Type 0
-Refuses o lines number line (errors.Line n) = (n ≡ number) × (writing line ≡ None)
-Refuses o lines number line (errors.Range n index value) = line_error (writing_rules o) (rest_of (writing_rules o) no_rows lines) number line ≡ Some (errors.Range n index value)
-Refuses o lines number line (errors.FullChunks chunks limit) = line_error (writing_rules o) (rest_of (writing_rules o) no_rows lines) number line ≡ Some (errors.FullChunks chunks limit)
-Refuses o lines number line (errors.FullSpace at size limit) = (line ≡ flushes) × LacksPlace o lines (record { at = at; size = size; limit = limit })
-Refuses o lines number line errors.Memory = Unit {0}
-Refuses o lines number line e = ⊥
+Refuses = RefusesBy LacksPlace

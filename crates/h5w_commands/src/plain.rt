@@ -1,6 +1,6 @@
 //! The commands that wait for nobody.
 ghost use Rattle.h5w_batches.specs.Inputs.{SameSource};
-ghost use Rattle.h5w_commands.specs.Runs.{Does, DoesWhole, IsPlain};
+ghost use Rattle.h5w_commands.specs.Runs.{Does, DoesInside, DoesWhole, IsPlain};
 ghost use Rattle.h5w_words.specs.Limits.{IsWithinLimits};
 
 use crate::make::make;
@@ -25,6 +25,7 @@ pub fn plain<S: Source, K: Sink, D: Disk>(
     requires limits { IsWithinLimits job.now }
     requires waits { IsPlain job.now }
     ensures does { Does job.now result (S.view source.old) (S.view source.new) (K.view sink.old) (K.view sink.new) (D.view disk.old) (D.view disk.new) }
+    ensures inside { DoesInside job.now result (S.view source.old) (S.view source.new) (K.view sink.old) (K.view sink.new) (D.view disk.old) (D.view disk.new) }
     ensures completes { DoesWhole job.now result (S.view source.old) (S.view source.new) (K.view sink.old) (K.view sink.new) (D.view disk.old) (D.view disk.new) }
     ensures source { SameSource (S.view source.old) (S.view source.new) }
 {

@@ -2,7 +2,7 @@
 ghost use Rattle.std.specs.Prelude.{map, string_bytes};
 ghost use Rattle.h5w_words.specs.Commands.{job_of};
 ghost use Rattle.h5w_batches.specs.Inputs.{SameSource};
-ghost use Rattle.h5w_commands.specs.Runs.{Ran, RanWhole};
+ghost use Rattle.h5w_commands.specs.Runs.{Ran, RanInside, RanWhole};
 
 use crate::plain::plain;
 use h5w_image::{Disk, Gate};
@@ -26,6 +26,7 @@ pub fn run<R: Threads + Wait + Sync, S: Source, K: Sink, D: Disk, G: Gate>(
     gate: &G,
 ) -> Ended
     ensures ran { Ran (job_of (map string_bytes words.now)) result (S.view source.old) (S.view source.new) (K.view sink.old) (K.view sink.new) (D.view disk.old) (D.view disk.new) }
+    ensures inside { RanInside (job_of (map string_bytes words.now)) result (S.view source.old) (S.view source.new) (K.view sink.old) (K.view sink.new) (D.view disk.old) (D.view disk.new) }
     ensures completes { RanWhole (job_of (map string_bytes words.now)) result (S.view source.old) (S.view source.new) (K.view sink.old) (K.view sink.new) (D.view disk.old) (D.view disk.new) }
     ensures source { SameSource (S.view source.old) (S.view source.new) }
 {

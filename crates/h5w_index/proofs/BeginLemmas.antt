@@ -29,7 +29,7 @@ use Rattle.h5w_flush_laws.specs.Parts.{SaysInPlace}
 use Rattle.h5w_flush_laws.proofs.KnownLaws.{begin_knows}
 use Rattle.h5w_bt_index.specs.Marks.{clean_of}
 use Rattle.h5w_bt_index.specs.Index.{Index, address_of}
-use Rattle.h5w_bt_index.specs.Plans.{place_of as node_place}
+use Rattle.h5w_bt_nodes.specs.Blocks.{place_of as node_place}
 use Rattle.h5w_tree_index_laws.specs.TreeImages.{IsRead, behind_of, blocks_in_place, node_range}
 use Rattle.h5w_tree_index_laws.specs.TreeFlushes.{TreeStands, header_range}
 use Rattle.h5w_tree_index_laws.proofs.TreeHeaderLemmas.{header_says, names_again, part_range, tree_left}

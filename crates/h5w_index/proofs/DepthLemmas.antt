@@ -7,13 +7,13 @@ use Rattle.h5w_model.specs.declared.piece.Write.{Write}
 use Rattle.h5w_space.specs.Space.{Space}
 use Rattle.h5w_cache.specs.declared.moves.Move.{Move}
 use Rattle.h5w_bt.specs.declared.records.Record.{Record}
-use Rattle.h5w_bt_index.specs.Nodes.{address_in}
+use Rattle.h5w_bt_nodes.specs.Nodes.{address_in}
 use Rattle.h5w_bt_index.specs.Index.{Index, IsFilled, IsIndex, IsThere, inserted, no_tree, records}
 use Rattle.h5w_bt_index.specs.Plans.{news, planned as planned_tree}
 use Rattle.h5w_bt_index.proofs.Keys.{equal-is}
 use Rattle.h5w_bt_index.proofs.Laws.{inserted-records}
 use Rattle.h5w_bt_index.proofs.Placed.{planned_shares}
-use Rattle.h5w_bt_index.proofs.Records.{put-finds_other}
+use Rattle.h5w_bt_index.proofs.Rising.{put-finds_other}
 use Rattle.h5w_bt_index.proofs.Shares.{filled_kept}
 use Rattle.h5w_tree_index_laws.specs.TreeDepths.{KeysWithin}
 use Rattle.h5w_tree_index_laws.proofs.TreeDepthLemmas.{deep_is_many, within_is_few}

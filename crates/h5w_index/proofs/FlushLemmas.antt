@@ -39,7 +39,8 @@ use Rattle.h5w_bt.specs.Parts.{record_of}
 use Rattle.h5w_bt_index.specs.Marks.{clean_of}
 use Rattle.h5w_bt_index.specs.Index.{Index, IsIndex}
 use Rattle.h5w_bt_index.proofs.Placed.{placed_clean, planned_index}
-use Rattle.h5w_bt_index.specs.Plans.{IsTreePlan, header_of, header_writes, news, written}
+use Rattle.h5w_bt_nodes.specs.Blocks.{written}
+use Rattle.h5w_bt_index.specs.Plans.{IsTreePlan, header_of, header_writes, news}
 use Rattle.h5w_tree_index_laws.specs.TreeFlushes.{IsTreePart, TreeRests, header_range}
 use Rattle.h5w_tree_index_laws.proofs.TreeHeaderLemmas.{header_long}
 use Rattle.h5w_tree_index_laws.proofs.TreePlanLemmas.{moves_taken}

@@ -16,7 +16,8 @@ use Rattle.h5w_cache.specs.declared.moves.Move.{Move}
 use Rattle.h5w_flush_laws.specs.Parts.{block_ranges, block_writes}
 use Rattle.h5w_bt_index.specs.Marks.{clean_of}
 use Rattle.h5w_bt_index.specs.Index.{Index, IsIndex}
-use Rattle.h5w_bt_index.specs.Plans.{AreNodeMoves, HasNoPlace, IsTreePlan, changes, header_of, header_writes, news, written}
+use Rattle.h5w_bt_nodes.specs.Blocks.{changes, written}
+use Rattle.h5w_bt_index.specs.Plans.{AreNodeMoves, HasNoPlace, IsTreePlan, header_of, header_writes, news}
 use Rattle.h5w_tree_index_laws.specs.TreeFlushes.{fresh}
 use Rattle.h5w_tree_index_laws.proofs.TreeLaws.{copies_are}
 use Rattle.h5w_index.specs.Marks.{FullBound, IsRaised, PlanBound, TreeMarked}

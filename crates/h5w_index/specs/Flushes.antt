@@ -20,7 +20,8 @@ use Rattle.h5w_flush_laws.specs.Knowledge.{HeldMissed, Knows}
 use Rattle.h5w_flush_laws.specs.Flushes.{IsBegun}
 use Rattle.h5w_flush_laws.specs.Parts.{Parts, AreEnded, IsFlush, block_ranges, block_writes, flushed_to, pieces_of}
 use Rattle.h5w_flush_laws.specs.Rows.{ArePlaced}
-use Rattle.h5w_bt_index.specs.Plans.{news, written}
+use Rattle.h5w_bt_nodes.specs.Blocks.{written}
+use Rattle.h5w_bt_index.specs.Plans.{news}
 use Rattle.h5w_tree_index_laws.specs.TreeImages.{AreSame}
 use Rattle.h5w_index.specs.Views.{IndexView, an_array, a_tree, IsClean, IsSound, StandsOn, Stays, address_in, behind_of, fixed_of, header_place, kind_of}
 use Rattle.h5w_index.specs.Steps.{IsPlan}

@@ -12,7 +12,7 @@ use Rattle.h5w_chunks.specs.Shares.{touched, touched_key}
 use Rattle.h5w_array_laws.specs.Parts.{holder}
 use Rattle.h5w_ea_index.specs.Steps.{OnWay}
 use Rattle.h5w_bt_index.specs.Index.{Index}
-use Rattle.h5w_bt_index.specs.Plans.{changes}
+use Rattle.h5w_bt_nodes.specs.Blocks.{changes}
 use Rattle.h5w_tree_index_laws.specs.TreeMarks.{HasChanged}
 use Rattle.h5w_index.specs.Views.{IndexView, an_array, a_tree, IsClean, IsSound}
 use Rattle.h5w_index.specs.Steps.{HasNoPlace, IsHeld, IsPlan, IsSet, IsUnset}

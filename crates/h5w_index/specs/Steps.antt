@@ -16,9 +16,10 @@ use Rattle.h5w_array_laws.specs.ArrayPlans.{IsArrayPlan}
 use Rattle.h5w_ea_index.specs.Steps as slots
 use Rattle.h5w_ea_index.specs.Reach.{KeepsReach, max_index_set}
 use Rattle.h5w_bt.specs.declared.records.Record.{Record}
-use Rattle.h5w_bt_index.specs.Nodes.{address_in}
+use Rattle.h5w_bt_nodes.specs.Nodes.{address_in}
 use Rattle.h5w_bt_index.specs.Index as trees
 use Rattle.h5w_bt_index.specs.Index.{Index, IsReplaced, inserted, records}
+use Rattle.h5w_bt_nodes.specs.Blocks.{changes}
 use Rattle.h5w_bt_index.specs.Plans as nodes
 use Rattle.h5w_index.specs.Views.{IndexView, an_array, a_tree}
 use Rattle.h5w_index.specs.declared.begun.Begun.{Begun}
@@ -135,7 +136,7 @@ pub record ArrayNoPlace (v : Store) (s : Space) (e : Full) : Type 0 where
 -- the first block in turn that has no place
 abbrev pub HasNoPlace : IndexView → Space → Full → Type 0
 HasNoPlace (an_array v) s e = ArrayNoPlace v s e
-HasNoPlace (a_tree p v) s e = nodes.HasNoPlace (nodes.changes v.depth v.root) s e
+HasNoPlace (a_tree p v) s e = nodes.HasNoPlace (changes v.depth v.root) s e
 
 -- what changed is written: copies at new places, then the blocks in place
 abbrev pub IsPlan : IndexView → Space → List Move → List Write → List Write → IndexView → Space → Type 0

@@ -1,4 +1,5 @@
-//! Trials of runs in threads: with ample memory, through the gate, over batches that are refused, in two dimensions, and with a second image.
+//! Trials of runs in threads: through gates that hold an actor until another has come, and with a second image. There are only tests here,
+//! so that no crate is proved once more for them.
 #![tactic(auto)]
 
 #[cfg(test)]
@@ -7,7 +8,3 @@ mod gates;
 mod helpers;
 #[cfg(test)]
 mod mirrors;
-#[cfg(test)]
-mod runs;
-#[cfg(test)]
-mod wide;

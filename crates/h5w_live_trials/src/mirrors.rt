@@ -1,17 +1,14 @@
-//! Runs with a second image.
-use crate::helpers::run_mirrored;
-use h5w_image::{Gate, OpenGate};
+//! A run with a second image.
+
+use crate::helpers::{report_of, wait_for};
+use h5w_image::Gate;
 use h5w_live::LiveReport;
 use h5w_model::Poll;
 use std::alloc::Global;
 use std::sync::Wait;
 use std::sync::atomic::{AtomicBool, Ordering};
 use std::test::Fail;
-use std::thread;
 use std::thread::Threads;
-
-/// How often the second image's reader looks whether the follower has come.
-const PATIENCE: u32 = 10_000_000;
 
 /// The reader of the second image waits behind its first call until that image has 11 pieces: 5 of the creation, and 6 of the flush.
 #[derive(Drop)]
@@ -24,67 +21,54 @@ struct Following {
 impl Gate for Following {
     fn turn(&self, actor: u32, number: u64) {
         match (actor, number) {
-            (2, 1) => {
-                for _ in 0..PATIENCE {
-                    if self.came.load(Ordering::SeqCst) {
-                        return;
-                    }
-                    thread::yield_now();
-                }
-                self.late.store(true, Ordering::SeqCst);
-            }
+            (2, 1) => wait_for(&self.came, &self.late),
             (3, 11) => self.came.store(true, Ordering::SeqCst),
             _ => {}
         }
     }
 }
 
-/// The report of a run of the batch 1 2 3 through the gate, of a reader of each image with two calls.
-fn report_of<R: Threads + Wait + Sync, G: Gate>(
-    rt: &R,
-    alloc: Global,
-    gate: &G,
-) -> Result<LiveReport, Fail> {
-    let batches: [&[i128]; 1] = [&[1, 2, 3]];
-    match run_mirrored(rt, alloc, &batches, 2, gate)? {
-        Ok(report) => Ok(report),
-        Err(_) => Err("the run was refused".into()),
+/// Of a run of one flush and a reader of each image: the readers of the calls, the pieces behind which the last one ended, and its rows and
+/// their sum.
+type Run = ([u32; 4], u64, u64, i128);
+
+fn told(report: &LiveReport) -> Option<Run> {
+    let ([_], [first, second, third, last]) = (report.flushes.as_slice(), report.polls.as_slice())
+    else {
+        return None;
+    };
+    match last.answer {
+        Poll::Rows { rows, sum } => {
+            let readers = [first.reader, second.reader, third.reader, last.reader];
+            Some((readers, last.after, rows, sum))
+        }
+        _ => None,
     }
 }
 
-// With a writer that sends nothing, or a follower that stops at once, the second image has no flush before all readers have ended.
-#[test]
-fn a_second_image_has_the_flush_while_the_readers_poll(rt: HostRuntime) -> Result<(), Fail> {
+/// What a run tells whose second image's reader waits, how many pieces its journal has, and whether the reader waited in vain.
+fn followed<R: Threads + Wait + Sync>(
+    rt: &R,
+    alloc: Global,
+) -> Result<(bool, u64, Option<Run>), Fail> {
     let gate = Following {
         came: AtomicBool::new(false),
         late: AtomicBool::new(false),
     };
-    let report = report_of(&rt, rt.alloc(), &gate)?;
-    assert!(rt; !gate.late.load(Ordering::SeqCst));
-    let polls = report.polls.as_slice();
-    assert_eq!(rt; polls.len(), 4);
-    let last = polls[3];
-    assert_eq!(rt; (last.reader, last.poll, last.after), (2, 2, 11));
-    assert!(rt; matches!(last.answer, Poll::Rows { rows: 3, sum: 6 }));
-    Ok(())
+    let batches: [&[i128]; 1] = [&[1, 2, 3]];
+    let report = report_of(rt, alloc, 2, 65_536, &batches, 1, 1, &gate)?;
+    Ok((
+        gate.late.load(Ordering::SeqCst),
+        report.journal.len(),
+        told(&report),
+    ))
 }
 
-// The journal has the pieces of the creation, of the flush and of the close, one more than the last flush tells.
+// With a writer that sends nothing, or a follower that stops at once, the second image has no flush before all readers have ended. The journal
+// has the pieces of the creation, of the flush and of the close, one more than the flush tells.
 #[test]
-fn a_run_with_a_second_image_reports_all_pieces(rt: HostRuntime) -> Result<(), Fail> {
-    let report = report_of(&rt, rt.alloc(), &OpenGate)?;
-    assert_eq!(rt; report.journal.len(), 12);
-    assert_eq!(rt; report.flushes.as_slice().len(), 1);
-    let readers = report.polls.as_slice();
-    assert_eq!(rt; readers.len(), 4);
-    assert_eq!(rt;
-        (
-            readers[0].reader,
-            readers[1].reader,
-            readers[2].reader,
-            readers[3].reader
-        ),
-        (1, 1, 2, 2)
-    );
+fn a_second_image_has_the_flush_while_the_readers_poll(rt: HostRuntime) -> Result<(), Fail> {
+    let found = followed(&rt, rt.alloc())?;
+    assert_eq!(rt; found, (false, 12, Some(([1, 1, 2, 2], 11, 3, 6))));
     Ok(())
 }

@@ -1,83 +1,58 @@
 -- A piece behind which a block, or a chunk's range, goes on.
 use Rattle.std.proofs.Common.{◌≡◌, ℕ, min, length, List, Option, Some, None, Result, refl, sym, ◌∙◌, ap}
-use Rattle.std.specs.Prelude.{◌≢◌, option_map, IsSome, ℤ, Box}
-use Rattle.std.specs.declared.alloc.Global.{Global}
+use Rattle.std.specs.Prelude.{◌≢◌, option_map, IsSome, ℤ}
 use Rattle.h5w_model.specs.Programs.{Prog, bind, fed}
 use Rattle.h5w_model.specs.Tables.{Reading}
 use Rattle.h5w_model.specs.Calls.{CallRules}
-use Rattle.h5w_model.specs.Unfinished.{Unfinished, rows_left, values_left, fed_left, wanted}
+use Rattle.h5w_model.specs.Unfinished.{rows_left, values_left, fed_left, wanted}
 use Rattle.h5w_model.specs.declared.refusal.ReadError.{ReadError}
-use Rattle.h5w_reader.specs.Attempts.{known_of, rules_of}
+use Rattle.h5w_lookup.specs.Attempts.{known_of, rules_of, looking_up}
 use Rattle.h5w_reader.specs.Bands.{reading_with}
 use Rattle.h5w_reader.specs.Calling.{confirm_rest}
-use Rattle.h5w_reader.specs.Descents.{waiting, after_next}
-use Rattle.h5w_reader.specs.Gathering.{gathering}
+use Rattle.h5w_lookup.specs.Gathering.{gathering}
 use Rattle.h5w_reader.specs.Grids.{grid_given}
 use Rattle.h5w_reader.specs.Gridding.{grid_left}
 use Rattle.h5w_reader.specs.Readers.{left_of, reads_left}
-use Rattle.h5w_reader.specs.Seeking.{wait_given}
-use Rattle.h5w_reader.specs.Stores.{kept}
 use Rattle.h5w_reader.specs.Values.{band_rest, reading_values}
 use Rattle.h5w_reader.specs.declared.behind.Behind.TheVariants as behind_by
 use Rattle.h5w_reader.specs.declared.call.Call.{Call}
 use Rattle.h5w_reader.specs.declared.call.Call.TheVariants as calls
-use Rattle.h5w_reader.specs.declared.descent.Waiting.{Waiting}
-use Rattle.h5w_reader.specs.declared.gather.Gather.{Gather}
+use Rattle.h5w_lookup.specs.declared.gather.Gather.{Gather}
 use Rattle.h5w_reader.specs.declared.grid.Beside.{Beside}
 use Rattle.h5w_reader.specs.declared.grid.Grid.{Grid}
-use Rattle.h5w_reader.specs.declared.known.Known.{Known}
+use Rattle.h5w_lookup.specs.declared.known.Known.{Known}
 use Rattle.h5w_reader.specs.declared.stage.Attempt.{Attempt}
 use Rattle.h5w_reader.specs.declared.stage.Stage.TheVariants as stages
-use Rattle.h5w_reader.specs.declared.table.Lookup.TheVariants as lookup_by
+use Rattle.h5w_lookup.specs.declared.table.Lookup.{Lookup}
 use Rattle.h5w_reader.specs.declared.values.Ranged.{Ranged}
 use Rattle.h5w_reader.specs.declared.values.Span.{Span}
 use Rattle.h5w_reader.specs.declared.values.Reads.{Reads}
 use Rattle.h5w_reader.specs.declared.values.Reads.TheVariants as reads_by
 use Rattle.h5w_reader.proofs.CallLemmas.{fed_bind}
-use Rattle.h5w_reader.proofs.DescentLemmas.{waiting_wants}
-use Rattle.h5w_reader.proofs.PieceLemmas.{fed_gather}
+use Rattle.h5w_lookup.proofs.LookLemmas.{TookUp, range_goes, lookup_looks}
 use Rattle.h5w_reader.proofs.StageLemmas.{rows_want, values_want}
-
--- a range that took up these bytes
-pub record TookUp (g h : Gather) (b : List ℕ) : Type 0 where
-  pub left : gathering h ≡ fed b (gathering g)
-  pub start : h.start ≡ g.start
-
--- what follows it goes on as the range does
-range_goes : {A : Type 0} (g h : Gather) (b : List ℕ) (f : ℕ → List ℕ → Prog A) → TookUp g h b → bind (gathering h) (f h.start) ≡ fed b (bind (gathering g) (f g.start))
-range_goes g h b f t =
-    ap (λ n. bind (gathering h) (f n)) t.start
-    ∙ ap (λ (p : Prog (List ℕ)). bind p (f g.start)) t.left
-    ∙ sym (fed_gather g.place g.rest g.got.items b (f g.start) g.more)
 
 -- ---- A block on the way to a chunk
 
-abbrev waiting_by : CallRules → Waiting → Gather → Prog (Result Reading ReadError)
-waiting_by g w h = bind (gathering h) (wait_given (kept w.descent.store) w.wait (after_next g w.descent))
+-- the call of an attempt that looks up addresses
+abbrev pub lookup_call : Attempt → Lookup → Option Call
+lookup_call a l = Some (calls.Rows (stages.Behind a (behind_by.Lookup l)))
 
--- the way's call, once what is gathered is this
-abbrev pub block_left : ℕ → List ℕ → Option Known → Attempt → Waiting → Gather → Option Unfinished
-block_left most name k a w h =
+pub lookup_goes : (most : ℕ) (name : List ℕ) (k : Option Known) (call : Option Call) (a : Attempt) (l m : Lookup) (b : List ℕ) → call ≡ lookup_call a l → ((g : CallRules) → looking_up g m ≡ fed b (looking_up g l))
+    → left_of most name k (lookup_call a m) ≡ option_map (fed_left b) (left_of most name k call)
+lookup_goes most name k call a l m b e t =
     let g = rules_of a.rules (known_of k) in
-    Some (rows_left (bind (waiting_by g w h) (confirm_rest g a.more a.view)))
-
-abbrev pub block_call : Attempt → Box Waiting Global → Option Call
-block_call a w = Some (calls.Rows (stages.Behind a (behind_by.Lookup (lookup_by.Block w))))
-
-pub block_goes : (most : ℕ) (name : List ℕ) (k : Option Known) (call : Option Call) (a : Attempt) (x : Box Waiting Global) (h : Gather) (b : List ℕ) → call ≡ block_call a x → TookUp x.value.gather h b
-    → block_left most name k a x.value h ≡ option_map (fed_left b) (left_of most name k call)
-block_goes most name k call a x h b e t =
-    let w = x.value in
-    let g = rules_of a.rules (known_of k) in
-    let next : List ℕ → Prog (Result Reading ReadError) = wait_given (kept w.descent.store) w.wait (after_next g w.descent) in
     let rest : Result Reading ReadError → Prog (Result Reading ReadError) = confirm_rest g a.more a.view in
-    ap (λ (p : Prog (Result Reading ReadError)). Some (rows_left (bind p rest))) (range_goes w.gather h b (λ n. next) t)
-    ∙ ap (λ (p : Prog (Result Reading ReadError)). Some (rows_left p)) (sym (fed_bind (waiting g w) rest b (w.gather.place, min 512 w.gather.rest) (waiting_wants g w (min 512 w.gather.rest) refl)))
+    let x = lookup_looks g l in
+    ap (λ (p : Prog (Result Reading ReadError)). Some (rows_left (bind p rest))) (t g)
+    ∙ ap (λ (p : Prog (Result Reading ReadError)). Some (rows_left p)) (sym (fed_bind (looking_up g l) rest b x.look x.next))
     ∙ ap (λ c. option_map (fed_left b) (left_of most name k c)) (sym e)
 
-pub block_same : (most : ℕ) (name : List ℕ) (k : Option Known) (call : Option Call) (a : Attempt) (w : Box Waiting Global) (h : Gather) → call ≡ block_call a w → h ≡ w.value.gather
-    → block_left most name k a w.value h ≡ left_of most name k call
-block_same most name k call a w h e same = ap (block_left most name k a w.value) same ∙ ap (left_of most name k) (sym e)
+pub lookup_same : (most : ℕ) (name : List ℕ) (k : Option Known) (call : Option Call) (a : Attempt) (l m : Lookup) → call ≡ lookup_call a l → ((g : CallRules) → looking_up g m ≡ looking_up g l)
+    → left_of most name k (lookup_call a m) ≡ left_of most name k call
+lookup_same most name k call a l m e t =
+    let g = rules_of a.rules (known_of k) in
+    ap (λ (p : Prog (Result Reading ReadError)). Some (rows_left (bind p (confirm_rest g a.more a.view)))) (t g) ∙ ap (left_of most name k) (sym e)
 
 -- ---- A chunk's range
 

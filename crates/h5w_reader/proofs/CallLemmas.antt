@@ -15,16 +15,18 @@ use Rattle.h5w_model.specs.declared.root.Super.{Super}
 use Rattle.h5w_model.specs.declared.refusal.HeaderError.{HeaderError}
 use Rattle.h5w_model.specs.declared.refusal.ReadError.{ReadError}
 use Rattle.h5w_model.specs.declared.refusal.ReadError.TheVariants as read_errors
-use Rattle.h5w_reader.specs.Looks.{plain, IsWithinLook}
+use Rattle.h5w_lookup.specs.Looks.{plain, IsWithinLook}
 use Rattle.h5w_reader.specs.Walking.{messages_of, chunk_0_rest}
 use Rattle.h5w_reader.specs.Opening.{root_messages}
-use Rattle.h5w_reader.specs.Attempts.{reader_limits, described_rest, rules_of}
-use Rattle.h5w_reader.specs.declared.stage.Came.{Came}
-use Rattle.h5w_reader.specs.declared.stage.Came.TheVariants as came_by
+use Rattle.h5w_lookup.specs.Attempts.{reader_limits, described_rest, rules_of}
+use Rattle.h5w_lookup.specs.declared.news.News.{News}
+use Rattle.h5w_lookup.specs.declared.outcome.Outcome.{Outcome}
+use Rattle.h5w_lookup.specs.declared.outcome.Outcome.TheVariants as outcomes
+use Rattle.h5w_reader.specs.declared.stage.Stage.{Stage}
 use Rattle.h5w_reader.specs.Calling.{came, place_rest, behind_rest, messages_rest, differs, attempt_rest, confirm_rest, confirm_given, rows_rest, rows_given}
 use Rattle.h5w_laws.specs.Programs.{IsUnstored}
 use Rattle.h5w_laws.proofs.AnswerLemmas.{unstored_place, unstored_dataset_messages, unstored_and_then}
-use Rattle.h5w_reader.proofs.PieceLemmas.{plain_bind}
+use Rattle.h5w_lookup.proofs.PieceLemmas.{plain_bind, then_assoc}
 use Rattle.h5w_reader.proofs.UnstoredLemmas.{unstored_plain, unstored_then}
 
 -- ---- One program after another
@@ -45,13 +47,6 @@ fed_bind (stored kind at len next) f b l e = absurd cc
 -- a look of that length
 pub fits_bind : {A B : Type 0} (p : Prog A) (f : A → Prog B) (n : ℕ) (l : ℕ × ℕ) → next_look p ≡ Some l → IsWithinLook (next_look (bind p f)) n → IsWithinLook (next_look p) n
 fits_bind p f n l e h = subst (λ x. IsWithinLook x n) (wants_bind p f l e ∙ sym e) h
-
-pub then_assoc : {A B C E : Type 0} (p : Prog (Result A E)) (f : A → Prog (Result B E)) (g : B → Prog (Result C E)) → and_then (and_then p f) g ≡ and_then p (λ a. and_then (f a) g)
-then_assoc (ret (Ok a)) f g = refl
-then_assoc (ret (Err e)) f g = refl
-then_assoc (whole at len next) f g = ap (whole at len) (λ i b. then_assoc (next b) f g i)
-then_assoc (counted at counts next) f g = ap (counted at counts) (λ i b. then_assoc (next b) f g i)
-then_assoc (stored kind at len next) f g = ap (stored kind at len) (λ i b. then_assoc (next b) f g i)
 
 after : {A B E : Type 0} → (A → Prog (Result B E)) → Result A E → Prog (Result B E)
 after f r = elim r [ Ok a ↦ f a | Err e ↦ ret (Err e) ]
@@ -236,8 +231,8 @@ rows_given_is g b = refl
 -- ---- A refusal that may be want of memory
 
 -- one that is none is the answer
-pub refused_is : {E : Type 0} (most : ℕ) (name : List ℕ) (known : Option Reading) (r : Result Came E) (f : ReadError) (p : Prog (Result Reading ReadError))
-    → IfOk r (λ c. c ≡ came_by.Answer (Err f)) → IfOk r (λ c. f ≢ read_errors.OutOfMemory) → (f ≢ read_errors.OutOfMemory → p ≡ ret (Err f))
+pub refused_is : {E : Type 0} (most : ℕ) (name : List ℕ) (known : Option Reading) (r : Result (Outcome News Stage) E) (f : ReadError) (p : Prog (Result Reading ReadError))
+    → IfOk r (λ c. c ≡ outcomes.Refused f) → IfOk r (λ c. f ≢ read_errors.OutOfMemory) → (f ≢ read_errors.OutOfMemory → p ≡ ret (Err f))
     → IfOk r (λ c. came most name known c ≡ p)
 refused_is most name known (Ok c) f p h other e = ap (came most name known) h ∙ sym (e other)
 refused_is most name known (Err g) f p h other e = h

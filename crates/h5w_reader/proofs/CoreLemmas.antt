@@ -8,18 +8,18 @@ use Rattle.h5w_model.specs.Headers.{header_view}
 use Rattle.h5w_model.specs.Calls.{open_call, rows_call, values_call}
 use Rattle.h5w_model.specs.Unfinished.{rows_left, values_left, Reader, fed_left, rows_program, values_program}
 use Rattle.h5w_model.specs.declared.refusal.ReadError.{ReadError}
-use Rattle.h5w_reader.specs.Attempts.{reader_limits, reading_of, known_of, rules_of}
+use Rattle.h5w_lookup.specs.Attempts.{reader_limits, reading_of, known_of, rules_of}
 use Rattle.h5w_reader.specs.Calling.{stage_left, came}
 use Rattle.h5w_reader.specs.Idle.{IsIdle}
 use Rattle.h5w_reader.specs.Values.{reading_values}
 use Rattle.h5w_reader.specs.Readers.{reader_rules, new_reader, reader_of, left_of, reads_left}
-use Rattle.h5w_reader.specs.Descents.{reading_news}
-use Rattle.h5w_reader.specs.declared.known.Known.{Known}
-use Rattle.h5w_reader.specs.declared.known.Rules.{Rules}
-use Rattle.h5w_reader.specs.declared.news.News.{News}
+use Rattle.h5w_lookup.specs.Descents.{reading_news}
+use Rattle.h5w_lookup.specs.declared.known.Known.{Known}
+use Rattle.h5w_lookup.specs.declared.known.Rules.{Rules}
+use Rattle.h5w_lookup.specs.declared.news.News.{News}
 use Rattle.h5w_reader.specs.declared.stage.Stage.{Stage}
 use Rattle.h5w_reader.specs.declared.stage.Stage.TheVariants as stages
-use Rattle.h5w_reader.specs.declared.stage.Came.TheVariants as came_by
+use Rattle.h5w_lookup.specs.declared.outcome.Outcome.TheVariants as outcomes
 use Rattle.h5w_reader.specs.declared.values.Reads.{Reads}
 use Rattle.h5w_reader.specs.declared.call.Call.{Call}
 use Rattle.h5w_reader.specs.declared.call.Call.TheVariants as calls
@@ -60,7 +60,7 @@ pub read_begun : (k : Option Known) (known : Known) (reads : Reads) (from count 
 read_begun k known reads from count e some h =
     ap (λ x. reads_left x reads) e ∙ ap (λ p. Some (values_left p)) (h ∙ sym (program_read k known from count e some))
 
-pub found_rows : (most : ℕ) (name b : List ℕ) (k : Option Known) (call : Option Call) (s : Stage) (news : News) → call ≡ Some (calls.Rows s) → came most name (known_of k) (came_by.Answer (Ok news)) ≡ fed b (stage_left most name (known_of k) s)
+pub found_rows : (most : ℕ) (name b : List ℕ) (k : Option Known) (call : Option Call) (s : Stage) (news : News) → call ≡ Some (calls.Rows s) → came most name (known_of k) (outcomes.Done news) ≡ fed b (stage_left most name (known_of k) s)
     → option_map (fed_left b) (left_of most name k call) ≡ Some (rows_left (ret (Ok (reading_news (known_of k) news))))
 found_rows most name b k call s news e h = ap (λ x. option_map (fed_left b) (left_of most name k x)) e ∙ ap (λ p. Some (rows_left p)) (sym h)
 

@@ -10,7 +10,7 @@ use Rattle.h5w_model.specs.Datasets.{Described}
 use Rattle.h5w_model.specs.Tables.{Reading, each_of, chunks_across}
 use Rattle.h5w_model.specs.Calls.{chunk_range, first_in_band, last_in_band, value_from, values_from, values_call}
 use Rattle.h5w_model.specs.declared.refusal.ReadError.{ReadError}
-use Rattle.h5w_reader.specs.Looks.{plain}
+use Rattle.h5w_lookup.specs.Looks.{plain}
 use Rattle.h5w_reader.specs.Bands.{rows_in_band, end_band}
 use Rattle.h5w_reader.specs.Grids.{grid_value, row_values, rows_values, grid_values, chunks_from, grids_from, bands_rest}
 use Rattle.h5w_reader.proofs.BandLemmas.{band_begins, band_behind, band_ends, band_next, band_of, range_split, map_alike}

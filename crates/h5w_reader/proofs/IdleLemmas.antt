@@ -14,13 +14,13 @@ use Rattle.h5w_model.specs.declared.refusal.ReadError.{ReadError}
 use Rattle.h5w_model.specs.declared.refusal.ReadError.TheVariants.{Shrunk, TooManyChunks}
 use Rattle.h5w_laws.proofs.AnswerLemmas.{unstored_dataset}
 use Rattle.h5w_laws.proofs.NumberLemmas.{needed_count}
-use Rattle.h5w_reader.specs.Looks.{plain, with_store}
-use Rattle.h5w_reader.specs.Slots.{answered}
-use Rattle.h5w_reader.specs.Seen.{answer_of, IsHeaderOf}
+use Rattle.h5w_lookup.specs.Looks.{plain, with_store}
+use Rattle.h5w_lookup.specs.Slots.{answered}
+use Rattle.h5w_lookup.specs.Seen.{answer_of, IsHeaderOf}
 use Rattle.h5w_reader.specs.Calling.{behind_rest}
 use Rattle.h5w_reader.specs.Idle.{IsIdle}
 use Rattle.h5w_reader.proofs.UnstoredLemmas.{unstored_then}
-use Rattle.h5w_reader.proofs.TableLemmas.{lacks_none, table_if}
+use Rattle.h5w_lookup.proofs.TableLemmas.{lacks_none, table_if}
 
 -- ---- Answers
 

@@ -9,11 +9,11 @@ use Rattle.h5w_model.specs.declared.message.Prefix.{Prefix}
 use Rattle.h5w_model.specs.declared.root.Super.{Super}
 use Rattle.h5w_model.specs.declared.refusal.ReadError.{ReadError}
 use Rattle.h5w_model.specs.declared.refusal.HeaderError.{HeaderError}
-use Rattle.h5w_reader.specs.Looks.{plain}
-use Rattle.h5w_reader.specs.Gathering.{gather_from, cut_behind}
+use Rattle.h5w_lookup.specs.Looks.{plain}
+use Rattle.h5w_lookup.specs.Gathering.{gather_from, cut_behind}
 use Rattle.h5w_reader.specs.Walking.{messages_of, chunk_0_rest}
 use Rattle.h5w_reader.specs.Opening.{root_messages, root_rest, super_rest, first_rest, look_rest}
-use Rattle.h5w_reader.proofs.PieceLemmas.{cut_up_is, cut_up_behind}
+use Rattle.h5w_lookup.proofs.PieceLemmas.{cut_up_is, cut_up_behind}
 
 -- ---- The root header
 

@@ -9,7 +9,7 @@ use Rattle.h5w_model.specs.declared.refusal.ReadError.{ReadError}
 use Rattle.h5w_model.specs.declared.refusal.ReadError.TheVariants.{Link}
 use Rattle.h5w_reader.specs.Walking.{found_of, founds}
 use Rattle.h5w_reader.specs.Calling.{listed}
-use Rattle.h5w_reader.specs.declared.found.FoundMessage.{FoundMessage}
+use Rattle.h5w_lookup.specs.declared.found.FoundMessage.{FoundMessage}
 
 pub listed_founds : (fs : List FoundMessage) → map (λ (f : FoundMessage). listed (found_of f)) fs ≡ map listed (founds fs)
 listed_founds [] = refl

@@ -14,15 +14,15 @@ use Rattle.h5w_model.specs.Calls.{chunk_range, first_in_band, last_in_band, none
 use Rattle.h5w_model.specs.declared.refusal.ReadError.{ReadError}
 use Rattle.h5w_model.specs.declared.refusal.ReadError.TheVariants.{Damaged}
 use Rattle.h5w_model.specs.declared.refusal.BlockFault.TheVariants.{Cut}
-use Rattle.h5w_reader.specs.Looks.{plain}
-use Rattle.h5w_reader.specs.Gathering.{cut_behind}
+use Rattle.h5w_lookup.specs.Looks.{plain}
+use Rattle.h5w_lookup.specs.Gathering.{cut_behind}
 use Rattle.h5w_reader.specs.Cells.{cell_values}
 use Rattle.h5w_reader.specs.Values.{rows_in_band, band_values, bands_from, end_band, rows_rest, band_rest, reading_with, past_values}
-use Rattle.h5w_reader.specs.Described.{described_of}
-use Rattle.h5w_reader.specs.declared.dataset.Dataset.{Dataset}
-use Rattle.h5w_reader.specs.declared.known.Known.{Known}
+use Rattle.h5w_lookup.specs.Described.{described_of}
+use Rattle.h5w_lookup.specs.declared.dataset.Dataset.{Dataset}
+use Rattle.h5w_lookup.specs.declared.known.Known.{Known}
 use Rattle.h5w_reader.specs.declared.values.Span.{Span}
-use Rattle.h5w_reader.proofs.PieceLemmas.{cut_up_is}
+use Rattle.h5w_lookup.proofs.PieceLemmas.{cut_up_is}
 use Rattle.h5w_reader.proofs.BandLemmas.{band_begins, band_ends, band_next, band_of, place_in_band, cells_between, cells_behind, map_same}
 use Rattle.h5w_reader.proofs.CellLemmas.{cells_front}
 use Rattle.h5w_reader.proofs.ValueLemmas.{IsLine, across_one}

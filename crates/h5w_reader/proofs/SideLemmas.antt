@@ -17,15 +17,15 @@ use Rattle.h5w_model.specs.Calls.{chunk_range, first_in_band, last_in_band, last
 use Rattle.h5w_model.specs.declared.refusal.ReadError.{ReadError}
 use Rattle.h5w_model.specs.declared.refusal.ReadError.TheVariants.{Damaged}
 use Rattle.h5w_model.specs.declared.refusal.BlockFault.TheVariants.{Cut}
-use Rattle.h5w_reader.specs.Looks.{plain}
-use Rattle.h5w_reader.specs.Gathering.{cut_behind}
+use Rattle.h5w_lookup.specs.Looks.{plain}
+use Rattle.h5w_lookup.specs.Gathering.{cut_behind}
 use Rattle.h5w_reader.specs.Cells.{cell_values}
 use Rattle.h5w_reader.specs.Bands.{rows_in_band, end_band}
 use Rattle.h5w_reader.specs.Values.{past_values}
 use Rattle.h5w_reader.specs.Grids.{grid_value, row_values, rows_values, grid_values, chunks_from, grids_from, behind_band, grid_rest, bands_rest, touched_len, grid_given, AreWhole}
-use Rattle.h5w_reader.specs.Described.{described_of}
+use Rattle.h5w_lookup.specs.Described.{described_of}
 use Rattle.h5w_reader.specs.declared.grid.Grid.{Grid}
-use Rattle.h5w_reader.proofs.PieceLemmas.{cut_up_is}
+use Rattle.h5w_lookup.proofs.PieceLemmas.{cut_up_is}
 use Rattle.h5w_reader.proofs.BandLemmas.{band_begins, band_ends, band_next, band_of, place_in_band, map_same, map_alike, range_split}
 use Rattle.h5w_reader.proofs.CellLemmas.{cells_front}
 use Rattle.h5w_reader.proofs.ReadLemmas.{range_at, range_past, range_whole, cells_by, some_size}

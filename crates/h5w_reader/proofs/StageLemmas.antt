@@ -2,22 +2,21 @@
 use Rattle.std.proofs.Common.{◌≡◌, ℕ, min, length, List, Option, Some, None, refl, sym, ap, subst}
 use Rattle.std.specs.Prelude.{◌≢◌, IsSome}
 use Rattle.h5w_model.specs.Programs.{Prog, below_end, next_look}
-use Rattle.h5w_model.specs.Calls.{CallRules, known_table}
+use Rattle.h5w_model.specs.Calls.{CallRules}
 use Rattle.h5w_reader.specs.Walking.{walking, block_left, chunk_0_rest}
 use Rattle.h5w_reader.specs.Opening.{opening, super_rest}
-use Rattle.h5w_reader.specs.Described.{described_of}
 use Rattle.h5w_model.specs.Checked.{viewed}
 use Rattle.h5w_model.specs.Tables.{Reading}
 use Rattle.h5w_model.specs.Unfinished.{wanted}
-use Rattle.h5w_reader.specs.Attempts.{array_rest, index_rest, tree_rest, known_of, rules_of}
-use Rattle.h5w_reader.specs.Descents.{reading_news}
-use Rattle.h5w_reader.proofs.DescentLemmas.{waiting_wants}
+use Rattle.h5w_lookup.specs.Attempts.{known_of, rules_of}
+use Rattle.h5w_lookup.specs.Descents.{reading_news}
+use Rattle.h5w_lookup.proofs.LookLemmas.{IsLooking, lookup_looks}
 use Rattle.h5w_reader.specs.Calling.{behind_left, stage_left}
 use Rattle.h5w_reader.specs.Grids.{grid_given}
 use Rattle.h5w_reader.specs.Values.{reading_values, band_rest, reading_with}
 use Rattle.h5w_reader.specs.Readers.{left_of}
 use Rattle.h5w_reader.specs.declared.call.Call.TheVariants as calls
-use Rattle.h5w_reader.specs.declared.known.Known.{Known}
+use Rattle.h5w_lookup.specs.declared.known.Known.{Known}
 use Rattle.h5w_reader.specs.declared.stage.Stage.{Stage}
 use Rattle.h5w_reader.specs.declared.stage.Stage.TheVariants as stages
 use Rattle.h5w_reader.specs.declared.values.Reads.{Reads}
@@ -25,29 +24,17 @@ use Rattle.h5w_reader.specs.declared.values.Reads.TheVariants as reads_by
 use Rattle.h5w_reader.specs.declared.walk.Block.{Block}
 use Rattle.h5w_reader.specs.declared.open.Opening.{Opening}
 use Rattle.h5w_reader.specs.declared.open.Opening.TheVariants.{Super, Root, Rest, Visit}
-use Rattle.h5w_reader.specs.declared.table.Lookup.TheVariants as lookup_by
 use Rattle.h5w_reader.specs.declared.behind.Behind.{Behind}
 use Rattle.h5w_reader.specs.declared.behind.Behind.TheVariants as behind_by
-use Rattle.h5w_reader.proofs.PieceLemmas.{wants_gather}
+use Rattle.h5w_lookup.proofs.PieceLemmas.{wants_gather}
 use Rattle.h5w_reader.proofs.CallLemmas.{confirm_begins, rows_begin, wants_bind}
 
 pub walking_looks : (b : Block) → next_look (walking b) ≡ Some (b.gather.place, min 512 b.gather.rest)
 walking_looks b = wants_gather b.gather.place b.gather.rest (min 512 b.gather.rest) b.gather.got.items (block_left b.walk b.gather.start b.len) b.gather.more refl
 
--- something is looked at
-pub record IsLooking {A : Type 0} (p : Prog A) : Type 0 where
-  pub look : ℕ × ℕ
-  pub next : next_look p ≡ Some look
-
 pub behind_looks : (g : CallRules) (b : Behind) → IsLooking (behind_left g b)
 behind_looks g (behind_by.Visit b) = record { look = (b.gather.place, min 512 b.gather.rest); next = wants_bind (walking b) _ _ (walking_looks b) }
-behind_looks g (behind_by.Lookup (lookup_by.Array s k)) =
-    record { look = (k.place, min 512 k.rest); next = wants_gather k.place k.rest (min 512 k.rest) k.got.items (array_rest g.place (known_table g.known (described_of s.dataset)) (described_of s.dataset) k.start) k.more refl }
-behind_looks g (behind_by.Lookup (lookup_by.Tree l k)) =
-    record { look = (k.place, min 512 k.rest); next = wants_gather k.place k.rest (min 512 k.rest) k.got.items (tree_rest g.place (known_table g.known (described_of l.dataset)) (described_of l.dataset) k.start) k.more refl }
-behind_looks g (behind_by.Lookup (lookup_by.Block w)) = record { look = (w.value.gather.place, min 512 w.value.gather.rest); next = waiting_wants g w.value (min 512 w.value.gather.rest) refl }
-behind_looks g (behind_by.Lookup (lookup_by.Index s k)) =
-    record { look = (k.place, min 512 k.rest); next = wants_gather k.place k.rest (min 512 k.rest) k.got.items (index_rest g.place (known_table g.known (described_of s.dataset)) (described_of s.dataset) k.start) k.more refl }
+behind_looks g (behind_by.Lookup l) = lookup_looks g l
 
 pub opening_looks : (o : Opening) → IsLooking (opening o)
 opening_looks (Super k) = record { look = (k.place, min 512 k.rest); next = wants_gather k.place k.rest (min 512 k.rest) k.got.items super_rest k.more refl }

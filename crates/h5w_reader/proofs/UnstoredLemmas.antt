@@ -2,8 +2,8 @@
 use Rattle.std.proofs.Common.{◌+◌, ◌/◌, [], ℕ, List, Result, Ok, Err, ◌≡◌, refl, sym, ◌∙◌, ap}
 use Rattle.h5w_model.specs.Programs.{Prog, ret, whole, counted, stored, bind, and_then, cut_up, below_end, Kept, lowered}
 use Rattle.h5w_laws.specs.Programs.{IsUnstored}
-use Rattle.h5w_reader.specs.Looks.{plain}
-use Rattle.h5w_reader.proofs.PieceLemmas.{pieces_bind}
+use Rattle.h5w_lookup.specs.Looks.{plain}
+use Rattle.h5w_lookup.proofs.PieceLemmas.{pieces_bind}
 
 -- no store changes them
 pub unstored_plain : {A : Type 0} (cap : ℕ) (ks : List Kept) (p : Prog A) → IsUnstored p → lowered cap ks p ≡ plain p

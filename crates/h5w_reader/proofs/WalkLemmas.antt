@@ -14,13 +14,13 @@ use Rattle.h5w_model.specs.declared.refusal.BlockFault.TheVariants.{Cut}
 use Rattle.h5w_model.specs.declared.refusal.HeaderError.{HeaderError}
 use Rattle.h5w_model.specs.declared.refusal.HeaderError.TheVariants.{Continuations, Short}
 use Rattle.h5w_model.specs.declared.refusal.HeaderError.TheVariants as header_errors
-use Rattle.h5w_reader.specs.Looks.{plain, IsWithinLook}
-use Rattle.h5w_reader.specs.Gathering.{gathering, cut_behind}
+use Rattle.h5w_lookup.specs.Looks.{plain, IsWithinLook}
+use Rattle.h5w_lookup.specs.Gathering.{gathering, cut_behind}
 use Rattle.h5w_reader.specs.Walking.{found_of, founds, stack, messages_of, chunk_0_rest, walk_rest, block_rest}
-use Rattle.h5w_reader.specs.declared.found.FoundMessage.{FoundMessage}
-use Rattle.h5w_reader.specs.declared.gather.Gather.{Gather}
+use Rattle.h5w_lookup.specs.declared.found.FoundMessage.{FoundMessage}
+use Rattle.h5w_lookup.specs.declared.gather.Gather.{Gather}
 use Rattle.h5w_model.specs.declared.message.Prefix.{Prefix}
-use Rattle.h5w_reader.proofs.PieceLemmas.{cut_up_is, fed_gather, wants_gather}
+use Rattle.h5w_lookup.proofs.PieceLemmas.{cut_up_is, fed_gather, wants_gather}
 
 -- ---- Lists
 
@@ -168,14 +168,7 @@ pub block_refused : (more h : ℕ) (t : Bool) (done ms : List model.FoundMessage
 unfolding block_rest resume
 block_refused more h t done ms place len b f long e = ap (resume more h t done ms) (said_err t place len b f long e)
 
--- ---- A look
-
--- what goes on with a gathered block's pieces
-pub fed_more : {A : Type 0} (g n : Gather) (b : List ℕ) (f : List ℕ → Prog A) → gathering n ≡ fed b (gathering g) → bind (gathering n) f ≡ fed b (bind (gathering g) f)
-fed_more g n b f e = ap (λ p. bind p f) e ∙ sym (fed_gather g.place g.rest g.got.items b f g.more)
-
-pub fed_whole : {A : Type 0} (g : Gather) (bytes b : List ℕ) (f : List ℕ → Prog A) → ret bytes ≡ fed b (gathering g) → f bytes ≡ fed b (bind (gathering g) f)
-fed_whole g bytes b f e = ap (λ p. bind p f) e ∙ sym (fed_gather g.place g.rest g.got.items b f g.more)
+-- ---- Chunk 0
 
 -- a header whose messages are read, or refused
 abbrev chunk_given : ℕ → Prefix → Result (List Msg) HeaderError → Prog (Result (List model.FoundMessage) ReadError)
@@ -191,10 +184,6 @@ chunk_ok place p b ms e = ap (chunk_given place p) e ∙ ap plain (same_messages
 pub chunk_err : (place : ℕ) (p : Prefix) (b : List ℕ) (f : HeaderError) → messages_at b ≡ Err f → chunk_0_rest place p b ≡ ret (Err (header_refusal place f))
 unfolding chunk_0_rest
 chunk_err place p b f e = ap (chunk_given place p) e
-
--- what a look asks for is what is left of its block
-pub fits_gather : {A : Type 0} (g : Gather) (f : List ℕ → Prog A) (n : ℕ) → IsWithinLook (next_look (bind (gathering g) f)) n → n ≤ min 512 g.rest
-fits_gather g f n h = subst (λ l. IsWithinLook l n) (wants_gather g.place g.rest (min 512 g.rest) g.got.items f g.more refl) h
 
 pub empty : {A : Type 0} (xs : List A) → length xs ≡ 0 → xs ≡ []
 empty [] e = refl

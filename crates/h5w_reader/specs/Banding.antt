@@ -5,7 +5,7 @@ use Rattle.h5w_model.specs.declared.refusal.ReadError.{ReadError}
 use Rattle.h5w_reader.specs.Bands.{reading_with}
 use Rattle.h5w_reader.specs.Grids.{bands_rest}
 use Rattle.h5w_reader.specs.Values.{reading_values}
-use Rattle.h5w_reader.specs.declared.known.Known.{Known}
+use Rattle.h5w_lookup.specs.declared.known.Known.{Known}
 use Rattle.h5w_reader.specs.declared.grid.Grid.{Grid}
 use Rattle.h5w_reader.specs.declared.grid.Banded.{Banded}
 use Rattle.h5w_reader.specs.declared.grid.Banded.TheVariants.{Done, Waits}

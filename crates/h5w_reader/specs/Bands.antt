@@ -2,9 +2,9 @@
 use Rattle.std.specs.Prelude.{ℕ, ◌+◌, ◌-◌, ◌/◌}
 use Rattle.h5w_model.specs.Tables.{Reading}
 use Rattle.h5w_model.specs.Calls.{first_in_band, last_in_band}
-use Rattle.h5w_reader.specs.Described.{described_of}
-use Rattle.h5w_reader.specs.declared.dataset.Dataset.{Dataset}
-use Rattle.h5w_reader.specs.declared.known.Known.{Known}
+use Rattle.h5w_lookup.specs.Described.{described_of}
+use Rattle.h5w_lookup.specs.declared.dataset.Dataset.{Dataset}
+use Rattle.h5w_lookup.specs.declared.known.Known.{Known}
 
 -- how many rows of band i lie from `from` up to but not including `to`
 abbrev pub rows_in_band : Reading → ℕ → ℕ → ℕ → ℕ

@@ -15,16 +15,15 @@ use Rattle.h5w_model.specs.declared.refusal.ReadError.{ReadError}
 use Rattle.h5w_model.specs.declared.refusal.ReadError.TheVariants as read_errors
 use Rattle.h5w_reader.specs.Walking.{walking}
 use Rattle.h5w_reader.specs.Opening.{opening}
-use Rattle.h5w_reader.specs.Attempts.{looking_up, described_rest, rules_of}
-use Rattle.h5w_reader.specs.Descents.{reading_news}
+use Rattle.h5w_lookup.specs.Attempts.{looking_up, described_rest, rules_of}
+use Rattle.h5w_lookup.specs.Descents.{reading_news}
+use Rattle.h5w_lookup.specs.Outcomes.{outcome_left}
+use Rattle.h5w_lookup.specs.declared.news.News.{News}
+use Rattle.h5w_lookup.specs.declared.outcome.Outcome.{Outcome}
 use Rattle.h5w_reader.specs.declared.behind.Behind.{Behind}
 use Rattle.h5w_reader.specs.declared.behind.Behind.TheVariants as behind_by
-use Rattle.h5w_reader.specs.declared.behind.Reached.{Reached}
-use Rattle.h5w_reader.specs.declared.behind.Reached.TheVariants as reached_by
 use Rattle.h5w_reader.specs.declared.stage.Stage.{Stage}
 use Rattle.h5w_reader.specs.declared.stage.Stage.TheVariants as stages
-use Rattle.h5w_reader.specs.declared.stage.Came.{Came}
-use Rattle.h5w_reader.specs.declared.stage.Came.TheVariants as came_by
 
 -- ---- The dataset header's place
 
@@ -55,9 +54,8 @@ abbrev pub behind_left : CallRules → Behind → Prog (Result Reading ReadError
 behind_left g (behind_by.Visit b) = messages_rest g (walking b)
 behind_left g (behind_by.Lookup l) = looking_up g l
 
-abbrev pub reached : CallRules → Reached → Prog (Result Reading ReadError)
-reached g (reached_by.Answer r) = ret (viewed (reading_news g.known) r)
-reached g (reached_by.Looks b) = behind_left g b
+abbrev pub reached : CallRules → Outcome News Behind → Prog (Result Reading ReadError)
+reached g r = outcome_left (reading_news g.known) (behind_left g) r
 
 -- ---- Attempts
 
@@ -97,6 +95,5 @@ stage_left most name known (stages.Header r) = rows_rest (rules_of r known)
 stage_left most name known (stages.Behind a b) = bind (behind_left (rules_of a.rules known) b) (confirm_rest (rules_of a.rules known) a.more a.view)
 stage_left most name known (stages.Confirm a r) = confirm_rest (rules_of a.rules known) a.more a.view (viewed (reading_news known) r)
 
-abbrev pub came : ℕ → List ℕ → Option Reading → Came → Prog (Result Reading ReadError)
-came most name known (came_by.Answer r) = ret (viewed (reading_news known) r)
-came most name known (came_by.Looks s) = stage_left most name known s
+abbrev pub came : ℕ → List ℕ → Option Reading → Outcome News Stage → Prog (Result Reading ReadError)
+came most name known c = outcome_left (reading_news known) (stage_left most name known) c

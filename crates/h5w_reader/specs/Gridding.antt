@@ -2,10 +2,10 @@
 use Rattle.std.specs.Prelude.{length, List, Result, ℤ}
 use Rattle.h5w_model.specs.Programs.{Prog, bind}
 use Rattle.h5w_model.specs.declared.refusal.ReadError.{ReadError}
-use Rattle.h5w_reader.specs.Gathering.{gathering}
+use Rattle.h5w_lookup.specs.Gathering.{gathering}
 use Rattle.h5w_reader.specs.Bands.{reading_with}
 use Rattle.h5w_reader.specs.Grids.{grid_given}
-use Rattle.h5w_reader.specs.declared.known.Known.{Known}
+use Rattle.h5w_lookup.specs.declared.known.Known.{Known}
 use Rattle.h5w_reader.specs.declared.grid.Beside.{Beside}
 
 abbrev pub grid_left : Known → Beside → Prog (Result (List ℤ) ReadError)

@@ -8,7 +8,7 @@ use Rattle.h5w_model.specs.Calls.{chunk_range, first_in_band, touched_from, touc
 use Rattle.h5w_model.specs.declared.refusal.ReadError.{ReadError}
 use Rattle.h5w_model.specs.declared.refusal.ReadError.TheVariants.{Damaged}
 use Rattle.h5w_model.specs.declared.refusal.BlockFault.TheVariants.{Cut}
-use Rattle.h5w_reader.specs.Looks.{plain}
+use Rattle.h5w_lookup.specs.Looks.{plain}
 use Rattle.h5w_reader.specs.Bands.{rows_in_band, end_band}
 
 -- the value of a cell of a band, from the ranges of the band's chunks

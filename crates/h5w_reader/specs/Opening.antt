@@ -1,17 +1,19 @@
 -- What is left of the way from the superblock to the messages of the root header.
 use Rattle.std.specs.Prelude.{ℕ, ◌+◌, ◌-◌, List, nat_lt, if◌then◌else◌, Result, Ok, Err}
+use Rattle.std.specs.Global.{Vec}
 use Rattle.h5w_model.specs.Programs.{Prog, ret, whole, bind, and_then, below_end}
 use Rattle.h5w_model.specs.Headers.{prefix_at}
 use Rattle.h5w_model.specs.Datasets.{super_of, superblock, root_header, root_view, header_refusal}
 use Rattle.h5w_model.specs.Datasets as model
 use Rattle.h5w_model.specs.declared.refusal.ReadError.{ReadError}
-use Rattle.h5w_reader.specs.Looks.{plain}
-use Rattle.h5w_reader.specs.Gathering.{gathering, cut_behind}
+use Rattle.h5w_lookup.specs.Looks.{plain}
+use Rattle.h5w_lookup.specs.Gathering.{gathering, cut_behind}
+use Rattle.h5w_lookup.specs.Outcomes.{outcome_left}
 use Rattle.h5w_reader.specs.Walking.{founds, messages_of, chunk_0_rest, walking}
 use Rattle.h5w_reader.specs.declared.open.Opening.{Opening}
 use Rattle.h5w_reader.specs.declared.open.Opening.TheVariants.{Super, Root, Rest, Visit}
-use Rattle.h5w_reader.specs.declared.open.Opened.{Opened}
-use Rattle.h5w_reader.specs.declared.open.Opened.TheVariants.{Found, Refused, Looks}
+use Rattle.h5w_lookup.specs.declared.found.FoundMessage.{FoundMessage}
+use Rattle.h5w_lookup.specs.declared.outcome.Outcome.{Outcome}
 
 -- the messages of the root header, from the superblock on
 unfoldable pub root_messages : Prog (Result (List model.FoundMessage) ReadError)
@@ -42,7 +44,5 @@ opening (Root place) = whole place (below_end place 512) (look_rest place)
 opening (Rest p g) = bind (gathering g) (chunk_0_rest g.start p)
 opening (Visit b) = walking b
 
-abbrev pub opened : Opened → Prog (Result (List model.FoundMessage) ReadError)
-opened (Found fs) = ret (Ok (founds fs.items))
-opened (Refused e) = ret (Err e)
-opened (Looks o) = opening o
+abbrev pub opened : Outcome (Vec FoundMessage) Opening → Prog (Result (List model.FoundMessage) ReadError)
+opened o = outcome_left (λ fs. founds fs.items) opening o

@@ -6,10 +6,10 @@ use Rattle.h5w_model.specs.Calls.{rows_seen}
 use Rattle.h5w_model.specs.Unfinished.{Unfinished, rows_left, values_left, ReaderRules, Reader, rows_program, with_left}
 use Rattle.h5w_model.specs.declared.refusal.ReadError.{ReadError}
 use Rattle.h5w_model.specs.declared.refusal.ReadError.TheVariants as read_errors
-use Rattle.h5w_reader.specs.Attempts.{reader_limits, known_of}
+use Rattle.h5w_lookup.specs.Attempts.{reader_limits, known_of}
 use Rattle.h5w_reader.specs.Calling.{stage_left}
 use Rattle.h5w_reader.specs.Values.{reading_values, valued}
-use Rattle.h5w_reader.specs.declared.known.Known.{Known}
+use Rattle.h5w_lookup.specs.declared.known.Known.{Known}
 use Rattle.h5w_reader.specs.declared.values.Reads.{Reads}
 use Rattle.h5w_reader.specs.declared.values.Valued.{Valued}
 use Rattle.h5w_reader.specs.declared.call.Call.{Call}

@@ -7,11 +7,11 @@ use Rattle.h5w_model.specs.Calls.{chunk_range, first_in_band, value_from}
 use Rattle.h5w_model.specs.declared.refusal.ReadError.{ReadError}
 use Rattle.h5w_model.specs.declared.refusal.ReadError.TheVariants.{Damaged}
 use Rattle.h5w_model.specs.declared.refusal.BlockFault.TheVariants.{Cut}
-use Rattle.h5w_reader.specs.Looks.{plain}
-use Rattle.h5w_reader.specs.Gathering.{gathering}
+use Rattle.h5w_lookup.specs.Looks.{plain}
+use Rattle.h5w_lookup.specs.Gathering.{gathering}
 pub use Rattle.h5w_reader.specs.Bands.{rows_in_band, end_band, reading_with}
 use Rattle.h5w_reader.specs.Gridding.{grid_left}
-use Rattle.h5w_reader.specs.declared.known.Known.{Known}
+use Rattle.h5w_lookup.specs.declared.known.Known.{Known}
 use Rattle.h5w_reader.specs.declared.values.Ranged.{Ranged}
 use Rattle.h5w_reader.specs.declared.values.Reads.{Reads}
 use Rattle.h5w_reader.specs.declared.values.Reads.TheVariants as reads_by

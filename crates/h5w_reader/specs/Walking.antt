@@ -1,23 +1,19 @@
 -- What is left of a header whose messages are visited one after another.
 use Rattle.std.specs.Prelude.{ℕ, Bool, List, [], ◌++◌, map, reverse, Result, Ok, Err}
+use Rattle.std.specs.Global.{Vec}
 use Rattle.h5w_model.specs.Programs.{Prog, ret, bind, and_then}
 use Rattle.h5w_model.specs.Datasets.{HeaderFields, walk, block_messages, from_chunk_0}
 use Rattle.h5w_model.specs.Datasets as model
 use Rattle.h5w_model.specs.declared.message.Prefix.{Prefix}
 use Rattle.h5w_model.specs.declared.refusal.ReadError.{ReadError}
-use Rattle.h5w_reader.specs.Looks.{plain}
-use Rattle.h5w_reader.specs.Gathering.{gathering}
-use Rattle.h5w_reader.specs.declared.found.FoundMessage.{FoundMessage}
+use Rattle.h5w_lookup.specs.Looks.{plain}
+use Rattle.h5w_lookup.specs.Gathering.{gathering}
+use Rattle.h5w_lookup.specs.Outcomes.{outcome_left}
+pub use Rattle.h5w_lookup.specs.Founds.{found_of, founds}
+use Rattle.h5w_lookup.specs.declared.found.FoundMessage.{FoundMessage}
 use Rattle.h5w_reader.specs.declared.walk.Walk.{Walk}
 use Rattle.h5w_reader.specs.declared.walk.Block.{Block}
-use Rattle.h5w_reader.specs.declared.walk.Walked.{Walked}
-use Rattle.h5w_reader.specs.declared.walk.Walked.TheVariants as walked_by
-
-abbrev pub found_of : FoundMessage → model.FoundMessage
-found_of f = record { kind = f.kind; flags = f.flags; place = f.place; body = f.body; in_chunk_0 = f.in_chunk_0 }
-
-abbrev pub founds : List FoundMessage → List model.FoundMessage
-founds fs = map found_of fs
+use Rattle.h5w_lookup.specs.declared.outcome.Outcome.{Outcome}
 
 -- those that come next, the last of the list first
 abbrev pub stack : List FoundMessage → List model.FoundMessage
@@ -52,7 +48,5 @@ block_left w place len b = block_rest w.more w.header w.tracked (founds w.done.i
 abbrev pub walking : Block → Prog (Result (List model.FoundMessage) ReadError)
 walking b = bind (gathering b.gather) (block_left b.walk b.gather.start b.len)
 
-abbrev pub walked : Walked → Prog (Result (List model.FoundMessage) ReadError)
-walked (walked_by.Done fs) = ret (Ok (founds fs.items))
-walked (walked_by.Refused e) = ret (Err e)
-walked (walked_by.Visit b) = walking b
+abbrev pub walked : Outcome (Vec FoundMessage) Block → Prog (Result (List model.FoundMessage) ReadError)
+walked w = outcome_left (λ fs. founds fs.items) walking w

@@ -3,13 +3,12 @@ ghost use Rattle.std.specs.Prelude.{◌≡◌, ◌≢◌, ℕ, List, Option, Ok,
 ghost use Rattle.h5w_model.specs.Unfinished.{fed_left};
 ghost use Rattle.h5w_reader.specs.Readers.{left_of};
 ghost use Rattle.h5w_reader.specs.declared.call.Call.TheVariants as calls;
-ghost use Rattle.h5w_reader.specs.declared.known.Known.{Known};
+ghost use Rattle.h5w_lookup.specs.declared.known.Known.{Known};
 ghost use Rattle.h5w_reader.specs.declared.values.Reads.{Reads};
 
 use crate::behind::Behind;
 use crate::call::Call;
 use crate::stage::Stage;
-use crate::table::Lookup;
 use crate::values::Reads;
 use h5w_model::{OutOfMemory, Piece};
 
@@ -22,9 +21,7 @@ pub fn absorb(call: &mut Option<Call>, piece: &Piece) -> Result<bool, OutOfMemor
     ensures values { (reads : Reads) → call.new ≡ Some (calls.Values reads) → (before : Reads) × (call.old ≡ Some (calls.Values before)) }
 {
     match call {
-        Some(Call::Rows(Stage::Behind(_, Behind::Lookup(Lookup::Block(waiting))))) => {
-            waiting.gather.absorb(piece)
-        }
+        Some(Call::Rows(Stage::Behind(_, Behind::Lookup(lookup)))) => lookup.absorb(piece),
         Some(Call::Values(Reads::Range(ranged))) => ranged.gather.absorb(piece),
         Some(Call::Values(Reads::Beside(beside))) => beside.gather.absorb(piece),
         _ => Ok(false),

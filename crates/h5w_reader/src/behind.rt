@@ -1,14 +1,10 @@
 //! What an attempt looks at behind the dataset header.
 ghost use Rattle.std.specs.Prelude.{◌≡◌, ◌+◌, ◌≤◌, ◌^◌, length, Some, IfOk};
-ghost use Rattle.h5w_reader.specs.Attempts.{known_of, rules_of};
+ghost use Rattle.h5w_lookup.specs.Attempts.{known_of, rules_of};
 
-use crate::known::{Known, Rules};
-use crate::look::Look;
-use crate::news::News;
 use crate::refusal::header_refusal;
-use crate::settle::settle;
-use crate::table::{LookedUp, Lookup};
 use crate::walk::{Block, Walk, Walked};
+use h5w_lookup::{Known, Look, Lookup, News, Outcome, Rules, settle};
 use h5w_model::{Bytes, OutOfMemory, PIECE, Piece, ReadError, Unsupported};
 use h5w_ohdr::prefix;
 use std::alloc::Global;
@@ -23,27 +19,25 @@ pub enum Behind {
 }
 
 /// What it comes to.
-#[derive(Drop)]
-pub enum Reached {
-    Answer(Result<News, ReadError>),
-    Looks(Behind),
-}
+pub type Reached = Outcome<News, Behind>;
 
-impl Reached {
+impl Behind {
     ghost use Rattle.h5w_model.specs.Calls.{CallRules};
+    ghost use Rattle.h5w_model.specs.Programs.{next_look, fed};
+    ghost use Rattle.h5w_lookup.specs.Looks.{look_of, IsWithinLook};
+    ghost use Rattle.h5w_reader.specs.Calling.{behind_left, reached, messages_rest, behind_rest};
     ghost use Rattle.h5w_reader.specs.Walking.{walked};
-    ghost use Rattle.h5w_reader.specs.Attempts.{looked_up};
+    ghost use Rattle.h5w_lookup.specs.Attempts.{looked_up};
     ghost use Rattle.h5w_reader.specs.Headers.{IsView};
-    ghost use Rattle.h5w_reader.specs.Calling.{reached, messages_rest, behind_rest};
 
     /// What the lookup of addresses comes to.
-    fn of(l: LookedUp) -> Reached
+    fn of(l: Outcome<News, Lookup>) -> Reached
         ensures { (g : CallRules) → reached g result ≡ looked_up g l }
     {
         match l {
-            LookedUp::Ready(news) => Reached::Answer(Ok(news)),
-            LookedUp::Refused(error) => Reached::Answer(Err(error)),
-            LookedUp::Looks(lookup) => Reached::Looks(Behind::Lookup(lookup)),
+            Outcome::Done(news) => Outcome::Done(news),
+            Outcome::Refused(error) => Outcome::Refused(error),
+            Outcome::Looks(lookup) => Outcome::Looks(Behind::Lookup(lookup)),
         }
     }
 
@@ -57,9 +51,9 @@ impl Reached {
         ensures { IfOk result (λ r. reached (rules_of rules.now (known_of known.now)) r ≡ messages_rest (rules_of rules.now (known_of known.now)) (walked w)) }
     {
         match w {
-            Walked::Done(found) => Ok(Reached::of(settle(alloc, rules, known, &found)?)),
-            Walked::Refused(error) => Ok(Reached::Answer(Err(error))),
-            Walked::Visit(block) => Ok(Reached::Looks(Behind::Visit(block))),
+            Outcome::Done(found) => Ok(Behind::of(settle(alloc, rules, known, &found)?)),
+            Outcome::Refused(error) => Ok(Outcome::Refused(error)),
+            Outcome::Looks(block) => Ok(Outcome::Looks(Behind::Visit(block))),
         }
     }
 
@@ -78,22 +72,15 @@ impl Reached {
             Ok(p) => p,
             Err(error) => {
                 let error = header_refusal(rules.place, 0, error)?;
-                return Ok(Reached::Answer(Err(error)));
+                return Ok(Outcome::Refused(error));
             }
         };
         if p.total > PIECE as u64 {
-            return Ok(Reached::Answer(Err(ReadError::Unsupported(Unsupported(1)))));
+            return Ok(Outcome::Refused(ReadError::Unsupported(Unsupported(1))));
         }
         let walked = Walk::start(alloc, rules.place, &p, bytes)?;
-        Reached::after_walk(alloc, rules, known, walked)
+        Behind::after_walk(alloc, rules, known, walked)
     }
-}
-
-impl Behind {
-    ghost use Rattle.h5w_model.specs.Calls.{CallRules};
-    ghost use Rattle.h5w_model.specs.Programs.{next_look, fed};
-    ghost use Rattle.h5w_reader.specs.Looks.{look_of, IsWithinLook};
-    ghost use Rattle.h5w_reader.specs.Calling.{behind_left, reached};
 
     /// The next look.
     pub fn want(&self) -> Look
@@ -121,9 +108,9 @@ impl Behind {
     {
         match self {
             Behind::Visit(block) => {
-                Reached::after_walk(alloc, rules, known, block.feed(alloc, piece)?)
+                Behind::after_walk(alloc, rules, known, block.feed(alloc, piece)?)
             }
-            Behind::Lookup(lookup) => Ok(Reached::of(lookup.feed(alloc, rules, known, piece)?)),
+            Behind::Lookup(lookup) => Ok(Behind::of(lookup.feed(alloc, rules, known, piece)?)),
         }
     }
 }

@@ -3,16 +3,13 @@ ghost use Rattle.std.specs.Prelude.{◌≡◌, ◌≢◌, ◌+◌, ◌-◌, ◌*
 ghost use Rattle.h5w_model.specs.Numbers.{undefined};
 ghost use Rattle.h5w_model.specs.Calls.{first_in_band, last_in_band, last_column, touched_from};
 ghost use Rattle.h5w_model.specs.Tables.{chunks_across, needed};
-ghost use Rattle.h5w_reader.specs.Described.{described_of};
+ghost use Rattle.h5w_lookup.specs.Described.{described_of};
 ghost use Rattle.h5w_reader.specs.Grids.{AreWhole, touched_len};
 
 use crate::cells::{put_cells, put_fill};
-use crate::dataset::Dataset;
-use crate::gather::{Gather, Gathered};
-use crate::known::Known;
-use crate::table::address_at;
 use crate::values::{Goes, Reads, Valued};
 use h5w_bytes::UNDEFINED;
+use h5w_lookup::{Dataset, Gather, Gathered, Known, address_at};
 use h5w_model::{BlockFault, Bytes, OutOfMemory, Piece, ReadError, Values};
 use std::alloc::Global;
 
@@ -325,7 +322,7 @@ impl Grid {
 
 impl Beside {
     ghost use Rattle.h5w_model.specs.Programs.{next_look, fed};
-    ghost use Rattle.h5w_reader.specs.Looks.{IsWithinLook};
+    ghost use Rattle.h5w_lookup.specs.Looks.{IsWithinLook};
     ghost use Rattle.h5w_reader.specs.Gridding.{grid_left};
     ghost use Rattle.h5w_reader.specs.Values.{valued};
 

@@ -5,11 +5,11 @@ ghost use Rattle.h5w_model.specs.Headers.{header_view};
 ghost use Rattle.h5w_model.specs.Programs.{below_end};
 ghost use Rattle.h5w_model.specs.Calls.{again, cut_header, difference_from};
 ghost use Rattle.h5w_model.specs.Tables.{Reading};
-ghost use Rattle.h5w_reader.specs.Attempts.{rules_of};
+ghost use Rattle.h5w_lookup.specs.Attempts.{rules_of};
 ghost use Rattle.h5w_reader.specs.Headers.{IsView, IsWhole};
 
-use crate::known::Rules;
 use crate::view::header_view;
+use h5w_lookup::Rules;
 use h5w_model::{BlockFault, Bytes, HeaderError, OutOfMemory, PIECE, Piece, ReadError};
 use h5w_ohdr::prefix;
 use std::alloc::Global;

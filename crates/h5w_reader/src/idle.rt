@@ -1,10 +1,10 @@
 //! A header that is as it was when the dataset was last looked at.
 ghost use Rattle.std.specs.Prelude.{◌≡◌, true};
 ghost use Rattle.h5w_model.specs.Headers.{header_view};
-ghost use Rattle.h5w_reader.specs.Attempts.{known_of, rules_of};
+ghost use Rattle.h5w_lookup.specs.Attempts.{known_of, rules_of};
 ghost use Rattle.h5w_reader.specs.Idle.{IsIdle};
 
-use crate::known::{Known, Rules};
+use h5w_lookup::{Known, Rules};
 use h5w_model::{Bytes, PIECE, Piece};
 use h5w_ohdr::prefix;
 

@@ -24,45 +24,23 @@
 #![tactic(auto)]
 
 mod absorb;
-mod ahead;
 mod behind;
-mod block;
 mod call;
 mod cells;
-mod chunks;
-mod content;
-mod dataset;
-mod descend;
-mod descent;
-mod describe;
-mod found;
-mod gather;
 mod grid;
 mod header;
 mod idle;
-mod index;
-mod known;
-mod learn;
-mod look;
-mod news;
 mod open;
 mod place;
 mod reader;
-mod recall;
 mod refusal;
-mod seek;
-mod settle;
-mod sizes;
 mod stack;
 mod stage;
 mod step;
-mod store;
-mod table;
 mod values;
 mod view;
-mod wait;
 mod walk;
 
-pub use look::Look;
+pub use h5w_lookup::Look;
 pub use reader::ReaderCore;
 pub use step::{ReadBegin, Step};

@@ -2,12 +2,10 @@
 ghost use Rattle.std.specs.Prelude.{◌≡◌, ◌+◌, ◌<◌, ◌≤◌, ◌^◌, min, length, Some, Ok, IfOk};
 ghost use Rattle.h5w_model.specs.Datasets.{is_swmr, super_of};
 
-use crate::found::FoundMessage;
-use crate::gather::{Gather, Gathered};
-use crate::look::{Look, look_at};
 use crate::refusal::{header_refusal, super_refusal};
 use crate::view::root_view;
 use crate::walk::{Block, Walk, Walked};
+use h5w_lookup::{FoundMessage, Gather, Gathered, Look, Outcome, look_at};
 use h5w_model::{Bytes, OutOfMemory, PIECE, Piece, Prefix, ReadError};
 use h5w_ohdr::prefix;
 use h5w_super::{LEN, Super, decode};
@@ -26,14 +24,8 @@ pub enum Opening {
     Visit(Block),
 }
 
-/// What an opening comes to.
-#[derive(Drop)]
-pub enum Opened {
-    /// The messages of the root header.
-    Found(Vec<FoundMessage>),
-    Refused(ReadError),
-    Looks(Opening),
-}
+/// What an opening comes to: the messages of the root header, or a further look.
+pub type Opened = Outcome<Vec<FoundMessage>, Opening>;
 
 /// Whether the flags say open for writing and open for SWMR writing, or neither. In version 2 they say nothing.
 fn is_swmr(s: &Super) -> bool
@@ -56,8 +48,10 @@ fn read_super(bytes: &[u8]) -> Result<Super, ReadError>
     Ok(s)
 }
 
-impl Opened {
-    ghost use Rattle.h5w_reader.specs.Opening.{opened, first_rest};
+impl Opening {
+    ghost use Rattle.h5w_model.specs.Programs.{next_look, fed};
+    ghost use Rattle.h5w_lookup.specs.Looks.{look_of, IsWithinLook};
+    ghost use Rattle.h5w_reader.specs.Opening.{opening, opened, root_messages, first_rest};
     ghost use Rattle.h5w_reader.specs.Walking.{walked, chunk_0_rest};
 
     /// What the visit of the root header's messages comes to.
@@ -65,9 +59,9 @@ impl Opened {
         ensures { opened result ≡ walked w }
     {
         match w {
-            Walked::Done(found) => Opened::Found(found),
-            Walked::Refused(error) => Opened::Refused(error),
-            Walked::Visit(block) => Opened::Looks(Opening::Visit(block)),
+            Outcome::Done(found) => Outcome::Done(found),
+            Outcome::Refused(error) => Outcome::Refused(error),
+            Outcome::Looks(block) => Outcome::Looks(Opening::Visit(block)),
         }
     }
 
@@ -80,25 +74,19 @@ impl Opened {
         let bytes = first.as_slice();
         let p = match prefix(bytes) {
             Ok(p) => p,
-            Err(error) => return Ok(Opened::Refused(header_refusal(place, 0, error)?)),
+            Err(error) => return Ok(Outcome::Refused(header_refusal(place, 0, error)?)),
         };
         if p.total <= PIECE as u64 {
-            return Ok(Opened::of(Walk::start(alloc, place, &p, bytes)?));
+            return Ok(Opening::of(Walk::start(alloc, place, &p, bytes)?));
         }
         if u64::MAX - place < PIECE as u64 {
-            return Ok(Opened::of(Walk::start(alloc, place, &p, bytes)?));
+            return Ok(Opening::of(Walk::start(alloc, place, &p, bytes)?));
         }
         let behind = place + PIECE as u64;
         let got = Vec::from_slice(alloc, bytes)?;
         let rest = Gather::new(place, got, behind, p.total - PIECE as u64);
-        Ok(Opened::Looks(Opening::Rest(p, rest)))
+        Ok(Outcome::Looks(Opening::Rest(p, rest)))
     }
-}
-
-impl Opening {
-    ghost use Rattle.h5w_model.specs.Programs.{next_look, fed};
-    ghost use Rattle.h5w_reader.specs.Looks.{look_of, IsWithinLook};
-    ghost use Rattle.h5w_reader.specs.Opening.{opening, opened, root_messages};
 
     /// From the superblock on.
     pub fn new(alloc: Global) -> Opening
@@ -128,26 +116,26 @@ impl Opening {
     {
         match self {
             Opening::Super(gather) => match gather.feed(piece)? {
-                Gathered::More(gather) => Ok(Opened::Looks(Opening::Super(gather))),
+                Gathered::More(gather) => Ok(Outcome::Looks(Opening::Super(gather))),
                 Gathered::Whole(bytes) => Ok(match read_super(&bytes) {
-                    Ok(s) => Opened::Looks(Opening::Root(s.root)),
-                    Err(error) => Opened::Refused(error),
+                    Ok(s) => Outcome::Looks(Opening::Root(s.root)),
+                    Err(error) => Outcome::Refused(error),
                 }),
             },
             Opening::Root(place) => {
                 let first = root_view(alloc, piece)?;
-                Opened::after_look(alloc, place, &first)
+                Opening::after_look(alloc, place, &first)
             }
             Opening::Rest(p, gather) => {
                 let place = gather.start();
                 match gather.feed(piece)? {
-                    Gathered::More(gather) => Ok(Opened::Looks(Opening::Rest(p, gather))),
+                    Gathered::More(gather) => Ok(Outcome::Looks(Opening::Rest(p, gather))),
                     Gathered::Whole(bytes) => {
-                        Ok(Opened::of(Walk::start(alloc, place, &p, &bytes)?))
+                        Ok(Opening::of(Walk::start(alloc, place, &p, &bytes)?))
                     }
                 }
             }
-            Opening::Visit(block) => Ok(Opened::of(block.feed(alloc, piece)?)),
+            Opening::Visit(block) => Ok(Opening::of(block.feed(alloc, piece)?)),
         }
     }
 }

@@ -4,8 +4,8 @@ ghost use Rattle.h5w_model.specs.Datasets.{linked};
 ghost use Rattle.h5w_reader.specs.Walking.{founds};
 ghost use Rattle.h5w_reader.specs.Calling.{listed, link_refusal};
 
-use crate::found::FoundMessage;
 use h5w_links::{find, links};
+use h5w_lookup::FoundMessage;
 use h5w_model::{LinkError, Msg, OutOfMemory, ReadError};
 use h5w_ohdr::Msgs;
 use std::alloc::Global;

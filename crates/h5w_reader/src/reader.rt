@@ -2,7 +2,7 @@
 ghost use Rattle.std.specs.Prelude.{◌≡◌, ◌≢◌, ℕ, ◌+◌, ◌≤◌, ◌^◌, length, Some, None, IsSome, IfOk, IfErr, IfSome, OnOk, OnErr, MatchOption, option_map};
 ghost use Rattle.h5w_model.specs.Calls.{rows_seen};
 ghost use Rattle.h5w_model.specs.Unfinished.{rows_left, values_left, fed_left, rows_program, values_program, wanted, with_left};
-ghost use Rattle.h5w_reader.specs.Looks.{look_of, IsWithinLook};
+ghost use Rattle.h5w_lookup.specs.Looks.{look_of, IsWithinLook};
 ghost use Rattle.h5w_reader.specs.Readers.{BegunRead, IsRefusedRead, StepTells, begin_refusal, read_refusal, new_reader, reader_rules, reads_left, valued_left};
 ghost use Rattle.h5w_reader.specs.declared.call.Call.TheVariants as calls;
 ghost use Rattle.h5w_reader.specs.declared.values.Reads.{Reads};
@@ -12,13 +12,10 @@ ghost use Rattle.h5w_reader.specs.declared.step.Step.TheVariants as steps;
 use crate::absorb::absorb;
 use crate::call::Call;
 use crate::idle::is_idle;
-use crate::known::{Known, Rules};
-use crate::learn::learn;
-use crate::look::Look;
-use crate::recall::rows_seen;
-use crate::stage::{Came, Stage};
+use crate::stage::Stage;
 use crate::step::{ReadBegin, Step};
 use crate::values::{Goes, Reads, Valued};
+use h5w_lookup::{Known, Look, Outcome, Rules, learn, rows_seen};
 use h5w_model::{Bytes, OutOfMemory, Piece, ReadError, Values};
 use std::alloc::Global;
 
@@ -182,15 +179,15 @@ impl ReaderCore {
                 &self.known,
                 piece,
             ) {
-                Ok(Came::Answer(Ok(news))) => {
+                Ok(Outcome::Done(news)) => {
                     let rows = news.dataset.shape.rows;
                     match learn(self.alloc, &mut self.known, news) {
                         Ok(()) => Step::Rows(rows),
                         Err(OutOfMemory) => Step::Refused(ReadError::OutOfMemory),
                     }
                 }
-                Ok(Came::Answer(Err(error))) => Step::Refused(error),
-                Ok(Came::Looks(stage)) => {
+                Ok(Outcome::Refused(error)) => Step::Refused(error),
+                Ok(Outcome::Looks(stage)) => {
                     self.call = Some(Call::Rows(stage));
                     Step::More
                 }

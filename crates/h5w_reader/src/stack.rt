@@ -5,7 +5,7 @@ ghost use Rattle.h5w_model.specs.Datasets.{found_at};
 ghost use Rattle.h5w_reader.specs.Walking.{stack};
 ghost use Rattle.h5w_reader.specs.Listed.{IsInside};
 
-use crate::found::FoundMessage;
+use h5w_lookup::FoundMessage;
 use h5w_model::OutOfMemory;
 use h5w_ohdr::Msgs;
 

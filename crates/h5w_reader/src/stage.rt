@@ -3,20 +3,17 @@ ghost use Rattle.std.specs.Prelude.{◌≡◌, ◌≢◌, ℕ, List, Option, ◌
 ghost use Rattle.h5w_model.specs.Checked.{viewed};
 ghost use Rattle.h5w_model.specs.Programs.{below_end};
 ghost use Rattle.h5w_model.specs.Tables.{Reading};
-ghost use Rattle.h5w_reader.specs.Attempts.{known_of, rules_of};
-ghost use Rattle.h5w_reader.specs.Descents.{reading_news};
+ghost use Rattle.h5w_lookup.specs.Attempts.{known_of, rules_of};
+ghost use Rattle.h5w_lookup.specs.Descents.{reading_news};
 ghost use Rattle.h5w_reader.specs.Headers.{IsView, IsWhole};
-ghost use Rattle.h5w_reader.specs.Described.{described_of};
-ghost use Rattle.h5w_reader.specs.Seen.{IsHeaderOf};
+ghost use Rattle.h5w_lookup.specs.Described.{described_of};
+ghost use Rattle.h5w_lookup.specs.Seen.{IsHeaderOf};
 
 use crate::behind::{Behind, Reached};
-use crate::found::FoundMessage;
 use crate::header::{again, cut_header, is_same, view_at};
-use crate::known::{Known, Rules};
-use crate::look::{Look, look_at};
-use crate::news::News;
 use crate::open::{Opened, Opening};
 use crate::place::place_of;
+use h5w_lookup::{FoundMessage, Known, Look, News, Outcome, Rules, look_at};
 use h5w_model::{Bytes, OutOfMemory, Piece, ReadError};
 use std::alloc::Global;
 
@@ -46,20 +43,16 @@ pub enum Stage {
 }
 
 /// What a call comes to.
-#[derive(Drop)]
-pub enum Came {
-    Answer(Result<News, ReadError>),
-    Looks(Stage),
-}
+pub type Came = Outcome<News, Stage>;
 
 /// The answer of a refusal that may be want of memory.
 fn refused(error: ReadError) -> Result<Came, OutOfMemory>
-    ensures refused { IfOk result (λ c. c ≡ Came.Answer (Err error)) }
+    ensures refused { IfOk result (λ c. c ≡ Outcome.Refused error) }
     ensures other { IfOk result (λ c. error ≢ ReadError.OutOfMemory) }
 {
     match error {
         ReadError::OutOfMemory => Err(OutOfMemory),
-        error => Ok(Came::Answer(Err(error))),
+        error => Ok(Outcome::Refused(error)),
     }
 }
 
@@ -97,17 +90,17 @@ impl Attempt {
         ensures { (most : ℕ) (name : List ℕ) → IfOk result (λ c. came most name (known_of known.now) c ≡ attempt_rest (rules_of rules (known_of known.now)) more view) }
     {
         if let Some(error) = cut_header(rules.place, &view) {
-            return Ok(Came::Answer(Err(error)));
+            return Ok(Outcome::Refused(error));
         }
-        match Reached::begin(alloc, &rules, known, &view)? {
-            Reached::Answer(Ok(news)) => Ok(Came::Answer(Ok(with_view(news, view)))),
-            Reached::Answer(Err(error)) => {
+        match Behind::begin(alloc, &rules, known, &view)? {
+            Outcome::Done(news) => Ok(Outcome::Done(with_view(news, view))),
+            Outcome::Refused(error) => {
                 let attempt = Attempt { rules, more, view };
-                Ok(Came::Looks(Stage::Confirm(attempt, Err(error))))
+                Ok(Outcome::Looks(Stage::Confirm(attempt, Err(error))))
             }
-            Reached::Looks(behind) => {
+            Outcome::Looks(behind) => {
                 let attempt = Attempt { rules, more, view };
-                Ok(Came::Looks(Stage::Behind(attempt, behind)))
+                Ok(Outcome::Looks(Stage::Behind(attempt, behind)))
             }
         }
     }
@@ -124,25 +117,37 @@ impl Attempt {
         ensures { (most : ℕ) (name : List ℕ) → IfOk result (λ c. came most name (known_of known.now) c ≡ confirm_given (rules_of self.rules (known_of known.now)) self.more self.view (viewed (reading_news (known_of known.now)) answer) last) }
     {
         if let Some(error) = cut_header(self.rules.place, &last) {
-            return Ok(Came::Answer(Err(error)));
+            return Ok(Outcome::Refused(error));
         }
         if is_same(&last, &self.view) {
-            return Ok(Came::Answer(answer));
+            return Ok(Stage::answered(answer));
         }
         if self.more == 0 {
             let error = again(&self.rules, &self.view, &last);
-            return Ok(Came::Answer(Err(error)));
+            return Ok(Outcome::Refused(error));
         }
         Attempt::begin(alloc, self.rules, known, self.more - 1, last)
     }
 }
 
-impl Came {
-    ghost use Rattle.h5w_model.specs.Programs.{and_then};
-    ghost use Rattle.h5w_reader.specs.Opening.{opened};
+impl Stage {
+    ghost use Rattle.h5w_model.specs.Calls.{open_call, rows_call};
+    ghost use Rattle.h5w_lookup.specs.Attempts.{reader_limits};
+    ghost use Rattle.h5w_model.specs.Programs.{next_look, fed, and_then, ret, bind};
+    ghost use Rattle.h5w_lookup.specs.Looks.{look_of, IsWithinLook};
+    ghost use Rattle.h5w_reader.specs.Calling.{stage_left, came, place_rest, reached, confirm_rest, rows_given};
     ghost use Rattle.h5w_reader.specs.Walking.{founds};
-    ghost use Rattle.h5w_model.specs.Programs.{bind};
-    ghost use Rattle.h5w_reader.specs.Calling.{came, reached, confirm_rest, rows_given, place_rest};
+    ghost use Rattle.h5w_reader.specs.Opening.{opened};
+
+    /// What a call comes to whose answer this is.
+    fn answered(answer: Result<News, ReadError>) -> Came
+        ensures { (most : ℕ) (name : List ℕ) (known : Option Reading) → came most name known result ≡ ret (viewed (reading_news known) answer) }
+    {
+        match answer {
+            Ok(news) => Outcome::Done(news),
+            Err(error) => Outcome::Refused(error),
+        }
+    }
 
     /// Goes on from the messages of the root header.
     fn after_root(
@@ -157,7 +162,7 @@ impl Came {
             Ok(place) => place,
             Err(error) => return refused(error),
         };
-        Ok(Came::Looks(Stage::Header(Rules { attempts, place })))
+        Ok(Outcome::Looks(Stage::Header(Rules { attempts, place })))
     }
 
     /// Goes on from what a look on the way to the root header's messages comes to.
@@ -165,9 +170,9 @@ impl Came {
         ensures { (known : Option Reading) → IfOk result (λ c. came attempts name.now known c ≡ and_then (opened o) (place_rest attempts name.now known)) }
     {
         match o {
-            Opened::Found(found) => Came::after_root(alloc, attempts, name, found),
-            Opened::Refused(error) => Ok(Came::Answer(Err(error))),
-            Opened::Looks(opening) => Ok(Came::Looks(Stage::Open(opening))),
+            Outcome::Done(found) => Stage::after_root(alloc, attempts, name, found),
+            Outcome::Refused(error) => Ok(Outcome::Refused(error)),
+            Outcome::Looks(opening) => Ok(Outcome::Looks(Stage::Open(opening))),
         }
     }
 
@@ -190,19 +195,11 @@ impl Came {
         ensures { (most : ℕ) (name : List ℕ) (known : Option Reading) → came most name known result ≡ bind (reached (rules_of attempt.rules known) found) (confirm_rest (rules_of attempt.rules known) attempt.more attempt.view) }
     {
         match found {
-            Reached::Answer(answer) => Came::Looks(Stage::Confirm(attempt, answer)),
-            Reached::Looks(behind) => Came::Looks(Stage::Behind(attempt, behind)),
+            Outcome::Done(news) => Outcome::Looks(Stage::Confirm(attempt, Ok(news))),
+            Outcome::Refused(error) => Outcome::Looks(Stage::Confirm(attempt, Err(error))),
+            Outcome::Looks(behind) => Outcome::Looks(Stage::Behind(attempt, behind)),
         }
     }
-}
-
-impl Stage {
-    ghost use Rattle.h5w_model.specs.Calls.{open_call, rows_call};
-    ghost use Rattle.h5w_reader.specs.Attempts.{reader_limits};
-    ghost use Rattle.h5w_model.specs.Programs.{next_look, fed};
-    ghost use Rattle.h5w_reader.specs.Looks.{look_of, IsWithinLook};
-    ghost use Rattle.h5w_reader.specs.Calling.{stage_left, came, place_rest};
-    ghost use Rattle.h5w_reader.specs.Walking.{founds};
 
     /// An open.
     pub fn open(alloc: Global) -> Stage
@@ -247,16 +244,16 @@ impl Stage {
         ensures { IfOk result (λ c. came attempts name.now (known_of known.now) c ≡ fed piece.now (stage_left attempts name.now (known_of known.now) self)) }
     {
         match self {
-            Stage::Open(opening) => Came::after_open(
+            Stage::Open(opening) => Stage::after_open(
                 alloc,
                 attempts,
                 name,
                 opening.feed(alloc, piece)?,
             ),
-            Stage::Header(rules) => Came::after_header(alloc, rules, known, piece),
+            Stage::Header(rules) => Stage::after_header(alloc, rules, known, piece),
             Stage::Behind(attempt, behind) => {
                 let found = behind.feed(alloc, &attempt.rules, known, piece)?;
-                Ok(Came::after_behind(attempt, found))
+                Ok(Stage::after_behind(attempt, found))
             }
             Stage::Confirm(attempt, answer) => {
                 let last = view_at(alloc, attempt.rules.place, piece)?;

@@ -2,16 +2,12 @@
 ghost use Rattle.std.specs.Prelude.{◌≡◌, ◌≢◌, ◌+◌, ◌-◌, ◌*◌, ◌/◌, ◌^◌, ◌<◌, ◌≤◌, get_or, length, ℕ, Some, IfOk};
 ghost use Rattle.h5w_model.specs.Numbers.{undefined};
 ghost use Rattle.h5w_model.specs.Calls.{first_in_band, last_in_band};
-ghost use Rattle.h5w_reader.specs.Described.{described_of};
+ghost use Rattle.h5w_lookup.specs.Described.{described_of};
 
 use crate::cells::{put_cells, put_fill};
-use crate::dataset::Dataset;
-use crate::gather::{Gather, Gathered};
 use crate::grid::{Beside, Grid};
-use crate::known::Known;
-use crate::look::{Look, look_at};
-use crate::table::address_at;
 use h5w_bytes::UNDEFINED;
+use h5w_lookup::{Dataset, Gather, Gathered, Known, Look, address_at, look_at};
 use h5w_model::{BlockFault, OutOfMemory, Piece, ReadError, Values};
 use std::alloc::Global;
 
@@ -193,7 +189,7 @@ impl Span {
 
 impl Goes {
     ghost use Rattle.h5w_model.specs.Calls.{values_call};
-    ghost use Rattle.h5w_reader.specs.Attempts.{reading_of};
+    ghost use Rattle.h5w_lookup.specs.Attempts.{reading_of};
     ghost use Rattle.h5w_reader.specs.Values.{goes};
 
     /// Begins a read of `count` rows from row `from` on. Chunks that are not there are not looked at.
@@ -218,7 +214,7 @@ impl Goes {
 
 impl Ranged {
     ghost use Rattle.h5w_model.specs.Programs.{next_look, fed};
-    ghost use Rattle.h5w_reader.specs.Looks.{IsWithinLook};
+    ghost use Rattle.h5w_lookup.specs.Looks.{IsWithinLook};
     ghost use Rattle.h5w_reader.specs.Values.{range_values, valued};
 
     /// Goes on with the piece that the look gave.
@@ -247,7 +243,7 @@ impl Ranged {
 
 impl Reads {
     ghost use Rattle.h5w_model.specs.Programs.{next_look, fed};
-    ghost use Rattle.h5w_reader.specs.Looks.{look_of, IsWithinLook};
+    ghost use Rattle.h5w_lookup.specs.Looks.{look_of, IsWithinLook};
     ghost use Rattle.h5w_reader.specs.Values.{reading_values, valued};
 
     /// The next look.

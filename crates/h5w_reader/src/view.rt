@@ -1,7 +1,7 @@
 //! What counts of a look at a header.
 ghost use Rattle.std.specs.Prelude.{◌≡◌, ◌-◌, ◌≤◌, ◌++◌, ◌∷◌, [], take, length, IfOk};
 ghost use Rattle.h5w_model.specs.Headers.{prefix_at, header_view, zeros};
-ghost use Rattle.h5w_reader.specs.Looks.{FitsLook};
+ghost use Rattle.h5w_lookup.specs.Looks.{FitsLook};
 ghost use Rattle.h5w_model.specs.Datasets.{root_view};
 
 use h5w_model::{Bytes, HeaderError, OutOfMemory, PIECE, Piece};

@@ -1,12 +1,10 @@
 //! The messages of a header and of its continuation blocks, visited in order.
 ghost use Rattle.std.specs.Prelude.{◌≡◌, ◌+◌, ◌-◌, ◌<◌, ◌≤◌, ◌^◌, ◌∷◌, length, Some, IfOk};
 
-use crate::found::FoundMessage;
-use crate::gather::{Gather, Gathered};
-use crate::look::Look;
 use crate::refusal::header_refusal;
 use crate::stack::put_before;
 use h5w_bytes::number;
+use h5w_lookup::{FoundMessage, Gather, Gathered, Look, Outcome};
 use h5w_model::{BlockFault, HeaderError, OutOfMemory, Piece, Prefix, ReadError};
 use h5w_ohdr::{block, messages};
 use std::alloc::Global;
@@ -44,15 +42,8 @@ pub struct Block {
     gather: Gather,
 }
 
-/// What a visit comes to.
-#[derive(Drop)]
-pub enum Walked {
-    /// All messages, in order.
-    Done(Vec<FoundMessage>),
-    Refused(ReadError),
-    /// A block is to be looked at first.
-    Visit(Block),
-}
+/// What a visit comes to: all messages, in order, or a block that is to be looked at first.
+pub type Walked = Outcome<Vec<FoundMessage>, Block>;
 
 impl Walk {
     ghost use Rattle.h5w_model.specs.Headers.{block_at, messages_at};
@@ -77,7 +68,7 @@ impl Walk {
                 };
                 walk.go_on(alloc)
             }
-            Err(error) => Ok(Walked::Refused(header_refusal(place, got, error)?)),
+            Err(error) => Ok(Outcome::Refused(header_refusal(place, got, error)?)),
         }
     }
 
@@ -105,7 +96,7 @@ impl Walk {
             }
             done.push(m)?;
         }
-        Ok(Walked::Done(done))
+        Ok(Outcome::Done(done))
     }
 
     /// Goes on at a continuation message.
@@ -114,7 +105,7 @@ impl Walk {
         ensures { walked result ≡ walk_rest self.more self.header self.tracked (founds self.done.items) (found_of m.now ∷ stack self.next.items) }
     {
         if self.more == 0 {
-            return Walked::Refused(ReadError::Header {
+            return Outcome::Refused(ReadError::Header {
                 at: self.header,
                 error: HeaderError::Continuations,
             });
@@ -122,7 +113,7 @@ impl Walk {
         let body = m.body.as_slice();
         let (place, len) = (number(body, 0, 8), number(body, 8, 8));
         if len < LEAST {
-            return Walked::Refused(ReadError::Damaged {
+            return Outcome::Refused(ReadError::Damaged {
                 at: place,
                 fault: BlockFault::Cut {
                     need: LEAST,
@@ -137,7 +128,7 @@ impl Walk {
             done,
             next,
         } = self;
-        Walked::Visit(Block {
+        Outcome::Looks(Block {
             walk: Walk {
                 header,
                 tracked,
@@ -163,7 +154,7 @@ impl Walk {
     {
         let got = bytes.len();
         if (got as u64) < len {
-            return Ok(Walked::Refused(ReadError::Damaged {
+            return Ok(Outcome::Refused(ReadError::Damaged {
                 at: place,
                 fault: BlockFault::Cut {
                     need: len,
@@ -176,14 +167,14 @@ impl Walk {
                 put_before(&mut self.next, msgs, place, got, false)?;
                 self.go_on(alloc)
             }
-            Err(error) => Ok(Walked::Refused(header_refusal(place, got, error)?)),
+            Err(error) => Ok(Outcome::Refused(header_refusal(place, got, error)?)),
         }
     }
 }
 
 impl Block {
     ghost use Rattle.h5w_model.specs.Programs.{next_look, fed};
-    ghost use Rattle.h5w_reader.specs.Looks.{look_of, IsWithinLook};
+    ghost use Rattle.h5w_lookup.specs.Looks.{look_of, IsWithinLook};
     ghost use Rattle.h5w_reader.specs.Walking.{walked, walking};
 
     /// The next look.
@@ -204,7 +195,7 @@ impl Block {
         let Block { walk, len, gather } = self;
         let place = gather.start();
         match gather.feed(piece)? {
-            Gathered::More(gather) => Ok(Walked::Visit(Block { walk, len, gather })),
+            Gathered::More(gather) => Ok(Outcome::Looks(Block { walk, len, gather })),
             Gathered::Whole(bytes) => walk.enter(alloc, place, len, &bytes),
         }
     }

@@ -1,8 +1,14 @@
 -- How a run in threads ends.
-use Rattle.std.proofs.Common.{◌≡◌, ◌⊎◌, ℕ, List, [], ◌∷◌, map, ℤ, Option, Some, None, Result, Ok, Err, refl, sym, ap, ◌∙◌, subst, inl, inr}
+use Rattle.std.proofs.Common.{◌≡◌, ◌⊎◌, ℕ, ◌+◌, ◌≤◌, List, [], ◌∷◌, map, ℤ, Option, Some, None, Result, Ok, Err, refl, sym, ap, ◌∙◌, subst, inl, inr}
 use Rattle.std.specs.Prelude.{IfSome}
 use Rattle.h5w_model.specs.Causes.{Rose}
+use Rattle.h5w_model.specs.Datasets.{Described}
+use Rattle.h5w_model.specs.Logs.{load, spent}
 use Rattle.h5w_shared.specs.Seats.{SeatView}
+use Rattle.h5w_space.specs.declared.Full.{Full}
+use Rattle.h5w_creation_laws.specs.CreatedFiles.{CreatedFile, described_of}
+use Rattle.h5w_session.specs.Loads.{NoPlace, first_end_of}
+use Rattle.h5w_session.specs.Sessions.{Session, cutting_of, with_rows}
 use Rattle.h5w_session.specs.declared.refusal.AppendError.{AppendError}
 use Rattle.h5w_text.specs.Errors.{error_text}
 use Rattle.h5w_text.specs.Says.{Said, SaidUnlessMemory, whole, failed}
@@ -18,10 +24,10 @@ use Rattle.h5w_batches.specs.Inputs.{AreAll, HasNumbers, ReadsOutside}
 use Rattle.h5w_batches.specs.Reads.{IsTooLong, ReadsBatches}
 use Rattle.h5w_batches.specs.declared.error.BatchError.TheVariants as batch_errors
 use Rattle.h5w_batches.proofs.AnswerLemmas.{completes_of}
-use Rattle.h5w_live.specs.Writing.{first_refused}
+use Rattle.h5w_live.specs.Writing.{IsFullAt, cutting_for, first_refused}
 use Rattle.h5w_live.specs.declared.report.LiveReport.{LiveReport}
-use Rattle.h5w_running.specs.Runs.{Asked, Refuses, Tells}
-use Rattle.h5w_running.specs.Ends.{ComesTo, Ends, HasRows, LiveEnds, LiveEndsWell, broken, ended_by, image_text, written}
+use Rattle.h5w_running.specs.Runs.{Asked, Halts, HaltsBy, LacksRoomAt, Refuses, RefusesBy, Tells}
+use Rattle.h5w_running.specs.Ends.{ComesBy, ComesTo, Ends, HasRows, LiveEnds, LiveEndsWell, LiveTells, broken, ended_by, image_text, written}
 use Rattle.h5w_running.specs.declared.ended.Ended.{Ended}
 use Rattle.h5w_running.specs.declared.ended.Ended.TheVariants as ends
 use Rattle.h5w_running.specs.declared.refusal.Refusal.{Refusal}
@@ -118,3 +124,84 @@ ends_well {s} {t} {k} {l} a result e = λ h source sink image. go h source sink 
     go : HasRows a s → (Rose s.faults t.faults → ⊥) → (Rose k.faults l.faults → ⊥) → ((worn : SeatView) → result ≡ ends.Image worn → ⊥) → Ends e.text (ended_by e.answer) result k l → IsGood result
     go h source sink image (broken is rose some) = absurd (sink rose)
     go h source sink image (written is gave) = subst IsGood (sym is) (good a s t e.answer e.text e.comes h source (λ worn same. image worn (is ∙ same)))
+
+-- ---- In words of a log
+
+cut_as : (f : CreatedFile) (s : Session) → s.dataset ≡ with_rows s.dataset.shape.rows (described_of f) → cutting_of s ≡ cutting_for f
+cut_as f s h = ap (λ (d : Described). cutting_of (record s { dataset = d })) h
+
+room_at : (f : CreatedFile) (most : ℕ) (bs : List (List ℤ)) (batch : ℕ) (full : Full) → IsFullAt f most bs batch full → LacksRoomAt f most bs batch full
+room_at f most bs batch full h =
+    let l = h.lacks in
+    let none : NoPlace l.session l.log full = l.lacks l.log l.stands in
+    let cut = cut_as f l.session l.dataset in
+    let end : first_end_of l.log ≡ 1024 = ap first_end_of l.new in
+    record {
+      before = h.before;
+      number = h.number;
+      within = h.within;
+      accepted = h.accepted;
+      log = l.log;
+      new = l.new;
+      appended = l.appended;
+      flushed = l.flushed;
+      some = none.some;
+      limit = l.limit;
+      past = none.past;
+      size_bound = subst (λ c. full.size ≤ load c l.log) cut none.size_bound;
+      at_bound = subst (λ n. full.at ≤ n + spent (cutting_for f) l.log + load (cutting_for f) l.log) end (subst (λ c. full.at ≤ first_end_of l.log + spent c l.log + load c l.log) cut none.at_bound);
+    }
+
+halts_told : (f : CreatedFile) (most : ℕ) (bs : List (List ℤ)) (e : Refusal) → Halts f most bs e → HaltsBy LacksRoomAt f most bs e
+halts_told f most bs (Error (errors.Range batch index value)) h = h
+halts_told f most bs (Error (errors.FullChunks chunks limit)) h = h
+halts_told f most bs (Error (errors.FullSpace at size limit)) h = (h.0, room_at f most bs h.0 (record { at = at; size = size; limit = limit }) h.1)
+halts_told f most bs (Error errors.Memory) h = tt
+halts_told f most bs (Image worn) h = tt
+halts_told f most bs (Error errors.Usage) h = absurd h
+halts_told f most bs (Error errors.Missing) h = absurd h
+halts_told f most bs (Error errors.Exists) h = absurd h
+halts_told f most bs (Error (errors.Read x)) h = absurd h
+halts_told f most bs (Error (errors.Finding kind at)) h = absurd h
+halts_told f most bs (Error (errors.Overlap at len other other_len)) h = absurd h
+halts_told f most bs (Error (errors.Cut end size)) h = absurd h
+halts_told f most bs (Error (errors.WriterVersion version)) h = absurd h
+halts_told f most bs (Error errors.Layout) h = absurd h
+halts_told f most bs (Error (errors.ChunkBytes bytes)) h = absurd h
+halts_told f most bs (Error errors.NoColumns) h = absurd h
+halts_told f most bs (Error errors.Deep) h = absurd h
+halts_told f most bs (Error (errors.Line n)) h = absurd h
+halts_told f most bs (Error (errors.Input limit)) h = absurd h
+halts_told f most bs (Error errors.Disk) h = absurd h
+halts_told f most bs (Error errors.Source) h = absurd h
+
+refuses_told : (a : Asked) (s t : SourceView) (e : Refusal) → Refuses a s t e → RefusesBy LacksRoomAt a s t e
+refuses_told a s t (Error (errors.Line number)) h = h
+refuses_told a s t (Error (errors.Input limit)) h = h
+refuses_told a s t (Error errors.Source) h = h
+refuses_told a s t (Error errors.Memory) h = tt
+refuses_told a s t (Error (errors.Range batch index value)) h = (h.0, h.1, halts_told a.file a.most h.0 (Error (errors.Range batch index value)) h.2)
+refuses_told a s t (Error (errors.FullChunks chunks limit)) h = (h.0, h.1, halts_told a.file a.most h.0 (Error (errors.FullChunks chunks limit)) h.2)
+refuses_told a s t (Error (errors.FullSpace at size limit)) h = (h.0, h.1, halts_told a.file a.most h.0 (Error (errors.FullSpace at size limit)) h.2)
+refuses_told a s t (Error errors.Usage) h = (h.0, h.1, halts_told a.file a.most h.0 (Error errors.Usage) h.2)
+refuses_told a s t (Error errors.Missing) h = (h.0, h.1, halts_told a.file a.most h.0 (Error errors.Missing) h.2)
+refuses_told a s t (Error errors.Exists) h = (h.0, h.1, halts_told a.file a.most h.0 (Error errors.Exists) h.2)
+refuses_told a s t (Error (errors.Read x)) h = (h.0, h.1, halts_told a.file a.most h.0 (Error (errors.Read x)) h.2)
+refuses_told a s t (Error (errors.Finding kind at)) h = (h.0, h.1, halts_told a.file a.most h.0 (Error (errors.Finding kind at)) h.2)
+refuses_told a s t (Error (errors.Overlap at len other other_len)) h = (h.0, h.1, halts_told a.file a.most h.0 (Error (errors.Overlap at len other other_len)) h.2)
+refuses_told a s t (Error (errors.Cut end size)) h = (h.0, h.1, halts_told a.file a.most h.0 (Error (errors.Cut end size)) h.2)
+refuses_told a s t (Error (errors.WriterVersion version)) h = (h.0, h.1, halts_told a.file a.most h.0 (Error (errors.WriterVersion version)) h.2)
+refuses_told a s t (Error errors.Layout) h = (h.0, h.1, halts_told a.file a.most h.0 (Error errors.Layout) h.2)
+refuses_told a s t (Error (errors.ChunkBytes bytes)) h = (h.0, h.1, halts_told a.file a.most h.0 (Error (errors.ChunkBytes bytes)) h.2)
+refuses_told a s t (Error errors.NoColumns) h = (h.0, h.1, halts_told a.file a.most h.0 (Error errors.NoColumns) h.2)
+refuses_told a s t (Error errors.Deep) h = (h.0, h.1, halts_told a.file a.most h.0 (Error errors.Deep) h.2)
+refuses_told a s t (Error errors.Disk) h = (h.0, h.1, halts_told a.file a.most h.0 (Error errors.Disk) h.2)
+refuses_told a s t (Image worn) h = (h.0, h.1, halts_told a.file a.most h.0 (Image worn) h.2)
+
+comes_told : (a : Asked) (s t : SourceView) (r : Result LiveReport Refusal) (text : List ℕ) → ComesTo a s t r text → ComesBy LacksRoomAt a s t r text
+comes_told a s t (Ok r) text h = h
+comes_told a s t (Err e) text h = (refuses_told a s t e h.0, h.1)
+
+-- an end in words of a log
+pub live_tells : {s t : SourceView} {k l : SinkView} (a : Asked) (result : Ended) → LiveEnds a result s t k l → LiveTells a result s t k l
+live_tells {s} {t} a result h = record { answer = h.answer; text = h.text; comes = comes_told a s t h.answer h.text h.comes; ended = h.ended }

@@ -8,9 +8,9 @@ use Rattle.h5w_text.specs.Streams.{Gave, GaveSome, SinkView, SourceView}
 use Rattle.h5w_text.specs.declared.status.Status.TheVariants as statuses
 use Rattle.h5w_batches.specs.Batches.{batches_of}
 use Rattle.h5w_batches.specs.Inputs.{HasNumbers}
-use Rattle.h5w_live.specs.Writing.{first_refused}
+use Rattle.h5w_live.specs.Writing.{IsFullAt, first_refused}
 use Rattle.h5w_live.specs.declared.report.LiveReport.{LiveReport}
-use Rattle.h5w_running.specs.Runs.{Asked, Refuses, Tells}
+use Rattle.h5w_running.specs.Runs.{Asked, LacksRoomAt, RefusesBy, Rooms, Tells}
 use Rattle.h5w_running.specs.declared.ended.Ended.{Ended}
 use Rattle.h5w_running.specs.declared.ended.Ended.TheVariants as ends
 use Rattle.h5w_running.specs.declared.refusal.Refusal.{Refusal}
@@ -37,9 +37,12 @@ ended_by (Err (Error e)) = ends.With (status_of e)
 ended_by (Err (Image worn)) = ends.Image worn
 
 -- what a run comes to, and its text
+abbrev pub ComesBy : Rooms → Asked → SourceView → SourceView → Result LiveReport Refusal → List ℕ → Type 0
+ComesBy Lacks a s t (Ok r) text = Tells a s t r text
+ComesBy Lacks a s t (Err e) text = RefusesBy Lacks a s t e × (text ≡ refusal_text e)
+
 abbrev pub ComesTo : Asked → SourceView → SourceView → Result LiveReport Refusal → List ℕ → Type 0
-ComesTo a s t (Ok r) text = Tells a s t r text
-ComesTo a s t (Err e) text = Refuses a s t e × (text ≡ refusal_text e)
+ComesTo = ComesBy IsFullAt
 
 -- the text was written, and that is the end; or the sink failed behind some first part of it
 pub data Ends (text : List ℕ) (ended result : Ended) (k l : SinkView) : Type 0 where
@@ -47,11 +50,19 @@ pub data Ends (text : List ℕ) (ended result : Ended) (k l : SinkView) : Type 0
   broken : result ≡ ends.With statuses.Sink → Rose k.faults l.faults → GaveSome text k l → Ends text ended result k l
 
 -- What the command leaves of its source and its sink: it came to an answer, whose text was written, unless the sink failed.
-pub record LiveEnds (a : Asked) (result : Ended) (s t : SourceView) (k l : SinkView) : Type 0 where
+pub record LiveEndsBy (Lacks : Rooms) (a : Asked) (result : Ended) (s t : SourceView) (k l : SinkView) : Type 0 where
   pub answer : Result LiveReport Refusal
   pub text : List ℕ
-  pub comes : ComesTo a s t answer text
+  pub comes : ComesBy Lacks a s t answer text
   pub ended : Ends text (ended_by answer) result k l
+
+-- by what it means in words of a log that a file has no place
+abbrev pub LiveTells : Asked → Ended → SourceView → SourceView → SinkView → SinkView → Type 0
+LiveTells = LiveEndsBy LacksRoomAt
+
+-- and what it means of a session's own state
+abbrev pub LiveEnds : Asked → Ended → SourceView → SourceView → SinkView → SinkView → Type 0
+LiveEnds = LiveEndsBy IsFullAt
 
 -- ---- Where nothing stands in its way
 

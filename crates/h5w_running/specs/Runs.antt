@@ -1,16 +1,18 @@
 -- What a run in threads over the batches of an input comes to: what it reports, or why it does not.
-use Rattle.std.specs.Prelude.{◌≡◌, ℕ, ◌+◌, ◌/◌, List, length, ℤ, nat_lt, if◌then◌else◌, Option, None, Some}
+use Rattle.std.specs.Prelude.{◌≡◌, ℕ, ◌+◌, ◌/◌, ◌<◌, ◌≤◌, List, [], ◌++◌, length, take, get_or, ℤ, nat_lt, if◌then◌else◌, Option, None, Some}
 use Rattle.h5w_model.specs.Agrees.{values_in}
+use Rattle.h5w_model.specs.Logs.{Log, appended, flushed_rows, load, spent}
+use Rattle.h5w_space.specs.declared.Full.{Full}
 use Rattle.h5w_options.specs.declared.options.Options.{Options}
 use Rattle.h5w_creation_laws.specs.CreatedFiles.{CreatedFile}
-use Rattle.h5w_session.specs.Creations.{new_file}
+use Rattle.h5w_session.specs.Creations.{log_of, new_file}
 use Rattle.h5w_session.specs.declared.refusal.AppendError.TheVariants as appends
 use Rattle.h5w_text.specs.Streams.{SourceView}
 use Rattle.h5w_text.specs.declared.error.ErrorLine.TheVariants as errors
 use Rattle.h5w_batches.specs.Inputs.{ReadsOutside}
 use Rattle.h5w_batches.specs.Reads.{HasFailed, IsTooLong, ReadsBatches}
 use Rattle.h5w_live.specs.Reports.{Reports}
-use Rattle.h5w_live.specs.Writing.{IsFullAt, first_refused}
+use Rattle.h5w_live.specs.Writing.{IsFullAt, cutting_for, first_refused}
 use Rattle.h5w_live.specs.declared.report.LiveReport.{LiveReport}
 use Rattle.h5w_running.specs.Texts.{report_text}
 use Rattle.h5w_running.specs.declared.refusal.Refusal.{Refusal}
@@ -49,20 +51,54 @@ pub record Tells (a : Asked) (s t : SourceView) (r : LiveReport) (text : List �
   pub reports : Reports a.file batches a.attempts (a.readers + a.mirrors) a.calls r
   pub text_is : text ≡ report_text r.flushes r.polls (mirrored_in a r) (length (values_in batches) / a.file.columns)
 
--- why a run over these batches does not report: the first batch that is refused, or one for which the file has no place, or no fault of theirs
-abbrev pub Halts : CreatedFile → ℕ → List (List ℤ) → Refusal → Type 0
-Halts f most bs (Error (errors.Range batch index value)) = first_refused f 0 1 bs ≡ Some (batch, appends.OutOfRange index value)
-Halts f most bs (Error (errors.FullChunks chunks limit)) = (batch : ℕ) × (first_refused f 0 1 bs ≡ Some (batch, appends.Chunks chunks limit))
-Halts f most bs (Error (errors.FullSpace at size limit)) = (batch : ℕ) × IsFullAt f most bs batch (record { at = at; size = size; limit = limit })
-Halts f most bs (Error errors.Memory) = Unit {0}
-Halts f most bs (Image worn) = Unit {0}
-Halts f most bs e = ⊥
+-- ---- Why nothing is reported
+
+-- by the batch of this number, for which a file of so many bytes at most has no place
+abbrev pub Rooms : Type 1
+Rooms = CreatedFile → (most : ℕ) → List (List ℤ) → (batch : ℕ) → Full → Type 0
+
+-- Why a run over these batches does not report: the first batch that is refused, or one for which the file has no place, or no fault of
+-- theirs. What it means that there is no place is told by a relation.
+abbrev pub HaltsBy : Rooms → CreatedFile → ℕ → List (List ℤ) → Refusal → Type 0
+HaltsBy Lacks f most bs (Error (errors.Range batch index value)) = first_refused f 0 1 bs ≡ Some (batch, appends.OutOfRange index value)
+HaltsBy Lacks f most bs (Error (errors.FullChunks chunks limit)) = (batch : ℕ) × (first_refused f 0 1 bs ≡ Some (batch, appends.Chunks chunks limit))
+HaltsBy Lacks f most bs (Error (errors.FullSpace at size limit)) = (batch : ℕ) × Lacks f most bs batch (record { at = at; size = size; limit = limit })
+HaltsBy Lacks f most bs (Error errors.Memory) = Unit {0}
+HaltsBy Lacks f most bs (Image worn) = Unit {0}
+HaltsBy Lacks f most bs e = ⊥
 
 -- Why nothing is reported: the input is refused, or the source failed, or the whole input was read and the run over its batches does not
 -- report, or memory was wanting.
+abbrev pub RefusesBy : Rooms → Asked → SourceView → SourceView → Refusal → Type 0
+RefusesBy Lacks a s t (Error (errors.Line number)) = ReadsOutside a.file.columns s number
+RefusesBy Lacks a s t (Error (errors.Input limit)) = IsTooLong a.file.columns s limit
+RefusesBy Lacks a s t (Error errors.Source) = HasFailed a.file.columns s t
+RefusesBy Lacks a s t (Error errors.Memory) = Unit {0}
+RefusesBy Lacks a s t e = (bs : List (List ℤ)) × ReadsBatches a.file.columns s t bs × HaltsBy Lacks a.file a.most bs e
+
+-- ---- A file without a place, in words of its log
+
+-- A log of the created file has the batches before this one flushed, and this one appended, none of which is refused. The file has no place
+-- of this size there: it would end past the limit. Both are bounded by the loads of the log.
+pub record LacksRoomAt (f : CreatedFile) (most : ℕ) (bs : List (List ℤ)) (batch : ℕ) (full : Full) : Type 0 where
+  pub before : ℕ
+  pub number : batch ≡ before + 1
+  pub within : before < length bs
+  pub accepted : first_refused f 0 1 (take batch bs) ≡ None
+  pub log : Log
+  pub new : log ≡ log_of f log.events
+  pub appended : appended log ≡ values_in (take before bs) ++ get_or bs before []
+  pub flushed : flushed_rows log ≡ length (values_in (take before bs)) / f.columns
+  pub some : 1 ≤ full.size
+  pub limit : full.limit ≡ most
+  pub past : full.limit < full.at + full.size
+  pub size_bound : full.size ≤ load (cutting_for f) log
+  pub at_bound : full.at ≤ 1024 + spent (cutting_for f) log + load (cutting_for f) log
+
+-- ---- The same of a session's own state
+
+abbrev pub Halts : CreatedFile → ℕ → List (List ℤ) → Refusal → Type 0
+Halts = HaltsBy IsFullAt
+
 abbrev pub Refuses : Asked → SourceView → SourceView → Refusal → Type 0
-Refuses a s t (Error (errors.Line number)) = ReadsOutside a.file.columns s number
-Refuses a s t (Error (errors.Input limit)) = IsTooLong a.file.columns s limit
-Refuses a s t (Error errors.Source) = HasFailed a.file.columns s t
-Refuses a s t (Error errors.Memory) = Unit {0}
-Refuses a s t e = (bs : List (List ℤ)) × ReadsBatches a.file.columns s t bs × Halts a.file a.most bs e
+Refuses = RefusesBy IsFullAt

@@ -10,7 +10,7 @@ ghost use Rattle.h5w_live.specs.Reports.{IsCause, Reports};
 ghost use Rattle.h5w_live.specs.Writing.{AreBatches, first_refused};
 ghost use Rattle.h5w_live.specs.declared.report.LiveReport.{LiveReport as Report};
 ghost use Rattle.h5w_running.specs.Runs.{Asked, Halts, Refuses, Tells, asked_by, mirrored_in};
-ghost use Rattle.h5w_running.specs.Ends.{LiveEnds, LiveEndsWell};
+ghost use Rattle.h5w_running.specs.Ends.{LiveEnds, LiveEndsWell, LiveTells};
 
 use crate::ended::Ended;
 use crate::refusal::Refusal;
@@ -198,7 +198,8 @@ pub fn run_live<R: Threads + Wait + Sync, S: Source, K: Sink, G: Gate>(
     requires polls { (1 ≤ polls) × (polls ≤ 10000) }
     requires attempts { AreAttempts attempts }
     requires mirrors { mirrors ≤ 16 }
-    ensures ran { LiveEnds (asked_by options.now readers polls attempts mirrors) result (S.view source.old) (S.view source.new) (K.view sink.old) (K.view sink.new) }
+    ensures ran { LiveTells (asked_by options.now readers polls attempts mirrors) result (S.view source.old) (S.view source.new) (K.view sink.old) (K.view sink.new) }
+    ensures inside { LiveEnds (asked_by options.now readers polls attempts mirrors) result (S.view source.old) (S.view source.new) (K.view sink.old) (K.view sink.new) }
     ensures completes { LiveEndsWell (asked_by options.now readers polls attempts mirrors) result (S.view source.old) (S.view source.new) (K.view sink.old) (K.view sink.new) }
     ensures source { SameSource (S.view source.old) (S.view source.new) }
 {

@@ -13,6 +13,7 @@ use Rattle.h5w_chunks.specs.Grids.{IsCut}
 use Rattle.h5w_chunks.proofs.Geometry.{lt_up, up_lt}
 use Rattle.h5w_chunks.proofs.KeyLemmas.{array_key, key_at, tree_key}
 use Rattle.h5w_flush_laws.proofs.NewChunkLemmas.{touched_is}
+use Rattle.h5w_pieces.proofs.AllIn.{one_across, one_factor, one_part, part_of_one}
 use Rattle.h5w_index.specs.Placing.{IsPlacing}
 use Rattle.h5w_session.specs.Sessions.{Session, rows_of}
 use Rattle.h5w_session.specs.Flushes.{touched_by}
@@ -21,11 +22,7 @@ pub map_some : {A : Type 0} {P Q : A → Type 0} (o : Option A) → ((x : A) →
 map_some None f p = tt
 map_some (Some x) f p = f x p
 
--- what holds anyway holds where there is none, and so does what follows of it
-pub on_none : {A P : Type 0} (o : Option A) → P → IfNone o P
-on_none None p = p
-on_none (Some x) p = tt
-
+-- what follows of what holds if there is none
 pub map_none : {A P Q : Type 0} (o : Option A) → (P → Q) → IfNone o P → IfNone o Q
 map_none None f p = f p
 map_none (Some x) f p = tt
@@ -49,23 +46,6 @@ touched_from v s to n same is all =
 
 -- ---- One chunk alone
 
--- so many, of which a chunk has no fewer, have one chunk
-one_part : (n part : ℕ) → 0 < part → 0 < n → n ≤ part → div_up n part ≡ 1
-one_part n part some any few =
-    let low = lt_up 0 n part some (omega arith) in
-    elim (cases_lt 1 (div_up n part)) [
-      | inl past ↦ absurd (omega (arith, up_lt 1 n part some past))
-      | inr h ↦ omega (arith, low)
-    ]
-
--- and the other way
-part_of_one : (n part : ℕ) → 0 < part → div_up n part ≡ 1 → n ≤ part
-part_of_one n part some is =
-    elim (cases_lt part n) [
-      | inl past ↦ absurd (omega (arith, lt_up 1 n part some (omega arith), is))
-      | inr h ↦ h
-    ]
-
 -- rows of one band go into one chunk where the dataset has one side by side
 pub touched_alone : (d : Described) (from to : ℕ) → IsCut d → from < to → to ≤ from / d.layout.chunk_rows * d.layout.chunk_rows + d.layout.chunk_rows → 0 < d.shape.cols → d.shape.cols ≤ d.layout.chunk_cols → touched d from to ≡ 1
 touched_alone d from to cut some inside wide narrow =
@@ -78,31 +58,6 @@ touched_alone d from to cut some inside wide narrow =
     ] in
     let across : chunks_across d ≡ 1 = one_part d.shape.cols d.layout.chunk_cols cut.cols wide narrow in
     touched_is d from to some ∙ ap (λ (n : ℕ). n * chunks_across d) bands ∙ omega (arith, across)
-
--- a product that is one has no other factor
-one_factor : (a b : ℕ) → a * b ≡ 1 → b ≡ 1
-one_factor a b is = grind arith
-
-one_across : (d : Described) (from to : ℕ) → touched d from to ≡ 1 → chunks_across d ≡ 1
-one_across d from to all =
-    elim (cases_lt from to) [
-      | inl some ↦ one_factor (div_up to d.layout.chunk_rows - from / d.layout.chunk_rows) (chunks_across d) (sym (touched_is d from to some) ∙ all)
-      | inr none ↦
-          let zero : touched d from to ≡ 0 = cond-false (nat_lt from to) ((div_up to d.layout.chunk_rows - from / d.layout.chunk_rows) * chunks_across d) 0 (le-ltb from to none) in
-          absurd (omega (arith, zero, all))
-    ]
-
--- rows that go into one chunk have all columns there, and a chunk is no narrower
-pub record AreAllIn (d : Described) (from to : ℕ) : Type 0 where
-  pub columns : (share_of d from to 0).columns ≡ d.shape.cols
-  pub narrow : d.shape.cols ≤ d.layout.chunk_cols
-
-pub all_in : (d : Described) (from to : ℕ) → IsCut d → touched d from to ≡ 1 → AreAllIn d from to
-all_in d from to cut all =
-    let across = one_across d from to all in
-    let narrow = part_of_one d.shape.cols d.layout.chunk_cols cut.cols across in
-    let first : 0 % chunks_across d * d.layout.chunk_cols ≡ 0 = ap (λ (n : ℕ). 0 % n * d.layout.chunk_cols) across ∙ omega arith in
-    record { columns = omega (arith, first, narrow); narrow = narrow }
 
 -- the band of that chunk
 pub alone_band : (d : Described) (from to : ℕ) → touched d from to ≡ 1 → touched_band d from 0 ≡ from / d.layout.chunk_rows

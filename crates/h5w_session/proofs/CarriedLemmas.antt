@@ -29,9 +29,10 @@ use Rattle.h5w_index.specs.Told.{HeldTold}
 use Rattle.h5w_index.specs.Naming.{AreNamed, AreTakenBehind}
 use Rattle.h5w_index.specs.Placing.{IsPartly}
 use Rattle.h5w_index.proofs.PlacingLemmas.{placing_laws}
-use Rattle.h5w_session.specs.Sessions.{ArePieces, IsRoomy, IsSession, IsUnmade, IsWhole, IsWritable, Session, bands_of, most_lines, next_row, option_list, rows_of, with_rows}
-use Rattle.h5w_session.specs.Early.{next_places}
-use Rattle.h5w_session.specs.Flushes.{ArePlanned, IsFlushed, SameBut, flushed_of, header_piece, writes_behind}
+use Rattle.h5w_pieces.specs.Joined.{option_list}
+use Rattle.h5w_session.specs.Sessions.{ArePieces, IsRoomy, IsSession, IsUnmade, IsWhole, IsWritable, Session, bands_of, most_lines, next_row, rows_of, with_rows}
+use Rattle.h5w_pieces.specs.NextPlaces.{next_places, writes_behind}
+use Rattle.h5w_session.specs.Flushes.{ArePlanned, IsFlushed, SameBut, flushed_of, header_piece}
 use Rattle.h5w_session.specs.declared.refusal.FlushError.{FlushError}
 use Rattle.h5w_session.specs.declared.refusal.FlushError.TheVariants as errors
 use Rattle.h5w_session.proofs.HeaderAlone.{never, same_block}

@@ -15,7 +15,8 @@ use Rattle.h5w_chunks.specs.Shares.{touched}
 use Rattle.h5w_chunks.specs.declared.grid.ChunkPlace.{ChunkPlace}
 use Rattle.h5w_chunks.proofs.Geometry.{ceil_is_up, is_cut, lt_up, up_lt}
 use Rattle.h5w_flush_laws.proofs.NewChunkLemmas.{touched_is}
-use Rattle.h5w_session.specs.Early.{band_bytes, bytes_of_bands, next_from, next_places, unwritten}
+use Rattle.h5w_pieces.specs.NextPlaces.{next_from, next_places}
+use Rattle.h5w_session.specs.Early.{band_bytes, bytes_of_bands, unwritten}
 use Rattle.h5w_session.specs.Sessions.{row_bytes}
 
 -- ---- How many chunks rows touch

@@ -19,8 +19,8 @@ use Rattle.h5w_chunks.specs.declared.grid.ChunkPlace.{ChunkPlace}
 use Rattle.h5w_flush_laws.specs.EarlyRows.{IsEarlyPlace}
 use Rattle.h5w_index.specs.Naming.{AreTakenBehind}
 use Rattle.h5w_index.specs.Views.{TakesKey, address_in}
-use Rattle.h5w_session.specs.Early.{HasNoBandPlace, IsBandFull, IsEarlyRow, IsWithin, WritesEarly, next_places, unwritten}
-use Rattle.h5w_session.specs.Flushes.{writes_behind}
+use Rattle.h5w_pieces.specs.NextPlaces.{next_places, writes_behind}
+use Rattle.h5w_session.specs.Early.{HasNoBandPlace, IsBandFull, IsEarlyRow, IsWithin, WritesEarly, unwritten}
 use Rattle.h5w_session.specs.Sessions.{IsSession, Session, bands_of, most_lines, next_row, row_bytes, rows_of}
 use Rattle.h5w_session.proofs.CarriedLemmas.{values_few}
 use Rattle.h5w_session.proofs.EarlyBytes.{up_more}

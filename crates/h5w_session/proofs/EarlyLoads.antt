@@ -11,13 +11,14 @@ use Rattle.h5w_chunks.specs.Grids.{chunk_len}
 use Rattle.h5w_chunks.specs.Shares.{touched}
 use Rattle.h5w_index.specs.Marks.{IsRaised}
 use Rattle.h5w_index.proofs.RaisedLemmas.{raised_more}
-use Rattle.h5w_session.specs.Early.{WritesEarly, dirty_of, next_places}
+use Rattle.h5w_pieces.specs.NextPlaces.{next_places}
+use Rattle.h5w_session.specs.Early.{WritesEarly, dirty_of}
 use Rattle.h5w_session.specs.Sessions.{Session, cutting_of, next_row, row_bytes, rows_of}
 use Rattle.h5w_session.specs.Stands.{Running, Stands}
 use Rattle.h5w_session.proofs.EarlyBytes.{length_next, touched_behind, touched_more, unwritten_low}
-use Rattle.h5w_session.proofs.EarlyPlaces.{others_fit}
+use Rattle.h5w_session.proofs.ValueLemmas.{others_fit}
 use Rattle.h5w_session.proofs.LoadLemmas.{Counts, counted, load_is}
-use Rattle.h5w_session.proofs.PieceBounds.{new_writes_few}
+use Rattle.h5w_pieces.proofs.PieceBounds.{new_writes_few}
 use Rattle.h5w_session.proofs.StandLemmas.{none_anywhere}
 
 -- ---- By the load

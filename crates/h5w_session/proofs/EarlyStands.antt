@@ -41,13 +41,14 @@ use Rattle.h5w_flush_laws.proofs.KnownLaws.{unseen_known}
 use Rattle.h5w_index.specs.Naming.{AreTaken, AreTakenBehind}
 use Rattle.h5w_index.specs.Views.{IndexView, address_in}
 use Rattle.h5w_index.proofs.BehindLemmas.{behind_laws}
-use Rattle.h5w_session.specs.Early.{HasEarly, WritesEarly, next_places}
-use Rattle.h5w_session.specs.Flushes.{writes_behind}
+use Rattle.h5w_pieces.specs.NextPlaces.{next_places, writes_behind}
+use Rattle.h5w_session.specs.Early.{HasEarly, WritesEarly}
 use Rattle.h5w_session.specs.Indexes.{IsKeptIndex}
 use Rattle.h5w_session.specs.Past.{Past}
 use Rattle.h5w_session.specs.Sessions.{Session, chunk_limit, next_row, row_bytes, rows_of, with_rows}
 use Rattle.h5w_session.specs.Stands.{Running, Stands}
-use Rattle.h5w_session.proofs.EarlyPlaces.{all_stand, cells_of-append, first_fit, others_fit}
+use Rattle.h5w_pieces.proofs.EarlyRows.{all_stand}
+use Rattle.h5w_session.proofs.ValueLemmas.{cells_of-append, first_fit, others_fit}
 use Rattle.h5w_session.proofs.FlushLemmas.{each_fits}
 use Rattle.h5w_session.proofs.IndexLemmas.{missed_kept}
 use Rattle.h5w_session.proofs.LoadLemmas.{counted}

@@ -29,10 +29,10 @@ use Rattle.h5w_index.specs.Placing.{AreInside, Fits}
 use Rattle.h5w_index.proofs.BehindLemmas.{get_joined}
 use Rattle.h5w_index.proofs.PlacingLemmas.{placing_laws}
 use Rattle.h5w_session.specs.Sessions.{ArePieces, IsSession, IsUnmade, IsWhole, Session, bands_of, chunk_limit, most_lines, next_row, rows_of, with_rows}
-use Rattle.h5w_session.specs.Early.{next_places}
+use Rattle.h5w_pieces.specs.NextPlaces.{next_places}
 use Rattle.h5w_session.specs.Flushes.{ArePlanned, IsFlushed, flushed_of, header_piece}
 use Rattle.h5w_session.proofs.EarlyLemmas.{none_touched}
-use Rattle.h5w_session.proofs.EarlyPlaces.{places_all}
+use Rattle.h5w_pieces.proofs.NextPlaces.{places_all}
 use Rattle.h5w_session.proofs.FlushLemmas.{told_of}
 use Rattle.h5w_session.proofs.HeaderAlone.{never, same_block}
 use Rattle.h5w_session.proofs.PastLemmas.{ends_joined}

@@ -14,12 +14,11 @@ pub mod BeginLemmas
 pub mod RestLemmas
 pub mod LawLemmas
 pub mod FindingLemmas
+pub mod ValueLemmas
 pub mod EarlyBytes
 pub mod EarlyRowLemmas
 pub mod PlaceLemmas
-pub mod EarlyPlaces
 pub mod AloneLemmas
-pub mod RowPieces
 pub mod IndexStarts
 pub mod FlushLemmas
 pub mod FlushStands
@@ -36,7 +35,6 @@ pub mod StartedLemmas
 pub mod StartingLemmas
 pub mod StartCarriedLemmas
 pub mod NextLemmas
-pub mod PieceBounds
 pub mod ReachedLemmas
 pub mod LoadLemmas
 pub mod EarlyStands

@@ -36,7 +36,7 @@ use Rattle.h5w_session.proofs.FlushStands.{flush_stands, idle_running}
 use Rattle.h5w_session.proofs.LawLemmas.{standing_laws}
 use Rattle.h5w_session.proofs.NextLemmas.{next_addressed}
 use Rattle.h5w_session.proofs.PastLemmas.{IsLike, past_planned}
-use Rattle.h5w_session.proofs.PieceBounds.{behind_few}
+use Rattle.h5w_pieces.proofs.PieceBounds.{behind_few}
 use Rattle.h5w_session.proofs.PlannedRows.{other_bytes}
 use Rattle.h5w_session.proofs.ReachedLemmas.{any_reached}
 

@@ -26,11 +26,10 @@ use Rattle.h5w_chunks.proofs.WriteLaws.{is_share}
 use Rattle.h5w_flush_laws.proofs.NewChunkLemmas.{touched_is}
 use Rattle.h5w_index.specs.Naming.{AreTakenBehind}
 use Rattle.h5w_index.proofs.BehindLemmas.{get_joined}
-use Rattle.h5w_session.specs.Early.{next_places}
-use Rattle.h5w_session.specs.Flushes.{writes_behind}
+use Rattle.h5w_pieces.specs.NextPlaces.{next_places, writes_behind}
 use Rattle.h5w_session.specs.Sessions.{ArePieces, row_bytes}
 use Rattle.h5w_session.proofs.EarlyBytes.{length_next, none_touched, touched_more, up_covers}
-use Rattle.h5w_session.proofs.EarlyPlaces.{places_all}
+use Rattle.h5w_pieces.proofs.NextPlaces.{places_all}
 use Rattle.h5w_session.proofs.PieceLemmas.{rows_within}
 
 -- ---- Rows have writes

@@ -11,7 +11,8 @@ use Rattle.h5w_index.specs.Views.{IndexView}
 use Rattle.h5w_session.specs.Early.{HasEarly}
 use Rattle.h5w_session.specs.Flushes.{ArePlanned}
 use Rattle.h5w_session.specs.Sessions.{Session, next_row, rows_of}
-use Rattle.h5w_session.proofs.EarlyPlaces.{all_stand, cells_of-append, first_fit, others_fit}
+use Rattle.h5w_pieces.proofs.EarlyRows.{all_stand}
+use Rattle.h5w_session.proofs.ValueLemmas.{cells_of-append, first_fit, others_fit}
 
 -- so many bytes the cells of rows have
 bytes_of_rows : (bytes values rows all from cols size : ℕ) → bytes ≡ values * size → values ≡ rows * cols → all ≡ from + rows → bytes ≡ (all - from) * cols * size

@@ -46,7 +46,7 @@ use Rattle.h5w_index.proofs.MarkLemmas.{mark_laws}
 use Rattle.h5w_session.proofs.EarlyLemmas.{early_freed, early_missed}
 use Rattle.h5w_session.proofs.IndexLemmas.{forgotten_live, freed_kept, missed_kept, super_kept}
 use Rattle.h5w_session.proofs.PastLemmas.{past_more, past_same, past_shown, past_values}
-use Rattle.h5w_session.proofs.EarlyPlaces.{cells_of-append}
+use Rattle.h5w_session.proofs.ValueLemmas.{cells_of-append}
 use Rattle.h5w_session.proofs.StateLemmas.{Accepted, rows_are}
 
 -- ---- What is left

@@ -27,10 +27,11 @@ use Rattle.h5w_index.specs.Full.{IsFullPart}
 use Rattle.h5w_index.specs.Naming.{AreNamed, AreTakenBehind}
 use Rattle.h5w_index.specs.Placing.{AreInside, Fits}
 use Rattle.h5w_session.specs.Sessions.{ArePieces, IsRoomy, IsSession, IsUnmade, Session, next_row, rows_of, with_rows}
-use Rattle.h5w_session.specs.Early.{next_places}
-use Rattle.h5w_session.specs.Flushes.{ArePlanned, writes_behind}
+use Rattle.h5w_pieces.specs.NextPlaces.{next_places, writes_behind}
+use Rattle.h5w_session.specs.Flushes.{ArePlanned}
 use Rattle.h5w_session.specs.Refusals.{IsStartFull, IsUnfilled, IsUnplaced}
-use Rattle.h5w_session.specs.Starts.{AreJoined, IsNaming, IsStartFlushed, IsStartedAt, naming_piece, started_of}
+use Rattle.h5w_pieces.specs.Joined.{AreJoined, IsNaming}
+use Rattle.h5w_session.specs.Starts.{IsStartFlushed, IsStartedAt, naming_piece, started_of}
 use Rattle.h5w_session.proofs.StartKinds.{made_none}
 use Rattle.h5w_session.proofs.StartingLemmas.{made_fits, made_inside, made_takes, shown_started, started_is, started_pieces}
 

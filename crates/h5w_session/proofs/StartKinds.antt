@@ -60,7 +60,8 @@ use Rattle.h5w_tree_starting_laws.specs.TreeStartCalls.{AreTreeStartCalls}
 use Rattle.h5w_tree_starting_laws.proofs.TreeStartCallLemmas.{tree_start_calls}
 use Rattle.h5w_tree_starting_laws.proofs.TreeLeadLemmas.{tree_start_leads, tree_start_runs}
 use Rattle.h5w_session.specs.Indexes.{IsBlank}
-use Rattle.h5w_session.specs.Starts.{AreJoined, IsArrayMade, IsMadeAt, IsNaming, IsTreeMade, TookTops, TookTwo, both, block_alone}
+use Rattle.h5w_pieces.specs.Joined.{AreJoined, IsNaming}
+use Rattle.h5w_session.specs.Starts.{IsArrayMade, IsMadeAt, IsTreeMade, TookTops, TookTwo, both, block_alone}
 
 -- ---- An index without chunks
 

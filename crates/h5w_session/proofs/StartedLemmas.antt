@@ -41,7 +41,8 @@ use Rattle.h5w_index.proofs.MarkLemmas.{mark_laws}
 use Rattle.h5w_session.specs.Sessions.{Session, rows_of, with_rows}
 use Rattle.h5w_session.specs.Past.{Past}
 use Rattle.h5w_session.specs.Stands.{Running}
-use Rattle.h5w_session.specs.Starts.{AreJoined, IsMadeAt, IsNaming, IsStartFlushed, StartRunning, naming_piece, started_of}
+use Rattle.h5w_pieces.specs.Joined.{AreJoined, IsNaming}
+use Rattle.h5w_session.specs.Starts.{IsMadeAt, IsStartFlushed, StartRunning, naming_piece, started_of}
 use Rattle.h5w_block_laws.specs.HeaderAlone.{IsHeaderAlone}
 use Rattle.h5w_session.specs.Indexes.{Lacks, an_index, a_block}
 use Rattle.h5w_session.proofs.CreatingLemmas.{no_cells}

@@ -16,7 +16,8 @@ use Rattle.h5w_index.specs.Blocks.{has_no_block}
 use Rattle.h5w_index.specs.Placing.{AreInside, Fits}
 use Rattle.h5w_session.specs.Sessions.{ArePieces, HasAddress, IsSession, IsUnmade, IsWritable, Session, bands_of, chunk_limit, rows_of, with_rows}
 use Rattle.h5w_session.specs.Flushes.{ArePlanned}
-use Rattle.h5w_session.specs.Starts.{AreJoined, IsNaming, IsStartFlushed, IsStartedAt, naming_piece, started_of}
+use Rattle.h5w_pieces.specs.Joined.{AreJoined, IsNaming}
+use Rattle.h5w_session.specs.Starts.{IsStartFlushed, IsStartedAt, naming_piece, started_of}
 use Rattle.h5w_session.proofs.FlushedLemmas.{IsBefore, copies_pieces, fits_same, fits_then, fixed_pieces, inside_then, kind_then, limit_then, one_piece, pieces_joined, rises, rows_pieces, sound_then, supers_pieces, takes_keys, told, tops_then}
 use Rattle.h5w_session.proofs.EarlyLemmas.{none_touched}
 use Rattle.h5w_session.proofs.HeaderAlone.{made_whole, never, same_block}

@@ -1,5 +1,5 @@
 -- Rows that are written before their flush: whole bands of chunks, which no reader reaches, so that the cells that wait are bounded.
-use Rattle.std.specs.Prelude.{◌≡◌, ◌≢◌, ◌⊎◌, ℕ, suc, ◌+◌, ◌-◌, ◌*◌, ◌/◌, ◌%◌, ◌<◌, ◌≤◌, ◌==◌, min, List, [], ◌∷◌, length, take, drop, ℤ, nat_lt, ◌||◌, if◌then◌else◌, slice_get, Some}
+use Rattle.std.specs.Prelude.{◌≡◌, ◌≢◌, ◌⊎◌, ℕ, ◌+◌, ◌-◌, ◌*◌, ◌/◌, ◌%◌, ◌<◌, ◌≤◌, ◌==◌, min, List, [], length, take, drop, ℤ, nat_lt, if◌then◌else◌, slice_get, Some}
 use Rattle.h5w_model.specs.Numbers.{undefined}
 use Rattle.h5w_model.specs.Logs.{div_up}
 use Rattle.h5w_model.specs.Datasets.{Described}
@@ -11,29 +11,15 @@ use Rattle.h5w_cache.specs.Plans.{IsRefused}
 use Rattle.h5w_chunks.specs.Grids.{cells_of, chunk_len}
 use Rattle.h5w_chunks.specs.Shares.{new_writes, touched}
 use Rattle.h5w_chunks.specs.Rows.{RowsWritten}
-use Rattle.h5w_chunks.specs.Early.{RowsStand, band_row, shift_of}
+use Rattle.h5w_chunks.specs.Early.{RowsStand}
 use Rattle.h5w_chunks.specs.declared.grid.ChunkPlace.{ChunkPlace}
 use Rattle.h5w_flush_laws.specs.EarlyRows.{IsEarlyPlace}
 use Rattle.h5w_index.specs.Naming.{AreTaken, AreTakenBehind}
 use Rattle.h5w_index.specs.Placing.{next_key}
 use Rattle.h5w_index.specs.Views.{address_in}
 use Rattle.h5w_visits.specs.Needed.{AreFew}
+use Rattle.h5w_pieces.specs.NextPlaces.{next_places}
 use Rattle.h5w_session.specs.Sessions.{Session, next_row, row_bytes, rows_of, with_rows}
-
--- ---- Places
-
--- by which place rows from `mid` on are written into their touched chunk k: where its band has a row before `mid` it counts as stored
-abbrev pub next_place : Described → ℕ → ℕ → ChunkPlace → ChunkPlace
-next_place d mid k p = record p { stored = nat_lt (band_row d mid k) mid || p.stored }
-
--- so are these, of the touched chunks from chunk k on
-unfoldable pub next_from : Described → ℕ → ℕ → List ChunkPlace → List ChunkPlace
-next_from d mid k [] = []
-next_from d mid k (p ∷ ps) = next_place d mid k p ∷ next_from d mid (suc k) ps
-
--- The places by which the rows from `mid` on are written, of all chunks that the rows from `from` on touch: these, where no row came before.
-abbrev pub next_places : Described → ℕ → ℕ → List ChunkPlace → List ChunkPlace
-next_places d from mid all = if nat_lt from mid then next_from d mid 0 (drop (shift_of d from mid) all) else all
 
 -- ---- What waits
 

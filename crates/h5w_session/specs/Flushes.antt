@@ -1,5 +1,5 @@
 -- What a flush makes of a session.
-use Rattle.std.specs.Prelude.{◌≡◌, ℕ, ◌*◌, ◌^◌, ◌<◌, ◌≤◌, true, List, [], ◌∷◌, ◌++◌, length, nat_lt, None, if◌then◌else◌}
+use Rattle.std.specs.Prelude.{◌≡◌, ℕ, ◌*◌, ◌^◌, ◌<◌, ◌≤◌, true, List, [], ◌∷◌, ◌++◌, length, nat_lt, None}
 use Rattle.h5w_model.specs.Headers.{with_rows_bytes}
 use Rattle.h5w_model.specs.Datasets.{Described}
 use Rattle.h5w_model.specs.Messages.{IsIntType}
@@ -9,7 +9,7 @@ use Rattle.h5w_model.specs.declared.piece.Write.{Write}
 use Rattle.h5w_space.specs.Space.{Space}
 use Rattle.h5w_cache.specs.declared.moves.Move.{Move}
 use Rattle.h5w_chunks.specs.Grids.{fill_cell}
-use Rattle.h5w_chunks.specs.Shares.{new_writes, touched, touched_band, touched_key}
+use Rattle.h5w_chunks.specs.Shares.{touched, touched_band, touched_key}
 use Rattle.h5w_chunks.specs.Rows.{RowsWritten}
 use Rattle.h5w_chunks.specs.declared.grid.ChunkPlace.{ChunkPlace}
 use Rattle.h5w_flush_laws.specs.Parts.{AreEnded}
@@ -18,7 +18,7 @@ use Rattle.h5w_index.specs.Steps.{IsBegun, IsPlan}
 use Rattle.h5w_index.specs.declared.begun.Begun.{Begun}
 use Rattle.h5w_index.specs.Naming.{AreNamed, AreTakenBehind}
 use Rattle.h5w_index.specs.Placing.{Fits, IsPartly}
-use Rattle.h5w_session.specs.Early.{next_places}
+use Rattle.h5w_pieces.specs.NextPlaces.{next_places, writes_behind}
 use Rattle.h5w_session.specs.Sessions.{IsRoomy, IsUnmade, IsWhole, Session, chunk_limit, next_row, rows_of, with_rows}
 
 -- how many chunks the rows that wait go into
@@ -60,10 +60,6 @@ pub record IsPrepared (d : Described) (to : ℕ) (v : IndexView) (early : List C
   pub names : AreNamed d to v chunks added named
   pub taken : AreTakenBehind d (λ key. address_in v key) early before chunks between
   pub begun : IsBegun named between b t
-
--- the writes of the rows from `mid` on, of rows from `from` on whose chunks have these places: none where all were written early
-abbrev pub writes_behind : Described → List ℕ → (from mid to : ℕ) → List ChunkPlace → List Write
-writes_behind d cells from mid to chunks = if nat_lt mid to then new_writes d cells mid to (next_places d from mid chunks) else []
 
 -- What a flush shows of the chunks that the rows that no flush has planned go into, over an index and places: each chunk in the order of its
 -- key, with its place, first those of rows that were written early; the places once the new ones are taken; the index once it names them;

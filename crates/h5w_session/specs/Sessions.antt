@@ -225,11 +225,6 @@ closed_of s = record s {
   stopped = true;
 }
 
--- an option's element, where there is one
-abbrev pub option_list : {A : Type 0} → Option A → List A
-option_list None = []
-option_list (Some x) = x ∷ []
-
 -- The session after a flush has all rows: none waits, and nothing but the places, the superblock's end, the header, the index, the
 -- pieces and an index address that the layout did not name is another. Where rows waited the layout names the index; one that was not
 -- named before stands at the address that it has now.

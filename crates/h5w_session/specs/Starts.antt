@@ -25,6 +25,7 @@ use Rattle.h5w_index.specs.Views.{IndexView, IsSound, an_array, a_tree, fixed_of
 use Rattle.h5w_index.specs.Marks.{IsRaised}
 use Rattle.h5w_index.specs.Placing.{IsOwn}
 use Rattle.h5w_creation_laws.specs.CreatedFiles.{index_len}
+use Rattle.h5w_pieces.specs.Joined.{AreJoined, IsNaming}
 use Rattle.h5w_session.specs.Sessions.{IsUnmade, Session, rows_of, with_rows}
 use Rattle.h5w_session.specs.Indexes.{IsStarting}
 use Rattle.h5w_session.specs.Flushes.{ArePlanned, IsFlushed}
@@ -92,25 +93,9 @@ pub record IsStartedAt (address : ℕ) (s : Space) (at : ℕ) (v : IndexView) (t
   pub raised : IsRaised s t (index_len (kind_of v))
   pub inside : AllEndBy t.end (fixed_of v)
 
--- Who names what is made: where the layout names no index, the dataset header names it; else the array's header names the index block, and is
--- the last block in place, which is written when the file has its end.
-pub record IsNaming (address at : ℕ) (naming : Option ℕ) : Type 0 where
-  pub unnamed : address ≡ undefined → naming ≡ Some at
-  pub named : address ≢ undefined → naming ≡ None
-
 -- the piece by which the dataset header says all rows, and where the index is, if it is to
 abbrev pub naming_piece : Session → Option ℕ → Write
 naming_piece s naming = record { at = s.place; piece = with_rows_bytes s.header (rows_of s) naming }
-
--- All pieces of a first flush, the dataset header's last: the blocks in place come before the superblock, but for the last of them where the
--- array's header is there.
-pub record AreJoined (naming : Option ℕ) (rows copies fixed supers : List Write) (header : Write) (ws : List Write) : Type 0 where
-  pub front : List Write
-  pub behind : List Write
-  pub cut : front ++ behind ≡ fixed
-  pub unnamed : IsSome naming → behind ≡ []
-  pub named : naming ≡ None → length behind ≡ min 1 (length fixed)
-  pub all : ws ≡ rows ++ (copies ++ (front ++ (supers ++ (behind ++ header ∷ []))))
 
 -- the session after such a flush
 abbrev pub started_of : Session → ℕ → Option ℕ → Space → List Write → IndexView → Session

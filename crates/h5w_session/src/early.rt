@@ -16,17 +16,17 @@ ghost use Rattle.h5w_index.specs.Held.{view_of};
 ghost use Rattle.h5w_index.specs.Naming.{AreTakenBehind};
 ghost use Rattle.h5w_index.specs.Placing.{AreInside, Fits};
 ghost use Rattle.h5w_index.specs.Views.{IsSound, TakesKey, address_in};
-ghost use Rattle.h5w_session.specs.Early.{IsBandFull, IsEarlyRow, IsPlaceFull, IsWithin, WrittenEarly, band_bytes, dirty_of, next_places, unwritten};
-ghost use Rattle.h5w_session.specs.Flushes.{writes_behind};
+ghost use Rattle.h5w_pieces.specs.NextPlaces.{next_places, writes_behind};
+ghost use Rattle.h5w_session.specs.Early.{IsBandFull, IsEarlyRow, IsPlaceFull, IsWithin, WrittenEarly, band_bytes, dirty_of, unwritten};
 ghost use Rattle.h5w_session.specs.Room.{HasRoomFor};
 ghost use Rattle.h5w_session.specs.Sessions.{AllEndBy, ArePieces, most_lines, next_row, row_bytes};
 
-use crate::pieces::put_behind;
 use crate::state::WriterCore;
 use h5w_chunks::{ChunkPlace, Grid};
 use h5w_image::{ImageError, PieceWrite};
 use h5w_index::Index;
 use h5w_model::{OutOfMemory, Write};
+use h5w_pieces::put_behind;
 use h5w_space::Places;
 
 /// How many bytes the chunks of a band of rows have.

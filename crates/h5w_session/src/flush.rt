@@ -23,20 +23,21 @@ ghost use Rattle.h5w_flush_laws.specs.EarlyRows.{IsEarlyPlace};
 ghost use Rattle.h5w_flush_laws.specs.Parts.{AreEnded};
 ghost use Rattle.h5w_image.specs.View.{Same};
 ghost use Rattle.h5w_space.specs.declared.Full.{Full};
-ghost use Rattle.h5w_session.specs.Early.{next_places};
-ghost use Rattle.h5w_session.specs.Flushes.{IsFlushed, IsPrepared, SameBut, first_key, first_place, touched_by, writes_behind};
+ghost use Rattle.h5w_pieces.specs.NextPlaces.{next_places, writes_behind};
+ghost use Rattle.h5w_session.specs.Flushes.{IsFlushed, IsPrepared, SameBut, first_key, first_place, touched_by};
 ghost use Rattle.h5w_session.specs.Loads.{NoPlace};
-ghost use Rattle.h5w_session.specs.Starts.{AreJoined, HasFlushed, IsNaming, IsStartFlushed, IsStartedAt, TookTops, TookTwo};
+ghost use Rattle.h5w_pieces.specs.Joined.{AreJoined, IsNaming, option_list};
+ghost use Rattle.h5w_session.specs.Starts.{HasFlushed, IsStartFlushed, IsStartedAt, TookTops, TookTwo};
 ghost use Rattle.h5w_model.specs.Arrays.{eahd_len, eaib_len};
 ghost use Rattle.h5w_model.specs.Numbers.{undefined};
 ghost use Rattle.h5w_session.specs.Refusals.{IsArrayUnplaced, IsDeepFor, IsDeepPart, IsFullFor, IsSpace, IsStartFull, IsUnplaced, flush_refusal};
-ghost use Rattle.h5w_session.specs.Room.{HasRoomFor, chunk_pieces, most_pieces, own_pieces};
+ghost use Rattle.h5w_pieces.specs.RowPieces.{chunk_pieces, most_pieces, own_pieces};
+ghost use Rattle.h5w_session.specs.Room.{HasRoomFor};
 ghost use Rattle.h5w_session.specs.Past.{IsNew};
-ghost use Rattle.h5w_session.specs.Sessions.{AllEndBy, AreReached, IsRoomy, IsSession, IsUnmade, IsWhole, TakesRows, cutting_of, most_lines, option_list, rows_of};
+ghost use Rattle.h5w_session.specs.Sessions.{AllEndBy, AreReached, IsRoomy, IsSession, IsUnmade, IsWhole, TakesRows, cutting_of, most_lines, rows_of};
 ghost use Rattle.h5w_session.specs.Stands.{Stands};
 ghost use Rattle.h5w_session.specs.declared.refusal.FlushError.{FlushError};
 
-use crate::pieces::{alone_pieces, put_behind};
 use crate::refusal::FlushError;
 use crate::state::WriterCore;
 use crate::taking::{Taking, name_chunks, named_chunk, place_chunks, unset};
@@ -47,6 +48,7 @@ use h5w_image::PieceWrite;
 use h5w_index::{Begun, Index};
 use h5w_model::{OutOfMemory, PIECE, Piece, Super, Write};
 use h5w_ohdr::with_rows;
+use h5w_pieces::{alone_pieces, end_with, join, join_first, naming, put_behind};
 use h5w_space::{Full, Places};
 use std::alloc::Global;
 use std::mem;
@@ -218,139 +220,6 @@ fn raise_rows(header: &mut Piece, rows: u64, index: Option<u64>) -> Piece
     with_rows(chunk, rows, index);
     header.set(chunk);
     Piece::of(chunk)
-}
-
-/// Pieces where the index has none: the rows, the superblock, and last the header.
-fn end_with(mut rows: Vec<Write>, superblock: Option<Write>, header: Write) -> Vec<Write>
-    requires { vec_len rows + 2 ≤ vec_capacity rows }
-    ensures items { result.items ≡ rows.items ++ (option_list superblock ++ header ∷ []) }
-    ensures room { 1 ≤ vec_capacity result }
-{
-    if let Some(block) = superblock {
-        rows.push_reserved(block);
-    }
-    rows.push_reserved(header);
-    rows
-}
-
-/// All pieces in their order: the rows, copies, the superblock, blocks in place, and last the header.
-fn join(mut writes: Vec<Write>, plan: Plan, superblock: Option<Write>, header: Write) -> Vec<Write>
-    requires { vec_len writes + (vec_len plan.copies + vec_len plan.in_place + 2) ≤ vec_capacity writes }
-    ensures items { result.items ≡ writes.items ++ (plan.copies.items ++ (option_list superblock ++ (plan.in_place.items ++ header ∷ []))) }
-    ensures room { 1 ≤ vec_capacity result }
-{
-    let Plan {
-        mut copies,
-        mut in_place,
-        ..
-    } = plan;
-    writes.append(&mut copies).unwrap();
-    if let Some(block) = superblock {
-        writes.push_reserved(block);
-    }
-    writes.append(&mut in_place).unwrap();
-    writes.push_reserved(header);
-    writes
-}
-
-/// All pieces of a flush that makes the index: the rows, copies, the index's blocks in place, the superblock, and last the header, which names the index.
-fn join_start(
-    mut pieces: Vec<Write>,
-    plan: Plan,
-    superblock: Option<Write>,
-    header: Write,
-) -> Vec<Write>
-    requires { vec_len pieces + (vec_len plan.copies + vec_len plan.in_place + 2) ≤ vec_capacity pieces }
-    ensures items { result.items ≡ pieces.items ++ (plan.copies.items ++ (plan.in_place.items ++ (option_list superblock ++ header ∷ []))) }
-    ensures room { 1 ≤ vec_capacity result }
-{
-    let Plan {
-        mut copies,
-        mut in_place,
-        ..
-    } = plan;
-    pieces.append(&mut copies).unwrap();
-    pieces.append(&mut in_place).unwrap();
-    if let Some(block) = superblock {
-        pieces.push_reserved(block);
-    }
-    pieces.push_reserved(header);
-    pieces
-}
-
-/// Pieces that end with the superblock, the last block in place, and the header.
-fn join_behind(
-    mut pieces: Vec<Write>,
-    mut copies: Vec<Write>,
-    mut front: Vec<Write>,
-    superblock: Option<Write>,
-    top: Write,
-    header: Write,
-) -> Vec<Write>
-    requires { vec_len pieces + (vec_len copies + vec_len front + 3) ≤ vec_capacity pieces }
-    ensures items { result.items ≡ pieces.items ++ (copies.items ++ (front.items ++ (option_list superblock ++ top ∷ header ∷ []))) }
-    ensures room { 1 ≤ vec_capacity result }
-{
-    pieces.append(&mut copies).unwrap();
-    pieces.append(&mut front).unwrap();
-    if let Some(block) = superblock {
-        pieces.push_reserved(block);
-    }
-    pieces.push_reserved(top);
-    pieces.push_reserved(header);
-    pieces
-}
-
-/// All pieces of a flush that makes an array's index block: the rows, copies, the index block, the superblock, the array's header, and last the
-/// dataset header.
-fn join_block(
-    mut pieces: Vec<Write>,
-    plan: Plan,
-    superblock: Option<Write>,
-    header: Write,
-) -> Vec<Write>
-    requires { vec_len pieces + (vec_len plan.copies + vec_len plan.in_place + 2) ≤ vec_capacity pieces }
-    ensures joined { AreJoined None pieces.items plan.copies.items plan.in_place.items (option_list superblock) header result.items }
-    ensures room { 1 ≤ vec_capacity result }
-{
-    let Plan {
-        mut copies,
-        mut in_place,
-        ..
-    } = plan;
-    match in_place.pop() {
-        Some(top) => join_behind(pieces, copies, in_place, superblock, top, header),
-        None => {
-            pieces.append(&mut copies).unwrap();
-            end_with(pieces, superblock, header)
-        }
-    }
-}
-
-/// All pieces of a first flush, where the dataset header is to name the index, or else the array's header its index block.
-fn join_first(
-    pieces: Vec<Write>,
-    plan: Plan,
-    superblock: Option<Write>,
-    header: Write,
-    naming: Option<u64>,
-) -> Vec<Write>
-    requires { vec_len pieces + (vec_len plan.copies + vec_len plan.in_place + 2) ≤ vec_capacity pieces }
-    ensures joined { AreJoined naming pieces.items plan.copies.items plan.in_place.items (option_list superblock) header result.items }
-    ensures room { 1 ≤ vec_capacity result }
-{
-    match naming {
-        Some(_) => join_start(pieces, plan, superblock, header),
-        None => join_block(pieces, plan, superblock, header),
-    }
-}
-
-/// The address that the dataset header is to name: that of an index that the layout does not name yet.
-fn naming(address: u64, at: u64) -> Option<u64>
-    ensures names { IsNaming address at result }
-    ensures unnamed { IsSome result → address ≡ undefined }
-{
-    if address == UNDEFINED { Some(at) } else { None }
 }
 
 /// Takes a place for an array's index block, and then one for its header: the header's, and the index block's.

@@ -1,14 +1,12 @@
 //! A session: one writer that appends rows to a dataset, and plans the pieces that make them visible.
 #![tactic(auto)]
 
-mod cells;
 mod early;
 mod finding;
 mod flush;
 mod form;
 mod laws;
 mod over;
-mod pieces;
 mod refusal;
 mod state;
 mod taking;

@@ -5,11 +5,11 @@ ghost use Rattle.h5w_chunks.specs.Grids.{IsGrid};
 ghost use Rattle.h5w_session.specs.Openings.{session_over};
 ghost use Rattle.h5w_session.specs.Sessions.{IsSession};
 
-use crate::cells::Cells;
 use crate::state::WriterCore;
 use h5w_chunks::Grid;
 use h5w_index::Index;
 use h5w_model::{OutOfMemory, Piece, Super, Write};
+use h5w_pieces::Cells;
 use h5w_space::Places;
 use std::alloc::Global;
 

@@ -17,7 +17,6 @@ ghost use Rattle.h5w_session.specs.Stands.{Stands};
 ghost use Rattle.h5w_session.specs.declared.refusal.AppendError.{AppendError};
 ghost use Rattle.h5w_session.specs.declared.refusal.CloseError.{CloseError};
 
-use crate::cells::Cells;
 use crate::form::form_of;
 use crate::refusal::{AppendError, CloseError};
 use h5w_chunks::{ChunkPlace, Grid, IndexKind};
@@ -26,6 +25,7 @@ use h5w_image::PieceWrite;
 use h5w_index::Index;
 use h5w_model::{OutOfMemory, Piece, Super, Write};
 use h5w_options::Options;
+use h5w_pieces::Cells;
 use h5w_space::Places;
 use h5w_types::first_outside;
 use std::alloc::Global;

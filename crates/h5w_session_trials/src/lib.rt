@@ -1,14 +1,8 @@
-//! Trials of the calls of a session, on an image in memory. There are only tests here, so that no crate is proved once more for them.
-//! The sums of the pieces that they await were computed by another program, from the tables of the format.
+//! Trials of a session, and of a world of one writer and its readers, whose calls fail: an image that fails, and memory that is refused.
+//! There are only tests here, so that no crate is proved once more for them.
 #![tactic(auto)]
 
 #[cfg(test)]
-mod early;
-#[cfg(test)]
 mod endings;
 #[cfg(test)]
-mod flushes;
-#[cfg(test)]
-mod helpers;
-#[cfg(test)]
-mod refused;
+mod steps;

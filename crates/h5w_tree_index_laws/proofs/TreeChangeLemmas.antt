@@ -6,17 +6,17 @@ use Rattle.std.proofs.lemmas.List.Elements.{All-head, All-tail}
 use Rattle.std.proofs.lemmas.List.Sums.{sum_by-cons, sum_by-append}
 use Rattle.h5w_model.specs.Trees.{capacity_of}
 use Rattle.h5w_bt.specs.declared.records.Record.{Record}
-use Rattle.h5w_bt_index.specs.Nodes.{Tree, rank}
-use Rattle.h5w_bt_index.specs.Puts.{changed_at, half, is_over, left_of, put, raised, right_of, settled, with_divided}
-use Rattle.h5w_bt_index.specs.Sound.{IsShape}
+use Rattle.h5w_bt_nodes.specs.Nodes.{Tree, rank}
+use Rattle.h5w_bt_nodes.specs.Puts.{changed_at, half, is_over, left_of, put, raised, right_of, settled, with_divided}
+use Rattle.h5w_bt_nodes.specs.Shapes.{IsShape}
 use Rattle.h5w_bt_index.specs.Marks.{IsMarked, clean_of}
 use Rattle.h5w_bt_index.specs.Index.{Index, inserted, regrown}
-use Rattle.h5w_bt_index.specs.Plans.{changes, stood}
+use Rattle.h5w_bt_nodes.specs.Blocks.{changes, stood}
 use Rattle.h5w_bt_index.proofs.Laws.{index_shaped}
-use Rattle.h5w_bt_index.proofs.Over.{OnTheWay, on_the_way}
-use Rattle.h5w_bt_index.proofs.Places.{at_place, none_is_not, some_same}
+use Rattle.h5w_bt_nodes.proofs.Over.{OnTheWay, on_the_way}
+use Rattle.h5w_bt_nodes.proofs.Places.{at_place, none_is_not, some_same}
 use Rattle.h5w_bt_index.proofs.Replaced.{clean_stood, put_changed}
-use Rattle.h5w_bt_index.proofs.Steps.{is_there, not_there, put_below, put_here, renewed, settled_not, settled_over, there, went_down}
+use Rattle.h5w_bt_nodes.proofs.Steps.{is_there, not_there, put_below, put_here, renewed, settled_not, settled_over, there, went_down}
 use Rattle.h5w_tree_index_laws.specs.TreeImages.{InsertedChanges}
 
 -- ---- The changed nodes of a node

@@ -10,13 +10,13 @@ use Rattle.h5w_model.specs.Tables.{key_below}
 use Rattle.h5w_model.specs.Trees.{capacity_of}
 use Rattle.h5w_model.specs.declared.cell.Key.{Key}
 use Rattle.h5w_bt.specs.declared.records.Record.{Record}
-use Rattle.h5w_bt_index.specs.Nodes.{Tree, address_in, all_records, records_of}
-use Rattle.h5w_bt_index.specs.Puts.{is_full_path}
+use Rattle.h5w_bt_nodes.specs.Nodes.{Tree, address_in, all_records, records_of}
+use Rattle.h5w_bt_nodes.specs.Puts.{is_full_path}
 use Rattle.h5w_bt_index.specs.Sound.{AtLeast, IsRising, IsSound, two_fifths}
 use Rattle.h5w_bt_index.specs.Index.{records}
 use Rattle.h5w_bt_index.proofs.Joined.{length-joined}
 use Rattle.h5w_bt_index.proofs.Keys.{below-not_self, equal-self}
-use Rattle.h5w_bt_index.proofs.Records.{in-here, in-under, none_is_not_some}
+use Rattle.h5w_bt_nodes.proofs.Records.{in-here, in-under, none_is_not_some}
 use Rattle.h5w_tree_index_laws.specs.TreeDepths.{DeepIsMany, WithinIsFew}
 
 -- ---- How many records are under a node at least

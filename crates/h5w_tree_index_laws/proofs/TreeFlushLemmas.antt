@@ -29,13 +29,14 @@ use Rattle.h5w_flush_laws.specs.Parts.{AllUnseen, AreEnded, EachSays, IndexFlush
 use Rattle.h5w_flush_laws.proofs.PartLemmas.{count_append}
 use Rattle.h5w_flush_laws.proofs.SpaceLemmas.{meet_nowhere}
 use Rattle.h5w_flush_laws.proofs.EarlyLemmas.{blocks_miss}
-use Rattle.h5w_bt_index.specs.Nodes.{Tree}
+use Rattle.h5w_bt_nodes.specs.Nodes.{Tree}
 use Rattle.h5w_bt_index.specs.Marks.{Part, clean_of}
 use Rattle.h5w_bt_index.specs.Index.{Index, IsClean, IsIndex, address_of, no_tree}
-use Rattle.h5w_bt_index.specs.Plans.{AreNodeMoves, changes, header_of, header_writes, news, place_of, placed, planned, written}
+use Rattle.h5w_bt_nodes.specs.Blocks.{changes, place_of, placed, written}
+use Rattle.h5w_bt_index.specs.Plans.{AreNodeMoves, header_of, header_writes, news, planned}
 use Rattle.h5w_tree_index_laws.specs.TreeImages.{AllStand, AreAmong, IsRead, StandsTree, behind_of, blocks_in_place}
 use Rattle.h5w_tree_index_laws.specs.TreeFlushes.{AreChunks, HeaderNames, IsTreePart, TreeFlushed, header_range, tree_parts}
-use Rattle.h5w_bt_index.proofs.NodeBytes.{take_whole}
+use Rattle.h5w_bt_nodes.proofs.NodeBytes.{take_whole}
 use Rattle.h5w_bt_index.proofs.Placed.{planned_index}
 use Rattle.h5w_tree_index_laws.proofs.TreeHeaderLemmas.{header_says, header_long, header_written, names_again, part_range, tree_left}
 use Rattle.h5w_tree_index_laws.proofs.TreePlanLemmas.{Ends, blocks_hold, moves_taken, placed_stands, takes}

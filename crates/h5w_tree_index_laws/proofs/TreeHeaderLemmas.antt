@@ -30,14 +30,16 @@ use Rattle.h5w_flush_laws.specs.Parts.{SaysInPlace}
 use Rattle.h5w_bt.proofs.Spelling.{bthd_at-bthd_body, bthd_body, bthd_bytes-is}
 use Rattle.h5w_bt.specs.declared.records.Record.{Record}
 use Rattle.h5w_bt.specs.Parts.{record_of}
-use Rattle.h5w_bt_index.specs.Nodes.{Tree, records_of, total_of}
+use Rattle.h5w_bt_nodes.specs.Nodes.{Tree, records_of, total_of}
 use Rattle.h5w_bt_index.specs.Sound.{IsSound}
 use Rattle.h5w_bt_index.specs.Marks.{IsCleanPart, Part, Some_of}
 use Rattle.h5w_bt_index.specs.Index.{Index, IsClean, IsIndex}
-use Rattle.h5w_bt_index.specs.Plans.{header_of, node_of, place_of}
+use Rattle.h5w_bt_nodes.specs.Blocks.{node_of, place_of}
+use Rattle.h5w_bt_index.specs.Plans.{header_of}
 use Rattle.h5w_tree_index_laws.specs.TreeImages.{StandsNode, StandsTree, around, blocks_in_place, chunk_of, chunks_of, own_range, ranges_under}
 use Rattle.h5w_tree_index_laws.specs.TreeFlushes.{HeaderNames, header_range}
-use Rattle.h5w_bt_index.proofs.Bounds.{room_small, total_fits}
+use Rattle.h5w_bt_nodes.proofs.Bounds.{room_small}
+use Rattle.h5w_bt_index.proofs.Bounds.{total_fits}
 use Rattle.h5w_tree_index_laws.specs.TreeImages.{node_range}
 use Rattle.h5w_tree_index_laws.proofs.TreeStandLemmas.{PartStands, placed_differs}
 

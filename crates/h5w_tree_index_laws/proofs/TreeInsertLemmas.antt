@@ -9,16 +9,17 @@ use Rattle.std.proofs.lemmas.Grind.{flat_map-append}
 use Rattle.h5w_model.specs.Trees.{capacity_of}
 use Rattle.h5w_model.specs.Findings.{Used}
 use Rattle.h5w_bt.specs.declared.records.Record.{Record}
-use Rattle.h5w_bt_index.specs.Nodes.{Tree, all_records, joined, rank}
-use Rattle.h5w_bt_index.specs.Puts.{changed_at, half, is_over, left_of, put, put_record, raised, right_of, settled}
-use Rattle.h5w_bt_index.specs.Sound.{IsShape, IsSound}
+use Rattle.h5w_bt_nodes.specs.Nodes.{Tree, all_records, joined, rank}
+use Rattle.h5w_bt_nodes.specs.Puts.{changed_at, half, is_over, left_of, put, put_record, raised, right_of, settled}
+use Rattle.h5w_bt_nodes.specs.Shapes.{IsShape}
+use Rattle.h5w_bt_index.specs.Sound.{IsSound}
 use Rattle.h5w_bt_index.specs.Index.{Index, IsIndex, inserted, records, regrown}
 use Rattle.h5w_tree_index_laws.specs.TreeImages.{InsertedBehind, around, behind_of, chunk_of, chunks_of, nodes_weigh, own_range, ranges_under}
 use Rattle.h5w_bt_index.proofs.Laws.{index_shaped, inserted-records}
-use Rattle.h5w_bt_index.proofs.Over.{OnTheWay, on_the_way}
-use Rattle.h5w_bt_index.proofs.Places.{none_is_not, some_same}
-use Rattle.h5w_bt_index.proofs.Records.{here, past, put-here, put-past, put-under, side, under}
-use Rattle.h5w_bt_index.proofs.Steps.{is_there, not_there, put_below, put_here, settled_not, settled_over, there, went_down}
+use Rattle.h5w_bt_nodes.proofs.Over.{OnTheWay, on_the_way}
+use Rattle.h5w_bt_nodes.proofs.Places.{none_is_not, some_same}
+use Rattle.h5w_bt_nodes.proofs.Records.{here, past, put-here, put-past, put-under, side, under}
+use Rattle.h5w_bt_nodes.proofs.Steps.{is_there, not_there, put_below, put_here, settled_not, settled_over, there, went_down}
 use Rattle.h5w_tree_index_laws.proofs.TreeRangeLemmas.{around_weight, by_weight}
 
 -- ---- Weights of nodes, and of chunks

@@ -17,7 +17,8 @@ use Rattle.h5w_flush_laws.proofs.SpaceLemmas.{taken_laws}
 use Rattle.h5w_flush_laws.proofs.NewChunkLemmas.{or_none}
 use Rattle.h5w_flush_laws.proofs.RowsLaws.{rows_flush}
 use Rattle.h5w_bt_index.specs.Index.{Index, IsIndex}
-use Rattle.h5w_bt_index.specs.Plans.{changes, news, olds, stood, written}
+use Rattle.h5w_bt_nodes.specs.Blocks.{changes, stood, written}
+use Rattle.h5w_bt_index.specs.Plans.{news, olds}
 use Rattle.h5w_tree_index_laws.specs.TreeImages.{node_range}
 use Rattle.h5w_tree_index_laws.specs.TreeFlushes.{AreChunks, TreeIsFlush, chunks_for, fresh, tree_parts}
 use Rattle.h5w_tree_index_laws.proofs.TreeFlushLemmas.{same_news, take_them, tree_flushed}

@@ -12,13 +12,14 @@ use Rattle.h5w_model.specs.Findings.{Used}
 use Rattle.h5w_model.specs.declared.cell.Key.{Key}
 use Rattle.h5w_visits.specs.Ranges.{chunk_at}
 use Rattle.h5w_bt.specs.declared.records.Record.{Record}
-use Rattle.h5w_bt_index.specs.Nodes.{address_in}
-use Rattle.h5w_bt_index.specs.Puts.{put_record}
+use Rattle.h5w_bt_nodes.specs.Nodes.{address_in}
+use Rattle.h5w_bt_nodes.specs.Puts.{put_record}
 use Rattle.h5w_bt_index.specs.Sound.{IsRising}
 use Rattle.h5w_bt_index.specs.Index.{Index, address_of, inserted, records}
 use Rattle.h5w_bt_index.proofs.Keys.{above-from, above-not_equal, below-not_back, below-not_self, equal-is, equal-self}
 use Rattle.h5w_bt_index.proofs.Laws.{in_leaf-is, inserted-records}
-use Rattle.h5w_bt_index.proofs.Records.{AreAbove, above_all, here, in-here, in-past, in-under, past, put-here, put-past, put-under, side, under}
+use Rattle.h5w_bt_nodes.proofs.Records.{here, in-here, in-past, in-under, past, put-here, put-past, put-under, side, under}
+use Rattle.h5w_bt_index.proofs.Rising.{AreAbove, above_all}
 use Rattle.h5w_tree_index_laws.specs.TreeImages.{InsertedRenews, SameBehind, behind_of, chunk_named, chunk_of}
 use Rattle.h5w_tree_index_laws.proofs.TreeInsertLemmas.{all_nodes, apart, chunks, chunks_cons, inserted_nodes}
 

@@ -10,19 +10,21 @@ use Rattle.h5w_model.specs.Tables.{key_equal}
 use Rattle.h5w_model.specs.Trees.{capacity_of}
 use Rattle.h5w_model.specs.declared.cell.Key.{Key}
 use Rattle.h5w_bt.specs.declared.records.Record.{Record}
-use Rattle.h5w_bt_index.specs.Nodes.{Tree, address_in, all_records, found, joined, rank}
-use Rattle.h5w_bt_index.specs.Puts.{changed_at, put}
-use Rattle.h5w_bt_index.specs.Sound.{IsRising, IsShape, IsSound}
+use Rattle.h5w_bt_nodes.specs.Nodes.{Tree, address_in, all_records, found, joined, rank}
+use Rattle.h5w_bt_nodes.specs.Puts.{changed_at, put}
+use Rattle.h5w_bt_nodes.specs.Shapes.{IsShape}
+use Rattle.h5w_bt_index.specs.Sound.{IsRising, IsSound}
 use Rattle.h5w_bt_index.specs.Marks.{IsCleanPart, Part, Some_of}
 use Rattle.h5w_bt_index.specs.Index.{Index, IsClean, IsIndex, inserted, records}
-use Rattle.h5w_bt_index.specs.Plans.{changes}
+use Rattle.h5w_bt_nodes.specs.Blocks.{changes}
 use Rattle.h5w_bt_index.proofs.Keys.{above-from, above-not_equal, below-not_equal, equal-is}
 use Rattle.h5w_bt_index.proofs.Laws.{index_shaped, inserted-clean, put-there, same-index}
-use Rattle.h5w_bt_index.proofs.Over.{OnTheWay, on_the_way}
-use Rattle.h5w_bt_index.proofs.Places.{none_is_not, some_same}
-use Rattle.h5w_bt_index.proofs.Records.{AreAbove, Over, above_all, here, in-here, in-past, in-under, none_is_not_some, past, side, under}
+use Rattle.h5w_bt_nodes.proofs.Over.{OnTheWay, on_the_way}
+use Rattle.h5w_bt_nodes.proofs.Places.{none_is_not, some_same}
+use Rattle.h5w_bt_nodes.proofs.Records.{here, in-here, in-past, in-under, none_is_not_some, past, side, under}
+use Rattle.h5w_bt_index.proofs.Rising.{AreAbove, Over, above_all}
 use Rattle.h5w_bt_index.proofs.Replaced.{inserted_there, there_found, there_not_over}
-use Rattle.h5w_bt_index.proofs.Steps.{found_below, is_there, not_there, put_below, put_here, renewed, settled_not, there, went_down}
+use Rattle.h5w_bt_nodes.proofs.Steps.{found_below, is_there, not_there, put_below, put_here, renewed, settled_not, there, went_down}
 use Rattle.h5w_tree_index_laws.specs.TreeMarks.{InsertedMarked, InsertedMarks, times_in, times_under}
 use Rattle.h5w_tree_index_laws.proofs.TreeChangeLemmas.{inner_more, leaf_one}
 use Rattle.h5w_tree_index_laws.proofs.TreeInsertLemmas.{sum_changed}

@@ -19,14 +19,16 @@ use Rattle.h5w_flush_laws.specs.Spaces.{Taken}
 use Rattle.h5w_flush_laws.proofs.SpaceLemmas.{taken_laws}
 use Rattle.h5w_flush_laws.proofs.EarlyLemmas.{blocks_miss}
 use Rattle.h5w_bt.specs.Parts.{record_of}
-use Rattle.h5w_bt_index.specs.Nodes.{Tree}
+use Rattle.h5w_bt_nodes.specs.Nodes.{Tree}
 use Rattle.h5w_bt_index.specs.Sound.{IsSound}
 use Rattle.h5w_bt_index.specs.Marks.{IsCleanPart, IsMarked, Part, Some_of}
-use Rattle.h5w_bt_index.specs.Plans.{AllRead, AreNodeMoves, EachBy, ReadsBack, block_of, changes, each_by, joined_blocks, node_bytes, node_of, padded, place_of, placed, pointer_of, stood, written}
+use Rattle.h5w_bt_nodes.specs.Blocks.{AllRead, EachBy, ReadsBack, block_of, changes, each_by, joined_blocks, node_bytes, node_of, padded, place_of, placed, pointer_of, stood, written}
+use Rattle.h5w_bt_index.specs.Plans.{AreNodeMoves}
 use Rattle.h5w_tree_index_laws.specs.TreeImages.{AllStand, IsReadAs, StandsNode, node_range}
 use Rattle.h5w_tree_index_laws.specs.TreeFlushes.{fresh}
-use Rattle.h5w_bt_index.proofs.Placed.{either, placed_sound}
-use Rattle.h5w_bt_index.proofs.NodeBytes.{inner_length, leaf_length}
+use Rattle.h5w_bt_nodes.proofs.Placed.{either}
+use Rattle.h5w_bt_index.proofs.Placed.{placed_sound}
+use Rattle.h5w_bt_nodes.proofs.NodeBytes.{inner_length, leaf_length}
 use Rattle.h5w_tree_index_laws.proofs.TreeStandLemmas.{nodes_stand}
 
 -- ---- Places

@@ -13,11 +13,11 @@ use Rattle.h5w_model.specs.Findings.{Used}
 use Rattle.h5w_visits.specs.Ranges.{Among}
 use Rattle.h5w_steps.specs.Counts.{count_at}
 use Rattle.h5w_bt.specs.declared.records.Record.{Record}
-use Rattle.h5w_bt_index.specs.Nodes.{Tree}
+use Rattle.h5w_bt_nodes.specs.Nodes.{Tree}
 use Rattle.h5w_bt_index.specs.Sound.{IsSound}
-use Rattle.h5w_bt_index.specs.Plans.{changes, each_by, placed, stood}
+use Rattle.h5w_bt_nodes.specs.Blocks.{changes, each_by, placed, stood}
 use Rattle.h5w_tree_index_laws.specs.TreeImages.{AreAmong, around, chunk_of, chunks_of, own_range, ranges_under}
-use Rattle.h5w_bt_index.proofs.Placed.{each_length, either}
+use Rattle.h5w_bt_nodes.proofs.Placed.{each_length, either}
 use Rattle.h5w_tree_index_laws.proofs.TreePlanLemmas.{place_at, take_both}
 use Rattle.h5w_tree_index_laws.specs.TreeImages.{node_range}
 

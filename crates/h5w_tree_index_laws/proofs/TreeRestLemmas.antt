@@ -23,10 +23,11 @@ use Rattle.h5w_flush_laws.specs.Knowledge.{HeldMissed, Knows}
 use Rattle.h5w_flush_laws.specs.Parts.{IsFlush, Parts, block_writes, flushed_to, pieces_of}
 use Rattle.h5w_flush_laws.proofs.FlushLemmas.{after_apart, supers_miss}
 use Rattle.h5w_flush_laws.proofs.FlushLaws.{final_image, index_missed_by_header, live_after}
-use Rattle.h5w_bt_index.specs.Nodes.{Tree}
+use Rattle.h5w_bt_nodes.specs.Nodes.{Tree}
 use Rattle.h5w_bt_index.specs.Marks.{IsCleanPart, Part, Some_of, clean_of}
 use Rattle.h5w_bt_index.specs.Index.{Index, IsClean, IsIndex, no_tree}
-use Rattle.h5w_bt_index.specs.Plans.{header_of, header_writes, news, place_of, planned}
+use Rattle.h5w_bt_nodes.specs.Blocks.{place_of}
+use Rattle.h5w_bt_index.specs.Plans.{header_of, header_writes, news, planned}
 use Rattle.h5w_bt_index.proofs.Placed.{placed_clean}
 use Rattle.h5w_tree_index_laws.specs.TreeImages.{AllStand, StandsNode, StandsTree, behind_of, node_range}
 use Rattle.h5w_tree_index_laws.specs.TreeFlushes.{AreChunks, HeaderNames, IsTreePart, TreeBegins, TreeRestsThen, TreeStands, header_range, tree_parts}

@@ -11,10 +11,11 @@ use Rattle.h5w_model.specs.Findings.{Finding, Used, Under, node_visit}
 use Rattle.h5w_laws.proofs.ResultLemmas.{and_then_from}
 use Rattle.h5w_visits.specs.Indexes.{behind_visit}
 use Rattle.h5w_bt.specs.declared.records.Record.{Record}
-use Rattle.h5w_bt_index.specs.Nodes.{Tree, records_of}
+use Rattle.h5w_bt_nodes.specs.Nodes.{Tree, records_of}
 use Rattle.h5w_bt_index.specs.Marks.{IsCleanPart, IsMarked, Part, Some_of, clean_of}
 use Rattle.h5w_bt_index.specs.Index.{Index, IsClean, IsIndex, inserted, no_tree}
-use Rattle.h5w_bt_index.specs.Plans.{header_of, place_of}
+use Rattle.h5w_bt_nodes.specs.Blocks.{place_of}
+use Rattle.h5w_bt_index.specs.Plans.{header_of}
 use Rattle.h5w_tree_index_laws.specs.TreeImages.{AllStand, IsRead, StandsNode, StandsTree, TreeIsRead, behind_of, blocks_in_place}
 use Rattle.h5w_tree_index_laws.proofs.TreeReadLemmas.{Good, lookup_gives}
 use Rattle.h5w_tree_index_laws.proofs.TreeVisitLemmas.{node_under, visit_finds}

@@ -17,12 +17,12 @@ use Rattle.h5w_visits.proofs.RangeLemmas.{ends_left, ends_right}
 use Rattle.h5w_visits.proofs.TreeVisits.{finds}
 use Rattle.h5w_bt.specs.declared.records.Record.{Record}
 use Rattle.h5w_bt.specs.Parts.{record_of}
-use Rattle.h5w_bt_index.specs.Nodes.{Tree, all_records, records_of, joined}
+use Rattle.h5w_bt_nodes.specs.Nodes.{Tree, all_records, records_of, joined}
 use Rattle.h5w_bt_index.specs.Sound.{IsRising}
-use Rattle.h5w_bt_index.specs.Plans.{node_of, place_of, pointer_of}
+use Rattle.h5w_bt_nodes.specs.Blocks.{node_of, place_of, pointer_of}
 use Rattle.h5w_tree_index_laws.specs.TreeImages.{around, chunk_of, chunks_of, own_range, ranges_under}
-use Rattle.h5w_bt_index.proofs.Records.{Over}
-use Rattle.h5w_bt_index.proofs.Places.{All-each}
+use Rattle.h5w_bt_index.proofs.Rising.{Over}
+use Rattle.h5w_bt_nodes.proofs.Places.{All-each}
 use Rattle.h5w_bt_index.proofs.Grown.{total_is}
 use Rattle.h5w_tree_index_laws.proofs.TreeReadLemmas.{Good, good_children}
 

@@ -1,8 +1,10 @@
-pub use Rattle.h5w_bt_index.specs.Nodes
-pub use Rattle.h5w_bt_index.specs.Puts
+pub use Rattle.h5w_bt_nodes.specs.Nodes
+pub use Rattle.h5w_bt_nodes.specs.Puts
+pub use Rattle.h5w_bt_nodes.specs.Shapes
 pub use Rattle.h5w_bt_index.specs.Sound
 pub use Rattle.h5w_bt_index.specs.Marks
 pub use Rattle.h5w_bt_index.specs.Index
+pub use Rattle.h5w_bt_nodes.specs.Blocks
 pub use Rattle.h5w_bt_index.specs.Plans
 pub mod TreeImages
 pub mod TreeMarks

@@ -23,7 +23,8 @@ use Rattle.h5w_flush_laws.specs.Parts.{Parts, AllUnseen, AreEnded, IndexFlushed,
 use Rattle.h5w_flush_laws.specs.Rows.{ArePlaced, new_chunks}
 use Rattle.h5w_bt_index.specs.Marks.{clean_of}
 use Rattle.h5w_bt_index.specs.Index.{Index, IsIndex, address_of, no_tree}
-use Rattle.h5w_bt_index.specs.Plans.{IsTreePlan, news, written}
+use Rattle.h5w_bt_nodes.specs.Blocks.{written}
+use Rattle.h5w_bt_index.specs.Plans.{IsTreePlan, news}
 use Rattle.h5w_tree_index_laws.specs.TreeImages.{AreAmong, StandsTree, behind_of, blocks_in_place, node_range}
 
 -- What a reader finds by the header at its place is this tree, whatever total the header says: no reader looks at that, and the first flush

@@ -12,10 +12,11 @@ use Rattle.h5w_steps.specs.Counts.{count_at}
 use Rattle.h5w_visits.specs.Indexes.{behind_visit}
 use Rattle.h5w_bt.specs.declared.records.Record.{Record}
 use Rattle.h5w_bt.specs.Parts.{record_of}
-use Rattle.h5w_bt_index.specs.Nodes.{Tree}
+use Rattle.h5w_bt_nodes.specs.Nodes.{Tree}
 use Rattle.h5w_bt_index.specs.Marks.{Part, clean_of}
 use Rattle.h5w_bt_index.specs.Index.{Index, IsClean, IsIndex, address_of, blank_leaf, inserted, no_tree}
-use Rattle.h5w_bt_index.specs.Plans.{changes, header_of, node_of, place_of}
+use Rattle.h5w_bt_nodes.specs.Blocks.{changes, node_of, place_of}
+use Rattle.h5w_bt_index.specs.Plans.{header_of}
 
 -- What a reader reads at the place of a node, by the node's own length, is this node: its records, and of an inner node its pointers.
 -- Whoever wrote it, and whatever stands behind its sum.

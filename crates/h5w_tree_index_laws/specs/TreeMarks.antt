@@ -4,10 +4,10 @@ use Rattle.std.specs.List.{sum_by}
 use Rattle.h5w_model.specs.Tables.{key_equal}
 use Rattle.h5w_model.specs.declared.cell.Key.{Key}
 use Rattle.h5w_bt.specs.declared.records.Record.{Record}
-use Rattle.h5w_bt_index.specs.Nodes.{Tree}
+use Rattle.h5w_bt_nodes.specs.Nodes.{Tree}
 use Rattle.h5w_bt_index.specs.Marks.{Part}
 use Rattle.h5w_bt_index.specs.Index.{Index, IsClean, IsIndex, IsThere, inserted}
-use Rattle.h5w_bt_index.specs.Plans.{changes}
+use Rattle.h5w_bt_nodes.specs.Blocks.{changes}
 
 -- how many records have the key
 abbrev pub times_in : Key → List Record → ℕ

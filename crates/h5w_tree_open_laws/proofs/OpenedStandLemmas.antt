@@ -21,10 +21,12 @@ use Rattle.h5w_laws.proofs.SlotLemmas.{refused_from}
 use Rattle.h5w_space.specs.declared.Extent.{Extent}
 use Rattle.h5w_bt.specs.declared.records.Record.{Record}
 use Rattle.h5w_bt.specs.Parts.{record_of}
-use Rattle.h5w_bt_index.specs.Nodes.{Tree, all_records, records_of, total_of}
-use Rattle.h5w_bt_index.specs.Sound.{IsRising, IsShape, IsShapedChild}
+use Rattle.h5w_bt_nodes.specs.Nodes.{Tree, all_records, records_of, total_of}
+use Rattle.h5w_bt_nodes.specs.Shapes.{IsShape, IsShapedChild}
+use Rattle.h5w_bt_index.specs.Sound.{IsRising}
 use Rattle.h5w_bt_index.specs.Index.{Index, no_tree}
-use Rattle.h5w_bt_index.specs.Plans.{header_of, node_of, place_of, pointer_of}
+use Rattle.h5w_bt_nodes.specs.Blocks.{node_of, place_of, pointer_of}
+use Rattle.h5w_bt_index.specs.Plans.{header_of}
 use Rattle.h5w_bt_index.proofs.Joined.{joined-each_rises}
 use Rattle.h5w_bt_index.proofs.Laws.{index_shaped}
 use Rattle.h5w_bt_open.specs.declared.span.Span.{Span}

@@ -24,9 +24,10 @@ use Rattle.h5w_flush_laws.proofs.FlushLaws.{final_image, flush_safe, index_misse
 use Rattle.h5w_flush_laws.proofs.SessionLaws.{session_laws}
 use Rattle.h5w_starting_laws.specs.Starting.{no_chunk}
 use Rattle.h5w_bt_index.specs.Marks.{Part, clean_of}
-use Rattle.h5w_bt_index.specs.Nodes.{total_of}
+use Rattle.h5w_bt_nodes.specs.Nodes.{total_of}
 use Rattle.h5w_bt_index.specs.Index.{Index, IsClean, IsIndex, address_of}
-use Rattle.h5w_bt_index.specs.Plans.{header_of, news, place_of, planned}
+use Rattle.h5w_bt_nodes.specs.Blocks.{place_of}
+use Rattle.h5w_bt_index.specs.Plans.{header_of, news, planned}
 use Rattle.h5w_bt_index.proofs.Placed.{placed_clean}
 use Rattle.h5w_tree_index_laws.specs.TreeImages.{StandsTree, behind_of, node_range}
 use Rattle.h5w_tree_index_laws.specs.TreeFlushes.{HeaderNames, TreeRests, TreeStands, header_range}

@@ -22,7 +22,8 @@ use Rattle.h5w_flush_laws.specs.Parts.{block_writes, pieces_of}
 use Rattle.h5w_starting_laws.specs.Starting.{no_chunk}
 use Rattle.h5w_bt_index.specs.Marks.{Part, clean_of}
 use Rattle.h5w_bt_index.specs.Index.{Index, address_of, no_tree}
-use Rattle.h5w_bt_index.specs.Plans.{IsTreePlan, header_of, header_writes, news, written}
+use Rattle.h5w_bt_nodes.specs.Blocks.{written}
+use Rattle.h5w_bt_index.specs.Plans.{IsTreePlan, header_of, header_writes, news}
 use Rattle.h5w_bt_index.proofs.Shares.{filled_kept}
 use Rattle.h5w_tree_index_laws.specs.TreeImages.{behind_of, blank}
 use Rattle.h5w_tree_index_laws.specs.TreeFlushes.{chunks_for}

@@ -29,9 +29,10 @@ use Rattle.h5w_flush_laws.proofs.RowsLaws.{rows_flush}
 use Rattle.h5w_starting_laws.specs.Starting.{IsNowhere, no_chunk}
 use Rattle.h5w_starting_laws.proofs.StartLemmas.{unnamed_nowhere}
 use Rattle.h5w_starting_laws.proofs.TakenLemmas.{taken_again, taken_right}
-use Rattle.h5w_bt_index.specs.Nodes.{total_of}
+use Rattle.h5w_bt_nodes.specs.Nodes.{total_of}
 use Rattle.h5w_bt_index.specs.Index.{Index, IsIndex}
-use Rattle.h5w_bt_index.specs.Plans.{changes, header_of, news, place_of, placed, planned}
+use Rattle.h5w_bt_nodes.specs.Blocks.{changes, place_of, placed}
+use Rattle.h5w_bt_index.specs.Plans.{header_of, news, planned}
 use Rattle.h5w_bt_index.proofs.Placed.{planned_index}
 use Rattle.h5w_tree_index_laws.specs.TreeImages.{AllStand, AreAmong, IsRead, behind_of, blocks_in_place, node_range}
 use Rattle.h5w_tree_index_laws.specs.TreeFlushes.{HeaderNames, chunks_for, fresh, header_range}

@@ -9,13 +9,14 @@ use Rattle.h5w_model.specs.Findings.{Used}
 use Rattle.h5w_space.specs.Space.{Space}
 use Rattle.h5w_cache.specs.Plans.{AreRetired, Retires}
 use Rattle.h5w_cache.specs.declared.moves.Move.{Move}
-use Rattle.h5w_bt_index.specs.Nodes.{Tree, records_of}
+use Rattle.h5w_bt_nodes.specs.Nodes.{Tree, records_of}
 use Rattle.h5w_bt_index.specs.Marks.{IsCleanPart, Part, Some_of, clean_of}
 use Rattle.h5w_bt_index.specs.Sound.{AtLeast, two_fifths}
 use Rattle.h5w_bt_index.specs.Index.{Index}
-use Rattle.h5w_bt_index.specs.Plans.{olds, stood}
+use Rattle.h5w_bt_nodes.specs.Blocks.{stood}
+use Rattle.h5w_bt_index.specs.Plans.{olds}
 use Rattle.h5w_bt_index.proofs.Laws.{index_shaped, inserted-clean}
-use Rattle.h5w_bt_index.proofs.Placed.{either}
+use Rattle.h5w_bt_nodes.proofs.Placed.{either}
 use Rattle.h5w_tree_index_laws.specs.TreeImages.{blank, nodes_weigh, own_range, node_range}
 use Rattle.h5w_tree_index_laws.proofs.TreeMapLemmas.{inserted_renews}
 use Rattle.h5w_tree_starting_laws.specs.TreeStarting.{IsUnwritten, UnwrittenLaws}

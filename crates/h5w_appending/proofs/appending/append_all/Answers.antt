@@ -1,4 +1,4 @@
-use Rattle.std.proofs.Common.{◌≡◌, Err, refl, inl, rules, sym}
+use Rattle.std.proofs.Common.{refl, inl, sym}
 use Rattle.h5w_appending.proofs.AppendLemmas.{finishes_by}
 use Rattle.h5w_appending.proofs.appending.append_all.Goals as goal
 

@@ -1,7 +1,7 @@
 use Rattle.std.proofs.Common.{ap}
 use Rattle.h5w_model.specs.Trees.{ChildFields}
 use Rattle.h5w_bt_index.specs.Index.{index_of}
-use Rattle.h5w_bt_index.proofs.Written.{planned_fits}
+use Rattle.h5w_bt_index.proofs.Headers.{planned_fits}
 use Rattle.h5w_bt_index.proofs.plan.writes_at.Goals as goal
 
 pub put_header-requires : goal.put_header-requires

@@ -1,7 +1,7 @@
 use Rattle.std.proofs.Common.{◌≡◌, ◌<◌, ◌≤◌, length, false, refl, sym, arith}
 use Rattle.std.proofs.lemmas.Bool.{both_ways}
 use Rattle.h5w_model.specs.Findings.{are_rising}
-use Rattle.h5w_bt_index.specs.Puts.{no_record}
+use Rattle.h5w_bt_nodes.specs.Puts.{no_record}
 use Rattle.h5w_bt_index.specs.Index.{keys_of}
 use Rattle.h5w_bt_open.proofs.KeptLemmas.{rises_so, rising_end, rising_step, rising_stop}
 use Rattle.h5w_bt_open.proofs.VisitLemmas.{rises}

@@ -4,7 +4,7 @@ use Rattle.h5w_image.proofs.ViewLemmas.{looked_itself, looked_twice}
 use Rattle.h5w_looks.proofs.ReadLemmas.{still_on}
 use Rattle.h5w_bt.specs.declared.children.Child.{Child}
 use Rattle.h5w_bt.specs.Parts.{child_of, record_of}
-use Rattle.h5w_bt_index.specs.Nodes.{Tree, found}
+use Rattle.h5w_bt_nodes.specs.Nodes.{Tree, found}
 use Rattle.h5w_bt_open.specs.Spans.{Leads, high_of, low_of}
 use Rattle.h5w_bt_open.specs.Opened.{AreWhole, IsOpened, IsRefused, looked_below, looked_up}
 use Rattle.h5w_bt_open.specs.declared.error.OpenTreeError.TheVariants.{OutOfMemory}

@@ -4,7 +4,7 @@ use Rattle.h5w_model.specs.declared.refusal.BlockFault.{BlockFault}
 use Rattle.h5w_image.specs.View.{Looked}
 use Rattle.h5w_looks.specs.Still.{IsStill}
 use Rattle.h5w_bt.specs.Parts.{child_of, record_of}
-use Rattle.h5w_bt_index.specs.Nodes.{Tree}
+use Rattle.h5w_bt_nodes.specs.Nodes.{Tree}
 use Rattle.h5w_bt_open.specs.Spans.{IsKey, Leads, high_of, low_of}
 use Rattle.h5w_bt_open.specs.Opened.{AreWhole, EachOpened, IsOpened, IsRefused, looked_below}
 use Rattle.h5w_bt_open.proofs.SpanLemmas.{IsBetween}

@@ -1,6 +1,6 @@
 use Rattle.std.proofs.Common.{List, sym, subst}
 use Rattle.h5w_bt.specs.Parts.{child_of}
-use Rattle.h5w_bt_index.specs.Nodes.{Tree}
+use Rattle.h5w_bt_nodes.specs.Nodes.{Tree}
 use Rattle.h5w_bt_open.specs.Opened.{IsHeld, IsOpened, told_under, with_total}
 use Rattle.h5w_bt_open.proofs.HeldLemmas.{counted_held, counted_opened}
 use Rattle.h5w_bt_open.proofs.tree.load_root.Goals as goal

@@ -1,5 +1,5 @@
 use Rattle.std.proofs.Common.{◌≡◌, ◌++◌, drop, map}
-use Rattle.h5w_bt_index.specs.Nodes.{all_records, joined}
+use Rattle.h5w_bt_nodes.specs.Nodes.{all_records, joined}
 use Rattle.h5w_bt_open.proofs.walk.add_joined.Given as goal
 
 abbrev pub invariant-loop-at : goal.invariant-loop-at

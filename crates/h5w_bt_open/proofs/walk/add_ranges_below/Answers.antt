@@ -1,6 +1,6 @@
 use Rattle.std.proofs.Common.{◌≡◌, ◌<◌, ◌≤◌, ◌++◌, ◌∙◌, List, Option, ap, ap₂, arith, length, map}
 use Rattle.h5w_model.specs.declared.cell.Key.{Key}
-use Rattle.h5w_bt_index.specs.Sound.{IsShapedChild}
+use Rattle.h5w_bt_nodes.specs.Shapes.{IsShapedChild}
 use Rattle.h5w_bt_open.specs.Spans.{high_of, low_of}
 use Rattle.h5w_bt_open.specs.Needed.{needed_ranges, of_each}
 use Rattle.h5w_bt_open.proofs.WalkLemmas.{each_here}

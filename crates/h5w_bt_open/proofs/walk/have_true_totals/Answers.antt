@@ -1,7 +1,8 @@
 use Rattle.std.proofs.Common.{◌≡◌, ◌<◌, false, length, map, arith}
 use Rattle.std.specs.List.{All}
 use Rattle.h5w_model.specs.Trees.{capacity_of}
-use Rattle.h5w_bt_index.specs.Sound.{IsShapedChild, IsSound}
+use Rattle.h5w_bt_nodes.specs.Shapes.{IsShapedChild}
+use Rattle.h5w_bt_index.specs.Sound.{IsSound}
 use Rattle.h5w_bt_open.proofs.WalkLemmas.{each_here, holds_step}
 use Rattle.h5w_bt_open.proofs.walk.have_true_totals.Goals as goal
 

@@ -5,5 +5,5 @@ use Rattle.h5w_live_trials.proofs.helpers.batches.Goals as goal
 
 pub loop-values-preserved : goal.loop-values-preserved
 loop-values-preserved c =
-    subst (λ (bs : List (List ℤ)). AreBatches c.args.columns bs) (sym c.in_ok-push.ensures.items)
-    (batches_more c.args.columns c.loop-values.batches.items c.in_ok-batch.batch c.loop-values.invariant c.in_ok-batch.ensures)
+    subst (λ (bs : List (List ℤ)). AreBatches 1 bs) (sym c.in_ok-push.ensures.items)
+    (batches_more 1 c.loop-values.batches.items c.in_ok-batch.batch c.loop-values.invariant c.in_ok-batch.ensures)

@@ -2,4 +2,4 @@ use Rattle.h5w_live.specs.Writing.{AreBatches}
 use Rattle.h5w_live_trials.proofs.helpers.batches.Given as goal
 
 abbrev pub invariant-loop-values : goal.invariant-loop-values
-invariant-loop-values l = AreBatches l.columns l.batches.items
+invariant-loop-values l = AreBatches 1 l.batches.items

@@ -1,7 +1,7 @@
 use Rattle.h5w_model.specs.Headers.{header_view}
 use Rattle.h5w_reader.specs.Headers.{IsView}
 use Rattle.h5w_reader.proofs.HeaderLemmas.{view_of}
-use Rattle.h5w_reader.proofs.PieceLemmas.{told}
+use Rattle.h5w_lookup.proofs.PieceLemmas.{told}
 use Rattle.h5w_reader.proofs.header.view_at.Goals as goal
 
 pub returns-clause-seen : goal.returns-clause-seen

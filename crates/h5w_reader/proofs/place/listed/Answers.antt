@@ -1,7 +1,7 @@
 use Rattle.std.proofs.Common.{◌≡◌, ◌∙◌, map, rules}
 use Rattle.h5w_reader.specs.Walking.{found_of}
 use Rattle.h5w_reader.specs.Calling.{listed}
-use Rattle.h5w_reader.specs.declared.found.FoundMessage.{FoundMessage}
+use Rattle.h5w_lookup.specs.declared.found.FoundMessage.{FoundMessage}
 use Rattle.h5w_reader.proofs.PlaceLemmas.{listed_founds}
 use Rattle.h5w_reader.proofs.place.listed.Goals as goal
 

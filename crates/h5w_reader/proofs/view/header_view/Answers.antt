@@ -1,8 +1,8 @@
 use Rattle.std.proofs.Common.{◌≡◌, ◌-◌, ◌∙◌, ◌∷◌, [], ◌++◌, take, sym, ap, length, inr, Ok, Err}
 use Rattle.h5w_model.specs.Headers.{prefix_at, zeros}
 use Rattle.h5w_model.specs.declared.refusal.HeaderError.TheVariants.{Signature, Version}
-use Rattle.h5w_reader.specs.Looks.{FitsLook}
-use Rattle.h5w_reader.proofs.PieceLemmas.{told}
+use Rattle.h5w_lookup.specs.Looks.{FitsLook}
+use Rattle.h5w_lookup.proofs.PieceLemmas.{told}
 use Rattle.h5w_reader.proofs.ViewLemmas.{signature_long, version_long, front_short, prefix_more}
 use Rattle.h5w_reader.proofs.view.header_view.Goals as goal
 

@@ -8,8 +8,7 @@ use Rattle.h5w_chunks.specs.declared.grid.ChunkPlace.{ChunkPlace}
 use Rattle.h5w_chunks.proofs.Geometry.{is_cut}
 use Rattle.h5w_index.specs.Held.{view_of}
 use Rattle.h5w_index.specs.Views.{address_in}
-use Rattle.h5w_session.specs.Early.{next_places}
-use Rattle.h5w_session.specs.Flushes.{writes_behind}
+use Rattle.h5w_pieces.specs.NextPlaces.{next_places, writes_behind}
 use Rattle.h5w_session.proofs.PlaceLemmas.{first_kept}
 use Rattle.h5w_session.proofs.PlanLemmas.{behind_pieces, behind_some, chunk_ends, few_touched, plan_bytes}
 use Rattle.h5w_session.proofs.TakingLemmas.{on_err}

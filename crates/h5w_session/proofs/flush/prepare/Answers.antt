@@ -8,7 +8,7 @@ use Rattle.h5w_index.specs.Steps.{HasNoPlace}
 use Rattle.h5w_index.specs.Views.{address_in}
 use Rattle.h5w_session.specs.declared.refusal.FlushError.TheVariants as flushes
 use Rattle.h5w_session.specs.Refusals.{plan_fault}
-use Rattle.h5w_session.proofs.EarlyPlaces.{touched_more}
+use Rattle.h5w_pieces.proofs.NextPlaces.{touched_more}
 use Rattle.h5w_session.proofs.PrepareLemmas.{chunks_end, named_as, taken_as, touched_few}
 use Rattle.h5w_session.proofs.TakingLemmas.{full_of, same_error}
 use Rattle.h5w_session.proofs.flush.prepare.Goals as goal

@@ -11,7 +11,8 @@ use Rattle.h5w_index.specs.Views.{IsReached, address_in}
 use Rattle.h5w_index.specs.Placing.{next_key}
 use Rattle.h5w_index.proofs.PlacingLemmas.{placing_laws}
 use Rattle.h5w_session.specs.Flushes.{first_place}
-use Rattle.h5w_session.proofs.AloneLemmas.{alone_band, alone_is, alone_key, on_none, touched_alone}
+use Rattle.h5w_pieces.proofs.AllIn.{on_none}
+use Rattle.h5w_session.proofs.AloneLemmas.{alone_band, alone_is, alone_key, touched_alone}
 use Rattle.h5w_session.proofs.TakingLemmas.{found_none, found_some, next_in, not_less}
 use Rattle.h5w_session.proofs.taking.named_chunk.Goals as goal
 use Rattle.h5w_session.proofs.taking.named_chunk.Goals.{then-to-first-via-then-to-first, then-to-first-via-else-to-first+then-grid-eq0, then-to-first-via-else-to-first+else-grid-eq0+then-grid-columns}

@@ -1,5 +1,5 @@
 use Rattle.h5w_bt_index.specs.Held.{view_of}
-use Rattle.h5w_bt_index.proofs.Written.{header_fits}
+use Rattle.h5w_bt_index.proofs.Headers.{header_fits}
 use Rattle.h5w_bt_index.proofs.index.TreeIndex.header.Goals as goal
 
 pub returns-clause-form : goal.returns-clause-form

@@ -7,7 +7,7 @@ use Rattle.h5w_bt_index.specs.Index.{Index, IsClean, IsThere, KeepsShares, addre
 use Rattle.h5w_bt_index.specs.Marks.{Part}
 use Rattle.h5w_bt_index.proofs.Laws.{blocked_deep, deep_blocked, finds, on_ok, held-map, inserted-shares, inserted-clean, put-there}
 use Rattle.h5w_bt_index.proofs.Replaced.{found_has}
-use Rattle.h5w_bt_index.proofs.Searched.{none-searched}
+use Rattle.h5w_bt_nodes.proofs.Searched.{none-searched}
 use Rattle.h5w_bt_index.proofs.index.TreeIndex.hold.Goals as goal
 
 pub returns-clause-there : goal.returns-clause-there

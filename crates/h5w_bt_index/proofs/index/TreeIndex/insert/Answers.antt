@@ -5,7 +5,7 @@ use Rattle.h5w_bt.specs.declared.records.Record.{Record}
 use Rattle.h5w_bt_index.specs.Held.{view_of}
 use Rattle.h5w_bt_index.specs.Index.{Index, IsClean, KeepsShares, address_of, inserted, records}
 use Rattle.h5w_bt_index.specs.Marks.{Part}
-use Rattle.h5w_bt_index.specs.Puts.{put_record}
+use Rattle.h5w_bt_nodes.specs.Puts.{put_record}
 use Rattle.h5w_bt_index.proofs.Laws.{blocked_deep, deep_blocked, on_ok, inserted-map, inserted-records, inserted-shares, inserted-clean}
 use Rattle.h5w_bt_index.proofs.index.TreeIndex.insert.Goals as goal
 

@@ -2,7 +2,7 @@ use Rattle.std.proofs.Common.{ap, is_some, sym, ◌∙◌}
 use Rattle.h5w_bt_index.specs.Held.{view_of}
 use Rattle.h5w_bt_index.specs.Index.{index_of}
 use Rattle.h5w_bt_index.proofs.Replaced.{not_missed, replaced_shaped, replaced_so}
-use Rattle.h5w_bt_index.proofs.Searched.{none_of}
+use Rattle.h5w_bt_nodes.proofs.Searched.{none_of}
 use Rattle.h5w_bt_index.proofs.index.TreeIndex.replace.Goals as goal
 
 pub returns-then-is_none-clause-exact : goal.returns-then-is_none-clause-exact

@@ -1,7 +1,7 @@
 use Rattle.std.proofs.Common.{sym, ap, ◌∙◌, subst}
 use Rattle.h5w_bt_index.specs.declared.root.Root.{Root}
 use Rattle.h5w_bt_index.specs.Index.{IsShaped, index_of}
-use Rattle.h5w_bt_index.specs.Nodes.{found}
+use Rattle.h5w_bt_nodes.specs.Nodes.{found}
 use Rattle.h5w_bt_index.proofs.root.Root.find.Goals as goal
 
 pub find-requires : goal.find-requires

@@ -1,7 +1,7 @@
 use Rattle.std.proofs.Common.{sym, ap, ◌∙◌, subst}
 use Rattle.h5w_bt_index.specs.declared.root.Root.{Root}
 use Rattle.h5w_bt_index.specs.Index.{IsShaped, index_of}
-use Rattle.h5w_bt_index.specs.Puts.{is_full_path}
+use Rattle.h5w_bt_nodes.specs.Puts.{is_full_path}
 use Rattle.h5w_bt_index.proofs.root.Root.is_deepest.Goals as goal
 
 pub is_full_path-requires-clause-shape : goal.is_full_path-requires-clause-shape

@@ -2,8 +2,8 @@ use Rattle.std.proofs.Common.{◌≡◌, ◌≤◌, true, refl, sym, ap, ◌∙�
 use Rattle.h5w_bt_index.specs.declared.root.Root.{Root}
 use Rattle.h5w_bt_index.specs.declared.root.Root.TheVariants.{Zero, One, Two, Three}
 use Rattle.h5w_bt_index.specs.Index.{IsShaped, index_of, inserted}
-use Rattle.h5w_bt_index.specs.Puts.{is_over, put}
-use Rattle.h5w_bt_index.specs.Typed.{leaf_of, inner_of}
+use Rattle.h5w_bt_nodes.specs.Puts.{is_over, put}
+use Rattle.h5w_bt_nodes.specs.Typed.{leaf_of, inner_of}
 use Rattle.h5w_bt_index.proofs.Laws.{became_raised, became_same, raised-index, same-index, on_ok, three-not_over}
 use Rattle.h5w_bt_index.proofs.root.Root.put.Goals as goal
 

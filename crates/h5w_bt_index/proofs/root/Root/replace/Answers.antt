@@ -2,8 +2,8 @@ use Rattle.std.proofs.Common.{◌≡◌, true, is_some, sym, ap, ◌∙◌, subs
 use Rattle.h5w_bt_index.specs.declared.root.Root.{Root}
 use Rattle.h5w_bt_index.specs.declared.root.Root.TheVariants.{Zero, One, Two, Three}
 use Rattle.h5w_bt_index.specs.Index.{IsShaped, index_of, inserted}
-use Rattle.h5w_bt_index.specs.Nodes.{found}
-use Rattle.h5w_bt_index.specs.Typed.{leaf_of, inner_of}
+use Rattle.h5w_bt_nodes.specs.Nodes.{found}
+use Rattle.h5w_bt_nodes.specs.Typed.{leaf_of, inner_of}
 use Rattle.h5w_bt_index.proofs.Replaced.{replaced_index}
 use Rattle.h5w_bt_index.proofs.root.Root.replace.Goals as goal
 

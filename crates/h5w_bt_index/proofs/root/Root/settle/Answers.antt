@@ -1,8 +1,9 @@
 use Rattle.std.proofs.Common.{◌≤◌, ◌∙◌, ap, sym, subst, length, ℕ}
 use Rattle.h5w_bt_index.specs.declared.root.Root.{Root}
-use Rattle.h5w_bt_index.specs.Nodes.{Tree}
+use Rattle.h5w_bt_nodes.specs.Nodes.{Tree}
 use Rattle.h5w_bt_index.specs.Index.{Index, index_of}
-use Rattle.h5w_bt_index.specs.Plans.{changes, planned}
+use Rattle.h5w_bt_nodes.specs.Blocks.{changes}
+use Rattle.h5w_bt_index.specs.Plans.{planned}
 use Rattle.h5w_bt_index.proofs.root.Root.settle.Goals as goal
 
 abbrev of_root : (d : ℕ) → Tree d → Index

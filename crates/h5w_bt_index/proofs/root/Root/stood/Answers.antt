@@ -1,7 +1,7 @@
 use Rattle.std.proofs.Common.{◌≡◌, ◌++◌, sym, subst, OnOk}
 use Rattle.h5w_bt_index.specs.declared.root.Root.{Root}
 use Rattle.h5w_bt_index.specs.Index.{index_of}
-use Rattle.h5w_bt_index.specs.Plans.{stood}
+use Rattle.h5w_bt_nodes.specs.Blocks.{stood}
 use Rattle.h5w_bt_index.proofs.root.Root.stood.Goals as goal
 
 pub returns-in-Zero : goal.returns-in-Zero

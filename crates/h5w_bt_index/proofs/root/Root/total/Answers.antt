@@ -1,7 +1,7 @@
 use Rattle.std.proofs.Common.{sym, ap, ◌∙◌}
 use Rattle.h5w_bt_index.specs.declared.root.Root.{Root}
 use Rattle.h5w_bt_index.specs.Index.{index_of}
-use Rattle.h5w_bt_index.specs.Nodes.{total_of}
+use Rattle.h5w_bt_nodes.specs.Nodes.{total_of}
 use Rattle.h5w_bt_index.proofs.root.Root.total.Goals as goal
 
 pub returns-in-Zero : goal.returns-in-Zero

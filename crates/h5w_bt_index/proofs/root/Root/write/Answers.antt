@@ -2,7 +2,7 @@ use Rattle.std.proofs.Common.{◌≡◌, ◌≤◌, ◌++◌, sym, subst, length
 use Rattle.h5w_bt.specs.Parts.{child_of}
 use Rattle.h5w_bt_index.specs.declared.root.Root.{Root}
 use Rattle.h5w_bt_index.specs.Index.{IsShaped, index_of}
-use Rattle.h5w_bt_index.specs.Plans.{AllRead, changes, placed, pointer_of, writes_of, written}
+use Rattle.h5w_bt_nodes.specs.Blocks.{AllRead, changes, placed, pointer_of, writes_of, written}
 use Rattle.h5w_bt_index.proofs.root.Root.write.Goals as goal
 
 pub write-requires-clause-shape : goal.write-requires-clause-shape

@@ -5,7 +5,7 @@ use Rattle.h5w_model.specs.Trees.{btin_at}
 use Rattle.h5w_bt.specs.declared.inner.Btin.{Btin}
 use Rattle.h5w_bt.specs.Fields.{btin_of}
 use Rattle.h5w_bt.specs.Parts.{child_of, record_of}
-use Rattle.h5w_bt_index.specs.Typed.{inner_of}
+use Rattle.h5w_bt_nodes.specs.Typed.{inner_of}
 use Rattle.h5w_bt_open.specs.Calls.{IfDamaged, IsJudged}
 use Rattle.h5w_bt_open.specs.Spans.{Leads, high_of, low_of}
 use Rattle.h5w_bt_open.specs.Opened.{EachOpened, IsHeld, IsOpened, IsRead, IsRefused, looked_below, looked_up}

@@ -1,7 +1,7 @@
 use Rattle.std.proofs.Common.{◌≡◌, ◌+◌, ◌*◌, ℕ, true, Err, List, refl, subst, rules}
 use Rattle.h5w_model.specs.Trees.{ChildFields, btlf_at}
 use Rattle.h5w_bt.specs.Parts.{child_of}
-use Rattle.h5w_bt_index.specs.Typed.{leaf_of}
+use Rattle.h5w_bt_nodes.specs.Typed.{leaf_of}
 use Rattle.h5w_bt_open.specs.Calls.{IfDamaged}
 use Rattle.h5w_bt_open.specs.Spans.{Leads}
 use Rattle.h5w_bt_open.specs.Opened.{IsRefused, looked_up}

@@ -1,7 +1,7 @@
 use Rattle.std.proofs.Common.{◌≡◌, ◌≤◌, ◌^◌, suc, List, map, ap, arith}
 use Rattle.std.specs.List.{sum_by}
-use Rattle.h5w_bt_index.specs.Nodes.{total_of}
-use Rattle.h5w_bt_index.proofs.Shapes.{counted_small, power_fits}
+use Rattle.h5w_bt_nodes.specs.Nodes.{total_of}
+use Rattle.h5w_bt_nodes.proofs.Shapes.{counted_small, power_fits}
 use Rattle.h5w_bt_open.proofs.walk.InnerWalk.has_true_totals.Goals as goal
 
 pub count-requires : goal.count-requires

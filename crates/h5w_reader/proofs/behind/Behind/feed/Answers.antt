@@ -1,9 +1,9 @@
 use Rattle.std.proofs.Common.{length, sym, ◌∙◌, ap}
 use Rattle.h5w_model.specs.Programs.{fed}
 use Rattle.h5w_reader.specs.Walking.{walking, walked}
-use Rattle.h5w_reader.specs.Attempts.{known_of, rules_of}
+use Rattle.h5w_lookup.specs.Attempts.{known_of, rules_of}
 use Rattle.h5w_reader.specs.Calling.{behind_left, messages_rest, reached}
-use Rattle.h5w_reader.proofs.PieceLemmas.{along}
+use Rattle.h5w_lookup.proofs.PieceLemmas.{along}
 use Rattle.h5w_reader.proofs.CallLemmas.{fed_bind, fits_bind}
 use Rattle.h5w_reader.proofs.StageLemmas.{walking_looks}
 use Rattle.h5w_reader.proofs.behind.Behind.feed.Goals as goal
@@ -20,3 +20,8 @@ returns-in_ok-feed-in-Visit c =
     let piece = c.args.piece.now in
     along (reached g) c.after_walk.result (messages_rest g (walked c.in_ok-feed-in-Visit.field-0)) (fed piece (behind_left g c.args.self)) c.after_walk.ensures
     (rw c.in-Visit.is (ap (messages_rest g) c.in_ok-feed-in-Visit.ensures ∙ sym (fed_bind (walking b) _ piece _ (walking_looks b))))
+
+pub returns-in_ok-feed-in-Lookup : goal.returns-in_ok-feed-in-Lookup
+returns-in_ok-feed-in-Lookup c =
+    let g = rules_of c.args.rules.now (known_of c.args.known.now) in
+    rw c.in-Lookup.is (c.of.ensures g ∙ c.in_ok-feed-in-Lookup.ensures)

@@ -4,8 +4,8 @@ use Rattle.h5w_reader.specs.Bands.{reading_with}
 use Rattle.h5w_reader.specs.Grids.{grid_given}
 use Rattle.h5w_reader.specs.Gridding.{grid_left}
 use Rattle.h5w_reader.specs.Values.{valued}
-use Rattle.h5w_reader.proofs.WalkLemmas.{fed_more, fed_whole, fits_gather}
-use Rattle.h5w_reader.proofs.PieceLemmas.{along}
+use Rattle.h5w_lookup.proofs.GatherLemmas.{fed_more, fed_whole, fits_gather}
+use Rattle.h5w_lookup.proofs.PieceLemmas.{along}
 use Rattle.h5w_reader.proofs.grid.Beside.feed.Goals as goal
 
 pub feed-requires : goal.feed-requires

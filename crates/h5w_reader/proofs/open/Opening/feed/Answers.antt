@@ -2,7 +2,7 @@ use Rattle.std.proofs.Common.{◌≡◌, ◌∙◌, sym, length}
 use Rattle.h5w_model.specs.Datasets.{super_of}
 use Rattle.h5w_reader.specs.Walking.{chunk_0_rest}
 use Rattle.h5w_reader.specs.Opening.{super_rest}
-use Rattle.h5w_reader.proofs.WalkLemmas.{fed_more, fed_whole, fits_gather}
+use Rattle.h5w_lookup.proofs.GatherLemmas.{fed_more, fed_whole, fits_gather}
 use Rattle.h5w_reader.proofs.OpenLemmas.{super_ok, super_err}
 use Rattle.h5w_reader.proofs.open.Opening.feed.Goals as goal
 use Rattle.h5w_reader.proofs.open.Opening.feed.Goals.{in-Ok, in-Err}

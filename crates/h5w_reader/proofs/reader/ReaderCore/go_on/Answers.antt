@@ -1,8 +1,8 @@
 use Rattle.std.proofs.Common.{◌≡◌, ◌∙◌, sym, refl, ap, Option, Some, None}
 use Rattle.h5w_model.specs.Unfinished.{Reader}
 use Rattle.h5w_model.specs.Tables.{Reading}
-use Rattle.h5w_reader.specs.Attempts.{known_of}
-use Rattle.h5w_reader.specs.Descents.{reading_news}
+use Rattle.h5w_lookup.specs.Attempts.{known_of}
+use Rattle.h5w_lookup.specs.Descents.{reading_news}
 use Rattle.h5w_reader.specs.Readers.{left_of, reader_rules}
 use Rattle.h5w_reader.specs.declared.call.Call.{Call}
 use Rattle.h5w_reader.specs.declared.call.Call.TheVariants as calls
@@ -13,12 +13,12 @@ use Rattle.h5w_reader.proofs.reader.ReaderCore.go_on.Goals as goal
 pub returns-in-Ok-clause-told : goal.returns-in-Ok-clause-told
 returns-in-Ok-clause-told c =
     let s = c.args.self.now in
-    let news = c.in-Ok-Answer-Ok.news in
+    let news = c.in-Ok-Done.news in
     let piece = c.args.piece.now in
     let stage = c.in-Some-Rows.stage in
     let took = c.in-Some-Rows.ensures in
     let call : s.call ≡ Some (calls.Rows stage) = sym took.value ∙ ap Some c.in-Some-Rows.field-0-is in
-    let e = rw (c.in-Ok-Answer-Ok.field-0-is, c.in-Ok-Answer-Ok.field-0-0-is, c.as_slice-name.ensures) at c.in-Ok-Answer-Ok.ensures in
+    let e = rw (c.in-Ok-Done.field-0-is, c.as_slice-name.ensures) at c.in-Ok-Done.ensures in
     let rules = reader_rules s.name s.attempts in
     let known = c.learn.new.known in
     let at : Option Reading → Option Call → Reader = λ k x. record { rules = rules; known = k; left = left_of s.attempts s.name known x } in (

@@ -2,7 +2,7 @@ use Rattle.std.proofs.Common.{◌≡◌, ◌≤◌, ◌+◌, ◌∙◌, sym, sub
 use Rattle.h5w_model.specs.Asked.{Asked, IsRead, beginning}
 use Rattle.h5w_model.specs.Calls.{rows_seen}
 use Rattle.h5w_model.specs.Unfinished.{Unfinished, Reader, values_left, values_program}
-use Rattle.h5w_reader.specs.Attempts.{known_of, reading_of}
+use Rattle.h5w_lookup.specs.Attempts.{known_of, reading_of}
 use Rattle.h5w_reader.specs.Readers.{reader_rules}
 use Rattle.h5w_reader.specs.Cores.{reader}
 use Rattle.h5w_reader.proofs.CoreLemmas.{read_begun, program_read}

@@ -1,7 +1,7 @@
 use Rattle.std.proofs.Common.{sym, subst, refl}
 use Rattle.h5w_model.specs.Asked.{Asked, beginning}
 use Rattle.h5w_model.specs.Unfinished.{Reader, rows_left, rows_program}
-use Rattle.h5w_reader.specs.Attempts.{known_of}
+use Rattle.h5w_lookup.specs.Attempts.{known_of}
 use Rattle.h5w_reader.specs.Readers.{reader_rules}
 use Rattle.h5w_reader.specs.Cores.{reader}
 use Rattle.h5w_reader.proofs.CoreLemmas.{refreshed_known, refreshed_new}

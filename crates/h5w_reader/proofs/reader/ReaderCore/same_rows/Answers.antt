@@ -1,7 +1,7 @@
 use Rattle.std.proofs.Common.{◌≡◌, ◌∙◌, refl, ap, Option, Some, None}
 use Rattle.h5w_model.specs.Unfinished.{Reader}
 use Rattle.h5w_model.specs.Tables.{Reading}
-use Rattle.h5w_reader.specs.Attempts.{known_of, reading_of}
+use Rattle.h5w_lookup.specs.Attempts.{known_of, reading_of}
 use Rattle.h5w_reader.specs.Readers.{reader_rules}
 use Rattle.h5w_reader.specs.declared.call.Call.TheVariants as calls
 use Rattle.h5w_reader.specs.declared.stage.Stage.TheVariants as stages

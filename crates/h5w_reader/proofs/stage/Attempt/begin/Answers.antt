@@ -3,8 +3,8 @@ use Rattle.h5w_model.specs.Programs.{Prog, ret}
 use Rattle.h5w_model.specs.Tables.{Reading}
 use Rattle.h5w_model.specs.declared.refusal.ReadError.{ReadError}
 use Rattle.h5w_model.specs.Calls.{cut_header}
-use Rattle.h5w_reader.specs.Attempts.{known_of, rules_of}
-use Rattle.h5w_reader.specs.Descents.{reading_news}
+use Rattle.h5w_lookup.specs.Attempts.{known_of, rules_of}
+use Rattle.h5w_lookup.specs.Descents.{reading_news}
 use Rattle.h5w_reader.specs.Calling.{behind_left}
 use Rattle.h5w_reader.proofs.CallLemmas.{attempt_cut, attempt_settled, attempt_refused, attempt_looks}
 use Rattle.h5w_reader.proofs.StageLemmas.{behind_looks}
@@ -19,23 +19,23 @@ pub with_view-requires : goal.with_view-requires
 with_view-requires c =
     let g = rules_of c.args.rules (known_of c.args.known.now) in
     let uncut : cut_header c.args.rules.place c.args.view ≡ None = cc in
-    let e = rw (c.in-Answer-Ok.is, c.in-Answer-Ok.field-0-is) at c.in_ok-news.ensures in
-    header_of g c.args.view (reading_news (known_of c.args.known.now) c.in-Answer-Ok.news) refl uncut e
+    let e = rw c.in-Done.is at c.in_ok-news.ensures in
+    header_of g c.args.view (reading_news (known_of c.args.known.now) c.in-Done.news) refl uncut e
 
-pub returns-in-Answer-Ok : goal.returns-in-Answer-Ok
-returns-in-Answer-Ok c = λ most name.
+pub returns-in-Done : goal.returns-in-Done
+returns-in-Done c = λ most name.
     let g = rules_of c.args.rules (known_of c.args.known.now) in
     let uncut : cut_header c.args.rules.place c.args.view ≡ None = cc in
-    let e = rw (c.in-Answer-Ok.is, c.in-Answer-Ok.field-0-is) at c.in_ok-news.ensures in
+    let e = rw c.in-Done.is at c.in_ok-news.ensures in
     ap (λ (r : Reading). let p : Prog (Result Reading ReadError) = ret (Ok r) in p) (c.with_view.ensures (known_of c.args.known.now))
-    ∙ attempt_settled g c.args.more c.args.view (reading_news (known_of c.args.known.now) c.in-Answer-Ok.news) uncut e
+    ∙ attempt_settled g c.args.more c.args.view (reading_news (known_of c.args.known.now) c.in-Done.news) uncut e
 
-pub returns-in-Answer-Err : goal.returns-in-Answer-Err
-returns-in-Answer-Err c = λ most name.
+pub returns-in-Refused : goal.returns-in-Refused
+returns-in-Refused c = λ most name.
     let g = rules_of c.args.rules (known_of c.args.known.now) in
     let uncut : cut_header c.args.rules.place c.args.view ≡ None = cc in
-    let e = rw (c.in-Answer-Err.is, c.in-Answer-Err.field-0-is) at c.in_ok-news.ensures in
-    attempt_refused g c.args.more c.args.view c.in-Answer-Err.error uncut e
+    let e = rw c.in-Refused.is at c.in_ok-news.ensures in
+    attempt_refused g c.args.more c.args.view c.in-Refused.error uncut e
 
 pub returns-in-Looks : goal.returns-in-Looks
 returns-in-Looks c = λ most name.

@@ -1,12 +1,12 @@
 use Rattle.std.proofs.Common.{◌∙◌, sym, ap, length, subst}
 use Rattle.h5w_model.specs.Checked.{viewed}
 use Rattle.h5w_model.specs.Programs.{bind, and_then, next_look, fed}
-use Rattle.h5w_reader.specs.Looks.{IsWithinLook}
+use Rattle.h5w_lookup.specs.Looks.{IsWithinLook}
 use Rattle.h5w_reader.specs.Opening.{opening, opened}
-use Rattle.h5w_reader.specs.Attempts.{known_of, rules_of}
-use Rattle.h5w_reader.specs.Descents.{reading_news}
+use Rattle.h5w_lookup.specs.Attempts.{known_of, rules_of}
+use Rattle.h5w_lookup.specs.Descents.{reading_news}
 use Rattle.h5w_reader.specs.Calling.{came, stage_left, place_rest, behind_left, confirm_rest, confirm_given, rows_given}
-use Rattle.h5w_reader.proofs.PieceLemmas.{along}
+use Rattle.h5w_lookup.proofs.PieceLemmas.{along}
 use Rattle.h5w_reader.proofs.CallLemmas.{fed_bind, fits_bind, rows_begin, confirm_begins}
 use Rattle.h5w_reader.proofs.StageLemmas.{opening_looks, behind_looks}
 use Rattle.h5w_reader.proofs.stage.Stage.feed.Goals as goal

@@ -1,4 +1,4 @@
-use Rattle.h5w_reader.specs.Attempts.{rules_of}
+use Rattle.h5w_lookup.specs.Attempts.{rules_of}
 use Rattle.h5w_reader.proofs.CallLemmas.{rows_are}
 use Rattle.h5w_reader.proofs.stage.Stage.rows.Goals as goal
 

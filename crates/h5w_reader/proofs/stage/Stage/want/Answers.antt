@@ -1,8 +1,8 @@
 use Rattle.std.proofs.Common.{ap}
 use Rattle.h5w_model.specs.Checked.{viewed}
 use Rattle.h5w_model.specs.Programs.{next_look}
-use Rattle.h5w_reader.specs.Attempts.{rules_of}
-use Rattle.h5w_reader.specs.Descents.{reading_news}
+use Rattle.h5w_lookup.specs.Attempts.{rules_of}
+use Rattle.h5w_lookup.specs.Descents.{reading_news}
 use Rattle.h5w_reader.proofs.CallLemmas.{rows_begin, confirm_begins}
 use Rattle.h5w_reader.proofs.stage.Stage.want.Goals as goal
 

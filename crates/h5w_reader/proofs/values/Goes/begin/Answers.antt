@@ -3,10 +3,10 @@ use Rattle.std.specs.Prelude.{ℤ}
 use Rattle.h5w_model.specs.Programs.{Prog, ret}
 use Rattle.h5w_model.specs.Calls.{values_call}
 use Rattle.h5w_model.specs.declared.refusal.ReadError.{ReadError}
-use Rattle.h5w_reader.specs.Attempts.{reading_of}
+use Rattle.h5w_lookup.specs.Attempts.{reading_of}
 use Rattle.h5w_reader.specs.Values.{goes, rows_rest}
 use Rattle.h5w_reader.specs.Grids.{bands_rest}
-use Rattle.h5w_reader.proofs.PieceLemmas.{along}
+use Rattle.h5w_lookup.proofs.PieceLemmas.{along}
 use Rattle.h5w_reader.proofs.ValueLemmas.{call_line, call_none}
 use Rattle.h5w_reader.proofs.GridLemmas.{call_grid}
 use Rattle.h5w_reader.proofs.ReadLemmas.{span_line, none_beside}

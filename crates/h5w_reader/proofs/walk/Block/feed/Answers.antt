@@ -1,8 +1,8 @@
 use Rattle.std.proofs.Common.{length}
 use Rattle.h5w_model.specs.Programs.{fed}
 use Rattle.h5w_reader.specs.Walking.{block_left, walked, walking}
-use Rattle.h5w_reader.proofs.WalkLemmas.{fed_more, fed_whole, fits_gather}
-use Rattle.h5w_reader.proofs.PieceLemmas.{along}
+use Rattle.h5w_lookup.proofs.GatherLemmas.{fed_more, fed_whole, fits_gather}
+use Rattle.h5w_lookup.proofs.PieceLemmas.{along}
 use Rattle.h5w_reader.proofs.walk.Block.feed.Goals as goal
 
 pub feed-requires : goal.feed-requires

@@ -10,11 +10,12 @@ use Rattle.h5w_index.proofs.BehindLemmas.{behind_laws}
 use Rattle.h5w_index.proofs.NamingLemmas.{naming_laws}
 use Rattle.h5w_index.specs.Steps.{IsPlan}
 use Rattle.h5w_index.proofs.PlacingLemmas.{placing_laws}
-use Rattle.h5w_session.specs.Sessions.{IsSession, IsWhole, Session, next_row, option_list, rows_of}
+use Rattle.h5w_pieces.specs.Joined.{option_list}
+use Rattle.h5w_session.specs.Sessions.{IsSession, IsWhole, Session, next_row, rows_of}
 use Rattle.h5w_session.specs.Flushes.{touched_by}
 use Rattle.h5w_session.proofs.SessionFields.{session_of}
 use Rattle.h5w_session.proofs.EarlyLemmas.{no_chunks}
-use Rattle.h5w_session.proofs.EarlyPlaces.{first_places, first_writes}
+use Rattle.h5w_pieces.proofs.NextPlaces.{first_places, first_writes}
 use Rattle.h5w_session.proofs.CarriedLemmas.{Carried, carried_flushed, carried_is, carried_pieces, has_rows, lengths_joined, one_at_most, refused_same, same_space, space_not, space_not_memory}
 use Rattle.h5w_session.proofs.TakingLemmas.{filled_cell, on_err}
 use Rattle.h5w_session.proofs.state.WriterCore.flush_chunk.Goals as goal
@@ -106,7 +107,7 @@ invariant_of-self-2 g c =
       header = c.raise_rows-piece.ensures.header;
       piece = c.raise_rows-piece.result;
       piece_is = c.raise_rows-piece.ensures.piece;
-      items = c.end_with.ensures.items;
+      items = c.end_with.ensures.exact;
       header_short = c.raise_rows-piece.ensures.short;
       none_waits = c.clear.ensures;
       none_early = early;
@@ -188,7 +189,7 @@ returns-clause-flushed g c =
       header = c.raise_rows-piece.ensures.header;
       piece = c.raise_rows-piece.result;
       piece_is = c.raise_rows-piece.ensures.piece;
-      items = c.end_with.ensures.items;
+      items = c.end_with.ensures.exact;
       header_short = c.raise_rows-piece.ensures.short;
       none_waits = c.clear.ensures;
       none_early = early;
@@ -259,7 +260,7 @@ returns-clause-ends g c =
       header = c.raise_rows-piece.ensures.header;
       piece = c.raise_rows-piece.result;
       piece_is = c.raise_rows-piece.ensures.piece;
-      items = c.end_with.ensures.items;
+      items = c.end_with.ensures.exact;
       header_short = c.raise_rows-piece.ensures.short;
       none_waits = c.clear.ensures;
       none_early = early;
@@ -289,7 +290,7 @@ returns-clause-room g c =
     let rows = c.in_ok-writes.writes.items in
     let supers = option_list c.raise-superblock.result in
     let header : Write = record { at = c.self.inside.place; piece = c.raise_rows-piece.result } in
-    let long = ap length c.end_with.ensures.items ∙ lengths_joined rows [] [] supers header in
+    let long = ap length c.end_with.ensures.exact ∙ lengths_joined rows [] [] supers header in
     record {
       pieces = omega (arith, long, one_at_most c.raise-superblock.result, c.in_ok-writes.ensures.pieces, c.in_ok-writes.writes.ok);
       end = omega (arith, c.in_ok-writes.ensures.end, c.end-end.ensures);

@@ -5,7 +5,8 @@ use Rattle.h5w_chunks.proofs.Geometry.{is_cut}
 use Rattle.h5w_chunks.specs.Grids.{dataset_of}
 use Rattle.h5w_chunks.specs.declared.grid.ChunkPlace.{ChunkPlace}
 use Rattle.h5w_index.specs.Held.{view_of}
-use Rattle.h5w_session.specs.Sessions.{IsSession, IsUnmade, Session, most_lines, next_row, option_list, rows_of}
+use Rattle.h5w_pieces.specs.Joined.{option_list}
+use Rattle.h5w_session.specs.Sessions.{IsSession, IsUnmade, Session, most_lines, next_row, rows_of}
 use Rattle.h5w_session.proofs.SessionFields.{session_of}
 use Rattle.h5w_session.proofs.CarriedLemmas.{asks_for, has_rows, one_at_most, same_error, values_few}
 use Rattle.h5w_session.proofs.StartCarriedLemmas.{AsksOfMade, StartCarried, asks_of_made, asks_of_start, start_carried_flushed, start_carried_is, start_carried_pieces, start_unfilled, start_unplaced}

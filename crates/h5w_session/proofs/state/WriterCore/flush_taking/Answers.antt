@@ -10,7 +10,8 @@ use Rattle.h5w_index.specs.Full.{IsFullPart}
 use Rattle.h5w_index.specs.Placing.{AreInside, IsPartly}
 use Rattle.h5w_index.specs.Views.{HasSlot}
 use Rattle.h5w_session.specs.Refusals.{IsDeepPart}
-use Rattle.h5w_session.specs.Sessions.{IsRoomy, IsSession, IsWhole, Session, most_lines, next_row, option_list, rows_of}
+use Rattle.h5w_pieces.specs.Joined.{option_list}
+use Rattle.h5w_session.specs.Sessions.{IsRoomy, IsSession, IsWhole, Session, most_lines, next_row, rows_of}
 use Rattle.h5w_session.proofs.SessionFields.{session_of}
 use Rattle.h5w_session.proofs.CarriedLemmas.{Carried, asks_for, carried_flushed, carried_is, carried_pieces, has_rows, lengths_joined, one_at_most, refused_is, refused_same, same_error, values_few}
 use Rattle.h5w_index.proofs.BegunLemmas.{was_begun}
@@ -117,7 +118,7 @@ invariant_of-self g c =
       header = c.raise_rows-piece.ensures.header;
       piece = c.raise_rows-piece.result;
       piece_is = c.raise_rows-piece.ensures.piece;
-      items = c.join.ensures.items;
+      items = c.join.ensures.exact;
       header_short = c.raise_rows-piece.ensures.short;
       none_waits = c.clear.ensures;
       none_early = refl;
@@ -204,7 +205,7 @@ returns-in-Ok-clause-flushed g c =
       header = c.raise_rows-piece.ensures.header;
       piece = c.raise_rows-piece.result;
       piece_is = c.raise_rows-piece.ensures.piece;
-      items = c.join.ensures.items;
+      items = c.join.ensures.exact;
       header_short = c.raise_rows-piece.ensures.short;
       none_waits = c.clear.ensures;
       none_early = refl;
@@ -265,7 +266,7 @@ returns-in-Ok-clause-ends g c =
       header = c.raise_rows-piece.ensures.header;
       piece = c.raise_rows-piece.result;
       piece_is = c.raise_rows-piece.ensures.piece;
-      items = c.join.ensures.items;
+      items = c.join.ensures.exact;
       header_short = c.raise_rows-piece.ensures.short;
       none_waits = c.clear.ensures;
       none_early = refl;
@@ -279,7 +280,7 @@ returns-in-Ok-clause-room g c =
     let copies = c.finish-plan.result.copies.items in
     let fixed = c.finish-plan.result.in_place.items in
     let supers = option_list c.raise-superblock.result in
-    let long = ap length c.join.ensures.items ∙ lengths_joined rows copies supers fixed (record { at = c.self.inside.place; piece = c.raise_rows-piece.result }) in
+    let long = ap length c.join.ensures.exact ∙ lengths_joined rows copies supers fixed (record { at = c.self.inside.place; piece = c.raise_rows-piece.result }) in
     record {
       pieces = omega (arith, long, one_at_most c.raise-superblock.result, c.finish-plan.ensures.copies, c.finish-plan.ensures.in_place, c.in-Ok.ensures.pieces, c.in-Ok.prepared.writes.ok);
       end = omega (arith, c.in-Ok.ensures.end);

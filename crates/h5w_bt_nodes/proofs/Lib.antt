@@ -1,0 +1,15 @@
+pub mod Records
+pub mod Places
+pub mod Steps
+pub mod Edits
+pub mod Parts
+pub mod Children
+pub mod Bounds
+pub mod Shapes
+pub mod Over
+pub mod Searched
+pub mod Down
+pub mod Placed
+pub mod Turns
+pub mod NodeBytes
+pub mod Written

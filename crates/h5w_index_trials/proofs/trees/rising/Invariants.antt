@@ -1,6 +1,0 @@
-use Rattle.h5w_bt_index.specs.Held.{view_of}
-use Rattle.h5w_bt_index.specs.Index.{IsShaped}
-use Rattle.h5w_index_trials.proofs.trees.rising.Given as goal
-
-abbrev pub invariant-loop-row : goal.invariant-loop-row
-invariant-loop-row l = IsShaped (view_of l.tree)

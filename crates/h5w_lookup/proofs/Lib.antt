@@ -1,0 +1,15 @@
+pub mod PieceLemmas
+pub mod GatherLemmas
+pub mod DescribedLemmas
+pub mod ChunkLemmas
+pub mod TableLemmas
+pub mod StoreLemmas
+pub mod SizeLemmas
+pub mod SeekLemmas
+pub mod NodeLemmas
+pub mod IndexLemmas
+pub mod UnknownLemmas
+pub mod DescentLemmas
+pub mod AheadLemmas
+pub mod LookLemmas
+pub mod FillLemmas

@@ -1,0 +1,145 @@
+//! What the bytes of a block behind those in place say.
+ghost use Rattle.std.specs.Prelude.{◌≡◌, ◌+◌, ◌-◌, ◌≤◌, ℕ, Result, get_or, map};
+ghost use Rattle.std.specs.List.{All};
+ghost use Rattle.h5w_model.specs.Numbers.{undefined};
+ghost use Rattle.h5w_model.specs.Programs.{Prog};
+ghost use Rattle.h5w_model.specs.Tables.{in_leaf, in_node, key_below, key_equal};
+ghost use Rattle.h5w_model.specs.Trees.{ChildFields, capacity_of};
+ghost use Rattle.h5w_model.specs.declared.refusal.ReadError.{ReadError};
+ghost use Rattle.h5w_bt.specs.Parts.{record_of, child_of};
+ghost use Rattle.h5w_lookup.specs.Turns.{turned_by, ForChild};
+
+use crate::table::address_at;
+use h5w_bt::{Btin, Child, Key, Record, Records};
+use h5w_bytes::UNDEFINED;
+use h5w_ea::Slots;
+
+/// What a block says.
+#[derive(Drop)]
+pub enum Content {
+    /// The addresses in a data block or a secondary block of an array.
+    Slots(Slots),
+    /// The records of a leaf of a tree.
+    Leaf(Records),
+    /// The records of an inner node, and its children.
+    Inner(Btin),
+}
+
+/// How the way to a key goes on from a node.
+#[derive(Clone, Copy)]
+pub enum Turn {
+    /// It ends with the chunk's address, undefined where it is not there.
+    Found(u64),
+    /// It goes on under this child.
+    Under(Child),
+}
+
+/// Whether a key comes before another.
+fn is_below(a: &Key, b: &Key) -> bool
+    ensures { result ≡ key_below a.now b.now }
+{
+    a.i < b.i || (a.i == b.i && a.j < b.j)
+}
+
+/// Whether two keys are the same.
+fn is_same(a: &Key, b: &Key) -> bool
+    ensures { result ≡ key_equal a.now b.now }
+{
+    a.i == b.i && a.j == b.j
+}
+
+/// The address of a key among the records of a leaf: the first record that is not below the key decides.
+fn among_records(records: &[Record], key: &Key) -> u64
+    ensures { result ≡ in_leaf key.now (map record_of records.now) }
+{
+    for r in records {
+        if !is_below(&r.key, key) {
+            return if is_same(&r.key, key) {
+                r.address
+            } else {
+                UNDEFINED
+            };
+        }
+    }
+    UNDEFINED
+}
+
+/// How the way to a key goes on at the first record of an inner node that is not below the key.
+fn among_children(records: &[Record], children: &[Child], key: &Key) -> Turn
+    ensures exact { (go : ChildFields → Prog (Result ℕ ReadError)) → turned_by go result ≡ in_node go key.now (map record_of records.now) (map child_of children.now) }
+    ensures kept { (most : ℕ) → All (λ (c : ChildFields). c.records ≤ most) (map child_of children.now) → ForChild (λ c. c.records ≤ most) result }
+{
+    for (i, child) in children.iter().enumerate() {
+        if records.len() <= i {
+            return Turn::Under(*child);
+        }
+        let r = &records[i];
+        if !is_below(&r.key, key) {
+            return if is_same(&r.key, key) {
+                Turn::Found(r.address)
+            } else {
+                Turn::Under(*child)
+            };
+        }
+    }
+    Turn::Found(UNDEFINED)
+}
+
+impl Content {
+    ghost use Rattle.h5w_lookup.specs.Contents.{slots_in, records_in, inner_in};
+    ghost use Rattle.h5w_lookup.specs.Turning.{turned, turning};
+
+    /// The addresses in its slots; none where it has none.
+    pub fn slots(&self) -> &[u64]
+        ensures { result.now ≡ slots_in self.now }
+    {
+        match self {
+            Content::Slots(slots) => slots.as_slice(),
+            _ => &[],
+        }
+    }
+
+    /// The address in a slot; undefined behind the last, or where it has no slots.
+    pub fn slot(&self, i: usize) -> u64
+        ensures { result ≡ get_or (slots_in self.now) i undefined }
+    {
+        address_at(self.slots(), i)
+    }
+
+    /// The address of a key in a leaf; undefined in another block.
+    fn leaf(&self, key: &Key) -> u64
+        ensures { result ≡ in_leaf key.now (records_in self.now) }
+    {
+        match self {
+            Content::Leaf(records) => among_records(records.as_slice(), key),
+            _ => UNDEFINED,
+        }
+    }
+
+    /// How the way to a key goes on in an inner node; it ends in another block.
+    fn inner(&self, key: &Key) -> Turn
+        ensures exact { (go : ChildFields → Prog (Result ℕ ReadError)) → turned_by go result ≡ in_node go key.now (inner_in self.now).records (inner_in self.now).children }
+        ensures kept { (most : ℕ) → All (λ (c : ChildFields). c.records ≤ most) (inner_in self.now).children → ForChild (λ c. c.records ≤ most) result }
+    {
+        match self {
+            Content::Inner(node) => among_children(
+                node.records.as_slice(),
+                node.children.as_slice(),
+                key,
+            ),
+            _ => Turn::Found(UNDEFINED),
+        }
+    }
+
+    /// How the way to a key goes on in a node of this depth.
+    pub fn turn(&self, depth: u64, key: &Key) -> Turn
+        requires { (d : ℕ) → depth ≡ d + 1 → All (λ (c : ChildFields). c.records ≤ capacity_of d) (inner_in self.now).children }
+        ensures exact { turned depth key.now result ≡ turning depth key.now self.now }
+        ensures few { ForChild (λ c. (1 ≤ depth) × (c.records ≤ capacity_of (depth - 1))) result }
+    {
+        if depth == 0 {
+            return Turn::Found(self.leaf(key));
+        }
+        self.inner(key)
+    }
+}

@@ -1,0 +1,153 @@
+//! Looks up one chunk among the blocks in place and those that are kept.
+ghost use Rattle.std.specs.Prelude.{◌≡◌, ◌+◌, ◌≤◌, ◌<◌, ℕ, get_or, Result};
+ghost use Rattle.h5w_model.specs.Numbers.{undefined};
+ghost use Rattle.h5w_model.specs.Arrays.{super_block_of};
+ghost use Rattle.h5w_model.specs.Programs.{Prog};
+ghost use Rattle.h5w_model.specs.Tables.{Reading, address_behind, array_slot, data_slot, secondary_slot, super_block_of_first, tree_lookup};
+ghost use Rattle.h5w_model.specs.declared.refusal.ReadError.{ReadError};
+ghost use Rattle.h5w_ea.specs.Fields.{eaib_of};
+ghost use Rattle.h5w_lookup.specs.Seeking.{store_rest};
+ghost use Rattle.h5w_model.specs.Trees.{capacity_of};
+ghost use Rattle.h5w_lookup.specs.Slots.{key_of};
+
+use crate::block::{DATA, SECOND, node_kind, node_len, slots_len};
+use crate::content::Turn;
+use crate::index::Index;
+use crate::sizes::{first_super_block, sizes};
+use crate::store::Store;
+use crate::table::address_at;
+use crate::wait::{DataWait, NodeWait, SecondWait, Wait};
+use h5w_bt::Key;
+use h5w_bytes::UNDEFINED;
+use h5w_ea::{Eaib, Place, place};
+
+/// What looking up a chunk comes to.
+#[derive(Clone, Copy)]
+pub enum Sought {
+    /// The chunk's address; undefined where it is not there.
+    Found(u64),
+    /// A block is to be looked at first.
+    Wait(Wait),
+}
+
+impl Sought {
+    ghost use Rattle.h5w_lookup.specs.Stores.{kept};
+    ghost use Rattle.h5w_lookup.specs.Sought.{sought};
+    ghost use Rattle.h5w_lookup.specs.Indexes.{IsIndexOf, in_place_of};
+
+    /// A slot of the data block of `n` slots at `at`.
+    pub fn data(store: &mut Store, at: u64, n: u64, slot: u64) -> Sought
+        requires { n ≤ 1024 }
+        ensures { (next : ℕ → Prog (Result Reading ReadError)) → sought (kept store.new) next result ≡ store_rest (kept store.old) (data_slot at n slot) next }
+    {
+        if at == UNDEFINED {
+            return Sought::Found(UNDEFINED);
+        }
+        let len = slots_len(n);
+        let address = match store.look(DATA, at, len) {
+            Some(content) => content.slot(slot as usize),
+            None => return Sought::Wait(Wait::Data(DataWait { at, n, slot })),
+        };
+        store.touch(DATA, at, len);
+        Sought::Found(address)
+    }
+
+    /// A slot of data block `block` of the secondary block at `at`.
+    fn second(store: &mut Store, at: u64, sblock: u32, block: u64, slot: u64) -> Sought
+        requires { sblock ≤ 12 }
+        ensures { (next : ℕ → Prog (Result Reading ReadError)) → sought (kept store.new) next result ≡ store_rest (kept store.old) (secondary_slot at sblock block slot) next }
+    {
+        if at == UNDEFINED {
+            return Sought::Found(UNDEFINED);
+        }
+        let (blocks, slots) = sizes(sblock);
+        let len = slots_len(blocks);
+        let address = match store.look(SECOND, at, len) {
+            Some(content) => content.slot(block as usize),
+            None => {
+                return Sought::Wait(Wait::Second(SecondWait {
+                    at,
+                    sblock,
+                    block,
+                    slot,
+                }));
+            }
+        };
+        store.touch(SECOND, at, len);
+        Sought::data(store, address, slots, slot)
+    }
+
+    /// A slot of data block `block` of the six that the index block names.
+    fn direct(store: &mut Store, index: &Eaib, block: u64, slot: u64) -> Sought
+        ensures { (next : ℕ → Prog (Result Reading ReadError)) → sought (kept store.new) next result ≡ store_rest (kept store.old) (data_slot (get_or (eaib_of index.now).first block undefined) (super_block_of (super_block_of_first block)).slots slot) next }
+    {
+        let (_, slots) = sizes(first_super_block(block));
+        Sought::data(store, address_at(&index.first, block as usize), slots, slot)
+    }
+
+    /// The address of chunk number `i` of an array.
+    fn array(store: &mut Store, index: &Eaib, i: u64) -> Sought
+        requires { i < 131060 }
+        ensures { (next : ℕ → Prog (Result Reading ReadError)) → sought (kept store.new) next result ≡ store_rest (kept store.old) (array_slot (eaib_of index.now) i) next }
+    {
+        match place(i) {
+            Place::Index { slot } => Sought::Found(address_at(&index.slots, slot as usize)),
+            Place::Direct { block, slot } => Sought::direct(store, index, block, slot),
+            Place::Second {
+                sblock,
+                block,
+                slot,
+            } => {
+                let at = address_at(&index.second, (sblock - 4) as usize);
+                Sought::second(store, at, sblock as u32, block, slot)
+            }
+        }
+    }
+
+    /// The address of a key in a tree, from the node of a depth at `at` on, which has `n` records.
+    #[tactic(auto, using(crate::proofs::NodeLemmas::few_records))]
+    pub fn node(store: &mut Store, depth: u64, key: Key, at: u64, n: u64) -> Sought
+        requires shallow { depth ≤ 3 }
+        requires few { n ≤ capacity_of depth }
+        ensures { (next : ℕ → Prog (Result Reading ReadError)) → sought (kept store.new) next result ≡ store_rest (kept store.old) (tree_lookup depth key at n) next }
+    {
+        let (kind, len) = (node_kind(depth), node_len(depth, n));
+        let turn = match store.look(kind, at, len) {
+            Some(content) => content.turn(depth, &key),
+            None => return Sought::Wait(Wait::Node(NodeWait { depth, key, at, n })),
+        };
+        store.touch(kind, at, len);
+        match turn {
+            Turn::Found(address) => Sought::Found(address),
+            Turn::Under(child) => {
+                Sought::node(store, depth - 1, key, child.address, child.records)
+            }
+        }
+    }
+
+    /// The address of a key, behind the blocks in place.
+    fn behind(store: &mut Store, index: &Index, key: Key) -> Sought
+        requires { IsIndexOf (key.i + 1) index.now }
+        ensures { (next : ℕ → Prog (Result Reading ReadError)) → sought (kept store.new) next result ≡ store_rest (kept store.old) (address_behind (in_place_of index.now) key) next }
+    {
+        match index {
+            Index::Nowhere => Sought::Found(UNDEFINED),
+            Index::Array(block) => Sought::array(store, block, key.i),
+            Index::Tree(tree) => Sought::node(store, tree.depth, key, tree.root, tree.records),
+        }
+    }
+
+    /// The address of chunk number `i`; so many keys stand side by side.
+    pub fn chunk(store: &mut Store, index: &Index, across: u64, i: usize) -> Sought
+        requires indexed { IsIndexOf (i + 1) index.now }
+        requires some { 0 < across }
+        ensures { (next : ℕ → Prog (Result Reading ReadError)) → sought (kept store.new) next result ≡ store_rest (kept store.old) (address_behind (in_place_of index.now) (key_of across i)) next }
+    {
+        let i = i as u64;
+        let key = Key {
+            i: i / across,
+            j: i % across,
+        };
+        Sought::behind(store, index, key)
+    }
+}

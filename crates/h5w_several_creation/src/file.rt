@@ -1,0 +1,96 @@
+//! A new file of several datasets, and the pieces that make it.
+ghost use Rattle.std.specs.Prelude.{◌≡◌, ◌+◌, ◌<◌, ◌≤◌, ◌^◌, ◌∷◌, ◌++◌, [], length, map, IfOk, OnOk};
+ghost use Rattle.h5w_model.specs.Superblock.{super_bytes};
+ghost use Rattle.h5w_header_laws.specs.Spelled.{spelled_header};
+ghost use Rattle.h5w_creation_laws.specs.CreatedFiles.{block_write, described_of, root_place};
+ghost use Rattle.h5w_creation.specs.Forms.{IsForm};
+ghost use Rattle.h5w_several_creation_laws.specs.SeveralFiles as files;
+ghost use Rattle.h5w_several_creation.specs.Forms.{AreNames, all_by, any_by};
+
+use crate::root::{ROOT_PLACE, first_place, link_message, put_root, root_start};
+use crate::set::{header_of, put_set};
+use h5w_creation::Form;
+use h5w_model::{OutOfMemory, Piece, Super, Write};
+use h5w_names::Names;
+use h5w_ohdr::Msgs;
+use std::alloc::Global;
+
+/// A new file of several datasets: its superblock, and the pieces that make it: those of each dataset, first those of its index and then its
+/// header, the root header, and last the superblock, by which a reader finds the file.
+#[derive(Drop)]
+pub struct Creations {
+    pub root: Super,
+    pub writes: Vec<Write>,
+}
+
+/// The superblock of a new file that ends there, with these flags.
+fn superblock(flags: u8, end: u64) -> Super
+    ensures { result ≡ record { version = 3; flags = flags; end = end; root = root_place } }
+{
+    Super {
+        version: 3,
+        flags,
+        end,
+        root: ROOT_PLACE,
+    }
+}
+
+/// The write of a superblock.
+fn super_write(root: &Super) -> Write
+    requires { root.now.version ≡ 3 }
+    ensures { result ≡ record { at = 0; piece = super_bytes root.now } }
+{
+    Write {
+        at: 0,
+        piece: Piece::of(&h5w_super::encode(root)),
+    }
+}
+
+/// The write that closes a new file which ends there: its superblock without the flags of writers.
+pub fn closing(end: u64) -> Write
+    ensures { result ≡ record { at = 0; piece = super_bytes (record { version = 3; flags = 0; end = end; root = root_place }) } }
+{
+    super_write(&superblock(0, end))
+}
+
+/// Adds the pieces of the datasets of these names, the first of which stands at `first`, and the links to them. Answers where they end.
+fn put_sets(
+    alloc: Global,
+    names: &Names,
+    form: &Form,
+    first: u64,
+    links: &mut Msgs,
+    writes: &mut Vec<Write>,
+) -> Result<u64, OutOfMemory>
+    requires form { IsForm form.now }
+    requires names { AreNames names.now }
+    requires first { first ≤ 1024 }
+    ensures end { IfOk result (λ end. end ≡ files.end_from first (all_by names.now form.now)) }
+    ensures links { OnOk result (links.new ≡ links.old ++ files.links_from first (all_by names.now form.now)) }
+    ensures writes { OnOk result (writes.new.items ≡ writes.old.items ++ map block_write (files.sets_from first (all_by names.now form.now))) }
+{
+    let header = header_of(alloc, form)?;
+    let mut at = first;
+    for name in names.as_slice() {
+        links.push(link_message(alloc, name.as_slice(), at)?)?;
+        at = put_set(alloc, form, &header, at, writes)?;
+    }
+    Ok(at)
+}
+
+/// A new file with a dataset of this form under each of these names, in their order.
+pub fn create_files(alloc: Global, names: &Names, form: &Form) -> Result<Creations, OutOfMemory>
+    requires form { IsForm form.now }
+    requires names { AreNames names.now }
+    ensures root { IfOk result (λ c. c.root ≡ files.super_of 5 (all_by names.now form.now)) }
+    ensures writes { IfOk result (λ c. c.writes.items ≡ files.created_writes (all_by names.now form.now)) }
+{
+    let mut writes = Vec::new(alloc);
+    let mut links = root_start(alloc)?;
+    let first = first_place(names);
+    let end = put_sets(alloc, names, form, first, &mut links, &mut writes)?;
+    put_root(&links, &mut writes)?;
+    let root = superblock(5, end);
+    writes.push(super_write(&root))?;
+    Ok(Creations { root, writes })
+}

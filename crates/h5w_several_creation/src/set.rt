@@ -1,0 +1,80 @@
+//! The blocks of one dataset, wherever it stands.
+ghost use Rattle.std.specs.Prelude.{◌≡◌, ◌+◌, ◌<◌, ◌≤◌, ◌^◌, ◌++◌, length, map, IfOk, OnOk};
+ghost use Rattle.h5w_header_laws.specs.Spelled.{spelled_header};
+ghost use Rattle.h5w_creation_laws.specs.CreatedFiles.{block_write, described_of, index_len};
+ghost use Rattle.h5w_creation.specs.Forms.{IsForm};
+ghost use Rattle.h5w_several_creation_laws.specs.SeveralFiles.{end_behind, set_at};
+ghost use Rattle.h5w_several_creation.specs.Forms.{any_by, with_address};
+
+use crate::index::{ARRAY_LEN, BLOCK_LEN, TREE_LEN, put_index};
+use h5w_bytes::put;
+use h5w_creation::{Form, IndexKind, create_file};
+use h5w_model::{OutOfMemory, PIECE, Piece, Write};
+use h5w_sum::seal;
+use std::alloc::Global;
+
+/// The dataset header of a file of one dataset of this form.
+pub fn header_of(alloc: Global, form: &Form) -> Result<Piece, OutOfMemory>
+    requires { IsForm form.now }
+    ensures { IfOk result (λ p. p ≡ spelled_header (described_of (any_by form.now))) }
+{
+    let file = create_file(alloc, b"a", form)?;
+    Ok(file.header)
+}
+
+/// Writes the address of the index, which stands before the sum, into a dataset header.
+fn put_address(header: &mut [u8], address: u64)
+    requires { 12 ≤ length header.old }
+    ensures { header.new ≡ with_address header.old address }
+{
+    let at = header.len() - 12;
+    put(header, at, 8, address);
+    seal(header);
+}
+
+/// The dataset header with another address of the index.
+fn header_at(header: &Piece, address: u64) -> Piece
+    requires { 12 ≤ length header.now }
+    ensures { result ≡ with_address header.now address }
+{
+    let mut bytes = [0; PIECE];
+    let chunk = &mut bytes[..header.len()];
+    chunk.copy_from_slice(header.as_slice());
+    put_address(chunk, address);
+    Piece::of(chunk)
+}
+
+/// How many bytes the blocks in place of an index have.
+fn index_len(kind: IndexKind) -> u64
+    ensures exact { result ≡ index_len kind }
+    ensures bound { result ≤ 370 }
+{
+    match kind {
+        IndexKind::Array => ARRAY_LEN + BLOCK_LEN,
+        IndexKind::Tree => TREE_LEN,
+    }
+}
+
+/// Adds the pieces of a dataset of this form, whose header stands at `place`; `header` is that of a file of one. Answers where its blocks
+/// end.
+pub fn put_set(
+    alloc: Global,
+    form: &Form,
+    header: &Piece,
+    place: u64,
+    writes: &mut Vec<Write>,
+) -> Result<u64, OutOfMemory>
+    requires form { IsForm form.now }
+    requires header { header.now ≡ spelled_header (described_of (any_by form.now)) }
+    requires place { place < 2 ^ 32 }
+    ensures end { IfOk result (λ end. end ≡ end_behind place (any_by form.now)) }
+    ensures writes { OnOk result (writes.new.items ≡ writes.old.items ++ map block_write (set_at place (any_by form.now))) }
+{
+    let index = place + header.len() as u64;
+    put_index(alloc, form.index, index, writes)?;
+    writes.push(Write {
+        at: place,
+        piece: header_at(header, index),
+    })?;
+    Ok(index + index_len(form.index))
+}

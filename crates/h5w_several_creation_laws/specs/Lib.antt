@@ -1,0 +1,3 @@
+pub mod SeveralFiles
+pub mod SeveralLaws
+pub mod SeveralExamples
