@@ -12,6 +12,7 @@ mod state;
 mod taking;
 
 pub use finding::session_finds;
+pub use form::form_of;
 pub use h5w_chunks::{Fill, Grid, IndexKind, IntType, Layout, Shape};
 pub use h5w_model::{Bytes, Cell, OutOfMemory, Piece, Super, Write};
 pub use h5w_options::Options;

@@ -1,12 +1,37 @@
-use Rattle.std.proofs.Common.{◌≡◌, ◌≤◌, ◌+◌, ◌∙◌, ◌++◌, ◌∷◌, ap, ap₂, sym, subst, arith, drop, length, length-drop, List, map, ℕ, slice_get}
-use Rattle.std.proofs.lemmas.List.{take_rest}
+use Rattle.std.proofs.Common.{◌≡◌, ◌<◌, ◌≤◌, ◌+◌, ◌^◌, ◌∙◌, ◌++◌, ◌∷◌, [], ap, ap₂, refl, sym, subst, arith, append-nil, drop, flat_map, length, length-drop, List, map, ℕ, slice_get}
+use Rattle.std.proofs.lemmas.List.{drop_all, length-map, take_rest}
+use Rattle.std.specs.List.{All}
 use Rattle.h5w_model.specs.Trees.{ChildFields}
 use Rattle.h5w_bt.specs.Parts.{child_of}
 use Rattle.h5w_bt_nodes.specs.Blocks.{AllRead, EachBy, changes, each_by, joined_blocks, placed, pointer_of, stood, writes_of, written}
 use Rattle.h5w_bt_nodes.proofs.Children.{child-there}
+use Rattle.h5w_bt_nodes.proofs.Places.{All-dropped}
 use Rattle.h5w_bt_nodes.proofs.Shapes.{shape_at}
 use Rattle.h5w_bt_nodes.proofs.Turns.{all_turn, count_turn, each_turn, list_turn, writes_turn}
 use Rattle.h5w_bt_nodes.proofs.inner.write_below.Goals as goal
+
+-- behind the last child none is left
+ended : {A B : Type 0} (t : A → B) (xs ys : List A) (i : ℕ) → ys ≡ xs → length ys ≤ i → drop i (map t xs) ≡ []
+ended t xs ys i e h = drop_all i (map t xs) (omega (arith, length-map xs t, ap (length {A = _}) e, h))
+
+pub loop-child-init : goal.loop-child-init
+loop-child-init g c =
+    let d = g.C.Subtree.depth in
+    let zs = map g.C.Subtree.tree c.args.children.now.items in
+    record {
+      count = omega arith;
+      pointers = ap (λ (l : List _). map child_of l ++ map (pointer_of d) (each_by (placed d) (changes d) c.args.places.now zs)) c.new-pointers.ensures.items;
+      reads = λ h. h;
+      written = refl;
+    }
+
+pub slice_bounds-write-count : goal.slice_bounds-write-count
+slice_bounds-write-count g c = omega (arith, c.loop-child.invariant.count, c.requires.enough)
+
+pub write-requires-clause-ends : goal.write-requires-clause-ends
+write-requires-clause-ends g c =
+    let P : ℕ → Type 0 = λ p. p + 2048 < 2 ^ 64 in
+    subst (All P) (sym (take_rest c.args.places.now c.loop-child.below)) (All-dropped P c.loop-child.below c.args.places.now c.requires.ends)
 
 pub write-requires-clause-shape : goal.write-requires-clause-shape
 write-requires-clause-shape g c =
@@ -79,3 +104,30 @@ loop-child-preserved g c =
           (c.in_ok-count.ensures.written ∙ ap (λ (l : List ℕ). c.loop-child.out.items ++ writes_of (written d l (t x))) (take_rest ps k))
           (ap (λ (l : List (List (ℕ × List ℕ))). c.loop-child.out.items ++ writes_of (joined_blocks l)) next ∙ c.loop-child.invariant.written);
     }
+
+pub returns-clause-count : goal.returns-clause-count
+returns-clause-count g c =
+    let d = g.C.Subtree.depth in
+    let none = ended g.C.Subtree.tree c.args.children.now.items c.deref-child-items.result.now c.loop-child.child-index c.deref-child-items.ensures.value (omega (arith, c.loop-child-test.false)) in
+    let rest : length (flat_map (stood d) (drop c.loop-child.child-index (map g.C.Subtree.tree c.args.children.now.items))) ≡ 0 = ap (λ (l : List _). length (flat_map (stood d) l)) none in
+    omega (arith, rest, c.loop-child.invariant.count)
+
+pub returns-clause-pointers : goal.returns-clause-pointers
+returns-clause-pointers g c =
+    let d = g.C.Subtree.depth in
+    let none = ended g.C.Subtree.tree c.args.children.now.items c.deref-child-items.result.now c.loop-child.child-index c.deref-child-items.ensures.value (omega (arith, c.loop-child-test.false)) in
+    let done = map child_of c.loop-child.pointers.items in
+    sym (append-nil done) ∙ ap (λ (l : List _). done ++ map (pointer_of d) (each_by (placed d) (changes d) (drop c.loop-child.below c.args.places.now) l)) (sym none) ∙ c.loop-child.invariant.pointers
+
+pub returns-clause-written : goal.returns-clause-written
+returns-clause-written g c =
+    let d = g.C.Subtree.depth in
+    let none = ended g.C.Subtree.tree c.args.children.now.items c.deref-child-items.result.now c.loop-child.child-index c.deref-child-items.ensures.value (omega (arith, c.loop-child-test.false)) in
+    let done = c.loop-child.out.items in
+    sym (append-nil done) ∙ ap (λ (l : List _). done ++ writes_of (joined_blocks (each_by (written d) (changes d) (drop c.loop-child.below c.args.places.now) l))) (sym none) ∙ c.loop-child.invariant.written
+
+pub returns-clause-reads : goal.returns-clause-reads
+returns-clause-reads g c =
+    let d = g.C.Subtree.depth in
+    let none = ended g.C.Subtree.tree c.args.children.now.items c.deref-child-items.result.now c.loop-child.child-index c.deref-child-items.ensures.value (omega (arith, c.loop-child-test.false)) in
+    c.loop-child.invariant.reads (subst (EachBy (AllRead d) (changes d) (drop c.loop-child.below c.args.places.now)) (sym none) tt)

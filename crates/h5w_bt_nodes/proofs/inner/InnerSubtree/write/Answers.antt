@@ -1,9 +1,45 @@
-use Rattle.std.proofs.Common.{◌≤◌, ◌+◌, ◌∙◌, suc, ap, add-one, map, length, flat_map, ℕ}
+use Rattle.std.proofs.Common.{◌≤◌, ◌+◌, ◌++◌, ◌∙◌, suc, ap, sym, arith, add-one, append-nil, map, length, flat_map, ℕ, List}
+use Rattle.std.proofs.lemmas.Bool.{both_ways, cond-true}
 use Rattle.h5w_bt.specs.Parts.{child_of}
 use Rattle.h5w_bt_nodes.specs.Typed.{inner_of}
-use Rattle.h5w_bt_nodes.specs.Blocks.{stood}
+use Rattle.h5w_bt_nodes.specs.Blocks.{pointer_of, stood, writes_of}
 use Rattle.h5w_bt_nodes.proofs.Written.{inner_changes, inner_reads, inner_written, node_fits, place_same}
 use Rattle.h5w_bt_nodes.proofs.inner.InnerSubtree.write.Goals as goal
+
+-- ---- A node that did not change
+
+pub returns-then-self-clause-count : goal.returns-then-self-clause-count
+returns-then-self-clause-count g c = sym (ap length (cond-true c.args.self.now.clean _ _ c.if-self.true))
+
+pub returns-then-self-clause-pointer : goal.returns-then-self-clause-pointer
+returns-then-self-clause-pointer g c = c.pointer.ensures ∙ sym (ap (pointer_of (suc g.C.Subtree.depth)) (cond-true c.args.self.now.clean _ _ c.if-self.true))
+
+pub returns-then-self-clause-written : goal.returns-then-self-clause-written
+returns-then-self-clause-written g c =
+    sym (append-nil c.args.out.now.items) ∙ ap (λ (l : List (ℕ × List ℕ)). c.args.out.now.items ++ writes_of l) (sym (cond-true c.args.self.now.clean _ _ c.if-self.true))
+
+pub returns-then-self-clause-reads : goal.returns-then-self-clause-reads
+returns-then-self-clause-reads g c = λ f. absurd (both_ways c.args.self.now.clean f c.if-self.true)
+
+-- ---- One that changed
+
+pub write_below-requires-clause-shallow : goal.write_below-requires-clause-shallow
+write_below-requires-clause-shallow g c = omega (arith, c.requires.shallow)
+
+pub write_below-requires-clause-shape : goal.write_below-requires-clause-shape
+write_below-requires-clause-shape g c = c.requires.shape.each
+
+pub write_below-requires-clause-enough : goal.write_below-requires-clause-enough
+write_below-requires-clause-enough g c =
+    omega (arith, inner_changes g.C.Subtree.depth (inner_of g.C.Subtree.depth g.C.Subtree.tree c.args.self.now) (length c.args.places.now) c.if-self.false c.requires.enough)
+
+pub bounds-places-below : goal.bounds-places-below
+bounds-places-below g c =
+    omega (
+      arith,
+      inner_changes g.C.Subtree.depth (inner_of g.C.Subtree.depth g.C.Subtree.tree c.args.self.now) (length c.args.places.now) c.if-self.false c.requires.enough,
+      c.in_ok-below.ensures.count,
+    )
 
 pub inner_bytes-requires : goal.inner_bytes-requires
 inner_bytes-requires g c =
