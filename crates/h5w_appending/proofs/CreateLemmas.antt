@@ -326,10 +326,6 @@ told_end f most end s before after (Err e) made is none all = tt
 told_end f most end s before after (Ok x) made is none all =
     all ∙ ap (λ (b : List ℕ). b ++ numbers_text (codes "new end") (end ∷ [])) none ∙ ap (λ (n : ℕ). numbers_text (codes "new end") (n ∷ [])) (is ∙ ap (λ (y : Session). y.places.end) made.session)
 
--- it was not made
-pub creates_failed : {v w : DiskView} (name : List ℕ) (f : CreatedFile) → Leaves 0 v.told v w → Rose v.faults w.faults → CreatesTo name f v w (Err errors.Disk)
-creates_failed {v} name f p rose = record { leaves = inl (leaves_same p); exact = any_told v.told (λ d. tt); cause = λ h. rose; calm = tt; new = tt }
-
 pub creates_wanting : {v w : DiskView} (name : List ℕ) (f : CreatedFile) → LeavesFiles v.told v w → CreatesTo name f v w (Err errors.Memory)
 creates_wanting {v} name f p = record { leaves = inl p; exact = any_told v.told (λ d. tt); cause = λ h. cc; calm = tt; new = tt }
 

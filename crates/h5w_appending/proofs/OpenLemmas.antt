@@ -90,13 +90,6 @@ unopened_over {S} {v} {w} r q name other at limit budget size x e small sized is
 
 -- ---- Before it is opened
 
-pub open_missing : {v w : DiskView} (name at : List ℕ) → Leaves 0 v.told v w → IfSome v.told (λ d. None ≡ option_map length (file d name)) → Unopened name at v w errors.Missing
-open_missing {v} name at p none = record { disk = leaves_files 0 v.told p; exact = told v.told none; kinds = inl refl; cause = λ h. cc }
-  where
-    told : (t : Option DiskState) → IfSome t (λ d. None ≡ option_map length (file d name)) → IfSome t (λ d. IsFree errors.Missing ⊎ NotOpened at (file d name) errors.Missing)
-    told None h = tt
-    told (Some d) h = inr (subst (λ (o : Option (List ℕ)). NotOpened at o errors.Missing) (sym (none_of (file d name) h)) refl)
-
 pub open_failed : {v w : DiskView} (name at : List ℕ) → Leaves 0 v.told v w → Rose v.faults w.faults → Unopened name at v w errors.Disk
 open_failed {v} name at p rose = record { disk = leaves_files 0 v.told p; exact = any_told v.told (λ d. inl (inl refl)); kinds = inr (opens.Failed, refl, tt); cause = λ h. rose }
 
@@ -110,14 +103,6 @@ opened_before {u} {v} name at limit budget s p h = record {
   is = h.is;
   exact = λ img told. h.exact img (ap (λ t. told_bytes t name) p.told ∙ told);
   stands = λ img rows columns values sm told valid reads. h.stands img rows columns values sm (ap (λ t. told_bytes t name) p.told ∙ told) valid reads;
-}
-
-pub unopened_before : {u v w : DiskView} (name at : List ℕ) (e : ErrorLine) → LeavesFiles u.told u v → Unopened name at v w e → Unopened name at u w e
-unopened_before {u} {v} {w} name at e p h = record {
-  disk = leaves_on p h.disk;
-  exact = subst (λ (t : Option DiskState). IfSome t (λ d. IsFree e ⊎ NotOpened at (file d name) e)) p.told h.exact;
-  kinds = h.kinds;
-  cause = λ f. let rose = h.cause f in omega (arith, rose, p.faults);
 }
 
 -- room was refused

@@ -128,19 +128,6 @@ settles_broke w n name first s e (endings.Refused f) counted c h = absurd c
 settles_broke {u} w n name first s e endings.Disk counted c h = (h.0, h.1, record { broke = c first h.0 u counted h.3.stored; gave = h.3.gave })
 settles_broke w n name first s e endings.Sink counted c h = absurd c
 
-pub settles_disk : {u v : DiskView} {k l : SinkView} {x y : SourceView} (name : List ℕ) (first s : Session) → TakesInput name first s x y u v k l (Err endings.Disk) → Settles name (rows_of s) first x y u v k l (Err endings.Disk)
-settles_disk name first s h = h
-
--- a sink that failed
-pub settles_sink : {u v : DiskView} {k l : SinkView} {x y : SourceView} (w : DiskView) (n : ℕ) (name : List ℕ) (first s : Session) (r : Result (Unit {0}) Ending) → u.faults ≡ n → ClosesBy n name s v w r → TakesInput name first s x y u v k l (Err endings.Sink)
-    → Settles name (rows_of s) first x y u w k l (Err endings.Sink)
-settles_sink {u} w n name first s (Ok a) counted c h = (h.0, h.1, inl (c first h.0 u counted h.2.stored), h.2.stops)
-settles_sink w n name first s (Err (endings.Refused e)) counted c h = absurd c
-settles_sink {u} w n name first s (Err endings.Disk) counted c h = (h.0, h.1, inr (c first h.0 u counted h.2.stored), h.2.stops)
-settles_sink w n name first s (Err endings.Sink) counted c h = absurd c
-
--- ---- The file
-
 -- its bytes behind some puts
 pub bytes_after : (name : List ℕ) (ps : List (Write × ℕ)) (img : List ℕ) (t : Option DiskState) → told_bytes t name ≡ Some img → told_bytes (option_map (after_puts name ps) t) name ≡ Some (image img (writes_of ps))
 bytes_after name ps img None e = absurd (cc)

@@ -56,12 +56,6 @@ never s values e running idle (inl r) no_range no_chunks no_fault no_memory =
     let h = refusal_cases s.stopped (length s.pending) append_errors.Stopped e (λ n. append_errors.Busy n) _ running (ap length idle) r in
     elim (values_cases (first_outside s.dataset.int_type 0 values) _ _ _ e h) [ inl x ↦ no_range x.0.0 x.0.1 x.1 | inr c ↦ no_chunks _ _ c ]
 
-pub never_stopped : {v : DiskView} (name : List ℕ) (s : Session) (values : List ℤ) → IsReady name s v → CauseOf s values append_errors.Stopped → ⊥
-never_stopped name s values r c = never s values append_errors.Stopped r.running r.idle c (λ i x e. cc) (λ a l e. cc) (λ e. cc) (λ e. cc)
-
-pub never_busy : {v : DiskView} (name : List ℕ) (s : Session) (values : List ℤ) (n : ℕ) → IsReady name s v → CauseOf s values (append_errors.Busy n) → ⊥
-never_busy name s values n r c = never s values (append_errors.Busy n) r.running r.idle c (λ i x e. cc) (λ a l e. cc) (λ e. cc) (λ e. cc)
-
 outside_case : (f : Option (ℕ × ℤ)) (b : Bool) (chunks limit i : ℕ) (x : ℤ)
     → (elim f [ Some y ↦ Some (append_errors.OutOfRange y.0 y.1) | None ↦ (if b then Some (append_errors.Chunks chunks limit) else None) ]) ≡ Some (append_errors.OutOfRange i x) → f ≡ Some (i, x)
 outside_case (Some y) b chunks limit i x h = let first : y.0 ≡ i = cc in let second : y.1 ≡ x = cc in (λ j. Some (first j, second j))
@@ -86,48 +80,8 @@ FlushCause s e = (flush_refusal s ≡ Some e) ⊎ (IsSpace e ⊎ ((e ≡ flush_e
 not_refused : (s : Session) (e : FlushError) → s.stopped ≡ false → s.pending ≡ [] → flush_refusal s ≡ Some e → ⊥
 not_refused s e running idle r = let none : ◌≡◌ {A = Option FlushError} None (Some e) = refusal_cases s.stopped (length s.pending) flush_errors.Stopped e (λ n. flush_errors.Busy n) None running (ap length idle) r in cc
 
-pub never_stopped_flush : {v : DiskView} (name : List ℕ) (s : Session) → IsReady name s v → FlushCause s flush_errors.Stopped → ⊥
-never_stopped_flush name s r (inl c) = not_refused s flush_errors.Stopped r.running r.idle c
-never_stopped_flush name s r (inr (inl f)) = let e = f.1 in cc
-never_stopped_flush name s r (inr (inr (inl e))) = cc
-never_stopped_flush name s r (inr (inr (inr (inl e)))) = cc
-never_stopped_flush name s r (inr (inr (inr (inr e)))) = cc
-
-pub never_busy_flush : {v : DiskView} (name : List ℕ) (s : Session) (n : ℕ) → IsReady name s v → FlushCause s (flush_errors.Busy n) → ⊥
-never_busy_flush name s n r (inl c) = not_refused s (flush_errors.Busy n) r.running r.idle c
-never_busy_flush name s n r (inr (inl f)) = let e = f.1 in cc
-never_busy_flush name s n r (inr (inr (inl e))) = cc
-never_busy_flush name s n r (inr (inr (inr (inl e)))) = cc
-never_busy_flush name s n r (inr (inr (inr (inr e)))) = cc
-
--- ---- A session that can go on
-
 there_unput : {v w : DiskView} (name : List ℕ) → Unput name v w → IsThere v name → IsThere w name
 there_unput name p there = subst (λ t. IfSome t (λ d. IsSome (file d name))) (sym p.disk.told) there
-
-pub ready_unput : {v w : DiskView} (name : List ℕ) (s : Session) → Unput name v w → IsReady name s v → IsReady name s w
-ready_unput name s p r = record {
-  there = there_unput name p r.there;
-  running = r.running;
-  columns = r.columns;
-  idle = r.idle;
-  room = omega (arith, r.room, p.room);
-  end = omega (arith, r.end, p.end);
-}
-
-pub ready_unflushed : {v w : DiskView} (name : List ℕ) (s t : Session) → Unput name v w → Unflushed s t → IsReady name s v → IsReady name t w
-ready_unflushed {v} {w} name s t p a r =
-    let q = ready_unput name s p r in
-    let same = a.same.session in
-    let end : t.places.end ≡ s.places.end = ap (λ (x : Session). x.places.end) same in
-    record {
-      there = q.there;
-      running = ap (λ (x : Session). x.stopped) same ∙ q.running;
-      columns = subst (λ n. 1 ≤ n) (sym (ap (λ (x : Session). x.dataset.shape.cols) same)) q.columns;
-      idle = ap (λ (x : Session). x.pending) same ∙ q.idle;
-      room = q.room;
-      end = let low = q.end in omega (arith, end, low);
-    }
 
 -- one whose pieces were all put, where there was room for one more
 pub ready_put : {v w : DiskView} (n : ℕ) (name : List ℕ) (s t : Session) → IsThere v name → s.stopped ≡ false → 1 ≤ s.dataset.shape.cols → length s.pending + 1 ≤ v.pieces → s.places.end ≤ v.end name → PutsAll n name s t v w → IsReady name t w
@@ -186,10 +140,6 @@ batch_text name first s b bytes some waits h is =
 -- its flush was refused
 pub close_refused : {v w : DiskView} {k : SinkView} (n : ℕ) (name : List ℕ) (s t : Session) (e : ErrorLine) → Unput name v w → Unflushed s t → FlushRefused s e → StepsOn n name s t Closes (FlushRefused s) v w k k (Err (endings.Refused e))
 close_refused n name s t e p a cause = λ first b u m counted told. (record { stored = stored_unflushed name first s t b a p told.stored; gave = told.gave }, cause)
-
--- memory for its line was wanting
-pub close_wanting : {v : DiskView} {k : SinkView} (n : ℕ) (name : List ℕ) (s : Session) → StepsOn n name s s Closes (FlushRefused s) v v k k (Err (endings.Refused errors.Memory))
-close_wanting n name s = λ first b u m counted told. (told, tt)
 
 -- the image failed
 pub close_failed : {v w : DiskView} {k : SinkView} (n : ℕ) (name : List ℕ) (s c t : Session) → Unput name v w → Unflushed s c → Halted c t → Rose v.faults w.faults → StepsOn n name s t Closes (FlushRefused s) v w k k (Err endings.Disk)

@@ -32,9 +32,6 @@ part_onward us vs ws h g = record { among = λ u a. g.among u (h.among u a); cou
 pub part_none : (us : List Used) → AreAmong [] us
 part_none us = record { among = λ u a. absurd a; counts = λ p. omega arith }
 
-pub part_left : (us vs : List Used) → AreAmong us (us ++ vs)
-part_left us vs = record { among = λ u a. among_left u us vs a; counts = λ p. omega (arith, count_joined p us vs) }
-
 pub part_right : (us vs : List Used) → AreAmong vs (us ++ vs)
 part_right us vs = record { among = λ u a. among_right u us vs a; counts = λ p. omega (arith, count_joined p us vs) }
 
@@ -105,12 +102,6 @@ one_chunk-part bytes a = elim (cases_eq a undefined) as (λ _. AreAmong (one_chu
   | inr n ↦ part_as (one_chunk bytes a) (chunk_at a bytes ∷ []) (chunks_some bytes a [] n)
 ]
 
-pub chunks_joined : (bytes : ℕ) (ms ns : List ℕ) → chunks_in bytes (ms ++ ns) ≡ chunks_in bytes ms ++ chunks_in bytes ns
-chunks_joined bytes [] ns = refl
-chunks_joined bytes (a ∷ ms) ns =
-    chunks_split bytes a (ms ++ ns) ∙ ap (λ us. one_chunk bytes a ++ us) (chunks_joined bytes ms ns) ∙ sym (append_assoc (one_chunk bytes a) (chunks_in bytes ms) (chunks_in bytes ns))
-    ∙ ap (λ us. us ++ chunks_in bytes ns) (sym (chunks_split bytes a ms))
-
 -- one address that is set adds its chunk
 pub chunks_set : (bytes : ℕ) (places : List ℕ) (k a : ℕ) → AreAmong (chunks_in bytes (set places k a)) (chunk_at a bytes ∷ chunks_in bytes places)
 chunks_set bytes [] k a = part_none (chunk_at a bytes ∷ [])
@@ -122,30 +113,3 @@ chunks_set bytes (x ∷ rest) (suc k) a =
     subst (λ (us : List Used). AreAmong us (chunk_at a bytes ∷ chunks_in bytes (x ∷ rest))) (sym (chunks_split bytes x (set rest k a)))
     (subst (λ (us : List Used). AreAmong (one_chunk bytes x ++ chunks_in bytes (set rest k a)) (chunk_at a bytes ∷ us)) (sym (chunks_split bytes x rest))
     (part_more (one_chunk bytes x) (chunks_in bytes (set rest k a)) [] (chunk_at a bytes ∷ []) (one_chunk bytes x) (chunks_in bytes rest) (part_itself (one_chunk bytes x)) (chunks_set bytes rest k a)))
-
--- and where it was undefined, no more than that
-pub chunks_set_free : (bytes : ℕ) (places : List ℕ) (k a : ℕ) → a ≢ undefined → k < length places → get_or places k undefined ≡ undefined
-    → AreAmong (chunk_at a bytes ∷ chunks_in bytes places) (chunks_in bytes (set places k a))
-chunks_set_free bytes [] k a n low e = absurd (omega arith)
-chunks_set_free bytes (x ∷ rest) zero a n low e =
-    part_as (chunk_at a bytes ∷ chunks_in bytes (x ∷ rest)) (chunks_in bytes (a ∷ rest)) (ap (λ us. chunk_at a bytes ∷ us) (chunks_undefined bytes x rest e) ∙ sym (chunks_some bytes a rest n))
-chunks_set_free bytes (x ∷ rest) (suc k) a n low e =
-    let own : List Used = chunk_at a bytes ∷ [] in
-    let one : List Used = one_chunk bytes x in
-    let old : List Used = chunks_in bytes rest in
-    let new : List Used = chunks_in bytes (set rest k a) in
-    let turned : AreAmong (own ++ (one ++ old)) (one ++ (own ++ old)) = record {
-      among = λ u h. go u one old h;
-      counts = λ p. omega (arith, count_joined p own (one ++ old), count_joined p one old, count_joined p one (own ++ old), count_joined p own old);
-    } in
-    subst (λ (us : List Used). AreAmong (chunk_at a bytes ∷ us) (chunks_in bytes (x ∷ set rest k a))) (sym (chunks_split bytes x rest))
-    (subst (λ (us : List Used). AreAmong (own ++ (one ++ old)) us) (sym (chunks_split bytes x (set rest k a)))
-    (part_onward (own ++ (one ++ old)) (one ++ (own ++ old)) (one ++ new) turned (part_joined one (own ++ old) one new (part_itself one) (chunks_set_free bytes rest k a n (omega arith) e))))
-  where
-    go : (u : Used) (one old : List Used) → Among u (chunk_at a bytes ∷ (one ++ old)) → Among u (one ++ (chunk_at a bytes ∷ old))
-    go u one old (inl f) = among_right u one (chunk_at a bytes ∷ old) (inl f)
-    go u one old (inr h) = later u one old (among_split u one old h)
-      where
-        later : (u : Used) (one old : List Used) → Among u one ⊎ Among u old → Among u (one ++ (chunk_at a bytes ∷ old))
-        later u one old (inl h) = among_left u one (chunk_at a bytes ∷ old) h
-        later u one old (inr h) = among_right u one (chunk_at a bytes ∷ old) (inr h)

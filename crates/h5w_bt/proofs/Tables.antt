@@ -24,29 +24,6 @@ capacity-fits (suc (suc zero)) n h k = omega arith
 capacity-fits (suc (suc (suc zero))) n h k = omega arith
 capacity-fits (suc (suc (suc (suc d)))) n h k = absurd (omega arith)
 
--- and no more
-pub capacity-most : (depth : ℕ) → depth ≤ 3 → 2048 < btin_len (get_or (84 ∷ 61 ∷ 57 ∷ 56 ∷ []) depth 0 + 1) depth
-capacity-most zero h = omega arith
-capacity-most (suc zero) h = omega arith
-capacity-most (suc (suc zero)) h = omega arith
-capacity-most (suc (suc (suc zero))) h = omega arith
-capacity-most (suc (suc (suc (suc d)))) h = absurd (omega arith)
-
--- each has room for 50
-pub capacity-many : (depth : ℕ) → depth ≤ 3 → 50 ≤ capacity_of depth
-capacity-many zero h = omega arith
-capacity-many (suc zero) h = omega arith
-capacity-many (suc (suc zero)) h = omega arith
-capacity-many (suc (suc (suc zero))) h = omega arith
-capacity-many (suc (suc (suc (suc d)))) h = absurd (omega arith)
-
-pub subtree_row : (depth : ℕ) → depth ≤ 3 → get_or (84 ∷ 5269 ∷ 305659 ∷ 17422619 ∷ []) depth 0 ≡ subtree_of depth
-subtree_row zero h = refl
-subtree_row (suc zero) h = refl
-subtree_row (suc (suc zero)) h = refl
-subtree_row (suc (suc (suc zero))) h = refl
-subtree_row (suc (suc (suc (suc d)))) h = absurd (omega arith)
-
 pub pointer_size-leaf : (depth : ℕ) → depth ≡ 1 → pointer_size depth ≡ 9
 pointer_size-leaf zero e = absurd (omega arith)
 pointer_size-leaf (suc zero) e = refl

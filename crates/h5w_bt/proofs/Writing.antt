@@ -73,13 +73,6 @@ pointer-put old b1 b2 at c h e1 e2 =
     let m : at + 8 + 1 ≡ at + 9 = omega arith in
     e2 ∙ put-behind old b1 front (le 8 c.address) (le 1 c.records) (at + 8) 1 e1 n1 ∙ ap (λ p. (front ++ (le 8 c.address ++ le 1 c.records)) ++ drop p old) m
 
-pub leaf-put : (old b1 b2 : List ℕ) (at depth : ℕ) (c : ChildFields) → depth ≡ 1 → at + 9 ≤ length old → b1 ≡ (take at old ++ le 8 c.address) ++ drop (at + 8) old →
-    b2 ≡ (take (at + 8) b1 ++ le 1 c.records) ++ drop (at + 8 + 1) b1 → b2 ≡ (take at old ++ child_bytes depth c) ++ drop (at + pointer_size depth) old
-leaf-put old b1 b2 at depth c one h e1 e2 =
-    pointer-put old b1 b2 at c h e1 e2
-    ∙ ap (λ l. (take at old ++ l) ++ drop (at + 9) old) (sym (child_bytes-leaf depth c (omega arith)))
-    ∙ ap (λ w. (take at old ++ child_bytes depth c) ++ drop (at + w) old) (sym (pointer_size-leaf depth one))
-
 pub inner-put : (old b1 b2 b3 : List ℕ) (at depth : ℕ) (c : ChildFields) → 1 < depth → at + 9 + depth ≤ length old → b1 ≡ (take at old ++ le 8 c.address) ++ drop (at + 8) old →
     b2 ≡ (take (at + 8) b1 ++ le 1 c.records) ++ drop (at + 8 + 1) b1 → b3 ≡ (take (at + 9) b2 ++ le depth c.total) ++ drop (at + 9 + depth) b2 →
     b3 ≡ (take at old ++ child_bytes depth c) ++ drop (at + pointer_size depth) old

@@ -173,10 +173,6 @@ deep_blocked v key i d = record { absent = finds v key i ∙ d.absent; deepest =
 pub address-found : (v : Index) (key : Key) → IsIndex v → found_address v key ≡ address_of v key
 address-found v key i = sym (in_leaf-is key (records v) ∙ ap (λ (o : Option ℕ). unwrap_or o undefined) (sym (finds v key i)))
 
--- what is found, as an address that may be undefined
-pub found-address : (v : Index) (key : Key) (o : Option ℕ) → o ≡ address_in key (records v) → address_of v key ≡ unwrap_or o undefined
-found-address v key o e = in_leaf-is key (records v) ∙ ap (λ (p : Option ℕ). unwrap_or p undefined) (sym e)
-
 -- a held key gives what it gave
 pub held-map : (v : Index) (key k : Key) → IsIndex v → address_in key (records v) ≡ None → address_of (inserted (record { address = undefined; key = key }) v) k ≡ address_of v k
 held-map v key k i e =

@@ -77,28 +77,12 @@ pub least_less : (share : ℕ → ℕ) (d m n : ℕ) (t : Tree d) → n ≤ m �
 least_less share zero m n t h a = omega (arith, h, a)
 least_less share (suc d) m n t h a = (omega (arith, h, a.0), a.1)
 
-each_less : (d : ℕ) (P Q : Tree d → Type 0) (cs : List (Tree d)) → ((c : Tree d) → P c → Q c) → All P cs → All Q cs
-each_less d P Q [] h a = All-nil Q
-each_less d P Q (c ∷ cs) h a = All-cons Q c cs (h c (All-head P c cs a)) (each_less d P Q cs h (All-tail P c cs a))
-
--- of the nodes below it
-share_less : (big small : ℕ → ℕ) → ((d : ℕ) → small d ≤ big d) → (d least : ℕ) (t : Tree d) → AtLeast big d least t → AtLeast small d least t
-share_less big small f zero least t a = a
-share_less big small f (suc d) least t a = (
-  a.0,
-  each_less d (AtLeast big d (big d)) (AtLeast small d (small d)) t.children (λ c p. least_less small d (big d) (small d) c (f d) (share_less big small f d (big d) c p)) a.1,
-)
-
 -- two fifths are no more than half
 pub two_fifths_fit : (d : ℕ) → two_fifths d ≤ half d
 two_fifths_fit d = fifths (capacity_of d)
   where
     fifths : (c : ℕ) → c * 2 / 5 ≤ c / 2
     fifths c = omega arith
-
--- a tree that was made here has what is asked of any
-pub half_filled : (v : Index) → IsHalfFull v → IsFilled v
-half_filled v h = share_less half two_fifths two_fifths_fit v.depth 0 v.root h
 
 pub filled_kept : (v w : Index) → KeepsShares v w → IsFilled v → IsFilled w
 filled_kept v w k h = k two_fifths two_fifths_fit h

@@ -52,17 +52,6 @@ changed-set F f i [] c d e h = absurd (none_is_not c e)
 changed-set F f zero (x ∷ xs) c d e h = ap (λ (y : _). y ∷ map F xs) (h ∙ ap (λ (y : _). f (F y)) (sym (some_same x c e)))
 changed-set F f (suc i) (x ∷ xs) c d e h = ap (λ (l : List _). F x ∷ l) (changed-set F f i xs c d e h)
 
--- all of them, where the changed one is
-pub All-changed : {A : Type 0} (P Q : A → Type 0) (f : A → A) → ((c : A) → P c → Q c) → ((c : A) → P c → Q (f c)) →
-    (i : ℕ) (xs : List A) → All P xs → All Q (changed_at i f xs)
-All-changed P Q f k g i [] h = All-nil Q
-All-changed P Q f k g zero (x ∷ xs) h = All-cons Q (f x) xs (g x (All-head P x xs h)) (every xs (All-tail P x xs h))
-  where
-    every : (ys : List _) → All P ys → All Q ys
-    every [] h = All-nil Q
-    every (y ∷ ys) h = All-cons Q y ys (k y (All-head P y ys h)) (every ys (All-tail P y ys h))
-All-changed P Q f k g (suc i) (x ∷ xs) h = All-cons Q x (changed_at i f xs) (k x (All-head P x xs h)) (All-changed P Q f k g i xs (All-tail P x xs h))
-
 pub All-changed_at : {A : Type 0} (P : A → Type 0) (f : A → A) (i : ℕ) (xs : List A) (c : A) → slice_get xs i ≡ Some c → P (f c) → All P xs → All P (changed_at i f xs)
 All-changed_at P f i [] c e p h = absurd (none_is_not c e)
 All-changed_at P f zero (x ∷ xs) c e p h = All-cons P (f x) xs (subst (λ (y : _). P (f y)) (sym (some_same x c e)) p) (All-tail P x xs h)

@@ -15,32 +15,8 @@ none_of (Some a) h = absurd (no h)
     no : true ≡ false → ⊥
     no h = cc
 
-some_of : (o : Option ℕ) → is_some o ≡ true → (a : ℕ) × (o ≡ Some a)
-some_of (Some a) h = (a, refl)
-some_of None h = absurd (no h)
-  where
-    no : false ≡ true → ⊥
-    no h = cc
-
 pub none-searched : (key : Key) (rs ys : List Record) (o : Option ℕ) → ys ≡ rs → o ≡ address_in key ys → is_some o ≡ false → address_in key rs ≡ None
 none-searched key rs ys o v f h = ap (address_in key) (sym v) ∙ sym f ∙ none_of o h
-
-pub some-searched : (key : Key) (rs ys : List Record) (o : Option ℕ) → ys ≡ rs → o ≡ address_in key ys → is_some o ≡ true → (a : ℕ) × (address_in key rs ≡ Some a)
-some-searched key rs ys o v f h = let (a, e) = some_of o h in (a, ap (address_in key) (sym v) ∙ sym f ∙ e)
-
-pub is_none-none : (o : Option ℕ) → is_none o ≡ true → o ≡ None
-is_none-none None h = refl
-is_none-none (Some a) h = absurd (no h)
-  where
-    no : false ≡ true → ⊥
-    no h = cc
-
-pub is_none-some : (o : Option ℕ) → is_none o ≡ false → is_some o ≡ true
-is_none-some (Some a) h = refl
-is_none-some None h = absurd (no h)
-  where
-    no : true ≡ false → ⊥
-    no h = cc
 
 pub inside-children : {A B : Type 0} (T : A → B) (cs : List A) (rs ys : List Record) (k : ℕ) → length (map T cs) ≡ length rs + 1 → ys ≡ rs → k ≤ length ys → k < length cs
 inside-children T cs rs ys k n v h = omega (arith, n, ap (length {A = Record}) v, h, length-map cs T)
@@ -50,9 +26,6 @@ pub found-searched : (d : ℕ) (key : Key) (t : Tree (suc d)) (k : ℕ) (ys : Li
 found-searched d key t k ys o b v p f h g =
     found_below d key t b (none-searched key t.records ys o v f h)
     (ap (λ (n : ℕ). slice_get t.children n) (sym (p ∙ ap (rank key) v)) ∙ g)
-
-pub here-searched : (d : ℕ) (key : Key) (t : Tree (suc d)) (ys : List Record) (o : Option ℕ) → ys ≡ t.records → o ≡ address_in key ys → is_some o ≡ true → o ≡ found (suc d) key t
-here-searched d key t ys o v f h = let (a, e) = some_of o h in e ∙ sym (found_here d key a t (ap (address_in key) (sym v) ∙ sym f ∙ e))
 
 pub full-searched : (d : ℕ) (key : Key) (t : Tree (suc d)) (k : ℕ) (ys : List Record) (b : Tree d) → ys ≡ t.records → k ≡ rank key ys → length t.records ≡ capacity_of (suc d) →
     slice_get t.children k ≡ Some b → is_full_path (suc d) key t ≡ is_full_path d key b

@@ -70,9 +70,6 @@ leaf_written ps t place bytes out now e p b f =
     ∙ ap (λ (x : ℕ × List ℕ). out ++ writes_of (x ∷ [])) (ap₂ (λ (q : ℕ) (l : List ℕ). let y : ℕ × List ℕ = (q, l) in y) p b ∙ sym (ap (block_of zero) (cond-false t.clean _ _ e)))
     ∙ ap (λ (l : List (ℕ × List ℕ)). out ++ writes_of l) (sym (cond-false t.clean _ _ e))
 
-pub leaf_reads : (ps : List ℕ) (t : Tree zero) → ((from : ℕ) → btlf_at (btlf_bytes (map record_of t.records)) from (length t.records) ≡ Ok (map record_of t.records)) → AllRead zero ps t
-leaf_reads ps t r e = subst (ReadsBack zero) (sym (cond-false t.clean _ _ e)) r
-
 pub inner_written : (d n : ℕ) (ps : List ℕ) (t : Tree (suc d)) (cs : List ChildFields) (place : ℕ) (bytes : List ℕ) (out done now : List Write) → n ≡ suc d → t.clean ≡ false → place ≡ slice_index_or ps (length (flat_map (stood d) t.children)) undefined
     → cs ≡ map (pointer_of d) (each_placed d ps t.children) → bytes ≡ padded (btin_bytes (record { records = map record_of t.records; children = cs }) n)
     → done ≡ out ++ writes_of (joined_blocks (each_by (written d) (changes d) ps t.children)) → now ≡ done ++ pieces place bytes → now ≡ out ++ writes_of (written (suc d) ps t)

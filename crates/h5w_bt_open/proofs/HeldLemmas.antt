@@ -120,16 +120,6 @@ whole_more d ts c t w is h = record {
 pub none_whole : (d : ℕ) → AreWhole d []
 none_whole d = record { shapes = All-nil (IsShapedChild d); clean = All-nil (λ (t : Tree d). clean_of d t ≡ true); marked = All-nil (IsMarked d) }
 
-pub node_held : (d : ℕ) (c : ChildFields) (t : Tree (suc d)) → length t.records ≤ capacity_of (suc d) → length t.children ≡ length t.records + 1 → t.total ≡ c.total → t.clean ≡ true → AreWhole d t.children → IsHeld (suc d) c t
-node_held d c t few count total clean w = record {
-  shape = record { few = few; children = count; each = w.shapes };
-  total = total;
-  clean = clean;
-  marked = (λ h. w.clean, w.marked);
-}
-
--- ---- A root, which says as many records under it as its children do
-
 pub counted_held : (d : ℕ) (c : ChildFields) (t : Tree d) → IsHeld d c t → IsHeld d (with_total c (told_under d (counted_node d t))) (counted_node d t)
 counted_held zero c t h = record { shape = h.shape; total = tt; clean = h.clean; marked = h.marked }
 counted_held (suc d) c t h = record { shape = record { few = h.shape.few; children = h.shape.children; each = h.shape.each }; total = refl; clean = h.clean; marked = h.marked }

@@ -27,10 +27,6 @@ pub retired_end : (s : Space) (ms : List Move) (t : Space) → AreRetired s ms t
 retired_end s [] t h = ap (λ (q : Space). q.end) h
 retired_end s (m ∷ ms) t h = retired_end h.0 ms t h.2 ∙ retire_end s m h.0 h.1
 
--- places with more room, by the room that they have
-pub by_room : (s t : Space) (n : ℕ) → t ≡ record s { spare = n } → t ≡ record s { spare = t.spare }
-by_room s t n e = e ∙ ap (λ (k : ℕ). record s { spare = k }) (sym (ap (λ (q : Space). q.spare) e))
-
 -- its moves are those of the changed blocks
 pub was_ready : (v : Store) (marks : List Bool) (capacity : ℕ) (b : Start) (ms : List Move) → IsStore v.blocks v.places marks v.changed capacity → ms ≡ b.moves
     → (h : WasBegun v.blocks v.places v.changed b) → IsReady v.blocks v.places marks v.changed capacity h.from ms h.begun.taken.taken

@@ -27,18 +27,6 @@ times-other n k ks e = sum_by-cons (λ (m : ℕ). cond (m == n) 1 0) k ks ∙ ap
 pub times-more : (n k : ℕ) (ks : List ℕ) → times n ks ≤ times n (k ∷ ks)
 times-more n k ks = let e = sum_by-cons (λ (m : ℕ). cond (m == n) 1 0) k ks in omega arith
 
-pub times-at : (ks : List ℕ) (i d : ℕ) → i < length ks → 0 < times (get_or ks i d) ks
-times-at [] i d h = absurd (omega arith)
-times-at (k ∷ ks) zero d h = let e = times-same k k ks refl in omega arith
-times-at (k ∷ ks) (suc i) d h =
-    let go : 0 < times (get_or ks i d) ks = times-at ks i d (omega arith) in
-    elim (cases_eq k (get_or ks i d)) [
-      | inl e ↦ let t = times-same (get_or ks i d) k ks e in omega arith
-      | inr ne ↦ let t = times-other (get_or ks i d) k ks ne in omega arith
-    ]
-
--- ---- Moves
-
 pub Chain-all : {S M : Type 0} (R : S → M → S → Type 0) (P : M → Type 0) → ((a : S) (m : M) (b : S) → R a m b → P m) → (s : S) (ms : List M) (t : S) → Chain R s ms t → All P ms
 Chain-all R P says s [] t h = All-nil P
 Chain-all R P says s (m ∷ ms) t h = All-cons P m ms (says s m h.0 h.1) (Chain-all R P says h.0 ms t h.2)
@@ -215,13 +203,6 @@ cleaned-room (m ∷ ms) marks inside =
 is_marked : (b : Bool) (n : ℕ) → 0 < n → n ≡ cond b 1 0 → b ≡ true
 is_marked true n h e = refl
 is_marked false n h e = absurd (omega arith)
-
-pub changed_kept : (blocks : List (Option BlockView)) (places : List ℕ) (marks : List Bool) (changed : List ℕ) (capacity : ℕ) → IsStore blocks places marks changed capacity → All (λ n. IsSome (block_in blocks n)) changed
-changed_kept blocks places marks changed capacity s k d h =
-    let n : ℕ = get_or changed k d in
-    let there : 0 < times n changed = times-at changed k d h in
-    let e : times n changed ≡ cond (get_or marks n false) 1 0 = s.once n in
-    s.kept n (is_marked (get_or marks n false) (times n changed) there e)
 
 fits_if : (o : Option BlockView) (p : ℕ) → IfSome o (FitsAddresses p) → in_place_of o ≡ true → (p ≡ undefined → ⊥) → p + length (bytes_of o) < 2 ^ 64
 fits_if None p h stays = absurd (cc)

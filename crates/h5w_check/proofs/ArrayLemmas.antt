@@ -101,9 +101,6 @@ first_next img old end bytes xs i h =
     ap (λ ys. run img old (first_visits end bytes i ys)) (next_from xs i 0 h)
     ∙ run_both img old (data_block_visit end bytes (super_block_of (super_block_of_first i)).slots (get_or xs i 0)) (first_visits end bytes (i + 1) (drop (i + 1) xs))
 
-pub first_end : (img : List ℕ) (old : List Used) (end bytes : ℕ) (xs : List ℕ) (i : ℕ) → length xs ≡ i → run img old (first_visits end bytes i (drop i xs)) ≡ Ok old
-first_end img old end bytes xs i h = ap (λ ys. run img old (first_visits end bytes i ys)) (drop_all i xs (omega arith)) ∙ after_nil old
-
 pub second_next : (img : List ℕ) (old : List Used) (end bytes sblock : ℕ) (xs : List ℕ) (i : ℕ) → i < length xs → sblock < 13
     → run img old (second_visits end bytes sblock (drop i xs)) ≡ then_also (run img old (secondary_block_visit end bytes sblock (get_or xs i 0))) (λ mid. run img mid (second_visits end bytes (sblock + 1) (drop (i + 1) xs)))
 second_next img old end bytes sblock xs i h known =
@@ -124,12 +121,6 @@ pub second_end : (img : List ℕ) (old : List Used) (end bytes sblock : ℕ) (xs
 second_end img old end bytes sblock xs i h = ap (λ ys. run img old (second_visits end bytes sblock ys)) (drop_all i xs (omega arith)) ∙ after_nil old
 
 -- ---- Secondary blocks
-
-pub second_absent : (img : List ℕ) (old : List Used) (end bytes sblock at : ℕ) → at ≡ undefined → run img old (secondary_block_visit end bytes sblock at) ≡ Ok old
-second_absent img old end bytes sblock p e = run_absent img old p (block_in end p (slots_len (super_block_of sblock).blocks) (λ b. elim (easb_at b p (super_block_of sblock).blocks) as (λ _. Visited) [
-  | Ok s ↦ visit_each (data_block_visit end bytes (super_block_of sblock).slots) s.slots
-  | Err f ↦ ret (Err (found bad_secondary_block p))
-])) e
 
 -- what follows the bytes of a secondary block
 abbrev pub second_rest : List ℕ → ℕ → ℕ → ℕ → ℕ → List ℕ × List Used → Result (List Used) Finding

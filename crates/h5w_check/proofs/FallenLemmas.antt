@@ -145,57 +145,14 @@ all_faded_err b (Err g) f h = cc
 
 -- ---- What is known
 
-of_known : (down : Bool) (old now : List Used) (r : Result Under Finding) (s : Span) → down ≡ true → span_under r ≡ Ok s → faded down (under_after old r) ≡ spanned_ok (counting down now) s
-of_known true old now (Ok u) s is h = let e : span_of u.keys ≡ s = cc in ap (spanned_ok []) e
-of_known true old now (Err f) s is h = absurd cc
-of_known false old now r s is h = absurd cc
-
-to_known : (down : Bool) (old now : List Used) (r : Result Under Finding) (s : Span) → faded down (under_after old r) ≡ spanned_ok now s → span_under r ≡ Ok s
-to_known down old now (Ok u) s h = let e : span_of u.keys ≡ s = (same_pair (counting down (old ++ u.ranges)) now (span_of u.keys) s h).1 in ap (λ k. span_ok k) e
-  where
-    span_ok : Span → Result Span Finding
-    span_ok k = Ok k
-to_known down old now (Err f) s h = absurd cc
-
 abbrev node_gives : ℕ → ℕ → Bool → ℕ → ℕ → ℕ → List Used → List ℕ → Result Spanned Finding
 node_gives end bytes down depth at n old img = faded down (under_after old (eval img (node_visit end bytes depth at n)))
 
 abbrev spanned_answer : List Used → Span → Result Spanned CheckError
 spanned_answer us s = Ok (us, s)
 
--- a node that is known is not looked at
-pub visits_known : (end bytes : ℕ) (m : KnownNodes) (v : ImageView) (down : Bool) (depth at n : ℕ) (old now : List Used) (s : Span) → down ≡ true → known m depth at n ≡ Some s
-    → Visits end bytes m m v v (node_gives end bytes down depth at n old) (spanned_answer (counting down now) s)
-visits_known end bytes m v down depth p n old now s is known_so = record {
-  looked = looked_itself v;
-  cause = λ e. absurd cc;
-  exact = λ img still right. of_known down old now (eval img (node_visit end bytes depth p n)) s is (subst (λ o. IfSome o (λ k. span_under (eval img (node_visit end bytes depth p n)) ≡ Ok k)) known_so (right depth p n));
-  kept = λ img still right. right;
-}
-
--- a node that ended well is known from then on
-pub visits_put : (end bytes : ℕ) (m n o : KnownNodes) (v w : ImageView) (down : Bool) (depth at k : ℕ) (old now : List Used) (s : Span) → Updates name_cmp n.spans o.spans (depth, (at, k)) (Some s)
-    → Visits end bytes m n v w (node_gives end bytes down depth at k old) (spanned_answer now s) → Visits end bytes m o v w (node_gives end bytes down depth at k old) (spanned_answer now s)
-visits_put end bytes m n o v w down depth p k old now s up one = record {
-  looked = one.looked;
-  cause = one.cause;
-  exact = one.exact;
-  kept = λ img still right.
-      known_more (λ d a i x. span_under (eval img (node_visit end bytes d a i)) ≡ Ok x) n o depth p k s up (one.kept img still right) (to_known down old now (eval img (node_visit end bytes depth p k)) s (one.exact img still right));
-}
-
 abbrev out_of_memory : Result Spanned CheckError
 out_of_memory = Err errors.OutOfMemory
-
--- memory ran out after it
-pub visits_memory : (end bytes : ℕ) (m n o : KnownNodes) (v w : ImageView) (given : List ℕ → Result Spanned Finding) (answer : Result Spanned CheckError) → IsUnchanged n.spans o.spans
-    → Visits end bytes m n v w given answer → Visits end bytes m o v w given out_of_memory
-visits_memory end bytes m n o v w given answer same one = record {
-  looked = one.looked;
-  cause = λ e. absurd cc;
-  exact = λ img still right. tt;
-  kept = λ img still right depth p k. subst (λ x. IfSome x (λ s. span_under (eval img (node_visit end bytes depth p k)) ≡ Ok s)) (sym (known_same n o depth p k same)) (one.kept img still right depth p k);
-}
 
 -- the root, above which no keys have fallen
 counts : (r : Result Spanned Finding) → r ≡ faded false r

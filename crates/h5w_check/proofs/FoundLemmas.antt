@@ -37,9 +37,5 @@ pub ran_found : {A : Type 0} {v w : ImageView} (f : ReadError → Finding) (give
     → calls.Ran find_errors v w given answer → Ran v w (λ img. refused_as f (given img)) (become (error_for f) answer)
 ran_found f given answer one = ran_as f (error_for f) given answer (all_said f) one
 
-pub told_found : {A : Type 0} (f : ReadError → Finding) (given : Result A ReadError) (answer : Result A FindError)
-    → calls.Told find_errors given answer → Told (refused_as f given) (become (error_for f) answer)
-told_found f given answer one = told_as f (error_for f) given answer (all_said f) one
-
 pub by_kind : (f : Finding) (kind place : ℕ) → f ≡ found kind place → error_of f ≡ errors.Finding kind place
 by_kind f kind place e = rw e refl

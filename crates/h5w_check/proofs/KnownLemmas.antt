@@ -63,16 +63,6 @@ visits_end p a q r answer one two joined = record {
   kept = one.kept;
 }
 
--- a call was refused
-pub visits_stop : {A B : Type 0} {end bytes : ℕ} {m n : KnownNodes} {v w : ImageView} (p : List ℕ → Result A Finding) (e : CheckError) (r : List ℕ → Result B Finding)
-    → Visits end bytes m n v w p (Err e) → ((img : List ℕ) (f : Finding) → p img ≡ Err f → r img ≡ Err f) → Visits end bytes m n v w r (Err e)
-visits_stop {A} {B} p e r one joined = record {
-  looked = one.looked;
-  cause = λ h. one.cause (same_error {A = A} {B = B} e errors.Failed h);
-  exact = λ img still right. stops_along check_errors (p img) (r img) e (joined img) (one.exact img still right);
-  kept = one.kept;
-}
-
 -- a call that begins with nodes of which nothing is known
 pub ran_visits : {B : Type 0} {end bytes : ℕ} {m n : KnownNodes} {v w : ImageView} (given : List ℕ → Result B Finding) (answer : Result B CheckError)
     → ((depth at n : ℕ) → known m depth at n ≡ None) → Visits end bytes m n v w given answer → Ran v w given answer
@@ -89,9 +79,6 @@ pub record Coming {B : Type 0} (end bytes : ℕ) (m n : KnownNodes) (v w : Image
   pub looked : Looked v w
   pub exact : (img : List ℕ) → IsStill v img → AreRight end bytes m img → given img ≡ left img
   pub kept : (img : List ℕ) → IsStill v img → AreRight end bytes m img → AreRight end bytes n img
-
-pub coming_from : {B : Type 0} {end bytes : ℕ} (m : KnownNodes) (v : ImageView) (given : List ℕ → Result B Finding) → Coming end bytes m m v v given given
-coming_from m v given = record { looked = looked_itself v; exact = λ img still right. refl; kept = λ img still right. right }
 
 pub coming_on : {A B : Type 0} {end bytes : ℕ} {m n o : KnownNodes} {v w x : ImageView} (given left next : List ℕ → Result B Finding) (p : List ℕ → Result A Finding) (a : A)
     → Coming end bytes m n v w given left → Visits end bytes n o w x p (Ok a) → ((img : List ℕ) → p img ≡ Ok a → left img ≡ next img) → Coming end bytes m o v x given next
@@ -126,17 +113,6 @@ coming_refused {B} {C} given left q e so told joined = record {
   exact = λ img still right. stops_along check_errors q (given img) e (λ f h. so.exact img still right ∙ joined img f h) told.exact;
   kept = so.kept;
 }
-
-pub coming_end : {B : Type 0} {end bytes : ℕ} {m n : KnownNodes} {v w : ImageView} (given left : List ℕ → Result B Finding) (q : Result B Finding) (answer : Result B CheckError)
-    → Coming end bytes m n v w given left → Told q answer → ((img : List ℕ) → left img ≡ q) → Visits end bytes m n v w given answer
-coming_end given left q answer so told joined = record {
-  looked = so.looked;
-  cause = λ e. absurd (told.quiet e);
-  exact = λ img still right. tells_along check_errors q (given img) answer (so.exact img still right ∙ joined img) told.exact;
-  kept = so.kept;
-}
-
--- ---- What is known
 
 -- names that compare equal are one
 same_name : (x y : ℕ × (ℕ × ℕ)) → name_cmp x y ≡ Equal → x ≡ y

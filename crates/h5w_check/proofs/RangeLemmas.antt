@@ -37,26 +37,8 @@ chunks_step end bytes place rest old =
 abbrev pub block_after : ℕ → Range → List Used → Result (List Used) Finding
 block_after end r old = cond (nat_lt end (r.place + r.len)) (Err (found 18 r.place)) (Ok (old ++ record { place = r.place; len = r.len; chunk = false } ∷ []))
 
-pub header_step : (end : ℕ) (r : Range) (rest : List Range) (old : List Used)
-    → after old (header_ranges end (r ∷ rest)) ≡ then_also (block_after end r old) (λ mid. after mid (header_ranges end rest))
-header_step end r rest old =
-    let us = header_ranges end rest in
-    let u : Used = record { place = r.place; len = r.len; chunk = false } in
-    let past : Result (List Used) Finding = Err (found 18 r.place) in
-    let go : List Used → Result (List Used) Finding = λ mid. after mid us in
-    elim (nat_lt end (r.place + r.len)) as (λ c. after old (cond c past (then_also us (λ vs. Ok (u ∷ vs)))) ≡ then_also (cond c past (Ok (old ++ u ∷ []))) go) [
-      | true ↦ refl
-      | false ↦ behind_one old u us
-    ]
-
--- ---- In a loop
-
 pub next_from : {A : Type 0} (xs : List A) (i : ℕ) (d : A) → i < length xs → drop i xs ≡ get_or xs i d ∷ drop (i + 1) xs
 next_from xs i d h = rw (add-one, drop-cons xs i d) refl
-
-pub chunks_next : (end bytes i : ℕ) (xs : List ℕ) (old : List Used) → i < length xs
-    → after old (chunk_ranges end bytes (drop i xs)) ≡ then_also (put_after end bytes (get_or xs i 0) old) (λ mid. after mid (chunk_ranges end bytes (drop (i + 1) xs)))
-chunks_next end bytes i xs old h = ap (λ ys. after old (chunk_ranges end bytes ys)) (next_from xs i 0 h) ∙ chunks_step end bytes (get_or xs i 0) (drop (i + 1) xs) old
 
 pub chunks_end : (end bytes i : ℕ) (xs : List ℕ) (old : List Used) → length xs ≡ i → after old (chunk_ranges end bytes (drop i xs)) ≡ Ok old
 chunks_end end bytes i xs old h = ap (λ ys. after old (chunk_ranges end bytes ys)) (drop_all i xs (omega arith)) ∙ after_nil old

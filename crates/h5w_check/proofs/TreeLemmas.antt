@@ -63,21 +63,6 @@ joined_none s few = λ i. record { count = count i; ends = ends s.ends i; rising
 pub joined_fits : (a b : Span) → (joined_spans a b).count < 2 ^ 128
 joined_fits a b = omega arith
 
-pub records_next : (end bytes i : ℕ) (d : RecordFields) (rs : List RecordFields) (old : List Used) (s : Span) → i < length rs
-    → records_after end bytes old s (drop i rs) ≡ then_also (put_after end bytes (get_or rs i d).address old) (λ mid. records_after end bytes mid (joined_spans s (span_of ((get_or rs i d).key ∷ []))) (drop (i + 1) rs))
-records_next end bytes i d rs old s h = ap (λ xs. records_after end bytes old s xs) (next_from rs i d h) ∙ records_step end bytes (get_or rs i d) (drop (i + 1) rs) old s
-
-pub records_end : (end bytes i : ℕ) (rs : List RecordFields) (old : List Used) (s : Span) → length rs ≡ i → s.count < 2 ^ 128 → records_after end bytes old s (drop i rs) ≡ Ok (old, s)
-records_end end bytes i rs old s h few =
-    ap (λ xs. records_after end bytes old s xs) (drop_all i rs (omega arith))
-    ∙ ap (λ r. then_also r (λ mid. spanned mid (joined_spans s (span_of [])))) (after_nil old)
-    ∙ ap (spanned old) (joined_none s few)
-  where
-    spanned : List Used → Span → Result Spanned Finding
-    spanned us t = Ok (us, t)
-
--- ---- Children
-
 pub total_same : (t n : ℕ) → t < 2 ^ 64 → (t == n) ≡ (t == capped n)
 total_same t n low = elim (cases_Bool (t == n)) [
   | inl same ↦ let e : t ≡ n = eqb-true t n same in let k : t ≡ capped n = omega arith in same ∙ sym (eq-eqb t (capped n) k)

@@ -26,14 +26,6 @@ blocks_held rs = sum_held (λ (u : Used). cond (not u.chunk) 1 0) rs
 
 -- ---- Overlaps
 
-pub overlap_here : (u : Used) (i : ℕ) (d : Range) (rs : List Range) → i < length rs → (get_or rs i d).place < u.place + u.len
-    → first_overlap u (map used_of (drop i rs)) ≡ Some (overlap (get_or rs i d).place (get_or rs i d).len u.place u.len)
-overlap_here u i d rs h before = ap (λ xs. first_overlap u (map used_of xs)) (next_from rs i d h) ∙ rw (lt-ltb (get_or rs i d).place (u.place + u.len) before) refl
-
-pub overlap_later : (u : Used) (i : ℕ) (d : Range) (rs : List Range) → i < length rs → u.place + u.len ≤ (get_or rs i d).place
-    → first_overlap u (map used_of (drop i rs)) ≡ first_overlap (used_of (get_or rs i d)) (map used_of (drop (i + 1) rs))
-overlap_later u i d rs h behind = ap (λ xs. first_overlap u (map used_of xs)) (next_from rs i d h) ∙ rw (le-ltb (get_or rs i d).place (u.place + u.len) behind) refl
-
 pub overlap_none : (u : Used) (i : ℕ) (rs : List Range) → length rs ≡ i → first_overlap u (map used_of (drop i rs)) ≡ None
 overlap_none u i rs h = ap (λ xs. first_overlap u (map used_of xs)) (drop_all i rs (omega arith))
 

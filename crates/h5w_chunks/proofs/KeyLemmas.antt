@@ -178,16 +178,6 @@ touched_lines d from to k known =
     let n = touched_number d from to k known in
     in_lines d (from / d.layout.chunk_rows) (div_up to d.layout.chunk_rows) (from / d.layout.chunk_rows * chunks_across d + k) n.some (omega arith) n.high
 
--- and in those of its own band
-pub touched_in_band : (d : Described) (from k : ℕ) → 0 < chunks_across d → IsInLines d (touched_band d from k) (touched_band d from k + 1) (touched_key d from k)
-touched_in_band d from k some =
-    let across : ℕ = chunks_across d in
-    let first : ℕ = from / d.layout.chunk_rows in
-    let own = row_is k across some in
-    let sum : (first + k / across) * across ≡ first * across + k / across * across = grind arith in
-    let next : (first + k / across + 1) * across ≡ first * across + k / across * across + across = grind arith in
-    in_lines d (first + k / across) (first + k / across + 1) (first * across + k) some (omega (arith, own.0, sum)) (omega (arith, own.0, own.1, next))
-
 -- no two touched chunks have one key
 pub touched_once : (d : Described) (from j k : ℕ) → 0 < chunks_across d → touched_key d from j ≡ touched_key d from k → j ≡ k
 touched_once d from j k some e =

@@ -14,9 +14,6 @@ pub record Looked (old now : WorldView) (r j : ℕ) : Type 0 where
   pub rules : rules_of now ≡ rules_of old
   pub fits : (s : ScriptState) → HaveOneLog old s → (shown : ScriptState) × HaveOneLog now shown × LookedOn (rules_of old) s r j shown
 
-pub none_looked : (w : WorldView) (r : ℕ) → Looked w w r 0
-none_looked w r = record { rules = refl; fits = λ s f. (s, f, refl) }
-
 -- what one more look does in each state that fits
 abbrev LooksBy : Rules → WorldView → WorldView → ℕ → Reply → Type 0
 LooksBy g now new r reply = (s : ScriptState) → HaveOneLog now s → Allowed g s (looks r 1) reply × HaveOneLog new (next_state g s (looks r 1) reply)

@@ -124,18 +124,6 @@ does_run (Stop options) status s t k l v w does = does
 pub ran_job : (o : Option Job) (job : Job) (status : Status) (s t : SourceView) (k l : SinkView) (v w : DiskView) → o ≡ Some job → DoesInside job status s t k l v w → RanInside o (outcomes.With status) s t k l v w
 ran_job o job status s t k l v w e does = subst (λ (x : Option Job). RanInside x (outcomes.With status) s t k l v w) (sym e) (does_run job status s t k l v w does)
 
--- a job that runs nothing in threads
-pub is_plain : (job : Job) → ((options : Options) (readers polls attempts mirrors : ℕ) → job ≡ Live options readers polls attempts mirrors → ⊥) → IsPlain job
-is_plain (Play options attempts) other = tt
-is_plain (New file options) other = tt
-is_plain (Check file names) other = tt
-is_plain (Poll file name times attempts values) other = tt
-is_plain (Clear file upgrade) other = tt
-is_plain (Make count seed) other = tt
-is_plain (Append file name limit budget keeps) other = tt
-is_plain (Live options readers polls attempts mirrors) other = other options readers polls attempts mirrors refl
-is_plain (Stop options) other = tt
-
 -- a run in threads
 pub ran_live : (o : Option Job) (job : Job) (options : Options) (readers polls attempts mirrors : ℕ) (ended : Ended) (s t : SourceView) (k l : SinkView) (v : DiskView) → o ≡ Some job → job ≡ Live options readers polls attempts mirrors
     → LiveEnds (asked_by options readers polls attempts mirrors) ended s t k l → RanInside o ended s t k l v v

@@ -168,9 +168,6 @@ created_new o attempts s m readers start = record {
   name = start.name;
 }
 
-pub created_rules : (o : Options) (attempts : ℕ) (s : Session) (m : MemView) (readers : List (Option ReaderCore)) → Creates o (total o) s m → rules_of (world_of s m attempts readers) ≡ rules_for o attempts
-created_rules o attempts s m readers start = λ i. rules_by (start.dataset i) (start.limit i) (start.budget i) attempts
-
 pub created_world_fits : (o : Options) (attempts : ℕ) (s : Session) (m : MemView) (readers : List (Option ReaderCore)) → 1 ≤ attempts → Creates o (total o) s m → readers ≡ nobody
     → HaveOneLog (world_of s m attempts readers) at_first
 created_world_fits o attempts s m readers some start none =

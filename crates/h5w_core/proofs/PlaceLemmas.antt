@@ -47,9 +47,6 @@ not_refused (Some e) r a ok refused = absurd (ok_err e r a ok (refused e refl))
 some_program : (what : Reading) (from count : ℕ) → 1 ≤ count → values_program (Some what) from count ≡ values_call what from count
 some_program what from count some = cond-false (count == 0) (ret (Ok [])) (values_call what from count) (ne_eqb count 0 (λ none. absurd (omega (arith, none))))
 
-no_program : (what : Reading) (from : ℕ) → values_program (Some what) from 0 ≡ ret (Ok [])
-no_program what from = refl
-
 none_some : IsSome {T = ℕ × ℕ} None → ⊥
 none_some e = cc
 

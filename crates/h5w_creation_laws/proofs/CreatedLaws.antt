@@ -140,9 +140,6 @@ super_stands img f low size stands =
     ap (λ (b : List ℕ). checked_super (length img) b) (look_at img 0 48 (super_bytes (super_of f)) stands (length-super_bytes (super_of f)))
     ∙ rw (super_at-super_bytes (super_of f) (inr refl) (omega arith) (omega arith), le-ltb (length img) (end_of f) size) refl
 
-no_cell : (k : ℕ) (P : Type 0) → k < 0 → P
-no_cell k P h = absurd (omega arith)
-
 -- with an index that is empty, whatever its blocks in place
 index_there : (img : List ℕ) (f : CreatedFile) → IsEmpty img f (fixed_of f.index f) → IsIndex img (end_of f) (described_of f) (fixed_of f.index f) []
 index_there img f e =

@@ -45,16 +45,6 @@ IsNoted-noted old block = go (list_any (nat_eq block) old) refl
 
 -- ---- The parents of one block
 
-pub Follows-none : (block : ℕ) (old : List ℕ) → Follows [] block old old
-Follows-none block old = record {
-  added = [];
-  grown = sym (append-nil old);
-  parents = All-nil (λ p. Contains [] (edge block p));
-  below = All-nil (λ p. p < 2 ^ 32);
-  whole = λ p c. absurd (omega (arith, c.1));
-  once = λ d. d;
-}
-
 pub Follows-other : (edges : List Edge) (e : Edge) (block : ℕ) (old new : List ℕ) → (e.child ≡ block → ⊥) → Follows edges block old new → Follows (edges ++ e ∷ []) block old new
 Follows-other edges e block old new other f = record {
   added = f.added;
@@ -138,11 +128,6 @@ IsWalked-more edges from to reached new next w inside other f =
             other (sym (ap (λ k. get_or new k 0) is ∙ same next inside) ∙ e)
       ];
     }
-
--- a block found on the way is one to which one comes
-pub IsWalked-found : (edges : List Edge) (from to : ℕ) (reached : List ℕ) (next : ℕ) → IsWalked edges from to reached next → next < length reached → get_or reached next 0 ≡ to → Reaches edges from to
-IsWalked-found edges from to reached next w inside e =
-    subst (λ v. Reaches edges from v) e (All-contains (λ x. Reaches edges from x) reached (get_or reached next 0) w.reaches (Contains-get_or reached next 0 inside))
 
 pub get_or-any : (xs : List ℕ) (i d e : ℕ) → i < length xs → get_or xs i d ≡ get_or xs i e
 get_or-any [] i d e h = absurd (omega arith)

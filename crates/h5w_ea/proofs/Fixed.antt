@@ -20,9 +20,6 @@ left-more b place wanted i h =
     ap (λ l. checked (byte_tests b place (4 + i) l) (tt {0})) (drop_more wanted i 0 h)
     ∙ ap (λ o. cond (field b (4 + i) 1 == get_or wanted i 0) (checked (byte_tests b place o (drop (i + 1) wanted)) (tt {0})) (Err (Field (place + (4 + i)) (field b (4 + i) 1)))) e
 
-pub left-all : (b : List ℕ) (place : ℕ) (wanted : List ℕ) (i : ℕ) → length wanted ≤ i → left b place wanted i ≡ Ok (tt {0})
-left-all b place wanted i h = ap (λ l. checked (byte_tests b place (4 + i) l) (tt {0})) (drop_all i wanted h)
-
 pub left-passes : (b : List ℕ) (place : ℕ) (wanted : List ℕ) (i : ℕ) → i < length wanted → field b (4 + i) 1 ≡ get_or wanted i 0 → left b place wanted i ≡ left b place wanted (i + 1)
 left-passes b place wanted i h e =
     left-more b place wanted i h

@@ -25,9 +25,6 @@ pub record AreMarked (blocks : List (Option BlockView)) (d : List ℕ) : Type 0 
   pub kept : (n : ℕ) → is_listed n d ≡ true → IsSome (get_or blocks n None)
   pub together : is_listed (number_of header) d ≡ true → is_listed (number_of index_block) d ≡ true
 
-pub marks_of : (v : Store) → IsArray v → AreMarked v.blocks v.changed
-marks_of v a = record { marked = a.marked; kept = a.kept; together = a.together }
-
 -- the same blocks with more of them changed
 pub remarked : (v : Store) (d : List ℕ) → IsArray v → AreMarked v.blocks d → ((n : ℕ) → is_listed n d ≡ false → is_listed n v.changed ≡ false) → IsArray (record v { changed = d })
 remarked v d a m clean = record {

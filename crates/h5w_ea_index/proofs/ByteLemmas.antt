@@ -157,9 +157,6 @@ length-sealed_front n b e h =
     let t = length-take (n - 4) b in
     ap length (sealed_whole n b e) ∙ (let g : length (sealed_block (take (n - 4) b)) ≡ n = omega arith in g)
 
-pub sealed_is_sealed : (n : ℕ) (b : List ℕ) → length b ≡ n → is_sealed (sealed_front n b) ≡ true
-sealed_is_sealed n b e = ap is_sealed (sealed_whole n b e) ∙ is_sealed-sealed_block (take (n - 4) b)
-
 pub range-sealed_front : (n : ℕ) (b : List ℕ) (p q : ℕ) → length b ≡ n → p + q + 4 ≤ n → range (sealed_front n b) p q ≡ range b p q
 range-sealed_front n b p q e h =
     ap (λ l. range l p q) (sealed_whole n b e)

@@ -13,30 +13,6 @@ use Rattle.h5w_array_laws.proofs.CreatedLemmas.{created_starts}
 use Rattle.h5w_ea_index.specs.Created.{IsBare, Keeps, links_to}
 use Rattle.h5w_ea_index.proofs.StoreLemmas.{set-same, set-other}
 
-all_same : {A : Type 0} (k n : ℕ) (d : A) → get_or (replicate k d) n d ≡ d
-all_same zero n d = refl
-all_same (suc k) zero d = refl
-all_same (suc k) (suc n) d = all_same k n d
-
-pub bare_from : (k m : ℕ) (v : Store) → m ≡ k → v ≡ grown m no_blocks → IsBare k v
-bare_from k m v e is = record {
-  count = ap (λ (s : Store). length s.blocks) is ∙ length-replicate m None ∙ e;
-  each_place = ap (λ (s : Store). length s.places) is ∙ length-replicate m undefined ∙ e;
-  none = λ n. ap (λ (s : Store). block_of s n) is ∙ all_same m n None;
-  unplaced = λ n. ap (λ (s : Store). place_of s n) is ∙ all_same m n undefined;
-  changed = ap (λ (s : Store). s.changed) is;
-}
-
-pub keeps_from : (n : ℕ) (b : BlockView) (p : ℕ) (v w : Store) → n < length v.blocks → length v.places ≡ length v.blocks → w ≡ kept_under n b p v → Keeps n b p v w
-keeps_from n b p v w inside each is = record {
-  count = ap (λ (s : Store). length s.blocks) is ∙ length-set v.blocks n (Some b);
-  each_place = ap (λ (s : Store). length s.places) is ∙ length-set v.places n p;
-  here = ap (λ (s : Store). block_of s n) is ∙ set-same v.blocks n b inside;
-  place = ap (λ (s : Store). place_of s n) is ∙ get_or-set_same v.places n p undefined (let h : n < length v.places = omega arith in h);
-  others = λ m ne. (ap (λ (s : Store). block_of s m) is ∙ set-other v.blocks n m b (λ e. ne (sym e)), ap (λ (s : Store). place_of s m) is ∙ get_or-set_other v.places n m p undefined ne);
-  changed = ap (λ (s : Store). s.changed) is;
-}
-
 pub none_changed : (v : Store) (n : ℕ) → v.changed ≡ [] → is_changed v n ≡ false
 none_changed v n e = ap (λ c. is_listed n c) e
 

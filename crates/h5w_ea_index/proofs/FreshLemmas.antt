@@ -65,10 +65,6 @@ no_numbers : (b : List ℕ) (p : ℕ) → numbers_in b 0 p ≡ []
 unfolding numbers_in
 no_numbers b p = refl
 
--- what was written over zeros of just its length
-pub whole_written : (made zeros out : List ℕ) (n : ℕ) → length zeros ≡ n → out ≡ made ++ drop n zeros → out ≡ made
-whole_written made zeros out n e w = w ∙ ap (λ l. made ++ l) (drop_of_length-le zeros (let h : length zeros ≤ n = omega arith in h)) ∙ append-nil made
-
 pub fresh_data : (at s b : ℕ) (v : BlockView) → IsPart (data_of s b) → v.bytes ≡ eadb_bytes (empty_fields at (offset_of (data_of s b)) (super_block_of s).slots) → v.links ≡ [] → v.turn ≡ 65 * s + b → v.in_place ≡ false → v.sealed ≡ slots_len (super_block_of s).slots
     → IsFresh at (data_of s b) v
 fresh_data at s b v p bytes links turn in' sealed =
@@ -124,30 +120,6 @@ links_inside p [] n h = All-nil (λ (l : Link). l.offset + 8 ≤ n)
 links_inside p (k ∷ ks) n h = All-cons (λ (l : Link). l.offset + 8 ≤ n) (record { offset = p; child = number_of k }) (links_from (p + 8) ks) (omega arith) (links_inside (p + 8) ks n (omega arith))
 
 -- ---- Sizes
-
-pub sizes_few : (s : ℕ) → s ≤ 12 → ((super_block_of s).blocks ≤ 64) × ((super_block_of s).slots ≤ 1024) × ((super_block_of s).start ≤ 65520)
-sizes_few zero h = (omega arith, omega arith, omega arith)
-sizes_few (suc zero) h = (omega arith, omega arith, omega arith)
-sizes_few (suc (suc zero)) h = (omega arith, omega arith, omega arith)
-sizes_few (suc (suc (suc zero))) h = (omega arith, omega arith, omega arith)
-sizes_few (suc (suc (suc (suc zero)))) h = (omega arith, omega arith, omega arith)
-sizes_few (suc (suc (suc (suc (suc zero))))) h = (omega arith, omega arith, omega arith)
-sizes_few (suc (suc (suc (suc (suc (suc zero)))))) h = (omega arith, omega arith, omega arith)
-sizes_few (suc (suc (suc (suc (suc (suc (suc zero))))))) h = (omega arith, omega arith, omega arith)
-sizes_few (suc (suc (suc (suc (suc (suc (suc (suc zero)))))))) h = (omega arith, omega arith, omega arith)
-sizes_few (suc (suc (suc (suc (suc (suc (suc (suc (suc zero))))))))) h = (omega arith, omega arith, omega arith)
-sizes_few (suc (suc (suc (suc (suc (suc (suc (suc (suc (suc zero)))))))))) h = (omega arith, omega arith, omega arith)
-sizes_few (suc (suc (suc (suc (suc (suc (suc (suc (suc (suc (suc zero))))))))))) h = (omega arith, omega arith, omega arith)
-sizes_few (suc (suc (suc (suc (suc (suc (suc (suc (suc (suc (suc (suc zero)))))))))))) h = (omega arith, omega arith, omega arith)
-sizes_few (suc (suc (suc (suc (suc (suc (suc (suc (suc (suc (suc (suc (suc s))))))))))))) h = absurd (omega arith)
-
--- the number of a data block's first slot
-pub offset_few : (s b : ℕ) → IsPart (data_of s b) → offset_of (data_of s b) ≤ 131072
-offset_few s b p =
-    let few = sizes_few s p.0 in
-    let lt = p.1 in
-    let most : b * (super_block_of s).slots ≤ 64 * 1024 = mul-le-mul (let h : b ≤ 64 = omega (arith, few.0) in h) few.1 in
-    omega (arith, few.2)
 
 pub same_data_bytes : (at o p : ℕ) (xs ys : List ℕ) → o ≡ p → xs ≡ ys → eadb_bytes (record { header = at; offset = o; slots = xs }) ≡ eadb_bytes (record { header = at; offset = p; slots = ys })
 same_data_bytes at o p xs ys e f = λ i. eadb_bytes (record { header = at; offset = e i; slots = f i })

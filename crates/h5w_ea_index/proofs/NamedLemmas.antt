@@ -37,9 +37,6 @@ order_is (secondary_of s) e = omega arith
 order_is index_block e = absurd (cc)
 order_is header e = absurd (cc)
 
-some_order : (k : Part) → stays_in_place k ≡ false → 2 ≤ look_order k
-some_order k e = let o = order_is k e in omega arith
-
 -- a block that names none
 unnamed_is : (s b : ℕ) (c : BlockView) → b < (super_block_of s).blocks → numbers_in c.bytes (length (children (secondary_of s))) (names_from (secondary_of s)) ≡ replicate (length (children (secondary_of s))) undefined
     → field c.bytes (18 + 8 * b) 8 ≡ undefined

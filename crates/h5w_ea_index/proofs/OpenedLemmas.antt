@@ -128,9 +128,6 @@ pub made_sound : (k : Part) (bytes : List ℕ) (place first top : ℕ) (whole : 
 made_sound k bytes place first top true b j made = (made.same refl).sound place (j.sound refl)
 made_sound k bytes place first top false b j made = let f = made.fresh refl in record { block = f.block; sealed = f.whole }
 
-pub judged_long : (k : Part) (bytes : List ℕ) (place first n : ℕ) (whole : Bool) → IsJudged k bytes place first whole → n ≡ length_of k → length bytes ≤ n → whole ≡ true → length bytes ≡ length_of k
-judged_long k bytes place first n whole j len few is = let long = (decoded k bytes place (j.sound is)).long in omega arith
-
 -- under Ok
 pub on_ok_map : {A E : Type 0} (r : Result A E) (P Q : Type 0) → (P → Q) → OnOk r P → OnOk r Q
 on_ok_map (Ok a) P Q up h = up h

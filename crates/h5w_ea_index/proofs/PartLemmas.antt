@@ -90,9 +90,6 @@ slots_apart (secondary_of s) = inl (omega arith)
 slots_apart index_block = inl (omega arith)
 slots_apart header = inl (omega arith)
 
-pub head_length : ℕ → Part → ℕ
-head_length at k = length (head_of at k)
-
 framed : (at v : ℕ) (a b c d : ℕ) → length (a ∷ b ∷ c ∷ d ∷ 0 ∷ 0 ∷ le 8 at ++ le 4 v) ≡ 18
 framed at v a b c d = let e = length-append (le 8 at) (le 4 v) in let f = length-le 8 at in let g = length-le 4 v in omega arith
 

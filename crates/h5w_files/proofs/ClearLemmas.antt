@@ -36,40 +36,10 @@ pub none_of : (o : Option (List ℕ)) → None ≡ option_map length o → o ≡
 none_of None e = refl
 none_of (Some x) e = cc
 
--- there is no such file
-pub finds_missing : {v w : DiskView} (name bytes : List ℕ) (upgrade : Bool) → Leaves 0 v.told v w → IfSome v.told (λ d. None ≡ option_map length (file d name))
-    → FindsSuperblock name upgrade v w bytes (Err errors.Missing)
-finds_missing {v} name bytes upgrade p none = record {
-  disk = leaves_files 0 v.told p;
-  calm = tt;
-  exact = told v.told none;
-  kinds = tt;
-  cause = λ e. cc;
-  there = tt;
-  whole = tt;
-  bytes_are = tt;
-}
-  where
-    told : (t : Option DiskState) → IfSome t (λ d. None ≡ option_map length (file d name)) → IfSome t (λ d. IsGivenBy (clears_of upgrade (file d name)) (Err errors.Missing))
-    told None h = tt
-    told (Some d) h = ap (clears_of upgrade) (none_of (file d name) h)
-
 -- the disk failed
 pub any_told : {P : DiskState → Type 0} (t : Option DiskState) → ((d : DiskState) → P d) → IfSome t P
 any_told None h = tt
 any_told (Some d) h = h d
-
-pub finds_failed : {u w : DiskView} (name bytes : List ℕ) (upgrade : Bool) → LeavesFiles u.told u w → Rose u.faults w.faults → FindsSuperblock name upgrade u w bytes (Err errors.Disk)
-finds_failed {u} name bytes upgrade p rose = record {
-  disk = p;
-  calm = tt;
-  exact = any_told u.told (λ d. tt);
-  kinds = tt;
-  cause = λ e. rose;
-  there = tt;
-  whole = tt;
-  bytes_are = tt;
-}
 
 -- its first 48 bytes, or fewer where it ends, are what its superblock is read from
 there_bytes : (bytes : List ℕ) (upgrade : Bool) (r : Result Clearing ErrorLine) (o : Option (List ℕ)) → IsSome o → bytes ≡ range (unwrap_or o []) 0 48 → r ≡ clears_at upgrade bytes → IsGivenBy (clears_of upgrade o) r

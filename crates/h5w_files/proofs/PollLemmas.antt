@@ -64,12 +64,6 @@ refused_line given (reads.Again attempts at first last) h = h
 refused_line given (reads.Shrunk seen found) h = h
 refused_line given reads.OutOfMemory h = tt
 
-wanting_line : {A : Type 0} (given : Result A ReadError) (e : ReadError) → e ≡ reads.OutOfMemory → RefusedBy given (read_line e)
-wanting_line given e h = subst (λ x. RefusedBy given (read_line x)) (sym h) tt
-
-rows_same : (p q : Prog (Result Reading ReadError)) → ◌≡◌ {A = Option Unfinished} (Some (rows_left p)) (Some (rows_left q)) → p ≡ q
-rows_same p q e = cc
-
 ret_same : (a b : Result Reading ReadError) → ◌≡◌ {A = Option Unfinished} (Some (rows_left (ret a))) (Some (rows_left (ret b))) → a ≡ b
 ret_same a b e = cc
 
@@ -80,48 +74,12 @@ pub rows_told : (img : List ℕ) (old new : Reader) (rows : ℕ) → StepTells (
 rows_told img old new rows tells = λ p left.
     (tells.0, ret_same (eval img p) (Ok tells.0) (sym (ap (option_map (evaluated img)) left) ∙ tells.1), tells.2, tells.3)
 
-pub rows_refused : (img : List ℕ) (old new : Reader) (e : ReadError) → StepTells (option_map (evaluated img) old.left) old (steps.Refused e) new → FindsRows img old (Err (read_line e)) new
-rows_refused img old new e tells = λ p left.
-    elim tells.0 [
-      | inl a ↦ refused_line (eval img p) e (ret_same (eval img p) (Err e) (sym (ap (option_map (evaluated img)) left) ∙ a))
-      | inr b ↦ elim b [
-        | inl v ↦ absurd (let clash : ◌≡◌ {A = Option Unfinished} (Some (rows_left (ret (eval img p)))) (Some (values_left (ret (Err e)))) = sym (ap (option_map (evaluated img)) left) ∙ v in cc)
-        | inr m ↦ wanting_line (eval img p) e m
-      ]
-    ]
-
--- a disk that failed
-pub failed_kind : (e : ErrorLine) → e ≡ errors.Disk → IsOfCall e
-failed_kind e disk = subst (λ x. IsOfCall x) (sym disk) tt
-
-failed_refused : {A : Type 0} (given : Result A ReadError) (e : ErrorLine) → e ≡ errors.Disk → RefusedBy given e
-failed_refused given e disk = subst (λ x. RefusedBy given x) (sym disk) tt
-
-pub failed_rows : (img : List ℕ) (old new : Reader) (e : ErrorLine) → e ≡ errors.Disk → FindsRows img old (Err e) new
-failed_rows img old new e disk = λ p left. failed_refused (eval img p) e disk
-
-pub failed_values : (img : List ℕ) (from count : ℕ) (old new : Reader) (e : ErrorLine) → e ≡ errors.Disk → FindsValues img from count old (Err e) new
-failed_values img from count old new e disk = λ r known left. failed_refused (eval img (values_program (Some r) from count)) e disk
-
 -- a call for rows is not answered with values
 pub no_values : (old new : Reader) (vs : List ℤ) → IsForRows old.left → AnswersCall old (steps.Values vs) new → ⊥
 no_values old new vs call a = subst (λ (l : Option Unfinished). IsForRows l) a.tells.0 (a.rows call)
 
--- its rows are known from then on
-pub rows_known : (old new : Reader) (rows : ℕ) → AnswersCall old (steps.Rows rows) new → rows_seen new.known ≡ rows
-rows_known old new rows a = ap (λ (r : Reader). rows_seen r.known) a.tells.3 ∙ sym a.tells.2
-
-pub rows_idle : (old new : Reader) (rows : ℕ) → AnswersCall old (steps.Rows rows) new → new.left ≡ None
-rows_idle old new rows a = ap (λ (r : Reader). r.left) a.tells.3
-
--- ---- A read
-
 idle : (old : Reader) → old.left ≡ None → with_left old None ≡ old
 idle old e = ap (λ l. with_left old l) (sym e)
-
--- whose values are known at once
-pub values_known : (img : List ℕ) (from count : ℕ) (old new : Reader) (vs : List ℤ) → (new ≡ old) × (values_program old.known from count ≡ ret (Ok vs)) → FindsValues img from count old (Ok vs) new
-values_known img from count old new vs h = λ r known left. (ap (eval img) (sym (ap (λ k. values_program k from count) known) ∙ h.1), h.0)
 
 abbrev Begun : ℕ → ℕ → Reader → Reader → Type 0
 Begun from count old mid = mid ≡ with_left old (Some (values_left (values_program old.known from count)))
@@ -138,34 +96,12 @@ values_told img from count old mid new vs is tells = λ r known left. (
   tells.1 ∙ ap (λ (x : Reader). with_left x None) is ∙ idle old left,
 )
 
-pub values_refused : (img : List ℕ) (from count : ℕ) (old mid new : Reader) (e : ReadError) → Begun from count old mid
-    → StepTells (option_map (evaluated img) mid.left) mid (steps.Refused e) new → FindsValues img from count old (Err (read_line e)) new
-values_refused img from count old mid new e is tells = λ r known left.
-    elim tells.0 [
-      | inl a ↦ absurd (let clash : ◌≡◌ {A = Option Unfinished} (Some (values_left (ret (eval img (values_program (Some r) from count))))) (Some (rows_left (ret (Err e)))) = sym (given_values img from count old mid r is known) ∙ a in cc)
-      | inr b ↦ elim b [
-        | inl v ↦ refused_line (eval img (values_program (Some r) from count)) e (values_same (eval img (values_program (Some r) from count)) (Err e) (sym (given_values img from count old mid r is known) ∙ v))
-        | inr m ↦ wanting_line (eval img (values_program (Some r) from count)) e m
-      ]
-    ]
-
 -- a read is not answered with rows
 pub no_rows : (old new : Reader) (rows : ℕ) → IsForValues old.left → AnswersCall old (steps.Rows rows) new → ⊥
 no_rows old new rows call a = subst (λ (l : Option Unfinished). IsForValues l) a.tells.1 (a.values call)
-
-pub values_idle : (old new : Reader) (vs : List ℤ) → AnswersCall old (steps.Values vs) new → new.left ≡ None
-values_idle old new vs a = ap (λ (r : Reader). r.left) a.tells.1
 
 -- an idle reader reads what was seen, unless memory is wanting
 read_begins : (old : Reader) (from count : ℕ) → old.left ≡ None → from + count ≤ rows_seen old.known → read_refusal old from count ≡ None
 read_begins old from count idle seen =
     subst (λ (l : Option Unfinished). read_refusal (with_left old l) from count ≡ None) (sym idle)
     (cond-false (nat_lt (rows_seen old.known) (from + count)) (Some (begins.OutOfRows from count (rows_seen old.known))) None (le-ltb (rows_seen old.known) (from + count) seen))
-
-wanting_alone : (refusal : Option ReadBegin) (e : ReadBegin) → refusal ≡ None → IsRefusedRead refusal e → e ≡ begins.OutOfMemory
-wanting_alone refusal begins.Busy none h = cc
-wanting_alone refusal (begins.OutOfRows from count rows) none h = cc
-wanting_alone refusal begins.OutOfMemory none h = refl
-
-pub read_wanting : (old : Reader) (from count : ℕ) (e : ReadBegin) → old.left ≡ None → from + count ≤ rows_seen old.known → IsRefusedRead (read_refusal old from count) e → e ≡ begins.OutOfMemory
-read_wanting old from count e idle seen h = wanting_alone (read_refusal old from count) e (read_begins old from count idle seen) h

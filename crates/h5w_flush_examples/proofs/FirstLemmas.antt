@@ -44,9 +44,6 @@ use Rattle.h5w_flush_examples.proofs.SlotLemmas.{slot_here}
 
 -- ---- The created file
 
-created_block : EaibFields
-created_block = eaib_fields (range created_file 260 298)
-
 read_created : eval (image_now created_twos) (in_place with_none.dataset) ≡ Ok (in_array (eaib_fields (range created_file 260 298)))
 unfolding headers.first_of numbers_in mix_line mixed finish_line finished added rounds sum_of prefix_at msgs_in header_at messages_at prefix_bytes data_in_header rows_in_header index_in_header rows_changed header_view apply first_pieces pieces value_at links_at find_link shape_tests shape_fields shape_at int_type_tests int_type_fields int_type_at fill_tests fill_fields fill_at fill_value_bytes layout_fields layout_at num le halvings width_of
 read_created = refl

@@ -69,12 +69,6 @@ apart_kinds all u v d a b block chunk = disjoint_two all u v d a b (kinds_differ
 
 -- ---- What readers hold after a header piece is what the file has
 
-pub own_off : (m : Moment) → Disjoint (all_used m) → OffAll m.behind m.fixed
-own_off m d u v a b = apart_sym v u ((parts_of m d).fixed v u b a)
-
-pub own_clear : (m : Moment) → Disjoint (all_used m) → Clear m.behind m
-own_clear m d u v a block b chunk = apart_kinds (all_used m) u v d (in_behind m u a) (in_behind m v b) block chunk
-
 -- a range that is not empty meets itself
 pub meets_itself : (u : Used) → 0 < u.len → AreApart u u → ⊥
 meets_itself u some (inl h) = omega (arith, some, h)

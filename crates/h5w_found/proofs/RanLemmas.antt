@@ -24,9 +24,6 @@ stops_along k given other e up h = refuses_along given other (k.refusal e) up h
 pub later : (a b c : ℕ) → a ≤ b → Rose b c → Rose a c
 later a b c h g = omega arith
 
-sooner : (a b c : ℕ) → Rose a b → b ≤ c → Rose a c
-sooner a b c h g = omega arith
-
 -- one call answered, and another goes on
 pub ran_on : {A B R E : Type 0} {k : Errors R E} {v w x : ImageView} (p : List ℕ → Result A R) (a : A) (q r : List ℕ → Result B R) (answer : Result B E)
     → Ran k v w p (Ok a) → Ran k w x q answer → ((img : List ℕ) → p img ≡ Ok a → r img ≡ q img) → Ran k v x r answer
@@ -146,16 +143,6 @@ going_end {k = k} given left q answer so told joined = record {
   cause = λ e. absurd (told.quiet e);
   exact = λ img still. tells_along k q (given img) answer (so.exact img still ∙ joined img) told.exact;
 }
-
-pub going_last : {B R E : Type 0} {k : Errors R E} {v w x : ImageView} (given left : List ℕ → Result B R) (answer : Result B E)
-    → Going v w given left → Ran k w x left answer → Ran k v x given answer
-going_last {B = B} {k = k} {v = v} {w = w} {x = x} given left answer so one = record {
-  looked = looked_twice so.looked one.looked;
-  cause = λ e. later v.faults w.faults x.faults so.looked.faults (one.cause e);
-  exact = λ img still. tells_along k (left img) (given img) answer (so.exact img still) (one.exact img (still_on img so.looked still));
-}
-
--- ---- Steps
 
 -- where the first of two steps is known, both are what the second gives
 pub step_ok : {A B E : Type 0} (r : Result A E) (a : A) (f : A → Result B E) → r ≡ Ok a → then_also r f ≡ f a

@@ -29,9 +29,6 @@ stack_push fs f = ap reverse (map-append found_of fs (f ∷ [])) ∙ reverse-app
 pub founds_push : (fs : List FoundMessage) (f : FoundMessage) → founds (fs ++ f ∷ []) ≡ founds fs ++ found_of f ∷ []
 founds_push fs f = map-append found_of fs (f ∷ [])
 
-pub ranges_push : (es : List Extent) (e : Extent) → ranges_of (es ++ e ∷ []) ≡ ranges_of es ++ range_of e ∷ []
-ranges_push es e = map-append range_of es (e ∷ [])
-
 pub empty : {A : Type 0} (xs : List A) → length xs ≡ 0 → xs ≡ []
 empty [] e = refl
 empty (x ∷ xs) e = absurd (omega arith)
@@ -171,11 +168,6 @@ pub before_refused : (writes t : Bool) (p len : ℕ) (b : List ℕ) (next : List
     → Told find_errors (block_before writes t p len b next) (Err (refused_header p f))
 before_refused writes t p len b next f long (inl e) = told_header (block_before writes t p len b next) p f (inl (before_err writes t p len b next f long e))
 before_refused writes t p len b next f long (inr e) = told_header (block_before writes t p len b next) p f (inr e)
-
--- a block of too few bytes
-pub entered_small : (writes t : Bool) (m : model.FoundMessage) (next : List model.FoundMessage) (v : List Range) (img : List ℕ) → block_len m < 8
-    → entered writes t m next v img ≡ Err (header_refusal (block_place m) (header_errors.Short 8 (block_len m)))
-entered_small writes t m next v img small = rw (lt-ltb (block_len m) 8 small) refl
 
 entry : List Range → Result (List model.FoundMessage) ReadError → Result (List model.FoundMessage × List Range) ReadError
 entry w r = elim r [ Ok ms ↦ Ok (ms, w) | Err f ↦ Err f ]

@@ -70,9 +70,6 @@ pub record LiesFrom (before place end : ℕ) (x : Msg) : Type 0 where
 abbrev pub AllFrom : ℕ → ℕ → ℕ → List Msg → Type 0
 AllFrom before place end ms = (x : Msg) → IsAmong x ms → LiesFrom before place end x
 
-lies_later : (before place next end : ℕ) (x : Msg) → place ≤ next → LiesFrom before next end x → LiesFrom before place end x
-lies_later before place next end x low l = let from = l.from in record { from = omega arith; to = l.to }
-
 none_lies : (before place end : ℕ) (ms : List Msg) → ms ≡ [] → AllFrom before place end ms
 none_lies before place end ms e = subst (λ (ms : List Msg). AllFrom before place end ms) (sym e) (λ x a. absurd a)
 

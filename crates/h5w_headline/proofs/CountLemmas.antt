@@ -120,9 +120,3 @@ taken_at_most {A} P n cap ks (stored kind at len next) ls a few takes =
     takes
 
 -- ---- Programs that look at nothing
-
-pub no_visits : {A : Type 0} (img : List ℕ) (p : Prog A) → visits img p ≡ [] → p ≡ ret (eval img p)
-no_visits img (ret a) h = refl
-no_visits img (whole at len next) h = cc
-no_visits img (counted at counts next) h = cc
-no_visits img (stored kind at len next) h = cc

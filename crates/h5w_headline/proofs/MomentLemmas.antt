@@ -126,13 +126,6 @@ quiet_between name log p u q m w n served low high quiet =
     let same : n.shown.dataset.shape.rows ≡ m.shown.dataset.shape.rows = ap (λ (d : Described). d.shape.rows) (same_dataset name log p q m n served (omega arith) quiet) in
     first.header (omega (arith, first.rows, second.rows))
 
--- while the header is the same, so is each block behind those in place
-pub behind_between : (name : List ℕ) (log : Log) (p q : ℕ) (m : Moment name log p) (n : Moment name log q) → Served name log → p ≤ q
-    → m.shown.dataset.shape.rows ≡ n.shown.dataset.shape.rows → SameBehind (image_at log p) m.shown (image_at log q)
-behind_between name log p q m n served h same = (keeps name log p q m n served h).behind same
-
--- ---- Rows between two positions
-
 -- where the header changed, rows were flushed
 pub changes : (name : List ℕ) (log : Log) (p q : ℕ) (m : Moment name log p) (n : Moment name log q) → Served name log → p ≤ q
     → (Quiet log m.shown.place p q → ⊥) → Changes name log m.shown.place p q

@@ -64,10 +64,6 @@ looked_if_same {v} {w} p = record {
 pub looked_itself : (v : ImageView) → Looked v v
 looked_itself v = looked_if_same (same_itself v)
 
--- what looks leave of an image that nobody else writes
-pub same_if_alone : {v w : ImageView} → IsTrue v.alone → Looked v w → Same v w
-same_if_alone alone p = p.still alone
-
 pub looked_twice : {u v w : ImageView} → Looked u v → Looked v w → Looked u w
 looked_twice {u} {v} {w} p q = record {
   grown = (

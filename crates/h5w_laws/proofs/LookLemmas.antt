@@ -289,9 +289,3 @@ seen = record { look = record { place = 1; len = 2; bytes = 5 ∷ 6 ∷ [] }; im
 
 abbrev pub two_bytes : Prog (List ℕ)
 two_bytes = whole 1 2 ret
-
-pub seen_is_alike : AreTakenAs (4 ∷ 5 ∷ 6 ∷ []) (visits (4 ∷ 5 ∷ 6 ∷ []) two_bytes) (seen ∷ [])
-seen_is_alike = (record { gave = refl; fits = omega arith; same = (refl, tt) }, tt)
-
-pub seen_is_all : Takes (lowered 1 [] two_bytes) (looks_of (seen ∷ [])) (5 ∷ 6 ∷ [])
-seen_is_all = refl

@@ -222,14 +222,6 @@ joined i w r b ran flushes h = record {
   beside = ran.beside;
 }
 
--- an error that tells of no batch needs no cause
-pub none_cause : (f : CreatedFile) (most : ℕ) (bs : List (List ℤ)) (e : LiveError) → TellsNone e → IsCause f most bs e
-none_cause f most bs (lives.OutOfRange batch index value) h = absurd h
-none_cause f most bs (lives.Chunks chunks limit) h = absurd h
-none_cause f most bs (lives.Space full) h = absurd h
-none_cause f most bs (lives.Failed worn) h = tt
-none_cause f most bs lives.OutOfMemory h = tt
-
 -- what was copied, and the lines, are the report's
 pub reported : (f : CreatedFile) (bs : List (List ℤ)) (attempts readers calls : ℕ) (s : Session) (v : SeatView) (flushes : List FlushLine) → HasClosed f bs s v flushes → (before : List Write) → before_close v.seen ≡ before → (journal : JournalView) (fs : List FlushLine)
     (ps polls : List PollLine) → journal.writes ≡ v.seen → fs ≡ flushes → ps ≡ polls → Agrees (run_of f attempts readers calls bs flushes) bs polls → TellSeats f attempts readers calls before polls

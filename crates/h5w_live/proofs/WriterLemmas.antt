@@ -51,9 +51,6 @@ empty_flushed f most done values s v lines none h = subst (λ (vs : List ℤ). H
     same : values_in (done ++ [] ∷ []) ≡ values_in done
     same = values_more done [] ∙ append-nil (values_in done)
 
-pub empty_accepted : (f : CreatedFile) (rows : ℕ) (values : List ℤ) → length values ≡ 0 → batch_refusal f rows values ≡ None
-empty_accepted f rows values none = ap (batch_refusal f rows) (no_values values none)
-
 -- why a batch was not flushed
 pub refuses : (f : CreatedFile) (most : ℕ) (done : List (List ℤ)) (values : List ℤ) (e : Halt) → ((index : ℕ) (value : ℤ) → e ≡ halts.OutOfRange index value → batch_refusal f (length (values_in done)) values ≡ Some (errors.OutOfRange index value))
     → ((chunks limit : ℕ) → e ≡ halts.Chunks chunks limit → batch_refusal f (length (values_in done)) values ≡ Some (errors.Chunks chunks limit))

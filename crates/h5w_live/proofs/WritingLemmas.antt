@@ -215,9 +215,6 @@ stands_done s t v u so none log stood =
     let all : now.events ≡ showing s.pending log.events = ap (λ (ps : List Write). showing ps now.events) (sym none) ∙ now.showing in
     subst (λ (es : List Happening). Stands t (record log { events = es })) all now.stands
 
-pub session_done : (s t : Session) (v u : SeatView) → Showing s t v u → t.pending ≡ [] → AfterPiece s [] t
-session_done s t v u so none = subst (λ (ps : List Write). AfterPiece s ps t) none so.session
-
 -- where nothing is pending, nothing is to be shown
 nothing : (ws : List Write) → length ws ≡ 0 → ws ≡ []
 nothing [] none = refl

@@ -24,14 +24,6 @@ get_last [] x d (suc k) count = absurd (omega (arith, count))
 get_last (y ∷ ys) x d zero count = absurd (omega (arith, count))
 get_last (y ∷ ys) x d (suc k) count = get_last ys x d k (omega (arith, count))
 
--- no reader
-pub end_none : (g : ReaderRules) (i : ImageId) (before calls : ℕ) (seen : List Write) (notes : List NoteView) (lines : List PollLine) → notes ≡ [] → lines ≡ [] → EndWith g i before calls 0 seen notes lines
-end_none g i before calls seen notes lines none empty = record {
-  notes_count = ap length none;
-  lines_count = omega (arith, ap length empty);
-  each = λ k d less. absurd (omega (arith, less));
-}
-
 -- one reader more
 pub end_more : (g : ReaderRules) (i : ImageId) (before calls readers : ℕ) (seen : List Write) (notes : List NoteView) (lines more : List PollLine) (note : NoteView) → EndWith g i before calls readers seen notes lines
     → length more ≡ calls → EndsWith g i (before + readers + 1) seen note more → EndWith g i before calls (readers + 1) seen (notes ++ note ∷ []) (lines ++ more)
@@ -53,26 +45,11 @@ ok_is a b e = cc
 err_is : {A E : Type 0} (a b : E) → ◌≡◌ {A = Result A E} (Err a) (Err b) → a ≡ b
 err_is a b e = cc
 
-pub ends_ok : (g : ReaderRules) (i : ImageId) (calls reader : ℕ) (seen : List Write) (e : Ended) → length e.lines.items ≡ calls → e.note.image ≡ i → Polled g i.start reader seen e.note.seen e.lines.items
-    → ReaderEnds g i calls reader seen (Ok e)
-ends_ok g i calls reader seen e count image polled = record {
-  count = count;
-  ends = record { image = image; polled = polled };
-  stray = λ note same. absurd cc;
-}
-
-pub ends_err : (g : ReaderRules) (i : ImageId) (calls reader : ℕ) (seen : List Write) (e : Cut) → ((note : NoteView) → e ≡ cuts.Stray note → StraysWith g i seen note) → ReaderEnds g i calls reader seen (Err e)
-ends_err g i calls reader seen e h = record { count = tt; ends = tt; stray = λ note same. h note (err_is e (cuts.Stray note) same) }
-
 pub all_ok : (g : ReaderRules) (i : ImageId) (before calls readers : ℕ) (seen : List Write) (e : AllEnded) → EndWith g i before calls readers seen e.notes.items e.lines.items → ReadersEnd g i before calls readers seen (Ok e)
 all_ok g i before calls readers seen e h = record { end = h; stray = λ note same. absurd cc }
 
 pub all_err : (g : ReaderRules) (i : ImageId) (before calls readers : ℕ) (seen : List Write) (e : Cut) → ((note : NoteView) → e ≡ cuts.Stray note → StraysWith g i seen note) → ReadersEnd g i before calls readers seen (Err e)
 all_err g i before calls readers seen e h = record { end = tt; stray = λ note same. h note (err_is e (cuts.Stray note) same) }
-
--- memory was wanting
-pub all_lost : (g : ReaderRules) (i : ImageId) (before calls readers : ℕ) (seen : List Write) → ReadersEnd g i before calls readers seen (Err cuts.OutOfMemory)
-all_lost g i before calls readers seen = all_err g i before calls readers seen cuts.OutOfMemory (λ note same. absurd cc)
 
 -- what came of the other readers is handed on
 pub err_before : (g : ReaderRules) (i : ImageId) (before calls readers : ℕ) (seen : List Write) (others : Result AllEnded Cut) (e : Cut) → others ≡ Err e → ReadersEnd g i before calls readers seen others

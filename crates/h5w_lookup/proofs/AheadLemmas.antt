@@ -91,9 +91,6 @@ behind_both at n place len ks = take 14 (others data_block place len (take 15 (o
 abbrev both_used : ℕ → ℕ → List ℕ → ℕ → ℕ → List ℕ → List Kept → List Kept
 both_used at n b place len c ks = kept_block data_block place len c ∷ kept_block secondary_block at n b ∷ behind_both at n place len ks
 
-both_are : (at n : ℕ) (b : List ℕ) (place len : ℕ) (c : List ℕ) (ks : List Kept) → data_used place len c (second_used at n b ks) ≡ both_used at n b place len c ks
-both_are p n b place len c ks = refl
-
 apart_second : (at n place len : ℕ) (ks : List Kept) → IsApart secondary_block at n (behind_both at n place len ks)
 apart_second p n place len ks =
     apart_taken secondary_block p n 14 (others data_block place len (take 15 (others secondary_block p n ks)))

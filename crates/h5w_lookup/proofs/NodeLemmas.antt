@@ -75,9 +75,6 @@ leaf_here key rs i d same h below equal = leaf_next key rs i d h ∙ rw (below, 
 pub leaf_more : (key : Key) (rs : List Record) (i : ℕ) (d : Record) → i < length rs → key_below (get_or rs i d).key key ≡ true → in_leaf key (drop i (map record_of rs)) ≡ in_leaf key (drop (i + 1) (map record_of rs))
 leaf_more key rs i d h below = leaf_next key rs i d h ∙ rw below refl
 
-pub leaf_end : (key : Key) (rs : List Record) (i : ℕ) → length rs ≤ i → in_leaf key (drop i (map record_of rs)) ≡ undefined
-leaf_end key rs i h = ap (in_leaf key) (none_mapped record_of rs i h)
-
 pub children_next : (go : ChildFields → Prog (Result ℕ ReadError)) (key : Key) (rs : List Record) (cs : List Child) (i : ℕ) (r : Record) (d : Child) → i < length rs → i < length cs
     → in_node go key (drop i (map record_of rs)) (drop i (map child_of cs))
     ≡ cond (key_below (get_or rs i r).key key) (in_node go key (drop (i + 1) (map record_of rs)) (drop (i + 1) (map child_of cs))) (cond (key_equal (get_or rs i r).key key) (ret (Ok (get_or rs i r).address)) (go (child_of (get_or cs i d))))

@@ -40,22 +40,3 @@ few_slots (suc (suc (suc (suc (suc (suc (suc (suc (suc (suc (suc (suc (suc s))))
 pub record IsFar (s : ℕ) : Type 0 where
   pub low : 4 ≤ s
   pub high : s ≤ 12
-
-named_second : (p : SlotPlace) (s b t : ℕ) → p.sblock ≤ 12 → named_place p ≡ Second s b t → IsFar s
-named_second p s b t h e =
-    elim (cases_lt p.sblock 4) [
-      | inl near ↦
-          let z : Direct (blocks_before p.sblock + p.block) p.slot ≡ Second s b t = rw (lt-ltb p.sblock 4 near) at e in
-          absurd cc
-      | inr far ↦
-          let z : Second p.sblock p.block p.slot ≡ Second s b t = rw (le-ltb p.sblock 4 far) at e in
-          let same : p.sblock ≡ s = cc in
-          record { low = omega arith; high = omega arith }
-    ]
-
-pub second_far : (i s b t : ℕ) → (slot_place_of (i - 4)).sblock ≤ 12 → place_of i ≡ Second s b t → IsFar s
-second_far i s b t h e =
-    elim (cases_lt i 4) [
-      | inl near ↦ let z : Index i ≡ Second s b t = rw (lt-ltb i 4 near) at e in absurd cc
-      | inr far ↦ named_second (slot_place_of (i - 4)) s b t h (rw (le-ltb i 4 far) at e)
-    ]

@@ -465,13 +465,6 @@ closed_after bs s t u m n o h same is stands1 after shown stands2 =
       limit = facts.limit ∙ ap (λ (x : Session). x.places.limit) is ∙ h.limit;
     }
 
--- nothing refuses it
-pub close_taken : (bs : List (List ℤ)) (s : Session) (m : MemView) → IsAfter bs s m → close_refusal s ≡ None
-close_taken bs s m h =
-    ap (λ (b : Bool). close_refusal (record s { stopped = b })) h.going ∙ ap (λ (ws : List Write). close_refusal (record s { stopped = false; pending = ws })) h.pending
-
--- ---- What is not refused
-
 -- a flush of rows for which there are places, and room in the index, over an image that does not fail, wants memory
 pub only_memory : (s : Session) (e : FlushError) → flush_refusal s ≡ None → (flush_refusal s ≡ Some e) ⊎ (IsSpace e ⊎ ((e ≡ flushes.Deep) ⊎ ((e ≡ flushes.Failed) ⊎ (e ≡ flushes.OutOfMemory))))
     → ((full : Full) → e ≡ flushes.Space full → ⊥) → (e ≡ flushes.Deep → ⊥) → (e ≡ flushes.Failed → ⊥) → e ≡ flushes.OutOfMemory

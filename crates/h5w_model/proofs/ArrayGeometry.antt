@@ -8,23 +8,6 @@ use Rattle.h5w_model.specs.Numbers.{halvings}
 use Rattle.h5w_model.specs.Arrays.{super_block_of, super_blocks, slot_place_of, IsSlotPlace}
 use Rattle.h5w_model.proofs.NumberLemmas.{halvings-spans}
 
--- the table has the rule's super blocks
-pub super_blocks-row : (s : ℕ) → s ≤ 12 → get_or super_blocks s (super_block_of 0) ≡ super_block_of s
-super_blocks-row zero h = refl
-super_blocks-row (suc zero) h = refl
-super_blocks-row (suc (suc zero)) h = refl
-super_blocks-row (suc (suc (suc zero))) h = refl
-super_blocks-row (suc (suc (suc (suc zero)))) h = refl
-super_blocks-row (suc (suc (suc (suc (suc zero))))) h = refl
-super_blocks-row (suc (suc (suc (suc (suc (suc zero)))))) h = refl
-super_blocks-row (suc (suc (suc (suc (suc (suc (suc zero))))))) h = refl
-super_blocks-row (suc (suc (suc (suc (suc (suc (suc (suc zero)))))))) h = refl
-super_blocks-row (suc (suc (suc (suc (suc (suc (suc (suc (suc zero))))))))) h = refl
-super_blocks-row (suc (suc (suc (suc (suc (suc (suc (suc (suc (suc zero)))))))))) h = refl
-super_blocks-row (suc (suc (suc (suc (suc (suc (suc (suc (suc (suc (suc zero))))))))))) h = refl
-super_blocks-row (suc (suc (suc (suc (suc (suc (suc (suc (suc (suc (suc (suc zero)))))))))))) h = refl
-super_blocks-row (suc (suc (suc (suc (suc (suc (suc (suc (suc (suc (suc (suc (suc s))))))))))))) h = absurd (omega arith)
-
 -- a super block has 16 * 2^s slots
 pub super_block-slots : (s : ℕ) → (super_block_of s).blocks * (super_block_of s).slots ≡ 16 * 2 ^ s
 super_block-slots s =

@@ -90,9 +90,6 @@ At-from_get_or img place bytes fits same =
     ext_get_or 0 (range img place (length bytes)) bytes l
     (λ k lt. let short : k < length bytes = omega arith in get_or-range img place (length bytes) k short ∙ same k short)
 
-pub At-nil : (img : List ℕ) (place : ℕ) → At img place []
-At-nil img place = refl
-
 -- what was written is there
 pub At-apply : (w : Write) (img : List ℕ) → At (apply w img) w.at w.piece
 At-apply w img = At-from_get_or (apply w img) w.at w.piece (omega (arith, length-apply w img)) (get_or-apply_in w img)
@@ -141,27 +138,6 @@ At-part img place bytes i n stands fits =
     let l : length (range bytes i n) ≡ n = length-range bytes i n ∙ omega arith in
     ap (λ m. range img (place + i) m) l ∙ range-At img place bytes i n stands fits
 
-pub field-At : (img : List ℕ) (place : ℕ) (bytes : List ℕ) (i w : ℕ) → At img place bytes → i + w ≤ length bytes → field img (place + i) w ≡ field bytes i w
-field-At img place bytes i w stands fits = ap num (range-At img place bytes i w stands fits)
-
--- two blocks one behind the other are one
-pub At-append : (img : List ℕ) (place : ℕ) (front rest : List ℕ) → At img place front → At img (place + length front) rest → At img place (front ++ rest)
-At-append img place front [] first second = subst (λ (b : List ℕ). At img place b) (sym (append-nil front)) first
-At-append img place front (r ∷ rs) first second =
-    let rest : List ℕ = r ∷ rs in
-    let end : (place + length front) + length rest ≤ length img = At-fits img (place + length front) rest second (omega arith) in
-    let l : length (front ++ rest) ≡ length front + length rest = length-append front rest in
-    At-from_get_or img place (front ++ rest) (omega arith)
-    (λ k lt.
-    elim (cases_lt k (length front)) [
-      | inl low ↦ get_or-At img place front k first low ∙ sym (get_or_append_left front rest 0 k low)
-      | inr high ↦
-          ap (λ j. get_or img j 0) (omega arith)
-          ∙ get_or-At img (place + length front) rest (k - length front) second (omega arith)
-          ∙ sym (get_or-append-add front rest (k - length front) 0)
-          ∙ ap (λ j. get_or (front ++ rest) j 0) (omega arith)
-    ])
-
 pub At-front : (img : List ℕ) (place : ℕ) (front rest : List ℕ) → At img place (front ++ rest) → At img place front
 At-front img place front rest both =
     let l : length (front ++ rest) ≡ length front + length rest = length-append front rest in
@@ -190,10 +166,6 @@ Holds-front img (block ∷ blocks) more h = (h.0, Holds-front img blocks more h.
 pub Holds-rest : (img : List ℕ) (some more : List (ℕ × List ℕ)) → Holds img (some ++ more) → Holds img more
 Holds-rest img [] more h = h
 Holds-rest img (block ∷ blocks) more h = Holds-rest img blocks more h.1
-
-pub MissesEach-append : (w : Write) (some more : List (ℕ × List ℕ)) → MissesEach w some → MissesEach w more → MissesEach w (some ++ more)
-MissesEach-append w [] more h g = g
-MissesEach-append w (block ∷ blocks) more h g = (h.0, MissesEach-append w blocks more h.1 g)
 
 -- the image after a history and one more write
 pub image-append : (start : List ℕ) (ws more : List Write) → image start (ws ++ more) ≡ image (image start ws) more
@@ -359,10 +331,6 @@ pub AllMissEach-nil : (ws : List Write) → AllMissEach ws []
 AllMissEach-nil [] = tt
 AllMissEach-nil (w ∷ ws) = (tt, AllMissEach-nil ws)
 
-pub AllMissEach-append : (ws more : List Write) (blocks : List (ℕ × List ℕ)) → AllMissEach ws blocks → AllMissEach more blocks → AllMissEach (ws ++ more) blocks
-AllMissEach-append [] more blocks h g = g
-AllMissEach-append (w ∷ ws) more blocks h g = (h.0, AllMissEach-append ws more blocks h.1 g)
-
 pub pieces-miss_each : (place : ℕ) (bytes : List ℕ) (blocks : List (ℕ × List ℕ)) → ApartEach place (length bytes) blocks → AllMissEach (pieces place bytes) blocks
 pieces-miss_each place bytes [] apart = AllMissEach-nil (pieces place bytes)
 pieces-miss_each place bytes (block ∷ blocks) apart =
@@ -372,17 +340,6 @@ pub Holds-image_missed : (start : List ℕ) (ws : List Write) (blocks : List (�
 Holds-image_missed start [] blocks misses holds = holds
 Holds-image_missed start (w ∷ ws) blocks misses holds =
     Holds-image_missed (apply w start) ws blocks misses.1 (Holds-apply_missed w start blocks misses.0 holds)
-
--- the first writes of a history that misses a range miss it
-pub AllMiss-take : (k : ℕ) (ws : List Write) (place n : ℕ) → AllMiss ws place n → AllMiss (take k ws) place n
-AllMiss-take zero ws place n h = tt
-AllMiss-take (suc k) [] place n h = tt
-AllMiss-take (suc k) (w ∷ ws) place n h = (h.0, AllMiss-take k ws place n h.1)
-
-pub AllMissEach-take : (k : ℕ) (ws : List Write) (blocks : List (ℕ × List ℕ)) → AllMissEach ws blocks → AllMissEach (take k ws) blocks
-AllMissEach-take zero ws blocks h = tt
-AllMissEach-take (suc k) [] blocks h = tt
-AllMissEach-take (suc k) (w ∷ ws) blocks h = (h.0, AllMissEach-take k ws blocks h.1)
 
 pub AllSized-append : (ws more : List Write) → AllSized ws → AllSized more → AllSized (ws ++ more)
 AllSized-append [] more h g = g

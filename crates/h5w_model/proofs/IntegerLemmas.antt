@@ -77,11 +77,6 @@ length-cell_bytes_of v t bytes e =
     let h = some_cell v t bytes e in
     sym (ap length h.1) ∙ length-in_order t.big (le t.size (unsigned_of (span_of t) v)) ∙ length-le t.size (unsigned_of (span_of t) v)
 
-pub AreBytes-cell_bytes_of : (v : ℤ) (t : IntTypeFields) (bytes : List ℕ) → cell_bytes_of v t ≡ Some bytes → AreBytes bytes
-AreBytes-cell_bytes_of v t bytes e =
-    let h = some_cell v t bytes e in
-    subst AreBytes h.1 (AreBytes-in_order t.big (le t.size (unsigned_of (span_of t) v)) (AreBytes-le t.size (unsigned_of (span_of t) v)))
-
 -- a value's bytes are read as that value
 pub value_at-cell_bytes_of : (v : ℤ) (t : IntTypeFields) (bytes : List ℕ) → IsIntType t → cell_bytes_of v t ≡ Some bytes → value_at bytes t ≡ v
 unfolding value_at

@@ -16,16 +16,9 @@ behind ms r = and_then r (λ more. Ok (ms ++ more))
 pub record ListedTo (before start : ℕ) (b : List ℕ) (place : ℕ) (rest : List ℕ) (ms : List Msg) : Type 0 where
   pub all : behind ms (msgs_in (length rest) before place rest) ≡ msgs_in (length b) before start b
 
-behind_nothing : (r : Result (List Msg) HeaderError) → behind [] r ≡ r
-behind_nothing (Ok ms) = refl
-behind_nothing (Err e) = refl
-
 behind_more : (ms : List Msg) (m : Msg) (r : Result (List Msg) HeaderError) → behind ms (and_then r (λ rest. Ok (m ∷ rest))) ≡ behind (ms ++ m ∷ []) r
 behind_more ms m (Ok rest) = ap (λ xs. Ok xs) (sym (append_assoc ms (m ∷ []) rest))
 behind_more ms m (Err e) = refl
-
-pub listed_start : (before start : ℕ) (b : List ℕ) → ListedTo before start b start b []
-listed_start before start b = record { all = behind_nothing (msgs_in (length b) before start b) }
 
 pub listed_more : (before start : ℕ) (b : List ℕ) (place : ℕ) (rest after : List ℕ) (next k f s : ℕ) (body : List ℕ) (ms : List Msg) → 4 ≤ before → HasMessage before rest k f s → after ≡ drop (before + s) rest → next ≡ place + (before + s) → body ≡ take s (drop before rest)
     → ListedTo before start b place rest ms → ListedTo before start b next after (ms ++ record { kind = k; flags = f; at = place; body = body } ∷ [])

@@ -34,9 +34,6 @@ first_in kind ms = find (λ m. eqb m.kind kind) ms
 pub record SoughtFrom (before start kind : ℕ) (b : List ℕ) (place : ℕ) (rest : List ℕ) : Type 0 where
   pub same : (ms : List Msg) → msgs_in (length b) before start b ≡ Ok ms → (more : List Msg) × (msgs_in (length rest) before place rest ≡ Ok more) × (find (λ m. eqb m.kind kind) ms ≡ find (λ m. eqb m.kind kind) more)
 
-pub sought_start : (before start kind : ℕ) (b : List ℕ) → SoughtFrom before start kind b start b
-sought_start before start kind b = record { same = λ ms e. (ms, e, refl) }
-
 pub sought_more : (before start kind : ℕ) (b : List ℕ) (place : ℕ) (rest after : List ℕ) (next k f s : ℕ) → 4 ≤ before → HasMessage before rest k f s → (k ≡ kind → ⊥) → after ≡ drop (before + s) rest → next ≡ place + (before + s)
     → SoughtFrom before start kind b place rest → SoughtFrom before start kind b next after
 sought_more before start kind b place rest after next k f s low h other a n so_far = record {

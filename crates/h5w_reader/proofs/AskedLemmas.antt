@@ -42,9 +42,6 @@ pub asked_begin : (r : Reader) (asks : Asks) (p : Unfinished) → Asked r asks �
 asked_begin r asks (rows_left p) a b = record { known = a.known; calls = a.calls; call = (b, refl) }
 asked_begin r asks (values_left p) a b = record { known = a.known; calls = a.calls; call = (b, refl) }
 
-pub asked_quit : (r : Reader) (asks : Asks) → Asked r asks → Asked (with_left r None) (without asks)
-asked_quit r asks a = record { known = a.known; calls = a.calls; call = refl }
-
 -- a new reader
 pub asked_new : (g : ReaderRules) → Asked (new_reader g) (beginning (rows_left (rows_program g None)) no_asks)
 asked_new g = record { known = refl; calls = tt; call = (refl, refl) }

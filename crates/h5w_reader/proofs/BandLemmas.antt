@@ -60,14 +60,6 @@ cells_behind a j size = let e : (a + j) * size ≡ a * size + j * size = grind a
 pub some_bytes : (n size : ℕ) → 0 < n → 0 < size → 0 < n * size
 some_bytes n size h g = grind arith
 
-pub few_bytes : (a n r size : ℕ) → a + n ≤ r → r * size < 2 ^ 32 → a * size + n * size < 2 ^ 32
-few_bytes a n r size h small =
-    let whole : (a + n) * size ≤ r * size = mul-le-mul {n₁ = a + n} {m₁ = size} {n₂ = r} {m₂ = size} h (omega arith) in
-    let parts : (a + n) * size ≡ a * size + n * size = grind arith in
-    omega arith
-
--- ---- Lists of numbers
-
 pub range_split : (a n m : ℕ) → range_with_len a (n + m) ≡ range_with_len a n ++ range_with_len (a + n) m
 range_split a zero m = ap (range_with_len a) (let e : 0 + m ≡ m = omega arith in e) ∙ ap (λ b. range_with_len b m) (let e : a ≡ a + 0 = omega arith in e)
 range_split a (suc n) m =

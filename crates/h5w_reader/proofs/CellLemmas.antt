@@ -56,6 +56,3 @@ cells_front t (suc n) m b h =
     ap (λ (c : List ℕ). value_at c t ∷ cell_values t n (drop t.size (take m b))) (take-take t.size m b fits)
     ∙ ap (λ (c : List ℕ). value_at (take t.size b) t ∷ cell_values t n c) (ap (λ k. drop t.size (take k b)) left ∙ drop-take t.size (m - t.size) b)
     ∙ ap (λ (vs : List ℤ). value_at (take t.size b) t ∷ vs) (cells_front t n (m - t.size) (drop t.size b) (omega arith))
-
-pub fill_more : (done : List ℤ) (n : ℕ) (v : ℤ) → (done ++ replicate n v) ++ v ∷ [] ≡ done ++ replicate (n + 1) v
-fill_more done n v = append_assoc done (replicate n v) (v ∷ []) ∙ ap (λ (vs : List ℤ). done ++ vs) (replicate_more n v)

@@ -68,9 +68,6 @@ columns_end cols wide some =
       | inr h ↦ h
     ]
 
-pub width_is : (cols wide column : ℕ) → column * wide < cols → min wide (cols - column * wide) ≡ min cols ((column + 1) * wide) - column * wide
-width_is cols wide column h = let more : (column + 1) * wide ≡ column * wide + wide = grind arith in omega arith
-
 -- where the range of a chunk begins
 pub range_starts : (r : Reading) (from to i j : ℕ) → IsSide r from to i
     → touched_from r.dataset i j from ≡ (first_in_band r.dataset i from - i * r.dataset.layout.chunk_rows) * r.dataset.layout.chunk_cols * r.dataset.int_type.size
@@ -141,9 +138,6 @@ range_fits before n rows wide width size some inside narrow small =
     let cells : before * wide + (k * wide + width) ≤ rows * wide = omega arith in
     let bytes : (before * wide + (k * wide + width)) * size ≤ rows * wide * size = mul-le-mul {n₁ = before * wide + (k * wide + width)} {m₁ = size} {n₂ = rows * wide} {m₂ = size} cells (omega arith) in
     omega arith
-
-pub some_cells : (k wide width size : ℕ) → 0 < width → 0 < size → 0 < (k * wide + width) * size
-some_cells k wide width size h g = grind arith
 
 -- a row's cells in a range
 pub row_fits : (row n wide width size : ℕ) → row < n → row * wide * size + width * size ≤ ((n - 1) * wide + width) * size

@@ -53,12 +53,6 @@ pub zeros_are : (n : ℕ) → zeros n ≡ replicate n 0
 zeros_are zero = refl
 zeros_are (suc n) = ap (λ (xs : List ℕ). 0 ∷ xs) (zeros_are n)
 
-pub take_least : (n : ℕ) (b : List ℕ) → take (min (length b) n) b ≡ take n b
-take_least n b = elim (cases_lt n (length b)) [
-  | inl less ↦ let e : min (length b) n ≡ n = omega arith in rw e refl
-  | inr more ↦ let e : min (length b) n ≡ length b = omega arith in rw e (take_all (length b) b (omega arith) ∙ sym (take_all n b more))
-]
-
 pub front_short : (b : List ℕ) → 6 ≤ length b → length (take 5 b ++ 0 ∷ []) ≤ length b
 front_short b long =
     let a : length (take 5 b ++ 0 ∷ []) ≡ length (take 5 b) + 1 = length-append (take 5 b) (0 ∷ []) in

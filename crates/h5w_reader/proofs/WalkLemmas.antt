@@ -30,11 +30,6 @@ stack_push fs f = ap reverse (map-append found_of fs (f ∷ [])) ∙ reverse-app
 pub founds_push : (fs : List FoundMessage) (f : FoundMessage) → founds (fs ++ f ∷ []) ≡ founds fs ++ found_of f ∷ []
 founds_push fs f = map-append found_of fs (f ∷ [])
 
-pub found_at_push : (place : ℕ) (chunk : Bool) (ms : List Msg) (m : Msg) → found_at place chunk (ms ++ m ∷ []) ≡ found_at place chunk ms ++ found_at place chunk (m ∷ [])
-found_at_push base chunk ms m = map-append (λ m. record { kind = m.kind; flags = m.flags; place = base + m.at; body = m.body; in_chunk_0 = chunk }) ms (m ∷ [])
-
--- ---- The visit
-
 -- what follows a continuation block, given its messages
 abbrev entered : (more h : ℕ) (t : Bool) (v : List Range) (done ms : List model.FoundMessage) → Result (List model.FoundMessage) ReadError → Prog (Result HeaderFields ReadError)
 entered more h t v done ms r = elim r [ Ok inside ↦ walk more h t v done (inside ++ ms) | Err e ↦ ret (Err e) ]
@@ -123,10 +118,6 @@ pub go_step : (more h : ℕ) (t : Bool) (done next left : List FoundMessage) (m 
     → walk_rest more h t (founds (done ++ m ∷ [])) (stack left) ≡ walk_rest more h t (founds done) (stack next)
 go_step more h t done next left m e other =
     rw (e, founds_push, stack_push) (sym (walk_pass more h t (founds done) (stack left) (found_of m) (ne_eqb m.kind 16 other)))
-
-pub go_visit : (more h : ℕ) (t : Bool) (done next left : List FoundMessage) (m : FoundMessage) → next ≡ left ++ m ∷ []
-    → walk_rest more h t (founds done) (found_of m ∷ stack left) ≡ walk_rest more h t (founds done) (stack next)
-go_visit more h t done next left m e = rw (e, stack_push) refl
 
 pub go_end : (more h : ℕ) (t : Bool) (done next left : List FoundMessage) → next ≡ [] → ret (Ok (founds done)) ≡ walk_rest more h t (founds done) (stack next)
 go_end more h t done next left e = rw e (sym (walk_done more h t (founds done)))

@@ -59,9 +59,6 @@ shut_flags flags h =
     shut true false e = absurd cc
     shut false b e = absurd cc
 
-cleared_super : ℕ → Super → Super
-cleared_super flags s = record s { version = 3; flags = flags }
-
 module _ (img name : List ℕ) (m : Moment) (file : Represents img name m) (w : Write) (c : ClearsFlags img w) where
   abbrev after : Moment
   after = record m { super = record (m.super) { version = 3; flags = c.flags } }

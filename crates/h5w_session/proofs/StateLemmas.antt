@@ -345,9 +345,6 @@ some_left plan pending shown is some = omega (arith, ap length is, length-drop s
 pub left_are : (plan : List Write) (shown : ℕ) (w : Write) (ws : List Write) → shown < length plan → drop shown plan ≡ w ∷ ws → ws ≡ drop (shown + 1) plan
 left_are plan shown w ws inside pending = behind_first w (get_or plan shown no_write) ws (drop (shown + 1) plan) (sym pending ∙ next_piece plan shown inside)
 
-pub last_left : (plan : List Write) (shown : ℕ) (w : Write) (ws : List Write) → shown + 1 ≡ length plan → drop shown plan ≡ w ∷ ws → ws ≡ []
-last_left plan shown w ws last pending = left_are plan shown w ws (omega arith) pending ∙ drop_all (shown + 1) plan (omega arith)
-
 -- none are left behind the last
 pub last_of : (plan : List Write) (shown : ℕ) → shown < length plan → drop (shown + 1) plan ≡ [] → shown + 1 ≡ length plan
 last_of plan shown inside none = omega (arith, inside, ap length none, length-drop (shown + 1) plan)

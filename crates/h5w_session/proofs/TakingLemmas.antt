@@ -293,15 +293,6 @@ pub full_of : {T : Type 0} (e : PlanError) (full : Full) (P : Full → Type 0) �
 full_of (plan.Full f) full P is told = let same : f ≡ full = cc in subst P same told
 full_of plan.OutOfMemory full P is told = absurd cc
 
--- a plan is refused for want of a place or of memory
-pub plan_causes : {T : Type 0} (e : PlanError) (r : Result T FlushError) → r ≡ Err (plan_fault e) → IfErr r (λ f. IsSpace f ⊎ ((f ≡ flushes.Deep) ⊎ ((f ≡ flushes.Failed) ⊎ (f ≡ flushes.OutOfMemory))))
-plan_causes (plan.Full full) r is = rw is (inl (full, refl))
-plan_causes plan.OutOfMemory r is = rw is (inr (inr (inr refl)))
-
-pub plan_not_deep : {T : Type 0} (e : PlanError) → ◌≡◌ {A = Result T FlushError} (Err (plan_fault e)) (Err flushes.Deep) → ⊥
-plan_not_deep (plan.Full full) is = cc
-plan_not_deep plan.OutOfMemory is = cc
-
 -- where the index has room there are no other causes
 pub shallow_causes : {T : Type 0} (e : FlushError) (r : Result T FlushError) → r ≡ Err e → IsSpace e ⊎ ((e ≡ flushes.Deep) ⊎ ((e ≡ flushes.Failed) ⊎ (e ≡ flushes.OutOfMemory))) → (e ≡ flushes.Deep → ⊥)
     → IfErr r (λ f. IsSpace f ⊎ ((f ≡ flushes.Failed) ⊎ (f ≡ flushes.OutOfMemory)))

@@ -62,10 +62,6 @@ pub refusal_map : (o : Option OpenError) (P Q : OpenError → Type 0) → ((e : 
 refusal_map (Some e) P Q f h = f e h
 refusal_map None P Q f h = tt
 
-says_map : {A : Type 0} (r : Result A OpenError) (P R : A → Type 0) (Q S : OpenError → Type 0) → ((a : A) → P a → R a) → ((e : OpenError) → Q e → S e) → Says P Q r → Says R S r
-says_map (Ok a) P R Q S f g h = f a h
-says_map (Err e) P R Q S f g h = refusal_map (refusal_of e) Q S g h
-
 abbrev as_error : {A : Type 0} → OpenError → Result A OpenError
 as_error e = Err e
 
@@ -77,16 +73,6 @@ abbrev pub IsQuiet : OpenError → Type 0
 IsQuiet e = IsOpenKind e × (e ≢ Failed)
 
 -- ---- Steps
-
--- one step answered, and another goes on
-pub step_on : {A B : Type 0} {v w x : ImageView} {P : List ℕ → A → Type 0} {Q : List ℕ → OpenError → Type 0} {R : List ℕ → B → Type 0} {S : List ℕ → OpenError → Type 0} (T : List ℕ → B → Type 0) (U : List ℕ → OpenError → Type 0) (a : A)
-    (answer : Result B OpenError) → OpenStep v w P Q (Ok a) → OpenStep w x R S answer → ((img : List ℕ) → P img a → (b : B) → R img b → T img b) → ((img : List ℕ) → P img a → (e : OpenError) → S img e → U img e) → OpenStep v x T U answer
-step_on {v = v} {w = w} {x = x} {P = P} {R = R} {S = S} T U a answer one two good bad = record {
-  looked = looked_twice one.looked two.looked;
-  cause = λ e. later v.faults w.faults x.faults one.looked.faults (two.cause e);
-  kinds = two.kinds;
-  exact = λ img still. says_map answer (R img) (T img) (S img) (U img) (good img (one.exact img still)) (bad img (one.exact img still)) (two.exact img (still_on img one.looked still));
-}
 
 -- one step answered, and another was refused, whose answer would have been another's
 pub step_then_stop : {A B C : Type 0} {v w x : ImageView} {P : List ℕ → A → Type 0} {Q : List ℕ → OpenError → Type 0} {R : List ℕ → B → Type 0} {S : List ℕ → OpenError → Type 0} (T : List ℕ → C → Type 0) (U : List ℕ → OpenError → Type 0) (a : A)
@@ -130,12 +116,6 @@ step_both T U a b c one two good = record {
   kinds = tt;
   exact = λ img still. good img (one.exact img still) (two.exact img (still_on img one.looked still));
 }
-
--- nothing was looked at
-pub step_alone : {A : Type 0} (v : ImageView) (P : List ℕ → A → Type 0) (Q : List ℕ → OpenError → Type 0) (a : A) → ((img : List ℕ) → IsStill v img → P img a) → OpenStep v v P Q (Ok a)
-step_alone v P Q a h = record { looked = looked_itself v; cause = λ e. absurd cc; kinds = tt; exact = h }
-
--- ---- What was found
 
 as_refusal : {A : Type 0} (given : Result A OpenError) (o : Option OpenError) → Refuses given o → IfRefusal o (λ e. given ≡ Err e)
 as_refusal given (Some e) h = h

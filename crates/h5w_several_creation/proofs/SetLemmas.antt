@@ -144,52 +144,15 @@ writes_joined : (bs cs : List (ℕ × List ℕ)) → map block_write (bs ++ cs) 
 writes_joined [] cs = refl
 writes_joined (b ∷ bs) cs = ap (λ (ws : List Write). block_write b ∷ ws) (writes_joined bs cs)
 
--- the name says nothing of the index
-index_same : (k : IndexKind) (place : ℕ) (name : List ℕ) (form : Form) → index_at k place (created_by name form) ≡ index_at k place (any_by form)
-index_same Array place name form = refl
-index_same Tree place name form = refl
-
 -- what is left begins with the next name
 abbrev pub left_of : List (List ℕ) → ℕ → Form → List CreatedFile
 left_of names i form = all_by (drop i names) form
-
-next_left : (names : List (List ℕ)) (i : ℕ) (name : List ℕ) (form : Form) → i < length names → name ≡ get_or names i name → left_of names i form ≡ created_by name form ∷ left_of names (i + 1) form
-next_left names i name form low is =
-    let more : suc i ≡ i + 1 = omega arith in
-    ap (λ (ns : List (List ℕ)). all_by ns form) (drop-cons names i name low)
-    ∙ ap (λ (k : ℕ). created_by (get_or names i name) form ∷ left_of names k form) more
-    ∙ ap (λ (n : List ℕ). created_by n form ∷ left_of names (i + 1) form) (sym is)
 
 -- What is done and what is left of the datasets from a place on makes all: their end, the links and the pieces.
 pub record IsUnderway (names : List (List ℕ)) (form : Form) (first i at : ℕ) (ls before : List Msg) (ws begun : List Write) : Type 0 where
   pub end : end_from at (left_of names i form) ≡ end_from first (all_by names form)
   pub links : ls ++ links_from at (left_of names i form) ≡ before ++ links_from first (all_by names form)
   pub writes : ws ++ map block_write (sets_from at (left_of names i form)) ≡ begun ++ map block_write (sets_from first (all_by names form))
-
-pub underway_first : (names : List (List ℕ)) (form : Form) (first : ℕ) (before : List Msg) (begun : List Write) → IsUnderway names form first 0 first before before begun begun
-underway_first names form first before begun = record { end = refl; links = refl; writes = refl }
-
-pub underway_next : (names : List (List ℕ)) (form : Form) (first i at : ℕ) (links before : List Msg) (ws begun : List Write) (name : List ℕ) → i < length names → name ≡ get_or names i name
-    → IsUnderway names form first i at links before ws begun
-    → IsUnderway names form first (i + 1) (end_behind at (any_by form)) (links ++ message link_message_kind (link_bytes name at) ∷ []) before (ws ++ map block_write (set_at at (any_by form))) begun
-underway_next names form first i at links before ws begun name low is u =
-    let next = next_left names i name form low is in
-    let rest = left_of names (i + 1) form in
-    let set = set_at at (any_by form) in
-    let then = sets_from (end_behind at (any_by form)) rest in
-    record {
-      end = sym (ap (end_from at) next) ∙ u.end;
-      links =
-          append_assoc links (message link_message_kind (link_bytes name at) ∷ []) (links_from (end_behind at (any_by form)) rest)
-          ∙ sym (ap (λ (fs : List CreatedFile). links ++ links_from at fs) next)
-          ∙ u.links;
-      writes =
-          append_assoc ws (map block_write set) (map block_write then)
-          ∙ ap (λ (xs : List Write). ws ++ xs) (sym (writes_joined set then))
-          ∙ ap (λ (bs : List (ℕ × List ℕ)). ws ++ map block_write ((bs ++ header_at at (any_by form) ∷ []) ++ then)) (sym (index_same form.index at name form))
-          ∙ sym (ap (λ (fs : List CreatedFile). ws ++ map block_write (sets_from at fs)) next)
-          ∙ u.writes;
-    }
 
 none_left : (names : List (List ℕ)) (i : ℕ) (form : Form) → length names ≤ i → left_of names i form ≡ []
 none_left names i form h = ap (λ (ns : List (List ℕ)). all_by ns form) (drop_all i names h)
@@ -199,18 +162,6 @@ pub record IsDone (names : List (List ℕ)) (form : Form) (first at : ℕ) (ls b
   pub end : at ≡ end_from first (all_by names form)
   pub links : ls ≡ before ++ links_from first (all_by names form)
   pub writes : ws ≡ begun ++ map block_write (sets_from first (all_by names form))
-
-pub underway_last : (names : List (List ℕ)) (form : Form) (first i at : ℕ) (links before : List Msg) (ws begun : List Write) → length names ≤ i → IsUnderway names form first i at links before ws begun
-    → IsDone names form first at links before ws begun
-underway_last names form first i at links before ws begun h u =
-    let none = none_left names i form h in
-    record {
-      end = sym (ap (end_from at) none) ∙ u.end;
-      links = sym (append-nil links) ∙ sym (ap (λ (fs : List CreatedFile). links ++ links_from at fs) none) ∙ u.links;
-      writes = sym (append-nil ws) ∙ sym (ap (λ (fs : List CreatedFile). ws ++ map block_write (sets_from at fs)) none) ∙ u.writes;
-    }
-
--- ---- The whole file
 
 pub links_are : (names : List (List ℕ)) (form : Form) (first : ℕ) (start ls : List Msg) → first ≡ first_place (all_by names form)
     → start ≡ message link_info_kind link_info_bytes ∷ message group_info_kind group_info_bytes ∷ [] → ls ≡ start ++ links_from first (all_by names form) → ls ≡ root_messages (all_by names form)

@@ -13,9 +13,6 @@ starts_same xs ys e = ([], e ∙ sym (append-nil ys))
 pub starts_nothing : (xs : List Write) → StartsWith xs []
 starts_nothing xs = (xs, refl)
 
-pub starts_more : (xs ys : List Write) → StartsWith (xs ++ ys) xs
-starts_more xs ys = (ys, refl)
-
 pub starts_both : (xs ys zs : List Write) → StartsWith xs ys → StartsWith ys zs → StartsWith xs zs
 starts_both xs ys zs p q = (q.0 ++ p.0, p.1 ∙ (ap (λ w. w ++ p.0) q.1 ∙ append_assoc zs q.0 p.0))
 

@@ -27,23 +27,3 @@ returns_written p q x y w turn writes is =
       begun = turn.found.begun;
       same = inl (writes, (w ∷ [], refl));
     })
-
--- a seat that is not worn after some tries was not worn before
-pub awake_before : (p l : Place) → Keeps p l → l.worn ≡ false → p.worn ≡ false
-awake_before p l kept awake = go p.worn refl where
-  go : (b : Bool) → p.worn ≡ b → p.worn ≡ false
-  go false e = e
-  go true e = absurd (true≢false (sym (kept.worn e) ∙ awake))
-
--- a ticket that is drawn after some tries
-pub drawn_after : (p l q : Place) (t : ℕ) → AtRest p → Keeps p l → l.worn ≡ false → Waits l q t → Waits p q t
-drawn_after p l q t rest kept awake drew =
-    let same : p.worn ≡ false = awake_before p l kept awake in
-    let me : l.seat.me.0 ≡ p.seat.me.0 = ap (λ m. m.0) kept.me ∙ ap (λ (b : Bool). worn_as b p.seat.me.0) (awake ∙ (sym same ∙ rest.counts.shown)) in record {
-      table = drew.table ∙ kept.table;
-      me = drew.me ∙ ap (λ v. (record v { stage = Waiting t }, [])) me;
-      worn = drew.worn ∙ (awake ∙ sym same);
-      seen = drew.seen ∙ kept.seen;
-      faults = drew.faults ∙ kept.faults;
-      counts = drew.counts;
-    }

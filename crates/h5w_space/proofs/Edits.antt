@@ -111,10 +111,6 @@ laid-remove gs i h e =
     ∙ laid-append (take i gs) (drop (i + 1) gs)
     ∙ ap (λ n. laid (take i gs) ++ (replicate n g.size ++ laid (drop (i + 1) gs))) (let k : 0 ≡ g.count - 1 = omega arith in k)
 
-pub filled-remove : (gs : List Group) (i : ℕ) → All (λ g. 0 < g.count) gs → All (λ g. 0 < g.count) (remove gs i)
-filled-remove gs i f =
-    All-append (λ (x : Group). 0 < x.count) (take i gs) (drop (suc i) gs) (All-take (λ (x : Group). 0 < x.count) i gs f) (All-drop (λ (x : Group). 0 < x.count) (suc i) gs f)
-
 -- a place joins its group
 pub joined_rest : (gs : List Group) (places : List Extent) (place : Extent) (size i end : ℕ) → IsGrouped gs places → IsGroup gs size i end →
     drop end (take (length (places ++ place ∷ []) - 1) (sizes (places ++ place ∷ []))) ≡ laid (drop (i + 1) gs)

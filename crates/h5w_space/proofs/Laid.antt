@@ -126,21 +126,6 @@ pub record IsFronted (all done left : List ℕ) : Type 0 where
   pub all_is : all ≡ (front ++ left) ++ held ∷ []
   pub done_is : front ++ held ∷ [] ≡ done
 
-pub IsFronted-none : (places : List Extent) (at : ℕ) (left : List ℕ) → at < length places → drop at (take (length places - 1) (sizes places)) ≡ left →
-    IsFronted (sizes places) (take at (sizes places) ++ get_or (sizes places) (length places - 1) 0 ∷ []) left
-IsFronted-none places at left h e =
-    let n : ℕ = length places - 1 in
-    let S : List ℕ = sizes places in
-    let inside : n < length (sizes places) = omega (arith, length-sizes places) in
-    let low : at ≤ n = omega arith in
-    record {
-      front = take at S;
-      held = get_or S n 0;
-      all_is = sym (take_all (n + 1) S (omega (arith, length-sizes places))) ∙ take_more S n 0 inside
-          ∙ ap (λ l. l ++ get_or S n 0 ∷ []) (sym (take-append-drop at (take n S)) ∙ ap (λ l. l ++ drop at (take n S)) (take-take at n S low) ∙ ap (λ l. take at S ++ l) e);
-      done_is = refl;
-    }
-
 fronted_more : (places : List Extent) (i last c y : ℕ) (done back : List ℕ) → i + 1 ≡ length done → last + 1 ≡ length places → 0 < c →
     IsFronted (sizes places) done (replicate c y ++ back) → IsFronted (sizes (swap places i last)) (done ++ replicate c y) back
 fronted_more places i last zero y done back ei el h f = absurd (omega arith)
@@ -165,9 +150,6 @@ IsFronted-more gs k d places start i last h ei el filled f =
     let step = fronted_more places i last g.count g.size (start ++ laid (take k gs)) (laid (drop (k + 1) gs)) (ei ∙ sym (length-append start (laid (take k gs)))) el filled
     (subst (λ l. IsFronted (sizes places) (start ++ laid (take k gs)) l) (laid-drop_more gs k d h) f) in
     subst (λ l. IsFronted (sizes (swap places i last)) l (laid (drop (k + 1) gs))) (append_assoc start (laid (take k gs)) (replicate g.count g.size) ∙ ap (λ l. start ++ l) (sym (laid-take_more gs k d h))) step
-
-pub IsFronted-all : (all done left : List ℕ) → left ≡ [] → IsFronted all done left → all ≡ done
-IsFronted-all all done left e f = f.all_is ∙ ap (λ l. (f.front ++ l) ++ f.held ∷ []) e ∙ ap (λ l. l ++ f.held ∷ []) (append-nil f.front) ∙ f.done_is
 
 -- a group of at least one place does not reach past the last place
 pub front_inside : (gs : List Group) (k : ℕ) (d : Group) (places : List Extent) (start : List ℕ) (i last : ℕ) → k < length gs → i + 1 ≡ length start + length (laid (take k gs)) → last + 1 ≡ length places →

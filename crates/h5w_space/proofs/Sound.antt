@@ -70,12 +70,6 @@ IsSound-tail end r places s = record {
   once = λ b. omega (arith, s.once b, sum_by-cons (holds b) r places);
 }
 
-pub IsSound-longer : (end more : ℕ) (places : List Extent) → end ≤ more → IsSound end places → IsSound more places
-IsSound-longer end more places h s = record {
-  within = All-weaker (λ (q : Extent). q.at + q.size ≤ end) (λ q. q.at + q.size ≤ more) (λ q k. omega arith) places s.within;
-  once = s.once;
-}
-
 -- a place behind the end shares no byte with those before it
 pub behind : (end : ℕ) (r : Extent) (places : List Extent) → end ≤ r.at → IsSound end places → All (Apart r) places
 behind end r places h s = All-weaker (λ (q : Extent). q.at + q.size ≤ end) (λ q. Apart r q) (λ q k. omega arith) places s.within

@@ -179,15 +179,6 @@ cut_here at end place buffer more limit bound h cut = record {
   limit = refl;
 }
 
--- what was read into the front of a buffer
-pub read_took : {E : Type 0} (r : Result ℕ E) (out items : List ℕ) (len : ℕ) (s t : SourceView) → IfOk r (λ n. n ≤ length out) → IfOk r (λ n. Took (take n out) s t) → length items ≡ len → length out ≤ length items
-    → IfOk r (λ n. Took (take n (take len (out ++ drop (length out) items))) s t)
-read_took (Err e) out items len s t bound took same short = tt
-read_took (Ok n) out items len s t bound took same short =
-    let all : take len (out ++ drop (length out) items) ≡ out ++ drop (length out) items = take_all len (out ++ drop (length out) items) (omega (arith, length-append out (drop (length out) items), length-drop (length out) items)) in
-    let front : take n (take len (out ++ drop (length out) items)) ≡ take n out = ap (take n) all ∙ take-append-le n out (drop (length out) items) bound in
-    subst (λ (l : List ℕ). Took l s t) (sym front) took
-
 none_mapped : (xs : List ℕ) (b : Option (List ℕ)) → xs ≡ [] → IfSome b (λ l. l ≡ []) → IfSome (option_map (λ rest. xs ++ rest) b) (λ l. l ≡ [])
 none_mapped xs None h none = tt
 none_mapped xs (Some b) h none = ap (λ l. l ++ b) h ∙ none

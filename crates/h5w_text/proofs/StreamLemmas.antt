@@ -18,9 +18,6 @@ same_left : (b : Option (List ℕ)) → b ≡ option_map (λ rest. [] ++ rest) b
 same_left None = refl
 same_left (Some b) = refl
 
-pub took_nothing : (v w : SourceView) → w.left ≡ v.left → v.faults ≤ w.faults → w.through ≡ v.through → Took [] v w
-took_nothing v w left faults through = record { left = sym left ∙ same_left w.left; faults = faults; through = through }
-
 -- a call that failed and wrote nothing
 pub gave_nothing : {T E : Type 0} (r : Result T E) (bytes : List ℕ) (v w : SinkView) → w.written ≡ v.written → v.faults ≤ w.faults → w.through ≡ v.through → OnErr r (GaveSome bytes v w)
 gave_nothing (Ok x) bytes v w e f g = tt

@@ -187,11 +187,6 @@ around_has bytes u [] (c ∷ d ∷ cs) h n = absurd (omega (arith, n))
 around_has bytes u (r ∷ rs) (c ∷ cs) (inl h) n = among_left u c (chunk_of bytes r ++ around bytes rs cs) h
 around_has bytes u (r ∷ rs) (c ∷ cs) (inr h) n = among_right u c (chunk_of bytes r ++ around bytes rs cs) (among_right u (chunk_of bytes r) (around bytes rs cs) (around_has bytes u rs cs h (omega (arith, n))))
 
-some_mapped : {A B : Type 0} (P : A → Type 0) (Q : B → Type 0) (f : A → B) (xs : List A) → ((x : A) → P x → Q (f x)) → Some_of P xs → Some_of Q (map f xs)
-some_mapped P Q f [] k h = h
-some_mapped P Q f (x ∷ xs) k (inl h) = inl (k x h)
-some_mapped P Q f (x ∷ xs) k (inr h) = inr (some_mapped P Q f xs k h)
-
 some_range : (bytes : ℕ) (p : Part) (d : ℕ) (cs : List (Tree d)) → ((c : Tree d) → IsSound d (capacity_of d) c → place_of p.depth p.tree + node_size < 2 ^ 64 → IsCleanPart p d c → Among (node_range (place_of p.depth p.tree)) (ranges_under bytes d c))
     → All (IsSound d (capacity_of d)) cs → place_of p.depth p.tree + node_size < 2 ^ 64 → Some_of (IsCleanPart p d) cs → Some_of (λ (l : List Used). Among (node_range (place_of p.depth p.tree)) l) (map (ranges_under bytes d) cs)
 some_range bytes p d [] f s low h = h

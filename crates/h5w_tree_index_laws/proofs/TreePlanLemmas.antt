@@ -74,9 +74,6 @@ take_both (suc n) k (p ∷ ps) = ap (λ (j : ℕ). take j (p ∷ ps)) (let e : s
 abbrev Taking : (d : ℕ) → List ℕ → Tree d → Type 0
 Taking d ps t = block_ranges (written d ps t) ≡ map node_range (take (changes d t) ps)
 
-range_of_block : (b : ℕ × List ℕ) → Used
-range_of_block b = block_at b.0 (length b.1)
-
 ranges_append : (bs cs : List (ℕ × List ℕ)) → block_ranges (bs ++ cs) ≡ block_ranges bs ++ block_ranges cs
 ranges_append bs cs = map-append (λ (b : ℕ × List ℕ). block_at b.0 (length b.1)) bs cs
 

@@ -55,11 +55,6 @@ pub made : (r : Result Command AllocError) (app : App) → IfOk r (λ c. app_of 
 made (Ok c) app is local = (is, local)
 made (Err e) app is local = tt
 
--- a command that is added
-pub command_added : {a b : App} (old sub new : Command) → AddsSubcommand old sub new → Makes (Ok old) a → Makes (Ok sub) b → Makes (Ok new) (with_subcommand a b.top)
-command_added old sub new added (old_is, old_local) (sub_is, sub_local) =
-    (added.shape sub_local ∙ ap₂ with_subcommand old_is (ap (λ (a : App). a.top) sub_is), added.globals ∙ or_false (has_globals old) (has_globals sub) sub_local ∙ old_local)
-
 -- what is made, without its arguments' reach
 pub app_made : (r : Result Command AllocError) (app : App) → Makes r app → IfOk r (λ c. app_of c ≡ app)
 app_made (Ok c) app h = h.0
