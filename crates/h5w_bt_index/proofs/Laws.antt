@@ -231,8 +231,5 @@ three-not_over x v k e = elim (cases_Bool (is_over v.depth (put v.depth x v.root
   | inr o ↦ o
 ]
 
-pub not_some_none : (o : Option ℕ) (a : ℕ) → o ≡ Some a → o ≡ None → ⊥
-not_some_none o a e f = cc
-
 pub false_not_true : false ≡ true → ⊥
 false_not_true h = cc

@@ -143,20 +143,22 @@ impl TreeIndex {
         given(self.find(key))
     }
 
-    /// Whether a record of a key that has none would make a tree of depth 4.
-    fn is_deep(&self, key: Key) -> bool
-        requires { IsShaped (view_of self.now) }
+    /// Whether a record of a key, where none is there, would make a tree of depth 4.
+    fn is_deep(&self, key: Key, there: bool) -> bool
+        requires shape { IsShaped (view_of self.now) }
+        requires there { there ≡ is_some (found_by (view_of self.now) key) }
         ensures { IsTrue result ↔ IsBlocked (view_of self.now) key }
     {
-        match self.find(key) {
-            Some(_) => false,
-            None => self.root.is_deepest(key),
+        if there {
+            return false;
         }
+        self.root.is_deepest(key)
     }
 
-    /// Puts a record to its place.
-    fn put(&mut self, item: Record) -> Result<(), InsertError>
-        requires { IsShaped (view_of self.old) }
+    /// Puts a record to its place, where a record of its key is there or is not.
+    fn put(&mut self, item: Record, there: bool) -> Result<(), InsertError>
+        requires shape { IsShaped (view_of self.old) }
+        requires there { there ≡ is_some (found_by (view_of self.old) item.key) }
         ensures shape { IsShaped (view_of self.new) }
         ensures index { IsIndex (view_of self.old) → IsIndex (view_of self.new) }
         ensures ok { OnOk result ((view_of self.new) ≡ inserted item (view_of self.old)) }
@@ -165,7 +167,7 @@ impl TreeIndex {
         ensures kept { OnErr result ((view_of self.new) ≡ (view_of self.old)) }
         ensures place { header_place self.new ≡ header_place self.old }
     {
-        if self.is_deep(item.key) {
+        if self.is_deep(item.key, there) {
             return Err(InsertError::Deep);
         }
         self.root.put(item, self.alloc)?;
@@ -190,7 +192,8 @@ impl TreeIndex {
         ensures kept { OnErr result ((view_of self.new) ≡ (view_of self.old)) }
         ensures place { header_place self.new ≡ header_place self.old }
     {
-        self.put(Record { address, key })
+        let there = self.find(key).is_some();
+        self.put(Record { address, key }, there)
     }
 
     /// Holds a place for a chunk: a record of its key is there then, with an undefined address where it was not there before. What each
@@ -216,10 +219,11 @@ impl TreeIndex {
         if self.find(key).is_some() {
             return Ok(());
         }
-        self.put(Record {
+        let item = Record {
             address: UNDEFINED,
             key,
-        })
+        };
+        self.put(item, false)
     }
 
     /// Puts a record in the place of the one with its key; where none is found, nothing changes. Takes no memory.

@@ -12,6 +12,7 @@ ghost use Rattle.h5w_bt_index.specs.Plans.{AreNodeMoves, AreTaken, HasNoPlace, I
 
 use crate::root::Root;
 use h5w_bt::{Bthd, Child, NODE};
+use h5w_bt_nodes::PIECES;
 use h5w_cache::{Move, Plan, PlanError, retire_all, take_place};
 use h5w_model::{OutOfMemory, Piece, Write};
 use h5w_space::{Full, Places};
@@ -154,7 +155,8 @@ fn writes_at(
     ensures in_place { IfOk result (λ r. r.1.items ≡ header_writes place (index_of root.now) (planned places.now.items (index_of root.now))) }
     ensures reads { OnOk result (AllRead (index_of root.now).depth places.now.items (index_of root.now).root) }
 {
-    let mut copies = Vec::new(*places.allocator());
+    let pieces = places.len().saturating_mul(PIECES);
+    let mut copies = Vec::with_capacity(*places.allocator(), pieces)?;
     let mut in_place = Vec::new(*places.allocator());
     let (_, pointer) = root.write(places, &mut copies)?;
     if !root.is_clean() {

@@ -1,6 +1,5 @@
 -- The bytes of a node: how many they are, and the zeros behind them.
-use Rattle.std.proofs.Common.{◌≡◌, ℕ, zero, suc, ◌+◌, ◌-◌, ◌*◌, ◌≤◌, List, [], ◌∷◌, ◌++◌, length, flat_map, take, drop, replicate, refl, sym, ap, ap₂, ◌∙◌, arith, codes, append-nil, length-append}
-use Rattle.std.proofs.lemmas.List.{length-replicate}
+use Rattle.std.proofs.Common.{◌≡◌, ℕ, zero, suc, ◌+◌, ◌-◌, ◌*◌, ◌≤◌, List, [], ◌∷◌, ◌++◌, length, flat_map, take, drop, replicate, refl, sym, ap, ◌∙◌, arith, codes, length-append}
 use Rattle.h5w_model.specs.Trees.{RecordFields, BtinFields, btlf_bytes, btlf_len, btin_bytes, btin_len, capacity_of, record_bytes, child_bytes, pointer_size}
 use Rattle.h5w_model.proofs.ChecksumLemmas.{length-sealed_block}
 use Rattle.h5w_bt.proofs.Writing.{length-record_bytes, length-child_bytes, length-each}
@@ -44,14 +43,6 @@ take_whole [] = refl
 take_whole (x ∷ l) = ap (λ (r : List ℕ). x ∷ r) (take_whole l)
 
 -- bytes that were written to the front of so many zeros
-pub spelled_padded : (b old new items : List ℕ) (k len : ℕ) → items ≡ replicate 2048 0 → old ≡ items → new ≡ b ++ drop k old → length b ≡ k → k ≤ 2048 → len ≡ 2048 → take len (new ++ drop (length new) items) ≡ padded b
-spelled_padded b old new items k len zero_items same spelled long low whole =
-    let was : old ≡ zeros 2048 = same ∙ zero_items in
-    let now : new ≡ padded b = spelled ∙ ap (λ (l : List ℕ). b ++ drop k l) was ∙ ap (λ (l : List ℕ). b ++ l) (drop_zeros k 2048) ∙ ap (λ (j : ℕ). b ++ zeros (2048 - j)) (sym long) in
-    let full : length new ≡ 2048 = ap length now ∙ length-append b (zeros (2048 - length b)) ∙ count (length b) (length (zeros (2048 - length b))) (length-replicate {A = ℕ} (2048 - length b) 0) (omega (arith, long, low)) in
-    let none : drop (length new) items ≡ [] = ap (λ (l : List ℕ). drop (length new) l) zero_items ∙ drop_zeros (length new) 2048 ∙ ap zeros (let e : 2048 - length new ≡ 0 = omega (arith, full) in e) in
-    ap₂ (λ (j : ℕ) (l : List ℕ). take j (new ++ l)) (whole ∙ sym full) none
-    ∙ ap (take (length new)) (append-nil new) ∙ take_whole new ∙ now
-  where
-    count : (n m : ℕ) → m ≡ 2048 - n → n ≤ 2048 → n + m ≡ 2048
-    count n m e h = omega (arith, e, h)
+pub zeros_padded : (b new : List ℕ) (k : ℕ) → new ≡ b ++ drop k (zeros 2048) → length b ≡ k → new ≡ padded b
+zeros_padded b new k spelled long =
+    spelled ∙ ap (λ (l : List ℕ). b ++ l) (drop_zeros k 2048) ∙ ap (λ (j : ℕ). b ++ zeros (2048 - j)) (sym long)

@@ -7,7 +7,7 @@ ghost use Rattle.h5w_bt_nodes.specs.Shapes.{IsShape, IsShapedChild};
 ghost use Rattle.h5w_bt_nodes.specs.Blocks.{AllRead, EachBy, changes, each_by, joined_blocks, placed, pointer_of, stood, writes_of, written};
 ghost use Rattle.h5w_bt.specs.Parts.{child_of};
 
-use crate::bytes::{inner_bytes, put_node};
+use crate::bytes::put_inner;
 use crate::lists::{insert_reserved, move_tail};
 use crate::search::{put_record, replace_record, search};
 use crate::subtree::Subtree;
@@ -70,6 +70,7 @@ fn stood_below<C: Subtree>(children: &Vec<C>, out: &mut Vec<u64>) -> Result<(), 
 
 /// Adds the writes of changed nodes under these children at these places. Answers how many nodes those are, and the pointers to the
 /// children then.
+#[inline(never)]
 fn write_below<C: Subtree>(
     children: &Vec<C>,
     places: &[u64],
@@ -84,7 +85,7 @@ fn write_below<C: Subtree>(
     ensures written { OnOk result (out.new.items ≡ out.old.items ++ writes_of (joined_blocks (each_by (written C.depth) (changes C.depth) places.now (map C.tree children.now.items)))) }
     ensures reads { OnOk result (EachBy (AllRead C.depth) (changes C.depth) places.now (map C.tree children.now.items)) }
 {
-    let mut pointers = Vec::new(*children.allocator());
+    let mut pointers = Vec::with_capacity(*children.allocator(), children.len())?;
     let mut below = 0usize;
     for child in children {
         let (count, pointer) = child.write(&places[below..], out)?;
@@ -358,8 +359,7 @@ impl<C: Subtree> Subtree for Inner<C> {
         }
         let (below, children) = write_below(&self.children, places, out)?;
         let place = places[below];
-        let bytes = inner_bytes(&self.records, children, C::depth() + 1)?;
-        put_node(place, &bytes, out)?;
+        put_inner(&self.records, children, C::depth() + 1, place, out)?;
         Ok((below + 1, self.pointer(place)))
     }
 

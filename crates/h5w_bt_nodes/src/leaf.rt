@@ -1,7 +1,7 @@
 ghost use Rattle.std.specs.Prelude.{◌≡◌, ◌+◌, ◌≤◌, length};
 ghost use Rattle.h5w_bt.specs.Parts.{child_of};
 
-use crate::bytes::{leaf_bytes, put_node};
+use crate::bytes::put_leaf;
 use crate::lists::move_tail;
 use crate::search::{put_record, replace_record, search};
 use crate::subtree::Subtree;
@@ -117,8 +117,7 @@ impl Subtree for Leaf {
             return Ok((0, self.pointer(self.place)));
         }
         let place = places[0];
-        let bytes = leaf_bytes(&self.records)?;
-        put_node(place, &bytes, out)?;
+        put_leaf(&self.records, place, out)?;
         Ok((1, self.pointer(place)))
     }
 

@@ -12,6 +12,7 @@ mod lists;
 mod search;
 mod subtree;
 
+pub use bytes::PIECES;
 pub use growth::put_at_root;
 pub use inner::{Inner, count};
 pub use leaf::Leaf;

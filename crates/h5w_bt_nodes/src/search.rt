@@ -9,8 +9,8 @@ use h5w_bt::{Key, Record};
 use h5w_model::OutOfMemory;
 
 /// Whether a key comes before another: by dimension 0, then 1.
-fn is_below(a: Key, b: Key) -> bool
-    ensures { result ≡ key_below a b }
+fn is_below(a: &Key, b: Key) -> bool
+    ensures { result ≡ key_below a.now b }
 {
     a.i < b.i || (a.i == b.i && a.j < b.j)
 }
@@ -40,7 +40,7 @@ pub fn search(records: &[Record], key: Key) -> (usize, Option<u64>)
     ensures inside { result.0 ≤ length records.now }
 {
     for (i, item) in records.iter().enumerate() {
-        if !is_below(item.key, key) {
+        if !is_below(&item.key, key) {
             return (i, address_at(item, key));
         }
     }

@@ -1,5 +1,5 @@
 -- What the code of a flush shows, in its own words.
-use Rattle.std.proofs.Common.{◌≡◌, ℕ, ◌+◌, ◌*◌, ◌^◌, ◌<◌, ◌≤◌, true, List, [], ◌∷◌, ◌++◌, length, Option, Some, None, IsSome, Result, Err, refl, ap, sym, ◌∙◌, subst, arith, inl, inr, length-append}
+use Rattle.std.proofs.Common.{◌≡◌, ℕ, ◌+◌, ◌*◌, ◌^◌, ◌<◌, ◌≤◌, true, List, [], ◌∷◌, ◌++◌, length, drop, Option, Some, None, IsSome, Result, Err, refl, ap, sym, ◌∙◌, subst, arith, inl, inr, length-append}
 use Rattle.std.proofs.lemmas.Bool.{cases_lt}
 use Rattle.std.proofs.lemmas.Nat.{mul-le}
 use Rattle.h5w_model.specs.Logs.{div_up}
@@ -30,7 +30,10 @@ use Rattle.h5w_index.specs.Naming.{AreNamed, AreTakenBehind}
 use Rattle.h5w_index.specs.Placing.{IsPartly}
 use Rattle.h5w_index.proofs.PlacingLemmas.{placing_laws}
 use Rattle.h5w_pieces.specs.Joined.{option_list}
-use Rattle.h5w_session.specs.Sessions.{ArePieces, IsRoomy, IsSession, IsUnmade, IsWhole, IsWritable, Session, bands_of, most_lines, next_row, rows_of, with_rows}
+use Rattle.h5w_session.specs.Backlogs.{IsPlanned}
+use Rattle.h5w_session.specs.declared.backlog.Backlog.{Backlog}
+use Rattle.h5w_session.proofs.BacklogLemmas.{pending_is}
+use Rattle.h5w_session.specs.Sessions.{AllEndBy, ArePieces, IsRoomy, IsSession, IsUnmade, IsWhole, IsWritable, Session, bands_of, most_lines, next_row, rows_of, with_rows}
 use Rattle.h5w_pieces.specs.NextPlaces.{next_places, writes_behind}
 use Rattle.h5w_session.specs.Flushes.{ArePlanned, IsFlushed, SameBut, flushed_of, header_piece}
 use Rattle.h5w_session.specs.declared.refusal.FlushError.{FlushError}
@@ -79,9 +82,8 @@ values_few v is cut =
 
 -- ---- What its calls make
 
--- the calls, of a session v, up to row `to`; r, b and e are the superblock, the header and the cells that wait then, n and k the number of
--- early rows and the places of their chunks
-pub record Carried (v : Session) (to : ℕ) (t : Space) (w : IndexView) (ws : List Write) (r : Super) (b e : List ℕ) (n : ℕ) (k : List ChunkPlace) : Type 0 where
+-- the calls, of a session v, up to row `to`; r, b and q are the superblock, the header and the backlog then
+pub record Carried (v : Session) (to : ℕ) (t : Space) (w : IndexView) (ws : List Write) (r : Super) (b : List ℕ) (q : Backlog) : Type 0 where
   pub there : IsWhole v
   pub some : 0 < v.waits
   pub to_is : to ≡ rows_of v
@@ -119,15 +121,13 @@ pub record Carried (v : Session) (to : ℕ) (t : Space) (w : IndexView) (ws : Li
   pub unraised : end ≡ v.root.end → supers ≡ []
   pub root : r ≡ record (v.root) { end = end }
   pub header : b ≡ with_rows_bytes v.header to None
-  pub piece : List ℕ
-  pub piece_is : piece ≡ b
-  pub items : ws ≡ rows ++ (copies ++ (supers ++ (fixed ++ record { at = v.place; piece = piece } ∷ [])))
+  pub last : Write
+  pub last_is : last ≡ record { at = v.place; piece = b }
+  pub items : ws ≡ rows ++ (copies ++ (supers ++ (fixed ++ last ∷ [])))
   pub header_short : length v.header ≤ 512
-  pub none_waits : e ≡ []
-  pub none_early : n ≡ 0
-  pub no_chunks : k ≡ []
+  pub planned : IsPlanned ws q
 
-module _ (v : Session) (to : ℕ) (t : Space) (w : IndexView) (ws : List Write) (r : Super) (b e : List ℕ) (n : ℕ) (k : List ChunkPlace) (x : Carried v to t w ws r b e n k) (is : IsSession v) where
+module _ (v : Session) (to : ℕ) (t : Space) (w : IndexView) (ws : List Write) (r : Super) (b : List ℕ) (q : Backlog) (x : Carried v to t w ws r b q) (is : IsSession v) where
   carried_planned : ArePlanned v v.index v.places w t
   carried_planned =
       let d = v.dataset in
@@ -174,22 +174,45 @@ module _ (v : Session) (to : ℕ) (t : Space) (w : IndexView) (ws : List Write) 
 
   carried_joined : ws ≡ x.rows ++ (x.copies ++ (x.supers ++ (x.fixed ++ header_piece v ∷ [])))
   carried_joined =
-      let rows = rows_of v in
-      let last : ◌≡◌ {A = Write} (record { at = v.place; piece = x.piece }) (record { at = v.place; piece = with_rows_bytes v.header rows None }) =
-      ap (λ (p : List ℕ). let h : Write = record { at = v.place; piece = p } in h) (x.piece_is ∙ x.header ∙ ap (λ (n : ℕ). with_rows_bytes v.header n None) x.to_is) in
-      x.items ∙ ap (λ (h : Write). x.rows ++ (x.copies ++ (x.supers ++ (x.fixed ++ h ∷ [])))) last
+      let put : List ℕ → Write = λ p. record { at = v.place; piece = p } in
+      let same : x.last ≡ header_piece v = x.last_is ∙ ap put (x.header ∙ ap (λ (n : ℕ). with_rows_bytes v.header n None) x.to_is) in
+      x.items ∙ ap (λ (h : Write). x.rows ++ (x.copies ++ (x.supers ++ (x.fixed ++ h ∷ [])))) same
 
   abbrev carried : Session
-  carried = record v { root = r; header = b; dataset = with_rows to v.dataset; places = t; waiting = e; waits = 0; pending = ws; early = n; chunks = k; flushing = true; index = w }
+  carried = record v {
+    root = r;
+    header = b;
+    dataset = with_rows to v.dataset;
+    places = t;
+    waiting = q.waiting;
+    waits = q.waits;
+    pending = drop q.shown q.plan.items;
+    early = q.early;
+    chunks = q.chunks.items;
+    flushing = q.flushing;
+    index = w;
+  }
 
   carried_after : carried ≡ flushed_of v t ws w
   carried_after =
       let rows = rows_of v in
-      let put : Super → List ℕ → ℕ → List ℕ → ℕ → List ChunkPlace → Session = λ s h row c early places.
-      record v { root = s; header = h; dataset = with_rows row v.dataset; places = t; waiting = c; waits = 0; pending = ws; early = early; chunks = places; flushing = true; index = w } in
+      let p = x.planned in
       let root : r ≡ record (v.root) { end = t.end } = x.root ∙ ap (λ (n : ℕ). record (v.root) { end = n }) x.end_is in
       let header : b ≡ with_rows_bytes v.header rows None = x.header ∙ ap (λ (n : ℕ). with_rows_bytes v.header n None) x.to_is in
-      λ i. put (root i) (header i) (x.to_is i) (x.none_waits i) (x.none_early i) (x.no_chunks i)
+      let pending = pending_is ws q p in
+      λ i. record v {
+        root = root i;
+        header = header i;
+        dataset = with_rows (x.to_is i) v.dataset;
+        places = t;
+        waiting = p.waiting i;
+        waits = p.waits i;
+        pending = pending i;
+        early = p.early i;
+        chunks = p.chunks i;
+        flushing = p.flushing i;
+        index = w;
+      }
 
   pub carried_is : IsSession carried
   unfolding carried_planned
@@ -198,6 +221,13 @@ module _ (v : Session) (to : ℕ) (t : Space) (w : IndexView) (ws : List Write) 
   pub carried_pieces : ArePieces t.end ws
   unfolding carried_planned
   carried_pieces = flushed_pieces v is x.there t w ws carried_planned carried_small carried_joined x.header_short
+
+  -- the list of them all is of such pieces, and so is what is pending
+  pub carried_list : ArePieces t.end q.plan.items
+  carried_list = subst (ArePieces t.end) (sym x.planned.plan) carried_pieces
+
+  pub carried_ends : AllEndBy t.end (drop q.shown q.plan.items)
+  carried_ends = subst (AllEndBy t.end) (sym (pending_is ws q x.planned)) carried_pieces.within
 
   pub carried_flushed : (s : Session) → v ≡ s → IsFlushed s carried
   unfolding carried_planned

@@ -1,4 +1,5 @@
 pub mod SessionFields
+pub mod BacklogLemmas
 pub mod StateLemmas
 pub mod AddressedLemmas
 pub mod IndexLemmas

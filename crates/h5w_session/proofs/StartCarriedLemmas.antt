@@ -1,5 +1,5 @@
 -- What the code of a first flush makes of a session.
-use Rattle.std.proofs.Common.{◌≡◌, ◌≢◌, ℕ, ◌+◌, ◌^◌, ◌<◌, ◌≤◌, true, List, [], length, Option, Some, ap, sym, ◌∙◌, subst, arith, inl, inr}
+use Rattle.std.proofs.Common.{◌≡◌, ◌≢◌, ℕ, ◌+◌, ◌^◌, ◌<◌, ◌≤◌, true, List, [], length, drop, Option, Some, ap, sym, ◌∙◌, subst, arith, inl, inr}
 use Rattle.std.specs.List.{slice_get}
 use Rattle.h5w_model.specs.Arrays.{eahd_len}
 use Rattle.h5w_model.specs.Numbers.{undefined}
@@ -26,7 +26,10 @@ use Rattle.h5w_index.specs.Steps.{IsPlan}
 use Rattle.h5w_index.specs.Full.{IsFullPart}
 use Rattle.h5w_index.specs.Naming.{AreNamed, AreTakenBehind}
 use Rattle.h5w_index.specs.Placing.{AreInside, Fits}
-use Rattle.h5w_session.specs.Sessions.{ArePieces, IsRoomy, IsSession, IsUnmade, Session, next_row, rows_of, with_rows}
+use Rattle.h5w_session.specs.Backlogs.{IsPlanned}
+use Rattle.h5w_session.specs.declared.backlog.Backlog.{Backlog}
+use Rattle.h5w_session.proofs.BacklogLemmas.{pending_is}
+use Rattle.h5w_session.specs.Sessions.{AllEndBy, ArePieces, IsRoomy, IsSession, IsUnmade, Session, next_row, rows_of, with_rows}
 use Rattle.h5w_pieces.specs.NextPlaces.{next_places, writes_behind}
 use Rattle.h5w_session.specs.Flushes.{ArePlanned}
 use Rattle.h5w_session.specs.Refusals.{IsStartFull, IsUnfilled, IsUnplaced}
@@ -80,8 +83,8 @@ asks_of_start v places is (inr lacking) places_are = record {
 
 -- ---- What its calls make
 
--- the calls, of a session v, up to row `to`; r, b, e and k are the superblock, the header, the cells that wait and the chunks of early rows then
-pub record StartCarried (v : Session) (to : ℕ) (t : Space) (w : IndexView) (ws : List Write) (r : Super) (b e : List ℕ) (k : List ChunkPlace) (at : ℕ) : Type 0 where
+-- the calls, of a session v, up to row `to`; r, b and q are the superblock, the header and the backlog then
+pub record StartCarried (v : Session) (to : ℕ) (t : Space) (w : IndexView) (ws : List Write) (r : Super) (b : List ℕ) (q : Backlog) (at : ℕ) : Type 0 where
   pub unmade : IsUnmade v
   pub some : 0 < v.waits
   pub to_is : to ≡ rows_of v
@@ -125,14 +128,13 @@ pub record StartCarried (v : Session) (to : ℕ) (t : Space) (w : IndexView) (ws
   pub naming : Option ℕ
   pub names : IsNaming v.dataset.layout.address at naming
   pub header : b ≡ with_rows_bytes v.header to naming
-  pub piece : List ℕ
-  pub piece_is : piece ≡ b
-  pub items : AreJoined naming rows copies fixed supers (record { at = v.place; piece = piece }) ws
+  pub last : Write
+  pub last_is : last ≡ record { at = v.place; piece = b }
+  pub items : AreJoined naming rows copies fixed supers last ws
   pub header_short : length v.header ≤ 512
-  pub none_waits : e ≡ []
-  pub none_early : k ≡ []
+  pub planned : IsPlanned ws q
 
-module _ (v : Session) (to : ℕ) (t : Space) (w : IndexView) (ws : List Write) (r : Super) (b e : List ℕ) (k : List ChunkPlace) (at : ℕ) (x : StartCarried v to t w ws r b e k at) (is : IsSession v) where
+module _ (v : Session) (to : ℕ) (t : Space) (w : IndexView) (ws : List Write) (r : Super) (b : List ℕ) (q : Backlog) (at : ℕ) (x : StartCarried v to t w ws r b q at) (is : IsSession v) where
   start_now : IsStartedAt v.dataset.layout.address v.places at x.made x.first
   start_now = subst (λ (s : Space). IsStartedAt v.dataset.layout.address s at x.made x.first) x.places_are x.start
 
@@ -180,21 +182,45 @@ module _ (v : Session) (to : ℕ) (t : Space) (w : IndexView) (ws : List Write) 
 
   carried_joined : AreJoined x.naming x.rows x.copies x.fixed x.supers (naming_piece v x.naming) ws
   carried_joined =
-      let last : ◌≡◌ {A = Write} (record { at = v.place; piece = x.piece }) (naming_piece v x.naming) =
-      ap (λ (p : List ℕ). let h : Write = record { at = v.place; piece = p } in h) (x.piece_is ∙ x.header ∙ ap (λ (n : ℕ). with_rows_bytes v.header n x.naming) x.to_is) in
-      subst (λ (h : Write). AreJoined x.naming x.rows x.copies x.fixed x.supers h ws) last x.items
+      let put : List ℕ → Write = λ p. record { at = v.place; piece = p } in
+      let same : x.last ≡ naming_piece v x.naming = x.last_is ∙ ap put (x.header ∙ ap (λ (n : ℕ). with_rows_bytes v.header n x.naming) x.to_is) in
+      subst (λ (h : Write). AreJoined x.naming x.rows x.copies x.fixed x.supers h ws) same x.items
 
   abbrev carried : Session
-  carried = record v { root = r; header = b; dataset = with_index at (with_rows to v.dataset); places = t; waiting = e; waits = 0; pending = ws; early = 0; chunks = k; flushing = true; index = w }
+  carried = record v {
+    root = r;
+    header = b;
+    dataset = with_index at (with_rows to v.dataset);
+    places = t;
+    waiting = q.waiting;
+    waits = q.waits;
+    pending = drop q.shown q.plan.items;
+    early = q.early;
+    chunks = q.chunks.items;
+    flushing = q.flushing;
+    index = w;
+  }
 
   carried_after : carried ≡ started_of v at x.naming t ws w
   carried_after =
       let rows = rows_of v in
-      let put : Super → List ℕ → ℕ → List ℕ → List ChunkPlace → Session = λ s h n c early.
-      record v { root = s; header = h; dataset = with_index at (with_rows n v.dataset); places = t; waiting = c; waits = 0; pending = ws; early = 0; chunks = early; flushing = true; index = w } in
+      let p = x.planned in
       let root : r ≡ record (v.root) { end = t.end } = x.root ∙ ap (λ (n : ℕ). record (v.root) { end = n }) x.end_is in
       let header : b ≡ with_rows_bytes v.header rows x.naming = x.header ∙ ap (λ (n : ℕ). with_rows_bytes v.header n x.naming) x.to_is in
-      λ i. put (root i) (header i) (x.to_is i) (x.none_waits i) (x.none_early i)
+      let pending = pending_is ws q p in
+      λ i. record v {
+        root = root i;
+        header = header i;
+        dataset = with_index at (with_rows (x.to_is i) v.dataset);
+        places = t;
+        waiting = p.waiting i;
+        waits = p.waits i;
+        pending = pending i;
+        early = p.early i;
+        chunks = p.chunks i;
+        flushing = p.flushing i;
+        index = w;
+      }
 
   pub start_carried_is : IsSession carried
   unfolding carried_planned
@@ -203,6 +229,13 @@ module _ (v : Session) (to : ℕ) (t : Space) (w : IndexView) (ws : List Write) 
   pub start_carried_pieces : ArePieces t.end ws
   unfolding carried_planned
   start_carried_pieces = started_pieces v is at x.made x.first x.kind start_now x.unmade x.naming x.names t w ws carried_planned carried_small carried_joined x.header_short
+
+  -- the list of them all is of such pieces, and so is what is pending
+  pub start_carried_list : ArePieces t.end q.plan.items
+  start_carried_list = subst (ArePieces t.end) (sym x.planned.plan) start_carried_pieces
+
+  pub start_carried_ends : AllEndBy t.end (drop q.shown q.plan.items)
+  start_carried_ends = subst (AllEndBy t.end) (sym (pending_is ws q x.planned)) start_carried_pieces.within
 
   pub start_carried_flushed : (s : Session) → v ≡ s → IsStartFlushed s carried
   unfolding carried_planned

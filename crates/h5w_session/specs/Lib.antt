@@ -12,6 +12,7 @@ pub use Rattle.h5w_space.specs.Space
 pub use Rattle.h5w_chunks.specs.Grids
 pub use Rattle.h5w_types.specs.Fields
 pub mod Sessions
+pub mod Backlogs
 pub mod Codes
 pub mod Early
 pub mod Creations

@@ -268,7 +268,7 @@ impl WriterCore {
         ensures exact { result ≡ next_row self.now }
         ensures bound { result < 2 ^ 52 }
     {
-        self.grid.shape.rows + self.early
+        self.grid.shape.rows + self.backlog.early
     }
 
     /// Up to which row rows are written early, so that what waits behind them is within the budget: the first of a band, or behind all. None
@@ -322,29 +322,29 @@ impl WriterCore {
         ensures room { OnOk result (HasRoomFor self.new (W.view image.new)) }
     {
         let mid = self.next_row();
-        let known = self.chunks.len();
+        let known = self.backlog.chunks.len();
         match plan_early(
             &self.grid,
             &self.index,
             &self.places,
-            self.waiting.as_slice(),
+            self.backlog.waiting.as_slice(),
             mid,
             to,
-            &mut self.chunks,
+            &mut self.backlog.chunks,
             image,
         ) {
             Ok(early) => {
                 if mid < early.to {
                     self.places = early.places;
-                    self.plan = early.writes;
-                    self.shown = 0;
-                    self.waiting.let_go(early.bytes);
-                    self.early = early.to - self.grid.shape.rows;
+                    self.backlog.plan = early.writes;
+                    self.backlog.shown = 0;
+                    self.backlog.waiting.let_go(early.bytes);
+                    self.backlog.early = early.to - self.grid.shape.rows;
                 }
                 Ok(())
             }
             Err(e) => {
-                self.chunks.truncate(known);
+                self.backlog.chunks.truncate(known);
                 Err(e)
             }
         }

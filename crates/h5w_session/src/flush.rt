@@ -204,14 +204,14 @@ fn raise(root: &mut Super, end: u64) -> Option<Write>
     })
 }
 
-/// A dataset's header gets another number of rows, and the address of its index where one is given; and the piece that writes it.
+/// A dataset's header gets another number of rows, and the address of its index where one is given; and the piece that writes it at its place.
 #[inline(always)]
-fn raise_rows(header: &mut Piece, rows: u64, index: Option<u64>) -> Piece
+fn raise_rows(header: &mut Piece, at: u64, rows: u64, index: Option<u64>) -> Write
     requires read { IsOk (messages_at header.old) }
     requires rows { IsSome (rows_in_header header.old) }
     requires index { IsSome index → IsSome (index_in_header header.old) }
     ensures header { header.new ≡ with_rows_bytes header.old rows index }
-    ensures piece { result ≡ header.new }
+    ensures write { result ≡ record { at = at; piece = header.new } }
     ensures short { length header.old ≤ 512 }
 {
     let mut bytes = [0; PIECE];
@@ -219,7 +219,10 @@ fn raise_rows(header: &mut Piece, rows: u64, index: Option<u64>) -> Piece
     chunk.copy_from_slice(header.as_slice());
     with_rows(chunk, rows, index);
     header.set(chunk);
-    Piece::of(chunk)
+    Write {
+        at,
+        piece: Piece::of(chunk),
+    }
 }
 
 /// Takes a place for an array's index block, and then one for its header: the header's, and the index block's.
@@ -363,7 +366,7 @@ impl WriterCore {
         ensures room { OnOk result (HasRoomFor self.new (W.view image.new)) }
     {
         self.ready()?;
-        if self.waits == 0 {
+        if self.backlog.waits == 0 {
             image.reserve(1, self.places.end())?;
             return Ok(0);
         }
@@ -430,7 +433,7 @@ impl WriterCore {
         ensures early { IsSome result → self.now.early ≡ 0 }
         ensures plan { IsSome result → IsPlan self.now.index self.now.places [] [] [] self.now.index self.now.places }
     {
-        if self.early > 0 || !self.index.is_clean() {
+        if self.backlog.early > 0 || !self.index.is_clean() {
             return None;
         }
         named_chunk(&self.grid, self.rows(), &self.index)
@@ -460,32 +463,22 @@ impl WriterCore {
         ensures room { OnOk result (HasRoomFor self.new (W.view image.new)) }
     {
         let to = self.rows();
-        let alloc = *self.plan.allocator();
         let end = self.places.end();
-        let shown = mem::replace(&mut self.spare, Vec::new(alloc));
+        let spare = Vec::new(*self.backlog.plan.allocator());
         let writes = put_chunk(
             &self.grid,
-            self.waiting.as_slice(),
+            self.backlog.waiting.as_slice(),
             to,
             place,
             end,
-            shown,
+            mem::replace(&mut self.backlog.spare, spare),
             image,
         )?;
         let superblock = raise(&mut self.root, end);
-        let piece = raise_rows(&mut self.header, to, None);
-        let header = Write {
-            at: self.place,
-            piece,
-        };
-        self.spare = mem::replace(&mut self.plan, Vec::new(alloc));
-        self.plan = end_with(writes, superblock, header);
-        self.shown = 0;
+        let header = raise_rows(&mut self.header, self.place, to, None);
         self.grid.shape.rows = to;
-        self.waiting.clear();
-        self.waits = 0;
-        self.flushing = true;
-        Ok(self.plan.len() as u64)
+        let pieces = end_with(writes, superblock, header);
+        Ok(self.backlog.commit_plan(pieces))
     }
 
     /// Plans the pieces that make the rows that wait visible, into a file whose index is not there yet, or is the header of an array alone. What
@@ -504,14 +497,14 @@ impl WriterCore {
         ensures room { OnOk result (HasRoomFor self.new (W.view image.new)) }
     {
         let (mid, to) = (self.next_row(), self.rows());
-        let alloc = *self.plan.allocator();
+        let alloc = *self.backlog.plan.allocator();
         let mut taking = Taking::new(alloc, self.places.copy()?);
         let (kind, address) = (self.grid.layout.index, self.grid.layout.address);
         let (mut index, at) = start_index(alloc, kind, address, &mut taking.places)?;
         let prepared = prepare(
             &self.grid,
-            self.waiting.as_slice(),
-            &self.chunks,
+            self.backlog.waiting.as_slice(),
+            &self.backlog.chunks,
             mid,
             to,
             &mut taking,
@@ -522,24 +515,14 @@ impl WriterCore {
         let plan = index.finish(begun);
         let superblock = raise(&mut self.root, taking.places.end());
         let naming = naming(address, at);
-        let piece = raise_rows(&mut self.header, to, naming);
-        let header = Write {
-            at: self.place,
-            piece,
-        };
-        self.plan = join_first(writes, plan, superblock, header, naming);
-        self.shown = 0;
+        let header = raise_rows(&mut self.header, self.place, to, naming);
         self.grid.shape.rows = to;
         self.grid.layout.address = at;
         let places = taking.places;
         self.places = places;
         self.index = index;
-        self.waiting.clear();
-        self.waits = 0;
-        self.chunks.clear();
-        self.early = 0;
-        self.flushing = true;
-        Ok(self.plan.len() as u64)
+        let pieces = join_first(writes, plan, superblock, header, naming);
+        Ok(self.backlog.commit_plan(pieces))
     }
 
     /// Plans the pieces that make the rows that wait visible, and takes all places that they need.
@@ -558,11 +541,12 @@ impl WriterCore {
         ensures room { OnOk result (HasRoomFor self.new (W.view image.new)) }
     {
         let (mid, to) = (self.next_row(), self.rows());
-        let mut taking = Taking::new(*self.plan.allocator(), self.places.copy()?);
+        let alloc = *self.backlog.plan.allocator();
+        let mut taking = Taking::new(alloc, self.places.copy()?);
         match prepare(
             &self.grid,
-            self.waiting.as_slice(),
-            &self.chunks,
+            self.backlog.waiting.as_slice(),
+            &self.backlog.chunks,
             mid,
             to,
             &mut taking,
@@ -573,21 +557,11 @@ impl WriterCore {
                 let Prepared { writes, begun } = prepared;
                 let plan = self.index.finish(begun);
                 let superblock = raise(&mut self.root, taking.places.end());
-                let piece = raise_rows(&mut self.header, to, None);
-                let header = Write {
-                    at: self.place,
-                    piece,
-                };
-                self.plan = join(writes, plan, superblock, header);
-                self.shown = 0;
+                let header = raise_rows(&mut self.header, self.place, to, None);
                 self.grid.shape.rows = to;
                 self.places = taking.places;
-                self.waiting.clear();
-                self.waits = 0;
-                self.chunks.clear();
-                self.early = 0;
-                self.flushing = true;
-                Ok(self.plan.len() as u64)
+                let pieces = join(writes, plan, superblock, header);
+                Ok(self.backlog.commit_plan(pieces))
             }
             Err(e) => {
                 unset(&taking.added, &mut self.index);

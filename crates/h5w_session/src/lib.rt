@@ -1,6 +1,7 @@
 //! A session: one writer that appends rows to a dataset, and plans the pieces that make them visible.
 #![tactic(auto)]
 
+mod backlog;
 mod early;
 mod finding;
 mod flush;

@@ -5,6 +5,7 @@ ghost use Rattle.h5w_chunks.specs.Grids.{IsGrid};
 ghost use Rattle.h5w_session.specs.Openings.{session_over};
 ghost use Rattle.h5w_session.specs.Sessions.{IsSession};
 
+use crate::backlog::Backlog;
 use crate::state::WriterCore;
 use h5w_chunks::Grid;
 use h5w_index::Index;
@@ -71,17 +72,19 @@ impl WriterCore {
             committed: file.grid.shape.rows,
             places: Places::new(alloc, file.root.end, limit),
             grid: file.grid,
-            waiting: Cells::new(alloc),
-            waits: 0,
-            plan,
-            shown: 0,
-            spare: Vec::new(alloc),
+            backlog: Backlog {
+                waiting: Cells::new(alloc),
+                waits: 0,
+                plan,
+                shown: 0,
+                spare: Vec::new(alloc),
+                early: 0,
+                chunks: Vec::new(alloc),
+                flushing: false,
+            },
             stopped: false,
             keeps: false,
             budget,
-            early: 0,
-            chunks: Vec::new(alloc),
-            flushing: false,
             index: file.index,
         })
     }

@@ -17,9 +17,10 @@ ghost use Rattle.h5w_session.specs.Stands.{Stands};
 ghost use Rattle.h5w_session.specs.declared.refusal.AppendError.{AppendError};
 ghost use Rattle.h5w_session.specs.declared.refusal.CloseError.{CloseError};
 
+use crate::backlog::Backlog;
 use crate::form::form_of;
 use crate::refusal::{AppendError, CloseError};
-use h5w_chunks::{ChunkPlace, Grid, IndexKind};
+use h5w_chunks::{Grid, IndexKind};
 use h5w_creation::create_file;
 use h5w_image::PieceWrite;
 use h5w_index::Index;
@@ -51,24 +52,13 @@ pub struct WriterCore {
     pub(crate) places: Places,
     /// The rows that the file has before the last of them does.
     pub(crate) committed: u64,
-    /// How many rows no flush has planned, and the cells of those of them that were not written early.
-    pub(crate) waiting: Cells,
-    pub(crate) waits: u64,
-    /// The pieces of the last plan, and how many of them became visible.
-    pub(crate) plan: Vec<Write>,
-    pub(crate) shown: usize,
-    /// The list of a plan before it, whose room is used again.
-    pub(crate) spare: Vec<Write>,
+    /// The rows that no flush has planned, and the pieces that are pending.
+    pub(crate) backlog: Backlog,
     pub(crate) stopped: bool,
     /// What is retired stays out of use.
     pub(crate) keeps: bool,
     /// The most bytes that may wait unwritten after an append.
     pub(crate) budget: u64,
-    /// How many of the rows that no flush has planned were written early, and the places of the chunks that they go into, by key.
-    pub(crate) early: u64,
-    pub(crate) chunks: Vec<ChunkPlace>,
-    /// What is pending is a flush.
-    pub(crate) flushing: bool,
     /// The index of the chunks.
     pub(crate) index: Index,
 }
@@ -93,15 +83,15 @@ impl Model for WriterCore {
       dataset = dataset_of w.grid;
       places = w.places;
       committed = w.committed;
-      waiting = w.waiting;
-      waits = w.waits;
-      pending = drop w.shown w.plan.items;
+      waiting = w.backlog.waiting;
+      waits = w.backlog.waits;
+      pending = drop w.backlog.shown w.backlog.plan.items;
       stopped = w.stopped;
       keeps = w.keeps;
       budget = w.budget;
-      early = w.early;
-      chunks = w.chunks.items;
-      flushing = w.flushing;
+      early = w.backlog.early;
+      chunks = w.backlog.chunks.items;
+      flushing = w.backlog.flushing;
       index = view_of w.index;
     } };
 
@@ -114,21 +104,21 @@ impl Model for WriterCore {
           dataset = dataset_of w.grid;
           places = w.places;
           committed = w.committed;
-          waiting = w.waiting;
-          waits = w.waits;
-          pending = drop w.shown w.plan.items;
+          waiting = w.backlog.waiting;
+          waits = w.backlog.waits;
+          pending = drop w.backlog.shown w.backlog.plan.items;
           stopped = w.stopped;
           keeps = w.keeps;
           budget = w.budget;
-          early = w.early;
-          chunks = w.chunks.items;
-          flushing = w.flushing;
+          early = w.backlog.early;
+          chunks = w.backlog.chunks.items;
+          flushing = w.backlog.flushing;
           index = view_of w.index;
         })
         × IsGrid w.grid
-        × ArePieces w.places.end w.plan.items
-        × (w.shown ≤ length w.plan.items)
-        × (1 ≤ vec_capacity w.plan) };
+        × ArePieces w.places.end w.backlog.plan.items
+        × (w.backlog.shown ≤ length w.backlog.plan.items)
+        × (1 ≤ vec_capacity w.backlog.plan) };
 }
 
 impl WriterCore {
@@ -150,17 +140,19 @@ impl WriterCore {
             grid: file.grid,
             places: Places::new(alloc, file.root.end, options.limit),
             committed: 0,
-            waiting: Cells::new(alloc),
-            waits: 0,
-            plan: file.writes,
-            shown: 0,
-            spare: Vec::new(alloc),
+            backlog: Backlog {
+                waiting: Cells::new(alloc),
+                waits: 0,
+                plan: file.writes,
+                shown: 0,
+                spare: Vec::new(alloc),
+                early: 0,
+                chunks: Vec::new(alloc),
+                flushing: false,
+            },
             stopped: false,
             keeps: false,
             budget: options.budget,
-            early: 0,
-            chunks: Vec::new(alloc),
-            flushing: false,
             index: file.index,
         })
     }
@@ -193,14 +185,14 @@ impl WriterCore {
     {
         self.check(values)?;
         let rows = values.len() as u64 / self.grid.shape.cols;
-        let bytes = self.waiting.len();
-        self.waiting.put(values, &self.grid.int_type)?;
-        self.waits += rows;
+        let bytes = self.backlog.waiting.len();
+        self.backlog.waiting.put(values, &self.grid.int_type)?;
+        self.backlog.waits += rows;
         match self.write_early(image) {
             Ok(()) => Ok(self.rows()),
             Err(e) => {
-                self.waiting.truncate(bytes);
-                self.waits -= rows;
+                self.backlog.waiting.truncate(bytes);
+                self.backlog.waits -= rows;
                 Err(AppendError::from(e))
             }
         }
@@ -254,7 +246,7 @@ impl WriterCore {
     pub fn pending(&self) -> u64
         ensures { result ≡ length self.now.pending }
     {
-        (self.plan.len() - self.shown) as u64
+        (self.backlog.plan.len() - self.backlog.shown) as u64
     }
 
     /// The oldest pending piece; None exactly where nothing is pending.
@@ -263,14 +255,14 @@ impl WriterCore {
         ensures some { IfSome result (λ w. 1 ≤ length w.now.piece) }
         ensures within { IfSome result (λ w. w.now.at + length w.now.piece ≤ self.now.places.end) }
     {
-        self.plan.get(self.shown)
+        self.backlog.plan.get(self.backlog.shown)
     }
 
     /// Whether what is pending is a flush, and not pieces that were written early, or a superblock.
     pub fn is_flushing(&self) -> bool
         ensures { result ≡ self.now.flushing }
     {
-        self.flushing
+        self.backlog.flushing
     }
 
     /// The oldest pending piece became visible. With the last one of a flush the file has the planned rows, and what was retired is free, or
@@ -288,9 +280,9 @@ impl WriterCore {
         requires { 0 < length self.old.pending }
         ensures { (w : Write) (ws : List Write) → self.old.pending ≡ w ∷ ws → AfterPiece self.old ws self.new }
     {
-        self.shown += 1;
-        if self.shown == self.plan.len() && self.flushing {
-            self.flushing = false;
+        self.backlog.shown += 1;
+        if self.backlog.shown == self.backlog.plan.len() && self.backlog.flushing {
+            self.backlog.flushing = false;
             self.committed = self.grid.shape.rows;
             let_go(&mut self.places, self.keeps);
         }
@@ -302,10 +294,10 @@ impl WriterCore {
         ensures session { self.new ≡ stopped_of self.old }
         ensures stands { (log : Log) → Stands self.old log → Stands self.new log }
     {
-        self.plan.clear();
-        self.shown = 0;
+        self.backlog.plan.clear();
+        self.backlog.shown = 0;
         self.stopped = true;
-        self.flushing = false;
+        self.backlog.flushing = false;
     }
 
     /// The image failed at a piece, so that the pieces behind it cannot become visible: the session is stopped.
@@ -343,9 +335,9 @@ impl WriterCore {
     {
         self.root.flags = cleared(self.root.flags);
         let piece = Piece::of(&h5w_super::encode(&self.root));
-        self.plan.clear();
-        self.plan.push_reserved(Write { at: 0, piece });
-        self.shown = 0;
+        self.backlog.plan.clear();
+        self.backlog.plan.push_reserved(Write { at: 0, piece });
+        self.backlog.shown = 0;
         self.stopped = true;
     }
 
@@ -363,7 +355,7 @@ impl WriterCore {
         ensures bound { result < 2 ^ 52 }
         ensures appended { (log : Log) → Stands self.now log → result ≡ rows_in log (appended log) }
     {
-        self.grid.shape.rows + self.waits
+        self.grid.shape.rows + self.backlog.waits
     }
 
     /// How many rows the file has by the pieces that became visible.

@@ -20,7 +20,7 @@ loop-child-init g c =
     let zs = map g.C.Subtree.tree c.args.children.now.items in
     record {
       count = omega arith;
-      pointers = ap (λ (l : List _). map child_of l ++ map (pointer_of d) (each_by (placed d) (changes d) c.args.places.now zs)) c.new-pointers.ensures.items;
+      pointers = ap (λ (l : List _). map child_of l ++ map (pointer_of d) (each_by (placed d) (changes d) c.args.places.now zs)) c.in_ok-pointers.ensures.items;
       reads = λ h. h;
       written = refl;
     }

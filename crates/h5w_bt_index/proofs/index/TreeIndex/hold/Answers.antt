@@ -1,4 +1,4 @@
-use Rattle.std.proofs.Common.{◌≡◌, refl, sym, ap, subst, ◌∙◌}
+use Rattle.std.proofs.Common.{◌≡◌, is_some, refl, sym, ap, subst, ◌∙◌}
 use Rattle.h5w_model.specs.declared.cell.Key.{Key}
 use Rattle.h5w_model.specs.Numbers.{undefined}
 use Rattle.h5w_bt.specs.declared.records.Record.{Record}
@@ -9,6 +9,9 @@ use Rattle.h5w_bt_index.proofs.Laws.{blocked_deep, deep_blocked, finds, on_ok, h
 use Rattle.h5w_bt_index.proofs.Replaced.{found_has}
 use Rattle.h5w_bt_nodes.proofs.Searched.{none-searched}
 use Rattle.h5w_bt_index.proofs.index.TreeIndex.hold.Goals as goal
+
+pub put-requires-clause-there : goal.put-requires-clause-there
+put-requires-clause-there c = c.if-is_some.ensures ∙ ap is_some c.find.ensures
 
 pub returns-clause-there : goal.returns-clause-there
 returns-clause-there c i =

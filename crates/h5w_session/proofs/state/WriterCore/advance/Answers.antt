@@ -10,10 +10,10 @@ pub invariant_of-self : goal.invariant_of-self
 invariant_of-self c =
     let i = c.self.inside in
     let kept = freed_keeps i.keeps i.places c.let_go.new.places c.let_go.ensures in
-    let left = some_left i.plan.items c.args.self.now.pending i.shown (ap (λ (t : Session). t.pending) c.self.view_is) c.requires in (
-      freed_is _ c.let_go.new.places kept.0 kept.1 (freed_live i.keeps i.places c.let_go.new.places c.let_go.ensures) (still_is _ i.root i.grid.shape.rows (drop (i.shown + 1) i.plan.items) i.stopped i.keeps false refl (λ e. cc) c.self.invariant.0),
+    let left = some_left i.backlog.plan.items c.args.self.now.pending i.backlog.shown (ap (λ (t : Session). t.pending) c.self.view_is) c.requires in (
+      freed_is _ c.let_go.new.places kept.0 kept.1 (freed_live i.keeps i.places c.let_go.new.places c.let_go.ensures) (still_is _ i.root i.grid.shape.rows (drop (i.backlog.shown + 1) i.backlog.plan.items) i.stopped i.keeps false refl (λ e. cc) c.self.invariant.0),
       c.self.invariant.1,
-      subst (λ (n : ℕ). ArePieces n i.plan.items) (sym kept.0) c.self.invariant.2,
+      subst (λ (n : ℕ). ArePieces n i.backlog.plan.items) (sym kept.0) c.self.invariant.2,
       omega (arith, left),
       c.self.invariant.4,
     )
@@ -21,8 +21,8 @@ invariant_of-self c =
 pub invariant_of-self-else-self : goal.invariant_of-self-else-self
 invariant_of-self-else-self c =
     let i = c.self.inside in
-    let left = some_left i.plan.items c.args.self.now.pending i.shown (ap (λ (t : Session). t.pending) c.self.view_is) c.requires in (
-      still_is _ i.root i.committed (drop (i.shown + 1) i.plan.items) i.stopped i.keeps i.flushing refl (λ e. absurd (not_both i.flushing c.if-self.false e)) c.self.invariant.0,
+    let left = some_left i.backlog.plan.items c.args.self.now.pending i.backlog.shown (ap (λ (t : Session). t.pending) c.self.view_is) c.requires in (
+      still_is _ i.root i.committed (drop (i.backlog.shown + 1) i.backlog.plan.items) i.stopped i.keeps i.backlog.flushing refl (λ e. absurd (not_both i.backlog.flushing c.if-self.false e)) c.self.invariant.0,
       c.self.invariant.1,
       c.self.invariant.2,
       omega (arith, left),
@@ -32,9 +32,9 @@ invariant_of-self-else-self c =
 pub invariant_of-self-else-self-len : goal.invariant_of-self-else-self-len
 invariant_of-self-else-self-len c =
     let i = c.self.inside in
-    let left = some_left i.plan.items c.args.self.now.pending i.shown (ap (λ (t : Session). t.pending) c.self.view_is) c.requires in
-    let more : i.shown + 1 ≡ length i.plan.items → ⊥ = λ e. c.if-self-len.false (e ∙ search rules) in (
-      still_is _ i.root i.committed (drop (i.shown + 1) i.plan.items) i.stopped i.keeps i.flushing refl (λ e. (c.self.invariant.0.flushing e, λ none. more (last_of i.plan.items i.shown left none))) c.self.invariant.0,
+    let left = some_left i.backlog.plan.items c.args.self.now.pending i.backlog.shown (ap (λ (t : Session). t.pending) c.self.view_is) c.requires in
+    let more : i.backlog.shown + 1 ≡ length i.backlog.plan.items → ⊥ = λ e. c.if-self-len.false (e ∙ search rules) in (
+      still_is _ i.root i.committed (drop (i.backlog.shown + 1) i.backlog.plan.items) i.stopped i.keeps i.backlog.flushing refl (λ e. (c.self.invariant.0.flushing e, λ none. more (last_of i.backlog.plan.items i.backlog.shown left none))) c.self.invariant.0,
       c.self.invariant.1,
       c.self.invariant.2,
       omega (arith, left),
@@ -45,15 +45,15 @@ pub returns-else-self-len : goal.returns-else-self-len
 returns-else-self-len c w ws pending =
     let i = c.self.inside in
     let s = c.args.self.now in
-    let is : drop i.shown i.plan.items ≡ s.pending = ap (λ (t : Session). t.pending) c.self.view_is in
-    let inside = some_left i.plan.items s.pending i.shown is c.requires in
+    let is : drop i.backlog.shown i.backlog.plan.items ≡ s.pending = ap (λ (t : Session). t.pending) c.self.view_is in
+    let inside = some_left i.backlog.plan.items s.pending i.backlog.shown is c.requires in
     let own = is ∙ pending in
     elim c.else-self-len.branch [
       | else-self-len-via-then-self-len+else-self b ↦
           after_unplanned s ws _ (ap (λ (t : Session). t.flushing) (sym c.self.view_is) ∙ b.if-self.false)
-          (b.self-is ∙ ap (λ (t : Session). record t { pending = drop (i.shown + 1) i.plan.items }) c.self.view_is ∙ ap (λ (ps : List Write). record s { pending = ps }) (sym (left_are i.plan.items i.shown w ws inside own)))
+          (b.self-is ∙ ap (λ (t : Session). record t { pending = drop (i.backlog.shown + 1) i.backlog.plan.items }) c.self.view_is ∙ ap (λ (ps : List Write). record s { pending = ps }) (sym (left_are i.backlog.plan.items i.backlog.shown w ws inside own)))
       | else-self-len-via-else-self-len b ↦
-          let more : i.shown + 1 ≡ length i.plan.items → ⊥ = λ e. b.if-self-len.false (e ∙ search rules) in
-          after_some s ws _ (more_left i.plan.items i.shown w ws inside more own)
-          (b.self-is ∙ ap (λ (t : Session). record t { pending = drop (i.shown + 1) i.plan.items }) c.self.view_is ∙ ap (λ (ps : List Write). record s { pending = ps }) (sym (left_are i.plan.items i.shown w ws inside own)))
+          let more : i.backlog.shown + 1 ≡ length i.backlog.plan.items → ⊥ = λ e. b.if-self-len.false (e ∙ search rules) in
+          after_some s ws _ (more_left i.backlog.plan.items i.backlog.shown w ws inside more own)
+          (b.self-is ∙ ap (λ (t : Session). record t { pending = drop (i.backlog.shown + 1) i.backlog.plan.items }) c.self.view_is ∙ ap (λ (ps : List Write). record s { pending = ps }) (sym (left_are i.backlog.plan.items i.backlog.shown w ws inside own)))
     ]

@@ -18,7 +18,7 @@ overflow_add-self g c =
     let layout = subst (λ (t : Session). IsLayout t.dataset.layout t.dataset.shape t.dataset.int_type) c.self.view_is c.self.invariant.1.chunked in
     let some = subst (λ (t : Session). 1 ≤ t.dataset.int_type.size) c.self.view_is (int_size_bounds c.self.inside.grid.int_type.size c.self.invariant.1.typed).0 in
     let n = counts (with_values s values) then layout some in
-    let same : c.self.inside.waits + length values / c.self.inside.grid.shape.cols ≡ s.waits + length values / s.dataset.shape.cols = ap (λ (t : Session). t.waits + length values / t.dataset.shape.cols) c.self.view_is in
+    let same : c.self.inside.backlog.waits + length values / c.self.inside.grid.shape.cols ≡ s.waits + length values / s.dataset.shape.cols = ap (λ (t : Session). t.waits + length values / t.dataset.shape.cols) c.self.view_is in
     omega (arith, same, n.rows)
 
 pub invariant_of-self-2 : goal.invariant_of-self-2
@@ -34,8 +34,8 @@ pub invariant_of-self-in-Err : goal.invariant_of-self-in-Err
 invariant_of-self-in-Err g c =
     let v = session_of c.self.inside in
     let u = session_of c.self-2.inside in
-    let long : c.len-bytes.result ≡ length c.self.inside.waiting = c.len-bytes.ensures in
-    let back = taken_back u v _ c.put.new.self c.truncate.new.self (length c.args.values.now / c.self.inside.grid.shape.cols) (c.self-2.view_is ∙ c.in-Err.ensures.kept) c.in_ok-put.ensures.added (c.truncate.ensures ∙ ap (λ (n : ℕ). take n c.self-2.inside.waiting) long) in
+    let long : c.len-bytes.result ≡ length c.self.inside.backlog.waiting = c.len-bytes.ensures in
+    let back = taken_back u v _ c.put.new.self c.truncate.new.self (length c.args.values.now / c.self.inside.grid.shape.cols) (c.self-2.view_is ∙ c.in-Err.ensures.kept) c.in_ok-put.ensures.added (c.truncate.ensures ∙ ap (λ (n : ℕ). take n c.self-2.inside.backlog.waiting) long) in
     (subst IsSession (sym back) c.self.invariant.0, c.self-2.invariant.1, c.self-2.invariant.2, c.self-2.invariant.3, c.self-2.invariant.4)
 
 pub returns-in-Ok-clause-added : goal.returns-in-Ok-clause-added

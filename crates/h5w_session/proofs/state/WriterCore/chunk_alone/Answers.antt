@@ -37,8 +37,8 @@ named_chunk-requires-clause-room c =
     let is : IsSession v = c.self.invariant.0 in
     let to = c.rows.result in
     let to_is : to ≡ rows_of v = c.rows.ensures.value ∙ ap rows_of (sym c.self.view_is) in
-    let few : i.waits * i.grid.shape.cols < 2 ^ 64 = values_few v is (is_cut i.grid c.self.invariant.1) in
-    let less : to - i.grid.shape.rows ≡ i.waits = omega (arith, to_is) in
+    let few : i.backlog.waits * i.grid.shape.cols < 2 ^ 64 = values_few v is (is_cut i.grid c.self.invariant.1) in
+    let less : to - i.grid.shape.rows ≡ i.backlog.waits = omega (arith, to_is) in
     subst (λ (n : ℕ). n * i.grid.shape.cols < 2 ^ 64) (sym less) few
 
 pub returns-clause-placing : goal.returns-clause-placing
@@ -62,7 +62,7 @@ returns-clause-plan c some =
 
 pub returns-then-self-gt0-clause-none : goal.returns-then-self-gt0-clause-none
 returns-then-self-gt0-clause-none c early clean all reached =
-    let none : c.self.inside.early ≡ 0 = ap (λ (s : Session). s.early) c.self.view_is ∙ early in
+    let none : c.self.inside.backlog.early ≡ 0 = ap (λ (s : Session). s.early) c.self.view_is ∙ early in
     let here : IsClean (view_of c.self.inside.index) = subst (λ (s : Session). IsClean s.index) (sym c.self.view_is) clean in
     elim c.then-self-gt0.branch [
       | then-self-gt0-via-then-self-gt0 w ↦ absurd (omega (arith, w.if-self-gt0.true, none))

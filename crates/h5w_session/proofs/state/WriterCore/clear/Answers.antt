@@ -32,7 +32,7 @@ invariant_of-self c =
     let begun = is.begun in
     let w : Write = record { at = 0; piece = super_bytes root } in
     let one : ArePieces i.places.end (w ∷ []) = record { sized = ((omega (arith, size), omega (arith, size)), tt); within = (omega (arith, size, begun), tt) } in (
-      still_is _ root i.committed _ true i.keeps i.flushing refl (λ e. (is.flushing e, λ none. some_piece (sym (planned c) ∙ none))) is,
+      still_is _ root i.committed _ true i.keeps i.backlog.flushing refl (λ e. (is.flushing e, λ none. some_piece (sym (planned c) ∙ none))) is,
       c.self.invariant.1,
       subst (λ (ws : List Write). ArePieces i.places.end ws) (sym (planned c)) one,
       omega arith,

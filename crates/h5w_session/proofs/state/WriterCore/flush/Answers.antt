@@ -58,6 +58,6 @@ pub returns-clause-bounds : goal.returns-clause-bounds
 returns-clause-bounds g c =
     let s = c.args.self.now in
     let i = is_idle s c.ready.result c.ready.ensures c.in_ok-ready.was in
-    let same : c.self.inside.waits ≡ s.waits = ap (λ (t : Session). t.waits) c.self.view_is in
+    let same : c.self.inside.backlog.waits ≡ s.waits = ap (λ (t : Session). t.waits) c.self.view_is in
     let waits : 0 < s.waits = some_waits s.waits (λ none. c.if-self-eq0.false (same ∙ none)) in
     told_bounds s c.flush_rows.result i waits c.flush_rows.ensures.full

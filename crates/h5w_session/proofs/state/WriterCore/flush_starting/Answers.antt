@@ -1,4 +1,4 @@
-use Rattle.std.proofs.Common.{◌≡◌, ◌<◌, ◌-◌, ◌*◌, ◌^◌, ◌∙◌, ℕ, List, Some, Err, ap, sym, subst, arith, rules}
+use Rattle.std.proofs.Common.{◌≡◌, ◌<◌, ◌-◌, ◌*◌, ◌^◌, ◌∙◌, ℕ, List, length, Some, Err, ap, sym, subst, arith, rules}
 use Rattle.std.specs.List.{slice_get}
 use Rattle.h5w_model.specs.Tables.{keys_across}
 use Rattle.h5w_chunks.proofs.Geometry.{is_cut}
@@ -8,8 +8,9 @@ use Rattle.h5w_index.specs.Held.{view_of}
 use Rattle.h5w_pieces.specs.Joined.{option_list}
 use Rattle.h5w_session.specs.Sessions.{IsSession, IsUnmade, Session, most_lines, next_row, rows_of}
 use Rattle.h5w_session.proofs.SessionFields.{session_of}
+use Rattle.h5w_session.proofs.BacklogLemmas.{pending_is, pieces_told, shown_few}
 use Rattle.h5w_session.proofs.CarriedLemmas.{asks_for, has_rows, one_at_most, same_error, values_few}
-use Rattle.h5w_session.proofs.StartCarriedLemmas.{AsksOfMade, StartCarried, asks_of_made, asks_of_start, start_carried_flushed, start_carried_is, start_carried_pieces, start_unfilled, start_unplaced}
+use Rattle.h5w_session.proofs.StartCarriedLemmas.{AsksOfMade, StartCarried, asks_of_made, asks_of_start, start_carried_ends, start_carried_flushed, start_carried_is, start_carried_list, start_unfilled, start_unplaced}
 use Rattle.h5w_index.proofs.BegunLemmas.{was_begun}
 use Rattle.h5w_session.proofs.StartingLemmas.{lengths_first}
 use Rattle.h5w_session.proofs.TakingLemmas.{filled_cell, shallow_causes}
@@ -86,8 +87,8 @@ prepare-requires-clause-room g c =
     let is : IsSession v = c.self.invariant.0 in
     let to = c.rows-to.result in
     let to_is : to ≡ rows_of v = c.rows-to.ensures.value ∙ ap rows_of (sym c.self.view_is) in
-    let few : i.waits * i.grid.shape.cols < 2 ^ 64 = values_few v is (is_cut i.grid c.self.invariant.1) in
-    let less : to - i.grid.shape.rows ≡ i.waits = omega (arith, to_is) in
+    let few : i.backlog.waits * i.grid.shape.cols < 2 ^ 64 = values_few v is (is_cut i.grid c.self.invariant.1) in
+    let less : to - i.grid.shape.rows ≡ i.backlog.waits = omega (arith, to_is) in
     subst (λ (n : ℕ). n * i.grid.shape.cols < 2 ^ 64) (sym less) few
 
 pub returns-in_err-prepared-clause-full : goal.returns-in_err-prepared-clause-full
@@ -101,16 +102,16 @@ returns-in_err-prepared-clause-full g c full told =
     start_unfilled v to c.new-taking.result.places c.in_ok-index.at (view_of c.in_ok-index.index) c.start_index.new.places full to_is (c.new-taking.ensures.places ∙ c.in_ok-copy.ensures) c.in_ok-index.ensures.kind
     c.in_ok-index.ensures.started c.deref.result.now c.deref.ensures.value (c.in_err-prepared.ensures.full full (same_error e _ (sym is ∙ told))) c.args.self.now c.self.view_is
 
-pub raise_rows-piece-requires-clause-rows : goal.raise_rows-piece-requires-clause-rows
-raise_rows-piece-requires-clause-rows g c = has_rows c.self.inside.header c.self.invariant.0.header
+pub raise_rows-header-requires-clause-rows : goal.raise_rows-header-requires-clause-rows
+raise_rows-header-requires-clause-rows g c = has_rows c.self.inside.header c.self.invariant.0.header
 
-pub raise_rows-piece-requires-clause-index : goal.raise_rows-piece-requires-clause-index
-raise_rows-piece-requires-clause-index g c some = has_address c.self.inside.header (c.self.invariant.0.addressed (c.naming-naming.ensures.unnamed some))
+pub raise_rows-header-requires-clause-index : goal.raise_rows-header-requires-clause-index
+raise_rows-header-requires-clause-index g c some = has_address c.self.inside.header (c.self.invariant.0.addressed (c.naming-naming.ensures.unnamed some))
 
 -- what the calls made of the session, once all of them are done
 made_by : (g : Over) (c : goal.After-drop-taking-3 g)
-    → StartCarried (session_of c.self.inside) c.rows-to.result c.prepare.new.taking.places (view_of c.finish-plan.new.self) c.join_first.result.items c.raise-superblock.new.root c.raise_rows-piece.new.header c.clear.new.self
-    c.clear-2.new.self.items c.in_ok-index.at
+    → StartCarried (session_of c.self.inside) c.rows-to.result c.prepare.new.taking.places (view_of c.finish-plan.new.self) c.join_first-pieces.result.items c.raise-superblock.new.root c.raise_rows-header.new.header
+    c.commit_plan.new.self c.in_ok-index.at
 made_by g c =
     let i = c.self.inside in
     let v = session_of i in
@@ -157,13 +158,12 @@ made_by g c =
       root = c.raise-superblock.ensures.root;
       naming = c.naming-naming.result;
       names = c.naming-naming.ensures.names;
-      header = c.raise_rows-piece.ensures.header;
-      piece = c.raise_rows-piece.result;
-      piece_is = c.raise_rows-piece.ensures.piece;
-      items = c.join_first.ensures.joined;
-      header_short = c.raise_rows-piece.ensures.short;
-      none_waits = c.clear.ensures;
-      none_early = c.clear-2.ensures.items;
+      header = c.raise_rows-header.ensures.header;
+      last = c.raise_rows-header.result;
+      last_is = c.raise_rows-header.ensures.write;
+      items = c.join_first-pieces.ensures.joined;
+      header_short = c.raise_rows-header.ensures.short;
+      planned = c.commit_plan.ensures.planned;
     }
 
 pub invariant_of-self : goal.invariant_of-self
@@ -171,23 +171,26 @@ invariant_of-self g c =
     let x = made_by g c in
     let is = c.self.invariant.0 in
     let grid = c.self.invariant.1 in (
-      start_carried_is _ _ _ _ _ _ _ _ _ _ x is,
+      start_carried_is _ _ _ _ _ _ _ _ _ x is,
       record {
         shaped = grid.shaped;
         typed = grid.typed;
         chunked = record { rows = grid.chunked.rows; cols = grid.chunked.cols; line = grid.chunked.line; small = grid.chunked.small; index = grid.chunked.index };
         filled = grid.filled;
       },
-      start_carried_pieces _ _ _ _ _ _ _ _ _ _ x is,
-      omega arith,
-      c.join_first.ensures.room,
+      start_carried_list _ _ _ _ _ _ _ _ _ x is,
+      shown_few _ _ x.planned,
+      omega (arith, c.commit_plan.ensures.room, c.join_first-pieces.ensures.room),
     )
 
 pub returns-clause-flushed : goal.returns-clause-flushed
-returns-clause-flushed g c = start_carried_flushed _ _ _ _ _ _ _ _ _ _ (made_by g c) c.self.invariant.0 c.args.self.now c.self.view_is
+returns-clause-flushed g c = start_carried_flushed _ _ _ _ _ _ _ _ _ (made_by g c) c.self.invariant.0 c.args.self.now c.self.view_is
 
 pub returns-clause-ends : goal.returns-clause-ends
-returns-clause-ends g c = (start_carried_pieces _ _ _ _ _ _ _ _ _ _ (made_by g c) c.self.invariant.0).within
+returns-clause-ends g c = start_carried_ends _ _ _ _ _ _ _ _ _ (made_by g c) c.self.invariant.0
+
+pub returns-clause-pieces : goal.returns-clause-pieces
+returns-clause-pieces g c = pieces_told _ _ c.commit_plan.ensures.planned _ c.commit_plan.ensures.count
 
 pub returns-clause-room : goal.returns-clause-room
 returns-clause-room g c =
@@ -195,7 +198,7 @@ returns-clause-room g c =
     let copies = c.finish-plan.result.copies.items in
     let fixed = c.finish-plan.result.in_place.items in
     let supers = option_list c.raise-superblock.result in
-    let long = lengths_first c.naming-naming.result rows copies fixed supers (record { at = c.self.inside.place; piece = c.raise_rows-piece.result }) c.join_first.result.items c.join_first.ensures.joined in
+    let long = ap length (pending_is _ _ c.commit_plan.ensures.planned) ∙ lengths_first c.naming-naming.result rows copies fixed supers c.raise_rows-header.result c.join_first-pieces.result.items c.join_first-pieces.ensures.joined in
     record {
       pieces = omega (arith, long, one_at_most c.raise-superblock.result, c.finish-plan.ensures.copies, c.finish-plan.ensures.in_place, c.in_ok-prepared.ensures.pieces, c.in_ok-prepared.prepared.writes.ok);
       end = omega (arith, c.in_ok-prepared.ensures.end);

@@ -13,9 +13,11 @@ use Rattle.h5w_session.specs.Refusals.{IsDeepPart}
 use Rattle.h5w_pieces.specs.Joined.{option_list}
 use Rattle.h5w_session.specs.Sessions.{IsRoomy, IsSession, IsWhole, Session, most_lines, next_row, rows_of}
 use Rattle.h5w_session.proofs.SessionFields.{session_of}
-use Rattle.h5w_session.proofs.CarriedLemmas.{Carried, asks_for, carried_flushed, carried_is, carried_pieces, has_rows, lengths_joined, one_at_most, refused_is, refused_same, same_error, values_few}
+use Rattle.h5w_session.proofs.BacklogLemmas.{pending_is, pieces_told, shown_few}
+use Rattle.h5w_session.proofs.CarriedLemmas.{Carried, asks_for, carried_ends, carried_flushed, carried_is, carried_list, has_rows, lengths_joined, one_at_most, refused_is, refused_same, same_error, values_few}
 use Rattle.h5w_index.proofs.BegunLemmas.{was_begun}
 use Rattle.h5w_session.proofs.TakingLemmas.{filled_cell}
+use Rattle.h5w_session.proofs.state.WriterCore.flush_taking.Given.{Over}
 use Rattle.h5w_session.proofs.state.WriterCore.flush_taking.Goals as goal
 
 pub prepare-requires-clause-few : goal.prepare-requires-clause-few
@@ -43,8 +45,8 @@ prepare-requires-clause-room g c =
     let is : IsSession v = c.self.invariant.0 in
     let to = c.rows-to.result in
     let to_is : to ≡ rows_of v = c.rows-to.ensures.value ∙ ap rows_of (sym c.self.view_is) in
-    let few : i.waits * i.grid.shape.cols < 2 ^ 64 = values_few v is (is_cut i.grid c.self.invariant.1) in
-    let less : to - i.grid.shape.rows ≡ i.waits = omega (arith, to_is) in
+    let few : i.backlog.waits * i.grid.shape.cols < 2 ^ 64 = values_few v is (is_cut i.grid c.self.invariant.1) in
+    let less : to - i.grid.shape.rows ≡ i.backlog.waits = omega (arith, to_is) in
     subst (λ (n : ℕ). n * i.grid.shape.cols < 2 ^ 64) (sym less) few
 
 pub prepare-requires-clause-inside : goal.prepare-requires-clause-inside
@@ -62,23 +64,16 @@ prepare-requires-clause-ends g c k p at =
     let end : c.new-taking.result.places.end ≡ v.places.end = ap (λ (s : Space). s.end) (c.new-taking.ensures.places ∙ c.in_ok-copy.ensures) in
     omega (arith, end, c.self.invariant.0.ends k p (subst (λ (ps : List ChunkPlace). slice_get ps k ≡ Some p) c.deref.ensures.value at))
 
-pub raise_rows-piece-requires-clause-rows : goal.raise_rows-piece-requires-clause-rows
-raise_rows-piece-requires-clause-rows g c = has_rows c.self.inside.header c.self.invariant.0.header
+pub raise_rows-header-requires-clause-rows : goal.raise_rows-header-requires-clause-rows
+raise_rows-header-requires-clause-rows g c = has_rows c.self.inside.header c.self.invariant.0.header
 
-pub invariant_of-self : goal.invariant_of-self
-invariant_of-self g c =
+-- what the calls made of the session, once all of them are done
+made_by : (g : Over) (c : goal.After-drop-taking-in-Ok-1 g)
+    → Carried (session_of c.self.inside) c.rows-to.result c.prepare.new.taking.places (view_of c.finish-plan.new.self) c.join-pieces.result.items c.raise-superblock.new.root c.raise_rows-header.new.header c.commit_plan.new.self
+made_by g c =
     let i = c.self.inside in
     let v = session_of i in
-    let is : IsSession v = c.self.invariant.0 in
-    let to = c.rows-to.result in
-    let t = c.prepare.new.taking.places in
-    let w = view_of c.finish-plan.new.self in
-    let ws = c.join.result.items in
-    let r = c.raise-superblock.new.root in
-    let b = c.raise_rows-piece.new.header in
-    let e = c.clear.new.self in
-    let k = c.clear-in-Ok.new.self.items in
-    let x : Carried v to t w ws r b e 0 k = record {
+    record {
       there = subst IsWhole (sym c.self.view_is) c.requires.there;
       some = subst (λ (u : Session). 0 < u.waits) (sym c.self.view_is) c.requires.waits;
       to_is = c.rows-to.ensures.value ∙ ap rows_of (sym c.self.view_is);
@@ -115,26 +110,29 @@ invariant_of-self g c =
       ended = c.raise-superblock.ensures.ended;
       unraised = c.raise-superblock.ensures.unraised;
       root = c.raise-superblock.ensures.root;
-      header = c.raise_rows-piece.ensures.header;
-      piece = c.raise_rows-piece.result;
-      piece_is = c.raise_rows-piece.ensures.piece;
-      items = c.join.ensures.exact;
-      header_short = c.raise_rows-piece.ensures.short;
-      none_waits = c.clear.ensures;
-      none_early = refl;
-      no_chunks = c.clear-in-Ok.ensures.items;
-    } in
+      header = c.raise_rows-header.ensures.header;
+      last = c.raise_rows-header.result;
+      last_is = c.raise_rows-header.ensures.write;
+      items = c.join-pieces.ensures.exact;
+      header_short = c.raise_rows-header.ensures.short;
+      planned = c.commit_plan.ensures.planned;
+    }
+
+pub invariant_of-self : goal.invariant_of-self
+invariant_of-self g c =
+    let x = made_by g c in
+    let is = c.self.invariant.0 in
     let grid = c.self.invariant.1 in (
-      carried_is v to t w ws r b e 0 k x is,
+      carried_is _ _ _ _ _ _ _ _ x is,
       record {
         shaped = grid.shaped;
         typed = grid.typed;
         chunked = record { rows = grid.chunked.rows; cols = grid.chunked.cols; line = grid.chunked.line; small = grid.chunked.small; index = grid.chunked.index };
         filled = grid.filled;
       },
-      carried_pieces v to t w ws r b e 0 k x is,
-      omega arith,
-      c.join.ensures.room,
+      carried_list _ _ _ _ _ _ _ _ x is,
+      shown_few _ _ x.planned,
+      omega (arith, c.commit_plan.ensures.room, c.join-pieces.ensures.room),
     )
 
 pub unset-requires-clause-slots : goal.unset-requires-clause-slots
@@ -153,126 +151,13 @@ invariant_of-self-in-Err-1 g c =
     (refused_is v to u to_is p is, c.self.invariant.1, c.self.invariant.2, c.self.invariant.3, c.self.invariant.4)
 
 pub returns-in-Ok-clause-flushed : goal.returns-in-Ok-clause-flushed
-returns-in-Ok-clause-flushed g c =
-    let i = c.self.inside in
-    let v = session_of i in
-    let is : IsSession v = c.self.invariant.0 in
-    let to = c.rows-to.result in
-    let t = c.prepare.new.taking.places in
-    let w = view_of c.finish-plan.new.self in
-    let ws = c.join.result.items in
-    let r = c.raise-superblock.new.root in
-    let b = c.raise_rows-piece.new.header in
-    let e = c.clear.new.self in
-    let k = c.clear-in-Ok.new.self.items in
-    let x : Carried v to t w ws r b e 0 k = record {
-      there = subst IsWhole (sym c.self.view_is) c.requires.there;
-      some = subst (λ (u : Session). 0 < u.waits) (sym c.self.view_is) c.requires.waits;
-      to_is = c.rows-to.ensures.value ∙ ap rows_of (sym c.self.view_is);
-      small = c.rows-to.ensures.bound;
-      typed = c.self.invariant.1.typed;
-      filled = filled_cell i.grid c.self.invariant.1;
-      chunks = c.prepare.new.taking.chunks.items;
-      added = c.prepare.new.taking.added.items;
-      between = c.in-Ok.ensures.prepared.between;
-      named = view_of c.prepare.new.index;
-      places = c.new-taking.result.places;
-      places_are = c.new-taking.ensures.places ∙ c.in_ok-copy.ensures;
-      names = c.in-Ok.ensures.prepared.names;
-      early = c.deref.result.now;
-      early_are = c.deref.ensures.value;
-      taken = c.in-Ok.ensures.prepared.taken;
-      all = c.in-Ok.ensures.all;
-      roomy = c.prepare.ensures.roomy;
-      cells = c.as_slice.result.now;
-      cells_are = c.as_slice.ensures;
-      rows = c.in-Ok.prepared.writes.items;
-      mid = c.next_row-mid.result;
-      mid_is = c.next_row-mid.ensures.exact ∙ ap next_row (sym c.self.view_is);
-      exact = c.in-Ok.ensures.exact;
-      written = c.in-Ok.ensures.does;
-      moves = c.finish-plan.result.moves.items;
-      copies = c.finish-plan.result.copies.items;
-      fixed = c.finish-plan.result.in_place.items;
-      plan = c.finish-plan.ensures.planned c.in-Ok.ensures.prepared.between c.prepare.new.taking.places c.in-Ok.ensures.prepared.begun;
-      supers = option_list c.raise-superblock.result;
-      end = c.end.result;
-      end_is = c.end.ensures;
-      end_small = omega arith;
-      ended = c.raise-superblock.ensures.ended;
-      unraised = c.raise-superblock.ensures.unraised;
-      root = c.raise-superblock.ensures.root;
-      header = c.raise_rows-piece.ensures.header;
-      piece = c.raise_rows-piece.result;
-      piece_is = c.raise_rows-piece.ensures.piece;
-      items = c.join.ensures.exact;
-      header_short = c.raise_rows-piece.ensures.short;
-      none_waits = c.clear.ensures;
-      none_early = refl;
-      no_chunks = c.clear-in-Ok.ensures.items;
-    } in
-    carried_flushed v to t w ws r b e 0 k x is c.args.self.now c.self.view_is
+returns-in-Ok-clause-flushed g c = carried_flushed _ _ _ _ _ _ _ _ (made_by g c) c.self.invariant.0 c.args.self.now c.self.view_is
+
+pub returns-in-Ok-clause-pieces : goal.returns-in-Ok-clause-pieces
+returns-in-Ok-clause-pieces g c = pieces_told _ _ c.commit_plan.ensures.planned _ c.commit_plan.ensures.count
 
 pub returns-in-Ok-clause-ends : goal.returns-in-Ok-clause-ends
-returns-in-Ok-clause-ends g c =
-    let i = c.self.inside in
-    let v = session_of i in
-    let is : IsSession v = c.self.invariant.0 in
-    let to = c.rows-to.result in
-    let t = c.prepare.new.taking.places in
-    let w = view_of c.finish-plan.new.self in
-    let ws = c.join.result.items in
-    let r = c.raise-superblock.new.root in
-    let b = c.raise_rows-piece.new.header in
-    let e = c.clear.new.self in
-    let k = c.clear-in-Ok.new.self.items in
-    let x : Carried v to t w ws r b e 0 k = record {
-      there = subst IsWhole (sym c.self.view_is) c.requires.there;
-      some = subst (λ (u : Session). 0 < u.waits) (sym c.self.view_is) c.requires.waits;
-      to_is = c.rows-to.ensures.value ∙ ap rows_of (sym c.self.view_is);
-      small = c.rows-to.ensures.bound;
-      typed = c.self.invariant.1.typed;
-      filled = filled_cell i.grid c.self.invariant.1;
-      chunks = c.prepare.new.taking.chunks.items;
-      added = c.prepare.new.taking.added.items;
-      between = c.in-Ok.ensures.prepared.between;
-      named = view_of c.prepare.new.index;
-      places = c.new-taking.result.places;
-      places_are = c.new-taking.ensures.places ∙ c.in_ok-copy.ensures;
-      names = c.in-Ok.ensures.prepared.names;
-      early = c.deref.result.now;
-      early_are = c.deref.ensures.value;
-      taken = c.in-Ok.ensures.prepared.taken;
-      all = c.in-Ok.ensures.all;
-      roomy = c.prepare.ensures.roomy;
-      cells = c.as_slice.result.now;
-      cells_are = c.as_slice.ensures;
-      rows = c.in-Ok.prepared.writes.items;
-      mid = c.next_row-mid.result;
-      mid_is = c.next_row-mid.ensures.exact ∙ ap next_row (sym c.self.view_is);
-      exact = c.in-Ok.ensures.exact;
-      written = c.in-Ok.ensures.does;
-      moves = c.finish-plan.result.moves.items;
-      copies = c.finish-plan.result.copies.items;
-      fixed = c.finish-plan.result.in_place.items;
-      plan = c.finish-plan.ensures.planned c.in-Ok.ensures.prepared.between c.prepare.new.taking.places c.in-Ok.ensures.prepared.begun;
-      supers = option_list c.raise-superblock.result;
-      end = c.end.result;
-      end_is = c.end.ensures;
-      end_small = omega arith;
-      ended = c.raise-superblock.ensures.ended;
-      unraised = c.raise-superblock.ensures.unraised;
-      root = c.raise-superblock.ensures.root;
-      header = c.raise_rows-piece.ensures.header;
-      piece = c.raise_rows-piece.result;
-      piece_is = c.raise_rows-piece.ensures.piece;
-      items = c.join.ensures.exact;
-      header_short = c.raise_rows-piece.ensures.short;
-      none_waits = c.clear.ensures;
-      none_early = refl;
-      no_chunks = c.clear-in-Ok.ensures.items;
-    } in
-    (carried_pieces v to t w ws r b e 0 k x is).within
+returns-in-Ok-clause-ends g c = carried_ends _ _ _ _ _ _ _ _ (made_by g c) c.self.invariant.0
 
 pub returns-in-Ok-clause-room : goal.returns-in-Ok-clause-room
 returns-in-Ok-clause-room g c =
@@ -280,7 +165,7 @@ returns-in-Ok-clause-room g c =
     let copies = c.finish-plan.result.copies.items in
     let fixed = c.finish-plan.result.in_place.items in
     let supers = option_list c.raise-superblock.result in
-    let long = ap length c.join.ensures.exact ∙ lengths_joined rows copies supers fixed (record { at = c.self.inside.place; piece = c.raise_rows-piece.result }) in
+    let long = ap length (pending_is _ _ c.commit_plan.ensures.planned ∙ c.join-pieces.ensures.exact) ∙ lengths_joined rows copies supers fixed c.raise_rows-header.result in
     record {
       pieces = omega (arith, long, one_at_most c.raise-superblock.result, c.finish-plan.ensures.copies, c.finish-plan.ensures.in_place, c.in-Ok.ensures.pieces, c.in-Ok.prepared.writes.ok);
       end = omega (arith, c.in-Ok.ensures.end);

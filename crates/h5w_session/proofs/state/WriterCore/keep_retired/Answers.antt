@@ -8,7 +8,7 @@ use Rattle.h5w_session.proofs.state.WriterCore.keep_retired.Goals as goal
 pub invariant_of-self : goal.invariant_of-self
 invariant_of-self c =
     let is = c.self.invariant.0 in (
-      still_is _ c.self.inside.root c.self.inside.committed _ c.self.inside.stopped true c.self.inside.flushing refl (λ e. (is.flushing e, is.busy e)) is,
+      still_is _ c.self.inside.root c.self.inside.committed _ c.self.inside.stopped true c.self.inside.backlog.flushing refl (λ e. (is.flushing e, is.busy e)) is,
       c.self.invariant.1,
       c.self.invariant.2,
       c.self.invariant.3,
