@@ -3,14 +3,14 @@ ghost use Rattle.h5w_model.specs.Programs.{eval};
 ghost use Rattle.h5w_model.specs.Findings.{index_visit};
 ghost use Rattle.h5w_check.specs.Ran.{Ran, answering};
 ghost use Rattle.h5w_check.specs.Ranges.{after};
-ghost use Rattle.h5w_found.specs.Described.{described_of};
+ghost use Rattle.h5w_dataset.specs.Described.{described_of};
 
 use crate::array::array;
 use crate::error::CheckError;
 use crate::ranges::{Bounds, Ranges};
 use crate::tree::tree;
 use h5w_bytes::UNDEFINED;
-use h5w_found::Dataset;
+use h5w_dataset::Dataset;
 use h5w_image::PieceRead;
 use h5w_model::IndexKind;
 use std::alloc::Global;

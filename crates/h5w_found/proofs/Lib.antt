@@ -1,7 +1,5 @@
 pub mod RanLemmas
-pub mod ListedLemmas
-pub mod DescribedLemmas
-pub mod ChunkLemmas
+pub mod KnownLemmas
 pub mod WalkLemmas
 pub mod RootLemmas
 pub mod HeaderLemmas

@@ -16,35 +16,10 @@ use Rattle.h5w_model.specs.declared.refusal.ReadError.{ReadError}
 use Rattle.h5w_model.specs.declared.refusal.ReadError.TheVariants.{Link}
 use Rattle.h5w_laws.proofs.PrefixLemmas.{root_view_says, prefix_front, begins}
 use Rattle.h5w_found.specs.Walks.{from_chunk_0_for, root_header_for}
-use Rattle.h5w_found.specs.Headers.{found_of, founds, listed, whole_chunk_0}
-use Rattle.h5w_found.specs.declared.found.FoundMessage.{FoundMessage}
+use Rattle.h5w_dataset.specs.Founds.{found_of, founds, listed}
+use Rattle.h5w_found.specs.Headers.{whole_chunk_0}
+use Rattle.h5w_dataset.specs.declared.found.FoundMessage.{FoundMessage}
 use Rattle.h5w_found.proofs.ViewLemmas.{view_refused, root_view_refused}
-
--- ---- Links
-
-pub listed_founds : (fs : List FoundMessage) → map (λ (f : FoundMessage). listed (found_of f)) fs ≡ map listed (founds fs)
-listed_founds [] = refl
-listed_founds (f ∷ fs) = ap (λ (ms : List Msg). listed (found_of f) ∷ ms) (listed_founds fs)
-
--- given the links
-linked_by : List ℕ → Result (List LinkFields) LinkError → Result ℕ ReadError
-linked_by name r = refused_as Link (then_also r (λ ls. find_link ls name))
-
-pub linked_ok : (name : List ℕ) (ms : List model.FoundMessage) (ls : List LinkFields) (place : ℕ) → links_at (map listed ms) ≡ Ok ls → find_link ls name ≡ Ok place
-    → linked name ms ≡ Ok place
-unfolding linked_by
-linked_ok name ms ls place e h = ap (linked_by name) e ∙ ap (λ (r : Result ℕ LinkError). refused_as Link r) h
-
-pub linked_lost : (name : List ℕ) (ms : List model.FoundMessage) (ls : List LinkFields) (f : LinkError) → links_at (map listed ms) ≡ Ok ls → find_link ls name ≡ Err f
-    → linked name ms ≡ Err (Link f)
-unfolding linked_by
-linked_lost name ms ls f e h = ap (linked_by name) e ∙ ap (λ (r : Result ℕ LinkError). refused_as Link r) h
-
-pub linked_err : (name : List ℕ) (ms : List model.FoundMessage) (f : LinkError) → links_at (map listed ms) ≡ Err f → linked name ms ≡ Err (Link f)
-unfolding linked_by
-linked_err name ms f e = ap (linked_by name) e
-
--- ---- The root header
 
 -- given what its first bytes say
 rooted : List ℕ → Bool → ℕ → List ℕ → Result Prefix HeaderError → Result HeaderFields ReadError

@@ -17,8 +17,9 @@ use Rattle.h5w_found.specs.Ran.{Told, seen}
 use Rattle.h5w_found.specs.Errors.{IsFindKind, find_errors, refused_header}
 use Rattle.h5w_found.specs.declared.error.FindError.TheVariants.{Refused}
 use Rattle.h5w_found.specs.Walks.{known_by, block_for, walk_for, from_chunk_0_for}
-use Rattle.h5w_found.specs.Headers.{found_of, founds, stack, ranges_of, range_of, Visit, Passed, block_before, entered}
-use Rattle.h5w_found.specs.declared.found.FoundMessage.{FoundMessage}
+use Rattle.h5w_dataset.specs.Founds.{found_of, founds, stack}
+use Rattle.h5w_found.specs.Headers.{ranges_of, range_of, Visit, Passed, block_before, entered}
+use Rattle.h5w_dataset.specs.declared.found.FoundMessage.{FoundMessage}
 use Rattle.h5w_found.specs.declared.walk.Extent.{Extent}
 
 -- ---- Lists

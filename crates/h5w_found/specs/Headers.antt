@@ -1,26 +1,16 @@
 -- The messages of a header and its ranges, as they are held.
-use Rattle.std.specs.Prelude.{◌≡◌, ℕ, ◌+◌, ◌-◌, Bool, List, [], ◌∷◌, ◌++◌, map, reverse, take, nat_lt, if◌then◌else◌, Option, Some, None, Result, Ok, Err}
+use Rattle.std.specs.Prelude.{◌≡◌, ℕ, ◌+◌, ◌-◌, Bool, List, [], ◌∷◌, ◌++◌, map, take, nat_lt, if◌then◌else◌, Option, Some, None, Result, Ok, Err}
+use Rattle.h5w_dataset.specs.Founds.{found_of, founds}
 use Rattle.h5w_model.specs.Numbers.{range}
 use Rattle.h5w_model.specs.Programs.{Prog, ret}
 use Rattle.h5w_model.specs.Datasets.{HeaderFields, Range, splice, header_refusal, block_place, block_len}
 use Rattle.h5w_model.specs.Datasets as model
-use Rattle.h5w_model.specs.declared.message.Msg.{Msg}
 use Rattle.h5w_model.specs.declared.refusal.ReadError.{ReadError}
 use Rattle.h5w_model.specs.declared.refusal.HeaderError.TheVariants as header_errors
 use Rattle.h5w_found.specs.Walks.{block_for}
-use Rattle.h5w_found.specs.declared.found.FoundMessage.{FoundMessage}
+use Rattle.h5w_dataset.specs.declared.found.FoundMessage.{FoundMessage}
 use Rattle.h5w_found.specs.declared.walk.Extent.{Extent}
 use Rattle.h5w_found.specs.declared.walk.Header.{Header}
-
-abbrev pub found_of : FoundMessage → model.FoundMessage
-found_of f = record { kind = f.kind; flags = f.flags; place = f.place; body = f.body; in_chunk_0 = f.in_chunk_0 }
-
-abbrev pub founds : List FoundMessage → List model.FoundMessage
-founds fs = map found_of fs
-
--- those that come next, the last of the list first
-abbrev pub stack : List FoundMessage → List model.FoundMessage
-stack fs = reverse (map found_of fs)
 
 abbrev pub range_of : Extent → Range
 range_of e = record { place = e.place; len = e.len }
@@ -30,10 +20,6 @@ ranges_of es = map range_of es
 
 abbrev pub header_of : Header → HeaderFields
 header_of h = record { messages = founds h.messages.items; ranges = ranges_of h.extents.items }
-
--- a message as links are read from it
-abbrev pub listed : model.FoundMessage → Msg
-listed m = record { kind = m.kind; flags = m.flags; at = m.place; body = m.body }
 
 -- what is done at a continuation
 abbrev pub Visit : Type 0

@@ -6,8 +6,6 @@ pub use Rattle.h5w_image.specs.View
 pub use Rattle.h5w_looks.specs.Still
 pub mod Ran
 pub mod Errors
-pub mod Listed
 pub mod Walks
 pub mod Headers
-pub mod Described
 pub mod Linked

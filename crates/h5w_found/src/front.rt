@@ -8,7 +8,7 @@ ghost use Rattle.h5w_found.specs.Errors.{IsFindKind, find_errors};
 
 use crate::error::FindError;
 use crate::read::read;
-use crate::refusal::super_refusal;
+use h5w_dataset::super_refusal;
 use h5w_image::PieceRead;
 use h5w_super::{LEN, Super, decode};
 use std::alloc::Global;

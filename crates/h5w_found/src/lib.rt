@@ -6,23 +6,16 @@
 //! the answer is what the program gives on them.
 #![tactic(auto)]
 
-mod dataset;
-mod described;
 mod error;
-mod found;
 mod front;
 mod header;
 mod linked;
 mod read;
 mod refusal;
 mod root;
-mod stack;
 mod walk;
 
-pub use dataset::Dataset;
-pub use described::{describe, first};
 pub use error::FindError;
-pub use found::FoundMessage;
 pub use front::superblock;
 pub use header::dataset_header;
 pub use linked::{Linked, places_of};

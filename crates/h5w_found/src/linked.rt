@@ -4,11 +4,10 @@ ghost use Rattle.h5w_model.specs.Datasets.{linked, refused_as};
 ghost use Rattle.h5w_model.specs.Links.{find_link};
 ghost use Rattle.h5w_model.specs.declared.refusal.ReadError.TheVariants.{Link};
 ghost use Rattle.h5w_found.specs.Errors.{IsOfBytes};
-ghost use Rattle.h5w_found.specs.Headers.{founds};
+ghost use Rattle.h5w_dataset.specs.Founds.{founds};
 ghost use Rattle.h5w_found.specs.Linked.{led_by, linked_of, not_led};
 
-use crate::found::FoundMessage;
-use crate::root::listed;
+use h5w_dataset::{FoundMessage, listed};
 use h5w_links::{Links, find, links};
 use h5w_model::{LinkError, OutOfMemory, ReadError};
 use h5w_names::Names;

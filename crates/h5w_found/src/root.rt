@@ -5,17 +5,18 @@ ghost use Rattle.h5w_model.specs.Datasets.{linked};
 ghost use Rattle.h5w_found.specs.Ran.{Ran, Told, answering, seen};
 ghost use Rattle.h5w_found.specs.Errors.{IsFindKind, find_errors};
 ghost use Rattle.h5w_found.specs.Walks.{root_header_for};
-ghost use Rattle.h5w_found.specs.Headers.{founds, header_of, listed, whole_chunk_0};
+ghost use Rattle.h5w_dataset.specs.Founds.{founds, listed};
+ghost use Rattle.h5w_found.specs.Headers.{header_of, whole_chunk_0};
 
 use crate::error::FindError;
-use crate::found::FoundMessage;
 use crate::read::read;
 use crate::refusal::refused_header;
 use crate::walk::{Header, from_chunk_0};
+use h5w_dataset::{FoundMessage, listed};
 use h5w_image::{PIECE, PieceRead};
 use h5w_links::{find, links};
-use h5w_model::{LinkError, Msg, OutOfMemory, ReadError};
-use h5w_ohdr::{Msgs, prefix};
+use h5w_model::{LinkError, ReadError};
+use h5w_ohdr::prefix;
 use std::alloc::Global;
 
 /// Puts bytes behind others.
@@ -74,23 +75,6 @@ pub fn root_header<I: PieceRead>(
     };
     let bytes = whole_chunk_0(alloc, image, place, p.total, bytes)?;
     from_chunk_0(alloc, image, writing, place, &p, &bytes)
-}
-
-/// The messages as links are read from them, each with its place in the image.
-#[tactic(auto, using(crate::proofs::RootLemmas::listed_founds))]
-pub fn listed(alloc: Global, found: Vec<FoundMessage>) -> Result<Msgs, OutOfMemory>
-    ensures { IfOk result (λ msgs. msgs ≡ map listed (founds found.items)) }
-{
-    let msgs: Vec<Msg> = found
-        .into_iter()
-        .map(|m| Msg {
-            kind: m.kind,
-            flags: m.flags,
-            at: m.place,
-            body: m.body,
-        })
-        .collect(alloc)?;
-    Ok(Msgs::from_vec(msgs))
 }
 
 /// The place that the link of this name gives, in the root header with these messages.

@@ -7,14 +7,14 @@ ghost use Rattle.h5w_model.specs.declared.refusal.HeaderError.TheVariants.{OutOf
 ghost use Rattle.h5w_found.specs.Ran.{Ran, Told, answering, seen};
 ghost use Rattle.h5w_found.specs.Errors.{IsFindKind, find_errors};
 ghost use Rattle.h5w_found.specs.Walks.{from_chunk_0_for, known_by, walk_for};
-ghost use Rattle.h5w_found.specs.Headers.{Passed, block_before, entered, founds, found_of, header_of, ranges_of, stack};
+ghost use Rattle.h5w_dataset.specs.Founds.{founds, found_of, stack};
+ghost use Rattle.h5w_found.specs.Headers.{Passed, block_before, entered, header_of, ranges_of};
 
 use crate::error::FindError;
-use crate::found::FoundMessage;
 use crate::read::read;
 use crate::refusal::{damaged, refused_header};
-use crate::stack::put_before;
 use h5w_bytes::number;
+use h5w_dataset::{FoundMessage, put_before};
 use h5w_image::PieceRead;
 use h5w_model::{BlockFault, HeaderError, OutOfMemory, Prefix, ReadError};
 use h5w_ohdr::{Msgs, block, messages};

@@ -28,36 +28,36 @@ use Rattle.h5w_lookup.proofs.SeekLemmas.{data_gives, second_gives, seek_at}
 
 -- ---- Uses of kept blocks, again
 
-abbrev kept_block : ℕ → ℕ → ℕ → List ℕ → Kept
+abbrev pub kept_block : ℕ → ℕ → ℕ → List ℕ → Kept
 kept_block kind at n b = record { kind = kind; place = at; len = n; bytes = b }
 
-abbrev IsApart : ℕ → ℕ → ℕ → List Kept → Type 0
+abbrev pub IsApart : ℕ → ℕ → ℕ → List Kept → Type 0
 IsApart kind at n ks = AllByRecursion (λ k. is_of kind at n k ≡ false) ks
 
-apart_others : (kind at n : ℕ) (ks : List Kept) → IsApart kind at n (others kind at n ks)
+pub apart_others : (kind at n : ℕ) (ks : List Kept) → IsApart kind at n (others kind at n ks)
 apart_others kind p n [] = tt
 apart_others kind p n (k ∷ ks) = elim (cases_Bool (is_of kind p n k)) [
   | inl t ↦ rw t (apart_others kind p n ks)
   | inr f ↦ rw f (f, apart_others kind p n ks)
 ]
 
-apart_taken : (kind at n m : ℕ) (ks : List Kept) → IsApart kind at n ks → IsApart kind at n (take m ks)
+pub apart_taken : (kind at n m : ℕ) (ks : List Kept) → IsApart kind at n ks → IsApart kind at n (take m ks)
 apart_taken kind p n zero ks h = tt
 apart_taken kind p n (suc m) [] h = tt
 apart_taken kind p n (suc m) (k ∷ ks) h = (h.0, apart_taken kind p n m ks h.1)
 
-apart_fewer : (kind at n sort place len : ℕ) (ks : List Kept) → IsApart kind at n ks → IsApart kind at n (others sort place len ks)
+pub apart_fewer : (kind at n sort place len : ℕ) (ks : List Kept) → IsApart kind at n ks → IsApart kind at n (others sort place len ks)
 apart_fewer kind p n sort place len [] h = tt
 apart_fewer kind p n sort place len (k ∷ ks) h = elim (cases_Bool (is_of sort place len k)) [
   | inl t ↦ rw t (apart_fewer kind p n sort place len ks h.1)
   | inr f ↦ rw f (h.0, apart_fewer kind p n sort place len ks h.1)
 ]
 
-others_same : (kind at n : ℕ) (ks : List Kept) → IsApart kind at n ks → others kind at n ks ≡ ks
+pub others_same : (kind at n : ℕ) (ks : List Kept) → IsApart kind at n ks → others kind at n ks ≡ ks
 others_same kind p n [] h = refl
 others_same kind p n (k ∷ ks) h = rw h.0 (ap (λ (ys : List Kept). k ∷ ys) (others_same kind p n ks h.1))
 
-is_self : (kind at n : ℕ) (b : List ℕ) → is_of kind at n (kept_block kind at n b) ≡ true
+pub is_self : (kind at n : ℕ) (b : List ℕ) → is_of kind at n (kept_block kind at n b) ≡ true
 is_self kind p n b = rw (eq-eqb kind kind refl, eq-eqb p p refl, eq-eqb n n refl) refl
 
 take_again : (m : ℕ) (ks : List Kept) → take m (take m ks) ≡ take m ks

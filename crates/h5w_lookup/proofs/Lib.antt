@@ -1,7 +1,5 @@
 pub mod PieceLemmas
 pub mod GatherLemmas
-pub mod DescribedLemmas
-pub mod ChunkLemmas
 pub mod TableLemmas
 pub mod StoreLemmas
 pub mod SizeLemmas
@@ -11,5 +9,7 @@ pub mod IndexLemmas
 pub mod UnknownLemmas
 pub mod DescentLemmas
 pub mod AheadLemmas
+pub mod KeyLemmas
+pub mod PathLemmas
+pub mod SpanLemmas
 pub mod LookLemmas
-pub mod FillLemmas

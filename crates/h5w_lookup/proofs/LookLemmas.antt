@@ -5,7 +5,7 @@ use Rattle.h5w_model.specs.Calls.{CallRules, known_table}
 use Rattle.h5w_model.specs.Tables.{Reading}
 use Rattle.h5w_model.specs.declared.refusal.ReadError.{ReadError}
 use Rattle.h5w_lookup.specs.Attempts.{array_rest, index_rest, tree_rest, looking_up}
-use Rattle.h5w_lookup.specs.Described.{described_of}
+use Rattle.h5w_dataset.specs.Described.{described_of}
 use Rattle.h5w_lookup.specs.Descents.{waiting, after_next}
 use Rattle.h5w_lookup.specs.Gathering.{gathering}
 use Rattle.h5w_lookup.specs.Seeking.{wait_given}

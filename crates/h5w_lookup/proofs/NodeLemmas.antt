@@ -221,4 +221,4 @@ turn_found ks next a = refl
 -- a child of a node of a depth
 pub child_of_depth : (depth most : ℕ) (t : Turn) → 1 ≤ depth → ForChild (λ c. c.records ≤ most) t → ForChild (λ c. (1 ≤ depth) × (c.records ≤ most)) t
 child_of_depth depth most (turns.Found a) some few = tt
-child_of_depth depth most (turns.Under c) some few = (some, few)
+child_of_depth depth most (turns.Under c bound) some few = (some, few)

@@ -1,8 +1,6 @@
 -- How many slots the blocks of an array have.
-use Rattle.std.proofs.Common.{◌≡◌, ℕ, zero, suc, ◌-◌, ◌+◌, ◌≤◌, inl, inr, arith}
-use Rattle.std.proofs.lemmas.Bool.{cases_lt, lt-ltb, le-ltb}
-use Rattle.h5w_model.specs.Arrays.{SlotPlace, super_block_of, slot_place_of, place_of, named_place, blocks_before}
-use Rattle.h5w_model.specs.declared.cell.Place.TheVariants.{Index, Direct, Second}
+use Rattle.std.proofs.Common.{ℕ, zero, suc, ◌≤◌, arith}
+use Rattle.h5w_model.specs.Arrays.{super_block_of}
 
 pub few_blocks : (s : ℕ) → s ≤ 12 → (super_block_of s).blocks ≤ 1024
 few_blocks zero h = omega arith

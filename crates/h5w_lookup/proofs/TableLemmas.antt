@@ -23,7 +23,7 @@ use Rattle.h5w_lookup.specs.Looks.{with_store}
 use Rattle.h5w_lookup.specs.Gathering.{cut_behind}
 use Rattle.h5w_lookup.specs.Slots.{key_of, known_or, slots_from, answered, slots_rest}
 use Rattle.h5w_lookup.specs.Attempts.{index_rest, array_rest, tree_rest, table_rest, described_rest}
-use Rattle.h5w_lookup.specs.declared.dataset.Dataset.{Dataset}
+use Rattle.h5w_dataset.specs.declared.dataset.Dataset.{Dataset}
 use Rattle.h5w_lookup.proofs.PieceLemmas.{cut_up_is, then_assoc}
 use Rattle.h5w_laws.proofs.NumberLemmas.{needed_count}
 

@@ -14,7 +14,7 @@ use Rattle.h5w_model.specs.declared.refusal.ReadError.TheVariants.{Damaged, Unsu
 use Rattle.h5w_lookup.specs.Looks.{with_store}
 use Rattle.h5w_lookup.specs.Outcomes.{outcome_left}
 use Rattle.h5w_lookup.specs.Gathering.{gathering, cut_behind}
-use Rattle.h5w_lookup.specs.Described.{described_of}
+use Rattle.h5w_dataset.specs.Described.{described_of}
 use Rattle.h5w_lookup.specs.Slots.{answered, slots_rest}
 use Rattle.h5w_lookup.specs.Descents.{reading_news, waiting}
 use Rattle.h5w_lookup.specs.declared.known.Known.{Known}

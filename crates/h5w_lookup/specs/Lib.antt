@@ -1,8 +1,6 @@
 pub mod Looks
 pub mod Outcomes
 pub mod Gathering
-pub mod Founds
-pub mod Described
 pub mod Contents
 pub mod Turns
 pub mod Turning
@@ -14,6 +12,7 @@ pub mod Seeking
 pub mod Sought
 pub mod Unknown
 pub mod Slots
+pub mod Spans
 pub mod Descents
 pub mod Ahead
 pub mod Attempts

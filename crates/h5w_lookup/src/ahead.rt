@@ -8,14 +8,13 @@ ghost use Rattle.h5w_model.specs.declared.refusal.ReadError.{ReadError};
 ghost use Rattle.h5w_ea.specs.Fields.{eaib_of};
 ghost use Rattle.h5w_lookup.specs.Ahead.{IsDataUsed, IsSecondUsed, IsAtHand, IsTaken, found_rest};
 ghost use Rattle.h5w_lookup.specs.Attempts.{known_of};
-ghost use Rattle.h5w_lookup.specs.Described.{described_of};
+ghost use Rattle.h5w_dataset.specs.Described.{described_of};
 ghost use Rattle.h5w_lookup.specs.Indexes.{IsIndexOf, in_place_of};
 ghost use Rattle.h5w_lookup.specs.Seeking.{store_rest};
 ghost use Rattle.h5w_lookup.specs.Stores.{kept};
 ghost use Rattle.h5w_lookup.specs.Unknown.{unknown_at};
 
 use crate::block::{DATA, SECOND, slots_len};
-use crate::dataset::Dataset;
 use crate::index::Index;
 use crate::known::Known;
 use crate::recall::{all_unknown, unknown};
@@ -24,6 +23,7 @@ use crate::store::Store;
 use crate::table::address_at;
 use crate::wait::DataWait;
 use h5w_bytes::UNDEFINED;
+use h5w_dataset::Dataset;
 use h5w_ea::{Eaib, Place, place};
 use h5w_model::OutOfMemory;
 

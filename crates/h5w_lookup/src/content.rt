@@ -1,5 +1,5 @@
 //! What the bytes of a block behind those in place say.
-ghost use Rattle.std.specs.Prelude.{◌≡◌, ◌+◌, ◌-◌, ◌≤◌, ℕ, Result, get_or, map};
+ghost use Rattle.std.specs.Prelude.{◌≡◌, ◌+◌, ◌-◌, ◌≤◌, ℕ, Result, drop, false, get_or, map};
 ghost use Rattle.std.specs.List.{All};
 ghost use Rattle.h5w_model.specs.Numbers.{undefined};
 ghost use Rattle.h5w_model.specs.Programs.{Prog};
@@ -7,7 +7,7 @@ ghost use Rattle.h5w_model.specs.Tables.{in_leaf, in_node, key_below, key_equal}
 ghost use Rattle.h5w_model.specs.Trees.{ChildFields, capacity_of};
 ghost use Rattle.h5w_model.specs.declared.refusal.ReadError.{ReadError};
 ghost use Rattle.h5w_bt.specs.Parts.{record_of, child_of};
-ghost use Rattle.h5w_lookup.specs.Turns.{turned_by, ForChild};
+ghost use Rattle.h5w_lookup.specs.Turns.{turned_by, ForChild, IsSameTurn};
 
 use crate::table::address_at;
 use h5w_bt::{Btin, Child, Key, Record, Records};
@@ -30,12 +30,18 @@ pub enum Content {
 pub enum Turn {
     /// It ends with the chunk's address, undefined where it is not there.
     Found(u64),
-    /// It goes on under this child.
-    Under(Child),
+    /// It goes on under this child, as do the ways to the keys behind that one and before this one.
+    Under(Child, Key),
 }
 
+/// A key that is not before any chunk's.
+pub const LAST: Key = Key {
+    i: u64::MAX,
+    j: u64::MAX,
+};
+
 /// Whether a key comes before another.
-fn is_below(a: &Key, b: &Key) -> bool
+pub fn is_below(a: &Key, b: &Key) -> bool
     ensures { result ≡ key_below a.now b.now }
 {
     a.i < b.i || (a.i == b.i && a.j < b.j)
@@ -64,21 +70,40 @@ fn among_records(records: &[Record], key: &Key) -> u64
     UNDEFINED
 }
 
+/// The place of the first record from one on that is not below a key, and the key's address among these.
+pub fn among_from(records: &[Record], from: usize, key: &Key) -> (usize, u64)
+    ensures same { (k : Key) → key_below k key.now ≡ false → in_leaf k (drop result.0 (map record_of records.now)) ≡ in_leaf k (drop from (map record_of records.now)) }
+    ensures exact { result.1 ≡ in_leaf key.now (drop from (map record_of records.now)) }
+{
+    for i in from..records.len() {
+        let r = &records[i];
+        if !is_below(&r.key, key) {
+            return if is_same(&r.key, key) {
+                (i, r.address)
+            } else {
+                (i, UNDEFINED)
+            };
+        }
+    }
+    (records.len(), UNDEFINED)
+}
+
 /// How the way to a key goes on at the first record of an inner node that is not below the key.
 fn among_children(records: &[Record], children: &[Child], key: &Key) -> Turn
     ensures exact { (go : ChildFields → Prog (Result ℕ ReadError)) → turned_by go result ≡ in_node go key.now (map record_of records.now) (map child_of children.now) }
     ensures kept { (most : ℕ) → All (λ (c : ChildFields). c.records ≤ most) (map child_of children.now) → ForChild (λ c. c.records ≤ most) result }
+    ensures ahead { IsSameTurn key.now (map record_of records.now) (map child_of children.now) result }
 {
     for (i, child) in children.iter().enumerate() {
         if records.len() <= i {
-            return Turn::Under(*child);
+            return Turn::Under(*child, LAST);
         }
         let r = &records[i];
         if !is_below(&r.key, key) {
             return if is_same(&r.key, key) {
                 Turn::Found(r.address)
             } else {
-                Turn::Under(*child)
+                Turn::Under(*child, r.key)
             };
         }
     }
@@ -106,6 +131,16 @@ impl Content {
         address_at(self.slots(), i)
     }
 
+    /// The records of a leaf; none of another block.
+    pub fn records(&self) -> &[Record]
+        ensures { map record_of result.now ≡ records_in self.now }
+    {
+        match self {
+            Content::Leaf(records) => records.as_slice(),
+            _ => &[],
+        }
+    }
+
     /// The address of a key in a leaf; undefined in another block.
     fn leaf(&self, key: &Key) -> u64
         ensures { result ≡ in_leaf key.now (records_in self.now) }
@@ -120,6 +155,7 @@ impl Content {
     fn inner(&self, key: &Key) -> Turn
         ensures exact { (go : ChildFields → Prog (Result ℕ ReadError)) → turned_by go result ≡ in_node go key.now (inner_in self.now).records (inner_in self.now).children }
         ensures kept { (most : ℕ) → All (λ (c : ChildFields). c.records ≤ most) (inner_in self.now).children → ForChild (λ c. c.records ≤ most) result }
+        ensures ahead { IsSameTurn key.now (inner_in self.now).records (inner_in self.now).children result }
     {
         match self {
             Content::Inner(node) => among_children(
@@ -136,6 +172,7 @@ impl Content {
         requires { (d : ℕ) → depth ≡ d + 1 → All (λ (c : ChildFields). c.records ≤ capacity_of d) (inner_in self.now).children }
         ensures exact { turned depth key.now result ≡ turning depth key.now self.now }
         ensures few { ForChild (λ c. (1 ≤ depth) × (c.records ≤ capacity_of (depth - 1))) result }
+        ensures ahead { IsSameTurn key.now (inner_in self.now).records (inner_in self.now).children result }
     {
         if depth == 0 {
             return Turn::Found(self.leaf(key));

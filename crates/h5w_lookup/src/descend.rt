@@ -4,17 +4,17 @@ ghost use Rattle.h5w_model.specs.Programs.{next_look, fed};
 ghost use Rattle.h5w_model.specs.Calls.{CallRules};
 ghost use Rattle.h5w_model.specs.Tables.{needed};
 ghost use Rattle.h5w_lookup.specs.Attempts.{known_of, rules_of};
-ghost use Rattle.h5w_lookup.specs.Described.{described_of};
+ghost use Rattle.h5w_dataset.specs.Described.{described_of};
 ghost use Rattle.h5w_lookup.specs.Looks.{look_of, IsWithinLook};
 ghost use Rattle.h5w_lookup.specs.Seeking.{next_rest, wait_at, wait_given, wait_rest};
 ghost use Rattle.h5w_lookup.specs.Sought.{sought};
 ghost use Rattle.h5w_lookup.specs.Stores.{kept};
 ghost use Rattle.h5w_lookup.specs.Descents.{descent_rest, after_next, waiting, descended};
 
-use crate::ahead::go_ahead;
 use crate::block::Block;
-use crate::content::Turn;
+use crate::content::{LAST, Turn};
 use crate::descent::{Descended, Descent, Waiting};
+use crate::follow::follow;
 use crate::gather::{Gather, Gathered};
 use crate::known::{Known, Rules};
 use crate::look::Look;
@@ -73,8 +73,8 @@ impl Descent {
         let across = dataset.keys_across();
         let mut i = unknown(known, &dataset, found.len());
         while i < needed {
-            let address = match Sought::chunk(&mut store, &index, across, i) {
-                Sought::Found(address) => address,
+            let (address, span) = match Sought::chunk(&mut store, &index, across, i) {
+                Sought::Found(address, span) => (address, span),
                 Sought::Wait(wait) => {
                     let descent = Descent {
                         dataset,
@@ -86,7 +86,7 @@ impl Descent {
                 }
             };
             found.push(address)?;
-            go_ahead(&mut store, &index, known, &dataset, &mut found)?;
+            follow(&mut store, &index, known, &dataset, span, &mut found)?;
             i = unknown(known, &dataset, found.len());
         }
         Ok(Outcome::Done(News {
@@ -122,7 +122,7 @@ impl Descent {
         ensures { IfOk result (λ d. descended (rules_of rules.now (known_of known.now)) d ≡ sought (kept self.store) (after_next (rules_of rules.now (known_of known.now)) self) way) }
     {
         match way {
-            Sought::Found(address) => self.found(alloc, rules, known, address),
+            Sought::Found(address, _) => self.found(alloc, rules, known, address),
             Sought::Wait(wait) => Ok(Outcome::Looks(self.wait(alloc, wait)?)),
         }
     }
@@ -191,9 +191,9 @@ impl Descent {
         self.store.put(block)?;
         match turn {
             Turn::Found(address) => self.found(alloc, rules, known, address),
-            Turn::Under(child) => {
+            Turn::Under(child, _) => {
                 let (at, n) = (child.address, child.records);
-                let way = Sought::node(&mut self.store, w.depth - 1, w.key, at, n);
+                let way = Sought::node(&mut self.store, w.depth - 1, w.key, at, n, LAST);
                 self.resume(alloc, rules, known, way)
             }
         }

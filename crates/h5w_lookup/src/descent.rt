@@ -1,18 +1,18 @@
 //! The way from the blocks in place to the addresses of the needed chunks.
 ghost use Rattle.std.specs.Prelude.{◌≡◌, ◌≤◌};
 ghost use Rattle.h5w_model.specs.Tables.{needed};
-ghost use Rattle.h5w_lookup.specs.Described.{described_of};
+ghost use Rattle.h5w_dataset.specs.Described.{described_of};
 ghost use Rattle.std.proofs.Props.{props};
 ghost use Rattle.h5w_lookup.specs.Indexes.{IsIndexOf};
 ghost use Rattle.h5w_lookup.specs.Seeking.{wait_at};
 
-use crate::dataset::Dataset;
 use crate::gather::Gather;
 use crate::index::Index;
 use crate::news::News;
 use crate::outcome::Outcome;
 use crate::store::Store;
 use crate::wait::Wait;
+use h5w_dataset::Dataset;
 
 /// A descent to the chunks without a known address. The addresses of the first of them were found.
 #[derive(Drop)]

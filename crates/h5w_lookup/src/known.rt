@@ -2,11 +2,11 @@
 ghost use Rattle.std.specs.Prelude.{◌≡◌, ◌<◌, ◌≤◌, ◌^◌, ℕ, List, Some};
 ghost use Rattle.std.proofs.Props.{props};
 ghost use Rattle.h5w_model.specs.Tables.{needed};
-ghost use Rattle.h5w_lookup.specs.Described.{described_of};
+ghost use Rattle.h5w_dataset.specs.Described.{described_of};
 ghost use Rattle.h5w_lookup.specs.Seen.{IsHeaderOf};
 ghost use Rattle.h5w_lookup.specs.Unknown.{absent_from};
 
-use crate::dataset::Dataset;
+use h5w_dataset::Dataset;
 use h5w_model::Bytes;
 
 /// A dataset, and the addresses of the chunks that its rows need.

@@ -5,7 +5,7 @@ ghost use Rattle.h5w_model.specs.Calls.{known_table};
 ghost use Rattle.h5w_model.specs.Tables.{needed};
 ghost use Rattle.h5w_lookup.specs.Attempts.{known_of, reading_of};
 ghost use Rattle.h5w_lookup.specs.Descents.{reading_news};
-ghost use Rattle.h5w_lookup.specs.Described.{described_of};
+ghost use Rattle.h5w_dataset.specs.Described.{described_of};
 ghost use Rattle.h5w_lookup.specs.Unknown.{absent_from, needed_with, put_in, with_found};
 
 use crate::known::Known;

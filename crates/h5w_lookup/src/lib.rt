@@ -15,13 +15,10 @@
 
 mod ahead;
 mod block;
-mod chunks;
 mod content;
-mod dataset;
 mod descend;
 mod descent;
-mod describe;
-mod found;
+mod follow;
 mod gather;
 mod index;
 mod known;
@@ -33,12 +30,11 @@ mod recall;
 mod seek;
 mod settling;
 mod sizes;
+mod span;
 mod store;
 mod table;
 mod wait;
 
-pub use dataset::Dataset;
-pub use found::FoundMessage;
 pub use gather::{Gather, Gathered};
 pub use known::{Known, Rules};
 pub use learning::learn;

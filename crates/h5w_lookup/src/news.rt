@@ -2,10 +2,10 @@
 ghost use Rattle.std.specs.Prelude.{◌≡◌, ◌≤◌, ℕ, List, Some};
 ghost use Rattle.std.proofs.Props.{props};
 ghost use Rattle.h5w_model.specs.Tables.{needed};
-ghost use Rattle.h5w_lookup.specs.Described.{described_of};
+ghost use Rattle.h5w_dataset.specs.Described.{described_of};
 ghost use Rattle.h5w_lookup.specs.Seen.{IsHeaderOf};
 
-use crate::dataset::Dataset;
+use h5w_dataset::Dataset;
 use h5w_model::Bytes;
 
 /// A dataset, and the addresses of its chunks that were not known: of those that were absent, and of those behind the known.

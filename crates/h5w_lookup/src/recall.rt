@@ -2,11 +2,11 @@
 ghost use Rattle.std.specs.Prelude.{◌≡◌, ◌+◌, ◌<◌, ◌^◌, ℕ, true};
 ghost use Rattle.h5w_model.specs.Calls.{known_table, rows_seen, same_cut};
 ghost use Rattle.h5w_lookup.specs.Attempts.{known_of};
-ghost use Rattle.h5w_lookup.specs.Described.{described_of};
+ghost use Rattle.h5w_dataset.specs.Described.{described_of};
 ghost use Rattle.h5w_lookup.specs.Unknown.{unknown_at};
 
-use crate::dataset::Dataset;
 use crate::known::Known;
+use h5w_dataset::Dataset;
 
 /// Whether the rows are cut into chunks alike.
 pub fn is_cut_alike(a: &Dataset, b: &Dataset) -> bool

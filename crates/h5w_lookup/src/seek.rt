@@ -1,9 +1,9 @@
 //! Looks up one chunk among the blocks in place and those that are kept.
-ghost use Rattle.std.specs.Prelude.{◌≡◌, ◌+◌, ◌≤◌, ◌<◌, ℕ, get_or, Result};
+ghost use Rattle.std.specs.Prelude.{◌≡◌, ◌+◌, ◌≤◌, ◌<◌, ℕ, get_or, true, None, IfSome, Result};
 ghost use Rattle.h5w_model.specs.Numbers.{undefined};
 ghost use Rattle.h5w_model.specs.Arrays.{super_block_of};
 ghost use Rattle.h5w_model.specs.Programs.{Prog};
-ghost use Rattle.h5w_model.specs.Tables.{Reading, address_behind, array_slot, data_slot, secondary_slot, super_block_of_first, tree_lookup};
+ghost use Rattle.h5w_model.specs.Tables.{Reading, address_behind, array_slot, data_slot, key_below, secondary_slot, super_block_of_first, tree_lookup};
 ghost use Rattle.h5w_model.specs.declared.refusal.ReadError.{ReadError};
 ghost use Rattle.h5w_ea.specs.Fields.{eaib_of};
 ghost use Rattle.h5w_lookup.specs.Seeking.{store_rest};
@@ -11,9 +11,10 @@ ghost use Rattle.h5w_model.specs.Trees.{capacity_of};
 ghost use Rattle.h5w_lookup.specs.Slots.{key_of};
 
 use crate::block::{DATA, SECOND, node_kind, node_len, slots_len};
-use crate::content::Turn;
+use crate::content::{LAST, Turn, is_below};
 use crate::index::Index;
 use crate::sizes::{first_super_block, sizes};
+use crate::span::Span;
 use crate::store::Store;
 use crate::table::address_at;
 use crate::wait::{DataWait, NodeWait, SecondWait, Wait};
@@ -24,24 +25,45 @@ use h5w_ea::{Eaib, Place, place};
 /// What looking up a chunk comes to.
 #[derive(Clone, Copy)]
 pub enum Sought {
-    /// The chunk's address; undefined where it is not there.
-    Found(u64),
+    /// The chunk's address, undefined where it is not there, and the keys behind it whose addresses the same leaf of a tree has.
+    Found(u64, Option<Span>),
     /// A block is to be looked at first.
     Wait(Wait),
 }
 
+/// The key of chunk number `i`; so many keys stand side by side.
+pub fn key_of(across: u64, i: usize) -> Key
+    requires { 0 < across }
+    ensures { result ≡ key_of across i }
+{
+    let i = i as u64;
+    Key {
+        i: i / across,
+        j: i % across,
+    }
+}
+
+/// The lower one of two keys.
+fn lower(a: Key, b: Key) -> Key
+    ensures { (k : Key) → key_below k result ≡ true → (key_below k a ≡ true) × (key_below k b ≡ true) }
+{
+    if is_below(&a, &b) { a } else { b }
+}
+
 impl Sought {
     ghost use Rattle.h5w_lookup.specs.Stores.{kept};
-    ghost use Rattle.h5w_lookup.specs.Sought.{sought};
+    ghost use Rattle.h5w_lookup.specs.Sought.{sought, span_of};
+    ghost use Rattle.h5w_lookup.specs.Spans.{IsLed, IsSpan};
     ghost use Rattle.h5w_lookup.specs.Indexes.{IsIndexOf, in_place_of};
 
     /// A slot of the data block of `n` slots at `at`.
     pub fn data(store: &mut Store, at: u64, n: u64, slot: u64) -> Sought
         requires { n ≤ 1024 }
-        ensures { (next : ℕ → Prog (Result Reading ReadError)) → sought (kept store.new) next result ≡ store_rest (kept store.old) (data_slot at n slot) next }
+        ensures exact { (next : ℕ → Prog (Result Reading ReadError)) → sought (kept store.new) next result ≡ store_rest (kept store.old) (data_slot at n slot) next }
+        ensures alone { span_of result ≡ None }
     {
         if at == UNDEFINED {
-            return Sought::Found(UNDEFINED);
+            return Sought::Found(UNDEFINED, None);
         }
         let len = slots_len(n);
         let address = match store.look(DATA, at, len) {
@@ -49,16 +71,17 @@ impl Sought {
             None => return Sought::Wait(Wait::Data(DataWait { at, n, slot })),
         };
         store.touch(DATA, at, len);
-        Sought::Found(address)
+        Sought::Found(address, None)
     }
 
     /// A slot of data block `block` of the secondary block at `at`.
     fn second(store: &mut Store, at: u64, sblock: u32, block: u64, slot: u64) -> Sought
         requires { sblock ≤ 12 }
-        ensures { (next : ℕ → Prog (Result Reading ReadError)) → sought (kept store.new) next result ≡ store_rest (kept store.old) (secondary_slot at sblock block slot) next }
+        ensures exact { (next : ℕ → Prog (Result Reading ReadError)) → sought (kept store.new) next result ≡ store_rest (kept store.old) (secondary_slot at sblock block slot) next }
+        ensures alone { span_of result ≡ None }
     {
         if at == UNDEFINED {
-            return Sought::Found(UNDEFINED);
+            return Sought::Found(UNDEFINED, None);
         }
         let (blocks, slots) = sizes(sblock);
         let len = slots_len(blocks);
@@ -79,7 +102,8 @@ impl Sought {
 
     /// A slot of data block `block` of the six that the index block names.
     fn direct(store: &mut Store, index: &Eaib, block: u64, slot: u64) -> Sought
-        ensures { (next : ℕ → Prog (Result Reading ReadError)) → sought (kept store.new) next result ≡ store_rest (kept store.old) (data_slot (get_or (eaib_of index.now).first block undefined) (super_block_of (super_block_of_first block)).slots slot) next }
+        ensures exact { (next : ℕ → Prog (Result Reading ReadError)) → sought (kept store.new) next result ≡ store_rest (kept store.old) (data_slot (get_or (eaib_of index.now).first block undefined) (super_block_of (super_block_of_first block)).slots slot) next }
+        ensures alone { span_of result ≡ None }
     {
         let (_, slots) = sizes(first_super_block(block));
         Sought::data(store, address_at(&index.first, block as usize), slots, slot)
@@ -88,10 +112,13 @@ impl Sought {
     /// The address of chunk number `i` of an array.
     fn array(store: &mut Store, index: &Eaib, i: u64) -> Sought
         requires { i < 131060 }
-        ensures { (next : ℕ → Prog (Result Reading ReadError)) → sought (kept store.new) next result ≡ store_rest (kept store.old) (array_slot (eaib_of index.now) i) next }
+        ensures exact { (next : ℕ → Prog (Result Reading ReadError)) → sought (kept store.new) next result ≡ store_rest (kept store.old) (array_slot (eaib_of index.now) i) next }
+        ensures alone { span_of result ≡ None }
     {
         match place(i) {
-            Place::Index { slot } => Sought::Found(address_at(&index.slots, slot as usize)),
+            Place::Index { slot } => {
+                Sought::Found(address_at(&index.slots, slot as usize), None)
+            }
             Place::Direct { block, slot } => Sought::direct(store, index, block, slot),
             Place::Second {
                 sblock,
@@ -104,12 +131,14 @@ impl Sought {
         }
     }
 
-    /// The address of a key in a tree, from the node of a depth at `at` on, which has `n` records.
+    /// The address of a key in a tree, from the node of a depth at `at` on, which has `n` records. The way to it is that of the keys
+    /// behind it and before `bound`.
     #[tactic(auto, using(crate::proofs::NodeLemmas::few_records))]
-    pub fn node(store: &mut Store, depth: u64, key: Key, at: u64, n: u64) -> Sought
+    pub fn node(store: &mut Store, depth: u64, key: Key, at: u64, n: u64, bound: Key) -> Sought
         requires shallow { depth ≤ 3 }
         requires few { n ≤ capacity_of depth }
-        ensures { (next : ℕ → Prog (Result Reading ReadError)) → sought (kept store.new) next result ≡ store_rest (kept store.old) (tree_lookup depth key at n) next }
+        ensures exact { (next : ℕ → Prog (Result Reading ReadError)) → sought (kept store.new) next result ≡ store_rest (kept store.old) (tree_lookup depth key at n) next }
+        ensures ahead { IfSome (span_of result) (IsLed depth key at n bound (kept store.old) (kept store.new)) }
     {
         let (kind, len) = (node_kind(depth), node_len(depth, n));
         let turn = match store.look(kind, at, len) {
@@ -118,9 +147,10 @@ impl Sought {
         };
         store.touch(kind, at, len);
         match turn {
-            Turn::Found(address) => Sought::Found(address),
-            Turn::Under(child) => {
-                Sought::node(store, depth - 1, key, child.address, child.records)
+            Turn::Found(address) => Sought::Found(address, Span::of(depth, key, at, n, bound)),
+            Turn::Under(child, below) => {
+                let (place, records, bound) = (child.address, child.records, lower(below, bound));
+                Sought::node(store, depth - 1, key, place, records, bound)
             }
         }
     }
@@ -128,12 +158,15 @@ impl Sought {
     /// The address of a key, behind the blocks in place.
     fn behind(store: &mut Store, index: &Index, key: Key) -> Sought
         requires { IsIndexOf (key.i + 1) index.now }
-        ensures { (next : ℕ → Prog (Result Reading ReadError)) → sought (kept store.new) next result ≡ store_rest (kept store.old) (address_behind (in_place_of index.now) key) next }
+        ensures exact { (next : ℕ → Prog (Result Reading ReadError)) → sought (kept store.new) next result ≡ store_rest (kept store.old) (address_behind (in_place_of index.now) key) next }
+        ensures ahead { IfSome (span_of result) (IsSpan (kept store.new) (in_place_of index.now)) }
     {
         match index {
-            Index::Nowhere => Sought::Found(UNDEFINED),
+            Index::Nowhere => Sought::Found(UNDEFINED, None),
             Index::Array(block) => Sought::array(store, block, key.i),
-            Index::Tree(tree) => Sought::node(store, tree.depth, key, tree.root, tree.records),
+            Index::Tree(tree) => {
+                Sought::node(store, tree.depth, key, tree.root, tree.records, LAST)
+            }
         }
     }
 
@@ -141,13 +174,9 @@ impl Sought {
     pub fn chunk(store: &mut Store, index: &Index, across: u64, i: usize) -> Sought
         requires indexed { IsIndexOf (i + 1) index.now }
         requires some { 0 < across }
-        ensures { (next : ℕ → Prog (Result Reading ReadError)) → sought (kept store.new) next result ≡ store_rest (kept store.old) (address_behind (in_place_of index.now) (key_of across i)) next }
+        ensures exact { (next : ℕ → Prog (Result Reading ReadError)) → sought (kept store.new) next result ≡ store_rest (kept store.old) (address_behind (in_place_of index.now) (key_of across i)) next }
+        ensures ahead { IfSome (span_of result) (IsSpan (kept store.new) (in_place_of index.now)) }
     {
-        let i = i as u64;
-        let key = Key {
-            i: i / across,
-            j: i % across,
-        };
-        Sought::behind(store, index, key)
+        Sought::behind(store, index, key_of(across, i))
     }
 }

@@ -1,14 +1,13 @@
 //! What comes behind the messages of a dataset header.
 ghost use Rattle.std.specs.Prelude.{◌≡◌, IfOk};
-ghost use Rattle.h5w_lookup.specs.Founds.{founds};
+ghost use Rattle.h5w_dataset.specs.Founds.{founds};
 ghost use Rattle.h5w_lookup.specs.Attempts.{known_of, looked_up, described_rest, rules_of};
 
-use crate::describe::describe;
-use crate::found::FoundMessage;
 use crate::known::{Known, Rules};
 use crate::outcome::Outcome;
 use crate::recall::rows_seen;
 use crate::table::{LookedUp, Lookup};
+use h5w_dataset::{FoundMessage, describe};
 use h5w_model::{OutOfMemory, ReadError};
 use std::alloc::Global;
 

@@ -3,9 +3,8 @@ ghost use Rattle.std.specs.Prelude.{◌≡◌, ◌+◌, ◌≤◌, ◌^◌, get_
 ghost use Rattle.h5w_model.specs.Numbers.{undefined};
 ghost use Rattle.h5w_model.specs.Calls.{known_table};
 ghost use Rattle.h5w_model.specs.Tables.{needed};
-ghost use Rattle.h5w_lookup.specs.Described.{described_of};
+ghost use Rattle.h5w_dataset.specs.Described.{described_of};
 
-use crate::dataset::Dataset;
 use crate::descent::{Descended, Descent, Waiting};
 use crate::gather::{Gather, Gathered};
 use crate::index::Index;
@@ -17,6 +16,7 @@ use crate::recall::unknown;
 use crate::store::Store;
 use h5w_bt::Bthd;
 use h5w_bytes::UNDEFINED;
+use h5w_dataset::Dataset;
 use h5w_ea::{Eahd, Eaib};
 use h5w_model::{OutOfMemory, Piece, ReadError};
 use std::alloc::Global;

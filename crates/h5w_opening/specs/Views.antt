@@ -1,5 +1,5 @@
 -- What a file has that is opened, as it is held.
-use Rattle.h5w_found.specs.Described.{described_of}
+use Rattle.h5w_dataset.specs.Described.{described_of}
 use Rattle.h5w_opening.specs.Openings.{DatasetHeaderFields, Opened}
 use Rattle.h5w_opening.specs.declared.finding.DatasetHeader.{DatasetHeader}
 use Rattle.h5w_opening.specs.declared.finding.Opening.{Opening}

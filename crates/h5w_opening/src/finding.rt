@@ -2,17 +2,16 @@
 ghost use Rattle.std.specs.Prelude.{◌≡◌, MatchOption, IfErr, IfOk, Ok, Err, false};
 ghost use Rattle.h5w_model.specs.Programs.{eval};
 ghost use Rattle.h5w_found.specs.Ran.{Ran, Told, seen};
-ghost use Rattle.h5w_found.specs.Headers.{founds, ranges_of};
+ghost use Rattle.h5w_dataset.specs.Founds.{founds};
+ghost use Rattle.h5w_found.specs.Headers.{ranges_of};
 ghost use Rattle.h5w_opening.specs.Errors.{IsOpenKind, open_errors};
 ghost use Rattle.h5w_opening.specs.Openings.{IsFound, IsSaid, chunk_0_len, closed_super, dataset_found, in_chunk_0, is_open, known, looked_for, place_found, refused_dataset, super_found};
 ghost use Rattle.h5w_opening.specs.Views.{header_fields_of, opened_of};
 
 use crate::error::OpenError;
 use h5w_bytes::UNDEFINED;
-use h5w_found::{
-    Dataset, Extent, FoundMessage, dataset_header, describe, first, place_of, root_header,
-    superblock,
-};
+use h5w_dataset::{Dataset, FoundMessage, describe, first};
+use h5w_found::{Extent, dataset_header, place_of, root_header, superblock};
 use h5w_image::PieceRead;
 use h5w_model::{ReadError, Super};
 use std::alloc::Global;
@@ -96,7 +95,7 @@ fn header_place<I: PieceRead>(
 }
 
 /// Whether the first layout message stands in chunk 0.
-#[tactic(auto, using(h5w_found::proofs::DescribedLemmas::first_found))]
+#[tactic(auto, using(h5w_dataset::proofs::DescribedLemmas::first_found))]
 fn in_chunk_0(found: &[FoundMessage]) -> bool
     ensures { result ≡ in_chunk_0 (founds found.now) }
 {

@@ -1,11 +1,9 @@
 pub mod AbsorbLemmas
-pub mod ListedLemmas
 pub mod WalkLemmas
 pub mod ViewLemmas
 pub mod OpenLemmas
 pub mod UnstoredLemmas
 pub mod IdleLemmas
-pub mod PlaceLemmas
 pub mod HeaderLemmas
 pub mod CallLemmas
 pub mod StageLemmas

@@ -18,8 +18,8 @@ use Rattle.h5w_lookup.specs.Looks.{plain}
 use Rattle.h5w_lookup.specs.Gathering.{cut_behind}
 use Rattle.h5w_reader.specs.Cells.{cell_values}
 use Rattle.h5w_reader.specs.Values.{rows_in_band, band_values, bands_from, end_band, rows_rest, band_rest, reading_with, past_values}
-use Rattle.h5w_lookup.specs.Described.{described_of}
-use Rattle.h5w_lookup.specs.declared.dataset.Dataset.{Dataset}
+use Rattle.h5w_dataset.specs.Described.{described_of}
+use Rattle.h5w_dataset.specs.declared.dataset.Dataset.{Dataset}
 use Rattle.h5w_lookup.specs.declared.known.Known.{Known}
 use Rattle.h5w_reader.specs.declared.values.Span.{Span}
 use Rattle.h5w_lookup.proofs.PieceLemmas.{cut_up_is}

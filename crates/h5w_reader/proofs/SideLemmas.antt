@@ -23,7 +23,7 @@ use Rattle.h5w_reader.specs.Cells.{cell_values}
 use Rattle.h5w_reader.specs.Bands.{rows_in_band, end_band}
 use Rattle.h5w_reader.specs.Values.{past_values}
 use Rattle.h5w_reader.specs.Grids.{grid_value, row_values, rows_values, grid_values, chunks_from, grids_from, behind_band, grid_rest, bands_rest, touched_len, grid_given, AreWhole}
-use Rattle.h5w_lookup.specs.Described.{described_of}
+use Rattle.h5w_dataset.specs.Described.{described_of}
 use Rattle.h5w_reader.specs.declared.grid.Grid.{Grid}
 use Rattle.h5w_lookup.proofs.PieceLemmas.{cut_up_is}
 use Rattle.h5w_reader.proofs.BandLemmas.{band_begins, band_ends, band_next, band_of, place_in_band, map_same, map_alike, range_split}

@@ -16,8 +16,9 @@ use Rattle.h5w_model.specs.declared.refusal.HeaderError.TheVariants.{Continuatio
 use Rattle.h5w_model.specs.declared.refusal.HeaderError.TheVariants as header_errors
 use Rattle.h5w_lookup.specs.Looks.{plain, IsWithinLook}
 use Rattle.h5w_lookup.specs.Gathering.{gathering, cut_behind}
-use Rattle.h5w_reader.specs.Walking.{found_of, founds, stack, messages_of, chunk_0_rest, walk_rest, block_rest}
-use Rattle.h5w_lookup.specs.declared.found.FoundMessage.{FoundMessage}
+use Rattle.h5w_dataset.specs.Founds.{found_of, founds, stack}
+use Rattle.h5w_reader.specs.Walking.{messages_of, chunk_0_rest, walk_rest, block_rest}
+use Rattle.h5w_dataset.specs.declared.found.FoundMessage.{FoundMessage}
 use Rattle.h5w_lookup.specs.declared.gather.Gather.{Gather}
 use Rattle.h5w_model.specs.declared.message.Prefix.{Prefix}
 use Rattle.h5w_lookup.proofs.PieceLemmas.{cut_up_is, fed_gather, wants_gather}

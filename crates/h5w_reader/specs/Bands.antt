@@ -2,8 +2,8 @@
 use Rattle.std.specs.Prelude.{ℕ, ◌+◌, ◌-◌, ◌/◌}
 use Rattle.h5w_model.specs.Tables.{Reading}
 use Rattle.h5w_model.specs.Calls.{first_in_band, last_in_band}
-use Rattle.h5w_lookup.specs.Described.{described_of}
-use Rattle.h5w_lookup.specs.declared.dataset.Dataset.{Dataset}
+use Rattle.h5w_dataset.specs.Described.{described_of}
+use Rattle.h5w_dataset.specs.declared.dataset.Dataset.{Dataset}
 use Rattle.h5w_lookup.specs.declared.known.Known.{Known}
 
 -- how many rows of band i lie from `from` up to but not including `to`

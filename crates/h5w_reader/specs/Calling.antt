@@ -27,10 +27,6 @@ use Rattle.h5w_reader.specs.declared.stage.Stage.TheVariants as stages
 
 -- ---- The dataset header's place
 
--- a message as links are read from
-abbrev pub listed : model.FoundMessage → Msg
-listed m = record { kind = m.kind; flags = m.flags; at = m.place; body = m.body }
-
 -- a link's refusal, unless memory was wanting
 abbrev pub link_refusal : LinkError → ReadError
 link_refusal link_errors.OutOfMemory = read_errors.OutOfMemory

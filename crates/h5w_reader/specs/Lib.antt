@@ -1,4 +1,3 @@
-pub mod Listed
 pub mod Walking
 pub mod Opening
 pub mod Headers

@@ -9,10 +9,11 @@ use Rattle.h5w_model.specs.declared.refusal.ReadError.{ReadError}
 use Rattle.h5w_lookup.specs.Looks.{plain}
 use Rattle.h5w_lookup.specs.Gathering.{gathering, cut_behind}
 use Rattle.h5w_lookup.specs.Outcomes.{outcome_left}
-use Rattle.h5w_reader.specs.Walking.{founds, messages_of, chunk_0_rest, walking}
+use Rattle.h5w_dataset.specs.Founds.{founds}
+use Rattle.h5w_reader.specs.Walking.{messages_of, chunk_0_rest, walking}
 use Rattle.h5w_reader.specs.declared.open.Opening.{Opening}
 use Rattle.h5w_reader.specs.declared.open.Opening.TheVariants.{Super, Root, Rest, Visit}
-use Rattle.h5w_lookup.specs.declared.found.FoundMessage.{FoundMessage}
+use Rattle.h5w_dataset.specs.declared.found.FoundMessage.{FoundMessage}
 use Rattle.h5w_lookup.specs.declared.outcome.Outcome.{Outcome}
 
 -- the messages of the root header, from the superblock on

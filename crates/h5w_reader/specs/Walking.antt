@@ -1,5 +1,5 @@
 -- What is left of a header whose messages are visited one after another.
-use Rattle.std.specs.Prelude.{ℕ, Bool, List, [], ◌++◌, map, reverse, Result, Ok, Err}
+use Rattle.std.specs.Prelude.{ℕ, Bool, List, [], ◌++◌, Result, Ok, Err}
 use Rattle.std.specs.Global.{Vec}
 use Rattle.h5w_model.specs.Programs.{Prog, ret, bind, and_then}
 use Rattle.h5w_model.specs.Datasets.{HeaderFields, walk, block_messages, from_chunk_0}
@@ -9,15 +9,11 @@ use Rattle.h5w_model.specs.declared.refusal.ReadError.{ReadError}
 use Rattle.h5w_lookup.specs.Looks.{plain}
 use Rattle.h5w_lookup.specs.Gathering.{gathering}
 use Rattle.h5w_lookup.specs.Outcomes.{outcome_left}
-pub use Rattle.h5w_lookup.specs.Founds.{found_of, founds}
-use Rattle.h5w_lookup.specs.declared.found.FoundMessage.{FoundMessage}
+use Rattle.h5w_dataset.specs.Founds.{founds, stack}
+use Rattle.h5w_dataset.specs.declared.found.FoundMessage.{FoundMessage}
 use Rattle.h5w_reader.specs.declared.walk.Walk.{Walk}
 use Rattle.h5w_reader.specs.declared.walk.Block.{Block}
 use Rattle.h5w_lookup.specs.declared.outcome.Outcome.{Outcome}
-
--- those that come next, the last of the list first
-abbrev pub stack : List FoundMessage → List model.FoundMessage
-stack fs = reverse (map found_of fs)
 
 -- a header's messages alone
 abbrev pub messages_of : HeaderFields → Prog (Result (List model.FoundMessage) ReadError)

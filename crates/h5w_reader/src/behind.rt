@@ -2,8 +2,8 @@
 ghost use Rattle.std.specs.Prelude.{◌≡◌, ◌+◌, ◌≤◌, ◌^◌, length, Some, IfOk};
 ghost use Rattle.h5w_lookup.specs.Attempts.{known_of, rules_of};
 
-use crate::refusal::header_refusal;
 use crate::walk::{Block, Walk, Walked};
+use h5w_dataset::header_refusal;
 use h5w_lookup::{Known, Look, Lookup, News, Outcome, Rules, settle};
 use h5w_model::{Bytes, OutOfMemory, PIECE, Piece, ReadError, Unsupported};
 use h5w_ohdr::prefix;

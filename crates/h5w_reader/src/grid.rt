@@ -3,13 +3,14 @@ ghost use Rattle.std.specs.Prelude.{◌≡◌, ◌≢◌, ◌+◌, ◌-◌, ◌*
 ghost use Rattle.h5w_model.specs.Numbers.{undefined};
 ghost use Rattle.h5w_model.specs.Calls.{first_in_band, last_in_band, last_column, touched_from};
 ghost use Rattle.h5w_model.specs.Tables.{chunks_across, needed};
-ghost use Rattle.h5w_lookup.specs.Described.{described_of};
+ghost use Rattle.h5w_dataset.specs.Described.{described_of};
 ghost use Rattle.h5w_reader.specs.Grids.{AreWhole, touched_len};
 
 use crate::cells::{put_cells, put_fill};
 use crate::values::{Goes, Reads, Valued};
 use h5w_bytes::UNDEFINED;
-use h5w_lookup::{Dataset, Gather, Gathered, Known, address_at};
+use h5w_dataset::Dataset;
+use h5w_lookup::{Gather, Gathered, Known, address_at};
 use h5w_model::{BlockFault, Bytes, OutOfMemory, Piece, ReadError, Values};
 use std::alloc::Global;
 

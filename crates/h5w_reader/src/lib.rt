@@ -33,8 +33,6 @@ mod idle;
 mod open;
 mod place;
 mod reader;
-mod refusal;
-mod stack;
 mod stage;
 mod step;
 mod values;

@@ -2,10 +2,10 @@
 ghost use Rattle.std.specs.Prelude.{◌≡◌, ◌+◌, ◌<◌, ◌≤◌, ◌^◌, min, length, Some, Ok, IfOk};
 ghost use Rattle.h5w_model.specs.Datasets.{is_swmr, super_of};
 
-use crate::refusal::{header_refusal, super_refusal};
 use crate::view::root_view;
 use crate::walk::{Block, Walk, Walked};
-use h5w_lookup::{FoundMessage, Gather, Gathered, Look, Outcome, look_at};
+use h5w_dataset::{FoundMessage, header_refusal, super_refusal};
+use h5w_lookup::{Gather, Gathered, Look, Outcome, look_at};
 use h5w_model::{Bytes, OutOfMemory, PIECE, Piece, Prefix, ReadError};
 use h5w_ohdr::prefix;
 use h5w_super::{LEN, Super, decode};

@@ -1,31 +1,14 @@
 //! The place of the dataset header, by the messages of the root header.
 ghost use Rattle.std.specs.Prelude.{◌≡◌, ◌⊎◌, map, Err, IfOk};
 ghost use Rattle.h5w_model.specs.Datasets.{linked};
-ghost use Rattle.h5w_reader.specs.Walking.{founds};
-ghost use Rattle.h5w_reader.specs.Calling.{listed, link_refusal};
+ghost use Rattle.h5w_dataset.specs.Founds.{founds};
+ghost use Rattle.h5w_dataset.specs.Founds.{listed};
+ghost use Rattle.h5w_reader.specs.Calling.{link_refusal};
 
+use h5w_dataset::{FoundMessage, listed};
 use h5w_links::{find, links};
-use h5w_lookup::FoundMessage;
-use h5w_model::{LinkError, Msg, OutOfMemory, ReadError};
-use h5w_ohdr::Msgs;
+use h5w_model::{LinkError, ReadError};
 use std::alloc::Global;
-
-/// The messages as links are read from, each with its place in the image.
-#[tactic(auto, using(crate::proofs::PlaceLemmas::listed_founds))]
-fn listed(alloc: Global, found: Vec<FoundMessage>) -> Result<Msgs, OutOfMemory>
-    ensures { IfOk result (λ msgs. msgs ≡ map listed (founds found.items)) }
-{
-    let msgs: Vec<Msg> = found
-        .into_iter()
-        .map(|m| Msg {
-            kind: m.kind,
-            flags: m.flags,
-            at: m.place,
-            body: m.body,
-        })
-        .collect(alloc)?;
-    Ok(Msgs::from_vec(msgs))
-}
 
 /// The refusal of a link.
 fn link_refusal(error: LinkError) -> ReadError

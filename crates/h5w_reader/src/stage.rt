@@ -6,14 +6,15 @@ ghost use Rattle.h5w_model.specs.Tables.{Reading};
 ghost use Rattle.h5w_lookup.specs.Attempts.{known_of, rules_of};
 ghost use Rattle.h5w_lookup.specs.Descents.{reading_news};
 ghost use Rattle.h5w_reader.specs.Headers.{IsView, IsWhole};
-ghost use Rattle.h5w_lookup.specs.Described.{described_of};
+ghost use Rattle.h5w_dataset.specs.Described.{described_of};
 ghost use Rattle.h5w_lookup.specs.Seen.{IsHeaderOf};
 
 use crate::behind::{Behind, Reached};
 use crate::header::{again, cut_header, is_same, view_at};
 use crate::open::{Opened, Opening};
 use crate::place::place_of;
-use h5w_lookup::{FoundMessage, Known, Look, News, Outcome, Rules, look_at};
+use h5w_dataset::FoundMessage;
+use h5w_lookup::{Known, Look, News, Outcome, Rules, look_at};
 use h5w_model::{Bytes, OutOfMemory, Piece, ReadError};
 use std::alloc::Global;
 
@@ -136,7 +137,7 @@ impl Stage {
     ghost use Rattle.h5w_model.specs.Programs.{next_look, fed, and_then, ret, bind};
     ghost use Rattle.h5w_lookup.specs.Looks.{look_of, IsWithinLook};
     ghost use Rattle.h5w_reader.specs.Calling.{stage_left, came, place_rest, reached, confirm_rest, rows_given};
-    ghost use Rattle.h5w_reader.specs.Walking.{founds};
+    ghost use Rattle.h5w_dataset.specs.Founds.{founds};
     ghost use Rattle.h5w_reader.specs.Opening.{opened};
 
     /// What a call comes to whose answer this is.

@@ -2,12 +2,13 @@
 ghost use Rattle.std.specs.Prelude.{◌≡◌, ◌≢◌, ◌+◌, ◌-◌, ◌*◌, ◌/◌, ◌^◌, ◌<◌, ◌≤◌, get_or, length, ℕ, Some, IfOk};
 ghost use Rattle.h5w_model.specs.Numbers.{undefined};
 ghost use Rattle.h5w_model.specs.Calls.{first_in_band, last_in_band};
-ghost use Rattle.h5w_lookup.specs.Described.{described_of};
+ghost use Rattle.h5w_dataset.specs.Described.{described_of};
 
 use crate::cells::{put_cells, put_fill};
 use crate::grid::{Beside, Grid};
 use h5w_bytes::UNDEFINED;
-use h5w_lookup::{Dataset, Gather, Gathered, Known, Look, address_at, look_at};
+use h5w_dataset::Dataset;
+use h5w_lookup::{Gather, Gathered, Known, Look, address_at, look_at};
 use h5w_model::{BlockFault, OutOfMemory, Piece, ReadError, Values};
 use std::alloc::Global;
 

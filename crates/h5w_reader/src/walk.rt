@@ -1,10 +1,9 @@
 //! The messages of a header and of its continuation blocks, visited in order.
 ghost use Rattle.std.specs.Prelude.{◌≡◌, ◌+◌, ◌-◌, ◌<◌, ◌≤◌, ◌^◌, ◌∷◌, length, Some, IfOk};
 
-use crate::refusal::header_refusal;
-use crate::stack::put_before;
 use h5w_bytes::number;
-use h5w_lookup::{FoundMessage, Gather, Gathered, Look, Outcome};
+use h5w_dataset::{FoundMessage, header_refusal, put_before};
+use h5w_lookup::{Gather, Gathered, Look, Outcome};
 use h5w_model::{BlockFault, HeaderError, OutOfMemory, Piece, Prefix, ReadError};
 use h5w_ohdr::{block, messages};
 use std::alloc::Global;
@@ -47,7 +46,8 @@ pub type Walked = Outcome<Vec<FoundMessage>, Block>;
 
 impl Walk {
     ghost use Rattle.h5w_model.specs.Headers.{block_at, messages_at};
-    ghost use Rattle.h5w_reader.specs.Walking.{walked, walk_left, walk_rest, block_left, chunk_0_rest, found_of, founds, stack};
+    ghost use Rattle.h5w_dataset.specs.Founds.{found_of, founds, stack};
+    ghost use Rattle.h5w_reader.specs.Walking.{walked, walk_left, walk_rest, block_left, chunk_0_rest};
 
     /// Begins with the messages of chunk 0 of the header at `place`, of which these bytes were found.
     pub fn start(alloc: Global, place: u64, p: &Prefix, bytes: &[u8]) -> Result<Walked, OutOfMemory>

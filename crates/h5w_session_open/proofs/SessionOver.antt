@@ -1,6 +1,6 @@
 -- What holds of every session holds of one over a file that is there, whatever its image is.
 use Rattle.std.proofs.Common.{◌≡◌, ◌≢◌, ℕ, ◌+◌, ◌-◌, ◌*◌, ◌/◌, ◌^◌, ◌<◌, ◌≤◌, Bool, cond, List, ◌∷◌, ◌++◌, take, Option, Some, None, Result, Ok, Err, refl, sym, ap, ◌∙◌, ◌⊎◌, subst, inl, inr, arith, true, false, not, ◌&&◌, []}
-use Rattle.std.specs.Prelude.{nat_lt, option_map, ◌==◌}
+use Rattle.std.specs.Prelude.{nat_lt, option_map, ◌==◌, MatchOption}
 use Rattle.std.specs.Option.{option_or}
 use Rattle.std.proofs.lemmas.List.Elements.{All-nil}
 use Rattle.std.proofs.lemmas.Bool.{both_ways, cases_lt, ne_eqb, ltb-false, le-ltb, eqb-true, eqb-false, eq-eqb}
@@ -104,6 +104,16 @@ unrefused_parts o a h =
     let far = or_none (option_map (cut_at 0) (first_past (2 ^ 64 - 1) (take 3 blocks ++ chunks))) (option_map (cut_at o.root.end) (first_past o.root.end (blocks ++ chunks))) one.0 in
     let all = none_past o.root.end (blocks ++ chunks) (map_none (cut_at o.root.end) (first_past o.root.end (blocks ++ chunks)) far.1) in
     record { ranges = by_left o.root.end blocks chunks all; chunks = by_right o.root.end blocks chunks all; dataset = two.0; index = two.1 }
+
+next_told : (told after : Option OpenError) (r : Result (Unit {0}) OpenError) (e : OpenError) → MatchOption told (r ≡ Ok tt) (λ f. r ≡ Err f) → r ≡ Err e → option_or told after ≡ Some e
+next_told None after r e said is = absurd (let clash : Ok tt ≡ Err e = sym said ∙ is in cc)
+next_told (Some f) after r e said is = let same : ◌≡◌ {A = Result (Unit {0}) OpenError} (Err f) (Err e) = sym said ∙ is in cc
+
+-- what refuses the dataset, behind ranges that nothing refuses, comes first
+pub refused_next : (o : Opened) (a : Result IndexView NoIndex) (r : Result (Unit {0}) OpenError) (e : OpenError) → ranges_refused o a ≡ None
+    → MatchOption (refused_dataset o) (r ≡ Ok tt) (λ f. r ≡ Err f) → r ≡ Err e → refused_open o a ≡ Some e
+refused_next o a r e ranges said is =
+    ap (λ (x : Option OpenError). option_or x (option_or (refused_dataset o) (refused_index o.header.dataset a))) ranges ∙ next_told (refused_dataset o) (refused_index o.header.dataset a) r e said is
 
 -- where nothing was read of an index that is not refused, or no more than an array's header, a blank one is kept
 ready_start : (d : Described) (why : NoIndex) (v : IndexView) → IfNamedIndex d (Err why) → IsStartOf d why v → refused_index d (Err why) ≡ None → IsReadyStart d why v

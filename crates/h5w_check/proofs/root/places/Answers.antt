@@ -1,5 +1,5 @@
 use Rattle.std.proofs.Common.{◌≡◌, ◌∙◌, [], Some, None, sym, ap}
-use Rattle.h5w_found.specs.Headers.{founds}
+use Rattle.h5w_dataset.specs.Founds.{founds}
 use Rattle.h5w_check.specs.Roots.{met_again}
 use Rattle.h5w_check.proofs.RootLemmas.{links_met, links_lost, links_all, none_met}
 use Rattle.h5w_check.proofs.root.places.Goals as goal

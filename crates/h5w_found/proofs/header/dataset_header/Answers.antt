@@ -5,7 +5,7 @@ use Rattle.h5w_model.specs.Programs.{eval}
 use Rattle.h5w_model.specs.Datasets.{header_refusal}
 use Rattle.h5w_model.specs.declared.refusal.ReadError.TheVariants.{Unsupported}
 use Rattle.h5w_found.specs.Walks.{from_chunk_0_for}
-use Rattle.h5w_found.proofs.ListedLemmas.{prefix_never}
+use Rattle.h5w_dataset.proofs.ListedLemmas.{prefix_never}
 use Rattle.h5w_found.proofs.RanLemmas.{ran_end, ran_on, same_value}
 use Rattle.h5w_found.proofs.WalkLemmas.{header_kind, told_header, told_refused}
 use Rattle.h5w_found.proofs.HeaderLemmas.{dataset_short, dataset_long, dataset_err}

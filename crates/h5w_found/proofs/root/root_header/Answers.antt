@@ -6,7 +6,7 @@ use Rattle.h5w_model.specs.Datasets.{header_refusal}
 use Rattle.h5w_found.specs.Walks.{from_chunk_0_for}
 use Rattle.h5w_found.specs.Headers.{header_of, whole_chunk_0}
 use Rattle.h5w_found.specs.Ran.{seen}
-use Rattle.h5w_found.proofs.ListedLemmas.{prefix_never}
+use Rattle.h5w_dataset.proofs.ListedLemmas.{prefix_never}
 use Rattle.h5w_found.proofs.RanLemmas.{ran_end, ran_on, ran_then_stop, same_value}
 use Rattle.h5w_found.proofs.WalkLemmas.{header_kind, told_header}
 use Rattle.h5w_found.proofs.RootLemmas.{root_ok, root_err}

@@ -1,6 +1,6 @@
 use Rattle.std.proofs.Common.{◌≡◌, ◌∙◌, inl, inr, Err, sym, ap, rules}
 use Rattle.h5w_found.specs.Walks.{known_by}
-use Rattle.h5w_found.proofs.ListedLemmas.{known_err}
+use Rattle.h5w_found.proofs.KnownLemmas.{known_err}
 use Rattle.h5w_found.proofs.walk.block_list.Goals as goal
 
 pub returns-in_err-msgs : goal.returns-in_err-msgs

@@ -1,7 +1,8 @@
 use Rattle.std.proofs.Common.{length}
 use Rattle.h5w_model.specs.Headers.{messages_at}
 use Rattle.h5w_found.specs.Walks.{known_by}
-use Rattle.h5w_found.proofs.ListedLemmas.{known_by_listed, messages_listed, listed_ok, listed_err}
+use Rattle.h5w_dataset.proofs.ListedLemmas.{messages_listed, listed_ok, listed_err}
+use Rattle.h5w_found.proofs.KnownLemmas.{known_by_listed}
 use Rattle.h5w_found.proofs.WalkLemmas.{chunk_refused, gives_err, header_kind}
 use Rattle.h5w_found.proofs.walk.chunk_0_messages.Goals as goal
 

@@ -1,5 +1,6 @@
 use Rattle.std.proofs.Common.{◌≡◌, [], ◌∷◌}
-use Rattle.h5w_found.specs.Headers.{ranges_of, stack}
+use Rattle.h5w_dataset.specs.Founds.{stack}
+use Rattle.h5w_found.specs.Headers.{ranges_of}
 use Rattle.h5w_found.proofs.RanLemmas.{ran_begin}
 use Rattle.h5w_found.proofs.WalkLemmas.{chunk_goes}
 use Rattle.h5w_found.proofs.walk.from_chunk_0.Goals as goal

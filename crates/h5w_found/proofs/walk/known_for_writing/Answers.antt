@@ -1,5 +1,5 @@
 use Rattle.std.proofs.Common.{sym}
-use Rattle.h5w_found.proofs.ListedLemmas.{known_said}
+use Rattle.h5w_found.proofs.KnownLemmas.{known_said}
 use Rattle.h5w_found.proofs.walk.known_for_writing.Goals as goal
 
 pub returns-in-Ok : goal.returns-in-Ok

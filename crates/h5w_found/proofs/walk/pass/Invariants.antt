@@ -1,6 +1,7 @@
 use Rattle.std.proofs.Common.{◌≡◌, List, vec_len}
 use Rattle.h5w_model.specs.Datasets.{Range, splice}
-use Rattle.h5w_found.specs.Headers.{Visit, founds, stack}
+use Rattle.h5w_dataset.specs.Founds.{founds, stack}
+use Rattle.h5w_found.specs.Headers.{Visit}
 use Rattle.h5w_found.proofs.walk.pass.Given as goal
 
 abbrev pub invariant-loop-m : goal.invariant-loop-m

@@ -1,8 +1,9 @@
 use Rattle.std.proofs.Common.{length}
 use Rattle.h5w_model.specs.Headers.{block_at}
 use Rattle.h5w_found.specs.Walks.{known_by}
-use Rattle.h5w_found.specs.Headers.{stack}
-use Rattle.h5w_found.proofs.ListedLemmas.{known_by_listed, block_listed, listed_ok, listed_err}
+use Rattle.h5w_dataset.specs.Founds.{stack}
+use Rattle.h5w_dataset.proofs.ListedLemmas.{block_listed, listed_ok, listed_err}
+use Rattle.h5w_found.proofs.KnownLemmas.{known_by_listed}
 use Rattle.h5w_found.proofs.WalkLemmas.{before_refused, gives_err, header_kind}
 use Rattle.h5w_found.proofs.walk.put_block.Goals as goal
 

@@ -1,5 +1,6 @@
 use Rattle.std.proofs.Common.{◌≡◌, ◌∙◌, ◌<◌, ◌-◌, Ok, Err, refl, arith, rules}
-use Rattle.h5w_found.specs.Headers.{founds, found_of, ranges_of, stack, entered}
+use Rattle.h5w_dataset.specs.Founds.{founds, found_of, stack}
+use Rattle.h5w_found.specs.Headers.{ranges_of, entered}
 use Rattle.h5w_found.proofs.RanLemmas.{going_stop, going_on, going_end, told_ok, step_err, step_ok}
 use Rattle.h5w_found.proofs.WalkLemmas.{walk_step, walk_done, walk_on}
 use Rattle.h5w_found.proofs.walk.walk.Goals as goal

@@ -1,7 +1,8 @@
 use Rattle.std.proofs.Common.{[]}
 use Rattle.h5w_model.specs.Programs.{eval}
 use Rattle.h5w_found.specs.Walks.{walk_for}
-use Rattle.h5w_found.specs.Headers.{founds, ranges_of, stack}
+use Rattle.h5w_dataset.specs.Founds.{founds, stack}
+use Rattle.h5w_found.specs.Headers.{ranges_of}
 use Rattle.h5w_found.proofs.RanLemmas.{Going}
 use Rattle.h5w_found.proofs.walk.walk.Given as goal
 

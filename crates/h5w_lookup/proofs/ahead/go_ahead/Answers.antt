@@ -3,7 +3,7 @@ use Rattle.h5w_model.specs.Calls.{known_table}
 use Rattle.h5w_model.specs.Tables.{needed}
 use Rattle.h5w_ea.specs.Fields.{eaib_of}
 use Rattle.h5w_lookup.specs.Attempts.{known_of}
-use Rattle.h5w_lookup.specs.Described.{described_of}
+use Rattle.h5w_dataset.specs.Described.{described_of}
 use Rattle.h5w_lookup.specs.Stores.{kept}
 use Rattle.h5w_lookup.specs.Unknown.{unknown_at}
 use Rattle.h5w_lookup.proofs.AheadLemmas.{on_ok, ahead_same, ahead_more}

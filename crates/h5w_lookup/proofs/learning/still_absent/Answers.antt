@@ -3,7 +3,7 @@ use Rattle.h5w_model.specs.Calls.{known_table}
 use Rattle.h5w_model.specs.Tables.{needed}
 use Rattle.h5w_model.specs.Numbers.{undefined}
 use Rattle.h5w_lookup.specs.Attempts.{known_of}
-use Rattle.h5w_lookup.specs.Described.{described_of}
+use Rattle.h5w_dataset.specs.Described.{described_of}
 use Rattle.h5w_lookup.specs.Unknown.{absent_from, needed_with}
 use Rattle.h5w_lookup.proofs.UnknownLemmas.{absent_known, absent_there, absent_past, absent_push}
 use Rattle.h5w_lookup.proofs.learning.still_absent.Goals as goal

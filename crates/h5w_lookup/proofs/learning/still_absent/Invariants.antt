@@ -1,7 +1,7 @@
 use Rattle.std.proofs.Common.{◌≡◌, take}
 use Rattle.h5w_model.specs.Calls.{known_table}
 use Rattle.h5w_lookup.specs.Attempts.{known_of}
-use Rattle.h5w_lookup.specs.Described.{described_of}
+use Rattle.h5w_dataset.specs.Described.{described_of}
 use Rattle.h5w_lookup.specs.Unknown.{absent_from, needed_with}
 use Rattle.h5w_lookup.proofs.learning.still_absent.Given as goal
 

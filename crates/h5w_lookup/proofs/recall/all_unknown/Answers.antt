@@ -1,7 +1,7 @@
 use Rattle.std.proofs.Common.{◌≡◌, ◌+◌, ◌≤◌, ◌∙◌, true, cond, List, [], ℕ, length, sym, ap, arith, leb-true}
 use Rattle.h5w_model.specs.Calls.{known_table, same_cut}
 use Rattle.h5w_lookup.specs.Attempts.{known_of}
-use Rattle.h5w_lookup.specs.Described.{described_of}
+use Rattle.h5w_dataset.specs.Described.{described_of}
 use Rattle.h5w_lookup.specs.Unknown.{absent_from, unknown_at}
 use Rattle.h5w_lookup.proofs.UnknownLemmas.{all_behind}
 use Rattle.h5w_lookup.proofs.recall.all_unknown.Goals as goal

@@ -3,8 +3,8 @@ use Rattle.h5w_model.specs.Checked.{viewed}
 use Rattle.h5w_model.specs.Datasets.{described}
 use Rattle.h5w_model.specs.Calls.{known_table}
 use Rattle.h5w_model.specs.Tables.{needed, limit_of}
-use Rattle.h5w_lookup.specs.Founds.{founds}
-use Rattle.h5w_lookup.specs.Described.{described_of}
+use Rattle.h5w_dataset.specs.Founds.{founds}
+use Rattle.h5w_dataset.specs.Described.{described_of}
 use Rattle.h5w_lookup.specs.Attempts.{known_of, looked_up, described_rest, table_rest, reader_limits, rules_of}
 use Rattle.h5w_lookup.proofs.PieceLemmas.{along}
 use Rattle.h5w_lookup.proofs.TableLemmas.{settled_err, settled_shrunk, settled_many, settled_any}

@@ -4,7 +4,7 @@ use Rattle.h5w_model.specs.Headers.{header_view}
 use Rattle.h5w_model.specs.Numbers.{undefined}
 use Rattle.h5w_model.specs.Tables.{needed, limit_of}
 use Rattle.h5w_lookup.specs.Attempts.{known_of, reading_of, reader_limits, rules_of}
-use Rattle.h5w_lookup.specs.Described.{described_of}
+use Rattle.h5w_dataset.specs.Described.{described_of}
 use Rattle.h5w_lookup.proofs.UnknownLemmas.{known_first, unknown_behind}
 use Rattle.h5w_reader.proofs.IdleLemmas.{idle_is}
 use Rattle.h5w_reader.proofs.idle.is_idle.Goals as goal

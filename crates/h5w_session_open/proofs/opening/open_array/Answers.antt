@@ -1,5 +1,5 @@
 use Rattle.std.proofs.Common.{ℕ, ◌<◌, sym, subst}
-use Rattle.h5w_found.specs.Described.{described_of}
+use Rattle.h5w_dataset.specs.Described.{described_of}
 use Rattle.h5w_session_open.proofs.OpenLineLemmas.{open_few}
 use Rattle.h5w_session_open.proofs.OpenStepLemmas.{bad_array}
 use Rattle.h5w_session_open.proofs.opening.open_array.Goals as goal

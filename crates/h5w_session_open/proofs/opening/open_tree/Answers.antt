@@ -1,4 +1,4 @@
-use Rattle.h5w_found.specs.Described.{described_of}
+use Rattle.h5w_dataset.specs.Described.{described_of}
 use Rattle.h5w_session_open.proofs.OpenStepLemmas.{bad_tree, good_tree, unordered_tree, wrong_tree}
 use Rattle.h5w_session_open.proofs.opening.open_tree.Goals as goal
 

@@ -1,6 +1,6 @@
 use Rattle.std.proofs.Common.{arith, ◌∙◌, sym}
 use Rattle.h5w_chunks.proofs.KeyLemmas.{array_line, tree_line}
-use Rattle.h5w_found.specs.Described.{described_of}
+use Rattle.h5w_dataset.specs.Described.{described_of}
 use Rattle.h5w_session_open.specs.OpenRanges.{first_open}
 use Rattle.h5w_session_open.proofs.OpenLineLemmas.{open_chunks_are, open_small}
 use Rattle.h5w_session_open.proofs.ranges.first_open_line.Goals as goal

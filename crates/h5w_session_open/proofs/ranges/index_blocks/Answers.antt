@@ -2,7 +2,7 @@ use Rattle.std.proofs.Common.{◌≡◌, List, IfOk, ap, sym, subst, ◌∙◌}
 use Rattle.h5w_space.specs.declared.Extent.{Extent}
 use Rattle.h5w_bt_index.specs.Held as trees
 use Rattle.h5w_bt_index.proofs.Laws.{index_shaped}
-use Rattle.h5w_found.specs.Described.{described_of}
+use Rattle.h5w_dataset.specs.Described.{described_of}
 use Rattle.h5w_index.specs.Held.{view_of}
 use Rattle.h5w_index.specs.declared.index.Index.{Index as HeldIndex}
 use Rattle.h5w_session_open.specs.OpenSteps.{IsNamedIndex}

@@ -61,8 +61,8 @@ returns-in-Under c =
     let child = c.in-Under.child in
     let ks = used 16 (tree_node w.depth) w.at (node_len w.depth w.n) b old in
     let said = read_given w.depth w.at w.n w.key b x.content w.shallow (read_of (tree_node w.depth) w.at (node_len w.depth w.n) b x is) in
-    let turn : turned w.depth w.key (turns.Under child) ≡ turning w.depth w.key x.content = ap (turned w.depth w.key) (sym c.in-Under.is) ∙ c.turn-turn.ensures.exact in
+    let turn = ap (turned w.depth w.key) (sym c.in-Under.is) ∙ c.turn-turn.ensures.exact in
     along (descended g) c.resume.result _ (wait_given old (Node w) next b) c.resume.ensures
-    (c.node-way.ensures next
+    (c.node-way.ensures.exact next
     ∙ ap (λ k. store_rest k (tree_lookup (w.depth - 1) w.key child.address child.records) next) (put_used (tree_node w.depth) w.at (node_len w.depth w.n) b x old (kept c.put.new.self) is c.in_ok-put.ensures)
     ∙ ap (λ q. store_rest ks q next) (turn ∙ sym said))

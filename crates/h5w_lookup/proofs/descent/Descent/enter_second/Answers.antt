@@ -38,7 +38,7 @@ returns c =
     let old = kept c.args.self.store in
     let ks = used 16 secondary_block w.at (slots_len blocks) b old in
     along (descended g) c.resume.result _ (wait_given old (Second w) next b) c.resume.ensures
-    (c.data-way.ensures next
+    (c.data-way.ensures.exact next
     ∙ ap (λ k. store_rest k (data_slot c.slot-address.result c.sizes-blocks.result.1 w.slot) next) (put_used secondary_block w.at (slots_len blocks) b x old (kept c.put.new.self) is c.in_ok-put.ensures)
     ∙ ap (λ n. store_rest ks (data_slot c.slot-address.result n w.slot) next) c.sizes-blocks.ensures.slots
     ∙ ap (λ a. store_rest ks (data_slot a slots w.slot) next) c.slot-address.ensures

@@ -1,7 +1,7 @@
 use Rattle.h5w_model.specs.Calls.{known_table}
 use Rattle.h5w_lookup.specs.Attempts.{known_of, rules_of}
 use Rattle.h5w_lookup.specs.Indexes.{in_place_of}
-use Rattle.h5w_lookup.specs.Described.{described_of}
+use Rattle.h5w_dataset.specs.Described.{described_of}
 use Rattle.h5w_lookup.specs.Seeking.{next_rest}
 use Rattle.h5w_lookup.specs.Stores.{kept}
 use Rattle.h5w_lookup.specs.Descents.{after_next, descended}

@@ -3,7 +3,7 @@ use Rattle.h5w_model.specs.Calls.{known_table}
 use Rattle.h5w_model.specs.Tables.{needed}
 use Rattle.h5w_lookup.specs.Attempts.{known_of, rules_of}
 use Rattle.h5w_lookup.specs.Indexes.{in_place_of}
-use Rattle.h5w_lookup.specs.Described.{described_of}
+use Rattle.h5w_dataset.specs.Described.{described_of}
 use Rattle.h5w_lookup.specs.Slots.{after_found}
 use Rattle.h5w_lookup.specs.Unknown.{unknown_at}
 use Rattle.h5w_lookup.proofs.UnknownLemmas.{unknown_less}
@@ -23,7 +23,7 @@ returns-in-Wait c =
     let xs = c.loop-i.found.items in
     let less : c.loop-i.i < needed d = omega (arith, c.loop-i-test.true, c.needed-needed.ensures) in
     c.in_ok-wait-in-Wait.ensures g
-    ∙ c.in-Wait.ensures (after_found g.place known d e xs)
+    ∙ c.in-Wait.ensures.exact (after_found g.place known d e xs)
     ∙ slots_at g.place known d e (kept c.loop-i.store) c.keys_across-across.result c.loop-i.i xs c.keys_across-across.ensures c.loop-i.invariant.at less
     ∙ c.loop-i.invariant.same
 
@@ -37,12 +37,12 @@ loop-i-preserved c =
     let a = c.in-Found.address in
     let xs = c.loop-i.found.items in
     let less : c.loop-i.i < needed d = omega (arith, c.loop-i-test.true, c.needed-needed.ensures) in
-    let count : c.len-in-loop-i.result ≡ length c.go_ahead.new.found.items = omega (arith, c.len-in-loop-i.ensures, c.go_ahead.new.found.ok.0) in
+    let count : c.len-in-loop-i.result ≡ length c.follow.new.found.items = omega (arith, c.len-in-loop-i.ensures, c.follow.new.found.ok.0) in
     record {
       at = c.unknown-i-in-loop-i.ensures ∙ ap (unknown_at known) count;
-      same = c.in_ok-go_ahead.ensures.same place
+      same = c.in_ok-follow.ensures.same place
           ∙ slots_push place known d e (kept c.chunk.new.store) a xs c.push.new.self.items c.in_ok-push.ensures.items
-          ∙ c.in-Found.ensures (after_found place known d e xs)
+          ∙ c.in-Found.ensures.exact (after_found place known d e xs)
           ∙ slots_at place known d e (kept c.loop-i.store) c.keys_across-across.result c.loop-i.i xs c.keys_across-across.ensures c.loop-i.invariant.at less
           ∙ c.loop-i.invariant.same;
     }
@@ -52,9 +52,9 @@ loop-i-smaller c =
     let s = c.args.self in
     let known = known_table (known_of c.args.known.now) (described_of s.dataset) in
     let xs = c.loop-i.found.items in
-    let ys = c.go_ahead.new.found.items in
-    let more : length xs < length ys = omega (arith, c.in_ok-go_ahead.ensures.more, ap length c.in_ok-push.ensures.items, length-append xs (c.in-Found.address ∷ [])) in
-    let count : c.len-in-loop-i.result ≡ length ys = omega (arith, c.len-in-loop-i.ensures, c.go_ahead.new.found.ok.0) in
+    let ys = c.follow.new.found.items in
+    let more : length xs < length ys = omega (arith, c.in_ok-follow.ensures.more, ap length c.in_ok-push.ensures.items, length-append xs (c.in-Found.address ∷ [])) in
+    let count : c.len-in-loop-i.result ≡ length ys = omega (arith, c.len-in-loop-i.ensures, c.follow.new.found.ok.0) in
     let next : c.unknown-i-in-loop-i.result ≡ unknown_at known (length ys) = c.unknown-i-in-loop-i.ensures ∙ ap (unknown_at known) count in
     omega (arith, c.loop-i-test.true, c.loop-i.invariant.at, next, unknown_less known (length xs) (length ys) more)
 
@@ -75,3 +75,6 @@ chunk-requires c =
       indexed = index_below c.args.self.index (needed d) c.loop-i.i less c.args.self.indexed;
       some = some_across d c.loop-i.i c.keys_across-across.result less c.keys_across-across.ensures;
     }
+
+pub follow-requires : goal.follow-requires
+follow-requires c = record { few = c.args.self.few; indexed = c.args.self.indexed; ahead = c.in-Found.ensures.ahead }

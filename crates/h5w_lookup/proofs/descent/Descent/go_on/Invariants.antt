@@ -2,7 +2,7 @@ use Rattle.std.proofs.Common.{◌≡◌, ◌-◌, length}
 use Rattle.h5w_model.specs.Calls.{known_table}
 use Rattle.h5w_lookup.specs.Attempts.{known_of}
 use Rattle.h5w_lookup.specs.Indexes.{in_place_of}
-use Rattle.h5w_lookup.specs.Described.{described_of}
+use Rattle.h5w_dataset.specs.Described.{described_of}
 use Rattle.h5w_lookup.specs.Slots.{slots_rest}
 use Rattle.h5w_lookup.specs.Unknown.{unknown_at, needed_with}
 use Rattle.h5w_lookup.specs.Stores.{kept}

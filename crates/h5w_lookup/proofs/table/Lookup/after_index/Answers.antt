@@ -2,7 +2,7 @@ use Rattle.std.proofs.Common.{◌≡◌, ◌∙◌, sym, ap, Ok, Err}
 use Rattle.h5w_model.specs.Checked.{viewed}
 use Rattle.h5w_model.specs.Arrays.{eaib_at}
 use Rattle.h5w_ea.specs.Fields.{eaib_of}
-use Rattle.h5w_lookup.specs.Described.{described_of}
+use Rattle.h5w_dataset.specs.Described.{described_of}
 use Rattle.h5w_model.specs.Tables.{needed}
 use Rattle.h5w_model.specs.Calls.{known_table}
 use Rattle.h5w_lookup.specs.Attempts.{known_of, rules_of, looked_up, index_rest}

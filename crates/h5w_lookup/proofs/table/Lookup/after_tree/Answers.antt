@@ -3,7 +3,7 @@ use Rattle.h5w_model.specs.Checked.{viewed}
 use Rattle.h5w_model.specs.Tables.{needed}
 use Rattle.h5w_model.specs.Trees.{bthd_at}
 use Rattle.h5w_bt.specs.Fields.{bthd_of}
-use Rattle.h5w_lookup.specs.Described.{described_of}
+use Rattle.h5w_dataset.specs.Described.{described_of}
 use Rattle.h5w_model.specs.Calls.{known_table}
 use Rattle.h5w_lookup.specs.Attempts.{known_of, rules_of, looked_up, tree_rest}
 use Rattle.h5w_lookup.proofs.PieceLemmas.{along}

@@ -1,7 +1,7 @@
 use Rattle.std.proofs.Common.{◌≡◌, ◌<◌, ◌≤◌, ◌∙◌, true, ap, sym, arith}
 use Rattle.h5w_model.specs.Calls.{known_table, some_unknown}
 use Rattle.h5w_model.specs.Tables.{needed, needed_keys}
-use Rattle.h5w_lookup.specs.Described.{described_of}
+use Rattle.h5w_dataset.specs.Described.{described_of}
 use Rattle.h5w_lookup.specs.Slots.{answered}
 use Rattle.h5w_lookup.specs.Unknown.{unknown_at, needed_with}
 use Rattle.h5w_lookup.proofs.UnknownLemmas.{known_first, unknown_is, found_start}

@@ -2,7 +2,7 @@ use Rattle.std.proofs.Common.{◌∙◌, [], length, ap, sym}
 use Rattle.h5w_model.specs.Calls.{known_table}
 use Rattle.h5w_lookup.specs.Attempts.{known_of, rules_of}
 use Rattle.h5w_lookup.specs.Indexes.{in_place_of}
-use Rattle.h5w_lookup.specs.Described.{described_of}
+use Rattle.h5w_dataset.specs.Described.{described_of}
 use Rattle.h5w_lookup.specs.Slots.{slots_rest}
 use Rattle.h5w_lookup.specs.Stores.{kept}
 use Rattle.h5w_lookup.specs.Unknown.{needed_with}

@@ -1,6 +1,6 @@
 use Rattle.std.proofs.Common.{◌∙◌, ap}
 use Rattle.h5w_lookup.specs.Attempts.{known_of, rules_of, described_rest}
-use Rattle.h5w_reader.specs.Walking.{founds}
+use Rattle.h5w_dataset.specs.Founds.{founds}
 use Rattle.h5w_reader.proofs.behind.Behind.after_walk.Goals as goal
 
 pub returns-in_ok-settle-in-Done : goal.returns-in_ok-settle-in-Done

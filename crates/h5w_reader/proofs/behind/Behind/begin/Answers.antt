@@ -3,7 +3,7 @@ use Rattle.h5w_model.specs.Headers.{prefix_at}
 use Rattle.h5w_reader.specs.Walking.{walked}
 use Rattle.h5w_lookup.specs.Attempts.{known_of, rules_of}
 use Rattle.h5w_reader.specs.Calling.{messages_rest, behind_rest, reached}
-use Rattle.h5w_reader.proofs.ListedLemmas.{prefix_never}
+use Rattle.h5w_dataset.proofs.ListedLemmas.{prefix_never}
 use Rattle.h5w_lookup.proofs.PieceLemmas.{along}
 use Rattle.h5w_reader.proofs.CallLemmas.{behind_err, behind_long, behind_ok}
 use Rattle.h5w_reader.proofs.behind.Behind.begin.Goals as goal

@@ -3,7 +3,7 @@ use Rattle.std.proofs.lemmas.List.{length-append}
 use Rattle.h5w_reader.specs.Bands.{reading_with}
 use Rattle.h5w_reader.specs.Banding.{banded}
 use Rattle.h5w_reader.specs.Grids.{AreWhole, grid_rest, touched_len}
-use Rattle.h5w_lookup.specs.Described.{described_of}
+use Rattle.h5w_dataset.specs.Described.{described_of}
 use Rattle.h5w_reader.proofs.SideLemmas.{grid_cut, grid_read, whole_some}
 use Rattle.h5w_reader.proofs.grid.Grid.enter.Goals as goal
 

@@ -3,7 +3,7 @@ use Rattle.std.proofs.lemmas.List.{length-append}
 use Rattle.h5w_model.specs.Numbers.{undefined}
 use Rattle.h5w_model.specs.Tables.{chunks_across}
 use Rattle.h5w_reader.specs.Bands.{reading_with}
-use Rattle.h5w_lookup.specs.Described.{described_of}
+use Rattle.h5w_dataset.specs.Described.{described_of}
 use Rattle.h5w_reader.specs.Grids.{AreWhole, grid_values, grid_rest, bands_rest}
 use Rattle.h5w_reader.proofs.SideLemmas.{grid_side, grid_none, grid_end, whole_none, chunk_small}
 use Rattle.h5w_reader.proofs.grid.Grid.go_through.Goals as goal

@@ -1,6 +1,6 @@
 use Rattle.std.proofs.Common.{◌≡◌, ◌≤◌, length}
 use Rattle.h5w_reader.specs.Bands.{reading_with}
-use Rattle.h5w_lookup.specs.Described.{described_of}
+use Rattle.h5w_dataset.specs.Described.{described_of}
 use Rattle.h5w_reader.specs.Grids.{AreWhole, grid_rest}
 use Rattle.h5w_reader.proofs.grid.Grid.go_through.Given as goal
 

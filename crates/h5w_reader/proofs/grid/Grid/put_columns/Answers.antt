@@ -2,7 +2,7 @@ use Rattle.std.proofs.Common.{◌≡◌, ◌<◌, ◌≤◌, ◌+◌, ◌*◌, �
 use Rattle.h5w_model.specs.Calls.{first_in_band}
 use Rattle.h5w_types.specs.Fields.{int_type_of}
 use Rattle.h5w_reader.specs.Bands.{reading_with}
-use Rattle.h5w_lookup.specs.Described.{described_of}
+use Rattle.h5w_dataset.specs.Described.{described_of}
 use Rattle.h5w_reader.specs.Grids.{row_values}
 use Rattle.h5w_reader.proofs.ReadLemmas.{some_size}
 use Rattle.h5w_reader.proofs.SideLemmas.{grid_side, row_inside, row_small, row_places, none_columns, some_columns, part_cells}

@@ -3,7 +3,7 @@ use Rattle.std.proofs.lemmas.List.{get_or_read}
 use Rattle.h5w_model.specs.Calls.{first_in_band, last_column}
 use Rattle.h5w_model.specs.Tables.{chunks_across}
 use Rattle.h5w_reader.specs.Bands.{reading_with}
-use Rattle.h5w_lookup.specs.Described.{described_of}
+use Rattle.h5w_dataset.specs.Described.{described_of}
 use Rattle.h5w_reader.specs.Grids.{row_values}
 use Rattle.h5w_reader.proofs.SideLemmas.{grid_side, row_step, columns_all}
 use Rattle.h5w_reader.proofs.grid.Grid.put_row.Goals as goal

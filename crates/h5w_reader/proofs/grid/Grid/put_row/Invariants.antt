@@ -1,7 +1,7 @@
 use Rattle.std.proofs.Common.{◌≡◌, ◌+◌, ◌++◌}
 use Rattle.h5w_model.specs.Calls.{first_in_band}
 use Rattle.h5w_reader.specs.Bands.{reading_with}
-use Rattle.h5w_lookup.specs.Described.{described_of}
+use Rattle.h5w_dataset.specs.Described.{described_of}
 use Rattle.h5w_reader.specs.Grids.{row_values}
 use Rattle.h5w_lookup.specs.declared.known.Known.{Known}
 use Rattle.h5w_reader.proofs.SideLemmas.{columns_before}

@@ -1,7 +1,7 @@
 use Rattle.std.proofs.Common.{◌≡◌, ◌∙◌, ◌++◌, ap, arith}
 use Rattle.h5w_model.specs.Calls.{first_in_band}
 use Rattle.h5w_reader.specs.Bands.{reading_with, rows_in_band}
-use Rattle.h5w_lookup.specs.Described.{described_of}
+use Rattle.h5w_dataset.specs.Described.{described_of}
 use Rattle.h5w_reader.specs.Grids.{rows_values}
 use Rattle.h5w_reader.proofs.SideLemmas.{rows_step}
 use Rattle.h5w_reader.proofs.grid.Grid.put_rows.Goals as goal

@@ -1,6 +1,6 @@
 use Rattle.std.proofs.Common.{ℕ, ◌<◌, ◌+◌, ◌-◌, ◌*◌, ◌^◌, ◌∙◌, [], ap, sym, subst, arith}
 use Rattle.h5w_model.specs.Calls.{first_in_band, last_in_band, last_column}
-use Rattle.h5w_lookup.specs.Described.{described_of}
+use Rattle.h5w_dataset.specs.Described.{described_of}
 use Rattle.h5w_reader.proofs.SideLemmas.{grid_side, reading_at, range_starts, range_len, range_fits}
 use Rattle.h5w_reader.proofs.grid.Grid.range.Goals as goal
 

@@ -1,7 +1,7 @@
 use Rattle.std.proofs.Common.{◌≡◌, ◌∙◌, ◌+◌, ◌^◌, ◌<◌, ◌≤◌, length, sym, subst, arith}
 use Rattle.h5w_model.specs.Calls.{touched_from}
 use Rattle.h5w_reader.specs.Grids.{touched_len}
-use Rattle.h5w_lookup.specs.Described.{described_of}
+use Rattle.h5w_dataset.specs.Described.{described_of}
 use Rattle.h5w_reader.specs.Bands.{reading_with}
 use Rattle.h5w_reader.proofs.SideLemmas.{grid_side, grid_past, grid_look}
 use Rattle.h5w_reader.proofs.grid.Grid.visit.Goals as goal

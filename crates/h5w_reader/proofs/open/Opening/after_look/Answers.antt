@@ -1,6 +1,6 @@
 use Rattle.std.proofs.Common.{◌≡◌, ◌≤◌, ◌^◌, ◌+◌, ◌∙◌, length, sym, Ok, Err, arith}
 use Rattle.h5w_model.specs.Headers.{prefix_at}
-use Rattle.h5w_reader.proofs.ListedLemmas.{prefix_never}
+use Rattle.h5w_dataset.proofs.ListedLemmas.{prefix_never}
 use Rattle.h5w_reader.proofs.OpenLemmas.{first_err, first_small, first_long, first_edge}
 use Rattle.h5w_reader.proofs.open.Opening.after_look.Goals as goal
 

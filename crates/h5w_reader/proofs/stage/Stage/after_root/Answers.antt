@@ -1,6 +1,6 @@
 use Rattle.std.proofs.Common.{◌≡◌, inl, inr, ◌∙◌, sym, Ok, Err}
 use Rattle.h5w_model.specs.Datasets.{linked}
-use Rattle.h5w_reader.specs.Walking.{founds}
+use Rattle.h5w_dataset.specs.Founds.{founds}
 use Rattle.h5w_reader.specs.Calling.{place_rest}
 use Rattle.h5w_reader.proofs.CallLemmas.{place_ok, place_err, refused_is}
 use Rattle.h5w_reader.proofs.stage.Stage.after_root.Goals as goal

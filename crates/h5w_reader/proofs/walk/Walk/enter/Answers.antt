@@ -1,7 +1,8 @@
 use Rattle.std.proofs.Common.{length, sym}
 use Rattle.h5w_model.specs.Headers.{block_at}
-use Rattle.h5w_reader.specs.Walking.{founds, stack, block_left, walked}
-use Rattle.h5w_reader.proofs.ListedLemmas.{block_listed, listed_ok, listed_err}
+use Rattle.h5w_dataset.specs.Founds.{founds, stack}
+use Rattle.h5w_reader.specs.Walking.{block_left, walked}
+use Rattle.h5w_dataset.proofs.ListedLemmas.{block_listed, listed_ok, listed_err}
 use Rattle.h5w_reader.proofs.WalkLemmas.{gives_ok, gives_err, block_cut, block_read, block_refused}
 use Rattle.h5w_lookup.proofs.PieceLemmas.{along}
 use Rattle.h5w_reader.proofs.walk.Walk.enter.Goals as goal

@@ -1,5 +1,6 @@
 use Rattle.std.proofs.Common.{◌≡◌, vec_len}
-use Rattle.h5w_reader.specs.Walking.{walk_rest, founds, stack}
+use Rattle.h5w_dataset.specs.Founds.{founds, stack}
+use Rattle.h5w_reader.specs.Walking.{walk_rest}
 use Rattle.h5w_reader.proofs.walk.Walk.go_on.Given as goal
 
 abbrev pub invariant-loop-m : goal.invariant-loop-m

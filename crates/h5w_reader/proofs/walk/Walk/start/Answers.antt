@@ -4,7 +4,7 @@ use Rattle.h5w_model.specs.Headers.{messages_at}
 use Rattle.h5w_model.specs.Datasets.{found_at}
 use Rattle.h5w_reader.specs.Walking.{walk_rest, chunk_0_rest, walked}
 use Rattle.h5w_lookup.proofs.PieceLemmas.{along}
-use Rattle.h5w_reader.proofs.ListedLemmas.{messages_listed, listed_ok, listed_err}
+use Rattle.h5w_dataset.proofs.ListedLemmas.{messages_listed, listed_ok, listed_err}
 use Rattle.h5w_reader.proofs.WalkLemmas.{gives_ok, gives_err, chunk_ok, chunk_err}
 use Rattle.h5w_reader.proofs.walk.Walk.start.Goals as goal
 

@@ -1,6 +1,6 @@
 use Rattle.std.proofs.Common.{◌≡◌, ◌<◌, ◌-◌, refl, sym, arith}
 use Rattle.h5w_model.specs.Datasets.{block_place, block_len}
-use Rattle.h5w_reader.specs.Walking.{found_of, founds, stack}
+use Rattle.h5w_dataset.specs.Founds.{found_of, founds, stack}
 use Rattle.h5w_reader.proofs.WalkLemmas.{walk_full, walk_small, walk_enter}
 use Rattle.h5w_reader.proofs.walk.Walk.visit.Goals as goal
 

@@ -1,0 +1,5 @@
+pub mod ChunkLemmas
+pub mod DescribedLemmas
+pub mod FillLemmas
+pub mod ListedLemmas
+pub mod LinkLemmas
