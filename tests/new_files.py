@@ -31,10 +31,11 @@ def superblock(flags, end, version=3):
     return sealed(b"\x89HDF\r\n\x1a\n" + bytes([version, 8, 8, flags]) + bytes(8) + UNDEFINED + struct.pack("<QQ", end, 48))
 
 
-def root_header(name, dataset):
+def root_header(name, dataset, *more):
+    """With a link to a dataset, and to more of them, each a name and a place."""
     link_info = bytes(2) + UNDEFINED * 2
-    link = bytes([1, 0, len(name)]) + name + struct.pack("<Q", dataset)
-    return header(message(2, 0, link_info) + message(10, 0, bytes(2)) + message(6, 0, link))
+    links = [bytes([1, 0, len(name)]) + name + struct.pack("<Q", place) for name, place in ((name, dataset), *more)]
+    return header(message(2, 0, link_info) + message(10, 0, bytes(2)) + b"".join(message(6, 0, it) for it in links))
 
 
 def dataset_header(kind, chunk, fill, index, columns=None, rows=0):
@@ -70,9 +71,12 @@ def tree_block():
     return sealed(b"BTHD" + bytes([0, 10]) + struct.pack("<IHHBB", 2048, 24, 0, 100, 40) + UNDEFINED + struct.pack("<HQ", 0, 0))
 
 
-def new_file(kind, chunk, fill=None, name=b"data", flags=0, columns=None, version=3):
-    """The bytes of a file with an empty dataset of this type, with so many rows in a chunk."""
-    dataset = 48 + 54 + len(name)
-    index = dataset + len(dataset_header(kind, chunk, fill, 0, columns))
-    blocks = tree_block() if grows(columns) else array_blocks(index)
-    return superblock(flags, index + len(blocks), version) + root_header(name, dataset) + dataset_header(kind, chunk, fill, index, columns) + blocks
+def new_file(kind, chunk, fill=None, name=b"data", flags=0, columns=None, version=3, more=()):
+    """The bytes of a file with an empty dataset of this type, with so many rows in a chunk, and with such a one under each of more names."""
+    places, sets = [], b""
+    first = 48 + len(root_header(name, 0, *((it, 0) for it in more)))
+    for _ in (name, *more):
+        places.append(first + len(sets))
+        index = places[-1] + len(dataset_header(kind, chunk, fill, 0, columns))
+        sets += dataset_header(kind, chunk, fill, index, columns) + (tree_block() if grows(columns) else array_blocks(index))
+    return superblock(flags, first + len(sets), version) + root_header(name, places[0], *zip(more, places[1:])) + sets

@@ -1,11 +1,13 @@
-"""Files of several datasets, as h5py makes them: the check of all names in one call, in every order of the names."""
+"""Files of several datasets: as h5py makes them, with the check of all names in one call, in every order of the names; and as the program
+makes them, with what other tools read and write."""
 import itertools
 import os
 import re
 
 import h5py
 
-from appends import PROGRAM, numpy_type, of, run, values_of
+from appends import PROGRAM, lines_of, listed, numpy_type, of, run, shape_of, table, text_of, values_of, wide
+from new_files import column_words, in_words, maximums_of
 
 # Datasets by name: type, shape, greatest shape, sides of a chunk. An array finds the chunks of a line and of a fixed table, a tree those of a table.
 SETS = {
@@ -70,9 +72,67 @@ def linked(folder, names):
     return found if re.fullmatch(r"status 5: finding 7 \d+\n", missing) else [*found, f"a missing name before the second link: {missing!r}"]
 
 
+# ---- Files that the program makes
+
+# how many values each of the datasets gets, in turn
+COUNTS = (18, 0, 6, 600, 12, 6, 24, 30)
+
+
+def seen(file, kind, held, columns):
+    """What h5ls, h5dump and h5py read otherwise than these values of each dataset."""
+    found, wanted = [], {name: table(values, columns) for name, values in held.items()}
+    told = sorted(re.sub(r" +", " ", it) for it in run(["h5ls", file]).splitlines())
+    found += of("h5ls", told, sorted(f"{name} Dataset {' '.join(listed(shape_of(len(rows), columns), columns))}" for name, rows in wanted.items()))
+    for name, values in held.items():
+        text = run(["h5dump", "-y", "-w", "1", "-d", f"/{name}", file])
+        found += of(f"h5dump {name}", text.split("DATA {")[-1].split("}")[0].replace(",", " ").split(), [str(it) for it in values])
+    with h5py.File(file, "r") as opened:
+        found += of("names", sorted(opened), sorted(held))
+        for name, rows in wanted.items():
+            data = opened[name]
+            found += of(f"h5py {name}", [data.dtype.str, data.maxshape, data[:].tolist()], [numpy_type(kind).str, maximums_of(columns), rows])
+    return found
+
+
+def polled(file, held, columns):
+    """What the program reads otherwise of each dataset by itself, and of all in one check."""
+    found = []
+    for name, values in held.items():
+        rows = table(values, columns)
+        found += of(f"poll {name}", run([PROGRAM, "poll", file, "--name", name, "--values"]), "".join(f"{it}\n" for it in [f"rows {len(rows)}", *lines_of(values, columns)]))
+    numbers = " ".join(str(len(it) // wide(columns)) for it in held.values())
+    said = run([PROGRAM, "check", file, "--name", ",".join(held)])
+    return found + ([] if re.fullmatch(rf"valid rows {numbers} chunks \d+ blocks \d+ end {os.path.getsize(file)} lost \d+\n", said) else [f"check: {said!r}"])
+
+
+def ours(folder, kind, names, columns):
+    """A file that the program makes: each dataset is appended to by the program in its turn, and then by h5py."""
+    file, held = f"{folder}/f.h5", {name: [] for name in names}
+    said = run([PROGRAM, "new", file, "--type", kind, "--chunk", "2", "--name", ",".join(names), *column_words(columns)])
+    found = of("new", said, f"new end {os.path.getsize(file)}\n") + seen(file, kind, held, columns) + polled(file, held, columns)
+    for name, count in zip(names, COUNTS):
+        held[name] = values_of(kind, count)
+        rows = count // wide(columns)
+        line = f"rows {rows}\n" if rows else ""
+        found += of(f"append {name}", run([PROGRAM, "append", file, "--name", name], text_of([held[name]], columns)), f"{line}closed {rows}\n")
+        found += polled(file, held, columns)
+    found += seen(file, kind, held, columns)
+    with h5py.File(file, "r+", libver="latest") as opened:
+        for name in names:
+            more = values_of(kind, 9 * wide(columns))
+            opened[name].resize(opened[name].shape[0] + 9, axis=0)
+            opened[name][-9:] = table(more, columns)
+            held[name] += more
+    return found + seen(file, kind, held, columns) + polled(file, held, columns)
+
+
 def trials():
     for count in (2, 3, 4):
         for names in itertools.combinations(SETS, count):
             yield f"h5py makes {', '.join(names)}; a check of all", lambda folder, it=names: checked(folder, it)
     for names in (("line",), ("table", "fixed")):
         yield f"h5py makes {', '.join(names)}, and a second link to {names[0]}", lambda folder, it=names: linked(folder, it)
+    for kind, count, columns in (("i32le", 2, None), ("u8", 8, None), ("i16be", 3, (3, 2)), ("u64le", 2, (3, 2, "fixed"))):
+        names = ["a", "b", "line_3", "D" * 64, "e", "f", "g", "h"][:count]
+        of_columns = f" of {in_words(columns)}" if columns else ""
+        yield f"the program makes {count} datasets of {kind}{of_columns}", lambda folder, it=(kind, names, columns): ours(folder, *it)

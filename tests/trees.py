@@ -43,7 +43,9 @@ def message(kind, flags, body):
 
 
 def header(messages):
-    return sealed(b"OHDR\x02\x00" + struct.pack("<B", len(messages)) + messages)
+    """A header of these messages, whose size takes one byte, or two where it is above 255."""
+    size = struct.pack("<BB", 0, len(messages)) if len(messages) < 256 else struct.pack("<BH", 1, len(messages))
+    return sealed(b"OHDR\x02" + size + messages)
 
 
 UNDEFINED = b"\xff" * 8

@@ -1,151 +1,156 @@
 -- The making of a file.
-use Rattle.std.proofs.Common.{◌≡◌, ℕ, ◌+◌, ◌*◌, ◌/◌, ◌<◌, ◌≤◌, ℤ, Bool, true, false, cond, List, [], ◌∷◌, ◌++◌, length, take, Option, Some, None, Result, Ok, Err, refl, sym, ap, ap₂, ◌∙◌, subst, inl, inr, arith, append_assoc, append-nil, length-append}
-use Rattle.std.specs.Prelude.{IfSome, OnOk, codes, is_none, option_map}
+use Rattle.std.proofs.Common.{◌≡◌, ℕ, zero, suc, ◌+◌, ◌<◌, ◌≤◌, Bool, true, false, cond, List, [], ◌∷◌, ◌++◌, length, length-append, append_assoc, append-nil, get_or, take, drop, Option, Some, None, Result, Ok, Err, refl, sym, ap, ap₂, ◌∙◌, subst, inl, inr, arith}
+use Rattle.std.specs.Prelude.{IfErr, IfSome, OnOk, is_none, option_map}
+use Rattle.std.specs.FinMap as finite
+use Rattle.std.specs.List.{AllByRecursion}
 use Rattle.std.specs.Option.{unwrap_or}
 use Rattle.std.specs.Ordering.{nat_cmp, eq_by_cmp}
 use Rattle.std.specs.Cmp.Lexicographic.{slice_cmp, nat_list_cmp_total}
-use Rattle.std.specs.FinMap as finite
-use Rattle.std.proofs.Math.Seq.{take-append_seam, take-length}
-use Rattle.std.proofs.lemmas.List.{length-map}
-use Rattle.std.proofs.lemmas.Nat.{div-mul-add}
+use Rattle.std.proofs.Math.Seq.{drop-cons, take-append_seam}
+use Rattle.std.proofs.lemmas.List.{drop_all}
 use Rattle.h5w_model.specs.Causes.{Rose}
-use Rattle.h5w_model.specs.Images.{apply, image}
-use Rattle.h5w_model.specs.Logs.{Log, flushed, flushed_rows, hist}
-use Rattle.h5w_model.specs.Prefixed.{IsPosition, image_at}
-use Rattle.h5w_model.specs.declared.cell.IndexKind.{IndexKind}
-use Rattle.h5w_model.specs.declared.cell.IndexKind.TheVariants.{Array, Tree}
+use Rattle.h5w_model.specs.Findings.{Used}
+use Rattle.h5w_model.specs.Images.{AllSized, apply, image}
 use Rattle.h5w_model.specs.Numbers.{range}
 use Rattle.h5w_model.specs.Superblock.{super_at}
-use Rattle.h5w_model.specs.Tables.{Shows, format_limits}
-use Rattle.h5w_model.specs.Findings.{Valid}
-use Rattle.h5w_model.specs.Datasets.{Described}
 use Rattle.h5w_model.specs.declared.piece.Write.{Write}
 use Rattle.h5w_model.specs.declared.root.Super.{Super}
-use Rattle.h5w_model.proofs.ImageLemmas.{At-apply, image-push, length-apply}
+use Rattle.h5w_model.proofs.ImageLemmas.{AllSized-append, At-apply, image-push}
 use Rattle.h5w_model.proofs.SuperLemmas.{length-super_bytes, super_at-super_bytes}
+use Rattle.h5w_steps.specs.Moments.{Represents, reading_of}
+use Rattle.h5w_steps.proofs.FoundLemmas.{moment_found, moment_shows}
 use Rattle.h5w_image.specs.View.{DiskState, DiskView, Files, Leaves, file, made, put}
 use Rattle.h5w_image.proofs.Names.{get-insert_same}
-use Rattle.h5w_options.specs.Options.{AreOptions}
-use Rattle.h5w_options.specs.declared.options.Options.{Options}
-use Rattle.h5w_creation_laws.specs.CreatedFiles as created
-use Rattle.h5w_creation_laws.specs.CreatedFiles.{CreatedFile, IsCreatable, block_write, created_blocks, created_log, created_writes, described_of, header_block, index_blocks, root_block, super_block, super_of}
-use Rattle.h5w_creation_laws.specs.CreationLaws.{IsShown}
-use Rattle.h5w_creation_laws.proofs.CreatedLaws.{created_new, created_sizes}
-use Rattle.h5w_creation_laws.proofs.LogLaws.{creation_laws}
-use Rattle.h5w_session.specs.Creations.{IsCreated, new_file}
-use Rattle.h5w_session.specs.Sessions.{Session, closed_of}
-use Rattle.h5w_session.specs.Stands.{Stands}
-use Rattle.h5w_session.proofs.OptionLemmas.{creatable}
-use Rattle.h5w_session.proofs.LawLemmas.{shown_laws, standing_laws}
+use Rattle.h5w_creation_laws.specs.CreatedFiles.{CreatedFile, block_write}
+use Rattle.h5w_creation_laws.specs.CreationLaws.{WritesEndBy}
+use Rattle.h5w_creation.specs.Forms.{IsForm}
+use Rattle.h5w_creation.specs.declared.form.Form.{Form}
+use Rattle.h5w_several_creation.specs.Forms.{AreNames, all_by}
+use Rattle.h5w_several_creation.proofs.SetLemmas.{all_creatable}
+use Rattle.h5w_several_creation_laws.specs.SeveralFiles.{AllNamed, AreCreatable, closed_writes, created_writes, end_behind, end_of, first_place, moment_at, names_of, root_ranges, super_block, super_of}
+use Rattle.h5w_several_creation_laws.specs.SeveralLaws.{EachStands}
+use Rattle.h5w_several_creation_laws.proofs.PlaceLemmas.{end_above}
+use Rattle.h5w_several_creation_laws.proofs.SetLemmas.{ends_joined}
+use Rattle.h5w_several_creation_laws.proofs.StandLaws.{several_sizes, several_stand}
 use Rattle.h5w_text.specs.Errors.{error_text}
 use Rattle.h5w_text.specs.Says.{Said}
 use Rattle.h5w_text.specs.Statuses.{status_of}
 use Rattle.h5w_text.specs.Streams.{SinkView}
-use Rattle.h5w_text.specs.Table.{numbers_text}
 use Rattle.h5w_text.specs.declared.error.ErrorLine.{ErrorLine}
 use Rattle.h5w_text.specs.declared.error.ErrorLine.TheVariants as errors
 use Rattle.h5w_text.specs.declared.status.Status.{Status}
 use Rattle.h5w_text.specs.declared.status.Status.TheVariants as statuses
 use Rattle.h5w_files.specs.Images.{LeavesFiles}
 use Rattle.h5w_files.specs.Ends.{IsGivenBy, EndsWell, status_by}
-use Rattle.h5w_appending.specs.Puts.{PutsPieces, PutsSome, after_puts, counts_of, showing, writes_of}
-use Rattle.h5w_appending.specs.Creates.{CreateEnds, CreatesTo, Fills, FillsAll, FillsSome, FillsUpTo, HasPut, IsEmptyFile, answer_of, closed_super, closing_of, create_line, create_text, end_of, new_bytes, new_pieces, with_new}
-use Rattle.h5w_appending.specs.declared.creating.CreateError.{CreateError}
-use Rattle.h5w_appending.specs.declared.creating.CreateError.TheVariants as refusals
 use Rattle.h5w_files.proofs.ClearLemmas.{any_told}
 use Rattle.h5w_files.proofs.EndLemmas.{completes}
-use Rattle.h5w_appending.proofs.PutLemmas.{are_both, are_of, length-counts, length-writes, no_puts, puts_twice, rose_more, showing-append, writes-append}
+use Rattle.h5w_appending.specs.Puts.{after_puts, counts_of, writes_of}
+use Rattle.h5w_appending.specs.Creates.{AreEmptyDatasets, CreateEnds, CreatesTo, FillsFew, HasPut, IsEmptyDataset, Makes, PutsFew, PutsUpTo, answer_of, create_line, create_text, end_given, new_bytes, with_new}
+use Rattle.h5w_appending.specs.declared.creating.CreateError.{CreateError}
+use Rattle.h5w_appending.specs.declared.creating.CreateError.TheVariants as refusals
+use Rattle.h5w_appending.proofs.PutLemmas.{are_both, are_of, length-counts, length-writes, no_puts, puts_twice, rose_more, writes-append}
 
--- ---- The bytes of a new file
+-- ---- One piece after the other
 
--- all that happened to the session that makes it
-abbrev new_log : CreatedFile → Log
-new_log f = showing (new_pieces f) (created_log f)
+pub up_to_none : (v : DiskView) (name : List ℕ) (ws : List Write) → PutsUpTo name ws ws v v
+up_to_none v name ws = record {
+  puts = [];
+  pieces = refl;
+  disk = record { told = no_puts name v.told; faults = omega arith; through = refl };
+  since = tt;
+  room = omega arith;
+  ends = omega arith;
+}
 
--- a creation has at most five pieces
-few_blocks : (k : IndexKind) (f : CreatedFile) → length (index_blocks k f ++ header_block f ∷ root_block f ∷ super_block f ∷ []) ≤ 5
-few_blocks Array f = omega arith
-few_blocks Tree f = omega arith
+one_put : (name : List ℕ) (wr : Write) (faults : ℕ) (t : Option DiskState) → option_map (put name wr faults) t ≡ option_map (after_puts name ((wr, faults) ∷ [])) t
+one_put name wr faults None = refl
+one_put name wr faults (Some d) = refl
 
-pub few_created : (f : CreatedFile) (most : ℕ) (s : Session) → IsCreated f most s → length s.pending ≤ 5
-few_created f most s made = omega (arith, ap (λ (x : Session). length x.pending) made.session, length-map (created_blocks f) block_write, few_blocks f.index f)
+next_of : (ws : List Write) (i : ℕ) (wr : Write) → i < length ws → wr ≡ get_or ws i wr → drop i ws ≡ wr ∷ drop (i + 1) ws
+next_of ws i wr low is =
+    let more : suc i ≡ i + 1 = omega arith in
+    drop-cons ws i wr low ∙ ap (λ (k : ℕ). get_or ws i wr ∷ drop k ws) more ∙ ap (λ (x : Write). x ∷ drop (i + 1) ws) (sym is)
 
--- the superblock that closes the session is as long as the one that begins it
-new_size : (f : CreatedFile) → IsCreatable f → length (new_bytes f) ≡ created.end_of f
-new_size f is =
-    let all : Write = record { at = 0; piece = closed_super f } in
-    let before : List ℕ = image [] (created_writes f) in
-    let size : length before ≡ created.end_of f = (created_new f is).size in
-    let long : length all.piece ≡ 48 = length-super_bytes (record (super_of f) { flags = 0 }) in
-    ap length (image-push [] (created_writes f) all) ∙ length-apply all before ∙ omega (arith, size, long)
-
--- its superblock is the last that was put
-new_superblock : (f : CreatedFile) → IsCreatable f → super_at (range (new_bytes f) 0 48) ≡ Ok (record (super_of f) { flags = 0 })
-new_superblock f is =
-    let closed : Super = record (super_of f) { flags = 0 } in
-    let last : Write = record { at = 0; piece = closed_super f } in
-    let small = (created_sizes f is).end in
-    let there = At-apply last (image [] (created_writes f)) in
-    ap (λ (img : List ℕ). super_at (range img 0 48)) (image-push [] (created_writes f) last)
-    ∙ ap super_at (ap (λ n. range (apply last (image [] (created_writes f))) 0 n) (sym (length-super_bytes closed)) ∙ there) ∙ super_at-super_bytes closed (inr refl) (omega (arith, small)) (omega arith)
-
-module _ (f : CreatedFile) where
-  shown_here : IsShown f (new_pieces f) (new_log f)
-  shown_here = creation_laws.shown f (new_pieces f)
-
-  -- no row was appended
-  no_rows : 0 < f.columns → flushed_rows (new_log f) ≡ 0
-  no_rows some =
-      let none : flushed (new_log f) ≡ [] = ap (λ (l : Log). flushed l) shown_here.kept ∙ shown_here.flushed 0 in
-      let columns : (new_log f).columns ≡ f.columns = ap (λ (l : Log). l.columns) shown_here.kept in
-      let zero : 0 ≡ 0 * f.columns + 0 = omega arith in
-      ap₂ (λ (vs : List ℤ) c. length vs / c) none columns ∙ ap (λ (n : ℕ). n / f.columns) zero ∙ div-mul-add 0 f.columns 0 some
-
-  bytes_here : image (new_log f).start (hist (new_log f).events) ≡ new_bytes f
-  bytes_here = ap₂ image (ap (λ (l : Log). l.start) shown_here.kept) shown_here.pieces
-
--- A session that was closed behind its creation tells what its file is.
-pub empty_file : (f : CreatedFile) (s : Session) → IsCreatable f → s.name ≡ f.name → s.dataset ≡ described_of f → s.stopped ≡ true → Stands s (new_log f) → IsEmptyFile f (new_bytes f)
-empty_file f s is name dataset stopped stands =
-    let log = new_log f in
-    let count : length (hist log.events) ≡ length (created_blocks f) + 1 =
-    ap length (shown_here f).pieces ∙ length-append (created_writes f) _ ∙ ap (λ n. n + 1) (length-map (created_blocks f) block_write) in
-    let first : log.first ≡ length (created_blocks f) = ap (λ (l : Log). l.first) (shown_here f).kept in
-    let now = standing_laws.stopped s log stands stopped (omega (arith, first, count)) in
-    let p : ℕ = length (hist log.events) in
-    let at : IsPosition log p = record { begun = omega (arith, first, count); reached = omega arith } in
-    let here : image log.start (hist log.events) ≡ image_at log p = ap (image log.start) (sym (take-length (hist log.events))) in
-    let shown = shown_laws.dataset s log p now.reads.shown stands (record { file = f; is = is; log_is = (shown_here f).kept }) at (subst (λ (img : List ℕ). Shows format_limits img s.name now.reads.shown) here now.reads.shows) in
-    let bytes = bytes_here f in
-    let rows : now.reads.shown.dataset.shape.rows ≡ 0 = now.reads.rows_are ∙ no_rows f is.some_columns in
-    let columns : now.reads.shown.dataset.shape.cols ≡ f.columns = shown.columns ∙ ap (λ (d : Described). d.shape.cols) dataset in
+pub up_to_more : {u v w : DiskView} (name : List ℕ) (ws : List Write) (i : ℕ) (wr : Write) → i < length ws → wr ≡ get_or ws i wr → v.faults ≡ u.faults → PutsUpTo name ws (drop i ws) u v
+    → Leaves 1 (option_map (put name wr v.faults) v.told) v w → PutsUpTo name ws (drop (i + 1) ws) u w
+up_to_more {u} {v} {w} name ws i wr low is calm p l =
+    let one : List (Write × ℕ) = (wr, v.faults) ∷ [] in
+    let count = length-append p.puts one in
+    let first = p.room in
+    let second = l.pieces in
+    let low_faults = p.disk.faults in
+    let more_faults = l.faults in
+    let ends = p.ends in
+    let end = l.end name in
     record {
-      summary = now.summary;
-      valid = subst (λ (img : List ℕ). Valid img f.name now.summary) bytes (subst (λ (n : List ℕ). Valid (image log.start (hist log.events)) n now.summary) name now.valid);
-      reads = record {
-        shown = now.reads.shown;
-        shows = subst (λ (img : List ℕ). Shows format_limits img f.name now.reads.shown) bytes (subst (λ (n : List ℕ). Shows format_limits (image log.start (hist log.events)) n now.reads.shown) name now.reads.shows);
-        rows_are = rows;
-        columns_are = columns;
-        count = (let zero : 0 ≡ 0 * now.reads.shown.dataset.shape.cols = omega arith in zero) ∙ sym (ap (λ (n : ℕ). n * now.reads.shown.dataset.shape.cols) rows);
-        values_are = λ k below. absurd (omega (arith, below));
+      puts = p.puts ++ one;
+      pieces =
+          p.pieces ∙ ap (λ (xs : List Write). writes_of p.puts ++ xs) (next_of ws i wr low is) ∙ sym (append_assoc (writes_of p.puts) (wr ∷ []) (drop (i + 1) ws))
+          ∙ ap (λ (xs : List Write). xs ++ drop (i + 1) ws) (sym (writes-append p.puts one));
+      disk = record {
+        told = l.told ∙ one_put name wr v.faults v.told ∙ ap (option_map (after_puts name one)) p.disk.told ∙ puts_twice name p.puts one u.told;
+        faults = omega arith;
+        through = l.through ∙ p.disk.through;
       };
-      shape = λ i. record {
-        rank = (shown.rank ∙ ap (λ (d : Described). d.shape.rank) dataset) i;
-        rows = rows i;
-        cols = columns i;
-        growing = (shown.growing ∙ ap (λ (d : Described). d.shape.growing) dataset) i;
-      };
-      int_type = shown.int_type ∙ ap (λ (d : Described). d.int_type) dataset;
-      fill = shown.fill ∙ ap (λ (d : Described). d.fill) dataset;
-      index = shown.index ∙ ap (λ (d : Described). d.layout.index) dataset;
-      chunk_rows = shown.chunk_rows ∙ ap (λ (d : Described). d.layout.chunk_rows) dataset;
-      chunk_columns = shown.chunk_columns ∙ ap (λ (d : Described). d.layout.chunk_cols) dataset;
-      super = new_superblock f is;
-      size = new_size f is;
+      since = are_both u.faults p.puts one p.since (calm, tt);
+      room = omega arith;
+      ends = omega arith;
     }
 
--- ---- Puts into a file that was made
+some_left : (ws : List Write) (i : ℕ) → i < length ws → 1 ≤ length (drop i ws)
+some_left [] i h = absurd (omega arith)
+some_left (w ∷ ws) zero h = omega arith
+some_left (w ∷ ws) (suc i) h = some_left ws i (omega arith)
+
+-- the disk failed at the next
+pub few_put : {u v w : DiskView} (name : List ℕ) (ws : List Write) (i : ℕ) → i < length ws → PutsUpTo name ws (drop i ws) u v → Leaves 0 v.told v w → Rose v.faults w.faults → PutsFew name ws u w
+few_put {u} {v} {w} name ws i low p l rose =
+    let first = p.room in
+    let second = l.pieces in
+    let low_faults = p.disk.faults in
+    let more_faults = l.faults in
+    let ends = p.ends in
+    let end = l.end name in
+    record {
+      left = drop i ws;
+      some = some_left ws i low;
+      before = record {
+        puts = p.puts;
+        pieces = p.pieces;
+        disk = record { told = l.told ∙ p.disk.told; faults = omega arith; through = l.through ∙ p.disk.through };
+        since = p.since;
+        room = omega arith;
+        ends = omega arith;
+      };
+      rose = rose_more u.faults v.faults w.faults low_faults rose;
+    }
+
+-- all were put
+pub all_up_to : {u v : DiskView} (name : List ℕ) (ws : List Write) (i : ℕ) → length ws ≤ i → PutsUpTo name ws (drop i ws) u v → PutsUpTo name ws [] u v
+all_up_to {u} {v} name ws i h p = subst (λ (xs : List Write). PutsUpTo name ws xs u v) (drop_all i ws h) p
+
+-- what each piece needs
+pub sized_at : (ws : List Write) (i : ℕ) (wr : Write) → AllSized ws → i < length ws → wr ≡ get_or ws i wr → 1 ≤ length wr.piece
+sized_at [] i wr sized low is = absurd (omega arith)
+sized_at (w ∷ ws) zero wr sized low is = subst (λ (x : Write). 1 ≤ length x.piece) (sym is) (sized.0.0)
+sized_at (w ∷ ws) (suc i) wr sized low is = sized_at ws i wr sized.1 (omega arith) is
+
+pub ends_at : (end : ℕ) (ws : List Write) (i : ℕ) (wr : Write) → WritesEndBy end ws → i < length ws → wr ≡ get_or ws i wr → wr.at + length wr.piece ≤ end
+ends_at end [] i wr ends low is = absurd (omega arith)
+ends_at end (w ∷ ws) zero wr ends low is = subst (λ (x : Write). x.at + length x.piece ≤ end) (sym is) (ends.0)
+ends_at end (w ∷ ws) (suc i) wr ends low is = ends_at end ws i wr ends.1 (omega arith) is
+
+pub room_at : {u v : DiskView} (name : List ℕ) (ws : List Write) (i : ℕ) → i < length ws → PutsUpTo name ws (drop i ws) u v → length ws ≤ u.pieces → 1 ≤ v.pieces
+room_at {u} {v} name ws i low p room =
+    let count = ap length p.pieces ∙ length-append (writes_of p.puts) (drop i ws) in
+    let more = p.room in
+    omega (arith, count, length-writes p.puts, some_left ws i low, more, room)
+
+pub ends_higher : (low high : ℕ) (ws : List Write) → low ≤ high → WritesEndBy low ws → WritesEndBy high ws
+ends_higher low high [] le ends = tt
+ends_higher low high (w ∷ ws) le ends = let here = ends.0 in (omega arith, ends_higher low high ws le ends.1)
+
+-- ---- A file that was made
 
 insert_twice : (m : Files) (name b c : List ℕ) → finite.insert (finite.insert m name b) name c ≡ finite.insert m name c
 insert_twice m name b c =
@@ -180,90 +185,6 @@ puts_made : (name : List ℕ) (ps : List (Write × ℕ)) (t : Option DiskState) 
 puts_made name ps None = refl
 puts_made name ps (Some d) = ap Some (ap (after_puts name ps) (made_new name d) ∙ puts_new name [] [] ps d)
 
--- ---- All pieces, and the one that closes the session
-
--- the same piece closes it once its pieces were put
-closes_same : {v w : DiskView} (name : List ℕ) (s t : Session) → PutsPieces name s t v w → closing_of t ≡ closing_of s
-closes_same name s t p = ap closing_of p.session
-
-up_to : {u v w : DiskView} (name : List ℕ) (s t : Session) → Leaves 0 u.told u v → v.faults ≡ u.faults → PutsPieces name s t v w → FillsUpTo name s (t.pending ++ closing_of s ∷ []) u w
-up_to {u} {v} {w} name s t m calm p =
-    let low = m.faults in
-    record {
-      puts = p.puts;
-      pieces = ap (λ (ws : List Write). ws ++ closing_of s ∷ []) p.pieces ∙ append_assoc (writes_of p.puts) t.pending (closing_of s ∷ []);
-      disk = record { told = p.disk.told ∙ ap (option_map (after_puts name p.puts)) m.told; faults = omega (arith, low, p.disk.faults); through = p.disk.through ∙ m.through };
-      since = are_of v.faults u.faults (counts_of p.puts) calm p.since;
-    }
-
-up_to_both : {u v w x : DiskView} (name : List ℕ) (r s t : Session) → Leaves 0 u.told u v → v.faults ≡ u.faults → PutsPieces name r s v w → w.faults ≡ v.faults → s.pending ≡ [] → PutsPieces name (closed_of s) t w x → FillsUpTo name r t.pending u x
-up_to_both {u} {v} {w} {x} name r s t m calm p calmer none q =
-    let low = m.faults in
-    record {
-      puts = p.puts ++ q.puts;
-      pieces =
-          ap (λ (ws : List Write). ws ++ closing_of r ∷ []) (p.pieces ∙ ap (λ (ws : List Write). writes_of p.puts ++ ws) none ∙ append-nil (writes_of p.puts))
-          ∙ ap (λ (c : Write). writes_of p.puts ++ c ∷ []) (sym (closes_same name r s p)) ∙ ap (λ (ws : List Write). writes_of p.puts ++ ws) q.pieces
-          ∙ sym (append_assoc (writes_of p.puts) (writes_of q.puts) t.pending) ∙ ap (λ (ws : List Write). ws ++ t.pending) (sym (writes-append p.puts q.puts));
-      disk = record {
-        told = q.disk.told ∙ ap (option_map (after_puts name q.puts)) (p.disk.told ∙ ap (option_map (after_puts name p.puts)) m.told) ∙ puts_twice name p.puts q.puts u.told;
-        faults = omega (arith, low, p.disk.faults, q.disk.faults);
-        through = q.disk.through ∙ p.disk.through ∙ m.through;
-      };
-      since = are_both u.faults p.puts q.puts (are_of v.faults u.faults (counts_of p.puts) calm p.since) (are_of w.faults u.faults (counts_of q.puts) (calmer ∙ calm) q.since);
-    }
-
--- the disk failed at one of the first pieces
-pub fills_some : {u v w : DiskView} (name : List ℕ) (s t : Session) → Leaves 0 u.told u v → v.faults ≡ u.faults → PutsSome name s t v w → FillsSome name s u w
-unfolding up_to
-fills_some {u} {v} {w} name s t m calm p =
-    let low = m.faults in
-    record {
-      left = t.pending ++ closing_of s ∷ [];
-      some = let count = length-append t.pending (closing_of s ∷ []) in omega (arith, count);
-      filled = up_to name s t m calm p.before;
-      rose = rose_more u.faults v.faults w.faults low p.rose;
-    }
-
--- at the last one
-pub fills_but_last : {u v w x : DiskView} (name : List ℕ) (r s c t : Session) → Leaves 0 u.told u v → v.faults ≡ u.faults → PutsPieces name r s v w → w.faults ≡ v.faults → s.pending ≡ [] → c ≡ closed_of s → PutsSome name c t w x → FillsSome name r u x
-unfolding up_to_both
-fills_but_last {u} {v} {w} {x} name r s c t m calm p calmer none is q =
-    let low = m.faults in
-    let last : PutsSome name (closed_of s) t w x = subst (λ (y : Session). PutsSome name y t w x) is q in
-    record {
-      left = t.pending;
-      some = last.left;
-      filled = up_to_both name r s t m calm p calmer none last.before;
-      rose = rose_more u.faults w.faults x.faults (omega (arith, low, p.disk.faults)) last.rose;
-    }
-
--- at none
-pub fills_all : {u v w x : DiskView} (name : List ℕ) (r s c t : Session) → Leaves 0 u.told u v → v.faults ≡ u.faults → PutsPieces name r s v w → w.faults ≡ v.faults → s.pending ≡ [] → c ≡ closed_of s → ((log : Log) → Stands s log → Stands c log)
-    → PutsPieces name c t w x → t.pending ≡ [] → x.faults ≡ w.faults → FillsAll name r t u x
-fills_all {u} {v} {w} {x} name r s c t m calm p calmer none is keeps q all calmest =
-    let last : PutsPieces name (closed_of s) t w x = subst (λ (y : Session). PutsPieces name y t w x) is q in
-    let same : t ≡ record (closed_of s) { places = t.places; committed = t.committed; pending = t.pending; flushing = t.flushing } = last.session in
-    let first : r.pending ≡ writes_of p.puts = p.pieces ∙ ap (λ (ws : List Write). writes_of p.puts ++ ws) none ∙ append-nil (writes_of p.puts) in
-    let second : closing_of s ∷ [] ≡ writes_of last.puts = last.pieces ∙ ap (λ (ws : List Write). writes_of last.puts ++ ws) all ∙ append-nil (writes_of last.puts) in
-    let both : writes_of p.puts ++ writes_of last.puts ≡ r.pending ++ closing_of r ∷ [] =
-    ap₂ (λ (vs ws : List Write). vs ++ ws) (sym first) (sym second ∙ ap (λ (c : Write). c ∷ []) (closes_same name r s p)) in
-    record {
-      filled = subst (λ (ws : List Write). FillsUpTo name r ws u x) all (up_to_both name r s t m calm p calmer none last);
-      calm = calmest ∙ calmer ∙ calm;
-      same_name = ap (λ (y : Session). y.name) same ∙ ap (λ (y : Session). y.name) p.session;
-      dataset = ap (λ (y : Session). y.dataset) same ∙ ap (λ (y : Session). y.dataset) p.session;
-      stopped = ap (λ (y : Session). y.stopped) same;
-      stands = λ log stands.
-          subst (λ (l : Log). Stands t l) (sym (showing-append (writes_of p.puts) (writes_of last.puts) log) ∙ ap (λ (ws : List Write). showing ws log) both)
-          (last.stands (showing (writes_of p.puts) log) (subst (λ (y : Session). Stands y (showing (writes_of p.puts) log)) is (keeps (showing (writes_of p.puts) log) (p.stands log stands))));
-    }
-
--- ---- What is put of a session that creates its file
-
-abbrev Missing : List ℕ → DiskView → Type 0
-Missing name v = IfSome v.told (λ d. true ≡ is_none (file d name))
-
 none_is : (o : Option (List ℕ)) → true ≡ is_none o → o ≡ None
 none_is None e = refl
 none_is (Some b) e = absurd (cc)
@@ -272,128 +193,204 @@ missing_file : (name : List ℕ) (t : Option DiskState) → IfSome t (λ d. true
 missing_file name None h = tt
 missing_file name (Some d) h = none_is (file d name) h
 
+pub leaves_same : {v w : DiskView} → Leaves 0 v.told v w → LeavesFiles v.told v w
+leaves_same p = record { told = p.told; faults = p.faults; through = p.through }
+
+-- room was made before
+pub up_to_behind : {u v w : DiskView} (name : List ℕ) (ws left : List Write) → Leaves 0 u.told u v → v.faults ≡ u.faults → PutsUpTo name ws left v w → PutsUpTo name ws left u w
+up_to_behind {u} {v} {w} name ws left l calm p =
+    let first = p.room in
+    let second = l.pieces in
+    let low_faults = p.disk.faults in
+    let more_faults = l.faults in
+    let ends = p.ends in
+    let end = l.end name in
+    record {
+      puts = p.puts;
+      pieces = p.pieces;
+      disk = record { told = p.disk.told ∙ ap (option_map (after_puts name p.puts)) l.told; faults = omega arith; through = p.disk.through ∙ l.through };
+      since = are_of v.faults u.faults (counts_of p.puts) calm p.since;
+      room = omega arith;
+      ends = omega arith;
+    }
+
+pub few_behind : {u v w : DiskView} (name : List ℕ) (ws : List Write) → Leaves 0 u.told u v → v.faults ≡ u.faults → PutsFew name ws v w → PutsFew name ws u w
+few_behind {u} {v} {w} name ws l calm p = record {
+  left = p.left;
+  some = p.some;
+  before = up_to_behind name ws p.left l calm p.before;
+  rose = rose_more u.faults v.faults w.faults l.faults p.rose;
+}
+
 -- so many of its pieces
-has_put : {u v w : DiskView} (name : List ℕ) (f : CreatedFile) (s : Session) (left : List Write) (most : ℕ) → IsCreated f most s → Missing name u → Leaves 0 (option_map (made name) u.told) u v → v.faults ≡ u.faults → (p : FillsUpTo name s left v w)
-    → HasPut name f (length p.puts) u w
-has_put {u} {v} {w} name f s left most made missing m calm p =
-    let is = made.session in
-    let pieces : new_pieces f ≡ writes_of p.puts ++ left = sym (ap (λ (x : Session). x.pending ++ closing_of x ∷ []) is) ∙ p.pieces in
-    let some : take (length p.puts) (new_pieces f) ≡ writes_of p.puts =
-    ap₂ (λ n (ws : List Write). take n ws) (sym (length-writes p.puts)) pieces ∙ take-append_seam (writes_of p.puts) left in
+has_put : {u v w : DiskView} (name : List ℕ) (ws left : List Write) → IfSome u.told (λ d. true ≡ is_none (file d name)) → Leaves 0 (option_map (made name) u.told) u v → v.faults ≡ u.faults
+    → (p : PutsUpTo name ws left v w) → HasPut name ws (length p.puts) u w
+has_put {u} {v} {w} name ws left missing m calm p =
+    let some : take (length p.puts) ws ≡ writes_of p.puts = ap₂ (λ n (xs : List Write). take n xs) (sym (length-writes p.puts)) p.pieces ∙ take-append_seam (writes_of p.puts) left in
     let low = m.faults in
     record {
       counts = counts_of p.puts;
       count = length-counts p.puts;
       missing = missing_file name u.told missing;
       disk = record {
-        told = p.disk.told ∙ ap (option_map (after_puts name p.puts)) m.told ∙ puts_made name p.puts u.told ∙ ap (λ (ws : List Write). option_map (with_new name (image [] ws) (counts_of p.puts)) u.told) (sym some);
+        told = p.disk.told ∙ ap (option_map (after_puts name p.puts)) m.told ∙ puts_made name p.puts u.told ∙ ap (λ (xs : List Write). option_map (with_new name (image [] xs) (counts_of p.puts)) u.told) (sym some);
         faults = omega (arith, low, p.disk.faults);
         through = p.disk.through ∙ m.through;
       };
       since = are_of v.faults u.faults (counts_of p.puts) calm p.since;
     }
 
-fewer : (f : CreatedFile) (s : Session) (puts : List (Write × ℕ)) (left : List Write) (most : ℕ) → IsCreated f most s → s.pending ++ closing_of s ∷ [] ≡ writes_of puts ++ left → length puts + length left ≡ length (new_pieces f)
-fewer f s puts left most made pieces =
-    let all : length (writes_of puts ++ left) ≡ length (new_pieces f) = sym (ap length pieces) ∙ ap (λ (x : Session). length (x.pending ++ closing_of x ∷ [])) made.session in
-    omega (arith, all, length-append (writes_of puts) left, length-writes puts)
+count_of : {v w : DiskView} (name : List ℕ) (ws left : List Write) → (p : PutsUpTo name ws left v w) → length p.puts + length left ≡ length ws
+count_of name ws left p = omega (arith, ap length p.pieces, length-append (writes_of p.puts) left, length-writes p.puts)
+
+pub made_all : {u v w : DiskView} (name : List ℕ) (ws : List Write) → IfSome u.told (λ d. true ≡ is_none (file d name)) → Leaves 0 (option_map (made name) u.told) u v → v.faults ≡ u.faults
+    → PutsUpTo name ws [] v w → w.faults ≡ v.faults → Makes name ws u w (Ok tt)
+made_all {u} {v} {w} name ws missing m calm p calmer =
+    let n : length p.puts ≡ length ws = omega (arith, count_of name ws [] p) in
+    (subst (λ k. HasPut name ws k u w) n (has_put name ws [] missing m calm p), calmer ∙ calm)
+
+pub made_few : (u v w : DiskView) (name : List ℕ) (ws : List Write) (e : CreateError) → IfSome u.told (λ d. true ≡ is_none (file d name)) → Leaves 0 (option_map (made name) u.told) u v → v.faults ≡ u.faults
+    → FillsFew name ws v w e → Makes name ws u w (Err e)
+made_few u v w name ws refusals.Exists missing m calm p = absurd p
+made_few u v w name ws refusals.Failed missing m calm p =
+    let low = m.faults in
+    let some = p.some in (
+      inr (record { pieces = length p.before.puts; few = omega (arith, count_of name ws p.left p.before, some); before = has_put name ws p.left missing m calm p.before }),
+      rose_more u.faults v.faults w.faults low p.rose,
+    )
+made_few u v w name ws refusals.OutOfMemory missing m calm p =
+    let low = m.faults in
+    inr (record {
+      counts = [];
+      count = refl;
+      missing = missing_file name u.told missing;
+      disk = record {
+        told = p.told ∙ m.told ∙ no_puts name (option_map (made name) u.told) ∙ puts_made name [] u.told;
+        faults = omega (arith, low, p.faults);
+        through = p.through ∙ m.through;
+      };
+      since = tt;
+    })
+
+-- by what was answered
+pub made_by : (u v w : DiskView) (name : List ℕ) (ws : List Write) (r : Result (Unit {0}) CreateError) → IfSome u.told (λ d. true ≡ is_none (file d name)) → Leaves 0 (option_map (made name) u.told) u v → v.faults ≡ u.faults
+    → OnOk r (PutsUpTo name ws [] v w) → OnOk r (w.faults ≡ v.faults) → IfErr r (λ e. FillsFew name ws v w e) → Makes name ws u w r
+made_by u v w name ws (Ok a) missing m calm p calmer few = made_all name ws missing m calm p calmer
+made_by u v w name ws (Err e) missing m calm p calmer few = made_few u v w name ws e missing m calm few
+
+-- ---- What the pieces are
+
+names_same : (names : List (List ℕ)) (form : Form) → names_of (all_by names form) ≡ names
+names_same [] form = refl
+names_same (name ∷ names) form = ap (λ (ns : List (List ℕ)). name ∷ ns) (names_same names form)
+
+as_many : (names : List (List ℕ)) (form : Form) → length (all_by names form) ≡ length names
+as_many [] form = refl
+as_many (name ∷ names) form = let rest = as_many names form in omega arith
+
+pub all_may : (names : List (List ℕ)) (form : Form) → IsForm form → AreNames names → AllNamed names → AreCreatable (all_by names form)
+all_may names form h are named =
+    let some = are.some in
+    let few = are.few in
+    let many = as_many names form in
+    record {
+      some = omega arith;
+      few = omega arith;
+      each = all_creatable names form h are.each;
+      named = subst AllNamed (sym (names_same names form)) named;
+    }
+
+pub closed_sized : (fs : List CreatedFile) → AreCreatable fs → AllSized (closed_writes fs)
+closed_sized fs h =
+    let long = length-super_bytes (super_of 0 fs) in
+    AllSized-append (created_writes fs) (block_write (super_block 0 fs) ∷ []) (several_sizes fs h).sized ((omega arith, omega arith), tt)
+
+pub closed_within : (fs : List CreatedFile) → AreCreatable fs → WritesEndBy (end_of fs) (closed_writes fs)
+closed_within fs h =
+    let long = length-super_bytes (super_of 0 fs) in
+    let above = end_above (first_place fs) fs in
+    ends_joined (end_of fs) (created_writes fs) (block_write (super_block 0 fs) ∷ []) (several_sizes fs h).within (omega arith, tt)
+
+-- a dataset that is at its first moment reads as empty
+empty_here : (img : List ℕ) (s : Super) (root : List Used) (place : ℕ) (f : CreatedFile) → Represents img f.name (moment_at s root place f) → IsEmptyDataset f img
+empty_here img s root place f r =
+    let m = moment_at s root place f in
+    let found = moment_found img f.name m r in
+    record {
+      summary = found.summary;
+      valid = found.valid;
+      reads = record { shown = reading_of m; shows = moment_shows img f.name m r; rows_are = refl; columns_are = refl; count = r.count; values_are = r.cells };
+      shape = refl;
+      int_type = refl;
+      fill = refl;
+      index = refl;
+      chunk_rows = refl;
+      chunk_columns = refl;
+    }
+
+each_empty : (img : List ℕ) (s : Super) (root : List Used) (place : ℕ) (fs : List CreatedFile) → EachStands img s root place fs → AllByRecursion (λ f. IsEmptyDataset f img) fs
+each_empty img s root place [] h = tt
+each_empty img s root place (f ∷ fs) h = (empty_here img s root place f h.0, each_empty img s root (end_behind place f) fs h.1)
+
+-- its superblock is the last that was put
+new_superblock : (fs : List CreatedFile) → AreCreatable fs → super_at (range (new_bytes fs) 0 48) ≡ Ok (super_of 0 fs)
+new_superblock fs h =
+    let closed : Super = super_of 0 fs in
+    let last : Write = block_write (super_block 0 fs) in
+    let small = (several_sizes fs h).end in
+    let few = h.few in
+    let there = At-apply last (image [] (created_writes fs)) in
+    ap (λ (img : List ℕ). super_at (range img 0 48)) (image-push [] (created_writes fs) last)
+    ∙ ap super_at (ap (λ n. range (apply last (image [] (created_writes fs))) 0 n) (sym (length-super_bytes closed)) ∙ there) ∙ super_at-super_bytes closed (inr refl) (omega (arith, small, few)) (omega arith)
+
+pub new_there : (fs : List CreatedFile) → AreCreatable fs → AreEmptyDatasets fs (new_bytes fs)
+new_there fs h =
+    let closed = (several_stand fs h).closed in
+    record {
+      each = each_empty (new_bytes fs) (super_of 0 fs) (root_ranges fs) (first_place fs) fs closed.stands;
+      valid = closed.valid;
+      super = new_superblock fs h;
+      size = closed.size;
+    }
 
 -- ---- The answer
 
-given_missing : (name : List ℕ) (f : CreatedFile) (t : Option DiskState) → IfSome t (λ d. true ≡ is_none (file d name)) → IfSome t (λ d. IsGivenBy (end_of f (file d name)) (Ok (created.end_of f)))
-given_missing name f None h = tt
-given_missing name f (Some d) h = ap (end_of f) (none_is (file d name) h)
+given_missing : (name : List ℕ) (end : ℕ) (t : Option DiskState) → IfSome t (λ d. file d name ≡ None) → IfSome t (λ d. IsGivenBy (end_given end (file d name)) (Ok end))
+given_missing name end None h = tt
+given_missing name end (Some d) h = ap (end_given end) h
 
-some_exists : (f : CreatedFile) (o : Option (List ℕ)) → false ≡ is_none o → end_of f o ≡ Err errors.Exists
-some_exists f None e = absurd (cc)
-some_exists f (Some b) e = refl
+some_exists : (end : ℕ) (o : Option (List ℕ)) → false ≡ is_none o → end_given end o ≡ Err errors.Exists
+some_exists end None e = absurd (cc)
+some_exists end (Some b) e = refl
 
-given_exists : (name : List ℕ) (f : CreatedFile) (t : Option DiskState) → IfSome t (λ d. false ≡ is_none (file d name)) → IfSome t (λ d. IsGivenBy (end_of f (file d name)) (Err errors.Exists))
-given_exists name f None h = tt
-given_exists name f (Some d) h = some_exists f (file d name) h
+given_exists : (name : List ℕ) (end : ℕ) (t : Option DiskState) → IfSome t (λ d. false ≡ is_none (file d name)) → IfSome t (λ d. IsGivenBy (end_given end (file d name)) (Err errors.Exists))
+given_exists name end None h = tt
+given_exists name end (Some d) h = some_exists end (file d name) h
 
-leaves_same : {v w : DiskView} → Leaves 0 v.told v w → LeavesFiles v.told v w
-leaves_same p = record { told = p.told; faults = p.faults; through = p.through }
+pub creates_all : {v w : DiskView} (name : List ℕ) (fs : List CreatedFile) (r : Result (Unit {0}) CreateError) → AreEmptyDatasets fs (new_bytes fs) → Makes name (closed_writes fs) v w r
+    → CreatesTo name fs v w (answer_of (end_of fs) r)
+creates_all {v} name fs (Ok a) new m = record { leaves = m.0; exact = given_missing name (end_of fs) v.told (m.0.missing); cause = λ h. cc; calm = m.1; new = new }
+creates_all {v} name fs (Err refusals.Exists) new m = record { leaves = m.0; exact = given_exists name (end_of fs) v.told m.1; cause = λ h. cc; calm = tt; new = tt }
+creates_all {v} name fs (Err refusals.Failed) new m = record { leaves = m.0; exact = any_told v.told (λ d. tt); cause = λ h. m.1; calm = tt; new = tt }
+creates_all {v} name fs (Err refusals.OutOfMemory) new m = record { leaves = m; exact = any_told v.told (λ d. tt); cause = λ h. cc; calm = tt; new = tt }
 
--- something has the name
-pub creates_exists : {v w : DiskView} (name : List ℕ) (f : CreatedFile) → IfSome v.told (λ d. false ≡ is_none (file d name)) → Leaves 0 v.told v w → CreatesTo name f v w (Err errors.Exists)
-creates_exists {v} name f there p = record { leaves = leaves_same p; exact = given_exists name f v.told there; cause = λ h. cc; calm = tt; new = tt }
-
--- its line, which is made before it is
-pub told_end : {A E : Type 0} (f : CreatedFile) (most end : ℕ) (s : Session) (before after : List ℕ) (r : Result A E) → IsCreated f most s → end ≡ s.places.end → before ≡ [] → after ≡ before ++ numbers_text (codes "new end") (end ∷ [])
-    → OnOk r (after ≡ numbers_text (codes "new end") (created.end_of f ∷ []))
-told_end f most end s before after (Err e) made is none all = tt
-told_end f most end s before after (Ok x) made is none all =
-    all ∙ ap (λ (b : List ℕ). b ++ numbers_text (codes "new end") (end ∷ [])) none ∙ ap (λ (n : ℕ). numbers_text (codes "new end") (n ∷ [])) (is ∙ ap (λ (y : Session). y.places.end) made.session)
-
-pub creates_wanting : {v w : DiskView} (name : List ℕ) (f : CreatedFile) → LeavesFiles v.told v w → CreatesTo name f v w (Err errors.Memory)
-creates_wanting {v} name f p = record { leaves = inl p; exact = any_told v.told (λ d. tt); cause = λ h. cc; calm = tt; new = tt }
-
-pub leaves_self : (v : DiskView) → LeavesFiles v.told v v
-leaves_self v = record { told = refl; faults = omega arith; through = refl }
-
--- it was made
-pub creates_filled : {u v w : DiskView} (name : List ℕ) (o : Options) (s t : Session) (r : Result (Unit {0}) CreateError) → AreOptions o → IsCreated (new_file o) o.limit s → Stands s (created_log (new_file o)) → Missing name u
-    → Leaves 0 (option_map (made name) u.told) u v → v.faults ≡ u.faults → Fills name s t v w r → CreatesTo name (new_file o) u w (answer_of (created.end_of (new_file o)) r)
-unfolding has_put
-creates_filled {u} {v} {w} name o s t (Ok a) by made stands missing m calm p =
-    let f = new_file o in
-    let all : length p.filled.puts ≡ length (new_pieces f) = omega (arith, fewer f s p.filled.puts [] o.limit made p.filled.pieces) in
-    let is = made.session in
-    let log : Stands t (new_log f) =
-    subst (λ (x : Session). Stands t (showing (x.pending ++ closing_of x ∷ []) (created_log f))) is (p.stands (created_log f) stands) in
-    record {
-      leaves = subst (λ n. HasPut name f n u w) all (has_put name f s [] o.limit made missing m calm p.filled);
-      exact = given_missing name f u.told missing;
-      cause = λ h. cc;
-      calm = p.calm ∙ calm;
-      new = empty_file f t (creatable o by) (p.same_name ∙ ap (λ (x : Session). x.name) is) (p.dataset ∙ ap (λ (x : Session). x.dataset) is) p.stopped log;
-    }
-creates_filled name o s t (Err refusals.Exists) by made stands missing m calm p = absurd p
-creates_filled {u} {v} {w} name o s t (Err refusals.Failed) by made stands missing m calm p =
-    let f = new_file o in
-    let some = p.some in
-    let low = m.faults in
-    record {
-      leaves = inr (record {
-        pieces = length p.filled.puts;
-        few = omega (arith, fewer f s p.filled.puts p.left o.limit made p.filled.pieces, some);
-        before = has_put name f s p.left o.limit made missing m calm p.filled;
-      });
-      exact = any_told u.told (λ d. tt);
-      cause = λ h. rose_more u.faults v.faults w.faults low p.rose;
-      calm = tt;
-      new = tt;
-    }
-creates_filled {u} {v} {w} name o s t (Err refusals.OutOfMemory) by made stands missing m calm p =
-    let f = new_file o in
-    record {
-      leaves = inr (has_put name f s (s.pending ++ closing_of s ∷ []) o.limit made missing m calm (record {
-        puts = [];
-        pieces = refl;
-        disk = record { told = p.told ∙ no_puts name v.told; faults = p.faults; through = p.through };
-        since = tt;
-      }));
-      exact = any_told u.told (λ d. tt);
-      cause = λ h. cc;
-      calm = tt;
-      new = tt;
-    }
+pub creates_wanting : (v : DiskView) (name : List ℕ) (fs : List CreatedFile) → CreatesTo name fs v v (Err errors.Memory)
+creates_wanting v name fs = record { leaves = inl (record { told = refl; faults = omega arith; through = refl }); exact = any_told v.told (λ d. tt); cause = λ h. cc; calm = tt; new = tt }
 
 -- ---- The end
 
-pub creates_done : {v w : DiskView} {k l : SinkView} (name : List ℕ) (o : Options) (answer : Result ℕ ErrorLine) (text : List ℕ) (status : Status)
-    → CreatesTo name (new_file o) v w answer → text ≡ create_text answer → Said text (status_by answer) status k l → CreateEnds name o v w status k l
-creates_done name o answer text status p is said = record { answer = answer; text = text; comes = (p, is); said = said }
+pub creates_done : {v w : DiskView} {k l : SinkView} (name : List ℕ) (fs : List CreatedFile) (answer : Result ℕ ErrorLine) (text : List ℕ) (status : Status)
+    → CreatesTo name fs v w answer → text ≡ create_text answer → Said text (status_by answer) status k l → CreateEnds name fs v w status k l
+creates_done name fs answer text status p is said = record { answer = answer; text = text; comes = (p, is); said = said }
 
-pub creates_whole : {v w : DiskView} {k l : SinkView} (name : List ℕ) (o : Options) (status : Status) → CreateEnds name o v w status k l → EndsWell (end_of (new_file o)) name v w status k l
-creates_whole {v} {w} name o status e = completes w (end_of (new_file o)) name status e (λ answer text c. c.0.exact) (λ answer text c. c.0.cause)
+pub creates_refused : {v w : DiskView} {k l : SinkView} (name : List ℕ) (fs : List CreatedFile) (e x : CreateError) (status : Status)
+    → e ≡ x → CreatesTo name fs v w (Err (create_line e)) → Said (error_text (create_line x)) (status_of (create_line x)) status k l → CreateEnds name fs v w status k l
+creates_refused {v} {w} name fs e x status is p said =
+    creates_done name fs (Err (create_line x)) (error_text (create_line x)) status (subst (λ (y : CreateError). CreatesTo name fs v w (Err (create_line y))) is p) refl said
 
-pub creates_refused : {v w : DiskView} {k l : SinkView} (name : List ℕ) (o : Options) (e x : CreateError) (status : Status)
-    → e ≡ x → CreatesTo name (new_file o) v w (Err (create_line e)) → Said (error_text (create_line x)) (status_of (create_line x)) status k l → CreateEnds name o v w status k l
-creates_refused {v} {w} name o e x status is p said =
-    creates_done name o (Err (create_line x)) (error_text (create_line x)) status (subst (λ (y : CreateError). CreatesTo name (new_file o) v w (Err (create_line y))) is p) refl said
+pub creates_whole : {v w : DiskView} {k l : SinkView} (name : List ℕ) (fs : List CreatedFile) (status : Status) → CreateEnds name fs v w status k l → EndsWell (end_given (end_of fs)) name v w status k l
+creates_whole {v} {w} name fs status e = completes w (end_given (end_of fs)) name status e (λ answer text c. c.0.exact) (λ answer text c. c.0.cause)
 
 -- memory was wanting before anything was done
-pub creates_wanted : {v : DiskView} {k l : SinkView} (name : List ℕ) (o : Options) (status : Status) → Said (error_text errors.Memory) statuses.Memory status k l → CreateEnds name o v v status k l
-creates_wanted {v} name o status said = creates_done name o (Err errors.Memory) (error_text errors.Memory) status (creates_wanting name (new_file o) (leaves_self v)) refl said
+pub creates_wanted : {v : DiskView} {k l : SinkView} (name : List ℕ) (fs : List CreatedFile) (status : Status) → Said (error_text errors.Memory) statuses.Memory status k l → CreateEnds name fs v v status k l
+creates_wanted {v} name fs status said = creates_done name fs (Err errors.Memory) (error_text errors.Memory) status (creates_wanting v name fs) refl said

@@ -107,9 +107,6 @@ $ append f --name a,b
 1
 => error link none
 = 4
-$ new g --type u8 --chunk 1 --name a,b
-=> error usage
-= 2
 $ play --type u8 --chunk 1 --name a,b
 flush
 => error usage

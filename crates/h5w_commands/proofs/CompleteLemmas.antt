@@ -12,6 +12,7 @@ use Rattle.h5w_files.proofs.CheckLemmas.{checks_whole}
 use Rattle.h5w_files.proofs.ClearLemmas.{clears_whole}
 use Rattle.h5w_files.proofs.PollEndLemmas.{polls_whole}
 use Rattle.h5w_core.specs.Worlds.{rules_for}
+use Rattle.h5w_commands.specs.News.{files_of}
 use Rattle.h5w_commands.specs.Answers.{play_line_of}
 use Rattle.h5w_commands.specs.Plays.{Completes, HasFirst, HasScript, Plays, Refused, TooLong}
 use Rattle.h5w_batches.specs.Inputs.{input_limit}
@@ -66,7 +67,7 @@ plays_whole g Memory s t k l p = λ h source sink. inr refl
 -- a job
 pub does_whole : (job : Job) (status : Status) (s t : SourceView) (k l : SinkView) (v w : DiskView) → DoesInside job status s t k l v w → DoesWhole job status s t k l v w
 does_whole (Play options attempts) status s t k l v w does = plays_whole (rules_for options attempts) status s t k l does.0
-does_whole (New file options) status s t k l v w does = creates_whole file options status does.1
+does_whole (New file names options) status s t k l v w does = creates_whole file (files_of names options) status does.1
 does_whole (Check file names) status s t k l v w does = checks_whole file names status does.1
 does_whole (Poll file name times attempts values) status s t k l v w does = polls_whole file name times attempts values status does.1
 does_whole (Clear file upgrade) status s t k l v w does = clears_whole file upgrade status does.1
@@ -83,7 +84,7 @@ ended_whole job (ends.Image worn) s t k l v w does = absurd does
 pub ran_whole : (o : Option Job) (ended : Ended) (s t : SourceView) (k l : SinkView) (v w : DiskView) → RanInside o ended s t k l v w → RanWhole o ended s t k l v w
 ran_whole None ended s t k l v w ran = tt
 ran_whole (Some (Play options attempts)) ended s t k l v w ran = ended_whole (Play options attempts) ended s t k l v w ran
-ran_whole (Some (New file options)) ended s t k l v w ran = ended_whole (New file options) ended s t k l v w ran
+ran_whole (Some (New file names options)) ended s t k l v w ran = ended_whole (New file names options) ended s t k l v w ran
 ran_whole (Some (Check file names)) ended s t k l v w ran = ended_whole (Check file names) ended s t k l v w ran
 ran_whole (Some (Poll file name times attempts values)) ended s t k l v w ran = ended_whole (Poll file name times attempts values) ended s t k l v w ran
 ran_whole (Some (Clear file upgrade)) ended s t k l v w ran = ended_whole (Clear file upgrade) ended s t k l v w ran

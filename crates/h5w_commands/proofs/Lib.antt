@@ -12,3 +12,4 @@ pub mod WritingLemmas
 pub mod TakingLemmas
 pub mod ReportLemmas
 pub mod InsideLemmas
+pub mod NewLemmas

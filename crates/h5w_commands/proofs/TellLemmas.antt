@@ -6,6 +6,7 @@ use Rattle.h5w_text.specs.Streams.{SourceView, SinkView}
 use Rattle.h5w_text.specs.Errors.{error_text}
 use Rattle.h5w_text.specs.declared.error.ErrorLine.TheVariants as errors
 use Rattle.h5w_text.specs.Says.{Said, SaidUnlessMemory, whole, failed}
+use Rattle.h5w_commands.specs.News.{files_of}
 use Rattle.h5w_commands.specs.Endings.{Leaves, Runs}
 use Rattle.h5w_commands.specs.declared.ending.Ending.{Ending}
 use Rattle.h5w_core.specs.Worlds.{rules_for}
@@ -97,7 +98,7 @@ pub ran_wanting : (o : Option Job) (status : Status) (s : SourceView) (k l : Sin
 ran_wanting None status s k l v said = record { unread = refl; disk = refl; told = inr said }
 ran_wanting (Some (Play options attempts)) status s k l v said =
     let g = rules_for options attempts in (ends_said g Memory status (error_text errors.Memory) s s k k l (λ e. cc) (leaves_first g s k) said, refl)
-ran_wanting (Some (New file options)) status s k l v said = (refl, creates_wanted file options status said)
+ran_wanting (Some (New file names options)) status s k l v said = (refl, creates_wanted file (files_of names options) status said)
 ran_wanting (Some (Check file names)) status s k l v said = (refl, checks_nothing file names status said)
 ran_wanting (Some (Poll file name times attempts values)) status s k l v said = (refl, polls_nothing file name times attempts values status said)
 ran_wanting (Some (Clear file upgrade)) status s k l v said = (refl, clears_wanted file upgrade status said)
@@ -112,7 +113,7 @@ ran_outside o status s k l v e said = subst (λ (x : Option Job). RanInside x (o
 
 does_run : (job : Job) (status : Status) (s t : SourceView) (k l : SinkView) (v w : DiskView) → DoesInside job status s t k l v w → RanInside (Some job) (outcomes.With status) s t k l v w
 does_run (Play options attempts) status s t k l v w does = does
-does_run (New file options) status s t k l v w does = does
+does_run (New file names options) status s t k l v w does = does
 does_run (Check file names) status s t k l v w does = does
 does_run (Poll file name times attempts values) status s t k l v w does = does
 does_run (Clear file upgrade) status s t k l v w does = does
@@ -123,6 +124,18 @@ does_run (Stop options) status s t k l v w does = does
 
 pub ran_job : (o : Option Job) (job : Job) (status : Status) (s t : SourceView) (k l : SinkView) (v w : DiskView) → o ≡ Some job → DoesInside job status s t k l v w → RanInside o (outcomes.With status) s t k l v w
 ran_job o job status s t k l v w e does = subst (λ (x : Option Job). RanInside x (outcomes.With status) s t k l v w) (sym e) (does_run job status s t k l v w does)
+
+-- a job that runs nothing in threads
+pub is_plain : (job : Job) → ((options : Options) (readers polls attempts mirrors : ℕ) → job ≡ Live options readers polls attempts mirrors → ⊥) → IsPlain job
+is_plain (Play options attempts) other = tt
+is_plain (New file names options) other = tt
+is_plain (Check file names) other = tt
+is_plain (Poll file name times attempts values) other = tt
+is_plain (Clear file upgrade) other = tt
+is_plain (Make count seed) other = tt
+is_plain (Append file name limit budget keeps) other = tt
+is_plain (Live options readers polls attempts mirrors) other = other options readers polls attempts mirrors refl
+is_plain (Stop options) other = tt
 
 -- a run in threads
 pub ran_live : (o : Option Job) (job : Job) (options : Options) (readers polls attempts mirrors : ℕ) (ended : Ended) (s t : SourceView) (k l : SinkView) (v : DiskView) → o ≡ Some job → job ≡ Live options readers polls attempts mirrors

@@ -23,3 +23,4 @@ pub mod Writing
 pub mod Stops
 pub mod Appending
 pub mod Runs
+pub mod News

@@ -11,11 +11,12 @@ use Rattle.h5w_text.specs.declared.status.Status.TheVariants as statuses
 use Rattle.h5w_files.specs.Ends.{EndsWell}
 use Rattle.h5w_appending.specs.Appends.{AppendEnds}
 use Rattle.h5w_appending.specs.Tells.{TellsEnd}
-use Rattle.h5w_appending.specs.Creates.{CreateEnds, end_of}
+use Rattle.h5w_appending.specs.Creates.{CreateEnds, end_given}
+use Rattle.h5w_several_creation_laws.specs.SeveralFiles.{end_of}
+use Rattle.h5w_commands.specs.News.{files_of}
 use Rattle.h5w_files.specs.Checks.{CheckEnds, check_of}
 use Rattle.h5w_files.specs.Polls.{PollEnds, poll_of}
 use Rattle.h5w_files.specs.Clears.{ClearEnds, clears_of}
-use Rattle.h5w_session.specs.Creations.{new_file}
 use Rattle.h5w_core.specs.Worlds.{rules_for}
 use Rattle.h5w_words.specs.declared.job.Job.{Job}
 use Rattle.h5w_words.specs.declared.job.Job.TheVariants.{Play, New, Check, Poll, Clear, Make, Append, Live, Stop}
@@ -37,7 +38,7 @@ IsPlain job = Unit {0}
 -- or of a writer alone; of the commands on files an append alone reads, and the making of a file in memory leaves both.
 abbrev pub Does : Job → Status → SourceView → SourceView → SinkView → SinkView → DiskView → DiskView → Type 0
 Does (Play options attempts) status s t k l v w = Plays (rules_for options attempts) status s t k l × (w ≡ v)
-Does (New file options) status s t k l v w = (t ≡ s) × CreateEnds file options v w status k l
+Does (New file names options) status s t k l v w = (t ≡ s) × CreateEnds file (files_of names options) v w status k l
 Does (Check file names) status s t k l v w = (t ≡ s) × CheckEnds file names v w status k l
 Does (Poll file name times attempts values) status s t k l v w = (t ≡ s) × PollEnds file name times attempts values v w status k l
 Does (Clear file upgrade) status s t k l v w = (t ≡ s) × ClearEnds file upgrade v w status k l
@@ -49,7 +50,7 @@ Does (Stop options) status s t k l v w = StopTells options status s t k l × (w 
 -- The same, with what an append and a script of a writer alone leave told by the state of their session, too.
 abbrev pub DoesInside : Job → Status → SourceView → SourceView → SinkView → SinkView → DiskView → DiskView → Type 0
 DoesInside (Play options attempts) status s t k l v w = Plays (rules_for options attempts) status s t k l × (w ≡ v)
-DoesInside (New file options) status s t k l v w = (t ≡ s) × CreateEnds file options v w status k l
+DoesInside (New file names options) status s t k l v w = (t ≡ s) × CreateEnds file (files_of names options) v w status k l
 DoesInside (Check file names) status s t k l v w = (t ≡ s) × CheckEnds file names v w status k l
 DoesInside (Poll file name times attempts values) status s t k l v w = (t ≡ s) × PollEnds file name times attempts values v w status k l
 DoesInside (Clear file upgrade) status s t k l v w = (t ≡ s) × ClearEnds file upgrade v w status k l
@@ -84,7 +85,7 @@ RanInside (Some job) ended s t k l v w = EndsWith (λ status. DoesInside job sta
 -- a job is done, or memory is wanted, where nothing else stands in its way; the file of an append may have no place
 abbrev pub DoesWhole : Job → Status → SourceView → SourceView → SinkView → SinkView → DiskView → DiskView → Type 0
 DoesWhole (Play options attempts) status s t k l v w = Completes (rules_for options attempts) status s t k l
-DoesWhole (New file options) status s t k l v w = EndsWell (end_of (new_file options)) file v w status k l
+DoesWhole (New file names options) status s t k l v w = EndsWell (end_given (end_of (files_of names options))) file v w status k l
 DoesWhole (Check file names) status s t k l v w = EndsWell (check_of names) file v w status k l
 DoesWhole (Poll file name times attempts values) status s t k l v w = EndsWell (poll_of (reader_rules name attempts) values) file v w status k l
 DoesWhole (Clear file upgrade) status s t k l v w = EndsWell (clears_of upgrade) file v w status k l

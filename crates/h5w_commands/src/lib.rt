@@ -6,6 +6,7 @@ mod answer;
 mod disk;
 mod ending;
 mod make;
+mod new;
 mod plain;
 mod play;
 mod program;

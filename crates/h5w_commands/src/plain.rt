@@ -4,9 +4,10 @@ ghost use Rattle.h5w_commands.specs.Runs.{Does, DoesInside, DoesWhole, IsPlain};
 ghost use Rattle.h5w_words.specs.Limits.{IsWithinLimits};
 
 use crate::make::make;
+use crate::new::new;
 use crate::play::play;
 use crate::stop::stop;
-use h5w_appending::{append, create};
+use h5w_appending::append;
 use h5w_files::{check, clear, poll};
 use h5w_image::Disk;
 use h5w_text::{Sink, Source, Status};
@@ -31,7 +32,11 @@ pub fn plain<S: Source, K: Sink, D: Disk>(
 {
     match job {
         Job::Play { options, attempts } => play(alloc, options, *attempts, source, sink),
-        Job::New { file, options } => create(alloc, file.as_str(), options, sink, disk),
+        Job::New {
+            file,
+            names,
+            options,
+        } => new(alloc, file.as_str(), names, options, sink, disk),
         Job::Check { file, names } => check(alloc, file.as_str(), names, sink, disk),
         Job::Poll {
             file,

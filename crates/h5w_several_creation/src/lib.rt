@@ -8,5 +8,5 @@ mod index;
 mod root;
 mod set;
 
-pub use file::{Creations, create_files};
+pub use file::{Creations, closing, create_files};
 pub use h5w_creation::{Fill, Form, IndexKind, IntType};

@@ -1,3 +1,4 @@
 pub mod WordLemmas
 pub mod FillLemmas
 pub mod NameLemmas
+pub mod NewLemmas

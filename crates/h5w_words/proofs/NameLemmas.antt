@@ -11,7 +11,7 @@ use Rattle.std.proofs.Math.Seq.{take-suc}
 use Rattle.std.proofs.lemmas.List.Folds.{list_all-append, list_any-append, list_any_at}
 use Rattle.h5w_text.specs.Scripts.{is_word}
 use Rattle.h5w_words.specs.Arguments.{link_names_in}
-use Rattle.h5w_words.specs.Names.{are_distinct, are_link_names, is_link_name, may_follow, parts_of}
+use Rattle.h5w_words.specs.Names.{are_distinct, are_link_names, is_link_name, is_name, is_name_byte, may_follow, parts_of}
 
 -- names of links that are taken so far
 pub record AreTaken (names : List (List ℕ)) : Type 0 where
@@ -154,3 +154,35 @@ not_all f text names parts i d inside same cut first refused =
 -- a name that has room, and that a link may have
 pub unless_held : (xs : List (List ℕ)) (x : List ℕ) (r : Bool) → nat_lt (length xs) 8 ≡ true → is_link_name x ≡ true → (IsTrue r ↔ Contains xs x) → not r ≡ may_follow xs x
 unless_held xs x r room link has = ap not (has_is xs x r has) ∙ sym (ap₂ (λ (a b : Bool). a && (b && not (list_any (is_word x) xs))) room link)
+
+-- names of links in a text are such
+pub sound_names : (text : List ℕ) (names : List (List ℕ)) → link_names_in text ≡ Some names → are_link_names names ≡ true
+sound_names text names h = go (cases_Bool (are_link_names (parts_of text)))
+  where
+    some_is : (xs ys : List (List ℕ)) → Some xs ≡ Some ys → xs ≡ ys
+    some_is xs ys e = cc
+
+    none_is : (xs : List (List ℕ)) → None ≡ Some xs → ⊥
+    none_is xs e = cc
+
+    go : (are_link_names (parts_of text) ≡ true) ⊎ (are_link_names (parts_of text) ≡ false) → are_link_names names ≡ true
+    go (inl e) = subst (λ l. are_link_names l ≡ true) (some_is (parts_of text) names (sym (cond-true (are_link_names (parts_of text)) (Some (parts_of text)) None e) ∙ h)) e
+    go (inr e) = absurd (none_is names (sym (cond-false (are_link_names (parts_of text)) (Some (parts_of text)) None e) ∙ h))
+
+-- how long a name is
+pub name_bounds : (x : List ℕ) → is_name x ≡ true → (1 ≤ length x) × (length x ≤ 64)
+name_bounds x h =
+    let sizes = and_parts (nat_le 1 (length x) && nat_le (length x) 64) (list_all is_name_byte x) h in
+    let both = and_parts (nat_le 1 (length x)) (nat_le (length x) 64) sizes.0 in
+    (leb-true 1 (length x) both.0, leb-true (length x) 64 both.1)
+
+-- the first of some names
+pub first_bounds : (names : List (List ℕ)) → 1 ≤ length names → list_all is_name names ≡ true → (1 ≤ length (get_or names 0 [])) × (length (get_or names 0 []) ≤ 64)
+first_bounds [] some all = absurd (omega (arith, some))
+first_bounds (x ∷ xs) some all = name_bounds x ((and_parts (is_name x) (list_all is_name xs) all).0)
+
+pub some_names : (names : List (List ℕ)) → are_link_names names ≡ true → (1 ≤ length names) × (length names ≤ 8)
+some_names names h =
+    let counts = and_parts (nat_le 1 (length names) && nat_le (length names) 8) (list_all is_link_name names && are_distinct names) h in
+    let both = and_parts (nat_le 1 (length names)) (nat_le (length names) 8) counts.0 in
+    (leb-true 1 (length names) both.0, leb-true (length names) 8 both.1)

@@ -73,6 +73,10 @@ named_options rows name t =
     of_chunks (record { name = name; int_type = t; chunk_rows = chunk_rows; columns = columns; fixed = fixed; fill = fill; limit = limit; budget = budget }))
     (budget_of rows)) (limit_of rows)) (fill_of rows t)) (fixed_of rows columns)) (columns_of rows)) (chunk_rows_of rows)
 
+-- the options of a file whose first dataset has this name
+abbrev pub options_by : List Row → Text → Option Options
+options_by rows name = option_and_then (λ t. named_options rows name t) (type_of rows)
+
 -- the options of a file that is created
 abbrev pub options_of : List Row → Option Options
-options_of rows = option_and_then (λ t. option_and_then (λ name. named_options rows name t) (name_of rows)) (type_of rows)
+options_of rows = option_and_then (options_by rows) (name_of rows)

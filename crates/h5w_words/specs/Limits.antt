@@ -1,12 +1,13 @@
 -- The limits that a command asks of its job.
-use Rattle.std.specs.Prelude.{◌≤◌, ◌^◌, length}
+use Rattle.std.specs.Prelude.{◌≡◌, ◌*◌, ◌≤◌, ◌^◌, true, length}
 use Rattle.h5w_options.specs.Options.{AreOptions, AreAttempts}
+use Rattle.h5w_words.specs.Names.{are_names}
 use Rattle.h5w_words.specs.declared.job.Job.{Job}
 use Rattle.h5w_words.specs.declared.job.Job.TheVariants.{Play, New, Check, Poll, Clear, Make, Append, Live, Stop}
 
 abbrev pub IsWithinLimits : Job → Type 0
 IsWithinLimits (Play options attempts) = AreOptions options × AreAttempts attempts
-IsWithinLimits (New file options) = AreOptions options
+IsWithinLimits (New file names options) = AreOptions options × (are_names names ≡ true) × (1024 * length names ≤ options.limit)
 IsWithinLimits (Check file names) = (1 ≤ length names) × (length names ≤ 8)
 IsWithinLimits (Poll file name times attempts values) = (1 ≤ times) × AreAttempts attempts
 IsWithinLimits (Clear file upgrade) = Unit {0}

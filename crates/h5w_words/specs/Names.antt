@@ -34,6 +34,10 @@ are_distinct (name ∷ names) = not (list_any (is_word name) names) && are_disti
 abbrev pub are_link_names : List (List ℕ) → Bool
 are_link_names names = (nat_le 1 (length names) && nat_le (length names) 8) && (list_all is_link_name names && are_distinct names)
 
+-- names of links that datasets may have
+abbrev pub are_names : List (List ℕ) → Bool
+are_names names = are_link_names names && list_all is_name names
+
 -- a name of a link, which is none of these, of which there are 7 at most
 abbrev pub may_follow : List (List ℕ) → List ℕ → Bool
 may_follow names name = nat_lt (length names) 8 && (is_link_name name && not (list_any (is_word name) names))

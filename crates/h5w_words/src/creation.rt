@@ -5,7 +5,7 @@ ghost use Rattle.h5w_options.specs.Options.{AreColumns, AreOptions, columns_in, 
 ghost use Rattle.h5w_types.specs.Fields.{int_type_of};
 ghost use Rattle.clap.specs.Words.{app_of, found_of, rows_of};
 ghost use Rattle.h5w_words.specs.Arguments.{has_globals};
-ghost use Rattle.h5w_words.specs.Creation.{columns_of, fixed_of, named_options, options_of, type_of, with_creation};
+ghost use Rattle.h5w_words.specs.Creation.{columns_of, fixed_of, named_options, options_by, options_of, type_of, with_creation};
 
 use crate::arguments::Argument::{Flag, Needed, Optional};
 use crate::arguments::with_arguments;
@@ -132,18 +132,33 @@ fn numbers_given(
     Ok(options)
 }
 
+/// What the options say of a file whose first dataset has this name; `Usage` where they are outside the command set.
+pub fn options_named(
+    alloc: Global,
+    options: &ArgMatches<'_>,
+    name: &[u8],
+) -> Result<Options, WordsError>
+    requires some { 1 ≤ length name.now }
+    requires most { length name.now ≤ 64 }
+    ensures ok { IfOk result (λ o. options_by (rows_of (found_of options.now)) name.now ≡ Some o) }
+    ensures usage { IfErr result (λ e. (e ≡ WordsError.OutOfMemory) ⊎ (options_by (rows_of (found_of options.now)) name.now ≡ None)) }
+    ensures limits { IfOk result AreOptions }
+{
+    let Some(int_type) = type_given(options) else {
+        return Err(WordsError::Usage);
+    };
+    let name = Vec::from_slice(alloc, name)?;
+    numbers_given(options, Bytes::from_vec(name), int_type)
+}
+
 /// What the options say of a file that is created; `Usage` where they are outside the command set.
 pub fn options_given(alloc: Global, options: &ArgMatches<'_>) -> Result<Options, WordsError>
     ensures ok { IfOk result (λ o. options_of (rows_of (found_of options.now)) ≡ Some o) }
     ensures usage { IfErr result (λ e. (e ≡ WordsError.OutOfMemory) ⊎ (options_of (rows_of (found_of options.now)) ≡ None)) }
     ensures limits { IfOk result AreOptions }
 {
-    let Some(int_type) = type_given(options) else {
-        return Err(WordsError::Usage);
-    };
     let Some(name) = name_or(options, "name", "data") else {
         return Err(WordsError::Usage);
     };
-    let name = Vec::from_slice(alloc, name.as_bytes())?;
-    numbers_given(options, Bytes::from_vec(name), int_type)
+    options_named(alloc, options, name.as_bytes())
 }

@@ -1,21 +1,25 @@
 //! The commands on files.
-ghost use Rattle.std.specs.Prelude.{◌≡◌, ◌≤◌, ◌⊎◌, false, None, Some, IfErr, IfOk, length};
+ghost use Rattle.std.specs.Prelude.{◌≡◌, ◌≤◌, ◌⊎◌, false, true, [], None, Some, IfErr, IfOk, get_or, length};
 ghost use Rattle.clap.specs.Words.{app_of, found_of, rows_of};
 ghost use Rattle.h5w_words.specs.Arguments.{has_globals};
-ghost use Rattle.h5w_words.specs.Files.{check_app, check_of, clear_app, clear_of, creating_app, creating_of, file_of, link_name_of, link_names_of, poll_app, poll_numbers_of, poll_of};
+ghost use Rattle.h5w_words.specs.Files.{check_app, check_of, clear_app, clear_of, creating_app, creating_of, file_of, link_name_of, link_names_of, new_named, poll_app, poll_numbers_of, poll_of};
 ghost use Rattle.h5w_words.specs.Limits.{IsWithinLimits};
+ghost use Rattle.h5w_words.specs.Names.{are_link_names};
 
 use crate::arguments::Argument::{Flag, Optional, Word};
 use crate::arguments::with_arguments;
-use crate::creation::{creation, options_given};
+use crate::creation::{creation, options_named};
 use crate::file::FileName;
 use crate::job::{Job, WordsError};
-use crate::names::link_names;
+use crate::names::{are_names, link_names};
 use crate::values::{attempts_given, count_or, is_given, link_name_or, text};
 use clap::{ArgMatches, Command};
 use h5w_model::Bytes;
 use h5w_names::Names;
 use std::alloc::{AllocError, Global};
+
+/// The least limit of a file for each of its names.
+const EACH: u64 = 1024;
 
 /// The command that makes a file, with its arguments.
 pub fn creating<'a>(alloc: Global) -> Result<Command<'a>, AllocError>
@@ -92,11 +96,51 @@ fn link_names_given(alloc: Global, options: &ArgMatches<'_>) -> Result<Names, Wo
     ensures ok { IfOk result (λ names. link_names_of (rows_of (found_of options.now)) ≡ Some names) }
     ensures usage { IfErr result (λ e. (e ≡ WordsError.OutOfMemory) ⊎ (link_names_of (rows_of (found_of options.now)) ≡ None)) }
     ensures bounds { IfOk result (λ names. (1 ≤ length names) × (length names ≤ 8)) }
+    ensures sound { IfOk result (λ names. are_link_names names ≡ true) }
 {
     match text(options, "name") {
         Some(text) => link_names(alloc, text),
         None => Ok(Names::of(alloc, b"data")?),
     }
+}
+
+/// The first of these names.
+fn first_of(names: &Names) -> &[u8]
+    requires { 1 ≤ length names.now }
+    ensures { result.now ≡ get_or names.now 0 [] }
+{
+    match names.get(0) {
+        Some(name) => name,
+        None => unreachable!(),
+    }
+}
+
+/// The new file of these names that the options ask for; `Usage` where they are outside the command set.
+fn creating_named(
+    alloc: Global,
+    options: &ArgMatches<'_>,
+    file: FileName,
+    names: Names,
+) -> Result<Job, WordsError>
+    requires links { are_link_names names ≡ true }
+    requires some { 1 ≤ length names }
+    requires few { length names ≤ 8 }
+    ensures ok { IfOk result (λ job. new_named (rows_of (found_of options.now)) file names ≡ Some job) }
+    ensures usage { IfErr result (λ e. (e ≡ WordsError.OutOfMemory) ⊎ (new_named (rows_of (found_of options.now)) file names ≡ None)) }
+    ensures limits { IfOk result IsWithinLimits }
+{
+    if !are_names(&names) {
+        return Err(WordsError::Usage);
+    }
+    let given = options_named(alloc, options, first_of(&names))?;
+    if given.limit < EACH * names.len() as u64 {
+        return Err(WordsError::Usage);
+    }
+    Ok(Job::New {
+        file,
+        names,
+        options: given,
+    })
 }
 
 /// The new file that the arguments ask for; `Usage` where they are outside the command set.
@@ -105,10 +149,9 @@ pub fn creating_job(alloc: Global, options: &ArgMatches<'_>) -> Result<Job, Word
     ensures usage { IfErr result (λ e. (e ≡ WordsError.OutOfMemory) ⊎ (creating_of (rows_of (found_of options.now)) ≡ None)) }
     ensures limits { IfOk result IsWithinLimits }
 {
-    Ok(Job::New {
-        file: file_given(alloc, options)?,
-        options: options_given(alloc, options)?,
-    })
+    let file = file_given(alloc, options)?;
+    let names = link_names_given(alloc, options)?;
+    creating_named(alloc, options, file, names)
 }
 
 /// The check that the arguments ask for; `Usage` where they are outside the command set.

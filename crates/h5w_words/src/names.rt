@@ -1,10 +1,11 @@
 //! Names of several links in one word, separated by commas.
-ghost use Rattle.std.specs.Prelude.{◌≡◌, ◌≤◌, ◌⊎◌, Some, None, IfErr, IfOk, length, map};
+ghost use Rattle.std.specs.Prelude.{◌≡◌, ◌≤◌, ◌⊎◌, true, Some, None, IfErr, IfOk, length, map};
+ghost use Rattle.std.specs.List.{list_all};
 ghost use Rattle.h5w_words.specs.Arguments.{link_names_in};
-ghost use Rattle.h5w_words.specs.Names.{may_follow, parts_of};
+ghost use Rattle.h5w_words.specs.Names.{are_link_names, is_name, may_follow, parts_of};
 
 use crate::job::WordsError;
-use crate::name::is_link_name;
+use crate::name::{is_link_name, is_name};
 use h5w_names::Names;
 use std::alloc::{AllocError, Global};
 
@@ -30,6 +31,7 @@ pub fn link_names(alloc: Global, text: &str) -> Result<Names, WordsError>
     ensures ok { IfOk result (λ names. link_names_in text.now ≡ Some names) }
     ensures usage { IfErr result (λ e. (e ≡ WordsError.OutOfMemory) ⊎ (link_names_in text.now ≡ None)) }
     ensures bounds { IfOk result (λ names. (1 ≤ length names) × (length names ≤ 8)) }
+    ensures sound { IfOk result (λ names. are_link_names names ≡ true) }
 {
     let parts = parts(alloc, text)?;
     let mut names = Names::new(alloc);
@@ -40,4 +42,11 @@ pub fn link_names(alloc: Global, text: &str) -> Result<Names, WordsError>
         names.push(part.as_bytes())?;
     }
     Ok(names)
+}
+
+/// Whether each of these may be the name of a dataset.
+pub fn are_names(names: &Names) -> bool
+    ensures { result ≡ list_all is_name names.now }
+{
+    names.as_slice().iter().all(|name| is_name(name.as_slice()))
 }

@@ -1,10 +1,12 @@
+use Rattle.h5w_several_creation.specs.Forms.{all_by}
 use Rattle.h5w_appending.proofs.CreateLemmas.{creates_refused}
 use Rattle.h5w_appending.proofs.creating.create.Goals as goal
 
 pub returns-in-Err-Exists-clause-creates : goal.returns-in-Err-Exists-clause-creates
 returns-in-Err-Exists-clause-creates g c =
-    creates_refused c.args.file.now c.args.options.now c.in-Err-Exists.field-0 _ c.say-in-Err-Exists.result c.in-Err-Exists.field-0-is c.in-Err-Exists.ensures.creates c.say-in-Err-Exists.ensures
+    creates_refused c.args.file.now (all_by c.args.names.now c.args.form.now) c.in-Err-Exists.field-0 _ c.say-in-Err-Exists.result c.in-Err-Exists.field-0-is c.in-Err-Exists.ensures.creates c.say-in-Err-Exists.ensures
 
 pub returns-clause-creates : goal.returns-clause-creates
 returns-clause-creates g c =
-    creates_refused c.args.file.now c.args.options.now c.in-Err-OutOfMemory.field-0 _ c.say-in-Err-OutOfMemory.result c.in-Err-OutOfMemory.field-0-is c.in-Err-OutOfMemory.ensures.creates c.say-in-Err-OutOfMemory.ensures
+    creates_refused c.args.file.now (all_by c.args.names.now c.args.form.now) c.in-Err-OutOfMemory.field-0 _ c.say-in-Err-OutOfMemory.result c.in-Err-OutOfMemory.field-0-is c.in-Err-OutOfMemory.ensures.creates
+    c.say-in-Err-OutOfMemory.ensures

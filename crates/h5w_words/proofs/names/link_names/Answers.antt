@@ -1,5 +1,5 @@
 use Rattle.std.proofs.Common.{◌∙◌, map, ap, sym, subst, inr}
-use Rattle.h5w_words.proofs.NameLemmas.{AreTaken, all_parts, at_most_8, next_taken, none_taken, not_all, some_parts}
+use Rattle.h5w_words.proofs.NameLemmas.{AreTaken, all_parts, at_most_8, next_taken, none_taken, not_all, some_parts, sound_names}
 use Rattle.h5w_words.proofs.names.link_names.Goals as goal
 
 pub loop-part-init : goal.loop-part-init
@@ -26,3 +26,9 @@ returns-clause-bounds c = (
       (ap (map _) c.deref-part-items.ensures.value ∙ c.in_ok-parts.ensures),
   at_most_8 c.loop-part.names c.loop-part.invariant.1,
 )
+
+pub returns-clause-sound : goal.returns-clause-sound
+returns-clause-sound c =
+    sound_names c.args.text.now c.loop-part.names
+    (all_parts _ c.args.text.now c.loop-part.names c.deref-part-items.result.now c.loop-part.part-index c.loop-part-test.false c.loop-part.invariant.0 (ap (map _) c.deref-part-items.ensures.value ∙ c.in_ok-parts.ensures)
+    c.loop-part.invariant.1)
