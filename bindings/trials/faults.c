@@ -1,0 +1,174 @@
+/* The file layer over a system that fails: faults FILE, of 600 rows of i32le. Linked with --wrap of pread, malloc, calloc and realloc, so that calls of
+ * the system move one byte, are interrupted, give bytes that are half written, or fail. Prints nothing but what is wrong. */
+#define _POSIX_C_SOURCE 200809L
+#include "trials.h"
+
+#include <errno.h>
+#include <string.h>
+#include <time.h>
+#include <unistd.h>
+
+#define ROWS 600
+
+ssize_t __real_pread(int, void *, size_t, off_t);
+void *__real_malloc(size_t);
+void *__real_calloc(size_t, size_t);
+void *__real_realloc(void *, size_t);
+
+/* Calls move one byte, and each second one is interrupted. So many looks at a place are torn. The call of this number fails, counted down to 0. */
+static bool is_brief, is_odd;
+static uint64_t torn, torn_at, looks;
+static long fail_look, fail_memory;
+
+/* Whether a call is the one that is to fail. */
+static bool is_due(long *left)
+{
+    return *left > 0 && --*left == 0;
+}
+
+static bool is_interrupted(void)
+{
+    is_odd = is_brief && !is_odd;
+    errno = EINTR;
+    return is_odd;
+}
+
+ssize_t __wrap_pread(int fd, void *bytes, size_t n, off_t at)
+{
+    if (is_interrupted())
+        return -1;
+    if (is_due(&fail_look)) {
+        errno = EIO;
+        return -1;
+    }
+    ssize_t got = __real_pread(fd, bytes, is_brief ? 1 : n, at);
+    looks += (uint64_t)at == torn_at;
+    if (got > 8 && (uint64_t)at == torn_at && torn > 0) {
+        torn--;
+        ((char *)bytes)[8] ^= 1;
+    }
+    return got;
+}
+
+void *__wrap_malloc(size_t n)
+{
+    return is_due(&fail_memory) ? NULL : __real_malloc(n);
+}
+
+void *__wrap_calloc(size_t n, size_t size)
+{
+    return is_due(&fail_memory) ? NULL : __real_calloc(n, size);
+}
+
+void *__wrap_realloc(void *old, size_t n)
+{
+    return is_due(&fail_memory) ? NULL : __real_realloc(old, n);
+}
+
+/* The answer of a call that is made again if it is refused for want of memory. */
+#define AGAIN_IF_MEMORY(call) \
+    do \
+        told = call; \
+    while (told.code == H5W_MEMORY)
+
+/* Reads the file, and compares its rows. */
+static void read_all(const char *file, uint64_t rows)
+{
+    h5swmr_reader *reader;
+    h5w_told told;
+    static int64_t values[ROWS];
+    AGAIN_IF_MEMORY(h5swmr_open(&reader, file, "data", 8));
+    want("rows", want_code("open", told, H5W_OK).count, rows);
+    AGAIN_IF_MEMORY(h5swmr_refresh(reader));
+    want("rows", want_code("refresh", told, H5W_OK).count, rows);
+    AGAIN_IF_MEMORY(h5swmr_read(reader, 0, rows, values, ROWS));
+    want("values", want_code("read", told, H5W_OK).count, rows);
+    for (uint64_t k = 0; k < rows && !failed; k++)
+        want("value", (uint64_t)values[k], (uint64_t)value_of(k));
+    want_code("close", h5swmr_close_reader(&reader), H5W_OK);
+}
+
+/* Calls that move one byte, and are interrupted. */
+static void brief(const char *file)
+{
+    is_brief = true;
+    read_all(file, ROWS);
+    is_brief = is_odd = false;
+}
+
+/* Looks that are torn: so few that the call goes on, and then all. */
+static void torn_looks(const char *file)
+{
+    h5swmr_reader *reader;
+    struct timespec begun, ended;
+    want_code("open", h5swmr_open(&reader, file, "data", 8), H5W_OK);
+    /* (behind the superblock and the root header stands the dataset header, as tests/faults knows it) */
+    torn_at = 106;
+    for (torn = 1; torn < 99; torn = torn * 3 + 1) {
+        uint64_t left = torn;
+        want("rows", want_code("refresh over torn looks", h5swmr_refresh(reader), H5W_OK).count, ROWS);
+        want("torn looks that are left", torn, 0);
+        torn = left;
+    }
+    torn = UINT64_MAX;
+    looks = 0;
+    clock_gettime(CLOCK_MONOTONIC, &begun);
+    want("place", want_code("refresh of a damaged file", h5swmr_refresh(reader), H5W_REFUSED).count, 106);
+    clock_gettime(CLOCK_MONOTONIC, &ended);
+    want("100 looks at least", looks >= 100, true);
+    want("10 ms at least", (ended.tv_sec - begun.tv_sec) * 1000000000 + ended.tv_nsec - begun.tv_nsec >= 10000000, true);
+    want("rows after a refusal", h5swmr_rows(reader), ROWS);
+    torn = 0;
+    want("rows", want_code("refresh", h5swmr_refresh(reader), H5W_OK).count, ROWS);
+    want_code("close", h5swmr_close_reader(&reader), H5W_OK);
+}
+
+/* Each look fails in turn: the call is refused, and the next goes on. */
+static void failed_looks(const char *file)
+{
+    h5swmr_reader *reader;
+    h5w_told told;
+    static int64_t values[ROWS];
+    long n = 1;
+    for (bool is_over = false; !failed && !is_over; n++) {
+        fail_look = n;
+        told = h5swmr_open(&reader, file, "data", 8);
+        if (told.code == H5W_OK)
+            told = h5swmr_refresh(reader);
+        if (told.code == H5W_OK)
+            told = h5swmr_read(reader, 0, ROWS, values, ROWS);
+        is_over = fail_look > 0;
+        fail_look = 0;
+        want_code("a call of which a look fails", told, is_over ? H5W_OK : H5W_IO);
+        want("errno", is_over ? EIO : told.detail, EIO);
+        if (reader) {
+            want_code("refresh behind it", h5swmr_refresh(reader), H5W_OK);
+            want_code("close", h5swmr_close_reader(&reader), H5W_OK);
+        }
+    }
+    want("many looks failed", n > 20, true);
+}
+
+/* Each call for memory fails in turn: the call is refused, and goes through when it is made again. */
+static void failed_memory(const char *file)
+{
+    long n = 1;
+    for (bool is_over = false; !failed && !is_over; n++) {
+        fail_memory = n;
+        read_all(file, ROWS);
+        is_over = fail_memory > 0;
+        fail_memory = 0;
+    }
+    want("many calls failed", n > 10, true);
+}
+
+int main(int argc, char **argv)
+{
+    if (argc != 2)
+        return 2;
+    brief(argv[1]);
+    torn_looks(argv[1]);
+    failed_looks(argv[1]);
+    failed_memory(argv[1]);
+    return failed;
+}

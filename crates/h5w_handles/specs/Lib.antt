@@ -1,0 +1,6 @@
+pub mod Codes
+pub mod Copies
+pub mod Handles
+pub mod Owners
+pub mod ReaderCalls
+pub mod ReaderTellings
