@@ -1,5 +1,5 @@
 //! The writes of new rows.
-ghost use Rattle.std.specs.Prelude.{◌≡◌, ◌+◌, ◌-◌, ◌*◌, ◌<◌, ◌≤◌, ◌^◌, ◌++◌, [], length, Some, OnOk, ℕ, true, false};
+ghost use Rattle.std.specs.Prelude.{◌≡◌, ◌+◌, ◌-◌, ◌*◌, ◌<◌, ◌≤◌, ◌^◌, ◌++◌, [], ◌∷◌, length, Some, OnOk, ℕ, true, false};
 ghost use Rattle.std.specs.List.{slice_get};
 ghost use Rattle.h5w_model.specs.Images.{pieces};
 ghost use Rattle.h5w_model.specs.Numbers.{range};
@@ -12,6 +12,21 @@ use crate::grid::{ChunkPlace, Grid};
 use crate::share::Share;
 use h5w_model::{OutOfMemory, PIECE, Piece, Write};
 
+/// Adds the write of these bytes at a place. The piece gets its bytes where it stands in the list.
+#[inline(always)]
+fn push_write(at: u64, bytes: &[u8], out: &mut Vec<Write>) -> Result<(), OutOfMemory>
+    requires { length bytes.now ≤ 512 }
+    ensures { OnOk result (out.new.items ≡ out.old.items ++ record { at = at; piece = bytes.now } ∷ []) }
+{
+    out.reserve(1)?;
+    let piece = Piece::new();
+    out.push_reserved(Write { at, piece });
+    if let Some(last) = out.last_mut() {
+        last.piece.set(bytes);
+    }
+    Ok(())
+}
+
 /// Adds the writes that put some bytes at a place: pieces of 512 bytes and a rest.
 fn put_pieces(place: u64, bytes: &[u8], out: &mut Vec<Write>) -> Result<(), OutOfMemory>
     requires { place + length bytes.now < 2 ^ 64 }
@@ -19,8 +34,7 @@ fn put_pieces(place: u64, bytes: &[u8], out: &mut Vec<Write>) -> Result<(), OutO
 {
     let mut at = place;
     for part in bytes.chunks(PIECE) {
-        let piece = Piece::of(part);
-        out.push(Write { at, piece })?;
+        push_write(at, part, out)?;
         at += part.len() as u64;
     }
     Ok(())

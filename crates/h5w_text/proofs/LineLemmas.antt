@@ -1,16 +1,18 @@
 -- How an input is cut into lines.
-use Rattle.std.proofs.Common.{ℕ, zero, suc, ◌+◌, ◌-◌, ◌<◌, ◌≤◌, ◌≡◌, Bool, true, false, List, [], ◌∷◌, ◌++◌, length, take, drop, Option, Some, None, Result, Ok, Err, MatchBool, ℤ, sym, refl, ap, ◌∙◌, subst, inl, inr, arith, rules, length-append, length-drop}
-use Rattle.std.specs.Prelude.{IfOk, IfSome, option_map, slice_range}
-use Rattle.std.proofs.lemmas.List.{append_assoc, append-nil, length-take-le, take_all, take-append-drop, drop-drop, drop-take, take-append-le}
+use Rattle.std.proofs.Common.{ℕ, zero, suc, ◌+◌, ◌-◌, ◌<◌, ◌≤◌, ◌≡◌, Bool, true, false, List, [], ◌∷◌, ◌++◌, length, take, drop, Option, Some, None, MatchBool, ℤ, sym, refl, ap, ◌∙◌, subst, inl, inr, arith, rules, length-append, length-drop}
+use Rattle.std.specs.Prelude.{IfSome, option_map, slice_range}
+use Rattle.std.proofs.lemmas.List.{append_assoc, append-nil, length-take-le, take_all, take-append-drop, drop-drop, drop-take}
 use Rattle.std.proofs.Math.Seq.{take-append_seam}
 use Rattle.h5w_text.specs.Streams.{SourceView, Took}
-use Rattle.h5w_text.specs.LinesAhead.{Cut, Ended, Given, NextGives, IntakeView, IsLast, IsLine, IsOver, Keeps, Passed, LinesAhead, Stays, TakesNumbers, lines_left, lines_ahead}
+use Rattle.h5w_text.specs.LinesAhead.{AreSingles, Cut, StandNext, Ended, Given, NextGives, IntakeView, IsLast, IsLine, IsOver, Keeps, Passed, LinesAhead, Stays, TakesNumbers, lines_left, lines_ahead}
 use Rattle.h5w_text.specs.Scripts.{number_line_of}
 use Rattle.h5w_text.specs.declared.line.TextLine.{TextLine}
 use Rattle.h5w_text.specs.declared.line.Next.{Next}
 use Rattle.h5w_text.specs.declared.line.Next.TheVariants as nexts
 use Rattle.h5w_text.specs.declared.line.Partial.{Partial}
 use Rattle.h5w_text.specs.Bytes.{Lacks}
+use Rattle.h5w_text.specs.WordLists.{IsAlone}
+use Rattle.h5w_text.proofs.ScriptLemmas.{one_value}
 use Rattle.h5w_text.specs.Lines.{last_line, lines_from, lines_of, whole_from, whole_lines_of}
 
 pub lines_lacks : (front xs : List ℕ) → Lacks 10 xs → lines_from front xs ≡ last_line (front ++ xs)
@@ -163,7 +165,7 @@ cut_all at end place buffer more limit e h = record {
   limit = refl;
 }
 
-rest_of_slice : (at end k : ℕ) (buffer : List ℕ) → at + k ≤ end → drop k (take (end - at) (drop at buffer)) ≡ slice_range buffer (at + k) end
+pub rest_of_slice : (at end k : ℕ) (buffer : List ℕ) → at + k ≤ end → drop k (take (end - at) (drop at buffer)) ≡ slice_range buffer (at + k) end
 rest_of_slice at end k buffer h = let e : end - at ≡ k + (end - (at + k)) = omega arith in
     ap (λ n. drop k (take n (drop at buffer))) e ∙ drop-take k (end - (at + k)) (drop at buffer) ∙ ap (take (end - (at + k))) (drop-drop k at buffer)
 
@@ -257,3 +259,27 @@ lines_more all given line v w e g = e ∙ ap (option_map (λ ls. given ++ ls)) g
 -- at the end those given are all of them
 pub lines_done : (all : Option (List (List ℕ))) (given : List (List ℕ)) (v w : LinesAhead) → all ≡ option_map (λ ls. given ++ ls) (lines_left v) → Ended v w → IfSome all (λ ls. ls ≡ given)
 lines_done all given v w e ended = subst (λ (o : Option (List (List ℕ))). IfSome o (λ ls. ls ≡ given)) (sym e) (done_cases given v.left ended.before)
+
+-- ---- Lines of one value that stand next
+
+pub singles_none : (held : List ℕ) → StandNext [] 0 held
+singles_none held = record { within = omega arith; lines = refl }
+
+-- one more line behind them
+singles_more : (vs : List ℤ) (held behind line middle : List ℕ) (v : ℤ) → AreSingles vs held behind → Lacks 10 line → number_line_of 1 line ≡ Some (v ∷ []) → behind ≡ line ++ 10 ∷ middle → AreSingles (vs ++ v ∷ []) held middle
+singles_more [] held behind line middle v same lacks is cut = (line, middle, lacks, is, same ∙ cut, refl)
+singles_more (w ∷ ws) held behind line middle v h lacks is cut = (h.0, h.1, h.2, h.3, h.4, singles_more ws h.1 behind line middle v h.5 lacks is cut)
+
+pub next_single : (vs : List ℤ) (at len : ℕ) (held : List ℕ) (v : ℤ) → StandNext vs at held → IsAlone (drop at held) len v → StandNext (vs ++ v ∷ []) (at + (len + 1)) held
+next_single vs at len held v h alone =
+    let behind : List ℕ = drop at held in
+    let line : List ℕ = take len behind in
+    let first = alone.first in
+    let long = length-take-le len behind first.within in
+    let rest : drop (len + 1) behind ≡ drop (at + (len + 1)) held = drop-drop (len + 1) at held in
+    let cut : behind ≡ line ++ 10 ∷ drop (at + (len + 1)) held =
+    sym (take-append-drop len behind) ∙ ap (λ (l : List ℕ). line ++ l) (alone.ends ∙ ap (λ (l : List ℕ). 10 ∷ l) rest) in
+    record {
+      within = omega (arith, alone.inside, length-drop at held, h.within);
+      lines = singles_more vs held behind line (drop (at + (len + 1)) held) v h.lines first.line (one_value line v (omega (arith, long, first.some)) (omega (arith, long, first.few)) first.lacks first.value) cut;
+    }

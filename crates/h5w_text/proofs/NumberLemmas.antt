@@ -17,7 +17,7 @@ use Rattle.h5w_text.specs.Bytes.{Lacks}
 use Rattle.h5w_text.specs.Lines.{below, below_zero, is_digit, natural_of, number_from, value_of}
 use Rattle.h5w_text.specs.Replies.{spaced_value}
 use Rattle.h5w_text.specs.Table.{value_text}
-use Rattle.h5w_text.specs.WordLists.{LeadsWith}
+use Rattle.h5w_text.specs.WordLists.{BeginsWith, LeadsWith}
 
 pub number_from_ge : (n : ℕ) (ds : List ℕ) → n ≤ number_from n ds
 number_from_ge n [] = omega arith
@@ -45,10 +45,10 @@ value_is n [] h = refl
 value_is n (d ∷ ds) h = let range = digit_from_value d h.0 in
     value_is (n * 10 + digit_value d) ds h.1 ∙ ap (λ m. number_from m ds) (omega (arith, (digit_of d range.0 range.1).1))
 
--- no digit is a space
-pub digits_lack : (ds : List ℕ) → AllDigits 10 ds → Lacks 32 ds
-digits_lack [] h = tt
-digits_lack (d ∷ ds) h = let range = digit_from_value d h.0 in (ne_eqb d 32 (λ e. omega arith), digits_lack ds h.1)
+-- no digit is a space, or the end of a line
+pub digits_lack : (byte : ℕ) (ds : List ℕ) → byte < 48 → AllDigits 10 ds → Lacks byte ds
+digits_lack byte [] low h = tt
+digits_lack byte (d ∷ ds) low h = let range = digit_from_value d h.0 in (ne_eqb d byte (λ e. omega arith), digits_lack byte ds low h.1)
 
 -- so few digits make a number below 2^64
 pub digits_small : (ds : List ℕ) → AllDigits 10 ds → length ds ≤ 18 → digits_value 10 ds < 2 ^ 64
@@ -72,10 +72,10 @@ lean [] h some few l = absurd (omega arith)
 lean (d ∷ []) h some few l = let range = digit_from_value d h.0 in lean_one d (eqb d 48) refl range.0 range.1
 lean (d ∷ c ∷ ds) h some few l = let two : eqb (length (d ∷ c ∷ ds)) 1 ≡ false = ne_eqb _ _ (λ e. omega (arith, e)) in lean_more d c ds h few (not-true (eqb d 48) (rw two at l))
 
--- what the first digits of a line spell
-pub leads_natural : (line : List ℕ) (len n : ℕ) → len ≡ digits_len line → len ≤ length line → n ≡ (0 * 10 ^ (len - 0) + digits_value 10 (slice_range line 0 len)) % 2 ^ 64 → 1 ≤ len → len ≤ 18
-    → (eqb len 1 || not (eqb (get_or line 0 0) 48)) ≡ true → (len < length line → drop len line ≡ 32 ∷ drop (len + 1) line) → LeadsWith natural_of line len n
-leads_natural line len n is within value some few l ends =
+-- what the first digits of some bytes spell
+pub begins_natural : (line : List ℕ) (len n : ℕ) → len ≡ digits_len line → len ≤ length line → n ≡ (0 * 10 ^ (len - 0) + digits_value 10 (slice_range line 0 len)) % 2 ^ 64 → 1 ≤ len → len ≤ 18
+    → (eqb len 1 || not (eqb (get_or line 0 0) 48)) ≡ true → BeginsWith natural_of 18 line len n
+begins_natural line len n is within value some few l =
     let ds : List ℕ = take len line in
     let digits : AllDigits 10 ds = AllDigits-digits_len line len (omega arith) in
     let long : length ds ≡ len = length-take-le len line within in
@@ -84,8 +84,10 @@ leads_natural line len n is within value some few l ends =
     let read : n ≡ digits_value 10 ds = omega (arith, value, ap (digits_value 10) piece, digits_small ds digits (omega arith)) in
     record {
       within = within;
-      lacks = digits_lack ds digits;
-      ends = ends;
+      some = some;
+      few = omega arith;
+      lacks = digits_lack 32 ds (omega arith) digits;
+      line = digits_lack 10 ds (omega arith) digits;
       value = lean ds digits (omega arith) (omega arith) (rw (long, first) l) ∙ ap Some (sym (value_is 0 ds digits) ∙ sym read);
     }
 
@@ -93,14 +95,20 @@ signed_value : (o : Option ℕ) (n : ℕ) (v : ℤ) → o ≡ Some n → below_z
 signed_value o n v e z = ap (option_and_then below_zero) e ∙ z
 
 -- the same behind a sign
-pub leads_negative : (line ds : List ℕ) (len n : ℕ) (v : ℤ) → line ≡ 45 ∷ ds → LeadsWith natural_of ds len n → Some v ≡ below_zero n → LeadsWith value_of line (len + 1) v
-leads_negative line ds len n v is l z = let more : len + 1 ≡ suc len = omega arith in
-    subst (λ (xs : List ℕ). LeadsWith value_of xs (len + 1) v) (sym is) (subst (λ (k : ℕ). LeadsWith value_of (45 ∷ ds) k v) (sym more) (record {
+pub begins_negative : (line ds : List ℕ) (len n : ℕ) (v : ℤ) → line ≡ 45 ∷ ds → BeginsWith natural_of 18 ds len n → Some v ≡ below_zero n → BeginsWith value_of 19 line (len + 1) v
+begins_negative line ds len n v is l z = let more : len + 1 ≡ suc len = omega arith in
+    subst (λ (xs : List ℕ). BeginsWith value_of 19 xs (len + 1) v) (sym is) (subst (λ (k : ℕ). BeginsWith value_of 19 (45 ∷ ds) k v) (sym more) (record {
       within = omega (arith, l.within);
+      some = omega arith;
+      few = omega (arith, l.few);
       lacks = (refl, l.lacks);
-      ends = λ h. (let yet : suc len + 1 ≡ suc (len + 1) = omega arith in subst (λ (k : ℕ). drop len ds ≡ 32 ∷ drop k (45 ∷ ds)) (sym yet) (l.ends (omega arith)));
+      line = (refl, l.line);
       value = signed_value (natural_of (take len ds)) n v l.value (sym z);
     }))
+
+-- a word of the line, where it ends there
+pub leads : (line : List ℕ) (len : ℕ) (v : ℤ) → BeginsWith value_of 19 line len v → (len < length line → drop len line ≡ 32 ∷ drop (len + 1) line) → LeadsWith value_of line len v
+leads line len v h ends = record { within = h.within; lacks = h.lacks; ends = ends; value = h.value }
 
 -- ---- Texts of values
 

@@ -1,12 +1,14 @@
 -- Lines of a script, word by word.
-use Rattle.std.proofs.Common.{ℕ, suc, ◌%◌, ◌<◌, ◌≤◌, ◌≡◌, true, false, cond, eqb, leb, eq-eqb, List, [], ◌∷◌, ◌++◌, length, Option, Some, None, ℤ, sym, refl, ap, ◌∙◌, arith, rules}
+use Rattle.std.proofs.Common.{ℕ, suc, ◌%◌, ◌<◌, ◌≤◌, ◌≡◌, true, false, cond, eqb, leb, eq-eqb, List, [], ◌∷◌, ◌++◌, length, take, subst, Option, Some, None, ℤ, sym, refl, ap, ◌∙◌, arith, rules}
 use Rattle.std.proofs.lemmas.Bool.{ne_eqb}
 use Rattle.std.proofs.lemmas.Bool.Decides.{nat_tests}
 use Rattle.std.specs.Prelude.{◌≢◌, option_map, option_and_then, unwrap_or}
-use Rattle.std.proofs.lemmas.List.{append_assoc}
+use Rattle.std.proofs.lemmas.List.{append_assoc, take_all}
 use Rattle.h5w_model.specs.Lawful.{Line, adds, shows_up_to}
+use Rattle.h5w_text.specs.Bytes.{Lacks}
 use Rattle.h5w_text.specs.Lines.{line_limit, value_of, values_of, words_of}
 use Rattle.h5w_text.specs.Scripts.{alone, append_of, by_word, number_line_of, of_words, on_reader_of, positive_of, reader_of, rows_of, script_line_of, write_of}
+use Rattle.h5w_text.proofs.WordLemmas.{words_end}
 
 write_cases : (k : List ℕ) (o : Option ℕ) → positive_of k ≡ o → (ws : List (List ℕ)) → write_of (k ∷ ws) ≡ option_and_then (λ n. alone (shows_up_to n) ws) o
 write_cases k None e [] = ap (option_map shows_up_to) e
@@ -92,3 +94,10 @@ script_none columns line e = elim (leb (length line) line_limit) as (λ t. cond 
 pub script_some : (columns : ℕ) (line name : List ℕ) (ws : List (List ℕ)) → length line ≤ line_limit → words_of line ≡ name ∷ ws → script_line_of columns line ≡ by_word columns name ws
 unfolding script_line_of
 script_some columns line name ws h e = let test : leb (length line) line_limit ≡ true = grind (arith, nat_tests) in rw test (ap (of_words columns) e)
+
+-- a line of one value
+pub one_value : (word : List ℕ) (v : ℤ) → 1 ≤ length word → length word ≤ line_limit → Lacks 32 word → value_of word ≡ Some v → number_line_of 1 word ≡ Some (v ∷ [])
+one_value word v some short lacks is =
+    let whole : Lacks 32 (take (length word) word) = subst (λ (w : List ℕ). Lacks 32 w) (sym (take_all (length word) word (omega arith))) lacks in
+    numbers_are 1 word some short ∙ ap (rows_of 1) (words_end word (length word) whole (omega arith))
+    ∙ rows_even 1 (word ∷ []) (v ∷ []) (ap (option_and_then (λ (x : ℤ). Some (x ∷ []))) is) (omega arith) (omega arith)

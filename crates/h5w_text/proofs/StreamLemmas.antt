@@ -3,7 +3,7 @@ use Rattle.std.proofs.Common.{ℕ, ◌+◌, ◌≤◌, ◌≡◌, List, [], ◌+
 use Rattle.std.specs.Option.{option_map}
 use Rattle.std.specs.Result.{OnErr, OnOk}
 use Rattle.std.proofs.lemmas.List.{append_assoc, append-nil, take-append-drop, drop-drop}
-use Rattle.h5w_text.specs.Streams.{SinkView, SourceView, GaveSome, Grows, Took}
+use Rattle.h5w_text.specs.Streams.{SinkView, GaveSome, Grows}
 
 -- what was copied from the front of the bytes left, and the rest
 pub front_and_rest : (at n : ℕ) (bytes out : List ℕ) → take n out ≡ take n (drop at bytes) → drop at bytes ≡ take n out ++ drop (at + n) bytes

@@ -1,5 +1,5 @@
 -- What a reader of lines has before it, and what taking a line leaves.
-use Rattle.std.specs.Prelude.{◌≡◌, ◌⊎◌, ℕ, ◌+◌, ◌<◌, ◌≤◌, Bool, false, List, [], ◌∷◌, ◌++◌, length, take, if◌then◌else◌, MatchBool, Option, Some, IfSome, option_map, ℤ}
+use Rattle.std.specs.Prelude.{◌≡◌, ◌⊎◌, ℕ, ◌+◌, ◌<◌, ◌≤◌, Bool, false, List, [], ◌∷◌, ◌++◌, length, take, drop, if◌then◌else◌, MatchBool, Option, Some, IfSome, option_map, ℤ}
 use Rattle.h5w_text.specs.Bytes.{Lacks}
 use Rattle.h5w_text.specs.Lines.{last_line, line_limit, lines_of}
 use Rattle.h5w_text.specs.Scripts.{number_line_of}
@@ -132,3 +132,14 @@ pub record Cut (piece : List ℕ) (ended : Bool) (i j : IntakeView) : Type 0 whe
   pub rest : ended ≡ false → j.held ≡ []
   pub more : j.more ≡ i.more
   pub limit : j.limit ≡ i.limit
+
+-- lines of one value each stand next, with these values, before these bytes
+abbrev pub AreSingles : List ℤ → List ℕ → List ℕ → Type 0
+AreSingles [] held behind = held ≡ behind
+AreSingles (v ∷ vs) held behind =
+    (line : List ℕ) × (middle : List ℕ) × Lacks 10 line × (number_line_of 1 line ≡ Some (v ∷ [])) × (held ≡ line ++ 10 ∷ middle) × AreSingles vs middle behind
+
+-- they stand next among the held bytes, and so many bytes are theirs
+pub record StandNext (values : List ℤ) (bytes : ℕ) (held : List ℕ) : Type 0 where
+  pub within : bytes ≤ length held
+  pub lines : AreSingles values held (drop bytes held)

@@ -1,10 +1,11 @@
-ghost use Rattle.std.specs.Prelude.{◌≡◌, ◌≤◌, ◌++◌, ◌+◌, ℕ, List, [], ◌∷◌, length, take, true, false, Some, Ok, Err, IfOk, OnOk, OnErr, IfSome, IsTrue, MatchBool};
+ghost use Rattle.std.specs.Prelude.{◌≡◌, ◌≤◌, ◌++◌, ◌+◌, ℕ, List, [], ◌∷◌, ℤ, length, take, drop, true, false, Some, Ok, Err, IfOk, OnOk, OnErr, IfSome, IsTrue, MatchBool};
 ghost use Rattle.h5w_model.specs.Causes.{Rose};
 ghost use Rattle.h5w_text.specs.Streams.{Took};
-ghost use Rattle.h5w_text.specs.LinesAhead.{Cut, Keeps, Passed, Stays, lines_ahead};
+ghost use Rattle.h5w_text.specs.LinesAhead.{Cut, Keeps, Passed, StandNext, Stays, lines_ahead};
 ghost use Rattle.h5w_text.specs.Scripts.{number_line_of};
 
 use crate::line::{LineError, Partial};
+use crate::number::line_value;
 use crate::places::first_place;
 use crate::script::fill_numbers;
 use crate::streams::Source;
@@ -146,9 +147,27 @@ impl Intake {
         Ok(true)
     }
 
+    /// Takes the line that stands next, and its end, where it is held whole and is one value of few digits: it comes in the place of what
+    /// the list had. False: nothing was taken, which says nothing of the line.
+    #[inline(always)]
+    fn take_value(&mut self, values: &mut Vec<i128>) -> bool
+        ensures taken { IsTrue result → (line : List ℕ) × Cut line true self.old self.new × (number_line_of 1 line ≡ Some values.new.items) }
+        ensures kept { result ≡ false → self.new ≡ self.old }
+    {
+        let Some((len, value)) = line_value(&self.buffer[self.at..self.end]) else {
+            return false;
+        };
+        values.clear();
+        if values.push(value).is_err() {
+            return false;
+        }
+        self.at += len + 1;
+        true
+    }
+
     /// Takes the line that stands next, and its end, where it is held whole and is one of numbers: its values come in the place of what
     /// the list had. False: nothing was taken, which says nothing of the line.
-    pub fn take_numbers(&mut self, columns: u64, values: &mut Vec<i128>) -> bool
+    fn take_line(&mut self, columns: u64, values: &mut Vec<i128>) -> bool
         requires { 1 ≤ columns }
         ensures taken { IsTrue result → (line : List ℕ) × Cut line true self.old self.new × (number_line_of columns line ≡ Some values.new.items) }
         ensures kept { result ≡ false → self.new ≡ self.old }
@@ -165,5 +184,45 @@ impl Intake {
             }
             Err(_) => false,
         }
+    }
+
+    /// Takes the line that stands next, and its end, where it is held whole and is one of numbers: its values come in the place of what
+    /// the list had. False: nothing was taken, which says nothing of the line. A line of one value has a way of its own.
+    pub fn take_numbers(&mut self, columns: u64, values: &mut Vec<i128>) -> bool
+        requires { 1 ≤ columns }
+        ensures taken { IsTrue result → (line : List ℕ) × Cut line true self.old self.new × (number_line_of columns line ≡ Some values.new.items) }
+        ensures kept { result ≡ false → self.new ≡ self.old }
+    {
+        if columns == 1 {
+            if self.take_value(values) {
+                return true;
+            }
+        }
+        self.take_line(columns, values)
+    }
+
+    /// Adds the values of the lines that stand next, as far as they are held whole, each of them is one value of few digits, and the list has
+    /// room. Nothing is taken. Answers how many bytes these lines have with their ends.
+    pub fn values_ahead(&self, values: &mut Vec<i128>) -> usize
+        ensures { (added : List ℤ) × (values.new.items ≡ values.old.items ++ added) × StandNext added result self.now.held }
+    {
+        let held = &self.buffer[self.at..self.end];
+        let mut at = 0;
+        while values.len() < values.capacity() {
+            let Some((len, value)) = line_value(&held[at..]) else {
+                break;
+            };
+            values.push_reserved(value);
+            at += len + 1;
+        }
+        at
+    }
+
+    /// Takes so many of the bytes that are held, the first.
+    pub fn pass(&mut self, bytes: usize)
+        requires { bytes ≤ length self.old.held }
+        ensures { self.new ≡ record self.old { held = drop bytes self.old.held } }
+    {
+        self.at += bytes;
     }
 }

@@ -1,6 +1,6 @@
-ghost use Rattle.std.specs.Prelude.{◌≡◌, ◌≤◌, ℕ, false, Err, IfOk, IsTrue};
+ghost use Rattle.std.specs.Prelude.{◌≡◌, ◌≤◌, ◌++◌, ℕ, ℤ, List, length, drop, false, Err, IfOk, IsTrue};
 ghost use Rattle.h5w_model.specs.Causes.{Rose};
-ghost use Rattle.h5w_text.specs.LinesAhead.{GivenUp, GivenUpOver, NextGives, IsOver, Stays, TakesNumbers, lines_ahead};
+ghost use Rattle.h5w_text.specs.LinesAhead.{GivenUp, GivenUpOver, NextGives, IsOver, StandNext, Stays, TakesNumbers, lines_ahead};
 
 use crate::intake::Intake;
 use crate::line::{LineError, Next, Partial};
@@ -67,5 +67,24 @@ impl<'a, S: Source> Lines<'a, S> {
         ensures same_intake { self.new.intake.ghost_name ≡ self.old.intake.ghost_name }
     {
         self.intake.take_numbers(columns, values)
+    }
+
+    /// Adds the values of the lines that stand next, as far as their bytes are held with their ends, each of them is one value of few digits, and
+    /// the list has room. No line is taken, and the source is asked for nothing. Answers how many bytes these lines have with their ends.
+    pub fn values_ahead(&self, values: &mut Vec<i128>) -> usize
+        ensures { (added : List ℤ) × (values.new.items ≡ values.old.items ++ added) × StandNext added result self.now.intake.now.held }
+    {
+        self.intake.values_ahead(values)
+    }
+
+    /// Takes so many of the bytes that are held, the first: whole lines.
+    pub fn pass(&mut self, bytes: usize)
+        requires { bytes ≤ length self.old.intake.now.held }
+        ensures intake { self.new.intake.now ≡ record (self.old.intake.now) { held = drop bytes self.old.intake.now.held } }
+        ensures source { self.new.source.now ≡ self.old.source.now }
+        ensures same_reference { self.new.source.ghost_name ≡ self.old.source.ghost_name }
+        ensures same_intake { self.new.intake.ghost_name ≡ self.old.intake.ghost_name }
+    {
+        self.intake.pass(bytes);
     }
 }

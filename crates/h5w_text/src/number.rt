@@ -2,7 +2,7 @@ ghost use Rattle.std.specs.Prelude.{◌≡◌, ◌≤◌, ◌<◌, ◌∷◌, �
 ghost use Rattle.std.specs.List.{list_all};
 ghost use Rattle.std.specs.Option.{SomeIff};
 ghost use Rattle.h5w_text.specs.Lines.{below, below_zero, count_of, is_digit, natural_of, number_from, value_of};
-ghost use Rattle.h5w_text.specs.WordLists.{LeadsWith};
+ghost use Rattle.h5w_text.specs.WordLists.{BeginsWith, IsAlone, LeadsWith};
 
 use core::dec2flt::read_digits;
 
@@ -92,25 +92,40 @@ fn is_end(line: &[u8], len: usize) -> bool
     len == line.len() || line[len] == b' '
 }
 
-/// The number that a line's first word spells, where it has at most 18 digits, behind the word's length.
+/// The number that some bytes begin with, where it has at most 18 digits, behind how many bytes spell it.
 #[inline(always)]
-fn short_natural(line: &[u8]) -> Option<(usize, u64)>
-    ensures { IfSome result (λ r. LeadsWith natural_of line.now r.0 r.1) }
+fn first_natural(bytes: &[u8]) -> Option<(usize, u64)>
+    ensures { IfSome result (λ r. BeginsWith natural_of 18 bytes.now r.0 r.1) }
 {
-    let (len, n) = read_digits(line, 0, 0);
+    let (len, n) = read_digits(bytes, 0, 0);
     if len == 0 {
         return None;
     }
     if len > 18 {
         return None;
     }
-    if !is_lean(line[0], len) {
-        return None;
-    }
-    if !is_end(line, len) {
+    if !is_lean(bytes[0], len) {
         return None;
     }
     Some((len, n))
+}
+
+/// The value that some bytes begin with, where it has at most 18 digits, behind how many bytes spell it.
+#[inline(always)]
+fn first_value(bytes: &[u8]) -> Option<(usize, i128)>
+    ensures { IfSome result (λ r. BeginsWith value_of 19 bytes.now r.0 r.1) }
+{
+    match bytes {
+        [b'-', digits @ ..] => {
+            let (len, n) = first_natural(digits)?;
+            let v = negated(u128::from(n))?;
+            Some((len + 1, v))
+        }
+        _ => {
+            let (len, n) = first_natural(bytes)?;
+            Some((len, i128::from(n)))
+        }
+    }
 }
 
 /// The value that a line's first word spells, where it has at most 18 digits, behind the word's length. None says
@@ -119,15 +134,25 @@ fn short_natural(line: &[u8]) -> Option<(usize, u64)>
 pub fn short_value(line: &[u8]) -> Option<(usize, i128)>
     ensures { IfSome result (λ r. LeadsWith value_of line.now r.0 r.1) }
 {
-    match line {
-        [b'-', digits @ ..] => {
-            let (len, n) = short_natural(digits)?;
-            let v = negated(u128::from(n))?;
-            Some((len + 1, v))
-        }
-        _ => {
-            let (len, n) = short_natural(line)?;
-            Some((len, i128::from(n)))
-        }
+    let (len, v) = first_value(line)?;
+    if !is_end(line, len) {
+        return None;
     }
+    Some((len, v))
+}
+
+/// The value of a line that stands at the front of some bytes with its end, where it is one of at most 18 digits alone, behind the
+/// line's length. None says nothing of the line.
+#[inline(always)]
+pub fn line_value(bytes: &[u8]) -> Option<(usize, i128)>
+    ensures { IfSome result (λ r. IsAlone bytes.now r.0 r.1) }
+{
+    let (len, v) = first_value(bytes)?;
+    if len == bytes.len() {
+        return None;
+    }
+    if bytes[len] != b'\n' {
+        return None;
+    }
+    Some((len, v))
 }

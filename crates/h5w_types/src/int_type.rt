@@ -67,6 +67,7 @@ impl IntType {
     }
 
     /// How many values the type has.
+    #[inline(always)]
     fn span(&self) -> i128
         requires { IsIntType (int_type_of self.now) }
         ensures { result ≡ pos (span_of (int_type_of self.now)) }
@@ -137,6 +138,7 @@ pub fn value_of(bytes: &[u8], t: &IntType) -> i128
 }
 
 /// A value of the type as a number.
+#[inline(always)]
 pub(crate) fn number_of(v: i128, t: &IntType) -> u64
     requires typed { IsIntType (int_type_of t.now) }
     requires inside { is_in_span t.now.signed (span_of (int_type_of t.now)) v ≡ true }
@@ -151,6 +153,7 @@ pub(crate) fn number_of(v: i128, t: &IntType) -> u64
 }
 
 /// The cell of the number `n` in the type's order.
+#[inline(always)]
 pub(crate) fn cell(n: u64, t: &IntType) -> Cell
     requires typed { IsIntType (int_type_of t.now) }
     requires fits { n < span_of (int_type_of t.now) }
@@ -158,7 +161,8 @@ pub(crate) fn cell(n: u64, t: &IntType) -> Cell
 {
     let size = usize::from(t.size);
     let mut bytes = [0; 8];
-    put(&mut bytes, 0, size, n);
+    // all 8 at once: those that do not count are 0
+    put(&mut bytes, 0, 8, n);
     if t.big {
         bytes[..size].reverse();
     }

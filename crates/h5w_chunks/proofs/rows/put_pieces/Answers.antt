@@ -1,6 +1,5 @@
-use Rattle.std.proofs.Common.{arith, length-append, ◌+◌, ◌≡◌, ◌++◌, ◌∷◌, [], ◌∙◌, ap, List, ℕ, length, min}
+use Rattle.std.proofs.Common.{arith, length-append, ◌+◌, ◌≡◌, ◌++◌, ◌∙◌, ap, ℕ, length, min}
 use Rattle.h5w_model.specs.Images.{pieces}
-use Rattle.h5w_model.specs.declared.piece.Write.{Write}
 use Rattle.h5w_chunks.proofs.Loops.{pieces_next, pieces_all}
 use Rattle.h5w_chunks.proofs.rows.put_pieces.Goals as goal
 
@@ -8,13 +7,13 @@ pub loop-part-preserved : goal.loop-part-preserved
 loop-part-preserved c =
     let steps = c.in-Some.ensures.steps in
     let part = c.in-Some.part.now in
-    let added = c.in_ok-push.ensures.items ∙ ap (λ (b : List ℕ). let w : Write = record { at = c.loop-part.at; piece = b } in c.loop-part.out.items ++ w ∷ []) c.of-piece.ensures in
+    let added = c.in_ok-push_write.ensures in
     let all = c.args.out.now.items ++ pieces c.args.place c.args.bytes.now in
     let count = steps.1.1 ∙ ap (λ (n : ℕ). min n (length c.loop-part.part-iterator.rest.now)) c.loop-part.invariant.size in
     let lengths : length c.loop-part.part-iterator.rest.now ≡ length part + length c.next.new.self.rest.now = ap length steps.1.0 ∙ length-append part c.next.new.self.rest.now in
     record {
       size = steps.0 ∙ c.loop-part.invariant.size;
-      goes = pieces_next c.loop-part.out.items c.push.new.self.items all c.loop-part.at c.loop-part.part-iterator.rest.now part c.next.new.self.rest.now steps.1.0 count steps.1.2 added c.loop-part.invariant.goes;
+      goes = pieces_next c.loop-part.out.items c.push_write.new.out.items all c.loop-part.at c.loop-part.part-iterator.rest.now part c.next.new.self.rest.now steps.1.0 count steps.1.2 added c.loop-part.invariant.goes;
       fits = omega (arith, c.loop-part.invariant.fits, lengths);
     }
 

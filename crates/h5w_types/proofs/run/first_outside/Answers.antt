@@ -1,6 +1,5 @@
 use Rattle.std.proofs.Common.{rules, ◌≡◌, ◌∙◌, to_z, of_z, get_or, pos, sym, ap, Some, ℤ}
 use Rattle.std.specs.Int.{w128}
-use Rattle.std.specs.Int.Signed.{le_z, lt_z}
 use Rattle.h5w_types.specs.Fields.{int_type_of}
 use Rattle.h5w_types.proofs.RunLemmas.{above_greatest, below_least, between}
 use Rattle.h5w_types.proofs.run.first_outside.Goals.{then-v-least-via-then-v-least, then-v-least-via-else-v-least+then-above-v}

@@ -1,4 +1,4 @@
-use Rattle.std.proofs.Common.{arith, rules, to_z, of_z, ◌≡◌, ◌+◌, ◌-◌, ◌*◌, ◌<◌, ◌≤◌, ◌++◌, length, get_or, take, pos, ◌∙◌, ap, sym, true, Option, Some, ℤ, ℕ, List}
+use Rattle.std.proofs.Common.{arith, rules, to_z, of_z, ◌≡◌, ◌+◌, ◌++◌, length, get_or, take, pos, ◌∙◌, ap, ℤ}
 use Rattle.std.specs.Int.{w128}
 use Rattle.std.specs.Vec.{vec_len}
 use Rattle.h5w_model.proofs.IntegerLemmas.{length-cell_bytes_of}
@@ -33,10 +33,11 @@ loop-v-preserved c =
     record {
       goes = run_more t c.loop-v.out.items c.extend_from_slice.new.self.items (c.args.out.now.items ++ run_bytes t values) (take t.size c.cell-cell.result.bytes) values i c.loop-v-test.true cell added c.loop-v.invariant.goes;
       room = omega (arith, c.loop-v.invariant.room, less, long, len, c.extend_from_slice.ensures.capacity);
+      capacity = omega (arith, c.loop-v.invariant.capacity, c.extend_from_slice.ensures.capacity);
     }
 
-pub returns : goal.returns
-returns c =
+pub returns-clause-added : goal.returns-clause-added
+returns-clause-added c =
     let values = c.args.values.now in
     let t = int_type_of c.args.t.now in
     run_all t c.loop-v.out.items (c.args.out.now.items ++ run_bytes t values) values c.loop-v.v-index (omega arith) c.loop-v.invariant.goes

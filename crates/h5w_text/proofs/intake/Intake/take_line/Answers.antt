@@ -1,7 +1,7 @@
 use Rattle.std.proofs.Common.{arith, take, drop, ◌-◌}
 use Rattle.std.proofs.lemmas.List.{length-take}
 use Rattle.h5w_text.proofs.LineLemmas.{cut_here}
-use Rattle.h5w_text.proofs.intake.Intake.take_numbers.Goals as goal
+use Rattle.h5w_text.proofs.intake.Intake.take_line.Goals as goal
 
 pub returns-in-Ok-clause-taken : goal.returns-in-Ok-clause-taken
 returns-in-Ok-clause-taken c = let i = c.self.inside in let value = c.deref.ensures.value in
