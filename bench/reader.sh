@@ -183,8 +183,9 @@ def header(messages):
 NOWHERE = 2 ** 64 - 1
 CHUNKS = 131060
 
-# an image of so many rows of i32le, of which so many chunks of `length` rows are there, but for the first where it is absent
-def image(length, rows, chunks, absent=False):
+# an image of so many rows of i32le, of which so many chunks of `length` rows are there, but for the first where it is absent; where
+# `room` is more, there are bytes for so many chunks
+def image(length, rows, chunks, absent=False, room=0):
     width = (length.bit_length() - 1) // 8 + 1
     root = header([message(2, b'\0\0' + 2 * le(NOWHERE, 8)), message(10, b'\0\0'), message(6, b'\1\0\4data' + le(106, 8))])
     array = 106 + 78 + 2 * width + 2
@@ -195,7 +196,7 @@ def image(length, rows, chunks, absent=False):
     at = array + 72 + 298
     size = 4 * length
     places = [at + size * i if i < chunks and not (absent and i == 0) else NOWHERE for i in range(CHUNKS)]
-    at += size * chunks
+    at += size * max(chunks, room)
     behind = []
     first, offset = 4, 0
     named, second = [], []
@@ -222,12 +223,12 @@ def image(length, rows, chunks, absent=False):
     index = seal(b'EAIB\0\0' + le(array, 8) + b''.join(le(a, 8) for a in places[:4] + named + second) + 16 * le(NOWHERE, 8))
     top = seal(b'EAHD\0\0\x08\x20\4\x10\4\x0a' + bytes(48) + le(array + 72, 8))
     base = seal(b'\x89HDF\r\n\x1a\n\3\x08\x08\5' + bytes(8) + le(NOWHERE, 8) + le(at, 8) + le(48, 8))
-    cells = b''.join(le(i % 1000, 4) for i in range(length)) * chunks
+    cells = b''.join(le(i % 1000, 4) for i in range(length)) * max(chunks, room)
     return base + root + dataset + top + index + cells + b''.join(behind)
 
 for name, older, newer in [
         ('few', (2, 20, 10), (2, 20, 10)),
-        ('many', (2, 200000, 100001), (2, 200002, 100001)),
+        ('many', (2, 200000, 100000, False, 100001), (2, 200002, 100001)),
         ('few_absent', (2, 20, 10, True), (2, 20, 10, True)),
         ('many_absent', (2, 200002, 100001, True), (2, 200002, 100001, True)),
         ('rows', (65536, 1000000, 16), (65536, 1000000, 16))]:
@@ -264,7 +265,7 @@ rows = [
     ("an idle refresh at 100,001 chunks, instructions", 1000, 1500),
     ("a refresh that looks up an absent chunk before 9 others, instructions", 1000, 15000),
     ("a refresh that looks up an absent chunk before 100,000 others, instructions", 1000, 15000),
-    ("a refresh with one new chunk behind 100,000, instructions", 1, 60000),
+    ("a refresh with one new chunk behind 100,000, instructions", 1, 38000),
     ("an open at 100,000 chunks, instructions a chunk", 100000, 60),
     ("a read of 1,000,000 values, instructions a value", 1000000, 12),
 ]

@@ -1,6 +1,6 @@
 -- Bytes that have one value each, tried one by one.
-use Rattle.std.proofs.Common.{◌≡◌, ℕ, ◌+◌, ◌*◌, ◌<◌, ◌≤◌, ◌++◌, take, false, cond, ◌==◌, List, length, get_or, drop, Ok, Err, Result, ap, ◌∙◌, arith, eq-eqb}
-use Rattle.std.proofs.lemmas.List.{drop_more, drop_all}
+use Rattle.std.proofs.Common.{◌≡◌, ℕ, ◌+◌, ◌*◌, ◌<◌, ◌++◌, take, false, cond, ◌==◌, List, length, get_or, drop, Err, Result, ap, ◌∙◌, arith, eq-eqb}
+use Rattle.std.proofs.lemmas.List.{drop_more}
 use Rattle.std.proofs.lemmas.Bool.Decides.{nat_tests}
 use Rattle.h5w_model.specs.Arrays.{number_bytes}
 use Rattle.h5w_model.proofs.PutLemmas.{put-next}

@@ -1,9 +1,12 @@
 ghost use Rattle.std.specs.Prelude.{◌≡◌, ℕ, ◌+◌, ◌≤◌, ◌^◌, ◌++◌, length, drop, Ok};
-ghost use Rattle.h5w_model.specs.Arrays.{eadb_at, eadb_bytes, slots_len};
+ghost use Rattle.h5w_model.specs.Arrays.{eadb_at, eadb_bytes, slots_fields, slots_len};
 ghost use Rattle.h5w_model.specs.Blocks.{Gives};
+ghost use Rattle.h5w_model.specs.Checked.{viewed};
 
-use crate::slots::{Block, Slots, encode};
+use crate::fields::check_fixed;
+use crate::slots::{Block, FIXED, FRAME, Slots, encode};
 use h5w_model::BlockFault;
+use h5w_sum::{Front, check_block_with};
 use std::alloc::Global;
 
 const SIGNATURE: [u8; 4] = *b"EADB";
@@ -39,6 +42,26 @@ impl Eadb {
             offset,
             slots,
         })
+    }
+
+    /// The tests of [`Eadb::decode`] alone: no slot is read. The sum is gone on with behind a front that was summed before, where it
+    /// is this block's. The block's front up to place `upto` comes with the answer, where that lies further on and there is memory for
+    /// it.
+    pub fn check(
+        alloc: Global,
+        b: &[u8],
+        at: u64,
+        n: u64,
+        old: Option<&Front>,
+        upto: usize,
+    ) -> Result<Option<Front>, BlockFault>
+        requires below { at + length b.now ≤ 2 ^ 64 }
+        requires slots { n ≤ 1024 }
+        ensures exact { viewed (λ _. slots_fields b.now n) result ≡ eadb_at b.now at n }
+    {
+        let front = check_block_with(alloc, b, &SIGNATURE, FRAME + 8 * n as usize, old, upto)?;
+        check_fixed(b, at, &FIXED)?;
+        Ok(front)
     }
 
     /// Writes the data block to the front of `out`, and answers its length.

@@ -19,4 +19,4 @@ pub use h5w_model::{BlockFault, Place};
 pub use header::Eahd;
 pub use index_block::Eaib;
 pub use secondary_block::Easb;
-pub use slots::Slots;
+pub use slots::{Slots, slot};

@@ -1,9 +1,12 @@
 ghost use Rattle.std.specs.Prelude.{◌≡◌, ℕ, ◌+◌, ◌≤◌, ◌^◌, ◌++◌, length, drop, Ok};
-ghost use Rattle.h5w_model.specs.Arrays.{easb_at, easb_bytes, slots_len};
+ghost use Rattle.h5w_model.specs.Arrays.{easb_at, easb_bytes, slots_fields, slots_len};
 ghost use Rattle.h5w_model.specs.Blocks.{Gives};
+ghost use Rattle.h5w_model.specs.Checked.{viewed};
 
-use crate::slots::{Block, Slots, encode};
+use crate::fields::check_fixed;
+use crate::slots::{Block, FIXED, FRAME, Slots, encode};
 use h5w_model::BlockFault;
+use h5w_sum::check_block;
 use std::alloc::Global;
 
 const SIGNATURE: [u8; 4] = *b"EASB";
@@ -39,6 +42,16 @@ impl Easb {
             offset,
             slots,
         })
+    }
+
+    /// The tests of [`Easb::decode`] alone: no slot is read.
+    pub fn check(b: &[u8], at: u64, n: u64) -> Result<(), BlockFault>
+        requires below { at + length b.now ≤ 2 ^ 64 }
+        requires slots { n ≤ 1024 }
+        ensures exact { viewed (λ _. slots_fields b.now n) result ≡ easb_at b.now at n }
+    {
+        check_block(b, &SIGNATURE, FRAME + 8 * n as usize)?;
+        check_fixed(b, at, &FIXED)
     }
 
     /// Writes the secondary block to the front of `out`, and answers its length.

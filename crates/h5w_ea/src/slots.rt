@@ -2,6 +2,7 @@ ghost use Rattle.std.specs.Prelude.{◌≡◌, ◌⊎◌, ℕ, ◌+◌, ◌*◌,
 ghost use Rattle.std.specs.List.{All};
 ghost use Rattle.h5w_model.specs.Arrays.{slots_at, slots_bytes, slots_len};
 ghost use Rattle.h5w_model.specs.Blocks.{Gives};
+ghost use Rattle.h5w_model.specs.Numbers.{field};
 
 use crate::fields::{check_fixed, put_head, put_numbers, read_numbers, seal_front};
 use h5w_bytes::{number, put, word};
@@ -11,13 +12,13 @@ use std::alloc::Global;
 use std::marker::Model;
 
 /// Version and client.
-const FIXED: [u8; 2] = [0, 0];
+pub const FIXED: [u8; 2] = [0, 0];
 
 /// Where the slots begin.
 const FIRST: usize = 18;
 
 /// How many bytes a block has beside its slots.
-const FRAME: usize = 22;
+pub const FRAME: usize = 22;
 
 /// A list of addresses; undefined is all ones.
 #[derive(Drop)]
@@ -88,6 +89,14 @@ impl Block {
             slots: Slots { addresses },
         })
     }
+}
+
+/// The address in slot `i` of a data block or a secondary block at the front of `b`.
+pub fn slot(b: &[u8], i: usize) -> u64
+    requires { slots_len (i + 1) ≤ length b.now }
+    ensures { result ≡ field b.now (18 + 8 * i) 8 }
+{
+    number(b, FIRST + 8 * i, 8)
 }
 
 /// Writes a block of slots to the front of `out`, and answers its length.

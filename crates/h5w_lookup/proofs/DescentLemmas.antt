@@ -17,6 +17,7 @@ use Rattle.h5w_model.specs.declared.refusal.ReadError.TheVariants.{Damaged}
 use Rattle.h5w_lookup.specs.Seeking.{store_rest, next_rest, data_given, second_given, wait_given}
 use Rattle.h5w_lookup.specs.Unknown.{unknown_at, with_found, needed_with}
 use Rattle.h5w_lookup.specs.Slots.{key_of, known_or, slots_from, answered, slots_rest, slots_left, found_left, after_found}
+use Rattle.h5w_lookup.specs.Contents.{bytes_in}
 use Rattle.h5w_lookup.specs.Stores.{IsBlockOf, kept}
 use Rattle.h5w_lookup.specs.Descents.{after_next, waiting, descended}
 use Rattle.h5w_lookup.specs.declared.block.Block.{Block}
@@ -159,13 +160,13 @@ pub waiting_wants : (g : CallRules) (w : Waiting) (len : ℕ) → len ≡ min 51
 waiting_wants g w len e = wants_gather w.gather.place w.gather.rest len w.gather.got.items (wait_given (kept w.descent.store) w.wait (after_next g w.descent)) w.gather.more e
 
 -- a block that is kept
-pub put_used : (kind at len : ℕ) (b : List ℕ) (x : Block) (old new : List Kept) → IsBlockOf kind at len b x → new ≡ used 16 x.kind x.place x.len x.bytes.items old
+pub put_used : (kind at len : ℕ) (b : List ℕ) (x : Block) (old new : List Kept) → IsBlockOf kind at len b x → new ≡ used 16 x.kind x.place x.len (bytes_in x.content) old
     → new ≡ used 16 kind at len b old
 put_used kind at len b x old new is put =
     put
-    ∙ ap (λ k. used 16 k x.place x.len x.bytes.items old) is.kind_is
-    ∙ ap (λ k. used 16 kind k x.len x.bytes.items old) is.place_is
-    ∙ ap (λ k. used 16 kind at k x.bytes.items old) is.len_is
+    ∙ ap (λ k. used 16 k x.place x.len (bytes_in x.content) old) is.kind_is
+    ∙ ap (λ k. used 16 kind k x.len (bytes_in x.content) old) is.place_is
+    ∙ ap (λ k. used 16 kind at k (bytes_in x.content) old) is.len_is
     ∙ ap (λ k. used 16 kind at len k old) is.bytes_are
 
 abbrev data_by : List Kept → ℕ → ℕ → (ℕ → Prog (Result Reading ReadError)) → Result SlotsFields BlockFault → Prog (Result Reading ReadError)

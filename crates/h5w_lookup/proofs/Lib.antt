@@ -1,4 +1,5 @@
 pub mod PieceLemmas
+pub mod AddressLemmas
 pub mod GatherLemmas
 pub mod TableLemmas
 pub mod StoreLemmas

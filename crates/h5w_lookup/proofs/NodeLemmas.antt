@@ -18,8 +18,6 @@ use Rattle.h5w_model.specs.declared.refusal.ReadError.TheVariants.{Damaged}
 use Rattle.h5w_model.proofs.CheckedLemmas.{AllPass, checked-passed}
 use Rattle.h5w_bt.specs.declared.records.Record.{Record}
 use Rattle.h5w_bt.specs.declared.children.Child.{Child}
-use Rattle.h5w_bt.specs.declared.inner.Btin.{Btin}
-use Rattle.h5w_bt.specs.Fields.{btin_of}
 use Rattle.h5w_bt.specs.Parts.{record_of, child_of}
 use Rattle.h5w_lookup.specs.Blocks.{IsRead, node_len, node_at}
 use Rattle.h5w_lookup.specs.Contents.{inner_in}
@@ -27,7 +25,6 @@ use Rattle.h5w_lookup.specs.Turns.{ForChild}
 use Rattle.h5w_lookup.specs.Turning.{turning}
 use Rattle.h5w_lookup.specs.Seeking.{store_rest, next_rest, node_given, wait_rest}
 use Rattle.h5w_lookup.specs.declared.content.Content.{Content}
-use Rattle.h5w_lookup.specs.declared.content.Content.TheVariants as contents
 use Rattle.h5w_lookup.specs.declared.content.Turn.{Turn}
 use Rattle.h5w_lookup.specs.declared.content.Turn.TheVariants as turns
 use Rattle.h5w_lookup.specs.declared.wait.NodeWait.{NodeWait}
@@ -141,9 +138,9 @@ root_is b p t h =
 -- ---- A node that was read
 
 -- what the bytes of an inner node say
-pub inner_read : (at depth n : ℕ) (b : List ℕ) (t : Btin) → 1 ≤ depth → depth ≤ 3 → btin_at b at n depth ≡ Ok (btin_of t) → IsRead (2 + depth) at (node_len depth n) b (contents.Inner t)
-inner_read p zero n b t low high e = absurd (omega arith)
-inner_read p (suc depth) n b t low high e = record {
+pub inner_read : (at depth n : ℕ) (b : List ℕ) (c : Content) → 1 ≤ depth → depth ≤ 3 → btin_at b at n depth ≡ Ok (inner_in c) → IsRead (2 + depth) at (node_len depth n) b c
+inner_read p zero n b c low high e = absurd (omega arith)
+inner_read p (suc depth) n b c low high e = record {
   of_data = λ m kind len. absurd (omega arith);
   of_second = λ m kind len. absurd (omega arith);
   of_leaf = λ m kind len. absurd (omega arith);
@@ -151,7 +148,7 @@ inner_read p (suc depth) n b t low high e = record {
       let same : depth ≡ d = omega arith in
       let long : btin_len n (suc depth) ≡ btin_len m (suc depth) = len ∙ ap (λ k. btin_len m (suc k)) (sym same) in
       let count : n ≡ m = same_len depth n m high long in
-      subst (λ k. btin_at b p k (suc d) ≡ Ok (btin_of t)) count (subst (λ k. btin_at b p n (suc k) ≡ Ok (btin_of t)) same e);
+      subst (λ k. btin_at b p k (suc d) ≡ Ok (inner_in c)) count (subst (λ k. btin_at b p n (suc k) ≡ Ok (inner_in c)) same e);
 }
 
 -- its children are within their capacity

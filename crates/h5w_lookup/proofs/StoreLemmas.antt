@@ -10,6 +10,7 @@ use Rattle.lru.specs.LruCache.{LruCache, IsValid, promoted, put_entries}
 use Rattle.h5w_model.specs.Programs.{Kept, is_of, kept_bytes, others, used}
 use Rattle.h5w_lookup.specs.Blocks.{block_number}
 use Rattle.h5w_lookup.specs.Blocks.{IsRead}
+use Rattle.h5w_lookup.specs.Contents.{bytes_in}
 use Rattle.h5w_lookup.specs.Stores.{Keeps, IsBlockOf}
 use Rattle.h5w_lookup.specs.Keyed.{kept_entry, kept_entries, IsKeyed}
 use Rattle.h5w_lookup.specs.declared.block.Block.{Block}
@@ -68,12 +69,12 @@ by_number kind at n e s key =
 -- ---- Lists
 
 pub find_bytes : (kind at n : ℕ) (es : List (ℕ × Block)) → IsSmall at n → IsKeyed es
-    → kept_bytes kind at n (kept_entries es) ≡ option_map (λ b. b.bytes.items) (lookup (nat_eq (block_number kind at n)) es)
+    → kept_bytes kind at n (kept_entries es) ≡ option_map (λ (b : Block). bytes_in b.content) (lookup (nat_eq (block_number kind at n)) es)
 find_bytes kind at n [] s keyed = refl
 find_bytes kind at n (e ∷ es) s keyed =
     let key = block_number kind at n in
-    ap (λ c. cond c (Some e.1.bytes.items) (kept_bytes kind at n (kept_entries es))) (by_number kind at n e s keyed.0)
-    ∙ elim (nat_eq key e.0) as (λ c. cond c (Some e.1.bytes.items) (kept_bytes kind at n (kept_entries es)) ≡ option_map (λ b. b.bytes.items) (cond c (Some e.1) (lookup (nat_eq key) es))) [
+    ap (λ c. cond c (Some (bytes_in e.1.content)) (kept_bytes kind at n (kept_entries es))) (by_number kind at n e s keyed.0)
+    ∙ elim (nat_eq key e.0) as (λ c. cond c (Some (bytes_in e.1.content)) (kept_bytes kind at n (kept_entries es)) ≡ option_map (λ (b : Block). bytes_in b.content) (cond c (Some e.1) (lookup (nat_eq key) es))) [
       | true ↦ refl
       | false ↦ find_bytes kind at n es s keyed.1
     ]
@@ -147,7 +148,7 @@ abbrev after_put : List (ℕ × Block) → ℕ → ℕ → Block → Option (ℕ
 after_put es cap key v o = option_map_or (λ e. (e.0, v) ∷ remove_entry (nat_eq key) es) o ((key, v) ∷ take (cap - 1) es)
 
 put_is : (es : List (ℕ × Block)) (v : Block) (o : Option (ℕ × Block)) → lookup_entry (nat_eq (block_number v.kind v.place v.len)) es ≡ o → IsKeyed es → IsDistinct nat_eq (keys_of es) → length es ≤ 16
-    → used 16 v.kind v.place v.len v.bytes.items (kept_entries es) ≡ kept_entries (after_put es 16 (block_number v.kind v.place v.len) v o)
+    → used 16 v.kind v.place v.len (bytes_in v.content) (kept_entries es) ≡ kept_entries (after_put es 16 (block_number v.kind v.place v.len) v o)
 put_is es v None h keyed apart few =
     let key = block_number v.kind v.place v.len in
     ap (λ (ks : List Kept). take 16 (kept_entry (key, v) ∷ ks)) (others_entries v.kind v.place v.len es (small_block v) keyed apart ∙ ap kept_entries (removed_none (nat_eq key) es h))
@@ -168,7 +169,7 @@ put_keyed es v (Some f) h keyed =
     (sym (eqb-true key f.0 found.passes), keyed_removed (nat_eq key) es keyed)
 
 pub used_put : (c : LruCache ℕ Block) (v : Block) → c.cap ≡ 16 → IsKeyed c.entries → IsValid nat_eq c
-    → kept_entries (put_entries nat_eq c (block_number v.kind v.place v.len) v) ≡ used 16 v.kind v.place v.len v.bytes.items (kept_entries c.entries)
+    → kept_entries (put_entries nat_eq c (block_number v.kind v.place v.len) v) ≡ used 16 v.kind v.place v.len (bytes_in v.content) (kept_entries c.entries)
 used_put c v room keyed valid =
     let key = block_number v.kind v.place v.len in
     let few : length c.entries ≤ 16 = subst (λ n. length c.entries ≤ n) room valid.1 in
@@ -221,14 +222,14 @@ pub record IsUsed (kind at n : ℕ) (es : List (ℕ × Block)) (b : Block) : Typ
   pub kind_is : b.kind ≡ kind
   pub place_is : b.place ≡ at
   pub len_is : b.len ≡ n
-  pub then_used : kept_entries (promoted (nat_eq (block_number kind at n)) es) ≡ used 16 kind at n b.bytes.items (kept_entries es)
+  pub then_used : kept_entries (promoted (nat_eq (block_number kind at n)) es) ≡ used 16 kind at n (bytes_in b.content) (kept_entries es)
 
-kept_is : (kind at n : ℕ) (b : Block) (f : ℕ × Block) → IsSame kind at n (kept_entry f) → f.1 ≡ b → (let k : Kept = record { kind = kind; place = at; len = n; bytes = b.bytes.items } in k) ≡ kept_entry f
+kept_is : (kind at n : ℕ) (b : Block) (f : ℕ × Block) → IsSame kind at n (kept_entry f) → f.1 ≡ b → (let k : Kept = record { kind = kind; place = at; len = n; bytes = (bytes_in b.content) } in k) ≡ kept_entry f
 kept_is kind at n b f same e =
-    ap (λ k. let x : Kept = record { kind = k; place = at; len = n; bytes = b.bytes.items } in x) (sym same.kind_is)
-    ∙ ap (λ k. let x : Kept = record { kind = f.1.kind; place = k; len = n; bytes = b.bytes.items } in x) (sym same.place_is)
-    ∙ ap (λ k. let x : Kept = record { kind = f.1.kind; place = f.1.place; len = k; bytes = b.bytes.items } in x) (sym same.len_is)
-    ∙ ap (λ (v : Block). let x : Kept = record { kind = f.1.kind; place = f.1.place; len = f.1.len; bytes = v.bytes.items } in x) (sym e)
+    ap (λ k. let x : Kept = record { kind = k; place = at; len = n; bytes = (bytes_in b.content) } in x) (sym same.kind_is)
+    ∙ ap (λ k. let x : Kept = record { kind = f.1.kind; place = k; len = n; bytes = (bytes_in b.content) } in x) (sym same.place_is)
+    ∙ ap (λ k. let x : Kept = record { kind = f.1.kind; place = f.1.place; len = k; bytes = (bytes_in b.content) } in x) (sym same.len_is)
+    ∙ ap (λ (v : Block). let x : Kept = record { kind = f.1.kind; place = f.1.place; len = f.1.len; bytes = (bytes_in v.content) } in x) (sym e)
 
 pub used_again : (kind at n : ℕ) (es : List (ℕ × Block)) (b : Block) → IsSmall at n → IsKeyed es → IsDistinct nat_eq (keys_of es) → length es ≤ 16 → lookup (nat_eq (block_number kind at n)) es ≡ Some b → IsUsed kind at n es b
 used_again kind at n es b s keyed apart few h =
@@ -244,7 +245,7 @@ used_again kind at n es b s keyed apart few h =
       place_is = ap (λ (x : Block). x.place) (sym entry.2) ∙ same.place_is;
       len_is = ap (λ (x : Block). x.len) (sym entry.2) ∙ same.len_is;
       then_used = ap (λ o. kept_entries (after_use es key o)) entry.1
-          ∙ sym (ap (λ (ks : List Kept). take 16 (record { kind = kind; place = at; len = n; bytes = b.bytes.items } ∷ ks)) (others_entries kind at n es s keyed apart)
+          ∙ sym (ap (λ (ks : List Kept). take 16 (record { kind = kind; place = at; len = n; bytes = (bytes_in b.content) } ∷ ks)) (others_entries kind at n es s keyed apart)
           ∙ ap (λ (k : Kept). take 16 (k ∷ kept_entries (remove_entry (nat_eq key) es))) (kept_is kind at n b f same entry.2)
           ∙ take-map kept_entry 16 (f ∷ remove_entry (nat_eq key) es)
           ∙ ap kept_entries (take_all 16 (f ∷ remove_entry (nat_eq key) es) (omega arith)));
@@ -274,19 +275,19 @@ keeps_found kind p n es b s keyed h =
     let found = found_entry (nat_eq key) es f entry.1 in
     let number : key ≡ f.0 = eqb-true key f.0 found.passes in
     let same = same_number kind p n (kept_entry f) s (small_block f.1) (number ∙ keyed_found es (nat_eq key) f entry.1 keyed) in
-    let is : IsBlockOf kind p n b.bytes.items b = record {
+    let is : IsBlockOf kind p n (bytes_in b.content) b = record {
       kind_is = ap (λ (x : Block). x.kind) (sym entry.2) ∙ same.kind_is;
       place_is = ap (λ (x : Block). x.place) (sym entry.2) ∙ same.place_is;
       len_is = ap (λ (x : Block). x.len) (sym entry.2) ∙ same.len_is;
       bytes_are = refl;
     } in
     record {
-      bytes = b.bytes.items;
-      is_kept = find_bytes kind p n es s keyed ∙ ap (λ (o : Option Block). option_map (λ b. b.bytes.items) o) h;
-      read = read_of kind p n b.bytes.items b is;
+      bytes = (bytes_in b.content);
+      is_kept = find_bytes kind p n es s keyed ∙ ap (λ (o : Option Block). option_map (λ (b : Block). bytes_in b.content) o) h;
+      read = read_of kind p n (bytes_in b.content) b is;
     }
 
-some_bytes : (o : Option Block) (bytes : List ℕ) → option_map (λ b. b.bytes.items) o ≡ Some bytes → (b : Block) × (o ≡ Some b) × (b.bytes.items ≡ bytes)
+some_bytes : (o : Option Block) (bytes : List ℕ) → option_map (λ (b : Block). bytes_in b.content) o ≡ Some bytes → (b : Block) × (o ≡ Some b) × ((bytes_in b.content) ≡ bytes)
 some_bytes None bytes h = absurd cc
 some_bytes (Some b) bytes h = (b, refl, cc)
 

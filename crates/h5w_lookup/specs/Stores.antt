@@ -4,6 +4,7 @@ use Rattle.h5w_model.specs.Programs.{Kept, kept_bytes}
 use Rattle.h5w_model.specs.declared.refusal.BlockFault.{BlockFault}
 use Rattle.h5w_model.specs.declared.refusal.BlockFault.TheVariants.{OutOfMemory}
 use Rattle.h5w_lookup.specs.Blocks.{IsRead}
+use Rattle.h5w_lookup.specs.Contents.{bytes_in}
 use Rattle.h5w_lookup.specs.Keyed.{kept_entries}
 use Rattle.h5w_lookup.specs.declared.content.Content.{Content}
 use Rattle.h5w_lookup.specs.declared.block.Block.{Block}
@@ -23,7 +24,7 @@ pub record IsBlockOf (kind place len : ℕ) (bytes : List ℕ) (b : Block) : Typ
   pub kind_is : b.kind ≡ kind
   pub place_is : b.place ≡ place
   pub len_is : b.len ≡ len
-  pub bytes_are : b.bytes.items ≡ bytes
+  pub bytes_are : bytes_in b.content ≡ bytes
 
 abbrev pub IsBlock : {A : Type 0} → ℕ → ℕ → ℕ → List ℕ → Result A BlockFault → Result Block BlockFault → Type 0
 IsBlock kind place len bytes given (Ok b) = IsBlockOf kind place len bytes b

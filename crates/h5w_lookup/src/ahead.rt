@@ -93,11 +93,9 @@ fn take(store: &Store, w: &DataWait, most: usize, found: &mut Vec<u64>) -> Resul
     let Some(content) = store.look(DATA, w.at, slots_len(w.n)) else {
         return Ok(());
     };
-    let (slots, first) = (content.slots(), w.slot as usize);
-    let end = slots.len().min(w.n as usize);
+    let (end, first) = (content.slots().min(w.n as usize), w.slot as usize);
     if first < end {
-        let count = (end - first).min(most);
-        found.extend_from_slice(&slots[first..first + count])?;
+        content.put_slots(first, (end - first).min(most), found)?;
     }
     Ok(())
 }

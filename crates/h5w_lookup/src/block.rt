@@ -1,13 +1,14 @@
 //! A block behind those in place: its bytes, and what they say.
-ghost use Rattle.std.specs.Prelude.{◌≡◌, ◌+◌, ◌≤◌, ◌<◌, ◌^◌, length};
-ghost use Rattle.h5w_model.specs.Arrays.{eadb_at, easb_at, slots_len};
+ghost use Rattle.std.specs.Prelude.{◌≡◌, ◌+◌, ◌≤◌, ◌<◌, ◌^◌, length, Ok};
+ghost use Rattle.h5w_model.specs.Arrays.{eadb_at, easb_at, slots_fields, slots_len};
 ghost use Rattle.h5w_model.specs.Trees.{capacity_of};
 ghost use Rattle.std.proofs.Props.{props};
 ghost use Rattle.h5w_lookup.specs.Blocks.{IsRead, node_at, node_len};
+ghost use Rattle.h5w_lookup.specs.Contents.{bytes_in};
 
+use crate::addresses::Addresses;
 use crate::content::Content;
 use h5w_bt::{Btin, Btlf};
-use h5w_ea::{Eadb, Easb};
 use h5w_model::BlockFault;
 use std::alloc::Global;
 
@@ -34,10 +35,9 @@ pub struct Block {
     pub place: u64,
     /// How many bytes it has.
     pub len: u64,
-    pub bytes: Vec<u8>,
-    /// What they say.
+    /// What its bytes say.
     pub content: Content,
-    ghost read: { IsRead kind place len bytes.items content } by { Prim.hlevel props },
+    ghost read: { IsRead kind place len (bytes_in content) content } by { Prim.hlevel props },
     ghost small: { len < 2 ^ 32 },
     ghost low: { place < 2 ^ 64 },
 }
@@ -78,44 +78,42 @@ pub fn node_kind(depth: u64) -> u8
 impl Block {
     ghost use Rattle.h5w_model.specs.Tables.{data_block, secondary_block, tree_leaf, tree_node};
     ghost use Rattle.h5w_model.specs.Trees.{btlf_at, btin_at, btlf_len, btin_len};
-    ghost use Rattle.h5w_lookup.specs.Stores.{IsBlock};
+    ghost use Rattle.h5w_lookup.specs.Stores.{IsBlock, IsBlockOf};
 
-    /// The data block of `n` slots at a place, by its bytes.
-    pub fn data(alloc: Global, place: u64, n: u64, bytes: Vec<u8>) -> Result<Block, BlockFault>
-        requires below { place + length bytes.items ≤ 2 ^ 64 }
+    /// The data block of `n` slots at a place, by its bytes, which passed their tests.
+    pub fn data(place: u64, n: u64, bytes: Vec<u8>) -> Block
         requires slots { n ≤ 1024 }
-        ensures { IsBlock data_block place (slots_len n) bytes.items (eadb_at bytes.items place n) result }
+        requires passed { eadb_at bytes.items place n ≡ Ok (slots_fields bytes.items n) }
+        ensures { IsBlockOf data_block place (slots_len n) bytes.items result }
     {
-        let Eadb { slots, .. } = match Eadb::decode(alloc, &bytes, place, n) {
-            Ok(block) => block,
-            Err(fault) => return Err(fault),
+        let addresses = Addresses {
+            bytes,
+            n: n as usize,
         };
-        Ok(Block {
+        Block {
             kind: DATA,
             place,
             len: slots_len(n),
-            bytes,
-            content: Content::Slots(slots),
-        })
+            content: Content::Slots(addresses),
+        }
     }
 
-    /// The secondary block of `n` slots at a place, by its bytes.
-    pub fn second(alloc: Global, place: u64, n: u64, bytes: Vec<u8>) -> Result<Block, BlockFault>
-        requires below { place + length bytes.items ≤ 2 ^ 64 }
+    /// The secondary block of `n` slots at a place, by its bytes, which passed their tests.
+    pub fn second(place: u64, n: u64, bytes: Vec<u8>) -> Block
         requires slots { n ≤ 1024 }
-        ensures { IsBlock secondary_block place (slots_len n) bytes.items (easb_at bytes.items place n) result }
+        requires passed { easb_at bytes.items place n ≡ Ok (slots_fields bytes.items n) }
+        ensures { IsBlockOf secondary_block place (slots_len n) bytes.items result }
     {
-        let Easb { slots, .. } = match Easb::decode(alloc, &bytes, place, n) {
-            Ok(block) => block,
-            Err(fault) => return Err(fault),
+        let addresses = Addresses {
+            bytes,
+            n: n as usize,
         };
-        Ok(Block {
+        Block {
             kind: SECOND,
             place,
             len: slots_len(n),
-            bytes,
-            content: Content::Slots(slots),
-        })
+            content: Content::Slots(addresses),
+        }
     }
 
     /// The leaf of `n` records at a place, by its bytes.
@@ -132,8 +130,7 @@ impl Block {
             kind: LEAF,
             place,
             len: FRAME + RECORD * n,
-            bytes,
-            content: Content::Leaf(records),
+            content: Content::Leaf(records, bytes),
         })
     }
 
@@ -160,8 +157,7 @@ impl Block {
             kind: node_kind(depth),
             place,
             len: node_len(depth, n),
-            bytes,
-            content: Content::Inner(node),
+            content: Content::Inner(node, bytes),
         })
     }
 

@@ -1,5 +1,5 @@
 //! What the bytes of a block behind those in place say.
-ghost use Rattle.std.specs.Prelude.{◌≡◌, ◌+◌, ◌-◌, ◌≤◌, ℕ, Result, drop, false, get_or, map};
+ghost use Rattle.std.specs.Prelude.{◌≡◌, ◌+◌, ◌-◌, ◌≤◌, ◌++◌, ℕ, Result, length, take, drop, false, get_or, map, OnOk};
 ghost use Rattle.std.specs.List.{All};
 ghost use Rattle.h5w_model.specs.Numbers.{undefined};
 ghost use Rattle.h5w_model.specs.Programs.{Prog};
@@ -9,20 +9,20 @@ ghost use Rattle.h5w_model.specs.declared.refusal.ReadError.{ReadError};
 ghost use Rattle.h5w_bt.specs.Parts.{record_of, child_of};
 ghost use Rattle.h5w_lookup.specs.Turns.{turned_by, ForChild, IsSameTurn};
 
-use crate::table::address_at;
+use crate::addresses::Addresses;
 use h5w_bt::{Btin, Child, Key, Record, Records};
 use h5w_bytes::UNDEFINED;
-use h5w_ea::Slots;
+use h5w_model::OutOfMemory;
 
-/// What a block says.
+/// What a block says, and its bytes.
 #[derive(Drop)]
 pub enum Content {
-    /// The addresses in a data block or a secondary block of an array.
-    Slots(Slots),
+    /// The addresses in a data block or a secondary block of an array, by its bytes.
+    Slots(Addresses),
     /// The records of a leaf of a tree.
-    Leaf(Records),
+    Leaf(Records, Vec<u8>),
     /// The records of an inner node, and its children.
-    Inner(Btin),
+    Inner(Btin, Vec<u8>),
 }
 
 /// How the way to a key goes on from a node.
@@ -114,13 +114,13 @@ impl Content {
     ghost use Rattle.h5w_lookup.specs.Contents.{slots_in, records_in, inner_in};
     ghost use Rattle.h5w_lookup.specs.Turning.{turned, turning};
 
-    /// The addresses in its slots; none where it has none.
-    pub fn slots(&self) -> &[u64]
-        ensures { result.now ≡ slots_in self.now }
+    /// How many slots it has.
+    pub fn slots(&self) -> usize
+        ensures { result ≡ length (slots_in self.now) }
     {
         match self {
-            Content::Slots(slots) => slots.as_slice(),
-            _ => &[],
+            Content::Slots(addresses) => addresses.n,
+            _ => 0,
         }
     }
 
@@ -128,7 +128,26 @@ impl Content {
     pub fn slot(&self, i: usize) -> u64
         ensures { result ≡ get_or (slots_in self.now) i undefined }
     {
-        address_at(self.slots(), i)
+        match self {
+            Content::Slots(addresses) => addresses.get(i),
+            _ => UNDEFINED,
+        }
+    }
+
+    /// Puts the addresses in `count` of its slots, from slot `first` on, behind others.
+    pub fn put_slots(
+        &self,
+        first: usize,
+        count: usize,
+        out: &mut Vec<u64>,
+    ) -> Result<(), OutOfMemory>
+        requires { first + count ≤ length (slots_in self.now) }
+        ensures { OnOk result (out.new.items ≡ out.old.items ++ take count (drop first (slots_in self.now))) }
+    {
+        match self {
+            Content::Slots(addresses) => addresses.put(first, count, out),
+            _ => Ok(()),
+        }
     }
 
     /// The records of a leaf; none of another block.
@@ -136,7 +155,7 @@ impl Content {
         ensures { map record_of result.now ≡ records_in self.now }
     {
         match self {
-            Content::Leaf(records) => records.as_slice(),
+            Content::Leaf(records, _) => records.as_slice(),
             _ => &[],
         }
     }
@@ -146,7 +165,7 @@ impl Content {
         ensures { result ≡ in_leaf key.now (records_in self.now) }
     {
         match self {
-            Content::Leaf(records) => among_records(records.as_slice(), key),
+            Content::Leaf(records, _) => among_records(records.as_slice(), key),
             _ => UNDEFINED,
         }
     }
@@ -158,7 +177,7 @@ impl Content {
         ensures ahead { IsSameTurn key.now (inner_in self.now).records (inner_in self.now).children result }
     {
         match self {
-            Content::Inner(node) => among_children(
+            Content::Inner(node, _) => among_children(
                 node.records.as_slice(),
                 node.children.as_slice(),
                 key,

@@ -11,7 +11,7 @@ ghost use Rattle.h5w_lookup.specs.Sought.{sought};
 ghost use Rattle.h5w_lookup.specs.Stores.{kept};
 ghost use Rattle.h5w_lookup.specs.Descents.{descent_rest, after_next, waiting, descended};
 
-use crate::block::Block;
+use crate::block::{Block, slots_len};
 use crate::content::{LAST, Turn};
 use crate::descent::{Descended, Descent, Waiting};
 use crate::follow::follow;
@@ -20,12 +20,16 @@ use crate::known::{Known, Rules};
 use crate::look::Look;
 use crate::news::News;
 use crate::outcome::Outcome;
-use crate::recall::unknown;
+use crate::recall::{front, unknown};
 use crate::seek::Sought;
 use crate::sizes::sizes;
 use crate::wait::{DataWait, NodeWait, SecondWait, Wait};
+use h5w_ea::{Eadb, Easb};
 use h5w_model::{BlockFault, OutOfMemory, Piece, ReadError};
 use std::alloc::Global;
+
+/// How many bytes a sum has, at the end of a block.
+const SUM: usize = 4;
 
 /// The refusal of a block, unless memory ran out.
 fn refused(at: u64, fault: BlockFault) -> Result<Descended, OutOfMemory>
@@ -68,6 +72,7 @@ impl Descent {
             index,
             mut found,
             mut store,
+            front,
         } = self;
         let needed = dataset.needed() as usize;
         let across = dataset.keys_across();
@@ -81,6 +86,7 @@ impl Descent {
                         index,
                         found,
                         store,
+                        front,
                     };
                     return Ok(Outcome::Looks(descent.wait(alloc, wait)?));
                 }
@@ -94,6 +100,7 @@ impl Descent {
             dataset,
             found,
             view: None,
+            front,
         }))
     }
 
@@ -127,6 +134,18 @@ impl Descent {
         }
     }
 
+    /// Up to which place the front of a data block is kept: behind the slots of the needed chunks, where it has slots behind those.
+    fn upto(&self, known: &Option<Known>, w: &DataWait) -> usize {
+        let next = unknown(known, &self.dataset, self.found.len());
+        let more = (self.dataset.needed() as usize).saturating_sub(next) as u64;
+        let last = w.slot.saturating_add(more);
+        if last < w.n {
+            slots_len(last) as usize - SUM
+        } else {
+            0
+        }
+    }
+
     /// Goes on with the bytes of a data block.
     fn enter_data(
         mut self,
@@ -139,12 +158,16 @@ impl Descent {
         requires { w.at + length bytes.items ≤ 2 ^ 64 }
         ensures { IfOk result (λ d. descended (rules_of rules.now (known_of known.now)) d ≡ wait_given (kept self.store) (Wait.Data w) (after_next (rules_of rules.now (known_of known.now)) self) bytes.items) }
     {
-        let block = match Block::data(alloc, w.at, w.n, bytes) {
-            Ok(block) => block,
+        let upto = self.upto(known, &w);
+        let checked = Eadb::check(alloc, bytes.as_slice(), w.at, w.n, front(known), upto);
+        let front = match checked {
+            Ok(front) => front,
             Err(fault) => return refused(w.at, fault),
         };
+        let block = Block::data(w.at, w.n, bytes);
         let address = block.content.slot(w.slot as usize);
         self.store.put(block)?;
+        self.front = front.or(self.front.take());
         self.found(alloc, rules, known, address)
     }
 
@@ -161,10 +184,10 @@ impl Descent {
         ensures { IfOk result (λ d. descended (rules_of rules.now (known_of known.now)) d ≡ wait_given (kept self.store) (Wait.Second w) (after_next (rules_of rules.now (known_of known.now)) self) bytes.items) }
     {
         let (blocks, slots) = sizes(w.sblock);
-        let block = match Block::second(alloc, w.at, blocks, bytes) {
-            Ok(block) => block,
-            Err(fault) => return refused(w.at, fault),
-        };
+        if let Err(fault) = Easb::check(bytes.as_slice(), w.at, blocks) {
+            return refused(w.at, fault);
+        }
+        let block = Block::second(w.at, blocks, bytes);
         let address = block.content.slot(w.block as usize);
         self.store.put(block)?;
         let way = Sought::data(&mut self.store, address, slots, w.slot);

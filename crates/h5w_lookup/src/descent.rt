@@ -13,6 +13,7 @@ use crate::outcome::Outcome;
 use crate::store::Store;
 use crate::wait::Wait;
 use h5w_dataset::Dataset;
+use h5w_sum::Front;
 
 /// A descent to the chunks without a known address. The addresses of the first of them were found.
 #[derive(Drop)]
@@ -22,6 +23,8 @@ pub struct Descent {
     /// These addresses, in the order of the chunks' keys.
     pub found: Vec<u64>,
     pub store: Store,
+    /// The front of the last data block, where that has room for further chunks.
+    pub front: Option<Front>,
     ghost few: { needed (described_of dataset) ≤ 1000000 },
     ghost indexed: { IsIndexOf (needed (described_of dataset)) index } by { Prim.hlevel props },
 }

@@ -8,6 +8,7 @@ ghost use Rattle.h5w_lookup.specs.Unknown.{absent_from};
 
 use h5w_dataset::Dataset;
 use h5w_model::Bytes;
+use h5w_sum::Front;
 
 /// A dataset, and the addresses of the chunks that its rows need.
 #[derive(Drop)]
@@ -21,6 +22,9 @@ pub struct Known {
     pub absent: Vec<usize>,
     /// What counts of a look at the header, where nothing else was looked at for what the header says.
     pub view: Option<Bytes>,
+    /// The front of the data block that was summed last, of up to 8,208 bytes. The sum of a block with the same front goes on behind it, so
+    /// that no answer depends on it.
+    pub front: Option<Front>,
     ghost few: { needed (described_of dataset) ≤ 1000000 },
     ghost listed: { absent.items ≡ absent_from 0 table.items },
     ghost seen: { (v : List ℕ) → view ≡ Some v → IsHeaderOf place (described_of dataset) v } by { Prim.hlevel props },

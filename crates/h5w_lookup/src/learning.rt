@@ -77,6 +77,7 @@ fn by_news(news: News, absent: Vec<usize>) -> Known
         dataset,
         found: mut table,
         view,
+        front,
     } = news;
     table.truncate(dataset.needed() as usize);
     Known {
@@ -85,6 +86,7 @@ fn by_news(news: News, absent: Vec<usize>) -> Known
         table,
         absent,
         view,
+        front,
     }
 }
 
@@ -102,6 +104,7 @@ fn with_news(old: Known, news: News, absent: Vec<usize>) -> Known
         table,
         absent,
         view: news.view,
+        front: news.front.or(old.front),
     }
 }
 

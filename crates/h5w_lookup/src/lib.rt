@@ -13,6 +13,7 @@
 //! The end is the dataset with the addresses that were found, or a refusal.
 #![tactic(auto)]
 
+mod addresses;
 mod ahead;
 mod block;
 mod content;

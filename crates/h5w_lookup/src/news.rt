@@ -7,6 +7,7 @@ ghost use Rattle.h5w_lookup.specs.Seen.{IsHeaderOf};
 
 use h5w_dataset::Dataset;
 use h5w_model::Bytes;
+use h5w_sum::Front;
 
 /// A dataset, and the addresses of its chunks that were not known: of those that were absent, and of those behind the known.
 #[derive(Drop)]
@@ -18,6 +19,8 @@ pub struct News {
     pub found: Vec<u64>,
     /// What counts of the look at the header, where nothing else was looked at.
     pub view: Option<Bytes>,
+    /// The front of the last data block that was looked at, where that has room for further chunks.
+    pub front: Option<Front>,
     ghost few: { needed (described_of dataset) ≤ 1000000 },
     ghost seen: { (v : List ℕ) → view ≡ Some v → IsHeaderOf place (described_of dataset) v } by { Prim.hlevel props },
 }

@@ -7,6 +7,7 @@ ghost use Rattle.h5w_lookup.specs.Unknown.{unknown_at};
 
 use crate::known::Known;
 use h5w_dataset::Dataset;
+use h5w_sum::Front;
 
 /// Whether the rows are cut into chunks alike.
 pub fn is_cut_alike(a: &Dataset, b: &Dataset) -> bool
@@ -35,6 +36,14 @@ pub fn unknown(known: &Option<Known>, d: &Dataset, n: usize) -> usize
     match known {
         Some(known) if is_cut_alike(&known.dataset, d) => known.unknown(n),
         _ => n,
+    }
+}
+
+/// The front of the data block that was summed last.
+pub fn front(known: &Option<Known>) -> Option<&Front> {
+    match known {
+        Some(known) => known.front.as_ref(),
+        None => None,
     }
 }
 

@@ -32,6 +32,7 @@ fn number(kind: u8, place: u64, len: u64) -> u128
 
 impl Store {
     ghost use Rattle.h5w_model.specs.Programs.{kept_bytes, used};
+    ghost use Rattle.h5w_lookup.specs.Contents.{bytes_in};
     ghost use Rattle.h5w_lookup.specs.Stores.{Keeps, kept};
 
     /// No blocks.
@@ -67,7 +68,7 @@ impl Store {
 
     /// Keeps a block, which is the last used from now on.
     pub fn put(&mut self, block: Block) -> Result<(), OutOfMemory>
-        ensures { OnOk result (kept self.new ≡ used 16 block.kind block.place block.len block.bytes.items (kept self.old)) }
+        ensures { OnOk result (kept self.new ≡ used 16 block.kind block.place block.len (bytes_in block.content) (kept self.old)) }
     {
         // keys are apart, and no more than the capacity
         let _count = self.cache.len();

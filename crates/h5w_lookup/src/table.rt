@@ -98,6 +98,7 @@ impl Lookup {
             index,
             found: Vec::new(alloc),
             store: Store::new(alloc)?,
+            front: None,
         };
         Ok(Lookup::of(descent.go_on(alloc, rules, known)?))
     }
@@ -120,6 +121,7 @@ impl Lookup {
                 dataset: *d,
                 found: Vec::new(alloc),
                 view: None,
+                front: None,
             }));
         }
         let address = d.layout.address;

@@ -1,9 +1,10 @@
 -- The rounds of a checksum, block by block.
-use Rattle.std.proofs.Common.{◌≡◌, ℕ, suc, ◌+◌, ◌-◌, ◌*◌, ◌/◌, ◌%◌, ◌<◌, List, [], ◌++◌, length, take, drop, replicate, refl, ap, sym, ◌∙◌, arith, append_assoc}
-use Rattle.std.proofs.lemmas.List.{drop_at, drop-replicate, length-append, length-take, take-append-drop, nil_from_length}
+use Rattle.std.proofs.Common.{◌≡◌, ℕ, suc, ◌+◌, ◌-◌, ◌/◌, ◌%◌, ◌<◌, ◌≤◌, List, [], ◌++◌, length, take, drop, replicate, refl, ap, sym, subst, ◌∙◌, arith, append_assoc}
+use Rattle.std.proofs.lemmas.List.{append-nil, drop_at, drop-replicate, length-append, drop-take, take-take, take-append-drop, nil_from_length}
 use Rattle.h5w_model.specs.Checksum.{Words, added, mixed, finished, rounds, begun, sum_of}
 use Rattle.h5w_model.proofs.NumberLemmas.{field-append-left, field-padded}
 use Rattle.h5w_model.proofs.ChecksumLemmas.{sum_of-some}
+use Rattle.h5w_sum.specs.Fronts.{IsFront, IsMixed}
 
 -- only the first twelve bytes are added
 added-first : (w : Words) (x rest : List ℕ) → length x ≡ 12 → added w (x ++ rest) ≡ added w x
@@ -29,34 +30,64 @@ round : (n : ℕ) (w : Words) (x rest : List ℕ) → length x ≡ 12 → rounds
 unfolding rounds
 round n w x rest len = rw (added-first w x rest len, drop_at x rest 12 len) refl
 
--- what stays from block to block: whole blocks are left, and they and the end give the sum
-pub record Goes (w : Words) (left end : List ℕ) (sum : ℕ) : Type 0 where
-  pub whole : length left % 12 ≡ 0
-  pub gives : rounds (length left / 12) w (left ++ end) ≡ sum
+-- ---- A front
 
-pub Goes-more : {w : Words} {old end : List ℕ} {sum : ℕ} (x left : List ℕ) → Goes w old end sum → old ≡ x ++ left → length x ≡ 12 → Goes (mixed (added w x)) left end sum
-Goes-more {w} {old} {end} {sum} x left goes is len =
-    let longer : length old ≡ length x + length left = ap length is ∙ length-append x left in
-    let count : length old / 12 ≡ suc (length left / 12) = omega (arith, goes.whole) in
-    let same : old ++ end ≡ x ++ (left ++ end) = ap (λ (l : List ℕ). l ++ end) is ∙ append_assoc x left end in
-    let gives : rounds (suc (length left / 12)) w (x ++ (left ++ end)) ≡ sum = rw (count, same) at goes.gives in
-    record { whole = omega (arith, goes.whole); gives = sym (round (length left / 12) w x (left ++ end) len) ∙ gives }
+-- before the first byte
+pub front_none : (len : ℕ) → IsFront len [] (begun len)
+front_none len rest e some =
+    let all : length rest ≡ len = omega (arith, e) in
+    ap (λ n. rounds ((length rest - 1) / 12) (begun n) rest) (sym all) ∙ sym (sum_of-some rest some)
 
--- all but the last 1 to 12 bytes are whole blocks
-pub Goes-all : (b front end : List ℕ) → 0 < length b → front ≡ take ((length b - 1) / 12 * 12) b → end ≡ drop ((length b - 1) / 12 * 12) b
-    → Goes (begun (length b)) front end (sum_of b)
-Goes-all b front end some front_is end_is =
-    let len : length front ≡ (length b - 1) / 12 * 12 = omega (arith, ap length front_is, length-take ((length b - 1) / 12 * 12) b) in
-    let count : length front / 12 ≡ (length b - 1) / 12 = omega arith in
-    let both : front ++ end ≡ b =
-    ap (λ (l : List ℕ). l ++ end) front_is
-    ∙ ap (λ (l : List ℕ). take ((length b - 1) / 12 * 12) b ++ l) end_is
-    ∙ take-append-drop ((length b - 1) / 12 * 12) b in
-    record { whole = omega arith; gives = rw (count, both) (sym (sum_of-some b some)) }
+-- and with a block more
+front_more : (len : ℕ) (front x : List ℕ) (w : Words) → IsFront len front w → length x ≡ 12 → IsFront len (front ++ x) (mixed (added w x))
+front_more len front x w goes twelve rest e some =
+    let both = length-append x rest in
+    let longer = length-append front x in
+    let count : (length (x ++ rest) - 1) / 12 ≡ suc ((length rest - 1) / 12) = omega (arith, both, twelve, some) in
+    sym (round ((length rest - 1) / 12) w x rest twelve)
+    ∙ ap (λ n. rounds n w (x ++ rest)) (sym count)
+    ∙ goes (x ++ rest) (omega (arith, both, longer, e)) (omega (arith, both, some))
+    ∙ ap sum_of (sym (append_assoc front x rest))
 
--- and the end is added last
-pub Goes-none : {w : Words} {left end : List ℕ} {sum : ℕ} → Goes w left end sum → length left < 12 → finished (added w end) ≡ sum
+-- the bytes behind it that are the last
+pub front_ends : (len : ℕ) (front end : List ℕ) (w : Words) → IsFront len front w → length front + length end ≡ len → 0 < length end → length end ≤ 12 → finished (added w end) ≡ sum_of (front ++ end)
 unfolding rounds
-Goes-none {w} {left} {end} {sum} goes short =
-    let none : left ≡ [] = nil_from_length left (omega (arith, goes.whole)) in
-    rw none at goes.gives
+front_ends len front end w goes e some few =
+    let none : (length end - 1) / 12 ≡ 0 = omega (arith, some, few) in
+    sym (ap (λ n. rounds n w end) none) ∙ goes end e some
+
+-- it goes on with the bytes behind it that come next
+pub front_next : (b front : List ℕ) (n m : ℕ) (w : Words) → front ≡ take (n + m) b → IsFront (length b) (take n b ++ take (n + m - n) (drop n b)) w → IsFront (length b) front w
+front_next b front n m w is goes =
+    let count : n + m - n ≡ m = omega arith in
+    let both : take n b ++ take (n + m - n) (drop n b) ≡ front =
+    ap (λ k. take n b ++ take k (drop n b)) count
+    ∙ ap (λ (xs : List ℕ). xs ++ take m (drop n b)) (sym (take-take n (n + m) b (omega arith)))
+    ∙ ap (λ (xs : List ℕ). take n (take (n + m) b) ++ xs) (sym (drop-take n m b))
+    ∙ take-append-drop n (take (n + m) b)
+    ∙ sym is in
+    subst (λ (xs : List ℕ). IsFront (length b) xs w) both goes
+
+-- ---- Blocks, one behind another
+
+pub mixed_none : (len : ℕ) (front blocks left : List ℕ) (w : Words) → left ≡ blocks → length blocks % 12 ≡ 0 → IsFront len front w → IsMixed len front blocks left w
+mixed_none len front blocks left w same whole goes = record {
+  done = [];
+  both = sym same;
+  whole = ap (λ (xs : List ℕ). length xs % 12) same ∙ whole;
+  goes = subst (λ (xs : List ℕ). IsFront len xs w) (sym (append-nil front)) goes;
+}
+
+pub mixed_more : (len : ℕ) (front blocks old x left : List ℕ) (w : Words) → IsMixed len front blocks old w → old ≡ x ++ left → length x ≡ 12 → IsMixed len front blocks left (mixed (added w x))
+mixed_more len front blocks old x left w m is twelve = record {
+  done = m.done ++ x;
+  both = m.both ∙ ap (λ (xs : List ℕ). m.done ++ xs) is ∙ sym (append_assoc m.done x left);
+  whole = omega (arith, m.whole, ap length is, length-append x left, twelve);
+  goes = subst (λ (xs : List ℕ). IsFront len xs (mixed (added w x))) (append_assoc front m.done x) (front_more len (front ++ m.done) x w m.goes twelve);
+}
+
+pub mixed_all : (len : ℕ) (front blocks left : List ℕ) (w : Words) → IsMixed len front blocks left w → length left < 12 → IsFront len (front ++ blocks) w
+mixed_all len front blocks left w m short =
+    let none : left ≡ [] = nil_from_length left (omega (arith, m.whole, short)) in
+    let all : blocks ≡ m.done = m.both ∙ ap (λ (xs : List ℕ). m.done ++ xs) none ∙ append-nil m.done in
+    subst (λ (xs : List ℕ). IsFront len (front ++ xs) w) (sym all) m.goes

@@ -1,16 +1,18 @@
-//! The metadata checksum, and blocks that end in it. Takes no memory.
+//! The metadata checksum, and blocks that end in it. Only [`check_block_with`] takes memory, and goes on without it.
 //!
 //! HDF5 File Format Specification 3.0, the fields named Checksum: Bob Jenkins' lookup3 with initial
 //! value 0. The definition stands in h5w_model, specs/Checksum.antt.
 #![tactic(auto)]
 
 mod block;
+mod front;
 mod words;
 
 ghost use Rattle.std.specs.Prelude.{◌≡◌, ◌-◌, ◌≤◌, length, take, if◌then◌else◌, Ok, Err};
 ghost use Rattle.h5w_model.specs.Checksum.{is_sealed, sealed_block, sum_of, sums_of};
 
 pub use block::check_block;
+pub use front::{Front, check_block_with};
 use h5w_bytes::{put, word};
 pub use h5w_model::{BlockFault, Sums};
 use words::Words;
@@ -23,18 +25,10 @@ pub fn lookup3(b: &[u8]) -> u32
     ensures { result ≡ sum_of b.now }
 {
     let begun = Words::begun(b.len());
-    let Some(before_last) = b.len().checked_sub(1) else {
+    if b.is_empty() {
         return begun.last();
-    };
-    // all but the last 1 to 12 bytes
-    let (front, end) = b.split_at(before_last / 12 * 12);
-    let mut words = begun;
-    for block in front.chunks_exact(12) {
-        words = words.added(block).mixed();
     }
-    let mut padded = [0; 12];
-    padded[..end.len()].copy_from_slice(end);
-    words.added(&padded).finished()
+    begun.sum_behind(b)
 }
 
 /// Writes the sum of all but the last four bytes into the last four, and leaves the others.

@@ -1,7 +1,8 @@
 //! The three words of a checksum while it is computed.
 
-ghost use Rattle.std.specs.Prelude.{◌≡◌, ◌≤◌, length};
-ghost use Rattle.h5w_model.specs.Checksum.{Words as Lookup, added, begun, finish_line, finished, mix_line, mixed};
+ghost use Rattle.std.specs.Prelude.{◌≡◌, ℕ, ◌+◌, ◌%◌, ◌<◌, ◌≤◌, List, ◌++◌, length};
+ghost use Rattle.h5w_model.specs.Checksum.{Words as Lookup, added, begun, finish_line, finished, mix_line, mixed, sum_of};
+ghost use Rattle.h5w_sum.specs.Fronts.{IsFront};
 
 use h5w_bytes::word;
 use std::marker::Model;
@@ -96,6 +97,43 @@ impl Words {
             .finish_line(14)
             .finish_line(24);
         ended.b
+    }
+
+    /// The words with blocks of twelve bytes mixed in, one behind another.
+    #[inline(always)]
+    pub fn with(self, blocks: &[u8]) -> Self
+        requires { length blocks.now % 12 ≡ 0 }
+        ensures { (len : ℕ) (front : List ℕ) → IsFront len front self → IsFront len (front ++ blocks.now) result }
+    {
+        let mut words = self;
+        for block in blocks.chunks_exact(12) {
+            words = words.added(block).mixed();
+        }
+        words
+    }
+
+    /// The sum, where these bytes come next and are the last.
+    #[inline(always)]
+    pub fn sum_behind(self, rest: &[u8]) -> u32
+        requires { 0 < length rest.now }
+        ensures { (len : ℕ) (front : List ℕ) → IsFront len front self → length front + length rest.now ≡ len → result ≡ sum_of (front ++ rest.now) }
+    {
+        // all but the last 1 to 12 bytes
+        let (blocks, end) = rest.split_at((rest.len() - 1) / 12 * 12);
+        let mut padded = [0; 12];
+        padded[..end.len()].copy_from_slice(end);
+        self.with(blocks).added(&padded).finished()
+    }
+
+    /// These words again.
+    pub fn copied(&self) -> Self
+        ensures { result ≡ self.now }
+    {
+        Words {
+            a: self.a,
+            b: self.b,
+            c: self.c,
+        }
     }
 
     /// The third word.

@@ -1,4 +1,4 @@
-use Rattle.std.proofs.Common.{◌∙◌, refl, ap}
+use Rattle.std.proofs.Common.{◌≡◌, ◌∙◌, Err, inr, refl, sym, ap}
 use Rattle.h5w_model.specs.Programs.{used}
 use Rattle.h5w_model.specs.Tables.{data_block}
 use Rattle.h5w_model.specs.Arrays.{eadb_at, slots_len}
@@ -20,7 +20,8 @@ returns-in-Err c =
     let w = c.args.w in
     let b = c.args.bytes.items in
     let next = after_next g c.args.self in
-    refused_block g w.at c.refused.result c.in-Err.fault (eadb_at b w.at w.n) (wait_given (kept c.args.self.store) (Data w) next b) c.refused.ensures.refused c.refused.ensures.other c.in-Err.ensures
+    let given : eadb_at b w.at w.n ≡ Err c.in-Err.fault = sym (rw c.as_slice.ensures.value at c.in-Err.ensures.exact) in
+    refused_block g w.at c.refused.result c.in-Err.fault (eadb_at b w.at w.n) (wait_given (kept c.args.self.store) (Data w) next b) c.refused.ensures.refused c.refused.ensures.other (inr given)
     (λ e. data_refused (used 16 data_block w.at (slots_len w.n) b (kept c.args.self.store)) w.at w.n w.slot b c.in-Err.fault next e)
 
 pub returns : goal.returns
@@ -28,8 +29,8 @@ returns c =
     let g = rules_of c.args.rules.now (known_of c.args.known.now) in
     let w = c.args.w in
     let b = c.args.bytes.items in
-    let x = c.in-Ok.block in
-    let is = c.in-Ok.ensures in
+    let x = c.data-block.result in
+    let is = c.data-block.ensures in
     let next = after_next g c.args.self in
     let old = kept c.args.self.store in
     let ks = used 16 data_block w.at (slots_len w.n) b old in

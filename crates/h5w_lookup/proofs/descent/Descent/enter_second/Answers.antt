@@ -1,4 +1,4 @@
-use Rattle.std.proofs.Common.{◌∙◌, refl, ap}
+use Rattle.std.proofs.Common.{◌≡◌, ◌∙◌, Err, inr, refl, sym, ap}
 use Rattle.h5w_model.specs.Programs.{used}
 use Rattle.h5w_model.specs.Tables.{data_slot, secondary_block}
 use Rattle.h5w_model.specs.Arrays.{super_block_of, easb_at, slots_len}
@@ -21,8 +21,8 @@ returns-in-Err c =
     let b = c.args.bytes.items in
     let next = after_next g c.args.self in
     let blocks = (super_block_of w.sblock).blocks in
-    let why = rw c.sizes-blocks.ensures.blocks at c.in-Err.ensures in
-    refused_block g w.at c.refused.result c.in-Err.fault (easb_at b w.at blocks) (wait_given (kept c.args.self.store) (Second w) next b) c.refused.ensures.refused c.refused.ensures.other why
+    let given : easb_at b w.at blocks ≡ Err c.in-Err.fault = sym (rw (c.as_slice.ensures.value, c.sizes-blocks.ensures.blocks) at c.in-Err.ensures.exact) in
+    refused_block g w.at c.refused.result c.in-Err.fault (easb_at b w.at blocks) (wait_given (kept c.args.self.store) (Second w) next b) c.refused.ensures.refused c.refused.ensures.other (inr given)
     (λ e. second_refused (used 16 secondary_block w.at (slots_len blocks) b (kept c.args.self.store)) w.at w.sblock w.block w.slot b c.in-Err.fault next e)
 
 pub returns : goal.returns
@@ -30,10 +30,10 @@ returns c =
     let g = rules_of c.args.rules.now (known_of c.args.known.now) in
     let w = c.args.w in
     let b = c.args.bytes.items in
-    let x = c.in-Ok.block in
+    let x = c.second-block.result in
     let blocks = (super_block_of w.sblock).blocks in
     let slots = (super_block_of w.sblock).slots in
-    let is = rw c.sizes-blocks.ensures.blocks at c.in-Ok.ensures in
+    let is = rw c.sizes-blocks.ensures.blocks at c.second-block.ensures in
     let next = after_next g c.args.self in
     let old = kept c.args.self.store in
     let ks = used 16 secondary_block w.at (slots_len blocks) b old in

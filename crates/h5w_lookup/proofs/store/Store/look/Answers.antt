@@ -2,6 +2,7 @@ use Rattle.std.proofs.Common.{◌≡◌, Option, Some, None, nat_eq, sym, ap, �
 use Rattle.std.specs.Prelude.{option_map, option_copied}
 use Rattle.std.specs.Map.{lookup}
 use Rattle.h5w_lookup.specs.Blocks.{block_number}
+use Rattle.h5w_lookup.specs.Contents.{bytes_in}
 use Rattle.h5w_lookup.specs.declared.block.Block.{Block}
 use Rattle.h5w_lookup.proofs.StoreLemmas.{IsSmall, find_bytes, keeps_found}
 use Rattle.h5w_lookup.proofs.store.Store.look.Goals as goal
@@ -12,7 +13,7 @@ returns-in-None c =
     let es = a.self.now.cache.entries in
     let small : IsSmall a.place a.len = record { low = c.ranges.place.fits; small = c.requires } in
     let none : lookup (nat_eq (block_number a.kind a.place a.len)) es ≡ None = rw (← c.number-key.ensures) (sym c.peek.ensures ∙ ap (λ o. option_copied o) c.in-None.is) in
-    find_bytes a.kind a.place a.len es small a.self.now.keyed ∙ ap (λ (o : Option Block). option_map (λ b. b.bytes.items) o) none
+    find_bytes a.kind a.place a.len es small a.self.now.keyed ∙ ap (λ (o : Option Block). option_map (λ (b : Block). bytes_in b.content) o) none
 
 pub returns-in-Some : goal.returns-in-Some
 returns-in-Some c =
