@@ -200,7 +200,7 @@ empty_behind : (held rest : List ℕ) → held ++ rest ≡ [] → rest ≡ []
 empty_behind [] rest e = e
 empty_behind (b ∷ held) rest e = absurd (cc)
 
-none_behind : (a : Option (List ℕ)) (held : List ℕ) → IfSome (option_map (λ rest. held ++ rest) a) (λ rest. rest ≡ []) → IfSome a (λ rest. rest ≡ [])
+pub none_behind : (a : Option (List ℕ)) (held : List ℕ) → IfSome (option_map (λ rest. held ++ rest) a) (λ rest. rest ≡ []) → IfSome a (λ rest. rest ≡ [])
 none_behind None held h = tt
 none_behind (Some a) held h = empty_behind held a h
 

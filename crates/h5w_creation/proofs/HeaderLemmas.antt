@@ -1,13 +1,13 @@
 -- How long the messages of a new file are.
-use Rattle.std.proofs.Common.{◌≡◌, ℕ, ◌+◌, ◌≤◌, List, length, length-append, refl, ap, ◌∙◌, arith}
+use Rattle.std.proofs.Common.{◌≡◌, ℕ, ◌+◌, ◌≤◌, leb, List, length, length-append, refl, ap, ◌∙◌, inl, inr, arith}
 use Rattle.h5w_model.specs.Numbers.{le}
 use Rattle.h5w_model.specs.Headers.{header_bytes, msgs_bytes, prefix_bytes}
 use Rattle.h5w_model.specs.Links.{link_bytes, link_info_bytes, group_info_bytes}
 use Rattle.h5w_model.specs.declared.message.Msg.{Msg}
 use Rattle.h5w_model.proofs.NumberLemmas.{length-le}
 use Rattle.h5w_model.proofs.HeaderLemmas.{length-header_bytes, length-msgs_bytes}
-use Rattle.h5w_model.proofs.HeaderRoundTrip.{prefix_bytes-small}
-use Rattle.std.proofs.lemmas.Bool.{le-leb}
+use Rattle.h5w_model.proofs.HeaderRoundTrip.{prefix_bytes-large, prefix_bytes-small}
+use Rattle.std.proofs.lemmas.Bool.{cases_Bool}
 use Rattle.h5w_creation.specs.Headers.{links_to}
 
 pub length_link : (name : List ℕ) (place : ℕ) → length (link_bytes name place) ≡ 11 + length name
@@ -24,16 +24,17 @@ length_infos : (length link_info_bytes ≡ 18) × (length group_info_bytes ≡ 2
 unfolding le
 length_infos = (refl, refl)
 
-root_messages_long : (name : List ℕ) (address : ℕ) → length (msgs_bytes (links_to name address)) ≡ 43 + length name
-root_messages_long name address =
+pub links_long : (name : List ℕ) (address : ℕ) → length (msgs_bytes (links_to name address)) ≡ 43 + length name
+links_long name address =
     length-msgs_bytes (links_to name address) ∙ omega (arith, length_infos.0, length_infos.1, length_link name address)
 
-prefix_long : (n : ℕ) → n ≤ 255 → length (prefix_bytes n) ≡ 7
+-- the size of the messages takes one byte, or two
+pub prefix_short : (n : ℕ) → length (prefix_bytes n) ≤ 8
 unfolding le
-prefix_long n h = ap length (prefix_bytes-small n (le-leb n 255 h))
+prefix_short n = elim (cases_Bool (leb n 255)) [
+  | inl e ↦ let long : length (prefix_bytes n) ≡ 7 = ap length (prefix_bytes-small n e) in omega (arith, long)
+  | inr e ↦ let long : length (prefix_bytes n) ≡ 8 = ap length (prefix_bytes-large n e) in omega (arith, long)
+]
 
-pub root_fits : (name : List ℕ) (address : ℕ) → length name ≤ 64 → length (header_bytes (links_to name address)) ≤ 512
-root_fits name address short =
-    let n = length (msgs_bytes (links_to name address)) in
-    let long = root_messages_long name address in
-    omega (arith, length-header_bytes (links_to name address), prefix_long n (omega arith))
+pub root_short : (name : List ℕ) (address : ℕ) → length (header_bytes (links_to name address)) ≤ 55 + length name
+root_short name address = omega (arith, length-header_bytes (links_to name address), links_long name address, prefix_short (length (msgs_bytes (links_to name address))))

@@ -1,11 +1,10 @@
 -- The index of a new file: its pieces among the others, and that it rests once all are shown.
-use Rattle.std.proofs.Common.{◌≡◌, ℕ, List, [], ◌∷◌, ◌++◌, Ok, refl, sym, subst, ap, ◌∙◌, arith}
+use Rattle.std.proofs.Common.{◌≡◌, ℕ, List, [], ◌∷◌, ◌++◌, refl, sym, subst, ap, ◌∙◌}
 use Rattle.std.specs.Prelude.{map}
 use Rattle.h5w_model.specs.Images.{Holds, image}
 use Rattle.h5w_model.specs.Trees.{bthd_at, bthd_bytes, bthd_len}
 use Rattle.h5w_model.specs.declared.cell.IndexKind.{IndexKind}
 use Rattle.h5w_model.specs.declared.cell.IndexKind.TheVariants.{Array, Tree}
-use Rattle.h5w_bt.proofs.Spelling.{bthd_bytes-is, bthd_at-bthd_body}
 use Rattle.h5w_space.specs.Space.{Space}
 use Rattle.h5w_flush_laws.specs.Flushes.{IsBegun}
 use Rattle.h5w_bt_index.specs.Index.{no_tree}
@@ -17,6 +16,7 @@ use Rattle.h5w_index.proofs.BeginLemmas.{index_begins}
 use Rattle.h5w_creation_laws.specs.CreatedFiles.{CreatedFile, IsCreatable, block_place, block_write, created_moment, created_writes, empty_tree, header_block, index_blocks, index_place, root_block, super_block}
 use Rattle.h5w_creation_laws.proofs.CreatedLaws.{created_array, created_new}
 use Rattle.h5w_creation_laws.proofs.RootLemmas.{look_at}
+use Rattle.h5w_creation_laws.proofs.IndexLemmas.{tree_at}
 use Rattle.h5w_creation_laws.proofs.SizeLemmas.{tree_long}
 use Rattle.h5w_creation.specs.Made.{CreatedRests, IsNewIndex, index_writes}
 
@@ -28,15 +28,10 @@ all_writes Tree f = refl
 
 -- ---- The law
 
-tree_read : (place : ℕ) → bthd_at (bthd_bytes empty_tree) place ≡ Ok empty_tree
-tree_read place =
-    ap (λ (b : List ℕ). bthd_at b place) (bthd_bytes-is empty_tree)
-    ∙ bthd_at-bthd_body empty_tree place (record { shallow = omega arith; few = omega arith }) (omega arith) (omega arith)
-
 tree_stands : (img : List ℕ) (f : CreatedFile) → Holds img (index_blocks Tree f ++ header_block f ∷ root_block f ∷ super_block f ∷ []) → TreeStands (index_place f) no_tree img
 tree_stands img f holds =
     tree_begins img (index_place f)
-    (ap (λ b. bthd_at b (index_place f)) (look_at img (index_place f) bthd_len (bthd_bytes empty_tree) holds.0 tree_long) ∙ tree_read (index_place f))
+    (ap (λ b. bthd_at b (index_place f)) (look_at img (index_place f) bthd_len (bthd_bytes empty_tree) holds.0 tree_long) ∙ tree_at (index_place f))
 
 module _ (f : CreatedFile) (s : Space) (w : IndexView) (h : IsCreatable f) (sound : IsSound w) (begun : IsBegun (created_moment f) s) where
   abbrev img : List ℕ

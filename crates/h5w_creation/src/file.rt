@@ -29,20 +29,20 @@ pub struct Creation {
     pub writes: Vec<Write>,
 }
 
-/// The superblock of a new file that ends there: a SWMR writer has the file open.
-fn superblock(end: u64) -> Super
-    ensures { result ≡ record { version = 3; flags = 5; end = end; root = files.root_place } }
+/// The superblock of a new file that ends there, with these flags.
+pub fn superblock(flags: u8, end: u64) -> Super
+    ensures { result ≡ record { version = 3; flags = flags; end = end; root = files.root_place } }
 {
     Super {
         version: 3,
-        flags: 5,
+        flags,
         end,
         root: ROOT_PLACE,
     }
 }
 
-/// The write of a superblock.
-fn super_write(root: &Super) -> Write
+/// The write of a superblock, at the file's begin.
+pub fn super_write(root: &Super) -> Write
     requires { root.now.version ≡ 3 }
     ensures { result ≡ record { at = 0; piece = super_bytes root.now } }
 {
@@ -51,6 +51,9 @@ fn super_write(root: &Super) -> Write
         piece: Piece::of(&h5w_super::encode(root)),
     }
 }
+
+/// The flags of a file that a SWMR writer has open.
+pub const OPEN: u8 = 5;
 
 /// A new file whose dataset has this name, of 1 to 64 bytes. The list of its pieces has room for one at least, also once it is cleared.
 pub fn create_file(alloc: Global, name: &[u8], form: &Form) -> Result<Creation, OutOfMemory>
@@ -70,7 +73,7 @@ pub fn create_file(alloc: Global, name: &[u8], form: &Form) -> Result<Creation, 
     let sites = sites_of(name, form);
     let grid = grid_of(name, form, &sites);
     let header = dataset_header(alloc, &grid)?;
-    let root = superblock(sites.end);
+    let root = superblock(OPEN, sites.end);
     let mut writes = Vec::with_capacity(alloc, 5)?;
     let index = new_index(alloc, form.index, sites.index, sites.block, &mut writes)?;
     writes.push(Write {

@@ -49,13 +49,13 @@ pub const ROOT_PLACE: u64 = 48;
 const ROOT_LEN: u64 = 54;
 
 /// How many bytes an array's header has.
-const ARRAY_LEN: u64 = 72;
+pub const ARRAY_LEN: u64 = 72;
 
 /// How many bytes an array's index block has.
-const BLOCK_LEN: u64 = 298;
+pub const BLOCK_LEN: u64 = 298;
 
 /// How many bytes a tree's header has.
-const TREE_LEN: u64 = 38;
+pub const TREE_LEN: u64 = 38;
 
 /// How many bytes the data of the fill value message have.
 fn fill_len(form: &Form) -> u64
@@ -102,7 +102,7 @@ fn shape_len(form: &Form) -> u64
 }
 
 /// How many bytes the blocks in place of an index have.
-fn index_len(index: IndexKind) -> u64
+pub fn index_len(index: IndexKind) -> u64
     ensures exact { result ≡ files.index_len index }
     ensures bound { result ≤ 370 }
 {

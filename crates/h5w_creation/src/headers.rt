@@ -1,5 +1,5 @@
 //! The headers of a new file: that of the root group, and that of the dataset.
-ghost use Rattle.std.specs.Prelude.{◌≡◌, ◌+◌, ◌<◌, ◌≤◌, ◌^◌, length, IfOk};
+ghost use Rattle.std.specs.Prelude.{◌≡◌, ◌+◌, ◌<◌, ◌≤◌, ◌^◌, ◌∷◌, [], length, IfOk};
 ghost use Rattle.h5w_model.specs.Datasets.{dataspace_kind, datatype_kind, fill_value_kind, layout_kind};
 ghost use Rattle.h5w_model.specs.Headers.{header_bytes, msgs_bytes};
 ghost use Rattle.h5w_model.specs.Links.{group_info_bytes, link_bytes, link_info_bytes, link_info_kind, link_message_kind};
@@ -18,7 +18,7 @@ use h5w_ohdr::{Msg, Msgs};
 use std::alloc::Global;
 
 /// The most bytes of a name.
-const NAME: usize = 64;
+const NAME: usize = 255;
 
 /// A message with these data.
 fn message(alloc: Global, kind: u8, bytes: &[u8]) -> Result<Msg, OutOfMemory>
@@ -51,9 +51,9 @@ fn group_info_message(alloc: Global) -> Result<Msg, OutOfMemory>
     message(alloc, 0x0a, &bytes[..len])
 }
 
-/// The link of this name to the header at this address.
-fn link_message(alloc: Global, name: &[u8], address: u64) -> Result<Msg, OutOfMemory>
-    requires { length name.now ≤ 64 }
+/// The link of this name, of at most 255 bytes, to the header at this address (HDF5 File Format Specification, "The Link Message").
+pub fn link_message(alloc: Global, name: &[u8], address: u64) -> Result<Msg, OutOfMemory>
+    requires { length name.now ≤ 255 }
     ensures { IfOk result (λ m. m ≡ message link_message_kind (link_bytes name.now address)) }
 {
     let mut bytes = [0; 11 + NAME];
@@ -101,14 +101,22 @@ fn layout_message(alloc: Global, grid: &Grid) -> Result<Msg, OutOfMemory>
     message(alloc, 0x08, &bytes[..len])
 }
 
-/// The messages of the root header, which links this name to the header at this address.
-fn root_messages(alloc: Global, name: &[u8], address: u64) -> Result<Msgs, OutOfMemory>
-    requires { length name.now ≤ 64 }
-    ensures { IfOk result (λ ms. ms ≡ links_to name.now address) }
+/// The messages of a root header before its links: link info, and group info.
+pub fn root_start(alloc: Global) -> Result<Msgs, OutOfMemory>
+    ensures { IfOk result (λ ms. ms ≡ message link_info_kind link_info_bytes ∷ message group_info_kind group_info_bytes ∷ []) }
 {
     let mut list = Msgs::new(alloc);
     list.push(link_info_message(alloc)?)?;
     list.push(group_info_message(alloc)?)?;
+    Ok(list)
+}
+
+/// The messages of the root header, which links this name to the header at this address.
+fn root_messages(alloc: Global, name: &[u8], address: u64) -> Result<Msgs, OutOfMemory>
+    requires { length name.now ≤ 255 }
+    ensures { IfOk result (λ ms. ms ≡ links_to name.now address) }
+{
+    let mut list = root_start(alloc)?;
     list.push(link_message(alloc, name, address)?)?;
     Ok(list)
 }
@@ -136,9 +144,9 @@ fn chunk_0(list: &Msgs) -> Piece
     Piece::of(&bytes[..len])
 }
 
-/// The root header, which links this name to the header at this address.
+/// The root header, which links this name, of at most 255 bytes, to the header at this address.
 pub fn root_header(alloc: Global, name: &[u8], address: u64) -> Result<Piece, OutOfMemory>
-    requires { length name.now ≤ 64 }
+    requires { length name.now ≤ 255 }
     ensures { IfOk result (λ p. p ≡ header_bytes (links_to name.now address)) }
 {
     Ok(chunk_0(&root_messages(alloc, name, address)?))

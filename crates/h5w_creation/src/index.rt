@@ -18,7 +18,7 @@ use h5w_model::{OutOfMemory, Piece, Write};
 use std::alloc::Global;
 
 /// The write of the header of an array without chunks, which stands at `header` and whose index block stands at `block`.
-fn array_header(index: &ArrayIndex, header: u64, block: u64) -> Write
+pub fn array_header(index: &ArrayIndex, header: u64, block: u64) -> Write
     requires { IsCreated header block index.now }
     ensures { result ≡ record { at = header; piece = eahd_bytes (empty_array block) } }
 {
@@ -29,7 +29,7 @@ fn array_header(index: &ArrayIndex, header: u64, block: u64) -> Write
 }
 
 /// The write of the index block of an array without chunks, which stands at `block` and whose header stands at `header`.
-fn index_block(index: &ArrayIndex, header: u64, block: u64) -> Write
+pub fn index_block(index: &ArrayIndex, header: u64, block: u64) -> Write
     requires { IsCreated header block index.now }
     ensures { result ≡ record { at = block; piece = eaib_bytes (empty_index_block header) } }
 {
@@ -40,7 +40,7 @@ fn index_block(index: &ArrayIndex, header: u64, block: u64) -> Write
 }
 
 /// The write of the header of a tree without records, which stands at `header`.
-fn tree_header(header: u64) -> Write
+pub fn tree_header(header: u64) -> Write
     ensures { result ≡ record { at = header; piece = bthd_bytes empty_tree } }
 {
     let mut bytes = [0; Bthd::LEN];

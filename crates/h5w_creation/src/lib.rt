@@ -10,7 +10,9 @@ mod headers;
 mod index;
 mod laws;
 
-pub use file::{Creation, create_file};
-pub use form::Form;
+pub use file::{Creation, OPEN, create_file, super_write, superblock};
+pub use form::{ARRAY_LEN, BLOCK_LEN, Form, ROOT_PLACE, TREE_LEN, index_len};
 pub use h5w_chunks::{Fill, IndexKind, IntType};
+pub use headers::{dataset_header, link_message, root_header, root_start};
+pub use index::{array_header, index_block, new_index, tree_header};
 pub use laws::created_rests;

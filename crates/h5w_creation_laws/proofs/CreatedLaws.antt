@@ -117,7 +117,7 @@ fixed_ends Tree f =
 
 -- ---- No chunk is needed
 
-no_bands : (d : ℕ) → 1 ≤ d → div_up 0 d ≡ 0
+pub no_bands : (d : ℕ) → 1 ≤ d → div_up 0 d ≡ 0
 no_bands d h =
     let below : (0 + d - 1) / d < 1 = (div-lt_iff_lt-mul {k = d} {x = 0 + d - 1} {y = 1} h).1 (omega arith) in
     omega arith
@@ -141,7 +141,7 @@ super_stands img f low size stands =
     ∙ rw (super_at-super_bytes (super_of f) (inr refl) (omega arith) (omega arith), le-ltb (length img) (end_of f) size) refl
 
 -- with an index that is empty, whatever its blocks in place
-index_there : (img : List ℕ) (f : CreatedFile) → IsEmpty img f (fixed_of f.index f) → IsIndex img (end_of f) (described_of f) (fixed_of f.index f) []
+index_there : (img : List ℕ) (f : CreatedFile) → IsEmpty img (described_of f) (fixed_of f.index f) → IsIndex img (end_of f) (described_of f) (fixed_of f.index f) []
 index_there img f e =
     subst (λ (us : List Used). IsIndex img (end_of f) (described_of f) us []) e.looks
     (index_of_parts img (end_of f) (described_of f) e.blocks [] e.read (subst (λ (us : List Used). AllEndBy (end_of f) us) (sym e.looks) (fixed_ends f.index f)) (e.behind (end_of f) (chunk_bytes (described_of f))))
@@ -151,7 +151,7 @@ header_there img f h stands =
     let long = header_long f h in
     spelled_stands img format_limits (super_of f) (header_place f) (described_of f) (spellable f h) stands (omega arith) (none_needed f h)
 
-pub represents_by : (img : List ℕ) (f : CreatedFile) → IsCreatable f → length img ≡ end_of f → Holds img (front_blocks f) → IsEmpty img f (fixed_of f.index f) → Represents img f.name (created_moment f)
+pub represents_by : (img : List ℕ) (f : CreatedFile) → IsCreatable f → length img ≡ end_of f → Holds img (front_blocks f) → IsEmpty img (described_of f) (fixed_of f.index f) → Represents img f.name (created_moment f)
 represents_by img f h size front e =
     let low = index_low f h in
     let more = index_lens f.index in

@@ -23,7 +23,7 @@ use Rattle.h5w_bt.proofs.Spelling.{bthd_bytes-is, bthd_at-bthd_body}
 use Rattle.h5w_visits.specs.Ranges.{blocks_of}
 use Rattle.h5w_visits.specs.Indexes.{behind_visit}
 use Rattle.h5w_array_laws.proofs.CreatedLemmas.{all_undefined, header_read, header_size, index_size}
-use Rattle.h5w_creation_laws.specs.CreatedFiles.{CreatedFile, IsCreatable, index_place, block_place, index_blocks, empty_array, empty_index_block, empty_tree, described_of, fixed_of, no_address}
+use Rattle.h5w_creation_laws.specs.CreatedFiles.{CreatedFile, IsCreatable, block_place, index_blocks, empty_array, empty_index_block, empty_tree, described_of, fixed_of}
 use Rattle.h5w_creation_laws.proofs.SizeLemmas.{index_low, tree_long}
 use Rattle.h5w_creation_laws.proofs.RootLemmas.{look_at}
 
@@ -118,7 +118,7 @@ array_answer img at key = ap (eval img) (slot_absent at (place_of key.i))
 tree_by : (d : Described) → (d.layout.address == undefined) ≡ false → d.layout.index ≡ Tree → in_place d ≡ tree_in_place d.layout.address
 tree_by d known kind = rw (known, in_place, kind) refl
 
-tree_at : (place : ℕ) → bthd_at (bthd_bytes empty_tree) place ≡ Ok empty_tree
+pub tree_at : (place : ℕ) → bthd_at (bthd_bytes empty_tree) place ≡ Ok empty_tree
 tree_at place =
     ap (λ (b : List ℕ). bthd_at b place) (bthd_bytes-is empty_tree)
     ∙ bthd_at-bthd_body empty_tree place (record { shallow = omega arith; few = omega arith }) (omega arith) (omega arith)
@@ -137,34 +137,45 @@ tree_found img at go stands =
 -- ---- Of either kind
 
 -- what the blocks in place say, what was looked at for that, and what stands behind them and is found there
-pub record IsEmpty (img : List ℕ) (f : CreatedFile) (fixed : List Used) : Type 0 where
+pub record IsEmpty (img : List ℕ) (d : Described) (fixed : List Used) : Type 0 where
   pub blocks : InPlace
-  pub read : eval img (in_place (described_of f)) ≡ Ok blocks
-  pub looks : blocks_of (visits img (in_place (described_of f))) ≡ fixed
+  pub read : eval img (in_place d) ≡ Ok blocks
+  pub looks : blocks_of (visits img (in_place d)) ≡ fixed
   pub behind : (end bytes : ℕ) → eval img (behind_visit end bytes blocks) ≡ Ok []
-  pub answers : (key : Key) → eval img (address_behind blocks key) ≡ Ok (no_address key)
+  pub answers : (key : Key) → eval img (address_behind blocks key) ≡ Ok undefined
 
-pub empty_there : (img : List ℕ) (f : CreatedFile) (k : IndexKind) → IsCreatable f → f.index ≡ k → Holds img (index_blocks k f) → IsEmpty img f (fixed_of k f)
-empty_there img f Array h kind holds =
-    let low = index_low f h in
-    let at = index_place f in
-    let block = block_place f in
-    let by = array_by (described_of f) (defined at (omega arith)) kind in
+-- an array without chunks, whose index block stands at `block`
+pub empty_array_there : (img : List ℕ) (d : Described) (block : ℕ) → d.layout.index ≡ Array → d.layout.address < 2 ^ 63 → block < 2 ^ 63 → At img d.layout.address (eahd_bytes (empty_array block))
+    → At img block (eaib_bytes (empty_index_block d.layout.address)) → IsEmpty img d (blocks_of (look_of d.layout.address eahd_len ∷ look_of block eaib_len ∷ []))
+empty_array_there img d block kind low high header stands =
+    let at = d.layout.address in
+    let by = array_by d (defined at low) kind in
     record {
       blocks = in_array (empty_index_block at);
-      read = ap (eval img) by ∙ array_read img at block (omega arith) (omega arith) holds.1.0 holds.0;
-      looks = ap (λ p. blocks_of (visits img p)) by ∙ ap blocks_of (array_looks img at block (omega arith) (omega arith) holds.1.0 holds.0);
+      read = ap (eval img) by ∙ array_read img at block low high header stands;
+      looks = ap (λ p. blocks_of (visits img p)) by ∙ ap blocks_of (array_looks img at block low high header stands);
       behind = λ end bytes. array_behind img end bytes at;
       answers = array_answer img at;
     }
-empty_there img f Tree h kind holds =
-    let low = index_low f h in
-    let at = index_place f in
-    let by = tree_by (described_of f) (defined at (omega arith)) kind in
+
+-- a tree without records
+pub empty_tree_there : (img : List ℕ) (d : Described) → d.layout.index ≡ Tree → d.layout.address < 2 ^ 63 → At img d.layout.address (bthd_bytes empty_tree)
+    → IsEmpty img d (blocks_of (look_of d.layout.address bthd_len ∷ []))
+empty_tree_there img d kind low header =
+    let at = d.layout.address in
+    let by = tree_by d (defined at low) kind in
     record {
       blocks = nowhere;
-      read = ap (eval img) by ∙ tree_found img at (eval img) holds.0;
-      looks = ap (λ p. blocks_of (visits img p)) by ∙ tree_found img at (λ p. blocks_of (look_of at bthd_len ∷ visits img p)) holds.0;
+      read = ap (eval img) by ∙ tree_found img at (eval img) header;
+      looks = ap (λ p. blocks_of (visits img p)) by ∙ tree_found img at (λ p. blocks_of (look_of at bthd_len ∷ visits img p)) header;
       behind = λ end bytes. refl;
       answers = λ key. refl;
     }
+
+pub empty_there : (img : List ℕ) (f : CreatedFile) (k : IndexKind) → IsCreatable f → f.index ≡ k → Holds img (index_blocks k f) → IsEmpty img (described_of f) (fixed_of k f)
+empty_there img f Array h kind holds =
+    let low = index_low f h in
+    empty_array_there img (described_of f) (block_place f) kind (omega arith) (omega arith) holds.1.0 holds.0
+empty_there img f Tree h kind holds =
+    let low = index_low f h in
+    empty_tree_there img (described_of f) kind (omega arith) holds.0

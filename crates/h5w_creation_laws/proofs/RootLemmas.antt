@@ -119,7 +119,7 @@ header_found img f short stands =
 
 -- ---- The link
 
-same_name : (xs : List ℕ) → pointwise nat_eq xs xs ≡ true
+pub same_name : (xs : List ℕ) → pointwise nat_eq xs xs ≡ true
 same_name [] = refl
 same_name (x ∷ xs) = rw (eq-eqb x x refl) (same_name xs)
 

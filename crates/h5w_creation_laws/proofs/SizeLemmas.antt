@@ -28,7 +28,7 @@ use Rattle.h5w_creation_laws.specs.CreationLaws.{FillGiven}
 
 -- ---- The root header
 
-length_link : (name : List ℕ) (place : ℕ) → length (link_bytes name place) ≡ 11 + length name
+pub length_link : (name : List ℕ) (place : ℕ) → length (link_bytes name place) ≡ 11 + length name
 unfolding le
 length_link name place = omega (arith, length-append name (le 8 place), length-le 8 place)
 

@@ -25,10 +25,6 @@ use Rattle.h5w_index.specs.Views.{IndexView, an_array, a_tree}
 use Rattle.h5w_index.specs.declared.begun.Begun.{Begun}
 use Rattle.h5w_index.specs.declared.begun.Begun.TheVariants.{Array, Tree}
 
--- what is found at an address, none where it is undefined
-abbrev pub found : ℕ → Option ℕ
-found a = if a == undefined then None else Some a
-
 -- ---- A place is held for a key
 
 -- The blocks on the way to a slot are there; map and ranges stay. The max index set is no less.

@@ -8,7 +8,8 @@ ghost use Rattle.h5w_bt_index.specs.Held as trees;
 ghost use Rattle.h5w_bt_index.specs.Index.{IsIndex, KeepsShares, no_tree};
 ghost use Rattle.h5w_index.specs.Held.{view_of};
 ghost use Rattle.h5w_index.specs.Views.{HasSlot, IsClean, IsReached, IsSound, TakesKey, a_tree, address_in, an_array};
-ghost use Rattle.h5w_index.specs.Steps.{HasNoPlace, IsBegun, IsDeep, IsHeld, IsPlan, IsSet, IsUnset, TookSome, WasBegun, copy_pieces, found, in_place_pieces, moves_of};
+ghost use Rattle.h5w_ea_index.specs.Steps.{found};
+ghost use Rattle.h5w_index.specs.Steps.{HasNoPlace, IsBegun, IsDeep, IsHeld, IsPlan, IsSet, IsUnset, TookSome, WasBegun, copy_pieces, in_place_pieces, moves_of};
 
 use crate::begun::Begun;
 use h5w_bt_index::{InsertError, Key, TreeIndex};

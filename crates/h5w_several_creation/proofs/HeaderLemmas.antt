@@ -1,11 +1,11 @@
 -- A dataset header with another address of the index.
-use Rattle.std.proofs.Common.{◌≡◌, ℕ, ◌+◌, ◌-◌, ◌^◌, ◌<◌, ◌≤◌, List, [], ◌∷◌, ◌++◌, length, length-append, append_assoc, append-nil, take, drop, refl, ap, sym, ◌∙◌, arith}
+use Rattle.std.proofs.Common.{◌≡◌, ℕ, ◌+◌, ◌-◌, List, [], ◌∷◌, ◌++◌, length, length-append, append_assoc, append-nil, take, refl, ap, sym, ◌∙◌, arith}
 use Rattle.std.specs.Prelude.{flat_map}
 use Rattle.std.proofs.lemmas.List.{take_at}
 use Rattle.h5w_model.specs.Numbers.{le}
 use Rattle.h5w_model.specs.Checksum.{sealed_block, sum_of}
-use Rattle.h5w_model.specs.Headers.{msg_bytes, msgs_bytes, prefix_bytes, header_bytes}
-use Rattle.h5w_model.specs.Messages.{LayoutFields, ShapeFields, IntTypeFields, layout_bytes, layout_width, chunk_sizes, index_bytes, shape_bytes, int_type_bytes, fill_bytes}
+use Rattle.h5w_model.specs.Headers.{msg_bytes, prefix_bytes, header_bytes}
+use Rattle.h5w_model.specs.Messages.{layout_bytes, layout_width, chunk_sizes, index_bytes, shape_bytes, int_type_bytes, fill_bytes}
 use Rattle.h5w_model.specs.Datasets.{Described, dataspace_kind, datatype_kind, fill_value_kind}
 use Rattle.h5w_model.proofs.NumberLemmas.{length-le}
 use Rattle.h5w_model.proofs.ChecksumLemmas.{length-sealed_block}

@@ -1,8 +1,7 @@
 -- The blocks of a dataset, and how long the headers of a new file are.
-use Rattle.std.proofs.Common.{◌≡◌, ℕ, ◌+◌, ◌-◌, ◌*◌, ◌^◌, ◌<◌, ◌≤◌, suc, cond, leb, List, [], ◌∷◌, ◌++◌, length, length-append, append_assoc, append-nil, get_or, take, drop, refl, ap, sym, ◌∙◌, subst, inl, inr, arith}
+use Rattle.std.proofs.Common.{◌≡◌, ℕ, ◌+◌, ◌*◌, ◌≤◌, cond, leb, List, [], ◌∷◌, ◌++◌, length, length-append, append_assoc, drop, refl, ap, ◌∙◌, inl, inr, arith}
 use Rattle.std.specs.Prelude.{map}
 use Rattle.std.specs.List.{AllByRecursion, sum_by}
-use Rattle.std.proofs.Math.Seq.{drop-cons}
 use Rattle.std.proofs.lemmas.Bool.{cases_Bool}
 use Rattle.std.proofs.lemmas.List.{drop_all}
 use Rattle.std.proofs.lemmas.List.Sums.{sum_by-cons}
@@ -10,7 +9,7 @@ use Rattle.h5w_model.specs.Numbers.{le}
 use Rattle.h5w_model.specs.Headers.{header_bytes, msgs_bytes, prefix_bytes}
 use Rattle.h5w_model.specs.Images.{pieces}
 use Rattle.h5w_model.specs.Superblock.{super_bytes}
-use Rattle.h5w_model.specs.Links.{link_bytes, link_info_bytes, group_info_bytes, link_info_kind, link_message_kind}
+use Rattle.h5w_model.specs.Links.{link_bytes, link_info_bytes, group_info_bytes, link_info_kind}
 use Rattle.h5w_model.specs.declared.root.Super.{Super}
 use Rattle.h5w_model.specs.declared.message.Msg.{Msg}
 use Rattle.h5w_model.specs.declared.piece.Write.{Write}
@@ -21,13 +20,13 @@ use Rattle.h5w_model.proofs.HeaderLemmas.{length-header_bytes}
 use Rattle.h5w_model.proofs.HeaderRoundTrip.{prefix_bytes-small, prefix_bytes-large}
 use Rattle.h5w_header_laws.specs.Spelled.{message, spelled_header}
 use Rattle.h5w_creation_laws.specs.CreatedFiles.{CreatedFile, IsCreatable, block_write, described_of, group_info_kind, header_len, root_place}
-use Rattle.h5w_creation_laws.proofs.SizeLemmas.{header_long, header_short}
-use Rattle.h5w_creation.specs.Forms.{IsForm, created_by}
+use Rattle.h5w_creation_laws.proofs.SizeLemmas.{header_long}
+use Rattle.h5w_creation.specs.Forms.{IsForm}
 use Rattle.h5w_creation.specs.Made.{index_writes}
 use Rattle.h5w_creation.specs.declared.form.Form.{Form}
 use Rattle.h5w_creation.proofs.FormLemmas.{creatable}
-use Rattle.h5w_several_creation_laws.specs.SeveralFiles.{index_behind, end_behind, end_from, links_len, links_from, messages_len, first_place, end_of, root_messages, root_bytes, header_at, index_at, set_at, sets_from, all_sets, super_block, created_writes}
-use Rattle.h5w_several_creation_laws.proofs.PlaceLemmas.{links_short, end_above, end_bound, root_bound, set_short}
+use Rattle.h5w_several_creation_laws.specs.SeveralFiles.{index_behind, end_from, links_len, links_from, first_place, end_of, root_messages, root_bytes, header_at, index_at, set_at, sets_from, all_sets, super_block, created_writes}
+use Rattle.h5w_several_creation_laws.proofs.PlaceLemmas.{end_above, end_bound, root_bound}
 use Rattle.h5w_several_creation_laws.proofs.RootLemmas.{messages_long}
 use Rattle.h5w_several_creation.specs.Forms.{AreNames, HasRoom, all_by, any_by, with_address}
 use Rattle.h5w_several_creation.proofs.HeaderLemmas.{moved_header}

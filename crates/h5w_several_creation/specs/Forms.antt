@@ -1,5 +1,5 @@
 -- By what the code creates a file of several datasets.
-use Rattle.std.specs.Prelude.{◌≡◌, ℕ, ◌+◌, ◌-◌, ◌≤◌, List, [], ◌∷◌, ◌++◌, length, map, take}
+use Rattle.std.specs.Prelude.{ℕ, ◌-◌, ◌≤◌, List, ◌++◌, length, map, take}
 use Rattle.std.specs.List.{AllByRecursion}
 use Rattle.h5w_model.specs.Numbers.{le}
 use Rattle.h5w_model.specs.Checksum.{sealed_block}

@@ -7,10 +7,10 @@ ghost use Rattle.h5w_creation.specs.Forms.{IsForm};
 ghost use Rattle.h5w_several_creation_laws.specs.SeveralFiles as files;
 ghost use Rattle.h5w_several_creation.specs.Forms.{AreNames, all_by, any_by};
 
-use crate::root::{ROOT_PLACE, first_place, link_message, put_root, root_start};
+use crate::root::{first_place, put_root};
 use crate::set::{header_of, put_set};
-use h5w_creation::Form;
-use h5w_model::{OutOfMemory, Piece, Super, Write};
+use h5w_creation::{Form, OPEN, link_message, root_start, super_write, superblock};
+use h5w_model::{OutOfMemory, Super, Write};
 use h5w_names::Names;
 use h5w_ohdr::Msgs;
 use std::alloc::Global;
@@ -21,29 +21,6 @@ use std::alloc::Global;
 pub struct Creations {
     pub root: Super,
     pub writes: Vec<Write>,
-}
-
-/// The superblock of a new file that ends there, with these flags.
-fn superblock(flags: u8, end: u64) -> Super
-    ensures { result ≡ record { version = 3; flags = flags; end = end; root = root_place } }
-{
-    Super {
-        version: 3,
-        flags,
-        end,
-        root: ROOT_PLACE,
-    }
-}
-
-/// The write of a superblock.
-fn super_write(root: &Super) -> Write
-    requires { root.now.version ≡ 3 }
-    ensures { result ≡ record { at = 0; piece = super_bytes root.now } }
-{
-    Write {
-        at: 0,
-        piece: Piece::of(&h5w_super::encode(root)),
-    }
 }
 
 /// The write that closes a new file which ends there: its superblock without the flags of writers.
@@ -90,7 +67,7 @@ pub fn create_files(alloc: Global, names: &Names, form: &Form) -> Result<Creatio
     let first = first_place(names);
     let end = put_sets(alloc, names, form, first, &mut links, &mut writes)?;
     put_root(&links, &mut writes)?;
-    let root = superblock(5, end);
+    let root = superblock(OPEN, end);
     writes.push(super_write(&root))?;
     Ok(Creations { root, writes })
 }

@@ -11,17 +11,10 @@ ghost use Rattle.h5w_creation.specs.declared.form.Form.{Form};
 ghost use Rattle.h5w_several_creation.specs.Forms.{AreNames, all_by};
 
 use h5w_cache::put_pieces;
-use h5w_links::{encode_group_info, encode_link, encode_link_info};
-use h5w_model::{Bytes, OutOfMemory, Write};
+use h5w_creation::ROOT_PLACE;
+use h5w_model::{OutOfMemory, Write};
 use h5w_names::Names;
-use h5w_ohdr::{Msg, Msgs};
-use std::alloc::Global;
-
-/// Where the root header stands, behind the superblock.
-pub const ROOT_PLACE: u64 = 48;
-
-/// The most bytes of a name.
-const NAME: usize = 64;
+use h5w_ohdr::Msgs;
 
 /// How many bytes a link has beside its name.
 const LINK: usize = 15;
@@ -31,57 +24,6 @@ const INFOS: usize = 28;
 
 /// More bytes than the root header of eight names has.
 const ROOT_MOST: usize = 1024;
-
-/// A message with these data.
-fn message(alloc: Global, kind: u8, bytes: &[u8]) -> Result<Msg, OutOfMemory>
-    ensures { IfOk result (λ m. m ≡ message kind bytes.now) }
-{
-    let body = Bytes::from_vec(Vec::from_slice(alloc, bytes)?);
-    Ok(Msg {
-        kind,
-        flags: 0,
-        at: 0,
-        body,
-    })
-}
-
-/// The link info message: links are messages.
-fn link_info_message(alloc: Global) -> Result<Msg, OutOfMemory>
-    ensures { IfOk result (λ m. m ≡ message link_info_kind link_info_bytes) }
-{
-    let mut bytes = [0; 18];
-    let len = encode_link_info(&mut bytes);
-    message(alloc, 0x02, &bytes[..len])
-}
-
-/// The group info message.
-fn group_info_message(alloc: Global) -> Result<Msg, OutOfMemory>
-    ensures { IfOk result (λ m. m ≡ message group_info_kind group_info_bytes) }
-{
-    let mut bytes = [0; 2];
-    let len = encode_group_info(&mut bytes);
-    message(alloc, 0x0a, &bytes[..len])
-}
-
-/// The link of this name to the header at this address.
-pub fn link_message(alloc: Global, name: &[u8], address: u64) -> Result<Msg, OutOfMemory>
-    requires { length name.now ≤ 64 }
-    ensures { IfOk result (λ m. m ≡ message link_message_kind (link_bytes name.now address)) }
-{
-    let mut bytes = [0; 11 + NAME];
-    let len = encode_link(name, address, &mut bytes);
-    message(alloc, 0x06, &bytes[..len])
-}
-
-/// The messages before the links.
-pub fn root_start(alloc: Global) -> Result<Msgs, OutOfMemory>
-    ensures { IfOk result (λ ms. ms ≡ message link_info_kind link_info_bytes ∷ message group_info_kind group_info_bytes ∷ []) }
-{
-    let mut list = Msgs::new(alloc);
-    list.push(link_info_message(alloc)?)?;
-    list.push(group_info_message(alloc)?)?;
-    Ok(list)
-}
 
 /// How many bytes the links of these names take.
 fn links_len(names: &Names) -> usize

@@ -1,14 +1,14 @@
 //! The blocks of one dataset, wherever it stands.
 ghost use Rattle.std.specs.Prelude.{◌≡◌, ◌+◌, ◌<◌, ◌≤◌, ◌^◌, ◌++◌, length, map, IfOk, OnOk};
 ghost use Rattle.h5w_header_laws.specs.Spelled.{spelled_header};
-ghost use Rattle.h5w_creation_laws.specs.CreatedFiles.{block_write, described_of, index_len};
+ghost use Rattle.h5w_creation_laws.specs.CreatedFiles.{block_write, described_of};
 ghost use Rattle.h5w_creation.specs.Forms.{IsForm};
 ghost use Rattle.h5w_several_creation_laws.specs.SeveralFiles.{end_behind, set_at};
 ghost use Rattle.h5w_several_creation.specs.Forms.{any_by, with_address};
 
-use crate::index::{ARRAY_LEN, BLOCK_LEN, TREE_LEN, put_index};
+use crate::index::put_index;
 use h5w_bytes::put;
-use h5w_creation::{Form, IndexKind, create_file};
+use h5w_creation::{Form, create_file, index_len};
 use h5w_model::{OutOfMemory, PIECE, Piece, Write};
 use h5w_sum::seal;
 use std::alloc::Global;
@@ -42,17 +42,6 @@ fn header_at(header: &Piece, address: u64) -> Piece
     chunk.copy_from_slice(header.as_slice());
     put_address(chunk, address);
     Piece::of(chunk)
-}
-
-/// How many bytes the blocks in place of an index have.
-fn index_len(kind: IndexKind) -> u64
-    ensures exact { result ≡ index_len kind }
-    ensures bound { result ≤ 370 }
-{
-    match kind {
-        IndexKind::Array => ARRAY_LEN + BLOCK_LEN,
-        IndexKind::Tree => TREE_LEN,
-    }
 }
 
 /// Adds the pieces of a dataset of this form, whose header stands at `place`; `header` is that of a file of one. Answers where its blocks

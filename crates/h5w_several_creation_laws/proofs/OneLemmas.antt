@@ -1,6 +1,6 @@
 -- A created file of one dataset, as one of several.
-use Rattle.std.proofs.Common.{◌≡◌, ℕ, ◌+◌, ◌*◌, ◌/◌, ◌≤◌, cond, List, [], ◌∷◌, ◌++◌, length, refl, ap, ◌∙◌, arith}
-use Rattle.std.specs.Prelude.{map, nat_le, take}
+use Rattle.std.proofs.Common.{◌≡◌, ℕ, ◌+◌, ◌/◌, ◌≤◌, cond, List, [], ◌∷◌, ◌++◌, length, refl, ap, ◌∙◌, arith}
+use Rattle.std.specs.Prelude.{map}
 use Rattle.std.proofs.lemmas.Bool.{le-leb}
 use Rattle.std.proofs.lemmas.List.{take_all}
 use Rattle.h5w_model.specs.Images.{pieces, first_pieces}
@@ -18,7 +18,7 @@ use Rattle.h5w_steps.specs.Moments.{Moment}
 use Rattle.h5w_creation_laws.specs.CreatedFiles as one
 use Rattle.h5w_creation_laws.specs.CreatedFiles.{CreatedFile, IsCreatable, root_place, header_place, header_len, group_info_kind, header_block, block_write, index_blocks, fixed_of}
 use Rattle.h5w_creation_laws.proofs.SizeLemmas as sizes
-use Rattle.h5w_several_creation_laws.specs.SeveralFiles.{end_behind, messages_len, root_len, first_place, end_of, super_of, described_at, header_at, index_at, set_at, fixed_at, moment_at, root_ranges, created_writes}
+use Rattle.h5w_several_creation_laws.specs.SeveralFiles.{end_behind, messages_len, root_len, header_at, index_at, set_at, fixed_at, moment_at}
 use Rattle.h5w_several_creation_laws.specs.SeveralLaws.{OneDataset}
 
 -- what the root header of one has

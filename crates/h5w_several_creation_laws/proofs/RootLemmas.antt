@@ -1,23 +1,22 @@
 -- The root header of a created file of several datasets is read: the link of each name leads to its dataset's header.
-use Rattle.std.proofs.Common.{◌≡◌, ◌≢◌, ℕ, ◌+◌, ◌-◌, ◌*◌, ◌^◌, ◌<◌, ◌≤◌, Bool, true, false, cond, leb, List, [], ◌∷◌, ◌++◌, length, length-append, append_assoc, append-nil, Option, Some, None, Result, Ok, Err, refl, ap, sym, ◌∙◌, subst, inl, inr, arith}
-use Rattle.std.specs.Prelude.{nat_eq, nat_le, nat_lt, take, map, find, ◌&&◌, if◌then◌else◌}
+use Rattle.std.proofs.Common.{◌≡◌, ◌≢◌, ℕ, ◌+◌, ◌-◌, ◌^◌, ◌<◌, ◌≤◌, Bool, true, false, cond, leb, List, [], ◌∷◌, ◌++◌, length, append_assoc, append-nil, Option, Some, None, Result, Ok, refl, ap, sym, ◌∙◌, inl, inr, arith}
+use Rattle.std.specs.Prelude.{nat_eq, nat_lt, map, find, ◌&&◌}
 use Rattle.std.specs.List.{AllByRecursion, sum_by, list_all}
 use Rattle.std.specs.Cmp.Lexicographic.{pointwise}
-use Rattle.std.proofs.lemmas.Bool.{cases_Bool, eq-eqb, eqb-true, lt-ltb, le-ltb}
+use Rattle.std.proofs.lemmas.Bool.{cases_Bool, eqb-true, lt-ltb, le-ltb}
 use Rattle.std.proofs.lemmas.List.Sums.{sum_by-cons}
 use Rattle.h5w_model.specs.Numbers.{num, le, range}
 use Rattle.h5w_model.specs.Images.{At}
 use Rattle.h5w_model.specs.Programs.{Prog, ret, whole, eval}
-use Rattle.h5w_model.specs.Headers.{prefix_at, prefix_bytes, messages_at, header_messages, msgs_bytes, header_bytes, placed, AreReadable, all_known, unless_refused, first_unknown, names_block}
+use Rattle.h5w_model.specs.Headers.{prefix_at, prefix_bytes, messages_at, msgs_bytes, placed, AreReadable, unless_refused, first_unknown, names_block}
 use Rattle.h5w_model.specs.Links.{LinkFields, links_at, link_list, first_misspelt, unless_misspelt, find_link, address_of, is_named, is_link, link_fields, link_bytes, link_info_bytes, group_info_bytes, link_info_kind, link_message_kind}
-use Rattle.h5w_model.specs.Datasets.{FoundMessage, HeaderFields, Range, then_also, refused_as, walk, from_chunk_0, header_refusal, root_header, root_view, found_at, linked}
+use Rattle.h5w_model.specs.Datasets.{FoundMessage, HeaderFields, Range, then_also, refused_as, walk, from_chunk_0, header_refusal, root_header, root_view, found_at}
 use Rattle.h5w_model.specs.Relations.{AllPaired}
 use Rattle.h5w_model.specs.declared.message.Msg.{Msg}
 use Rattle.h5w_model.specs.declared.message.Prefix.{Prefix}
 use Rattle.h5w_model.specs.declared.refusal.LinkError.{LinkError}
 use Rattle.h5w_model.specs.declared.refusal.ReadError.{ReadError}
 use Rattle.h5w_model.specs.declared.refusal.ReadError.TheVariants.{Link}
-use Rattle.h5w_model.proofs.NumberLemmas.{length-le}
 use Rattle.h5w_model.proofs.HeaderLemmas.{length-header_bytes, length-msgs_bytes}
 use Rattle.h5w_model.proofs.HeaderRoundTrip.{written_prefix, prefix_at-written, prefix_bytes-small, prefix_bytes-large, behind_prefix, regrouped, messages_at-written}
 use Rattle.h5w_model.proofs.LinkLemmas.{link_written}
@@ -28,13 +27,11 @@ use Rattle.h5w_laws.proofs.LinkLemmas.{IsLinked}
 use Rattle.h5w_header_laws.specs.Spelled.{message}
 use Rattle.h5w_creation_laws.specs.CreatedFiles.{CreatedFile, IsCreatable, root_place, group_info_kind}
 use Rattle.h5w_several_creation_laws.specs.SeveralFiles.{AreCreatable, AllNamed, names_of, end_behind, links_len, messages_len, root_len, first_place, end_from, links_from, root_messages, root_bytes}
+use Rattle.h5w_creation_laws.proofs.SizeLemmas.{length_link}
+use Rattle.h5w_creation_laws.proofs.RootLemmas.{same_name}
 use Rattle.h5w_several_creation_laws.proofs.PlaceLemmas.{links_short, end_above}
 
 -- ---- How long it is
-
-length_link : (name : List ℕ) (place : ℕ) → length (link_bytes name place) ≡ 11 + length name
-unfolding le
-length_link name place = omega (arith, length-append name (le 8 place), length-le 8 place)
 
 length_infos : (length link_info_bytes ≡ 18) × (length group_info_bytes ≡ 2)
 unfolding le
@@ -212,10 +209,6 @@ unfolding links_at num le
 links_behind p q ms = refl
 
 -- ---- The names
-
-same_name : (xs : List ℕ) → pointwise nat_eq xs xs ≡ true
-same_name [] = refl
-same_name (x ∷ xs) = rw (eq-eqb x x refl) (same_name xs)
 
 both_true : (a b : Bool) → (a && b) ≡ true → (a ≡ true) × (b ≡ true)
 both_true true b h = (refl, h)

@@ -1,9 +1,9 @@
 -- The blocks of several datasets, written one dataset after the other: all of them stand.
-use Rattle.std.proofs.Common.{◌≡◌, ℕ, ◌+◌, ◌-◌, ◌^◌, ◌<◌, ◌≤◌, max, List, [], ◌∷◌, ◌++◌, length, refl, sym, ap, ◌∙◌, ◌⊎◌, subst, inl, inr, arith}
+use Rattle.std.proofs.Common.{◌≡◌, ℕ, ◌+◌, ◌-◌, ◌^◌, ◌<◌, ◌≤◌, List, [], ◌∷◌, ◌++◌, length, refl, sym, ap, ◌∙◌, subst, inl, inr, arith}
 use Rattle.std.specs.Prelude.{map}
 use Rattle.std.specs.List.{AllByRecursion}
-use Rattle.h5w_model.specs.Images.{apply, image, At, Holds, ApartEach, AllMissEach, AllSized}
-use Rattle.h5w_model.specs.Arrays.{eahd_len, eaib_len, eahd_bytes, eaib_bytes}
+use Rattle.h5w_model.specs.Images.{apply, Holds, ApartEach, AllMissEach, AllSized}
+use Rattle.h5w_model.specs.Arrays.{eahd_bytes, eaib_bytes}
 use Rattle.h5w_model.specs.Trees.{bthd_bytes}
 use Rattle.h5w_model.specs.Messages.{IsLayout, shape_bytes, int_type_bytes, fill_bytes, layout_bytes}
 use Rattle.h5w_model.specs.declared.cell.IndexKind.{IndexKind}
@@ -16,7 +16,7 @@ use Rattle.h5w_header_laws.specs.Spelled.{IsSpellable}
 use Rattle.h5w_header_laws.proofs.SpelledLemmas.{spelled_read}
 use Rattle.h5w_creation_laws.specs.CreatedFiles.{CreatedFile, IsCreatable, header_len, index_len, layout_of, shape_of, described_of, empty_array, empty_index_block, empty_tree, block_write}
 use Rattle.h5w_creation_laws.specs.CreationLaws.{WritesEndBy}
-use Rattle.h5w_creation_laws.proofs.SizeLemmas.{header_long, header_short, index_lens, spellable, tree_long}
+use Rattle.h5w_creation_laws.proofs.SizeLemmas.{header_long, header_short, spellable, tree_long}
 use Rattle.h5w_creation_laws.proofs.StackLemmas.{Below, written, all_stand, length_written}
 use Rattle.h5w_several_creation_laws.specs.SeveralFiles.{index_behind, block_behind, end_behind, end_from, described_at, header_at, index_at, set_at, sets_from}
 use Rattle.h5w_several_creation_laws.specs.SeveralLaws.{AllLong}

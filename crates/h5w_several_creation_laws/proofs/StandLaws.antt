@@ -1,15 +1,15 @@
 -- A created file of several datasets, once its pieces are shown.
-use Rattle.std.proofs.Common.{◌≡◌, ◌≢◌, ℕ, ◌+◌, ◌-◌, ◌^◌, ◌<◌, ◌≤◌, List, [], ◌∷◌, ◌++◌, length, append_assoc, Result, Ok, refl, ap, sym, ◌∙◌, ◌⊎◌, subst, inl, inr, arith}
+use Rattle.std.proofs.Common.{◌≡◌, ◌≢◌, ℕ, ◌-◌, ◌<◌, ◌≤◌, List, [], ◌∷◌, ◌++◌, length, append_assoc, Result, Ok, refl, ap, sym, ◌∙◌, ◌⊎◌, subst, inl, inr, arith}
 use Rattle.std.specs.Prelude.{map, flat_map}
-use Rattle.std.specs.List.{AllByRecursion, sum_by, count_by}
+use Rattle.std.specs.List.{AllByRecursion, sum_by}
 use Rattle.h5w_model.specs.Numbers.{range}
-use Rattle.h5w_model.specs.Images.{apply, image, pieces, At, Holds, AllSized, Apart, MissesEach}
+use Rattle.h5w_model.specs.Images.{apply, image, pieces, At, Holds, MissesEach}
 use Rattle.h5w_model.specs.Programs.{ret, eval, and_then}
 use Rattle.h5w_model.specs.Superblock.{super_bytes}
 use Rattle.h5w_model.specs.Datasets.{Described}
 use Rattle.h5w_model.specs.Tables.{format_limits}
-use Rattle.h5w_model.specs.Findings.{Finding, Used, Part, AllSummary, AllValid, the_superblock, all_summary, ranges_of_all, header_ranges, checked_super, checked_dataset, checked_part, index_visit}
-use Rattle.h5w_model.specs.Relations.{AllPaired, IsPart, AllDiffer, AllFit, HasAll}
+use Rattle.h5w_model.specs.Findings.{Finding, Used, Part, the_superblock, ranges_of_all, checked_super, checked_dataset, checked_part, index_visit}
+use Rattle.h5w_model.specs.Relations.{AllPaired, IsPart, AllDiffer, HasAll}
 use Rattle.h5w_model.specs.declared.root.Super.{Super}
 use Rattle.h5w_model.specs.declared.piece.Write.{Write}
 use Rattle.h5w_model.proofs.ImageLemmas.{length-apply, At-apply, At-pieces, Holds-append, Holds-front, Holds-rest, Holds-apply_missed, Holds-image_missed, image-append, image-grows, image-pieces, image-push, pieces-miss_each, pieces-sized, AllSized-append}
@@ -22,15 +22,15 @@ use Rattle.h5w_visits.specs.Ranges.{Disjoint, block_at}
 use Rattle.h5w_visits.proofs.HeaderVisits.{ranges_from}
 use Rattle.h5w_visits.proofs.OverlapLemmas.{overlap_laws}
 use Rattle.h5w_steps.specs.Moments.{Represents}
-use Rattle.h5w_creation_laws.specs.CreatedFiles.{CreatedFile, IsCreatable, root_place, header_len, block_write}
+use Rattle.h5w_creation_laws.specs.CreatedFiles.{CreatedFile, root_place, header_len, block_write}
 use Rattle.h5w_creation_laws.specs.CreationLaws.{WritesEndBy}
 use Rattle.h5w_creation_laws.proofs.StackLemmas.{stacked_apart, written}
-use Rattle.h5w_several_creation_laws.specs.SeveralFiles.{AreCreatable, names_of, end_behind, end_from, root_len, first_place, end_of, super_of, described_at, sets_from, all_sets, root_bytes, root_block, super_block, created_writes, closed_writes, fixed_at, moment_at, root_ranges, new_summary}
-use Rattle.h5w_several_creation_laws.specs.SeveralLaws.{AllLong, EachStands, AreNewFiles, SeveralSizes, SeveralStand, SeveralStands}
+use Rattle.h5w_several_creation_laws.specs.SeveralFiles.{AreCreatable, names_of, end_behind, first_place, end_of, super_of, described_at, all_sets, root_bytes, root_block, super_block, created_writes, closed_writes, fixed_at, moment_at, root_ranges, new_summary}
+use Rattle.h5w_several_creation_laws.specs.SeveralLaws.{EachStands, AreNewFiles, SeveralSizes, SeveralStands}
 use Rattle.h5w_several_creation_laws.proofs.PlaceLemmas as places
 use Rattle.h5w_several_creation_laws.proofs.PlaceLemmas.{end_above, end_low, end_small, all_ranges, all_stacked, all_len, all_blocks, all_chunks, ranges_at}
-use Rattle.h5w_several_creation_laws.proofs.RootLemmas.{root_prefix, root_found, prefix_total, root_long, header_found, places_from, all_linked}
-use Rattle.h5w_several_creation_laws.proofs.SetLemmas.{all_long, from_joined, from_lower, apart_above, sets_above, sets_hold, some_reach, sets_sized, ends_joined, sets_within}
+use Rattle.h5w_several_creation_laws.proofs.RootLemmas.{root_found, prefix_total, root_long, header_found, places_from, all_linked}
+use Rattle.h5w_several_creation_laws.proofs.SetLemmas.{all_long, from_joined, from_lower, apart_above, sets_above, sets_hold, some_reach, sets_sized}
 use Rattle.h5w_several_creation_laws.proofs.StandLemmas.{super_stands, root_ends, each_stands}
 
 -- ---- What is found of all together

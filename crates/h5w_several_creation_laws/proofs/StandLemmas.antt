@@ -1,15 +1,13 @@
 -- Each dataset of a created file by itself is at its first moment.
-use Rattle.std.proofs.Common.{◌≡◌, ℕ, ◌+◌, ◌-◌, ◌*◌, ◌/◌, ◌^◌, ◌<◌, ◌≤◌, true, false, List, [], ◌∷◌, ◌++◌, length, Ok, refl, ap, ◌∙◌, ◌⊎◌, inl, inr, arith}
+use Rattle.std.proofs.Common.{◌≡◌, ℕ, ◌*◌, ◌^◌, ◌<◌, ◌≤◌, true, false, List, [], ◌∷◌, ◌++◌, length, Ok, refl, ap, ◌∙◌, ◌⊎◌, inl, inr, arith}
 use Rattle.std.specs.Prelude.{map, nat_lt}
 use Rattle.std.specs.List.{AllByRecursion, range_with_len}
-use Rattle.std.proofs.Math.Nat.{div-lt_iff_lt-mul}
 use Rattle.std.proofs.lemmas.Bool.{le-ltb}
 use Rattle.h5w_model.specs.Numbers.{range}
 use Rattle.h5w_model.specs.Images.{At, Holds}
 use Rattle.h5w_model.specs.Programs.{eval}
 use Rattle.h5w_model.specs.Superblock.{super_bytes}
 use Rattle.h5w_model.specs.Datasets.{is_swmr}
-use Rattle.h5w_model.specs.Logs.{div_up}
 use Rattle.h5w_model.specs.Tables.{table_of, index_key, needed_keys, needed, chunks_across, limit_of, format_limits}
 use Rattle.h5w_model.specs.Findings.{checked_super}
 use Rattle.h5w_model.specs.Relations.{AllPaired}
@@ -24,10 +22,11 @@ use Rattle.h5w_visits.proofs.RangeLemmas.{ends_nil, ends_cons}
 use Rattle.h5w_visits.proofs.HeaderLaws.{root_from}
 use Rattle.h5w_header_laws.proofs.SpelledLemmas.{spelled_stands}
 use Rattle.h5w_steps.specs.Moments.{Represents, all_used}
-use Rattle.h5w_creation_laws.specs.CreatedFiles.{CreatedFile, IsCreatable, root_place, header_len, index_len}
+use Rattle.h5w_creation_laws.specs.CreatedFiles.{CreatedFile, IsCreatable, root_place, header_len}
 use Rattle.h5w_creation_laws.proofs.StackLemmas.{Stacked, stacked_apart}
 use Rattle.h5w_creation_laws.proofs.RootLemmas.{look_at}
-use Rattle.h5w_several_creation_laws.specs.SeveralFiles.{AreCreatable, names_of, index_behind, end_behind, end_from, root_len, first_place, end_of, super_of, described_at, header_at, index_at, set_at, sets_from, root_bytes, super_block, fixed_at, moment_at, root_ranges}
+use Rattle.h5w_creation_laws.proofs.CreatedLaws.{no_bands}
+use Rattle.h5w_several_creation_laws.specs.SeveralFiles.{AreCreatable, names_of, index_behind, end_behind, end_from, first_place, end_of, super_of, described_at, header_at, index_at, set_at, sets_from, root_bytes, super_block, fixed_at, moment_at, root_ranges}
 use Rattle.h5w_several_creation_laws.specs.SeveralLaws.{EachStands}
 use Rattle.h5w_several_creation_laws.proofs.PlaceLemmas.{end_above}
 use Rattle.h5w_several_creation_laws.proofs.RootLemmas.{root_prefix, root_found, prefix_total, header_found, places_from}
@@ -35,11 +34,6 @@ use Rattle.h5w_several_creation_laws.proofs.IndexLemmas.{index_there}
 use Rattle.h5w_several_creation_laws.proofs.SetLemmas.{spellable_at, long_at}
 
 -- ---- No chunk is needed
-
-no_bands : (d : ℕ) → 1 ≤ d → div_up 0 d ≡ 0
-no_bands d h =
-    let below : (0 + d - 1) / d < 1 = (div-lt_iff_lt-mul {k = d} {x = 0 + d - 1} {y = 1} h).1 (omega arith) in
-    omega arith
 
 no_chunk : (place : ℕ) (f : CreatedFile) → IsCreatable f → needed (described_at place f) ≡ 0
 no_chunk place f h = ap (λ (n : ℕ). n * chunks_across (described_at place f)) (no_bands f.chunk_rows h.some_rows) ∙ omega arith

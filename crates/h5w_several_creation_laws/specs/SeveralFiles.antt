@@ -1,6 +1,6 @@
 -- A file of several datasets as it is created: where their blocks stand, the bytes, the pieces in the order in which they are written, and
 -- what the file is for each dataset once all of them are shown.
-use Rattle.std.specs.Prelude.{◌≡◌, ◌≢◌, ℕ, ◌+◌, ◌*◌, ◌≤◌, List, [], ◌∷◌, ◌++◌, length, map, nat_le, if◌then◌else◌}
+use Rattle.std.specs.Prelude.{◌≢◌, ℕ, ◌+◌, ◌≤◌, List, [], ◌∷◌, ◌++◌, length, map, nat_le, if◌then◌else◌}
 use Rattle.std.specs.List.{AllByRecursion, sum_by}
 use Rattle.h5w_model.specs.Images.{pieces}
 use Rattle.h5w_model.specs.Superblock.{super_bytes}

@@ -1,5 +1,5 @@
 -- The laws of a created file of several datasets.
-use Rattle.std.specs.Prelude.{◌≡◌, ◌⊎◌, ℕ, ◌+◌, ◌*◌, ◌≤◌, List, [], ◌∷◌, ◌++◌, length}
+use Rattle.std.specs.Prelude.{◌≡◌, ℕ, ◌+◌, ◌*◌, ◌≤◌, List, [], ◌∷◌, ◌++◌, length}
 use Rattle.h5w_model.specs.Images.{image, Holds, AllSized}
 use Rattle.h5w_model.specs.Findings.{Used, AllValid}
 use Rattle.h5w_model.specs.declared.root.Super.{Super}

@@ -159,8 +159,9 @@ far_chunk_file =
     ++ replicate 248 255
     ++ (107 ∷ 226 ∷ 15 ∷ 157 ∷ 7 ∷ [])
 
-abbrev pub far_chunk_reading : Reading
-far_chunk_reading = record { place = 106; dataset = line 53 1 signed_byte None 200 13; table = replicate 52 undefined ++ 848 ∷ [] }
+-- of 53 rows only the last has a chunk
+abbrev pub last_chunk_reading : Reading
+last_chunk_reading = record { place = 106; dataset = line 53 1 signed_byte None 200 13; table = replicate 52 undefined ++ 848 ∷ [] }
 
 -- a data block
 abbrev pub far_data_block_file : List ℕ
@@ -192,9 +193,6 @@ far_data_block_file =
     ++ replicate 248 255
     ++ (107 ∷ 226 ∷ 15 ∷ 157 ∷ 7 ∷ [])
 
-abbrev pub far_data_block_reading : Reading
-far_data_block_reading = record { place = 106; dataset = line 53 1 signed_byte None 200 13; table = replicate 52 undefined ++ 848 ∷ [] }
-
 -- a node of a tree: it is whole, but its 2,048 bytes are not
 abbrev pub far_node_file : List ℕ
 far_node_file =
@@ -218,9 +216,6 @@ far_node_file =
     82 ∷ 1 ∷ [])
     ++ replicate 16 0
     ++ (124 ∷ 154 ∷ 48 ∷ 124 ∷ 66 ∷ 84 ∷ 76 ∷ 70 ∷ 0 ∷ 10 ∷ 208 ∷ 117 ∷ 90 ∷ 124 ∷ [])
-
-abbrev pub far_node_reading : Reading
-far_node_reading = record { place = 106; dataset = grid 1 2 1 1 signed_byte None 300; table = undefined ∷ undefined ∷ [] }
 
 -- the root header
 abbrev pub far_root_header_file : List ℕ
@@ -252,9 +247,6 @@ far_root_header_file =
     ++ replicate 248 255
     ++ (107 ∷ 226 ∷ 15 ∷ 157 ∷ 7 ∷ [])
 
-abbrev pub far_root_header_reading : Reading
-far_root_header_reading = record { place = 106; dataset = line 53 1 signed_byte None 200 13; table = replicate 52 undefined ++ 848 ∷ [] }
-
 -- the dataset header
 abbrev pub far_dataset_header_file : List ℕ
 far_dataset_header_file =
@@ -284,9 +276,6 @@ far_dataset_header_file =
     ++ (80 ∷ 3 ∷ 0 ∷ 0 ∷ 0 ∷ 0 ∷ 0 ∷ 0 ∷ [])
     ++ replicate 248 255
     ++ (107 ∷ 226 ∷ 15 ∷ 157 ∷ 7 ∷ [])
-
-abbrev pub far_dataset_header_reading : Reading
-far_dataset_header_reading = record { place = 106; dataset = line 53 1 signed_byte None 200 13; table = replicate 52 undefined ++ 848 ∷ [] }
 
 -- 131,061 rows of a chunk each
 abbrev pub too_many_rows_file : List ℕ

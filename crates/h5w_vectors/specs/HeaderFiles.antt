@@ -27,8 +27,8 @@ block_in_place_file =
     4 ∷ 32 ∷ 4 ∷ 4 ∷ 16 ∷ 10 ∷ 255 ∷ 255 ∷ 255 ∷ 255 ∷ 255 ∷ 255 ∷ 255 ∷ 255 ∷ 110 ∷ 240 ∷
     94 ∷ 64 ∷ [])
 
-abbrev pub block_in_place_reading : Reading
-block_in_place_reading = record { place = 200; dataset = line 0 1 signed_byte None undefined 13; table = [] }
+abbrev pub no_rows_reading : Reading
+no_rows_reading = record { place = 200; dataset = line 0 1 signed_byte None undefined 13; table = [] }
 
 -- a block, one that it names, and a later one: the nested one, whose sum is wrong, comes before the later one, whose sum is wrong too
 abbrev pub nested_block_file : List ℕ
@@ -246,9 +246,6 @@ gap_file =
     2 ∷ 0 ∷ 0 ∷ 3 ∷ 11 ∷ 8 ∷ 21 ∷ 0 ∷ 0 ∷ 4 ∷ 2 ∷ 0 ∷ 2 ∷ 1 ∷ 1 ∷ 1 ∷
     4 ∷ 32 ∷ 4 ∷ 4 ∷ 16 ∷ 10 ∷ 255 ∷ 255 ∷ 255 ∷ 255 ∷ 255 ∷ 255 ∷ 255 ∷ 255 ∷ 110 ∷ 240 ∷
     94 ∷ 64 ∷ [])
-
-abbrev pub gap_reading : Reading
-gap_reading = record { place = 200; dataset = line 0 1 signed_byte None undefined 13; table = [] }
 
 -- four bytes behind it, which are a message of an unknown type that asks to be known
 abbrev pub no_gap_file : List ℕ

@@ -169,8 +169,8 @@ no_root_file =
     ++ replicate 10 0
     ++ (88 ∷ 126 ∷ 196 ∷ 158 ∷ [])
 
-abbrev pub no_root_reading : Reading
-no_root_reading = record { place = 106; dataset = grid 1 2 1 1 signed_byte None 300; table = undefined ∷ undefined ∷ [] }
+abbrev pub absent_chunks_reading : Reading
+absent_chunks_reading = record { place = 106; dataset = grid 1 2 1 1 signed_byte None 300; table = undefined ∷ undefined ∷ [] }
 
 -- a leaf of the keys 0 1 and 0 0: the first that is not below 0 0 is 0 1, so that 0 0 has no address
 abbrev pub unsorted_leaf_file : List ℕ

@@ -62,9 +62,6 @@ library_two_file =
     ++ (1 ∷ 0 ∷ 0 ∷ 0 ∷ 2 ∷ 0 ∷ 0 ∷ 0 ∷ 3 ∷ 0 ∷ 0 ∷ 0 ∷ 0 ∷ 0 ∷ 0 ∷ 0 ∷
     7 ∷ [])
 
-abbrev pub library_two_a_reading : Reading
-library_two_a_reading = record { place = 195; dataset = line 3 2 signed_32 None 463 13; table = 2048 ∷ 2056 ∷ [] }
-
 abbrev pub library_two_b_reading : Reading
 library_two_b_reading = record { place = 535; dataset = line 1 1 unsigned_byte (Some (9 ∷ [])) 803 13; table = 2064 ∷ [] }
 

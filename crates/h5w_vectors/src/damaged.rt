@@ -5,7 +5,8 @@ ghost use Rattle.h5w_model.specs.Findings.{found, overlap, not_hdf5, bad_superbl
 ghost use Rattle.h5w_model.specs.declared.refusal.ReadError.TheVariants.{Damaged, NotHdf5, Super, TooManyChunks};
 ghost use Rattle.h5w_model.specs.declared.refusal.BlockFault.TheVariants.{Sum};
 ghost use Rattle.h5w_model.specs.declared.refusal.SuperError.TheVariants as super_errors;
-ghost use Rattle.h5w_vectors.specs.DamagedFiles.{bad_dataset_header_file, bad_root_header_file, bad_superblock_file, chunks_in_node_file, chunks_in_node_reading, far_chunk_file, far_chunk_reading, far_data_block_file, far_data_block_reading, far_dataset_header_file, far_dataset_header_reading, far_node_file, far_node_reading, far_root_header_file, far_root_header_reading, other_version_file, overlapping_chunks_file, overlapping_chunks_reading, seven_bytes_file, too_many_rows_file};
+ghost use Rattle.h5w_vectors.specs.IndexFiles.{absent_chunks_reading};
+ghost use Rattle.h5w_vectors.specs.DamagedFiles.{bad_dataset_header_file, bad_root_header_file, bad_superblock_file, chunks_in_node_file, chunks_in_node_reading, far_chunk_file, far_data_block_file, far_dataset_header_file, far_node_file, far_root_header_file, last_chunk_reading, other_version_file, overlapping_chunks_file, overlapping_chunks_reading, seven_bytes_file, too_many_rows_file};
 ghost use Rattle.h5w_vectors.specs.Readings.{IsFoundFile, IsRefusedFile};
 
 /// Seven bytes; and a superblock of another version, or with a wrong sum; a root header and a dataset header with a
@@ -21,11 +22,11 @@ pub fn damaged_blocks()
 /// What passes the end-of-file address, which a reader does not look at: a chunk, blocks of the index, the headers; and
 /// more chunks than the limit.
 pub fn past_the_end()
-    ensures far_chunk { IsFoundFile far_chunk_file far_chunk_reading (replicate 52 (pos 0) ++ pos 7 ∷ []) (found chunk_past_end 848) }
-    ensures far_data_block { IsFoundFile far_data_block_file far_data_block_reading (replicate 52 (pos 0) ++ pos 7 ∷ []) (found block_past_end 570) }
-    ensures far_node { IsFoundFile far_node_file far_node_reading (pos 0 ∷ pos 0 ∷ []) (found block_past_end 338) }
-    ensures far_root_header { IsFoundFile far_root_header_file far_root_header_reading (replicate 52 (pos 0) ++ pos 7 ∷ []) (found block_past_end 48) }
-    ensures far_dataset_header { IsFoundFile far_dataset_header_file far_dataset_header_reading (replicate 52 (pos 0) ++ pos 7 ∷ []) (found block_past_end 106) }
+    ensures far_chunk { IsFoundFile far_chunk_file last_chunk_reading (replicate 52 (pos 0) ++ pos 7 ∷ []) (found chunk_past_end 848) }
+    ensures far_data_block { IsFoundFile far_data_block_file last_chunk_reading (replicate 52 (pos 0) ++ pos 7 ∷ []) (found block_past_end 570) }
+    ensures far_node { IsFoundFile far_node_file absent_chunks_reading (pos 0 ∷ pos 0 ∷ []) (found block_past_end 338) }
+    ensures far_root_header { IsFoundFile far_root_header_file last_chunk_reading (replicate 52 (pos 0) ++ pos 7 ∷ []) (found block_past_end 48) }
+    ensures far_dataset_header { IsFoundFile far_dataset_header_file last_chunk_reading (replicate 52 (pos 0) ++ pos 7 ∷ []) (found block_past_end 106) }
     ensures too_many_rows { IsRefusedFile too_many_rows_file (TooManyChunks 131061 131060) (found too_many_chunks 106) }
 {}
 

@@ -7,7 +7,7 @@ ghost use Rattle.h5w_model.specs.declared.refusal.ReadError.TheVariants.{Damaged
 ghost use Rattle.h5w_model.specs.declared.refusal.BlockFault.TheVariants.{Cut, Sum};
 ghost use Rattle.h5w_model.specs.declared.refusal.HeaderError.TheVariants.{Continuations, Unknown};
 ghost use Rattle.h5w_model.specs.declared.refusal.LinkError.TheVariants.{Dense, Malformed, NoSuchName, NotHard};
-ghost use Rattle.h5w_vectors.specs.HeaderFiles.{block_in_place_file, block_in_place_reading, dense_links_file, filtered_file, full_link_file, full_link_reading, gap_file, gap_reading, huge_chunk_file, long_dataset_header_file, long_root_file, long_root_reading, misspelt_link_file, most_blocks_file, most_blocks_reading, moved_dataspace_file, nested_block_file, no_gap_file, older_superblock_file, older_superblock_reading, other_link_file, shared_layout_file, short_block_file, soft_link_file, too_many_blocks_file, tracked_file, tracked_reading, two_layouts_file, two_layouts_reading};
+ghost use Rattle.h5w_vectors.specs.HeaderFiles.{block_in_place_file, dense_links_file, filtered_file, full_link_file, full_link_reading, gap_file, huge_chunk_file, long_dataset_header_file, long_root_file, long_root_reading, misspelt_link_file, most_blocks_file, most_blocks_reading, moved_dataspace_file, nested_block_file, no_gap_file, no_rows_reading, older_superblock_file, older_superblock_reading, other_link_file, shared_layout_file, short_block_file, soft_link_file, too_many_blocks_file, tracked_file, tracked_reading, two_layouts_file, two_layouts_reading};
 ghost use Rattle.h5w_vectors.specs.Readings.{IsRefusedFile, IsValidFile, summary_as};
 
 /// A superblock of version 2, whose flags say nothing.
@@ -17,7 +17,7 @@ pub fn superblocks()
 
 /// Continuation blocks: in place of their message, one of a block before a later one, too short, 32 of them, and 33.
 pub fn continuations()
-    ensures block_in_place { IsValidFile block_in_place_file block_in_place_reading [] (summary_as 0 0 4 282 53) }
+    ensures block_in_place { IsValidFile block_in_place_file no_rows_reading [] (summary_as 0 0 4 282 53) }
     ensures nested_block { IsRefusedFile nested_block_file (Damaged 200 (Sum (record { stored = 2851717839; computed = 2834940623 }))) (found bad_root 48) }
     ensures short_block { IsRefusedFile short_block_file (Damaged 140 (Cut 8 7)) (found bad_root 48) }
     ensures most_blocks { IsValidFile most_blocks_file most_blocks_reading [] (summary_as 0 0 35 1395 317) }
@@ -27,7 +27,7 @@ pub fn continuations()
 /// Headers: a gap of three bytes, four bytes that are a message, more than 512 bytes, and creation orders, phase values
 /// and times.
 pub fn header_forms()
-    ensures gap { IsValidFile gap_file gap_reading [] (summary_as 0 0 3 282 97) }
+    ensures gap { IsValidFile gap_file no_rows_reading [] (summary_as 0 0 3 282 97) }
     ensures no_gap { IsRefusedFile no_gap_file (Header 48 (Unknown 64)) (found bad_root 48) }
     ensures long_root { IsValidFile long_root_file long_root_reading [] (summary_as 0 0 3 782 95) }
     ensures tracked { IsValidFile tracked_file tracked_reading (pos 0 ∷ pos 0 ∷ []) (summary_as 2 0 3 282 69) }

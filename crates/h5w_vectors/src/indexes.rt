@@ -4,7 +4,7 @@ ghost use Rattle.std.specs.Prelude.{[], ◌∷◌, ◌++◌, replicate, pos};
 ghost use Rattle.h5w_model.specs.Findings.{found, bad_index_header, bad_secondary_block, bad_data_block, keys_not_rising};
 ghost use Rattle.h5w_model.specs.declared.refusal.ReadError.TheVariants.{Damaged};
 ghost use Rattle.h5w_model.specs.declared.refusal.BlockFault.TheVariants.{Field};
-ghost use Rattle.h5w_vectors.specs.IndexFiles.{array_pages_file, filtered_data_block_file, filtered_secondary_block_file, first_secondary_block_file, first_secondary_block_reading, last_of_secondary_block_file, last_of_secondary_block_reading, no_root_file, no_root_reading, sixth_data_block_file, sixth_data_block_reading, third_data_block_file, third_data_block_reading, tree_split_file, unsorted_leaf_file, unsorted_leaf_reading};
+ghost use Rattle.h5w_vectors.specs.IndexFiles.{array_pages_file, filtered_data_block_file, filtered_secondary_block_file, first_secondary_block_file, first_secondary_block_reading, last_of_secondary_block_file, last_of_secondary_block_reading, no_root_file, absent_chunks_reading, sixth_data_block_file, sixth_data_block_reading, third_data_block_file, third_data_block_reading, tree_split_file, unsorted_leaf_file, unsorted_leaf_reading};
 ghost use Rattle.h5w_vectors.specs.Readings.{IsFoundFile, IsRefusedFile, IsValidFile, summary_as};
 
 /// A chunk in a data block that the index block names, and behind a secondary block.
@@ -17,7 +17,7 @@ pub fn arrays()
 
 /// A tree without a root, and a leaf whose keys do not rise: the first record that is not below the key decides.
 pub fn trees()
-    ensures no_root { IsValidFile no_root_file no_root_reading (pos 0 ∷ pos 0 ∷ []) (summary_as 1 0 4 338 94) }
+    ensures no_root { IsValidFile no_root_file absent_chunks_reading (pos 0 ∷ pos 0 ∷ []) (summary_as 1 0 4 338 94) }
     ensures unsorted_leaf { IsFoundFile unsorted_leaf_file unsorted_leaf_reading (pos 0 ∷ pos 11 ∷ []) (found keys_not_rising 338) }
 {}
 

@@ -2,12 +2,13 @@
 
 ghost use Rattle.std.specs.Prelude.{[], ◌∷◌, pos};
 ghost use Rattle.h5w_model.specs.Findings.{AllFinds, AllValid, Valid, found, no_link, overlap, same_header};
-ghost use Rattle.h5w_vectors.specs.NamedFiles.{library_same_file, library_same_reading, library_two_a_reading, library_two_b_reading, library_two_file, name_a, name_b, name_c, overlapping_two_file};
+ghost use Rattle.h5w_vectors.specs.LibraryFiles.{library_line_reading};
+ghost use Rattle.h5w_vectors.specs.NamedFiles.{library_same_file, library_same_reading, library_two_b_reading, library_two_file, name_a, name_b, name_c, overlapping_two_file};
 ghost use Rattle.h5w_vectors.specs.Readings.{IsValidFor, all_summary_as, summary_as};
 
 /// Two datasets of one file that HDF5's own library wrote, each by itself and both together.
 pub fn two_datasets()
-    ensures first { IsValidFor library_two_file name_a library_two_a_reading (pos 1 ∷ pos 2 ∷ pos 3 ∷ []) (summary_as 3 2 5 2065 1216) }
+    ensures first { IsValidFor library_two_file name_a library_line_reading (pos 1 ∷ pos 2 ∷ pos 3 ∷ []) (summary_as 3 2 5 2065 1216) }
     ensures second { IsValidFor library_two_file name_b library_two_b_reading (pos 7 ∷ []) (summary_as 1 1 5 2065 1231) }
     ensures both { AllValid library_two_file (name_a ∷ name_b ∷ []) (all_summary_as (3 ∷ 1 ∷ []) 3 8 2065 577) }
 {}

@@ -10,7 +10,7 @@ pub returns : goal.returns
 returns c =
     let name = c.args.name.now in
     let bytes = link_bytes name c.args.address in
-    let rest = drop (11 + length name) (replicate 75 0) in
+    let rest = drop (11 + length name) (replicate 266 0) in
     let size : length bytes ≡ c.encode_link-len.result = length_link name c.args.address ∙ sym c.encode_link-len.ensures.length in
     let taken : take c.encode_link-len.result c.encode_link-len.new.out ≡ bytes =
     ap (take c.encode_link-len.result) c.encode_link-len.ensures.spelled ∙ take_at bytes rest c.encode_link-len.result size in

@@ -1,4 +1,3 @@
-use Rattle.std.proofs.Common.{◌≡◌}
 use Rattle.h5w_several_creation.proofs.SetLemmas.{IsUnderway}
 use Rattle.h5w_several_creation.proofs.file.put_sets.Given as goal
 
