@@ -10,7 +10,6 @@ use Rattle.h5w_model.specs.declared.cell.Key.{Key}
 use Rattle.h5w_model.specs.declared.root.Super.{Super}
 use Rattle.h5w_model.specs.declared.piece.Write.{Write}
 use Rattle.h5w_space.specs.Space.{Space}
-use Rattle.h5w_space.specs.declared.Full.{Full}
 use Rattle.h5w_cache.specs.declared.moves.Move.{Move}
 use Rattle.h5w_chunks.specs.Grids.{IsCut, fill_cell}
 use Rattle.h5w_chunks.specs.Rows.{RowsWritten}
@@ -36,8 +35,6 @@ use Rattle.h5w_session.proofs.BacklogLemmas.{pending_is}
 use Rattle.h5w_session.specs.Sessions.{AllEndBy, ArePieces, IsRoomy, IsSession, IsUnmade, IsWhole, IsWritable, Session, bands_of, most_lines, next_row, rows_of, with_rows}
 use Rattle.h5w_pieces.specs.NextPlaces.{next_places, writes_behind}
 use Rattle.h5w_session.specs.Flushes.{ArePlanned, IsFlushed, SameBut, flushed_of, header_piece}
-use Rattle.h5w_session.specs.declared.refusal.FlushError.{FlushError}
-use Rattle.h5w_session.specs.declared.refusal.FlushError.TheVariants as errors
 use Rattle.h5w_session.proofs.HeaderAlone.{never, same_block}
 use Rattle.h5w_session.proofs.FlushedLemmas.{chunks_few, fits_same, flushed_is, flushed_pieces, lines_few, shown_flushed, takes_keys}
 
@@ -285,19 +282,6 @@ module _ (v : Session) (to : ℕ) (u : IndexView) (to_is : to ≡ rows_of v) (p 
 
 pub same_error : {T U E : Type 0} (e x : E) → ◌≡◌ {A = Result T E} (Err e) (Err x) → ◌≡◌ {A = Result U E} (Err e) (Err x)
 same_error {T} {U} e x is = let same : e ≡ x = cc in ap Err same
-
--- an error of want of room is no other
-err_of : (e x : FlushError) (r : Result ℕ FlushError) → r ≡ Err e → r ≡ Err x → e ≡ x
-err_of e x r is told = let same : ◌≡◌ {A = Result ℕ FlushError} (Err e) (Err x) = sym is ∙ told in cc
-
-pub same_space : (full : Full) (x : FlushError) (r : Result ℕ FlushError) → r ≡ Err (errors.Space full) → r ≡ Err x → errors.Space full ≡ x
-same_space full x r is told = err_of (errors.Space full) x r is told
-
-pub space_not : {full : Full} → errors.Space full ≡ errors.Failed → ⊥
-space_not same = cc
-
-pub space_not_memory : {full : Full} → errors.Space full ≡ errors.OutOfMemory → ⊥
-space_not_memory same = cc
 
 -- ---- Room
 

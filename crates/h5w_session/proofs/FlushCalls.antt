@@ -11,7 +11,6 @@ use Rattle.h5w_model.specs.declared.root.Super.{Super}
 use Rattle.h5w_space.specs.declared.Full.{Full}
 use Rattle.h5w_header_laws.specs.Files.{with_index}
 use Rattle.h5w_index.specs.Views.{header_place}
-use Rattle.h5w_index.proofs.PlacingLemmas.{placing_laws}
 use Rattle.h5w_session.specs.Sessions.{AllEndBy, IsNamed, IsSession, Session, TakesRows, cutting_of, row_bytes, rows_of, with_rows}
 use Rattle.h5w_session.specs.Loads.{NoPlace}
 use Rattle.h5w_session.specs.Flushes.{IsFlushed, SameBut, header_piece}
@@ -179,14 +178,6 @@ told_some old new (Ok n) x count = omega (arith, any_pieces old new x, count)
 told_some old new (Err e) x count = tt
 
 -- ---- A flush that is refused
-
--- a session that is as it was is so but for places that are held
-pub told_same : (old new : Session) (r : Result ℕ FlushError) → IsSession old → OnErr r (new ≡ old) → OnErr r (SameBut old new)
-told_same old new (Ok n) is same = tt
-told_same old new (Err e) is same =
-    let none = placing_laws.none old.dataset (rows_of old) old.index old.places old.places is.sound refl refl refl refl in
-    let own : SameBut old old = record { session = refl; held = none.partly; unmade = λ unmade. refl; roomy = λ r. r } in
-    subst (λ (s : Session). SameBut old s) (sym same) own
 
 pub told_left : (old new : Session) (r : Result ℕ FlushError) → IsIdle old → OnErr r (SameBut old new) → OnErr r ((log : Log) → Stands old log → Stands new log)
 told_left old new (Ok n) i kept = tt

@@ -49,6 +49,7 @@ use Rattle.h5w_index.proofs.NamingLemmas.{naming_laws}
 use Rattle.h5w_index.proofs.PartLemmas.{index_part}
 use Rattle.h5w_session.specs.Sessions.{Session, rows_of, with_rows, IsNamed}
 use Rattle.h5w_session.specs.Flushes.{ArePlanned, IsFlushed, flushed_of, header_piece}
+use Rattle.h5w_session.specs.PartOf.{IsPartOf}
 use Rattle.h5w_session.specs.Past.{IsCounted, Past}
 use Rattle.h5w_session.specs.Stands.{Running}
 use Rattle.h5w_types.proofs.RunLemmas.{first_has_cell}
@@ -316,4 +317,18 @@ module _ (old new : Session) (log : Log) (x : IsFlushed old new) (r : Running ol
     planned = λ kept none. absurd (let clash : true ≡ false = none in cc);
     columns = r.columns;
     past = past;
+  }
+
+  -- in the words of h5w_flush_laws
+  pub shows_part : Past (flushed_of old new.places new.pending new.index) new.pending (and_now (plans (length new.pending)) log) after_flush → IsPartOf old (flushed_of old new.places new.pending new.index) log r
+  unfolding flush_running
+  shows_part past = record {
+    parts = parts r.after old new x all_values;
+    flush = subst (λ (f : Key → ℕ). IsFlush (image_now log) r.after f r.rest (parts r.after old new x all_values) new.places) (sym same_map) is_flush;
+    missed = subst (λ (us : List Used). HeldMissed us x.planned.rows) known.is missed;
+    pieces = all_pieces;
+    running = flush_running past;
+    after = refl;
+    held = refl;
+    rest = refl;
   }

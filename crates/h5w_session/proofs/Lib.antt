@@ -29,6 +29,7 @@ pub mod PlanLemmas
 pub mod FlushedLemmas
 pub mod PrepareLemmas
 pub mod CarriedLemmas
+pub mod HalfLemmas
 pub mod StartKinds
 pub mod StartPlaces
 pub mod PlannedRows
@@ -38,6 +39,7 @@ pub mod StartCarriedLemmas
 pub mod NextLemmas
 pub mod ReachedLemmas
 pub mod LoadLemmas
+pub mod ToldLemmas
 pub mod EarlyStands
 pub mod EarlyLoads
 pub mod AppendStands

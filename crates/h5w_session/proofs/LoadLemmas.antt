@@ -30,7 +30,8 @@ use Rattle.h5w_session.specs.Past.{IsCounted, IsMadeHere, Past}
 use Rattle.h5w_session.specs.Sessions.{IsRoomy, Session, AllEndBy, AreReached, cutting_of, most_lines, next_row, rows_of, with_rows}
 use Rattle.h5w_steps.specs.Logs.{image_now}
 use Rattle.h5w_session.specs.Stands.{Running, Stands}
-use Rattle.h5w_session.proofs.FlushLemmas.{after_flush, cut_of, told_of}
+use Rattle.h5w_session.specs.PartOf.{FlushShows, IsPartOf}
+use Rattle.h5w_session.proofs.FlushLemmas.{after_flush, cut_of, shows_part, told_of}
 use Rattle.h5w_session.proofs.HeaderAlone.{same_block}
 use Rattle.h5w_session.proofs.FlushStands.{flush_stands, idle_running}
 use Rattle.h5w_session.proofs.LawLemmas.{standing_laws}
@@ -184,6 +185,12 @@ flush_bound old new log x running idle st = pieces_few old new log x running idl
 
 pub flush_carries : (old new : Session) (log : Log) → IsFlushed old new → old.stopped ≡ false → old.pending ≡ [] → AllEndBy new.places.end new.pending → Stands old log → Stands new (and_now (plans (length new.pending)) log)
 flush_carries old new log x running idle within st = flush_stands old new log x running idle (λ r. past_flushed old new log x running idle st r within) st
+
+-- so in the words of h5w_flush_laws
+pub flush_shows : FlushShows
+flush_shows old new log x running idle within st r =
+    let own = subst (λ (s : Session). Past s new.pending (and_now (plans (length new.pending)) log) (after_flush old new log x r)) x.session (past_flushed old new log x running idle st r within) in
+    subst (λ (s : Session). IsPartOf old s log r) (sym x.session) (shows_part old new log x r own)
 
 -- ---- A full file
 

@@ -31,7 +31,8 @@ use Rattle.h5w_cache.specs.Plans.{IfFull, Took}
 use Rattle.h5w_cache.specs.declared.plan.PlanError.{PlanError}
 use Rattle.h5w_cache.specs.declared.plan.PlanError.TheVariants as plan
 use Rattle.h5w_flush_laws.specs.EarlyRows.{IsEarlyPlace}
-use Rattle.h5w_index.specs.Steps.{IsDeep, IsHeld, IsSet, found}
+use Rattle.h5w_ea_index.specs.Steps.{found}
+use Rattle.h5w_index.specs.Steps.{IsDeep, IsHeld, IsSet}
 use Rattle.h5w_index.specs.Views.{HasSlot, IndexView, IsReached, IsSound, address_in}
 use Rattle.h5w_index.specs.Naming.{AreNamed, AreTakenBehind}
 use Rattle.h5w_index.specs.Placing.{AreInside, Fits, IsPartly, next_key}
@@ -294,26 +295,10 @@ full_of (plan.Full f) full P is told = let same : f ≡ full = cc in subst P sam
 full_of plan.OutOfMemory full P is told = absurd cc
 
 -- where the index has room there are no other causes
-pub shallow_causes : {T : Type 0} (e : FlushError) (r : Result T FlushError) → r ≡ Err e → IsSpace e ⊎ ((e ≡ flushes.Deep) ⊎ ((e ≡ flushes.Failed) ⊎ (e ≡ flushes.OutOfMemory))) → (e ≡ flushes.Deep → ⊥)
-    → IfErr r (λ f. IsSpace f ⊎ ((f ≡ flushes.Failed) ⊎ (f ≡ flushes.OutOfMemory)))
+pub shallow_causes : {T : Type 0} (e : FlushError) (r : Result T FlushError) → r ≡ Err e → IsSpace e ⊎ ((e ≡ flushes.Deep) ⊎ (e ≡ flushes.OutOfMemory)) → (e ≡ flushes.Deep → ⊥) → IfErr r (λ f. IsSpace f ⊎ (f ≡ flushes.OutOfMemory))
 shallow_causes e r is (inl space) shallow = rw is (inl space)
 shallow_causes e r is (inr (inl deep)) shallow = absurd (shallow deep)
-shallow_causes e r is (inr (inr others)) shallow = rw is (inr others)
-
--- and with them alone it is refused for no want of room there
-pub causes_shallow : {T : Type 0} (r : Result T FlushError) → IfErr r (λ f. IsSpace f ⊎ ((f ≡ flushes.Failed) ⊎ (f ≡ flushes.OutOfMemory))) → r ≡ Err flushes.Deep → ⊥
-causes_shallow {T} r causes is = go (subst (λ (x : Result T FlushError). IfErr x (λ f. IsSpace f ⊎ ((f ≡ flushes.Failed) ⊎ (f ≡ flushes.OutOfMemory)))) is causes)
-  where
-    go : IsSpace flushes.Deep ⊎ ((flushes.Deep ≡ flushes.Failed) ⊎ (flushes.Deep ≡ flushes.OutOfMemory)) → ⊥
-    go (inl space) = let clash : flushes.Deep ≡ flushes.Space space.0 = space.1 in cc
-    go (inr (inl failed)) = cc
-    go (inr (inr memory)) = cc
-
-pub causes_wider : {T : Type 0} (r : Result T FlushError) → IfErr r (λ f. IsSpace f ⊎ ((f ≡ flushes.Failed) ⊎ (f ≡ flushes.OutOfMemory)))
-    → IfErr r (λ f. IsSpace f ⊎ ((f ≡ flushes.Deep) ⊎ ((f ≡ flushes.Failed) ⊎ (f ≡ flushes.OutOfMemory))))
-causes_wider (Ok x) causes = tt
-causes_wider (Err e) (inl space) = inl space
-causes_wider (Err e) (inr others) = inr (inr others)
+shallow_causes e r is (inr (inr memory)) shallow = rw is (inr memory)
 
 -- a place in the index is refused for want of room there, or of memory
 pub insert_causes : {T : Type 0} (e : InsertError) (r : Result T FlushError) → r ≡ Err (insert_fault e) → IfErr r (λ f. IsSpace f ⊎ ((f ≡ flushes.Deep) ⊎ (f ≡ flushes.OutOfMemory)))

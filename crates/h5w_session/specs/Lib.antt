@@ -22,9 +22,12 @@ pub mod Loads
 pub mod Reaches
 pub mod Past
 pub mod Stands
+pub mod PartOf
+pub mod Told
 pub mod Openings
 pub mod Flushes
 pub mod Starts
+pub mod Halves
 pub mod Room
 pub mod Laws
 pub mod Finding

@@ -1,6 +1,6 @@
 //! What waits for a flush, and what was planned.
 ghost use Rattle.std.specs.Prelude.{◌≡◌, ◌≤◌, ◌+◌, length, vec_capacity};
-ghost use Rattle.h5w_session.specs.Backlogs.{IsPlanned};
+ghost use Rattle.h5w_session.specs.Backlogs.{AreIn, IsEmptied, IsPlanned, IsRefilled};
 
 use h5w_chunks::ChunkPlace;
 use h5w_model::Write;
@@ -25,6 +25,15 @@ pub struct Backlog {
     pub flushing: bool,
 }
 
+/// Rows that wait, out of their backlog: what that says of them.
+#[derive(Drop)]
+pub struct Rows {
+    pub waits: u64,
+    pub waiting: Cells,
+    pub early: u64,
+    pub chunks: Vec<ChunkPlace>,
+}
+
 impl Backlog {
     /// Plans these pieces, a flush of all rows that wait: they are pending then, and no row waits. Answers how many they are.
     pub fn commit_plan(&mut self, pieces: Vec<Write>) -> u64
@@ -40,5 +49,32 @@ impl Backlog {
         self.early = 0;
         self.flushing = true;
         self.plan.len() as u64
+    }
+
+    /// Takes the rows out: none waits then.
+    pub fn take_rows(&mut self) -> Rows
+        ensures rows { AreIn self.old result }
+        ensures left { IsEmptied self.old self.new }
+    {
+        let alloc = *self.chunks.allocator();
+        let rows = Rows {
+            waits: self.waits,
+            waiting: mem::replace(&mut self.waiting, Cells::new(alloc)),
+            early: self.early,
+            chunks: mem::replace(&mut self.chunks, Vec::new(alloc)),
+        };
+        self.waits = 0;
+        self.early = 0;
+        rows
+    }
+
+    /// Puts rows back in place of those that wait.
+    pub fn put_back(&mut self, rows: Rows)
+        ensures { IsRefilled self.old rows self.new }
+    {
+        self.waits = rows.waits;
+        self.waiting = rows.waiting;
+        self.early = rows.early;
+        self.chunks = rows.chunks;
     }
 }

@@ -1,0 +1,21 @@
+use Rattle.std.proofs.Common.{◌≡◌, ◌≤◌, ap, sym, subst, arith}
+use Rattle.h5w_space.specs.Space.{Space}
+use Rattle.h5w_session.specs.Sessions.{IsSession, Session}
+use Rattle.h5w_session.specs.Told.{told_of}
+use Rattle.h5w_session.proofs.PastLemmas.{ends_later}
+use Rattle.h5w_session.proofs.SessionFields.{session_of}
+use Rattle.h5w_session.proofs.state.WriterCore.tell.Goals as goal
+
+pub invariant_of-self : goal.invariant_of-self
+invariant_of-self c =
+    let i = c.self.inside in
+    let v = session_of i in
+    let t = c.replace.new.dest in
+    let same : t ≡ c.args.places = c.replace.ensures.after in
+    let less : i.places.end ≤ t.end = omega (arith, c.requires.rises, ap (λ (s : Space). s.end) same, ap (λ (s : Session). s.places.end) c.self.view_is) in (
+      subst (λ (s : Space). IsSession (told_of v c.args.root s)) (sym same) (subst (λ (s : Session). IsSession (told_of s c.args.root c.args.places)) (sym c.self.view_is) c.requires.session),
+      c.self.invariant.1,
+      record { sized = c.self.invariant.2.sized; within = ends_later i.places.end t.end i.backlog.plan.items less c.self.invariant.2.within },
+      c.self.invariant.3,
+      c.self.invariant.4,
+    )
