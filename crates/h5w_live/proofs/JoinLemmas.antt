@@ -1,6 +1,6 @@
 -- What a run comes to once its threads have ended, and its session was closed after them.
 use Rattle.std.proofs.Common.{◌≡◌, ℕ, ◌+◌, ◌*◌, ◌^◌, ◌<◌, ◌≤◌, List, [], ◌++◌, length, take, ℤ, Some, None, Result, Ok, Err, sym, ap, ◌∙◌, subst, arith, length-append}
-use Rattle.std.specs.Prelude.{All, IfOk, Option, drop, get_or}
+use Rattle.std.specs.Prelude.{All, IfOk, Option, drop, get_or, pos}
 use Rattle.h5w_model.specs.Agrees.{Agrees, FlushesAgree, ReaderAgrees, Run, values_in}
 use Rattle.h5w_model.specs.Logs.{Log, hist}
 use Rattle.h5w_model.specs.declared.piece.Write.{Write}
@@ -20,13 +20,13 @@ use Rattle.h5w_live_laws.proofs.PollLemmas.{poll_laws}
 use Rattle.h5w_live_reading.specs.Ends.{EndWith, ReadersEnd}
 use Rattle.h5w_live_reading.specs.Reading.{Polled}
 use Rattle.h5w_live_reading.proofs.PartLemmas.{parts_both}
-use Rattle.h5w_live.specs.Reports.{AreWhole, BesideEnds, HasPutAll, IsBeside, IsCause, IsShut, Joined, PartAgrees, PartJoined, Ran, Reports, TellPart, TellSeats, TellsNone, TellsSeat, before_close, run_of}
+use Rattle.h5w_live.specs.Reports.{AreWhole, BesideEnds, HasPutAll, IsBeside, IsShut, Joined, PartAgrees, PartJoined, Ran, Reports, TellPart, TellSeats, TellsSeat, before_close, run_of}
 use Rattle.h5w_live.specs.Writing.{HasClosed, HasFlushed}
 use Rattle.h5w_live_reading.specs.declared.actors.AllEnded.{AllEnded}
 use Rattle.h5w_live_reading.specs.declared.actors.Cut.{Cut}
 use Rattle.h5w_live_reading.specs.declared.actors.Cut.TheVariants as cuts
 use Rattle.h5w_live.specs.declared.report.LiveError.{LiveError}
-use Rattle.h5w_live.specs.declared.report.LiveError.TheVariants as lives
+use Rattle.h5w_live.specs.declared.report.LiveReport.{LiveReport}
 use Rattle.h5w_live.specs.declared.threads.Beside.{Beside}
 use Rattle.h5w_live.specs.declared.threads.Written.{Written}
 use Rattle.h5w_live.proofs.EndLemmas.{first_is}
@@ -87,7 +87,7 @@ module _ (i : ImageId) (s : Session) (v : SeatView) (fs : List FlushLine) (r : R
       let g = reader_rules j.file.name j.attempts in
       poll_laws.none_stray g j.flushed.writes.log s1.reader (created_writes j.file) s1.strays.between note.seen s1.strays.lines s1.strays.next
       (restful j.file s v j.attempts j.flushed.writes j.some) (omega (arith, first)) (begins_log note.seen begins)
-      (subst (λ (b : List ℕ). TellPolls g b s1.reader 1 None (created_writes j.file) s1.strays.lines s1.strays.next s1.strays.between) (sym start) s1.strays.tell)
+      (subst (λ (b : List ℕ). TellPolls g b s1.reader 1 None (pos 0) (created_writes j.file) s1.strays.lines s1.strays.next s1.strays.between) (sym start) s1.strays.tell)
       (subst (λ (b : List ℕ). IsStray g b s1.strays.next s1.strays.between note.seen) (sym start) s1.strays.stray)
 
 -- notes of what begins the beginning of a list
@@ -253,6 +253,9 @@ ran_of i w r b f most bs given name attempts readers mirrors calls seats before 
       (subst (λ k. IsBeside (reader_rules name attempts) i k calls mirrors (created_writes f) b) count (subst (λ (ws : List Write). IsBeside (reader_rules name attempts) i seats calls mirrors ws b) begun beside));
 }
 
-pub if_ok : {A E : Type 0} (P Q : A → Type 0) (r : Result A E) → ((a : A) → P a → Q a) → IfOk r P → IfOk r Q
-if_ok P Q (Ok a) h p = h a p
-if_ok P Q (Err e) h p = tt
+-- what a report says, part by part
+pub all_told : (f : CreatedFile) (bs : List (List ℤ)) (attempts readers calls : ℕ) (result : Result LiveReport LiveError) → IfOk result (Reports f bs attempts readers calls)
+    → IfOk result (λ r. Agrees (run_of f attempts readers calls bs r.flushes) bs r.polls) × IfOk result (λ r. AreWhole f.name f.columns r.journal.writes (values_in bs) 0 r.flushes)
+    × IfOk result (λ r. IsShut f.name f.columns r.journal.writes (values_in bs)) × IfOk result (λ r. TellSeats f attempts readers calls (before_close r.journal.writes) r.polls)
+all_told f bs attempts readers calls (Ok r) h = (h.agrees, h.whole, h.shut, h.seats)
+all_told f bs attempts readers calls (Err e) h = (tt, tt, tt, tt)

@@ -1,5 +1,5 @@
 -- The notes of readers, which the writer's seat meets one after another.
-use Rattle.std.proofs.Common.{◌≡◌, ℕ, zero, suc, List, [], ◌∷◌, ◌++◌, length, sym, refl, ap, ◌∙◌, subst, arith, append_assoc, append-nil}
+use Rattle.std.proofs.Common.{◌≡◌, zero, suc, List, [], ◌∷◌, ◌++◌, length, sym, refl, ap, ◌∙◌, subst, arith, append_assoc, append-nil}
 use Rattle.std.specs.Prelude.{All}
 use Rattle.h5w_shared.specs.Seats.{NoteView, SeatView}
 use Rattle.h5w_shared.specs.Turns.{StartsWith}

@@ -1,5 +1,6 @@
 -- The lines of one reader of a run.
 use Rattle.std.proofs.Common.{◌≡◌, ℕ, ◌+◌, ◌≤◌, List, [], ◌∷◌, length, Option, None, arith}
+use Rattle.std.specs.Prelude.{ℤ, pos}
 use Rattle.h5w_model.specs.Agrees.{ReaderAgrees, Run}
 use Rattle.h5w_model.specs.Logs.{Log, hist}
 use Rattle.h5w_model.specs.Tables.{Reading}
@@ -11,7 +12,7 @@ use Rattle.h5w_creation_laws.specs.CreatedFiles.{CreatedFile, created_writes}
 use Rattle.h5w_shared.specs.Turns.{StartsWith}
 use Rattle.h5w_shared.proofs.Beginnings.{starts_length}
 use Rattle.h5w_live_laws.specs.Laws.{IsRunOf}
-use Rattle.h5w_live_laws.specs.Polls.{TellPolls}
+use Rattle.h5w_live_laws.specs.Polls.{TellPolls, told_after}
 use Rattle.h5w_live_laws.proofs.PollLemmas.{poll_laws, tell_starts}
 use Rattle.h5w_live_reading.specs.Reading.{Polled}
 use Rattle.h5w_live.specs.Reports.{EndBy, TellsSeat}
@@ -29,12 +30,12 @@ reader_agrees g log run reader before after lines is first some starts p =
     agrees_behind run reader 1 run.first (length before) 0 lines some (poll_laws.agree g log run reader before after lines p.next is (omega (arith, first, some)) starts p.tell)
 
 -- no call ended behind what its seat had seen in the end
-ends_by : (g : ReaderRules) (start : List ℕ) (reader call : ℕ) (known : Option Reading) (before : List Write) (lines : List PollLine) (next : Option Reading) (after : List Write) (most : ℕ) → length after ≤ most
-    → TellPolls g start reader call known before lines next after → EndBy most lines
-ends_by g start reader call known before [] next after most low h = tt
-ends_by g start reader call known before (line ∷ lines) next after most low h =
-    let longer = starts_length after h.1 (tell_starts g start reader (call + 1) h.0 h.1 lines next after h.3) in
-    (omega (arith, h.2.after_is, longer, low), ends_by g start reader (call + 1) h.0 h.1 lines next after most low h.3)
+ends_by : (g : ReaderRules) (start : List ℕ) (reader call : ℕ) (known : Option Reading) (told : ℤ) (before : List Write) (lines : List PollLine) (next : Option Reading) (after : List Write) (most : ℕ) → length after ≤ most
+    → TellPolls g start reader call known told before lines next after → EndBy most lines
+ends_by g start reader call known told before [] next after most low h = tt
+ends_by g start reader call known told before (line ∷ lines) next after most low h =
+    let longer = starts_length after h.1 (tell_starts g start reader (call + 1) h.0 (told_after told line.answer) h.1 lines next after h.3) in
+    (omega (arith, h.2.after_is, longer, low), ends_by g start reader (call + 1) h.0 (told_after told line.answer) h.1 lines next after most low h.3)
 
 pub tells_seat : (f : CreatedFile) (attempts reader : ℕ) (pieces seen : List Write) (lines : List PollLine) → StartsWith pieces seen → Polled (reader_rules f.name attempts) [] reader (created_writes f) seen lines
     → TellsSeat f attempts reader pieces lines
@@ -42,5 +43,5 @@ tells_seat f attempts reader pieces seen lines begins polled = record {
   seen = seen;
   begins = begins;
   polled = polled;
-  within = ends_by (reader_rules f.name attempts) [] reader 1 None (created_writes f) lines polled.next seen (length pieces) (starts_length pieces seen begins) polled.tell;
+  within = ends_by (reader_rules f.name attempts) [] reader 1 None (pos 0) (created_writes f) lines polled.next seen (length pieces) (starts_length pieces seen begins) polled.tell;
 }

@@ -7,8 +7,8 @@ use Rattle.h5w_model.specs.Tables.{format_limits, limit_of}
 use Rattle.h5w_model.specs.declared.piece.Write.{Write}
 use Rattle.h5w_model.specs.declared.report.FlushLine.{FlushLine}
 use Rattle.h5w_model.specs.declared.root.Super.{Super}
-use Rattle.h5w_creation_laws.specs.CreatedFiles.{CreatedFile, IsCreatable, created_writes, described_of}
-use Rattle.h5w_session.specs.Creations.{log_of}
+use Rattle.h5w_creation_laws.specs.CreatedFiles.{CreatedFile, IsCreatable, created_log, created_writes, described_of}
+use Rattle.h5w_session.specs.Creations.{IsCreated, log_of}
 use Rattle.h5w_session.specs.Loads.{NoPlace}
 use Rattle.h5w_session.specs.Refusals.{IsFullFor}
 use Rattle.h5w_session.specs.Sessions.{Session, with_rows}
@@ -89,6 +89,12 @@ pub record Writes (f : CreatedFile) (s : Session) (v : SeatView) : Type 0 where
   pub begun : length (created_writes f) ≤ length v.seen
   pub name : s.name ≡ f.name
   pub dataset : s.dataset ≡ with_rows s.dataset.shape.rows (described_of f)
+
+-- The session is about to create this file, which may have so many bytes: the pieces of the creation are pending.
+pub record IsCreating (f : CreatedFile) (most : ℕ) (s : Session) : Type 0 where
+  pub is : IsCreatable f
+  pub created : IsCreated f most s
+  pub stands : Stands s (created_log f)
 
 -- Values were appended, and what was written of them early became visible: nothing is pending.
 pub record HasAppended (values : List ℤ) (early : List Write) (s t : Session) (v x : SeatView) : Type 0 where

@@ -1,14 +1,15 @@
 //! A file that is created in memory and shared: its session, what writes it, and maybe a second image that follows it.
-ghost use Rattle.std.specs.Prelude.{◌≡◌, ◌<◌, ◌≤◌, [], length, IfErr, IfNone, IfOk, IfSome, OnErr, OnOk, Err};
-ghost use Rattle.h5w_model.specs.declared.report.FlushLine.{FlushLine};
+ghost use Rattle.std.specs.Prelude.{◌≡◌, ℕ, ◌<◌, [], IfNone, IfOk, IfSome, OnOk, Err};
 ghost use Rattle.h5w_options.specs.Options.{AreOptions};
+ghost use Rattle.h5w_creation_laws.specs.CreatedFiles.{CreatedFile};
 ghost use Rattle.h5w_replica.specs.Batches.{AreShort};
 ghost use Rattle.h5w_session.specs.Creations.{new_file};
 ghost use Rattle.h5w_shared.specs.Seats.{note_of};
 ghost use Rattle.h5w_live.specs.Seconds.{IsSecondOf};
-ghost use Rattle.h5w_live.specs.Writing.{HasFlushed, HasRoom};
+ghost use Rattle.h5w_live.specs.Writing.{HasFlushed, IsCreating};
 
 use crate::following::{Second, caught_up};
+use crate::release::{release_image, release_pen, release_second, release_session};
 use crate::report::Loss;
 use crate::writing::show;
 use h5w_image::{ImageError, Journal, MemImage, OpenGate};
@@ -50,6 +51,19 @@ fn images(alloc: Global, mirrors: u32) -> Result<(SharedImage, Pen, Option<Secon
     Ok((first, Pen::fed(feed), Some(second)))
 }
 
+/// Why nothing comes of what this writes.
+fn loss_of(error: ImageError, seat: Pen) -> Loss
+    requires { error ≡ ImageError.Failed → 0 < seat.faults }
+{
+    match error {
+        ImageError::OutOfMemory => {
+            release_pen(seat);
+            Loss::OutOfMemory
+        }
+        ImageError::Failed => Loss::Failed(seat.worn()),
+    }
+}
+
 /// A copy of all pieces, and a note of them. What writes comes back.
 pub fn copied<R: Wait>(
     rt: &R,
@@ -64,8 +78,7 @@ pub fn copied<R: Wait>(
 {
     match seat.journal(rt, image) {
         Ok((journal, note)) => Ok((seat, journal, note)),
-        Err(ImageError::OutOfMemory) => Err(Loss::OutOfMemory),
-        Err(ImageError::Failed) => Err(Loss::Failed(seat.worn())),
+        Err(error) => Err(loss_of(error, seat)),
     }
 }
 
@@ -83,9 +96,102 @@ fn second_created<R: Wait>(
     ensures second { IfOk result (λ r. IsSecondOf image.now r.1) }
     ensures has { IfOk result (λ r. r.1.follow.second.seen ≡ seat.seen) }
 {
-    let (seat, journal, note) = copied(rt, image, seat)?;
-    let second = caught_up(rt, image, second, &journal, note)?;
-    Ok((seat, second))
+    let (seat, journal, note) = match copied(rt, image, seat) {
+        Ok(copied) => copied,
+        Err(loss) => {
+            release_second(Some(second));
+            return Err(loss);
+        }
+    };
+    match caught_up(rt, image, second, &journal, note) {
+        Ok(second) => Ok((seat, second)),
+        Err(loss) => {
+            release_pen(seat);
+            Err(loss)
+        }
+    }
+}
+
+/// A second image, if there is one, gets the pieces of the creation.
+fn both_created<R: Wait>(
+    rt: &R,
+    image: SharedImage,
+    seat: Pen,
+    second: Option<Second>,
+) -> Result<(SharedImage, Pen, Option<Second>), Loss>
+    requires image { seat.image ≡ image }
+    requires second { IfSome second (IsSecondOf image) }
+    requires empty { IfSome second (λ s. s.follow.second.seen ≡ []) }
+    ensures image { IfOk result (λ r. r.0 ≡ image) }
+    ensures seat { IfOk result (λ r. r.1 ≡ seat) }
+    ensures second { IfOk result (λ r. IfSome r.2 (IsSecondOf image)) }
+    ensures has { IfOk result (λ r. IfSome r.2 (λ s. s.follow.second.seen ≡ seat.seen)) }
+    ensures none { (n : ℕ) → IfNone second (n ≡ 0) → IfOk result (λ r. IfNone r.2 (n ≡ 0)) }
+{
+    let Some(second) = second else {
+        return Ok((image, seat, None));
+    };
+    match second_created(rt, &image, seat, second) {
+        Ok((seat, second)) => Ok((image, seat, Some(second))),
+        Err(loss) => {
+            release_image(image);
+            Err(loss)
+        }
+    }
+}
+
+/// The pieces of the creation become visible.
+fn show_created<R: Wait>(
+    rt: &R,
+    image: &SharedImage,
+    seat: &mut Pen,
+    session: &mut WriterCore,
+) -> Result<(), ImageError>
+    requires image { seat.old.image ≡ image.now }
+    requires start { image.now.start ≡ [] }
+    requires seen { seat.old.seen ≡ [] }
+    requires creates { (f : CreatedFile) × (most : ℕ) × IsCreating f most session.old }
+    ensures image { seat.new.image ≡ image.now }
+    ensures created { (f : CreatedFile) (most : ℕ) → IsCreating f most session.old → OnOk result (HasFlushed f most [] session.new seat.new []) }
+    ensures failed { result ≡ Err ImageError.Failed → 0 < seat.new.faults }
+{
+    match seat.reserve(rt, image, session.pending() + 1, session.end()) {
+        Ok(()) => {}
+        Err(error) => return Err(error),
+    }
+    match show(rt, image, seat, session, &OpenGate, 0) {
+        Ok(()) => Ok(()),
+        Err(_) => Err(ImageError::Failed),
+    }
+}
+
+/// An image that has the pieces of the creation, with what writes it. Where readers are to look at a second image, that one has these
+/// pieces too.
+fn shared<R: Wait>(
+    rt: &R,
+    alloc: Global,
+    session: &mut WriterCore,
+    mirrors: u32,
+) -> Result<(SharedImage, Pen, Option<Second>), Loss>
+    requires { (f : CreatedFile) × (most : ℕ) × IsCreating f most session.old }
+    ensures image { IfOk result (λ r. r.1.image ≡ r.0) }
+    ensures created { (f : CreatedFile) (most : ℕ) → IsCreating f most session.old → IfOk result (λ r. HasFlushed f most [] session.new r.1 []) }
+    ensures second { IfOk result (λ r. IfSome r.2 (IsSecondOf r.0)) }
+    ensures has { IfOk result (λ r. IfSome r.2 (λ s. s.follow.second.seen ≡ r.1.seen)) }
+    ensures none { IfOk result (λ r. IfNone r.2 (mirrors ≡ 0)) }
+{
+    let (image, mut seat, second) = match images(alloc, mirrors) {
+        Ok(made) => made,
+        Err(error) => return Err(error.into()),
+    };
+    match show_created(rt, &image, &mut seat, session) {
+        Ok(()) => both_created(rt, image, seat, second),
+        Err(error) => {
+            release_image(image);
+            release_second(second);
+            Err(loss_of(error, seat))
+        }
+    }
 }
 
 /// A session that created a file by these options, and the image that has the pieces of the creation, with what writes it. Where readers are to
@@ -103,20 +209,15 @@ pub fn create<R: Wait>(
     ensures has { IfOk result (λ r. IfSome r.3 (λ s. s.follow.second.seen ≡ r.1.seen)) }
     ensures none { IfOk result (λ r. IfNone r.3 (mirrors ≡ 0)) }
 {
-    let mut session = WriterCore::create(alloc, options)?;
-    let (image, mut seat, second) = images(alloc, mirrors)?;
-    match seat.reserve(rt, &image, session.pending() + 1, session.end()) {
-        Ok(()) => {}
-        Err(ImageError::OutOfMemory) => return Err(Loss::OutOfMemory),
-        Err(ImageError::Failed) => return Err(Loss::Failed(seat.worn())),
-    }
-    match show(rt, &image, &mut seat, &mut session, &OpenGate, 0) {
-        Ok(()) => {}
-        Err(_) => return Err(Loss::Failed(seat.worn())),
-    }
-    let Some(second) = second else {
-        return Ok((image, seat, session, None));
+    let mut session = match WriterCore::create(alloc, options) {
+        Ok(session) => session,
+        Err(error) => return Err(error.into()),
     };
-    let (seat, second) = second_created(rt, &image, seat, second)?;
-    Ok((image, seat, session, Some(second)))
+    match shared(rt, alloc, &mut session, mirrors) {
+        Ok((image, seat, second)) => Ok((image, seat, session, second)),
+        Err(loss) => {
+            release_session(session);
+            Err(loss)
+        }
+    }
 }

@@ -13,6 +13,7 @@ ghost use Rattle.h5w_live.specs.Writing.{Explains, HasClosed, HasFlushed, first_
 use crate::creating::copied;
 use crate::following::{Second, caught_up};
 use crate::lists::{FlushLines, PollLines};
+use crate::release::{release_beside, release_ended, release_pen, release_second, release_session};
 use crate::report::{LiveError, LiveReport, Loss, lost};
 use crate::seconds::second_judged;
 use crate::threads::{Beside, Written};
@@ -31,6 +32,10 @@ fn halted(batch: u64, halt: Halt, seat: Pen) -> LiveError
     requires { halt ≡ Halt.Failed → 0 < seat.faults }
     ensures { (f : CreatedFile) (most : ℕ) (bs : List (List ℤ)) → Explains f most bs batch halt → IsCause f most bs result }
 {
+    if let Halt::Failed = halt {
+        return LiveError::Failed(seat.worn());
+    }
+    release_pen(seat);
     match halt {
         Halt::OutOfRange { index, value } => LiveError::OutOfRange {
             batch,
@@ -40,7 +45,7 @@ fn halted(batch: u64, halt: Halt, seat: Pen) -> LiveError
         Halt::Chunks { chunks, limit } => LiveError::Chunks { chunks, limit },
         Halt::Space(full) => LiveError::Space(full),
         Halt::OutOfMemory => LiveError::OutOfMemory,
-        Halt::Failed => LiveError::Failed(seat.worn()),
+        Halt::Failed => unreachable!(),
     }
 }
 
@@ -98,14 +103,26 @@ fn all_judged(
     ensures seats { (s : Session) (fs : List FlushLine) (j : Joined image.now s seat.old fs ended beside) → IfOk result (λ r. TellSeats j.file j.attempts (j.readers + j.mirrors) j.calls seat.old.seen r.0.items) }
     ensures second { IfOk result (λ r. IfSome r.1 (IsSecondOf image.now)) }
 {
-    let mut lines = judged(image, seat, ended)?;
+    let mut lines = match judged(image, seat, ended) {
+        Ok(lines) => lines,
+        Err(loss) => {
+            release_beside(beside);
+            return Err(loss);
+        }
+    };
     let Some(Beside { second, ended }) = beside else {
         return Ok((lines, None));
     };
-    let (second, mut others) = second_judged(image, seat, second, ended)?;
+    let (second, mut others) = match second_judged(image, seat, second, ended) {
+        Ok(judged) => judged,
+        Err(loss) => return Err(loss),
+    };
     match lines.append(&mut others) {
         Ok(()) => Ok((lines, Some(second))),
-        Err(_) => Err(Loss::OutOfMemory),
+        Err(_) => {
+            release_second(Some(second));
+            Err(Loss::OutOfMemory)
+        }
     }
 }
 
@@ -139,11 +156,24 @@ fn left<R: Wait>(
     requires second { IfSome second (IsSecondOf image.now) }
     ensures { IfOk result (λ journal. journal.writes ≡ seat.seen) }
 {
-    let (_, journal, note) = copied(rt, image, seat)?;
-    if let Some(second) = second {
-        caught_up(rt, image, second, &journal, note)?;
+    let (seat, journal, note) = match copied(rt, image, seat) {
+        Ok(copied) => copied,
+        Err(loss) => {
+            release_second(second);
+            return Err(loss);
+        }
+    };
+    release_pen(seat);
+    let Some(second) = second else {
+        return Ok(journal);
+    };
+    match caught_up(rt, image, second, &journal, note) {
+        Ok(second) => {
+            release_second(Some(second));
+            Ok(journal)
+        }
+        Err(loss) => Err(loss),
     }
-    Ok(journal)
 }
 
 /// Takes in what the readers left, then closes the session, and reports.
@@ -160,8 +190,20 @@ fn reported<R: Wait>(
     requires joined { Joined image.now session.old seat flushes.items ended beside }
     ensures { (j : Joined image.now session.old seat flushes.items ended beside) → IfOk result (λ report. Reports j.file j.batches j.attempts (j.readers + j.mirrors) j.calls report) }
 {
-    let (polls, second) = all_judged(image, &mut seat, ended, beside)?;
-    let seat = shut(rt, image, seat, session)?;
+    let (polls, second) = match all_judged(image, &mut seat, ended, beside) {
+        Ok(judged) => judged,
+        Err(loss) => {
+            release_pen(seat);
+            return Err(loss);
+        }
+    };
+    let seat = match shut(rt, image, seat, session) {
+        Ok(seat) => seat,
+        Err(loss) => {
+            release_second(second);
+            return Err(loss);
+        }
+    };
     let journal = left(rt, image, seat, second)?;
     Ok(LiveReport {
         journal,
@@ -190,7 +232,11 @@ fn settled<R: Wait>(
             Ok(report) => Ok(report),
             Err(loss) => Err(lost(loss)),
         },
-        Err((batch, halt)) => Err(halted(batch, halt, seat)),
+        Err((batch, halt)) => {
+            release_ended(ended);
+            release_beside(beside);
+            Err(halted(batch, halt, seat))
+        }
     }
 }
 
@@ -213,5 +259,7 @@ pub fn finish<R: Wait>(
         mut session,
         lines,
     } = written;
-    settled(rt, image, seat, &mut session, lines, ended, beside)
+    let report = settled(rt, image, seat, &mut session, lines, ended, beside);
+    release_session(session);
+    report
 }

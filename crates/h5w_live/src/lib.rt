@@ -10,6 +10,7 @@ mod creating;
 mod following;
 mod joining;
 mod lists;
+mod release;
 mod report;
 mod running;
 mod seated;

@@ -9,6 +9,7 @@ ghost use Rattle.h5w_live.specs.Writing.{AreBatches, first_refused};
 use crate::creating::create;
 use crate::joining::finish;
 use crate::lists::Batches;
+use crate::release::{release_pen, release_second, release_session};
 use crate::report::{LiveError, LiveReport, lost};
 use crate::threads::{run_all, seats};
 use h5w_image::Gate;
@@ -55,15 +56,18 @@ pub fn live<R: Threads + Wait + Sync, G: Gate>(
         Err(loss) => return Err(lost(loss)),
     };
     let Ok(seats) = seats(alloc, &image, &mut seat, readers) else {
+        release_session(session);
+        release_pen(seat);
+        release_second(second);
         return Err(LiveError::OutOfMemory);
     };
     let name = options.name.as_slice();
     let batches = batches.as_slice();
-    let Ok((written, ended, beside)) = run_all(
+    match run_all(
         rt, alloc, &image, seat, session, seats, second, mirrors, batches, name, attempts, polls,
         gate,
-    ) else {
-        return Err(LiveError::OutOfMemory);
-    };
-    finish(rt, &image, written, ended, beside)
+    ) {
+        Ok((written, ended, beside)) => finish(rt, &image, written, ended, beside),
+        Err(error) => Err(lost(error.into())),
+    }
 }

@@ -12,6 +12,7 @@ ghost use Rattle.h5w_live.specs.Seconds.{IsSecondOf};
 ghost use Rattle.h5w_live.specs.Writing.{AreBatches, HasFlushed};
 
 use crate::following::{Second, follow_all};
+use crate::release::{release_pen, release_second, release_session};
 use crate::writer::put_all;
 use crate::writing::Halt;
 use h5w_image::Gate;
@@ -328,7 +329,15 @@ pub fn run_all<R: Threads + Wait + Sync, G: Gate>(
         );
         return Ok((written, ended, None));
     };
-    let others = other_seats(alloc, &other, &mut follow, mirrors)?;
+    let Ok(others) = other_seats(alloc, &other, &mut follow, mirrors) else {
+        release_session(session);
+        release_pen(seat);
+        release_second(Some(Second {
+            image: other,
+            follow,
+        }));
+        return Err(OutOfMemory);
+    };
     let before = seats.len() as u32;
     let (follow, ((written, first), ended)) = run_mirrored(
         rt, alloc, image, seat, session, seats, &other, follow, others, before, batches, name,

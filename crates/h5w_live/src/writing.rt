@@ -29,8 +29,8 @@ pub enum Halt {
     OutOfMemory,
 }
 
-/// All pending pieces become visible, one after another. Before the last of them the writer comes to its turn of this number. Where the
-/// seat fails, the session is stopped.
+/// All pending pieces become visible, one after another; where a second image follows, they are sent to it then. Before the last of them the
+/// writer comes to its turn of this number. Where the seat fails, the session is stopped.
 pub fn show<R: Wait, G: Gate>(
     rt: &R,
     image: &SharedImage,
@@ -62,6 +62,7 @@ pub fn show<R: Wait, G: Gate>(
             }
         }
     }
+    seat.send(image);
     Ok(())
 }
 

@@ -1,5 +1,5 @@
 -- How the calls of readers agree with the lines of a writer's flushes.
-use Rattle.std.specs.Prelude.{◌≡◌, ◌⊎◌, ℕ, ◌≤◌, List, length, take, Option, Some, None, Ok, Err}
+use Rattle.std.specs.Prelude.{◌≡◌, ◌⊎◌, ℕ, ◌≤◌, List, length, take, Option, Some, None, Ok, Err, pos}
 use Rattle.std.specs.Int.{w128}
 use Rattle.std.specs.Int.RustNames.{FitsSigned}
 use Rattle.h5w_model.specs.Agrees.{ReaderAgrees, Run, total}
@@ -7,7 +7,7 @@ use Rattle.h5w_model.specs.Logs.{Log, hist, appended}
 use Rattle.h5w_model.specs.Prefixed.{IsPosition, image_at}
 use Rattle.h5w_model.specs.Programs.{Takes}
 use Rattle.h5w_model.specs.Tables.{Reading, Shows, format_limits}
-use Rattle.h5w_model.specs.Unfinished.{ReaderRules, rows_program, values_program}
+use Rattle.h5w_model.specs.Unfinished.{ReaderRules, rows_program}
 use Rattle.h5w_model.specs.declared.piece.Write.{Write}
 use Rattle.h5w_model.specs.declared.refusal.ReadError.{ReadError}
 use Rattle.h5w_model.specs.declared.report.PollLine.{PollLine}
@@ -16,7 +16,7 @@ use Rattle.h5w_headline.specs.Headline.{Served, WithinLimits}
 use Rattle.h5w_shared.specs.Threads.{Sight}
 use Rattle.h5w_shared.specs.Turns.{StartsWith}
 use Rattle.h5w_live_laws.specs.Lines.{TellsFlushes}
-use Rattle.h5w_live_laws.specs.Polls.{LooksThrough, TellPolls, looks_in}
+use Rattle.h5w_live_laws.specs.Polls.{LooksThrough, TellPolls, looks_in, new_values}
 
 -- A log that readers can rest on, all of whose positions are within their limits.
 pub record Restful (g : ReaderRules) (log : Log) : Type 0 where
@@ -58,7 +58,7 @@ pub record IsRefusedRead (g : ReaderRules) (start : List ℕ) (known : Option Re
   pub answer : Takes (rows_program g known) (looks_in looks) (Ok reading)
   pub reads : List Sight
   pub read : LooksThrough start between after reads
-  pub gives : Takes (values_program (Some reading) 0 reading.dataset.shape.rows) (looks_in reads) (Err e)
+  pub gives : Takes (new_values known reading) (looks_in reads) (Err e)
 
 -- A call for rows was refused by another refusal than the one for a header that changed, or a read was refused.
 abbrev pub IsStray : ReaderRules → List ℕ → Option Reading → (before after : List Write) → Type 0
@@ -71,7 +71,7 @@ IsStray g start known before after =
 pub record PollLaws : Type 0 where
   pub agree : (g : ReaderRules) (log : Log) (run : Run) (reader : ℕ) (before after : List Write) (lines : List PollLine) (next : Option Reading)
       → IsRunOf g log run → log.first ≤ length before → StartsWith (hist log.events) after
-      → TellPolls g log.start reader 1 None before lines next after → ReaderAgrees run reader 1 (length before) 0 lines
+      → TellPolls g log.start reader 1 None (pos 0) before lines next after → ReaderAgrees run reader 1 (length before) 0 lines
   pub none_stray : (g : ReaderRules) (log : Log) (reader : ℕ) (before between after : List Write) (lines : List PollLine) (next : Option Reading)
       → Restful g log → log.first ≤ length before → StartsWith (hist log.events) after
-      → TellPolls g log.start reader 1 None before lines next between → IsStray g log.start next between after → ⊥
+      → TellPolls g log.start reader 1 None (pos 0) before lines next between → IsStray g log.start next between after → ⊥

@@ -6,7 +6,6 @@ use Rattle.h5w_model.specs.declared.piece.Write.{Write}
 use Rattle.h5w_model.specs.declared.report.PollLine.{PollLine}
 use Rattle.h5w_shared.specs.Seats.{ImageId, NoteView, SeatView}
 use Rattle.h5w_live_reading.specs.Ends.{EndWith, EndsWith, ReaderEnds, ReadersEnd, StraysWith}
-use Rattle.h5w_live_reading.specs.Reading.{Polled}
 use Rattle.h5w_live_reading.specs.declared.actors.AllEnded.{AllEnded}
 use Rattle.h5w_live_reading.specs.declared.actors.Cut.{Cut}
 use Rattle.h5w_live_reading.specs.declared.actors.Cut.TheVariants as cuts

@@ -1,7 +1,7 @@
 -- The calls of one reader of a run.
 use Rattle.std.proofs.Common.{◌≡◌, ◌<◌, ◌+◌, ℕ, zero, suc, List, [], ◌∷◌, ◌++◌, length, take, Option, Some, None, Result, Ok, Err, refl, sym, ap, ◌∙◌, subst, inl, inr, arith, length-append}
 use Rattle.std.proofs.lemmas.Int.{ints}
-use Rattle.std.specs.Prelude.{IsSome, option_map, ℤ, pos, ◌+ℤ◌, get_or}
+use Rattle.std.specs.Prelude.{◌-◌, IsSome, min, option_map, ℤ, pos, ◌+ℤ◌, get_or}
 use Rattle.std.specs.Int.{int_wrap, w128}
 use Rattle.h5w_model.specs.Agrees.{total}
 use Rattle.h5w_model.specs.Asked.{left_after}
@@ -15,9 +15,10 @@ use Rattle.h5w_model.specs.declared.refusal.ReadError.TheVariants as refusals
 use Rattle.h5w_model.specs.declared.report.PollLine.{PollLine}
 use Rattle.h5w_reader.specs.Readers.{BegunRead, IsRefused, new_reader}
 use Rattle.h5w_reader.specs.declared.step.Step.TheVariants as steps
-use Rattle.h5w_live_laws.specs.Polls.{AnswersPoll, FindsRows, GivesUpAfter, TellPolls, looks_in}
+use Rattle.h5w_shared.specs.Threads.{Sight}
+use Rattle.h5w_live_laws.specs.Polls.{AnswersPoll, FindsRows, GivesUpAfter, TellPolls, looks_in, new_values, sum_after, told_after}
 use Rattle.h5w_live_laws.specs.Laws.{IsStray}
-use Rattle.h5w_live_laws.proofs.PollLemmas.{tell_more}
+use Rattle.h5w_live_laws.proofs.PollLemmas.{sum_more, tell_more}
 use Rattle.h5w_live_reading.specs.Reading.{AnswersThrough, IsBegun, IsReady, ReadsThrough, Strays}
 
 -- ---- What is left of a call of a kind
@@ -41,35 +42,35 @@ no_rows (Some y) t e = cc
 -- ---- A read
 
 -- a read whose values are known without a look
-pub read_known : (start : List ℕ) (known : Option Reading) (rows : ℕ) (seen : List Write) (old new : Reader) (vs : List ℤ) → BegunRead (values_program known 0 rows) old (Some vs) new
-    → ReadsThrough start known rows seen seen (Ok vs)
-read_known start known rows seen old new vs begun = record { looks = []; looked = record { sights = tt; ends = refl }; gives = ap Some begun.1 }
+pub read_known : (start : List ℕ) (known : Option Reading) (from count : ℕ) (seen : List Write) (old new : Reader) (vs : List ℤ) → BegunRead (values_program known from count) old (Some vs) new
+    → ReadsThrough start known from count seen seen (Ok vs)
+read_known start known from count seen old new vs begun = record { looks = []; looked = record { sights = tt; ends = refl }; gives = ap Some begun.1 }
 
-module _ (start : List ℕ) (known : Option Reading) (rows : ℕ) (before after : List Write) (old begun new : Reader) (is : begun ≡ with_left old (Some (values_left (values_program known 0 rows)))) where
-  left : begun.left ≡ Some (values_left (values_program known 0 rows))
+module _ (start : List ℕ) (known : Option Reading) (from count : ℕ) (before after : List Write) (old begun new : Reader) (is : begun ≡ with_left old (Some (values_left (values_program known from count)))) where
+  left : begun.left ≡ Some (values_left (values_program known from count))
   left = ap (λ (r : Reader). r.left) is
 
-  pub read_gave : (vs : List ℤ) → AnswersThrough start before after begun (steps.Values vs) new → ReadsThrough start known rows before after (Ok vs)
+  pub read_gave : (vs : List ℤ) → AnswersThrough start before after begun (steps.Values vs) new → ReadsThrough start known from count before after (Ok vs)
   read_gave vs a =
-      let told = a.tells (values_left (values_program known 0 rows)) left in
-      record { looks = a.looks; looked = a.looked; gives = values_inside (rest_after (values_program known 0 rows) (looks_in a.looks)) (ret (Ok vs)) told.0 }
+      let told = a.tells (values_left (values_program known from count)) left in
+      record { looks = a.looks; looked = a.looked; gives = values_inside (rest_after (values_program known from count) (looks_in a.looks)) (ret (Ok vs)) told.0 }
 
   pub read_ended : (vs : List ℤ) → old.left ≡ None → AnswersThrough start before after begun (steps.Values vs) new → new ≡ old
   read_ended vs idle a =
-      let told = a.tells (values_left (values_program known 0 rows)) left in
+      let told = a.tells (values_left (values_program known from count)) left in
       told.1 ∙ ap (λ (r : Reader). with_left r None) is ∙ ap (λ l. with_left old l) (sym idle)
 
-  pub read_refused : (e : ReadError) → (e ≡ refusals.OutOfMemory → ⊥) → AnswersThrough start before after begun (steps.Refused e) new → (x : ReadError) × ReadsThrough start known rows before after (Err x)
-  read_refused e other a = go (a.tells (values_left (values_program known 0 rows)) left).0 where
-    go : IsRefused (left_after (looks_in a.looks) (values_left (values_program known 0 rows))) e → (x : ReadError) × ReadsThrough start known rows before after (Err x)
-    go (inl h) = absurd (no_values (rest_after (values_program known 0 rows) (looks_in a.looks)) (ret (Err e)) h)
-    go (inr (inl h)) = (e, record { looks = a.looks; looked = a.looked; gives = values_inside (rest_after (values_program known 0 rows) (looks_in a.looks)) (ret (Err e)) h })
+  pub read_refused : (e : ReadError) → (e ≡ refusals.OutOfMemory → ⊥) → AnswersThrough start before after begun (steps.Refused e) new → (x : ReadError) × ReadsThrough start known from count before after (Err x)
+  read_refused e other a = go (a.tells (values_left (values_program known from count)) left).0 where
+    go : IsRefused (left_after (looks_in a.looks) (values_left (values_program known from count))) e → (x : ReadError) × ReadsThrough start known from count before after (Err x)
+    go (inl h) = absurd (no_values (rest_after (values_program known from count) (looks_in a.looks)) (ret (Err e)) h)
+    go (inr (inl h)) = (e, record { looks = a.looks; looked = a.looked; gives = values_inside (rest_after (values_program known from count) (looks_in a.looks)) (ret (Err e)) h })
     go (inr (inr h)) = absurd (other h)
 
   pub read_no_rows : (n : ℕ) → AnswersThrough start before after begun (steps.Rows n) new → ⊥
   read_no_rows n a =
-      let told = a.tells (values_left (values_program known 0 rows)) left in
-      no_values (rest_after (values_program known 0 rows) (looks_in a.looks)) (ret (Ok told.0)) told.1
+      let told = a.tells (values_left (values_program known from count)) left in
+      no_values (rest_after (values_program known from count) (looks_in a.looks)) (ret (Ok told.0)) told.1
 
 -- ---- A call for rows
 
@@ -83,45 +84,52 @@ module _ (start : List ℕ) (before between : List Write) (old mid : Reader) (be
       let told = a.tells (rows_left (rows_program old.rules old.known)) begun.left in
       (ap (λ (r : Reader). r.left) told.3, told.2 ∙ sym (ap (λ (r : Reader). rows_seen r.known) told.3), ap (λ (r : Reader). r.rules) told.3)
 
-  pub poll_found : (after : List Write) (new : Reader) (n : ℕ) (vs : List ℤ) (sum : ℤ) → AnswersThrough start before between old (steps.Rows n) mid
-      → ReadsThrough start mid.known n between after (Ok vs) → new ≡ mid → sum ≡ int_wrap w128 (total vs) → FindsRows old.rules start old.known before after new.known n sum
-  poll_found after new n vs sum a read same sums =
-      let told = a.tells (rows_left (rows_program old.rules old.known)) begun.left in
-      let r = told.0 in
-      let known : mid.known ≡ Some r = ap (λ (r : Reader). r.known) told.3 in
+  -- what was taken on of the rows that were found
+  new_takes : (r : Reading) (n from : ℕ) (looks : List Sight) (a : Result (List ℤ) ReadError) → n ≡ r.dataset.shape.rows → mid.known ≡ Some r → from ≡ min (rows_seen old.known) n
+      → Takes (values_program mid.known from (n - from)) (looks_in looks) a → Takes (new_values old.known r) (looks_in looks) a
+  new_takes r n from looks a rows known skip takes =
+      subst (λ (m : ℕ). Takes (values_program (Some r) (min (rows_seen old.known) m) (m - min (rows_seen old.known) m)) (looks_in looks) a) rows
+      (subst (λ (k : ℕ). Takes (values_program (Some r) k (n - k)) (looks_in looks) a) skip
+      (subst (λ (k : Option Reading). Takes (values_program k from (n - from)) (looks_in looks) a) known takes))
+
+  pub poll_found : (after : List Write) (new : Reader) (n from : ℕ) (told : ℤ) (vs : List ℤ) (sum : ℤ) → AnswersThrough start before between old (steps.Rows n) mid
+      → ReadsThrough start mid.known from (n - from) between after (Ok vs) → from ≡ min (rows_seen old.known) n → new ≡ mid → sum ≡ int_wrap w128 (told +ℤ total vs)
+      → FindsRows old.rules start old.known told before after new.known n sum
+  poll_found after new n from told vs sum a read skip same sums =
+      let tells = a.tells (rows_left (rows_program old.rules old.known)) begun.left in
+      let r = tells.0 in
+      let known : mid.known ≡ Some r = ap (λ (r : Reader). r.known) tells.3 in
       record {
         between = between;
         looks = a.looks;
         looked = a.looked;
         reading = r;
-        answer = rows_inside (rest_after (rows_program old.rules old.known) (looks_in a.looks)) (ret (Ok r)) told.1;
+        answer = rows_inside (rest_after (rows_program old.rules old.known) (looks_in a.looks)) (ret (Ok r)) tells.1;
         reads = read.looks;
         read = read.looked;
         values = vs;
-        gives = subst (λ (k : Option Reading). Takes (values_program k 0 r.dataset.shape.rows) (looks_in read.looks) (Ok vs)) known
-            (subst (λ (m : ℕ). Takes (values_program mid.known 0 m) (looks_in read.looks) (Ok vs)) told.2 read.gives);
+        gives = new_takes r n from read.looks (Ok vs) tells.2 known skip read.gives;
         knows = ap (λ (r : Reader). r.known) same ∙ known;
-        rows_are = told.2;
+        rows_are = tells.2;
         sums = sums;
       }
 
-  pub poll_stray_read : (after : List Write) (n : ℕ) → AnswersThrough start before between old (steps.Rows n) mid
-      → (e : ReadError) × ReadsThrough start mid.known n between after (Err e) → IsStray old.rules start old.known before after
-  poll_stray_read after n a (e, read) =
-      let told = a.tells (rows_left (rows_program old.rules old.known)) begun.left in
-      let r = told.0 in
-      let known : mid.known ≡ Some r = ap (λ (r : Reader). r.known) told.3 in (
+  pub poll_stray_read : (after : List Write) (n from : ℕ) → AnswersThrough start before between old (steps.Rows n) mid → from ≡ min (rows_seen old.known) n
+      → (e : ReadError) × ReadsThrough start mid.known from (n - from) between after (Err e) → IsStray old.rules start old.known before after
+  poll_stray_read after n from a skip (e, read) =
+      let tells = a.tells (rows_left (rows_program old.rules old.known)) begun.left in
+      let r = tells.0 in
+      let known : mid.known ≡ Some r = ap (λ (r : Reader). r.known) tells.3 in (
         e,
         inr (record {
           between = between;
           looks = a.looks;
           looked = a.looked;
           reading = r;
-          answer = rows_inside (rest_after (rows_program old.rules old.known) (looks_in a.looks)) (ret (Ok r)) told.1;
+          answer = rows_inside (rest_after (rows_program old.rules old.known) (looks_in a.looks)) (ret (Ok r)) tells.1;
           reads = read.looks;
           read = read.looked;
-          gives = subst (λ (k : Option Reading). Takes (values_program k 0 r.dataset.shape.rows) (looks_in read.looks) (Err e)) known
-              (subst (λ (m : ℕ). Takes (values_program mid.known 0 m) (looks_in read.looks) (Err e)) told.2 read.gives);
+          gives = new_takes r n from read.looks (Err e) tells.2 known skip read.gives;
         }),
       )
 
@@ -173,21 +181,23 @@ total_next vs i within = ap (λ n. total (take n vs)) (let e : i + 1 ≡ suc i =
 -- ---- The calls of a reader
 
 -- so many calls were answered, and the next may begin
-pub record PollsTo (g : ReaderRules) (start : List ℕ) (reader : ℕ) (before : List Write) (call : ℕ) (r : Reader) (now : List Write) (lines : List PollLine) : Type 0 where
+pub record PollsTo (g : ReaderRules) (start : List ℕ) (reader : ℕ) (before : List Write) (call : ℕ) (r : Reader) (told : ℤ) (now : List Write) (lines : List PollLine) : Type 0 where
   pub ready : IsReady call r
   pub rules : r.rules ≡ g
   pub count : length lines ≡ call
-  pub tell : TellPolls g start reader 1 None before lines r.known now
+  pub told_is : told ≡ sum_after (pos 0) lines
+  pub tell : TellPolls g start reader 1 None (pos 0) before lines r.known now
 
-pub polls_first : (g : ReaderRules) (start : List ℕ) (reader : ℕ) (before : List Write) (r : Reader) (lines : List PollLine) → r ≡ new_reader g → IsSome (wanted r.left) → lines ≡ [] → PollsTo g start reader before 0 r before lines
-polls_first g start reader before r lines is wants none = subst (λ (ls : List PollLine). PollsTo g start reader before 0 r before ls) (sym none) (record {
+pub polls_first : (g : ReaderRules) (start : List ℕ) (reader : ℕ) (before : List Write) (r : Reader) (lines : List PollLine) → r ≡ new_reader g → IsSome (wanted r.left) → lines ≡ [] → PollsTo g start reader before 0 r (pos 0) before lines
+polls_first g start reader before r lines is wants none = subst (λ (ls : List PollLine). PollsTo g start reader before 0 r (pos 0) before ls) (sym none) (record {
   ready = record { left = ap (λ (x : Reader). x.left) is ∙ sym (ap (λ (x : Reader). Some (rows_left (rows_program x.rules x.known))) is); wants = wants };
   rules = ap (λ (x : Reader). x.rules) is;
   count = refl;
+  told_is = refl;
   tell = (ap (λ (x : Reader). x.known) is, refl);
 })
 
-module _ (g : ReaderRules) (start : List ℕ) (reader : ℕ) (before : List Write) (call : ℕ) (r mid : Reader) (now after : List Write) (lines : List PollLine) (p : PollsTo g start reader before call r now lines)
+module _ (g : ReaderRules) (start : List ℕ) (reader : ℕ) (before : List Write) (call : ℕ) (r mid : Reader) (told : ℤ) (now after : List Write) (lines : List PollLine) (p : PollsTo g start reader before call r told now lines)
     (rules : mid.rules ≡ r.rules) (known : mid.known ≡ r.known) where
   pub polls_stray : IsStray mid.rules start mid.known now after → Strays g start reader before after
   polls_stray stray = record {
@@ -198,18 +208,20 @@ module _ (g : ReaderRules) (start : List ℕ) (reader : ℕ) (before : List Writ
     stray = subst (λ (k : Option Reading). IsStray g start k now after) known (subst (λ (x : ReaderRules). IsStray x start mid.known now after) (rules ∙ p.rules) stray);
   }
 
-  pub polls_more : (new : Reader) (line : PollLine) (items : List PollLine) → AnswersPoll mid.rules start mid.known now after new.known line.answer → new.left ≡ None → new.rules ≡ mid.rules
-      → line.reader ≡ reader → line.poll ≡ call + 1 → line.before ≡ length now → line.after ≡ length after → items ≡ lines ++ line ∷ [] → PollsTo g start reader before (call + 1) new after items
-  polls_more new line items answers idle same reader_is poll_is before_is after_is is = subst (λ (ls : List PollLine). PollsTo g start reader before (call + 1) new after ls) (sym is) (record {
+  pub polls_more : (new : Reader) (line : PollLine) (items : List PollLine) → AnswersPoll mid.rules start mid.known told now after new.known line.answer → new.left ≡ None → new.rules ≡ mid.rules
+      → line.reader ≡ reader → line.poll ≡ call + 1 → line.before ≡ length now → line.after ≡ length after → items ≡ lines ++ line ∷ [] → PollsTo g start reader before (call + 1) new (told_after told line.answer) after items
+  polls_more new line items answers idle same reader_is poll_is before_is after_is is = subst (λ (ls : List PollLine). PollsTo g start reader before (call + 1) new (told_after told line.answer) after ls) (sym is) (record {
     ready = (let e : suc call ≡ call + 1 = omega arith in subst (λ n. IsReady n new) e idle);
     rules = same ∙ rules ∙ p.rules;
     count = length-append lines (line ∷ []) ∙ ap (λ n. n + 1) p.count;
-    tell = tell_more g start reader 1 None before lines r.known now line new.known after p.tell (record {
+    told_is = ap (λ z. told_after z line.answer) p.told_is ∙ sym (sum_more (pos 0) lines line);
+    tell = tell_more g start reader 1 None (pos 0) before lines r.known now line new.known after p.tell (record {
       reader_is = reader_is;
       call_is = omega (arith, poll_is, p.count);
       before_is = before_is;
       after_is = after_is;
-      answers = subst (λ (k : Option Reading). AnswersPoll g start k now after new.known line.answer) known
-          (subst (λ (x : ReaderRules). AnswersPoll x start mid.known now after new.known line.answer) (rules ∙ p.rules) answers);
+      answers = subst (λ (z : ℤ). AnswersPoll g start r.known z now after new.known line.answer) p.told_is
+          (subst (λ (k : Option Reading). AnswersPoll g start k told now after new.known line.answer) known
+          (subst (λ (x : ReaderRules). AnswersPoll x start mid.known told now after new.known line.answer) (rules ∙ p.rules) answers));
     });
   })

@@ -1,5 +1,5 @@
 -- A reader's calls through its seat.
-use Rattle.std.specs.Prelude.{◌≡◌, ℕ, zero, suc, List, Option, Some, None, IsSome, Result, ℤ}
+use Rattle.std.specs.Prelude.{◌≡◌, ℕ, zero, suc, List, Option, Some, None, IsSome, Result, ℤ, pos}
 use Rattle.h5w_model.specs.Programs.{Takes}
 use Rattle.h5w_model.specs.declared.refusal.ReadError.{ReadError}
 use Rattle.h5w_model.specs.Asked.{left_after}
@@ -19,11 +19,11 @@ pub record AnswersThrough (start : List ℕ) (before after : List Write) (old : 
   pub looked : LooksThrough start before after looks
   pub tells : (p : Unfinished) → old.left ≡ Some p → StepTells (left_after (looks_in looks) p) old step new
 
--- a read of the first rows of what is known, through a seat
-pub record ReadsThrough (start : List ℕ) (known : Option Reading) (rows : ℕ) (before after : List Write) (a : Result (List ℤ) ReadError) : Type 0 where
+-- a read of so many rows of what is known, from this one on, through a seat
+pub record ReadsThrough (start : List ℕ) (known : Option Reading) (from count : ℕ) (before after : List Write) (a : Result (List ℤ) ReadError) : Type 0 where
   pub looks : List Sight
   pub looked : LooksThrough start before after looks
-  pub gives : Takes (values_program known 0 rows) (looks_in looks) a
+  pub gives : Takes (values_program known from count) (looks_in looks) a
 
 -- a call for rows has begun
 pub record IsBegun (r : Reader) : Type 0 where
@@ -38,12 +38,12 @@ IsReady (suc k) r = r.left ≡ None
 -- the first calls of a reader, from its open on, and what is known and seen behind them
 pub record Polled (g : ReaderRules) (start : List ℕ) (reader : ℕ) (before after : List Write) (lines : List PollLine) : Type 0 where
   pub next : Option Reading
-  pub tell : TellPolls g start reader 1 None before lines next after
+  pub tell : TellPolls g start reader 1 None (pos 0) before lines next after
 
 -- some calls of a reader, and behind them one that was refused as none is over the log of a writer
 pub record Strays (g : ReaderRules) (start : List ℕ) (reader : ℕ) (before after : List Write) : Type 0 where
   pub lines : List PollLine
   pub between : List Write
   pub next : Option Reading
-  pub tell : TellPolls g start reader 1 None before lines next between
+  pub tell : TellPolls g start reader 1 None (pos 0) before lines next between
   pub stray : IsStray g start next between after

@@ -1,10 +1,11 @@
 //! The calls of one reader of a run, and the lines that tell of them.
-ghost use Rattle.std.specs.Prelude.{◌≡◌, ◌≢◌, ◌<◌, ◌≤◌, length, IfOk, IsSome, None, OnErr, OnOk, Ok, Err, vec_len};
+ghost use Rattle.std.specs.Prelude.{◌≡◌, ◌≢◌, ◌<◌, ◌≤◌, ◌+◌, ◌+ℤ◌, length, IfOk, IsSome, None, OnErr, OnOk, Ok, Err, vec_len};
 ghost use Rattle.std.specs.Int.{int_wrap, w128};
 ghost use Rattle.h5w_model.specs.Agrees.{total};
 ghost use Rattle.h5w_reader.specs.Cores as cores;
 ghost use Rattle.h5w_reader.specs.Readers.{new_reader, reader_rules};
 ghost use Rattle.h5w_live_laws.specs.Laws.{IsStray};
+ghost use Rattle.h5w_live_laws.specs.Polls as laws;
 ghost use Rattle.h5w_live_laws.specs.Polls.{AnswersPoll};
 ghost use Rattle.h5w_model.specs.Calls.{rows_seen};
 ghost use Rattle.h5w_model.specs.Unfinished.{wanted};
@@ -18,6 +19,10 @@ use h5w_reader::{ReadBegin, ReaderCore, Step};
 use h5w_shared::{ReaderSeat, SharedImage};
 use std::alloc::{AllocFailed, Global};
 use std::sync::Wait;
+use std::thread;
+
+/// A reader leaves its processor after so many calls in a row at most that found nothing new.
+const FEW: u32 = 8;
 
 /// Why a reader ended before its last call.
 #[derive(Clone, Copy)]
@@ -62,6 +67,12 @@ impl From<AllocFailed<PollLine>> for Stop {
     }
 }
 
+/// The sum that a reader's calls told last.
+#[derive(Clone, Copy)]
+struct Told {
+    sum: i128,
+}
+
 /// The sum of some values, as the signed numbers of 128 bits count.
 fn sum_of(values: &[i128]) -> i128
     ensures { result ≡ int_wrap w128 (total values.now) }
@@ -73,24 +84,32 @@ fn sum_of(values: &[i128]) -> i128
     sum
 }
 
-/// Reads all rows that the reader has found.
-fn read_all<R: Wait>(
+/// The sum of what was told before and of these values, as the signed numbers of 128 bits count.
+fn sum_with(told: i128, values: &[i128]) -> i128
+    ensures { result ≡ int_wrap w128 (told +ℤ total values.now) }
+{
+    told.wrapping_add(sum_of(values))
+}
+
+/// Reads so many rows that the reader has found, from this one on.
+fn read_behind<R: Wait>(
     rt: &R,
     image: &SharedImage,
     seat: &mut ReaderSeat,
     core: &mut ReaderCore,
-    rows: u64,
+    from: u64,
+    count: u64,
 ) -> Result<Values, Stop>
     requires image { seat.old.image ≡ image.now }
     requires idle { (cores.reader core.old).left ≡ None }
-    requires rows { rows ≡ rows_seen (cores.reader core.old).known }
+    requires rows { from + count ≤ rows_seen (cores.reader core.old).known }
     ensures image { seat.new.image ≡ image.now }
-    ensures values { IfOk result (λ values. ReadsThrough image.now.start (cores.reader core.old).known rows seat.old.seen seat.new.seen (Ok values)) }
+    ensures values { IfOk result (λ values. ReadsThrough image.now.start (cores.reader core.old).known from count seat.old.seen seat.new.seen (Ok values)) }
     ensures core { OnOk result (cores.reader core.new ≡ cores.reader core.old) }
-    ensures stray { result ≡ Err Stop.Stray → (e : ReadError) × ReadsThrough image.now.start (cores.reader core.old).known rows seat.old.seen seat.new.seen (Err e) }
+    ensures stray { result ≡ Err Stop.Stray → (e : ReadError) × ReadsThrough image.now.start (cores.reader core.old).known from count seat.old.seen seat.new.seen (Err e) }
     ensures failed { result ≡ Err Stop.Failed → 0 < seat.new.faults }
 {
-    match core.read(0, rows) {
+    match core.read(from, count) {
         Ok(Some(values)) => return Ok(values),
         Ok(None) => {}
         Err(ReadBegin::OutOfMemory) => return Err(Stop::OutOfMemory),
@@ -104,28 +123,31 @@ fn read_all<R: Wait>(
     }
 }
 
-/// Takes the reader's call for rows to its answer, and reads the rows that it found.
+/// Takes the reader's call for rows to its answer, and reads those of the rows that were not known before it.
 fn poll<R: Wait>(
     rt: &R,
     image: &SharedImage,
     seat: &mut ReaderSeat,
     core: &mut ReaderCore,
+    told: i128,
 ) -> Result<Poll, Stop>
     requires image { seat.old.image ≡ image.now }
     requires begun { IsBegun (cores.reader core.old) }
     ensures image { seat.new.image ≡ image.now }
-    ensures answers { IfOk result (λ a. AnswersPoll (cores.reader core.old).rules image.now.start (cores.reader core.old).known seat.old.seen seat.new.seen (cores.reader core.new).known a) }
+    ensures answers { IfOk result (λ a. AnswersPoll (cores.reader core.old).rules image.now.start (cores.reader core.old).known told seat.old.seen seat.new.seen (cores.reader core.new).known a) }
     ensures idle { OnOk result ((cores.reader core.new).left ≡ None) }
     ensures rules { OnOk result ((cores.reader core.new).rules ≡ (cores.reader core.old).rules) }
     ensures stray { result ≡ Err Stop.Stray → IsStray (cores.reader core.old).rules image.now.start (cores.reader core.old).known seat.old.seen seat.new.seen }
     ensures failed { result ≡ Err Stop.Failed → 0 < seat.new.faults }
 {
+    let known = core.seen();
     match answered(rt, image, seat, core)? {
         Step::Rows(rows) => {
-            let values = read_all(rt, image, seat, core, rows)?;
+            let from = known.min(rows);
+            let values = read_behind(rt, image, seat, core, from, rows - from)?;
             Ok(Poll::Rows {
                 rows,
-                sum: sum_of(values.as_slice()),
+                sum: sum_with(told, values.as_slice()),
             })
         }
         Step::Refused(ReadError::OutOfMemory) => Err(Stop::OutOfMemory),
@@ -133,6 +155,28 @@ fn poll<R: Wait>(
         Step::Refused(_) => Err(Stop::Stray),
         _ => unreachable!(),
     }
+}
+
+/// What was told last, after an answer.
+fn told_after(told: Told, answer: &Poll) -> Told
+    ensures { result.sum ≡ laws.told_after told.sum answer.now }
+{
+    match answer {
+        Poll::Rows { sum, .. } => Told { sum: *sum },
+        Poll::Again { .. } => told,
+    }
+}
+
+/// How many calls in a row have found nothing new, after one more. At the first of them the thread leaves its processor to others.
+fn rest(idle: u32, is_new: bool) -> u32 {
+    if is_new {
+        return 0;
+    }
+    if idle < FEW {
+        thread::yield_now();
+        return idle + 1;
+    }
+    idle
 }
 
 /// Begins the reader's next call, unless it has begun to open.
@@ -168,24 +212,29 @@ fn polls_of<R: Wait, G: Gate>(
     ensures failed { result ≡ Err Stop.Failed → 0 < seat.new.faults }
 {
     let mut lines = Vec::new(alloc);
+    let mut told = Told { sum: 0 };
+    let mut idle = 0u32;
     for call in 0..calls {
         begin(core, call);
         let before = seat.seen();
-        let answer = poll(rt, image, seat, core)?;
+        let answer = poll(rt, image, seat, core, told.sum)?;
+        let after = seat.seen();
+        told = told_after(told, &answer);
         lines.push(PollLine {
             reader,
             poll: call + 1,
             before,
-            after: seat.seen(),
+            after,
             answer,
         })?;
         gate.turn(reader, u64::from(call + 1));
+        idle = rest(idle, after > before);
     }
     Ok(lines)
 }
 
-/// The calls of a reader: the first opens the dataset of this name, each other refreshes. Where one finds rows, all of them are read.
-/// The reader comes to its turn after each.
+/// The calls of a reader: the first opens the dataset of this name, each other refreshes. Where one finds rows, those are read that were not
+/// known before it. The reader comes to its turn after each.
 pub fn polls<R: Wait, G: Gate>(
     rt: &R,
     alloc: Global,

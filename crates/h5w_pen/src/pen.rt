@@ -144,7 +144,7 @@ fn put_fed<R: Wait>(rt: &R, first: &SharedImage, feed: &mut Feed, w: &Write) -> 
     Feeding { rt, first, feed }.write(w)
 }
 
-/// Writes a piece through the end of a mirror, and sends it on. What is not sent for want of memory goes with a later piece.
+/// Writes a piece through the end of a mirror, which sends it on later.
 fn write_fed<R: Wait>(rt: &R, first: &SharedImage, feed: &mut Feed, w: &Write) -> Result<(), Failed>
     requires image { (fed_seat feed.old).image ≡ first.now }
     requires pieces { 1 ≤ (fed_seat feed.old).pieces }
@@ -156,8 +156,16 @@ fn write_fed<R: Wait>(rt: &R, first: &SharedImage, feed: &mut Feed, w: &Write) -
     // Its bound keeps all pieces short.
     let _len = w.piece.len();
     put_fed(rt, first, feed, w)?;
-    let _ = feed.send(first);
     Ok(())
+}
+
+/// Sends on what is unsent. What is not sent for want of memory goes with what comes later.
+fn send_fed(first: &SharedImage, feed: &mut Feed)
+    requires { (fed_seat feed.old).image ≡ first.now }
+    ensures same { fed_seat feed.new ≡ fed_seat feed.old }
+    ensures short { AreShort (fed_seat feed.old).seen → AreShort (fed_seat feed.new).seen }
+{
+    let _ = feed.send(first);
 }
 
 /// A copy of all pieces through a seat, and a note of them.
@@ -297,7 +305,7 @@ impl Pen {
         }
     }
 
-    /// Writes a piece, and sends it on where another image follows.
+    /// Writes a piece.
     pub fn write<R: Wait>(&mut self, rt: &R, image: &SharedImage, w: &Write) -> Result<(), Failed>
         requires image { self.old.image ≡ image.now }
         requires pieces { 1 ≤ self.old.pieces }
@@ -308,6 +316,17 @@ impl Pen {
         match &mut self.hand {
             Hand::Alone(seat) => write_alone(rt, image, seat, w),
             Hand::Fed(feed) => write_fed(rt, image, feed, w),
+        }
+    }
+
+    /// Where another image follows, sends on in one batch what was written since. Waits for nobody.
+    pub fn send(&mut self, image: &SharedImage)
+        requires { self.old.image ≡ image.now }
+        ensures same { self.new ≡ self.old }
+    {
+        match &mut self.hand {
+            Hand::Alone(_) => {}
+            Hand::Fed(feed) => send_fed(image, feed),
         }
     }
 

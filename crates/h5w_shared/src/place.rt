@@ -21,9 +21,6 @@ const STORE: usize = 0;
 /// The ticket word's last value. A seat that was shown it draws no more.
 const LAST: u64 = 1 << 63;
 
-/// A reader draws no ticket while more than so many wait.
-const FEW: u64 = 2;
-
 /// How often the next in line looks before it lets another thread run.
 const SPINS: u32 = 100;
 
@@ -61,7 +58,7 @@ impl Place {
         None
     }
 
-    /// Draws the next ticket; a patient seat waits until few others do. Failed: the seat was shown the ticket word's last value, and counts it.
+    /// Draws the next ticket; a patient seat waits until no other has one. Failed: the seat was shown the ticket word's last value, and counts it.
     fn draw<R: Wait>(&mut self, rt: &R, shelf: &Shelf, patient: bool) -> Result<u64, Failed>
         requires rest { AtRest self.old }
         requires table { IsAt shelf.now.table_id self.old }
@@ -83,17 +80,17 @@ impl Place {
         unreachable!()
     }
 
-    /// More than a few wait, as far as this seat was shown.
+    /// Another has drawn a ticket that is not served to its end, as far as this seat was shown.
     fn others_wait(&mut self, shelf: &Shelf) -> bool
         requires rest { AtRest self.old }
         requires table { IsAt shelf.now.table_id self.old }
         ensures same { Unchanged self.old self.new }
     {
         let serving = shelf.load::<Tell>(&mut self.seat, SERVING);
-        self.next.saturating_sub(serving) > FEW
+        self.next > serving
     }
 
-    /// Waits for a turn, and takes the store out. A patient seat draws no ticket while more than a few others wait.
+    /// Waits for a turn, and takes the store out. A patient seat draws no ticket while another has one.
     pub fn turn<R: Wait>(
         &mut self,
         rt: &R,

@@ -1,6 +1,5 @@
 use Rattle.std.proofs.Common.{Err, ap, arith, ◌∙◌}
 use Rattle.h5w_image.specs.declared.fault.ImageError.TheVariants as image
-use Rattle.h5w_replica.specs.Follows.{FollowView}
 use Rattle.h5w_shared.specs.Seats.{SeatView}
 use Rattle.h5w_live_reading.proofs.CallLemmas.{rose_some}
 use Rattle.h5w_live.proofs.SecondLemmas.{has_all}

@@ -1,8 +1,3 @@
-use Rattle.std.proofs.Common.{List, sym, ap, subst, ◌∙◌}
-use Rattle.h5w_model.specs.declared.piece.Write.{Write}
-use Rattle.h5w_replica.specs.Follows.{FollowView}
-use Rattle.h5w_shared.specs.Seats.{NoteView, SeatView}
-use Rattle.h5w_shared.specs.Turns.{StartsWith}
 use Rattle.h5w_live.proofs.SecondLemmas.{followed_begins}
 use Rattle.h5w_live.proofs.seconds.second_judged.Goals as goal
 
