@@ -1,12 +1,12 @@
 -- The input of an append, to its end or to a refusal.
-use Rattle.std.proofs.Common.{◌≡◌, ℕ, ◌+◌, ◌≤◌, List, [], ◌∷◌, ◌++◌, length, ℤ, Option, Some, None, Result, Ok, Err, refl, sym, ap, ◌∙◌, subst, inl, inr, arith}
+use Rattle.std.proofs.Common.{◌≡◌, ℕ, ◌+◌, ◌≤◌, List, [], ◌∷◌, ◌++◌, length, ℤ, Option, Some, None, Result, Ok, Err, refl, sym, ap, ◌∙◌, subst, inl, inr, arith, rules, true, false, append_assoc, append-nil}
 use Rattle.std.specs.Prelude.{IfSome}
 use Rattle.h5w_model.specs.Causes.{Rose}
 use Rattle.h5w_model.specs.Datasets.{Described}
 use Rattle.h5w_model.specs.Lawful.{first_outside}
 use Rattle.h5w_image.specs.View.{DiskView}
 use Rattle.h5w_session.specs.Sessions.{Session}
-use Rattle.h5w_text.specs.LinesAhead.{Given, GivenUp, IntakeView, IsOver, IsWhole, LinesAhead, Stays, TakesNumbers, lines_ahead}
+use Rattle.h5w_text.specs.LinesAhead.{AreSingles, Cut, Given, GivenUp, IntakeView, IsOver, IsWhole, LinesAhead, Stays, TakesNumbers, lines_ahead}
 use Rattle.h5w_text.specs.Scripts.{number_line_of}
 use Rattle.h5w_text.specs.Streams.{SourceView, SinkView}
 use Rattle.h5w_text.specs.declared.error.ErrorLine.{ErrorLine}
@@ -19,14 +19,15 @@ use Rattle.h5w_batches.specs.Reads.{error_of}
 use Rattle.h5w_files.specs.Images.{LeavesFiles}
 use Rattle.h5w_appending.specs.Taken.{AreTaken, ReadsFirst, ReadsLine, of_all, of_first}
 use Rattle.h5w_appending.specs.Appends.{HasTaken, InputRefuses, Stored, columns_of}
-use Rattle.h5w_appending.specs.Appending.{BrokeTold, Closes, FlushRefused, HalfTold, IsBegun, IsReady, PutsAll, PutsBy, ReadyUnlessDisk, LineRefused, Steps, StepsOn, TakesInput, TakesInputFrom, TakesInputOn, TakesLine, Told, ending_of}
+use Rattle.h5w_appending.specs.Appending.{BrokeTold, Closes, FlushRefused, HalfTold, IsBegun, IsReady, PutsAll, PutsBy, ReadyUnlessDisk, RunsOn, LineRefused, Steps, StepsOn, TakesInput, TakesAhead, TakesInputFrom, TakesInputOn, TakesLine, TakesSingles, Told, each_alone, ending_of}
 use Rattle.h5w_appending.specs.declared.batching.Ending.{Ending}
 use Rattle.h5w_appending.specs.declared.batching.Ending.TheVariants as endings
+use Rattle.h5w_text.proofs.LineLemmas.{takes_numbers}
 use Rattle.h5w_batches.proofs.RowLemmas.{lines-append}
 use Rattle.h5w_batches.proofs.LineLemmas.{GoingWhole, first_all, first_none, first_read, reads_too_much, reads_whole, spell_count, spell_more, starts, whole_first, whole_more}
 use Rattle.h5w_batches.proofs.InputLemmas.{rose_before}
 use Rattle.h5w_files.proofs.SinkLemmas.{gave_nothing}
-use Rattle.h5w_appending.proofs.StepLemmas.{ready_put}
+use Rattle.h5w_appending.proofs.StepLemmas.{ready_put, ready_unput, told_unput}
 use Rattle.h5w_appending.proofs.StoreLemmas.{broke_puts, stored_none, stored_puts}
 
 -- ---- A loop over the lines
@@ -278,3 +279,129 @@ begun_ended w k x n name s t endings.Sink h begun = absurd h
 -- memory for the last line was wanting
 pub last_wanting : {u w : DiskView} {k l : SinkView} {x y : SourceView} (name : List ℕ) (first t : Session) → TakesInput name first t x y u w k l (Ok tt) → TakesInput name first t x y u w k l (Err (endings.Refused errors.Memory))
 last_wanting name first t h = (close_batch (after_lines no_batches h.0), of_all h.0 h.1, tt, h.2)
+
+-- ---- Lines of one value each, which are taken at once
+
+after_alone : (b : Batches) (vs : List ℤ) → after_lines b (each_alone vs) ≡ record b { waiting = b.waiting ++ vs }
+after_alone b [] = ap (λ (w : List ℤ). record b { waiting = w }) (sym (append-nil b.waiting))
+after_alone b (v ∷ vs) = after_alone (record b { waiting = b.waiting ++ v ∷ [] }) vs ∙ ap (λ (w : List ℤ). record b { waiting = w }) (append_assoc b.waiting (v ∷ []) vs)
+
+-- they leave what one line of all their values leaves
+pub alone_are : (b : Batches) (vs : List ℤ) → 1 ≤ length vs → after_line b vs ≡ after_lines b (each_alone vs)
+alone_are b [] some = absurd (omega (arith, some))
+alone_are b (v ∷ vs) some = sym (after_alone b (v ∷ vs))
+
+lines_both : (b : Batches) (xs ys : List (List ℤ)) → after_lines b (xs ++ ys) ≡ after_lines (after_lines b xs) ys
+lines_both b [] ys = refl
+lines_both b (x ∷ xs) ys = lines_both (after_line b x) xs ys
+
+going_is : {columns : ℕ} {x y z : LinesAhead} {number more : ℕ} {numbers others : List (List ℤ)} → y ≡ z → number ≡ more → numbers ≡ others → GoingWhole columns x y number numbers → GoingWhole columns x z more others
+going_is {columns} {x} {y} {z} {number} {more} {numbers} {others} p q r h =
+    subst (λ (e : LinesAhead). GoingWhole columns x e more others) p (subst (λ (n : ℕ). GoingWhole columns x y n others) q (subst (λ (l : List (List ℤ)). GoingWhole columns x y number l) r h))
+
+going_each : {columns : ℕ} {x y : LinesAhead} {number : ℕ} {numbers : List (List ℤ)} (vs : List ℤ) (z : LinesAhead) → (1 ≤ length vs → columns ≡ 1) → GoingWhole columns x y number numbers → TakesSingles vs y z
+    → GoingWhole columns x z (number + length vs) (numbers ++ each_alone vs)
+going_each {number = number} {numbers} [] z one h same = going_is (sym same) (let e : number ≡ number + 0 = omega arith in e) (sym (append-nil numbers)) h
+going_each {columns} {x} {y} {number} {numbers} (v ∷ vs) z one h each =
+    let is = one (omega arith) in
+    let line = each.1.line in
+    let middle = each.0 in
+    let step = whole_more line (v ∷ []) h each.1.given each.1.whole (subst (λ (k : ℕ). number_line_of k line ≡ Some (v ∷ [])) (sym is) each.1.spelled) in
+    let e : number + 1 + length vs ≡ number + length (v ∷ vs) = omega arith in
+    going_is refl e (append_assoc numbers ((v ∷ []) ∷ []) (each_alone vs)) (going_each {y = middle} vs z (λ some. is) step each.2)
+
+singles_room : (vs : List ℤ) (x y : LinesAhead) → TakesSingles vs x y → y.room ≤ x.room
+singles_room [] x y same = subst (λ (l : LinesAhead). l.room ≤ x.room) (sym same) (omega arith)
+singles_room (v ∷ vs) x y each =
+    let down = each.1.given.room in
+    let rest = singles_room vs each.0 y each.2 in
+    omega (arith, down, rest)
+
+-- such lines that are held stand next
+pub singles_taken : (s : SourceView) (vs : List ℤ) (held behind : List ℕ) (more limit : ℕ) → AreSingles vs held behind
+    → TakesSingles vs (lines_ahead s (record { held = held; more = more; limit = limit })) (lines_ahead s (record { held = behind; more = more; limit = limit }))
+singles_taken s [] held behind more limit same = ap (λ (h : List ℕ). let i : IntakeView = record { held = h; more = more; limit = limit } in lines_ahead s i) (sym same)
+singles_taken s (v ∷ vs) held behind more limit h =
+    let i : IntakeView = record { held = held; more = more; limit = limit } in
+    let j : IntakeView = record { held = h.1; more = more; limit = limit } in
+    let cut : Cut h.0 true i j = record { lacks = h.2; held = h.4; rest = λ e. absurd (search (rules, e)); more = refl; limit = refl } in
+    (lines_ahead s j, takes_numbers 1 (v ∷ []) s i j (h.0, cut, h.3), singles_taken s vs h.1 behind more limit h.5)
+
+-- by the result of their append
+pub ahead_whole : {v w : DiskView} {x y : LinesAhead} (n : ℕ) (name : List ℕ) (s t : Session) (values : List ℤ) (count : ℕ) → count ≡ length values → columns_of s ≡ 1 → 1 ≤ length values → TakesSingles values x y → RunsOn n name s t values v w (Ok true)
+    → TakesAhead n name s t x y v w (Ok count)
+ahead_whole {v} {w} n name s t values count is one some singles h = (
+  h.0,
+  h.1,
+  values,
+  is,
+  λ more. one,
+  singles,
+  λ first b u k m counted told. subst (λ (e : Batches). Told name first t e u w m k) (alone_are b values some) (h.2 first b u k m counted told),
+)
+
+pub ahead_none : {v w : DiskView} (x : LinesAhead) (n : ℕ) (name : List ℕ) (s t : Session) (values : List ℤ) → IsReady name s v → RunsOn n name s t values v w (Ok false) → TakesAhead n name s t x x v w (Ok 0)
+ahead_none {v} {w} x n name s t values ready h = (
+  subst (λ (r : Session). IsReady name r w) (sym h.0) (ready_unput name s h.1 ready),
+  ap columns_of h.0,
+  [],
+  refl,
+  λ more. absurd (omega (arith, more)),
+  refl,
+  λ first b u k m counted told. subst (λ (r : Session). Told name first r b u w m k) (sym h.0) (told_unput name first s b h.1 told),
+)
+
+pub ahead_broke : (v w : DiskView) (x y z : LinesAhead) (n : ℕ) (name : List ℕ) (s t : Session) (values : List ℤ) (e : Ending) → columns_of s ≡ 1 → 1 ≤ length values → TakesSingles values x z → RunsOn n name s t values v w (Err e)
+    → TakesAhead n name s t x y v w (Err e)
+ahead_broke v w x y z n name s t values (endings.Refused a) one some singles h = absurd h
+ahead_broke v w x y z n name s t values endings.Disk one some singles h = (
+  one,
+  values,
+  z,
+  singles,
+  λ first b u k m counted told.
+      let g = h first b u k m counted told in
+      (g.0, elim g.1 [ inl same ↦ inl same | inr next ↦ inr (next ∙ alone_are b values some) ], g.2),
+)
+ahead_broke v w x y z n name s t values endings.Sink one some singles h = absurd h
+
+-- the lines behind them
+pub taking_ahead : {v w z : DiskView} {k l : SinkView} {x y e : LinesAhead} {number count : ℕ} (n : ℕ) (name : List ℕ) (s t r : Session) → Taking n name s t x y number v w k l → TakesAhead n name t r y e w z (Ok count) → Taking n name s r x e (number + count) v z k l
+taking_ahead {v} {w} {z} {k} {l} {x} {y} {e} {number} {count} n name s t r h a =
+    let values = a.2 in
+    let is : count ≡ length values = a.3 in
+    let one : 1 ≤ length values → columns_of s ≡ 1 = λ some. sym h.columns ∙ a.4 (omega (arith, some, is)) in
+    subst (λ (c : ℕ). Taking n name s r x e (number + c) v z k l) (sym is) (record {
+      numbers = h.numbers ++ each_alone values;
+      going = going_each values e one h.going a.5;
+      done = λ first u m counted told. subst (λ (b : Batches). Told name first r b u z m l) (sym (lines_both no_batches h.numbers (each_alone values))) (a.6 first (after_lines no_batches h.numbers) u l m counted (h.done first u m counted told));
+      ready = a.0;
+      columns = a.1 ∙ h.columns;
+    })
+
+pub ahead_room : {v w : DiskView} (count n : ℕ) (name : List ℕ) (s t : Session) (x y : LinesAhead) → TakesAhead n name s t x y v w (Ok count) → y.room ≤ x.room
+ahead_room count n name s t x y a = singles_room a.2 x y a.5
+
+-- the disk failed at them
+pub taken_ahead : {v w : DiskView} {k l : SinkView} {x y : LinesAhead} {number : ℕ} (e : LinesAhead) (z : DiskView) (t : SourceView) (n : ℕ) (name : List ℕ) (s q r : Session) (ending : Ending) → x.room ≡ input_limit → Taking n name s q x y number v w k l
+    → TakesAhead n name q r y e w z (Err ending) → TakesInputOn n name s r (outside x) t v z k l (Err ending)
+taken_ahead e z t n name s q r (endings.Refused a) room h ahead = absurd ahead
+taken_ahead {l = l} {x} {y} e z t n name s q r endings.Disk room h ahead = λ first u m counted told.
+    let same = same_columns first s no_batches told.stored.taken in
+    let values = ahead.1 in
+    let g = ahead.4 first (after_lines no_batches h.numbers) u l m counted (h.done first u m counted told) in
+    elim g.1 [
+      | inl still ↦ (
+        after_lines no_batches h.numbers,
+        of_first h.numbers (subst (λ c. ReadsFirst c (outside x) h.numbers) same (reads_first room h.going)),
+        subst (λ (b : Batches). BrokeTold name first b u z m l) still g.2,
+      )
+      | inr next ↦
+          let going = going_each values ahead.2 (λ some. sym h.columns ∙ ahead.0) h.going ahead.3 in
+          let numbers = h.numbers ++ each_alone values in (
+            after_lines no_batches numbers,
+            of_first numbers (subst (λ c. ReadsFirst c (outside x) numbers) same (reads_first room going)),
+            subst (λ (b : Batches). BrokeTold name first b u z m l) (next ∙ sym (lines_both no_batches h.numbers (each_alone values))) g.2,
+          )
+    ]
+taken_ahead e z t n name s q r endings.Sink room h ahead = absurd ahead

@@ -19,7 +19,7 @@ use Rattle.h5w_text.specs.declared.error.ErrorLine.TheVariants as errors
 use Rattle.h5w_files.specs.Images.{LeavesFiles, file_image, told_bytes}
 use Rattle.h5w_appending.specs.Appends.{IsFree, IsOpenOver, NotOpened, Unopened, open_line}
 use Rattle.h5w_appending.specs.Appending.{HasSize, IsBegun}
-use Rattle.h5w_files.proofs.ClearLemmas.{any_told, leaves_files, none_of}
+use Rattle.h5w_files.proofs.ClearLemmas.{any_told, leaves_files}
 use Rattle.h5w_files.proofs.ImageLemmas.{leaves_on, looked_files}
 
 -- the bytes of a file have its size

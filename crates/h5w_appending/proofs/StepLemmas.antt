@@ -18,7 +18,7 @@ use Rattle.h5w_text.specs.declared.error.ErrorLine.{ErrorLine}
 use Rattle.h5w_text.specs.declared.error.ErrorLine.TheVariants as errors
 use Rattle.h5w_batches.specs.Batches.{Batches, after_line, close_batch}
 use Rattle.h5w_appending.specs.Appends.{HasTaken, Stored, columns_of, last_line_of, lines_of}
-use Rattle.h5w_appending.specs.Appending.{AppendsAll, AppendsBy, Closes, FlushRefused, FlushesBy, Halted, HasNone, IsReady, LineRefused, Planned, PutsAll, PutsBy, PutsHalted, ReadyUnlessDisk, Steps, StepsOn, TakesLine, Told, Unflushed, Unput, ValuesRefused}
+use Rattle.h5w_appending.specs.Appending.{AppendsAll, AppendsBy, Closes, FlushRefused, FlushesBy, Halted, HasNone, IsReady, LineRefused, Planned, PutsAll, PutsBy, PutsHalted, ReadyUnlessDisk, RunsOn, Steps, StepsOn, TakesLine, Told, Unflushed, Unput, ValuesRefused}
 use Rattle.h5w_files.specs.Polls.{count_text}
 use Rattle.h5w_appending.specs.Puts.{writes_of}
 use Rattle.h5w_appending.specs.declared.batching.Ending.{Ending}
@@ -110,6 +110,15 @@ ready_values n name s t r values p a q ready =
 pub ready_batch : {v x w : DiskView} (n : ℕ) (name : List ℕ) (s t r : Session) → Unput name v x → Planned name s t x → PutsAll n name t r x w → IsReady name s v → IsReady name r w
 ready_batch n name s t r p plan q ready =
     ready_put n name t r (there_unput name p ready.there) (plan.rows.stopped ∙ ready.running) (subst (λ n. 1 ≤ n) (sym (ap (λ (d : Described). d.shape.cols) plan.rows.dataset)) ready.columns) plan.room plan.end q
+
+-- one that stays
+pub ready_unput : {v w : DiskView} (name : List ℕ) (s : Session) → Unput name v w → IsReady name s v → IsReady name s w
+ready_unput name s p ready =
+    let room = p.room in
+    let before = ready.room in
+    let end = p.end in
+    let low = ready.end in
+    record { there = there_unput name p ready.there; running = ready.running; columns = ready.columns; idle = ready.idle; room = omega (arith, room, before); end = omega (arith, end, low) }
 
 -- ---- Batches
 
@@ -337,3 +346,26 @@ pub line_appends : {v x : DiskView} (w : DiskView) (k : SinkView) (faults : ℕ)
     → 1 ≤ length values → length values ≡ n * s.dataset.shape.cols → AppendsAll name s t values x → PutsBy faults name t r x w q → StepsOn faults name s r (TakesLine line) (LineRefused line number s) v w k k q
 line_appends w k faults name s t r line number n values (Ok e) ready p spelled some rows a q = line_whole k faults name s t r line number n values ready p spelled some rows a q
 line_appends w k faults name s t r line number n values (Err e) ready p spelled some rows a q = line_broke w k faults name s t r line number n values e ready p spelled some rows a q
+
+-- ---- Values that are appended at once, by the result of their puts
+
+pub run_whole : {v x w : DiskView} (faults : ℕ) (name : List ℕ) (s t r : Session) (n : ℕ) (values : List ℤ) → IsReady name s v → Unput name v x → 1 ≤ length values → length values ≡ n * s.dataset.shape.cols → AppendsAll name s t values x → PutsAll faults name t r x w
+    → RunsOn faults name s r values v w (Ok true)
+run_whole faults name s t r n values ready p some rows a q = (
+  ready_values faults name s t r values p a q ready,
+  line_columns _ faults name s t r values (Ok tt) a q,
+  λ first b u k m counted told. record { stored = stored_puts name first t r (after_line b values) (q.before ∙ sym counted) q.puts (values_told name first s t b values n ready p some rows a told); gave = lines_still first b values some told.gave },
+)
+
+pub run_broke : {v x : DiskView} (w : DiskView) (faults : ℕ) (name : List ℕ) (s t r : Session) (n : ℕ) (values : List ℤ) (e : Ending) → IsReady name s v → Unput name v x → 1 ≤ length values → length values ≡ n * s.dataset.shape.cols → AppendsAll name s t values x
+    → PutsBy faults name t r x w (Err e) → RunsOn faults name s r values v w (Err e)
+run_broke w faults name s t r n values (endings.Refused e) ready p some rows a q = absurd q
+run_broke w faults name s t r n values endings.Disk ready p some rows a q = λ first b u k m counted told. (
+  after_line b values,
+  inr refl,
+  record { broke = broke_puts faults name first t r (after_line b values) counted q (values_told name first s t b values n ready p some rows a told); gave = lines_still first b values some told.gave },
+)
+run_broke w faults name s t r n values endings.Sink ready p some rows a q = absurd q
+
+pub run_failed : {v w : DiskView} (faults : ℕ) (name : List ℕ) (s t : Session) (values : List ℤ) → Unput name v w → AppendsBy name 0 values s t v w (Err endings.Disk) → RunsOn faults name s t values v w (Err endings.Disk)
+run_failed faults name s t values p h = λ first b u k m counted told. (b, inl refl, record { broke = broke_before name first s t b h.0 p h.1 told.stored; gave = told.gave })

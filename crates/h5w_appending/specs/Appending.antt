@@ -1,5 +1,5 @@
 -- What the calls of an append do, one by one.
-use Rattle.std.specs.Prelude.{◌≡◌, ◌⊎◌, ℕ, ◌+◌, ◌≤◌, false, Bool, List, [], length, Option, Some, None, IfSome, OnOk, Result, Ok, Err, ℤ, option_map}
+use Rattle.std.specs.Prelude.{◌≡◌, ◌⊎◌, ℕ, ◌+◌, ◌≤◌, true, false, Bool, List, [], ◌∷◌, length, Option, Some, None, IfSome, OnOk, Result, Ok, Err, ℤ, option_map}
 use Rattle.h5w_model.specs.Causes.{Rose}
 use Rattle.h5w_model.specs.Lawful.{first_outside}
 use Rattle.h5w_model.specs.Logs.{Log, and_now, appends, plans}
@@ -10,12 +10,13 @@ use Rattle.h5w_session.specs.Refusals.{IsDeepFor, IsFullFor, append_refusal}
 use Rattle.h5w_session.specs.Sessions.{AddsValues, Session, TakesRows, rows_of, stopped_of}
 use Rattle.h5w_session.specs.Stands.{Stands}
 use Rattle.h5w_session.specs.declared.refusal.AppendError.TheVariants as append_errors
+use Rattle.h5w_text.specs.LinesAhead.{LinesAhead, TakesNumbers}
 use Rattle.h5w_text.specs.Scripts.{number_line_of}
 use Rattle.h5w_text.specs.Streams.{SourceView, SinkView, Gave}
 use Rattle.h5w_text.specs.declared.error.ErrorLine.{ErrorLine}
 use Rattle.h5w_text.specs.declared.error.ErrorLine.TheVariants as errors
 use Rattle.h5w_files.specs.Images.{LeavesFiles}
-use Rattle.h5w_batches.specs.Batches.{Batches, after_lines, close_batch, no_batches}
+use Rattle.h5w_batches.specs.Batches.{Batches, after_line, after_lines, close_batch, no_batches}
 use Rattle.h5w_batches.specs.Inputs.{ReadsAll}
 use Rattle.h5w_batches.specs.Reads.{Takes}
 use Rattle.h5w_batches.specs.declared.error.BatchError.{BatchError}
@@ -182,6 +183,41 @@ LineRefused line number s (errors.FullSpace at size limit) = (number_line_of (co
 LineRefused line number s errors.Deep = (number_line_of (columns_of s) line ≡ Some []) × FlushRefused s errors.Deep
 LineRefused line number s errors.Memory = Unit {0}
 LineRefused line number s e = ⊥
+
+-- ---- Lines of one value that stand next, all at once
+
+-- Some values are appended, by the result: whether they were. Where they are refused nothing is another.
+abbrev pub RunsOn : ℕ → List ℕ → Session → Session → List ℤ → DiskView → DiskView → Result Bool Ending → Type 0
+RunsOn faults name s t values v w (Ok true) =
+    IsReady name t w × (columns_of t ≡ columns_of s)
+    × ((first : Session) (b : Batches) (u : DiskView) (k m : SinkView) → u.faults ≡ faults → Told name first s b u v m k → Told name first t (after_line b values) u w m k)
+RunsOn faults name s t values v w (Ok false) = (t ≡ s) × Unput name v w
+RunsOn faults name s t values v w (Err (endings.Refused e)) = ⊥
+RunsOn faults name s t values v w (Err endings.Disk) =
+    (first : Session) (b : Batches) (u : DiskView) (k m : SinkView) → u.faults ≡ faults → Told name first s b u v m k → (at : Batches) × IsEither (λ next. next ≡ after_line b values) b at × BrokeTold name first at u w m k
+RunsOn faults name s t values v w (Err endings.Sink) = ⊥
+
+-- each value by itself
+abbrev pub each_alone : List ℤ → List (List ℤ)
+each_alone [] = []
+each_alone (x ∷ xs) = (x ∷ []) ∷ each_alone xs
+
+-- lines of one value each are taken, one behind the other
+abbrev pub TakesSingles : List ℤ → LinesAhead → LinesAhead → Type 0
+TakesSingles [] x y = y ≡ x
+TakesSingles (v ∷ vs) x y = (middle : LinesAhead) × TakesNumbers 1 (v ∷ []) x middle × TakesSingles vs middle y
+
+-- So many lines that stood next were taken at once, and their values appended. Where the disk failed they were appended or not.
+abbrev pub TakesAhead : ℕ → List ℕ → Session → Session → LinesAhead → LinesAhead → DiskView → DiskView → Result ℕ Ending → Type 0
+TakesAhead faults name s t x y v w (Ok n) =
+    IsReady name t w × (columns_of t ≡ columns_of s)
+    × (values : List ℤ) × (n ≡ length values) × (1 ≤ n → columns_of s ≡ 1) × TakesSingles values x y
+    × ((first : Session) (b : Batches) (u : DiskView) (k m : SinkView) → u.faults ≡ faults → Told name first s b u v m k → Told name first t (after_lines b (each_alone values)) u w m k)
+TakesAhead faults name s t x y v w (Err (endings.Refused e)) = ⊥
+TakesAhead faults name s t x y v w (Err endings.Disk) =
+    (columns_of s ≡ 1) × (values : List ℤ) × (z : LinesAhead) × TakesSingles values x z
+    × ((first : Session) (b : Batches) (u : DiskView) (k m : SinkView) → u.faults ≡ faults → Told name first s b u v m k → (at : Batches) × IsEither (λ next. next ≡ after_lines b (each_alone values)) b at × BrokeTold name first at u w m k)
+TakesAhead faults name s t x y v w (Err endings.Sink) = ⊥
 
 -- ---- An input
 

@@ -10,9 +10,9 @@ ghost use Rattle.h5w_batches.specs.Inputs.{SameSource, input_limit, outside};
 ghost use Rattle.h5w_appending.specs.Taken.{closed_text};
 ghost use Rattle.h5w_appending.specs.Appends.{AppendEnds, columns_of, open_line};
 ghost use Rattle.h5w_appending.specs.Tells.{TellsEnd};
-ghost use Rattle.h5w_appending.specs.Appending.{ClosesBy, FinishesBy, HasSize, IsBegun, IsReady, LooksOpen, OpensBy, ReadyUnlessDisk, SettlesOn, TakesInputFrom, TakesInputOn};
+ghost use Rattle.h5w_appending.specs.Appending.{ClosesBy, FinishesBy, HasSize, IsBegun, IsReady, LooksOpen, OpensBy, ReadyUnlessDisk, SettlesOn, TakesAhead, TakesInputFrom, TakesInputOn};
 
-use crate::batching::{Ending, close_batch, put_all, take_line, take_values};
+use crate::batching::{Ending, close_batch, put_all, take_line, take_run, take_values};
 use crate::putting::close;
 use h5w_batches::INPUT_LIMIT;
 use h5w_files::DiskImage;
@@ -22,6 +22,42 @@ use h5w_session::WriterCore;
 use h5w_session_open::OpenError;
 use h5w_text::{ErrorLine, Intake, Lines, Next, Sink, Source, Status, say, tell, write_numbers};
 use std::alloc::Global;
+
+/// How many values of lines that stand next are appended at once, at most.
+const RUN: usize = 1024;
+
+/// Takes the lines that stand next, as far as they are held whole and each is one value of few digits, and appends them all at once. Answers
+/// how many were taken: none where a row has more values, where one line stands there alone, or where they are refused.
+fn take_ahead<S: Source, D: Disk>(
+    columns: u64,
+    session: &mut WriterCore,
+    lines: &mut Lines<'_, S>,
+    file: &str,
+    faults: u64,
+    values: &mut Vec<i128>,
+    disk: &mut D,
+) -> Result<u64, Ending>
+    requires ready { IsReady file.now session.old (D.view disk.old) }
+    requires columns { columns ≡ columns_of session.old }
+    ensures ahead { TakesAhead faults file.now session.old session.new (lines_ahead (S.view lines.old.source.now) lines.old.intake.now) (lines_ahead (S.view lines.new.source.now) lines.new.intake.now) (D.view disk.old) (D.view disk.new) result }
+    ensures source { lines.new.source.now ≡ lines.old.source.now }
+    ensures same_reference { lines.new.source.ghost_name ≡ lines.old.source.ghost_name }
+    ensures same_intake { lines.new.intake.ghost_name ≡ lines.old.intake.ghost_name }
+{
+    values.clear();
+    if columns != 1 || values.reserve(RUN).is_err() {
+        return Ok(0);
+    }
+    let bytes = lines.values_ahead(values);
+    if values.len() < 2 {
+        return Ok(0);
+    }
+    if take_run(session, values, file, faults, disk)? {
+        lines.pass(bytes);
+        return Ok(values.len() as u64);
+    }
+    Ok(0)
+}
 
 /// Appends the lines of an input, one after another, to its end, which closes the last batch.
 fn take_lines<S: Source, K: Sink, D: Disk>(
@@ -51,6 +87,7 @@ fn take_lines<S: Source, K: Sink, D: Disk>(
         if lines.take_numbers(columns, &mut values) {
             number += 1;
             take_values(session, &values, number, file, faults, text, sink, disk)?;
+            number += take_ahead(columns, session, lines, file, faults, &mut values, disk)?;
             continue;
         }
         match lines.next()? {
@@ -218,6 +255,9 @@ fn look_open<D: Disk>(
     }
 }
 
+/// Lets a session go. It has many parts, and each place that lets it go is dear to prove.
+fn release(_session: WriterCore) {}
+
 /// What is retired stays retired, where that is asked for.
 fn retire(session: &mut WriterCore, keeps: bool)
     requires { session.old.keeps ≡ false }
@@ -250,10 +290,16 @@ fn open<D: Disk>(
         Ok(None) => return Err(ErrorLine::Missing),
         Err(_) => return Err(ErrorLine::Disk),
     };
-    let mut session = look_open(alloc, file, size, name, limit, budget, disk)?;
+    let mut session = match look_open(alloc, file, size, name, limit, budget, disk) {
+        Ok(session) => session,
+        Err(error) => return Err(error),
+    };
     match disk.reserve(file, session.pending() + 1, session.end()) {
         Ok(()) => {}
-        Err(_) => return Err(ErrorLine::Memory),
+        Err(_) => {
+            release(session);
+            return Err(ErrorLine::Memory);
+        }
     }
     retire(&mut session, keeps);
     Ok(session)
@@ -285,7 +331,9 @@ fn append_all<S: Source, K: Sink, D: Disk>(
         Err(error) => return Err(Ending::Refused(error)),
     };
     let taken = take_all(alloc, &mut session, file, faults, text, source, sink, disk);
-    settle(taken, &mut session, file, faults, disk)
+    let settled = settle(taken, &mut session, file, faults, disk);
+    release(session);
+    settled
 }
 
 /// Appends the numbers of the source to the dataset that the root group's link of `name` leads to in the file of the name `file`, which

@@ -6,7 +6,7 @@ ghost use Rattle.h5w_session.specs.Sessions.{AreRows};
 ghost use Rattle.h5w_text.specs.LinesAhead.{IsLine};
 ghost use Rattle.h5w_text.specs.Scripts.{number_line_of};
 ghost use Rattle.h5w_appending.specs.Appends.{columns_of};
-ghost use Rattle.h5w_appending.specs.Appending.{AppendsBy, Closes, FlushRefused, FlushesBy, HasSome, IsReady, LineRefused, PutsBy, ReadyUnlessDisk, StepsOn, TakesLine, Unput};
+ghost use Rattle.h5w_appending.specs.Appending.{AppendsBy, Closes, FlushRefused, FlushesBy, HasSome, IsReady, LineRefused, PutsBy, ReadyUnlessDisk, RunsOn, StepsOn, TakesLine, Unput};
 
 use crate::putting::put_pending;
 use h5w_batches::{BatchError, line_values};
@@ -193,6 +193,31 @@ pub fn take_values<K: Sink, D: Disk>(
     }
     append_values(session, values, number, file, disk)?;
     put_all(session, file, faults, disk)
+}
+
+/// Appends values, whole rows, and puts the pieces of those rows that are written before their flush. False: they are refused, and nothing
+/// was appended.
+pub fn take_run<D: Disk>(
+    session: &mut WriterCore,
+    values: &[i128],
+    file: &str,
+    faults: u64,
+    disk: &mut D,
+) -> Result<bool, Ending>
+    requires ready { IsReady file.now session.old (D.view disk.old) }
+    requires rows { AreWholeRows (columns_of session.old) values.now }
+    requires some { 1 ≤ length values.now }
+    ensures { RunsOn faults file.now session.old session.new values.now (D.view disk.old) (D.view disk.new) result }
+{
+    match append_values(session, values, 0, file, disk) {
+        Ok(()) => match put_all(session, file, faults, disk) {
+            Ok(()) => Ok(true),
+            Err(ending) => Err(ending),
+        },
+        Err(Ending::Refused(_)) => Ok(false),
+        Err(Ending::Disk) => Err(Ending::Disk),
+        Err(Ending::Sink) => Err(Ending::Sink),
+    }
 }
 
 /// Takes the values of a line of the input, whose rows have so many; an empty one closes a batch.

@@ -15,8 +15,8 @@ returns g c =
     let exact = rw c.in-Ok-Some.field-0-is at c.in-Ok-Some.ensures.exact in
     let sized : IsThere (g.D.Disk.view c.size.new.self) c.args.file.now = there_when_sized c.args.file.now _ c.size.ensures.same exact in
     let there = there_kept 0 c.args.file.now c.reserve.ensures.same (there_on c.args.file.now c.look_open.ensures.disk sized) in (
-      opened_keeping c.args.file.now c.args.name.now c.args.limit c.args.budget c.args.keeps c.in_ok-session.session c.retire.new.session c.retire.ensures.session c.retire.ensures.stands (opened_before c.args.file.now c.args.name.now c.args.limit c.args.budget c.in_ok-session.session (left_first c.size.ensures.same) c.in_ok-session.ensures.opens),
-      begun_ready c.args.file.now c.args.name.now c.args.limit c.args.budget c.pending.result c.args.keeps c.in_ok-session.session c.retire.new.session (opened_begun c.in_ok-session.ensures.opens) c.retire.ensures.session there c.pending.ensures c.in-Ok.ensures.pieces (search rules),
+      opened_keeping c.args.file.now c.args.name.now c.args.limit c.args.budget c.args.keeps c.in-Ok.session c.retire.new.session c.retire.ensures.session c.retire.ensures.stands (opened_before c.args.file.now c.args.name.now c.args.limit c.args.budget c.in-Ok.session (left_first c.size.ensures.same) c.in-Ok.ensures.opens),
+      begun_ready c.args.file.now c.args.name.now c.args.limit c.args.budget c.pending.result c.args.keeps c.in-Ok.session c.retire.new.session (opened_begun c.in-Ok.ensures.opens) c.retire.ensures.session there c.pending.ensures c.in-Ok-reserve.ensures.pieces (search rules),
       left_on c.size.ensures.same c.look_open.ensures.disk c.reserve.ensures.same,
     )
 

@@ -1,4 +1,4 @@
-use Rattle.std.proofs.Common.{◌≡◌, ◌+◌, ◌∷◌, ◌++◌, ◌∙◌, [], Err, Some, ap, sym, subst, rules}
+use Rattle.std.proofs.Common.{◌≡◌, ◌+◌, ◌∷◌, ◌++◌, ◌∙◌, [], Err, Some, ap, sym, subst, rules, arith}
 use Rattle.h5w_text.specs.LinesAhead.{lines_ahead}
 use Rattle.h5w_text.specs.Scripts.{number_line_of}
 use Rattle.h5w_batches.specs.Batches.{AreWholeRows}
@@ -7,7 +7,7 @@ use Rattle.h5w_batches.proofs.LineLemmas.{ahead_kept, first_last, first_whole, l
 use Rattle.h5w_batches.proofs.RowLemmas.{spelled_rows}
 use Rattle.h5w_appending.specs.Appends.{columns_of}
 use Rattle.h5w_appending.specs.Appending.{ending_of}
-use Rattle.h5w_appending.proofs.InputLemmas.{done_more, held_columns, ready_source, taken_end, taken_line, taken_source, taking_first, taking_held, taking_kept, taking_more}
+use Rattle.h5w_appending.proofs.InputLemmas.{ahead_room, done_more, held_columns, ready_source, taken_ahead, taken_end, taken_line, taken_source, taking_ahead, taking_first, taking_held, taking_kept, taking_more}
 use Rattle.h5w_appending.proofs.appending.take_lines.Goals as goal
 
 pub loop-number-init : goal.loop-number-init
@@ -31,16 +31,47 @@ returns-in_err-take_values-clause-takes g c =
     rw is (taken_line _ _ (g.S.Source.view c.take_numbers.new.self.source.now) c.args.faults c.args.file.now c.args.session.now c.loop-number.session c.take_values.new.session held.line c.in_err-take_values.field-0.0 c.requires.room taking
     (first_whole held.line c.requires.room taking.going held.given held.whole) (c.in_err-take_values.ensures.steps held.line (held.spelled ∙ ap Some (sym c.deref.ensures.value))))
 
+pub returns-in_err-number-clause-takes : goal.returns-in_err-number-clause-takes
+returns-in_err-number-clause-takes g c =
+    let is : c.from_residual-in_err-number.result ≡ Err c.in_err-number.field-0.0 = search rules in
+    let taking = c.loop-number.invariant.taking in
+    let held = held_columns c.args.columns c.loop-number.session c.take_numbers.new.values.items (c.requires.columns ∙ sym taking.columns) (c.take_numbers.ensures.taken c.if-take_numbers.true) in
+    let taken = taking_held c.args.faults c.args.file.now c.args.session.now c.loop-number.session c.take_values.new.session c.take_numbers.new.values.items taking held (c.in_ok-take_values.ensures.steps held.line (held.spelled ∙ ap Some (sym c.deref.ensures.value))) c.in_ok-take_values.ensures.ready
+    c.in_ok-take_values.ensures.columns in
+    let y = lines_ahead (g.S.Source.view c.take_ahead.new.lines.source.now) c.take_ahead.new.lines.intake.now in
+    rw is (taken_ahead y _ (g.S.Source.view c.take_ahead.new.lines.source.now) c.args.faults c.args.file.now c.args.session.now c.take_values.new.session c.take_ahead.new.session c.in_err-number.field-0.0 c.requires.room taken c.in_err-number.ensures.ahead)
+
+pub overflow_add-number-then-take_numbers : goal.overflow_add-number-then-take_numbers
+overflow_add-number-then-take_numbers g c =
+    let taking = c.loop-number.invariant.taking in
+    let held = held_columns c.args.columns c.loop-number.session c.take_numbers.new.values.items (c.requires.columns ∙ sym taking.columns) (c.take_numbers.ensures.taken c.if-take_numbers.true) in
+    let taken = taking_held c.args.faults c.args.file.now c.args.session.now c.loop-number.session c.take_values.new.session c.take_numbers.new.values.items taking held (c.in_ok-take_values.ensures.steps held.line (held.spelled ∙ ap Some (sym c.deref.ensures.value))) c.in_ok-take_values.ensures.ready
+    c.in_ok-take_values.ensures.columns in
+    let more = taking_ahead c.args.faults c.args.file.now c.args.session.now c.take_values.new.session c.take_ahead.new.session taken c.in_ok-number.ensures.ahead in
+    let bound = more.going.going.room in
+    let room = c.requires.room in
+    omega (arith, bound, room)
+
 pub loop-number-preserved-then-take_numbers : goal.loop-number-preserved-then-take_numbers
 loop-number-preserved-then-take_numbers g c =
     let taking = c.loop-number.invariant.taking in
     let held = held_columns c.args.columns c.loop-number.session c.take_numbers.new.values.items (c.requires.columns ∙ sym taking.columns) (c.take_numbers.ensures.taken c.if-take_numbers.true) in
+    let taken = taking_held c.args.faults c.args.file.now c.args.session.now c.loop-number.session c.take_values.new.session c.take_numbers.new.values.items taking held (c.in_ok-take_values.ensures.steps held.line (held.spelled ∙ ap Some (sym c.deref.ensures.value))) c.in_ok-take_values.ensures.ready
+    c.in_ok-take_values.ensures.columns in
     record {
-      taking = taking_held c.args.faults c.args.file.now c.args.session.now c.loop-number.session c.take_values.new.session c.take_numbers.new.values.items taking held (c.in_ok-take_values.ensures.steps held.line (held.spelled ∙ ap Some (sym c.deref.ensures.value))) c.in_ok-take_values.ensures.ready
-          c.in_ok-take_values.ensures.columns;
+      taking = taking_ahead c.args.faults c.args.file.now c.args.session.now c.take_values.new.session c.take_ahead.new.session taken c.in_ok-number.ensures.ahead;
       same_reference = search rules;
       same_intake = search rules;
     }
+
+pub loop-number-smaller-then-take_numbers : goal.loop-number-smaller-then-take_numbers
+loop-number-smaller-then-take_numbers g c =
+    let taken = c.take_numbers.ensures.taken c.if-take_numbers.true in
+    let down = taken.given.room in
+    let x = lines_ahead (g.S.Source.view c.take_numbers.new.self.source.now) c.take_numbers.new.self.intake.now in
+    let y = lines_ahead (g.S.Source.view c.take_ahead.new.lines.source.now) c.take_ahead.new.lines.intake.now in
+    let more = ahead_room c.in_ok-number.field-0 c.args.faults c.args.file.now c.take_values.new.session c.take_ahead.new.session x y c.in_ok-number.ensures.ahead in
+    omega (arith, down, more)
 
 pub returns-in_err-line-clause-ready : goal.returns-in_err-line-clause-ready
 returns-in_err-line-clause-ready g c =
