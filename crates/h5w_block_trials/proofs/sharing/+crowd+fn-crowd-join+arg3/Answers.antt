@@ -1,5 +1,0 @@
-use Rattle.h5w_shared.proofs.Sent.{sent}
-use Rattle.h5w_block_trials.proofs.sharing.+crowd+fn-crowd-join+arg3.Goals as goal
-
-pub join-right-requires-send-F : goal.join-right-requires-send-F
-join-right-requires-send-F g t c κs within = search sent depth 40

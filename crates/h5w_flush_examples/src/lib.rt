@@ -1,9 +1,0 @@
-//! A flush of a log from outside by its parts, so that the premises of the laws of a flush are known to hold of something.
-#![tactic(auto)]
-
-ghost use Rattle.h5w_flush_examples.specs.FirstFlush.{IsFirstFlush};
-
-/// The first flush of a created file, of three rows in two new chunks, meets what is asked of a flush; its pieces are those of the log.
-pub fn first_flush()
-    ensures { IsFirstFlush }
-{}

@@ -1,5 +1,0 @@
-use Rattle.h5w_live.specs.Writing.{AreBatches}
-use Rattle.h5w_live_trials.proofs.helpers.batches.Given as goal
-
-abbrev pub invariant-loop-values : goal.invariant-loop-values
-invariant-loop-values l = AreBatches 1 l.batches.items

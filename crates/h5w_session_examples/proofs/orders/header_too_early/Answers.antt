@@ -1,0 +1,5 @@
+use Rattle.h5w_session_examples.proofs.WrongOrders as lemmas
+use Rattle.h5w_session_examples.proofs.orders.header_too_early.Goals as goal
+
+pub returns : goal.returns
+returns c = lemmas.header_too_early

@@ -1,0 +1,9 @@
+pub mod SevenOfOnes
+pub mod Moments
+pub mod Orders
+pub mod FirstFlush
+pub mod Bytes
+pub mod UnnamedFlush
+pub mod ArrayCalls
+pub mod AloneBytes
+pub mod AloneFlush

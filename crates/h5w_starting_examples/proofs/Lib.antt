@@ -1,3 +1,0 @@
-pub mod UnnamedLemmas
-pub mod CallLemmas
-pub mod AloneLemmas

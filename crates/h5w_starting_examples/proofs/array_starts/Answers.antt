@@ -1,5 +1,0 @@
-use Rattle.h5w_starting_examples.proofs.array_starts.Goals as goal
-use Rattle.h5w_starting_examples.proofs.CallLemmas as lemmas
-
-pub returns : goal.returns
-returns c = lemmas.array_starts

@@ -1,5 +1,0 @@
-use Rattle.h5w_step_examples.proofs.WrongOrders as lemmas
-use Rattle.h5w_step_examples.proofs.orders.block_too_early.Goals as goal
-
-pub returns : goal.returns
-returns c = lemmas.block_too_early

@@ -1,3 +1,0 @@
-pub mod SevenOfOnes
-pub mod Moments
-pub mod Orders

@@ -1,5 +1,0 @@
-use Rattle.h5w_tree_laws.proofs.ReadingLemmas.{finds_readings}
-use Rattle.h5w_tree_laws.proofs.relations.readings.Goals as goal
-
-pub returns : goal.returns
-returns c = finds_readings
