@@ -25,7 +25,8 @@ use Rattle.h5w_files.specs.Ends.{EndsBehind, status_by}
 use Rattle.h5w_files.specs.Images.{told_bytes}
 use Rattle.h5w_files.proofs.ClearLemmas.{any_told}
 use Rattle.h5w_commands.specs.Appending.{AppendEndsWell, HasInput, HasRows}
-use Rattle.h5w_commands.proofs.PlayLemmas.{gave_nothing, rose_before}
+use Rattle.h5w_batches.proofs.InputLemmas.{rose_before}
+use Rattle.h5w_files.proofs.SinkLemmas.{gave_nothing}
 
 -- memory was wanting before the file was looked at
 pub appends_nothing : {s : SourceView} {v : DiskView} {k l : SinkView} (name at : List ℕ) (limit budget : ℕ) (keeps : Bool) (status : Status) → Said (error_text errors.Memory) statuses.Memory status k l

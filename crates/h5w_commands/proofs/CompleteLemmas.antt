@@ -5,7 +5,7 @@ use Rattle.h5w_model.specs.Lawful.{Line, Rules}
 use Rattle.h5w_text.specs.Lines.{lines_of, whole_lines_of}
 use Rattle.h5w_text.specs.Streams.{SourceView, SinkView}
 use Rattle.h5w_words.specs.declared.job.Job.{Job}
-use Rattle.h5w_words.specs.declared.job.Job.TheVariants.{Play, New, Check, Poll, Clear, Make, Append, Live, Stop}
+use Rattle.h5w_words.specs.declared.job.Job.TheVariants.{Play, New, Check, Poll, Clear, Make, Append, Live, Stop, Repack}
 use Rattle.h5w_image.specs.View.{DiskView}
 use Rattle.h5w_appending.proofs.CreateLemmas.{creates_whole}
 use Rattle.h5w_files.proofs.CheckLemmas.{checks_whole}
@@ -20,6 +20,7 @@ use Rattle.h5w_running.specs.Runs.{asked_by}
 use Rattle.h5w_running.specs.declared.ended.Ended.{Ended}
 use Rattle.h5w_running.specs.declared.ended.Ended.TheVariants as ends
 use Rattle.h5w_running.proofs.EndLemmas.{ends_well}
+use Rattle.h5w_repacking.proofs.EndLemmas.{repacks_whole}
 use Rattle.h5w_commands.specs.Runs.{DoesInside, DoesWhole, EndsWith, RanInside, RanWhole}
 use Rattle.h5w_commands.proofs.MakeLemmas.{makes_whole}
 use Rattle.h5w_commands.proofs.ReportLemmas.{stops_whole}
@@ -75,6 +76,7 @@ does_whole (Make count seed) status s t k l v w does = makes_whole count seed st
 does_whole (Append file name limit budget keeps) status s t k l v w does = appends_whole file name limit budget keeps status does
 does_whole (Live options readers polls attempts mirrors) status s t k l v w does = absurd does
 does_whole (Stop options) status s t k l v w does = stops_whole options status does.0
+does_whole (Repack file to name limit ranges) status s t k l v w does = repacks_whole file to name limit ranges status does.1
 
 ended_whole : (job : Job) (ended : Ended) (s t : SourceView) (k l : SinkView) (v w : DiskView) → EndsWith (λ status. DoesInside job status s t k l v w) ended → EndsWith (λ status. DoesWhole job status s t k l v w) ended
 ended_whole job (ends.With status) s t k l v w does = does_whole job status s t k l v w does
@@ -92,3 +94,4 @@ ran_whole (Some (Make count seed)) ended s t k l v w ran = ended_whole (Make cou
 ran_whole (Some (Append file name limit budget keeps)) ended s t k l v w ran = ended_whole (Append file name limit budget keeps) ended s t k l v w ran
 ran_whole (Some (Live options readers polls attempts mirrors)) ended s t k l v w ran = ends_well (asked_by options readers polls attempts mirrors) ended ran.0
 ran_whole (Some (Stop options)) ended s t k l v w ran = ended_whole (Stop options) ended s t k l v w ran
+ran_whole (Some (Repack file to name limit ranges)) ended s t k l v w ran = ended_whole (Repack file to name limit ranges) ended s t k l v w ran

@@ -21,41 +21,13 @@ use Rattle.h5w_core.specs.Worlds.{WorldView, HaveOneLog, rules_of}
 use Rattle.h5w_commands.specs.Answers.{Answers, play_line_of}
 use Rattle.h5w_commands.specs.Endings.{Answered, EndsAt, Runs, ending_of}
 use Rattle.h5w_commands.specs.Plays.{Begun, Finished, HasFirst, Replied, Stopped}
+use Rattle.h5w_batches.proofs.InputLemmas.{rose_before}
+use Rattle.h5w_batches.proofs.LineLemmas.{none_behind}
+use Rattle.h5w_files.proofs.SinkLemmas.{gave_both, gave_nothing, gave_then_some}
 use Rattle.h5w_batches.specs.Inputs.{SameSource, input_limit, outside}
 use Rattle.h5w_commands.specs.declared.ending.Ending.{Ending}
 use Rattle.h5w_commands.specs.declared.ending.Ending.TheVariants as endings
 use Rattle.h5w_text.specs.declared.status.Status.TheVariants as statuses
-
--- ---- What sinks were given
-
-pub grows_nothing : (o : Option (List ℕ)) → Grows [] o o
-grows_nothing None = inl refl
-grows_nothing (Some l) = inr (ap Some (sym (append-nil l)))
-
-then_cases : (xs ys : List ℕ) (o : Option (List ℕ)) → option_map (λ front. front ++ ys) (option_map (λ front. front ++ xs) o) ≡ option_map (λ front. front ++ (xs ++ ys)) o
-then_cases xs ys None = refl
-then_cases xs ys (Some l) = ap Some (append_assoc l xs ys)
-
-grows_both : (xs ys : List ℕ) (o p q : Option (List ℕ)) → Grows xs o p → Grows ys p q → Grows (xs ++ ys) o q
-grows_both xs ys o p q g (inl none) = inl none
-grows_both xs ys o p q (inl none) (inr e) = inl (e ∙ ap (option_map (λ front. front ++ ys)) none)
-grows_both xs ys o p q (inr d) (inr e) = inr (e ∙ ap (option_map (λ front. front ++ ys)) d ∙ then_cases xs ys o)
-
-pub gave_both : {k l m : SinkView} (xs ys : List ℕ) → Gave xs k l → Gave ys l m → Gave (xs ++ ys) k m
-gave_both {k} {l} {m} xs ys p q = record {
-  written = grows_both xs ys k.written l.written m.written p.written q.written;
-  faults = omega arith;
-  through = q.through ∙ p.through;
-}
-
-pub gave_nothing : (k : SinkView) → Gave [] k k
-gave_nothing k = record { written = grows_nothing k.written; faults = omega arith; through = refl }
-
-pub gave_then_some : {k l m : SinkView} (xs ys : List ℕ) → Gave xs k l → GaveSome ys l m → GaveSome (xs ++ ys) k m
-gave_then_some {k} {l} {m} xs ys p q = (length xs + q.0, subst (λ (bytes : List ℕ). Gave bytes k m) (sym (take-append-add xs ys q.0)) (gave_both xs (take q.0 ys) p q.1))
-
-pub rose_before : (a b c : ℕ) → a ≤ b → Rose b c → Rose a c
-rose_before a b c h r = omega arith
 
 -- ---- First lines
 
@@ -313,14 +285,6 @@ ended_at_line {k = k} t m line endings.Memory room x given h = record {
 pub all_cases : (a : Option (List ℕ)) (lines : List (List ℕ)) → IfSome (option_map lines_of a) (λ ls. ls ≡ lines) → IfSome a (λ input. lines_of input ≡ lines)
 all_cases None lines h = tt
 all_cases (Some a) lines h = h
-
-empty_behind : (held rest : List ℕ) → held ++ rest ≡ [] → rest ≡ []
-empty_behind [] rest e = e
-empty_behind (b ∷ held) rest e = absurd (cc)
-
-pub none_behind : (a : Option (List ℕ)) (held : List ℕ) → IfSome (option_map (λ rest. held ++ rest) a) (λ rest. rest ≡ []) → IfSome a (λ rest. rest ≡ [])
-none_behind None held h = tt
-none_behind (Some a) held h = empty_behind held a h
 
 -- where nothing is left all that there was was taken
 pub all_taken : (a b : Option (List ℕ)) (taken : List ℕ) → a ≡ option_map (λ rest. taken ++ rest) b → IfSome b (λ rest. rest ≡ []) → length taken ≤ input_limit → IfSome a (λ input. length input ≤ input_limit)

@@ -27,7 +27,9 @@ use Rattle.h5w_commands.specs.Plays.{HasFirst}
 use Rattle.h5w_commands.specs.Stops.{AreDone, IsRefused, ReadsAll, RefusesLine, StopRefuses, TakesLine, error_line}
 use Rattle.h5w_commands.specs.Writing.{Follows, Refuses, line_error, writing, writing_line_of, writing_rules}
 use Rattle.h5w_commands.proofs.LineLemmas.{long_is_outside}
-use Rattle.h5w_commands.proofs.PlayLemmas.{all_cases, all_left, all_of_left, all_taken, more_first, none_behind, none_more, one_whole, rose_before, starts, too_long}
+use Rattle.h5w_batches.proofs.LineLemmas.{none_behind}
+use Rattle.h5w_batches.proofs.InputLemmas.{rose_before}
+use Rattle.h5w_commands.proofs.PlayLemmas.{all_cases, all_left, all_of_left, all_taken, more_first, none_more, one_whole, starts, too_long}
 
 -- ---- One line
 

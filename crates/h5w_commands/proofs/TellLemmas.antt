@@ -13,7 +13,7 @@ use Rattle.h5w_core.specs.Worlds.{rules_for}
 use Rattle.h5w_options.specs.declared.options.Options.{Options}
 use Rattle.h5w_words.specs.declared.job.WordsError.{WordsError}
 use Rattle.h5w_words.specs.declared.job.Job.{Job}
-use Rattle.h5w_words.specs.declared.job.Job.TheVariants.{Play, New, Check, Poll, Clear, Make, Append, Live, Stop}
+use Rattle.h5w_words.specs.declared.job.Job.TheVariants.{Play, New, Check, Poll, Clear, Make, Append, Live, Stop, Repack}
 use Rattle.h5w_image.specs.View.{DiskView}
 use Rattle.h5w_appending.proofs.CreateLemmas.{creates_wanted}
 use Rattle.h5w_files.proofs.CheckLemmas.{checks_nothing}
@@ -24,6 +24,7 @@ use Rattle.h5w_running.specs.Ends.{LiveEnds}
 use Rattle.h5w_running.specs.declared.ended.Ended.{Ended}
 use Rattle.h5w_running.specs.declared.ended.Ended.TheVariants as outcomes
 use Rattle.h5w_running.proofs.EndLemmas.{error_ends}
+use Rattle.h5w_repacking.proofs.EndLemmas.{repacks_nothing}
 use Rattle.h5w_commands.specs.Runs.{DoesInside, IsPlain, RanInside}
 use Rattle.h5w_commands.specs.Plays.{Begun, Finished, HasFirst, Plays}
 use Rattle.h5w_text.specs.declared.status.Status.{Status}
@@ -31,7 +32,9 @@ use Rattle.h5w_text.specs.declared.status.Status.TheVariants.{Done, Usage, Missi
 use Rattle.h5w_commands.proofs.MakeLemmas.{makes_nothing}
 use Rattle.h5w_commands.proofs.AppendEndLemmas.{appends_nothing}
 use Rattle.h5w_commands.proofs.ReportLemmas.{stops_nothing}
-use Rattle.h5w_commands.proofs.PlayLemmas.{gave_both, gave_nothing, gave_then_some, replied_nothing, rose_before}
+use Rattle.h5w_files.proofs.SinkLemmas.{gave_both, gave_nothing, gave_then_some}
+use Rattle.h5w_batches.proofs.InputLemmas.{rose_before}
+use Rattle.h5w_commands.proofs.PlayLemmas.{replied_nothing}
 
 -- any other bytes behind the answers
 begun_with : (g : Rules) (s : SourceView) (last text : List ℕ) → Begun g s [] text → Begun g s last (text ++ last)
@@ -106,6 +109,7 @@ ran_wanting (Some (Make count seed)) status s k l v said = (refl, refl, makes_no
 ran_wanting (Some (Append file name limit budget keeps)) status s k l v said = appends_nothing file name limit budget keeps status said
 ran_wanting (Some (Live options readers polls attempts mirrors)) status s k l v said = (error_ends (asked_by options readers polls attempts mirrors) errors.Memory status tt (inl said), refl)
 ran_wanting (Some (Stop options)) status s k l v said = (stops_nothing options status said, refl)
+ran_wanting (Some (Repack file to name limit ranges)) status s k l v said = (refl, repacks_nothing file to name limit ranges status said)
 
 -- the words are outside the command set
 pub ran_outside : (o : Option Job) (status : Status) (s : SourceView) (k l : SinkView) (v : DiskView) → o ≡ None → Said (error_text errors.Usage) Usage status k l → RanInside o (outcomes.With status) s s k l v v
@@ -121,6 +125,7 @@ does_run (Make count seed) status s t k l v w does = does
 does_run (Append file name limit budget keeps) status s t k l v w does = does
 does_run (Live options readers polls attempts mirrors) status s t k l v w does = absurd does
 does_run (Stop options) status s t k l v w does = does
+does_run (Repack file to name limit ranges) status s t k l v w does = does
 
 pub ran_job : (o : Option Job) (job : Job) (status : Status) (s t : SourceView) (k l : SinkView) (v w : DiskView) → o ≡ Some job → DoesInside job status s t k l v w → RanInside o (outcomes.With status) s t k l v w
 ran_job o job status s t k l v w e does = subst (λ (x : Option Job). RanInside x (outcomes.With status) s t k l v w) (sym e) (does_run job status s t k l v w does)
@@ -136,6 +141,7 @@ is_plain (Make count seed) other = tt
 is_plain (Append file name limit budget keeps) other = tt
 is_plain (Live options readers polls attempts mirrors) other = other options readers polls attempts mirrors refl
 is_plain (Stop options) other = tt
+is_plain (Repack file to name limit ranges) other = tt
 
 -- a run in threads
 pub ran_live : (o : Option Job) (job : Job) (options : Options) (readers polls attempts mirrors : ℕ) (ended : Ended) (s t : SourceView) (k l : SinkView) (v : DiskView) → o ≡ Some job → job ≡ Live options readers polls attempts mirrors

@@ -17,9 +17,10 @@ use Rattle.h5w_commands.specs.News.{files_of}
 use Rattle.h5w_files.specs.Checks.{CheckEnds, check_of}
 use Rattle.h5w_files.specs.Polls.{PollEnds, poll_of}
 use Rattle.h5w_files.specs.Clears.{ClearEnds, clears_of}
+use Rattle.h5w_repacking.specs.Repacks.{RepackEnds, RepackEndsWell}
 use Rattle.h5w_core.specs.Worlds.{rules_for}
 use Rattle.h5w_words.specs.declared.job.Job.{Job}
-use Rattle.h5w_words.specs.declared.job.Job.TheVariants.{Play, New, Check, Poll, Clear, Make, Append, Live, Stop}
+use Rattle.h5w_words.specs.declared.job.Job.TheVariants.{Play, New, Check, Poll, Clear, Make, Append, Live, Stop, Repack}
 use Rattle.h5w_running.specs.Runs.{asked_by}
 use Rattle.h5w_running.specs.Ends.{LiveEnds, LiveEndsWell, LiveTells}
 use Rattle.h5w_running.specs.declared.ended.Ended.{Ended}
@@ -46,6 +47,7 @@ Does (Make count seed) status s t k l v w = (t ≡ s) × (w ≡ v) × MakeEnds c
 Does (Append file name limit budget keeps) status s t k l v w = TellsEnd file name limit s t v w status k l
 Does (Live options readers polls attempts mirrors) status s t k l v w = ⊥
 Does (Stop options) status s t k l v w = StopTells options status s t k l × (w ≡ v)
+Does (Repack file to name limit ranges) status s t k l v w = (t ≡ s) × RepackEnds file to name limit ranges v w status k l
 
 -- The same, with what an append and a script of a writer alone leave told by the state of their session, too.
 abbrev pub DoesInside : Job → Status → SourceView → SourceView → SinkView → SinkView → DiskView → DiskView → Type 0
@@ -58,6 +60,7 @@ DoesInside (Make count seed) status s t k l v w = (t ≡ s) × (w ≡ v) × Make
 DoesInside (Append file name limit budget keeps) status s t k l v w = AppendEnds file name limit budget keeps s t v w status k l
 DoesInside (Live options readers polls attempts mirrors) status s t k l v w = ⊥
 DoesInside (Stop options) status s t k l v w = StopEnds options status s t k l × (w ≡ v)
+DoesInside (Repack file to name limit ranges) status s t k l v w = (t ≡ s) × RepackEnds file to name limit ranges v w status k l
 
 -- the words are outside the command set: nothing is read, no file is looked at, and that is said
 pub record Refuses (status : Status) (s t : SourceView) (k l : SinkView) (v w : DiskView) : Type 0 where
@@ -82,7 +85,7 @@ RanInside None ended s t k l v w = EndsWith (λ status. Refuses status s t k l v
 RanInside (Some (Live options readers polls attempts mirrors)) ended s t k l v w = LiveEnds (asked_by options readers polls attempts mirrors) ended s t k l × (w ≡ v)
 RanInside (Some job) ended s t k l v w = EndsWith (λ status. DoesInside job status s t k l v w) ended
 
--- a job is done, or memory is wanted, where nothing else stands in its way; the file of an append may have no place
+-- a job is done, or memory is wanted, where nothing else stands in its way; the file of an append may have no place, nor that of a repack
 abbrev pub DoesWhole : Job → Status → SourceView → SourceView → SinkView → SinkView → DiskView → DiskView → Type 0
 DoesWhole (Play options attempts) status s t k l v w = Completes (rules_for options attempts) status s t k l
 DoesWhole (New file names options) status s t k l v w = EndsWell (end_given (end_of (files_of names options))) file v w status k l
@@ -93,6 +96,7 @@ DoesWhole (Make count seed) status s t k l v w = MakeEndsWell status k l
 DoesWhole (Append file name limit budget keeps) status s t k l v w = AppendEndsWell file name status s t k l v w
 DoesWhole (Live options readers polls attempts mirrors) status s t k l v w = ⊥
 DoesWhole (Stop options) status s t k l v w = StopEndsWell options status s t k l
+DoesWhole (Repack file to name limit ranges) status s t k l v w = RepackEndsWell file to name v w status k l
 
 -- the same of the job that words of the command set have
 abbrev pub RanWhole : Option Job → Ended → SourceView → SourceView → SinkView → SinkView → DiskView → DiskView → Type 0

@@ -11,7 +11,7 @@ use h5w_text::{ScriptLine, TextError, TextLine, script_line};
 use std::alloc::Global;
 
 /// Why a line is given no reply.
-#[derive(Clone, Copy, Debug, PartialEq, Eq)]
+#[derive(Clone, Copy)]
 pub enum Refusal {
     /// It is outside the grammar.
     Line,

@@ -1,7 +1,7 @@
 use h5w_text::{Failed, LineError};
 
 /// Why a script ends before its input does.
-#[derive(Clone, Copy, Debug, PartialEq, Eq)]
+#[derive(Clone, Copy)]
 pub enum Ending {
     /// The line of this number, counted from 1, is outside the grammar.
     Line(u64),

@@ -10,6 +10,7 @@ use crate::stop::stop;
 use h5w_appending::append;
 use h5w_files::{check, clear, poll};
 use h5w_image::Disk;
+use h5w_repacking::repack;
 use h5w_text::{Sink, Source, Status};
 use h5w_words::Job;
 use std::alloc::Global;
@@ -74,6 +75,22 @@ pub fn plain<S: Source, K: Sink, D: Disk>(
             disk,
         ),
         Job::Stop { options } => stop(alloc, options, source, sink),
+        Job::Repack {
+            file,
+            to,
+            name,
+            limit,
+            ranges,
+        } => repack(
+            alloc,
+            file.as_str(),
+            to.as_str(),
+            name.as_slice(),
+            *limit,
+            *ranges,
+            sink,
+            disk,
+        ),
         Job::Live { .. } => unreachable!(),
     }
 }

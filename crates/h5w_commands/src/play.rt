@@ -10,6 +10,7 @@ ghost use Rattle.h5w_commands.specs.Plays.{Plays};
 
 use crate::answer::{Refusal, answer};
 use crate::ending::Ending;
+use crate::writing::release;
 use h5w_batches::INPUT_LIMIT;
 use h5w_core::{Options, World};
 use h5w_text::{ErrorLine, Intake, Lines, Next, Sink, Source, Status, TextLine, tell, write_reply};
@@ -99,10 +100,13 @@ fn played<S: Source, K: Sink>(
     ensures runs { Runs (rules_for options.now attempts) result (S.view source.old) (S.view source.new) (K.view sink.old) (K.view sink.new) }
     ensures source { SameSource (S.view source.old) (S.view source.new) }
 {
-    let Ok(mut world) = World::new(alloc, options, attempts) else {
-        return Err(Ending::Memory);
+    let mut world = match World::new(alloc, options, attempts) {
+        Ok(world) => world,
+        Err(_) => return Err(Ending::Memory),
     };
-    script(alloc, &mut world, source, sink)
+    let ended = script(alloc, &mut world, source, sink);
+    release(world);
+    ended
 }
 
 /// Runs the script from the source on a new world, by these options.

@@ -13,6 +13,9 @@ use std::alloc::Global;
 use std::sync::Wait;
 use std::thread::Threads;
 
+/// Lets a job go. It is one of many kinds, and each place that lets it go is dear to prove.
+fn release(_job: Job) {}
+
 /// Does the job that the words ask for, the first of which is the program's name, and answers how it ended. Input comes from the source,
 /// text goes to the sink, files are those of the disk, and threads pass the gate at each of their turns. To words outside the command set
 /// it says `error usage`.
@@ -42,7 +45,11 @@ pub fn run<R: Threads + Wait + Sync, S: Source, K: Sink, D: Disk, G: Gate>(
         ) => run_live(
             rt, alloc, &options, readers, polls, attempts, mirrors, source, sink, gate,
         ),
-        Ok(job) => Ended::With(plain(alloc, &job, source, sink, disk)),
+        Ok(job) => {
+            let status = plain(alloc, &job, source, sink, disk);
+            release(job);
+            Ended::With(status)
+        }
         Err(WordsError::Usage) => Ended::With(say(b"error usage\n", Status::Usage, sink)),
         Err(WordsError::OutOfMemory) => Ended::With(say(b"error memory\n", Status::Memory, sink)),
     }

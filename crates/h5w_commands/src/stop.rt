@@ -11,7 +11,7 @@ ghost use Rattle.h5w_batches.specs.Inputs.{SameSource, input_limit, outside};
 ghost use Rattle.h5w_commands.specs.Stops.{IsTold, ReadsAll, RefusesLine, StopEnds, StopEndsWell, StopRefuses, SweepsTo, TakesLine, error_line, run_text};
 ghost use Rattle.h5w_commands.specs.Writing.{Follows};
 
-use crate::writing::{begin, take};
+use crate::writing::{begin, release, take};
 use h5w_batches::INPUT_LIMIT;
 use h5w_core::{Options, World};
 use h5w_stop::{Outcome, Report, Run, sweep};
@@ -127,6 +127,28 @@ fn script<S: Source>(alloc: Global, world: &mut World, source: &mut S) -> Result
     take_lines(alloc, world, &mut lines)
 }
 
+/// The report of the whole input on a world that did no line yet.
+fn swept_on<S: Source>(
+    alloc: Global,
+    world: &mut World,
+    name: &[u8],
+    source: &mut S,
+) -> Result<Vec<u8>, ErrorLine>
+    requires { (o : Created) × Follows o [] world.old × (o.name ≡ name.now) }
+    ensures sweeps { (o : Created) → Follows o [] world.old → o.name ≡ name.now → IfOk result (λ text. SweepsTo o (S.view source.old) (S.view source.new) text.items) }
+    ensures refused { (o : Created) → Follows o [] world.old → IfErr result (StopRefuses o (S.view source.old) (S.view source.new)) }
+    ensures source { SameSource (S.view source.old) (S.view source.new) }
+{
+    match script(alloc, world, source) {
+        Ok(()) => {}
+        Err(error) => return Err(error),
+    }
+    match told(alloc, world, name) {
+        Ok(text) => Ok(text),
+        Err(OutOfMemory) => Err(ErrorLine::Memory),
+    }
+}
+
 /// The report of the whole input on a new file.
 fn swept<S: Source>(alloc: Global, options: &Options, source: &mut S) -> Result<Vec<u8>, ErrorLine>
     requires { AreOptions options.now }
@@ -134,14 +156,13 @@ fn swept<S: Source>(alloc: Global, options: &Options, source: &mut S) -> Result<
     ensures refused { IfErr result (StopRefuses options.now (S.view source.old) (S.view source.new)) }
     ensures source { SameSource (S.view source.old) (S.view source.new) }
 {
-    let Ok(mut world) = begin(alloc, options) else {
-        return Err(ErrorLine::Memory);
+    let mut world = match begin(alloc, options) {
+        Ok(world) => world,
+        Err(_) => return Err(ErrorLine::Memory),
     };
-    script(alloc, &mut world, source)?;
-    match told(alloc, &world, options.name.as_slice()) {
-        Ok(text) => Ok(text),
-        Err(OutOfMemory) => Err(ErrorLine::Memory),
-    }
+    let swept = swept_on(alloc, &mut world, options.name.as_slice(), source);
+    release(world);
+    swept
 }
 
 /// Creates a file in memory by these options, and does the lines of the input on it: rows that are appended, and flushes. All pieces of a

@@ -23,6 +23,9 @@ pub fn begin(alloc: Global, options: &Options) -> Result<World, OutOfMemory>
     World::new(alloc, options, ATTEMPTS)
 }
 
+/// Lets a world go. It has many parts, and each place that lets it go is dear to prove.
+pub fn release(_world: World) {}
+
 /// Makes all pending pieces visible, one after another.
 fn show_all(world: &mut World)
     requires { (s : ScriptState) × HaveOneLog world.old s }

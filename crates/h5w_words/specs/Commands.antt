@@ -6,6 +6,7 @@ use Rattle.h5w_words.specs.Play.{play_app, play_of}
 use Rattle.h5w_words.specs.Files.{creating_app, creating_of, check_app, check_of, poll_app, poll_of, clear_app, clear_of}
 use Rattle.h5w_words.specs.Makes.{make_app, make_of}
 use Rattle.h5w_words.specs.Appends.{append_app, append_of}
+use Rattle.h5w_words.specs.Repacks.{repack_app, repack_of}
 use Rattle.h5w_words.specs.Lives.{live_app, live_of}
 use Rattle.h5w_words.specs.Stops.{stop_app, stop_of}
 use Rattle.h5w_words.specs.declared.job.Job.{Job}
@@ -13,8 +14,8 @@ use Rattle.h5w_words.specs.declared.job.Job.{Job}
 -- the program with its commands
 abbrev pub program : App
 program =
-    with_subcommand (with_subcommand (with_subcommand (with_subcommand (with_subcommand (with_subcommand (with_subcommand (with_subcommand (with_subcommand (new_app (codes "h5swmr")) play_app.top) creating_app.top) check_app.top)
-    poll_app.top) clear_app.top) make_app.top) append_app.top) live_app.top) stop_app.top
+    with_subcommand (with_subcommand (with_subcommand (with_subcommand (with_subcommand (with_subcommand (with_subcommand (with_subcommand (with_subcommand (with_subcommand (new_app (codes "h5swmr")) play_app.top) creating_app.top) check_app.top)
+    poll_app.top) clear_app.top) make_app.top) append_app.top) live_app.top) stop_app.top) repack_app.top
 
 -- what a command of this name asks for, by its options
 abbrev pub named_of : Text → List Row → Option Job
@@ -28,6 +29,7 @@ named_of name rows =
     else if is_word (codes "append") name then append_of rows
     else if is_word (codes "live") name then live_of rows
     else if is_word (codes "stop") name then stop_of rows
+    else if is_word (codes "repack") name then repack_of rows
     else None
 
 -- what the command that was found asks for; without one nothing

@@ -10,6 +10,7 @@ pub mod Play
 pub mod Files
 pub mod Makes
 pub mod Appends
+pub mod Repacks
 pub mod Lives
 pub mod Stops
 pub mod Commands

@@ -3,7 +3,7 @@ use Rattle.std.specs.Prelude.{◌≡◌, ◌*◌, ◌≤◌, ◌^◌, true, leng
 use Rattle.h5w_options.specs.Options.{AreOptions, AreAttempts}
 use Rattle.h5w_words.specs.Names.{are_names}
 use Rattle.h5w_words.specs.declared.job.Job.{Job}
-use Rattle.h5w_words.specs.declared.job.Job.TheVariants.{Play, New, Check, Poll, Clear, Make, Append, Live, Stop}
+use Rattle.h5w_words.specs.declared.job.Job.TheVariants.{Play, New, Check, Poll, Clear, Make, Append, Live, Stop, Repack}
 
 abbrev pub IsWithinLimits : Job → Type 0
 IsWithinLimits (Play options attempts) = AreOptions options × AreAttempts attempts
@@ -15,3 +15,4 @@ IsWithinLimits (Make count seed) = count ≤ 1000000
 IsWithinLimits (Append file name limit budget keeps) = (length name ≤ 255) × (1024 ≤ limit) × (limit ≤ 2 ^ 40) × (1024 ≤ budget) × (budget ≤ 2 ^ 30)
 IsWithinLimits (Live options readers polls attempts mirrors) = AreOptions options × AreAttempts attempts × (1 ≤ readers) × (readers ≤ 16) × (1 ≤ polls) × (polls ≤ 10000) × (mirrors ≤ 16)
 IsWithinLimits (Stop options) = AreOptions options
+IsWithinLimits (Repack file to name limit ranges) = (length name ≤ 255) × (1024 ≤ limit) × (limit ≤ 2 ^ 40)

@@ -90,6 +90,19 @@ pub enum Job {
         /// By what the file is created. The name has letters, digits and underscores alone.
         options: Options,
     },
+    /// Writes a dataset of a file anew into another one.
+    Repack {
+        /// The name of the file.
+        file: FileName,
+        /// The name of the new file.
+        to: FileName,
+        /// The name of the root group's link to the dataset, of 1 to 255 bytes.
+        name: Bytes,
+        /// How many bytes the new file may have, 1,024 to 2^40.
+        limit: u64,
+        /// Whether the new file's ranges are printed.
+        ranges: bool,
+    },
 }
 
 /// Why words ask for nothing.

@@ -15,6 +15,7 @@ mod name;
 mod names;
 mod number;
 mod play;
+mod repack;
 mod stop;
 mod types;
 mod values;

@@ -10,6 +10,7 @@ use crate::job::{Job, WordsError};
 use crate::live::{live, live_job};
 use crate::make::{make, make_job};
 use crate::play::{play, play_job};
+use crate::repack::{repack, repack_job};
 use crate::stop::{stop, stop_job};
 use clap::{ArgMatches, Command};
 use std::alloc::{AllocError, Global};
@@ -38,7 +39,8 @@ fn program<'a>(alloc: Global) -> Result<Command<'a>, AllocError>
     let command = added(command, make(alloc));
     let command = added(command, append(alloc));
     let command = added(command, live(alloc));
-    added(command, stop(alloc))
+    let command = added(command, stop(alloc));
+    added(command, repack(alloc))
 }
 
 /// What the program's commands make of the words.
@@ -68,6 +70,7 @@ fn named(alloc: Global, name: &str, options: &ArgMatches<'_>) -> Result<Job, Wor
         "append" => append_job(alloc, options),
         "live" => live_job(alloc, options),
         "stop" => stop_job(alloc, options),
+        "repack" => repack_job(alloc, options),
         _ => Err(WordsError::Usage),
     }
 }

@@ -74,3 +74,12 @@ returns-in-Append-clause-does g c = does_told _ _ _ _ _ _ _ _ (returns-in-Append
 
 pub returns-in-Stop-clause-does : goal.returns-in-Stop-clause-does
 returns-in-Stop-clause-does g c = does_told _ _ _ _ _ _ _ _ (returns-in-Stop-clause-inside g c)
+
+pub returns-in-Repack-clause-inside : goal.returns-in-Repack-clause-inside
+returns-in-Repack-clause-inside g c = search rules
+
+pub returns-in-Repack-clause-completes : goal.returns-in-Repack-clause-completes
+returns-in-Repack-clause-completes g c = does_whole _ _ _ _ _ _ _ _ (returns-in-Repack-clause-inside g c)
+
+pub returns-in-Repack-clause-does : goal.returns-in-Repack-clause-does
+returns-in-Repack-clause-does g c = does_told _ _ _ _ _ _ _ _ (returns-in-Repack-clause-inside g c)

@@ -5,9 +5,9 @@ use Rattle.h5w_commands.specs.Endings.{Runs}
 use Rattle.h5w_commands.proofs.TellLemmas.{leaves_first}
 use Rattle.h5w_commands.proofs.play.played.Goals as goal
 
-pub returns-in_default-clause-runs : goal.returns-in_default-clause-runs
-returns-in_default-clause-runs g c = leaves_first (rules_for c.args.options.now c.args.attempts) (g.S.Source.view c.args.source.now) (g.K.Sink.view c.args.sink.now)
+pub returns-in-Err-clause-runs : goal.returns-in-Err-clause-runs
+returns-in-Err-clause-runs g c = leaves_first (rules_for c.args.options.now c.args.attempts) (g.S.Source.view c.args.source.now) (g.K.Sink.view c.args.sink.now)
 
 pub returns-clause-runs : goal.returns-clause-runs
 returns-clause-runs g c =
-    subst (λ (r : Rules). Runs r c.script.result (g.S.Source.view c.args.source.now) (g.S.Source.view c.script.new.source) (g.K.Sink.view c.args.sink.now) (g.K.Sink.view c.script.new.sink)) c.in-Ok.ensures.rules c.script.ensures.runs
+    subst (λ (r : Rules). Runs r c.script-ended.result (g.S.Source.view c.args.source.now) (g.S.Source.view c.script-ended.new.source) (g.K.Sink.view c.args.sink.now) (g.K.Sink.view c.script-ended.new.sink)) c.in-Ok.ensures.rules c.script-ended.ensures.runs

@@ -8,7 +8,7 @@ returns-in-Ok-Live-clause-inside g c =
     ran_live _ c.in-Ok-Live.field-0 c.in-Ok-Live.options c.in-Ok-Live.readers c.in-Ok-Live.polls c.in-Ok-Live.attempts c.in-Ok-Live.mirrors c.run_live.result _ _ _ _ _ c.in-Ok-Live.ensures.ok c.in-Ok-Live.field-0-is c.run_live.ensures.inside
 
 pub returns-in-Ok-clause-inside : goal.returns-in-Ok-clause-inside
-returns-in-Ok-clause-inside g c = ran_job _ c.in-Ok.job _ _ _ _ _ _ _ c.in-Ok.ensures.ok c.plain.ensures.inside
+returns-in-Ok-clause-inside g c = ran_job _ c.in-Ok.job _ _ _ _ _ _ _ c.in-Ok.ensures.ok c.plain-status.ensures.inside
 
 pub returns-in-Err-Usage-clause-inside : goal.returns-in-Err-Usage-clause-inside
 returns-in-Err-Usage-clause-inside g c =

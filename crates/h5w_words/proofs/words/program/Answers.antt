@@ -6,6 +6,7 @@ use Rattle.h5w_words.specs.Files.{check_app, clear_app, creating_app, poll_app}
 use Rattle.h5w_words.specs.Lives.{live_app}
 use Rattle.h5w_words.specs.Makes.{make_app}
 use Rattle.h5w_words.specs.Play.{play_app}
+use Rattle.h5w_words.specs.Repacks.{repack_app}
 use Rattle.h5w_words.specs.Stops.{stop_app}
 use Rattle.h5w_words.proofs.WordLemmas.{app_made, made}
 use Rattle.h5w_words.proofs.words.program.Goals as goal
@@ -20,5 +21,6 @@ returns c =
     let make = c.added-command-6.ensures _ make_app clear (made c.make.result make_app c.make.ensures.shape c.make.ensures.local) in
     let append = c.added-command-7.ensures _ append_app make (made c.append.result append_app c.append.ensures.shape c.append.ensures.local) in
     let live = c.added-command-8.ensures _ live_app append (made c.live.result live_app c.live.ensures.shape c.live.ensures.local) in
-    let stop = c.added.ensures _ stop_app live (made c.stop.result stop_app c.stop.ensures.shape c.stop.ensures.local) in
-    app_made c.added.result program stop
+    let stop = c.added-command-9.ensures _ stop_app live (made c.stop.result stop_app c.stop.ensures.shape c.stop.ensures.local) in
+    let repack = c.added.ensures _ repack_app stop (made c.repack.result repack_app c.repack.ensures.shape c.repack.ensures.local) in
+    app_made c.added.result program repack

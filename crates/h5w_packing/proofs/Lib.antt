@@ -1,0 +1,16 @@
+pub mod TableLemmas
+pub mod JobLemmas
+pub mod LeftLemmas
+pub mod PutLemmas
+pub mod PlaceLemmas
+pub mod CellLemmas
+pub mod TileLemmas
+pub mod EndLemmas
+pub mod PlainLemmas
+pub mod WholeLemmas
+pub mod FrontLemmas
+pub mod FitLemmas
+pub mod PlanLemmas
+pub mod PreparedLemmas
+pub mod TiledLemmas
+pub mod ResultLemmas

@@ -1,0 +1,4 @@
+pub mod Tiles
+pub mod Jobs
+pub mod Plans
+pub mod Whole

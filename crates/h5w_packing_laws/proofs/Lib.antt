@@ -1,0 +1,14 @@
+pub mod GrownLemmas
+pub mod TightLemmas
+pub mod AgainLemmas
+pub mod SumLemmas
+pub mod RangeLemmas
+pub mod MapLemmas
+pub mod CopyLemmas
+pub mod StandLemmas
+pub mod RootLemmas
+pub mod TreePlanLemmas
+pub mod TopLemmas
+pub mod NewLemmas
+pub mod PackedLemmas
+pub mod SourceLemmas

@@ -1,0 +1,5 @@
+pub mod Growing
+pub mod Standing
+pub mod Packing
+pub mod PackingLaws
+pub mod Sources

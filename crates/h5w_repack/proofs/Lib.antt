@@ -1,0 +1,4 @@
+pub mod CarryLemmas
+pub mod CopyLemmas
+pub mod InsideLemmas
+pub mod RepackLemmas

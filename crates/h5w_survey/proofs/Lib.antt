@@ -1,0 +1,4 @@
+pub mod LookLemmas
+pub mod StepLemmas
+pub mod ReadingLemmas
+pub mod WholeLemmas

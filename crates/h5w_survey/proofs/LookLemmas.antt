@@ -1,0 +1,67 @@
+-- That the looks of a program come to an end, and that what each gives leaves what an image that stays gives.
+use Rattle.std.proofs.Common.{◌≡◌, ℕ, zero, suc, ◌<◌, ◌≤◌, max, List, [], ◌∷◌, length, Option, Some, None, subst, ap, sym, ◌∙◌, inl, inr, arith}
+use Rattle.std.specs.Prelude.{IfSome}
+use Rattle.std.proofs.lemmas.Bool.{cases_lt}
+use Rattle.std.proofs.lemmas.List.Elements.{All-head, All-tail}
+use Rattle.std.proofs.Math.Nat.{le_trans, le-max_left, le-max_right}
+use Rattle.h5w_model.specs.Numbers.{AreBytes, range}
+use Rattle.h5w_model.specs.Programs.{Prog, ret, whole, counted, stored, eval, next_look, fed}
+use Rattle.h5w_image.specs.View.{GivesRange, ImageView}
+use Rattle.h5w_looks.specs.Still.{IsStill}
+use Rattle.h5w_lookup.specs.Looks.{IsWithinLook}
+use Rattle.h5w_survey.specs.Lookups.{greatest_at, greatest_to, most_looks}
+
+abbrev length_in : Option (ℕ × ℕ) → ℕ
+length_in None = 0
+length_in (Some look) = look.1
+
+abbrev place_in : Option (ℕ × ℕ) → ℕ
+place_in None = 0
+place_in (Some look) = look.0
+
+greatest_to_most : (n : ℕ) (f : ℕ → ℕ) (k : ℕ) → k ≤ n → f k ≤ greatest_to n f
+greatest_to_most zero f k h = let e : 0 ≡ k = omega arith in subst (λ x. f x ≤ f 0) e (omega arith)
+greatest_to_most (suc n) f k h =
+    elim (cases_lt n k) [
+      | inl past ↦ (let e : suc n ≡ k = omega arith in subst (λ x. f x ≤ greatest_to (suc n) f) e (le-max_left (f (suc n)) (greatest_to n f)))
+      | inr low ↦ le_trans (greatest_to_most n f k low) (le-max_right (f (suc n)) (greatest_to n f))
+    ]
+
+greatest_at_most : (n : ℕ) (f : List ℕ → ℕ) (bytes : List ℕ) → AreBytes bytes → length bytes ≤ n → f bytes ≤ greatest_at n f
+greatest_at_most zero f [] are h = omega arith
+greatest_at_most zero f (b ∷ bs) are h = absurd (omega arith)
+greatest_at_most (suc n) f [] are h = le-max_left (f []) (greatest_to 255 (λ b. greatest_at n (λ bs. f (b ∷ bs))))
+greatest_at_most (suc n) f (b ∷ bs) are h =
+    let small : b < 256 = All-head (λ (x : ℕ). x < 256) b bs are in
+    let rest : AreBytes bs = All-tail (λ (x : ℕ). x < 256) b bs are in
+    let at : List ℕ → ℕ = λ xs. f (b ∷ xs) in
+    le_trans (greatest_at_most n at bs rest (omega arith))
+    (le_trans (greatest_to_most 255 (λ c. greatest_at n (λ xs. f (c ∷ xs))) b (omega arith)) (le-max_right (f []) (greatest_to 255 (λ c. greatest_at n (λ xs. f (c ∷ xs))))))
+
+-- a look that was given takes one of them
+pub most_fed : {A : Type 0} (p : Prog A) (at len : ℕ) (bytes : List ℕ) → next_look p ≡ Some (at, len) → AreBytes bytes → length bytes ≤ len → most_looks (fed bytes p) < most_looks p
+most_fed (ret a) at len bytes e are short = cc
+most_fed (whole place n next) at len bytes e are short =
+    let m : n ≡ len = ap length_in e in
+    let h : most_looks (next bytes) ≤ greatest_at n (λ b. most_looks (next b)) = greatest_at_most n (λ b. most_looks (next b)) bytes are (omega arith) in
+    omega (arith, h)
+most_fed (counted place counts next) at len bytes e are short = cc
+most_fed (stored kind place n next) at len bytes e are short = cc
+
+-- what is left of it comes to the same
+eval_fed : {A : Type 0} (img : List ℕ) (p : Prog A) (at len : ℕ) → next_look p ≡ Some (at, len) → eval img (fed (range img at len) p) ≡ eval img p
+eval_fed img (ret a) at len e = cc
+eval_fed img (whole place n next) at len e =
+    ap (λ x. eval img (next (range img x len))) (sym (ap place_in e)) ∙ ap (λ x. eval img (next (range img place x))) (sym (ap length_in e))
+eval_fed img (counted place counts next) at len e = cc
+eval_fed img (stored kind place n next) at len e = cc
+
+given_there : (x : ImageView) (img : List ℕ) (at len : ℕ) (bytes : List ℕ) → IsStill x img → GivesRange x at len bytes → bytes ≡ range img at len
+given_there x img at len bytes still gives = subst (λ (o : Option (List ℕ)). IfSome o (λ b. bytes ≡ range b at len)) still.told gives
+
+pub same_then : {A : Type 0} (img : List ℕ) (p : Prog A) (at len : ℕ) (bytes : List ℕ) (x : ImageView) → next_look p ≡ Some (at, len) → IsStill x img → GivesRange x at len bytes → eval img (fed bytes p) ≡ eval img p
+same_then img p at len bytes x e still gives = ap (λ b. eval img (fed b p)) (given_there x img at len bytes still gives) ∙ eval_fed img p at len e
+
+-- the bytes of a look are within it
+pub within_look : (l : Option (ℕ × ℕ)) (at len n : ℕ) → l ≡ Some (at, len) → n ≤ len → IsWithinLook l n
+within_look l at len n e h = subst (λ x. IsWithinLook x n) (sym e) h

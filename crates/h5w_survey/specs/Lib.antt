@@ -1,0 +1,9 @@
+pub use Rattle.h5w_model.specs.Numbers
+pub use Rattle.h5w_model.specs.Causes
+pub use Rattle.h5w_model.specs.Findings
+pub use Rattle.h5w_image.specs.View
+pub use Rattle.h5w_looks.specs.Still
+pub mod Errors
+pub mod Steps
+pub mod Lookups
+pub mod Surveys
