@@ -1,4 +1,5 @@
-/* The file layer: looks by pread. What the header asks of C for the promise to hold is kept here, in `look` and `drive`. */
+/* The file layer: looks by pread, pieces by pwrite. What the header asks of C for the promise to hold is kept here, in `look`, `put`,
+ * `drive` and `put_all`. */
 #define _POSIX_C_SOURCE 200809L
 
 #include "h5swmr.h"
@@ -7,6 +8,8 @@
 #include <fcntl.h>
 #include <stdlib.h>
 #include <string.h>
+#include <sys/mman.h>
+#include <sys/stat.h>
 #include <time.h>
 #include <unistd.h>
 
@@ -18,8 +21,16 @@
 #define REST 100000
 #define MOST 10000
 
+/* The room for the program's line of a refusal: none has so many bytes. */
+#define LINE 256
+
 struct h5swmr_reader {
     h5w_reader core;
+    int fd;
+};
+
+struct h5swmr_writer {
+    h5w_writer core;
     int fd;
 };
 
@@ -39,7 +50,25 @@ static h5w_told failure(int error, uint64_t at)
     return tell(H5W_IO, (uint32_t)error, at);
 }
 
-/* ---- Looks */
+/* ---- The program's line of a refusal */
+
+static __thread char last_line[LINE];
+
+/* Keeps the line in front of these bytes, if it ends there. */
+static void keep_line(const uint8_t *text)
+{
+    const uint8_t *end = memchr(text, '\n', LINE);
+    size_t len = end ? (size_t)(end - text) : 0;
+    memcpy(last_line, text, len);
+    last_line[len] = 0;
+}
+
+const char *h5swmr_line(void)
+{
+    return last_line;
+}
+
+/* ---- Looks and pieces */
 
 /* The bytes of a look, and how many the file has of them; false where pread failed. */
 static bool look(int fd, h5w_place place, uint8_t *bytes, size_t *got)
@@ -59,6 +88,20 @@ static bool look(int fd, h5w_place place, uint8_t *bytes, size_t *got)
     return true;
 }
 
+/* Writes a whole piece; 0, or the errno. */
+static int put(int fd, h5w_place place, const uint8_t *bytes)
+{
+    for (size_t done = 0; done < place.len;) {
+        ssize_t n = pwrite(fd, bytes + done, place.len - done, (off_t)(place.at + done));
+        if (n < 0 && errno == EINTR)
+            continue;
+        if (n <= 0)
+            return n ? errno : EIO;
+        done += (size_t)n;
+    }
+    return 0;
+}
+
 /* Takes the call that came to `told` to its answer. */
 static h5w_told drive(h5swmr_reader *reader, h5w_told told)
 {
@@ -74,6 +117,22 @@ static h5w_told drive(h5swmr_reader *reader, h5w_told told)
         told = h5w_reader_give(&reader->core, bytes, got);
     }
     return told;
+}
+
+/* Writes all pending pieces, in their order. */
+static h5w_told put_all(h5swmr_writer *writer)
+{
+    uint8_t bytes[H5W_PIECE];
+    h5w_place place;
+    while (h5w_writer_next(&writer->core, bytes, sizeof bytes, &place)) {
+        int error = put(writer->fd, place, bytes);
+        if (error) {
+            h5w_writer_failed(&writer->core);
+            return failure(error, place.at);
+        }
+        h5w_writer_written(&writer->core);
+    }
+    return tell(H5W_OK, 0, 0);
 }
 
 /* ---- Readers */
@@ -120,6 +179,17 @@ static h5w_told settle(h5swmr_reader *reader, h5w_told told)
     return told;
 }
 
+/* The answer of a call, whose line is kept if it has one. */
+static h5w_told noted(h5swmr_reader *reader, h5w_told told)
+{
+    if (told.code == H5W_AGAIN || told.code == H5W_SHRUNK || told.code == H5W_REFUSED) {
+        uint8_t text[LINE] = { 0 };
+        h5w_reader_refusal(&reader->core, text, sizeof text);
+        keep_line(text);
+    }
+    return told;
+}
+
 /* Ends a reader that may be half open. */
 static void drop_reader(h5swmr_reader *reader)
 {
@@ -138,7 +208,7 @@ h5w_told h5swmr_open(h5swmr_reader **out, const char *path, const char *name, ui
     if (!reader)
         return tell(H5W_MEMORY, 0, 0);
     reader->fd = open(path, O_RDONLY | O_CLOEXEC);
-    h5w_told told = reader->fd < 0 ? failure(errno, 0) : settle(reader, drive(reader, h5w_reader_open(&reader->core, (const uint8_t *)name, strlen(name), attempts)));
+    h5w_told told = reader->fd < 0 ? failure(errno, 0) : noted(reader, settle(reader, drive(reader, h5w_reader_open(&reader->core, (const uint8_t *)name, strlen(name), attempts))));
     if (told.code == H5W_OK || told.code == H5W_AGAIN)
         *out = reader;
     else
@@ -148,7 +218,7 @@ h5w_told h5swmr_open(h5swmr_reader **out, const char *path, const char *name, ui
 
 h5w_told h5swmr_refresh(h5swmr_reader *reader)
 {
-    return reader ? settle(reader, drive(reader, h5w_reader_refresh(&reader->core))) : misuse();
+    return reader ? noted(reader, settle(reader, drive(reader, h5w_reader_refresh(&reader->core)))) : misuse();
 }
 
 uint64_t h5swmr_rows(h5swmr_reader *reader)
@@ -156,11 +226,16 @@ uint64_t h5swmr_rows(h5swmr_reader *reader)
     return reader ? h5w_reader_rows(&reader->core) : 0;
 }
 
+h5w_told h5swmr_shape(h5swmr_reader *reader, h5w_shape *shape)
+{
+    return reader && shape && h5w_reader_shape(&reader->core, shape) ? tell(H5W_OK, 0, 0) : misuse();
+}
+
 h5w_told h5swmr_load(h5swmr_reader *reader, uint64_t from, uint64_t rows)
 {
     if (!reader)
         return misuse();
-    h5w_told told = drive(reader, h5w_reader_read(&reader->core, from, rows));
+    h5w_told told = noted(reader, drive(reader, h5w_reader_read(&reader->core, from, rows)));
     return told.code == H5W_VALUES ? tell(H5W_OK, 0, told.count) : told;
 }
 
@@ -205,6 +280,136 @@ h5w_told h5swmr_close_reader(h5swmr_reader **reader)
     return tell(H5W_OK, 0, 0);
 }
 
+/* ---- Writers */
+
+/* Frees a writer, whatever it is at; what went wrong before, or at the close of its file. */
+static h5w_told drop_writer(h5swmr_writer *writer, h5w_told told)
+{
+    h5w_writer_free(&writer->core);
+    if (writer->fd >= 0 && close(writer->fd) && errno != EINTR && told.code == H5W_OK)
+        told = failure(errno, 0);
+    free(writer);
+    return told;
+}
+
+/* Hands out a writer whose session begins, behind its first pieces. */
+static h5w_told begun(h5swmr_writer **out, h5swmr_writer *writer, h5w_told told)
+{
+    if (told.code == H5W_OK)
+        told = put_all(writer);
+    if (told.code != H5W_OK)
+        return drop_writer(writer, told);
+    *out = writer;
+    return tell(H5W_OK, 0, h5w_writer_rows(&writer->core));
+}
+
+h5w_told h5swmr_create(h5swmr_writer **out, const char *path, const char *name, const h5w_options *options)
+{
+    if (!out || !path || !name || !options)
+        return misuse();
+    *out = NULL;
+    h5swmr_writer *writer = calloc(1, sizeof *writer);
+    if (!writer)
+        return tell(H5W_MEMORY, 0, 0);
+    writer->fd = -1;
+    h5w_told told = h5w_writer_create(&writer->core, (const uint8_t *)name, strlen(name), options);
+    if (told.code == H5W_OK) {
+        writer->fd = open(path, O_RDWR | O_CREAT | O_EXCL | O_CLOEXEC, 0666);
+        if (writer->fd < 0)
+            told = failure(errno, 0);
+    }
+    return begun(out, writer, told);
+}
+
+/* Opens the session over the bytes of its file. */
+static h5w_told open_over(h5swmr_writer *writer, const char *name, uint64_t limit, uint64_t budget)
+{
+    struct stat about;
+    uint8_t text[LINE] = { 0 };
+    if (fstat(writer->fd, &about))
+        return failure(errno, 0);
+    size_t size = (size_t)about.st_size;
+    /* (a file without bytes cannot be mapped) */
+    void *bytes = size ? mmap(NULL, size, PROT_READ, MAP_SHARED, writer->fd, 0) : (void *)name;
+    if (bytes == MAP_FAILED)
+        return failure(errno, 0);
+    h5w_told told = h5w_writer_open(&writer->core, bytes, size, (const uint8_t *)name, strlen(name), limit, budget, text, sizeof text);
+    if (size)
+        munmap(bytes, size);
+    if (told.code == H5W_REFUSED || told.code == H5W_OPENED)
+        keep_line(text);
+    return told;
+}
+
+h5w_told h5swmr_append_to(h5swmr_writer **out, const char *path, const char *name, uint64_t limit, uint64_t budget)
+{
+    if (!out || !path || !name)
+        return misuse();
+    *out = NULL;
+    h5swmr_writer *writer = calloc(1, sizeof *writer);
+    if (!writer)
+        return tell(H5W_MEMORY, 0, 0);
+    writer->fd = open(path, O_RDWR | O_CLOEXEC);
+    return begun(out, writer, writer->fd < 0 ? failure(errno, 0) : open_over(writer, name, limit, budget));
+}
+
+h5w_told h5swmr_keep_retired(h5swmr_writer *writer)
+{
+    return writer ? h5w_writer_keep_retired(&writer->core) : misuse();
+}
+
+/* What a call of the core comes to once its pieces are written: nothing is pending behind it. */
+static h5w_told written(h5swmr_writer *writer, h5w_told told)
+{
+    h5w_told done = told.code == H5W_OK ? put_all(writer) : told;
+    return done.code == H5W_OK ? told : done;
+}
+
+h5w_told h5swmr_append(h5swmr_writer *writer, const int64_t *values, size_t n)
+{
+    static const int64_t none;
+    if (!writer || (!values && n))
+        return misuse();
+    return written(writer, h5w_writer_append(&writer->core, values ? values : &none, n));
+}
+
+h5w_told h5swmr_append_u64(h5swmr_writer *writer, const uint64_t *values, size_t n)
+{
+    static const uint64_t none;
+    if (!writer || (!values && n))
+        return misuse();
+    return written(writer, h5w_writer_append_u64(&writer->core, values ? values : &none, n));
+}
+
+h5w_told h5swmr_flush(h5swmr_writer *writer)
+{
+    if (!writer)
+        return misuse();
+    h5w_told told = written(writer, h5w_writer_flush(&writer->core));
+    return told.code == H5W_OK ? tell(H5W_OK, 0, h5w_writer_rows(&writer->core)) : told;
+}
+
+uint64_t h5swmr_appended(h5swmr_writer *writer)
+{
+    return writer ? h5w_writer_rows(&writer->core) : 0;
+}
+
+uint64_t h5swmr_columns(h5swmr_writer *writer)
+{
+    return writer ? h5w_writer_columns(&writer->core) : 0;
+}
+
+h5w_told h5swmr_close_writer(h5swmr_writer **out)
+{
+    if (!out || !*out)
+        return misuse();
+    h5swmr_writer *writer = *out;
+    *out = NULL;
+    h5w_told told = h5swmr_flush(writer);
+    h5w_told done = written(writer, h5w_writer_close(&writer->core));
+    return drop_writer(writer, told.code == H5W_OK ? done : told);
+}
+
 /* ---- Texts */
 
 static const char *refusal_text(uint32_t detail)
@@ -214,13 +419,24 @@ static const char *refusal_text(uint32_t detail)
     return texts[detail < sizeof texts / sizeof *texts ? detail : 0];
 }
 
+static const char *unopened_text(uint32_t detail)
+{
+    static const char *const texts[] = { "not a file to append to", "superblock of another version than 3", "flags of a writer", "the file ends before its end-of-file address",
+        "layout message behind the first part of the dataset header", "chunks of too many bytes", "rows without columns" };
+    if (detail == H5W_TREE || detail == H5W_TREE_RECORDS)
+        return "damaged tree";
+    return texts[detail < sizeof texts / sizeof *texts ? detail : 0];
+}
+
 const char *h5swmr_text(h5w_told told)
 {
     static const char *const texts[] = { "done", "a look is wanted", "values are there", "the dataset header changed in each attempt", "fewer rows than were seen", "", "memory was refused", "busy",
-        "rows that were not seen", "misuse", "", "a value that the type has not" };
+        "rows that were not seen, or no whole rows", "misuse", "the session is stopped", "a value is outside the type", "too many chunks", "no place below the limit", "" };
     switch (told.code) {
     case H5W_REFUSED:
         return refusal_text(told.detail);
+    case H5W_OPENED:
+        return unopened_text(told.detail);
     case H5W_IO:
         return strerror((int)told.detail);
     case H5W_ROOM:

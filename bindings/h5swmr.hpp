@@ -11,13 +11,16 @@
 
 namespace h5swmr {
 
-// A refusal, with all that the call told.
+// A refusal, with all that the call told, and the line that the program would print of a file that it cannot read; else it is empty.
 class error : public std::runtime_error {
+    static bool has_line(h5w_told told) { return told.code == H5W_AGAIN || told.code == H5W_SHRUNK || told.code == H5W_REFUSED || told.code == H5W_OPENED; }
+
 public:
     const h5w_told told;
+    const std::string line;
 
     error(const char *call, h5w_told told)
-        : std::runtime_error(std::string(call) + ": " + h5swmr_text(told) + " (code " + std::to_string(told.code) + ", detail " + std::to_string(told.detail) + ", count " + std::to_string(told.count) + ")"), told(told)
+        : std::runtime_error(std::string(call) + ": " + h5swmr_text(told) + " (code " + std::to_string(told.code) + ", detail " + std::to_string(told.detail) + ", count " + std::to_string(told.count) + ")"), told(told), line(has_line(told) ? h5swmr_line() : "")
     {
     }
 };
@@ -47,12 +50,53 @@ public:
     std::uint64_t refresh() { return done("refresh", h5swmr_refresh(handle.get())); }
     std::uint64_t rows() const { return h5swmr_rows(handle.get()); }
 
+    h5w_shape shape() const
+    {
+        h5w_shape found;
+        done("shape", h5swmr_shape(handle.get(), &found));
+        return found;
+    }
+
     // The values of these rows, one row behind another.
     std::vector<std::int64_t> read(std::uint64_t from, std::uint64_t rows)
     {
         std::vector<std::int64_t> values(done("read", h5swmr_load(handle.get(), from, rows)));
         done("read", h5swmr_values(handle.get(), 0, values.data(), values.size()));
         return values;
+    }
+};
+
+// A writer that is destroyed before its `close` closes too, and tells no refusal.
+class writer {
+    struct closes { void operator()(h5swmr_writer *it) const { h5swmr_close_writer(&it); } };
+    std::unique_ptr<h5swmr_writer, closes> handle;
+
+    explicit writer(h5swmr_writer *opened) : handle(opened) {}
+
+public:
+    static writer create(const std::string &path, const h5w_options &how, const std::string &name = "data")
+    {
+        h5swmr_writer *opened;
+        done("create", h5swmr_create(&opened, path.c_str(), name.c_str(), &how));
+        return writer(opened);
+    }
+
+    static writer append_to(const std::string &path, const std::string &name = "data", std::uint64_t limit = std::uint64_t(1) << 40, std::uint64_t budget = 65536)
+    {
+        h5swmr_writer *opened;
+        done("append_to", h5swmr_append_to(&opened, path.c_str(), name.c_str(), limit, budget));
+        return writer(opened);
+    }
+
+    void keep_retired() { done("keep_retired", h5swmr_keep_retired(handle.get())); }
+    std::uint64_t append(const std::int64_t *values, std::size_t n) { return done("append", h5swmr_append(handle.get(), values, n)); }
+    std::uint64_t append(const std::vector<std::int64_t> &values) { return append(values.data(), values.size()); }
+    std::uint64_t flush() { return done("flush", h5swmr_flush(handle.get())); }
+
+    void close()
+    {
+        h5swmr_writer *it = handle.release();
+        done("close", h5swmr_close_writer(&it));
     }
 };
 

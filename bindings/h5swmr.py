@@ -1,4 +1,8 @@
-"""h5swmr in Python: a reader finds the rows that a writer appends to a dataset of an HDF5 file, with no lock. By ctypes, over libh5swmr.so.
+"""h5swmr in Python: a writer appends rows to a dataset of an HDF5 file, and readers find them, with no lock. By ctypes, over libh5swmr.so.
+
+    with h5swmr.create("f.h5", kind="i32le", chunk=1024) as writer:
+        writer.append([1, 2, 3])
+        writer.flush()
 
     with h5swmr.Reader("f.h5") as reader:
         print(reader.read(0, reader.refresh()))
@@ -10,8 +14,10 @@ A handle keeps a lock for its calls, since ctypes lets other threads run meanwhi
 the process: the child of a fork opens its own.
 """
 import array
+import collections
 import ctypes
 import os
+import re
 import threading
 
 try:
@@ -19,9 +25,10 @@ try:
 except ImportError:
     numpy = None
 
-__all__ = ["Again", "Error", "Reader"]
+__all__ = ["Again", "Error", "Reader", "Shape", "Writer", "append_to", "create"]
 
-OK, AGAIN, IO = 0, 3, 64
+OK, AGAIN, SHRUNK, REFUSED, OPENED, IO = 0, 3, 4, 5, 14, 64
+LIMIT, BUDGET = 1 << 40, 65536
 HERE = os.path.dirname(os.path.realpath(__file__))
 
 
@@ -29,6 +36,20 @@ class Told(ctypes.Structure):
     """What a call comes to."""
 
     _fields_ = [("code", ctypes.c_uint32), ("detail", ctypes.c_uint32), ("count", ctypes.c_uint64)]
+
+
+class Options(ctypes.Structure):
+    """How a file is made."""
+
+    _fields_ = [(it, ctypes.c_uint64) for it in ("chunk_rows", "columns", "width", "limit", "budget")] + [("fill", ctypes.c_int64)]
+    _fields_ += [(it, ctypes.c_uint8) for it in ("size", "big", "is_signed", "filled", "fixed")]
+
+
+class RawShape(ctypes.Structure):
+    """What a dataset is."""
+
+    _fields_ = [(it, ctypes.c_uint64) for it in ("rows", "columns", "chunk_rows", "width")]
+    _fields_ += [(it, ctypes.c_uint8) for it in ("dimensions", "growing", "size", "big", "is_signed")]
 
 
 def library():
@@ -43,11 +64,22 @@ CALLS = {
     "open": (Told, ctypes.POINTER(HANDLE), TEXT, TEXT, ctypes.c_uint32),
     "refresh": (Told, HANDLE),
     "rows": (NUMBER, HANDLE),
+    "shape": (Told, HANDLE, ctypes.POINTER(RawShape)),
     "load": (Told, HANDLE, NUMBER, NUMBER),
     "values": (Told, HANDLE, NUMBER, POINTER, ctypes.c_size_t),
     "values_u64": (Told, HANDLE, NUMBER, POINTER, ctypes.c_size_t),
     "close_reader": (Told, ctypes.POINTER(HANDLE)),
+    "create": (Told, ctypes.POINTER(HANDLE), TEXT, TEXT, ctypes.POINTER(Options)),
+    "append_to": (Told, ctypes.POINTER(HANDLE), TEXT, TEXT, NUMBER, NUMBER),
+    "keep_retired": (Told, HANDLE),
+    "append": (Told, HANDLE, POINTER, ctypes.c_size_t),
+    "append_u64": (Told, HANDLE, POINTER, ctypes.c_size_t),
+    "flush": (Told, HANDLE),
+    "appended": (NUMBER, HANDLE),
+    "columns": (NUMBER, HANDLE),
+    "close_writer": (Told, ctypes.POINTER(HANDLE)),
     "text": (ctypes.c_char_p, Told),
+    "line": (ctypes.c_char_p,),
 }
 
 
@@ -62,12 +94,13 @@ _calls = {it: call_of(_library, it) for it in CALLS}
 
 
 class Error(OSError):
-    """A refused call: its `code`, `detail` and `count` as h5swmr.h tells them. Of a failed call of the
-    system `errno` is its number."""
+    """A refused call: its `code`, `detail` and `count` as h5swmr.h tells them. `line` is what the program would print
+    of a file that it cannot read, and else empty. Of a failed call of the system `errno` is its number."""
 
     def __init__(self, call, told):
-        super().__init__(f"{call}: {_calls['text'](told).decode()} (code {told.code}, detail {told.detail}, count {told.count})")
-        self.call, self.code, self.detail, self.count = call, told.code, told.detail, told.count
+        line = _calls["line"]().decode() if told.code in (AGAIN, SHRUNK, REFUSED, OPENED) else ""
+        super().__init__(f"{call}: {_calls['text'](told).decode()} (code {told.code}, detail {told.detail}, count {told.count}){line and ': '}{line}")
+        self.call, self.code, self.detail, self.count, self.line = call, told.code, told.detail, told.count, line
         self.errno = told.detail if told.code == IO else None
 
 
@@ -97,7 +130,7 @@ def done(call, told):
 
 
 class Handle:
-    """A pointer, and a lock for its calls."""
+    """What a reader and a writer share: the pointer, and a lock for its calls."""
 
     closing = ""
 
@@ -148,15 +181,24 @@ def as_rows(room, rows):
     return [room[at : at + wide] for at in range(0, len(room), wide)]
 
 
+Shape = collections.namedtuple("Shape", "rows columns dimensions growing chunk_rows width kind")
+
+
+def kind_of(raw):
+    """The type of the values, as `create` takes it."""
+    order = "" if raw.size == 1 else "be" if raw.big else "le"
+    return f"{'i' if raw.is_signed else 'u'}{8 * raw.size}{order}"
+
+
 class Reader(Handle):
-    """A reader of a dataset of the root group. With `unsigned` the values come as 64-bit unsigned ones, which a dataset of u64 needs for those
-    from 2^63 on. A call tries `attempts` times where the dataset header changes meanwhile."""
+    """A reader of a dataset of the root group. The values of a dataset of u64 come as 64-bit unsigned ones, and those of all others as signed ones;
+    `unsigned` says otherwise. A call tries `attempts` times where the dataset header changes meanwhile."""
 
     closing = "close_reader"
 
-    def __init__(self, path, name="data", attempts=8, unsigned=False):
+    def __init__(self, path, name="data", attempts=8, unsigned=None):
         super().__init__()
-        self._values = "values_u64" if unsigned else "values"
+        self._unsigned = unsigned
         told = _calls["open"](ctypes.byref(self._pointer), word(os.fsencode(path)), word(name.encode()), number(attempts, 32))
         if told.code != AGAIN:
             done("open", told)
@@ -169,15 +211,109 @@ class Reader(Handle):
     def __len__(self):
         return self.rows
 
+    @property
+    def shape(self):
+        """What the last open or refresh found: rows, columns (1 in one dimension), dimensions, whether there may be more columns later, the rows and
+        columns of a chunk, and the kind of the values."""
+        raw = RawShape()
+        self._call("shape", ctypes.byref(raw))
+        return Shape(raw.rows, raw.columns, raw.dimensions, bool(raw.growing), raw.chunk_rows, raw.width, kind_of(raw))
+
     def refresh(self):
         """Looks for new rows, and tells how many are there."""
         return self._call("refresh")
+
+    def _is_unsigned(self):
+        """Whether the values are to come as unsigned ones."""
+        if self._unsigned is not None:
+            return self._unsigned
+        raw = RawShape()
+        return _calls["shape"](self._pointer, ctypes.byref(raw)).code == OK and raw.size == 8 and not raw.is_signed
 
     def read(self, start=0, count=None):
         """The values of so many rows from row `start` on, of those that were seen; without a count all the others."""
         count = max(self.rows - start, 0) if count is None else count
         with self._lock:
             there = done("read", _calls["load"](self._pointer, number(start), number(count)))
-            room, place = room_for(there, self._values == "values_u64")
-            done("read", _calls[self._values](self._pointer, 0, place, there))
+            unsigned = self._is_unsigned()
+            room, place = room_for(there, unsigned)
+            done("read", _calls["values_u64" if unsigned else "values"](self._pointer, 0, place, there))
         return as_rows(room, count)
+
+
+def as_values(values):
+    """The values as one range of 64-bit integers, and how many a row has where they come in rows."""
+    if numpy and isinstance(values, numpy.ndarray):
+        if values.size and values.dtype.kind not in "iub":
+            raise TypeError(f"values of {values.dtype} are no integers of 64 bits")
+        kept = numpy.ascontiguousarray(values, numpy.uint64 if values.dtype.kind == "u" else numpy.int64)
+        return kept.reshape(-1), kept.shape[1] if kept.ndim == 2 else None
+    if isinstance(values, array.array) and values.typecode in "qQ":
+        return values, None
+    rows = list(values)
+    wide = {len(it) for it in rows if hasattr(it, "__len__")}
+    if len(wide) > 1:
+        raise ValueError(f"rows of {sorted(wide)} values")
+    flat = [it for row in rows for it in row] if wide else rows
+    return array.array("Q" if flat and max(flat) >= 1 << 63 else "q", flat), wide.pop() if wide else None
+
+
+def place_of(kept):
+    """Where the values stand, how many they are, and whether they are unsigned."""
+    if isinstance(kept, array.array):
+        return *kept.buffer_info(), kept.typecode == "Q"
+    return kept.ctypes.data, kept.size, kept.dtype == numpy.uint64
+
+
+class Writer(Handle):
+    """The one writer of a file: `create` and `append_to` make it."""
+
+    closing = "close_writer"
+
+    def __init__(self, call, path, name, words, keep_retired):
+        super().__init__()
+        done(call, _calls[call](ctypes.byref(self._pointer), word(os.fsencode(path)), word(name.encode()), *words))
+        if keep_retired:
+            self._call("keep_retired")
+
+    @property
+    def rows(self):
+        """The rows that were appended in all; those that were not flushed count too."""
+        return self._number("appended")
+
+    @property
+    def columns(self):
+        """How many values a row has."""
+        return self._number("columns")
+
+    def append(self, values):
+        """Appends whole rows, and tells how many rows there are in all. They wait for a flush. A refusal appends nothing."""
+        kept, wide = as_values(values)
+        if wide is not None and self.columns not in (0, wide):  # (0 of a closed one)
+            raise ValueError(f"rows of {wide} values, and the dataset has {self.columns}")
+        place, count, unsigned = place_of(kept)
+        return self._call("append_u64" if unsigned else "append", place, count)
+
+    def flush(self):
+        """Makes the appended rows visible: how many each reader finds whose call begins from now on."""
+        return self._call("flush")
+
+
+def create(path, name="data", kind="i64le", chunk=1024, columns=0, width=0, fixed=False, fill=None, limit=LIMIT, budget=BUDGET, keep_retired=False):
+    """Makes a file, which must not be there, with an empty dataset, and gives its writer. The words are those of `h5swmr new`: kind is one of i8, u8,
+    i16le and so on, chunk the rows of a chunk; with columns there are two dimensions, and width columns in a chunk. keep_retired is as
+    `--no-reuse`, for HDF5's own library as a reader."""
+    parts = re.fullmatch("([iu])(?:(8)|(16|32|64)(le|be))", kind)
+    if not parts:
+        raise ValueError(f"no such type: {kind!r}")
+    sign, short, long, order = parts.groups()
+    if fill is not None and not -1 << 63 <= fill < 1 << 63:
+        raise OverflowError(f"a fill of {fill} is no signed number of 64 bits")
+    numbers = [number(it) for it in (chunk, columns, width, limit, budget)]
+    how = Options(*numbers, fill or 0, int(short or long) // 8, order == "be", sign == "i", fill is not None, fixed)
+    return Writer("create", path, name, (ctypes.byref(how),), keep_retired)
+
+
+def append_to(path, name="data", limit=LIMIT, budget=BUDGET, keep_retired=False):
+    """Opens a file to append to it, and gives its writer. Nobody else may write the file."""
+    return Writer("append_to", path, name, (number(limit), number(budget)), keep_retired)

@@ -1,4 +1,4 @@
-/* The file layer over a system that fails: faults FILE, of 600 rows of i32le. Linked with --wrap of pread, malloc, calloc and realloc, so that calls of
+/* The file layer over a system that fails: faults FILE, which it makes. Linked with --wrap of pread, pwrite, malloc, calloc and realloc, so that calls of
  * the system move one byte, are interrupted, give bytes that are half written, or fail. Prints nothing but what is wrong. */
 #define _POSIX_C_SOURCE 200809L
 #include "trials.h"
@@ -8,9 +8,11 @@
 #include <time.h>
 #include <unistd.h>
 
-#define ROWS 600
+#define BATCHES 4
+#define BATCH 150
 
 ssize_t __real_pread(int, void *, size_t, off_t);
+ssize_t __real_pwrite(int, const void *, size_t, off_t);
 void *__real_malloc(size_t);
 void *__real_calloc(size_t, size_t);
 void *__real_realloc(void *, size_t);
@@ -18,7 +20,7 @@ void *__real_realloc(void *, size_t);
 /* Calls move one byte, and each second one is interrupted. So many looks at a place are torn. The call of this number fails, counted down to 0. */
 static bool is_brief, is_odd;
 static uint64_t torn, torn_at, looks;
-static long fail_look, fail_memory;
+static long fail_look, fail_put, fail_memory;
 
 /* Whether a call is the one that is to fail. */
 static bool is_due(long *left)
@@ -50,6 +52,17 @@ ssize_t __wrap_pread(int fd, void *bytes, size_t n, off_t at)
     return got;
 }
 
+ssize_t __wrap_pwrite(int fd, const void *bytes, size_t n, off_t at)
+{
+    if (is_interrupted())
+        return -1;
+    if (is_due(&fail_put)) {
+        errno = ENOSPC;
+        return -1;
+    }
+    return __real_pwrite(fd, bytes, is_brief ? 1 : n, at);
+}
+
 void *__wrap_malloc(size_t n)
 {
     return is_due(&fail_memory) ? NULL : __real_malloc(n);
@@ -71,17 +84,51 @@ void *__wrap_realloc(void *old, size_t n)
         told = call; \
     while (told.code == H5W_MEMORY)
 
+/* Writes the batches to a new file; the rows that were flushed before a call came to IO. */
+static uint64_t write_all(const char *file)
+{
+    h5swmr_writer *writer;
+    h5w_options how = H5W_OPTIONS;
+    h5w_told told;
+    int64_t values[BATCH];
+    uint64_t rows = 0;
+    how.chunk_rows = 7, how.size = 4;
+    unlink(file);
+    AGAIN_IF_MEMORY(h5swmr_create(&writer, file, "data", &how));
+    for (int k = 0; told.code == H5W_OK && k < BATCHES; k++) {
+        for (uint64_t j = 0; j < BATCH; j++)
+            values[j] = value_of(rows + j);
+        AGAIN_IF_MEMORY(h5swmr_append(writer, values, BATCH));
+        if (told.code == H5W_OK)
+            AGAIN_IF_MEMORY(h5swmr_flush(writer));
+        if (told.code == H5W_OK)
+            want("rows of a flush", told.count, rows += BATCH);
+    }
+    if (told.code == H5W_OK)
+        told = h5swmr_close_writer(&writer);
+    if (told.code == H5W_IO) {
+        /* (a create that failed made no handle, and a close leaves none) */
+        uint32_t code = writer ? H5W_STOPPED : H5W_MISUSE;
+        want("errno", told.detail, ENOSPC);
+        want_code("append after a failed write", h5swmr_append(writer, values, 1), code);
+        want_code("flush after a failed write", h5swmr_flush(writer), code);
+        want_code("close after a failed write", h5swmr_close_writer(&writer), code);
+    } else
+        want_code("a call of the writer", told, H5W_OK);
+    return rows;
+}
+
 /* Reads the file, and compares its rows. */
 static void read_all(const char *file, uint64_t rows)
 {
     h5swmr_reader *reader;
     h5w_told told;
-    static int64_t values[ROWS];
+    static int64_t values[BATCHES * BATCH];
     AGAIN_IF_MEMORY(h5swmr_open(&reader, file, "data", 8));
     want("rows", want_code("open", told, H5W_OK).count, rows);
     AGAIN_IF_MEMORY(h5swmr_refresh(reader));
     want("rows", want_code("refresh", told, H5W_OK).count, rows);
-    AGAIN_IF_MEMORY(h5swmr_read(reader, 0, rows, values, ROWS));
+    AGAIN_IF_MEMORY(h5swmr_read(reader, 0, rows, values, BATCHES * BATCH));
     want("values", want_code("read", told, H5W_OK).count, rows);
     for (uint64_t k = 0; k < rows && !failed; k++)
         want("value", (uint64_t)values[k], (uint64_t)value_of(k));
@@ -92,7 +139,8 @@ static void read_all(const char *file, uint64_t rows)
 static void brief(const char *file)
 {
     is_brief = true;
-    read_all(file, ROWS);
+    want("rows", write_all(file), BATCHES * BATCH);
+    read_all(file, BATCHES * BATCH);
     is_brief = is_odd = false;
 }
 
@@ -106,7 +154,7 @@ static void torn_looks(const char *file)
     torn_at = 106;
     for (torn = 1; torn < 99; torn = torn * 3 + 1) {
         uint64_t left = torn;
-        want("rows", want_code("refresh over torn looks", h5swmr_refresh(reader), H5W_OK).count, ROWS);
+        want("rows", want_code("refresh over torn looks", h5swmr_refresh(reader), H5W_OK).count, BATCHES * BATCH);
         want("torn looks that are left", torn, 0);
         torn = left;
     }
@@ -117,9 +165,9 @@ static void torn_looks(const char *file)
     clock_gettime(CLOCK_MONOTONIC, &ended);
     want("100 looks at least", looks >= 100, true);
     want("10 ms at least", (ended.tv_sec - begun.tv_sec) * 1000000000 + ended.tv_nsec - begun.tv_nsec >= 10000000, true);
-    want("rows after a refusal", h5swmr_rows(reader), ROWS);
+    want("rows after a refusal", h5swmr_rows(reader), BATCHES * BATCH);
     torn = 0;
-    want("rows", want_code("refresh", h5swmr_refresh(reader), H5W_OK).count, ROWS);
+    want("rows", want_code("refresh", h5swmr_refresh(reader), H5W_OK).count, BATCHES * BATCH);
     want_code("close", h5swmr_close_reader(&reader), H5W_OK);
 }
 
@@ -128,7 +176,7 @@ static void failed_looks(const char *file)
 {
     h5swmr_reader *reader;
     h5w_told told;
-    static int64_t values[ROWS];
+    static int64_t values[BATCHES * BATCH];
     long n = 1;
     for (bool is_over = false; !failed && !is_over; n++) {
         fail_look = n;
@@ -136,7 +184,7 @@ static void failed_looks(const char *file)
         if (told.code == H5W_OK)
             told = h5swmr_refresh(reader);
         if (told.code == H5W_OK)
-            told = h5swmr_read(reader, 0, ROWS, values, ROWS);
+            told = h5swmr_read(reader, 0, BATCHES * BATCH, values, BATCHES * BATCH);
         is_over = fail_look > 0;
         fail_look = 0;
         want_code("a call of which a look fails", told, is_over ? H5W_OK : H5W_IO);
@@ -149,17 +197,33 @@ static void failed_looks(const char *file)
     want("many looks failed", n > 20, true);
 }
 
+/* Each write fails in turn: the file has the rows that were flushed before. */
+static void failed_puts(const char *file)
+{
+    long n = 1;
+    for (bool is_over = false; !failed && !is_over; n++) {
+        fail_put = n;
+        uint64_t rows = write_all(file);
+        is_over = fail_put > 0;
+        fail_put = 0;
+        if (n > 5)
+            read_all(file, rows);
+    }
+    want("many writes failed", n > 100, true);
+}
+
 /* Each call for memory fails in turn: the call is refused, and goes through when it is made again. */
 static void failed_memory(const char *file)
 {
     long n = 1;
     for (bool is_over = false; !failed && !is_over; n++) {
         fail_memory = n;
-        read_all(file, ROWS);
+        want("rows", write_all(file), BATCHES * BATCH);
+        read_all(file, BATCHES * BATCH);
         is_over = fail_memory > 0;
         fail_memory = 0;
     }
-    want("many calls failed", n > 10, true);
+    want("many calls failed", n > 50, true);
 }
 
 int main(int argc, char **argv)
@@ -169,6 +233,7 @@ int main(int argc, char **argv)
     brief(argv[1]);
     torn_looks(argv[1]);
     failed_looks(argv[1]);
+    failed_puts(argv[1]);
     failed_memory(argv[1]);
     return failed;
 }

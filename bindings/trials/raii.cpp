@@ -1,4 +1,4 @@
-// The classes of h5swmr.hpp: raii FILE, with the rows 1, -2 and 3. Prints nothing but what is wrong.
+// The classes of h5swmr.hpp: raii FILE, which it makes. Prints nothing but what is wrong.
 #include "h5swmr.hpp"
 
 #include <iostream>
@@ -18,11 +18,29 @@ int main(int argc, char **argv)
 {
     if (argc != 2)
         return 2;
+    h5w_options how = H5W_OPTIONS;
+    auto writer = h5swmr::writer::create(argv[1], how);
+    bool is_right = writer.append({ 1, -2, 3 }) == 3 && writer.flush() == 3;
     h5swmr::reader reader(argv[1]);
-    bool is_right = reader.rows() == 3 && reader.refresh() == 3 && reader.read(1, 2) == std::vector<std::int64_t>({ -2, 3 });
-    is_right &= code_of([&] { reader.read(0, 4); }) == H5W_ROWS && code_of([&] { h5swmr::reader("/no/such/file"); }) == H5W_IO;
-    auto second = std::move(reader);
-    is_right &= second.refresh() == 3 && code_of([&] { reader.refresh(); }) == H5W_MISUSE;
+    is_right &= reader.rows() == 3 && reader.read(1, 2) == std::vector<std::int64_t>({ -2, 3 });
+    is_right &= writer.append({ 4 }) == 4;
+    is_right &= code_of([&] { reader.read(0, 4); }) == H5W_ROWS;
+    writer.close(); // it flushes
+    is_right &= reader.refresh() == 4 && reader.read(3, 1).at(0) == 4;
+    is_right &= code_of([&] { writer.append({ 5 }); }) == H5W_MISUSE && code_of([&] { writer.close(); }) == H5W_MISUSE;
+    {
+        auto second = h5swmr::writer::append_to(argv[1]);
+        is_right &= second.append({ 5 }) == 5 && code_of([&] { h5swmr::writer::append_to(argv[1]); }) == H5W_OPENED;
+    } // its end flushes and closes
+    auto third = std::move(reader);
+    is_right &= third.refresh() == 5;
+    is_right &= code_of([&] { h5swmr::writer::create(argv[1], how); }) == H5W_IO;
+    is_right &= third.shape().rows == 5 && third.shape().columns == 1 && third.shape().size == 8;
+    try {
+        h5swmr::reader(argv[1], "other");
+    } catch (const h5swmr::error &error) {
+        is_right &= error.line == "error link none";
+    }
     if (!is_right)
         std::cout << "an answer of the classes is wrong\n";
     return is_right ? 0 : 1;

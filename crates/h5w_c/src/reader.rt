@@ -9,11 +9,12 @@ ghost use Rattle.h5w_reader.specs.declared.step.Step.TheVariants as steps;
 ghost use Rattle.h5w_handles.specs.Codes.{misuse};
 ghost use Rattle.h5w_handles.specs.Copies.{as_signed, as_unsigned};
 ghost use Rattle.h5w_handles.specs.Handles.{OnReader, OpensReader, QuitsReader};
-ghost use Rattle.h5w_handles.specs.ReaderCalls.{BeginsRead, Copied, Gave, IsWantedPlace, Refreshed, place_if};
+ghost use Rattle.h5w_handles.specs.ReaderCalls.{BeginsRead, Copied, Gave, IsKnownShape, IsWantedPlace, Refreshed, TellsRefusal, place_if};
+ghost use Rattle.h5w_handles.specs.Shapes.{shape_if};
 ghost use Rattle.h5w_handles.specs.declared.held.Held.{Held};
 ghost use Rattle.h5w_handles.specs.declared.reader.ReaderState.{ReaderState};
 
-use h5w_handles::{H5wPlace, H5wTold, Handle};
+use h5w_handles::{H5wPlace, H5wShape, H5wTold, Handle};
 use std::alloc::Global;
 
 /// Opens a reader of the dataset of this name in the handle, which holds nothing. Where a dataset header changes between its looks, a call tries so
@@ -111,6 +112,30 @@ pub extern "C" fn h5w_reader_rows(alloc: Global, reader: &mut Handle) -> u64
     ensures { OnReader 0 (λ s n t. (n ≡ rows_seen (core_of s.core).known) × (t ≡ s)) reader.old.at.held result reader.new.at.held }
 {
     reader.rows_seen(alloc)
+}
+
+/// The shape of the dataset goes into `shape`, as the last open or refresh found it; false before one was answered with rows, and `shape` stays.
+#[unsafe(no_mangle)]
+pub extern "C" fn h5w_reader_shape(alloc: Global, reader: &mut Handle, shape: &mut H5wShape) -> bool
+    ensures shape { OnReader None IsKnownShape reader.old.at.held (shape_if result shape.new) reader.new.at.held }
+    ensures kept { IsFalse result → shape.new ≡ shape.old }
+{
+    match reader.shape(alloc) {
+        Some(known) => {
+            *shape = known;
+            true
+        }
+        None => false,
+    }
+}
+
+/// The line that the program prints of the last refusal (of the codes Again, Shrunk, Refused and Memory that a look led to) goes to the front of
+/// `text`, as much of it as there is room for; it ends with the byte 0a. Answers how many bytes it has: 0 without one, and if memory is wanting.
+#[unsafe(no_mangle)]
+pub extern "C" fn h5w_reader_refusal(alloc: Global, reader: &mut Handle, text: &mut [u8]) -> u64
+    ensures { OnReader (0, text.old) (TellsRefusal text.old) reader.old.at.held (result, text.new) reader.new.at.held }
+{
+    reader.put_refusal(alloc, text)
 }
 
 /// Ends the unfinished call, if there is one, as if it had not begun.

@@ -4,3 +4,5 @@ pub mod Handles
 pub mod Owners
 pub mod ReaderCalls
 pub mod ReaderTellings
+pub mod Shapes
+pub mod Texts

@@ -1,7 +1,9 @@
 use crate::reader::ReaderState;
+use h5w_session::WriterCore;
 
 /// What a handle holds.
 #[derive(Drop)]
 pub enum Held {
     Reader(ReaderState),
+    Writer(WriterCore),
 }

@@ -1,4 +1,5 @@
-//! A reader behind one pointer, for a caller that is not Rattle: the calls of the core, each with a code in place of its answer.
+//! A handle that a caller owns who is not Rattle, with a reader or a writer behind one pointer; and the calls of a reader, each with a code in place
+//! of its answer.
 #![tactic(auto)]
 
 mod code;
@@ -9,7 +10,9 @@ mod owner;
 mod parts;
 mod reader;
 mod reading;
+mod shape;
 mod telling;
+mod text;
 
 pub use code::{H5wCode, H5wPlace, H5wTold};
 pub use copying::Narrow;
@@ -17,3 +20,6 @@ pub use handle::Handle;
 pub use held::Held;
 pub use owner::Owner;
 pub use reader::ReaderState;
+pub use shape::H5wShape;
+pub use telling::refusal_told;
+pub use text::put_line;

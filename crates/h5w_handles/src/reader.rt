@@ -1,24 +1,30 @@
-//! A reader with the values of its last read.
+//! A reader with the values of its last read, and its last refusal.
 ghost use Rattle.std.specs.Prelude.{◌≡◌, ◌≤◌, ◌++◌, IfOk, IsTrue, drop, length, option_map};
 ghost use Rattle.h5w_model.specs.Calls.{rows_seen};
+ghost use Rattle.h5w_model.specs.Tables.{Reading};
 ghost use Rattle.h5w_model.specs.Unfinished.{wanted};
 ghost use Rattle.h5w_lookup.specs.Looks.{IsWithinLook};
 ghost use Rattle.h5w_reader.specs.Cores.{reader};
 ghost use Rattle.h5w_handles.specs.Copies.{numbers};
-ghost use Rattle.h5w_handles.specs.ReaderCalls.{Gave, IsNewReader, BeginsRead, IsQuit, Refreshed, is_within, pair_of, values_after};
+ghost use Rattle.h5w_handles.specs.ReaderCalls.{Gave, IsNewReader, BeginsRead, IsQuit, Refreshed, is_within, pair_of, refusal_after, values_after};
+ghost use Rattle.h5w_handles.specs.Shapes.{shape_told};
+ghost use Rattle.h5w_handles.specs.Texts.{PutsRefusal};
 
 use crate::code::{H5wCode, H5wPlace, H5wTold};
 use crate::copying::{Narrow, copy};
+use crate::shape::{H5wShape, shape_told};
 use crate::telling::{begin_told, read_told, step_told};
-use h5w_model::{OutOfMemory, Piece, Values};
+use crate::text::put_refusal;
+use h5w_model::{OutOfMemory, Piece, ReadError, Values};
 use h5w_reader::{ReaderCore, Step};
 use std::alloc::Global;
 
-/// A reader, and the values of its last read that gave some.
+/// A reader, the values of its last read that gave some, and why its last call was refused that was.
 #[derive(Drop)]
 pub struct ReaderState {
     pub core: ReaderCore,
     pub values: Option<Values>,
+    pub refusal: Option<ReadError>,
 }
 
 impl ReaderState {
@@ -29,6 +35,7 @@ impl ReaderState {
         Ok(ReaderState {
             core: ReaderCore::open(alloc, name, attempts)?,
             values: None,
+            refusal: None,
         })
     }
 
@@ -88,12 +95,14 @@ impl ReaderState {
         }
     }
 
-    /// Keeps the values that a step gave.
+    /// Keeps what a step gave: values, or a refusal.
     fn keep(&mut self, step: Step)
-        ensures { self.new ≡ record self.old { values = values_after self.old.values step } }
+        ensures { self.new ≡ record self.old { values = values_after self.old.values step; refusal = refusal_after self.old.refusal step } }
     {
-        if let Step::Values(values) = step {
-            self.values = Some(values);
+        match step {
+            Step::More | Step::Rows(_) => {}
+            Step::Values(values) => self.values = Some(values),
+            Step::Refused(error) => self.refusal = Some(error),
         }
     }
 
@@ -121,6 +130,22 @@ impl ReaderState {
         };
         let all = values.as_slice();
         copy(&all[all.len().min(from as usize)..], out) as u64
+    }
+
+    /// The shape of the dataset that is known.
+    pub fn shape(&self) -> Option<H5wShape>
+        ensures { result ≡ option_map shape_told (option_map (λ (r : Reading). r.dataset) (reader self.now.core).known) }
+    {
+        let dataset = self.core.dataset()?;
+        Some(shape_told(dataset))
+    }
+
+    /// Puts the line of the last refusal at the front of `out`, as much of it as there is room for, and answers how many bytes it has: 0 without one,
+    /// and if memory is wanting.
+    pub fn put_refusal(&self, alloc: Global, out: &mut [u8]) -> u64
+        ensures { PutsRefusal self.now.refusal out.old (result, out.new) }
+    {
+        put_refusal(alloc, self.refusal, out)
     }
 
     /// Ends the unfinished call, if there is one.

@@ -4,13 +4,14 @@ ghost use Rattle.h5w_model.specs.Calls.{rows_seen};
 ghost use Rattle.h5w_reader.specs.Cores.{reader};
 ghost use Rattle.h5w_handles.specs.Codes.{misuse};
 ghost use Rattle.h5w_handles.specs.Handles.{OnReader, OpensReader, QuitsReader};
-ghost use Rattle.h5w_handles.specs.ReaderCalls.{BeginsRead, Copied, Gave, IsWantedPlace, Refreshed};
+ghost use Rattle.h5w_handles.specs.ReaderCalls.{BeginsRead, Copied, Gave, IsKnownShape, IsWantedPlace, Refreshed, TellsRefusal};
 
 use crate::code::{H5wCode, H5wPlace, H5wTold};
 use crate::copying::Narrow;
 use crate::handle::Handle;
 use crate::held::Held;
 use crate::reader::ReaderState;
+use crate::shape::H5wShape;
 use std::alloc::Global;
 
 impl Handle {
@@ -42,6 +43,7 @@ impl Handle {
         let held = self.take(alloc)?;
         let place = match &*held {
             Held::Reader(reader) => reader.want(),
+            Held::Writer(_) => None,
         };
         self.put(held);
         place
@@ -56,6 +58,7 @@ impl Handle {
         };
         let told = match &mut *held {
             Held::Reader(reader) => reader.give(bytes),
+            Held::Writer(_) => H5wCode::Misuse.alone(),
         };
         self.put(held);
         told
@@ -70,6 +73,7 @@ impl Handle {
         };
         let told = match &mut *held {
             Held::Reader(reader) => reader.refresh(),
+            Held::Writer(_) => H5wCode::Misuse.alone(),
         };
         self.put(held);
         told
@@ -84,6 +88,7 @@ impl Handle {
         };
         let told = match &mut *held {
             Held::Reader(reader) => reader.read(from, count),
+            Held::Writer(_) => H5wCode::Misuse.alone(),
         };
         self.put(held);
         told
@@ -98,9 +103,39 @@ impl Handle {
         };
         let rows = match &*held {
             Held::Reader(reader) => reader.rows(),
+            Held::Writer(_) => 0,
         };
         self.put(held);
         rows
+    }
+
+    /// The shape of the dataset that the reader knows.
+    pub fn shape(&mut self, alloc: Global) -> Option<H5wShape>
+        ensures { OnReader None IsKnownShape self.old.at.held result self.new.at.held }
+    {
+        let held = self.take(alloc)?;
+        let shape = match &*held {
+            Held::Reader(reader) => reader.shape(),
+            Held::Writer(_) => None,
+        };
+        self.put(held);
+        shape
+    }
+
+    /// Puts the line of the reader's last refusal at the front of `out`, as much of it as there is room for, and answers how many bytes it has: 0
+    /// without one, and if memory is wanting.
+    pub fn put_refusal(&mut self, alloc: Global, out: &mut [u8]) -> u64
+        ensures { OnReader (0, out.old) (TellsRefusal out.old) self.old.at.held (result, out.new) self.new.at.held }
+    {
+        let Some(held) = self.take(alloc) else {
+            return 0;
+        };
+        let count = match &*held {
+            Held::Reader(reader) => reader.put_refusal(alloc, out),
+            Held::Writer(_) => 0,
+        };
+        self.put(held);
+        count
     }
 
     /// Puts the values of the reader's last read from value `from` on at the front of `out`, as many as there is room for, up to the first that is no
@@ -113,6 +148,7 @@ impl Handle {
         };
         let count = match &*held {
             Held::Reader(reader) => reader.copy(from, out),
+            Held::Writer(_) => 0,
         };
         self.put(held);
         count
@@ -127,6 +163,7 @@ impl Handle {
         };
         match &mut *held {
             Held::Reader(reader) => reader.quit(),
+            Held::Writer(_) => {}
         }
         self.put(held);
     }

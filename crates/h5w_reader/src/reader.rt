@@ -15,6 +15,7 @@ use crate::idle::is_idle;
 use crate::stage::Stage;
 use crate::step::{ReadBegin, Step};
 use crate::values::{Goes, Reads, Valued};
+use h5w_dataset::Dataset;
 use h5w_lookup::{Known, Look, Outcome, Rules, learn, rows_seen};
 use h5w_model::{Bytes, OutOfMemory, Piece, ReadError, Values};
 use std::alloc::Global;
@@ -50,7 +51,11 @@ fn feed_read(
 }
 
 impl ReaderCore {
+    ghost use Rattle.std.specs.Borrow.{Bor};
     ghost use Rattle.h5w_model.specs.Programs as model;
+    ghost use Rattle.h5w_model.specs.Tables.{Reading};
+    ghost use Rattle.h5w_dataset.specs.Described.{described_of};
+    ghost use Rattle.h5w_dataset.specs.declared.dataset.Dataset.{Dataset};
     ghost use Rattle.h5w_reader.specs.Cores.{reader};
     ghost use Rattle.h5w_model.specs.Asked.{Asked, Asks, beginning, no_asks, reading, without};
     ghost use Rattle.h5w_reader.specs.Asked.{IsWanted, looking};
@@ -76,6 +81,16 @@ impl ReaderCore {
         ensures { result ≡ rows_seen (reader self.now).known }
     {
         rows_seen(&self.known)
+    }
+
+    /// The dataset, as the last call found it that was answered with rows.
+    pub fn dataset(&self) -> Option<&Dataset>
+        ensures { option_map (λ (d : Bor Dataset). described_of d.now) result ≡ option_map (λ (r : Reading). r.dataset) (reader self.now).known }
+    {
+        match &self.known {
+            Some(known) => Some(&known.dataset),
+            None => None,
+        }
     }
 
     /// Begins a refresh; as long as no dataset is known, an open again. Busy where a call is unfinished.

@@ -66,6 +66,7 @@ fn with_view(news: News, view: Bytes) -> News
         place,
         dataset,
         found,
+        front,
         ..
     } = news;
     News {
@@ -73,6 +74,7 @@ fn with_view(news: News, view: Bytes) -> News
         dataset,
         found,
         view: Some(view),
+        front,
     }
 }
 

@@ -1,4 +1,4 @@
-use Rattle.std.proofs.Common.{rules, ◌≡◌, ◌∙◌, ◌++◌, drop, length, take, get_or, suc, ◌+◌, ◌<◌, List, [], ◌∷◌, slice_set, Some, None, pos, ap, sym, arith}
+use Rattle.std.proofs.Common.{rules, ◌≡◌, ◌∙◌, ◌++◌, drop, length, take, get_or, suc, ◌+◌, ◌<◌, [], ◌∷◌, slice_set, Some, None, pos, ap, sym, arith}
 use Rattle.std.proofs.lemmas.List.{length-append}
 use Rattle.h5w_handles.specs.Copies.{front}
 use Rattle.h5w_handles.proofs.CopyLemmas.{front_end, front_more, put_next}

@@ -1,0 +1,4 @@
+pub mod CreatedBy
+pub mod Handles
+pub mod Tellings
+pub mod WriterCalls

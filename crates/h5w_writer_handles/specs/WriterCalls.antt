@@ -1,0 +1,121 @@
+-- What the calls of a session tell, and what they make of it.
+use Rattle.std.specs.Prelude.{◌≡◌, ◌≢◌, ◌⊎◌, ℕ, ◌%◌, ◌<◌, ◌≤◌, nat_le, if◌then◌else◌, true, false, List, [], ◌∷◌, ◌++◌, length, drop, Option, Some, None, Result, Ok, Err, ℤ, IfOk, IfErr, OnOk, OnErr}
+use Rattle.h5w_model.specs.Logs.{Log, and_now, appends, load, plans, shows}
+use Rattle.h5w_model.specs.Superblock.{super_at, super_bytes}
+use Rattle.h5w_model.specs.declared.piece.Write.{Write}
+use Rattle.h5w_space.specs.declared.Full.{Full}
+use Rattle.h5w_session.specs.Early.{IsWithin, WrittenEarly, dirty_of}
+use Rattle.h5w_session.specs.Flushes.{SameBut}
+use Rattle.h5w_session.specs.Loads.{NoPlace}
+use Rattle.h5w_session.specs.Past.{IsNew}
+use Rattle.h5w_session.specs.Refusals.{IsDeepFor, IsFullFor, IsSpace, append_refusal, close_refusal, flush_refusal}
+use Rattle.h5w_session.specs.Sessions.{AddsValues, AfterPiece, AreReached, Session, TakesRows, closed_of, closed_root, cutting_of, rows_of, stopped_of, with_values}
+use Rattle.h5w_session.specs.Stands.{Stands}
+use Rattle.h5w_session.specs.Starts.{HasFlushed}
+use Rattle.h5w_session.specs.declared.refusal.AppendError.{AppendError}
+use Rattle.h5w_session.specs.declared.refusal.AppendError.TheVariants as appending
+use Rattle.h5w_session.specs.declared.refusal.CloseError.{CloseError}
+use Rattle.h5w_session.specs.declared.refusal.FlushError.{FlushError}
+use Rattle.h5w_session.specs.declared.refusal.FlushError.TheVariants as flushing
+use Rattle.h5w_handles.specs.Codes.{misuse, no_memory, told}
+use Rattle.h5w_writer_handles.specs.Tellings.{append_told, close_told, flush_told}
+use Rattle.h5w_handles.specs.declared.code.H5wCode.TheVariants as codes
+use Rattle.h5w_handles.specs.declared.code.H5wPlace.{H5wPlace}
+use Rattle.h5w_handles.specs.declared.code.H5wTold.{H5wTold}
+
+-- a number is done, or this is why not
+abbrev pub answered : {E : Type 0} → (E → H5wTold) → Result ℕ E → H5wTold
+answered why (Ok n) = told codes.Done 0 n
+answered why (Err e) = why e
+
+-- ---- Append
+
+-- What appends whole rows: the session's answer is told, with the rows in all. Rows that were written early are pending.
+pub record AppendedRows (values : List ℤ) (s : Session) (answer : H5wTold) (t : Session) : Type 0 where
+  pub given : Result ℕ AppendError
+  pub told : answer ≡ answered append_told given
+  pub added : OnOk given (AddsValues s values t)
+  pub written : OnOk given (WrittenEarly (with_values s values) t)
+  pub within : OnOk given (IsWithin t)
+  pub early : OnOk given (t.pending ≢ [] → s.budget < dirty_of (with_values s values))
+  pub rows : IfOk given (λ rows. rows ≡ rows_of t)
+  pub unplanned : OnOk given (t.flushing ≡ false)
+  pub stands : OnOk given ((log : Log) → Stands s log → Stands t (and_now (appends values) log))
+  pub bound : OnOk given ((log : Log) → Stands s log → length t.pending ≤ load (cutting_of s) (and_now (appends values) log))
+  pub over : OnOk given (t.pending ≢ [] → (log : Log) → Stands s log → s.budget < load (cutting_of s) (and_now (appends values) log))
+  pub refused : (e : AppendError) → append_refusal s values ≡ Some e → given ≡ Err e
+  pub causes : IfErr given (λ e. (append_refusal s values ≡ Some e) ⊎ (e ≡ appending.OutOfMemory))
+  pub kept : OnErr given (t ≡ s)
+
+-- Values that are no whole rows are refused with the columns. Of others memory may be wanting before the session is asked.
+pub record Appended (values : List ℤ) (s : Session) (answer : H5wTold) (t : Session) : Type 0 where
+  pub partial : 0 < length values % s.dataset.shape.cols → (answer ≡ told codes.Rows 0 s.dataset.shape.cols) × (t ≡ s)
+  pub whole : length values % s.dataset.shape.cols ≡ 0 → ((answer ≡ no_memory) × (t ≡ s)) ⊎ AppendedRows values s answer t
+
+-- ---- Flush
+
+-- The session's answer is told, with the pieces that are pending.
+pub record Flushed (s : Session) (answer : H5wTold) (t : Session) : Type 0 where
+  pub given : Result ℕ FlushError
+  pub told : answer ≡ answered flush_told given
+  pub flushed : OnOk given (TakesRows s t)
+  pub planned : 0 < s.waits → OnOk given (HasFlushed s t)
+  pub pieces : IfOk given (λ pieces. pieces ≡ length t.pending)
+  pub some : 0 < s.waits → IfOk given (λ pieces. 1 ≤ pieces)
+  pub nothing : s.waits ≡ 0 → OnOk given (t ≡ s)
+  pub reached : 0 < s.waits → OnOk given (AreReached t)
+  pub stands : IfOk given (λ pieces. (log : Log) → Stands s log → Stands t (and_now (plans pieces) log))
+  pub bound : IfOk given (λ pieces. (log : Log) → Stands s log → pieces ≤ load (cutting_of s) log)
+  pub refused : (e : FlushError) → flush_refusal s ≡ Some e → given ≡ Err e
+  pub causes : IfErr given (λ e. (flush_refusal s ≡ Some e) ⊎ (IsSpace e ⊎ ((e ≡ flushing.Deep) ⊎ (e ≡ flushing.OutOfMemory))))
+  pub full : (full : Full) → given ≡ Err (flushing.Space full) → IsFullFor s full
+  pub deep : given ≡ Err flushing.Deep → IsDeepFor s
+  pub shallow : (log : Log) → Stands s log → IsNew log → given ≢ Err flushing.Deep
+  pub bounds : (full : Full) → given ≡ Err (flushing.Space full) → (log : Log) → Stands s log → NoPlace s log full
+  pub kept : OnErr given (SameBut s t)
+  pub left : OnErr given ((log : Log) → Stands s log → Stands t log)
+
+-- ---- Pieces
+
+-- where the oldest of some pending pieces is to be written, if there is one and it has no more bytes than there is room for
+abbrev pub next_place : List Write → ℕ → Option H5wPlace
+next_place [] room = None
+next_place (w ∷ ws) room = if nat_le (length w.piece) room then Some (record { at = w.at; len = length w.piece }) else None
+
+-- its bytes, in front of what else is there
+abbrev pub next_out : List Write → List ℕ → List ℕ
+next_out [] out = out
+next_out (w ∷ ws) out = if nat_le (length w.piece) (length out) then w.piece ++ drop (length w.piece) out else out
+
+-- the place of the next piece and its bytes in front of what else is there; the session is as it was
+pub record IsNextPiece (out : List ℕ) (s : Session) (answer : Option H5wPlace × List ℕ) (t : Session) : Type 0 where
+  pub place : answer.0 ≡ next_place s.pending (length out)
+  pub bytes : answer.1 ≡ next_out s.pending out
+  pub same : t ≡ s
+
+-- A piece is written, which tells how many are pending then. It is misuse exactly if none is pending.
+pub record Written (s : Session) (answer : H5wTold) (t : Session) : Type 0 where
+  pub none : s.pending ≡ [] → (answer ≡ misuse) × (t ≡ s)
+  pub piece : (w : Write) (ws : List Write) → s.pending ≡ w ∷ ws → (answer ≡ told codes.Done 0 (length t.pending)) × AfterPiece s ws t
+  pub stands : (w : Write) (ws : List Write) → s.pending ≡ w ∷ ws → (log : Log) → Stands s log → Stands t (and_now (shows w) log)
+
+-- A piece failed: the session is stopped, and nothing is pending.
+pub record Failed (s : Session) (answer : H5wTold) (t : Session) : Type 0 where
+  pub told : answer ≡ told codes.Done 0 0
+  pub session : t ≡ stopped_of s
+  pub stands : (log : Log) → Stands s log → Stands t log
+
+-- ---- The end
+
+-- The session is closed, with one piece pending, unless it was stopped or pieces are pending.
+pub record Closed (s : Session) (answer : H5wTold) (t : Session) : Type 0 where
+  pub refused : (e : CloseError) → close_refusal s ≡ Some e → (answer ≡ close_told e) × (t ≡ s)
+  pub closed : close_refusal s ≡ None → (answer ≡ told codes.Done 0 (length t.pending)) × (t ≡ closed_of s)
+  pub reads : close_refusal s ≡ None → super_at (super_bytes (closed_root s)) ≡ Ok (closed_root s)
+  pub stands : (log : Log) → Stands s log → Stands t log
+
+-- What is retired stays out of use from now on.
+pub record KeepsRetired (s : Session) (answer : H5wTold) (t : Session) : Type 0 where
+  pub told : answer ≡ told codes.Done 0 0
+  pub session : t ≡ record s { keeps = true }
+  pub stands : (log : Log) → Stands s log → Stands t log

@@ -1,0 +1,138 @@
+//! The calls of a session, with codes in place of its answers.
+ghost use Rattle.std.specs.Prelude.{◌≡◌, ◌<◌, ◌%◌, IfOk, IsFalse, IsTrue, length, map, pos};
+ghost use Rattle.h5w_session.specs.Sessions.{AreRows};
+ghost use Rattle.h5w_writer_handles.specs.WriterCalls.{Appended, AppendedRows, Closed, Failed, Flushed, KeepsRetired, Written, next_out, next_place};
+
+use crate::room::Room;
+use crate::telling::{append_told, close_told, flush_told};
+use h5w_handles::{H5wCode, H5wPlace, H5wTold};
+use h5w_model::OutOfMemory;
+use h5w_session::WriterCore;
+use std::alloc::Global;
+
+/// These numbers as values.
+fn signed_values(alloc: Global, numbers: &[i64]) -> Result<Vec<i128>, OutOfMemory>
+    ensures { IfOk result (λ v. v.items ≡ numbers.now) }
+{
+    let values = numbers.iter().map(|n| i128::from(*n)).collect(alloc)?;
+    Ok(values)
+}
+
+/// These numbers as values.
+fn unsigned_values(alloc: Global, numbers: &[u64]) -> Result<Vec<i128>, OutOfMemory>
+    ensures { IfOk result (λ v. v.items ≡ map pos numbers.now) }
+{
+    let values = numbers.iter().map(|n| i128::from(*n)).collect(alloc)?;
+    Ok(values)
+}
+
+/// Whether so many values are whole rows.
+fn are_whole(core: &WriterCore, count: usize) -> bool
+    ensures yes { IsTrue result → count % core.now.dataset.shape.cols ≡ 0 }
+    ensures no { IsFalse result → 0 < count % core.now.dataset.shape.cols }
+{
+    count as u64 % core.columns() == 0
+}
+
+/// Appends values, whole rows.
+fn append_rows(core: &mut WriterCore, values: &[i128]) -> H5wTold
+    requires { AreRows core.old values.now }
+    ensures { AppendedRows values.now core.old result core.new }
+{
+    match core.append(values, &mut Room::new()) {
+        Ok(rows) => H5wCode::Done.with(0, rows),
+        Err(error) => append_told(&error),
+    }
+}
+
+/// Appends values, rows one after another.
+#[tactic(auto, using(crate::proofs::RowsLemmas::rows_of_whole))]
+pub fn append(core: &mut WriterCore, alloc: Global, numbers: &[i64]) -> H5wTold
+    ensures { Appended numbers.now core.old result core.new }
+{
+    if !are_whole(core, numbers.len()) {
+        return H5wCode::Rows.with(0, core.columns());
+    }
+    match signed_values(alloc, numbers) {
+        Ok(values) => append_rows(core, &values),
+        Err(OutOfMemory) => H5wCode::Memory.alone(),
+    }
+}
+
+/// Appends values that are not negative, rows one after another.
+pub fn append_unsigned(core: &mut WriterCore, alloc: Global, numbers: &[u64]) -> H5wTold
+    ensures { Appended (map pos numbers.now) core.old result core.new }
+{
+    if !are_whole(core, numbers.len()) {
+        return H5wCode::Rows.with(0, core.columns());
+    }
+    match unsigned_values(alloc, numbers) {
+        Ok(values) => append_rows(core, &values),
+        Err(OutOfMemory) => H5wCode::Memory.alone(),
+    }
+}
+
+/// Plans the pieces that make the rows that wait visible.
+pub fn flush(core: &mut WriterCore) -> H5wTold
+    ensures { Flushed core.old result core.new }
+{
+    match core.flush(&mut Room::new()) {
+        Ok(pieces) => H5wCode::Done.with(0, pieces),
+        Err(error) => flush_told(&error),
+    }
+}
+
+/// Puts the oldest pending piece at the front of `out`, and answers where it is to be written. None if no piece is pending or `out` is shorter
+/// than the piece, which has at most 512 bytes.
+pub fn next(core: &WriterCore, out: &mut [u8]) -> Option<H5wPlace>
+    ensures place { result ≡ next_place core.now.pending (length out.old) }
+    ensures bytes { out.new ≡ next_out core.now.pending out.old }
+{
+    let write = core.next()?;
+    let bytes = write.piece.as_slice();
+    if bytes.len() > out.len() {
+        return None;
+    }
+    out[..bytes.len()].copy_from_slice(bytes);
+    Some(H5wPlace {
+        at: write.at,
+        len: bytes.len() as u64,
+    })
+}
+
+/// The oldest pending piece became visible.
+pub fn written(core: &mut WriterCore) -> H5wTold
+    ensures { Written core.old result core.new }
+{
+    if core.pending() == 0 {
+        return H5wCode::Misuse.alone();
+    }
+    core.written();
+    H5wCode::Done.with(0, core.pending())
+}
+
+/// The oldest pending piece cannot become visible: the session is stopped.
+pub fn failed(core: &mut WriterCore) -> H5wTold
+    ensures { Failed core.old result core.new }
+{
+    core.failed();
+    H5wCode::Done.alone()
+}
+
+/// Plans the superblock with the flags of a file that nobody writes.
+pub fn close(core: &mut WriterCore) -> H5wTold
+    ensures { Closed core.old result core.new }
+{
+    match core.close() {
+        Ok(()) => H5wCode::Done.with(0, core.pending()),
+        Err(error) => close_told(&error),
+    }
+}
+
+/// What is retired stays out of use from now on.
+pub fn keep_retired(core: &mut WriterCore) -> H5wTold
+    ensures { KeepsRetired core.old result core.new }
+{
+    core.keep_retired();
+    H5wCode::Done.alone()
+}
