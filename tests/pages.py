@@ -15,7 +15,7 @@ LINES, COLUMNS, WORDS = 200, 120, 40
 PAGES = ["ARCHITECTURE", "FORMAT", "DEFINITIONS", "DECISIONS", "PROMISES", "LIBRARY", "CONTRIBUTING", "WORDS", "PERFORMANCE"]
 
 # The crates whose sources spell what the program prints.
-SPELLING = ["h5w_text", "h5w_files", "h5w_appending", "h5w_running", "h5w_commands", "h5w_cli"]
+SPELLING = ["h5w_text", "h5w_files", "h5w_repacking", "h5w_appending", "h5w_running", "h5w_commands", "h5w_cli"]
 
 
 def read(name):
@@ -142,7 +142,7 @@ def options_agree():
     found = [f"docs/usage.txt and the synopsis differ in --{it}" for it in sorted(options ^ ({*re.findall(r"--([a-z-]+)", usage)} - {"version"}))]
     commands = {*re.findall(r"^h5swmr ([a-z]+)", synopsis, re.M)}
     found += [f"docs/usage.txt and the synopsis differ in {it}" for it in sorted(commands ^ {*re.findall(r"^  h5swmr ([a-z]+)", usage, re.M)})]
-    return found if len(commands) == 10 and len(options) > 10 else [f"{len(commands)} commands and {len(options)} options were found in the synopsis"]
+    return found if len(commands) == 11 and len(options) > 10 else [f"{len(commands)} commands and {len(options)} options were found in the synopsis"]
 
 
 def versions_agree():
