@@ -46,7 +46,7 @@ def cost(run, name):
     return max(int(m.group(1).replace(",", "")) for line in lines for m in [re.match(r" *([0-9,]+) .*" + name, line)] if m)
 
 total = cost("append", "PROGRAM TOTALS")
-read = cost("append", r":h5w_text::script::\w+")
+read = cost("append", r":h5w_input::script::\w+")
 printed = cost("read", r":h5w_text::digits::\w*value")
 loop, strtoll, printf = map(int, sys.argv[2:])
 print("append, all in all: %.1f instructions a value (at most 130)" % (total / VALUES))

@@ -1,8 +1,8 @@
 -- An input has one answer.
 use Rattle.std.proofs.Common.{◌≡◌, ◌⊎◌, ℕ, suc, ◌+◌, List, [], ◌∷◌, ◌++◌, length, ℤ, Option, Some, None, Result, Ok, Err, refl, sym, ap, ◌∙◌, subst, inl, inr, arith, append_assoc}
 use Rattle.std.specs.Prelude.{IfErr, IfOk, IfSome, IsSome, map}
-use Rattle.h5w_text.specs.Lines.{lines_of}
-use Rattle.h5w_text.specs.Scripts.{number_line_of}
+use Rattle.h5w_input.specs.Lines.{lines_of}
+use Rattle.h5w_input.specs.Scripts.{number_line_of}
 use Rattle.h5w_text.specs.Streams.{SourceView}
 use Rattle.h5w_batches.specs.Inputs.{AreAll, AreFirst, AreWithin, HasNumbers, ReadsAll, ReadsOutside, ReadsTooMuch, Spell, input_limit}
 use Rattle.h5w_batches.specs.Reads.{IsBeside, IsRefused, ReadsBatches, Refuses}

@@ -2,10 +2,10 @@
 use Rattle.std.proofs.Common.{◌≡◌, ℕ, ◌+◌, ◌≤◌, List, [], ◌∷◌, ◌++◌, ℤ, Result, Ok, Err, refl, sym, ap, ◌∙◌, subst, arith}
 use Rattle.std.specs.Prelude.{IfErr, IfOk, IfSome}
 use Rattle.h5w_model.specs.Causes.{Rose}
-use Rattle.h5w_text.specs.LinesAhead.{Ended, Given, GivenUp, IntakeView, IsOver, IsWhole, LinesAhead, TakesNumbers, lines_ahead}
+use Rattle.h5w_input.specs.LinesAhead.{Ended, Given, GivenUp, IntakeView, IsOver, IsWhole, LinesAhead, TakesNumbers, lines_ahead}
 use Rattle.h5w_text.specs.Streams.{SourceView}
-use Rattle.h5w_text.specs.declared.line.LineError.{LineError}
-use Rattle.h5w_text.specs.declared.line.LineError.TheVariants as line_errors
+use Rattle.h5w_input.specs.declared.line.LineError.{LineError}
+use Rattle.h5w_input.specs.declared.line.LineError.TheVariants as line_errors
 use Rattle.h5w_batches.specs.Batches.{AreBatches, Batches, end_batch, no_batches, with_line, with_lines}
 use Rattle.h5w_batches.specs.Inputs.{AreFirst, ReadsAll, input_limit, outside}
 use Rattle.h5w_batches.specs.Reads.{HasNoValues, ReadsBatches, Refuses, TakesEach, error_of}

@@ -4,12 +4,12 @@ use Rattle.std.specs.Prelude.{IfSome, map, option_map, take}
 use Rattle.std.proofs.lemmas.Bool.{cases_lt}
 use Rattle.std.proofs.lemmas.List.{length-map, map-append}
 use Rattle.std.proofs.Math.Seq.{take-append-add}
-use Rattle.h5w_text.specs.Bytes.{Lacks}
-use Rattle.h5w_text.specs.Lines.{lines_of, whole_lines_of}
-use Rattle.h5w_text.specs.LinesAhead.{Ended, Given, GivenUp, IntakeView, IsOver, IsWhole, LinesAhead, Passed, lines_ahead, lines_left}
-use Rattle.h5w_text.specs.Scripts.{number_line_of}
+use Rattle.h5w_input.specs.Bytes.{Lacks}
+use Rattle.h5w_input.specs.Lines.{lines_of, whole_lines_of}
+use Rattle.h5w_input.specs.LinesAhead.{Ended, Given, GivenUp, IntakeView, IsOver, IsWhole, LinesAhead, Passed, lines_ahead, lines_left}
+use Rattle.h5w_input.specs.Scripts.{number_line_of}
 use Rattle.h5w_text.specs.Streams.{SourceView}
-use Rattle.h5w_text.proofs.LineLemmas.{lines_done, lines_more, passed_nothing, passed_twice, whole_cut, whole_lacks}
+use Rattle.h5w_input.proofs.LineLemmas.{lines_done, lines_more, passed_nothing, passed_twice, whole_cut, whole_lacks}
 use Rattle.h5w_batches.specs.Inputs.{AreAll, AreFirst, ReadsAll, ReadsTooMuch, ReadsWhole, Spell, input_limit, outside}
 
 -- as many lines as lists of values

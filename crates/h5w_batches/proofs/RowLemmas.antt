@@ -1,14 +1,14 @@
 -- Batches, and their rows.
 use Rattle.std.proofs.Common.{◌≡◌, ℕ, ◌%◌, Bool, true, false, Some, None, tests, ◌+◌, ◌*◌, ◌/◌, ◌≤◌, List, [], ◌∷◌, ◌++◌, length, ℤ, refl, sym, ap, ◌∙◌, subst, arith, length-append}
 use Rattle.std.specs.Prelude.{◌==◌, nat_le, if◌then◌else◌, map}
-use Rattle.h5w_text.specs.Lines.{line_limit, words_of}
-use Rattle.h5w_text.specs.Lines.{values_of as values_in}
-use Rattle.h5w_text.specs.LinesAhead.{IsLine}
-use Rattle.h5w_text.specs.Scripts.{number_line_of, rows_of}
+use Rattle.h5w_input.specs.Lines.{line_limit, words_of}
+use Rattle.h5w_input.specs.Lines.{values_of as values_in}
+use Rattle.h5w_input.specs.LinesAhead.{IsLine}
+use Rattle.h5w_input.specs.Scripts.{number_line_of, rows_of}
 use Rattle.h5w_text.specs.Streams.{SourceView}
-use Rattle.h5w_text.specs.declared.line.TextLine.{TextLine}
-use Rattle.h5w_text.specs.declared.line.TextLine.TheVariants.{Long}
-use Rattle.h5w_text.proofs.ScriptLemmas.{length_values, numbers_long}
+use Rattle.h5w_input.specs.declared.line.TextLine.{TextLine}
+use Rattle.h5w_input.specs.declared.line.TextLine.TheVariants.{Long}
+use Rattle.h5w_input.proofs.ScriptLemmas.{length_values, numbers_long}
 use Rattle.h5w_batches.specs.Batches.{AreBatches, AreWholeRows, Batches, after_line, after_lines, batches_of, end_batch, no_batches, with_line, with_lines}
 use Rattle.h5w_batches.specs.Inputs.{Spell}
 use Rattle.h5w_batches.specs.Reads.{ReadsBatches}

@@ -1,8 +1,8 @@
 -- What was read of an input of numbers.
 use Rattle.std.specs.Prelude.{◌≡◌, ◌⊎◌, ℕ, ◌+◌, ◌^◌, ◌<◌, ◌≤◌, List, [], ◌∷◌, ◌++◌, length, map, take, None, Some, IfSome, option_map, ℤ}
-use Rattle.h5w_text.specs.Lines.{lines_of, whole_lines_of}
-use Rattle.h5w_text.specs.LinesAhead.{LinesAhead}
-use Rattle.h5w_text.specs.Scripts.{number_line_of}
+use Rattle.h5w_input.specs.Lines.{lines_of, whole_lines_of}
+use Rattle.h5w_input.specs.LinesAhead.{LinesAhead}
+use Rattle.h5w_input.specs.Scripts.{number_line_of}
 use Rattle.h5w_text.specs.Streams.{SourceView}
 
 -- the most bytes of an input

@@ -1,10 +1,10 @@
 -- What a reader of batches answers.
 use Rattle.std.specs.Prelude.{◌≡◌, ◌⊎◌, ℕ, List, None, Some, Result, Ok, Err, ℤ}
 use Rattle.h5w_model.specs.Causes.{Rose}
-use Rattle.h5w_text.specs.Scripts.{number_line_of}
+use Rattle.h5w_input.specs.Scripts.{number_line_of}
 use Rattle.h5w_text.specs.Streams.{SourceView}
-use Rattle.h5w_text.specs.declared.line.LineError.{LineError}
-use Rattle.h5w_text.specs.declared.line.LineError.TheVariants as line_errors
+use Rattle.h5w_input.specs.declared.line.LineError.{LineError}
+use Rattle.h5w_input.specs.declared.line.LineError.TheVariants as line_errors
 use Rattle.h5w_batches.specs.Batches.{Batches, after_line, batches_of, with_line}
 use Rattle.h5w_batches.specs.Inputs.{ReadsAll, ReadsOutside, ReadsTooMuch, ReadsWhole, input_limit}
 use Rattle.h5w_batches.specs.declared.error.BatchError.{BatchError}

@@ -1,5 +1,5 @@
+use h5w_input::LineError;
 use h5w_model::OutOfMemory;
-use h5w_text::LineError;
 use thiserror::Error;
 
 /// Why the batches of an input were not read.

@@ -1,14 +1,15 @@
 ghost use Rattle.std.specs.Prelude.{◌≡◌, ◌≤◌, ◌+◌, ℕ, List, ℤ, length, Some, Err, IsSome, OnOk, IfErr, IfOk};
-ghost use Rattle.h5w_text.specs.LinesAhead.{IsLine, lines_ahead};
-ghost use Rattle.h5w_text.specs.Scripts.{number_line_of};
+ghost use Rattle.h5w_input.specs.LinesAhead.{IsLine, lines_ahead};
+ghost use Rattle.h5w_input.specs.Scripts.{number_line_of};
 ghost use Rattle.h5w_batches.specs.Batches.{AreBatches, AreWholeRows};
 ghost use Rattle.h5w_batches.specs.Inputs.{HasNumbers, ReadsOutside, ReadsTooMuch, SameSource, input_limit, outside};
 ghost use Rattle.h5w_batches.specs.Reads.{HasFailed, HasNoValues, IsBeside, IsRefused, IsTooLong, ReadsBatches, Refuses, TakesEach};
 
 use crate::error::BatchError;
 use crate::gathering::Gathering;
+use h5w_input::{Intake, Lines, Next, TextError, TextLine, number_line};
 use h5w_model::Values;
-use h5w_text::{Intake, Lines, Next, Source, TextError, TextLine, number_line};
+use h5w_text::Source;
 use std::alloc::Global;
 
 /// The most bytes of an input.

@@ -41,6 +41,7 @@ before_count img values printed p (errors.WriterVersion version) k h = absurd k
 before_count img values printed p errors.Layout k h = absurd k
 before_count img values printed p (errors.ChunkBytes bytes) k h = absurd k
 before_count img values printed p errors.NoColumns k h = absurd k
+before_count img values printed p (errors.Same one other) k h = absurd k
 before_count img values printed p (errors.FullChunks chunks limit) k h = absurd k
 before_count img values printed p (errors.FullSpace at size limit) k h = absurd k
 before_count img values printed p errors.Deep k h = absurd k
@@ -135,6 +136,7 @@ behind_count img values printed rows p r (errors.WriterVersion version) gives is
 behind_count img values printed rows p r errors.Layout gives is asked k h = absurd k
 behind_count img values printed rows p r (errors.ChunkBytes bytes) gives is asked k h = absurd k
 behind_count img values printed rows p r errors.NoColumns gives is asked k h = absurd k
+behind_count img values printed rows p r (errors.Same one other) gives is asked k h = absurd k
 behind_count img values printed rows p r (errors.FullChunks chunks limit) gives is asked k h = absurd k
 behind_count img values printed rows p r (errors.FullSpace at size limit) gives is asked k h = absurd k
 behind_count img values printed rows p r errors.Deep gives is asked k h = absurd k

@@ -85,6 +85,7 @@ call_kind (errors.WriterVersion version) h = absurd h
 call_kind errors.Layout h = absurd h
 call_kind (errors.ChunkBytes bytes) h = absurd h
 call_kind errors.NoColumns h = absurd h
+call_kind (errors.Same one other) h = absurd h
 call_kind (errors.FullChunks chunks limit) h = absurd h
 call_kind (errors.FullSpace at size limit) h = absurd h
 call_kind errors.Deep h = absurd h

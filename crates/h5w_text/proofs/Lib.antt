@@ -1,7 +1,4 @@
 pub mod StreamLemmas
-pub mod WordLemmas
-pub mod LineLemmas
-pub mod NumberLemmas
-pub mod ScriptLemmas
+pub mod ValueLemmas
 pub mod TableLemmas
 pub mod HexLemmas

@@ -1,6 +1,5 @@
 -- What calls of a source or a sink leave.
 use Rattle.std.proofs.Common.{ℕ, ◌+◌, ◌≤◌, ◌≡◌, List, [], ◌++◌, take, drop, Option, Some, None, Result, Ok, Err, sym, subst, refl, ap, ◌∙◌, inl, inr}
-use Rattle.std.specs.Option.{option_map}
 use Rattle.std.specs.Result.{OnErr, OnOk}
 use Rattle.std.proofs.lemmas.List.{append_assoc, append-nil, take-append-drop, drop-drop}
 use Rattle.h5w_text.specs.Streams.{SinkView, GaveSome, Grows}
@@ -13,10 +12,6 @@ front_and_rest at n bytes out e =
 pub grows_nothing : (b : Option (List ℕ)) → Grows [] b b
 grows_nothing None = inl refl
 grows_nothing (Some b) = inr (ap Some (sym (append-nil b)))
-
-same_left : (b : Option (List ℕ)) → b ≡ option_map (λ rest. [] ++ rest) b
-same_left None = refl
-same_left (Some b) = refl
 
 -- a call that failed and wrote nothing
 pub gave_nothing : {T E : Type 0} (r : Result T E) (bytes : List ℕ) (v w : SinkView) → w.written ≡ v.written → v.faults ≤ w.faults → w.through ≡ v.through → OnErr r (GaveSome bytes v w)

@@ -3,7 +3,7 @@ use Rattle.std.specs.Prelude.{ℕ, List, [], ◌∷◌, ◌++◌, codes}
 use Rattle.h5w_text.specs.Replies.{spaced, spaced_value}
 use Rattle.h5w_text.specs.Refusals.{refusal_words}
 use Rattle.h5w_text.specs.declared.error.ErrorLine.{ErrorLine}
-use Rattle.h5w_text.specs.declared.error.ErrorLine.TheVariants.{Usage, Missing, Exists, Read, Finding, Overlap, Cut, WriterVersion, Layout, ChunkBytes, NoColumns, FullChunks, FullSpace, Deep, Line, Range, Input, Disk, Source, Memory}
+use Rattle.h5w_text.specs.declared.error.ErrorLine.TheVariants.{Usage, Missing, Exists, Read, Finding, Overlap, Cut, WriterVersion, Layout, ChunkBytes, NoColumns, Same, FullChunks, FullSpace, Deep, Line, Range, Input, Disk, Source, Memory}
 
 -- the text of an error, without the byte 0a that ends it
 abbrev pub error_words : ErrorLine → List ℕ
@@ -18,6 +18,7 @@ error_words (WriterVersion version) = codes "error writer version" ++ spaced ver
 error_words Layout = codes "error writer layout"
 error_words (ChunkBytes bytes) = codes "error writer chunk" ++ spaced bytes
 error_words NoColumns = codes "error writer columns"
+error_words (Same first second) = codes "error writer same" ++ spaced first ++ spaced second
 error_words (FullChunks chunks limit) = codes "error full chunks" ++ spaced chunks ++ spaced limit
 error_words (FullSpace at size limit) = codes "error full space" ++ spaced at ++ spaced size ++ spaced limit
 error_words Deep = codes "error deep"

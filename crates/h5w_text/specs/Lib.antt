@@ -1,15 +1,8 @@
 pub use Rattle.h5w_model.specs.Causes
-pub use Rattle.h5w_model.specs.Lawful
 pub mod Streams
 pub mod Memory
-pub mod Bytes
-pub mod Lines
-pub mod WordLists
-pub mod Scripts
-pub mod Words
 pub mod Replies
 pub mod Errors
-pub mod LinesAhead
 pub mod Refusals
 pub mod Statuses
 pub mod Says

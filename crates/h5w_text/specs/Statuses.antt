@@ -49,6 +49,7 @@ status_of (errors.WriterVersion version) = Format
 status_of errors.Layout = Format
 status_of (errors.ChunkBytes bytes) = Format
 status_of errors.NoColumns = Format
+status_of (errors.Same one other) = Format
 status_of (errors.FullChunks chunks limit) = Limit
 status_of (errors.FullSpace at size limit) = Limit
 status_of errors.Deep = Limit

@@ -30,7 +30,7 @@ pub fn large_number(out: &mut Vec<u8>, n: u128) -> Result<(), OutOfMemory>
 }
 
 /// Adds a value. One of 64 bits takes the shorter way.
-#[tactic(auto, using(crate::proofs::NumberLemmas::value_text_is))]
+#[tactic(auto, using(crate::proofs::ValueLemmas::value_text_is))]
 pub fn unspaced_value(out: &mut Vec<u8>, v: i128) -> Result<(), OutOfMemory>
     ensures { OnOk result (out.new.items ≡ out.old.items ++ value_text v) }
 {
@@ -42,7 +42,7 @@ pub fn unspaced_value(out: &mut Vec<u8>, v: i128) -> Result<(), OutOfMemory>
 }
 
 /// Adds a space and a value.
-#[tactic(auto, using(crate::proofs::NumberLemmas::spaced_value_is))]
+#[tactic(auto, using(crate::proofs::ValueLemmas::spaced_value_is))]
 pub fn value(out: &mut Vec<u8>, v: i128) -> Result<(), OutOfMemory>
     ensures { OnOk result (out.new.items ≡ out.old.items ++ spaced_value v) }
 {

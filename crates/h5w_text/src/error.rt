@@ -43,6 +43,11 @@ pub enum ErrorLine {
     ChunkBytes(u64),
     /// The dataset to write has no columns.
     NoColumns,
+    /// Two of the names of datasets to write lead to one of them: their numbers, from 1 on.
+    Same {
+        first: u64,
+        second: u64,
+    },
     /// Rows need more chunks than an index has.
     FullChunks {
         chunks: u64,
@@ -107,7 +112,8 @@ impl ErrorLine {
             ErrorLine::WriterVersion(_)
             | ErrorLine::Layout
             | ErrorLine::ChunkBytes(_)
-            | ErrorLine::NoColumns => Status::Format,
+            | ErrorLine::NoColumns
+            | ErrorLine::Same { .. } => Status::Format,
             ErrorLine::FullChunks { .. } | ErrorLine::FullSpace { .. } | ErrorLine::Deep => {
                 Status::Limit
             }
@@ -119,6 +125,15 @@ impl ErrorLine {
     }
 }
 
+/// Adds that a value of a line is outside the dataset's type.
+fn range(out: &mut Vec<u8>, line: u64, index: u64, v: i128) -> Result<(), OutOfMemory>
+    ensures { OnOk result (out.new.items ≡ out.old.items ++ error_words (ErrorLine.Range line index v)) }
+{
+    with_numbers(out, b"error range", &[line, index])?;
+    value(out, v)
+}
+
+/// Adds the text of an error, without the byte 0a.
 fn words(out: &mut Vec<u8>, error: &ErrorLine) -> Result<(), OutOfMemory>
     ensures { OnOk result (out.new.items ≡ out.old.items ++ error_words error.now) }
 {
@@ -143,6 +158,9 @@ fn words(out: &mut Vec<u8>, error: &ErrorLine) -> Result<(), OutOfMemory>
         ErrorLine::Layout => text(out, b"error writer layout"),
         ErrorLine::ChunkBytes(bytes) => with_numbers(out, b"error writer chunk", &[*bytes]),
         ErrorLine::NoColumns => text(out, b"error writer columns"),
+        ErrorLine::Same { first, second } => {
+            with_numbers(out, b"error writer same", &[*first, *second])
+        }
         ErrorLine::FullChunks { chunks, limit } => {
             with_numbers(out, b"error full chunks", &[*chunks, *limit])
         }
@@ -151,14 +169,7 @@ fn words(out: &mut Vec<u8>, error: &ErrorLine) -> Result<(), OutOfMemory>
         }
         ErrorLine::Deep => text(out, b"error deep"),
         ErrorLine::Line(line) => with_numbers(out, b"error line", &[*line]),
-        ErrorLine::Range {
-            line,
-            index,
-            value: v,
-        } => {
-            with_numbers(out, b"error range", &[*line, *index])?;
-            value(out, *v)
-        }
+        ErrorLine::Range { line, index, value } => range(out, *line, *index, *value),
         ErrorLine::Input { limit } => with_numbers(out, b"error input", &[*limit]),
         ErrorLine::Disk => text(out, b"error disk"),
         ErrorLine::Source => text(out, b"error source"),

@@ -1,4 +1,4 @@
-ghost use Rattle.std.specs.Prelude.{◌≡◌, ◌++◌, OnOk, flat_map};
+ghost use Rattle.std.specs.Prelude.{◌≡◌, ◌++◌, OnOk, codes, flat_map};
 ghost use Rattle.h5w_text.specs.Replies.{of_reader, reply_text, reply_words, spaced, spaced_value};
 
 use crate::digits::{number, text, value};
@@ -46,6 +46,20 @@ fn full_chunks(out: &mut Vec<u8>, chunks: u64, limit: u64) -> Result<(), OutOfMe
     number(out, limit)
 }
 
+fn written(out: &mut Vec<u8>, pieces: u64, pending: u64) -> Result<(), OutOfMemory>
+    ensures { OnOk result (out.new.items ≡ out.old.items ++ reply_words (Reply.Written pieces pending)) }
+{
+    with_numbers(out, b"written", &[pieces])?;
+    with_numbers(out, b" pending", &[pending])
+}
+
+fn out_of_range(out: &mut Vec<u8>, index: u64, v: i128) -> Result<(), OutOfMemory>
+    ensures { OnOk result (out.new.items ≡ out.old.items ++ reply_words (Reply.OutOfRange index v)) }
+{
+    with_numbers(out, b"outofrange", &[index])?;
+    value(out, v)
+}
+
 /// Adds values, each with a space before it.
 pub fn values(out: &mut Vec<u8>, values: &[i128]) -> Result<(), OutOfMemory>
     ensures { OnOk result (out.new.items ≡ out.old.items ++ flat_map spaced_value values.now) }
@@ -56,6 +70,14 @@ pub fn values(out: &mut Vec<u8>, values: &[i128]) -> Result<(), OutOfMemory>
     Ok(())
 }
 
+/// Adds the values that a reader has read.
+fn read_values(out: &mut Vec<u8>, reader: u64, read: &[i128]) -> Result<(), OutOfMemory>
+    ensures { OnOk result (out.new.items ≡ out.old.items ++ of_reader reader (codes " values" ++ flat_map spaced_value read.now)) }
+{
+    of_reader(out, reader, b" values", &[])?;
+    values(out, read)
+}
+
 /// Adds the text of a reply to the writer or a reader, without the byte 0a.
 fn words(out: &mut Vec<u8>, reply: &Reply) -> Result<(), OutOfMemory>
     ensures { OnOk result (out.new.items ≡ out.old.items ++ reply_words reply.now) }
@@ -63,16 +85,10 @@ fn words(out: &mut Vec<u8>, reply: &Reply) -> Result<(), OutOfMemory>
     match reply {
         Reply::Appended { rows, pending } => appended(out, *rows, *pending),
         Reply::Flushing { pieces } => with_numbers(out, b"flushing", &[*pieces]),
-        Reply::Written { pieces, pending } => {
-            with_numbers(out, b"written", &[*pieces])?;
-            with_numbers(out, b" pending", &[*pending])
-        }
+        Reply::Written { pieces, pending } => written(out, *pieces, *pending),
         Reply::Busy { pending } => with_numbers(out, b"busy", &[*pending]),
         Reply::Stopped => text(out, b"stopped"),
-        Reply::OutOfRange { index, value: v } => {
-            with_numbers(out, b"outofrange", &[*index])?;
-            value(out, *v)
-        }
+        Reply::OutOfRange { index, value } => out_of_range(out, *index, *value),
         Reply::FullChunks { chunks, limit } => full_chunks(out, *chunks, *limit),
         Reply::FullSpace { at, size, limit } => with_numbers(
             out,
@@ -84,10 +100,7 @@ fn words(out: &mut Vec<u8>, reply: &Reply) -> Result<(), OutOfMemory>
         Reply::Refreshing { reader } => of_reader(out, *reader, b" refresh", &[]),
         Reply::Reading { reader } => of_reader(out, *reader, b" read", &[]),
         Reply::Rows { reader, rows } => of_reader(out, *reader, b" rows", &[*rows]),
-        Reply::Values { reader, values: v } => {
-            of_reader(out, *reader, b" values", &[])?;
-            values(out, v.as_slice())
-        }
+        Reply::Values { reader, values } => read_values(out, *reader, values.as_slice()),
         Reply::Again { reader, attempts } => of_reader(
             out,
             *reader,

@@ -9,7 +9,7 @@ use Rattle.std.proofs.lemmas.List.{length-append, map-append, take-append-drop, 
 use Rattle.std.proofs.lemmas.List.Splits.{length-slice_split}
 use Rattle.std.proofs.Math.Seq.{take-suc}
 use Rattle.std.proofs.lemmas.List.Folds.{list_all-append, list_any-append, list_any_at}
-use Rattle.h5w_text.specs.Scripts.{is_word}
+use Rattle.h5w_input.specs.Scripts.{is_word}
 use Rattle.h5w_words.specs.Arguments.{link_names_in}
 use Rattle.h5w_words.specs.Names.{are_distinct, are_link_names, is_link_name, is_name, is_name_byte, may_follow, parts_of}
 

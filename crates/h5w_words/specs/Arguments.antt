@@ -6,7 +6,7 @@ use Rattle.clap.specs.declared.builder.arg.Arg.{Arg}
 use Rattle.clap.specs.declared.builder.action.ArgAction.TheVariants.{SetTrue}
 use Rattle.clap.specs.declared.builder.command.Command.{Command}
 use Rattle.clap.specs.declared.builder.command.Command.TheViews.{out-Command}
-use Rattle.h5w_text.specs.Scripts.{count_in, is_word}
+use Rattle.h5w_input.specs.Scripts.{count_in, is_word}
 use Rattle.h5w_words.specs.Names.{are_link_names, is_link_name, is_name, parts_of}
 use Rattle.h5w_words.specs.declared.arguments.Argument.{Argument}
 use Rattle.h5w_words.specs.declared.arguments.Argument.TheVariants.{Word, Needed, Optional, Flag}

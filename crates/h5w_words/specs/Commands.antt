@@ -1,7 +1,7 @@
 -- The command set, and what words of it ask for.
 use Rattle.std.specs.Prelude.{List, [], ◌∷◌, if◌then◌else◌, Option, Some, None, codes}
 use Rattle.clap.specs.Words.{App, Kinds, Row, Text, fault_of, new_app, subcommand_of, with_subcommand}
-use Rattle.h5w_text.specs.Scripts.{is_word}
+use Rattle.h5w_input.specs.Scripts.{is_word}
 use Rattle.h5w_words.specs.Play.{play_app, play_of}
 use Rattle.h5w_words.specs.Files.{creating_app, creating_of, check_app, check_of, poll_app, poll_of, clear_app, clear_of}
 use Rattle.h5w_words.specs.Makes.{make_app, make_of}

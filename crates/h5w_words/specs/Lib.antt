@@ -1,6 +1,6 @@
 pub use Rattle.h5w_options.specs.Options
-pub use Rattle.h5w_text.specs.Lines
-pub use Rattle.h5w_text.specs.Scripts
+pub use Rattle.h5w_input.specs.Lines
+pub use Rattle.h5w_input.specs.Scripts
 pub mod Names
 pub mod Types
 pub mod Arguments

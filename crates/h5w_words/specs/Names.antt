@@ -1,7 +1,7 @@
 -- The names that a dataset may have.
 use Rattle.std.specs.Prelude.{ℕ, Bool, true, not, ◌&&◌, ◌||◌, List, [], ◌∷◌, length, nat_le, nat_lt, ◌==◌}
 use Rattle.std.specs.List.{list_all, list_any, slice_split}
-use Rattle.h5w_text.specs.Scripts.{is_word}
+use Rattle.h5w_input.specs.Scripts.{is_word}
 
 -- a digit, a letter or an underscore
 abbrev pub is_name_byte : ℕ → Bool

@@ -2,7 +2,7 @@
 use Rattle.std.specs.Prelude.{ℕ, ◌-◌, ◌*◌, ◌^◌, Bool, true, false, [], ◌∷◌, ◌==◌, if◌then◌else◌, Option, Some, None, option_map, option_and_then, codes, ℤ, pos}
 use Rattle.clap.specs.Words.{Text}
 use Rattle.h5w_model.specs.Messages.{IntTypeFields}
-use Rattle.h5w_text.specs.Scripts.{count_in, is_word}
+use Rattle.h5w_input.specs.Scripts.{count_in, is_word}
 use Rattle.h5w_types.specs.declared.int_type.IntType.{IntType}
 
 -- i: two's complement, u: without a sign

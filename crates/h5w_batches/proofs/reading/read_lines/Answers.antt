@@ -1,5 +1,5 @@
 use Rattle.std.proofs.Common.{◌≡◌, ◌∙◌, Err, ap, rules}
-use Rattle.h5w_text.specs.LinesAhead.{lines_ahead}
+use Rattle.h5w_input.specs.LinesAhead.{lines_ahead}
 use Rattle.h5w_batches.specs.Batches.{with_line}
 use Rattle.h5w_batches.specs.Reads.{error_of}
 use Rattle.h5w_batches.proofs.InputLemmas.{gathers_all, gathers_held, gathers_kept, gathers_last, gathers_more, gathers_none, refused_last, refused_source, refused_whole}

@@ -1,0 +1,9 @@
+pub use Rattle.h5w_model.specs.Causes
+pub use Rattle.h5w_model.specs.Lawful
+pub use Rattle.h5w_text.specs.Streams
+pub mod Bytes
+pub mod Lines
+pub mod WordLists
+pub mod Scripts
+pub mod Words
+pub mod LinesAhead
